@@ -1,0 +1,8 @@
+-- Blocks of labels, as a reader sees them.
+use Rattle.std.specs.Prelude.{ℕ, List}
+use Rattle.mapf_model.specs.declared.label.Entry.{Entry}
+
+-- the entries of one agent
+pub record LabelBlock : Type 0 where
+  pub agent : ℕ
+  pub entries : List Entry

@@ -1,0 +1,35 @@
+-- The cells of a grid and the steps between them.
+use Rattle.std.specs.Prelude.{◌≡◌, ◌⊎◌, ℕ, ◌+◌, ◌*◌, ◌≤◌, ◌/◌, ◌%◌, Bool, true, false, List, length, slice_index_or}
+
+-- a rectangle of cells, row after row, and which of them are free
+pub record GridMap : Type 0 where
+  pub width : ℕ
+  pub height : ℕ
+  pub free : List Bool
+
+-- a rectangle with a flag for each of its cells
+abbrev pub IsGridMap : GridMap → Type 0
+IsGridMap grid = (1 ≤ grid.width) × (grid.width ≤ 2048) × (1 ≤ grid.height) × (grid.height ≤ 2048) × (length grid.free ≡ grid.width * grid.height)
+
+abbrev pub column : GridMap → ℕ → ℕ
+column grid cell = cell % grid.width
+
+abbrev pub row : GridMap → ℕ → ℕ
+row grid cell = cell / grid.width
+
+abbrev pub IsFree : GridMap → ℕ → Type 0
+IsFree grid cell = slice_index_or grid.free cell false ≡ true
+
+-- the numbers differ by one
+abbrev pub DifferByOne : ℕ → ℕ → Type 0
+DifferByOne a b = (a ≡ b + 1) ⊎ (b ≡ a + 1)
+
+-- two free cells that differ by one in exactly one coordinate
+pub record AreAdjacent (grid : GridMap) (from to : ℕ) : Type 0 where
+  pub from_free : IsFree grid from
+  pub to_free : IsFree grid to
+  pub apart : ((row grid from ≡ row grid to) × DifferByOne (column grid from) (column grid to)) ⊎ ((column grid from ≡ column grid to) × DifferByOne (row grid from) (row grid to))
+
+-- in one tick an agent waits, or moves to an adjacent cell
+abbrev pub Step : GridMap → ℕ → ℕ → Type 0
+Step grid from to = (IsFree grid from × (from ≡ to)) ⊎ AreAdjacent grid from to

@@ -1,0 +1,109 @@
+-- The laws of the definitions.
+use Rattle.std.specs.Prelude.{◌≡◌, ◌≢◌, ◌↔◌, ℕ, ◌+◌, ◌<◌, List, [], ◌∷◌, length, slice_index, Contains}
+use Rattle.mapf_model.specs.declared.bar.Bar.{Bar}
+use Rattle.mapf_model.specs.declared.problem.Agent.{Agent}
+use Rattle.mapf_model.specs.Blocks.{LabelBlock}
+use Rattle.mapf_model.specs.declared.item.Claim.{Claim}
+use Rattle.mapf_model.specs.declared.item.Claim.TheVariants.{Cost, Impossible}
+use Rattle.mapf_model.specs.declared.conflict.Conflict.{Conflict}
+use Rattle.mapf_model.specs.declared.label.Label.{Label}
+use Rattle.mapf_model.specs.declared.label.Label.TheVariants.{Ticks, Never}
+use Rattle.mapf_model.specs.Grid.{GridMap, IsFree, Step}
+use Rattle.mapf_model.specs.Path.{IsPath, IsLawful, IsCost}
+use Rattle.mapf_model.specs.Bars.{Satisfies}
+use Rattle.mapf_model.specs.Labels.{Entries, AreSound, IsLabel, IsAtMost, label_sum}
+use Rattle.mapf_model.specs.Plan.{Instance, IsValid, IsSumOfCosts}
+use Rattle.mapf_model.specs.Tree.{ConstraintTree, Leaf, NodeConstraints, IsProper, IsProperSplit, AtSomeEnd, AllSatisfy, root, left_child_constraints, right_child_constraints, Node, SplitNode, LeafNode, ClashNode, nodes_of, AreStartLabels, StartsShow, ShareGoal, ShowsFrom, NodesShow, Shows, Holds}
+
+-- under sound labels each lawful path that obeys the bars costs at least the label of the start
+abbrev pub LabelBound : Type 0
+LabelBound =
+    (grid : GridMap) (agent : Agent) (bars : List Bar) (entries : Entries) (path : List ℕ) (cost : ℕ) (label : Label) →
+    AreSound grid agent.goal bars entries →
+    IsLabel grid agent.goal entries agent.start 0 label →
+    IsLawful grid agent path → Satisfies bars path → IsCost agent.goal path cost →
+    IsAtMost label (Ticks cost)
+
+-- where that label is `Never` there is no such path
+abbrev pub NeverMeansNone : Type 0
+NeverMeansNone =
+    (grid : GridMap) (agent : Agent) (bars : List Bar) (entries : Entries) (path : List ℕ) →
+    AreSound grid agent.goal bars entries →
+    IsLabel grid agent.goal entries agent.start 0 Never →
+    IsLawful grid agent path → Satisfies bars path → ⊥
+
+-- each valid plan obeys the bars on the way to some leaf or clash of a proper tree
+abbrev pub SplitsLoseNoPlan : Type 0
+SplitsLoseNoPlan =
+    (problem : Instance) (tree : ConstraintTree) (plan : List (List ℕ)) →
+    IsProper problem tree → IsValid problem plan →
+    AtSomeEnd (λ constraints. AllSatisfy plan constraints.bars) root tree
+
+-- what a tree shows is so
+abbrev pub ShownClaimsHold : Type 0
+ShownClaimsHold = (problem : Instance) (claim : Claim) (tree : ConstraintTree) → Shows problem claim tree → Holds problem claim
+
+-- how a reader of items, with a stack of the ways to the trees that are owed, judges the item in front
+pub record NodesShowByFront (problem : Instance) (claim : Claim) : Type 0 where
+  pub whole : (items : List Node) → NodesShow problem claim (root ∷ []) items ↔ ((tree : ConstraintTree) × (items ≡ nodes_of tree) × ShowsFrom problem claim root tree)
+  pub over : NodesShow problem claim [] []
+  pub missing : (constraints : NodeConstraints) (owed : List NodeConstraints) → NodesShow problem claim (constraints ∷ owed) [] → ⊥
+  pub unowed : (item : Node) (items : List Node) → NodesShow problem claim [] (item ∷ items) → ⊥
+  pub at_split : (constraints : NodeConstraints) (owed : List NodeConstraints) (conflict : Conflict) (items : List Node) →
+      NodesShow problem claim (constraints ∷ owed) (SplitNode conflict ∷ items) ↔ (IsProperSplit problem conflict × NodesShow problem claim (left_child_constraints constraints conflict ∷ right_child_constraints constraints conflict ∷ owed) items)
+  pub at_leaf : (constraints : NodeConstraints) (owed : List NodeConstraints) (blocks : List LabelBlock) (items : List Node) →
+      NodesShow problem claim (constraints ∷ owed) (LeafNode blocks ∷ items) ↔ (ShowsFrom problem claim constraints (Leaf blocks) × NodesShow problem claim owed items)
+  pub at_clash : (constraints : NodeConstraints) (owed : List NodeConstraints) (i j : ℕ) (items : List Node) →
+      NodesShow problem claim (constraints ∷ owed) (ClashNode i j ∷ items) ↔ (ShareGoal problem i j × NodesShow problem claim owed items)
+
+abbrev pub FrontDecides : Type 0
+FrontDecides = (problem : Instance) (claim : Claim) → NodesShowByFront problem claim
+
+-- a list of items is that of one tree at most
+abbrev pub TreeIsUnique : Type 0
+TreeIsUnique = (s t : ConstraintTree) → nodes_of s ≡ nodes_of t → s ≡ t
+
+-- a state has one label
+abbrev pub LabelIsUnique : Type 0
+LabelIsUnique = (grid : GridMap) (goal : ℕ) (entries : Entries) (cell tick : ℕ) (a b : Label) → IsLabel grid goal entries cell tick a → IsLabel grid goal entries cell tick b → a ≡ b
+
+-- so the labels of the starts, once they are known, decide whether they show a cost
+abbrev pub StartLabelsDecide : Type 0
+StartLabelsDecide = (problem : Instance) (entries : ℕ → Entries) (labels : List Label) (cost : ℕ) → AreStartLabels problem entries labels → StartsShow problem (Cost cost) entries ↔ IsAtMost (Ticks cost) (label_sum labels)
+
+-- and whether they show that no plan is valid
+abbrev pub StartLabelsDecideImpossible : Type 0
+StartLabelsDecideImpossible = (problem : Instance) (entries : ℕ → Entries) (labels : List Label) → AreStartLabels problem entries labels → StartsShow problem Impossible entries ↔ Contains labels Never
+
+-- a nonempty list of free cells of which each two neighbours are a step
+pub record IsPathByNeighbours (grid : GridMap) (path : List ℕ) : Type 0 where
+  pub nonempty : path ≢ []
+  pub first : IsFree grid (slice_index path 0)
+  pub neighbours : (k : ℕ) → k + 1 < length path → Step grid (slice_index path k) (slice_index path (k + 1))
+
+abbrev pub NeighboursMakePaths : Type 0
+NeighboursMakePaths = (grid : GridMap) (path : List ℕ) → IsPath grid path ↔ IsPathByNeighbours grid path
+
+-- a path has one cost
+abbrev pub CostIsUnique : Type 0
+CostIsUnique = (goal : ℕ) (path : List ℕ) (a b : ℕ) → IsCost goal path a → IsCost goal path b → a ≡ b
+
+-- each valid plan has one sum
+pub record ValidPlansHaveOneSum (problem : Instance) (plan : List (List ℕ)) : Type 0 where
+  pub some : (total : ℕ) × IsSumOfCosts problem.agents plan total
+  pub one : (a b : ℕ) → IsSumOfCosts problem.agents plan a → IsSumOfCosts problem.agents plan b → a ≡ b
+
+abbrev pub SumsAreOne : Type 0
+SumsAreOne = (problem : Instance) (plan : List (List ℕ)) → IsValid problem plan → ValidPlansHaveOneSum problem plan
+
+-- the same bars, in any order
+abbrev pub AreSameBars : List Bar → List Bar → Type 0
+AreSameBars xs ys = (bar : Bar) → Contains xs bar ↔ Contains ys bar
+
+-- what is said of a list of bars is said of the set
+pub record BarsAreASet (xs ys : List Bar) : Type 0 where
+  pub obeys : (path : List ℕ) → Satisfies xs path → Satisfies ys path
+  pub sound : (grid : GridMap) (goal : ℕ) (entries : Entries) → AreSound grid goal xs entries → AreSound grid goal ys entries
+
+abbrev pub OnlyMembershipCounts : Type 0
+OnlyMembershipCounts = (xs ys : List Bar) → AreSameBars xs ys → BarsAreASet xs ys

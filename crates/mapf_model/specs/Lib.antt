@@ -1,0 +1,13 @@
+pub mod Grid
+pub mod Path
+pub mod Distance
+pub mod Bars
+pub mod Labels
+pub mod Plan
+pub mod Laws
+pub mod Tree
+pub mod Earned
+pub mod Neighbours
+pub mod Blocks
+pub mod Accepted
+pub mod Printed

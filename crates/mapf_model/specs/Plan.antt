@@ -1,0 +1,50 @@
+-- Plans: a path for each agent.
+use Rattle.std.specs.Prelude.{◌≡◌, ◌≢◌, ◌⊎◌, ℕ, ◌+◌, ◌≤◌, All, List, Some, length, sum, slice_get}
+use Rattle.mapf_model.specs.declared.problem.Agent.{Agent}
+use Rattle.mapf_model.specs.Grid.{GridMap, IsGridMap, IsFree}
+use Rattle.mapf_model.specs.Path.{at, IsLawful, IsCost}
+
+-- a grid and the agents on it
+pub record Instance : Type 0 where
+  pub grid : GridMap
+  pub agents : List Agent
+
+-- agents whose starts and goals are free cells of the grid
+pub record IsInstance (problem : Instance) : Type 0 where
+  pub grid : IsGridMap problem.grid
+  pub some : 1 ≤ length problem.agents
+  pub few : length problem.agents ≤ 200
+  pub free : All (λ agent. IsFree problem.grid agent.start × IsFree problem.grid agent.goal) problem.agents
+
+-- two agents are in one cell, or exchange their cells
+abbrev pub ConflictAt : List ℕ → List ℕ → ℕ → Type 0
+ConflictAt p q tick = (at p tick ≡ at q tick) ⊎ ((at p tick ≡ at q (tick + 1)) × (at p (tick + 1) ≡ at q tick))
+
+-- a lawful path for each agent, and no two agents in conflict at any tick
+pub record IsValid (problem : Instance) (plan : List (List ℕ)) : Type 0 where
+  pub count : length plan ≡ length problem.agents
+  pub lawful : (i : ℕ) (agent : Agent) (path : List ℕ) → slice_get problem.agents i ≡ Some agent → slice_get plan i ≡ Some path → IsLawful problem.grid agent path
+  pub apart : (i j tick : ℕ) (p q : List ℕ) → i ≢ j → slice_get plan i ≡ Some p → slice_get plan j ≡ Some q → ConflictAt p q tick → ⊥
+
+-- the costs of the agents' paths
+pub record AreCosts (agents : List Agent) (plan : List (List ℕ)) (costs : List ℕ) : Type 0 where
+  pub one_each : length plan ≡ length agents
+  pub count : length costs ≡ length plan
+  pub each : (i : ℕ) (agent : Agent) (path : List ℕ) (cost : ℕ) → slice_get agents i ≡ Some agent → slice_get plan i ≡ Some path → slice_get costs i ≡ Some cost → IsCost agent.goal path cost
+
+-- the sum of the costs of the agents' paths
+abbrev pub IsSumOfCosts : List Agent → List (List ℕ) → ℕ → Type 0
+IsSumOfCosts agents plan total = (costs : List ℕ) × AreCosts agents plan costs × (total ≡ sum costs)
+
+-- no valid plan has a smaller sum
+abbrev pub IsLowerBound : Instance → ℕ → Type 0
+IsLowerBound problem bound = (plan : List (List ℕ)) → IsValid problem plan → (total : ℕ) → IsSumOfCosts problem.agents plan total → bound ≤ total
+
+pub record IsOptimal (problem : Instance) (plan : List (List ℕ)) (total : ℕ) : Type 0 where
+  pub valid : IsValid problem plan
+  pub sum : IsSumOfCosts problem.agents plan total
+  pub least : IsLowerBound problem total
+
+-- no plan is valid
+abbrev pub IsImpossible : Instance → Type 0
+IsImpossible problem = (plan : List (List ℕ)) → IsValid problem plan → ⊥

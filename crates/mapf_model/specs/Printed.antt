@@ -1,0 +1,59 @@
+-- The values that the texts can spell.
+use Rattle.std.specs.Prelude.{◌≡◌, ◌≢◌, ◌⊎◌, ℕ, ◌-◌, ◌*◌, ◌<◌, ◌≤◌, ⊤, List, length, All, AllPairs, slice_index}
+use Rattle.mapf_model.specs.declared.item.Claim.{Claim}
+use Rattle.mapf_model.specs.declared.item.Claim.TheVariants.{Cost, Impossible}
+use Rattle.mapf_model.specs.declared.conflict.Conflict.{Conflict}
+use Rattle.mapf_model.specs.declared.conflict.Conflict.TheVariants.{Vertex, Swap}
+use Rattle.mapf_model.specs.declared.label.Entry.{Entry}
+use Rattle.mapf_model.specs.declared.label.Label.{Label}
+use Rattle.mapf_model.specs.declared.label.Label.TheVariants.{Ticks, Never}
+use Rattle.mapf_model.specs.Blocks.{LabelBlock}
+use Rattle.mapf_model.specs.Grid.{GridMap}
+use Rattle.mapf_model.specs.Tree.{ConstraintTree, Split, Leaf, Clash}
+
+abbrev pub IsOnGrid : GridMap → ℕ → Type 0
+IsOnGrid grid cell = cell < grid.width * grid.height
+
+-- rising by tick, then by the cell's number
+abbrev pub IsBefore : Entry → Entry → Type 0
+IsBefore a b = (a.tick < b.tick) ⊎ ((a.tick ≡ b.tick) × (a.cell < b.cell))
+
+abbrev pub IsLabelInRange : Label → Type 0
+IsLabelInRange (Ticks n) = (1 ≤ n) × (n ≤ 9999999)
+IsLabelInRange Never = ⊤
+
+abbrev pub IsEntryInRange : GridMap → Entry → Type 0
+IsEntryInRange grid entry = IsOnGrid grid entry.cell × (entry.tick ≤ 9999999) × IsLabelInRange entry.label
+
+pub record IsBlockInRange (grid : GridMap) (agents : ℕ) (block : LabelBlock) : Type 0 where
+  pub agent : block.agent < agents
+  pub some : 1 ≤ length block.entries
+  pub entries : All (IsEntryInRange grid) block.entries
+  pub rising : AllPairs IsBefore block.entries
+
+pub record AreBlocksInRange (grid : GridMap) (agents : ℕ) (blocks : List LabelBlock) : Type 0 where
+  pub each : All (IsBlockInRange grid agents) blocks
+  pub rising : AllPairs (λ a b. a.agent < b.agent) blocks
+
+abbrev pub IsConflictInRange : GridMap → ℕ → Conflict → Type 0
+IsConflictInRange grid agents (Vertex i j cell tick) = (i < agents) × (j < agents) × IsOnGrid grid cell × (tick ≤ 999999)
+IsConflictInRange grid agents (Swap i j from to tick) = (i < agents) × (j < agents) × IsOnGrid grid from × IsOnGrid grid to × (tick ≤ 999999)
+
+abbrev pub IsTreeInRange : GridMap → ℕ → ConstraintTree → Type 0
+IsTreeInRange grid agents (Split conflict left right) = IsConflictInRange grid agents conflict × IsTreeInRange grid agents left × IsTreeInRange grid agents right
+IsTreeInRange grid agents (Leaf blocks) = AreBlocksInRange grid agents blocks
+IsTreeInRange grid agents (Clash i j) = (i < agents) × (j < agents)
+
+abbrev pub IsClaimInRange : Claim → Type 0
+IsClaimInRange (Cost cost) = cost ≤ 1999999800
+IsClaimInRange Impossible = ⊤
+
+-- one cell, or the last two differ
+abbrev pub IsTight : List ℕ → Type 0
+IsTight path = (length path ≡ 1) ⊎ (slice_index path (length path - 1) ≢ slice_index path (length path - 2))
+
+pub record IsPathInRange (grid : GridMap) (path : List ℕ) : Type 0 where
+  pub some : 1 ≤ length path
+  pub short : length path ≤ 10000000
+  pub on_grid : All (IsOnGrid grid) path
+  pub tight : IsTight path

@@ -1,0 +1,196 @@
+-- Constraint trees and what they show.
+use Rattle.std.specs.Prelude.{◌≡◌, ◌≢◌, ◌⊎◌, ℕ, ◌+◌, ◌<◌, ◌≤◌, ◌==◌, if◌then◌else◌, List, [], ◌∷◌, ◌++◌, Option, None, Some, length, slice_get, find, AllPairs, All, map}
+use Rattle.std.specs.List.{AllZip}
+use Rattle.mapf_model.specs.declared.bar.Bar.{Bar}
+use Rattle.mapf_model.specs.declared.bar.Bar.TheVariants.{Cell, Move}
+use Rattle.mapf_model.specs.declared.problem.Agent.{Agent}
+use Rattle.mapf_model.specs.declared.label.Label.{Label}
+use Rattle.mapf_model.specs.declared.label.Label.TheVariants.{Ticks, Never}
+use Rattle.mapf_model.specs.Blocks.{LabelBlock}
+use Rattle.mapf_model.specs.declared.conflict.Conflict.{Conflict}
+use Rattle.mapf_model.specs.declared.conflict.Conflict.TheVariants.{Vertex, Swap}
+use Rattle.mapf_model.specs.declared.item.Claim.{Claim}
+use Rattle.mapf_model.specs.declared.item.Claim.TheVariants.{Cost, Impossible}
+use Rattle.mapf_model.specs.declared.item.Item.{Item}
+use Rattle.mapf_model.specs.declared.item.Item.TheVariants.{Vertex as VertexItem, Swap as SwapItem, Leaf as LeafItem, Clash as ClashItem}
+use Rattle.mapf_model.specs.Grid.{IsFree, AreAdjacent}
+use Rattle.mapf_model.specs.Bars.{Satisfies}
+use Rattle.mapf_model.specs.Labels.{Entries, entries_of, AreSound, IsLabel, IsAtMost, label_sum}
+use Rattle.mapf_model.specs.Plan.{Instance, IsValid, IsSumOfCosts}
+
+pub data ConstraintTree : Type 0 where
+  Split : (conflict : Conflict) → (left right : ConstraintTree) → ConstraintTree
+  Leaf : (blocks : List LabelBlock) → ConstraintTree
+  Clash : (i j : ℕ) → ConstraintTree
+
+-- a node without its children
+pub data Node : Type 0 where
+  SplitNode : (conflict : Conflict) → Node
+  LeafNode : (blocks : List LabelBlock) → Node
+  ClashNode : (i j : ℕ) → Node
+
+-- the node that an item gives
+abbrev pub node_of : Item → Node
+node_of (VertexItem i j cell tick) = SplitNode (Vertex i j cell tick)
+node_of (SwapItem i j from to tick) = SplitNode (Swap i j from to tick)
+node_of (LeafItem blocks) = LeafNode blocks.items
+node_of (ClashItem i j) = ClashNode i j
+
+-- the nodes of a tree in pre-order
+abbrev pub nodes_of : ConstraintTree → List Node
+nodes_of (Split conflict left right) = SplitNode conflict ∷ (nodes_of left ++ nodes_of right)
+nodes_of (Leaf blocks) = LeafNode blocks ∷ []
+nodes_of (Clash i j) = ClashNode i j ∷ []
+
+-- the items spell the tree
+abbrev pub Spell : List Item → ConstraintTree → Type 0
+Spell items tree = map node_of items ≡ nodes_of tree
+
+-- what was gathered on the way from the root: the bars of each agent
+pub record NodeConstraints : Type 0 where
+  pub bars : ℕ → List Bar
+
+abbrev pub root : NodeConstraints
+root = record { bars = λ agent. [] }
+
+-- the bars with one more for this agent
+abbrev pub with_bar : (ℕ → List Bar) → ℕ → Bar → ℕ → List Bar
+with_bar bars i bar agent = if agent == i then bar ∷ bars agent else bars agent
+
+-- the left child bars the first agent from its part of the conflict
+abbrev pub left_bars : (ℕ → List Bar) → Conflict → ℕ → List Bar
+left_bars bars (Vertex i j cell tick) = with_bar bars i (Cell cell tick)
+left_bars bars (Swap i j from to tick) = with_bar bars i (Move from to tick)
+
+-- the right child bars the second agent from its part
+abbrev pub right_bars : (ℕ → List Bar) → Conflict → ℕ → List Bar
+right_bars bars (Vertex i j cell tick) = with_bar bars j (Cell cell tick)
+right_bars bars (Swap i j from to tick) = with_bar bars j (Move to from tick)
+
+abbrev pub left_child_constraints : NodeConstraints → Conflict → NodeConstraints
+left_child_constraints constraints conflict = record { bars = left_bars constraints.bars conflict }
+
+abbrev pub right_child_constraints : NodeConstraints → Conflict → NodeConstraints
+right_child_constraints constraints conflict = record { bars = right_bars constraints.bars conflict }
+
+-- a fact holds at each node of a tree, with the way to it
+abbrev pub AtEachNode : (NodeConstraints → ConstraintTree → Type 0) → NodeConstraints → ConstraintTree → Type 0
+AtEachNode P constraints (Split conflict left right) = P constraints (Split conflict left right) × AtEachNode P (left_child_constraints constraints conflict) left × AtEachNode P (right_child_constraints constraints conflict) right
+AtEachNode P constraints (Leaf blocks) = P constraints (Leaf blocks)
+AtEachNode P constraints (Clash i j) = P constraints (Clash i j)
+
+-- a fact holds on the way to each end, to some end: a leaf or a clash
+abbrev pub AtEachEnd : (NodeConstraints → Type 0) → NodeConstraints → ConstraintTree → Type 0
+AtEachEnd P constraints (Split conflict left right) = AtEachEnd P (left_child_constraints constraints conflict) left × AtEachEnd P (right_child_constraints constraints conflict) right
+AtEachEnd P constraints (Leaf blocks) = P constraints
+AtEachEnd P constraints (Clash i j) = P constraints
+
+abbrev pub AtSomeEnd : (NodeConstraints → Type 0) → NodeConstraints → ConstraintTree → Type 0
+AtSomeEnd P constraints (Split conflict left right) = AtSomeEnd P (left_child_constraints constraints conflict) left ⊎ AtSomeEnd P (right_child_constraints constraints conflict) right
+AtSomeEnd P constraints (Leaf blocks) = P constraints
+AtSomeEnd P constraints (Clash i j) = P constraints
+
+abbrev pub AtSomeLeaf : (NodeConstraints → Type 0) → NodeConstraints → ConstraintTree → Type 0
+AtSomeLeaf P constraints (Split conflict left right) = AtSomeLeaf P (left_child_constraints constraints conflict) left ⊎ AtSomeLeaf P (right_child_constraints constraints conflict) right
+AtSomeLeaf P constraints (Leaf blocks) = P constraints
+AtSomeLeaf P constraints (Clash i j) = ⊥
+
+abbrev pub split_count : ConstraintTree → ℕ
+split_count (Split conflict left right) = 1 + (split_count left + split_count right)
+split_count (Leaf blocks) = 0
+split_count (Clash i j) = 0
+
+-- two different agents, and free cells which are adjacent in a swap
+abbrev pub AreTwoAgents : Instance → ℕ → ℕ → Type 0
+AreTwoAgents problem i j = (i ≢ j) × (i < length problem.agents) × (j < length problem.agents)
+
+abbrev pub IsProperSplit : Instance → Conflict → Type 0
+IsProperSplit problem (Vertex i j cell tick) = AreTwoAgents problem i j × IsFree problem.grid cell
+IsProperSplit problem (Swap i j from to tick) = AreTwoAgents problem i j × AreAdjacent problem.grid from to
+
+-- each agent has at most one block
+abbrev pub AreOfDifferentAgents : List LabelBlock → Type 0
+AreOfDifferentAgents blocks = AllPairs (λ a b. a.agent ≢ b.agent) blocks
+
+-- each block is of an agent of the problem
+abbrev pub AreOfAgents : Instance → List LabelBlock → Type 0
+AreOfAgents problem blocks = All (λ block. block.agent < length problem.agents) blocks
+
+abbrev pub IsProperNode : Instance → ConstraintTree → Type 0
+IsProperNode problem (Split conflict left right) = IsProperSplit problem conflict
+IsProperNode problem (Leaf blocks) = AreOfDifferentAgents blocks × AreOfAgents problem blocks
+IsProperNode problem (Clash i j) = Unit {0}
+
+abbrev pub IsProper : Instance → ConstraintTree → Type 0
+IsProper problem tree = AtEachNode (λ constraints node. IsProperNode problem node) root tree
+
+-- the agent's block
+abbrev pub block_of : List LabelBlock → ℕ → Option LabelBlock
+block_of blocks agent = find (λ block. block.agent == agent) blocks
+
+-- the entries of the block if there is one, else those from before
+abbrev pub entries_or : Option LabelBlock → Entries → Entries
+entries_or (Some block) before = entries_of block.entries
+entries_or None before = before
+
+abbrev pub with_blocks : List LabelBlock → (ℕ → Entries) → ℕ → Entries
+with_blocks blocks before agent = entries_or (block_of blocks agent) (before agent)
+
+-- no agent has an entry
+abbrev pub no_entries : ℕ → Entries
+no_entries agent cell tick = None
+
+-- each block is sound under its agent's bars
+abbrev pub AreBlocksSound : Instance → NodeConstraints → List LabelBlock → Type 0
+AreBlocksSound problem constraints blocks = (i : ℕ) (agent : Agent) (block : LabelBlock) → slice_get problem.agents i ≡ Some agent → block_of blocks i ≡ Some block → AreSound problem.grid agent.goal (constraints.bars i) (entries_of block.entries)
+
+-- the labels of the agents' starts at tick 0
+pub record AreStartLabels (problem : Instance) (entries : ℕ → Entries) (labels : List Label) : Type 0 where
+  pub count : length labels ≡ length problem.agents
+  pub each : (i : ℕ) (agent : Agent) (label : Label) → slice_get problem.agents i ≡ Some agent → slice_get labels i ≡ Some label → IsLabel problem.grid agent.goal (entries i) agent.start 0 label
+
+-- the labels of the starts show the claim
+abbrev pub StartsShow : Instance → Claim → (ℕ → Entries) → Type 0
+StartsShow problem (Cost cost) entries = (labels : List Label) × AreStartLabels problem entries labels × IsAtMost (Ticks cost) (label_sum labels)
+StartsShow problem Impossible entries = (i : ℕ) × (agent : Agent) × (slice_get problem.agents i ≡ Some agent) × IsLabel problem.grid agent.goal (entries i) agent.start 0 Never
+
+-- two different agents have one goal
+abbrev pub ShareGoal : Instance → ℕ → ℕ → Type 0
+ShareGoal problem i j = (i ≢ j) × (a : Agent) × (b : Agent) × (slice_get problem.agents i ≡ Some a) × (slice_get problem.agents j ≡ Some b) × (a.goal ≡ b.goal)
+
+abbrev pub NodeShows : Instance → Claim → NodeConstraints → ConstraintTree → Type 0
+NodeShows problem claim constraints (Split conflict left right) = Unit {0}
+NodeShows problem claim constraints (Leaf blocks) = AreBlocksSound problem constraints blocks × StartsShow problem claim (with_blocks blocks no_entries)
+NodeShows problem claim constraints (Clash i j) = ShareGoal problem i j
+
+-- the tree shows the claim
+pub record Shows (problem : Instance) (claim : Claim) (tree : ConstraintTree) : Type 0 where
+  pub proper : IsProper problem tree
+  pub nodes : AtEachNode (NodeShows problem claim) root tree
+
+-- what a claim says of a valid plan
+abbrev pub Bounds : Instance → Claim → List (List ℕ) → Type 0
+Bounds problem (Cost cost) plan = (total : ℕ) → IsSumOfCosts problem.agents plan total → cost ≤ total
+Bounds problem Impossible plan = ⊥
+
+-- the claim is so of all valid plans
+abbrev pub Holds : Instance → Claim → Type 0
+Holds problem claim = (plan : List (List ℕ)) → IsValid problem plan → Bounds problem claim plan
+
+-- each agent's path obeys its bars
+abbrev pub AllSatisfy : List (List ℕ) → (ℕ → List Bar) → Type 0
+AllSatisfy plan bars = (i : ℕ) (path : List ℕ) → slice_get plan i ≡ Some path → Satisfies (bars i) path
+
+-- the items of several trees, one after another
+abbrev pub nodes_of_all : List ConstraintTree → List Node
+nodes_of_all [] = []
+nodes_of_all (tree ∷ trees) = nodes_of tree ++ nodes_of_all trees
+
+-- the tree shows the claim where its root is reached on this way
+pub record ShowsFrom (problem : Instance) (claim : Claim) (constraints : NodeConstraints) (tree : ConstraintTree) : Type 0 where
+  pub proper : AtEachNode (λ to node. IsProperNode problem node) constraints tree
+  pub nodes : AtEachNode (NodeShows problem claim) constraints tree
+
+-- the items are those of trees, one for each of these ways, that show the claim
+abbrev pub NodesShow : Instance → Claim → List NodeConstraints → List Node → Type 0
+NodesShow problem claim owed nodes = (trees : List ConstraintTree) × (nodes ≡ nodes_of_all trees) × AllZip (ShowsFrom problem claim) owed trees

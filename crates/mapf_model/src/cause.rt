@@ -1,0 +1,8 @@
+/// Why a search ended without an answer.
+#[derive(Clone, Copy, Debug, PartialEq, Eq)]
+pub enum Cause {
+    /// As many splits as the limit allows were made, at most 100,000.
+    Splits(u32),
+    /// A conflict at tick 1,000,000 or later would have to be split.
+    Ticks,
+}

@@ -1,0 +1,72 @@
+ghost use Rattle.std.specs.Prelude.{◌≡◌, ◌≢◌, ◌⊎◌, ◌<◌, ◌≤◌, ◌-◌, ◌↔◌, ℕ, List, length, IfSome, IfNone, IsSome, IsTrue, slice_index};
+ghost use Rattle.mapf_model.specs.Path.{at, IsCost};
+
+use crate::cell::{Cell, Tick};
+use std::marker::Model;
+
+/// A nonempty list of cells.
+#[derive(Debug, Drop)]
+pub struct Path {
+    cells: Vec<Cell>,
+}
+
+impl Model for Path {
+    ghost Value = { List ℕ };
+
+    ghost view = { λ p. p.cells.items };
+
+    ghost invariant = { λ p. (1 ≤ length p.cells.items) × (length p.cells.items ≤ 10000000) };
+}
+
+impl Path {
+    pub fn of(cells: Vec<Cell>) -> Option<Path>
+        ensures size { IsSome result ↔ ((1 ≤ length cells.items) × (length cells.items ≤ 10000000)) }
+        ensures value { IfSome result (λ path. path ≡ cells.items) }
+    {
+        if cells.len() < 1 || cells.len() > 10000000 {
+            return None;
+        }
+        Some(Path { cells })
+    }
+
+    /// The cells, one for each tick from 0 on.
+    pub fn cells(&self) -> &[Cell]
+        ensures value { result.now ≡ self.now }
+        ensures some { 1 ≤ length result.now }
+        ensures few { length result.now ≤ 10000000 }
+    {
+        &self.cells
+    }
+
+    pub fn at(&self, tick: Tick) -> Cell
+        ensures { result ≡ at self.now tick }
+    {
+        let last = self.cells.len() - 1;
+        self.cells[if tick as usize <= last {
+            tick as usize
+        } else {
+            last
+        }]
+    }
+
+    pub fn cost(&self, goal: Cell) -> Option<u32>
+        ensures cost { IfSome result (λ cost. IsCost goal self.now cost) }
+        ensures none { IfNone result (at self.now (length self.now - 1) ≢ goal) }
+    {
+        let mut cost = self.cells.len();
+        while cost > 0 && self.cells[cost - 1] == goal {
+            cost -= 1;
+        }
+        if cost == self.cells.len() {
+            return None;
+        }
+        Some(cost as u32)
+    }
+
+    pub fn is_tight(&self) -> bool
+        ensures { IsTrue result ↔ ((length self.now ≡ 1) ⊎ (slice_index self.now (length self.now - 1) ≢ slice_index self.now (length self.now - 2))) }
+    {
+        let n = self.cells.len();
+        n == 1 || self.cells[n - 1] != self.cells[n - 2]
+    }
+}

@@ -1,0 +1,144 @@
+ghost use Rattle.std.specs.Prelude.{◌≡◌, ◌<◌, ◌≤◌, [], List, ℕ, Bool, false, Some, Option, length, take, IfOk, OnOk, OnErr};
+ghost use Rattle.std.specs.Result.{is_err};
+ghost use Rattle.std.specs.Io.KnownBytes.{Appends, WriteAppends};
+
+use crate::memory::OutOfMemory;
+use crate::source::Failed;
+use std::alloc::Global;
+use std::io::Write;
+use std::marker::Model;
+
+/// Where bytes go.
+pub trait Sink {
+    /// The bytes that were pushed, where the sink tells them.
+    ghost contents: { Self → Option (List ℕ) };
+    /// Whether it has failed.
+    ghost has_failed: { Self → Bool };
+
+    /// Takes bytes from the front of these and answers how many, at least one.
+    fn push(&mut self, bytes: &[u8]) -> Result<usize, Failed>
+        requires some { 0 < length bytes.now }
+        requires working { has_failed self.old ≡ false }
+        ensures bound { IfOk result (λ n. n ≤ length bytes.now) }
+        ensures progress { IfOk result (λ n. 0 < n) }
+        ensures bytes { WriteAppends (contents self.old) (contents self.new) result bytes.now }
+        ensures failed { has_failed self.new ≡ is_err result };
+
+    fn failed(&self) -> bool
+        ensures { result ≡ has_failed self.now };
+}
+
+/// A writer of the standard library as a sink. Any error is a failure, and so is a write of no byte.
+#[derive(Drop)]
+pub struct WriteSink<W: Write> {
+    inner: W,
+    is_failed: bool,
+}
+
+impl<W: Write> WriteSink<W> {
+    pub fn of(inner: W) -> WriteSink<W>
+        ensures bytes { ⟦<WriteSink<W> as Sink>⟧.contents result ≡ W.contents inner }
+        ensures works { ⟦<WriteSink<W> as Sink>⟧.has_failed result ≡ false }
+    {
+        WriteSink {
+            inner,
+            is_failed: false,
+        }
+    }
+}
+
+impl<W: Write> Sink for WriteSink<W> {
+    ghost contents = { λ s. W.contents s.inner };
+
+    ghost has_failed = { λ s. s.is_failed };
+
+    fn push(&mut self, bytes: &[u8]) -> Result<usize, Failed> {
+        match self.inner.write(bytes) {
+            Ok(n) if 0 < n => Ok(n),
+            _ => {
+                self.is_failed = true;
+                Err(Failed)
+            }
+        }
+    }
+
+    fn failed(&self) -> bool {
+        self.is_failed
+    }
+}
+
+/// Bytes in memory as a sink, with room for a number of bytes. It fails only where it is full.
+#[derive(Drop)]
+pub struct BytesSink {
+    bytes: Vec<u8>,
+    room: usize,
+    is_failed: bool,
+}
+
+impl Model for BytesSink {
+    ghost use Rattle.std.specs.Prelude.{List, ℕ, Bool, ◌≤◌, ◌+◌, ◌≡◌, vec_len, vec_capacity};
+
+    ghost Value = { List ℕ × ℕ × Bool };
+
+    ghost view = { λ s. (s.bytes.items, s.room, s.is_failed) };
+
+    ghost invariant = { λ s. vec_len s.bytes + s.room ≤ vec_capacity s.bytes };
+}
+
+impl BytesSink {
+    /// A sink with room for `room` bytes, all of which is taken here.
+    pub fn with_room(alloc: Global, room: usize) -> Result<BytesSink, OutOfMemory>
+        ensures { IfOk result (λ s. s ≡ ([], room, false)) }
+    {
+        Ok(BytesSink {
+            bytes: Vec::with_capacity(alloc, room)?,
+            room,
+            is_failed: false,
+        })
+    }
+
+    /// What was pushed.
+    pub fn bytes(&self) -> &[u8]
+        ensures value { result.now ≡ self.now.0 }
+        ensures contents { ⟦<BytesSink as Sink>⟧.contents self.now ≡ Some result.now }
+    {
+        self.bytes.as_slice()
+    }
+}
+
+impl Sink for BytesSink {
+    ghost contents = { λ s. Some s.0 };
+
+    ghost has_failed = { λ s. s.2 };
+
+    fn push(&mut self, bytes: &[u8]) -> Result<usize, Failed> {
+        let n = self.room.min(bytes.len());
+        if n == 0 {
+            self.is_failed = true;
+            return Err(Failed);
+        }
+        self.bytes.extend_from_slice(&bytes[..n]).unwrap();
+        self.room -= n;
+        Ok(n)
+    }
+
+    fn failed(&self) -> bool {
+        self.is_failed
+    }
+}
+
+/// Writes all of the bytes.
+pub fn write_all<K: Sink>(sink: &mut K, bytes: &[u8]) -> Result<(), Failed>
+    requires { K.has_failed sink.old ≡ false }
+    ensures ok { OnOk result (Appends (K.contents sink.old) (K.contents sink.new) bytes.now) }
+    ensures failed { K.has_failed sink.new ≡ is_err result }
+    ensures prefix { OnErr result ((n : ℕ) × (n ≤ length bytes.now)
+        × Appends (K.contents sink.old) (K.contents sink.new) (take n bytes.now)) }
+{
+    let mut at = 0;
+    while at < bytes.len() {
+        let n = sink.push(&bytes[at..])?;
+        at += n;
+    }
+    Ok(())
+}
