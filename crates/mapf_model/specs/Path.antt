@@ -1,5 +1,5 @@
 -- Paths of agents and their cost.
-use Rattle.std.specs.Prelude.{◌≡◌, ◌≢◌, ℕ, ◌+◌, ◌-◌, ◌≤◌, min, List, [], slice_index, length}
+use Rattle.std.specs.Prelude.{◌≡◌, ◌≢◌, ◌⊎◌, ℕ, ◌+◌, ◌-◌, ◌≤◌, min, List, [], slice_index, length}
 use Rattle.mapf_model.specs.declared.problem.Agent.{Agent}
 use Rattle.mapf_model.specs.Grid.{GridMap, Step}
 
@@ -26,3 +26,7 @@ RestsFrom goal path from = (tick : ℕ) → from ≤ tick → at path tick ≡ g
 pub record IsCost (goal : ℕ) (path : List ℕ) (cost : ℕ) : Type 0 where
   pub rests : RestsFrom goal path cost
   pub least : (from : ℕ) → RestsFrom goal path from → cost ≤ from
+
+-- one cell, or the last two differ
+abbrev pub IsTight : List ℕ → Type 0
+IsTight path = (length path ≡ 1) ⊎ (slice_index path (length path - 1) ≢ slice_index path (length path - 2))

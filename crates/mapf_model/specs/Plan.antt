@@ -1,7 +1,7 @@
 -- Plans: a path for each agent.
-use Rattle.std.specs.Prelude.{◌≡◌, ◌≢◌, ◌⊎◌, ℕ, ◌+◌, ◌≤◌, All, List, Some, length, sum, slice_get}
+use Rattle.std.specs.Prelude.{◌≡◌, ◌≢◌, ◌⊎◌, ℕ, ◌+◌, ◌-◌, ◌≤◌, All, List, Some, length, sum, slice_get}
 use Rattle.mapf_model.specs.declared.problem.Agent.{Agent}
-use Rattle.mapf_model.specs.Grid.{GridMap, IsGridMap, IsFree}
+use Rattle.mapf_model.specs.Grid.{GridMap, IsFree}
 use Rattle.mapf_model.specs.Path.{at, IsLawful, IsCost}
 
 -- a grid and the agents on it
@@ -9,12 +9,9 @@ pub record Instance : Type 0 where
   pub grid : GridMap
   pub agents : List Agent
 
--- agents whose starts and goals are free cells of the grid
-pub record IsInstance (problem : Instance) : Type 0 where
-  pub grid : IsGridMap problem.grid
-  pub some : 1 ≤ length problem.agents
-  pub few : length problem.agents ≤ 200
-  pub free : All (λ agent. IsFree problem.grid agent.start × IsFree problem.grid agent.goal) problem.agents
+-- 1 to 200 agents whose starts and goals are free cells
+abbrev pub AreAgentsOn : GridMap → List Agent → Type 0
+AreAgentsOn grid agents = (1 ≤ length agents) × (length agents ≤ 200) × All (λ agent. IsFree grid agent.start × IsFree grid agent.goal) agents
 
 -- two agents are in one cell, or exchange their cells
 abbrev pub ConflictAt : List ℕ → List ℕ → ℕ → Type 0
@@ -35,6 +32,10 @@ pub record AreCosts (agents : List Agent) (plan : List (List ℕ)) (costs : List
 -- the sum of the costs of the agents' paths
 abbrev pub IsSumOfCosts : List Agent → List (List ℕ) → ℕ → Type 0
 IsSumOfCosts agents plan total = (costs : List ℕ) × AreCosts agents plan costs × (total ≡ sum costs)
+
+-- the path of some agent doesn't end at the agent's goal
+abbrev pub SomePathEndsElsewhere : List Agent → List (List ℕ) → Type 0
+SomePathEndsElsewhere agents plan = (i : ℕ) × (agent : Agent) × (path : List ℕ) × (slice_get agents i ≡ Some agent) × (slice_get plan i ≡ Some path) × (at path (length path - 1) ≢ agent.goal)
 
 -- no valid plan has a smaller sum
 abbrev pub IsLowerBound : Instance → ℕ → Type 0

@@ -1,5 +1,5 @@
 -- The values that the texts can spell.
-use Rattle.std.specs.Prelude.{◌≡◌, ◌≢◌, ◌⊎◌, ℕ, ◌-◌, ◌*◌, ◌<◌, ◌≤◌, ⊤, List, length, All, AllPairs, slice_index}
+use Rattle.std.specs.Prelude.{◌≡◌, ◌⊎◌, ℕ, ◌*◌, ◌<◌, ◌≤◌, ⊤, List, length, All, AllPairs}
 use Rattle.mapf_model.specs.declared.item.Claim.{Claim}
 use Rattle.mapf_model.specs.declared.item.Claim.TheVariants.{Cost, Impossible}
 use Rattle.mapf_model.specs.declared.conflict.Conflict.{Conflict}
@@ -9,6 +9,7 @@ use Rattle.mapf_model.specs.declared.label.Label.{Label}
 use Rattle.mapf_model.specs.declared.label.Label.TheVariants.{Ticks, Never}
 use Rattle.mapf_model.specs.Blocks.{LabelBlock}
 use Rattle.mapf_model.specs.Grid.{GridMap}
+use Rattle.mapf_model.specs.Path.{IsTight}
 use Rattle.mapf_model.specs.Tree.{ConstraintTree, Split, Leaf, Clash}
 
 abbrev pub IsOnGrid : GridMap → ℕ → Type 0
@@ -48,12 +49,14 @@ abbrev pub IsClaimInRange : Claim → Type 0
 IsClaimInRange (Cost cost) = cost ≤ 1999999800
 IsClaimInRange Impossible = ⊤
 
--- one cell, or the last two differ
-abbrev pub IsTight : List ℕ → Type 0
-IsTight path = (length path ≡ 1) ⊎ (slice_index path (length path - 1) ≢ slice_index path (length path - 2))
-
 pub record IsPathInRange (grid : GridMap) (path : List ℕ) : Type 0 where
   pub some : 1 ≤ length path
   pub short : length path ≤ 10000000
   pub on_grid : All (IsOnGrid grid) path
   pub tight : IsTight path
+
+-- 1 to 200 paths. Their sum of costs is then at most 1,999,999,800
+pub record IsPlanInRange (grid : GridMap) (plan : List (List ℕ)) : Type 0 where
+  pub some : 1 ≤ length plan
+  pub few : length plan ≤ 200
+  pub paths : All (IsPathInRange grid) plan

@@ -1,5 +1,5 @@
 -- Constraint trees and what they show.
-use Rattle.std.specs.Prelude.{◌≡◌, ◌≢◌, ◌⊎◌, ℕ, ◌+◌, ◌<◌, ◌≤◌, ◌==◌, if◌then◌else◌, List, [], ◌∷◌, ◌++◌, Option, None, Some, length, slice_get, find, AllPairs, All, map}
+use Rattle.std.specs.Prelude.{◌≡◌, ◌≢◌, ◌⊎◌, ℕ, ◌+◌, ◌<◌, ◌==◌, if◌then◌else◌, List, [], ◌∷◌, ◌++◌, Option, None, Some, length, slice_get, find, AllPairs, All, map}
 use Rattle.std.specs.List.{AllZip}
 use Rattle.mapf_model.specs.declared.bar.Bar.{Bar}
 use Rattle.mapf_model.specs.declared.bar.Bar.TheVariants.{Cell, Move}
@@ -16,7 +16,7 @@ use Rattle.mapf_model.specs.declared.item.Item.TheVariants.{Vertex as VertexItem
 use Rattle.mapf_model.specs.Grid.{IsFree, AreAdjacent}
 use Rattle.mapf_model.specs.Bars.{Satisfies}
 use Rattle.mapf_model.specs.Labels.{Entries, entries_of, AreSound, IsLabel, IsAtMost, label_sum}
-use Rattle.mapf_model.specs.Plan.{Instance, IsValid, IsSumOfCosts}
+use Rattle.mapf_model.specs.Plan.{Instance, IsLowerBound, IsImpossible}
 
 pub data ConstraintTree : Type 0 where
   Split : (conflict : Conflict) → (left right : ConstraintTree) → ConstraintTree
@@ -168,14 +168,10 @@ pub record Shows (problem : Instance) (claim : Claim) (tree : ConstraintTree) : 
   pub proper : IsProper problem tree
   pub nodes : AtEachNode (NodeShows problem claim) root tree
 
--- what a claim says of a valid plan
-abbrev pub Bounds : Instance → Claim → List (List ℕ) → Type 0
-Bounds problem (Cost cost) plan = (total : ℕ) → IsSumOfCosts problem.agents plan total → cost ≤ total
-Bounds problem Impossible plan = ⊥
-
--- the claim is so of all valid plans
+-- what a claim says of the problem
 abbrev pub Holds : Instance → Claim → Type 0
-Holds problem claim = (plan : List (List ℕ)) → IsValid problem plan → Bounds problem claim plan
+Holds problem (Cost cost) = IsLowerBound problem cost
+Holds problem Impossible = IsImpossible problem
 
 -- each agent's path obeys its bars
 abbrev pub AllSatisfy : List (List ℕ) → (ℕ → List Bar) → Type 0
