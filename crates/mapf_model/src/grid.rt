@@ -27,7 +27,8 @@ impl Model for Grid {
 
 impl Grid {
     pub fn of(width: u32, height: u32, free: Vec<bool>) -> Option<Grid>
-        ensures { IfSome result (λ grid. grid ≡ record { width = width; height = height; free = free.items }) }
+        ensures good { IsSome result ↔ IsGridMap (record { width = width; height = height; free = free.items }) }
+        ensures value { IfSome result (λ grid. grid ≡ record { width = width; height = height; free = free.items }) }
     {
         if width < 1 || width > 2048 || height < 1 || height > 2048 {
             return None;
