@@ -29,7 +29,9 @@ impl Plan {
     }
 
     pub fn paths(&self) -> &[Path]
-        ensures { result.now ≡ self.now }
+        ensures value { result.now ≡ self.now }
+        ensures some { 1 ≤ length result.now }
+        ensures few { length result.now ≤ 200 }
     {
         &self.paths
     }
