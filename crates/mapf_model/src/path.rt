@@ -44,12 +44,7 @@ impl Path {
     pub fn at(&self, tick: Tick) -> Cell
         ensures { result ≡ at self.now tick }
     {
-        let last = self.cells.len() - 1;
-        self.cells[if tick as usize <= last {
-            tick as usize
-        } else {
-            last
-        }]
+        self.cells[(tick as usize).min(self.cells.len() - 1)]
     }
 
     /// The least tick from which on the agent is at the goal. None where the last cell isn't the goal.
