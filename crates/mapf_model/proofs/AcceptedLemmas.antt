@@ -1,10 +1,10 @@
 -- What is accepted is so.
-use Rattle.std.proofs.Common.{◌≡◌, List, subst}
+use Rattle.std.proofs.Common.{subst}
 use Rattle.mapf_model.specs.declared.item.Claim.{Claim}
 use Rattle.mapf_model.specs.declared.item.Claim.TheVariants.{Cost, Impossible}
 use Rattle.mapf_model.specs.Accepted.{PlanSays, SaysPlan, SaysImpossible, SaysLimit, Outcome, OptimalOutcome, ImpossibleOutcome, GoTogether, IsTrueOf}
 use Rattle.mapf_model.specs.Plan.{Instance}
-use Rattle.mapf_model.specs.Tree.{ConstraintTree, Shows, Holds}
+use Rattle.mapf_model.specs.Tree.{ConstraintTree, Shows}
 use Rattle.mapf_model.specs.Laws.{ShownClaimsHold}
 
 pub accepted_is_true : ShownClaimsHold → (problem : Instance) (says : PlanSays) (claim : Claim) (tree : ConstraintTree) (outcome : Outcome) → GoTogether problem says claim tree outcome → IsTrueOf problem says outcome
