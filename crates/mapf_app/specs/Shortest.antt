@@ -1,0 +1,22 @@
+-- What the agents' shortest paths tell.
+use Rattle.std.specs.Prelude.{◌≡◌, ◌-◌, ◌≤◌, ℕ, List, Some, length, slice_get}
+use Rattle.mapf_model.specs.declared.problem.Agent.{Agent}
+use Rattle.mapf_model.specs.Distance.{IsDistance, IsUnreachable}
+use Rattle.mapf_model.specs.Grid.{GridMap}
+use Rattle.mapf_model.specs.Path.{IsLawful, IsTight}
+use Rattle.mapf_model.specs.Plan.{Instance}
+
+-- the agent's path is lawful, ends as it arrives and has no more steps than it must
+pub record IsShortest (grid : GridMap) (agent : Agent) (path : List ℕ) : Type 0 where
+  pub lawful : IsLawful grid agent path
+  pub tight : IsTight path
+  pub short : IsDistance grid agent.goal agent.start (length path - 1)
+
+-- so it is with the paths of the agents in front
+pub record AreShortest (problem : Instance) (paths : List (List ℕ)) : Type 0 where
+  pub within : length paths ≤ length problem.agents
+  pub each : (i : ℕ) (agent : Agent) (path : List ℕ) → slice_get problem.agents i ≡ Some agent → slice_get paths i ≡ Some path → IsShortest problem.grid agent path
+
+-- some agent can't reach its goal
+abbrev pub SomeGoalIsUnreachable : Instance → Type 0
+SomeGoalIsUnreachable problem = (i : ℕ) × (agent : Agent) × (slice_get problem.agents i ≡ Some agent) × IsUnreachable problem.grid agent.goal agent.start
