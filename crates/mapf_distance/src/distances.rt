@@ -1,8 +1,7 @@
 ghost use Rattle.std.specs.Prelude.{◌≡◌, ◌+◌, ◌-◌, ◌*◌, ◌<◌, ◌↔◌, length, IfOk, IfSome, IfNone, IsTrue, OnSome};
 ghost use Rattle.mapf_model.specs.Distance.{IsDistance, IsUnreachable};
 ghost use Rattle.mapf_model.specs.Grid.{IsFree, Step, free_cell_count};
-ghost use Rattle.mapf_model.specs.Path.{at, IsPath, IsCost};
-ghost use Rattle.mapf_model.specs.Printed.{IsTight};
+ghost use Rattle.mapf_model.specs.Path.{at, IsPath, IsCost, IsTight};
 ghost use Rattle.mapf_distance.specs.Distances.{IsReachable, beside_of};
 
 use crate::wave;
