@@ -1,3 +1,5 @@
 pub mod LineLemmas
 pub mod WordLemmas
 pub mod NumberLemmas
+pub mod RowLemmas
+pub mod MapLemmas
