@@ -3,3 +3,4 @@ pub mod WordLemmas
 pub mod NumberLemmas
 pub mod RowLemmas
 pub mod MapLemmas
+pub mod DecimalLemmas
