@@ -1,0 +1,6 @@
+pub mod LineLemmas
+pub mod WordLemmas
+pub mod NumberLemmas
+pub mod RowLemmas
+pub mod MapLemmas
+pub mod DecimalLemmas
