@@ -1,5 +1,5 @@
 ghost use Rattle.std.specs.Prelude.{◌≡◌, ◌<◌, length, IfOk, IfSome, IfNone, MatchOption, slice_get, Some};
-ghost use Rattle.mapf_app.specs.Shortest.{IsShortest, AreShortest, SomeGoalIsUnreachable};
+ghost use Rattle.mapf_app.specs.Shortest.{IsShortest, AreShortest, SomeGoalIsUnreachable, IsTold};
 ghost use Rattle.mapf_model.specs.Distance.{IsUnreachable};
 ghost use Rattle.mapf_model.specs.Grid.{IsFree};
 
@@ -14,9 +14,9 @@ pub enum Shortest {
     /// They form a valid plan, which is then a cheapest one; with its sum of costs.
     Found(Plan, u64),
     /// Some agent's goal can't be reached.
-    Impossible,
-    /// They meet.
-    Limit(Cause),
+    Unreachable,
+    /// They meet, so that a split would be due.
+    Meet(Cause),
 }
 
 // A shortest path of the agent, None where its goal can't be reached.
@@ -50,15 +50,17 @@ fn shortest_paths(alloc: Global, problem: &Problem) -> Result<Option<Vec<Path>>,
 }
 
 /// Tries the agents' shortest paths.
-pub fn try_shortest(alloc: Global, problem: &Problem) -> Result<Shortest, OutOfMemory> {
+pub fn try_shortest(alloc: Global, problem: &Problem) -> Result<Shortest, OutOfMemory>
+    ensures { IfOk result (IsTold problem.now) }
+{
     let Some(paths) = shortest_paths(alloc, problem)? else {
-        return Ok(Shortest::Impossible);
+        return Ok(Shortest::Unreachable);
     };
     let Some(plan) = Plan::of(paths) else {
-        return Ok(Shortest::Limit(Cause::Splits(0)));
+        return Ok(Shortest::Meet(Cause::Splits(0)));
     };
     match check_plan(problem, &plan) {
         Ok(sum) => Ok(Shortest::Found(plan, sum)),
-        Err(_) => Ok(Shortest::Limit(Cause::Splits(0))),
+        Err(_) => Ok(Shortest::Meet(Cause::Splits(0))),
     }
 }

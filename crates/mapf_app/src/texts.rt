@@ -65,7 +65,7 @@ fn limited(alloc: Global, problem: &Problem, cause: Cause) -> Result<Texts, OutO
 pub fn texts_of(alloc: Global, problem: &Problem) -> Result<Texts, OutOfMemory> {
     match try_shortest(alloc, problem)? {
         Shortest::Found(plan, sum) => found(alloc, problem, plan, sum),
-        Shortest::Impossible => impossible(alloc, problem),
-        Shortest::Limit(cause) => limited(alloc, problem, cause),
+        Shortest::Unreachable => impossible(alloc, problem),
+        Shortest::Meet(cause) => limited(alloc, problem, cause),
     }
 }
