@@ -4,3 +4,5 @@ pub mod NumberLemmas
 pub mod RowLemmas
 pub mod MapLemmas
 pub mod DecimalLemmas
+pub mod ScenarioLemmas
+pub mod ScenarioLaws

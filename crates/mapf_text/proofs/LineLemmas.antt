@@ -1,9 +1,9 @@
 -- Lines: the first one, and its line end.
-use Rattle.std.proofs.Common.{◌≡◌, ℕ, ◌<◌, ◌≤◌, ◌+◌, ◌-◌, Bool, true, false, cond, List, [], ◌∷◌, ◌++◌, length, take, drop, map, Option, Some, None, MatchOption, refl, sym, ap, ◌∙◌, suc, arith, le_refl}
+use Rattle.std.proofs.Common.{◌≡◌, ℕ, ◌≤◌, ◌+◌, ◌-◌, Bool, true, false, cond, List, [], ◌∷◌, ◌++◌, take, drop, map, Option, Some, None, MatchOption, refl, ap, ◌∙◌, suc, arith, le_refl}
 use Rattle.std.specs.Prelude.{◌==◌}
 use Rattle.std.specs.List.{position_from}
 use Rattle.std.proofs.lemmas.Option.{MatchOption-at_some, MatchOption-at_none}
-use Rattle.mapf_text.specs.Lines.{before_line, cut_lines, without_return, lines_of}
+use Rattle.mapf_text.specs.Lines.{cut_lines, without_return, lines_of}
 
 -- what a search for an LF from place n on tells of the lines
 abbrev FirstLine : List ℕ → ℕ → Option ℕ → Type 0

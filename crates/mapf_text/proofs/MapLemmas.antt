@@ -1,12 +1,12 @@
 -- Map texts: bytes spell one grid at most, and no fault stands in bytes that spell one.
-use Rattle.std.proofs.Common.{◌≡◌, ◌≢◌, ◌⊎◌, ℕ, ◌<◌, ◌≤◌, ◌+◌, Bool, true, false, List, [], ◌∷◌, ◌++◌, codes, Option, Some, None, Result, Ok, Err, MatchResult, length, get_or, take, drop, map, refl, sym, ap, subst, ◌∙◌, zero, suc, arith, inl, inr}
+use Rattle.std.proofs.Common.{◌≡◌, ℕ, ◌<◌, Bool, true, List, [], ◌∷◌, ◌++◌, codes, Option, Some, None, length, get_or, take, drop, map, refl, sym, subst, ◌∙◌, zero, suc, arith, inl, inr}
 use Rattle.std.specs.List.{concat}
 use Rattle.std.proofs.lemmas.List.{map-append, get_or-take, length-take-le}
 use Rattle.mapf_model.specs.Grid.{GridMap}
 use Rattle.mapf_text.specs.Lines.{lines_of}
 use Rattle.mapf_text.specs.Words.{is_blank_line}
 use Rattle.mapf_text.specs.Numbers.{SpellsNumber}
-use Rattle.mapf_text.specs.Maps.{AfterType, AfterSize, AfterMap, IsSizeLine, HasHeight, HasWidth, IsHeader, IsSize, flag_of, HasRows, HasUnknownAt, HasTextAt, SpellsMap, HasBodyFault, HasMapFault}
+use Rattle.mapf_text.specs.Maps.{AfterType, AfterSize, AfterMap, HasHeight, HasWidth, IsHeader, IsSize, flag_of, HasRows, HasUnknownAt, SpellsMap, HasBodyFault, HasMapFault}
 use Rattle.mapf_text.specs.declared.map_fault.MapFault.{MapFault}
 use Rattle.mapf_text.specs.declared.map_fault.MapFault.TheVariants.{M1, M2, M3, M4, M5, M6, M7, M8, M9, Memory}
 use Rattle.mapf_text.proofs.NumberLemmas.{number-unique}

@@ -1,5 +1,5 @@
 -- Rows: one line more of a list of lines.
-use Rattle.std.proofs.Common.{◌≡◌, ◌≢◌, ℕ, ◌<◌, ◌≤◌, ◌+◌, Bool, List, [], ◌∷◌, ◌++◌, Some, None, length, get_or, take, drop, map, refl, sym, ap, subst, ◌∙◌, zero, suc, arith, add-one, append_assoc, length-drop, below_more}
+use Rattle.std.proofs.Common.{◌≡◌, ℕ, ◌<◌, ◌≤◌, ◌+◌, Bool, List, [], ◌∷◌, ◌++◌, Some, length, get_or, take, drop, map, refl, sym, ap, subst, ◌∙◌, zero, suc, arith, append_assoc, length-drop, below_more}
 use Rattle.std.specs.List.{concat}
 use Rattle.std.proofs.lemmas.List.{append-nil, map-append}
 use Rattle.mapf_text.specs.Maps.{flag_of, HasRows, HasBodyFault, HasUnknownAt}

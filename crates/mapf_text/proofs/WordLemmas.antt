@@ -1,8 +1,7 @@
 -- Words: the first one of a line, and the blanks before it.
-use Rattle.std.proofs.Common.{◌≡◌, ℕ, ◌<◌, ◌≤◌, ◌+◌, ◌-◌, Bool, true, false, not, cond, List, [], ◌∷◌, length, get_or, take, drop, Option, Some, None, MatchOption, unwrap_or, refl, sym, ap, ◌∙◌, suc, arith, le_refl}
+use Rattle.std.proofs.Common.{◌≡◌, ℕ, ◌≤◌, ◌+◌, ◌-◌, Bool, true, false, not, cond, List, [], ◌∷◌, length, get_or, take, drop, Option, Some, None, MatchOption, unwrap_or, refl, ◌∙◌, suc, arith, le_refl}
 use Rattle.std.proofs.lemmas.Option.{MatchOption-at_some, MatchOption-at_none}
 use Rattle.std.specs.List.{position_or_len, position_from}
-use Rattle.mapf_text.specs.Lines.{before_line}
 use Rattle.mapf_text.specs.Words.{is_blank, words_of}
 
 -- blanks at the front of a line are ignored

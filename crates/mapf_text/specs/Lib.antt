@@ -3,3 +3,5 @@ pub mod Words
 pub mod Numbers
 pub mod Decimals
 pub mod Maps
+pub mod AgentRows
+pub mod Scenarios

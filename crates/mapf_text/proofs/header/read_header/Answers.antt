@@ -1,6 +1,6 @@
-use Rattle.std.proofs.Common.{◌≡◌, ℕ, List, refl, inr}
+use Rattle.std.proofs.Common.{refl, inr}
 use Rattle.mapf_text.specs.Lines.{lines_of}
-use Rattle.mapf_text.specs.Maps.{HasHeight, HasWidth, IsSize}
+use Rattle.mapf_text.specs.Maps.{HasHeight}
 use Rattle.mapf_text.proofs.header.read_header.Goals as goal
 
 pub returns-in-Err-OutOfRange-size_line-clause-found :

@@ -1,5 +1,5 @@
 use Rattle.std.proofs.Common.{◌≡◌, ℕ, List, ◌∷◌, Err, subst}
-use Rattle.mapf_text.specs.Maps.{AfterSize, IsSizeLine, SizeIn, HasNoSize}
+use Rattle.mapf_text.specs.Maps.{IsSizeLine, SizeIn, HasNoSize}
 use Rattle.mapf_text.specs.declared.header.NotSize.{NotSize}
 use Rattle.mapf_text.specs.declared.header.NotSize.TheVariants.{Absent, OutOfRange}
 use Rattle.mapf_text.proofs.header.size_line.Goals as goal

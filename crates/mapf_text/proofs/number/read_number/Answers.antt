@@ -1,5 +1,5 @@
-use Rattle.std.proofs.Common.{◌≡◌, ℕ, true, rules}
-use Rattle.mapf_text.specs.Numbers.{AreDigits, SpellsNumber}
+use Rattle.std.proofs.Common.{rules}
+use Rattle.mapf_text.specs.Numbers.{AreDigits}
 use Rattle.mapf_text.proofs.NumberLemmas.{digits-text, digits-refused}
 use Rattle.mapf_text.proofs.number.read_number.Goals as goal
 

@@ -1,4 +1,4 @@
-use Rattle.std.proofs.Common.{◌≡◌, ◌-◌, ℕ, List, ◌∷◌, not, length, take, drop, Option, Some, None, unwrap_or, sym}
+use Rattle.std.proofs.Common.{◌≡◌, ℕ, List, ◌∷◌, not, length, take, drop, Option, Some, unwrap_or, sym}
 use Rattle.std.specs.List.{position_from}
 use Rattle.std.proofs.lemmas.List.{take_rest}
 use Rattle.mapf_text.specs.Words.{is_blank, words_of}
