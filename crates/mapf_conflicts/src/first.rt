@@ -100,16 +100,79 @@ mod tests {
         Ok(Plan::of(all).ok_or("no plan")?)
     }
 
+    fn vertex(i: u32, j: u32, cell: u32, tick: Tick) -> Option<Conflict> {
+        Some(Conflict::Vertex {
+            i,
+            j,
+            cell: Cell(cell),
+            tick,
+        })
+    }
+
+    fn swap(i: u32, j: u32, from: u32, to: u32, tick: Tick) -> Option<Conflict> {
+        Some(Conflict::Swap {
+            i,
+            j,
+            from: Cell(from),
+            to: Cell(to),
+            tick,
+        })
+    }
+
     #[test]
     fn takes_vertex_before_swap_then_least_agents(rt: HostRuntime) -> Result<(), Fail> {
-        let plan = plan(rt.alloc(), &[&[0, 1], &[1, 0], &[2], &[2], &[2]])?;
-        let first = Conflict::Vertex {
-            i: 2,
-            j: 3,
-            cell: Cell(2),
-            tick: 0,
-        };
-        assert_eq!(rt; first_conflict(&plan), Some(first));
+        let both = plan(rt.alloc(), &[&[0, 1], &[1, 0], &[2], &[2], &[2]])?;
+        assert_eq!(rt; first_conflict(&both), vertex(2, 3, 2, 0));
+        let nested = plan(rt.alloc(), &[&[4], &[3], &[3], &[4]])?;
+        assert_eq!(rt; first_conflict(&nested), vertex(0, 3, 4, 0));
+        let swaps = plan(rt.alloc(), &[&[0, 1], &[4, 5], &[5, 4], &[1, 0]])?;
+        assert_eq!(rt; first_conflict(&swaps), swap(0, 3, 0, 1, 0));
+        Ok(())
+    }
+
+    #[test]
+    fn takes_the_least_tick(rt: HostRuntime) -> Result<(), Fail> {
+        let plan = plan(
+            rt.alloc(),
+            &[&[6, 7, 8], &[8, 8, 8], &[3, 0, 1], &[4, 1, 0]],
+        )?;
+        assert_eq!(rt; first_conflict(&plan), swap(2, 3, 0, 1, 1));
+        Ok(())
+    }
+
+    #[test]
+    fn meets_an_agent_at_rest(rt: HostRuntime) -> Result<(), Fail> {
+        let plan = plan(rt.alloc(), &[&[2], &[0, 1, 2]])?;
+        assert_eq!(rt; first_conflict(&plan), vertex(0, 1, 2, 2));
+        Ok(())
+    }
+
+    #[test]
+    fn lets_agents_follow_and_rotate(rt: HostRuntime) -> Result<(), Fail> {
+        let follow = plan(rt.alloc(), &[&[0, 1, 2], &[1, 2, 3]])?;
+        assert_eq!(rt; first_conflict(&follow), None);
+        let rotate = plan(rt.alloc(), &[&[0, 1], &[1, 3], &[3, 2], &[2, 0]])?;
+        assert_eq!(rt; first_conflict(&rotate), None);
+        Ok(())
+    }
+
+    #[test]
+    fn looks_at_each_of_200_agents(rt: HostRuntime) -> Result<(), Fail> {
+        for last in [198, 199] {
+            let mut paths = Vec::new(rt.alloc());
+            for agent in 0..200 {
+                let mut cells = Vec::new(rt.alloc());
+                cells.push(Cell(agent.min(last)))?;
+                paths.push(Path::of(cells).ok_or("no path")?)?;
+            }
+            let plan = Plan::of(paths).ok_or("no plan")?;
+            let expected = if last == 198 {
+                vertex(198, 199, 198, 0)
+            } else {
+                None
+            };
+            assert_eq!(rt; first_conflict(&plan), expected);
+        }
         Ok(())
     }
 }
