@@ -1,5 +1,5 @@
 -- The values that the texts can spell.
-use Rattle.std.specs.Prelude.{◌≡◌, ◌≢◌, ◌⊎◌, ℕ, ◌-◌, ◌*◌, ◌<◌, ◌≤◌, ⊤, List, length, All, AllPairs, slice_index}
+use Rattle.std.specs.Prelude.{◌≡◌, ◌≢◌, ◌⊎◌, ℕ, ◌-◌, ◌*◌, ◌^◌, ◌<◌, ◌≤◌, ⊤, List, length, All, AllPairs, slice_index}
 use Rattle.mapf_model.specs.declared.item.Claim.{Claim}
 use Rattle.mapf_model.specs.declared.item.Claim.TheVariants.{Cost, Impossible}
 use Rattle.mapf_model.specs.declared.conflict.Conflict.{Conflict}
@@ -28,6 +28,7 @@ IsEntryInRange grid entry = IsOnGrid grid entry.cell × (entry.tick ≤ 9999999)
 pub record IsBlockInRange (grid : GridMap) (agents : ℕ) (block : LabelBlock) : Type 0 where
   pub agent : block.agent < agents
   pub some : 1 ≤ length block.entries
+  pub few : length block.entries < 2 ^ 64
   pub entries : All (IsEntryInRange grid) block.entries
   pub rising : AllPairs IsBefore block.entries
 
