@@ -1,0 +1,19 @@
+use Rattle.std.proofs.Common.{sym, ◌∙◌, arith}
+use Rattle.std.proofs.lemmas.Bool.{false≢true}
+use Rattle.std.proofs.lemmas.Map.Views.{btree_set_contains_iff}
+use Rattle.mapf_model.specs.declared.bar.Bar.TheVariants.{Move}
+use Rattle.mapf_constraints.proofs.BarredLemmas.{move_total, move_exact, bars_of-move}
+use Rattle.mapf_constraints.proofs.tick_bars.TickBarsBarTable.bars_move.Goals as goal
+
+pub returns-then-tick-self : goal.returns-then-tick-self
+returns-then-tick-self c = rw (← c.self.view_is) (
+  (λ yes. absurd (false≢true yes)),
+  (λ held. absurd (omega (arith, c.self.invariant.horizon.above (Move c.args.from c.args.to c.args.tick) held))),
+)
+
+pub returns : goal.returns
+returns c =
+    let f = c.self.inside in
+    let set = btree_set_contains_iff move_total move_exact f.moves (record { tick = c.args.tick; from = c.args.from; to = c.args.to }) in
+    let bars = bars_of-move f.cells.keys f.moves.keys (record { tick = c.args.tick; from = c.args.from; to = c.args.to }) in
+    rw (← c.self.view_is) ((λ yes. bars.0 (set.0 (sym c.contains.ensures ∙ yes))), (λ held. c.contains.ensures ∙ set.1 (bars.1 held)))

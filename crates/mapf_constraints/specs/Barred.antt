@@ -1,0 +1,25 @@
+-- The bars that two ordered sets stand for.
+use Rattle.std.specs.Prelude.{ℕ, ◌≤◌, List, ◌++◌, map, Option}
+use Rattle.mapf_model.specs.declared.bar.Bar.{Bar}
+use Rattle.mapf_model.specs.declared.bar.Bar.TheVariants.{Cell, Move}
+use Rattle.mapf_model.specs.Bars.{AreBars}
+use Rattle.mapf_constraints.specs.BarSets.{IsHorizon, IsLastOn}
+use Rattle.mapf_constraints.specs.declared.barred.BarredCell.{BarredCell}
+use Rattle.mapf_constraints.specs.declared.barred.BarredMove.{BarredMove}
+
+abbrev pub cell_bar : BarredCell → Bar
+cell_bar barred = Cell barred.cell barred.tick
+
+abbrev pub move_bar : BarredMove → Bar
+move_bar barred = Move barred.from barred.to barred.tick
+
+-- the barred cells, then the barred moves
+abbrev pub bars_of : List BarredCell → List BarredMove → List Bar
+bars_of cells moves = map cell_bar cells ++ map move_bar moves
+
+-- what is kept beside the bars, to answer without a walk: the last tick on each cell, and the horizon
+pub record IsIndex (all : List Bar) (last_on : ℕ → Option ℕ) (tick : ℕ) : Type 0 where
+  pub bars : AreBars all
+  pub horizon : IsHorizon all tick
+  pub early : tick ≤ 1000000
+  pub last : (cell : ℕ) → IsLastOn all cell (last_on cell)

@@ -1,0 +1,2 @@
+pub mod BarSets
+pub mod Barred

@@ -1,0 +1,47 @@
+ghost use Rattle.std.specs.Prelude.{◌≡◌, ◌<◌, ◌≤◌, ◌↔◌, ◌∷◌, [], ℕ, List, IfOk, OnErr, OnOk, IsTrue, Contains};
+ghost use Rattle.mapf_model.specs.declared.bar.Bar.{Bar};
+ghost use Rattle.mapf_model.specs.Bars.{IsBar, AreBars};
+ghost use Rattle.mapf_model.specs.Laws.{AreSameBars};
+ghost use Rattle.mapf_constraints.specs.BarSets.{tick_of, IsHorizon, IsLastOn};
+
+use mapf_model::{Bar, Cell, OutOfMemory, Tick};
+use std::alloc::Global;
+
+/// A finite set of bars of one agent, all of them at ticks below 1,000,000.
+pub trait BarTable: Drop {
+    /// The bars. Only their membership counts.
+    ghost bars: { Self → List Bar };
+
+    /// No bars. The table keeps the allocator.
+    fn empty(alloc: Global) -> Self
+        ensures { bars result ≡ [] };
+
+    /// Whether the agent may not be in the cell at the tick.
+    fn bars_cell(&self, cell: Cell, tick: Tick) -> bool
+        ensures { IsTrue result ↔ Contains (bars self.now) (Bar.Cell cell tick) };
+
+    /// Whether the agent may not leave `from` at the tick and be at `to` one tick later.
+    fn bars_move(&self, from: Cell, to: Cell, tick: Tick) -> bool
+        ensures { IsTrue result ↔ Contains (bars self.now) (Bar.Move from to tick) };
+
+    /// The greatest tick at which the cell is barred, None if it never is.
+    fn last_on(&self, cell: Cell) -> Option<Tick>
+        ensures { IsLastOn (bars self.now) cell result };
+
+    /// The least tick that exceeds the ticks of all bars, 0 for none. It is at most 1,000,000.
+    fn horizon(&self) -> Tick
+        ensures horizon { IsHorizon (bars self.now) result }
+        ensures early { result ≤ 1000000 }
+        ensures bars { AreBars (bars self.now) };
+
+    /// Adds a bar. One that is there leaves the set as it is, and so does a refusal.
+    fn add(&mut self, bar: Bar) -> Result<(), OutOfMemory>
+        requires early { tick_of bar < 1000000 }
+        requires bar { IsBar bar }
+        ensures added { OnOk result (AreSameBars (bars self.new) (bar ∷ bars self.old)) }
+        ensures refused { OnErr result (AreSameBars (bars self.new) (bars self.old)) };
+
+    /// A table of the same bars.
+    fn copy(&self) -> Result<Self, OutOfMemory>
+        ensures { IfOk result (λ copy. AreSameBars (bars copy) (bars self.now)) };
+}

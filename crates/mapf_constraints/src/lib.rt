@@ -1,0 +1,16 @@
+//! Which cells and moves are barred to one agent?
+#![tactic(auto)]
+
+mod bar_table;
+mod barred;
+mod later;
+mod list_bars;
+mod tick_bars;
+
+pub use bar_table::BarTable;
+pub use list_bars::ListBars;
+pub use mapf_model::Bar;
+pub use tick_bars::TickBars;
+
+#[cfg(test)]
+mod tests;
