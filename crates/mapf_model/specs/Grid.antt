@@ -1,5 +1,5 @@
 -- The cells of a grid and the steps between them.
-use Rattle.std.specs.Prelude.{◌≡◌, ◌⊎◌, ℕ, ◌+◌, ◌*◌, ◌≤◌, ◌/◌, ◌%◌, Bool, true, false, List, length, slice_index_or}
+use Rattle.std.specs.Prelude.{◌≡◌, ◌⊎◌, ℕ, ◌+◌, ◌*◌, ◌≤◌, ◌/◌, ◌%◌, Bool, true, false, List, length, slice_index_or, count_by}
 
 -- a rectangle of cells, row after row, and which of them are free
 pub record GridMap : Type 0 where
@@ -19,6 +19,10 @@ row grid cell = cell / grid.width
 
 abbrev pub IsFree : GridMap → ℕ → Type 0
 IsFree grid cell = slice_index_or grid.free cell false ≡ true
+
+-- how many cells are free
+abbrev pub free_cell_count : GridMap → ℕ
+free_cell_count grid = count_by (λ free. free) grid.free
 
 -- the numbers differ by one
 abbrev pub DifferByOne : ℕ → ℕ → Type 0

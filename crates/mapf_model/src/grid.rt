@@ -46,6 +46,7 @@ impl Grid {
         ensures width { result ≡ self.now.width }
         ensures positive { 0 < result }
         ensures at_most { result ≤ 2048 }
+        ensures shape { IsGridMap self.now }
     {
         self.width
     }
