@@ -1,6 +1,6 @@
 ghost use Rattle.std.specs.Prelude.{◌≡◌, ◌⊎◌, ℕ, ◌+◌, ◌*◌, ◌^◌, ◌<◌, ◌≤◌, ◌++◌, true, [], length, map, drop, slice_index_or, IfOk, IfErr, OnOk, MatchResult};
 ghost use Rattle.std.specs.Vec.{vec_len, vec_capacity};
-ghost use Rattle.mapf_model.specs.Grid.{GridMap};
+ghost use Rattle.mapf_model.specs.Grid.{GridMap, IsGridMap};
 ghost use Rattle.mapf_text.specs.Lines.{lines_of};
 ghost use Rattle.mapf_text.specs.Words.{is_blank_line};
 ghost use Rattle.mapf_text.specs.Maps.{IsSize, HasRows, HasBodyFault, HasUnknownAt, HasTextAt, flag_of, SpellsMap, HasMapFault};
@@ -24,12 +24,15 @@ pub fn read_map(alloc: Global, bytes: &[u8]) -> Result<Grid, MapFault>
     ensures only { (grid : GridMap) → SpellsMap bytes.now grid → (result ≡ Ok grid) ⊎ (result ≡ Err MapFault.Memory) }
     // The lines before the fault's place are good, and there its defect stands.
     ensures fault { IfErr result (HasMapFault (lines_of bytes.now)) }
+    // The grid has a flag for each of its cells.
+    ensures grid { IfOk result IsGridMap }
 {
     grid_of(alloc, bytes)
 }
 
 fn grid_of(alloc: Global, bytes: &[u8]) -> Result<Grid, MapFault>
-    ensures { MatchResult result (SpellsMap bytes.now) (HasMapFault (lines_of bytes.now)) }
+    ensures cases { MatchResult result (SpellsMap bytes.now) (HasMapFault (lines_of bytes.now)) }
+    ensures grid { IfOk result IsGridMap }
 {
     let (size, rows) = read_header(bytes)?;
     let (free, rest) = read_rows(alloc, size, rows)?;

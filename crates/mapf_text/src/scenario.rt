@@ -1,5 +1,5 @@
 ghost use Rattle.std.specs.Prelude.{◌≡◌, ◌⊎◌, ◌↔◌, ℕ, ◌≤◌, List, [], ◌∷◌, IsTrue, Ok, Err, IfOk, IfErr, MatchOption, MatchResult};
-ghost use Rattle.mapf_model.specs.Plan.{Instance};
+ghost use Rattle.mapf_model.specs.Plan.{Instance, IsInstance};
 ghost use Rattle.mapf_text.specs.Scenarios.{filled_lines, IsVersionLine, AfterVersion, HasAgents, SpellsScenario, HasRowsFault, HasScenarioFault};
 
 use crate::agent_row::read_row;
@@ -21,13 +21,16 @@ pub fn read_scen(alloc: Global, bytes: &[u8], grid: Grid, k: u32) -> Result<Prob
     ensures only { (problem : Instance) → SpellsScenario bytes.now grid k problem → (result ≡ Ok problem) ⊎ (result ≡ Err ScenFault.Memory) }
     // The lines before the fault's place are good, and there its defect stands.
     ensures fault { IfErr result (HasScenarioFault grid (filled_lines bytes.now) k) }
+    // There are 1 to 200 agents, whose starts and goals are free cells.
+    ensures problem { IfOk result IsInstance }
 {
     problem_of(alloc, bytes, grid, k)
 }
 
 fn problem_of(alloc: Global, bytes: &[u8], grid: Grid, k: u32) -> Result<Problem, ScenFault>
     requires { (1 ≤ k) × (k ≤ 200) }
-    ensures { MatchResult result (SpellsScenario bytes.now grid k) (HasScenarioFault grid (filled_lines bytes.now) k) }
+    ensures cases { MatchResult result (SpellsScenario bytes.now grid k) (HasScenarioFault grid (filled_lines bytes.now) k) }
+    ensures problem { IfOk result IsInstance }
 {
     let Some(rows) = after_version(bytes) else {
         return Err(ScenFault::S1);

@@ -12,4 +12,4 @@ only bytes (Ok found) grid is spells = inl (ap Ok (map_unique bytes found grid i
 only bytes (Err fault) grid is spells = inr (ap Err (map_faultless bytes grid spells fault is))
 
 pub returns-clause-only : goal.returns-clause-only
-returns-clause-only c grid spells = only c.args.bytes.now _ grid c.grid_of.ensures spells
+returns-clause-only c grid spells = only c.args.bytes.now _ grid c.grid_of.ensures.cases spells

@@ -13,4 +13,4 @@ only bytes grid k (Ok found) problem is spells = inl (ap Ok (scenario_unique byt
 only bytes grid k (Err fault) problem is spells = inr (ap Err (scenario_faultless bytes grid k problem spells fault is))
 
 pub returns-clause-only : goal.returns-clause-only
-returns-clause-only c problem spells = only c.args.bytes.now c.args.grid c.args.k _ problem c.problem_of.ensures spells
+returns-clause-only c problem spells = only c.args.bytes.now c.args.grid c.args.k _ problem c.problem_of.ensures.cases spells
