@@ -65,7 +65,7 @@ one_sum problem plan valid a b (xs, are_xs, is_a) (ys, are_ys, is_b) =
     cost_unique agent.0.goal path.0 x y (are_xs.each i agent.0 path.0 x agent.1 path.1 this) (are_ys.each i agent.0 path.0 y agent.1 path.1 other)) in
     is_a ∙ ap sum same ∙ sym is_b
 
-snoc_get : {X : Type 0} (xs : List X) (x : X) (i : ℕ) (y : X) → slice_get (xs ++ x ∷ []) i ≡ Some y → (slice_get xs i ≡ Some y) ⊎ ((i ≡ length xs) × (x ≡ y))
+pub snoc_get : {X : Type 0} (xs : List X) (x : X) (i : ℕ) (y : X) → slice_get (xs ++ x ∷ []) i ≡ Some y → (slice_get xs i ≡ Some y) ⊎ ((i ≡ length xs) × (x ≡ y))
 snoc_get [] x zero y e = inr (refl, same_Some x y e)
 snoc_get [] x (suc i) y e = absurd cc
 snoc_get (z ∷ xs) x zero y e = inl e

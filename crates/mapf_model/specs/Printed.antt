@@ -1,5 +1,5 @@
 -- The ranges and orders of the values that plan texts and certificates spell. (Own)
-use Rattle.std.specs.Prelude.{◌≡◌, ◌⊎◌, ℕ, ◌*◌, ◌<◌, ◌≤◌, ⊤, List, length, All, AllPairs}
+use Rattle.std.specs.Prelude.{◌≡◌, ◌⊎◌, ℕ, ◌*◌, ◌^◌, ◌<◌, ◌≤◌, ⊤, List, length, All, AllPairs}
 use Rattle.mapf_model.specs.declared.item.Claim.{Claim}
 use Rattle.mapf_model.specs.declared.item.Claim.TheVariants.{Cost, Impossible}
 use Rattle.mapf_model.specs.declared.conflict.Conflict.{Conflict}
@@ -33,6 +33,7 @@ IsEntryInRange grid entry = IsOnGrid grid entry.cell × (entry.tick ≤ 9999999)
 pub record IsBlockInRange (grid : GridMap) (agents : ℕ) (block : LabelBlock) : Type 0 where
   pub agent : block.agent < agents
   pub some : 1 ≤ length block.entries
+  pub few : length block.entries < 2 ^ 64
   pub entries : All (IsEntryInRange grid) block.entries
   pub rising : AllPairs IsBefore block.entries
 

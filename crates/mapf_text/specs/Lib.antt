@@ -2,3 +2,6 @@ pub mod Lines
 pub mod Words
 pub mod Numbers
 pub mod Decimals
+pub mod Maps
+pub mod AgentRows
+pub mod Scenarios

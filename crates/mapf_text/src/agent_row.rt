@@ -1,10 +1,11 @@
-ghost use Rattle.std.specs.Prelude.{◌≡◌, ◌+◌, ◌<◌, ◌≤◌, length, IfOk, IfSome};
-ghost use Rattle.mapf_model.specs.Grid.{IsFree};
+ghost use Rattle.std.specs.Prelude.{◌≡◌, ◌≢◌, ℕ, List, [], ◌∷◌, length, Ok, Err, MatchOption, MatchResult};
+ghost use Rattle.mapf_text.specs.Words.{words_of};
+ghost use Rattle.mapf_text.specs.AgentRows.{HasNumbers, IsCellAt, IsNumber, SpellsAgent, IsFirstNoNumber, HasRowFault, numbered};
 
 use crate::decimal::is_decimal;
 use crate::number::read_number;
 use crate::scenario_fault::ScenFault;
-use crate::word::{next_word, one_word};
+use crate::word::next_word;
 use mapf_model::{Agent, Cell, Grid};
 
 // The nine words of a row.
@@ -34,8 +35,7 @@ struct Numbers {
 
 /// The agent of a row of a scenario, which is agent number `row`.
 pub fn read_row(line: &[u8], grid: &Grid, row: u32) -> Result<Agent, ScenFault>
-    ensures start { IfOk result (λ agent. IsFree grid.now agent.start) }
-    ensures goal { IfOk result (λ agent. IsFree grid.now agent.goal) }
+    ensures { MatchResult result (SpellsAgent grid.now (words_of line.now)) (HasRowFault grid.now (words_of line.now) row) }
 {
     let Some(fields) = fields_of(line) else {
         return Err(ScenFault::S2 { row });
@@ -59,7 +59,10 @@ pub fn read_row(line: &[u8], grid: &Grid, row: u32) -> Result<Agent, ScenFault>
     Ok(Agent { start, goal })
 }
 
-fn fields_of(line: &[u8]) -> Option<Fields<'_>> {
+fn fields_of(line: &[u8]) -> Option<Fields<'_>>
+    ensures { MatchOption result (length (words_of line.now) ≢ 9) (λ f. words_of line.now
+        ≡ f.bucket.now ∷ f.map_name.now ∷ f.width.now ∷ f.height.now ∷ f.start_x.now ∷ f.start_y.now ∷ f.goal_x.now ∷ f.goal_y.now ∷ f.length.now ∷ []) }
+{
     let (bucket, rest) = next_word(line)?;
     let (map_name, rest) = next_word(rest)?;
     let (width, rest) = next_word(rest)?;
@@ -68,7 +71,10 @@ fn fields_of(line: &[u8]) -> Option<Fields<'_>> {
     let (start_y, rest) = next_word(rest)?;
     let (goal_x, rest) = next_word(rest)?;
     let (goal_y, rest) = next_word(rest)?;
-    let length = one_word(rest)?;
+    let (length, rest) = next_word(rest)?;
+    if next_word(rest).is_some() {
+        return None;
+    }
     Some(Fields {
         bucket,
         map_name,
@@ -83,7 +89,11 @@ fn fields_of(line: &[u8]) -> Option<Fields<'_>> {
 }
 
 // The numbers of a row, or the first field that is none, counted from 1.
-fn numbers_of(fields: &Fields) -> Result<Numbers, u32> {
+fn numbers_of(fields: &Fields) -> Result<Numbers, u32>
+    ensures { let f = fields.now in
+        let words = f.bucket.now ∷ f.map_name.now ∷ f.width.now ∷ f.height.now ∷ f.start_x.now ∷ f.start_y.now ∷ f.goal_x.now ∷ f.goal_y.now ∷ f.length.now ∷ [] in
+        MatchResult result (HasNumbers words) (IsFirstNoNumber (numbered words)) }
+{
     number_in(fields.bucket, 1)?;
     let width = number_in(fields.width, 3)?;
     let height = number_in(fields.height, 4)?;
@@ -101,7 +111,10 @@ fn numbers_of(fields: &Fields) -> Result<Numbers, u32> {
     })
 }
 
-fn number_in(word: &[u8], field: u32) -> Result<u32, u32> {
+// The number in a field, or the field.
+fn number_in(word: &[u8], field: u32) -> Result<u32, u32>
+    ensures { MatchResult result (IsNumber word.now) (λ at. (at ≡ field) × ((n : ℕ) → IsNumber word.now n → ⊥)) }
+{
     match read_number(word) {
         Ok(n) => Ok(n),
         Err(_) => Err(field),
@@ -109,7 +122,7 @@ fn number_in(word: &[u8], field: u32) -> Result<u32, u32> {
 }
 
 fn free_cell(grid: &Grid, x: u32, y: u32) -> Option<Cell>
-    ensures free { IfSome result (IsFree grid.now) }
+    ensures { MatchOption result ((cell : ℕ) → IsCellAt grid.now x y cell → ⊥) (IsCellAt grid.now x y) }
 {
     let cell = grid.cell(x, y)?;
     if grid.is_free(cell) { Some(cell) } else { None }

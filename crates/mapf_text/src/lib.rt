@@ -3,6 +3,7 @@
 
 mod agent_row;
 mod decimal;
+mod header;
 mod line;
 mod map;
 mod map_fault;

@@ -1,117 +1,47 @@
-ghost use Rattle.std.specs.Prelude.{◌≡◌, ◌+◌, ◌*◌, ◌^◌, ◌<◌, ◌≤◌, length, IfOk, IfErr, OnOk, OnErr, is_ok, if◌then◌else◌};
+ghost use Rattle.std.specs.Prelude.{◌≡◌, ◌⊎◌, ℕ, ◌+◌, ◌*◌, ◌^◌, ◌<◌, ◌≤◌, ◌++◌, true, [], length, map, drop, slice_index_or, IfOk, IfErr, OnOk, MatchResult};
 ghost use Rattle.std.specs.Vec.{vec_len, vec_capacity};
+ghost use Rattle.mapf_model.specs.Grid.{GridMap};
+ghost use Rattle.mapf_text.specs.Lines.{lines_of};
+ghost use Rattle.mapf_text.specs.Words.{is_blank_line};
+ghost use Rattle.mapf_text.specs.Maps.{IsSize, HasRows, HasBodyFault, HasUnknownAt, HasTextAt, flag_of, SpellsMap, HasMapFault};
 
+use crate::header::{Size, read_header};
 use crate::line::next_line;
 use crate::map_fault::MapFault;
-use crate::number::{NotNumber, read_number};
-use crate::word::{is_blank_line, one_word, two_words};
+use crate::word::is_blank_line;
 use mapf_model::Grid;
 use std::alloc::Global;
-
-// The size of a map, 1 to 2,048 each way.
-#[derive(Clone, Copy)]
-struct Size {
-    width: u32,
-    height: u32,
-}
-
-// Why a line gives no size.
-#[derive(Clone, Copy)]
-enum NotSize {
-    // It isn't the name and a number.
-    Absent,
-    // The number is outside 1 to 2,048.
-    OutOfRange,
-}
 
 /// Reads a map text: the lines `type octile`, `height` and a number, `width` and a number, and `map`,
 /// then the rows from the top, and after them blank lines alone.
 ///
 /// `.`, `G` and `S` are free, `@`, `O`, `T` and `W` are blocked. A line ends with LF or CR LF, the last
 /// one with or without.
-pub fn read_map(alloc: Global, bytes: &[u8]) -> Result<Grid, MapFault> {
-    let (size, rows) = header(bytes)?;
+pub fn read_map(alloc: Global, bytes: &[u8]) -> Result<Grid, MapFault>
+    // What is read is spelled so.
+    ensures found { IfOk result (SpellsMap bytes.now) }
+    // What is spelled so is read, unless memory runs out.
+    ensures only { (grid : GridMap) → SpellsMap bytes.now grid → (result ≡ Ok grid) ⊎ (result ≡ Err MapFault.Memory) }
+    // The lines before the fault's place are good, and there its defect stands.
+    ensures fault { IfErr result (HasMapFault (lines_of bytes.now)) }
+{
+    grid_of(alloc, bytes)
+}
+
+fn grid_of(alloc: Global, bytes: &[u8]) -> Result<Grid, MapFault>
+    ensures { MatchResult result (SpellsMap bytes.now) (HasMapFault (lines_of bytes.now)) }
+{
+    let (size, rows) = read_header(bytes)?;
     let (free, rest) = read_rows(alloc, size, rows)?;
     only_blank_lines(5 + size.height as u64, rest)?;
     Ok(Grid::of(size.width, size.height, free).unwrap())
 }
 
-fn header(text: &[u8]) -> Result<(Size, &[u8]), MapFault>
-    ensures width { IfOk result (λ p. (1 ≤ p.0.width) × (p.0.width ≤ 2048)) }
-    ensures height { IfOk result (λ p. (1 ≤ p.0.height) × (p.0.height ≤ 2048)) }
-    ensures small { IfOk result (λ p. length p.1.now < 2 ^ 63) }
-{
-    let text = type_line(text)?;
-    let (height, text) = match size_line(text, b"height") {
-        Ok(read) => read,
-        Err(NotSize::Absent) => return Err(MapFault::M2),
-        Err(NotSize::OutOfRange) => return Err(MapFault::M4 { line: 2 }),
-    };
-    let (width, text) = match size_line(text, b"width") {
-        Ok(read) => read,
-        Err(NotSize::Absent) => return Err(MapFault::M3),
-        Err(NotSize::OutOfRange) => return Err(MapFault::M4 { line: 3 }),
-    };
-    let text = map_line(text)?;
-    Ok((Size { width, height }, text))
-}
-
-fn type_line(text: &[u8]) -> Result<&[u8], MapFault> {
-    let Some((line, rest)) = next_line(text) else {
-        return Err(MapFault::M1);
-    };
-    let Some((first, second)) = two_words(line) else {
-        return Err(MapFault::M1);
-    };
-    if first == b"type".as_slice() && second == b"octile".as_slice() {
-        Ok(rest)
-    } else {
-        Err(MapFault::M1)
-    }
-}
-
-fn size_line<'a>(text: &'a [u8], name: &[u8]) -> Result<(u32, &'a [u8]), NotSize>
-    ensures range { IfOk result (λ p. (1 ≤ p.0) × (p.0 ≤ 2048)) }
-{
-    let Some((line, rest)) = next_line(text) else {
-        return Err(NotSize::Absent);
-    };
-    let size = size_in(line, name)?;
-    Ok((size, rest))
-}
-
-fn size_in(line: &[u8], name: &[u8]) -> Result<u32, NotSize>
-    ensures range { IfOk result (λ size. (1 ≤ size) × (size ≤ 2048)) }
-{
-    let Some((first, second)) = two_words(line) else {
-        return Err(NotSize::Absent);
-    };
-    if first != name {
-        return Err(NotSize::Absent);
-    }
-    match read_number(second) {
-        Ok(size) if 1 <= size && size <= 2048 => Ok(size),
-        Ok(_) => Err(NotSize::OutOfRange),
-        Err(NotNumber::TooLarge) => Err(NotSize::OutOfRange),
-        Err(NotNumber::NoDigits) => Err(NotSize::Absent),
-    }
-}
-
-fn map_line(text: &[u8]) -> Result<&[u8], MapFault>
-    ensures small { IfOk result (λ rest. length rest.now < 2 ^ 63) }
-{
-    let Some((line, rest)) = next_line(text) else {
-        return Err(MapFault::M5);
-    };
-    match one_word(line) {
-        Some(word) if word == b"map".as_slice() => Ok(rest),
-        _ => Err(MapFault::M5),
-    }
-}
-
 fn read_rows(alloc: Global, size: Size, text: &[u8]) -> Result<(Vec<bool>, &[u8]), MapFault>
-    requires width { (1 ≤ size.width) × (size.width ≤ 2048) }
-    requires height { (1 ≤ size.height) × (size.height ≤ 2048) }
+    requires width { IsSize size.width }
+    requires height { IsSize size.height }
+    ensures found { MatchResult result (λ p. HasRows (lines_of text.now) size.height size.width p.0.items) (HasBodyFault size.height size.width (lines_of text.now)) }
+    ensures rest { IfOk result (λ p. lines_of p.1.now ≡ drop size.height (lines_of text.now)) }
     ensures length { IfOk result (λ p. length p.0.items ≡ size.width * size.height) }
     ensures shorter { IfOk result (λ p. length p.1.now ≤ length text.now) }
 {
@@ -137,6 +67,8 @@ fn read_rows(alloc: Global, size: Size, text: &[u8]) -> Result<(Vec<bool>, &[u8]
 // Adds the flags of a row's bytes. An error is the place of the first byte that is unknown.
 fn push_row(free: &mut Vec<bool>, row: &[u8]) -> Result<(), usize>
     requires { vec_len free.old + length row.now ≤ vec_capacity free.old }
+    ensures flags { OnOk result (map Some free.new.items ≡ map Some free.old.items ++ map flag_of row.now) }
+    ensures unknown { IfErr result (HasUnknownAt row.now) }
     ensures within { IfErr result (λ x. x < length row.now) }
     ensures len { OnOk result (vec_len free.new ≡ vec_len free.old + length row.now) }
     ensures capacity { vec_capacity free.new ≡ vec_capacity free.old }
@@ -151,7 +83,9 @@ fn push_row(free: &mut Vec<bool>, row: &[u8]) -> Result<(), usize>
 }
 
 // Whether a byte is a free cell or a blocked one. None for other bytes.
-fn flag_of(byte: u8) -> Option<bool> {
+fn flag_of(byte: u8) -> Option<bool>
+    ensures { result ≡ flag_of byte }
+{
     match byte {
         b'.' | b'G' | b'S' => Some(true),
         b'@' | b'O' | b'T' | b'W' => Some(false),
@@ -162,6 +96,8 @@ fn flag_of(byte: u8) -> Option<bool> {
 // The text has only blank lines. Its first line has the number `first`.
 fn only_blank_lines(first: u64, text: &[u8]) -> Result<(), MapFault>
     requires { first + length text.now < 2 ^ 64 }
+    ensures blank { OnOk result ((n : ℕ) → is_blank_line (slice_index_or (lines_of text.now) n []) ≡ true) }
+    ensures text { IfErr result (λ fault. (n : ℕ) × HasTextAt (lines_of text.now) n × (fault ≡ MapFault.M9 (first + n))) }
 {
     let mut number = first;
     let mut rest = text;

@@ -1,6 +1,7 @@
-ghost use Rattle.std.specs.Prelude.{◌≡◌};
+ghost use Rattle.std.specs.Prelude.{◌≡◌, ◌↔◌, IsTrue};
 ghost use Rattle.std.specs.Char.{is_ascii_digit};
 ghost use Rattle.std.specs.List.{list_all};
+ghost use Rattle.mapf_text.specs.Numbers.{AreDigits, NumberOf};
 
 /// Why a word is no number of 32 bits.
 #[derive(Clone, Copy, Debug, PartialEq, Eq)]
@@ -12,8 +13,10 @@ pub enum NotNumber {
 }
 
 /// The number that a word spells: one or more digits, leading zeros allowed.
-pub fn read_number(word: &[u8]) -> Result<u32, NotNumber> {
-    if word.is_empty() || !has_digits_alone(word) {
+pub fn read_number(word: &[u8]) -> Result<u32, NotNumber>
+    ensures { NumberOf word.now result }
+{
+    if !are_digits(word) {
         return Err(NotNumber::NoDigits);
     }
     let Ok(text) = str::from_utf8(word) else {
@@ -23,6 +26,13 @@ pub fn read_number(word: &[u8]) -> Result<u32, NotNumber> {
         Ok(n) => Ok(n),
         Err(_) => Err(NotNumber::TooLarge),
     }
+}
+
+// Whether a word is one or more digits.
+fn are_digits(word: &[u8]) -> bool
+    ensures { IsTrue result ↔ AreDigits word.now }
+{
+    !word.is_empty() && has_digits_alone(word)
 }
 
 fn has_digits_alone(word: &[u8]) -> bool

@@ -1,6 +1,6 @@
-ghost use Rattle.std.specs.Prelude.{◌≡◌, ◌+◌, ◌<◌, ◌≤◌, All, length, IfOk, IfSome};
-ghost use Rattle.mapf_model.specs.Grid.{IsFree};
-ghost use Rattle.std.specs.Vec.{vec_len, vec_capacity};
+ghost use Rattle.std.specs.Prelude.{◌≡◌, ◌⊎◌, ◌↔◌, ℕ, ◌≤◌, List, [], ◌∷◌, IsTrue, Ok, Err, IfOk, IfErr, MatchOption, MatchResult};
+ghost use Rattle.mapf_model.specs.Plan.{Instance};
+ghost use Rattle.mapf_text.specs.Scenarios.{filled_lines, IsVersionLine, AfterVersion, HasAgents, SpellsScenario, HasRowsFault, HasScenarioFault};
 
 use crate::agent_row::read_row;
 use crate::line::next_line;
@@ -15,24 +15,44 @@ use std::alloc::Global;
 /// After a fault the grid is dropped.
 pub fn read_scen(alloc: Global, bytes: &[u8], grid: Grid, k: u32) -> Result<Problem, ScenFault>
     requires { (1 ≤ k) × (k ≤ 200) }
+    // What is read is spelled so.
+    ensures found { IfOk result (SpellsScenario bytes.now grid k) }
+    // What is spelled so is read, unless memory runs out.
+    ensures only { (problem : Instance) → SpellsScenario bytes.now grid k problem → (result ≡ Ok problem) ⊎ (result ≡ Err ScenFault.Memory) }
+    // The lines before the fault's place are good, and there its defect stands.
+    ensures fault { IfErr result (HasScenarioFault grid (filled_lines bytes.now) k) }
 {
-    let rows = after_version(bytes)?;
+    problem_of(alloc, bytes, grid, k)
+}
+
+fn problem_of(alloc: Global, bytes: &[u8], grid: Grid, k: u32) -> Result<Problem, ScenFault>
+    requires { (1 ≤ k) × (k ≤ 200) }
+    ensures { MatchResult result (SpellsScenario bytes.now grid k) (HasScenarioFault grid (filled_lines bytes.now) k) }
+{
+    let Some(rows) = after_version(bytes) else {
+        return Err(ScenFault::S1);
+    };
     let agents = read_agents(alloc, rows, &grid, k)?;
     Ok(Problem::of(grid, agents).unwrap())
 }
 
-fn after_version(text: &[u8]) -> Result<&[u8], ScenFault> {
+// The text after the version line.
+fn after_version(text: &[u8]) -> Option<&[u8]>
+    ensures { MatchOption result ((rows : List (List ℕ)) → AfterVersion (filled_lines text.now) rows → ⊥) (λ rows. AfterVersion (filled_lines text.now) (filled_lines rows.now)) }
+{
     let Some((line, rest)) = next_filled_line(text) else {
-        return Err(ScenFault::S1);
+        return None;
     };
     if is_version_line(line) {
-        Ok(rest)
+        Some(rest)
     } else {
-        Err(ScenFault::S1)
+        None
     }
 }
 
-fn is_version_line(line: &[u8]) -> bool {
+fn is_version_line(line: &[u8]) -> bool
+    ensures { IsTrue result ↔ IsVersionLine line.now }
+{
     let Some((first, second)) = two_words(line) else {
         return false;
     };
@@ -40,7 +60,9 @@ fn is_version_line(line: &[u8]) -> bool {
 }
 
 // The first line that isn't blank, and the text after it.
-fn next_filled_line(text: &[u8]) -> Option<(&[u8], &[u8])> {
+fn next_filled_line(text: &[u8]) -> Option<(&[u8], &[u8])>
+    ensures { MatchOption result (filled_lines text.now ≡ []) (λ p. filled_lines text.now ≡ p.0.now ∷ filled_lines p.1.now) }
+{
     let mut rest = text;
     while let Some((line, more)) = next_line(rest) {
         if !is_blank_line(line) {
@@ -52,8 +74,7 @@ fn next_filled_line(text: &[u8]) -> Option<(&[u8], &[u8])> {
 }
 
 fn read_agents(alloc: Global, text: &[u8], grid: &Grid, k: u32) -> Result<Vec<Agent>, ScenFault>
-    ensures count { IfOk result (λ agents. length agents.items ≡ k) }
-    ensures free { IfOk result (λ agents. All (λ agent. IsFree grid.now agent.start × IsFree grid.now agent.goal) agents.items) }
+    ensures { MatchResult result (λ agents. HasAgents grid.now (filled_lines text.now) k agents.items) (HasRowsFault grid.now (filled_lines text.now) k) }
 {
     let Ok(mut agents) = Vec::with_capacity(alloc, k as usize) else {
         return Err(ScenFault::Memory);
