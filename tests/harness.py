@@ -1,0 +1,156 @@
+"""Cases on files: one folder each, with the words after `mapf`, the files they name and what is wanted."""
+
+import os
+import resource
+import shlex
+import subprocess
+import tempfile
+from dataclasses import dataclass
+from pathlib import Path
+
+TESTS = Path(__file__).resolve().parent
+PROGRAM = TESTS.parent / "crates" / "mapf" / "out" / "mapf"
+
+# What one run may take before it counts as failed.
+SECONDS = 300
+BYTES = 4_000_000_000
+
+# Each of these words stands for a file of the case in a folder of its own.
+FILES = {"MAP": "map", "SCEN": "scen", "PLAN": "plan", "CERT": "cert"}
+
+
+@dataclass(frozen=True)
+class Ended:
+    """What a run gave: its status and the bytes of its two standard streams."""
+
+    status: int | str
+    stdout: bytes
+    stderr: bytes
+
+
+def bound():
+    resource.setrlimit(resource.RLIMIT_AS, (BYTES, BYTES))
+
+
+def run(words, stdout=None, stderr=None, environment=None):
+    """Runs the program. A stream goes to the file of that name, else it is caught."""
+    with tempfile.TemporaryFile() as out, tempfile.TemporaryFile() as err:
+        with open(stdout, "wb") if stdout else out as out_to, open(stderr, "wb") if stderr else err as err_to:
+            try:
+                status = subprocess.run(
+                    [str(PROGRAM), *words], stdin=subprocess.DEVNULL, stdout=out_to, stderr=err_to,
+                    env={**os.environ, **(environment or {})}, timeout=SECONDS, preexec_fn=bound).returncode
+            except subprocess.TimeoutExpired:
+                status = f"none after {SECONDS} seconds"
+            return Ended(status, b"" if stdout else caught(out_to), b"" if stderr else caught(err_to))
+
+
+def caught(stream):
+    stream.seek(0)
+    return stream.read()
+
+
+def content(path):
+    """The bytes of a file, None where there is no file."""
+    return path.read_bytes() if path.is_file() else None
+
+
+def shown(value):
+    """A short form of bytes, or of no bytes, for a line of text."""
+    if value is None:
+        return "nothing"
+    return repr(value) if len(value) <= 120 else f"{value[:100]!r} and so on, {len(value)} bytes"
+
+
+class Case:
+    """A folder of the form that README.md tells."""
+
+    def __init__(self, folder):
+        self.folder = folder
+        self.name = folder.name
+        line = (folder / "words").read_bytes().decode(errors="surrogateescape")
+        self.words = shlex.split(line)
+        self.places = {}
+        for sign, stream in ((">", "stdout"), ("2>", "stderr")):
+            if sign in self.words:
+                at = self.words.index(sign)
+                self.places[stream] = self.words[at + 1]
+                del self.words[at:at + 2]
+
+    def is_solve(self):
+        return self.words[:1] == ["solve"]
+
+    def outputs(self):
+        """The files of the case that a run writes, each with what is wanted in it."""
+        names = [name for word, name in FILES.items() if word in self.words]
+        return [(name, content(self.folder / name)) for name in names if self.is_solve() and name in ("plan", "cert")]
+
+    def inputs(self):
+        written = [name for name, _ in self.outputs()]
+        given = [name for word, name in FILES.items() if word in self.words and name not in written]
+        return [(name, content(self.folder / name)) for name in given]
+
+    def wanted(self, name):
+        return content(self.folder / name)
+
+    def wanted_status(self):
+        text = self.wanted("status")
+        return 0 if text is None else int(text)
+
+    def prepare(self, folder):
+        """Puts the inputs into a folder and answers the words with names of files in it."""
+        for name, given in self.inputs():
+            if given is not None:
+                (folder / name).write_bytes(given)
+        (folder / "folder").mkdir()
+        places = {word: str(folder / name) for word, name in FILES.items()}
+        places["FOLDER"] = str(folder / "folder")
+        places["BESIDE"] = str(folder / "none" / "file")
+        return [places.get(word, word) for word in self.words]
+
+    def run(self, folder, environment=None):
+        return run(self.prepare(folder), self.places.get("stdout"), self.places.get("stderr"), environment)
+
+    def faults(self, ended, folder):
+        """How a run differs from what is wanted, a text for each difference."""
+        found = []
+        if ended.status != self.wanted_status():
+            found.append(f"status {ended.status}, wanted {self.wanted_status()}")
+        for stream, got in (("stdout", ended.stdout), ("stderr", ended.stderr)):
+            found.extend(self.stream_faults(stream, got))
+        for name, wanted in self.outputs() + self.inputs():
+            got = content(folder / name)
+            if got != wanted:
+                found.append(f"{name} is {shown(got)}, wanted {shown(wanted)}")
+        return found
+
+    def stream_faults(self, stream, got):
+        parts = self.wanted(stream + "-has")
+        if parts is not None:
+            return [f"{stream} has no {shown(part)}" for part in parts.split(b"\n") if part not in got]
+        wanted = self.wanted(stream) or b""
+        return [] if got == wanted else [f"{stream} is {shown(got)}, wanted {shown(wanted)}"]
+
+
+def cases_of(folder):
+    return [Case(path.parent) for path in sorted(folder.glob("*/words"))]
+
+
+class Tally:
+    """Counts what passed, and prints a line for each failure."""
+
+    def __init__(self):
+        self.passed = 0
+        self.failed = 0
+
+    def add(self, name, faults):
+        if faults:
+            self.failed += 1
+            print(f"{name}: {'; '.join(faults)}", flush=True)
+        else:
+            self.passed += 1
+
+    def end(self):
+        """Prints the counts and answers the script's status."""
+        print(f"{self.passed} passed, {self.failed} failed")
+        return 1 if self.failed else 0
