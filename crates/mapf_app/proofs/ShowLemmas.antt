@@ -1,20 +1,19 @@
 -- A tree of one leaf without entries shows what distances show.
-use Rattle.std.proofs.Common.{◌≡◌, ◌≢◌, ℕ, zero, suc, ◌+◌, ◌-◌, ◌<◌, ◌≤◌, All, List, [], ◌∷◌, Option, Some, None, length, map, sum, slice_get, get_or, refl, sym, ◌∙◌, ap, subst, arith}
+use Rattle.std.proofs.Common.{◌≡◌, ℕ, zero, suc, ◌-◌, All, List, [], ◌∷◌, Some, length, map, sum, slice_get, get_or, refl, ◌∙◌, ap, subst, arith}
 use Rattle.std.proofs.lemmas.Option.{slice_get_within, get_or_from_slice_get, same_Some}
 use Rattle.std.proofs.lemmas.List.Sums.{sum_by-cons}
 use Rattle.mapf_model.specs.declared.item.Claim.TheVariants.{Cost, Impossible}
-use Rattle.mapf_model.specs.declared.label.Label.{Label}
-use Rattle.mapf_model.specs.declared.label.Label.TheVariants.{Ticks, Never}
+use Rattle.mapf_model.specs.declared.label.Label.TheVariants.{Ticks}
 use Rattle.mapf_model.specs.declared.problem.Agent.{Agent}
 use Rattle.mapf_model.specs.Distance.{IsDistance}
-use Rattle.mapf_model.specs.Labels.{IsAtMost, label_plus, label_sum}
+use Rattle.mapf_model.specs.Labels.{IsAtMost, label_sum}
 use Rattle.mapf_model.specs.Path.{IsCost, IsTight}
 use Rattle.mapf_model.specs.Plan.{Instance, IsSumOfCosts}
-use Rattle.mapf_model.specs.Tree.{Leaf, Shows, ShowsFrom, StartsShow, AreStartLabels, no_entries, root}
+use Rattle.mapf_model.specs.Tree.{Leaf, Shows, StartsShow, AreStartLabels, no_entries}
 use Rattle.mapf_model.proofs.ClaimLemmas.{slice_get_inside}
 use Rattle.mapf_model.proofs.DecidedLemmas.{cost_unique}
 use Rattle.mapf_model.proofs.PathLemmas.{IsCost-tight}
-use Rattle.mapf_app.specs.Shortest.{IsShortest, AreShortest, SomeGoalIsUnreachable}
+use Rattle.mapf_app.specs.Shortest.{AreShortest, SomeGoalIsUnreachable}
 
 slice_get-map : {X Y : Type 0} (f : X → Y) (xs : List X) (i : ℕ) (y : Y) → slice_get (map f xs) i ≡ Some y → (x : X) × (slice_get xs i ≡ Some x) × (f x ≡ y)
 slice_get-map f [] i y is = absurd cc

@@ -1,3 +1,4 @@
+use mapf_checker::CheckFault;
 use mapf_text::{MapFault, ScenFault};
 use thiserror::Error;
 
@@ -38,4 +39,7 @@ pub enum Fault {
     /// A request for memory was refused.
     #[error("out of memory")]
     F6,
+    /// The check refused the plan text or the certificate.
+    #[error("refused: {0:?}")]
+    Refused(CheckFault),
 }

@@ -1,5 +1,5 @@
 ghost use Rattle.std.specs.Prelude.{◌≡◌, ◌≤◌, ◌⊎◌, false, IfOk, IfErr, IfSome, IsErrOf};
-ghost use Rattle.mapf_app.specs.Faults.{IsBeforeWriting};
+ghost use Rattle.mapf_app.specs.Faults.{IsReadingProblem};
 ghost use Rattle.mapf_app.specs.Unreadable.{IsUnreadable};
 
 use crate::fault::{Fault, Input};
@@ -39,7 +39,7 @@ pub fn read_problem<M: Source, S: Source>(
     requires scen_works { S.has_failed scen.old ≡ false }
     requires some { 1 ≤ k }
     requires few { k ≤ 200 }
-    ensures fault { IfErr result IsBeforeWriting }
+    ensures fault { IfErr result IsReadingProblem }
     ensures map { IsErrOf result (Fault.F4 Input.Map) →
         IsUnreadable (M.has_failed map.new) (M.remaining map.old) (M.remaining map.new) TEXT_LIMIT }
     ensures scen { IsErrOf result (Fault.F4 Input.Scen) →

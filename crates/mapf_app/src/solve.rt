@@ -1,5 +1,5 @@
 ghost use Rattle.std.specs.Prelude.{◌≡◌, ◌≤◌, false, true, IfErr, IsErrOf};
-ghost use Rattle.mapf_app.specs.Faults.{IsBeforeWriting};
+ghost use Rattle.mapf_app.specs.Faults.{IsBeforeWriting, IsSolving};
 ghost use Rattle.mapf_app.specs.Unreadable.{IsUnreadable};
 
 use crate::fault::{Fault, Input, Output};
@@ -28,6 +28,7 @@ pub fn run_solve<M: Source, S: Source, P: Sink, C: Sink>(
     requires some { 1 ≤ k }
     requires few { k ≤ 200 }
     requires limit { limit ≤ 100000 }
+    ensures fault { IfErr result IsSolving }
     ensures map { IsErrOf result (Fault.F4 Input.Map) →
         IsUnreadable (M.has_failed map.new) (M.remaining map.old) (M.remaining map.new) TEXT_LIMIT }
     ensures scen { IsErrOf result (Fault.F4 Input.Scen) →

@@ -1,6 +1,6 @@
 use Rattle.std.proofs.Common.{◌≡◌, length, refl}
 use Rattle.mapf_app.specs.Shortest.{AreShortest}
-use Rattle.mapf_app.proofs.ShowLemmas.{shortest_show, shortest_tight, unreachable_shows}
+use Rattle.mapf_app.proofs.ShowLemmas.{shortest_show, shortest_tight}
 use Rattle.mapf_app.proofs.shortest.try_shortest.Goals as goal
 
 pub returns-in-Ok : goal.returns-in-Ok

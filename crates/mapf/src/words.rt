@@ -1,0 +1,44 @@
+use mapf_app::{Fault, tell_run};
+use mapf_model::{WriteSink, write_all};
+use std::process::ExitCode;
+use std::rt::Env;
+use std::{env, io};
+
+/// The words of the command line, the program's name first.
+pub fn all(rt: &HostRuntime) -> io::Result<Vec<String>> {
+    let mut words = Vec::new(rt.alloc());
+    for word in env::args(rt)? {
+        words.push(word)?;
+    }
+    Ok(words)
+}
+
+/// Prints the help text.
+pub fn shown(rt: &HostRuntime, text: &str) -> ExitCode {
+    let mut out = WriteSink::of(rt.stdout());
+    match write_all(&mut out, text.as_bytes()) {
+        Ok(()) => ExitCode::from(0),
+        Err(_) => ExitCode::from(2),
+    }
+}
+
+/// Prints why the words are refused.
+pub fn refused(rt: &HostRuntime, text: &str) -> ExitCode {
+    let mut err = WriteSink::of(rt.stderr());
+    let _ = write_all(&mut err, text.as_bytes());
+    ExitCode::from(2)
+}
+
+/// Tells why the words couldn't be had: there is no memory, or one is no text.
+pub fn unread(rt: &HostRuntime, error: &io::Error) -> ExitCode {
+    if error.kind() == io::ErrorKind::OutOfMemory {
+        return no_memory(rt);
+    }
+    refused(rt, "error: a word of the command line is no UTF-8 text\n")
+}
+
+/// Tells that a request for memory was refused.
+pub fn no_memory(rt: &HostRuntime) -> ExitCode {
+    let mut err = WriteSink::of(rt.stderr());
+    ExitCode::from(tell_run(&Err(Fault::F6), &mut err))
+}

@@ -1,0 +1,45 @@
+ghost use Rattle.std.specs.Prelude.{◌≡◌, ◌≤◌, false, IfErr, IsErrOf};
+ghost use Rattle.mapf_app.specs.Faults.{IsChecking};
+ghost use Rattle.mapf_app.specs.Unreadable.{IsUnreadable};
+
+use crate::fault::{Fault, Input};
+use crate::input::{CERT_LIMIT, TEXT_LIMIT, read_problem, read_text};
+use mapf_checker::{FromFault, Verdict, check_from};
+use mapf_model::Source;
+use std::alloc::Global;
+
+/// Reads a map, a scenario of which the first `k` agents count, a plan text and a certificate, and
+/// judges whether the certificate shows the plan optimal or the problem impossible. The certificate is
+/// pulled only after the plan text was judged.
+pub fn run_check<M: Source, S: Source, P: Source, C: Source>(
+    alloc: Global,
+    map: &mut M,
+    scen: &mut S,
+    k: u32,
+    plan: &mut P,
+    cert: &mut C,
+) -> Result<Verdict, Fault>
+    requires map_works { M.has_failed map.old ≡ false }
+    requires scen_works { S.has_failed scen.old ≡ false }
+    requires plan_works { P.has_failed plan.old ≡ false }
+    requires cert_works { C.has_failed cert.old ≡ false }
+    requires some { 1 ≤ k }
+    requires few { k ≤ 200 }
+    ensures fault { IfErr result IsChecking }
+    ensures map { IsErrOf result (Fault.F4 Input.Map) →
+        IsUnreadable (M.has_failed map.new) (M.remaining map.old) (M.remaining map.new) TEXT_LIMIT }
+    ensures scen { IsErrOf result (Fault.F4 Input.Scen) →
+        IsUnreadable (S.has_failed scen.new) (S.remaining scen.old) (S.remaining scen.new) TEXT_LIMIT }
+    ensures plan { IsErrOf result (Fault.F4 Input.Plan) →
+        IsUnreadable (P.has_failed plan.new) (P.remaining plan.old) (P.remaining plan.new) TEXT_LIMIT }
+{
+    let problem = read_problem(alloc, map, scen, k)?;
+    let plan_text = read_text(alloc, plan, Input::Plan)?;
+    match check_from(alloc, &problem, plan_text.as_slice(), cert, CERT_LIMIT) {
+        Ok(verdict) => Ok(verdict),
+        Err(FromFault::Refused(refusal)) => Err(Fault::Refused(refusal)),
+        Err(FromFault::Device) => Err(Fault::F4(Input::Cert)),
+        Err(FromFault::TooLong) => Err(Fault::F4(Input::Cert)),
+        Err(FromFault::Memory) => Err(Fault::F6),
+    }
+}

@@ -1,0 +1,80 @@
+ghost use Rattle.std.specs.Prelude.{◌≡◌, false, true, IfOk, IfErr, IsErrOf};
+ghost use Rattle.mapf_app.specs.Faults.{IsChecking};
+ghost use Rattle.std.specs.Result.{is_err};
+
+use crate::check::run_check;
+use crate::fault::{Fault, Output};
+use crate::solve::run_solve;
+use itoa::Buffer;
+use mapf_checker::Verdict;
+use mapf_model::{BytesSink, BytesSource, Failed, OutOfMemory, Sink, write_all};
+use std::alloc::Global;
+
+// Four agents on an open square, each of which goes to its neighbour's place.
+const MAP: &[u8] = b"type octile\nheight 2\nwidth 2\nmap\n..\n..\n";
+
+const SCEN: &[u8] = b"version 1\n\
+0 square.map 2 2 0 0 1 0 1\n\
+0 square.map 2 2 1 0 1 1 1\n\
+0 square.map 2 2 1 1 0 1 1\n\
+0 square.map 2 2 0 1 0 0 1\n";
+
+const AGENTS: u32 = 4;
+
+// Room for each of the two texts.
+const ROOM: usize = 4096;
+
+/// Solves and checks a small problem over memory, and writes its plan text, its certificate and the
+/// verdict: four agents that rotate on an open square of four cells.
+pub fn run_demo<K: Sink>(alloc: Global, sink: &mut K) -> Result<(), Fault>
+    requires { K.has_failed sink.old ≡ false }
+    ensures { IsErrOf result (Fault.F5 Output.Out) → K.has_failed sink.new ≡ true }
+{
+    let mut plan = sink_with_room(alloc)?;
+    let mut cert = sink_with_room(alloc)?;
+    let mut map = BytesSource::of(MAP);
+    let mut scen = BytesSource::of(SCEN);
+    run_solve(alloc, &mut map, &mut scen, AGENTS, 0, &mut plan, &mut cert)?;
+    let verdict = checked(alloc, plan.bytes(), cert.bytes())?;
+    match tell(sink, plan.bytes(), cert.bytes(), verdict) {
+        Ok(()) => Ok(()),
+        Err(Failed) => Err(Fault::F5(Output::Out)),
+    }
+}
+
+fn sink_with_room(alloc: Global) -> Result<BytesSink, Fault>
+    ensures works { IfOk result (λ sink. sink.2 ≡ false) }
+    ensures fault { IfErr result (λ fault. fault ≡ Fault.F6) }
+{
+    match BytesSink::with_room(alloc, ROOM) {
+        Ok(sink) => Ok(sink),
+        Err(OutOfMemory) => Err(Fault::F6),
+    }
+}
+
+fn checked(alloc: Global, plan: &[u8], cert: &[u8]) -> Result<Verdict, Fault>
+    ensures { IfErr result IsChecking }
+{
+    let mut map = BytesSource::of(MAP);
+    let mut scen = BytesSource::of(SCEN);
+    let mut plan = BytesSource::of(plan);
+    let mut cert = BytesSource::of(cert);
+    run_check(alloc, &mut map, &mut scen, AGENTS, &mut plan, &mut cert)
+}
+
+fn tell<K: Sink>(sink: &mut K, plan: &[u8], cert: &[u8], verdict: Verdict) -> Result<(), Failed>
+    requires { K.has_failed sink.old ≡ false }
+    ensures { K.has_failed sink.new ≡ is_err result }
+{
+    write_all(sink, plan)?;
+    write_all(sink, cert)?;
+    match verdict {
+        Verdict::Optimal(cost) => {
+            let mut buffer = Buffer::new();
+            write_all(sink, b"optimal ")?;
+            write_all(sink, buffer.format(cost).as_bytes())?;
+            write_all(sink, b"\n")
+        }
+        Verdict::Impossible => write_all(sink, b"impossible\n"),
+    }
+}

@@ -1,0 +1,164 @@
+ghost use Rattle.std.specs.Prelude.{◌≡◌, false};
+ghost use Rattle.std.specs.Result.{is_err};
+
+use crate::fault::{Fault, Input, Output};
+use itoa::Buffer;
+use mapf_certificate::{CertFault, PlanTextFault};
+use mapf_checker::{CheckFault, PlanFault};
+use mapf_model::{Failed, Sink, write_all};
+use mapf_text::{MapFault, ScenFault};
+
+/// A line that the program prints: words, and then numbers.
+#[derive(Clone, Copy, Debug, PartialEq, Eq)]
+pub struct Line {
+    words: &'static str,
+    numbers: [Option<u64>; 3],
+}
+
+impl Line {
+    /// The line with these words alone.
+    pub fn of(words: &'static str) -> Line {
+        Line {
+            words,
+            numbers: [None, None, None],
+        }
+    }
+
+    /// The line with one number.
+    pub fn with(self, number: u64) -> Line {
+        Line {
+            words: self.words,
+            numbers: [Some(number), None, None],
+        }
+    }
+
+    fn with_two(self, first: u32, second: u32) -> Line {
+        Line {
+            words: self.words,
+            numbers: [Some(first as u64), Some(second as u64), None],
+        }
+    }
+
+    fn with_three(self, first: u32, second: u32, third: u32) -> Line {
+        Line {
+            words: self.words,
+            numbers: [Some(first as u64), Some(second as u64), Some(third as u64)],
+        }
+    }
+
+    /// The line of a fault.
+    pub fn of_fault(fault: Fault) -> Line {
+        match fault {
+            Fault::F1(fault) => map_line(fault),
+            Fault::F2(fault) => scenario_line(fault),
+            Fault::F4(Input::Map) => Line::of("F4 map"),
+            Fault::F4(Input::Scen) => Line::of("F4 scen"),
+            Fault::F4(Input::Plan) => Line::of("F4 plan"),
+            Fault::F4(Input::Cert) => Line::of("F4 cert"),
+            Fault::F5(Output::Plan) => Line::of("F5 plan"),
+            Fault::F5(Output::Cert) => Line::of("F5 cert"),
+            Fault::F5(Output::Out) => Line::of("F5 out"),
+            Fault::F6 => Line::of("F6"),
+            Fault::Refused(refusal) => refusal_line(refusal),
+        }
+    }
+}
+
+fn map_line(fault: MapFault) -> Line {
+    match fault {
+        MapFault::M1 => Line::of("F1 M1"),
+        MapFault::M2 => Line::of("F1 M2"),
+        MapFault::M3 => Line::of("F1 M3"),
+        MapFault::M4 { line } => Line::of("F1 M4").with(line as u64),
+        MapFault::M5 => Line::of("F1 M5"),
+        MapFault::M6 { row } => Line::of("F1 M6").with(row as u64),
+        MapFault::M7 { x, y } => Line::of("F1 M7").with_two(x, y),
+        MapFault::M8 { rows } => Line::of("F1 M8").with(rows as u64),
+        MapFault::M9 { line } => Line::of("F1 M9").with(line),
+        MapFault::Memory => Line::of("F6"),
+    }
+}
+
+fn scenario_line(fault: ScenFault) -> Line {
+    match fault {
+        ScenFault::S1 => Line::of("F2 S1"),
+        ScenFault::S2 { row } => Line::of("F2 S2").with(row as u64),
+        ScenFault::S3 { row, field } => Line::of("F2 S3").with_two(row, field),
+        ScenFault::S4 { row } => Line::of("F2 S4").with(row as u64),
+        ScenFault::S5 { row } => Line::of("F2 S5").with(row as u64),
+        ScenFault::S6 { row } => Line::of("F2 S6").with(row as u64),
+        ScenFault::S7 { rows } => Line::of("F2 S7").with(rows as u64),
+        ScenFault::Memory => Line::of("F6"),
+    }
+}
+
+fn refusal_line(refusal: CheckFault) -> Line {
+    match refusal {
+        CheckFault::C1(fault) => plan_text_line(fault),
+        CheckFault::C2(fault) => certificate_line(fault),
+        CheckFault::C3 => Line::of("refused C3"),
+        CheckFault::C4 => Line::of("refused C4"),
+        CheckFault::C5(fault) => plan_line(fault),
+        CheckFault::C6(line) => Line::of("refused C6").with(line),
+        CheckFault::C7(line) => Line::of("refused C7").with(line),
+        CheckFault::C8(line) => Line::of("refused C8").with(line),
+        CheckFault::C9(line) => Line::of("refused C9").with(line),
+        CheckFault::Memory => Line::of("F6"),
+    }
+}
+
+fn plan_text_line(fault: PlanTextFault) -> Line {
+    match fault {
+        PlanTextFault::P1(line) => Line::of("refused C1 P1").with(line),
+        PlanTextFault::P2(line) => Line::of("refused C1 P2").with(line),
+        PlanTextFault::P3(line) => Line::of("refused C1 P3").with(line),
+        PlanTextFault::P4(line) => Line::of("refused C1 P4").with(line),
+        PlanTextFault::Memory => Line::of("F6"),
+    }
+}
+
+fn certificate_line(fault: CertFault) -> Line {
+    match fault {
+        CertFault::K1(line) => Line::of("refused C2 K1").with(line),
+        CertFault::K2(line) => Line::of("refused C2 K2").with(line),
+        CertFault::K3(line) => Line::of("refused C2 K3").with(line),
+        CertFault::K4(line) => Line::of("refused C2 K4").with(line),
+        CertFault::Memory => Line::of("F6"),
+    }
+}
+
+fn plan_line(fault: PlanFault) -> Line {
+    match fault {
+        PlanFault::V1 { agent } => Line::of("refused C5 V1").with(agent as u64),
+        PlanFault::V2 { agent, tick } => Line::of("refused C5 V2").with_two(agent, tick),
+        PlanFault::V3 { agent } => Line::of("refused C5 V3").with(agent as u64),
+        PlanFault::V4 { i, j, tick } => Line::of("refused C5 V4").with_three(i, j, tick),
+        PlanFault::V5 { i, j, tick } => Line::of("refused C5 V5").with_three(i, j, tick),
+    }
+}
+
+// Writes a blank and the number, if there is one.
+fn write_number<K: Sink>(sink: &mut K, number: Option<u64>) -> Result<(), Failed>
+    requires { K.has_failed sink.old ≡ false }
+    ensures { K.has_failed sink.new ≡ is_err result }
+{
+    let Some(number) = number else {
+        return Ok(());
+    };
+    let mut buffer = Buffer::new();
+    write_all(sink, b" ")?;
+    write_all(sink, buffer.format(number).as_bytes())
+}
+
+/// Writes the line with its LF.
+pub fn write_line<K: Sink>(sink: &mut K, line: &Line) -> Result<(), Failed>
+    requires { K.has_failed sink.old ≡ false }
+    ensures { K.has_failed sink.new ≡ is_err result }
+{
+    let [first, second, third] = line.numbers;
+    write_all(sink, line.words.as_bytes())?;
+    write_number(sink, first)?;
+    write_number(sink, second)?;
+    write_number(sink, third)?;
+    write_all(sink, b"\n")
+}

@@ -1,0 +1,106 @@
+//! Which fault is answered to a bad map or scenario.
+
+use crate::runs::{Given, solve};
+use mapf_app::{Fault, Kind, MapFault, ScenFault};
+use std::test::Fail;
+
+const CORNER: &str = "type octile\nheight 2\nwidth 3\nmap\n..T\n...\n";
+
+// One agent from the first cell, with the rest of its row.
+fn corner(scen: &'static str, k: u32) -> Given {
+    Given {
+        map: CORNER,
+        scen,
+        k,
+    }
+}
+
+#[test]
+fn names_the_fault_of_a_scenario(rt: HostRuntime) -> Result<(), Fail> {
+    for (scen, k, fault) in [
+        (
+            "version 1\n0 a 3 2 0 0 1 0 1\n0 a 3 2 0 1 1 1 1\n",
+            3,
+            ScenFault::S7 { rows: 2 },
+        ),
+        (
+            "version 1\n0 a 3 2 0 0 2 0 2\n",
+            1,
+            ScenFault::S5 { row: 0 },
+        ),
+        (
+            "version 1\n0 a 3 2 0 0 1 0 1.4.1\n",
+            1,
+            ScenFault::S6 { row: 0 },
+        ),
+        (
+            "version 1\n0 a 3 2 0 0 2 0 1.4.1\n",
+            1,
+            ScenFault::S5 { row: 0 },
+        ),
+    ] {
+        assert!(rt; 1 <= k && k <= 200);
+        let solved = solve(rt.alloc(), &corner(scen, k), 0)?;
+        assert_eq!(rt; solved.answer, Err(Fault::F2(fault)), "of {scen}");
+        assert_eq!(rt; solved.plan.bytes(), b"".as_slice());
+    }
+    let exponent = solve(
+        rt.alloc(),
+        &corner("version 1\n0 a 3 2 0 0 1 0 1e+02\n", 1),
+        0,
+    )?;
+    assert_eq!(rt; exponent.answer, Ok(Kind::Found(1)));
+    Ok(())
+}
+
+#[test]
+fn names_the_fault_of_a_map(rt: HostRuntime) -> Result<(), Fail> {
+    for (map, fault) in [
+        (
+            "type octile\nheight 2\nwidth 3\nmap\n...\n..\n",
+            MapFault::M6 { row: 1 },
+        ),
+        (
+            "type octile\nheight 2\nwidth 3\nmap\n..x\n...\n",
+            MapFault::M7 { x: 2, y: 0 },
+        ),
+        (
+            "type octile\nheight 2\nwidth 3\nmap\n...\n",
+            MapFault::M8 { rows: 1 },
+        ),
+        (
+            "type octile\nheight 2\nwidth 3\nmap\n...\n...\n.\n",
+            MapFault::M9 { line: 7 },
+        ),
+        (
+            "type octile\nheight 2\nwidth 2049\nmap\n...\n...\n",
+            MapFault::M4 { line: 3 },
+        ),
+    ] {
+        let given = Given {
+            map,
+            scen: "",
+            k: 1,
+        };
+        let solved = solve(rt.alloc(), &given, 0)?;
+        assert_eq!(rt; solved.answer, Err(Fault::F1(fault)), "of {map}");
+    }
+    Ok(())
+}
+
+#[test]
+fn tells_swamp_from_water(rt: HostRuntime) -> Result<(), Fail> {
+    let map = "type octile\nheight 2\nwidth 3\nmap\n.WS\n...\n";
+    for (scen, answer) in [
+        ("version 1\n0 a 3 2 0 0 2 0 2\n", Ok(Kind::Found(4))),
+        (
+            "version 1\n0 a 3 2 0 0 1 0 1\n",
+            Err(Fault::F2(ScenFault::S5 { row: 0 })),
+        ),
+    ] {
+        let given = Given { map, scen, k: 1 };
+        let solved = solve(rt.alloc(), &given, 0)?;
+        assert_eq!(rt; solved.answer, answer, "of {scen}");
+    }
+    Ok(())
+}
