@@ -15,9 +15,11 @@ use std::marker::Model;
 /// How many steps it is from each cell of a grid to one goal.
 #[derive(Debug, Drop)]
 pub struct Distances {
+    // The table's shape and its goal, which say what the numbers in it are.
     width: u32,
     height: u32,
     goal: Cell,
+    // An entry for each cell: its distance, or that it is blocked or not joined to the goal.
     table: Vec<u32>,
 }
 
