@@ -1,4 +1,9 @@
+pub mod Numbers
+pub mod Lines
+pub mod LineReading
+pub mod Certificates
+pub mod Plans
+pub mod PlanReading
 pub mod Window
 pub mod Reading
-pub mod Lines
 pub mod Untouched

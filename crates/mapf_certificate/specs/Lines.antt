@@ -1,9 +1,85 @@
--- The lines of a certificate.
-use Rattle.std.specs.Prelude.{◌≤◌, ℕ}
+-- The lines of a certificate: how they are spelled, and in which ranges.
+use Rattle.std.specs.Prelude.{◌≡◌, ◌≤◌, ◌<◌, ◌==◌, Bool, true, not, ℕ, ◌+◌, ◌^◌, List, [], ◌∷◌, ◌++◌, codes, map, length, ⊤}
+use Rattle.std.specs.List.{flat_map, list_all}
+use Rattle.mapf_model.specs.declared.item.Claim.{Claim}
+use Rattle.mapf_model.specs.declared.item.Claim.TheVariants as claims
+use Rattle.mapf_model.specs.declared.conflict.Conflict.TheVariants as conflicts
+use Rattle.mapf_model.specs.declared.label.Label.{Label}
+use Rattle.mapf_model.specs.declared.label.Label.TheVariants as labels
+use Rattle.mapf_model.specs.declared.label.Entry.{Entry}
+use Rattle.mapf_model.specs.Blocks.{LabelBlock}
+use Rattle.mapf_model.specs.Grid.{GridMap}
+use Rattle.mapf_model.specs.Printed.{IsEntryInRange, IsConflictInRange, IsClaimInRange, IsTreeInRange}
+use Rattle.mapf_model.specs.Tree.{ConstraintTree, Node, SplitNode, LeafNode, ClashNode, nodes_of}
 use Rattle.mapf_certificate.specs.declared.line.Line.{Line}
-use Rattle.mapf_certificate.specs.declared.line.Line.TheVariants as line
+use Rattle.mapf_certificate.specs.declared.line.Line.TheVariants as lines
+use Rattle.mapf_certificate.specs.declared.sizes.Sizes.{Sizes}
+use Rattle.mapf_certificate.specs.declared.tree_line.Due.{Due}
+use Rattle.mapf_certificate.specs.declared.tree_line.Due.TheVariants as dues
+use Rattle.mapf_certificate.specs.Numbers.{field, pair}
 
--- a line that says how many agents there are says 1 to 200
-abbrev pub IsHeaderLine : Line → Type 0
-IsHeaderLine (line.Agents agents) = (1 ≤ agents) × (agents ≤ 200)
-IsHeaderLine _ = Unit {0}
+abbrev pub label_words : Label → List ℕ
+label_words (labels.Ticks ticks) = field 32 ticks
+label_words labels.Never = codes " inf"
+
+-- a line without its LF, on a grid of this width
+abbrev pub words : ℕ → Line → List ℕ
+words width lines.Title = codes "mapf-cert 1"
+words width (lines.Agents agents) = codes "agents" ++ field 32 agents
+words width (lines.Claim (claims.Cost cost)) = codes "claim cost" ++ field 32 cost
+words width (lines.Claim claims.Impossible) = codes "claim impossible"
+words width (lines.Vertex i j cell tick) = codes "vertex" ++ (field 32 i ++ (field 32 j ++ (pair width cell ++ field 32 tick)))
+words width (lines.Swap i j from to tick) = codes "swap" ++ (field 32 i ++ (field 32 j ++ (pair width from ++ (pair width to ++ field 32 tick))))
+words width (lines.Leaf blocks) = codes "leaf" ++ field 32 blocks
+words width (lines.Clash i j) = codes "clash" ++ (field 32 i ++ field 32 j)
+words width (lines.Agent agent entries) = codes "agent" ++ (field 32 agent ++ field 32 entries)
+words width (lines.At entry) = codes "at" ++ (pair width entry.cell ++ (field 32 entry.tick ++ label_words entry.label))
+words width lines.End = codes "end"
+
+abbrev pub IsAgentCount : ℕ → Type 0
+IsAgentCount agents = (1 ≤ agents) × (agents ≤ 200)
+
+-- a grid of a size, with no say on which cells are free
+abbrev pub grid_of : ℕ → ℕ → GridMap
+grid_of width height = record { width = width; height = height; free = [] }
+
+-- a line of a tree, or `end`, with its numbers in their ranges
+abbrev pub IsTreeLine : GridMap → ℕ → Line → Type 0
+IsTreeLine grid agents lines.Title = ⊥
+IsTreeLine grid agents (lines.Agents count) = ⊥
+IsTreeLine grid agents (lines.Claim claim) = ⊥
+IsTreeLine grid agents (lines.Vertex i j cell tick) = IsConflictInRange grid agents (conflicts.Vertex i j cell tick)
+IsTreeLine grid agents (lines.Swap i j from to tick) = IsConflictInRange grid agents (conflicts.Swap i j from to tick)
+IsTreeLine grid agents (lines.Leaf blocks) = blocks ≤ agents
+IsTreeLine grid agents (lines.Clash i j) = (i < agents) × (j < agents)
+IsTreeLine grid agents (lines.Agent agent entries) = (agent < agents) × (1 ≤ entries) × (entries < 2 ^ 64)
+IsTreeLine grid agents (lines.At entry) = IsEntryInRange grid entry
+IsTreeLine grid agents lines.End = ⊤
+
+abbrev pub IsClaimLine : Line → Type 0
+IsClaimLine (lines.Claim claim) = IsClaimInRange claim
+IsClaimLine _ = ⊥
+
+abbrev pub IsAgentsLine : Line → Type 0
+IsAgentsLine (lines.Agents agents) = IsAgentCount agents
+IsAgentsLine _ = ⊥
+
+-- a line that is due, with its numbers in their ranges
+abbrev pub IsLine : Due → Line → Type 0
+IsLine dues.Title line = line ≡ lines.Title
+IsLine dues.Agents line = IsAgentsLine line
+IsLine dues.Claim line = IsClaimLine line
+IsLine (dues.Tree sizes) line = IsTreeLine (grid_of sizes.width sizes.height) sizes.agents line
+
+abbrev pub width_of : Due → ℕ
+width_of (dues.Tree sizes) = sizes.width
+width_of _ = 1
+
+-- no LF
+abbrev pub lacks_end : List ℕ → Bool
+lacks_end bs = list_all (λ b. not (b == 10)) bs
+
+-- the first line, and what follows its LF
+pub record IsCut (bs line rest : List ℕ) : Type 0 where
+  pub same : bs ≡ line ++ (10 ∷ rest)
+  pub whole : lacks_end line ≡ true

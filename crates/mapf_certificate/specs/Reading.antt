@@ -2,6 +2,7 @@
 use Rattle.std.specs.Prelude.{◌≡◌, ◌+◌, ◌≤◌, ◌^◌, ℕ, Bool, Option, IfSome}
 use Rattle.mapf_model.specs.declared.item.Claim.{Claim}
 use Rattle.mapf_certificate.specs.declared.cert.LinesFault.{LinesFault}
+use Rattle.mapf_certificate.specs.Lines.{IsAgentCount}
 use Rattle.mapf_certificate.specs.Window.{Buffered, spare}
 
 pub record Reading : Type 0 where
@@ -12,9 +13,6 @@ pub record Reading : Type 0 where
   pub fault : Option LinesFault
   pub is_whole : Bool
   pub owed : ℕ
-
-abbrev pub IsAgentCount : ℕ → Type 0
-IsAgentCount agents = (1 ≤ agents) × (agents ≤ 200)
 
 -- what is so at any time
 pub record IsReading (r : Reading) : Type 0 where

@@ -1,4 +1,4 @@
-ghost use Rattle.mapf_certificate.specs.Reading.{IsAgentCount};
+ghost use Rattle.mapf_certificate.specs.Lines.{IsAgentCount};
 ghost use Rattle.mapf_certificate.specs.Window.{spare};
 ghost use Rattle.mapf_certificate.specs.Untouched.{IsUntouched};
 ghost use Rattle.std.specs.Prelude.{[], Some, true, IfErr, ◌^◌, ◌≡◌, ◌<◌, ◌≤◌, ◌+◌, IfOk, IfSome, IsSome, OnOk, None, false};

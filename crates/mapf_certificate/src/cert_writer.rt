@@ -1,12 +1,18 @@
+ghost use Rattle.std.specs.Prelude.{◌≡◌, ◌<◌, ◌++◌, OnOk, IfOk, map};
+ghost use Rattle.std.specs.List.{flat_map};
+ghost use Rattle.mapf_model.specs.Tree.{node_of};
+ghost use Rattle.mapf_certificate.specs.Certificates.{entries_text, blocks_text, item_text, header_text, cert_text};
 ghost use Rattle.std.specs.Prelude.{◌<◌};
 
 use crate::cert::Cert;
-use crate::line::{Line, push_line};
+use crate::line::Line;
+use crate::line_writer::push_line;
 use mapf_model::{Block, Grid, Item, OutOfMemory};
 use std::alloc::{AllocError, Global};
 
 fn push_entries(out: &mut Vec<u8>, block: &Block, width: u32) -> Result<(), AllocError>
     requires { 0 < width }
+    ensures { OnOk result (out.new.items ≡ out.old.items ++ entries_text width block.now.entries) }
 {
     for entry in &block.entries {
         push_line(out, &Line::At(*entry), width)?;
@@ -16,6 +22,7 @@ fn push_entries(out: &mut Vec<u8>, block: &Block, width: u32) -> Result<(), Allo
 
 fn push_blocks(out: &mut Vec<u8>, blocks: &[Block], width: u32) -> Result<(), AllocError>
     requires { 0 < width }
+    ensures { OnOk result (out.new.items ≡ out.old.items ++ blocks_text width blocks.now) }
 {
     for block in blocks {
         let line = Line::Agent {
@@ -30,6 +37,7 @@ fn push_blocks(out: &mut Vec<u8>, blocks: &[Block], width: u32) -> Result<(), Al
 
 fn push_item(out: &mut Vec<u8>, item: &Item, width: u32) -> Result<(), AllocError>
     requires { 0 < width }
+    ensures { OnOk result (out.new.items ≡ out.old.items ++ item_text width item.now) }
 {
     match item {
         Item::Vertex { i, j, cell, tick } => {
@@ -67,6 +75,7 @@ fn push_item(out: &mut Vec<u8>, item: &Item, width: u32) -> Result<(), AllocErro
 
 fn push_items(out: &mut Vec<u8>, items: &[Item], width: u32) -> Result<(), AllocError>
     requires { 0 < width }
+    ensures { OnOk result (out.new.items ≡ out.old.items ++ flat_map (item_text width) items.now) }
 {
     for item in items {
         push_item(out, item, width)?;
@@ -74,13 +83,23 @@ fn push_items(out: &mut Vec<u8>, items: &[Item], width: u32) -> Result<(), Alloc
     Ok(())
 }
 
-/// The text of a certificate for a grid of this size.
-pub fn write_cert(alloc: Global, cert: &Cert, grid: &Grid) -> Result<Vec<u8>, OutOfMemory> {
+fn push_header(out: &mut Vec<u8>, cert: &Cert, width: u32) -> Result<(), AllocError>
+    requires { 0 < width }
+    ensures { OnOk result (out.new.items ≡ out.old.items ++ header_text width cert.now.agents cert.now.claim) }
+{
+    push_line(out, &Line::Title, width)?;
+    push_line(out, &Line::Agents(cert.agents), width)?;
+    push_line(out, &Line::Claim(cert.claim), width)
+}
+
+/// The text of a certificate for a grid of this size. The condition for it to spell the certificate is
+/// that the numbers are in their ranges and the blocks in their orders.
+pub fn write_cert(alloc: Global, cert: &Cert, grid: &Grid) -> Result<Vec<u8>, OutOfMemory>
+    ensures { IfOk result (λ bytes. bytes.items ≡ cert_text grid.now.width cert.now.agents cert.now.claim (map node_of cert.now.tree.items)) }
+{
     let mut out = Vec::new(alloc);
     let width = grid.width();
-    push_line(&mut out, &Line::Title, width)?;
-    push_line(&mut out, &Line::Agents(cert.agents), width)?;
-    push_line(&mut out, &Line::Claim(cert.claim), width)?;
+    push_header(&mut out, cert, width)?;
     push_items(&mut out, &cert.tree, width)?;
     push_line(&mut out, &Line::End, width)?;
     Ok(out)

@@ -1,5 +1,5 @@
 ghost use Rattle.mapf_certificate.specs.Window.{spare};
-ghost use Rattle.mapf_certificate.specs.Lines.{IsHeaderLine};
+ghost use Rattle.mapf_certificate.specs.Lines.{IsLine};
 ghost use Rattle.std.specs.Prelude.{◌≡◌, ◌<◌, ◌≤◌, ◌+◌, IfOk, IfSome, OnOk, [], false};
 
 use crate::buffer::{LineBuffer, NoLine};
@@ -65,7 +65,7 @@ impl Lines {
         ensures works { OnOk result (S.has_failed source.new ≡ false) }
         ensures nearer { OnOk result (spare self.new.buffer + 2 ≤ spare self.old.buffer) }
         ensures spare { spare self.new.buffer ≤ spare self.old.buffer }
-        ensures agents { IfOk result IsHeaderLine }
+        ensures line { IfOk result (λ line. IsLine due.now line) }
     {
         self.count = self.count.saturating_add(1);
         match self.buffer.ready(source) {

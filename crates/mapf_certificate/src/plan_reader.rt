@@ -1,37 +1,29 @@
-ghost use Rattle.std.specs.Prelude.{◌≡◌, ◌<◌, ◌≤◌, ◌+◌, ◌*◌, ◌-◌, IfOk, IfSome, length, vec_len};
+ghost use Rattle.std.specs.Prelude.{◌≡◌, ◌⊎◌, ◌<◌, ◌≤◌, ◌+◌, ◌++◌, ◌∷◌, ℕ, List, All, Ok, Err, true, codes, length, vec_len, option_map, ◌↔◌, IsOk, IsSome, IfSome, IfOk, IsOkAnd, OnOk};
+ghost use Rattle.mapf_model.specs.Printed.{IsOnGrid, IsPathInRange, IsTight};
+ghost use Rattle.mapf_certificate.specs.Numbers.{Gives};
+ghost use Rattle.mapf_certificate.specs.Lines.{grid_of, IsAgentCount};
+ghost use Rattle.mapf_certificate.specs.Plans.{ArePaths, cells_text, path_words, paths_text, cost_of, plan_text, IsAnswer, IsPlanText, IsPathOf};
+ghost use Rattle.mapf_certificate.specs.PlanReading.{cut, next_line, next_words, next_agents, next_answer, read_end, read_header, line_of, rest_of, IsAnswerLine, read_pair_cell, fault_at, OrMemory};
 
-use crate::field::{field, nothing, pair, strip};
+use crate::ends;
+use crate::field::pair;
 use crate::line::LineFault;
+use crate::plan_lines::{AnswerLine, agents_line, answer_line, path_front};
 use crate::plan_text::{PlanAnswer, PlanText, PlanTextFault};
-use crate::sizes::{Sizes, below, up_to, within};
-use crate::tree_line::{agent_count, cost};
-use mapf_model::{Cause, Cell, Grid, Path, Plan};
+use crate::sizes::{Sizes, below, up_to};
+use mapf_model::{Cell, Grid, Path, Plan};
 use std::alloc::Global;
-
-/// Line 3 of a plan text.
-#[derive(Clone, Copy, Debug)]
-enum AnswerLine {
-    Cost(u64),
-    Impossible,
-    Limit(Cause),
-}
 
 /// The first line without its LF, and what follows.
 fn cut(bytes: &[u8]) -> Option<(&[u8], &[u8])>
-    ensures { IfSome result (λ p. length p.1.now < length bytes.entry.now) }
+    ensures { option_map (λ p. (p.0.now, p.1.now)) result ≡ cut bytes.entry.now }
 {
-    let at = line_end(bytes)?;
-    Some((&bytes[..at], &bytes[at + 1..]))
+    ends::cut(bytes)
 }
 
-fn line_end(bytes: &[u8]) -> Option<usize>
-    ensures within { IfSome result (λ at. at < length bytes.now) }
-{
-    bytes.iter().position(|b| *b == b'\n')
-}
-
+#[tactic(auto, unfolding(crate::specs::PlanReading::next_line))]
 fn line_at(number: u64, bytes: &[u8]) -> Result<(&[u8], &[u8]), PlanTextFault>
-    ensures { IfOk result (λ p. length p.1.now < length bytes.entry.now) }
+    ensures { Gives (λ p. (p.0.now, p.1.now)) result (next_line number bytes.entry.now) }
 {
     match cut(bytes) {
         Some(parts) => Ok(parts),
@@ -39,7 +31,9 @@ fn line_at(number: u64, bytes: &[u8]) -> Result<(&[u8], &[u8]), PlanTextFault>
     }
 }
 
-fn fault_of_line(number: u64, fault: LineFault) -> PlanTextFault {
+fn fault_of_line(number: u64, fault: LineFault) -> PlanTextFault
+    ensures { fault_at {A = ℕ} number (Err fault) ≡ Err result }
+{
     match fault {
         LineFault::Shape => PlanTextFault::P1(number),
         LineFault::Range => PlanTextFault::P3(number),
@@ -47,7 +41,10 @@ fn fault_of_line(number: u64, fault: LineFault) -> PlanTextFault {
 }
 
 /// Takes the line that is due, of these words.
-fn take_words<'a>(number: u64, words: &[u8], bytes: &'a [u8]) -> Result<&'a [u8], PlanTextFault> {
+#[tactic(auto, unfolding(crate::specs::PlanReading::next_words))]
+fn take_words<'a>(number: u64, words: &[u8], bytes: &'a [u8]) -> Result<&'a [u8], PlanTextFault>
+    ensures { Gives (λ r. r.now) result (next_words number words.now bytes.entry.now) }
+{
     let (line, rest) = line_at(number, bytes)?;
     if line == words {
         Ok(rest)
@@ -56,35 +53,53 @@ fn take_words<'a>(number: u64, words: &[u8], bytes: &'a [u8]) -> Result<&'a [u8]
     }
 }
 
-fn agents_line(line: &[u8]) -> Result<u32, LineFault>
-    ensures { IfOk result (λ n. (1 ≤ n) × (n ≤ 200)) }
+/// Takes line 2.
+#[tactic(auto, unfolding(crate::specs::PlanReading::next_agents))]
+fn take_agents(bytes: &[u8]) -> Result<(u32, &[u8]), PlanTextFault>
+    ensures { Gives (λ p. (p.0, p.1.now)) result (next_agents bytes.entry.now) }
 {
-    match strip(line, b"agents") {
-        Some(rest) => agent_count(rest),
-        None => Err(LineFault::Shape),
+    let (line, rest) = line_at(2, bytes)?;
+    match agents_line(line) {
+        Ok(agents) => Ok((agents, rest)),
+        Err(LineFault::Shape) => Err(PlanTextFault::P1(2)),
+        Err(LineFault::Range) => Err(PlanTextFault::P3(2)),
     }
 }
 
-fn limit(rest: &[u8]) -> Result<AnswerLine, LineFault> {
-    if rest == b" ticks".as_slice() {
-        return Ok(AnswerLine::Limit(Cause::Ticks));
+/// Takes line 3.
+#[tactic(auto, unfolding(crate::specs::PlanReading::next_answer))]
+fn take_answer(bytes: &[u8]) -> Result<(AnswerLine, &[u8]), PlanTextFault>
+    ensures { Gives (λ p. (p.0, p.1.now)) result (next_answer bytes.entry.now) }
+{
+    let (line, rest) = line_at(3, bytes)?;
+    match answer_line(line) {
+        Ok(answer) => Ok((answer, rest)),
+        Err(LineFault::Shape) => Err(PlanTextFault::P1(3)),
+        Err(LineFault::Range) => Err(PlanTextFault::P3(3)),
     }
-    let (splits, rest) = field(b' ', rest)?;
-    nothing(rest)?;
-    Ok(AnswerLine::Limit(Cause::Splits(up_to(100_000, splits)?)))
 }
 
-fn answer_line(line: &[u8]) -> Result<AnswerLine, LineFault> {
-    if line == b"impossible".as_slice() {
-        return Ok(AnswerLine::Impossible);
+/// `end`, and nothing after it.
+#[tactic(auto, unfolding(crate::specs::PlanReading::read_end))]
+fn end(number: u64, bytes: &[u8]) -> Result<(), PlanTextFault>
+    requires { number < 1000 }
+    ensures { result ≡ read_end number bytes.now }
+{
+    let rest = take_words(number, b"end", bytes)?;
+    if rest.is_empty() {
+        Ok(())
+    } else {
+        Err(PlanTextFault::P4(number + 1))
     }
-    if let Some(rest) = strip(line, b"cost") {
-        return Ok(AnswerLine::Cost(cost(rest)?));
-    }
-    if let Some(rest) = strip(line, b"limit") {
-        return limit(rest);
-    }
-    Err(LineFault::Shape)
+}
+
+/// The cell of the pair that bytes begin with, None where it isn't one of the grid, and what follows.
+#[tactic(auto, unfolding(crate::specs::PlanReading::read_pair_cell))]
+fn pair_cell<'a>(bytes: &'a [u8], sizes: &Sizes) -> Result<(Option<Cell>, &'a [u8]), LineFault>
+    ensures { Gives (λ p. (p.0, p.1.now)) result (read_pair_cell sizes.now bytes.entry.now) }
+{
+    let (x, y, rest) = pair(bytes)?;
+    Ok((sizes.cell(x, y).ok(), rest))
 }
 
 /// The pairs of a path's line: whether each is a cell of the grid, and the cells up to the first that
@@ -95,45 +110,30 @@ struct Pairs {
     are_cells: bool,
 }
 
-fn pairs_of(
-    alloc: Global,
-    number: u64,
-    bytes: &[u8],
-    sizes: &Sizes,
-) -> Result<Pairs, PlanTextFault> {
+fn pairs_of(alloc: Global, number: u64, bytes: &[u8], sizes: &Sizes) -> Result<Pairs, PlanTextFault>
+    ensures found { IfOk result (λ p. p.are_cells ≡ true → All (IsOnGrid (grid_of sizes.now.width sizes.now.height)) p.cells.items × (bytes.now ≡ cells_text sizes.now.width p.cells.items)) }
+    ensures only { (path : List ℕ) → All (IsOnGrid (grid_of sizes.now.width sizes.now.height)) path → bytes.now ≡ cells_text sizes.now.width path → OrMemory result (IsOkAnd result (λ p. (p.are_cells ≡ true) × (p.cells.items ≡ path))) }
+{
     let mut cells = Vec::new(alloc);
     let mut are_cells = true;
     let mut rest = bytes;
     while !rest.is_empty() {
-        let (x, y, after) = match pair(rest) {
+        let (cell, after) = match pair_cell(rest, sizes) {
             Ok(parts) => parts,
             Err(fault) => return Err(fault_of_line(number, fault)),
         };
-        match sizes.cell(x, y) {
-            Ok(cell) if are_cells => {
+        match cell {
+            Some(cell) if are_cells => {
                 if cells.push(cell).is_err() {
                     return Err(PlanTextFault::Memory);
                 }
             }
-            Ok(_) => {}
-            Err(_) => are_cells = false,
+            Some(_) => {}
+            None => are_cells = false,
         }
         rest = after;
     }
     Ok(Pairs { cells, are_cells })
-}
-
-/// The agent and the cost of a path's line as they were read, and its pairs.
-fn path_front(line: &[u8]) -> Result<(Option<u64>, Option<u64>, &[u8]), LineFault> {
-    let Some(rest) = strip(line, b"path") else {
-        return Err(LineFault::Shape);
-    };
-    let (agent, rest) = field(b' ', rest)?;
-    let (cost, rest) = field(b' ', rest)?;
-    if rest.is_empty() {
-        return Err(LineFault::Shape);
-    }
-    Ok((agent, cost, rest))
 }
 
 /// The path of the agent that is due.
@@ -144,26 +144,55 @@ fn path_of(
     line: &[u8],
     sizes: &Sizes,
 ) -> Result<Path, PlanTextFault>
-    ensures { IfOk result (λ path. (1 ≤ length path) × (length path ≤ 10000000)) }
+    ensures found { IfOk result (λ path. IsPathInRange (grid_of sizes.now.width sizes.now.height) path × (line.now ≡ path_words sizes.now.width due path)) }
+    ensures only { (path : List ℕ) → IsPathInRange (grid_of sizes.now.width sizes.now.height) path → due < sizes.now.agents → line.now ≡ path_words sizes.now.width due path → OrMemory result (result ≡ Ok path) }
 {
     let (agent, cost, rest) = match path_front(line) {
         Ok(parts) => parts,
         Err(fault) => return Err(fault_of_line(number, fault)),
     };
     let pairs = pairs_of(alloc, number, rest, sizes)?;
-    let (Ok(agent), Ok(cost), true) = (
-        below(sizes.agents, agent),
-        up_to(9_999_999, cost),
-        pairs.are_cells,
-    ) else {
-        return Err(PlanTextFault::P3(number));
-    };
-    if agent != due || pairs.cells.len() != cost as usize + 1 {
-        return Err(PlanTextFault::P1(number));
+    match judge_path(agent, cost, due, &pairs, sizes) {
+        Ok(()) => {}
+        Err(fault) => return Err(fault_of_line(number, fault)),
     }
-    match Path::of(pairs.cells) {
-        Some(path) if path.is_tight() => Ok(path),
-        _ => Err(PlanTextFault::P1(number)),
+    match tight(pairs.cells) {
+        Some(path) => Ok(path),
+        None => Err(PlanTextFault::P1(number)),
+    }
+}
+
+/// The path of these cells, None where the last two are one.
+fn tight(cells: Vec<Cell>) -> Option<Path>
+    ensures tight { IsSome result ↔ ((1 ≤ length cells.items) × (length cells.items ≤ 10000000) × IsTight cells.items) }
+    ensures value { IfSome result (λ path. path ≡ cells.items) }
+{
+    match Path::of(cells) {
+        Some(path) if path.is_tight() => Some(path),
+        _ => None,
+    }
+}
+
+/// Whether the agent is the one that is due, the cost goes with the number of pairs, and all are in
+/// their ranges.
+fn judge_path(
+    agent: Option<u64>,
+    cost: Option<u64>,
+    due: u32,
+    pairs: &Pairs,
+    sizes: &Sizes,
+) -> Result<(), LineFault>
+    ensures { IsOk result ↔ IsPathOf sizes.now.agents agent cost due pairs.now.are_cells (length pairs.now.cells.items) }
+{
+    let agent = below(sizes.agents, agent)?;
+    let cost = up_to(9_999_999, cost)?;
+    if !pairs.are_cells {
+        return Err(LineFault::Range);
+    }
+    if agent == due && pairs.cells.len() as u64 == cost as u64 + 1 {
+        Ok(())
+    } else {
+        Err(LineFault::Shape)
     }
 }
 
@@ -173,7 +202,9 @@ fn paths_of<'a>(
     bytes: &'a [u8],
     sizes: &Sizes,
 ) -> Result<(Vec<Path>, u64, &'a [u8]), PlanTextFault>
-    ensures { IfOk result (λ p. vec_len p.0 ≡ sizes.now.agents) }
+    ensures found { IfOk result (λ p. ArePaths (grid_of sizes.now.width sizes.now.height) sizes.now.agents bytes.entry.now p.0.items p.1 p.2.now) }
+    ensures only { (plan : List (List ℕ)) (rest : List ℕ) → length plan ≡ sizes.now.agents → All (IsPathInRange (grid_of sizes.now.width sizes.now.height)) plan → bytes.entry.now ≡ paths_text sizes.now.width 0 plan ++ rest
+        → OrMemory result (IsOkAnd result (λ p. (p.0.items ≡ plan) × (p.2.now ≡ rest))) }
 {
     let mut paths = Vec::new(alloc);
     let mut sum = 0u64;
@@ -191,19 +222,10 @@ fn paths_of<'a>(
     Ok((paths, sum, rest))
 }
 
-/// `end`, and nothing after it.
-fn end(number: u64, bytes: &[u8]) -> Result<(), PlanTextFault>
-    requires { number < 1000 }
+fn plan_of(alloc: Global, bytes: &[u8], cost: u64, sizes: &Sizes) -> Result<Plan, PlanTextFault>
+    ensures found { IfOk result (λ plan. (length plan ≡ sizes.now.agents) × All (IsPathInRange (grid_of sizes.now.width sizes.now.height)) plan × (cost ≡ cost_of plan) × (bytes.now ≡ paths_text sizes.now.width 0 plan ++ codes "end\n")) }
+    ensures only { (plan : List (List ℕ)) → length plan ≡ sizes.now.agents → All (IsPathInRange (grid_of sizes.now.width sizes.now.height)) plan → cost ≡ cost_of plan → bytes.now ≡ paths_text sizes.now.width 0 plan ++ codes "end\n" → OrMemory result (result ≡ Ok plan) }
 {
-    let rest = take_words(number, b"end", bytes)?;
-    if rest.is_empty() {
-        Ok(())
-    } else {
-        Err(PlanTextFault::P4(number + 1))
-    }
-}
-
-fn plan_of(alloc: Global, bytes: &[u8], cost: u64, sizes: &Sizes) -> Result<Plan, PlanTextFault> {
     let (paths, sum, rest) = paths_of(alloc, bytes, sizes)?;
     end(4 + sizes.agents as u64, rest)?;
     match Plan::of(paths) {
@@ -212,41 +234,52 @@ fn plan_of(alloc: Global, bytes: &[u8], cost: u64, sizes: &Sizes) -> Result<Plan
     }
 }
 
-fn take_agents(bytes: &[u8]) -> Result<(u32, &[u8]), PlanTextFault>
-    ensures { IfOk result (λ p. (1 ≤ p.0) × (p.0 ≤ 200)) }
+/// Takes the first three lines.
+#[tactic(auto, unfolding(crate::specs::PlanReading::read_header))]
+fn take_header(bytes: &[u8]) -> Result<(u32, AnswerLine, &[u8]), PlanTextFault>
+    ensures { Gives (λ p. (p.0, p.1, p.2.now)) result (read_header bytes.entry.now) }
 {
-    let (line, rest) = line_at(2, bytes)?;
-    match agents_line(line) {
-        Ok(agents) => Ok((agents, rest)),
-        Err(fault) => Err(fault_of_line(2, fault)),
-    }
+    let rest = take_words(1, b"mapf-plan 1", bytes)?;
+    let (agents, rest) = take_agents(rest)?;
+    let (answer, rest) = take_answer(rest)?;
+    Ok((agents, answer, rest))
 }
 
-fn take_answer(bytes: &[u8]) -> Result<(AnswerLine, &[u8]), PlanTextFault> {
-    let (line, rest) = line_at(3, bytes)?;
-    match answer_line(line) {
-        Ok(answer) => Ok((answer, rest)),
-        Err(fault) => Err(fault_of_line(3, fault)),
+/// The answer whose line was read, from what follows it.
+fn answer_of(
+    alloc: Global,
+    line: &AnswerLine,
+    rest: &[u8],
+    sizes: &Sizes,
+) -> Result<PlanAnswer, PlanTextFault>
+    requires { IsAnswerLine line.now }
+    ensures found { IfOk result (λ answer. IsAnswer (grid_of sizes.now.width sizes.now.height) sizes.now.agents answer × (line.now ≡ line_of answer) × (rest.now ≡ rest_of sizes.now.width answer)) }
+    ensures only { (answer : PlanAnswer) → IsAnswer (grid_of sizes.now.width sizes.now.height) sizes.now.agents answer → line.now ≡ line_of answer → rest.now ≡ rest_of sizes.now.width answer → OrMemory result (result ≡ Ok answer) }
+{
+    match *line {
+        AnswerLine::Cost(cost) => {
+            let plan = plan_of(alloc, rest, cost, sizes)?;
+            Ok(PlanAnswer::Found(plan))
+        }
+        AnswerLine::Impossible => {
+            end(4, rest)?;
+            Ok(PlanAnswer::Impossible)
+        }
+        AnswerLine::Limit(cause) => {
+            end(4, rest)?;
+            Ok(PlanAnswer::Limit(cause))
+        }
     }
 }
 
 /// Reads a plan text for a grid of this size.
-pub fn read_plan(alloc: Global, bytes: &[u8], grid: &Grid) -> Result<PlanText, PlanTextFault> {
-    let rest = take_words(1, b"mapf-plan 1", bytes)?;
-    let (agents, rest) = take_agents(rest)?;
-    let (answer, rest) = take_answer(rest)?;
-    let answer = match answer {
-        AnswerLine::Cost(cost) => {
-            PlanAnswer::Found(plan_of(alloc, rest, cost, &Sizes::of(grid, agents))?)
-        }
-        AnswerLine::Impossible => {
-            end(4, rest)?;
-            PlanAnswer::Impossible
-        }
-        AnswerLine::Limit(cause) => {
-            end(4, rest)?;
-            PlanAnswer::Limit(cause)
-        }
-    };
+pub fn read_plan(alloc: Global, bytes: &[u8], grid: &Grid) -> Result<PlanText, PlanTextFault>
+    // What is read is spelled so.
+    ensures found { IfOk result (λ p. IsPlanText grid.now p × (bytes.now ≡ plan_text grid.now.width p)) }
+    // What is spelled so is read.
+    ensures only { (p : PlanText) → IsPlanText grid.now p → bytes.now ≡ plan_text grid.now.width p → OrMemory result (result ≡ Ok p) }
+{
+    let (agents, line, rest) = take_header(bytes)?;
+    let answer = answer_of(alloc, &line, rest, &Sizes::of(grid, agents))?;
     Ok(PlanText { agents, answer })
 }

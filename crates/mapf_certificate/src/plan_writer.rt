@@ -1,12 +1,15 @@
-ghost use Rattle.std.specs.Prelude.{◌<◌};
+ghost use Rattle.std.specs.Prelude.{◌≡◌, ◌<◌, ◌≤◌, ◌++◌, ◌∷◌, [], codes, OnOk, IfOk, All, length};
+ghost use Rattle.mapf_certificate.specs.Plans.{cells_text, path_text, paths_text, cost_of, answer_text, plan_text, IsPlanText, IsFew};
+ghost use Rattle.mapf_certificate.specs.Numbers.{field};
 
-use crate::line::{push_cell, push_field, push_one};
+use crate::line_writer::{push_cell, push_field, push_one};
 use crate::plan_text::{PlanAnswer, PlanText};
 use mapf_model::{Cause, Cell, Grid, OutOfMemory, Path, Plan};
 use std::alloc::{AllocError, Global};
 
 fn push_cells(out: &mut Vec<u8>, cells: &[Cell], width: u32) -> Result<(), AllocError>
     requires { 0 < width }
+    ensures { OnOk result (out.new.items ≡ out.old.items ++ cells_text width cells.now) }
 {
     for cell in cells {
         push_cell(out, *cell, width)?;
@@ -16,6 +19,7 @@ fn push_cells(out: &mut Vec<u8>, cells: &[Cell], width: u32) -> Result<(), Alloc
 
 fn push_path(out: &mut Vec<u8>, agent: u64, path: &Path, width: u32) -> Result<(), AllocError>
     requires { 0 < width }
+    ensures { OnOk result (out.new.items ≡ out.old.items ++ path_text width agent path.now) }
 {
     let cells = path.cells();
     push_one(out, b"path", agent)?;
@@ -27,6 +31,7 @@ fn push_path(out: &mut Vec<u8>, agent: u64, path: &Path, width: u32) -> Result<(
 
 fn push_paths(out: &mut Vec<u8>, paths: &[Path], width: u32) -> Result<(), AllocError>
     requires { 0 < width }
+    ensures { OnOk result (out.new.items ≡ out.old.items ++ paths_text width 0 paths.now) }
 {
     for (agent, path) in paths.iter().enumerate() {
         push_path(out, agent as u64, path, width)?;
@@ -35,43 +40,71 @@ fn push_paths(out: &mut Vec<u8>, paths: &[Path], width: u32) -> Result<(), Alloc
 }
 
 /// The sum of the paths' costs.
-fn cost_of(paths: &[Path]) -> u64 {
+fn cost_of(paths: &[Path]) -> u64
+    requires { length paths.now ≤ 200 }
+    ensures { result ≡ cost_of paths.now }
+{
     let mut cost = 0u64;
     for path in paths {
-        cost = cost.saturating_add(path.cells().len() as u64 - 1);
+        cost += path.cells().len() as u64 - 1;
     }
     cost
 }
 
-fn push_plan(out: &mut Vec<u8>, plan: &Plan, width: u32) -> Result<(), AllocError>
-    requires { 0 < width }
+fn push_cost(out: &mut Vec<u8>, cost: u64) -> Result<(), AllocError>
+    ensures { OnOk result (out.new.items ≡ out.old.items ++ (codes "cost" ++ (field 32 cost ++ (10 ∷ [])))) }
 {
-    push_one(out, b"cost", cost_of(plan.paths()))?;
+    push_one(out, b"cost", cost)?;
     out.push(b'\n')?;
+    Ok(())
+}
+
+fn push_plan(out: &mut Vec<u8>, plan: &Plan, width: u32) -> Result<(), AllocError>
+    requires wide { 0 < width }
+    requires few { length plan.now ≤ 200 }
+    ensures { OnOk result (out.new.items ≡ out.old.items ++ answer_text width (PlanAnswer.Found plan.now)) }
+{
+    push_cost(out, cost_of(plan.paths()))?;
     push_paths(out, plan.paths(), width)
 }
 
+fn push_limit(out: &mut Vec<u8>, count: u64) -> Result<(), AllocError>
+    ensures { OnOk result (out.new.items ≡ out.old.items ++ (codes "limit" ++ (field 32 count ++ (10 ∷ [])))) }
+{
+    push_one(out, b"limit", count)?;
+    out.push(b'\n')?;
+    Ok(())
+}
+
+fn push_agents(out: &mut Vec<u8>, agents: u64) -> Result<(), AllocError>
+    ensures { OnOk result (out.new.items ≡ out.old.items ++ (codes "agents" ++ (field 32 agents ++ (10 ∷ [])))) }
+{
+    push_one(out, b"agents", agents)?;
+    out.push(b'\n')?;
+    Ok(())
+}
+
 fn push_answer(out: &mut Vec<u8>, answer: &PlanAnswer, width: u32) -> Result<(), AllocError>
-    requires { 0 < width }
+    requires wide { 0 < width }
+    requires few { IsFew answer.now }
+    ensures { OnOk result (out.new.items ≡ out.old.items ++ answer_text width answer.now) }
 {
     match answer {
         PlanAnswer::Found(plan) => push_plan(out, plan, width),
         PlanAnswer::Impossible => out.extend_from_slice(b"impossible\n"),
         PlanAnswer::Limit(Cause::Ticks) => out.extend_from_slice(b"limit ticks\n"),
-        PlanAnswer::Limit(Cause::Splits(n)) => {
-            push_one(out, b"limit", *n as u64)?;
-            out.push(b'\n')?;
-            Ok(())
-        }
+        PlanAnswer::Limit(Cause::Splits(count)) => push_limit(out, *count as u64),
     }
 }
 
 /// The plan text for a grid of this size.
-pub fn write_plan(alloc: Global, text: &PlanText, grid: &Grid) -> Result<Vec<u8>, OutOfMemory> {
+pub fn write_plan(alloc: Global, text: &PlanText, grid: &Grid) -> Result<Vec<u8>, OutOfMemory>
+    requires { IsPlanText grid.now text.now }
+    ensures { IfOk result (λ bytes. bytes.items ≡ plan_text grid.now.width text.now) }
+{
     let mut out = Vec::new(alloc);
     out.extend_from_slice(b"mapf-plan 1\n")?;
-    push_one(&mut out, b"agents", text.agents as u64)?;
-    out.push(b'\n')?;
+    push_agents(&mut out, text.agents as u64)?;
     push_answer(&mut out, &text.answer, grid.width())?;
     out.extend_from_slice(b"end\n")?;
     Ok(out)

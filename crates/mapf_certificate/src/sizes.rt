@@ -1,4 +1,5 @@
-ghost use Rattle.std.specs.Prelude.{◌≤◌, ◌<◌, ◌*◌, IfOk};
+ghost use Rattle.std.specs.Prelude.{◌≡◌, ◌≤◌, ◌<◌, ◌+◌, ◌*◌, ℕ};
+ghost use Rattle.mapf_certificate.specs.Numbers.{in_range, below, read_cell};
 
 use crate::line::LineFault;
 use mapf_model::{Cell, Grid};
@@ -16,7 +17,7 @@ pub struct Sizes {
 
 /// A number in this range.
 pub fn within(least: u64, most: u64, number: Option<u64>) -> Result<u64, LineFault>
-    ensures { IfOk result (λ n. (least ≤ n) × (n ≤ most)) }
+    ensures { result ≡ in_range least most number }
 {
     match number {
         Some(n) if least <= n && n <= most => Ok(n),
@@ -26,7 +27,7 @@ pub fn within(least: u64, most: u64, number: Option<u64>) -> Result<u64, LineFau
 
 /// A number of at most this.
 pub fn up_to(most: u32, number: Option<u64>) -> Result<u32, LineFault>
-    ensures { IfOk result (λ n. n ≤ most) }
+    ensures { result ≡ in_range 0 most number }
 {
     match number {
         Some(n) if n <= most as u64 => Ok(n as u32),
@@ -34,9 +35,19 @@ pub fn up_to(most: u32, number: Option<u64>) -> Result<u32, LineFault>
     }
 }
 
+/// A number from 1 to this.
+pub fn from_one_to(most: u32, number: Option<u64>) -> Result<u32, LineFault>
+    ensures { result ≡ in_range 1 most number }
+{
+    match number {
+        Some(n) if 1 <= n && n <= most as u64 => Ok(n as u32),
+        _ => Err(LineFault::Range),
+    }
+}
+
 /// A number below this.
 pub fn below(bound: u32, number: Option<u64>) -> Result<u32, LineFault>
-    ensures { IfOk result (λ n. n < bound) }
+    ensures { result ≡ below bound number }
 {
     match number {
         Some(n) if n < bound as u64 => Ok(n as u32),
@@ -48,6 +59,9 @@ impl Sizes {
     pub fn of(grid: &Grid, agents: u32) -> Sizes
         requires some { 1 ≤ agents }
         requires few { agents ≤ 200 }
+        ensures width { result.width ≡ grid.now.width }
+        ensures height { result.height ≡ grid.now.height }
+        ensures agents { result.agents ≡ agents }
     {
         Sizes {
             width: grid.width(),
@@ -57,8 +71,9 @@ impl Sizes {
     }
 
     /// The cell in this column and row.
+    #[tactic(auto, unfolding(crate::specs::Numbers::read_cell))]
     pub fn cell(&self, x: Option<u64>, y: Option<u64>) -> Result<Cell, LineFault>
-        ensures { IfOk result (λ cell. cell < self.now.width * self.now.height) }
+        ensures { result ≡ read_cell self.now.width self.now.height x y }
     {
         let x = below(self.width, x)?;
         let y = below(self.height, y)?;

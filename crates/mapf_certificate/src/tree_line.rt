@@ -1,9 +1,10 @@
-ghost use Rattle.std.specs.Prelude.{◌≡◌, ◌<◌, ◌≤◌, IfOk, OnOk, length};
-ghost use Rattle.mapf_certificate.specs.Lines.{IsHeaderLine};
+ghost use Rattle.std.specs.Prelude.{◌≡◌, ◌<◌, Ok, IfOk, OnOk, length};
+ghost use Rattle.mapf_certificate.specs.Lines.{IsLine, words, width_of};
+ghost use Rattle.mapf_certificate.specs.LineReading.{read_title, read_count, read_cost, read_agents, read_claim, read_vertex, read_swap, read_leaf, read_clash, read_agent, read_label_word, label_in_range, read_entry, read_tree_line, read_line};
 
-use crate::field::{field, nothing, pair, strip};
+use crate::field::{field, last, pair, strip};
 use crate::line::{Line, LineFault};
-use crate::sizes::{Sizes, below, up_to, within};
+use crate::sizes::{Sizes, below, from_one_to, up_to, within};
 use mapf_model::{Claim, Entry, Label};
 
 /// Which line of a certificate is due.
@@ -16,9 +17,9 @@ pub enum Due {
     Tree(Sizes),
 }
 
+#[tactic(auto, unfolding(crate::specs::LineReading::read_title))]
 fn title_line(bytes: &[u8]) -> Result<Line, LineFault>
-    ensures some { OnOk result (0 < length bytes.now) }
-    ensures agents { IfOk result IsHeaderLine }
+    ensures { result ≡ read_title bytes.now }
 {
     if bytes == b"mapf-cert 1".as_slice() {
         Ok(Line::Title)
@@ -28,26 +29,24 @@ fn title_line(bytes: &[u8]) -> Result<Line, LineFault>
 }
 
 /// The number of agents, after `agents`.
+#[tactic(auto, unfolding(crate::specs::LineReading::read_count))]
 pub fn agent_count(rest: &[u8]) -> Result<u32, LineFault>
-    ensures { IfOk result (λ n. (1 ≤ n) × (n ≤ 200)) }
+    ensures { result ≡ read_count rest.now }
 {
-    let (agents, rest) = field(b' ', rest)?;
-    nothing(rest)?;
-    Ok(within(1, 200, agents)? as u32)
+    from_one_to(200, last(b' ', rest)?)
 }
 
 /// The cost of a plan, after `cost`.
+#[tactic(auto, unfolding(crate::specs::LineReading::read_cost))]
 pub fn cost(rest: &[u8]) -> Result<u64, LineFault>
-    ensures { IfOk result (λ n. n ≤ 1999999800) }
+    ensures { result ≡ read_cost rest.now }
 {
-    let (cost, rest) = field(b' ', rest)?;
-    nothing(rest)?;
-    within(0, 1_999_999_800, cost)
+    within(0, 1_999_999_800, last(b' ', rest)?)
 }
 
+#[tactic(auto, unfolding(crate::specs::LineReading::read_agents))]
 fn agents_line(bytes: &[u8]) -> Result<Line, LineFault>
-    ensures some { OnOk result (0 < length bytes.now) }
-    ensures agents { IfOk result IsHeaderLine }
+    ensures { result ≡ read_agents bytes.now }
 {
     match strip(bytes, b"agents") {
         Some(rest) => Ok(Line::Agents(agent_count(rest)?)),
@@ -55,9 +54,9 @@ fn agents_line(bytes: &[u8]) -> Result<Line, LineFault>
     }
 }
 
+#[tactic(auto, unfolding(crate::specs::LineReading::read_claim))]
 fn claim_line(bytes: &[u8]) -> Result<Line, LineFault>
-    ensures some { OnOk result (0 < length bytes.now) }
-    ensures agents { IfOk result IsHeaderLine }
+    ensures { result ≡ read_claim bytes.now }
 {
     if bytes == b"claim impossible".as_slice() {
         return Ok(Line::Claim(Claim::Impossible));
@@ -68,14 +67,14 @@ fn claim_line(bytes: &[u8]) -> Result<Line, LineFault>
     }
 }
 
+#[tactic(auto, unfolding(crate::specs::LineReading::read_vertex))]
 fn vertex(rest: &[u8], sizes: &Sizes) -> Result<Line, LineFault>
-    ensures { IfOk result IsHeaderLine }
+    ensures { result ≡ read_vertex sizes.now rest.now }
 {
     let (i, rest) = field(b' ', rest)?;
     let (j, rest) = field(b' ', rest)?;
     let (x, y, rest) = pair(rest)?;
-    let (tick, rest) = field(b' ', rest)?;
-    nothing(rest)?;
+    let tick = last(b' ', rest)?;
     Ok(Line::Vertex {
         i: below(sizes.agents, i)?,
         j: below(sizes.agents, j)?,
@@ -84,15 +83,15 @@ fn vertex(rest: &[u8], sizes: &Sizes) -> Result<Line, LineFault>
     })
 }
 
+#[tactic(auto, unfolding(crate::specs::LineReading::read_swap))]
 fn swap(rest: &[u8], sizes: &Sizes) -> Result<Line, LineFault>
-    ensures { IfOk result IsHeaderLine }
+    ensures { result ≡ read_swap sizes.now rest.now }
 {
     let (i, rest) = field(b' ', rest)?;
     let (j, rest) = field(b' ', rest)?;
     let (from_x, from_y, rest) = pair(rest)?;
     let (to_x, to_y, rest) = pair(rest)?;
-    let (tick, rest) = field(b' ', rest)?;
-    nothing(rest)?;
+    let tick = last(b' ', rest)?;
     Ok(Line::Swap {
         i: below(sizes.agents, i)?,
         j: below(sizes.agents, j)?,
@@ -102,32 +101,32 @@ fn swap(rest: &[u8], sizes: &Sizes) -> Result<Line, LineFault>
     })
 }
 
+#[tactic(auto, unfolding(crate::specs::LineReading::read_leaf))]
 fn leaf(rest: &[u8], sizes: &Sizes) -> Result<Line, LineFault>
-    ensures { IfOk result IsHeaderLine }
+    ensures { result ≡ read_leaf sizes.now rest.now }
 {
-    let (blocks, rest) = field(b' ', rest)?;
-    nothing(rest)?;
+    let blocks = last(b' ', rest)?;
     Ok(Line::Leaf(within(0, sizes.agents as u64, blocks)?))
 }
 
+#[tactic(auto, unfolding(crate::specs::LineReading::read_clash))]
 fn clash(rest: &[u8], sizes: &Sizes) -> Result<Line, LineFault>
-    ensures { IfOk result IsHeaderLine }
+    ensures { result ≡ read_clash sizes.now rest.now }
 {
     let (i, rest) = field(b' ', rest)?;
-    let (j, rest) = field(b' ', rest)?;
-    nothing(rest)?;
+    let j = last(b' ', rest)?;
     Ok(Line::Clash {
         i: below(sizes.agents, i)?,
         j: below(sizes.agents, j)?,
     })
 }
 
+#[tactic(auto, unfolding(crate::specs::LineReading::read_agent))]
 fn agent(rest: &[u8], sizes: &Sizes) -> Result<Line, LineFault>
-    ensures { IfOk result IsHeaderLine }
+    ensures { result ≡ read_agent sizes.now rest.now }
 {
     let (agent, rest) = field(b' ', rest)?;
-    let (entries, rest) = field(b' ', rest)?;
-    nothing(rest)?;
+    let entries = last(b' ', rest)?;
     Ok(Line::Agent {
         agent: below(sizes.agents, agent)?,
         entries: within(1, u64::MAX, entries)?,
@@ -141,24 +140,28 @@ enum LabelWord {
     Never,
 }
 
-fn label_word(rest: &[u8]) -> Result<LabelWord, LineFault> {
+#[tactic(auto, unfolding(crate::specs::LineReading::read_label_word))]
+fn label_word(rest: &[u8]) -> Result<LabelWord, LineFault>
+    ensures { result ≡ read_label_word rest.now }
+{
     if rest == b" inf".as_slice() {
         return Ok(LabelWord::Never);
     }
-    let (ticks, rest) = field(b' ', rest)?;
-    nothing(rest)?;
-    Ok(LabelWord::Ticks(ticks))
+    Ok(LabelWord::Ticks(last(b' ', rest)?))
 }
 
-fn label(word: &LabelWord) -> Result<Label, LineFault> {
+fn label(word: &LabelWord) -> Result<Label, LineFault>
+    ensures { result ≡ label_in_range word.now }
+{
     match *word {
         LabelWord::Never => Ok(Label::Never),
-        LabelWord::Ticks(ticks) => Ok(Label::Ticks(within(1, 9_999_999, ticks)? as u32)),
+        LabelWord::Ticks(ticks) => Ok(Label::Ticks(from_one_to(9_999_999, ticks)?)),
     }
 }
 
+#[tactic(auto, unfolding(crate::specs::LineReading::read_entry))]
 fn entry(rest: &[u8], sizes: &Sizes) -> Result<Line, LineFault>
-    ensures { IfOk result IsHeaderLine }
+    ensures { result ≡ read_entry sizes.now rest.now }
 {
     let (x, y, rest) = pair(rest)?;
     let (tick, rest) = field(b' ', rest)?;
@@ -170,9 +173,9 @@ fn entry(rest: &[u8], sizes: &Sizes) -> Result<Line, LineFault>
     }))
 }
 
+#[tactic(auto, unfolding(crate::specs::LineReading::read_tree_line))]
 fn tree_line(bytes: &[u8], sizes: &Sizes) -> Result<Line, LineFault>
-    ensures some { OnOk result (0 < length bytes.now) }
-    ensures agents { IfOk result IsHeaderLine }
+    ensures { result ≡ read_tree_line sizes.now bytes.now }
 {
     if let Some(rest) = strip(bytes, b"at") {
         return entry(rest, sizes);
@@ -200,8 +203,17 @@ fn tree_line(bytes: &[u8], sizes: &Sizes) -> Result<Line, LineFault>
 
 /// Reads a line of a certificate.
 pub fn line_of(due: &Due, bytes: &[u8]) -> Result<Line, LineFault>
+    // What is read is a line that is due, spelled so.
+    ensures found { IfOk result (λ line. IsLine due.now line × (bytes.now ≡ words (width_of due.now) line)) }
     ensures some { OnOk result (0 < length bytes.now) }
-    ensures agents { IfOk result IsHeaderLine }
+    // What is spelled so is read.
+    ensures only { (line : Line) → IsLine due.now line → bytes.now ≡ words (width_of due.now) line → result ≡ Ok line }
+{
+    judge(due, bytes)
+}
+
+fn judge(due: &Due, bytes: &[u8]) -> Result<Line, LineFault>
+    ensures { result ≡ read_line due.now bytes.now }
 {
     match due {
         Due::Title => title_line(bytes),

@@ -1,0 +1,402 @@
+-- Lines of a certificate: what is read is spelled so, and what is spelled so is read.
+use Rattle.std.proofs.Common.{◌≡◌, ℕ, ◌<◌, ◌≤◌, ◌^◌, ◌-◌, ◌/◌, ◌%◌, ◌*◌, Bool, true, false, cond, List, ◌++◌, codes, drop, Option, Some, None, Result, Ok, Err, refl, sym, ap, subst, ◌∙◌, arith, inl, inr, ◌⊎◌}
+use Rattle.std.specs.Fmt.{decimal}
+use Rattle.std.specs.Str.Parse.{AllDigits}
+use Rattle.std.proofs.lemmas.Fmt.{decimal_is_IsNumeral}
+use Rattle.std.specs.Option.{option_map_or}
+use Rattle.std.specs.Str.{bytes_eq}
+use Rattle.std.proofs.lemmas.Slice.Eq.{bytes_eq-Decides}
+use Rattle.mapf_model.specs.declared.item.Claim.{Claim}
+use Rattle.mapf_model.specs.declared.item.Claim.TheVariants as claims
+use Rattle.mapf_model.specs.declared.label.Label.{Label}
+use Rattle.mapf_model.specs.declared.label.Label.TheVariants as labels
+use Rattle.mapf_model.specs.declared.label.Entry.{Entry}
+use Rattle.mapf_model.specs.Printed.{IsLabelInRange, IsEntryInRange, IsClaimInRange}
+use Rattle.mapf_certificate.specs.declared.line.Line.{Line}
+use Rattle.mapf_certificate.specs.declared.line.Line.TheVariants as lines
+use Rattle.mapf_certificate.specs.declared.line.LineFault.{LineFault}
+use Rattle.mapf_certificate.specs.declared.line.LineFault.TheVariants.{Shape, Range}
+use Rattle.mapf_certificate.specs.declared.sizes.Sizes.{Sizes}
+use Rattle.mapf_certificate.specs.declared.tree_line.Due.{Due}
+use Rattle.mapf_certificate.specs.declared.tree_line.Due.TheVariants as dues
+use Rattle.mapf_certificate.specs.declared.tree_line.LabelWord.{LabelWord}
+use Rattle.mapf_certificate.specs.declared.tree_line.LabelWord.TheVariants as word
+use Rattle.mapf_certificate.specs.Numbers.{◌>>=◌, field, pair, strip, read_field, read_last, read_pair, in_range, below, read_cell}
+use Rattle.mapf_certificate.specs.Lines.{words, label_words, IsLine, IsTreeLine, IsAgentCount, grid_of, width_of}
+use Rattle.mapf_certificate.specs.LineReading.{read_title, read_count, read_cost, read_agents, read_claim, read_vertex, read_swap, read_leaf, read_clash, read_agent, read_label_word, label_in_range, read_entry, read_tree_line, read_line}
+use Rattle.mapf_certificate.proofs.Strips.{strip-some}
+use Rattle.mapf_certificate.proofs.Fields.{guarded, through, same_ok, IsPastDigits, field_takes, field_again, last_takes, last_again, pair_takes, pair_again, below_takes, below_again, range_takes, range_again, cell_takes, cell_again, row-below}
+
+-- what a line is read to is spelled by it, in its ranges
+abbrev Takes : Sizes → List ℕ → Line → Type 0
+Takes sizes bs line = (bs ≡ words sizes.width line) × IsTreeLine (grid_of sizes.width sizes.height) sizes.agents line
+
+field_below : (mark bound : ℕ) (bs : List ℕ) (p : Option ℕ × List ℕ) (n : ℕ) → read_field mark bs ≡ Ok p → below bound p.0 ≡ Ok n → (bs ≡ field mark n ++ p.1) × (n < bound)
+field_below mark bound bs p n e ranged =
+    let (is, less) = below_takes bound p.0 n ranged in
+    ((field_takes mark bs p.1 n (e ∙ ap (λ v. Ok (v, p.1)) is)).0, less)
+
+field_range : (mark least most : ℕ) (bs : List ℕ) (p : Option ℕ × List ℕ) (n : ℕ) → read_field mark bs ≡ Ok p → in_range least most p.0 ≡ Ok n → (bs ≡ field mark n ++ p.1) × (least ≤ n) × (n ≤ most)
+field_range mark least most bs p n e ranged =
+    let (is, above, under) = range_takes least most p.0 n ranged in
+    ((field_takes mark bs p.1 n (e ∙ ap (λ v. Ok (v, p.1)) is)).0, above, under)
+
+last_below : (mark bound : ℕ) (bs : List ℕ) (v : Option ℕ) (n : ℕ) → read_last mark bs ≡ Ok v → below bound v ≡ Ok n → (bs ≡ field mark n) × (n < bound)
+last_below mark bound bs v n e ranged =
+    let (is, less) = below_takes bound v n ranged in
+    ((last_takes mark bs n (e ∙ ap Ok is)).0, less)
+
+pub last_range : (mark least most : ℕ) (bs : List ℕ) (v : Option ℕ) (n : ℕ) → read_last mark bs ≡ Ok v → in_range least most v ≡ Ok n → (bs ≡ field mark n) × (least ≤ n) × (n ≤ most)
+last_range mark least most bs v n e ranged =
+    let (is, above, under) = range_takes least most v n ranged in
+    ((last_takes mark bs n (e ∙ ap Ok is)).0, above, under)
+
+vertex_takes : (sizes : Sizes) (bs : List ℕ) (line : Line) → read_vertex sizes bs ≡ Ok line → Takes sizes (codes "vertex" ++ bs) line
+unfolding read_vertex
+vertex_takes sizes bs line e =
+    through (read_field 32 bs) _ line e (λ i read1 more1.
+    through (read_field 32 i.1) _ line more1 (λ j read2 more2.
+    through (read_pair j.1) _ line more2 (λ at read3 more3.
+    through (read_last 32 at.2) _ line more3 (λ tick read4 more4.
+    through (below sizes.agents i.0) _ line more4 (λ first is1 more5.
+    through (below sizes.agents j.0) _ line more5 (λ second is2 more6.
+    through (read_cell sizes.width sizes.height at.0 at.1) _ line more6 (λ cell is3 more7.
+    through (in_range 0 999999 tick) _ line more7 (λ ticks is4 made.
+    let (text1, in1) = field_below 32 sizes.agents bs i first read1 is1 in
+    let (text2, in2) = field_below 32 sizes.agents i.1 j second read2 is2 in
+    let (text3, in3) = pair_takes j.1 at sizes.width sizes.height cell read3 is3 in
+    let (text4, low, in4) = last_range 32 0 999999 at.2 tick ticks read4 is4 in
+    let text = text1 ∙ ap (λ r. field 32 first ++ r) (text2 ∙ ap (λ r. field 32 second ++ r) (text3 ∙ ap (λ r. pair sizes.width cell ++ r) text4)) in
+    subst (Takes sizes (codes "vertex" ++ bs)) (same_ok _ line made) (ap (λ r. codes "vertex" ++ r) text, (in1, in2, in3, in4))))))))))
+
+swap_takes : (sizes : Sizes) (bs : List ℕ) (line : Line) → read_swap sizes bs ≡ Ok line → Takes sizes (codes "swap" ++ bs) line
+unfolding read_swap
+swap_takes sizes bs line e =
+    through (read_field 32 bs) _ line e (λ i read1 more1.
+    through (read_field 32 i.1) _ line more1 (λ j read2 more2.
+    through (read_pair j.1) _ line more2 (λ here read3 more3.
+    through (read_pair here.2) _ line more3 (λ there read4 more4.
+    through (read_last 32 there.2) _ line more4 (λ tick read5 more5.
+    through (below sizes.agents i.0) _ line more5 (λ first is1 more6.
+    through (below sizes.agents j.0) _ line more6 (λ second is2 more7.
+    through (read_cell sizes.width sizes.height here.0 here.1) _ line more7 (λ from is3 more8.
+    through (read_cell sizes.width sizes.height there.0 there.1) _ line more8 (λ to is4 more9.
+    through (in_range 0 999999 tick) _ line more9 (λ ticks is5 made.
+    let (text1, in1) = field_below 32 sizes.agents bs i first read1 is1 in
+    let (text2, in2) = field_below 32 sizes.agents i.1 j second read2 is2 in
+    let (text3, in3) = pair_takes j.1 here sizes.width sizes.height from read3 is3 in
+    let (text4, in4) = pair_takes here.2 there sizes.width sizes.height to read4 is4 in
+    let (text5, low, in5) = last_range 32 0 999999 there.2 tick ticks read5 is5 in
+    let ends = text4 ∙ ap (λ r. pair sizes.width to ++ r) text5 in
+    let text = text1 ∙ ap (λ r. field 32 first ++ r) (text2 ∙ ap (λ r. field 32 second ++ r) (text3 ∙ ap (λ r. pair sizes.width from ++ r) ends)) in
+    subst (Takes sizes (codes "swap" ++ bs)) (same_ok _ line made) (ap (λ r. codes "swap" ++ r) text, (in1, in2, in3, in4, in5))))))))))))
+
+leaf_takes : (sizes : Sizes) (bs : List ℕ) (line : Line) → read_leaf sizes bs ≡ Ok line → Takes sizes (codes "leaf" ++ bs) line
+unfolding read_leaf
+leaf_takes sizes bs line e =
+    through (read_last 32 bs) _ line e (λ blocks read1 more1.
+    through (in_range 0 sizes.agents blocks) _ line more1 (λ count is1 made.
+    let (text, low, in1) = last_range 32 0 sizes.agents bs blocks count read1 is1 in
+    subst (Takes sizes (codes "leaf" ++ bs)) (same_ok _ line made) (ap (λ r. codes "leaf" ++ r) text, in1)))
+
+clash_takes : (sizes : Sizes) (bs : List ℕ) (line : Line) → read_clash sizes bs ≡ Ok line → Takes sizes (codes "clash" ++ bs) line
+unfolding read_clash
+clash_takes sizes bs line e =
+    through (read_field 32 bs) _ line e (λ i read1 more1.
+    through (read_last 32 i.1) _ line more1 (λ j read2 more2.
+    through (below sizes.agents i.0) _ line more2 (λ first is1 more3.
+    through (below sizes.agents j) _ line more3 (λ second is2 made.
+    let (text1, in1) = field_below 32 sizes.agents bs i first read1 is1 in
+    let (text2, in2) = last_below 32 sizes.agents i.1 j second read2 is2 in
+    let text = text1 ∙ ap (λ r. field 32 first ++ r) text2 in
+    subst (Takes sizes (codes "clash" ++ bs)) (same_ok _ line made) (ap (λ r. codes "clash" ++ r) text, (in1, in2))))))
+
+agent_takes : (sizes : Sizes) (bs : List ℕ) (line : Line) → read_agent sizes bs ≡ Ok line → Takes sizes (codes "agent" ++ bs) line
+unfolding read_agent
+agent_takes sizes bs line e =
+    through (read_field 32 bs) _ line e (λ i read1 more1.
+    through (read_last 32 i.1) _ line more1 (λ entries read2 more2.
+    through (below sizes.agents i.0) _ line more2 (λ agent is1 more3.
+    through (in_range 1 (2 ^ 64 - 1) entries) _ line more3 (λ count is2 made.
+    let (text1, in1) = field_below 32 sizes.agents bs i agent read1 is1 in
+    let (text2, low, in2) = last_range 32 1 (2 ^ 64 - 1) i.1 entries count read2 is2 in
+    let text = text1 ∙ ap (λ r. field 32 agent ++ r) text2 in
+    subst (Takes sizes (codes "agent" ++ bs)) (same_ok _ line made) (ap (λ r. codes "agent" ++ r) text, (in1, low, let few : count < 2 ^ 64 = omega arith in few))))))
+
+-- which way a test went
+pub chosen : {X : Type 0} (b : Bool) (x y z : X) → cond b x y ≡ z → ((b ≡ true) × (x ≡ z)) ⊎ (y ≡ z)
+chosen true x y z e = inl (refl, e)
+chosen false x y z e = inr e
+
+label_takes : (bs : List ℕ) (w : LabelWord) (label : Label) → read_label_word bs ≡ Ok w → label_in_range w ≡ Ok label → (bs ≡ label_words label) × IsLabelInRange label
+unfolding read_label_word
+label_takes bs w label e ranged = elim (chosen (bytes_eq bs (codes " inf")) _ _ _ e) [
+  | inl (found, same) ↦
+      let never : word.Never ≡ w = same_ok _ w same in
+      let made : ◌≡◌ {A = Result Label LineFault} (Ok labels.Never) (Ok label) = ap label_in_range never ∙ ranged in
+      subst (Labels bs) (same_ok labels.Never label made) ((bytes_eq-Decides bs (codes " inf")).0 found, tt)
+  | inr more ↦
+      through (read_last 32 bs) _ w more (λ ticks read made.
+      let ranged' : (in_range 1 9999999 ticks >>= λ n. Ok (labels.Ticks n)) ≡ Ok label = ap label_in_range (same_ok _ w made) ∙ ranged in
+      through (in_range 1 9999999 ticks) _ label ranged' (λ n is done.
+      let (text, above, under) = last_range 32 1 9999999 bs ticks n read is in
+      subst (Labels bs) (same_ok _ label done) (text, (above, under))))
+]
+  where
+    Labels : List ℕ → Label → Type 0
+    Labels bytes l = (bytes ≡ label_words l) × IsLabelInRange l
+
+entry_takes : (sizes : Sizes) (bs : List ℕ) (line : Line) → read_entry sizes bs ≡ Ok line → Takes sizes (codes "at" ++ bs) line
+unfolding read_entry
+entry_takes sizes bs line e =
+    through (read_pair bs) _ line e (λ at read1 more1.
+    through (read_field 32 at.2) _ line more1 (λ tick read2 more2.
+    through (read_label_word tick.1) _ line more2 (λ w read3 more3.
+    through (read_cell sizes.width sizes.height at.0 at.1) _ line more3 (λ cell is1 more4.
+    through (in_range 0 9999999 tick.0) _ line more4 (λ ticks is2 more5.
+    through (label_in_range w) _ line more5 (λ label is3 made.
+    let (text1, in1) = pair_takes bs at sizes.width sizes.height cell read1 is1 in
+    let (text2, low, in2) = field_range 32 0 9999999 at.2 tick ticks read2 is2 in
+    let (text3, in3) = label_takes tick.1 w label read3 is3 in
+    let text = text1 ∙ ap (λ r. pair sizes.width cell ++ r) (text2 ∙ ap (λ r. field 32 ticks ++ r) text3) in
+    subst (Takes sizes (codes "at" ++ bs)) (same_ok _ line made) (ap (λ r. codes "at" ++ r) text, (in1, in2, in3))))))))
+
+pub front_takes : {A : Type 0} (P : List ℕ → Type 0) (front bs : List ℕ) (f : List ℕ → Result A LineFault) (other : Result A LineFault) (line : A)
+    → ((rest : List ℕ) → f rest ≡ Ok line → P (front ++ rest)) → (other ≡ Ok line → P bs)
+    → option_map_or f (strip front bs) other ≡ Ok line → P bs
+front_takes P front bs f other line takes more e = by (strip front bs) refl e
+  where
+    by : (o : Option (List ℕ)) → strip front bs ≡ o → option_map_or f o other ≡ Ok line → P bs
+    by (Some rest) is made = subst P (sym (strip-some front bs rest is)) (takes rest made)
+    by None is made = more made
+
+end_takes : (sizes : Sizes) (bs : List ℕ) (line : Line) → cond (bytes_eq bs (codes "end")) (Ok lines.End) (Err Shape) ≡ Ok line → Takes sizes bs line
+end_takes sizes bs line e =
+    let (found, same) = guarded (bytes_eq bs (codes "end")) Shape (Ok lines.End) line e in
+    subst (Takes sizes bs) (same_ok lines.End line same) ((bytes_eq-Decides bs (codes "end")).0 found, tt)
+
+tree_line_takes : (sizes : Sizes) (bs : List ℕ) (line : Line) → read_tree_line sizes bs ≡ Ok line → Takes sizes bs line
+unfolding read_tree_line
+tree_line_takes sizes bs line e =
+    let P : List ℕ → Type 0 = λ b. Takes sizes b line in
+    front_takes P (codes "at") bs (read_entry sizes) _ line (λ rest. entry_takes sizes rest line)
+    (front_takes P (codes "agent") bs (read_agent sizes) _ line (λ rest. agent_takes sizes rest line)
+    (front_takes P (codes "leaf") bs (read_leaf sizes) _ line (λ rest. leaf_takes sizes rest line)
+    (front_takes P (codes "vertex") bs (read_vertex sizes) _ line (λ rest. vertex_takes sizes rest line)
+    (front_takes P (codes "swap") bs (read_swap sizes) _ line (λ rest. swap_takes sizes rest line)
+    (front_takes P (codes "clash") bs (read_clash sizes) _ line (λ rest. clash_takes sizes rest line)
+    (end_takes sizes bs line)))))) e
+
+pub count_takes : (bs : List ℕ) (n : ℕ) → read_count bs ≡ Ok n → (bs ≡ field 32 n) × IsAgentCount n
+unfolding read_count
+count_takes bs n e = through (read_last 32 bs) _ n e (λ v read is. let (text, low, high) = last_range 32 1 200 bs v n read is in (text, (low, high)))
+
+pub cost_takes : (bs : List ℕ) (n : ℕ) → read_cost bs ≡ Ok n → (bs ≡ field 32 n) × (n ≤ 1999999800)
+unfolding read_cost
+cost_takes bs n e = through (read_last 32 bs) _ n e (λ v read is. let (text, low, high) = last_range 32 0 1999999800 bs v n read is in (text, high))
+
+-- what a line that is due is read to
+abbrev TakesDue : Due → List ℕ → Line → Type 0
+TakesDue due bs line = IsLine due line × (bs ≡ words (width_of due) line)
+
+agents_takes : (bs : List ℕ) (line : Line) → read_agents bs ≡ Ok line → TakesDue dues.Agents bs line
+unfolding read_agents
+agents_takes bs line e =
+    front_takes (λ b. TakesDue dues.Agents b line) (codes "agents") bs _ (Err Shape) line
+    (λ rest made. through (read_count rest) _ line made (λ n is done.
+    let (text, ranged) = count_takes rest n is in
+    subst (TakesDue dues.Agents (codes "agents" ++ rest)) (same_ok _ line done) (ranged, ap (λ r. codes "agents" ++ r) text)))
+    (λ wrong. cc) e
+
+claim_takes : (bs : List ℕ) (line : Line) → read_claim bs ≡ Ok line → TakesDue dues.Claim bs line
+unfolding read_claim
+claim_takes bs line e = elim (chosen (bytes_eq bs (codes "claim impossible")) _ _ _ e) [
+  | inl (found, same) ↦ subst (TakesDue dues.Claim bs) (same_ok (lines.Claim claims.Impossible) line same) (tt, (bytes_eq-Decides bs (codes "claim impossible")).0 found)
+  | inr more ↦
+      front_takes (λ b. TakesDue dues.Claim b line) (codes "claim cost") bs _ (Err Shape) line
+      (λ rest made. through (read_cost rest) _ line made (λ n is done.
+      let (text, ranged) = cost_takes rest n is in
+      subst (TakesDue dues.Claim (codes "claim cost" ++ rest)) (same_ok _ line done) (ranged, ap (λ r. codes "claim cost" ++ r) text)))
+      (λ wrong. cc) more
+]
+
+title_takes : (bs : List ℕ) (line : Line) → read_title bs ≡ Ok line → TakesDue dues.Title bs line
+unfolding read_title
+title_takes bs line e =
+    let (found, same) = guarded (bytes_eq bs (codes "mapf-cert 1")) Shape (Ok lines.Title) line e in
+    subst (TakesDue dues.Title bs) (same_ok lines.Title line same) (refl, (bytes_eq-Decides bs (codes "mapf-cert 1")).0 found)
+
+-- what a line is read to is a line that is due, and is spelled so
+pub line_takes : (due : Due) (bs : List ℕ) (line : Line) → read_line due bs ≡ Ok line → IsLine due line × (bs ≡ words (width_of due) line)
+line_takes dues.Title bs line e = title_takes bs line e
+line_takes dues.Agents bs line e = agents_takes bs line e
+line_takes dues.Claim bs line e = claim_takes bs line e
+line_takes (dues.Tree sizes) bs line e = let (text, ranged) = tree_line_takes sizes bs line e in (ranged, text)
+
+-- and the other way round
+
+pub then_ok : {A B E : Type 0} (r : Result A E) (f : A → Result B E) (x : A) (y : B) → r ≡ Ok x → f x ≡ Ok y → (r >>= f) ≡ Ok y
+then_ok r f x y e more = ap (λ s. s >>= f) e ∙ more
+
+pub pair_cell_again : (sizes : Sizes) (cell : ℕ) (rest : List ℕ) → cell < sizes.width * sizes.height → IsPastDigits rest
+    → read_pair (pair sizes.width cell ++ rest) ≡ Ok (Some (cell % sizes.width), Some (cell / sizes.width), rest)
+pair_cell_again sizes cell rest inside past =
+    let some : 0 < sizes.width = omega (arith, sizes.narrow.0) in
+    let column : cell % sizes.width < 2 ^ 64 = omega (arith, sizes.narrow.1) in
+    let row = row-below sizes.width sizes.height cell inside in
+    pair_again sizes.width cell rest column (omega (arith, sizes.low.1)) past
+
+pub cell_sizes_again : (sizes : Sizes) (cell : ℕ) → cell < sizes.width * sizes.height → read_cell sizes.width sizes.height (Some (cell % sizes.width)) (Some (cell / sizes.width)) ≡ Ok cell
+cell_sizes_again sizes cell inside = cell_again sizes.width sizes.height cell (omega (arith, sizes.narrow.0)) inside
+
+agent_fits : (sizes : Sizes) (i : ℕ) → i < sizes.agents → i < 2 ^ 64
+agent_fits sizes i h = omega (arith, sizes.few.1)
+
+vertex_again : (sizes : Sizes) (i j cell tick : ℕ) → IsTreeLine (grid_of sizes.width sizes.height) sizes.agents (lines.Vertex i j cell tick)
+    → read_vertex sizes (field 32 i ++ (field 32 j ++ (pair sizes.width cell ++ field 32 tick))) ≡ Ok (lines.Vertex i j cell tick)
+unfolding read_vertex
+vertex_again sizes i j cell tick (first, second, inside, early) =
+    let end = field 32 tick in
+    then_ok _ _ _ _ (field_again 32 i (field 32 j ++ (pair sizes.width cell ++ end)) (agent_fits sizes i first) refl)
+    (then_ok _ _ _ _ (field_again 32 j (pair sizes.width cell ++ end) (agent_fits sizes j second) refl)
+    (then_ok _ _ _ _ (pair_cell_again sizes cell end inside refl)
+    (then_ok _ _ _ _ (last_again 32 tick (omega arith))
+    (then_ok _ _ _ _ (below_again sizes.agents i first)
+    (then_ok _ _ _ _ (below_again sizes.agents j second)
+    (then_ok _ _ _ _ (cell_sizes_again sizes cell inside)
+    (then_ok _ _ _ _ (range_again 0 999999 tick (omega arith) early) refl)))))))
+
+swap_again : (sizes : Sizes) (i j from to tick : ℕ) → IsTreeLine (grid_of sizes.width sizes.height) sizes.agents (lines.Swap i j from to tick)
+    → read_swap sizes (field 32 i ++ (field 32 j ++ (pair sizes.width from ++ (pair sizes.width to ++ field 32 tick)))) ≡ Ok (lines.Swap i j from to tick)
+unfolding read_swap
+swap_again sizes i j from to tick (first, second, here, there, early) =
+    let end = field 32 tick in
+    then_ok _ _ _ _ (field_again 32 i (field 32 j ++ (pair sizes.width from ++ (pair sizes.width to ++ end))) (agent_fits sizes i first) refl)
+    (then_ok _ _ _ _ (field_again 32 j (pair sizes.width from ++ (pair sizes.width to ++ end)) (agent_fits sizes j second) refl)
+    (then_ok _ _ _ _ (pair_cell_again sizes from (pair sizes.width to ++ end) here refl)
+    (then_ok _ _ _ _ (pair_cell_again sizes to end there refl)
+    (then_ok _ _ _ _ (last_again 32 tick (omega arith))
+    (then_ok _ _ _ _ (below_again sizes.agents i first)
+    (then_ok _ _ _ _ (below_again sizes.agents j second)
+    (then_ok _ _ _ _ (cell_sizes_again sizes from here)
+    (then_ok _ _ _ _ (cell_sizes_again sizes to there)
+    (then_ok _ _ _ _ (range_again 0 999999 tick (omega arith) early) refl)))))))))
+
+leaf_again : (sizes : Sizes) (blocks : ℕ) → blocks ≤ sizes.agents → read_leaf sizes (field 32 blocks) ≡ Ok (lines.Leaf blocks)
+unfolding read_leaf
+leaf_again sizes blocks few =
+    then_ok _ _ _ _ (last_again 32 blocks (omega (arith, sizes.few.1)))
+    (then_ok _ _ _ _ (range_again 0 sizes.agents blocks (omega arith) few) refl)
+
+clash_again : (sizes : Sizes) (i j : ℕ) → i < sizes.agents → j < sizes.agents → read_clash sizes (field 32 i ++ field 32 j) ≡ Ok (lines.Clash i j)
+unfolding read_clash
+clash_again sizes i j first second =
+    then_ok _ _ _ _ (field_again 32 i (field 32 j) (agent_fits sizes i first) refl)
+    (then_ok _ _ _ _ (last_again 32 j (agent_fits sizes j second))
+    (then_ok _ _ _ _ (below_again sizes.agents i first)
+    (then_ok _ _ _ _ (below_again sizes.agents j second) refl)))
+
+agent_again : (sizes : Sizes) (agent entries : ℕ) → agent < sizes.agents → 1 ≤ entries → entries < 2 ^ 64 → read_agent sizes (field 32 agent ++ field 32 entries) ≡ Ok (lines.Agent agent entries)
+unfolding read_agent
+agent_again sizes agent entries first some fits =
+    then_ok _ _ _ _ (field_again 32 agent (field 32 entries) (agent_fits sizes agent first) refl)
+    (then_ok _ _ _ _ (last_again 32 entries fits)
+    (then_ok _ _ _ _ (below_again sizes.agents agent first)
+    (then_ok _ _ _ _ (range_again 1 (2 ^ 64 - 1) entries some (omega arith)) refl)))
+
+-- a number isn't `inf`
+not_inf : (n : ℕ) → n < 2 ^ 64 → bytes_eq (field 32 n) (codes " inf") ≡ false
+not_inf n fits = by (bytes_eq (field 32 n) (codes " inf")) refl
+  where
+    by : (b : Bool) → bytes_eq (field 32 n) (codes " inf") ≡ b → bytes_eq (field 32 n) (codes " inf") ≡ false
+    by false e = e
+    by true e =
+        let same : decimal n ≡ codes "inf" = ap (drop 1) ((bytes_eq-Decides (field 32 n) (codes " inf")).0 e) in
+        let digits : AllDigits 10 (codes "inf") = subst (AllDigits 10) same (decimal_is_IsNumeral n fits).0.1 in
+        let first : 18 < 10 = digits.0 in
+        absurd (omega arith)
+
+label_again : (label : Label) → IsLabelInRange label → (w : LabelWord) × (read_label_word (label_words label) ≡ Ok w) × (label_in_range w ≡ Ok label)
+unfolding read_label_word
+label_again labels.Never is = (word.Never, refl, refl)
+label_again (labels.Ticks n) (above, under) =
+    let fits : n < 2 ^ 64 = omega arith in
+    let number = not_inf n fits in
+    let read : (read_last 32 (field 32 n) >>= λ v. Ok (word.Ticks v)) ≡ Ok (word.Ticks (Some n)) = then_ok _ _ _ _ (last_again 32 n fits) refl in
+    let ranged : (in_range 1 9999999 (Some n) >>= λ v. Ok (labels.Ticks v)) ≡ Ok (labels.Ticks n) = then_ok _ _ _ _ (range_again 1 9999999 n above under) refl in
+    (word.Ticks (Some n), ap (λ b. cond b (Ok word.Never) (read_last 32 (field 32 n) >>= λ v. Ok (word.Ticks v))) number ∙ read, ranged)
+
+label_past : (label : Label) → IsPastDigits (label_words label)
+label_past labels.Never = refl
+label_past (labels.Ticks n) = refl
+
+entry_again : (sizes : Sizes) (entry : Entry) → IsEntryInRange (grid_of sizes.width sizes.height) entry
+    → read_entry sizes (pair sizes.width entry.cell ++ (field 32 entry.tick ++ label_words entry.label)) ≡ Ok (lines.At entry)
+unfolding read_entry
+entry_again sizes entry (inside, early, labelled) =
+    let (w, read, ranged) = label_again entry.label labelled in
+    then_ok _ _ _ _ (pair_cell_again sizes entry.cell (field 32 entry.tick ++ label_words entry.label) inside refl)
+    (then_ok _ _ _ _ (field_again 32 entry.tick (label_words entry.label) (omega arith) (label_past entry.label))
+    (then_ok _ _ _ _ read
+    (then_ok _ _ _ _ (cell_sizes_again sizes entry.cell inside)
+    (then_ok _ _ _ _ (range_again 0 9999999 entry.tick (omega arith) early)
+    (then_ok _ _ _ _ ranged refl)))))
+
+tree_line_again : (sizes : Sizes) (line : Line) → IsTreeLine (grid_of sizes.width sizes.height) sizes.agents line → read_tree_line sizes (words sizes.width line) ≡ Ok line
+unfolding read_tree_line
+tree_line_again sizes lines.Title is = absurd is
+tree_line_again sizes (lines.Agents agents) is = absurd is
+tree_line_again sizes (lines.Claim claim) is = absurd is
+tree_line_again sizes (lines.Vertex i j cell tick) is = vertex_again sizes i j cell tick is
+tree_line_again sizes (lines.Swap i j from to tick) is = swap_again sizes i j from to tick is
+tree_line_again sizes (lines.Leaf blocks) is = leaf_again sizes blocks is
+tree_line_again sizes (lines.Clash i j) is = clash_again sizes i j is.0 is.1
+tree_line_again sizes (lines.Agent agent entries) is = agent_again sizes agent entries is.0 is.1 is.2
+tree_line_again sizes (lines.At entry) is = entry_again sizes entry is
+tree_line_again sizes lines.End is = refl
+
+pub count_again : (n : ℕ) → IsAgentCount n → read_count (field 32 n) ≡ Ok n
+unfolding read_count
+count_again n (low, high) = then_ok _ _ _ _ (last_again 32 n (omega arith)) (range_again 1 200 n low high)
+
+pub cost_again : (n : ℕ) → n ≤ 1999999800 → read_cost (field 32 n) ≡ Ok n
+unfolding read_cost
+cost_again n high = then_ok _ _ _ _ (last_again 32 n (omega arith)) (range_again 0 1999999800 n (omega arith) high)
+
+agents_again : (n : ℕ) → IsAgentCount n → read_agents (words 1 (lines.Agents n)) ≡ Ok (lines.Agents n)
+unfolding read_agents
+agents_again n is = then_ok _ _ _ _ (count_again n is) refl
+
+claim_again : (claim : Claim) → IsClaimInRange claim → read_claim (words 1 (lines.Claim claim)) ≡ Ok (lines.Claim claim)
+unfolding read_claim
+claim_again claims.Impossible is = refl
+claim_again (claims.Cost cost) is = then_ok _ _ _ _ (cost_again cost is) refl
+
+title_again : read_title (codes "mapf-cert 1") ≡ Ok lines.Title
+unfolding read_title
+title_again = refl
+
+-- a line that is due is read from its spelling
+pub line_again : (due : Due) (line : Line) → IsLine due line → read_line due (words (width_of due) line) ≡ Ok line
+line_again dues.Title line is = ap (λ l. read_title (words 1 l)) is ∙ title_again ∙ ap Ok (sym is)
+line_again dues.Agents (lines.Agents n) is = agents_again n is
+line_again dues.Agents lines.Title is = absurd is
+line_again dues.Agents (lines.Claim claim) is = absurd is
+line_again dues.Agents (lines.Vertex i j cell tick) is = absurd is
+line_again dues.Agents (lines.Swap i j from to tick) is = absurd is
+line_again dues.Agents (lines.Leaf blocks) is = absurd is
+line_again dues.Agents (lines.Clash i j) is = absurd is
+line_again dues.Agents (lines.Agent agent entries) is = absurd is
+line_again dues.Agents (lines.At entry) is = absurd is
+line_again dues.Agents lines.End is = absurd is
+line_again dues.Claim (lines.Claim claim) is = claim_again claim is
+line_again dues.Claim lines.Title is = absurd is
+line_again dues.Claim (lines.Agents n) is = absurd is
+line_again dues.Claim (lines.Vertex i j cell tick) is = absurd is
+line_again dues.Claim (lines.Swap i j from to tick) is = absurd is
+line_again dues.Claim (lines.Leaf blocks) is = absurd is
+line_again dues.Claim (lines.Clash i j) is = absurd is
+line_again dues.Claim (lines.Agent agent entries) is = absurd is
+line_again dues.Claim (lines.At entry) is = absurd is
+line_again dues.Claim lines.End is = absurd is
+line_again (dues.Tree sizes) line is = tree_line_again sizes line is

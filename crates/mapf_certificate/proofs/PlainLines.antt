@@ -1,0 +1,182 @@
+-- Where a line ends: no line has an LF in it, and none of a certificate is longer than 64 bytes.
+use Rattle.std.proofs.Common.{◌≡◌, ℕ, ◌<◌, ◌≤◌, ◌^◌, ◌+◌, ◌-◌, ◌/◌, ◌%◌, ◌*◌, ◌&&◌, Bool, true, false, not, cond, List, [], ◌∷◌, ◌++◌, codes, length, Option, Some, None, Ok, refl, sym, ap, subst, ◌∙◌, arith, append_assoc, length-append, ◌==◌}
+use Rattle.std.specs.Char.{digit_value}
+use Rattle.std.specs.Fmt.{decimal}
+use Rattle.std.specs.List.{list_all}
+use Rattle.std.specs.Str.Parse.{AllDigits}
+use Rattle.std.proofs.lemmas.Str.Parse.{digit_from_value}
+use Rattle.std.proofs.lemmas.Fmt.{decimal_is_IsNumeral, length-decimal-le}
+use Rattle.std.proofs.lemmas.List.Folds.{list_all-append}
+use Rattle.std.proofs.lemmas.Bool.Decides.{nat_tests}
+use Rattle.std.proofs.lemmas.Option.{some_pair_parts}
+use Rattle.mapf_model.specs.declared.item.Claim.TheVariants as claims
+use Rattle.mapf_model.specs.declared.label.Label.{Label}
+use Rattle.mapf_model.specs.declared.label.Label.TheVariants as labels
+use Rattle.mapf_model.specs.Printed.{IsLabelInRange}
+use Rattle.mapf_certificate.specs.declared.line.Line.{Line}
+use Rattle.mapf_certificate.specs.declared.line.Line.TheVariants as lines
+use Rattle.mapf_certificate.specs.declared.line.LineFault.{LineFault}
+use Rattle.mapf_certificate.specs.declared.sizes.Sizes.{Sizes}
+use Rattle.mapf_certificate.specs.declared.tree_line.Due.{Due}
+use Rattle.mapf_certificate.specs.declared.tree_line.Due.TheVariants as dues
+use Rattle.mapf_certificate.specs.Numbers.{field, pair}
+use Rattle.mapf_certificate.specs.Lines.{lacks_end, IsCut, words, label_words, IsLine, IsTreeLine, grid_of, width_of}
+use Rattle.mapf_certificate.specs.LineReading.{read_line}
+use Rattle.mapf_certificate.specs.Certificates.{line_text}
+use Rattle.mapf_certificate.proofs.Fields.{both, row-below, same_ok}
+use Rattle.mapf_certificate.proofs.LineLaws.{line_again}
+
+-- no LF, and not longer than this
+pub record IsPlain (most : ℕ) (bs : List ℕ) : Type 0 where
+  pub ends : lacks_end bs ≡ true
+  pub short : length bs ≤ most
+
+pub plain-append : (j k : ℕ) (bs cs : List ℕ) → IsPlain j bs → IsPlain k cs → IsPlain (j + k) (bs ++ cs)
+plain-append j k bs cs p q = record {
+  ends = list_all-append (λ b. not (b == 10)) bs cs ∙ ap (λ t. t && lacks_end cs) p.ends ∙ q.ends;
+  short = omega (arith, length-append bs cs, p.short, q.short);
+}
+
+plain-more : (j k : ℕ) (bs : List ℕ) → j ≤ k → IsPlain j bs → IsPlain k bs
+plain-more j k bs h p = record { ends = p.ends; short = omega (arith, p.short) }
+
+digits_lack : (ds : List ℕ) → AllDigits 10 ds → lacks_end ds ≡ true
+digits_lack [] all = refl
+digits_lack (d ∷ ds) all =
+    let range = digit_from_value d all.0 in
+    let no : not (d == 10) ≡ true = grind (arith, nat_tests) in
+    ap (λ t. t && lacks_end ds) no ∙ digits_lack ds all.1
+
+pub plain-field : (mark k n : ℕ) → not (mark == 10) ≡ true → 0 < k → n < 10 ^ k → n < 2 ^ 64 → IsPlain (k + 1) (field mark n)
+plain-field mark k n clear some small fits = record {
+  ends = ap (λ t. t && lacks_end (decimal n)) clear ∙ digits_lack (decimal n) (decimal_is_IsNumeral n fits).0.1;
+  short = omega (arith, length-decimal-le k n some small fits);
+}
+
+pub plain-pair : (width height cell : ℕ) → 1 ≤ width → width ≤ 2048 → height ≤ 2048 → cell < width * height → IsPlain 10 (pair width cell)
+plain-pair width height cell some narrow low inside =
+    let row = row-below width height cell inside in
+    let column : cell % width < width = omega arith in
+    plain-append 5 5 _ _ (plain-field 32 4 (cell % width) refl (omega arith) (omega arith) (omega arith)) (plain-field 44 4 (cell / width) refl (omega arith) (omega arith) (omega arith))
+
+pub plain-word : (word : List ℕ) (k : ℕ) → lacks_end word ≡ true → length word ≡ k → IsPlain k word
+plain-word word k e l = record { ends = e; short = omega arith }
+
+plain-label : (label : Label) → IsLabelInRange label → IsPlain 8 (label_words label)
+plain-label labels.Never is = plain-more 4 8 _ (omega arith) (plain-word (codes " inf") 4 refl refl)
+plain-label (labels.Ticks n) is = plain-field 32 7 n refl (omega arith) (omega arith) (omega arith)
+
+plain_tree : (sizes : Sizes) (line : Line) → IsTreeLine (grid_of sizes.width sizes.height) sizes.agents line → IsPlain 64 (words sizes.width line)
+plain_tree sizes lines.Title is = absurd is
+plain_tree sizes (lines.Agents agents) is = absurd is
+plain_tree sizes (lines.Claim claim) is = absurd is
+plain_tree sizes (lines.Vertex i j cell tick) (first, second, inside, early) =
+    plain-more 31 64 _ (omega arith)
+    (plain-append 6 25 _ _ (plain-word (codes "vertex") 6 refl refl)
+    (plain-append 4 21 _ _ (plain-field 32 3 i refl (omega arith) (omega (arith, sizes.few.1)) (omega (arith, sizes.few.1)))
+    (plain-append 4 17 _ _ (plain-field 32 3 j refl (omega arith) (omega (arith, sizes.few.1)) (omega (arith, sizes.few.1)))
+    (plain-append 10 7 _ _ (plain-pair sizes.width sizes.height cell sizes.narrow.0 sizes.narrow.1 sizes.low.1 inside)
+    (plain-field 32 6 tick refl (omega arith) (omega arith) (omega arith))))))
+plain_tree sizes (lines.Swap i j from to tick) (first, second, here, there, early) =
+    plain-more 39 64 _ (omega arith)
+    (plain-append 4 35 _ _ (plain-word (codes "swap") 4 refl refl)
+    (plain-append 4 31 _ _ (plain-field 32 3 i refl (omega arith) (omega (arith, sizes.few.1)) (omega (arith, sizes.few.1)))
+    (plain-append 4 27 _ _ (plain-field 32 3 j refl (omega arith) (omega (arith, sizes.few.1)) (omega (arith, sizes.few.1)))
+    (plain-append 10 17 _ _ (plain-pair sizes.width sizes.height from sizes.narrow.0 sizes.narrow.1 sizes.low.1 here)
+    (plain-append 10 7 _ _ (plain-pair sizes.width sizes.height to sizes.narrow.0 sizes.narrow.1 sizes.low.1 there)
+    (plain-field 32 6 tick refl (omega arith) (omega arith) (omega arith)))))))
+plain_tree sizes (lines.Leaf blocks) is =
+    plain-more 8 64 _ (omega arith) (plain-append 4 4 _ _ (plain-word (codes "leaf") 4 refl refl) (plain-field 32 3 blocks refl (omega arith) (omega (arith, sizes.few.1)) (omega (arith, sizes.few.1))))
+plain_tree sizes (lines.Clash i j) (first, second) =
+    plain-more 13 64 _ (omega arith)
+    (plain-append 5 8 _ _ (plain-word (codes "clash") 5 refl refl)
+    (plain-append 4 4 _ _ (plain-field 32 3 i refl (omega arith) (omega (arith, sizes.few.1)) (omega (arith, sizes.few.1)))
+    (plain-field 32 3 j refl (omega arith) (omega (arith, sizes.few.1)) (omega (arith, sizes.few.1)))))
+plain_tree sizes (lines.Agent agent entries) (first, some, fits) =
+    plain-more 30 64 _ (omega arith)
+    (plain-append 5 25 _ _ (plain-word (codes "agent") 5 refl refl)
+    (plain-append 4 21 _ _ (plain-field 32 3 agent refl (omega arith) (omega (arith, sizes.few.1)) (omega (arith, sizes.few.1)))
+    (plain-field 32 20 entries refl (omega arith) (omega arith) fits)))
+plain_tree sizes (lines.At entry) (inside, early, labelled) =
+    plain-more 28 64 _ (omega arith)
+    (plain-append 2 26 _ _ (plain-word (codes "at") 2 refl refl)
+    (plain-append 10 16 _ _ (plain-pair sizes.width sizes.height entry.cell sizes.narrow.0 sizes.narrow.1 sizes.low.1 inside)
+    (plain-append 8 8 _ _ (plain-field 32 7 entry.tick refl (omega arith) (omega arith) (omega arith)) (plain-label entry.label labelled))))
+plain_tree sizes lines.End is = plain-more 3 64 _ (omega arith) (plain-word (codes "end") 3 refl refl)
+
+plain_agents : (line : Line) → IsLine dues.Agents line → IsPlain 64 (words 1 line)
+plain_agents (lines.Agents n) (low, high) =
+    plain-more 10 64 _ (omega arith) (plain-append 6 4 _ _ (plain-word (codes "agents") 6 refl refl) (plain-field 32 3 n refl (omega arith) (omega arith) (omega arith)))
+plain_agents lines.Title is = absurd is
+plain_agents (lines.Claim claim) is = absurd is
+plain_agents (lines.Vertex i j cell tick) is = absurd is
+plain_agents (lines.Swap i j from to tick) is = absurd is
+plain_agents (lines.Leaf blocks) is = absurd is
+plain_agents (lines.Clash i j) is = absurd is
+plain_agents (lines.Agent agent entries) is = absurd is
+plain_agents (lines.At entry) is = absurd is
+plain_agents lines.End is = absurd is
+
+plain_claim : (line : Line) → IsLine dues.Claim line → IsPlain 64 (words 1 line)
+plain_claim (lines.Claim claims.Impossible) is = plain-more 16 64 _ (omega arith) (plain-word (codes "claim impossible") 16 refl refl)
+plain_claim (lines.Claim (claims.Cost cost)) is =
+    plain-more 21 64 _ (omega arith) (plain-append 10 11 _ _ (plain-word (codes "claim cost") 10 refl refl) (plain-field 32 10 cost refl (omega arith) (omega arith) (omega arith)))
+plain_claim lines.Title is = absurd is
+plain_claim (lines.Agents n) is = absurd is
+plain_claim (lines.Vertex i j cell tick) is = absurd is
+plain_claim (lines.Swap i j from to tick) is = absurd is
+plain_claim (lines.Leaf blocks) is = absurd is
+plain_claim (lines.Clash i j) is = absurd is
+plain_claim (lines.Agent agent entries) is = absurd is
+plain_claim (lines.At entry) is = absurd is
+plain_claim lines.End is = absurd is
+
+-- a line that is due has no LF in it, and at most 64 bytes
+pub plain_line : (due : Due) (line : Line) → IsLine due line → IsPlain 64 (words (width_of due) line)
+plain_line dues.Title line is = subst (λ l. IsPlain 64 (words 1 l)) (sym is) (plain-more 11 64 _ (omega arith) (plain-word (codes "mapf-cert 1") 11 refl refl))
+plain_line dues.Agents line is = plain_agents line is
+plain_line dues.Claim line is = plain_claim line is
+plain_line (dues.Tree sizes) line is = plain_tree sizes line is
+
+-- what stands before the first LF, and after it
+pub same_front : (a b xs ys : List ℕ) → lacks_end a ≡ true → lacks_end b ≡ true → a ++ (10 ∷ xs) ≡ b ++ (10 ∷ ys) → (a ≡ b) × (xs ≡ ys)
+same_front [] [] xs ys p q e = (refl, cc)
+same_front [] (b ∷ bs) xs ys p q e =
+    let first : b ≡ 10 = cc in
+    let no : (not (10 == 10) && lacks_end bs) ≡ true = subst (λ (c : ℕ). (not (c == 10) && lacks_end bs) ≡ true) first q in
+    cc
+same_front (a ∷ as') [] xs ys p q e =
+    let first : a ≡ 10 = cc in
+    let no : (not (10 == 10) && lacks_end as') ≡ true = subst (λ (c : ℕ). (not (c == 10) && lacks_end as') ≡ true) first p in
+    cc
+same_front (a ∷ as') (b ∷ bs) xs ys p q e =
+    let first : a ≡ b = cc in
+    let tail : as' ++ (10 ∷ xs) ≡ bs ++ (10 ∷ ys) = cc in
+    let more = same_front as' bs xs ys (both (not (a == 10)) (lacks_end as') p).1 (both (not (b == 10)) (lacks_end bs) q).1 tail in
+    let front = more.0 in
+    (cc, more.1)
+
+-- the lines that two texts begin with are one line where the texts are one
+pub same_line : (due : Due) (l m : Line) (xs ys : List ℕ) → IsLine due l → IsLine due m → line_text (width_of due) l ++ xs ≡ line_text (width_of due) m ++ ys → (l ≡ m) × (xs ≡ ys)
+same_line due l m xs ys is_l is_m e =
+    let width = width_of due in
+    let e' : words width l ++ (10 ∷ xs) ≡ words width m ++ (10 ∷ ys) = sym (append_assoc (words width l) (10 ∷ []) xs) ∙ e ∙ append_assoc (words width m) (10 ∷ []) ys in
+    let (front, rest) = same_front (words width l) (words width m) xs ys (plain_line due l is_l).ends (plain_line due m is_m).ends e' in
+    (same_ok {E = LineFault} l m (sym (line_again due l is_l) ∙ ap (read_line due) front ∙ line_again due m is_m), rest)
+
+some_of : (word rest : List ℕ) → 0 < length word → 0 < length (word ++ rest)
+some_of word rest h = omega (arith, length-append word rest)
+
+-- a line has a byte
+pub words_some : (width : ℕ) (line : Line) → 0 < length (words width line)
+words_some width lines.Title = omega arith
+words_some width (lines.Agents agents) = some_of (codes "agents") (field 32 agents) (omega arith)
+words_some width (lines.Claim (claims.Cost cost)) = some_of (codes "claim cost") (field 32 cost) (omega arith)
+words_some width (lines.Claim claims.Impossible) = omega arith
+words_some width (lines.Vertex i j cell tick) = some_of (codes "vertex") (field 32 i ++ (field 32 j ++ (pair width cell ++ field 32 tick))) (omega arith)
+words_some width (lines.Swap i j from to tick) = some_of (codes "swap") (field 32 i ++ (field 32 j ++ (pair width from ++ (pair width to ++ field 32 tick)))) (omega arith)
+words_some width (lines.Leaf blocks) = some_of (codes "leaf") (field 32 blocks) (omega arith)
+words_some width (lines.Clash i j) = some_of (codes "clash") (field 32 i ++ field 32 j) (omega arith)
+words_some width (lines.Agent agent entries) = some_of (codes "agent") (field 32 agent ++ field 32 entries) (omega arith)
+words_some width (lines.At entry) = some_of (codes "at") (pair width entry.cell ++ (field 32 entry.tick ++ label_words entry.label)) (omega arith)
+words_some width lines.End = omega arith

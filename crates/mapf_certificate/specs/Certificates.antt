@@ -1,0 +1,70 @@
+-- How a certificate is spelled.
+use Rattle.std.specs.Prelude.{◌≡◌, ℕ, ◌<◌, List, [], ◌∷◌, ◌++◌, length, All}
+use Rattle.std.specs.List.{flat_map}
+use Rattle.mapf_model.specs.declared.item.Claim.{Claim}
+use Rattle.mapf_model.specs.declared.item.Item.{Item}
+use Rattle.mapf_model.specs.declared.conflict.Conflict.TheVariants as conflicts
+use Rattle.mapf_model.specs.declared.label.Entry.{Entry}
+use Rattle.mapf_model.specs.Blocks.{LabelBlock}
+use Rattle.mapf_model.specs.Grid.{GridMap}
+use Rattle.mapf_model.specs.Printed.{IsConflictInRange, AreBlocksInRange, IsClaimInRange, IsTreeInRange}
+use Rattle.mapf_model.specs.Tree.{ConstraintTree, Node, SplitNode, LeafNode, ClashNode, node_of, nodes_of, nodes_of_all}
+use Rattle.mapf_certificate.specs.declared.line.Line.{Line}
+use Rattle.mapf_certificate.specs.declared.line.Line.TheVariants as lines
+use Rattle.mapf_certificate.specs.Lines.{words, IsAgentCount}
+
+-- a line with its LF
+abbrev pub line_text : ℕ → Line → List ℕ
+line_text width line = words width line ++ (10 ∷ [])
+
+abbrev pub entry_text : ℕ → Entry → List ℕ
+entry_text width entry = line_text width (lines.At entry)
+
+abbrev pub entries_text : ℕ → List Entry → List ℕ
+entries_text width entries = flat_map (entry_text width) entries
+
+abbrev pub block_text : ℕ → LabelBlock → List ℕ
+block_text width block = line_text width (lines.Agent block.agent (length block.entries)) ++ entries_text width block.entries
+
+abbrev pub blocks_text : ℕ → List LabelBlock → List ℕ
+blocks_text width blocks = flat_map (block_text width) blocks
+
+-- the lines of a node, without those of its children
+abbrev pub node_text : ℕ → Node → List ℕ
+node_text width (SplitNode (conflicts.Vertex i j cell tick)) = line_text width (lines.Vertex i j cell tick)
+node_text width (SplitNode (conflicts.Swap i j from to tick)) = line_text width (lines.Swap i j from to tick)
+node_text width (LeafNode blocks) = line_text width (lines.Leaf (length blocks)) ++ blocks_text width blocks
+node_text width (ClashNode i j) = line_text width (lines.Clash i j)
+
+abbrev pub item_text : ℕ → Item → List ℕ
+item_text width item = node_text width (node_of item)
+
+abbrev pub header_text : ℕ → ℕ → Claim → List ℕ
+header_text width agents claim = line_text width lines.Title ++ (line_text width (lines.Agents agents) ++ line_text width (lines.Claim claim))
+
+-- nodes, and the end
+abbrev pub rest_text : ℕ → List Node → List ℕ
+rest_text width nodes = flat_map (node_text width) nodes ++ line_text width lines.End
+
+abbrev pub cert_text : ℕ → ℕ → Claim → List Node → List ℕ
+cert_text width agents claim nodes = header_text width agents claim ++ rest_text width nodes
+
+-- these bytes spell this certificate on a grid
+pub record SpellsCert (grid : GridMap) (bytes : List ℕ) (agents : ℕ) (claim : Claim) (tree : ConstraintTree) : Type 0 where
+  pub agents_in_range : IsAgentCount agents
+  pub claim_in_range : IsClaimInRange claim
+  pub tree_in_range : IsTreeInRange grid agents tree
+  pub spelled : bytes ≡ cert_text grid.width agents claim (nodes_of tree)
+
+-- a node with its numbers in their ranges and its blocks in their orders
+abbrev pub IsNode : GridMap → ℕ → Node → Type 0
+IsNode grid agents (SplitNode conflict) = IsConflictInRange grid agents conflict
+IsNode grid agents (LeafNode blocks) = AreBlocksInRange grid agents blocks
+IsNode grid agents (ClashNode i j) = (i < agents) × (j < agents)
+
+-- what is still to come of a certificate, for a number of trees that are owed
+pub record IsRest (grid : GridMap) (agents owed : ℕ) (bytes : List ℕ) : Type 0 where
+  pub trees : List ConstraintTree
+  pub count : length trees ≡ owed
+  pub in_range : All (IsTreeInRange grid agents) trees
+  pub spelled : bytes ≡ rest_text grid.width (nodes_of_all trees)

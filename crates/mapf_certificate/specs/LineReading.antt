@@ -1,0 +1,115 @@
+-- What the lines of a certificate are read to.
+use Rattle.std.specs.Prelude.{ℕ, ◌^◌, ◌-◌, List, [], ◌∷◌, codes, Option, Some, None, Result, Ok, Err, if◌then◌else◌}
+use Rattle.std.specs.Str.{bytes_eq}
+use Rattle.std.specs.Option.{option_map_or}
+use Rattle.mapf_model.specs.declared.item.Claim.TheVariants as claims
+use Rattle.mapf_model.specs.declared.label.Label.{Label}
+use Rattle.mapf_model.specs.declared.label.Label.TheVariants as labels
+use Rattle.mapf_certificate.specs.declared.line.Line.{Line}
+use Rattle.mapf_certificate.specs.declared.line.Line.TheVariants as lines
+use Rattle.mapf_certificate.specs.declared.line.LineFault.{LineFault}
+use Rattle.mapf_certificate.specs.declared.line.LineFault.TheVariants.{Shape, Range}
+use Rattle.mapf_certificate.specs.declared.sizes.Sizes.{Sizes}
+use Rattle.mapf_certificate.specs.declared.tree_line.Due.{Due}
+use Rattle.mapf_certificate.specs.declared.tree_line.Due.TheVariants as dues
+use Rattle.mapf_certificate.specs.declared.tree_line.LabelWord.{LabelWord}
+use Rattle.mapf_certificate.specs.declared.tree_line.LabelWord.TheVariants as label_words
+use Rattle.mapf_certificate.specs.Numbers.{◌>>=◌, strip, read_field, read_last, read_pair, in_range, below, read_cell}
+
+unfoldable pub read_title : List ℕ → Result Line LineFault
+read_title bs = if bytes_eq bs (codes "mapf-cert 1") then Ok lines.Title else Err Shape
+
+unfoldable pub read_count : List ℕ → Result ℕ LineFault
+read_count bs = read_last 32 bs >>= in_range 1 200
+
+unfoldable pub read_cost : List ℕ → Result ℕ LineFault
+read_cost bs = read_last 32 bs >>= in_range 0 1999999800
+
+unfoldable pub read_agents : List ℕ → Result Line LineFault
+read_agents bs = option_map_or (λ rest. read_count rest >>= λ n. Ok (lines.Agents n)) (strip (codes "agents") bs) (Err Shape)
+
+unfoldable pub read_claim : List ℕ → Result Line LineFault
+read_claim bs =
+    if bytes_eq bs (codes "claim impossible") then Ok (lines.Claim claims.Impossible) else
+    option_map_or (λ rest. read_cost rest >>= λ n. Ok (lines.Claim (claims.Cost n))) (strip (codes "claim cost") bs) (Err Shape)
+
+unfoldable pub read_vertex : Sizes → List ℕ → Result Line LineFault
+read_vertex sizes bs = do
+  i ← read_field 32 bs
+  j ← read_field 32 i.1
+  at ← read_pair j.1
+  tick ← read_last 32 at.2
+  first ← below sizes.agents i.0
+  second ← below sizes.agents j.0
+  cell ← read_cell sizes.width sizes.height at.0 at.1
+  ticks ← in_range 0 999999 tick
+  Ok (lines.Vertex first second cell ticks)
+
+unfoldable pub read_swap : Sizes → List ℕ → Result Line LineFault
+read_swap sizes bs = do
+  i ← read_field 32 bs
+  j ← read_field 32 i.1
+  here ← read_pair j.1
+  there ← read_pair here.2
+  tick ← read_last 32 there.2
+  first ← below sizes.agents i.0
+  second ← below sizes.agents j.0
+  from ← read_cell sizes.width sizes.height here.0 here.1
+  to ← read_cell sizes.width sizes.height there.0 there.1
+  ticks ← in_range 0 999999 tick
+  Ok (lines.Swap first second from to ticks)
+
+unfoldable pub read_leaf : Sizes → List ℕ → Result Line LineFault
+read_leaf sizes bs = do
+  blocks ← read_last 32 bs
+  count ← in_range 0 sizes.agents blocks
+  Ok (lines.Leaf count)
+
+unfoldable pub read_clash : Sizes → List ℕ → Result Line LineFault
+read_clash sizes bs = do
+  i ← read_field 32 bs
+  j ← read_last 32 i.1
+  first ← below sizes.agents i.0
+  second ← below sizes.agents j
+  Ok (lines.Clash first second)
+
+unfoldable pub read_agent : Sizes → List ℕ → Result Line LineFault
+read_agent sizes bs = do
+  i ← read_field 32 bs
+  entries ← read_last 32 i.1
+  agent ← below sizes.agents i.0
+  count ← in_range 1 (2 ^ 64 - 1) entries
+  Ok (lines.Agent agent count)
+
+unfoldable pub read_label_word : List ℕ → Result LabelWord LineFault
+read_label_word bs = if bytes_eq bs (codes " inf") then Ok label_words.Never else (read_last 32 bs >>= λ n. Ok (label_words.Ticks n))
+
+abbrev pub label_in_range : LabelWord → Result Label LineFault
+label_in_range label_words.Never = Ok labels.Never
+label_in_range (label_words.Ticks ticks) = in_range 1 9999999 ticks >>= λ n. Ok (labels.Ticks n)
+
+unfoldable pub read_entry : Sizes → List ℕ → Result Line LineFault
+read_entry sizes bs = do
+  at ← read_pair bs
+  tick ← read_field 32 at.2
+  word ← read_label_word tick.1
+  cell ← read_cell sizes.width sizes.height at.0 at.1
+  ticks ← in_range 0 9999999 tick.0
+  label ← label_in_range word
+  Ok (lines.At (record { cell = cell; tick = ticks; label = label }))
+
+unfoldable pub read_tree_line : Sizes → List ℕ → Result Line LineFault
+read_tree_line sizes bs =
+    option_map_or (read_entry sizes) (strip (codes "at") bs)
+    (option_map_or (read_agent sizes) (strip (codes "agent") bs)
+    (option_map_or (read_leaf sizes) (strip (codes "leaf") bs)
+    (option_map_or (read_vertex sizes) (strip (codes "vertex") bs)
+    (option_map_or (read_swap sizes) (strip (codes "swap") bs)
+    (option_map_or (read_clash sizes) (strip (codes "clash") bs)
+    (if bytes_eq bs (codes "end") then Ok lines.End else Err Shape))))))
+
+abbrev pub read_line : Due → List ℕ → Result Line LineFault
+read_line dues.Title bs = read_title bs
+read_line dues.Agents bs = read_agents bs
+read_line dues.Claim bs = read_claim bs
+read_line (dues.Tree sizes) bs = read_tree_line sizes bs

@@ -1,0 +1,105 @@
+-- How a plan text is spelled.
+use Rattle.std.specs.Prelude.{◌≡◌, ◌≤◌, ◌<◌, ℕ, ◌+◌, ◌-◌, Bool, true, Option, Some, List, [], ◌∷◌, ◌++◌, codes, length, All, sum_by}
+use Rattle.std.specs.List.{flat_map}
+use Rattle.mapf_model.specs.declared.cause.Cause.{Cause}
+use Rattle.mapf_model.specs.declared.cause.Cause.TheVariants.{Splits, Ticks}
+use Rattle.mapf_model.specs.Accepted.{PlanSays, SaysPlan, SaysImpossible, SaysLimit}
+use Rattle.mapf_model.specs.Grid.{GridMap}
+use Rattle.mapf_model.specs.Printed.{IsOnGrid, IsPathInRange}
+use Rattle.mapf_certificate.specs.declared.plan_text.PlanText.{PlanText}
+use Rattle.mapf_certificate.specs.declared.plan_text.PlanAnswer.{PlanAnswer}
+use Rattle.mapf_certificate.specs.declared.plan_text.PlanAnswer.TheVariants.{Found, Impossible, Limit}
+use Rattle.mapf_certificate.specs.Numbers.{field, pair}
+use Rattle.mapf_certificate.specs.Lines.{IsAgentCount}
+
+-- a path's cost is its length in ticks
+abbrev pub ticks_of : List ℕ → ℕ
+ticks_of path = length path - 1
+
+abbrev pub cells_text : ℕ → List ℕ → List ℕ
+cells_text width path = flat_map (pair width) path
+
+abbrev pub path_words : ℕ → ℕ → List ℕ → List ℕ
+path_words width agent path = codes "path" ++ (field 32 agent ++ (field 32 (ticks_of path) ++ cells_text width path))
+
+abbrev pub path_text : ℕ → ℕ → List ℕ → List ℕ
+path_text width agent path = path_words width agent path ++ (10 ∷ [])
+
+-- the paths of the agents from this one on
+abbrev pub paths_text : ℕ → ℕ → List (List ℕ) → List ℕ
+paths_text width agent [] = []
+paths_text width agent (path ∷ paths) = path_text width agent path ++ paths_text width (agent + 1) paths
+
+abbrev pub cost_of : List (List ℕ) → ℕ
+cost_of plan = sum_by ticks_of plan
+
+abbrev pub answer_text : ℕ → PlanAnswer → List ℕ
+answer_text width (Found plan) = (codes "cost" ++ (field 32 (cost_of plan) ++ (10 ∷ []))) ++ paths_text width 0 plan
+answer_text width Impossible = codes "impossible\n"
+answer_text width (Limit (Splits count)) = codes "limit" ++ (field 32 count ++ (10 ∷ []))
+answer_text width (Limit Ticks) = codes "limit ticks\n"
+
+abbrev pub plan_text : ℕ → PlanText → List ℕ
+plan_text width p = codes "mapf-plan 1\n" ++ ((codes "agents" ++ (field 32 p.agents ++ (10 ∷ []))) ++ (answer_text width p.answer ++ codes "end\n"))
+
+-- an answer with its numbers in their ranges
+abbrev pub IsAnswer : GridMap → ℕ → PlanAnswer → Type 0
+IsAnswer grid agents (Found plan) = (length plan ≡ agents) × All (IsPathInRange grid) plan
+IsAnswer grid agents Impossible = Unit {0}
+IsAnswer grid agents (Limit (Splits count)) = count ≤ 100000
+IsAnswer grid agents (Limit Ticks) = Unit {0}
+
+-- a plan for at most 200 agents
+abbrev pub IsFew : PlanAnswer → Type 0
+IsFew (Found plan) = length plan ≤ 200
+IsFew _ = Unit {0}
+
+-- a value that has a spelling
+abbrev pub IsPlanText : GridMap → PlanText → Type 0
+IsPlanText grid p = IsAgentCount p.agents × IsAnswer grid p.agents p.answer
+
+abbrev pub says : PlanAnswer → PlanSays
+says (Found plan) = SaysPlan plan
+says Impossible = SaysImpossible
+says (Limit cause) = SaysLimit
+
+-- these bytes spell a plan text for so many agents that says this
+pub record SpellsPlan (grid : GridMap) (bytes : List ℕ) (agents : ℕ) (said : PlanSays) : Type 0 where
+  pub text : PlanText
+  pub in_range : IsPlanText grid text
+  pub spelled : bytes ≡ plan_text grid.width text
+  pub for_agents : text.agents ≡ agents
+  pub same : says text.answer ≡ said
+
+-- these paths, one for each agent, stand at the front of the bytes, and this is left
+pub record ArePaths (grid : GridMap) (agents : ℕ) (bytes : List ℕ) (paths : List (List ℕ)) (sum : ℕ) (rest : List ℕ) : Type 0 where
+  pub count : length paths ≡ agents
+  pub in_range : All (IsPathInRange grid) paths
+  pub costs : sum ≡ cost_of paths
+  pub spelled : bytes ≡ paths_text grid.width 0 paths ++ rest
+
+-- these cells of the grid stand at the front of the bytes, and this is left
+pub record HasCells (grid : GridMap) (bytes cells rest : List ℕ) : Type 0 where
+  pub in_range : All (IsOnGrid grid) cells
+  pub spelled : bytes ≡ cells_text grid.width cells ++ rest
+
+-- a path begins with these cells, and what is left spells the others
+pub record GoesOn (width : ℕ) (path cells rest : List ℕ) : Type 0 where
+  pub others : List ℕ
+  pub same : path ≡ cells ++ others
+  pub spelled : rest ≡ cells_text width others
+
+-- a plan begins with these paths, and what is left spells the others before the rest
+pub record PathsGoOn (width due : ℕ) (plan paths : List (List ℕ)) (rest left : List ℕ) : Type 0 where
+  pub others : List (List ℕ)
+  pub same : plan ≡ paths ++ others
+  pub spelled : left ≡ paths_text width due others ++ rest
+
+-- the numbers of a path's line go together: its agent is due, and the cost is one less than the count of its cells
+pub record IsPathOf (agents : ℕ) (agent cost : Option ℕ) (due : ℕ) (are_cells : Bool) (count : ℕ) : Type 0 where
+  pub agent_is : agent ≡ Some due
+  pub agent_in_range : due < agents
+  pub cells : are_cells ≡ true
+  pub some : 1 ≤ count
+  pub few : count ≤ 10000000
+  pub cost_is : cost ≡ Some (count - 1)

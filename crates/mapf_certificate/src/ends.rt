@@ -1,0 +1,27 @@
+ghost use Rattle.std.specs.Prelude.{◌≡◌, ◌<◌, ◌+◌, ◌==◌, ◌∷◌, true, length, take, drop, MatchOption};
+ghost use Rattle.std.specs.List.{position_from};
+ghost use Rattle.mapf_certificate.specs.Lines.{IsCut, lacks_end};
+
+/// The place of the first LF.
+fn end_place(bytes: &[u8]) -> Option<usize>
+    ensures { result ≡ position_from (λ b. b == 10) 0 bytes.now }
+{
+    bytes.iter().position(|b| *b == b'\n')
+}
+
+/// The length of the line that bytes begin with, without its LF.
+pub fn line_length(bytes: &[u8]) -> Option<usize>
+    ensures { MatchOption result (lacks_end bytes.now ≡ true) (λ n. (n < length bytes.now) × IsCut bytes.now (take n bytes.now) (drop (n + 1) bytes.now)) }
+{
+    end_place(bytes)
+}
+
+/// The first line without its LF, and what follows.
+pub fn cut(bytes: &[u8]) -> Option<(&[u8], &[u8])>
+    ensures { MatchOption result (lacks_end bytes.entry.now ≡ true) (λ p. IsCut bytes.entry.now p.0.now p.1.now) }
+{
+    match line_length(bytes) {
+        None => None,
+        Some(n) => Some((&bytes[..n], &bytes[n + 1..])),
+    }
+}
