@@ -1,5 +1,6 @@
 ghost use Rattle.std.specs.Prelude.{◌≡◌, ◌⊎◌, ◌<◌, ◌≤◌, ◌+◌, ◌++◌, ◌∷◌, ℕ, List, All, Ok, Err, true, codes, length, vec_len, option_map, ◌↔◌, IsOk, IsSome, IfSome, IfOk, IsOkAnd, OnOk};
-ghost use Rattle.mapf_model.specs.Printed.{IsOnGrid, IsPathInRange, IsTight};
+ghost use Rattle.mapf_model.specs.Printed.{IsOnGrid, IsPathInRange};
+ghost use Rattle.mapf_model.specs.Path.{IsTight};
 ghost use Rattle.mapf_certificate.specs.Numbers.{Gives};
 ghost use Rattle.mapf_certificate.specs.Lines.{grid_of, IsAgentCount};
 ghost use Rattle.mapf_certificate.specs.Plans.{ArePaths, cells_text, path_words, paths_text, cost_of, plan_text, IsAnswer, IsPlanText, IsPathOf};
