@@ -1,5 +1,7 @@
 -- A tree of one leaf without entries shows what distances show.
-use Rattle.std.proofs.Common.{◌≡◌, ℕ, zero, suc, ◌-◌, All, List, [], ◌∷◌, Some, length, map, sum, slice_get, get_or, refl, ◌∙◌, ap, subst, arith}
+use Rattle.std.proofs.Common.{◌≡◌, ℕ, zero, suc, ◌+◌, ◌-◌, ◌<◌, ◌≤◌, All, Bool, true, false, min, List, [], ◌∷◌, Some, length, map, sum, slice_get, slice_index, get_or, refl, sym, ◌∙◌, ap, subst, inl, inr, ⊎_elim, arith}
+use Rattle.std.proofs.lemmas.Bool.{cases_lt}
+use Rattle.std.proofs.lemmas.List.{get_or_past, get_or_default}
 use Rattle.std.proofs.lemmas.Option.{slice_get_within, get_or_from_slice_get, same_Some}
 use Rattle.std.proofs.lemmas.List.Sums.{sum_by-cons}
 use Rattle.mapf_model.specs.declared.item.Claim.TheVariants.{Cost, Impossible}
@@ -7,7 +9,9 @@ use Rattle.mapf_model.specs.declared.label.Label.TheVariants.{Ticks}
 use Rattle.mapf_model.specs.declared.problem.Agent.{Agent}
 use Rattle.mapf_model.specs.Distance.{IsDistance}
 use Rattle.mapf_model.specs.Labels.{IsAtMost, label_sum}
-use Rattle.mapf_model.specs.Path.{IsCost, IsTight}
+use Rattle.mapf_model.specs.Grid.{GridMap, IsGridMap, IsFree, Step}
+use Rattle.mapf_model.specs.Path.{at, IsCost, IsTight}
+use Rattle.mapf_model.specs.Printed.{IsOnGrid, IsPathInRange}
 use Rattle.mapf_model.specs.Plan.{Instance, IsSumOfCosts}
 use Rattle.mapf_model.specs.Tree.{Leaf, Shows, StartsShow, AreStartLabels, no_entries}
 use Rattle.mapf_model.proofs.ClaimLemmas.{slice_get_inside}
@@ -31,6 +35,32 @@ label_sum-ticks (cost ∷ costs) = rw (label_sum-ticks costs, sum_by-cons) refl
 -- the leaf has no blocks, so nothing but the starts counts
 leaf_shows : (problem : Instance) (sum : ℕ) → StartsShow problem (Cost sum) no_entries → Shows problem (Cost sum) (Leaf [])
 leaf_shows problem sum starts = record { proper = (λ i j d lt within. absurd (omega arith), λ k d within. absurd (omega arith)); nodes = (λ i agent block is found. cc, starts) }
+
+free_on_grid : (grid : GridMap) (cell : ℕ) → IsGridMap grid → IsFree grid cell → IsOnGrid grid cell
+free_on_grid grid cell shape free =
+    let flags = shape.4 in
+    ⊎_elim
+    (λ (inside : cell < length grid.free). omega arith)
+    (λ (past : length grid.free ≤ cell). absurd (let none = get_or_past grid.free cell false past in let clash : false ≡ true = sym none ∙ free in cc))
+    (cases_lt cell (length grid.free))
+
+step_free : (grid : GridMap) (from to : ℕ) → Step grid from to → IsFree grid from
+step_free grid from to (inl wait) = wait.0
+step_free grid from to (inr move) = move.from_free
+
+-- a shortest path can be printed
+path_in_range : (grid : GridMap) (agent : Agent) (path : List ℕ) → IsGridMap grid → IsShortest grid agent path → IsPathInRange grid path
+path_in_range grid agent [] shape short = absurd (short.lawful.is_path.nonempty refl)
+path_in_range grid agent (x ∷ xs) shape short = record {
+  some = omega arith;
+  short = short.few;
+  on_grid = λ k d within.
+      let here : min k (length (x ∷ xs) - 1) ≡ k = omega arith in
+      let free : IsFree grid (slice_index (x ∷ xs) k) = rw here at (step_free grid (at (x ∷ xs) k) (at (x ∷ xs) (k + 1)) (short.lawful.is_path.steps k)) in
+      let same : get_or (x ∷ xs) k d ≡ slice_index (x ∷ xs) k = get_or_default (x ∷ xs) k d 0 within in
+      rw same (free_on_grid grid (slice_index (x ∷ xs) k) shape free);
+  tight = short.tight;
+}
 
 module _ (problem : Instance) (plan : List (List ℕ)) (shortest : AreShortest problem plan) where
   -- a shortest path costs the distance
@@ -57,12 +87,12 @@ module _ (problem : Instance) (plan : List (List ℕ)) (shortest : AreShortest p
       enough : IsAtMost (Ticks total) (label_sum (map Ticks costs))
       enough = rw (label_sum-ticks costs) (omega arith)
 
-  pub shortest_tight : length plan ≡ length problem.agents → All IsTight plan
-  shortest_tight count k d within =
+  pub shortest_in_range : IsGridMap problem.grid → length plan ≡ length problem.agents → All (IsPathInRange problem.grid) plan
+  shortest_in_range shape count k d within =
       let agent = slice_get_inside problem.agents k (omega arith) in
       let path = slice_get_inside plan k within in
       let here : get_or plan k d ≡ path.0 = get_or_from_slice_get plan k path.0 d path.1 in
-      rw here (shortest.each k agent.0 path.0 agent.1 path.1).tight
+      rw here (path_in_range problem.grid agent.0 path.0 shape (shortest.each k agent.0 path.0 agent.1 path.1))
 
 pub unreachable_shows : (problem : Instance) → SomeGoalIsUnreachable problem → Shows problem Impossible (Leaf [])
 unreachable_shows problem (i, agent, is, unreachable) = record { proper = (λ a b d lt within. absurd (omega arith), λ k d within. absurd (omega arith)); nodes = (λ j other block this found. cc, (i, agent, is, unreachable)) }

@@ -2,11 +2,13 @@
 use Rattle.std.specs.Prelude.{◌≡◌, ◌-◌, ◌≤◌, ℕ, All, List, [], Some, length, slice_get}
 use Rattle.mapf_app.specs.declared.shortest.Shortest.{Shortest}
 use Rattle.mapf_app.specs.declared.shortest.Shortest.TheVariants.{Found, Unreachable, Meet}
+use Rattle.mapf_model.specs.declared.cause.Cause.TheVariants.{Splits}
 use Rattle.mapf_model.specs.declared.item.Claim.TheVariants.{Cost, Impossible}
 use Rattle.mapf_model.specs.declared.problem.Agent.{Agent}
 use Rattle.mapf_model.specs.Distance.{IsDistance, IsUnreachable}
 use Rattle.mapf_model.specs.Grid.{GridMap}
 use Rattle.mapf_model.specs.Path.{IsLawful, IsTight}
+use Rattle.mapf_model.specs.Printed.{IsPathInRange}
 use Rattle.mapf_model.specs.Plan.{Instance, IsValid, IsSumOfCosts}
 use Rattle.mapf_model.specs.Tree.{Leaf, Shows}
 
@@ -14,6 +16,7 @@ use Rattle.mapf_model.specs.Tree.{Leaf, Shows}
 pub record IsShortest (grid : GridMap) (agent : Agent) (path : List ℕ) : Type 0 where
   pub lawful : IsLawful grid agent path
   pub tight : IsTight path
+  pub few : length path ≤ 10000000
   pub short : IsDistance grid agent.goal agent.start (length path - 1)
 
 -- so it is with the paths of the agents in front
@@ -28,6 +31,6 @@ SomeGoalIsUnreachable problem = (i : ℕ) × (agent : Agent) × (slice_get probl
 -- what is told of the problem: a valid plan with its sum, or nothing reachable, shown by a tree of one leaf
 -- without entries
 abbrev pub IsTold : Instance → Shortest → Type 0
-IsTold problem (Found plan sum) = IsValid problem plan × IsSumOfCosts problem.agents plan sum × All IsTight plan × Shows problem (Cost sum) (Leaf [])
+IsTold problem (Found plan sum) = IsValid problem plan × IsSumOfCosts problem.agents plan sum × All (IsPathInRange problem.grid) plan × Shows problem (Cost sum) (Leaf [])
 IsTold problem Unreachable = Shows problem Impossible (Leaf [])
-IsTold problem (Meet cause) = Unit {0}
+IsTold problem (Meet cause) = cause ≡ Splits 0

@@ -53,6 +53,8 @@ fn shortest_paths(alloc: Global, problem: &Problem) -> Result<Option<Vec<Path>>,
 pub fn try_shortest(alloc: Global, problem: &Problem) -> Result<Shortest, OutOfMemory>
     ensures { IfOk result (IsTold problem.now) }
 {
+    // A proof takes the grid's shape from here: that a path's cells are cells of the grid.
+    let _width = problem.grid().width();
     let Some(paths) = shortest_paths(alloc, problem)? else {
         return Ok(Shortest::Unreachable);
     };

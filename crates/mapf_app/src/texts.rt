@@ -1,3 +1,6 @@
+ghost use Rattle.std.specs.Prelude.{length};
+ghost use Rattle.mapf_certificate.specs.Plans.{IsAnswer};
+
 use crate::kind::Kind;
 use crate::shortest::{Shortest, try_shortest};
 use mapf_certificate::{Cert, PlanAnswer, PlanText, write_cert, write_plan};
@@ -29,7 +32,9 @@ fn cert_text(alloc: Global, problem: &Problem, claim: Claim) -> Result<Vec<u8>, 
     write_cert(alloc, &cert, problem.grid())
 }
 
-fn plan_text(alloc: Global, problem: &Problem, answer: PlanAnswer) -> Result<Vec<u8>, OutOfMemory> {
+fn plan_text(alloc: Global, problem: &Problem, answer: PlanAnswer) -> Result<Vec<u8>, OutOfMemory>
+    requires { IsAnswer problem.now.grid (length problem.now.agents) answer }
+{
     let text = PlanText {
         agents: problem.agents().len() as u32,
         answer,
@@ -37,7 +42,9 @@ fn plan_text(alloc: Global, problem: &Problem, answer: PlanAnswer) -> Result<Vec
     write_plan(alloc, &text, problem.grid())
 }
 
-fn found(alloc: Global, problem: &Problem, plan: Plan, sum: u64) -> Result<Texts, OutOfMemory> {
+fn found(alloc: Global, problem: &Problem, plan: Plan, sum: u64) -> Result<Texts, OutOfMemory>
+    requires { IsAnswer problem.now.grid (length problem.now.agents) (PlanAnswer.Found plan) }
+{
     Ok(Texts {
         kind: Kind::Found(sum),
         plan: plan_text(alloc, problem, PlanAnswer::Found(plan))?,
@@ -53,7 +60,9 @@ fn impossible(alloc: Global, problem: &Problem) -> Result<Texts, OutOfMemory> {
     })
 }
 
-fn limited(alloc: Global, problem: &Problem, cause: Cause) -> Result<Texts, OutOfMemory> {
+fn limited(alloc: Global, problem: &Problem, cause: Cause) -> Result<Texts, OutOfMemory>
+    requires { IsAnswer problem.now.grid (length problem.now.agents) (PlanAnswer.Limit cause) }
+{
     Ok(Texts {
         kind: Kind::Limit(cause),
         plan: plan_text(alloc, problem, PlanAnswer::Limit(cause))?,

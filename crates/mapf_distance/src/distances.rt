@@ -1,4 +1,4 @@
-ghost use Rattle.std.specs.Prelude.{◌≡◌, ◌+◌, ◌-◌, ◌*◌, ◌<◌, ◌↔◌, length, IfOk, IfSome, IfNone, IsTrue, OnSome};
+ghost use Rattle.std.specs.Prelude.{◌≡◌, ◌+◌, ◌-◌, ◌*◌, ◌<◌, ◌≤◌, ◌↔◌, length, IfOk, IfSome, IfNone, IsTrue, OnSome};
 ghost use Rattle.mapf_model.specs.Distance.{IsDistance, IsUnreachable};
 ghost use Rattle.mapf_model.specs.Grid.{IsFree, Step, free_cell_count};
 ghost use Rattle.mapf_model.specs.Path.{at, IsPath, IsCost, IsTight};
@@ -74,6 +74,7 @@ impl Distances {
         ensures shortest { IfOk result (λ path. IsDistance self.now.grid self.now.goal cell (length path - 1)) }
         ensures cost { IfOk result (λ path. IsCost self.now.goal path (length path - 1)) }
         ensures tight { IfOk result IsTight }
+        ensures few { IfOk result (λ path. length path ≤ 10000000) }
     {
         let Some(distance) = self.get(cell) else {
             unreachable!()
