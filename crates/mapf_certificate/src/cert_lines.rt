@@ -1,6 +1,7 @@
 ghost use Rattle.mapf_certificate.specs.Reading.{IsAgentCount};
 ghost use Rattle.mapf_certificate.specs.Window.{spare};
-ghost use Rattle.std.specs.Prelude.{[], Some, ◌^◌, ◌≡◌, ◌<◌, ◌≤◌, ◌+◌, IfOk, IfSome, IsSome, OnOk, None, false};
+ghost use Rattle.mapf_certificate.specs.Untouched.{IsUntouched};
+ghost use Rattle.std.specs.Prelude.{[], Some, true, IfErr, ◌^◌, ◌≡◌, ◌<◌, ◌≤◌, ◌+◌, IfOk, IfSome, IsSome, OnOk, None, false};
 
 use crate::cert::LinesFault;
 use crate::line::Line;
@@ -99,8 +100,14 @@ impl CertLines {
     /// The number of agents, 1 to 200, and the claim.
     pub fn header<S: Source>(&mut self, source: &mut S) -> Result<(u32, Claim), LinesFault>
         requires works { self.old.fault ≡ None → S.has_failed source.old ≡ false }
+        // A fault is answered again, and so is the header, without a look at the source.
+        ensures faulted { IfErr result (λ fault. self.new.fault ≡ Some fault) }
+        ensures repeats_fault { IfSome self.old.fault (λ fault. (result ≡ Err fault) × IsUntouched self.old self.new source.old source.new) }
+        ensures repeats_header { self.old.fault ≡ None → IfSome self.old.header (λ h. (result ≡ Ok h) × IsUntouched self.old self.new source.old source.new) }
+
         ensures known { IfOk result (λ h. self.new.header ≡ Some h) }
         ensures unfaulted { OnOk result (self.new.fault ≡ None) }
+        ensures works { OnOk result (S.has_failed source.new ≡ false) }
     {
         if let Some(fault) = self.fault {
             return Err(fault);
@@ -120,8 +127,14 @@ impl CertLines {
     pub fn next_item<S: Source>(&mut self, source: &mut S) -> Result<Option<Item>, LinesFault>
         requires works { self.old.fault ≡ None → S.has_failed source.old ≡ false }
         requires header { self.old.fault ≡ None → IsSome self.old.header }
+        // A fault is answered again, and so is the end, without a look at the source.
+        ensures faulted { IfErr result (λ fault. self.new.fault ≡ Some fault) }
+        ensures repeats_fault { IfSome self.old.fault (λ fault. (result ≡ Err fault) × IsUntouched self.old self.new source.old source.new) }
+        ensures repeats_end { self.old.fault ≡ None → self.old.is_whole ≡ true → (result ≡ Ok None) × IsUntouched self.old self.new source.old source.new }
+
         ensures known { self.new.header ≡ self.old.header }
         ensures unfaulted { OnOk result (self.new.fault ≡ None) }
+        ensures works { OnOk result (S.has_failed source.new ≡ false) }
         ensures nearer { IfOk result (λ o. IsSome o → spare self.new.buffer < spare self.old.buffer) }
     {
         if let Some(fault) = self.fault {
@@ -148,6 +161,7 @@ impl CertLines {
         requires header { IsSome self.old.header }
         ensures unfaulted { self.new.fault ≡ self.old.fault }
         ensures header { self.new.header ≡ self.old.header }
+        ensures works { OnOk result (S.has_failed source.new ≡ false) }
         ensures nearer { OnOk result (spare self.new.buffer < spare self.old.buffer) }
     {
         let (agents, _) = self.header.unwrap();
@@ -157,13 +171,14 @@ impl CertLines {
             agents,
         };
         let line = self.lines.next(source, &Due::Tree(sizes))?;
-        self.item_line = self.lines.number();
+        let number = self.lines.number();
         if self.owed == 0 {
             take_end(&mut self.lines, source, &line)?;
             return Ok(None);
         }
         let item = item_of(self.alloc, &mut self.lines, source, &sizes, &line)?;
         self.owed = owed_after(self.owed, &item);
+        self.item_line = number;
         Ok(Some(item))
     }
 }
@@ -183,6 +198,7 @@ fn owed_after(owed: u64, item: &Item) -> u64
 /// The line is `end`, and nothing follows it.
 fn take_end<S: Source>(lines: &mut Lines, source: &mut S, line: &Line) -> Result<(), LinesFault>
     requires { S.has_failed source.old ≡ false }
+    ensures works { OnOk result (S.has_failed source.new ≡ false) }
     ensures spare { spare lines.new.buffer ≤ spare lines.old.buffer }
 {
     match line {
@@ -200,6 +216,7 @@ fn item_of<S: Source>(
     line: &Line,
 ) -> Result<Item, LinesFault>
     requires { S.has_failed source.old ≡ false }
+    ensures works { OnOk result (S.has_failed source.new ≡ false) }
     ensures spare { spare lines.new.buffer ≤ spare lines.old.buffer }
 {
     match *line {
@@ -226,6 +243,7 @@ fn item_of<S: Source>(
 fn read_header<S: Source>(lines: &mut Lines, source: &mut S) -> Result<(u32, Claim), LinesFault>
     requires { S.has_failed source.old ≡ false }
     ensures agents { IfOk result (λ h. IsAgentCount h.0) }
+    ensures works { OnOk result (S.has_failed source.new ≡ false) }
     ensures spare { spare lines.new.buffer ≤ spare lines.old.buffer }
 {
     lines.next(source, &Due::Title)?;

@@ -84,6 +84,7 @@ impl Lines {
     /// Answers Ok where nothing is left.
     pub fn end<S: Source>(&mut self, source: &mut S) -> Result<(), LinesFault>
         requires { S.has_failed source.old ≡ false }
+        ensures works { OnOk result (S.has_failed source.new ≡ false) }
         ensures spare { spare self.new.buffer ≤ spare self.old.buffer }
     {
         let line = self.count.saturating_add(1);

@@ -11,7 +11,7 @@ use Rattle.std.specs.List.Sorted.{IsStrictlyIncreasing}
 use Rattle.mapf_model.specs.Grid.{GridMap, IsFree, DifferByOne, Step, row, column}
 use Rattle.mapf_model.specs.Neighbours.{above_of, left_of, right_of, kept, free_neighbours}
 
-from_kept : (grid : GridMap) (next : Option ℕ) (to : ℕ) → Contains (kept grid next) to → (next ≡ Some to) × IsFree grid to
+pub from_kept : (grid : GridMap) (next : Option ℕ) (to : ℕ) → Contains (kept grid next) to → (next ≡ Some to) × IsFree grid to
 from_kept grid None to (k, within, is) = absurd (omega arith)
 from_kept grid (Some cell) to h = by_test (slice_index_or grid.free cell false) refl h
   where

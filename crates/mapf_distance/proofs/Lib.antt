@@ -1,0 +1,7 @@
+pub mod MarkLemmas
+pub mod StepLemmas
+pub mod WaveLemmas
+pub mod ExpandLemmas
+pub mod StartLemmas
+pub mod BesideLemmas
+pub mod DescentLemmas

@@ -1,0 +1,27 @@
+-- Steps go both ways, and a walk is as long one way as the other.
+use Rattle.std.proofs.Common.{ℕ, zero, suc, sym, subst, inl, inr, ⊎_elim}
+use Rattle.mapf_model.specs.Grid.{GridMap, IsFree, DifferByOne, Step}
+use Rattle.mapf_model.specs.Distance.{Walk}
+
+pub Step-sym : (grid : GridMap) (from to : ℕ) → Step grid from to → Step grid to from
+Step-sym grid from to (inl (free, same)) = inl (subst (λ cell. IsFree grid cell) same free, sym same)
+Step-sym grid from to (inr beside) = inr (record {
+  from_free = beside.to_free;
+  to_free = beside.from_free;
+  apart = ⊎_elim
+      (λ in_row. inl (sym in_row.0, turned in_row.1))
+      (λ in_column. inr (sym in_column.0, turned in_column.1))
+      beside.apart;
+})
+  where
+    turned : {a b : ℕ} → DifferByOne a b → DifferByOne b a
+    turned (inl e) = inr e
+    turned (inr e) = inl e
+
+pub Step-to_free : (grid : GridMap) (from to : ℕ) → Step grid from to → IsFree grid to
+Step-to_free grid from to (inl (free, same)) = subst (λ cell. IsFree grid cell) same free
+Step-to_free grid from to (inr beside) = beside.to_free
+
+pub Walk-from_free : (grid : GridMap) (from to n : ℕ) → Walk grid from to n → IsFree grid from
+Walk-from_free grid from to zero (free, same) = free
+Walk-from_free grid from to (suc n) (next, step, walk) = Step-to_free grid next from (Step-sym grid from next step)

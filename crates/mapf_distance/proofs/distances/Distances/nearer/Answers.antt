@@ -1,0 +1,61 @@
+use Rattle.std.proofs.Common.{◌≡◌, ◌+◌, ◌<◌, ◌≤◌, ◌∙◌, Some, None, Contains, length, slice_index_or, ap, sym, subst, ⊎_elim, arith}
+use Rattle.std.proofs.lemmas.Bool.{cases_lt, both_ways}
+use Rattle.std.proofs.lemmas.List.{get_or_default}
+use Rattle.std.proofs.lemmas.Option.{same_Some}
+use Rattle.mapf_model.specs.Distance.{IsDistance}
+use Rattle.mapf_distance.proofs.BesideLemmas.{step_beside, beside_step}
+use Rattle.mapf_distance.proofs.DescentLemmas.{IsDistance-one, nearer_step}
+use Rattle.mapf_distance.proofs.StepLemmas.{Walk-from_free}
+use Rattle.mapf_distance.proofs.distances.Distances.nearer.Goals as goal
+use Rattle.mapf_distance.proofs.distances.Distances.nearer.Goals.{in-Some+else-is_at, in_default}
+
+pub loop-beside-init : goal.loop-beside-init
+loop-beside-init c = λ place next none. absurd (omega arith)
+
+pub returns-then-is_at-clause-step : goal.returns-then-is_at-clause-step
+returns-then-is_at-clause-step c =
+    let grid = c.args.self.now.grid in
+    let cell = c.args.cell in
+    let items = c.beside-beside-items.result in
+    let next = c.in-Some.next in
+    let four = ap length c.beside-beside-items.ensures.cells in
+    let within : c.loop-beside.beside-index < length items = omega arith in
+    let held : Contains items (Some next) = (c.loop-beside.beside-index, within, get_or_default items c.loop-beside.beside-index (Some next) c.beside-item.result within ∙ c.in-Some.is) in
+    let there : IsDistance grid c.args.self.now.goal next c.args.distance = c.is_at.ensures.0 c.if-is_at.true in
+    step_beside grid cell c.beside-beside-items.ensures.wide (Walk-from_free grid cell c.args.self.now.goal (c.args.distance + 1) c.requires.walk) next
+    (Walk-from_free grid next c.args.self.now.goal c.args.distance there.walk)
+    (subst (λ places. Contains places (Some next)) c.beside-beside-items.ensures.cells held)
+
+pub loop-beside-preserved : goal.loop-beside-preserved
+loop-beside-preserved c = λ place next below is there. ⊎_elim
+    (λ (earlier : place < c.loop-beside.beside-index). c.loop-beside.invariant place next earlier is there)
+    (λ (past : c.loop-beside.beside-index ≤ place).
+    let items = c.beside-beside-items.result in
+    let index = c.loop-beside.beside-index in
+    let four = ap length c.beside-beside-items.ensures.cells in
+    let within : index < length items = omega arith in
+    let same : place ≡ index = omega arith in
+    let found : slice_index_or items index c.beside-item.result ≡ Some next =
+    get_or_default items index c.beside-item.result None within ∙ subst (λ n. slice_index_or items n None ≡ Some next) same is in
+    elim c.match-beside.branch [
+      | in-Some+else-is_at w ↦
+          let at : next ≡ w.in-Some.next = same_Some next w.in-Some.next (sym found ∙ w.in-Some.is) in
+          both_ways w.is_at.result w.if-is_at.false (w.is_at.ensures.1 (subst (λ cell. IsDistance c.args.self.now.grid c.args.self.now.goal cell c.args.distance) at there))
+      | in_default w ↦ w.in_default.not-Some next found
+    ])
+    (cases_lt place c.loop-beside.beside-index)
+
+pub unreachable-requires : goal.unreachable-requires
+unreachable-requires c =
+    let grid = c.args.self.now.grid in
+    let cell = c.args.cell in
+    let goal = c.args.self.now.goal in
+    let distance = c.args.distance in
+    let items = c.beside-beside-items.result in
+    let (next, step, there) = nearer_step grid goal cell distance c.requires in
+    let moves : cell ≡ next → ⊥ = λ same. (let e = IsDistance-one grid goal next (distance + 1) distance (subst (λ at. IsDistance grid goal at (distance + 1)) same c.requires) there in omega arith) in
+    let free = Walk-from_free grid cell goal (distance + 1) c.requires.walk in
+    let held = subst (λ places. Contains places (Some next)) (sym c.beside-beside-items.ensures.cells) (beside_step grid cell c.beside-beside-items.ensures.wide free next step moves) in
+    let (place, within, is) = held in
+    let four = ap length c.beside-beside-items.ensures.cells in
+    c.loop-beside.invariant place next (omega arith) (get_or_default items place None (Some next) within ∙ is) there

@@ -1,0 +1,28 @@
+-- Tables of distances to a goal.
+use Rattle.std.specs.Prelude.{ℕ, ◌+◌, ◌<◌, ◌≤◌, Option, Some, List, [], ◌∷◌}
+use Rattle.mapf_model.specs.Distance.{Walk, IsDistance, IsUnreachable}
+use Rattle.mapf_model.specs.Grid.{GridMap, IsGridMap, free_cell_count}
+use Rattle.mapf_model.specs.Neighbours.{above_of, left_of, right_of}
+use Rattle.mapf_distance.specs.declared.wave.TheConstants.{UNREACHED}
+use Rattle.mapf_distance.specs.Marks.{entry_of}
+
+-- a grid, and the goal to which the distances on it go
+pub record GoalMap : Type 0 where
+  pub grid : GridMap
+  pub goal : ℕ
+
+-- some number of steps leads from the cell to the goal
+abbrev pub IsReachable : GridMap → ℕ → ℕ → Type 0
+IsReachable grid goal cell = (n : ℕ) × Walk grid cell goal n
+
+-- each entry is the cell's distance, or says that there is none
+pub record AreDistances (grid : GridMap) (goal : ℕ) (table : List ℕ) : Type 0 where
+  pub shape : IsGridMap grid
+  pub exact : (cell : ℕ) → entry_of table cell < UNREACHED → IsDistance grid goal cell (entry_of table cell)
+  pub small : (cell : ℕ) → entry_of table cell < UNREACHED → entry_of table cell < free_cell_count grid
+  pub bounded : (cell : ℕ) → entry_of table cell < UNREACHED → entry_of table cell < 4194304
+  pub none : (cell : ℕ) → UNREACHED ≤ entry_of table cell → IsUnreachable grid goal cell
+
+-- the places beside a cell, in rising number, as far as the rows go
+abbrev pub beside_of : GridMap → ℕ → List (Option ℕ)
+beside_of grid cell = above_of grid cell ∷ left_of grid cell ∷ right_of grid cell ∷ Some (cell + grid.width) ∷ []

@@ -1,0 +1,3 @@
+pub mod Marks
+pub mod Distances
+pub mod Wave

@@ -1,0 +1,7 @@
+//! How many steps is it from each cell to a goal?
+#![tactic(auto)]
+
+mod distances;
+mod wave;
+
+pub use distances::Distances;
