@@ -17,7 +17,7 @@ use Rattle.mapf_model.specs.Tree.{Leaf, Shows, StartsShow, AreStartLabels, no_en
 use Rattle.mapf_model.proofs.ClaimLemmas.{slice_get_inside}
 use Rattle.mapf_model.proofs.DecidedLemmas.{cost_unique}
 use Rattle.mapf_model.proofs.PathLemmas.{IsCost-tight}
-use Rattle.mapf_app.specs.Shortest.{AreShortest, SomeGoalIsUnreachable}
+use Rattle.mapf_app.specs.Shortest.{IsShortest, AreShortest, SomeGoalIsUnreachable}
 
 slice_get-map : {X Y : Type 0} (f : X → Y) (xs : List X) (i : ℕ) (y : Y) → slice_get (map f xs) i ≡ Some y → (x : X) × (slice_get xs i ≡ Some x) × (f x ≡ y)
 slice_get-map f [] i y is = absurd cc

@@ -1,2 +1,10 @@
 pub mod MeetingLemmas
 pub mod DefectLemmas
+pub mod IndexLemmas
+pub mod WayLemmas
+pub mod EntryLemmas
+pub mod StartLemmas
+pub mod BlockLemmas
+pub mod TreeLemmas
+pub mod RiseLemmas
+pub mod VerdictLemmas

@@ -1,3 +1,12 @@
 pub mod PathDefects
 pub mod Meetings
 pub mod Defects
+pub mod Bounds
+pub mod Keys
+pub mod Index
+pub mod Way
+pub mod Order
+pub mod Ground
+pub mod Leaf
+pub mod Progress
+pub mod Verdict

@@ -1,13 +1,27 @@
 //! Is this plan valid, and does this certificate show its claim?
 #![tactic(auto)]
 
+mod acceptance;
+mod bound;
+mod fault;
+mod index;
+mod judge;
+mod labels;
 mod lawful;
+mod leaf;
 mod meeting;
+mod order;
 mod plan_fault;
 #[cfg(test)]
 mod samples;
 mod step;
+#[cfg(test)]
+mod tests;
+mod tree;
 mod validity;
+mod way;
 
+pub use acceptance::{check, check_from};
+pub use fault::{CheckFault, FromFault, Verdict};
 pub use plan_fault::PlanFault;
 pub use validity::check_plan;

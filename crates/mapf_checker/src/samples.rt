@@ -38,3 +38,19 @@ pub fn plan(alloc: Global, paths: &[&[u32]]) -> Result<Plan, Fail> {
     }
     Ok(Plan::of(made).ok_or("no plan")?)
 }
+
+/// The text of these lines for so many agents.
+pub fn text(alloc: Global, kind: &str, agents: u32, lines: &str) -> Result<String, Fail> {
+    Ok(format!(in alloc; "mapf-{kind} 1\nagents {agents}\n{lines}end\n")?)
+}
+
+/// Two agents whose shortest paths cross: on an open 3x3 grid one goes from (0,1) to (2,1), the other
+/// from (1,0) to (1,2).
+pub fn crossing(alloc: Global) -> Result<Problem, Fail> {
+    problem(alloc, 3, 3, ".........", &[(3, 5), (1, 7)])
+}
+
+pub const CROSSING_PLAN: &str =
+    "mapf-plan 1\nagents 2\ncost 5\npath 0 3 0,1 0,1 1,1 2,1\npath 1 2 1,0 1,1 1,2\nend\n";
+
+pub const CROSSING_CERT: &str = "mapf-cert 1\nagents 2\nclaim cost 5\nvertex 0 1 1,1 1\nleaf 1\nagent 0 1\nat 0,1 0 3\nleaf 1\nagent 1 1\nat 1,0 0 3\nend\n";

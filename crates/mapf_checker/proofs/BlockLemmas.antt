@@ -1,0 +1,59 @@
+-- Blocks that are sound, one by one and together.
+use Rattle.std.proofs.Common.{◌≡◌, ℕ, ◌<◌, List, Option, Some, All, AllPairs, slice_get, slice_index_or, length, sym, ◌∙◌, ap, subst, refl, arith}
+use Rattle.std.proofs.lemmas.List.{get_or_default}
+use Rattle.std.proofs.lemmas.Option.{same_Some, slice_get_within}
+use Rattle.mapf_model.specs.declared.problem.Agent.{Agent}
+use Rattle.mapf_model.specs.declared.label.Entry.{Entry}
+use Rattle.mapf_model.specs.Blocks.{LabelBlock}
+use Rattle.mapf_model.specs.Grid.{GridMap}
+use Rattle.mapf_model.specs.Labels.{entries_of, AreSound}
+use Rattle.mapf_model.specs.Plan.{Instance}
+use Rattle.mapf_model.specs.declared.item.Claim.{Claim}
+use Rattle.mapf_model.specs.Tree.{NodeConstraints, Leaf, ShowsFrom, StartsShow, with_blocks, no_entries, AreBlocksSound, AreOfAgents, AreOfDifferentAgents}
+use Rattle.mapf_model.proofs.ClaimLemmas.{slice_get_inside}
+use Rattle.mapf_checker.specs.Leaf.{IsGoalOf, IsGoodBlock}
+use Rattle.mapf_checker.proofs.StartLemmas.{block_of-at, block_of-found}
+
+pub bad_block : (problem : Instance) (here : NodeConstraints) (block : LabelBlock) (grid : GridMap) (goal agent : ℕ) (entries : List Entry) → grid ≡ problem.grid → agent ≡ block.agent → entries ≡ block.entries → IsGoalOf problem agent goal →
+    (AreSound grid goal (here.bars agent) (entries_of entries) → ⊥) → IsGoodBlock problem here block → ⊥
+bad_block problem here block grid goal agent entries on of these (a, is_a, is_goal) bad (b, is_b, sound) =
+    let same : a ≡ b = same_Some a b (sym (subst (λ i. slice_get problem.agents i ≡ Some a) of is_a) ∙ is_b) in
+    let at_goal : AreSound problem.grid goal (here.bars block.agent) (entries_of block.entries) = subst (λ g. AreSound problem.grid g (here.bars block.agent) (entries_of block.entries)) (sym (ap (λ (x : Agent). x.goal) same) ∙ is_goal) sound in
+    bad (subst (λ g. AreSound g goal (here.bars agent) (entries_of entries)) (sym on)
+    (subst (λ i. AreSound problem.grid goal (here.bars i) (entries_of entries)) (sym of)
+    (subst (λ es. AreSound problem.grid goal (here.bars block.agent) (entries_of es)) (sym these) at_goal)))
+
+module _ (problem : Instance) (here : NodeConstraints) (blocks : List LabelBlock) where
+  pub blocks_sound : All (IsGoodBlock problem here) blocks → AreBlocksSound problem here blocks
+  blocks_sound good i agent block is_agent is_block =
+      let (k, within, at, of) = block_of-found blocks i block is_block in
+      let (a, is_a, sound) = subst (λ b. IsGoodBlock problem here b) (at block) (good k block within) in
+      let same : a ≡ agent = same_Some a agent (sym (subst (λ j. slice_get problem.agents j ≡ Some a) of is_a) ∙ is_agent) in
+      subst (λ j. AreSound problem.grid agent.goal (here.bars j) (entries_of block.entries)) of
+      (subst (λ (x : Agent). AreSound problem.grid x.goal (here.bars block.agent) (entries_of block.entries)) same sound)
+
+  pub blocks_of_agents : All (IsGoodBlock problem here) blocks → AreOfAgents problem blocks
+  blocks_of_agents good k d within = let (a, is_a, sound) = good k d within in slice_get_within problem.agents (slice_index_or blocks k d).agent a is_a
+
+  pub blocks_good : AllPairs (λ a b. a.agent < b.agent) blocks → AreOfAgents problem blocks → AreBlocksSound problem here blocks → All (IsGoodBlock problem here) blocks
+  blocks_good rising of_agents sound k d within =
+      let block = slice_index_or blocks k d in
+      let (agent, is_agent) = slice_get_inside problem.agents block.agent (of_agents k d within) in
+      (agent, is_agent, sound block.agent agent block is_agent (block_of-at blocks block.agent k block rising within (λ e. get_or_default blocks k e d within) refl))
+
+  pub rising_differ : AllPairs (λ a b. a.agent < b.agent) blocks → AreOfDifferentAgents blocks
+  rising_differ rising i j d order within same = let h = rising i j d order within in omega (arith, h, same)
+
+-- a leaf shows the claim where its blocks are good and the labels of the starts show it
+module _ (problem : Instance) (claim : Claim) (here : NodeConstraints) (blocks : List LabelBlock) (rising : AllPairs (λ a b. a.agent < b.agent) blocks) where
+  pub leaf_shows : All (IsGoodBlock problem here) blocks → StartsShow problem claim (with_blocks blocks no_entries) → ShowsFrom problem claim here (Leaf blocks)
+  leaf_shows good starts = record {
+    proper = (rising_differ problem here blocks rising, blocks_of_agents problem here blocks good);
+    nodes = (blocks_sound problem here blocks good, starts);
+  }
+
+  pub leaf_good : ShowsFrom problem claim here (Leaf blocks) → All (IsGoodBlock problem here) blocks
+  leaf_good shows = blocks_good problem here blocks rising shows.proper.1 shows.nodes.0
+
+  pub leaf_starts : ShowsFrom problem claim here (Leaf blocks) → StartsShow problem claim (with_blocks blocks no_entries)
+  leaf_starts shows = shows.nodes.1

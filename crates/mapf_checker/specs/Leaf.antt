@@ -1,0 +1,73 @@
+-- What the leaves of a certificate's tree are judged by.
+use Rattle.std.specs.Prelude.{◌≡◌, ⊤, ℕ, ◌+◌, ◌<◌, ◌≤◌, List, Option, Some, None, All, AllPairs, length, slice_get, slice_index_or}
+use Rattle.mapf_model.specs.declared.problem.Agent.{Agent}
+use Rattle.mapf_model.specs.declared.label.Label.{Label}
+use Rattle.mapf_model.specs.declared.label.Label.TheVariants.{Ticks, Never}
+use Rattle.mapf_model.specs.declared.item.Claim.{Claim}
+use Rattle.mapf_model.specs.declared.item.Claim.TheVariants.{Cost, Impossible}
+use Rattle.mapf_model.specs.Blocks.{LabelBlock}
+use Rattle.mapf_model.specs.Labels.{entries_of, AreSound, IsLabel, label_sum}
+use Rattle.mapf_model.specs.Plan.{Instance}
+use Rattle.mapf_model.specs.Printed.{IsBefore}
+use Rattle.mapf_model.specs.Tree.{NodeConstraints, AreStartLabels, block_of, with_blocks, no_entries}
+use Rattle.mapf_distance.specs.Distances.{GoalMap}
+
+-- a table of the distances to each agent's goal
+pub record AreTables (problem : Instance) (tables : List GoalMap) : Type 0 where
+  pub count : length tables ≡ length problem.agents
+  pub each : (i : ℕ) (agent : Agent) (table : GoalMap) → slice_get problem.agents i ≡ Some agent → slice_get tables i ≡ Some table → (table.grid ≡ problem.grid) × (table.goal ≡ agent.goal)
+
+-- entries that rise, at ticks that a text can spell
+abbrev pub IsOrderly : LabelBlock → Type 0
+IsOrderly block = AllPairs IsBefore block.entries × All (λ entry. entry.tick ≤ 9999999) block.entries
+
+-- blocks of agents that rise
+abbrev pub AreOrderly : List LabelBlock → Type 0
+AreOrderly blocks = AllPairs (λ a b. a.agent < b.agent) blocks × All IsOrderly blocks
+
+-- the goal of the agent of this number
+abbrev pub IsGoalOf : Instance → ℕ → ℕ → Type 0
+IsGoalOf problem i goal = (agent : Agent) × (slice_get problem.agents i ≡ Some agent) × (agent.goal ≡ goal)
+
+-- the start of the agent of this number
+abbrev pub IsStartOf : Instance → ℕ → ℕ → Type 0
+IsStartOf problem i start = (agent : Agent) × (slice_get problem.agents i ≡ Some agent) × (agent.start ≡ start)
+
+-- a block of an agent of the problem, sound under the agent's bars
+abbrev pub IsGoodBlock : Instance → NodeConstraints → LabelBlock → Type 0
+IsGoodBlock problem here block = (agent : Agent) × (slice_get problem.agents block.agent ≡ Some agent) × AreSound problem.grid agent.goal (here.bars block.agent) (entries_of block.entries)
+
+-- a sum of labels, None where it is infinite
+abbrev pub label_of : Option ℕ → Label
+label_of (Some total) = Ticks total
+label_of None = Never
+
+-- the label of the agent's start
+abbrev pub IsStartLabel : Instance → List LabelBlock → ℕ → Label → Type 0
+IsStartLabel problem blocks i label = (agent : Agent) → slice_get problem.agents i ≡ Some agent → IsLabel problem.grid agent.goal (with_blocks blocks no_entries i) agent.start 0 label
+
+-- the sum of the labels of the starts
+abbrev pub IsStartTotal : Instance → List LabelBlock → Option ℕ → Type 0
+IsStartTotal problem blocks total = (labels : List Label) × AreStartLabels problem (with_blocks blocks no_entries) labels × (label_sum labels ≡ label_of total)
+
+-- starts with labels of this sum show the claim
+abbrev pub IsEnough : Claim → Option ℕ → Type 0
+IsEnough claim None = ⊤
+IsEnough (Cost cost) (Some total) = cost ≤ total
+IsEnough Impossible (Some total) = ⊥
+
+-- the blocks before the place are of agents below this one, the others of this one or later ones
+pub record IsCut (blocks : List LabelBlock) (place agent : ℕ) : Type 0 where
+  pub before : (k : ℕ) (d : LabelBlock) → k < place → (slice_index_or blocks k d).agent < agent
+  pub from : (k : ℕ) (d : LabelBlock) → place ≤ k → k < length blocks → agent ≤ (slice_index_or blocks k d).agent
+
+-- the block in the place is the agent's
+pub record TakesBlock (blocks : List LabelBlock) (place agent : ℕ) : Type 0 where
+  pub inside : place < length blocks
+  pub is : (d : LabelBlock) → block_of blocks agent ≡ Some (slice_index_or blocks place d)
+  pub cut : IsCut blocks (place + 1) (agent + 1)
+
+-- the agent has no block
+pub record LeavesBlock (blocks : List LabelBlock) (place agent : ℕ) : Type 0 where
+  pub none : block_of blocks agent ≡ None
+  pub cut : IsCut blocks place (agent + 1)

@@ -1,0 +1,143 @@
+ghost use Rattle.std.specs.Prelude.{◌≡◌, ◌≢◌, ◌↔◌, ◌≤◌, ◌<◌, ℕ, [], List, Some, None, Contains, IfOk, OnOk, OnErr, IsOk, IsTrue, MatchBool, MatchOption, IsSome, max, unwrap_or};
+ghost use Rattle.std.specs.HashMap.{get, spare};
+ghost use Rattle.mapf_model.specs.declared.bar.Bar.{Bar};
+ghost use Rattle.mapf_model.specs.Tree.{with_bar};
+ghost use Rattle.mapf_checker.specs.Keys.{same_bar, same_cell};
+
+use crate::bound::{AgentBar, AgentCell, cell_of};
+use mapf_model::{Bar, Cell, OutOfMemory, Tick};
+use std::alloc::Global;
+use std::collections::HashMap;
+
+/// What an index had before a bar was added.
+#[derive(Clone, Copy, Debug)]
+pub struct Undo {
+    /// Whether the bar wasn't there.
+    pub is_new: bool,
+    /// Of a cell's bar: the last tick at which the cell was barred.
+    pub last: Option<Tick>,
+}
+
+/// The bars of each agent, found without walking them. Bars are taken away in the order from the last
+/// that was added.
+#[derive(Drop)]
+pub struct BarIndex {
+    bars: HashMap<AgentBar, ()>,
+    // The last tick at which a cell is barred.
+    last: HashMap<AgentCell, Tick>,
+}
+
+impl BarIndex {
+    ghost use Rattle.mapf_checker.specs.Index.{Indexes, CanUndo};
+
+    /// No bars.
+    pub fn new(alloc: Global) -> BarIndex
+        ensures { Indexes (λ agent. []) result }
+    {
+        BarIndex {
+            bars: HashMap::new(alloc),
+            last: HashMap::new(alloc),
+        }
+    }
+
+    pub fn has(&self, bound: &AgentBar) -> bool
+        ensures { (bars : ℕ → List Bar) → Indexes bars self.now → IsTrue result ↔ Contains (bars bound.now.agent) bound.now.bar }
+    {
+        self.bars.contains_key(bound)
+    }
+
+    /// Whether the cell is barred to the agent at this tick or later.
+    pub fn has_from(&self, agent: u32, cell: Cell, tick: Tick) -> bool
+        ensures { (bars : ℕ → List Bar) → Indexes bars self.now → IsTrue result ↔ ((later : ℕ) × (tick ≤ later) × Contains (bars agent) (Bar.Cell cell later)) }
+    {
+        match self.last.get(&AgentCell { agent, cell }) {
+            Some(last) => tick <= *last,
+            None => false,
+        }
+    }
+
+    /// Adds a bar.
+    pub fn add(&mut self, bound: &AgentBar) -> Result<Undo, OutOfMemory>
+        ensures added { OnOk result ((bars : ℕ → List Bar) → Indexes bars self.old → Indexes (with_bar bars bound.now.agent bound.now.bar) self.new) }
+        ensures undo { IfOk result (λ undo. (bars : ℕ → List Bar) → Indexes bars self.old → CanUndo bars bound.now undo) }
+        ensures unchanged { OnErr result ((bars : ℕ → List Bar) → Indexes bars self.old → Indexes bars self.new) }
+    {
+        self.last.reserve(1)?;
+        let is_new = insert_bar(&mut self.bars, bound)?;
+        let last = match cell_of(bound) {
+            Some((seen, tick)) => raise_last(&mut self.last, seen, tick),
+            None => None,
+        };
+        Ok(Undo { is_new, last })
+    }
+
+    /// Takes the bar away that was added last.
+    pub fn undo(&mut self, bound: &AgentBar, undo: &Undo)
+        ensures { (bars : ℕ → List Bar) → Indexes (with_bar bars bound.now.agent bound.now.bar) self.old → CanUndo bars bound.now undo.now → Indexes bars self.new }
+    {
+        remove_if_new(&mut self.bars, bound, undo.is_new);
+        if let Some((seen, _)) = cell_of(bound) {
+            restore_last(&mut self.last, seen, undo.last);
+        }
+    }
+}
+
+// Adds a bar, and answers whether it is new.
+fn insert_bar(bars: &mut HashMap<AgentBar, ()>, bound: &AgentBar) -> Result<bool, OutOfMemory>
+    ensures is_new { IfOk result (λ is_new. MatchBool is_new (get same_bar bars.old bound.now ≡ None) (IsSome (get same_bar bars.old bound.now))) }
+    ensures here { OnOk result (IsSome (get same_bar bars.new bound.now)) }
+    ensures others { OnOk result ((other : AgentBar) → other ≢ bound.now → get same_bar bars.new other ≡ get same_bar bars.old other) }
+    ensures unchanged { OnErr result ((other : AgentBar) → get same_bar bars.new other ≡ get same_bar bars.old other) }
+{
+    let bar: Bar = bound.bar;
+    let key = AgentBar {
+        agent: bound.agent,
+        bar,
+    };
+    Ok(bars.insert(key, ())?.is_none())
+}
+
+// Takes a bar away, if it was new.
+fn remove_if_new(bars: &mut HashMap<AgentBar, ()>, bound: &AgentBar, is_new: bool)
+    ensures here { MatchBool is_new (get same_bar bars.new bound.now ≡ None) (get same_bar bars.new bound.now ≡ get same_bar bars.old bound.now) }
+    ensures others { (other : AgentBar) → other ≢ bound.now → get same_bar bars.new other ≡ get same_bar bars.old other }
+{
+    if is_new {
+        bars.remove(bound);
+    }
+}
+
+// Sees to the last tick of a cell that is barred at this tick too, and answers what it was.
+fn raise_last(
+    lasts: &mut HashMap<AgentCell, Tick>,
+    seen: AgentCell,
+    tick: Tick,
+) -> Option<Tick>
+    requires { 0 < spare lasts.old }
+    ensures before { result ≡ get same_cell lasts.old seen }
+    ensures here { get same_cell lasts.new seen ≡ Some (max (unwrap_or result 0) tick) }
+    ensures others { (other : AgentCell) → other ≢ seen → get same_cell lasts.new other ≡ get same_cell lasts.old other }
+{
+    let before = lasts.get(&seen).copied();
+    let last = before.unwrap_or(0).max(tick);
+    let inserted: Result<_, _> = lasts.insert(seen, last);
+    inserted.unwrap();
+    before
+}
+
+// The last tick of a cell is again what it was.
+fn restore_last(lasts: &mut HashMap<AgentCell, Tick>, seen: AgentCell, before: Option<Tick>)
+    ensures here { IsSome (get same_cell lasts.old seen) → get same_cell lasts.new seen ≡ before }
+    ensures others { (other : AgentCell) → other ≢ seen → get same_cell lasts.new other ≡ get same_cell lasts.old other }
+{
+    match before {
+        None => {
+            lasts.remove(&seen);
+        }
+        Some(last) => {
+            if let Some(place) = lasts.get_mut(&seen) {
+                *place = last;
+            }
+        }
+    }
+}

@@ -1,0 +1,80 @@
+ghost use Rattle.std.specs.Prelude.{◌≡◌, ◌+◌, ◌<◌, ◌≤◌, ◌↔◌, ℕ, AllPairs, IsTrue};
+ghost use Rattle.mapf_model.specs.Labels.{entries_of, IsLabel, IsDistanceLabel, IsAtMost, one_more};
+ghost use Rattle.mapf_model.specs.Printed.{IsBefore};
+ghost use Rattle.mapf_checker.specs.Order.{StandsTo};
+
+use std::cmp::Ordering;
+use mapf_distance::Distances;
+use mapf_model::{Cell, Entry, Label, Tick};
+
+/// The entry of a state in a block.
+pub fn entry_at(entries: &[Entry], cell: Cell, tick: Tick) -> Option<Label>
+    requires { AllPairs IsBefore entries.now }
+    ensures { result ≡ entries_of entries.now cell tick }
+{
+    let (mut low, mut high) = (0, entries.len());
+    while low < high {
+        let middle = low + (high - low) / 2;
+        match order(&entries[middle], cell, tick) {
+            Ordering::Less => low = middle + 1,
+            Ordering::Equal => return Some(entries[middle].label),
+            Ordering::Greater => high = middle,
+        }
+    }
+    None
+}
+
+// Where the entry stands to a state, by the ticks and then by the cells.
+fn order(entry: &Entry, cell: Cell, tick: Tick) -> Ordering
+    ensures { StandsTo cell tick entry.now result }
+{
+    if entry.tick < tick {
+        return Ordering::Less;
+    }
+    if tick < entry.tick {
+        return Ordering::Greater;
+    }
+    entry.cell.0.cmp(&cell.0)
+}
+
+/// The distance to the goal as a label.
+pub fn distance_label(distances: &Distances, cell: Cell) -> Label
+    ensures { IsDistanceLabel distances.now.grid distances.now.goal cell result }
+{
+    match distances.get(cell) {
+        Some(distance) => Label::Ticks(distance),
+        None => Label::Never,
+    }
+}
+
+/// The label of a state.
+pub fn label_at(entries: &[Entry], distances: &Distances, cell: Cell, tick: Tick) -> Label
+    requires { AllPairs IsBefore entries.now }
+    ensures { IsLabel distances.now.grid distances.now.goal (entries_of entries.now) cell tick result }
+{
+    match entry_at(entries, cell, tick) {
+        Some(label) => label,
+        None => distance_label(distances, cell),
+    }
+}
+
+/// Whether a label is at most one more than another.
+pub fn is_within_one(label: Label, after: Label) -> bool
+    ensures { IsTrue result ↔ IsAtMost label (one_more after) }
+{
+    match (label, after) {
+        (_, Label::Never) => true,
+        (Label::Never, Label::Ticks(_)) => false,
+        (Label::Ticks(m), Label::Ticks(n)) => m as u64 <= n as u64 + 1,
+    }
+}
+
+/// Whether a label exceeds a distance.
+pub fn exceeds(label: Label, distance: u32) -> bool
+    ensures { IsTrue result ↔ IsAtMost (Label.Ticks (distance + 1)) label }
+{
+    match label {
+        Label::Ticks(n) => distance < n,
+        Label::Never => true,
+    }
+}
