@@ -1,5 +1,5 @@
 -- A tree of one leaf without entries shows what distances show.
-use Rattle.std.proofs.Common.{◌≡◌, ℕ, zero, suc, ◌+◌, ◌-◌, ◌<◌, ◌≤◌, All, Bool, true, false, min, List, [], ◌∷◌, Some, length, map, sum, slice_get, slice_index, get_or, refl, sym, ◌∙◌, ap, subst, inl, inr, ⊎_elim, arith}
+use Rattle.std.proofs.Common.{◌≡◌, ℕ, zero, suc, ◌+◌, ◌-◌, ◌<◌, ◌≤◌, All, true, false, min, List, [], ◌∷◌, Some, length, map, sum, slice_get, slice_index, get_or, refl, sym, ◌∙◌, ap, subst, inl, inr, ⊎_elim, arith}
 use Rattle.std.proofs.lemmas.Bool.{cases_lt}
 use Rattle.std.proofs.lemmas.List.{get_or_past, get_or_default}
 use Rattle.std.proofs.lemmas.Option.{slice_get_within, get_or_from_slice_get, same_Some}
@@ -10,7 +10,7 @@ use Rattle.mapf_model.specs.declared.problem.Agent.{Agent}
 use Rattle.mapf_model.specs.Distance.{IsDistance}
 use Rattle.mapf_model.specs.Labels.{IsAtMost, label_sum}
 use Rattle.mapf_model.specs.Grid.{GridMap, IsGridMap, IsFree, Step}
-use Rattle.mapf_model.specs.Path.{at, IsCost, IsTight}
+use Rattle.mapf_model.specs.Path.{at, IsCost}
 use Rattle.mapf_model.specs.Printed.{IsOnGrid, IsPathInRange}
 use Rattle.mapf_model.specs.Plan.{Instance, IsSumOfCosts}
 use Rattle.mapf_model.specs.Tree.{Leaf, Shows, StartsShow, AreStartLabels, no_entries}

@@ -9,4 +9,4 @@ returns-in-Ok c =
     let plan = c.in-Some-of.plan in
     let shortest : AreShortest problem plan = rw (c.in-Some-of.ensures.value) (rw c.in-Some.is at c.in_ok-paths.ensures.shortest) in
     let count : length plan ≡ length problem.agents = rw (c.in-Some-of.ensures.value) (rw c.in-Some.is at c.in_ok-paths.ensures.count) in
-    (c.in-Ok.ensures.valid.0 refl, c.in-Ok.ensures.sum, shortest_in_range problem plan shortest (rw c.grid.ensures at c.width-_width.ensures.shape) count, shortest_show problem plan shortest c.in-Ok.sum c.in-Ok.ensures.sum)
+    (c.in-Ok.ensures.valid.0 refl, c.in-Ok.ensures.sum, shortest_in_range problem plan shortest (rw c.grid.ensures at c.width-width.ensures.shape) count, shortest_show problem plan shortest c.in-Ok.sum c.in-Ok.ensures.sum)
