@@ -1,6 +1,5 @@
 -- The entry of a state, in a list that rises.
-use Rattle.std.proofs.Common.{◌≡◌, ◌⊎◌, ℕ, zero, suc, ◌+◌, ◌<◌, ◌≤◌, ◌&&◌, ◌==◌, Bool, true, false, List, [], ◌∷◌, Option, None, Some, AllPairs, slice_index_or, length, refl, sym, ◌∙◌, ap, subst, inl, inr, ⊎_elim, eq-eqb, arith}
-use Rattle.std.specs.List.{find}
+use Rattle.std.proofs.Common.{◌≡◌, ◌⊎◌, ℕ, zero, suc, ◌+◌, ◌<◌, ◌≤◌, ◌&&◌, ◌==◌, true, false, List, [], ◌∷◌, None, Some, AllPairs, slice_index_or, length, refl, sym, ◌∙◌, ap, subst, inl, inr, ⊎_elim, eq-eqb, arith}
 use Rattle.std.proofs.lemmas.Bool.{cases_eq, cases_lt, ne_eqb}
 use Rattle.std.proofs.lemmas.Option.{same_Some}
 use Rattle.std.specs.declared.cmp.Ordering.TheVariants.{Less, Greater}
@@ -89,8 +88,8 @@ entries_of-found [] cell tick label e = absurd cc
 entries_of-found (x ∷ entries) cell tick label e = elim (cases_of cell tick x) [
   | inl is ↦ (x, 0, omega arith, λ d. refl, is, same_Some x.label label (rw (test_of cell tick x is) at e))
   | inr other ↦
-    let (entry, k, within, at, is, same) = entries_of-found entries cell tick label (rw (test_not cell tick x other) at e) in
-    (entry, suc k, omega arith, at, is, same)
+      let (entry, k, within, at, is, same) = entries_of-found entries cell tick label (rw (test_not cell tick x other) at e) in
+      (entry, suc k, omega arith, at, is, same)
 ]
 
 module _ (grid : GridMap) (goal : ℕ) (bars : List Bar) (entries : List Entry) (rising : AllPairs IsBefore entries) where

@@ -1,5 +1,5 @@
 -- The index of bars while they are added and taken back.
-use Rattle.std.proofs.Common.{◌≡◌, ◌≢◌, ◌↔◌, ◌⊎◌, ℕ, zero, suc, ◌+◌, ◌<◌, ◌≤◌, max, Bool, true, false, List, [], ◌∷◌, Option, None, Some, IsSome, Contains, MatchBool, unwrap_or, slice_index_or, length, refl, sym, ◌∙◌, ap, subst, inl, inr, ⊎_elim, eq-eqb, arith}
+use Rattle.std.proofs.Common.{◌≡◌, ◌≢◌, ◌↔◌, ◌⊎◌, ℕ, suc, ◌<◌, ◌≤◌, max, Bool, true, false, List, [], ◌∷◌, Option, None, Some, IsSome, Contains, MatchBool, unwrap_or, refl, sym, ◌∙◌, ap, subst, inl, inr, eq-eqb, arith}
 use Rattle.std.proofs.lemmas.Bool.{cases_eq, cases_lt, ne_eqb}
 use Rattle.std.proofs.lemmas.Option.{same_Some}
 use Rattle.mapf_model.specs.declared.bar.Bar.{Bar}
@@ -8,9 +8,8 @@ use Rattle.mapf_model.specs.Tree.{with_bar}
 use Rattle.mapf_model.proofs.SplitLemmas.{Contains-cons_cases}
 use Rattle.mapf_checker.specs.declared.bound.AgentBar.{AgentBar}
 use Rattle.mapf_checker.specs.declared.bound.AgentCell.{AgentCell}
-use Rattle.mapf_checker.specs.declared.index.Undo.{Undo}
 use Rattle.mapf_checker.specs.Bounds.{barred_by}
-use Rattle.mapf_checker.specs.Index.{last_on, KeepsLast, CanUndo}
+use Rattle.mapf_checker.specs.Index.{last_on, KeepsLast}
 
 -- two bars are one, or they are not
 pub cases_bar : (x y : Bar) → (x ≡ y) ⊎ (x ≡ y → ⊥)
@@ -22,9 +21,9 @@ cases_bar (Cell c t) (Move d e u) = inr (λ e. cc)
 cases_bar (Move c d t) (Cell e u) = inr (λ e. cc)
 cases_bar (Move c d t) (Move e f u) = elim (cases_eq c e) [
   | inl one ↦ elim (cases_eq d f) [
-      | inl two ↦ elim (cases_eq t u) [ inl three ↦ inl cc | inr three ↦ inr (λ e. three cc) ]
-      | inr two ↦ inr (λ e. two cc)
-    ]
+    | inl two ↦ elim (cases_eq t u) [ inl three ↦ inl cc | inr three ↦ inr (λ e. three cc) ]
+    | inr two ↦ inr (λ e. two cc)
+  ]
   | inr one ↦ inr (λ e. one cc)
 ]
 
@@ -61,20 +60,20 @@ last_on-covers (Move from to tick ∷ bars) cell later there = elim (Contains-co
 ]
 last_on-covers (Cell barred tick ∷ bars) cell later there = elim (cases_eq barred cell) [
   | inl same ↦ elim (Contains-cons_cases (Cell barred tick) (Cell cell later) bars there) [
-      | inl head ↦
+    | inl head ↦
         let now : tick ≡ later = cc in
         (max (unwrap_or (last_on bars cell) 0) tick, subst (λ c. last_on (Cell c tick ∷ bars) cell ≡ Some (max (unwrap_or (last_on bars cell) 0) tick)) (sym same) (last_on-same cell tick bars), omega arith)
-      | inr rest ↦
+    | inr rest ↦
         let (last, is, late) = last_on-covers bars cell later rest in
         let known : unwrap_or (last_on bars cell) 0 ≡ last = ap (λ o. unwrap_or o 0) is in
         (max (unwrap_or (last_on bars cell) 0) tick, subst (λ c. last_on (Cell c tick ∷ bars) cell ≡ Some (max (unwrap_or (last_on bars cell) 0) tick)) (sym same) (last_on-same cell tick bars), omega arith)
-    ]
+  ]
   | inr differ ↦ elim (Contains-cons_cases (Cell barred tick) (Cell cell later) bars there) [
-      | inl head ↦ absurd (differ cc)
-      | inr rest ↦
+    | inl head ↦ absurd (differ cc)
+    | inr rest ↦
         let (last, is, late) = last_on-covers bars cell later rest in
         (last, last_on-other barred tick bars cell differ ∙ is, late)
-    ]
+  ]
 ]
 
 Contains-later : {X : Type 0} (x y : X) (xs : List X) → Contains xs y → Contains (x ∷ xs) y
@@ -90,12 +89,12 @@ last_on-stands [] cell last is = absurd cc
 last_on-stands (Move from to tick ∷ bars) cell last is = Contains-later (Move from to tick) (Cell cell last) bars (last_on-stands bars cell last is)
 last_on-stands (Cell barred tick ∷ bars) cell last is = elim (cases_eq barred cell) [
   | inl same ↦
-    let greatest : max (unwrap_or (last_on bars cell) 0) tick ≡ last =
-    same_Some _ _ (sym (subst (λ c. last_on (Cell c tick ∷ bars) cell ≡ Some (max (unwrap_or (last_on bars cell) 0) tick)) (sym same) (last_on-same cell tick bars)) ∙ is) in
-    elim (cases_lt tick last) [
-      | inl before ↦ Contains-later (Cell barred tick) (Cell cell last) bars (last_on-stands bars cell last (from_default (last_on bars cell) last (omega arith) (omega arith)))
-      | inr not_before ↦ (0, omega arith, (let now : tick ≡ last = omega arith in cc))
-    ]
+      let greatest : max (unwrap_or (last_on bars cell) 0) tick ≡ last =
+      same_Some _ _ (sym (subst (λ c. last_on (Cell c tick ∷ bars) cell ≡ Some (max (unwrap_or (last_on bars cell) 0) tick)) (sym same) (last_on-same cell tick bars)) ∙ is) in
+      elim (cases_lt tick last) [
+        | inl before ↦ Contains-later (Cell barred tick) (Cell cell last) bars (last_on-stands bars cell last (from_default (last_on bars cell) last (omega arith) (omega arith)))
+        | inr not_before ↦ (0, omega arith, (let now : tick ≡ last = omega arith in cc))
+      ]
   | inr differ ↦ Contains-later (Cell barred tick) (Cell cell last) bars (last_on-stands bars cell last (sym (last_on-other barred tick bars cell differ) ∙ is))
 ]
 
@@ -111,22 +110,22 @@ module _ (bars : ℕ → List Bar) (bound : AgentBar) where
   stands_there : (other : AgentBar) → (other ≡ bound → ⊥) → Contains (with_bar bars bound.agent bound.bar other.agent) other.bar ↔ Contains (bars other.agent) other.bar
   stands_there other differ = elim (cases_eq other.agent bound.agent) [
     | inl same ↦
-      let one : with_bar bars bound.agent bound.bar other.agent ≡ bound.bar ∷ bars other.agent = rw (same) (with_bar-same bars bound.agent bound.bar) in
-      rw one (
-        λ there. elim (Contains-cons_cases bound.bar other.bar (bars other.agent) there) [
-          | inl head ↦ absurd (differ (λ k. record { agent = same k; bar = sym head k }))
-          | inr rest ↦ rest
-        ],
-        Contains-later bound.bar other.bar (bars other.agent),
-      )
+        let one : with_bar bars bound.agent bound.bar other.agent ≡ bound.bar ∷ bars other.agent = rw (same) (with_bar-same bars bound.agent bound.bar) in
+        rw one (
+          λ there. elim (Contains-cons_cases bound.bar other.bar (bars other.agent) there) [
+            | inl head ↦ absurd (differ (λ k. record { agent = same k; bar = sym head k }))
+            | inr rest ↦ rest
+          ],
+          Contains-later bound.bar other.bar (bars other.agent),
+        )
     | inr apart ↦ rw (with_bar-other bars bound.agent bound.bar other.agent apart) (λ h. h, λ h. h)
   ]
 
   last_there : (seen : AgentCell) → ((tick : ℕ) → barred_by bound.agent bound.bar ≡ Some (seen, tick) → ⊥) → last_on (with_bar bars bound.agent bound.bar seen.agent) seen.cell ≡ last_on (bars seen.agent) seen.cell
   last_there seen differ = elim (cases_eq seen.agent bound.agent) [
     | inl same ↦
-      let one : with_bar bars bound.agent bound.bar seen.agent ≡ bound.bar ∷ bars seen.agent = rw same (with_bar-same bars bound.agent bound.bar) in
-      rw one (last_on-but (bars seen.agent) bound.bar seen (λ tick e. differ tick (subst (λ a. barred_by a bound.bar ≡ Some (seen, tick)) same e)))
+        let one : with_bar bars bound.agent bound.bar seen.agent ≡ bound.bar ∷ bars seen.agent = rw same (with_bar-same bars bound.agent bound.bar) in
+        rw one (last_on-but (bars seen.agent) bound.bar seen (λ tick e. differ tick (subst (λ a. barred_by a bound.bar ≡ Some (seen, tick)) same e)))
     | inr apart ↦ rw (with_bar-other bars bound.agent bound.bar seen.agent apart) refl
   ]
 

@@ -1,5 +1,5 @@
 -- The labels of the starts, added up.
-use Rattle.std.proofs.Common.{◌≡◌, ◌⊎◌, ℕ, zero, suc, ◌+◌, ◌*◌, ◌<◌, ◌≤◌, ◌↔◌, IfSome, Bool, true, false, List, [], ◌∷◌, ◌++◌, Option, None, Some, Contains, AllPairs, slice_get, slice_index_or, length, refl, sym, ◌∙◌, ap, subst, inl, inr, ⊎_elim, eq-eqb, append_assoc, arith}
+use Rattle.std.proofs.Common.{◌≡◌, ◌⊎◌, ℕ, zero, suc, ◌+◌, ◌*◌, ◌<◌, ◌≤◌, ◌↔◌, IfSome, List, [], ◌∷◌, ◌++◌, Option, None, Some, Contains, AllPairs, slice_get, slice_index_or, length, refl, sym, ◌∙◌, ap, subst, inl, inr, ⊎_elim, eq-eqb, arith}
 use Rattle.std.proofs.lemmas.Bool.{cases_eq, cases_lt, ne_eqb}
 use Rattle.std.proofs.lemmas.Option.{same_Some}
 use Rattle.std.proofs.lemmas.List.{length_push}
@@ -72,8 +72,8 @@ block_of-found [] agent block e = absurd cc
 block_of-found (b ∷ blocks) agent block e = elim (cases_eq b.agent agent) [
   | inl same ↦ let is : b ≡ block = same_Some b block (rw (eq-eqb b.agent agent same) at e) in (0, omega arith, λ d. is, ap (λ (x : LabelBlock). x.agent) (sym is) ∙ same)
   | inr other ↦
-    let (k, within, at, is) = block_of-found blocks agent block (rw (ne_eqb b.agent agent other) at e) in
-    (suc k, omega arith, at, is)
+      let (k, within, at, is) = block_of-found blocks agent block (rw (ne_eqb b.agent agent other) at e) in
+      (suc k, omega arith, at, is)
 ]
 
 pub label_sum-never : (labels : List Label) → Contains labels Never → label_sum labels ≡ Never

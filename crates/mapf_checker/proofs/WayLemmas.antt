@@ -1,5 +1,5 @@
 -- The way while turns are taken and undone.
-use Rattle.std.proofs.Common.{◌≡◌, ℕ, List, [], ◌∷◌, ◌++◌, fold, refl, subst}
+use Rattle.std.proofs.Common.{◌≡◌, ℕ, List, [], ◌∷◌, ◌++◌, fold, refl}
 use Rattle.mapf_model.specs.declared.bar.Bar.{Bar}
 use Rattle.mapf_model.specs.Tree.{root, with_bar}
 use Rattle.mapf_checker.specs.declared.way.Turn.{Turn}

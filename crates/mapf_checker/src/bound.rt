@@ -43,7 +43,11 @@ pub fn left_of(conflict: &Conflict) -> AgentBar
             bar: Bar::Cell { cell, tick },
         },
         Conflict::Swap {
-            i, from, to, tick, ..
+            i,
+            from,
+            to,
+            tick,
+            ..
         } => AgentBar {
             agent: i,
             bar: Bar::Move { from, to, tick },
@@ -61,7 +65,11 @@ pub fn right_of(conflict: &Conflict) -> AgentBar
             bar: Bar::Cell { cell, tick },
         },
         Conflict::Swap {
-            j, from, to, tick, ..
+            j,
+            from,
+            to,
+            tick,
+            ..
         } => AgentBar {
             agent: j,
             bar: Bar::Move {

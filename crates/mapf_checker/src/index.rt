@@ -108,11 +108,7 @@ fn remove_if_new(bars: &mut HashMap<AgentBar, ()>, bound: &AgentBar, is_new: boo
 }
 
 // Sees to the last tick of a cell that is barred at this tick too, and answers what it was.
-fn raise_last(
-    lasts: &mut HashMap<AgentCell, Tick>,
-    seen: AgentCell,
-    tick: Tick,
-) -> Option<Tick>
+fn raise_last(lasts: &mut HashMap<AgentCell, Tick>, seen: AgentCell, tick: Tick) -> Option<Tick>
     requires { 0 < spare lasts.old }
     ensures before { result ≡ get same_cell lasts.old seen }
     ensures here { get same_cell lasts.new seen ≡ Some (max (unwrap_or result 0) tick) }

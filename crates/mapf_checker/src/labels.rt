@@ -3,9 +3,9 @@ ghost use Rattle.mapf_model.specs.Labels.{entries_of, IsLabel, IsDistanceLabel, 
 ghost use Rattle.mapf_model.specs.Printed.{IsBefore};
 ghost use Rattle.mapf_checker.specs.Order.{StandsTo};
 
-use std::cmp::Ordering;
 use mapf_distance::Distances;
 use mapf_model::{Cell, Entry, Label, Tick};
+use std::cmp::Ordering;
 
 /// The entry of a state in a block.
 pub fn entry_at(entries: &[Entry], cell: Cell, tick: Tick) -> Option<Label>

@@ -124,8 +124,15 @@ impl Progress {
     {
         laws::items_are_judged_by_front();
         self.see_to_tables(alloc, problem)?;
-        if let Err(fault) = judge_leaf(alloc, problem, &self.tables, &self.way, claim, blocks, line)
-        {
+        if let Err(fault) = judge_leaf(
+            alloc,
+            problem,
+            &self.tables,
+            &self.way,
+            claim,
+            blocks,
+            line,
+        ) {
             return Err(FromFault::Refused(fault));
         }
         self.end()
@@ -190,9 +197,8 @@ fn is_proper_split(problem: &Problem, conflict: &Conflict) -> bool
     let grid = problem.grid();
     match *conflict {
         Conflict::Vertex { i, j, cell, .. } => are_two_agents(problem, i, j) && grid.is_free(cell),
-        Conflict::Swap {
-            i, j, from, to, ..
-        } => are_two_agents(problem, i, j) && are_adjacent(grid, from, to),
+        Conflict::Swap { i, j, from, to, .. } => are_two_agents(problem, i, j)
+            && are_adjacent(grid, from, to),
     }
 }
 

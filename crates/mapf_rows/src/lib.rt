@@ -1,11 +1,10 @@
 //! Do the crates together give the bytes of the worked examples?
 #![tactic(auto)]
 
-pub mod runs;
-
 #[cfg(test)]
 mod checking;
 #[cfg(test)]
 mod faults;
+pub mod runs;
 #[cfg(test)]
 mod solving;

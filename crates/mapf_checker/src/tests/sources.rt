@@ -2,6 +2,7 @@ use crate::samples::{CROSSING_CERT, CROSSING_PLAN, crossing, problem, text};
 use crate::{CheckFault, FromFault, Verdict, check_from};
 use mapf_certificate::CertFault;
 use mapf_model::{Failed, Source};
+use std::alloc::Global;
 use std::test::Fail;
 
 // Bytes that come in pieces: the first of this length, and the others of at most this one.
@@ -20,7 +21,7 @@ impl<'a> Source for Pieces<'a> {
     ghost has_failed = { λ s. false };
 
     fn pull(&mut self, buf: &mut [u8]) -> Result<usize, Failed> {
-        let n = self.bytes.len().min(buf.len()).min(self.first);
+        let n = self.bytes.len().min(buf.len()).min(self.first.max(1));
         self.first = self.others;
         let (front, rest) = self.bytes.split_at(n);
         buf[..n].copy_from_slice(front);
@@ -45,37 +46,55 @@ fn reads_pieces(rt: HostRuntime) -> Result<(), Fail> {
             first,
             others: 128,
         };
-        assert_eq!(rt; check_from(alloc, &crossing, plan, &mut source, 111), Ok(Verdict::Optimal(5)));
+        assert_eq!(rt;
+            check_from(alloc, &crossing, plan, &mut source, 111),
+            Ok(Verdict::Optimal(5))
+        );
     }
     let mut source = Pieces {
         bytes,
         first: 1,
         others: 1,
     };
-    assert_eq!(rt; check_from(alloc, &crossing, plan, &mut source, 111), Ok(Verdict::Optimal(5)));
+    assert_eq!(rt;
+        check_from(alloc, &crossing, plan, &mut source, 111),
+        Ok(Verdict::Optimal(5))
+    );
     Ok(())
+}
+
+// The answer to a certificate for the crossing, of which so many bytes may come.
+fn limited(alloc: Global, cert: &[u8], limit: u64) -> Result<Result<Verdict, FromFault>, Fail> {
+    let crossing = crossing(alloc)?;
+    let mut source = Pieces {
+        bytes: cert,
+        first: 128,
+        others: 128,
+    };
+    Ok(check_from(
+        alloc,
+        &crossing,
+        CROSSING_PLAN.as_bytes(),
+        &mut source,
+        limit,
+    ))
 }
 
 #[test]
 fn keeps_the_limit(rt: HostRuntime) -> Result<(), Fail> {
     let alloc = rt.alloc();
-    let crossing = crossing(alloc)?;
-    let plan = CROSSING_PLAN.as_bytes();
     let longer = format!(in alloc; "{CROSSING_CERT}x")?;
-    let cases = [
-        (CROSSING_CERT, 111, Ok(Verdict::Optimal(5))),
-        (CROSSING_CERT, 110, Err(FromFault::TooLong)),
-        (longer.as_str(), 111, Err(FromFault::TooLong)),
-        (longer.as_str(), 112, Err(FromFault::Refused(CheckFault::C2(CertFault::K4(12))))),
-    ];
-    for (cert, limit, expected) in cases {
-        let mut source = Pieces {
-            bytes: cert.as_bytes(),
-            first: 128,
-            others: 128,
-        };
-        assert_eq!(rt; check_from(alloc, &crossing, plan, &mut source, limit), expected);
-    }
+    let whole = CROSSING_CERT.as_bytes();
+    assert_eq!(rt; limited(alloc, whole, 111)?, Ok(Verdict::Optimal(5)));
+    assert_eq!(rt; limited(alloc, whole, 110)?, Err(FromFault::TooLong));
+    assert_eq!(rt;
+        limited(alloc, longer.as_bytes(), 111)?,
+        Err(FromFault::TooLong)
+    );
+    assert_eq!(rt;
+        limited(alloc, longer.as_bytes(), 112)?,
+        Err(FromFault::Refused(CheckFault::C2(CertFault::K4(12))))
+    );
     Ok(())
 }
 
@@ -108,9 +127,15 @@ fn pulls_only_after_a_good_plan(rt: HostRuntime) -> Result<(), Fail> {
     let crossing = crossing(alloc)?;
     let mut source = Broken { is_failed: false };
     let limit = text(alloc, "plan", 2, "limit 3\n")?;
-    assert_eq!(rt; check_from(alloc, &crossing, limit.as_bytes(), &mut source, 999), Err(FromFault::Refused(CheckFault::C4)));
+    assert_eq!(rt;
+        check_from(alloc, &crossing, limit.as_bytes(), &mut source, 999),
+        Err(FromFault::Refused(CheckFault::C4))
+    );
     assert!(rt; !source.failed());
-    assert_eq!(rt; check_from(alloc, &crossing, CROSSING_PLAN.as_bytes(), &mut source, 999), Err(FromFault::Device));
+    assert_eq!(rt;
+        check_from(alloc, &crossing, CROSSING_PLAN.as_bytes(), &mut source, 999),
+        Err(FromFault::Device)
+    );
     Ok(())
 }
 
@@ -180,25 +205,24 @@ impl WholeTree {
 }
 
 fn split_at(depth: u32) -> &'static [u8] {
-    const LINES: [&[u8]; 16] = [
-        b"vertex 0 1 0,0 0\n",
-        b"vertex 0 1 0,0 1\n",
-        b"vertex 0 1 0,0 2\n",
-        b"vertex 0 1 0,0 3\n",
-        b"vertex 0 1 0,0 4\n",
-        b"vertex 0 1 0,0 5\n",
-        b"vertex 0 1 0,0 6\n",
-        b"vertex 0 1 0,0 7\n",
-        b"vertex 0 1 0,0 8\n",
-        b"vertex 0 1 0,0 9\n",
-        b"vertex 0 1 0,0 10\n",
-        b"vertex 0 1 0,0 11\n",
-        b"vertex 0 1 0,0 12\n",
-        b"vertex 0 1 0,0 13\n",
-        b"vertex 0 1 0,0 14\n",
-        b"vertex 0 1 0,0 15\n",
-    ];
-    LINES[(depth % 16) as usize]
+    match depth {
+        0 => b"vertex 0 1 0,0 0\n",
+        1 => b"vertex 0 1 0,0 1\n",
+        2 => b"vertex 0 1 0,0 2\n",
+        3 => b"vertex 0 1 0,0 3\n",
+        4 => b"vertex 0 1 0,0 4\n",
+        5 => b"vertex 0 1 0,0 5\n",
+        6 => b"vertex 0 1 0,0 6\n",
+        7 => b"vertex 0 1 0,0 7\n",
+        8 => b"vertex 0 1 0,0 8\n",
+        9 => b"vertex 0 1 0,0 9\n",
+        10 => b"vertex 0 1 0,0 10\n",
+        11 => b"vertex 0 1 0,0 11\n",
+        12 => b"vertex 0 1 0,0 12\n",
+        13 => b"vertex 0 1 0,0 13\n",
+        14 => b"vertex 0 1 0,0 14\n",
+        _ => b"vertex 0 1 0,0 15\n",
+    }
 }
 
 #[test]

@@ -1,4 +1,4 @@
-use Rattle.std.proofs.Common.{◌≡◌, [], rules}
+use Rattle.std.proofs.Common.{[], rules}
 use Rattle.mapf_model.specs.Tree.{node_of}
 use Rattle.mapf_checker.specs.Way.{place_of}
 use Rattle.mapf_checker.specs.Progress.{owed_by}

@@ -1,4 +1,4 @@
-use Rattle.std.proofs.Common.{◌≡◌, ◌+◌, IsTrue, true, rules}
+use Rattle.std.proofs.Common.{IsTrue}
 use Rattle.std.proofs.lemmas.Bool.{iff_false}
 use Rattle.mapf_checker.proofs.judge.is_sound.Goals as goal
 

@@ -1,5 +1,5 @@
-use Rattle.std.proofs.Common.{◌≡◌, ℕ, ◌+◌, ◌<◌, ◌≤◌, length, slice_index_or, true, refl, sym, subst, ⊎_elim, arith}
-use Rattle.std.proofs.lemmas.Bool.{cases_lt, false≢true, iff_false}
+use Rattle.std.proofs.Common.{◌≡◌, ◌<◌, slice_index_or, refl, sym, subst, ⊎_elim, arith}
+use Rattle.std.proofs.lemmas.Bool.{cases_lt, iff_false}
 use Rattle.std.proofs.lemmas.Option.{slice_get_read, get_or_from_slice_get}
 use Rattle.mapf_model.specs.declared.label.Entry.{Entry}
 use Rattle.mapf_model.specs.Labels.{entries_of, IsSoundEntry}
@@ -13,7 +13,7 @@ returns-then-not-is_sound-clause-some c =
     let entries = c.args.entries.now in
     let read = slice_get_read entries _ c.loop-k.k c.index-entries-k.result refl c.loop-k-test.true c.index-entries-k.is in
     λ sound. iff_false c.is_sound.ensures c.if-not-is_sound.true
-        (IsSoundEntry-at ground.grid.now ground.goal (bars_on ground) entries c.requires.rising c.loop-k.k c.index-entries-k.result c.loop-k-test.true (λ d. get_or_from_slice_get entries c.loop-k.k c.index-entries-k.result d read) sound)
+    (IsSoundEntry-at ground.grid.now ground.goal (bars_on ground) entries c.requires.rising c.loop-k.k c.index-entries-k.result c.loop-k-test.true (λ d. get_or_from_slice_get entries c.loop-k.k c.index-entries-k.result d read) sound)
 
 pub loop-k-preserved : goal.loop-k-preserved
 loop-k-preserved c =
@@ -21,11 +21,11 @@ loop-k-preserved c =
     let entries = c.args.entries.now in
     let read = slice_get_read entries _ c.loop-k.k c.index-entries-k.result refl c.loop-k-test.true c.index-entries-k.is in
     λ k d within. ⊎_elim
-        (λ (less : k < c.loop-k.k). c.loop-k.invariant k d less)
-        (λ past. let same : k ≡ c.loop-k.k = omega arith in
-            subst (λ j. IsSoundEntry ground.grid.now ground.goal (bars_on ground) (entries_of entries) (slice_index_or entries j d).cell (slice_index_or entries j d).tick (slice_index_or entries j d).label) (sym same)
-            (subst (λ (e : Entry). IsSoundEntry ground.grid.now ground.goal (bars_on ground) (entries_of entries) e.cell e.tick e.label) (sym (get_or_from_slice_get entries c.loop-k.k c.index-entries-k.result d read)) (c.is_sound.ensures.0 c.if-not-is_sound.false)))
-        (cases_lt k c.loop-k.k)
+    (λ (less : k < c.loop-k.k). c.loop-k.invariant k d less)
+    (λ past. let same : k ≡ c.loop-k.k = omega arith in
+    subst (λ j. IsSoundEntry ground.grid.now ground.goal (bars_on ground) (entries_of entries) (slice_index_or entries j d).cell (slice_index_or entries j d).tick (slice_index_or entries j d).label) (sym same)
+    (subst (λ (e : Entry). IsSoundEntry ground.grid.now ground.goal (bars_on ground) (entries_of entries) e.cell e.tick e.label) (sym (get_or_from_slice_get entries c.loop-k.k c.index-entries-k.result d read)) (c.is_sound.ensures.0 c.if-not-is_sound.false)))
+    (cases_lt k c.loop-k.k)
 
 pub returns-clause-none : goal.returns-clause-none
 returns-clause-none c =

@@ -1,7 +1,6 @@
 use Rattle.std.proofs.Common.{◌≡◌, ◌<◌, Result, Ok, Err, OnErr, slice_index_or, refl, sym, subst, ⊎_elim, arith}
 use Rattle.std.proofs.lemmas.Bool.{cases_lt}
 use Rattle.std.proofs.lemmas.Option.{slice_get_read, get_or_from_slice_get}
-use Rattle.mapf_model.specs.Blocks.{LabelBlock}
 use Rattle.mapf_checker.specs.Leaf.{IsOrderly, IsGoodBlock}
 use Rattle.mapf_checker.specs.Way.{place_of}
 use Rattle.mapf_checker.proofs.leaf.judge_blocks.Goals as goal
@@ -25,11 +24,11 @@ loop-block-preserved c =
     let here = (place_of c.args.way.now).here in
     let read = slice_get_read blocks _ c.loop-block.block-index c.block-item.result refl c.loop-block-test.true c.block-item.is in
     λ k d within. ⊎_elim
-        (λ (less : k < c.loop-block.block-index). c.loop-block.invariant k d less)
-        (λ past. let same : k ≡ c.loop-block.block-index = omega arith in
-            subst (λ j. IsGoodBlock c.args.problem.now here (slice_index_or blocks j d)) (sym same)
-            (subst (λ b. IsGoodBlock c.args.problem.now here b) (sym (get_or_from_slice_get blocks c.loop-block.block-index c.block-item.result d read)) c.in_ok-judge_block.ensures.ok))
-        (cases_lt k c.loop-block.block-index)
+    (λ (less : k < c.loop-block.block-index). c.loop-block.invariant k d less)
+    (λ past. let same : k ≡ c.loop-block.block-index = omega arith in
+    subst (λ j. IsGoodBlock c.args.problem.now here (slice_index_or blocks j d)) (sym same)
+    (subst (λ b. IsGoodBlock c.args.problem.now here b) (sym (get_or_from_slice_get blocks c.loop-block.block-index c.block-item.result d read)) c.in_ok-judge_block.ensures.ok))
+    (cases_lt k c.loop-block.block-index)
 
 pub returns-clause-ok : goal.returns-clause-ok
 returns-clause-ok c k d within = c.loop-block.invariant k d (omega arith)

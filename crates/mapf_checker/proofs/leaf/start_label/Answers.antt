@@ -1,7 +1,5 @@
-use Rattle.std.proofs.Common.{◌≡◌, ◌<◌, AllPairs, length, Some, refl, sym, ◌∙◌, ap, subst, arith}
+use Rattle.std.proofs.Common.{◌<◌, length, Some, refl, sym, ◌∙◌, ap, subst, arith}
 use Rattle.std.proofs.lemmas.Option.{slice_get_read}
-use Rattle.mapf_model.specs.Blocks.{LabelBlock}
-use Rattle.mapf_model.specs.Printed.{IsBefore}
 use Rattle.mapf_checker.specs.Leaf.{IsOrderly}
 use Rattle.mapf_checker.proofs.StartLemmas.{start_by_block, start_by_distance}
 use Rattle.mapf_checker.proofs.leaf.start_label.Goals as goal

@@ -1,4 +1,4 @@
-use Rattle.std.proofs.Common.{◌≡◌, ◌<◌, length, ap, arith}
+use Rattle.std.proofs.Common.{◌<◌, length, ap, arith}
 use Rattle.mapf_checker.proofs.StartLemmas.{start_more, bound_more}
 use Rattle.mapf_checker.proofs.leaf.start_total.Goals as goal
 

@@ -1,4 +1,4 @@
-use Rattle.std.proofs.Common.{◌≡◌, ℕ, ◌*◌, ◌<◌, ◌≤◌, List, Some, IfSome, length, slice_get}
+use Rattle.std.proofs.Common.{◌≡◌, ◌*◌, ◌≤◌, List, IfSome, length}
 use Rattle.mapf_model.specs.declared.label.Label.{Label}
 use Rattle.mapf_model.specs.Labels.{label_sum}
 use Rattle.mapf_checker.specs.Leaf.{label_of, IsCut}

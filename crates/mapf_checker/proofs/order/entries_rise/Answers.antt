@@ -1,4 +1,4 @@
-use Rattle.std.proofs.Common.{◌≡◌, ◌-◌, ◌<◌, length, slice_index_or, refl, sym, subst, arith}
+use Rattle.std.proofs.Common.{◌-◌, ◌<◌, length, slice_index_or, refl, sym, subst, arith}
 use Rattle.std.proofs.lemmas.Option.{slice_get_read, get_or_from_slice_get}
 use Rattle.mapf_model.specs.declared.label.Entry.{Entry}
 use Rattle.mapf_model.specs.Printed.{IsBefore}

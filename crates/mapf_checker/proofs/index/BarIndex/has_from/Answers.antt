@@ -1,4 +1,4 @@
-use Rattle.std.proofs.Common.{◌≡◌, ℕ, Some, None, sym, ◌∙◌, arith}
+use Rattle.std.proofs.Common.{◌≡◌, Some, None, sym, ◌∙◌, arith}
 use Rattle.std.proofs.lemmas.Bool.{leb-true, le-leb}
 use Rattle.std.proofs.lemmas.Option.{same_Some}
 use Rattle.mapf_checker.specs.declared.bound.AgentCell.{AgentCell}
@@ -12,9 +12,9 @@ returns-in-Some c bars indexed =
     let is : last_on (bars c.args.agent) c.args.cell ≡ Some c.in-Some.last.now = sym (indexed.last seen) ∙ sym c.in-Some.ensures.value in (
       λ yes. (c.in-Some.last.now, leb-true _ _ yes, last_on-stands (bars c.args.agent) c.args.cell c.in-Some.last.now is),
       λ there.
-      let (last, covers, late) = last_on-covers (bars c.args.agent) c.args.cell there.0 there.2 in
-      let same : last ≡ c.in-Some.last.now = same_Some last c.in-Some.last.now (sym covers ∙ is) in
-      le-leb _ _ (omega (arith, there.1)),
+          let (last, covers, late) = last_on-covers (bars c.args.agent) c.args.cell there.0 there.2 in
+          let same : last ≡ c.in-Some.last.now = same_Some last c.in-Some.last.now (sym covers ∙ is) in
+          le-leb _ _ (omega (arith, there.1)),
     )
 
 pub returns-in-None : goal.returns-in-None
@@ -23,6 +23,6 @@ returns-in-None c bars indexed =
     let is : last_on (bars c.args.agent) c.args.cell ≡ None = sym (indexed.last seen) ∙ sym c.in-None.ensures.value in (
       λ no. absurd cc,
       λ there.
-      let (last, covers, late) = last_on-covers (bars c.args.agent) c.args.cell there.0 there.2 in
-      absurd cc,
+          let (last, covers, late) = last_on-covers (bars c.args.agent) c.args.cell there.0 there.2 in
+          absurd cc,
     )

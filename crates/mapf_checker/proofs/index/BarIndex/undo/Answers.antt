@@ -1,4 +1,4 @@
-use Rattle.std.proofs.Common.{◌≡◌, ℕ, Some, None, sym, ◌∙◌}
+use Rattle.std.proofs.Common.{sym, ◌∙◌}
 use Rattle.std.specs.HashMap.{get}
 use Rattle.mapf_checker.specs.Keys.{same_bar, same_cell}
 use Rattle.mapf_checker.proofs.IndexLemmas.{stand_taken, last_taken, last_unmoved}
