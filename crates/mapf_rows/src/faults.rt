@@ -6,15 +6,6 @@ use std::test::Fail;
 
 const CORNER: &str = "type octile\nheight 2\nwidth 3\nmap\n..T\n...\n";
 
-// One agent from the first cell, with the rest of its row.
-fn corner(scen: &'static str, k: u32) -> Given {
-    Given {
-        map: CORNER,
-        scen,
-        k,
-    }
-}
-
 #[test]
 fn names_the_fault_of_a_scenario(rt: HostRuntime) -> Result<(), Fail> {
     for (scen, k, fault) in [
@@ -40,16 +31,27 @@ fn names_the_fault_of_a_scenario(rt: HostRuntime) -> Result<(), Fail> {
         ),
     ] {
         assert!(rt; 1 <= k && k <= 200);
-        let solved = solve(rt.alloc(), &corner(scen, k), 0)?;
+        let given = Given {
+            map: CORNER,
+            scen,
+            k,
+        };
+        let solved = solve(rt.alloc(), &given, 0)?;
         assert_eq!(rt; solved.answer, Err(Fault::F2(fault)), "of {scen}");
         assert_eq!(rt; solved.plan.bytes(), b"".as_slice());
     }
-    let exponent = solve(
-        rt.alloc(),
-        &corner("version 1\n0 a 3 2 0 0 1 0 1e+02\n", 1),
-        0,
-    )?;
-    assert_eq!(rt; exponent.answer, Ok(Kind::Found(1)));
+    Ok(())
+}
+
+#[test]
+fn takes_a_length_with_an_exponent(rt: HostRuntime) -> Result<(), Fail> {
+    let given = Given {
+        map: CORNER,
+        scen: "version 1\n0 a 3 2 0 0 1 0 1e+02\n",
+        k: 1,
+    };
+    let solved = solve(rt.alloc(), &given, 0)?;
+    assert_eq!(rt; solved.answer, Ok(Kind::Found(1)));
     Ok(())
 }
 
