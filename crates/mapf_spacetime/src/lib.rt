@@ -1,0 +1,20 @@
+//! What is a cheapest path of one agent under its bars, and why is none cheaper?
+#![tactic(auto)]
+
+mod cheapest;
+mod entries;
+mod found;
+mod frontier;
+mod ground;
+mod labels;
+
+mod state;
+mod state_set;
+mod way;
+
+pub use found::Found;
+pub use labels::{Labels, label_at};
+pub use cheapest::search;
+
+#[cfg(test)]
+mod tests;
