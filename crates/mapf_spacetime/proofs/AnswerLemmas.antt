@@ -1,15 +1,15 @@
 -- How a search starts and ends.
-use Rattle.std.proofs.Common.{◌≡◌, inl, inr, ⊎_elim, ℕ, ◌+◌, ◌-◌, ◌*◌, ◌<◌, ◌≤◌, true, false, Some, None, List, [], ◌∷◌, All, Contains, length, slice_index_or, refl, sym, ap, subst, ◌∙◌, arith}
+use Rattle.std.proofs.Common.{◌≡◌, inl, inr, ⊎_elim, ℕ, ◌-◌, ◌<◌, ◌≤◌, false, Some, None, List, [], ◌∷◌, All, Contains, length, slice_index_or, sym, subst, ◌∙◌, arith}
 use Rattle.std.proofs.lemmas.Bool.{cases_lt, false≢true}
 use Rattle.std.proofs.lemmas.List.{get_or_past}
 use Rattle.std.proofs.lemmas.List.Elements.{Contains-push, Contains-get_or}
 use Rattle.mapf_model.specs.declared.bar.Bar.TheVariants.{Cell}
 use Rattle.mapf_model.specs.declared.label.Entry.{Entry}
-use Rattle.mapf_model.specs.declared.label.Label.TheVariants.{Ticks, Never}
+use Rattle.mapf_model.specs.declared.label.Label.TheVariants.{Never}
 use Rattle.mapf_model.specs.Bars.{Satisfies}
 use Rattle.mapf_model.specs.Distance.{IsDistance, IsUnreachable}
 use Rattle.mapf_model.specs.Grid.{GridMap, IsFree, IsGridMap}
-use Rattle.mapf_model.specs.Labels.{entries_of, IsLabel, IsSoundEntry}
+use Rattle.mapf_model.specs.Labels.{entries_of, IsSoundEntry}
 use Rattle.mapf_model.specs.Path.{at, IsPath, IsCost}
 use Rattle.mapf_model.specs.Printed.{IsLabelInRange, IsEntryInRange, IsOnGrid, IsTight}
 use Rattle.mapf_spacetime.specs.declared.state.State.{State}
@@ -19,7 +19,7 @@ use Rattle.mapf_spacetime.specs.Listed.{AreEntriesOf}
 use Rattle.mapf_spacetime.specs.Answer.{AreGoodLabels, IsArrival, ShowNone}
 use Rattle.mapf_spacetime.proofs.ValueLemmas.{value_free}
 use Rattle.mapf_spacetime.proofs.FrontierLemmas.{none_held, one_held, reached_within}
-use Rattle.mapf_spacetime.proofs.LabelLemmas.{entry_is, entry_none, entry_there, listed_label, never_label, distance_label, sound_spent, start_spent}
+use Rattle.mapf_spacetime.proofs.LabelLemmas.{entry_is, entry_none, entry_there, listed_label, never_label, sound_spent, start_spent}
 
 pub first_frontier : (task : Task) (first : ℕ) → IsValue task (start_of task) first → IsFrontier task [] (first_states (start_of task) first)
 first_frontier task first is = record {

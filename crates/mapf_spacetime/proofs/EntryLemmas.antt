@@ -167,5 +167,5 @@ pairs_rise entries rising i j e less within = by j less within
         (λ (here : n ≤ i). let same : n ≡ i = omega arith in subst (λ k. IsBefore (slice_index_or entries k e) (slice_index_or entries (suc n) e)) same (step n in_list))
         (cases_lt i n)
       where
-      step : (k : ℕ) → suc k < length entries → IsBefore (slice_index_or entries k e) (slice_index_or entries (suc k) e)
-      step k lt2 = let one : k + 1 ≡ suc k = omega arith in subst (λ m. IsBefore (slice_index_or entries k e) (slice_index_or entries m e)) one (rising k e (omega arith))
+        step : (k : ℕ) → suc k < length entries → IsBefore (slice_index_or entries k e) (slice_index_or entries (suc k) e)
+        step k lt2 = let one : k + 1 ≡ suc k = omega arith in subst (λ m. IsBefore (slice_index_or entries k e) (slice_index_or entries m e)) one (rising k e (omega arith))

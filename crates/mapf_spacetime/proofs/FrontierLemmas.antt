@@ -1,6 +1,5 @@
 -- A frontier stays one when states are added to it.
-use Rattle.std.proofs.Common.{◌≡◌, ◌⊎◌, ◌↔◌, inl, inr, ⊎_elim, ℕ, ◌+◌, ◌<◌, ◌≤◌, List, [], ◌∷◌, ◌++◌, length, take, slice_index_or, Contains, refl, sym, ap, subst, ◌∙◌, arith, length-append}
-use Rattle.std.proofs.lemmas.Bool.{cases_lt}
+use Rattle.std.proofs.Common.{◌≡◌, ◌⊎◌, ◌↔◌, inl, inr, ⊎_elim, ℕ, ◌+◌, ◌<◌, ◌≤◌, List, [], ◌∷◌, ◌++◌, length, slice_index_or, Contains, refl, sym, ap, subst, ◌∙◌, arith, length-append}
 use Rattle.std.proofs.lemmas.List.{get_or_default, take-append-le}
 use Rattle.std.proofs.lemmas.List.Elements.{Contains-append_left, Contains-push, Contains-push_cases}
 use Rattle.mapf_model.specs.Distance.{IsUnreachable}
@@ -8,7 +7,7 @@ use Rattle.mapf_model.specs.Grid.{Step}
 use Rattle.mapf_model.specs.Labels.{MayGo}
 use Rattle.mapf_spacetime.specs.declared.state.State.{State}
 use Rattle.mapf_spacetime.specs.Task.{Task, Goes, IsValue, IsWithin, IsPast, IsBarredLater, MayRestFrom, state_at, start_of}
-use Rattle.mapf_spacetime.specs.States.{States, with_reached, with_open, with_waiting, low_states, IsKnown, IsEntered, IsTaken, IsClosed, IsFrontier, Keeps, Takes, HasArrived}
+use Rattle.mapf_spacetime.specs.States.{States, with_reached, with_open, with_waiting, low_states, IsKnown, IsTaken, IsClosed, IsFrontier, Keeps, Takes, HasArrived}
 use Rattle.mapf_spacetime.proofs.ValueLemmas.{below_within, level_within, at_goal}
 
 pub none_held : {X : Type 0} (x : X) → Contains [] x → ⊥

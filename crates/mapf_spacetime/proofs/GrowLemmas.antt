@@ -1,5 +1,5 @@
 -- A frontier at the next cost, and why the costs end.
-use Rattle.std.proofs.Common.{◌≡◌, ◌⊎◌, inl, inr, ⊎_elim, ℕ, zero, suc, ◌+◌, ◌<◌, ◌≤◌, List, [], ◌∷◌, ◌++◌, length, take, slice_index_or, Contains, refl, sym, ap, subst, ◌∙◌, arith}
+use Rattle.std.proofs.Common.{◌≡◌, ◌⊎◌, inl, inr, ⊎_elim, ℕ, zero, suc, ◌+◌, ◌<◌, ◌≤◌, List, [], ◌∷◌, ◌++◌, length, slice_index_or, Contains, refl, sym, ap, subst, ◌∙◌, arith}
 use Rattle.std.proofs.lemmas.Bool.{cases_lt}
 use Rattle.std.proofs.lemmas.List.{get_or_default, take_all}
 use Rattle.std.proofs.lemmas.List.Elements.{Contains-append_left, Contains-push, Contains-push_cases}
@@ -9,7 +9,7 @@ use Rattle.mapf_model.specs.Grid.{free_cell_count}
 use Rattle.mapf_model.specs.Labels.{MayGo}
 use Rattle.mapf_constraints.specs.BarSets.{AreBefore}
 use Rattle.mapf_spacetime.specs.declared.state.State.{State}
-use Rattle.mapf_spacetime.specs.Task.{Task, Goes, IsValue, IsWithin, IsBelow, IsPast, IsNotBelow, IsBarredLater, state_at, start_of}
+use Rattle.mapf_spacetime.specs.Task.{Task, IsValue, IsPast, IsNotBelow, state_at, start_of}
 use Rattle.mapf_spacetime.specs.States.{States, with_open, with_waiting, raised, IsKnown, IsFrontier, IsWalked, Places, IsBelowLimit}
 use Rattle.mapf_spacetime.proofs.FrontierLemmas.{none_held, IsClosed-known, reached_within}
 
@@ -161,7 +161,7 @@ pub waiting_known : (task : Task) (states : States) → IsWalked task states →
 waiting_known task states w small s waits =
     let (value, is, more) = w.frontier.past s waits in
     let tick : s.tick ≤ 10000000 = ⊎_elim
-        (λ start. let t = ap (λ q. q.tick) start in omega arith)
-        (λ entered. let (from, reached, goes) = entered in let (v, v_is, le) = reached_within task [] states w.frontier from reached in let sum = v_is.sum in let t = goes.tick in omega arith)
-        (w.frontier.entered s (inr (inr waits))) in
+    (λ start. let t = ap (λ q. q.tick) start in omega arith)
+    (λ entered. let (from, reached, goes) = entered in let (v, v_is, le) = reached_within task [] states w.frontier from reached in let sum = v_is.sum in let t = goes.tick in omega arith)
+    (w.frontier.entered s (inr (inr waits))) in
     ((value, is, omega arith), tick)

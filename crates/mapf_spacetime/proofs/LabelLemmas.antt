@@ -1,6 +1,6 @@
 -- The labels of a search are sound.
 use Rattle.std.proofs.Common.{◌≡◌, ◌⊎◌, inl, ⊎_elim, ℕ, zero, suc, ◌+◌, ◌-◌, ◌<◌, ◌≤◌, Bool, true, false, ◌==◌, ◌&&◌, cond, take, drop, add-one, drop-cons, Option, Some, None, List, [], ◌∷◌, length, slice_index_or, Contains, find, option_map, refl, sym, ap, subst, ◌∙◌, arith}
-use Rattle.std.proofs.lemmas.Bool.{cases_lt, eqb-true, eq-eqb}
+use Rattle.std.proofs.lemmas.Bool.{eqb-true, eq-eqb}
 use Rattle.mapf_model.specs.declared.label.Entry.{Entry}
 use Rattle.mapf_model.specs.declared.label.Label.{Label}
 use Rattle.mapf_model.specs.declared.label.Label.TheVariants.{Ticks, Never}
@@ -8,8 +8,8 @@ use Rattle.mapf_model.specs.Distance.{IsDistance, IsUnreachable}
 use Rattle.mapf_model.specs.Grid.{GridMap}
 use Rattle.mapf_model.specs.Labels.{entries_of, AreSound, IsSoundEntry, IsLabel, IsEntryOrDistance, IsWithinOne, MayGo}
 use Rattle.mapf_spacetime.specs.declared.state.State.{State}
-use Rattle.mapf_spacetime.specs.Task.{Task, IsValue, IsBelow, IsBarredLater, state_at, start_of}
-use Rattle.mapf_spacetime.specs.States.{States, with_open, low_states, HasArrived, IsSpent}
+use Rattle.mapf_spacetime.specs.Task.{Task, IsValue, state_at, start_of}
+use Rattle.mapf_spacetime.specs.States.{States, low_states, HasArrived, IsSpent}
 use Rattle.mapf_spacetime.specs.Listed.{label_of, AreEntriesOf}
 use Rattle.mapf_spacetime.proofs.ValueLemmas.{value_unique, value_none}
 use Rattle.mapf_spacetime.proofs.FrontierLemmas.{none_held, reached_within}

@@ -1,5 +1,5 @@
 -- Walks of states as paths.
-use Rattle.std.proofs.Common.{◌≡◌, ◌≢◌, ◌⊎◌, inl, inr, ⊎_elim, ℕ, zero, suc, ◌+◌, ◌-◌, ◌<◌, ◌≤◌, min, List, [], length, slice_index, slice_index_or, Contains, sym, ap, subst, ◌∙◌, arith}
+use Rattle.std.proofs.Common.{◌≡◌, ◌≢◌, inl, inr, ⊎_elim, ℕ, zero, suc, ◌+◌, ◌-◌, ◌<◌, ◌≤◌, min, List, length, slice_index, slice_index_or, Contains, sym, ap, subst, ◌∙◌, arith}
 use Rattle.std.proofs.lemmas.Bool.{cases_lt}
 use Rattle.std.proofs.lemmas.List.{get_or_default}
 use Rattle.mapf_model.specs.Grid.{GridMap, Step}
@@ -10,10 +10,9 @@ use Rattle.mapf_model.specs.Laws.{NeighboursMakePaths}
 use Rattle.mapf_model.specs.Path.{at, IsPath, IsLawful, IsCost}
 use Rattle.mapf_model.specs.Printed.{IsTight}
 use Rattle.mapf_model.proofs.PathLemmas.{IsCost-from_end}
-use Rattle.mapf_spacetime.specs.declared.state.State.{State}
 use Rattle.mapf_spacetime.specs.Task.{Task, Goes, IsValue, IsOpen, MayRestFrom, agent_of, state_at, start_of}
-use Rattle.mapf_spacetime.specs.States.{States, with_open, HasArrived}
-use Rattle.mapf_spacetime.specs.Way.{state_of, IsWayFrom, IsWholeWay}
+use Rattle.mapf_spacetime.specs.States.{States, HasArrived}
+use Rattle.mapf_spacetime.specs.Way.{state_of, IsWholeWay}
 use Rattle.mapf_spacetime.proofs.ValueLemmas.{value_free, value_unique, value_none, no_lower}
 use Rattle.mapf_spacetime.proofs.FrontierLemmas.{none_held}
 
@@ -105,9 +104,9 @@ module _ (task : Task) (states : States) (cells : List ℕ) (h : HasArrived task
       let (value, v, le) = w.way.within (states.cost - 1) (omega arith) in
       let here : state_of cells (states.cost - 1) ≡ state_at task.goal (states.cost - 1) = ap (λ c. state_at c (states.cost - 1)) is in
       let none : value ≡ states.cost - 1 = (
-        let free = value_free task (state_of cells (states.cost - 1)) value v in
-        let rest = v.is.least 0 (free, is) in
-        let sum = v.sum in omega arith) in
+      let free = value_free task (state_of cells (states.cost - 1)) value v in
+      let rest = v.is.least 0 (free, is) in
+      let sum = v.sum in omega arith) in
       let reached = low_walk (states.cost - 1) (omega arith) value v (omega arith) in
       let (later, after, barred) = h.frontier.quiet (states.cost - 1) (subst (Contains states.reached) here reached) in
       ⊎_elim

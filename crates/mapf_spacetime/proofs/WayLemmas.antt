@@ -1,5 +1,5 @@
 -- A walk that turns back only where it must comes to the goal.
-use Rattle.std.proofs.Common.{◌≡◌, ◌⊎◌, inl, inr, ⊎_elim, ℕ, zero, suc, ◌+◌, ◌-◌, ◌<◌, ◌≤◌, List, [], ◌∷◌, ◌++◌, length, take, slice_index, Contains, refl, sym, ap, subst, ◌∙◌, arith, length-append, length-take}
+use Rattle.std.proofs.Common.{◌≡◌, inl, inr, ⊎_elim, ℕ, zero, suc, ◌+◌, ◌-◌, ◌<◌, ◌≤◌, [], ◌∷◌, ◌++◌, length, take, slice_index, Contains, refl, sym, ap, subst, ◌∙◌, arith, length-append, length-take}
 use Rattle.std.proofs.Math.ListN.{get_or-append}
 use Rattle.std.proofs.Math.Seq.{get_or-append_seam}
 use Rattle.std.proofs.lemmas.Bool.{cases_lt}
@@ -9,7 +9,7 @@ use Rattle.mapf_model.specs.Labels.{MayGo}
 use Rattle.mapf_spacetime.specs.declared.state.State.{State}
 use Rattle.mapf_spacetime.specs.Task.{Task, Goes, IsWithin, state_at, start_of}
 use Rattle.mapf_spacetime.specs.States.{States, with_open, HasArrived, IsKnown}
-use Rattle.mapf_spacetime.specs.Way.{Walked, first_way, with_step, with_failure, CanArriveIn, CanArrive, state_of, IsWayFrom, IsWholeWay, IsSearching}
+use Rattle.mapf_spacetime.specs.Way.{Walked, first_way, with_step, with_failure, CanArrive, state_of, IsSearching}
 use Rattle.mapf_spacetime.proofs.ValueLemmas.{level_within}
 use Rattle.mapf_spacetime.proofs.FrontierLemmas.{none_held, reached_within}
 
@@ -82,13 +82,13 @@ module _ (task : Task) (cost : ℕ) (way : Walked) (w : IsSearching task cost wa
       let some = w.from.some in
       let kept : (k : ℕ) → k < length way.cells - 1 → slice_index way.cells k ≡ slice_index (take (length way.cells - 1) way.cells) k = λ k lt. sym (get_or-take (length way.cells - 1) way.cells k 0 lt) in
       let more : 1 < length way.cells = ⊎_elim
-          (λ (few : length way.cells < 2).
-          let one : length way.cells - 1 ≡ 0 = omega arith in
-          let stuck = dead_end none in
-          let at_start : state_of way.cells (length way.cells - 1) ≡ start_of task = ap (λ k. state_of way.cells k) one ∙ ap (λ c. state_at c 0) w.from.start in
-          absurd (stuck (subst (CanArrive task cost) (sym at_start) arrives)))
-          (λ (many : 2 ≤ length way.cells). omega arith)
-          (cases_lt (length way.cells) 2) in
+      (λ (few : length way.cells < 2).
+      let one : length way.cells - 1 ≡ 0 = omega arith in
+      let stuck = dead_end none in
+      let at_start : state_of way.cells (length way.cells - 1) ≡ start_of task = ap (λ k. state_of way.cells k) one ∙ ap (λ c. state_at c 0) w.from.start in
+      absurd (stuck (subst (CanArrive task cost) (sym at_start) arrives)))
+      (λ (many : 2 ≤ length way.cells). omega arith)
+      (cases_lt (length way.cells) 2) in
       record {
         from = record {
           some = omega arith;

@@ -1,5 +1,5 @@
 -- What an answer of the search means.
-use Rattle.std.specs.Prelude.{ℕ, ◌≤◌, List, [], None, Some, All, AllPairs, Contains}
+use Rattle.std.specs.Prelude.{ℕ, List, All, AllPairs}
 use Rattle.mapf_model.specs.declared.label.Entry.{Entry}
 use Rattle.mapf_model.specs.declared.label.Label.TheVariants.{Ticks, Never}
 use Rattle.mapf_model.specs.Bars.{Satisfies}
@@ -8,10 +8,8 @@ use Rattle.mapf_model.specs.Path.{IsLawful, IsCost}
 use Rattle.mapf_model.specs.Printed.{IsBefore, IsEntryInRange, IsTight}
 use Rattle.mapf_spacetime.specs.declared.found.Found.{Found}
 use Rattle.mapf_spacetime.specs.declared.found.Found.TheVariants.{Arrives, Dead}
-use Rattle.mapf_spacetime.specs.declared.state.State.{State}
 use Rattle.mapf_spacetime.specs.Task.{Task, agent_of}
 use Rattle.mapf_spacetime.specs.States.{IsBelowLimit}
-use Rattle.mapf_spacetime.specs.Listed.{AreEntriesOf}
 
 -- the labels are sound, rise by tick and cell and can be printed
 pub record AreGoodLabels (task : Task) (entries : List Entry) : Type 0 where

@@ -1,7 +1,7 @@
 -- Walks of one agent to its goal, at a cost.
 use Rattle.std.specs.Prelude.{◌≡◌, ℕ, zero, suc, ◌+◌, ◌-◌, ◌*◌, ◌^◌, ◌<◌, ◌≤◌, List, [], ◌∷◌, ◌++◌, length, take, slice_index, Contains}
 use Rattle.mapf_spacetime.specs.declared.state.State.{State}
-use Rattle.mapf_spacetime.specs.Task.{Task, Goes, IsWithin, state_at, start_of}
+use Rattle.mapf_spacetime.specs.Task.{Task, Goes, IsWithin, state_at}
 
 -- the cells of a walk, one for each tick, and the states from which it turned back
 pub record Walked : Type 0 where

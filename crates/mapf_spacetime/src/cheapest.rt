@@ -35,6 +35,7 @@ pub fn search<'a, B: BarTable>(
     requires goal { distances.now.goal ≡ agent.goal }
     ensures { IfOk result (IsAnswer (task_of grid.now agent (B.bars bars.now))) }
 {
+    // The width tells the shape of the grid.
     let _width = grid.width();
     let ground = Ground::of(grid, distances, bars, agent);
     let start = State {
@@ -59,11 +60,7 @@ pub fn search<'a, B: BarTable>(
 }
 
 /// What the agent can do where not every shortest path is open to it, from its distance on.
-fn by_cost<B: BarTable>(
-    alloc: Global,
-    ground: &Ground<B>,
-    first: u32,
-) -> Result<Found, OutOfMemory>
+fn by_cost<B: BarTable>(alloc: Global, ground: &Ground<B>, first: u32) -> Result<Found, OutOfMemory>
     requires shape { IsGridMap ground.now.grid }
     requires start { IsOpen ground.now (start_of ground.now) }
     requires first { IsValue ground.now (start_of ground.now) first }
@@ -93,6 +90,7 @@ fn lets_path<B: BarTable>(ground: &Ground<B>, cells: &[Cell]) -> bool
     if !ground.lets_start() || !ground.may_rest_from(cells.len() as Tick - 1) {
         return false;
     }
+    // The horizon tells that move bars have two cells.
     let _horizon = ground.horizon();
     for tick in 0..cells.len() - 1 {
         let from = State {
@@ -120,6 +118,7 @@ fn arrive<B: BarTable>(
     ensures { IfOk result (IsAnswer ground.now) }
 {
     mapf_model::laws::definitions_are_decided();
+    // The horizon tells that move bars have two cells.
     let _horizon = ground.horizon();
     let cost = frontier.cost();
     let cells = least_way(alloc, ground, cost)?;

@@ -2,7 +2,7 @@ ghost use Rattle.std.specs.Prelude.{◌≡◌, ◌↔◌, ◌+◌, ◌<◌, ◌�
 ghost use Rattle.mapf_model.specs.Grid.{Step};
 ghost use Rattle.mapf_spacetime.specs.declared.state.State.{State};
 ghost use Rattle.mapf_spacetime.specs.Task.{IsValue, IsNotBelow};
-ghost use Rattle.mapf_spacetime.specs.States.{first_states, with_reached, with_open, with_waiting, raised, low_states, IsFrontier, IsClosed, Keeps, Takes, Places, HasArrived, IsWalked, IsSpent, IsBelowLimit};
+ghost use Rattle.mapf_spacetime.specs.States.{first_states, with_reached, with_open, with_waiting, raised, low_states, IsFrontier, Keeps, Takes, Places, HasArrived, IsWalked, IsSpent, IsBelowLimit};
 
 use crate::ground::Ground;
 use crate::state::State;
@@ -115,7 +115,12 @@ impl Frontier {
     }
 
     /// Takes one step, unless it is barred.
-    fn take<B: BarTable>(&mut self, ground: &Ground<B>, from: &State, to: Cell) -> Result<(), OutOfMemory>
+    fn take<B: BarTable>(
+        &mut self,
+        ground: &Ground<B>,
+        from: &State,
+        to: Cell,
+    ) -> Result<(), OutOfMemory>
         requires small { self.old.cost < 10000000 }
         requires frontier { IsFrontier ground.now (from.now ∷ []) self.old }
         requires reached { Contains self.old.reached from.now }
@@ -160,7 +165,11 @@ impl Frontier {
 
     /// Reaches all open states and those of the same value behind them, until the agent arrives.
     /// Answers whether it does.
-    fn walk_level<B: BarTable>(&mut self, alloc: Global, ground: &Ground<B>) -> Result<bool, OutOfMemory>
+    fn walk_level<B: BarTable>(
+        &mut self,
+        alloc: Global,
+        ground: &Ground<B>,
+    ) -> Result<bool, OutOfMemory>
         requires small { self.old.cost < 10000000 }
         requires frontier { IsFrontier ground.now [] self.old }
         ensures arrives { IfOk result (λ arrives. IsTrue arrives → HasArrived ground.now self.new) }
@@ -180,7 +189,11 @@ impl Frontier {
     }
 
     /// Places the states that waited, at the next cost.
-    fn place_all<B: BarTable>(&mut self, waited: &[State], ground: &Ground<B>) -> Result<(), OutOfMemory>
+    fn place_all<B: BarTable>(
+        &mut self,
+        waited: &[State],
+        ground: &Ground<B>,
+    ) -> Result<(), OutOfMemory>
         requires open_states { self.old.open_states ≡ [] }
         requires waiting { self.old.waiting ≡ [] }
         requires known { (s : State) → Contains waited.now s → IsNotBelow ground.now self.old.cost s × (s.tick ≤ 10000000) }
@@ -209,7 +222,11 @@ impl Frontier {
 
     /// Raises the cost until the agent arrives, or no state is left to reach. Answers whether it
     /// arrives.
-    pub fn grow<B: BarTable>(&mut self, alloc: Global, ground: &Ground<B>) -> Result<bool, OutOfMemory>
+    pub fn grow<B: BarTable>(
+        &mut self,
+        alloc: Global,
+        ground: &Ground<B>,
+    ) -> Result<bool, OutOfMemory>
         requires small { self.old.cost < 4194304 }
         requires limit { IsBelowLimit ground.now self.old.cost }
         requires frontier { IsFrontier ground.now [] self.old }

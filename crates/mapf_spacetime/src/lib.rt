@@ -7,14 +7,13 @@ mod found;
 mod frontier;
 mod ground;
 mod labels;
-
 mod state;
 mod state_set;
 mod way;
 
+pub use cheapest::search;
 pub use found::Found;
 pub use labels::{Labels, label_at};
-pub use cheapest::search;
 
 #[cfg(test)]
 mod tests;

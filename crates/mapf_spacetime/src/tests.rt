@@ -130,27 +130,67 @@ fn finds(
 
 #[test]
 fn waits_before_a_barred_cell(rt: HostRuntime) -> Result<(), Fail> {
-    finds(&rt, rt.alloc(), "...", (0, 2), &[(1, 1)], &[], "path 0 0 1 2; 0@0=3")
+    finds(
+        &rt,
+        rt.alloc(),
+        "...",
+        (0, 2),
+        &[(1, 1)],
+        &[],
+        "path 0 0 1 2; 0@0=3",
+    )
 }
 
 #[test]
 fn waits_for_a_goal_that_is_barred_later(rt: HostRuntime) -> Result<(), Fail> {
-    finds(&rt, rt.alloc(), "..", (0, 1), &[(1, 5)], &[], "path 0 0 0 0 0 0 1; 0@0=6 0@1=5 1@1=5 0@2=4 1@2=4 0@3=3 1@3=3 0@4=2 1@4=2")
+    finds(
+        &rt,
+        rt.alloc(),
+        "..",
+        (0, 1),
+        &[(1, 5)],
+        &[],
+        "path 0 0 0 0 0 0 1; 0@0=6 0@1=5 1@1=5 0@2=4 1@2=4 0@3=3 1@3=3 0@4=2 1@4=2",
+    )
 }
 
 #[test]
 fn is_dead_where_its_only_cell_is_barred(rt: HostRuntime) -> Result<(), Fail> {
-    finds(&rt, rt.alloc(), ".", (0, 0), &[(0, 3)], &[], "dead; 0@0=never 0@1=never 0@2=never")
+    finds(
+        &rt,
+        rt.alloc(),
+        ".",
+        (0, 0),
+        &[(0, 3)],
+        &[],
+        "dead; 0@0=never 0@1=never 0@2=never",
+    )
 }
 
 #[test]
 fn waits_before_a_barred_move(rt: HostRuntime) -> Result<(), Fail> {
-    finds(&rt, rt.alloc(), "..", (0, 1), &[], &[(0, 1, 0)], "path 0 0 1; 0@0=2")
+    finds(
+        &rt,
+        rt.alloc(),
+        "..",
+        (0, 1),
+        &[],
+        &[(0, 1, 0)],
+        "path 0 0 1; 0@0=2",
+    )
 }
 
 #[test]
 fn is_dead_where_its_start_is_barred(rt: HostRuntime) -> Result<(), Fail> {
-    finds(&rt, rt.alloc(), "..", (0, 1), &[(0, 0)], &[], "dead; 0@0=never")
+    finds(
+        &rt,
+        rt.alloc(),
+        "..",
+        (0, 1),
+        &[(0, 0)],
+        &[],
+        "dead; 0@0=never",
+    )
 }
 
 #[test]
@@ -160,36 +200,124 @@ fn is_dead_without_labels_where_no_steps_lead(rt: HostRuntime) -> Result<(), Fai
 
 #[test]
 fn takes_another_shortest_path_without_labels(rt: HostRuntime) -> Result<(), Fail> {
-    finds(&rt, rt.alloc(), "... ... ...", (0, 8), &[(2, 2)], &[], "path 0 1 4 5 8;")
+    finds(
+        &rt,
+        rt.alloc(),
+        "... ... ...",
+        (0, 8),
+        &[(2, 2)],
+        &[],
+        "path 0 1 4 5 8;",
+    )
 }
 
 #[test]
 fn steps_aside_in_a_corridor(rt: HostRuntime) -> Result<(), Fail> {
-    finds(&rt, rt.alloc(), "... @.@", (0, 2), &[(0, 1), (0, 2), (1, 2), (2, 2)], &[], "path 0 1 4 1 2; 0@0=4 1@1=3")
+    finds(
+        &rt,
+        rt.alloc(),
+        "... @.@",
+        (0, 2),
+        &[(0, 1), (0, 2), (1, 2), (2, 2)],
+        &[],
+        "path 0 1 4 1 2; 0@0=4 1@1=3",
+    )
 }
 
 #[test]
 fn leaves_its_goal_and_returns(rt: HostRuntime) -> Result<(), Fail> {
     let rows = "... @.@";
-    finds(&rt, rt.alloc(), rows, (1, 1), &[(1, 3)], &[], "path 1 0 0 0 1; 1@0=4 0@1=3 1@1=3 2@1=3 4@1=3 0@2=2 1@2=2 2@2=2 4@2=2")?;
-    finds(&rt, rt.alloc(), rows, (1, 1), &[(1, 2)], &[], "path 1 0 0 1; 1@0=3 0@1=2 1@1=2 2@1=2 4@1=2")?;
-    finds(&rt, rt.alloc(), rows, (1, 1), &[(1, 1)], &[(1, 0, 0), (2, 1, 1)], "path 1 4 1; 1@0=2")
+    finds(
+        &rt,
+        rt.alloc(),
+        rows,
+        (1, 1),
+        &[(1, 3)],
+        &[],
+        "path 1 0 0 0 1; 1@0=4 0@1=3 1@1=3 2@1=3 4@1=3 0@2=2 1@2=2 2@2=2 4@2=2",
+    )?;
+    finds(
+        &rt,
+        rt.alloc(),
+        rows,
+        (1, 1),
+        &[(1, 2)],
+        &[],
+        "path 1 0 0 1; 1@0=3 0@1=2 1@1=2 2@1=2 4@1=2",
+    )?;
+    finds(
+        &rt,
+        rt.alloc(),
+        rows,
+        (1, 1),
+        &[(1, 1)],
+        &[(1, 0, 0), (2, 1, 1)],
+        "path 1 4 1; 1@0=2",
+    )
 }
 
 #[test]
 fn labels_are_those_of_known_certificates(rt: HostRuntime) -> Result<(), Fail> {
     let rows = "... @.@";
-    finds(&rt, rt.alloc(), rows, (0, 2), &[(1, 1), (1, 2), (1, 3)], &[], "path 0 0 0 0 1 2; 0@0=5 0@1=4 0@2=3")?;
-    finds(&rt, rt.alloc(), rows, (0, 2), &[(1, 1), (1, 2)], &[], "path 0 0 0 1 2; 0@0=4 0@1=3")?;
-    finds(&rt, rt.alloc(), rows, (0, 2), &[], &[(0, 1, 0)], "path 0 0 1 2; 0@0=3")?;
-    finds(&rt, rt.alloc(), rows, (0, 2), &[], &[(1, 2, 1)], "path 0 0 1 2; 0@0=3 1@1=2")
+    finds(
+        &rt,
+        rt.alloc(),
+        rows,
+        (0, 2),
+        &[(1, 1), (1, 2), (1, 3)],
+        &[],
+        "path 0 0 0 0 1 2; 0@0=5 0@1=4 0@2=3",
+    )?;
+    finds(
+        &rt,
+        rt.alloc(),
+        rows,
+        (0, 2),
+        &[(1, 1), (1, 2)],
+        &[],
+        "path 0 0 0 1 2; 0@0=4 0@1=3",
+    )?;
+    finds(
+        &rt,
+        rt.alloc(),
+        rows,
+        (0, 2),
+        &[],
+        &[(0, 1, 0)],
+        "path 0 0 1 2; 0@0=3",
+    )?;
+    finds(
+        &rt,
+        rt.alloc(),
+        rows,
+        (0, 2),
+        &[],
+        &[(1, 2, 1)],
+        "path 0 0 1 2; 0@0=3 1@1=2",
+    )
 }
 
 #[test]
 fn labels_of_crossing_agents_are_those_of_a_known_certificate(rt: HostRuntime) -> Result<(), Fail> {
     let rows = "... ... ...";
-    finds(&rt, rt.alloc(), rows, (3, 5), &[(4, 1)], &[], "path 3 3 4 5; 3@0=3")?;
-    finds(&rt, rt.alloc(), rows, (1, 7), &[(4, 1)], &[], "path 1 1 4 7; 1@0=3")
+    finds(
+        &rt,
+        rt.alloc(),
+        rows,
+        (3, 5),
+        &[(4, 1)],
+        &[],
+        "path 3 3 4 5; 3@0=3",
+    )?;
+    finds(
+        &rt,
+        rt.alloc(),
+        rows,
+        (1, 7),
+        &[(4, 1)],
+        &[],
+        "path 1 1 4 7; 1@0=3",
+    )
 }
 
 /// A square of free cells.

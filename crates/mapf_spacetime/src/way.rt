@@ -96,7 +96,13 @@ impl Way {
     }
 
     /// The first of the cells from which the agent may still arrive.
-    fn next<B: BarTable>(&self, steps: &[Cell], ground: &Ground<B>, from: &State, cost: u32) -> Option<Cell>
+    fn next<B: BarTable>(
+        &self,
+        steps: &[Cell],
+        ground: &Ground<B>,
+        from: &State,
+        cost: u32,
+    ) -> Option<Cell>
         requires small { from.now.tick < 10000000 }
         requires steps { (to : ℕ) → Contains steps.now to ↔ Step ground.now.grid from.now.cell to }
         ensures may { IfSome result (λ to. MayGo ground.now.grid ground.now.bars from.now.cell to from.now.tick) }
@@ -113,7 +119,12 @@ impl Way {
     }
 
     /// Goes one step on, or turns back where no step leads on.
-    fn go_on<B: BarTable>(&mut self, alloc: Global, ground: &Ground<B>, cost: u32) -> Result<(), OutOfMemory>
+    fn go_on<B: BarTable>(
+        &mut self,
+        alloc: Global,
+        ground: &Ground<B>,
+        cost: u32,
+    ) -> Result<(), OutOfMemory>
         requires small { cost < 9000000 }
         requires arrives { CanArrive ground.now cost (start_of ground.now) }
         requires searching { IsSearching ground.now cost self.old }
@@ -142,7 +153,11 @@ impl Way {
 
 /// The walk of the cost from the start to the goal whose cell numbers are least, compared from the
 /// first on.
-pub fn least_way<B: BarTable>(alloc: Global, ground: &Ground<B>, cost: u32) -> Result<Vec<Cell>, OutOfMemory>
+pub fn least_way<B: BarTable>(
+    alloc: Global,
+    ground: &Ground<B>,
+    cost: u32,
+) -> Result<Vec<Cell>, OutOfMemory>
     requires small { cost < 9000000 }
     requires arrives { CanArrive ground.now cost (start_of ground.now) }
     requires within { IsWithin ground.now cost (start_of ground.now) }

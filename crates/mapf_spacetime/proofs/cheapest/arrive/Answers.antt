@@ -1,4 +1,4 @@
-use Rattle.std.proofs.Common.{◌≡◌, sym, subst, length, Contains, ◌∙◌, Some}
+use Rattle.std.proofs.Common.{◌≡◌, sym, subst, Contains, Some}
 use Rattle.mapf_spacetime.specs.Task.{start_of, IsWithin}
 use Rattle.mapf_spacetime.specs.States.{low_states}
 use Rattle.mapf_spacetime.specs.Way.{CanArrive, IsWholeWay}

@@ -1,8 +1,7 @@
-use Rattle.std.proofs.Common.{◌∷◌, [], None, sym, subst, Contains}
-use Rattle.mapf_model.specs.declared.label.Entry.{Entry}
+use Rattle.std.proofs.Common.{[], None, sym, subst, Contains}
 use Rattle.mapf_spacetime.specs.States.{IsFrontier}
 use Rattle.mapf_spacetime.specs.Listed.{AreEntriesOf}
-use Rattle.mapf_spacetime.proofs.AnswerLemmas.{first_frontier, first_limit, first_small, spent_shows, spent_few}
+use Rattle.mapf_spacetime.proofs.AnswerLemmas.{first_frontier, spent_shows, spent_few}
 use Rattle.mapf_spacetime.proofs.cheapest.by_cost.Goals as goal
 
 pub grow-requires-clause-frontier : goal.grow-requires-clause-frontier

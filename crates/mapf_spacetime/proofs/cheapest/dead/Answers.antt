@@ -1,4 +1,4 @@
-use Rattle.std.proofs.Common.{None, sym, subst}
+use Rattle.std.proofs.Common.{sym, subst}
 use Rattle.mapf_spacetime.specs.Answer.{IsDeath}
 use Rattle.mapf_spacetime.proofs.AnswerLemmas.{ranges_none}
 use Rattle.mapf_spacetime.proofs.cheapest.dead.Goals as goal

@@ -1,8 +1,8 @@
 use Rattle.std.proofs.Common.{◌≡◌, ◌∷◌, ◌-◌, [], None, refl, sym, subst, ap, ◌∙◌, length}
 use Rattle.mapf_model.specs.Bars.{Satisfies}
 use Rattle.mapf_model.specs.Distance.{IsDistance, IsUnreachable}
-use Rattle.mapf_model.specs.Path.{at, IsPath, IsCost}
-use Rattle.mapf_spacetime.specs.Task.{Task, task_of, IsValue, state_at, start_of}
+use Rattle.mapf_model.specs.Path.{IsPath, IsCost}
+use Rattle.mapf_spacetime.specs.Task.{task_of, IsValue, state_at}
 use Rattle.mapf_spacetime.specs.Listed.{AreEntriesOf}
 use Rattle.mapf_spacetime.specs.Answer.{IsArrival}
 use Rattle.mapf_spacetime.proofs.AnswerLemmas.{barred_shows, unreachable_shows, shortest_arrives}
@@ -28,8 +28,8 @@ returns-then-lets_path g c =
     let value = subst (λ t. IsValue t (state_at c.start.result 0) c.in-Some.first) c.of-ground.ensures c.in-Some.ensures.some in
     let satisfies = subst (λ l. Satisfies task.bars l) c.cells.ensures.value (subst (λ t. Satisfies t.bars c.cells.result.now) c.of-ground.ensures (c.if-lets_path.ensures refl)) in
     let distance = subst (λ cell. IsDistance task.grid task.goal cell (length path - 1)) again
-        (subst (λ goal. IsDistance task.grid goal c.start-2.result (length path - 1)) c.requires.goal
-        (subst (λ grid. IsDistance grid c.args.distances.now.goal c.start-2.result (length path - 1)) c.requires.grid c.in_ok-path.ensures.shortest)) in
+    (subst (λ goal. IsDistance task.grid goal c.start-2.result (length path - 1)) c.requires.goal
+    (subst (λ grid. IsDistance grid c.args.distances.now.goal c.start-2.result (length path - 1)) c.requires.grid c.in_ok-path.ensures.shortest)) in
     subst (IsArrival task path) (sym (c.of.ensures ∙ c.new.ensures.items))
     (shortest_arrives task c.in-Some.first path (subst (λ cell. IsValue task (state_at cell 0) c.in-Some.first) start value)
     (subst (λ grid. IsPath grid path) c.requires.grid c.in_ok-path.ensures.path)

@@ -1,6 +1,5 @@
-use Rattle.std.proofs.Common.{◌≡◌, Some, None, sym, ap, option_map}
+use Rattle.std.proofs.Common.{sym, ap, option_map}
 use Rattle.mapf_model.specs.declared.label.Entry.{Entry}
-use Rattle.mapf_model.specs.Labels.{entries_of}
 use Rattle.mapf_spacetime.proofs.LabelLemmas.{listed_label, distance_label, never_label}
 use Rattle.mapf_spacetime.proofs.labels.label_at.Goals as goal
 

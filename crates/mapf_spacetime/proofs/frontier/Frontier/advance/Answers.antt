@@ -1,7 +1,6 @@
-use Rattle.std.proofs.Common.{◌∙◌, ◌+◌, ◌≤◌, sym, subst, ap, Contains, length, List}
-use Rattle.mapf_spacetime.specs.declared.state.State.{State}
+use Rattle.std.proofs.Common.{◌∙◌, sym, subst, ap, Contains, length}
 use Rattle.mapf_spacetime.specs.Task.{IsNotBelow}
-use Rattle.mapf_spacetime.specs.States.{Places, raised}
+use Rattle.mapf_spacetime.specs.States.{Places}
 use Rattle.mapf_spacetime.proofs.GrowLemmas.{waiting_known, raised_frontier}
 use Rattle.mapf_spacetime.proofs.frontier.Frontier.advance.Goals as goal
 

@@ -1,7 +1,7 @@
-use Rattle.std.proofs.Common.{◌≡◌, ◌∷◌, ◌∙◌, [], length, refl, sym, ap, subst, Contains, arith}
+use Rattle.std.proofs.Common.{◌∷◌, ◌∙◌, [], refl, sym, ap, subst, Contains}
 use Rattle.std.proofs.lemmas.List.Elements.{Contains-push}
 use Rattle.mapf_spacetime.specs.Task.{IsValue}
-use Rattle.mapf_spacetime.specs.States.{IsFrontier, with_open, with_reached}
+use Rattle.mapf_spacetime.specs.States.{IsFrontier}
 use Rattle.mapf_spacetime.proofs.ValueLemmas.{value_free}
 use Rattle.mapf_spacetime.proofs.FrontierLemmas.{arrived, open_value, reach_new, reach_old}
 use Rattle.mapf_spacetime.proofs.frontier.Frontier.walk_level.Goals as goal

@@ -1,4 +1,4 @@
-use Rattle.std.proofs.Common.{◌≡◌, ◌+◌, ◌-◌, ◌<◌, sym, subst, ap, ◌∙◌, length, slice_index, Contains, arith}
+use Rattle.std.proofs.Common.{◌≡◌, ◌+◌, ◌-◌, sym, subst, ap, ◌∙◌, length, Contains, arith}
 use Rattle.mapf_model.specs.Grid.{IsFree}
 use Rattle.mapf_model.specs.Labels.{MayGo}
 use Rattle.mapf_spacetime.specs.declared.state.State.{State}
