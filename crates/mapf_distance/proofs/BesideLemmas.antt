@@ -5,7 +5,7 @@ use Rattle.std.proofs.lemmas.List.Elements.{Contains-append_cases, Contains-appe
 use Rattle.mapf_model.specs.Grid.{GridMap, IsFree, Step}
 use Rattle.mapf_model.specs.Neighbours.{above_of, left_of, right_of, kept}
 use Rattle.mapf_model.proofs.StepLemmas.{from_kept, to_kept, from_neighbour, to_neighbour}
-use Rattle.mapf_distance.specs.Distances.{beside_of}
+use Rattle.mapf_distance.specs.Beside.{beside_of}
 
 module _ (grid : GridMap) (cell : ℕ) (wide : 0 < grid.width) (free : IsFree grid cell) where
   above : List ℕ
@@ -24,7 +24,7 @@ module _ (grid : GridMap) (cell : ℕ) (wide : 0 < grid.width) (free : IsFree gr
   below = kept grid (Some (cell + grid.width))
 
   -- a free cell in one of the places is a step away
-  pub step_beside : (next : ℕ) → IsFree grid next → Contains (beside_of grid cell) (Some next) → Step grid cell next
+  pub step_beside : (next : ℕ) → IsFree grid next → Contains (beside_of grid.width cell) (Some next) → Step grid cell next
   unfolding above left here right below
   step_beside next free_next (zero, within, is) = from_neighbour grid cell wide free next
       (Contains-append_left (above ++ left ++ here ++ right) below next (Contains-append_left (above ++ left ++ here) right next (Contains-append_left (above ++ left) here next (Contains-append_left above left next
@@ -41,7 +41,7 @@ module _ (grid : GridMap) (cell : ℕ) (wide : 0 < grid.width) (free : IsFree gr
   step_beside next free_next (suc (suc (suc (suc k))), within, is) = absurd (omega arith)
 
   -- a step to another cell leads to one of the places
-  pub beside_step : (next : ℕ) → Step grid cell next → (cell ≡ next → ⊥) → Contains (beside_of grid cell) (Some next)
+  pub beside_step : (next : ℕ) → Step grid cell next → (cell ≡ next → ⊥) → Contains (beside_of grid.width cell) (Some next)
   unfolding above left here right below
   beside_step next step moves = ⊎_elim
       (λ (h4 : Contains (above ++ left ++ here ++ right) next). ⊎_elim

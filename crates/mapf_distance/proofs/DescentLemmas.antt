@@ -6,8 +6,7 @@ use Rattle.std.proofs.lemmas.Bool.{cases_lt}
 use Rattle.std.proofs.lemmas.List.{length_push}
 use Rattle.mapf_model.specs.Distance.{Walk, IsDistance}
 use Rattle.mapf_model.specs.Grid.{GridMap, Step}
-use Rattle.mapf_model.specs.Path.{at, IsPath, IsCost}
-use Rattle.mapf_model.specs.Printed.{IsTight}
+use Rattle.mapf_model.specs.Path.{at, IsPath, IsCost, IsTight}
 use Rattle.mapf_model.proofs.DecidedLemmas.{from_neighbours_path}
 use Rattle.mapf_model.proofs.PathLemmas.{IsCost-from_end}
 use Rattle.mapf_distance.proofs.StepLemmas.{Walk-from_free}

@@ -1,88 +1,117 @@
 -- The steps from one reached cell are taken one after another.
-use Rattle.std.proofs.Common.{◌≡◌, ◌↔◌, ℕ, ◌+◌, ◌<◌, ◌≤◌, List, [], ◌∷◌, ◌++◌, Contains, length, slice_index, slice_set, refl, sym, ◌∙◌, ap, subst, ⊎_elim, arith}
-use Rattle.std.proofs.lemmas.Bool.{cases_lt}
+use Rattle.std.proofs.Common.{◌≡◌, ℕ, ◌+◌, ◌<◌, ◌≤◌, Option, Some, None, List, [], ◌∷◌, ◌++◌, Contains, length, slice_index, slice_index_or, slice_set, refl, sym, ◌∙◌, ap, subst, ⊎_elim, arith}
+use Rattle.std.proofs.lemmas.Bool.{cases_lt, cases_eq}
 use Rattle.std.proofs.lemmas.List.{get_or_default}
-use Rattle.std.proofs.lemmas.List.Elements.{Contains-get_or}
-use Rattle.mapf_model.specs.Grid.{GridMap, Step}
-use Rattle.mapf_distance.specs.declared.wave.TheConstants.{UNREACHED}
+use Rattle.std.proofs.lemmas.Option.{same_Some}
+use Rattle.mapf_model.specs.Grid.{GridMap, IsFree}
+use Rattle.mapf_distance.specs.declared.wave.TheConstants.{BLOCKED, UNREACHED}
+use Rattle.mapf_distance.specs.Beside.{beside_of}
 use Rattle.mapf_distance.specs.Marks.{entry_of}
 use Rattle.mapf_distance.specs.Wave.{IsWave, source_of, entry_at}
-use Rattle.mapf_distance.proofs.MarkLemmas.{open_if_free, within_table}
+use Rattle.mapf_distance.proofs.BesideLemmas.{step_beside, beside_step}
+use Rattle.mapf_distance.proofs.MarkLemmas.{open_if_free, free_if_open, entry_of-set_other}
 use Rattle.mapf_distance.proofs.StepLemmas.{Step-to_free}
 use Rattle.mapf_distance.proofs.WaveLemmas.{small_entry, reach_next, reach_keeps, reach_enters, known_bound, close}
 
--- the first `count` of the steps from the cell at the place were taken
-pub record IsExpanding (grid : GridMap) (place distance : ℕ) (old steps : List ℕ) (count : ℕ) (table reached : List ℕ) : Type 0 where
+-- the free cells at the first `count` of the places have a distance of at most this
+abbrev pub AreTaken : ℕ → List (Option ℕ) → ℕ → List ℕ → Type 0
+AreTaken distance places count table = (k next : ℕ) → k < count → slice_index_or places k None ≡ Some next → entry_of table next < BLOCKED → entry_of table next ≤ distance
+
+-- the steps to the first `count` of the places beside the cell at `place` were taken
+pub record IsExpanding (grid : GridMap) (place distance : ℕ) (old : List ℕ) (places : List (Option ℕ)) (count : ℕ) (table reached : List ℕ) : Type 0 where
   pub wave : IsWave grid place table reached
   pub inside : place < length reached
   pub next : entry_at table reached place + 1 ≡ distance
   pub from : slice_index reached place ≡ slice_index old place
   pub source : source_of reached ≡ source_of old
-  pub taken : (k : ℕ) → k < count → entry_of table (slice_index steps k) ≤ distance
+  pub taken : AreTaken distance places count table
 
--- the steps from a cell are those from its place
-pub steps_at : (grid : GridMap) (reached given steps : List ℕ) (place cell : ℕ) → cell ≡ slice_index reached place → given ≡ steps →
-    ((to : ℕ) → Contains steps to ↔ Step grid cell to) → (to : ℕ) → Contains given to ↔ Step grid (slice_index reached place) to
-steps_at grid reached given steps place cell is same exact =
-    subst (λ items. (to : ℕ) → Contains items to ↔ Step grid (slice_index reached place) to) (sym same)
-    (subst (λ from. (to : ℕ) → Contains steps to ↔ Step grid from to) is exact)
+-- the places beside a cell are those beside its place
+pub places_beside : (grid : GridMap) (reached : List ℕ) (places : List (Option ℕ)) (place cell width : ℕ) → cell ≡ slice_index reached place → width ≡ grid.width →
+    places ≡ beside_of width cell → places ≡ beside_of grid.width (slice_index reached place)
+places_beside grid reached places place cell width is wide beside = beside ∙ ap (beside_of width) is ∙ ap (λ w. beside_of w (slice_index reached place)) wide
 
-module _ (grid : GridMap) (place distance : ℕ) (old steps : List ℕ) (exact : (to : ℕ) → Contains steps to ↔ Step grid (slice_index old place) to) where
-  pub expand_start : (table : List ℕ) → IsWave grid place table old → place < length old → entry_of table (slice_index old place) + 1 ≡ distance → IsExpanding grid place distance old steps 0 table old
-  expand_start table wave inside next = record { wave = wave; inside = inside; next = next; from = refl; source = refl; taken = λ k none. absurd (omega arith) }
+module _ (grid : GridMap) (place distance : ℕ) (old : List ℕ) (places : List (Option ℕ)) (beside : places ≡ beside_of grid.width (slice_index old place)) where
+  pub expand_start : (table : List ℕ) → IsWave grid place table old → place < length old → entry_of table (slice_index old place) + 1 ≡ distance → IsExpanding grid place distance old places 0 table old
+  expand_start table wave inside next = record { wave = wave; inside = inside; next = next; from = refl; source = refl; taken = λ k next none. absurd (omega arith) }
 
-  module _ (count : ℕ) (table reached : List ℕ) (e : IsExpanding grid place distance old steps count table reached) where
-    step : (k : ℕ) → k < length steps → Step grid (slice_index reached place) (slice_index steps k)
-    step k within = subst (λ from. Step grid from (slice_index steps k)) (sym e.from) ((exact (slice_index steps k)).0 (Contains-get_or steps k 0 within))
+  module _ (count : ℕ) (table reached : List ℕ) (e : IsExpanding grid place distance old places count table reached) where
+    cell : ℕ
+    cell = slice_index reached place
 
-    pub step_inside : (k : ℕ) → k < length steps → slice_index steps k < length table
-    step_inside k within =
-        within_table table (slice_index steps k) (open_if_free grid table e.wave.free (slice_index steps k) (Step-to_free grid (slice_index reached place) (slice_index steps k) (step k within)))
+    -- the cell from which the steps are taken is free
+    free_cell : IsFree grid cell
+    unfolding cell
+    free_cell = free_if_open grid table e.wave.free cell (let low = small_entry grid place table reached e.wave place e.inside in omega arith)
 
-    taken_next : (after : List ℕ) → ((k : ℕ) → k < count → entry_of after (slice_index steps k) ≤ distance) → entry_of after (slice_index steps count) ≤ distance →
-        (k : ℕ) → k < count + 1 → entry_of after (slice_index steps k) ≤ distance
-    taken_next after before here k lt = ⊎_elim
-        (λ (earlier : k < count). before k earlier)
-        (λ (past : count ≤ k). let is : count ≡ k = omega arith in subst (λ n. entry_of after (slice_index steps n) ≤ distance) is here)
+    at_cell : places ≡ beside_of grid.width cell
+    unfolding cell
+    at_cell = beside ∙ ap (beside_of grid.width) (sym e.from)
+
+    wide : 0 < grid.width
+    wide = (let positive = e.wave.shape.0 in omega arith)
+
+    taken_next : (after : List ℕ) → AreTaken distance places count after → ((next : ℕ) → slice_index_or places count None ≡ Some next → entry_of after next < BLOCKED → entry_of after next ≤ distance) →
+        AreTaken distance places (count + 1) after
+    taken_next after before here k next lt is = ⊎_elim
+        (λ (earlier : k < count). before k next earlier is)
+        (λ (past : count ≤ k). let last : k ≡ count = omega arith in here next (subst (λ n. slice_index_or places n None ≡ Some next) last is))
         (cases_lt k count)
 
-    pub expand_skip : count < length steps → (entry_of table (slice_index steps count) ≡ UNREACHED → ⊥) → IsExpanding grid place distance old steps (count + 1) table reached
-    expand_skip within known = record {
+    -- nothing is to be done at this place
+    pub expand_skip : ((next : ℕ) → slice_index_or places count None ≡ Some next → entry_of table next ≡ UNREACHED → ⊥) → IsExpanding grid place distance old places (count + 1) table reached
+    expand_skip known = record {
       wave = e.wave;
       inside = e.inside;
       next = e.next;
       from = e.from;
       source = e.source;
-      taken = taken_next table e.taken
-          (let small = open_if_free grid table e.wave.free (slice_index steps count) (Step-to_free grid (slice_index reached place) (slice_index steps count) (step count within)) in
+      taken = taken_next table e.taken (λ next is small.
           let n = e.next in
-          let b = known_bound grid place table reached e.wave (slice_index steps count) e.inside (omega arith) in
+          let differs = known next is in
+          let b = known_bound grid place table reached e.wave next e.inside (reached_if_known (entry_of table next) small differs) in
           omega arith);
     }
+      where
+        reached_if_known : (entry : ℕ) → entry < BLOCKED → (entry ≡ UNREACHED → ⊥) → entry < UNREACHED
+        reached_if_known entry small differs = omega arith
 
-    pub expand_reach : (to : ℕ) → count < length steps → to ≡ slice_index steps count → entry_of table to ≡ UNREACHED → IsExpanding grid place distance old steps (count + 1) (slice_set table to distance) (reached ++ to ∷ [])
+    pub expand_reach : (to : ℕ) → count < length places → slice_index_or places count None ≡ Some to → entry_of table to ≡ UNREACHED → IsExpanding grid place distance old places (count + 1) (slice_set table to distance) (reached ++ to ∷ [])
+    unfolding cell
     expand_reach to within is fresh =
-        let go = subst (λ cell. Step grid (slice_index reached place) cell) (sym is) (step count within) in
+        let free_to = free_if_open grid table e.wave.free to (omega arith) in
+        let held : Contains places (Some to) = (count, within, get_or_default places count (Some to) None within ∙ is) in
+        let go = step_beside grid cell wide free_cell to free_to (subst (λ list. Contains list (Some to)) at_cell held) in
         let keeps = reach_keeps grid place table reached e.wave to e.inside go fresh in
         let enters = reach_enters grid place table reached e.wave to e.inside go fresh in
         let low = small_entry grid place table reached e.wave place e.inside in
         let n = e.next in
-        subst (λ d. IsExpanding grid place distance old steps (count + 1) (slice_set table to d) (reached ++ to ∷ [])) e.next (record {
+        let after : List ℕ = slice_set table to (entry_at table reached place + 1) in
+        subst (λ d. IsExpanding grid place distance old places (count + 1) (slice_set table to d) (reached ++ to ∷ [])) e.next (record {
           wave = reach_next grid place table reached e.wave to e.inside go fresh;
           inside = (let more = keeps.2 in let before = e.inside in omega arith);
-          next = ap (λ entry. entry + 1) (ap (entry_of (slice_set table to (entry_at table reached place + 1))) (keeps.1 place e.inside) ∙ keeps.0 (slice_index reached place) (omega arith)) ∙ e.next;
+          next = ap (λ entry. entry + 1) (ap (entry_of after) (keeps.1 place e.inside) ∙ keeps.0 (slice_index reached place) (omega arith)) ∙ e.next;
           from = keeps.1 place e.inside ∙ e.from;
           source = keeps.1 0 e.wave.some ∙ e.source;
-          taken = taken_next (slice_set table to (entry_at table reached place + 1))
-              (λ k before. let t = e.taken k before in let same = keeps.0 (slice_index steps k) (omega arith) in omega arith)
-              (let there = ap (entry_of (slice_set table to (entry_at table reached place + 1))) (sym is) ∙ enters in omega arith);
+          taken = taken_next after
+              (λ k next before next_is small. ⊎_elim
+              (λ (same : next ≡ to). let there = ap (entry_of after) same in omega arith)
+              (λ (apart : next ≡ to → ⊥).
+              let kept = entry_of-set_other table to next (entry_at table reached place + 1) apart in
+              let t = e.taken k next before next_is (omega arith) in omega arith)
+              (cases_eq next to))
+              (λ next next_is small.
+              let same = same_Some next to (sym next_is ∙ is) in
+              let there = ap (entry_of after) same in omega arith);
         })
 
-    pub expand_end : length steps ≤ count → IsWave grid (place + 1) table reached
-    expand_end all = close grid place table reached e.wave e.inside (λ to go.
-        let (k, within, is) = (exact to).1 (subst (λ from. Step grid from to) e.from go) in
-        let there = get_or_default steps k 0 to within ∙ is in
-        let t = e.taken k (omega arith) in
-        let same = ap (entry_of table) there in
+    pub expand_end : length places ≤ count → IsWave grid (place + 1) table reached
+    unfolding cell
+    expand_end all = close grid place table reached e.wave e.inside (λ to go. ⊎_elim
+        (λ (stays : cell ≡ to). let same = ap (entry_of table) stays in omega arith)
+        (λ (moves : cell ≡ to → ⊥).
+        let (k, within, is) = subst (λ list. Contains list (Some to)) (sym at_cell) (beside_step grid cell wide free_cell to go moves) in
+        let t = e.taken k to (omega arith) (get_or_default places k None (Some to) within ∙ is) (open_if_free grid table e.wave.free to (Step-to_free grid cell to go)) in
         let n = e.next in
         omega arith)
+        (cases_eq cell to))

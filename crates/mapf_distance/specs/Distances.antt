@@ -1,8 +1,7 @@
 -- Tables of distances to a goal.
-use Rattle.std.specs.Prelude.{ℕ, ◌+◌, ◌<◌, ◌≤◌, Option, Some, List, [], ◌∷◌}
+use Rattle.std.specs.Prelude.{ℕ, ◌<◌, ◌≤◌, List}
 use Rattle.mapf_model.specs.Distance.{Walk, IsDistance, IsUnreachable}
 use Rattle.mapf_model.specs.Grid.{GridMap, IsGridMap, free_cell_count}
-use Rattle.mapf_model.specs.Neighbours.{above_of, left_of, right_of}
 use Rattle.mapf_distance.specs.declared.wave.TheConstants.{UNREACHED}
 use Rattle.mapf_distance.specs.Marks.{entry_of}
 
@@ -22,7 +21,3 @@ pub record AreDistances (grid : GridMap) (goal : ℕ) (table : List ℕ) : Type 
   pub small : (cell : ℕ) → entry_of table cell < UNREACHED → entry_of table cell < free_cell_count grid
   pub bounded : (cell : ℕ) → entry_of table cell < UNREACHED → entry_of table cell < 4194304
   pub none : (cell : ℕ) → UNREACHED ≤ entry_of table cell → IsUnreachable grid goal cell
-
--- the places beside a cell, in rising number, as far as the rows go
-abbrev pub beside_of : GridMap → ℕ → List (Option ℕ)
-beside_of grid cell = above_of grid cell ∷ left_of grid cell ∷ right_of grid cell ∷ Some (cell + grid.width) ∷ []

@@ -1,10 +1,11 @@
 ghost use Rattle.std.specs.Prelude.{◌≡◌, ◌+◌, ◌-◌, ◌*◌, ◌<◌, ◌↔◌, length, IfOk, IfSome, IfNone, IsTrue, OnSome};
 ghost use Rattle.mapf_model.specs.Distance.{IsDistance, IsUnreachable};
 ghost use Rattle.mapf_model.specs.Grid.{IsFree, Step, free_cell_count};
-ghost use Rattle.mapf_model.specs.Path.{at, IsPath, IsCost};
-ghost use Rattle.mapf_model.specs.Printed.{IsTight};
-ghost use Rattle.mapf_distance.specs.Distances.{IsReachable, beside_of};
+ghost use Rattle.mapf_model.specs.Path.{at, IsPath, IsCost, IsTight};
+ghost use Rattle.mapf_distance.specs.Beside.{beside_of};
+ghost use Rattle.mapf_distance.specs.Distances.{IsReachable};
 
+use crate::beside::cells_beside;
 use crate::wave;
 use crate::wave::UNREACHED;
 use mapf_model::{Cell, Grid, OutOfMemory, Path};
@@ -14,9 +15,11 @@ use std::marker::Model;
 /// How many steps it is from each cell of a grid to one goal.
 #[derive(Debug, Drop)]
 pub struct Distances {
+    // The table's shape and its goal, which say what the numbers in it are.
     width: u32,
     height: u32,
     goal: Cell,
+    // An entry for each cell: its distance, or that it is blocked or not joined to the goal.
     table: Vec<u32>,
 }
 
@@ -107,20 +110,12 @@ impl Distances {
         self.get(cell) == Some(distance)
     }
 
-    // The cells above, left, right and below, as far as the rows go.
     fn beside(&self, cell: Cell) -> [Option<Cell>; 4]
         requires { IsFree self.now.grid cell }
-        ensures cells { result ≡ beside_of self.now.grid cell }
+        ensures cells { result ≡ beside_of self.now.grid.width cell }
         ensures wide { 0 < self.now.grid.width }
     {
-        let Cell(number) = cell;
-        let column = number % self.width;
-        [
-            (number / self.width > 0).then(|| Cell(number - self.width)),
-            (column > 0).then(|| Cell(number - 1)),
-            (column + 1 < self.width).then(|| Cell(number + 1)),
-            Some(Cell(number + self.width)),
-        ]
+        cells_beside(self.width, cell)
     }
 }
 

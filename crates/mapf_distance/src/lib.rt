@@ -1,6 +1,7 @@
 //! How many steps is it from each cell to a goal?
 #![tactic(auto)]
 
+mod beside;
 mod distances;
 mod wave;
 

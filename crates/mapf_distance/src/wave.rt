@@ -1,9 +1,10 @@
-ghost use Rattle.std.specs.Prelude.{◌≡◌, ◌+◌, ◌<◌, ◌≤◌, ◌++◌, ◌∷◌, [], IfOk, map, slice_set, vec_len, vec_capacity};
+ghost use Rattle.std.specs.Prelude.{◌≡◌, ◌+◌, ◌<◌, ◌≤◌, ◌++◌, ◌∷◌, ◌↔◌, [], IfOk, IsTrue, map, slice_set, vec_len, vec_capacity};
 ghost use Rattle.mapf_model.specs.Grid.{IsFree, IsGridMap, free_cell_count};
 ghost use Rattle.mapf_distance.specs.Marks.{entry_of, is_open, first_entry};
 ghost use Rattle.mapf_distance.specs.Distances.{AreDistances};
 ghost use Rattle.mapf_distance.specs.Wave.{IsWave, source_of};
 
+use crate::beside::cells_beside;
 use mapf_model::{Cell, Grid, OutOfMemory};
 use std::alloc::Global;
 
@@ -32,7 +33,7 @@ pub fn table(alloc: Global, grid: &Grid, goal: Cell) -> Result<Vec<u32>, OutOfMe
         table,
     };
     wave.reach(goal, 0);
-    wave.spread(alloc, grid);
+    wave.spread(grid);
     Ok(wave.table)
 }
 
@@ -72,8 +73,14 @@ impl Wave {
         self.reached.push_reserved(cell);
     }
 
+    fn is_unreached(&self, cell: Cell) -> bool
+        ensures { IsTrue result ↔ (entry_of self.now.table.items cell ≡ UNREACHED) }
+    {
+        self.table.get(cell.0 as usize) == Some(&UNREACHED)
+    }
+
     // Takes all steps from the cell at this place of the reached ones.
-    fn expand(&mut self, alloc: Global, grid: &Grid, place: usize)
+    fn expand(&mut self, grid: &Grid, place: usize)
         requires wave { IsWave grid.now place self.old.table.items self.old.reached.items }
         requires place { place < vec_len self.old.reached }
         requires room { free_cell_count grid.now ≤ vec_capacity self.old.reached }
@@ -83,16 +90,17 @@ impl Wave {
     {
         let cell = self.reached[place];
         let distance = self.entry(cell) + 1;
-        let steps = grid.steps(alloc, cell);
-        for next in steps.as_slice() {
-            if self.entry(*next) == UNREACHED {
-                self.reach(*next, distance);
+        for beside in cells_beside(grid.width(), cell) {
+            if let Some(next) = beside {
+                if self.is_unreached(next) {
+                    self.reach(next, distance);
+                }
             }
         }
     }
 
     // Takes all steps from all cells that are reached.
-    fn spread(&mut self, alloc: Global, grid: &Grid)
+    fn spread(&mut self, grid: &Grid)
         requires wave { IsWave grid.now 0 self.old.table.items self.old.reached.items }
         requires room { free_cell_count grid.now ≤ vec_capacity self.old.reached }
         ensures wave { IsWave grid.now (vec_len self.new.reached) self.new.table.items self.new.reached.items }
@@ -100,7 +108,7 @@ impl Wave {
     {
         let mut done = 0;
         while done < self.reached.len() {
-            self.expand(alloc, grid, done);
+            self.expand(grid, done);
             done += 1;
         }
     }

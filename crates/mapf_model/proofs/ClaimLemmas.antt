@@ -13,7 +13,7 @@ use Rattle.mapf_model.specs.Bars.{Satisfies}
 use Rattle.mapf_model.specs.declared.bar.Bar.{Bar}
 use Rattle.mapf_model.specs.Blocks.{LabelBlock}
 use Rattle.mapf_model.specs.Plan.{Instance, IsValid, IsSumOfCosts}
-use Rattle.mapf_model.specs.Tree.{ConstraintTree, Split, Leaf, Clash, NodeConstraints, left_bars, right_bars, left_child_constraints, right_child_constraints, AllSatisfy, AtEachNode, IsProperNode, Bounds, block_of, entries_or, with_blocks, no_entries, AreBlocksSound, StartsShow, ShareGoal, NodeShows}
+use Rattle.mapf_model.specs.Tree.{ConstraintTree, Split, Leaf, Clash, NodeConstraints, left_bars, right_bars, left_child_constraints, right_child_constraints, AllSatisfy, AtEachNode, IsProperNode, Holds, block_of, entries_or, with_blocks, no_entries, AreBlocksSound, StartsShow, ShareGoal, NodeShows}
 use Rattle.mapf_model.proofs.LabelLemmas.{lawful_bound, lawful_rests}
 use Rattle.mapf_model.proofs.SplitLemmas.{split}
 
@@ -41,6 +41,15 @@ IsAtMost-label_sum (label ∷ labels) (cost ∷ costs) same each =
 at_most_through : (m n : ℕ) (label : Label) → IsAtMost (Ticks m) label → IsAtMost label (Ticks n) → m ≤ n
 at_most_through m n (Ticks k) p q = omega arith
 at_most_through m n Never p q = absurd q
+
+-- what a claim says of one valid plan
+abbrev pub Bounds : Instance → Claim → List (List ℕ) → Type 0
+Bounds problem (Cost cost) plan = (total : ℕ) → IsSumOfCosts problem.agents plan total → cost ≤ total
+Bounds problem Impossible plan = ⊥
+
+pub holds_of_plans : (problem : Instance) (claim : Claim) → ((plan : List (List ℕ)) → IsValid problem plan → Bounds problem claim plan) → Holds problem claim
+holds_of_plans problem (Cost cost) bounds = bounds
+holds_of_plans problem Impossible bounds = bounds
 
 module _ (problem : Instance) (plan : List (List ℕ)) (valid : IsValid problem plan) where
   -- the agent's path

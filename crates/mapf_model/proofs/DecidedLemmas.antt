@@ -1,11 +1,11 @@
 -- The relations of the specifications have one answer.
-use Rattle.std.proofs.Common.{◌≡◌, ◌↔◌, ℕ, zero, suc, ◌+◌, ◌-◌, ◌<◌, ◌≤◌, min, List, [], ◌∷◌, Option, Some, None, length, slice_index, slice_get, refl, sym, ◌∙◌, ap, subst, inl, inr, ⊎_elim, arith}
+use Rattle.std.proofs.Common.{◌≡◌, ◌↔◌, ℕ, zero, suc, ◌+◌, ◌-◌, ◌<◌, ◌≤◌, min, List, [], ◌∷◌, Option, Some, None, Contains, length, slice_index, slice_get, refl, sym, ◌∙◌, ap, subst, inl, inr, ⊎_elim, arith}
 use Rattle.std.proofs.lemmas.Bool.{cases_lt}
-use Rattle.std.proofs.lemmas.Option.{slice_get_within}
+use Rattle.std.proofs.lemmas.Option.{slice_get_within, slice_get_read, get_or_from_slice_get}
 use Rattle.mapf_model.specs.declared.problem.Agent.{Agent}
 use Rattle.mapf_model.specs.declared.label.Label.{Label}
 use Rattle.mapf_model.specs.declared.label.Label.TheVariants.{Ticks, Never}
-use Rattle.mapf_model.specs.declared.item.Claim.TheVariants.{Cost}
+use Rattle.mapf_model.specs.declared.item.Claim.TheVariants.{Cost, Impossible}
 use Rattle.mapf_model.specs.Grid.{GridMap, IsFree, Step}
 use Rattle.mapf_model.specs.Path.{at, IsPath, IsCost}
 use Rattle.mapf_model.specs.Labels.{Entries, IsLabel, IsEntryOrDistance, IsDistanceLabel, IsAtMost, label_sum}
@@ -52,6 +52,20 @@ module _ (problem : Instance) (entries : ℕ → Entries) where
   start_labels_decide labels cost are = (
     λ shows. subst (λ ls. IsAtMost (Ticks cost) (label_sum ls)) (start_labels_unique shows.0 labels shows.1 are) shows.2,
     λ enough. (labels, are, enough),
+  )
+
+  pub start_labels_decide_impossible : (labels : List Label) → AreStartLabels problem entries labels → StartsShow problem Impossible entries ↔ Contains labels Never
+  start_labels_decide_impossible labels are = (
+    λ (i, agent, this, never).
+        let count = are.count in
+        let within : i < length labels = (let inside = slice_get_within problem.agents i agent this in omega arith) in
+        let found = slice_get_inside labels i within in
+        let same = label_unique problem.grid agent.goal (entries i) agent.start 0 found.0 Never (are.each i agent found.0 this found.1) never in
+        (i, within, get_or_from_slice_get labels i Never Never (found.1 ∙ ap Some same)),
+    λ (i, within, is).
+        let count = are.count in
+        let found = slice_get_inside problem.agents i (omega arith) in
+        (i, found.0, found.1, are.each i found.0 Never found.1 (slice_get_read labels (length labels) i Never refl within (sym is))),
   )
 
 pub cost_unique : (goal : ℕ) (path : List ℕ) (a b : ℕ) → IsCost goal path a → IsCost goal path b → a ≡ b

@@ -1,5 +1,6 @@
 -- Each valid plan has one sum.
-use Rattle.std.proofs.Common.{◌≡◌, ℕ, zero, suc, ◌<◌, ◌≤◌, List, [], ◌∷◌, Some, length, sum, slice_get, refl, sym, ◌∙◌, ap, subst, ⊎_elim, arith}
+use Rattle.std.proofs.Common.{◌≡◌, ℕ, zero, suc, ◌+◌, ◌*◌, ◌<◌, ◌≤◌, ◌⊎◌, List, [], ◌∷◌, ◌++◌, Some, length, length-append, sum, slice_get, refl, sym, ◌∙◌, ap, subst, inl, inr, ⊎_elim, arith}
+use Rattle.std.proofs.lemmas.List.Sums.{sum_by-append, sum_by-cons}
 use Rattle.std.proofs.lemmas.Bool.{cases_eq, cases_lt}
 use Rattle.std.proofs.lemmas.Option.{slice_get_within, same_Some}
 use Rattle.mapf_model.specs.declared.problem.Agent.{Agent}
@@ -63,3 +64,44 @@ one_sum problem plan valid a b (xs, are_xs, is_a) (ys, are_ys, is_b) =
     let path : (path : List ℕ) × (slice_get plan i ≡ Some path) = slice_get_inside plan i (omega arith) in
     cost_unique agent.0.goal path.0 x y (are_xs.each i agent.0 path.0 x agent.1 path.1 this) (are_ys.each i agent.0 path.0 y agent.1 path.1 other)) in
     is_a ∙ ap sum same ∙ sym is_b
+
+pub snoc_get : {X : Type 0} (xs : List X) (x : X) (i : ℕ) (y : X) → slice_get (xs ++ x ∷ []) i ≡ Some y → (slice_get xs i ≡ Some y) ⊎ ((i ≡ length xs) × (x ≡ y))
+snoc_get [] x zero y e = inr (refl, same_Some x y e)
+snoc_get [] x (suc i) y e = absurd cc
+snoc_get (z ∷ xs) x zero y e = inl e
+snoc_get (z ∷ xs) x (suc i) y e = ⊎_elim (λ (before : slice_get xs i ≡ Some y). inl before) (λ (last : (i ≡ length xs) × (x ≡ y)). inr (ap suc last.0, last.1)) (snoc_get xs x i y e)
+
+-- the costs of the first so many paths, and their sum
+pub record AddsUpFirst (agents : List Agent) (plan : List (List ℕ)) (count total : ℕ) : Type 0 where
+  pub costs : List ℕ
+  pub so_many : length costs ≡ count
+  pub is_sum : total ≡ sum costs
+  pub small : total ≤ count * 4294967296
+  pub each : (i : ℕ) (agent : Agent) (path : List ℕ) (cost : ℕ) → slice_get agents i ≡ Some agent → slice_get plan i ≡ Some path → slice_get costs i ≡ Some cost → IsCost agent.goal path cost
+
+pub AddsUpFirst-none : (agents : List Agent) (plan : List (List ℕ)) → AddsUpFirst agents plan 0 0
+AddsUpFirst-none agents plan = record { costs = []; so_many = refl; is_sum = refl; small = omega arith; each = λ i agent path cost a p k. absurd cc }
+
+pub AddsUpFirst-more : (agents : List Agent) (plan : List (List ℕ)) (count total : ℕ) (agent : Agent) (path : List ℕ) (cost : ℕ) → AddsUpFirst agents plan count total →
+    slice_get agents count ≡ Some agent → slice_get plan count ≡ Some path → IsCost agent.goal path cost → cost < 4294967296 → AddsUpFirst agents plan (count + 1) (total + cost)
+AddsUpFirst-more agents plan count total agent path cost first this_agent this_path is small =
+    let so_many = first.so_many in
+    let is_sum = first.is_sum in
+    let before = first.small in
+    record {
+      costs = first.costs ++ cost ∷ [];
+      so_many = omega (arith, length-append first.costs (cost ∷ []));
+      is_sum = rw (sum_by-append (λ n. n) first.costs (cost ∷ []), sum_by-cons) (omega arith);
+      small = omega arith;
+      each = λ i a p k ea ep ek. ⊎_elim
+          (λ (old : slice_get first.costs i ≡ Some k). first.each i a p k ea ep old)
+          (λ (new : (i ≡ length first.costs) × (cost ≡ k)).
+          let here : i ≡ count = new.0 ∙ so_many in
+          let same_agent = same_Some agent a (sym this_agent ∙ subst (λ j. slice_get agents j ≡ Some a) here ea) in
+          let same_path = same_Some path p (sym this_path ∙ subst (λ j. slice_get plan j ≡ Some p) here ep) in
+          subst (λ x. IsCost x.goal p k) same_agent (subst (λ x. IsCost agent.goal x k) same_path (subst (λ x. IsCost agent.goal path x) new.1 is)))
+          (snoc_get first.costs cost i k ek);
+    }
+
+pub AddsUpFirst-all : (agents : List Agent) (plan : List (List ℕ)) (total : ℕ) → length plan ≡ length agents → AddsUpFirst agents plan (length plan) total → IsSumOfCosts agents plan total
+AddsUpFirst-all agents plan total same first = (first.costs, record { one_each = same; count = first.so_many; each = first.each }, first.is_sum)

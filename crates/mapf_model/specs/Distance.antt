@@ -1,8 +1,8 @@
--- Distances on a grid.
+-- Distances on a grid. (The usual ones)
 use Rattle.std.specs.Prelude.{◌≡◌, ℕ, zero, suc, ◌≤◌}
 use Rattle.mapf_model.specs.Grid.{GridMap, IsFree, Step}
 
--- so many steps lead from one free cell to another
+-- so many steps, waits included, lead from the one free cell to the other
 abbrev pub Walk : GridMap → ℕ → ℕ → ℕ → Type 0
 Walk grid from to zero = IsFree grid from × (from ≡ to)
 Walk grid from to (suc n) = (next : ℕ) × Step grid from next × Walk grid next to n

@@ -1,4 +1,5 @@
--- Trees whose splits stand on earliest conflicts of cheapest paths, at nodes no dearer than any end.
+-- Trees whose splits stand on earliest conflicts of cheapest paths, at nodes no dearer than any end: what
+-- best-first expansion makes. (Sharon et al. 2015: least sum first; the terms are own)
 use Rattle.std.specs.Prelude.{◌≡◌, ◌≢◌, ℕ, ◌<◌, ◌≤◌, ⊤, List, Some, length, slice_get}
 use Rattle.mapf_model.specs.declared.bar.Bar.TheVariants.{Cell, Move}
 use Rattle.mapf_model.specs.declared.problem.Agent.{Agent}
@@ -9,23 +10,24 @@ use Rattle.mapf_model.specs.Bars.{Violates, Satisfies}
 use Rattle.mapf_model.specs.Plan.{Instance, ConflictAt, IsSumOfCosts}
 use Rattle.mapf_model.specs.Tree.{ConstraintTree, Split, Leaf, Clash, NodeConstraints, root, IsProper, AtEachNode, AtEachEnd, AtSomeLeaf}
 
--- a lawful path of the agent that obeys its bars
+-- a lawful path of the agent that satisfies its constraints
 abbrev pub IsConsistentPath : Instance → NodeConstraints → ℕ → Agent → List ℕ → Type 0
 IsConsistentPath problem constraints i agent path = IsLawful problem.grid agent path × Satisfies (constraints.bars i) path
 
--- for each agent a path of least cost among those that obey its bars
+-- for each agent a path of least cost among its consistent ones: a node's solution
 pub record AreCheapest (problem : Instance) (constraints : NodeConstraints) (paths : List (List ℕ)) : Type 0 where
   pub count : length paths ≡ length problem.agents
   pub lawful : (i : ℕ) (agent : Agent) (path : List ℕ) → slice_get problem.agents i ≡ Some agent → slice_get paths i ≡ Some path → IsConsistentPath problem constraints i agent path
   pub least : (i : ℕ) (agent : Agent) (path other : List ℕ) (cost other_cost : ℕ) → slice_get problem.agents i ≡ Some agent → slice_get paths i ≡ Some path →
       IsConsistentPath problem constraints i agent other → IsCost agent.goal path cost → IsCost agent.goal other other_cost → cost ≤ other_cost
 
--- no list of cheapest paths at an end of the tree has a smaller sum
+-- cheapest paths at this node, whose sum is at most that of any cheapest paths at an end of the tree
 pub record AreDue (problem : Instance) (tree : ConstraintTree) (constraints : NodeConstraints) (paths : List (List ℕ)) (total : ℕ) : Type 0 where
   pub cheapest : AreCheapest problem constraints paths
   pub sum : IsSumOfCosts problem.agents paths total
   pub least : AtEachEnd (λ end_constraints. (others : List (List ℕ)) (other_total : ℕ) → AreCheapest problem end_constraints others → IsSumOfCosts problem.agents others other_total → total ≤ other_total) root tree
 
+-- when the conflict is
 abbrev pub tick_of : Conflict → ℕ
 tick_of (Vertex i j cell tick) = tick
 tick_of (Swap i j from to tick) = tick
@@ -43,23 +45,26 @@ AreConflictFreeBefore paths end = (i j tick : ℕ) (p q : List ℕ) → tick < e
 abbrev pub HaveSomeConflict : List (List ℕ) → Type 0
 HaveSomeConflict paths = (i : ℕ) × (j : ℕ) × (tick : ℕ) × (p : List ℕ) × (q : List ℕ) × (i ≢ j) × (slice_get paths i ≡ Some p) × (slice_get paths j ≡ Some q) × ConflictAt p q tick
 
+-- a split stands on the earliest conflict of paths that are due there
 abbrev pub IsEarnedNode : Instance → ConstraintTree → NodeConstraints → ConstraintTree → Type 0
 IsEarnedNode problem tree constraints (Split conflict left right) = (paths : List (List ℕ)) × (total : ℕ) × AreDue problem tree constraints paths total × HasConflict paths conflict × AreConflictFreeBefore paths (tick_of conflict)
 IsEarnedNode problem tree constraints (Leaf blocks) = Unit {0}
 IsEarnedNode problem tree constraints (Clash i j) = Unit {0}
 
+-- a proper tree of which each split is earned
 pub record IsEarned (problem : Instance) (tree : ConstraintTree) : Type 0 where
   pub proper : IsProper problem tree
   pub splits : AtEachNode (IsEarnedNode problem tree) root tree
 
--- moreover at some leaf some due paths conflict, and the fact holds of them
+-- an earned tree with a leaf at which some due paths conflict and the fact holds of them
 pub record IsStoppedWhere (Fact : List (List ℕ) → Type 0) (problem : Instance) (tree : ConstraintTree) : Type 0 where
   pub earned : IsEarned problem tree
   pub leaf : AtSomeLeaf (λ constraints. (paths : List (List ℕ)) × (total : ℕ) × AreDue problem tree constraints paths total × HaveSomeConflict paths × Fact paths) root tree
 
+-- an earned tree with a leaf at which some due paths conflict
 abbrev pub IsStopped : Instance → ConstraintTree → Type 0
 IsStopped problem tree = IsStoppedWhere (λ paths. ⊤) problem tree
 
--- their first conflict is at this tick or later
+-- the same, and these paths have no conflict before this tick
 abbrev pub IsStoppedFrom : ℕ → Instance → ConstraintTree → Type 0
 IsStoppedFrom tick problem tree = IsStoppedWhere (λ paths. AreConflictFreeBefore paths tick) problem tree

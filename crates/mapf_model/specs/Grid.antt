@@ -1,4 +1,4 @@
--- The cells of a grid and the steps between them.
+-- The cells of a grid and the steps between them. (Stern et al. 2019: a four-connected grid)
 use Rattle.std.specs.Prelude.{◌≡◌, ◌⊎◌, ℕ, ◌+◌, ◌*◌, ◌≤◌, ◌/◌, ◌%◌, Bool, true, false, List, length, slice_index_or, count_by}
 
 -- a rectangle of cells, row after row, and which of them are free
@@ -7,16 +7,18 @@ pub record GridMap : Type 0 where
   pub height : ℕ
   pub free : List Bool
 
--- a rectangle with a flag for each of its cells
+-- 1 to 2,048 cells wide and high, with a flag for each cell
 abbrev pub IsGridMap : GridMap → Type 0
 IsGridMap grid = (1 ≤ grid.width) × (grid.width ≤ 2048) × (1 ≤ grid.height) × (grid.height ≤ 2048) × (length grid.free ≡ grid.width * grid.height)
 
+-- a cell has the number row * width + column
 abbrev pub column : GridMap → ℕ → ℕ
 column grid cell = cell % grid.width
 
 abbrev pub row : GridMap → ℕ → ℕ
 row grid cell = cell / grid.width
 
+-- the cell is on the grid and free
 abbrev pub IsFree : GridMap → ℕ → Type 0
 IsFree grid cell = slice_index_or grid.free cell false ≡ true
 
@@ -24,7 +26,7 @@ IsFree grid cell = slice_index_or grid.free cell false ≡ true
 abbrev pub free_cell_count : GridMap → ℕ
 free_cell_count grid = count_by (λ free. free) grid.free
 
--- the numbers differ by one
+-- two numbers that differ by one
 abbrev pub DifferByOne : ℕ → ℕ → Type 0
 DifferByOne a b = (a ≡ b + 1) ⊎ (b ≡ a + 1)
 
@@ -34,6 +36,6 @@ pub record AreAdjacent (grid : GridMap) (from to : ℕ) : Type 0 where
   pub to_free : IsFree grid to
   pub apart : ((row grid from ≡ row grid to) × DifferByOne (column grid from) (column grid to)) ⊎ ((column grid from ≡ column grid to) × DifferByOne (row grid from) (row grid to))
 
--- in one tick an agent waits, or moves to an adjacent cell
+-- in one tick an agent waits in a free cell, or moves to an adjacent one
 abbrev pub Step : GridMap → ℕ → ℕ → Type 0
 Step grid from to = (IsFree grid from × (from ≡ to)) ⊎ AreAdjacent grid from to

@@ -1,4 +1,5 @@
--- Labels: lower bounds on the ticks that are left to the last arrival.
+-- Labels: claimed lower bounds on the ticks left until an agent's last arrival at its goal. Sound labels are
+-- a consistent heuristic on the time-expanded graph, states being cells at ticks. (Own)
 use Rattle.std.specs.Prelude.{◌≡◌, ℕ, ◌+◌, ◌≤◌, ⊤, ◌&&◌, ◌==◌, List, [], ◌∷◌, Option, Some, None, Contains, find, option_map}
 use Rattle.mapf_model.specs.declared.bar.Bar.{Bar}
 use Rattle.mapf_model.specs.declared.bar.Bar.TheVariants.{Cell, Move}
@@ -14,10 +15,12 @@ IsAtMost label Never = ⊤
 IsAtMost (Ticks m) (Ticks n) = m ≤ n
 IsAtMost Never (Ticks n) = ⊥
 
+-- one tick more
 abbrev pub one_more : Label → Label
 one_more (Ticks n) = Ticks (n + 1)
 one_more Never = Never
 
+-- what two agents take together
 abbrev pub label_plus : Label → Label → Label
 label_plus (Ticks m) (Ticks n) = Ticks (m + n)
 label_plus (Ticks m) Never = Never
@@ -36,13 +39,13 @@ IsDistanceLabel grid goal cell Never = IsUnreachable grid goal cell
 abbrev pub Entries : Type 0
 Entries = ℕ → ℕ → Option Label
 
--- the entries of a list
+-- the entries of a list: the label that it first lists for the state
 abbrev pub entries_of : List Entry → Entries
 entries_of entries cell tick = option_map (λ entry. entry.label) (find (λ entry. (entry.cell == cell) && (entry.tick == tick)) entries)
 
--- the entry if there is one, else the distance
+-- the listed label if there is one, else the distance
 abbrev pub IsEntryOrDistance : GridMap → ℕ → ℕ → Option Label → Label → Type 0
-IsEntryOrDistance grid goal cell (Some entry) label = label ≡ entry
+IsEntryOrDistance grid goal cell (Some listed) label = label ≡ listed
 IsEntryOrDistance grid goal cell None label = IsDistanceLabel grid goal cell label
 
 -- the label of a state
@@ -55,16 +58,17 @@ pub record MayGo (grid : GridMap) (bars : List Bar) (from to tick : ℕ) : Type 
   pub arrival : Contains bars (Cell to (tick + 1)) → ⊥
   pub move : Contains bars (Move from to tick) → ⊥
 
--- the state has a label that is at least this one less one
+-- this label is at most one more than the state's label
 abbrev pub IsWithinOne : GridMap → ℕ → Entries → Label → ℕ → ℕ → Type 0
 IsWithinOne grid goal entries label cell tick = (after : Label) × IsLabel grid goal entries cell tick after × IsAtMost label (one_more after)
 
--- an entry that can stand
+-- an entry above the distance which no way on contradicts: at the goal the agent is barred from it at some
+-- later tick, and each step that it may take leads to a label that is lower by one at the most
 pub record IsSoundEntry (grid : GridMap) (goal : ℕ) (bars : List Bar) (entries : Entries) (cell tick : ℕ) (label : Label) : Type 0 where
   pub raised : (distance : ℕ) × IsDistance grid goal cell distance × IsAtMost (Ticks (distance + 1)) label
   pub at_goal : (Contains bars (Cell cell tick) → ⊥) → cell ≡ goal → (later : ℕ) × (tick ≤ later) × Contains bars (Cell goal later)
   pub onward : (Contains bars (Cell cell tick) → ⊥) → (next : ℕ) → MayGo grid bars cell next tick → IsWithinOne grid goal entries label next (tick + 1)
 
--- each entry can stand
+-- each entry is sound
 abbrev pub AreSound : GridMap → ℕ → List Bar → Entries → Type 0
 AreSound grid goal bars entries = (cell tick : ℕ) (label : Label) → entries cell tick ≡ Some label → IsSoundEntry grid goal bars entries cell tick label

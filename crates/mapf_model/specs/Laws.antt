@@ -1,17 +1,20 @@
 -- The laws of the definitions.
-use Rattle.std.specs.Prelude.{◌≡◌, ◌≢◌, ◌↔◌, ℕ, ◌+◌, ◌<◌, List, [], ◌∷◌, length, slice_index, Contains}
+use Rattle.std.specs.Prelude.{◌≡◌, ◌≢◌, ◌↔◌, ℕ, ◌+◌, ◌-◌, ◌<◌, List, [], ◌∷◌, Some, length, slice_index, Contains, AllPairs}
 use Rattle.mapf_model.specs.declared.bar.Bar.{Bar}
 use Rattle.mapf_model.specs.declared.problem.Agent.{Agent}
 use Rattle.mapf_model.specs.Blocks.{LabelBlock}
 use Rattle.mapf_model.specs.declared.item.Claim.{Claim}
 use Rattle.mapf_model.specs.declared.item.Claim.TheVariants.{Cost, Impossible}
 use Rattle.mapf_model.specs.declared.conflict.Conflict.{Conflict}
+use Rattle.mapf_model.specs.declared.label.Entry.{Entry}
 use Rattle.mapf_model.specs.declared.label.Label.{Label}
 use Rattle.mapf_model.specs.declared.label.Label.TheVariants.{Ticks, Never}
 use Rattle.mapf_model.specs.Grid.{GridMap, IsFree, Step}
-use Rattle.mapf_model.specs.Path.{IsPath, IsLawful, IsCost}
+use Rattle.mapf_model.specs.Path.{IsPath, IsLawful, IsCost, IsTight}
+use Rattle.mapf_model.specs.Printed.{IsBefore}
+use Rattle.mapf_model.specs.Accepted.{PlanSays, Outcome, GoTogether, IsTrueOf}
 use Rattle.mapf_model.specs.Bars.{Satisfies}
-use Rattle.mapf_model.specs.Labels.{Entries, AreSound, IsLabel, IsAtMost, label_sum}
+use Rattle.mapf_model.specs.Labels.{Entries, entries_of, AreSound, IsLabel, IsAtMost, label_sum}
 use Rattle.mapf_model.specs.Plan.{Instance, IsValid, IsSumOfCosts}
 use Rattle.mapf_model.specs.Tree.{ConstraintTree, Leaf, NodeConstraints, IsProper, IsProperSplit, AtSomeEnd, AllSatisfy, root, left_child_constraints, right_child_constraints, Node, SplitNode, LeafNode, ClashNode, nodes_of, AreStartLabels, StartsShow, ShareGoal, ShowsFrom, NodesShow, Shows, Holds}
 
@@ -32,7 +35,7 @@ NeverMeansNone =
     IsLabel grid agent.goal entries agent.start 0 Never →
     IsLawful grid agent path → Satisfies bars path → ⊥
 
--- each valid plan obeys the bars on the way to some leaf or clash of a proper tree
+-- each valid plan obeys the constraints of some end of a proper tree: of a leaf or of a clash
 abbrev pub SplitsLoseNoPlan : Type 0
 SplitsLoseNoPlan =
     (problem : Instance) (tree : ConstraintTree) (plan : List (List ℕ)) →
@@ -43,7 +46,7 @@ SplitsLoseNoPlan =
 abbrev pub ShownClaimsHold : Type 0
 ShownClaimsHold = (problem : Instance) (claim : Claim) (tree : ConstraintTree) → Shows problem claim tree → Holds problem claim
 
--- how a reader of items, with a stack of the ways to the trees that are owed, judges the item in front
+-- how a reader of nodes, with a stack of the constraints of the trees that are owed, judges the node in front
 pub record NodesShowByFront (problem : Instance) (claim : Claim) : Type 0 where
   pub whole : (items : List Node) → NodesShow problem claim (root ∷ []) items ↔ ((tree : ConstraintTree) × (items ≡ nodes_of tree) × ShowsFrom problem claim root tree)
   pub over : NodesShow problem claim [] []
@@ -107,3 +110,15 @@ pub record BarsAreASet (xs ys : List Bar) : Type 0 where
 
 abbrev pub OnlyMembershipCounts : Type 0
 OnlyMembershipCounts = (xs ys : List Bar) → AreSameBars xs ys → BarsAreASet xs ys
+
+-- what is accepted is so
+abbrev pub AcceptedIsTrue : Type 0
+AcceptedIsTrue = (problem : Instance) (says : PlanSays) (claim : Claim) (tree : ConstraintTree) (outcome : Outcome) → GoTogether problem says claim tree outcome → IsTrueOf problem says outcome
+
+-- a path that ends as it arrives costs its steps
+abbrev pub TightPathsCostTheirSteps : Type 0
+TightPathsCostTheirSteps = (grid : GridMap) (agent : Agent) (path : List ℕ) → IsLawful grid agent path → IsTight path → IsCost agent.goal path (length path - 1)
+
+-- in a list that rises, the label of a state is the one with which the list has it
+abbrev pub ListedLabelsAreFound : Type 0
+ListedLabelsAreFound = (entries : List Entry) → AllPairs IsBefore entries → (cell tick : ℕ) (label : Label) → (entries_of entries cell tick ≡ Some label) ↔ Contains entries (record { cell = cell; tick = tick; label = label })

@@ -11,3 +11,4 @@ pub mod Neighbours
 pub mod Blocks
 pub mod Accepted
 pub mod Printed
+pub mod Examples

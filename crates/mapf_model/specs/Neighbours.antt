@@ -1,4 +1,4 @@
--- The neighbours of a cell, in rising number.
+-- The cells one step away, the cell itself included, in rising number.
 use Rattle.std.specs.Prelude.{ℕ, ◌+◌, ◌-◌, Option, None, Some, false, List, [], ◌∷◌, ◌++◌, nat_lt, if◌then◌else◌, slice_index_or}
 use Rattle.mapf_model.specs.Grid.{GridMap, row, column}
 

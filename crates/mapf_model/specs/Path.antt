@@ -1,5 +1,5 @@
--- Paths of agents and their cost.
-use Rattle.std.specs.Prelude.{◌≡◌, ◌≢◌, ℕ, ◌+◌, ◌-◌, ◌≤◌, min, List, [], slice_index, length}
+-- Paths of agents and their cost. (Stern et al. 2019: single-agent plans, stay at target, sum of costs)
+use Rattle.std.specs.Prelude.{◌≡◌, ◌≢◌, ◌⊎◌, ℕ, ◌+◌, ◌-◌, ◌≤◌, min, List, [], slice_index, length}
 use Rattle.mapf_model.specs.declared.problem.Agent.{Agent}
 use Rattle.mapf_model.specs.Grid.{GridMap, Step}
 
@@ -12,7 +12,7 @@ pub record IsPath (grid : GridMap) (path : List ℕ) : Type 0 where
   pub nonempty : path ≢ []
   pub steps : (tick : ℕ) → Step grid (at path tick) (at path (tick + 1))
 
--- a path from the agent's start to its goal
+-- a path from the agent's start to its goal: a single-agent plan
 pub record IsLawful (grid : GridMap) (agent : Agent) (path : List ℕ) : Type 0 where
   pub is_path : IsPath grid path
   pub start : at path 0 ≡ agent.start
@@ -26,3 +26,7 @@ RestsFrom goal path from = (tick : ℕ) → from ≤ tick → at path tick ≡ g
 pub record IsCost (goal : ℕ) (path : List ℕ) (cost : ℕ) : Type 0 where
   pub rests : RestsFrom goal path cost
   pub least : (from : ℕ) → RestsFrom goal path from → cost ≤ from
+
+-- one cell, or the last two differ
+abbrev pub IsTight : List ℕ → Type 0
+IsTight path = (length path ≡ 1) ⊎ (slice_index path (length path - 1) ≢ slice_index path (length path - 2))

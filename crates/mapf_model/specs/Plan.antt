@@ -1,7 +1,7 @@
--- Plans: a path for each agent.
-use Rattle.std.specs.Prelude.{◌≡◌, ◌≢◌, ◌⊎◌, ℕ, ◌+◌, ◌≤◌, All, List, Some, length, sum, slice_get}
+-- Plans: a path for each agent. (Stern et al. 2019)
+use Rattle.std.specs.Prelude.{◌≡◌, ◌≢◌, ◌⊎◌, ℕ, ◌+◌, ◌-◌, ◌≤◌, All, List, Some, length, sum, slice_get}
 use Rattle.mapf_model.specs.declared.problem.Agent.{Agent}
-use Rattle.mapf_model.specs.Grid.{GridMap, IsGridMap, IsFree}
+use Rattle.mapf_model.specs.Grid.{GridMap, IsFree}
 use Rattle.mapf_model.specs.Path.{at, IsLawful, IsCost}
 
 -- a grid and the agents on it
@@ -9,18 +9,16 @@ pub record Instance : Type 0 where
   pub grid : GridMap
   pub agents : List Agent
 
--- agents whose starts and goals are free cells of the grid
-pub record IsInstance (problem : Instance) : Type 0 where
-  pub grid : IsGridMap problem.grid
-  pub some : 1 ≤ length problem.agents
-  pub few : length problem.agents ≤ 200
-  pub free : All (λ agent. IsFree problem.grid agent.start × IsFree problem.grid agent.goal) problem.agents
+-- 1 to 200 agents whose starts and goals are free cells
+abbrev pub AreAgentsOn : GridMap → List Agent → Type 0
+AreAgentsOn grid agents = (1 ≤ length agents) × (length agents ≤ 200) × All (λ agent. IsFree grid agent.start × IsFree grid agent.goal) agents
 
--- two agents are in one cell, or exchange their cells
+-- a vertex conflict: both are in one cell at the tick; or a swapping conflict: they exchange their cells
+-- between this tick and the next
 abbrev pub ConflictAt : List ℕ → List ℕ → ℕ → Type 0
 ConflictAt p q tick = (at p tick ≡ at q tick) ⊎ ((at p tick ≡ at q (tick + 1)) × (at p (tick + 1) ≡ at q tick))
 
--- a lawful path for each agent, and no two agents in conflict at any tick
+-- a lawful path for each agent, and no two different agents in conflict at any tick, however late
 pub record IsValid (problem : Instance) (plan : List (List ℕ)) : Type 0 where
   pub count : length plan ≡ length problem.agents
   pub lawful : (i : ℕ) (agent : Agent) (path : List ℕ) → slice_get problem.agents i ≡ Some agent → slice_get plan i ≡ Some path → IsLawful problem.grid agent path
@@ -36,10 +34,15 @@ pub record AreCosts (agents : List Agent) (plan : List (List ℕ)) (costs : List
 abbrev pub IsSumOfCosts : List Agent → List (List ℕ) → ℕ → Type 0
 IsSumOfCosts agents plan total = (costs : List ℕ) × AreCosts agents plan costs × (total ≡ sum costs)
 
+-- the path of some agent doesn't end at the agent's goal
+abbrev pub SomePathEndsElsewhere : List Agent → List (List ℕ) → Type 0
+SomePathEndsElsewhere agents plan = (i : ℕ) × (agent : Agent) × (path : List ℕ) × (slice_get agents i ≡ Some agent) × (slice_get plan i ≡ Some path) × (at path (length path - 1) ≢ agent.goal)
+
 -- no valid plan has a smaller sum
 abbrev pub IsLowerBound : Instance → ℕ → Type 0
 IsLowerBound problem bound = (plan : List (List ℕ)) → IsValid problem plan → (total : ℕ) → IsSumOfCosts problem.agents plan total → bound ≤ total
 
+-- the plan is valid with this sum, and no valid plan has a smaller one
 pub record IsOptimal (problem : Instance) (plan : List (List ℕ)) (total : ℕ) : Type 0 where
   pub valid : IsValid problem plan
   pub sum : IsSumOfCosts problem.agents plan total

@@ -1,5 +1,5 @@
--- The values that the texts can spell.
-use Rattle.std.specs.Prelude.{◌≡◌, ◌≢◌, ◌⊎◌, ℕ, ◌-◌, ◌*◌, ◌<◌, ◌≤◌, ⊤, List, length, All, AllPairs, slice_index}
+-- The ranges and orders of the values that plan texts and certificates spell. (Own)
+use Rattle.std.specs.Prelude.{◌≡◌, ◌⊎◌, ℕ, ◌*◌, ◌^◌, ◌<◌, ◌≤◌, ⊤, List, length, All, AllPairs}
 use Rattle.mapf_model.specs.declared.item.Claim.{Claim}
 use Rattle.mapf_model.specs.declared.item.Claim.TheVariants.{Cost, Impossible}
 use Rattle.mapf_model.specs.declared.conflict.Conflict.{Conflict}
@@ -9,8 +9,10 @@ use Rattle.mapf_model.specs.declared.label.Label.{Label}
 use Rattle.mapf_model.specs.declared.label.Label.TheVariants.{Ticks, Never}
 use Rattle.mapf_model.specs.Blocks.{LabelBlock}
 use Rattle.mapf_model.specs.Grid.{GridMap}
+use Rattle.mapf_model.specs.Path.{IsTight}
 use Rattle.mapf_model.specs.Tree.{ConstraintTree, Split, Leaf, Clash}
 
+-- a cell of the grid, free or not
 abbrev pub IsOnGrid : GridMap → ℕ → Type 0
 IsOnGrid grid cell = cell < grid.width * grid.height
 
@@ -18,42 +20,53 @@ IsOnGrid grid cell = cell < grid.width * grid.height
 abbrev pub IsBefore : Entry → Entry → Type 0
 IsBefore a b = (a.tick < b.tick) ⊎ ((a.tick ≡ b.tick) × (a.cell < b.cell))
 
+-- 1 to 9,999,999, or never
 abbrev pub IsLabelInRange : Label → Type 0
 IsLabelInRange (Ticks n) = (1 ≤ n) × (n ≤ 9999999)
 IsLabelInRange Never = ⊤
 
+-- ticks up to 9,999,999
 abbrev pub IsEntryInRange : GridMap → Entry → Type 0
 IsEntryInRange grid entry = IsOnGrid grid entry.cell × (entry.tick ≤ 9999999) × IsLabelInRange entry.label
 
+-- the entries of one agent: at least one, rising strictly
 pub record IsBlockInRange (grid : GridMap) (agents : ℕ) (block : LabelBlock) : Type 0 where
   pub agent : block.agent < agents
   pub some : 1 ≤ length block.entries
+  pub few : length block.entries < 2 ^ 64
   pub entries : All (IsEntryInRange grid) block.entries
   pub rising : AllPairs IsBefore block.entries
 
+-- the blocks of a leaf, the agents of which rise strictly
 pub record AreBlocksInRange (grid : GridMap) (agents : ℕ) (blocks : List LabelBlock) : Type 0 where
   pub each : All (IsBlockInRange grid agents) blocks
   pub rising : AllPairs (λ a b. a.agent < b.agent) blocks
 
+-- ticks up to 999,999
 abbrev pub IsConflictInRange : GridMap → ℕ → Conflict → Type 0
 IsConflictInRange grid agents (Vertex i j cell tick) = (i < agents) × (j < agents) × IsOnGrid grid cell × (tick ≤ 999999)
 IsConflictInRange grid agents (Swap i j from to tick) = (i < agents) × (j < agents) × IsOnGrid grid from × IsOnGrid grid to × (tick ≤ 999999)
 
+-- each node of the tree is in range
 abbrev pub IsTreeInRange : GridMap → ℕ → ConstraintTree → Type 0
 IsTreeInRange grid agents (Split conflict left right) = IsConflictInRange grid agents conflict × IsTreeInRange grid agents left × IsTreeInRange grid agents right
 IsTreeInRange grid agents (Leaf blocks) = AreBlocksInRange grid agents blocks
 IsTreeInRange grid agents (Clash i j) = (i < agents) × (j < agents)
 
+-- costs up to 1,999,999,800
 abbrev pub IsClaimInRange : Claim → Type 0
 IsClaimInRange (Cost cost) = cost ≤ 1999999800
 IsClaimInRange Impossible = ⊤
 
--- one cell, or the last two differ
-abbrev pub IsTight : List ℕ → Type 0
-IsTight path = (length path ≡ 1) ⊎ (slice_index path (length path - 1) ≢ slice_index path (length path - 2))
-
+-- 1 to 10,000,000 cells, and no waiting at the end
 pub record IsPathInRange (grid : GridMap) (path : List ℕ) : Type 0 where
   pub some : 1 ≤ length path
   pub short : length path ≤ 10000000
   pub on_grid : All (IsOnGrid grid) path
   pub tight : IsTight path
+
+-- 1 to 200 such paths. The steps of all of them are then at most 1,999,999,800
+pub record IsPlanInRange (grid : GridMap) (plan : List (List ℕ)) : Type 0 where
+  pub some : 1 ≤ length plan
+  pub few : length plan ≤ 200
+  pub paths : All (IsPathInRange grid) plan

@@ -1,5 +1,5 @@
--- Constraint trees and what they show.
-use Rattle.std.specs.Prelude.{◌≡◌, ◌≢◌, ◌⊎◌, ℕ, ◌+◌, ◌<◌, ◌≤◌, ◌==◌, if◌then◌else◌, List, [], ◌∷◌, ◌++◌, Option, None, Some, length, slice_get, find, AllPairs, All, map}
+-- Constraint trees and what they show. (Sharon et al. 2015: the constraint tree; what one shows is own)
+use Rattle.std.specs.Prelude.{◌≡◌, ◌≢◌, ◌⊎◌, ℕ, ◌+◌, ◌<◌, ◌==◌, if◌then◌else◌, List, [], ◌∷◌, ◌++◌, Option, None, Some, length, slice_get, find, AllPairs, All, map}
 use Rattle.std.specs.List.{AllZip}
 use Rattle.mapf_model.specs.declared.bar.Bar.{Bar}
 use Rattle.mapf_model.specs.declared.bar.Bar.TheVariants.{Cell, Move}
@@ -16,8 +16,10 @@ use Rattle.mapf_model.specs.declared.item.Item.TheVariants.{Vertex as VertexItem
 use Rattle.mapf_model.specs.Grid.{IsFree, AreAdjacent}
 use Rattle.mapf_model.specs.Bars.{Satisfies}
 use Rattle.mapf_model.specs.Labels.{Entries, entries_of, AreSound, IsLabel, IsAtMost, label_sum}
-use Rattle.mapf_model.specs.Plan.{Instance, IsValid, IsSumOfCosts}
+use Rattle.mapf_model.specs.Plan.{Instance, IsLowerBound, IsImpossible}
 
+-- a split on a conflict with two children, a leaf with blocks of labels, or an end at which two agents
+-- have one goal
 pub data ConstraintTree : Type 0 where
   Split : (conflict : Conflict) → (left right : ConstraintTree) → ConstraintTree
   Leaf : (blocks : List LabelBlock) → ConstraintTree
@@ -46,10 +48,11 @@ nodes_of (Clash i j) = ClashNode i j ∷ []
 abbrev pub Spell : List Item → ConstraintTree → Type 0
 Spell items tree = map node_of items ≡ nodes_of tree
 
--- what was gathered on the way from the root: the bars of each agent
+-- the constraints of a node: the bars of each agent that were gathered on the way from the root
 pub record NodeConstraints : Type 0 where
   pub bars : ℕ → List Bar
 
+-- the root has none
 abbrev pub root : NodeConstraints
 root = record { bars = λ agent. [] }
 
@@ -73,37 +76,41 @@ left_child_constraints constraints conflict = record { bars = left_bars constrai
 abbrev pub right_child_constraints : NodeConstraints → Conflict → NodeConstraints
 right_child_constraints constraints conflict = record { bars = right_bars constraints.bars conflict }
 
--- a fact holds at each node of a tree, with the way to it
+-- a fact holds at each node of a tree, with its constraints
 abbrev pub AtEachNode : (NodeConstraints → ConstraintTree → Type 0) → NodeConstraints → ConstraintTree → Type 0
 AtEachNode P constraints (Split conflict left right) = P constraints (Split conflict left right) × AtEachNode P (left_child_constraints constraints conflict) left × AtEachNode P (right_child_constraints constraints conflict) right
 AtEachNode P constraints (Leaf blocks) = P constraints (Leaf blocks)
 AtEachNode P constraints (Clash i j) = P constraints (Clash i j)
 
--- a fact holds on the way to each end, to some end: a leaf or a clash
+-- a fact holds of the constraints of each end: each leaf and each clash
 abbrev pub AtEachEnd : (NodeConstraints → Type 0) → NodeConstraints → ConstraintTree → Type 0
 AtEachEnd P constraints (Split conflict left right) = AtEachEnd P (left_child_constraints constraints conflict) left × AtEachEnd P (right_child_constraints constraints conflict) right
 AtEachEnd P constraints (Leaf blocks) = P constraints
 AtEachEnd P constraints (Clash i j) = P constraints
 
+-- a fact holds of the constraints of some end
 abbrev pub AtSomeEnd : (NodeConstraints → Type 0) → NodeConstraints → ConstraintTree → Type 0
 AtSomeEnd P constraints (Split conflict left right) = AtSomeEnd P (left_child_constraints constraints conflict) left ⊎ AtSomeEnd P (right_child_constraints constraints conflict) right
 AtSomeEnd P constraints (Leaf blocks) = P constraints
 AtSomeEnd P constraints (Clash i j) = P constraints
 
+-- a fact holds of the constraints of some leaf
 abbrev pub AtSomeLeaf : (NodeConstraints → Type 0) → NodeConstraints → ConstraintTree → Type 0
 AtSomeLeaf P constraints (Split conflict left right) = AtSomeLeaf P (left_child_constraints constraints conflict) left ⊎ AtSomeLeaf P (right_child_constraints constraints conflict) right
 AtSomeLeaf P constraints (Leaf blocks) = P constraints
 AtSomeLeaf P constraints (Clash i j) = ⊥
 
+-- how many splits the tree has
 abbrev pub split_count : ConstraintTree → ℕ
 split_count (Split conflict left right) = 1 + (split_count left + split_count right)
 split_count (Leaf blocks) = 0
 split_count (Clash i j) = 0
 
--- two different agents, and free cells which are adjacent in a swap
+-- two different agents of the problem
 abbrev pub AreTwoAgents : Instance → ℕ → ℕ → Type 0
 AreTwoAgents problem i j = (i ≢ j) × (i < length problem.agents) × (j < length problem.agents)
 
+-- a split names two different agents, and a free cell or two adjacent ones
 abbrev pub IsProperSplit : Instance → Conflict → Type 0
 IsProperSplit problem (Vertex i j cell tick) = AreTwoAgents problem i j × IsFree problem.grid cell
 IsProperSplit problem (Swap i j from to tick) = AreTwoAgents problem i j × AreAdjacent problem.grid from to
@@ -116,15 +123,17 @@ AreOfDifferentAgents blocks = AllPairs (λ a b. a.agent ≢ b.agent) blocks
 abbrev pub AreOfAgents : Instance → List LabelBlock → Type 0
 AreOfAgents problem blocks = All (λ block. block.agent < length problem.agents) blocks
 
+-- at a leaf each agent of the problem has at most one block, and nobody else has one
 abbrev pub IsProperNode : Instance → ConstraintTree → Type 0
 IsProperNode problem (Split conflict left right) = IsProperSplit problem conflict
 IsProperNode problem (Leaf blocks) = AreOfDifferentAgents blocks × AreOfAgents problem blocks
 IsProperNode problem (Clash i j) = Unit {0}
 
+-- each node is proper
 abbrev pub IsProper : Instance → ConstraintTree → Type 0
 IsProper problem tree = AtEachNode (λ constraints node. IsProperNode problem node) root tree
 
--- the agent's block
+-- the agent's block, the first if there are several
 abbrev pub block_of : List LabelBlock → ℕ → Option LabelBlock
 block_of blocks agent = find (λ block. block.agent == agent) blocks
 
@@ -133,6 +142,7 @@ abbrev pub entries_or : Option LabelBlock → Entries → Entries
 entries_or (Some block) before = entries_of block.entries
 entries_or None before = before
 
+-- the entries of each agent, where these blocks come after others
 abbrev pub with_blocks : List LabelBlock → (ℕ → Entries) → ℕ → Entries
 with_blocks blocks before agent = entries_or (block_of blocks agent) (before agent)
 
@@ -158,39 +168,35 @@ StartsShow problem Impossible entries = (i : ℕ) × (agent : Agent) × (slice_g
 abbrev pub ShareGoal : Instance → ℕ → ℕ → Type 0
 ShareGoal problem i j = (i ≢ j) × (a : Agent) × (b : Agent) × (slice_get problem.agents i ≡ Some a) × (slice_get problem.agents j ≡ Some b) × (a.goal ≡ b.goal)
 
+-- the blocks of a leaf are sound and the starts show the claim; the agents of a clash share their goal
 abbrev pub NodeShows : Instance → Claim → NodeConstraints → ConstraintTree → Type 0
 NodeShows problem claim constraints (Split conflict left right) = Unit {0}
 NodeShows problem claim constraints (Leaf blocks) = AreBlocksSound problem constraints blocks × StartsShow problem claim (with_blocks blocks no_entries)
 NodeShows problem claim constraints (Clash i j) = ShareGoal problem i j
 
+-- the tree shows the claim where its root has these constraints
+pub record ShowsFrom (problem : Instance) (claim : Claim) (constraints : NodeConstraints) (tree : ConstraintTree) : Type 0 where
+  pub proper : AtEachNode (λ constraints node. IsProperNode problem node) constraints tree
+  pub nodes : AtEachNode (NodeShows problem claim) constraints tree
+
 -- the tree shows the claim
-pub record Shows (problem : Instance) (claim : Claim) (tree : ConstraintTree) : Type 0 where
-  pub proper : IsProper problem tree
-  pub nodes : AtEachNode (NodeShows problem claim) root tree
+abbrev pub Shows : Instance → Claim → ConstraintTree → Type 0
+Shows problem claim tree = ShowsFrom problem claim root tree
 
--- what a claim says of a valid plan
-abbrev pub Bounds : Instance → Claim → List (List ℕ) → Type 0
-Bounds problem (Cost cost) plan = (total : ℕ) → IsSumOfCosts problem.agents plan total → cost ≤ total
-Bounds problem Impossible plan = ⊥
-
--- the claim is so of all valid plans
+-- what a claim says of the problem
 abbrev pub Holds : Instance → Claim → Type 0
-Holds problem claim = (plan : List (List ℕ)) → IsValid problem plan → Bounds problem claim plan
+Holds problem (Cost cost) = IsLowerBound problem cost
+Holds problem Impossible = IsImpossible problem
 
 -- each agent's path obeys its bars
 abbrev pub AllSatisfy : List (List ℕ) → (ℕ → List Bar) → Type 0
 AllSatisfy plan bars = (i : ℕ) (path : List ℕ) → slice_get plan i ≡ Some path → Satisfies (bars i) path
 
--- the items of several trees, one after another
+-- the nodes of several trees, one after another
 abbrev pub nodes_of_all : List ConstraintTree → List Node
 nodes_of_all [] = []
 nodes_of_all (tree ∷ trees) = nodes_of tree ++ nodes_of_all trees
 
--- the tree shows the claim where its root is reached on this way
-pub record ShowsFrom (problem : Instance) (claim : Claim) (constraints : NodeConstraints) (tree : ConstraintTree) : Type 0 where
-  pub proper : AtEachNode (λ to node. IsProperNode problem node) constraints tree
-  pub nodes : AtEachNode (NodeShows problem claim) constraints tree
-
--- the items are those of trees, one for each of these ways, that show the claim
+-- the nodes are those of trees that show the claim, one tree for each of these constraints that are owed
 abbrev pub NodesShow : Instance → Claim → List NodeConstraints → List Node → Type 0
 NodesShow problem claim owed nodes = (trees : List ConstraintTree) × (nodes ≡ nodes_of_all trees) × AllZip (ShowsFrom problem claim) owed trees

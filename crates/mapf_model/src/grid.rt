@@ -26,8 +26,11 @@ impl Model for Grid {
 }
 
 impl Grid {
+    /// The grid of these sizes, in cells, with a flag for each cell by its number: `true` is free.
+    /// None where a size isn't 1 to 2,048 or there aren't `width * height` flags.
     pub fn of(width: u32, height: u32, free: Vec<bool>) -> Option<Grid>
-        ensures { IfSome result (λ grid. grid ≡ record { width = width; height = height; free = free.items }) }
+        ensures good { IsSome result ↔ IsGridMap (record { width = width; height = height; free = free.items }) }
+        ensures value { IfSome result (λ grid. grid ≡ record { width = width; height = height; free = free.items }) }
     {
         if width < 1 || width > 2048 || height < 1 || height > 2048 {
             return None;
@@ -42,6 +45,7 @@ impl Grid {
         })
     }
 
+    /// Its columns, 1 to 2,048.
     pub fn width(&self) -> u32
         ensures width { result ≡ self.now.width }
         ensures positive { 0 < result }
@@ -51,6 +55,7 @@ impl Grid {
         self.width
     }
 
+    /// Its rows, 1 to 2,048.
     pub fn height(&self) -> u32
         ensures height { result ≡ self.now.height }
         ensures positive { 0 < result }
@@ -59,6 +64,7 @@ impl Grid {
         self.height
     }
 
+    /// Whether the cell is free. It isn't outside the grid.
     pub fn is_free(&self, cell: Cell) -> bool
         ensures { IsTrue result ↔ IsFree self.now cell }
     {

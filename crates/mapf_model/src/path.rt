@@ -1,10 +1,11 @@
 ghost use Rattle.std.specs.Prelude.{◌≡◌, ◌≢◌, ◌⊎◌, ◌<◌, ◌≤◌, ◌-◌, ◌↔◌, ℕ, List, length, IfSome, IfNone, IsSome, IsTrue, slice_index};
-ghost use Rattle.mapf_model.specs.Path.{at, IsCost};
+ghost use Rattle.mapf_model.specs.Path.{at, IsCost, IsTight};
 
 use crate::cell::{Cell, Tick};
 use std::marker::Model;
 
-/// A nonempty list of cells.
+/// 1 to 10,000,000 cells, one for each tick from 0 on. After its end the agent stays at the last.
+/// Whether each two neighbours are a step isn't asked here.
 #[derive(Debug, Drop)]
 pub struct Path {
     cells: Vec<Cell>,
@@ -19,6 +20,7 @@ impl Model for Path {
 }
 
 impl Path {
+    /// None for no cell or more than 10,000,000.
     pub fn of(cells: Vec<Cell>) -> Option<Path>
         ensures size { IsSome result ↔ ((1 ≤ length cells.items) × (length cells.items ≤ 10000000)) }
         ensures value { IfSome result (λ path. path ≡ cells.items) }
@@ -38,17 +40,14 @@ impl Path {
         &self.cells
     }
 
+    /// The cell at this tick, also after the path's end.
     pub fn at(&self, tick: Tick) -> Cell
         ensures { result ≡ at self.now tick }
     {
-        let last = self.cells.len() - 1;
-        self.cells[if tick as usize <= last {
-            tick as usize
-        } else {
-            last
-        }]
+        self.cells[(tick as usize).min(self.cells.len() - 1)]
     }
 
+    /// The least tick from which on the agent is at the goal. None where the last cell isn't the goal.
     pub fn cost(&self, goal: Cell) -> Option<u32>
         ensures cost { IfSome result (λ cost. IsCost goal self.now cost) }
         ensures none { IfNone result (at self.now (length self.now - 1) ≢ goal) }
@@ -63,8 +62,9 @@ impl Path {
         Some(cost as u32)
     }
 
+    /// Whether the path ends as it arrives: it has one cell, or its last two differ.
     pub fn is_tight(&self) -> bool
-        ensures { IsTrue result ↔ ((length self.now ≡ 1) ⊎ (slice_index self.now (length self.now - 1) ≢ slice_index self.now (length self.now - 2))) }
+        ensures { IsTrue result ↔ IsTight self.now }
     {
         let n = self.cells.len();
         n == 1 || self.cells[n - 1] != self.cells[n - 2]

@@ -1,9 +1,11 @@
-ghost use Rattle.std.specs.Prelude.{◌≡◌, ◌≤◌, ◌↔◌, ℕ, List, length, IfSome, IsSome};
+ghost use Rattle.std.specs.Prelude.{◌≡◌, ◌≤◌, ◌↔◌, ℕ, List, length, IfSome, IfNone, IsSome};
+ghost use Rattle.mapf_model.specs.Plan.{IsSumOfCosts, SomePathEndsElsewhere};
 
 use crate::path::Path;
+use crate::problem::Problem;
 use std::marker::Model;
 
-/// One path for each agent.
+/// 1 to 200 paths, one for each agent.
 #[derive(Debug, Drop)]
 pub struct Plan {
     paths: Vec<Path>,
@@ -18,6 +20,7 @@ impl Model for Plan {
 }
 
 impl Plan {
+    /// None where there aren't 1 to 200 paths.
     pub fn of(paths: Vec<Path>) -> Option<Plan>
         ensures size { IsSome result ↔ ((1 ≤ length paths.items) × (length paths.items ≤ 200)) }
         ensures value { IfSome result (λ plan. plan ≡ paths.items) }
@@ -28,9 +31,30 @@ impl Plan {
         Some(Plan { paths })
     }
 
+    /// The paths, each at the place of its agent.
     pub fn paths(&self) -> &[Path]
-        ensures { result.now ≡ self.now }
+        ensures value { result.now ≡ self.now }
+        ensures some { 1 ≤ length result.now }
+        ensures few { length result.now ≤ 200 }
     {
         &self.paths
+    }
+
+    /// The sum of the costs of the agents' paths, in ticks. None where a path doesn't end at its
+    /// agent's goal.
+    pub fn sum(&self, problem: &Problem) -> Option<u64>
+        requires { length self.now ≡ length problem.now.agents }
+        ensures sum { IfSome result (IsSumOfCosts problem.now.agents self.now) }
+        ensures none { IfNone result (SomePathEndsElsewhere problem.now.agents self.now) }
+    {
+        let agents = problem.agents();
+        let mut total = 0;
+        for (i, path) in self.paths.iter().enumerate() {
+            let Some(cost) = path.cost(agents[i].goal) else {
+                return None;
+            };
+            total += cost as u64;
+        }
+        Some(total)
     }
 }

@@ -1,0 +1,2 @@
+pub mod ShortestLemmas
+pub mod ShowLemmas

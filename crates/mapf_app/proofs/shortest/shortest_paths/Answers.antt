@@ -1,0 +1,17 @@
+use Rattle.std.proofs.Common.{◌≡◌, [], ◌∷◌, ◌++◌, Some, length, length-append, slice_get, arith}
+use Rattle.mapf_app.specs.Shortest.{IsShortest}
+use Rattle.mapf_app.proofs.ShortestLemmas.{read_through, AreShortest-more}
+use Rattle.mapf_app.proofs.shortest.shortest_paths.Goals as goal
+
+pub loop-agent-preserved : goal.loop-agent-preserved
+loop-agent-preserved c =
+    let paths = c.loop-agent.paths.items in
+    let so_many = c.loop-agent.invariant.so_many in
+    let this = read_through c.agents-agent-items.result.now c.args.problem.now.agents c.loop-agent.agent-index c.agent-item.result c.agents-agent-items.ensures.value c.loop-agent-test.true c.agent-item.is in
+    let here : slice_get c.args.problem.now.agents (length paths) ≡ Some c.agent-item.result = rw so_many this in
+    let is : IsShortest c.args.problem.now.grid c.agent-item.result c.in-Some.path = rw (c.in-Some.is, c.grid.ensures) at c.in_ok-path.ensures in
+    let pushed : c.push.new.self.items ≡ paths ++ c.in-Some.path ∷ [] = c.in_ok-push-in-Some.ensures.items in
+    record {
+      so_many = rw pushed (omega (arith, length-append paths (c.in-Some.path ∷ []), so_many));
+      shortest = rw pushed (AreShortest-more c.args.problem.now paths c.agent-item.result c.in-Some.path c.loop-agent.invariant.shortest here is);
+    }

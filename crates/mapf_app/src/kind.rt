@@ -1,0 +1,12 @@
+use mapf_model::Cause;
+
+/// What a solved run wrote.
+#[derive(Clone, Copy, Debug, PartialEq, Eq)]
+pub enum Kind {
+    /// A cheapest plan, with this sum of costs in ticks.
+    Found(u64),
+    /// No plan is valid.
+    Impossible,
+    /// The search ended without an answer.
+    Limit(Cause),
+}

@@ -1,0 +1,53 @@
+ghost use Rattle.std.specs.Prelude.{◌≡◌, ◌≤◌, false, true, IfErr, IsErrOf};
+ghost use Rattle.mapf_app.specs.Faults.{IsBeforeWriting};
+ghost use Rattle.mapf_app.specs.Unreadable.{IsUnreadable};
+
+use crate::fault::{Fault, Input, Output};
+use crate::input::{TEXT_LIMIT, read_problem};
+use crate::kind::Kind;
+use crate::texts::texts_of;
+use mapf_model::{Sink, Source, write_all};
+use std::alloc::Global;
+
+/// Reads a map and then a scenario, solves the problem of its first `k` agents with at most `limit`
+/// splits, and writes the plan text and then the certificate. On a limit the certificate's sink gets
+/// nothing. Before both texts are made nothing is written.
+pub fn run_solve<M: Source, S: Source, P: Sink, C: Sink>(
+    alloc: Global,
+    map: &mut M,
+    scen: &mut S,
+    k: u32,
+    limit: u32,
+    plan_sink: &mut P,
+    cert_sink: &mut C,
+) -> Result<Kind, Fault>
+    requires map_works { M.has_failed map.old ≡ false }
+    requires scen_works { S.has_failed scen.old ≡ false }
+    requires plan_works { P.has_failed plan_sink.old ≡ false }
+    requires cert_works { C.has_failed cert_sink.old ≡ false }
+    requires some { 1 ≤ k }
+    requires few { k ≤ 200 }
+    requires limit { limit ≤ 100000 }
+    ensures map { IsErrOf result (Fault.F4 Input.Map) →
+        IsUnreadable (M.has_failed map.new) (M.remaining map.old) (M.remaining map.new) TEXT_LIMIT }
+    ensures scen { IsErrOf result (Fault.F4 Input.Scen) →
+        IsUnreadable (S.has_failed scen.new) (S.remaining scen.old) (S.remaining scen.new) TEXT_LIMIT }
+    ensures plan { IsErrOf result (Fault.F5 Output.Plan) →
+        (P.has_failed plan_sink.new ≡ true) × (cert_sink.new ≡ cert_sink.old) }
+    ensures cert { IsErrOf result (Fault.F5 Output.Cert) → C.has_failed cert_sink.new ≡ true }
+    ensures unwritten { IfErr result (λ fault. IsBeforeWriting fault →
+        (plan_sink.new ≡ plan_sink.old) × (cert_sink.new ≡ cert_sink.old)) }
+{
+    let _limit = limit;
+    let problem = read_problem(alloc, map, scen, k)?;
+    let Ok(texts) = texts_of(alloc, &problem) else {
+        return Err(Fault::F6);
+    };
+    if write_all(plan_sink, texts.plan.as_slice()).is_err() {
+        return Err(Fault::F5(Output::Plan));
+    }
+    if write_all(cert_sink, texts.cert.as_slice()).is_err() {
+        return Err(Fault::F5(Output::Cert));
+    }
+    Ok(texts.kind)
+}

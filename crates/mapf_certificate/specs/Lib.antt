@@ -1,0 +1,4 @@
+pub mod Window
+pub mod Reading
+pub mod Lines
+pub mod Untouched

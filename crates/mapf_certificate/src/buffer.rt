@@ -1,0 +1,150 @@
+ghost use Rattle.std.specs.Io.KnownBytes.{IsAtEnd};
+ghost use Rattle.mapf_certificate.specs.Window.{Window, spare};
+ghost use Rattle.std.specs.Prelude.{[], ◌++◌, take, ◌≡◌, ◌<◌, ◌≤◌, ◌+◌, ◌==◌, List, ℕ, length, drop, IfOk, IfSome, OnOk, OnErr, vec_len, vec_capacity, false, true};
+
+use mapf_model::{Failed, OutOfMemory, Source};
+use std::alloc::Global;
+use std::marker::Model;
+
+/// How many bytes one pull asks for at most.
+const PIECE: usize = 4096;
+
+/// The bytes that came from a source and weren't taken yet.
+#[derive(Drop)]
+pub struct LineBuffer {
+    bytes: Vec<u8>,
+    // How many of them were taken.
+    taken: usize,
+    // How many more may come.
+    left: u64,
+}
+
+impl Model for LineBuffer {
+    ghost use Rattle.std.specs.Prelude.{◌≤◌, ◌+◌, drop, vec_len, vec_capacity};
+    ghost use Rattle.mapf_certificate.specs.Window.{Buffered};
+
+    ghost Value = { Buffered };
+
+    ghost view = { λ b. record { bytes = drop b.taken b.bytes.items; left = b.left } };
+
+    ghost invariant = { λ b. (b.taken ≤ vec_len b.bytes) × (4160 ≤ vec_capacity b.bytes) × (vec_len b.bytes ≤ 4160) };
+}
+
+/// Why no line is there.
+#[derive(Clone, Copy, Debug, PartialEq, Eq)]
+pub enum NoLine {
+    /// The source ended.
+    Ended,
+    /// More than 64 bytes came without LF.
+    Overlong,
+    /// The source failed.
+    Device,
+    /// A byte came past the limit.
+    PastLimit,
+}
+
+/// The length of the line that bytes begin with. It is at most 64.
+fn line_end(bytes: &[u8]) -> Option<usize>
+    ensures within { IfSome result (λ n. n < length bytes.now) }
+{
+    let most = bytes.len().min(65);
+    bytes[..most].iter().position(|b| *b == b'\n')
+}
+
+impl LineBuffer {
+    /// An empty buffer, to which at most `limit` bytes may come.
+    pub fn open(alloc: Global, limit: u64) -> Result<LineBuffer, OutOfMemory>
+        ensures { IfOk result (λ b. b ≡ record { bytes = []; left = limit }) }
+    {
+        Ok(LineBuffer {
+            bytes: Vec::with_capacity(alloc, 64 + PIECE)?,
+            taken: 0,
+            left: limit,
+        })
+    }
+
+    fn len(&self) -> usize
+        ensures { result ≡ length self.now.bytes }
+    {
+        self.bytes.len() - self.taken
+    }
+
+    pub fn is_empty(&self) -> bool
+        ensures { result ≡ (length self.now.bytes == 0) }
+    {
+        self.len() == 0
+    }
+
+    /// The first bytes.
+    pub fn front(&self, n: usize) -> &[u8]
+        requires { n ≤ length self.now.bytes }
+        ensures { result.now ≡ take n self.now.bytes }
+    {
+        &self.bytes[self.taken..self.taken + n]
+    }
+
+    /// Takes the first bytes away.
+    pub fn take(&mut self, n: usize)
+        requires { n ≤ length self.old.bytes }
+        ensures { self.new ≡ record { bytes = drop n self.old.bytes; left = self.old.left } }
+    {
+        self.taken += n;
+    }
+
+    /// Pulls once, and answers whether bytes came.
+    pub fn fill<S: Source>(&mut self, source: &mut S) -> Result<bool, NoLine>
+        requires works { S.has_failed source.old ≡ false }
+        requires room { length self.old.bytes ≤ 64 }
+        ensures window { OnOk result (Window (S.remaining source.old) (S.remaining source.new) self.old self.new []) }
+        ensures grows { IfOk result (λ more. more ≡ true → length self.old.bytes < length self.new.bytes) }
+        ensures end { IfOk result (λ more. more ≡ false → IsAtEnd (S.remaining source.new)) }
+        ensures works { OnOk result (S.has_failed source.new ≡ false) }
+        ensures spare { spare self.new ≡ spare self.old }
+    {
+        let mut piece = [0u8; PIECE];
+        let most = self.left.clamp(1, PIECE as u64) as usize;
+        let Ok(n) = source.pull(&mut piece[..most]) else {
+            return Err(NoLine::Device);
+        };
+        if n as u64 > self.left {
+            return Err(NoLine::PastLimit);
+        }
+        self.keep(&piece[..n]);
+        Ok(n > 0)
+    }
+
+    /// Adds bytes that came.
+    fn keep(&mut self, piece: &[u8])
+        requires room { length self.old.bytes ≤ 64 }
+        requires some { length piece.now ≤ 4096 }
+        requires limit { length piece.now ≤ self.old.left }
+        ensures bytes { self.new.bytes ≡ self.old.bytes ++ piece.now }
+        ensures left { self.old.left ≡ self.new.left + length piece.now }
+    {
+        self.left -= piece.len() as u64;
+        self.bytes.drain(..self.taken);
+        self.taken = 0;
+        self.bytes.extend_from_slice(piece).unwrap();
+    }
+
+    /// Pulls until a whole line is there, and answers its length without LF.
+    pub fn ready<S: Source>(&mut self, source: &mut S) -> Result<usize, NoLine>
+        requires { S.has_failed source.old ≡ false }
+        ensures window { OnOk result (Window (S.remaining source.old) (S.remaining source.new) self.old self.new []) }
+        ensures within { IfOk result (λ n. n < length self.new.bytes) }
+        ensures works { OnOk result (S.has_failed source.new ≡ false) }
+        ensures spare { spare self.new ≡ spare self.old }
+    {
+        loop {
+            if let Some(n) = line_end(self.front(self.len())) {
+                return Ok(n);
+            }
+            if self.len() > 64 {
+                return Err(NoLine::Overlong);
+            }
+            if !self.fill(source)? {
+                return Err(NoLine::Ended);
+            }
+        }
+    }
+}

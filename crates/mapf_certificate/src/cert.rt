@@ -1,0 +1,38 @@
+use mapf_model::{Claim, Item};
+
+/// A certificate: for how many agents it is, 1 to 200, what it claims, and the items of a constraint
+/// tree in pre-order.
+#[derive(Debug, Drop)]
+pub struct Cert {
+    pub agents: u32,
+    pub claim: Claim,
+    pub tree: Vec<Item>,
+}
+
+/// Why bytes spell no certificate, with a line counted from 1.
+#[derive(Clone, Copy, Debug, PartialEq, Eq)]
+pub enum CertFault {
+    /// This line has a wrong shape, is longer than 64 bytes, or doesn't fit where it stands.
+    K1(u64),
+    /// The text ended before this line, or in it.
+    K2(u64),
+    /// A number of this line is out of its range.
+    K3(u64),
+    /// There is text after `end`, in this line.
+    K4(u64),
+    /// A request for memory was refused.
+    Memory,
+}
+
+/// Why a certificate that comes from a source isn't read on.
+#[derive(Clone, Copy, Debug, PartialEq, Eq)]
+pub enum LinesFault {
+    /// The bytes spell no certificate.
+    Text(CertFault),
+    /// The source failed.
+    Device,
+    /// More bytes came than the limit allows.
+    TooLong,
+    /// A request for memory was refused.
+    Memory,
+}

@@ -1,0 +1,27 @@
+//! Which plan, which certificate do these bytes spell, and how is one written?
+#![tactic(auto)]
+
+mod buffer;
+mod cert;
+mod cert_lines;
+mod cert_reader;
+mod cert_writer;
+mod field;
+mod line;
+mod lines;
+mod plan_reader;
+mod plan_text;
+mod plan_writer;
+mod sizes;
+mod tree_line;
+
+pub use cert::{Cert, CertFault, LinesFault};
+pub use cert_lines::CertLines;
+pub use cert_reader::read_cert;
+pub use cert_writer::write_cert;
+pub use plan_reader::read_plan;
+pub use plan_text::{PlanAnswer, PlanText, PlanTextFault};
+pub use plan_writer::write_plan;
+
+#[cfg(test)]
+mod tests;

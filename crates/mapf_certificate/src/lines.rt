@@ -1,0 +1,186 @@
+ghost use Rattle.mapf_certificate.specs.Window.{spare};
+ghost use Rattle.mapf_certificate.specs.Lines.{IsHeaderLine};
+ghost use Rattle.std.specs.Prelude.{◌≡◌, ◌<◌, ◌≤◌, ◌+◌, IfOk, IfSome, OnOk, [], false};
+
+use crate::buffer::{LineBuffer, NoLine};
+use crate::cert::{CertFault, LinesFault};
+use crate::line::{Line, LineFault};
+use crate::sizes::Sizes;
+use crate::tree_line::{Due, line_of};
+use mapf_model::{Block, Entry, OutOfMemory, Source};
+use std::alloc::Global;
+
+/// The lines of a certificate that comes from a source.
+#[derive(Drop)]
+pub struct Lines {
+    buffer: LineBuffer,
+    // How many were taken.
+    count: u64,
+}
+
+/// Whether the second entry may follow the first in a block.
+fn are_rising(a: &Entry, b: &Entry) -> bool {
+    a.tick < b.tick || (a.tick == b.tick && a.cell.0 < b.cell.0)
+}
+
+fn fault_of_line(line: u64, fault: LineFault) -> LinesFault {
+    match fault {
+        LineFault::Shape => LinesFault::Text(CertFault::K1(line)),
+        LineFault::Range => LinesFault::Text(CertFault::K3(line)),
+    }
+}
+
+fn fault_without_line(line: u64, why: NoLine) -> LinesFault {
+    match why {
+        NoLine::Ended => LinesFault::Text(CertFault::K2(line)),
+        NoLine::Overlong => LinesFault::Text(CertFault::K1(line)),
+        NoLine::Device => LinesFault::Device,
+        NoLine::PastLimit => LinesFault::TooLong,
+    }
+}
+
+impl Lines {
+    pub fn open(alloc: Global, limit: u64) -> Result<Lines, OutOfMemory>
+        ensures { IfOk result (λ lines. lines.buffer ≡ record { bytes = []; left = limit }) }
+    {
+        Ok(Lines {
+            buffer: LineBuffer::open(alloc, limit)?,
+            count: 0,
+        })
+    }
+
+    /// The number of the line that was taken last, counted from 1.
+    pub fn number(&self) -> u64 {
+        self.count
+    }
+
+    /// The line that was taken last doesn't fit where it stands.
+    pub fn misfit(&self) -> LinesFault {
+        LinesFault::Text(CertFault::K1(self.count))
+    }
+
+    /// Takes the next line.
+    pub fn next<S: Source>(&mut self, source: &mut S, due: &Due) -> Result<Line, LinesFault>
+        requires { S.has_failed source.old ≡ false }
+        ensures works { OnOk result (S.has_failed source.new ≡ false) }
+        ensures nearer { OnOk result (spare self.new.buffer + 2 ≤ spare self.old.buffer) }
+        ensures spare { spare self.new.buffer ≤ spare self.old.buffer }
+        ensures agents { IfOk result IsHeaderLine }
+    {
+        self.count = self.count.saturating_add(1);
+        match self.buffer.ready(source) {
+            Ok(n) => {
+                let line = line_of(due, self.buffer.front(n));
+                self.buffer.take(n + 1);
+                match line {
+                    Ok(line) => Ok(line),
+                    Err(fault) => Err(fault_of_line(self.count, fault)),
+                }
+            }
+            Err(why) => Err(fault_without_line(self.count, why)),
+        }
+    }
+
+    /// Answers Ok where nothing is left.
+    pub fn end<S: Source>(&mut self, source: &mut S) -> Result<(), LinesFault>
+        requires { S.has_failed source.old ≡ false }
+        ensures works { OnOk result (S.has_failed source.new ≡ false) }
+        ensures spare { spare self.new.buffer ≤ spare self.old.buffer }
+    {
+        let line = self.count.saturating_add(1);
+        if !self.buffer.is_empty() {
+            return Err(LinesFault::Text(CertFault::K4(line)));
+        }
+        match self.buffer.fill(source) {
+            Ok(true) => Err(LinesFault::Text(CertFault::K4(line))),
+            Ok(false) => Ok(()),
+            Err(why) => Err(fault_without_line(line, why)),
+        }
+    }
+
+    /// The entries of a block, which rise by their ticks and cells.
+    fn entries<S: Source>(
+        &mut self,
+        alloc: Global,
+        source: &mut S,
+        sizes: &Sizes,
+        count: u64,
+    ) -> Result<Vec<Entry>, LinesFault>
+        requires { S.has_failed source.old ≡ false }
+        ensures works { OnOk result (S.has_failed source.new ≡ false) }
+        ensures spare { spare self.new.buffer ≤ spare self.old.buffer }
+    {
+        let mut entries = Vec::new(alloc);
+        for _ in 0..count {
+            let entry = self.entry(source, sizes, &entries)?;
+            if entries.push(entry).is_err() {
+                return Err(LinesFault::Memory);
+            }
+        }
+        Ok(entries)
+    }
+
+    /// The next entry after these.
+    fn entry<S: Source>(
+        &mut self,
+        source: &mut S,
+        sizes: &Sizes,
+        before: &[Entry],
+    ) -> Result<Entry, LinesFault>
+        requires { S.has_failed source.old ≡ false }
+        ensures works { OnOk result (S.has_failed source.new ≡ false) }
+        ensures spare { spare self.new.buffer ≤ spare self.old.buffer }
+    {
+        let Line::At(entry) = self.next(source, &Due::Tree(*sizes))? else {
+            return Err(self.misfit());
+        };
+        match before.last() {
+            Some(last) if !are_rising(last, &entry) => Err(self.misfit()),
+            _ => Ok(entry),
+        }
+    }
+
+    /// The next block after these.
+    fn block<S: Source>(
+        &mut self,
+        alloc: Global,
+        source: &mut S,
+        sizes: &Sizes,
+        before: &[Block],
+    ) -> Result<Block, LinesFault>
+        requires { S.has_failed source.old ≡ false }
+        ensures works { OnOk result (S.has_failed source.new ≡ false) }
+        ensures spare { spare self.new.buffer ≤ spare self.old.buffer }
+    {
+        let Line::Agent { agent, entries } = self.next(source, &Due::Tree(*sizes))? else {
+            return Err(self.misfit());
+        };
+        if matches!(before.last(), Some(last) if agent <= last.agent) {
+            return Err(self.misfit());
+        }
+        let entries = self.entries(alloc, source, sizes, entries)?;
+        Ok(Block { agent, entries })
+    }
+
+    /// The blocks of a leaf, whose agents rise.
+    pub fn blocks<S: Source>(
+        &mut self,
+        alloc: Global,
+        source: &mut S,
+        sizes: &Sizes,
+        count: u64,
+    ) -> Result<Vec<Block>, LinesFault>
+        requires { S.has_failed source.old ≡ false }
+        ensures works { OnOk result (S.has_failed source.new ≡ false) }
+        ensures spare { spare self.new.buffer ≤ spare self.old.buffer }
+    {
+        let mut blocks = Vec::new(alloc);
+        for _ in 0..count {
+            let block = self.block(alloc, source, sizes, &blocks)?;
+            if blocks.push(block).is_err() {
+                return Err(LinesFault::Memory);
+            }
+        }
+        Ok(blocks)
+    }
+}

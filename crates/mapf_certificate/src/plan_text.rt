@@ -1,0 +1,35 @@
+use mapf_model::{Cause, Plan};
+
+/// What a plan text says.
+#[derive(Debug, Drop)]
+pub enum PlanAnswer {
+    /// A plan, whose text says the sum of the paths' lengths in ticks as its cost.
+    Found(Plan),
+    /// No plan is valid.
+    Impossible,
+    /// The search ended without an answer.
+    Limit(Cause),
+}
+
+/// A plan text: for how many agents it is, 1 to 200, and its answer.
+#[derive(Debug, Drop)]
+pub struct PlanText {
+    pub agents: u32,
+    pub answer: PlanAnswer,
+}
+
+/// Why bytes spell no plan text, with a line counted from 1.
+#[derive(Clone, Copy, Debug, PartialEq, Eq)]
+pub enum PlanTextFault {
+    /// This line has a wrong shape, or doesn't fit where it stands. Line 3 also where its cost isn't
+    /// the sum of the paths' costs.
+    P1(u64),
+    /// The text ended before this line, or in it.
+    P2(u64),
+    /// A number of this line is out of its range.
+    P3(u64),
+    /// There is text after `end`, in this line.
+    P4(u64),
+    /// A request for memory was refused.
+    Memory,
+}

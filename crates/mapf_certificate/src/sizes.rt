@@ -1,0 +1,67 @@
+ghost use Rattle.std.specs.Prelude.{◌≤◌, ◌<◌, ◌*◌, IfOk};
+
+use crate::line::LineFault;
+use mapf_model::{Cell, Grid};
+
+/// What bounds the numbers of a line: the size of the grid, and the number of agents.
+#[derive(Clone, Copy, Debug)]
+pub struct Sizes {
+    pub width: u32,
+    pub height: u32,
+    pub agents: u32,
+    ghost narrow: { (1 ≤ width) × (width ≤ 2048) },
+    ghost low: { (1 ≤ height) × (height ≤ 2048) },
+    ghost few: { (1 ≤ agents) × (agents ≤ 200) },
+}
+
+/// A number in this range.
+pub fn within(least: u64, most: u64, number: Option<u64>) -> Result<u64, LineFault>
+    ensures { IfOk result (λ n. (least ≤ n) × (n ≤ most)) }
+{
+    match number {
+        Some(n) if least <= n && n <= most => Ok(n),
+        _ => Err(LineFault::Range),
+    }
+}
+
+/// A number of at most this.
+pub fn up_to(most: u32, number: Option<u64>) -> Result<u32, LineFault>
+    ensures { IfOk result (λ n. n ≤ most) }
+{
+    match number {
+        Some(n) if n <= most as u64 => Ok(n as u32),
+        _ => Err(LineFault::Range),
+    }
+}
+
+/// A number below this.
+pub fn below(bound: u32, number: Option<u64>) -> Result<u32, LineFault>
+    ensures { IfOk result (λ n. n < bound) }
+{
+    match number {
+        Some(n) if n < bound as u64 => Ok(n as u32),
+        _ => Err(LineFault::Range),
+    }
+}
+
+impl Sizes {
+    pub fn of(grid: &Grid, agents: u32) -> Sizes
+        requires some { 1 ≤ agents }
+        requires few { agents ≤ 200 }
+    {
+        Sizes {
+            width: grid.width(),
+            height: grid.height(),
+            agents,
+        }
+    }
+
+    /// The cell in this column and row.
+    pub fn cell(&self, x: Option<u64>, y: Option<u64>) -> Result<Cell, LineFault>
+        ensures { IfOk result (λ cell. cell < self.now.width * self.now.height) }
+    {
+        let x = below(self.width, x)?;
+        let y = below(self.height, y)?;
+        Ok(Cell(y * self.width + x))
+    }
+}

@@ -1,0 +1,2 @@
+pub mod MeetingLemmas
+pub mod DefectLemmas

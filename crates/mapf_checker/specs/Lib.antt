@@ -1,0 +1,3 @@
+pub mod PathDefects
+pub mod Meetings
+pub mod Defects

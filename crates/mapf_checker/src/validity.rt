@@ -1,0 +1,175 @@
+ghost use Rattle.std.specs.Prelude.{◌≡◌, ◌<◌, ◌≤◌, ◌↔◌, ℕ, length, IfOk, OnOk, IfErr, IsOk};
+ghost use Rattle.mapf_model.specs.Plan.{IsValid, IsSumOfCosts};
+ghost use Rattle.mapf_checker.specs.Defects.{HasDefect, AreLawful, path_fault_of, meeting_fault_of};
+
+use crate::lawful::{PathFault, check_path};
+use crate::meeting::{Encounter, Kind, first_encounter};
+use crate::plan_fault::PlanFault;
+use mapf_model::{Path, Plan, Problem};
+
+/// The sum of the costs of a valid plan, in ticks; else the first fault. The paths are judged in the
+/// order of the agents, each by its start, its steps and its end; then the first conflict counts: the
+/// least tick, vertex conflicts before swapping ones, then the least agents.
+pub fn check_plan(problem: &Problem, plan: &Plan) -> Result<u64, PlanFault>
+    requires { length plan.now ≡ length problem.now.agents }
+    ensures valid { IsOk result ↔ IsValid problem.now plan.now }
+    ensures sum { IfOk result (IsSumOfCosts problem.now.agents plan.now) }
+    ensures fault { IfErr result (HasDefect problem.now plan.now) }
+{
+    check_paths(problem, plan.paths())?;
+    if let Some(encounter) = first_encounter(plan.paths()) {
+        return Err(fault_of(encounter));
+    }
+    match plan.sum(problem) {
+        Some(sum) => Ok(sum),
+        None => unreachable!(),
+    }
+}
+
+// Whether each agent's path is lawful, or the first fault of the first path that isn't.
+fn check_paths(problem: &Problem, paths: &[Path]) -> Result<(), PlanFault>
+    requires { length paths.now ≡ length problem.now.agents }
+    ensures lawful { OnOk result (AreLawful problem.now paths.now (length paths.now)) }
+    ensures fault { IfErr result (HasDefect problem.now paths.now) }
+{
+    let agents = problem.agents();
+    for i in 0..agents.len() {
+        if let Err(fault) = check_path(problem.grid(), &agents[i], &paths[i]) {
+            return Err(fault_of_path(i as u32, fault));
+        }
+    }
+    Ok(())
+}
+
+fn fault_of_path(agent: u32, fault: PathFault) -> PlanFault
+    ensures { result ≡ path_fault_of agent fault }
+{
+    match fault {
+        PathFault::WrongStart => PlanFault::V1 { agent },
+        PathFault::BadStep { tick } => PlanFault::V2 { agent, tick },
+        PathFault::WrongGoal => PlanFault::V3 { agent },
+    }
+}
+
+fn fault_of(encounter: Encounter) -> PlanFault
+    ensures { result ≡ meeting_fault_of encounter.i encounter.j encounter.meeting.tick encounter.meeting.kind }
+{
+    let Encounter { meeting, i, j } = encounter;
+    match meeting.kind {
+        Kind::InOneCell => PlanFault::V4 {
+            i,
+            j,
+            tick: meeting.tick,
+        },
+        Kind::Swapping => PlanFault::V5 {
+            i,
+            j,
+            tick: meeting.tick,
+        },
+    }
+}
+
+#[cfg(test)]
+mod tests {
+    use super::*;
+    use crate::samples::{plan, problem};
+    use std::alloc::Global;
+    use std::test::Fail;
+
+    fn checked(
+        alloc: Global,
+        problem: &Problem,
+        paths: &[&[u32]],
+    ) -> Result<Result<u64, PlanFault>, Fail> {
+        let plan = plan(alloc, paths)?;
+        if plan.paths().len() != problem.agents().len() {
+            return Err(Fail::from("not one path for each agent"));
+        }
+        Ok(check_plan(problem, &plan))
+    }
+
+    #[test]
+    fn adds_up_the_costs(rt: HostRuntime) -> Result<(), Fail> {
+        let alloc = rt.alloc();
+        let crossing = problem(alloc, 3, 3, ".........", &[(3, 5), (1, 7)])?;
+        assert_eq!(rt;
+            checked(alloc, &crossing, &[&[3, 3, 4, 5], &[1, 4, 7]])?,
+            Ok(5)
+        );
+        // The second agent leaves its goal for a while.
+        let narrow = problem(alloc, 3, 2, "...@.@", &[(0, 2), (1, 1)])?;
+        assert_eq!(rt; checked(alloc, &narrow, &[&[0, 1, 2], &[1, 4, 1]])?, Ok(4));
+        // Four agents rotate.
+        let ring = problem(alloc, 2, 2, "....", &[(0, 1), (1, 3), (3, 2), (2, 0)])?;
+        assert_eq!(rt;
+            checked(alloc, &ring, &[&[0, 1], &[1, 3], &[3, 2], &[2, 0]])?,
+            Ok(4)
+        );
+        Ok(())
+    }
+
+    #[test]
+    fn names_the_first_fault(rt: HostRuntime) -> Result<(), Fail> {
+        let alloc = rt.alloc();
+        let crossing = problem(alloc, 3, 3, ".........", &[(3, 5), (1, 7)])?;
+        assert_eq!(rt;
+            checked(alloc, &crossing, &[&[3, 4, 5], &[1, 4, 7]])?,
+            Err(PlanFault::V4 {
+                i: 0,
+                j: 1,
+                tick: 1
+            })
+        );
+        assert_eq!(rt;
+            checked(alloc, &crossing, &[&[3, 5], &[0, 4, 7]])?,
+            Err(PlanFault::V2 { agent: 0, tick: 0 })
+        );
+        assert_eq!(rt;
+            checked(alloc, &crossing, &[&[3, 4, 4], &[0, 4, 7]])?,
+            Err(PlanFault::V3 { agent: 0 })
+        );
+        assert_eq!(rt;
+            checked(alloc, &crossing, &[&[3, 4, 5], &[0, 4, 7]])?,
+            Err(PlanFault::V1 { agent: 1 })
+        );
+        let pair = problem(alloc, 2, 1, "..", &[(0, 1), (1, 0)])?;
+        assert_eq!(rt;
+            checked(alloc, &pair, &[&[0, 1], &[1, 0]])?,
+            Err(PlanFault::V5 {
+                i: 0,
+                j: 1,
+                tick: 0
+            })
+        );
+        // A step into a blocked cell.
+        let walled = problem(alloc, 3, 1, ".@.", &[(0, 2)])?;
+        assert_eq!(rt;
+            checked(alloc, &walled, &[&[0, 1, 2]])?,
+            Err(PlanFault::V2 { agent: 0, tick: 0 })
+        );
+        Ok(())
+    }
+
+    // Agents 0 and 1 exchange their cells at tick 0, and 2, 3 and 4 are then in one cell.
+    #[test]
+    fn takes_vertex_conflicts_first(rt: HostRuntime) -> Result<(), Fail> {
+        let alloc = rt.alloc();
+        let row = problem(
+            alloc,
+            3,
+            1,
+            "...",
+            &[(0, 1), (1, 0), (2, 2), (2, 2), (2, 2)],
+        )?;
+        let paths: [&[u32]; 5] = [&[0, 1], &[1, 0], &[2], &[2], &[2]];
+        assert_eq!(rt;
+            checked(alloc, &row, &paths)?,
+            Err(PlanFault::V4 {
+                i: 2,
+                j: 3,
+                tick: 0
+            })
+        );
+        Ok(())
+    }
+}

@@ -1,0 +1,126 @@
+-- What lists of the agents' cells say of conflicts of their paths.
+use Rattle.std.proofs.Common.{◌≡◌, ℕ, ◌+◌, ◌-◌, ◌<◌, ◌≤◌, min, List, [], Some, All, length, slice_index, slice_index_or, slice_get, sym, ◌∙◌, ap, subst, inl, inr, ⊎_elim, arith}
+use Rattle.std.proofs.lemmas.Bool.{cases_lt}
+use Rattle.std.proofs.lemmas.List.{get_or-map, length-map}
+use Rattle.std.proofs.lemmas.Option.{slice_get_within, slice_get-get_or, get_or_from_slice_get}
+use Rattle.mapf_model.specs.declared.conflict.Conflict.{Conflict}
+use Rattle.mapf_model.specs.declared.conflict.Conflict.TheVariants.{Vertex, Swap}
+use Rattle.mapf_model.specs.Earned.{tick_of, HasConflict, AreConflictFreeBefore, HaveSomeConflict}
+use Rattle.mapf_model.specs.Path.{at}
+use Rattle.mapf_model.specs.Plan.{ConflictAt}
+use Rattle.mapf_conflicts.specs.Pairs.{cells_at, ShareCell, ExchangeCells, HoldsOfNoPair, IsConflictOf}
+
+path_of : List (List ℕ) → ℕ → List ℕ
+path_of paths i = slice_index_or paths i []
+
+cell_of : (paths : List (List ℕ)) (i tick : ℕ) → i < length (cells_at paths tick) → slice_index (cells_at paths tick) i ≡ at (path_of paths i) tick
+unfolding path_of
+cell_of paths i tick within = get_or-map (λ path. at path tick) paths i [] 0 (let total = length-map paths (λ path. at path tick) in omega arith)
+
+has_path : (paths : List (List ℕ)) (i tick : ℕ) → i < length (cells_at paths tick) → slice_get paths i ≡ Some (path_of paths i)
+unfolding path_of
+has_path paths i tick within = slice_get-get_or paths i [] (let total = length-map paths (λ path. at path tick) in omega arith)
+
+-- a conflict by the lists of cells is one of the paths
+pub has_conflict : (paths : List (List ℕ)) (now : ℕ) (conflict : Conflict) → IsConflictOf (cells_at paths now) (cells_at paths (now + 1)) now conflict → HasConflict paths conflict
+has_conflict paths now (Vertex i j cell tick) (before, within, same, i_cell, j_cell) =
+    let within_i : i < length (cells_at paths now) = omega arith in (
+      λ (e : i ≡ j). omega arith,
+      path_of paths i,
+      path_of paths j,
+      has_path paths i now within_i,
+      has_path paths j now within,
+      ap (at (path_of paths i)) same ∙ sym (cell_of paths i now within_i) ∙ i_cell,
+      ap (at (path_of paths j)) same ∙ sym (cell_of paths j now within) ∙ j_cell,
+    )
+has_conflict paths now (Swap i j from to tick) (before, within, same, moves, i_from, i_to, j_to, j_from) =
+    let within_i : i < length (cells_at paths now) = omega arith in
+    let now_size = length-map paths (λ path. at path now) in
+    let next_size = length-map paths (λ path. at path (now + 1)) in
+    let next_i : i < length (cells_at paths (now + 1)) = omega arith in
+    let next_j : j < length (cells_at paths (now + 1)) = omega arith in
+    let later : tick + 1 ≡ now + 1 = omega arith in (
+      λ (e : i ≡ j). omega arith,
+      moves,
+      path_of paths i,
+      path_of paths j,
+      has_path paths i now within_i,
+      has_path paths j now within,
+      (ap (at (path_of paths i)) same ∙ sym (cell_of paths i now within_i) ∙ i_from, ap (at (path_of paths i)) later ∙ sym (cell_of paths i (now + 1) next_i) ∙ i_to),
+      (ap (at (path_of paths j)) same ∙ sym (cell_of paths j now within) ∙ j_to, ap (at (path_of paths j)) later ∙ sym (cell_of paths j (now + 1) next_j) ∙ j_from),
+    )
+
+pub conflict_tick : (here next : List ℕ) (now : ℕ) (conflict : Conflict) → IsConflictOf here next now conflict → tick_of conflict ≡ now
+conflict_tick here next now (Vertex i j cell tick) is = is.2
+conflict_tick here next now (Swap i j from to tick) is = is.2
+
+ConflictAt-sym : (p q : List ℕ) (tick : ℕ) → ConflictAt p q tick → ConflictAt q p tick
+ConflictAt-sym p q tick (inl share) = inl (sym share)
+ConflictAt-sym p q tick (inr (forth, back)) = inr (sym back, sym forth)
+
+-- no two agents conflict at the tick
+module _ (paths : List (List ℕ)) (now : ℕ)
+    (share : HoldsOfNoPair (ShareCell (cells_at paths now)) (length (cells_at paths now)))
+    (exchange : HoldsOfNoPair (ExchangeCells (cells_at paths now) (cells_at paths (now + 1))) (length (cells_at paths now))) where
+  apart : (i j : ℕ) (p q : List ℕ) → i < j → slice_get paths i ≡ Some p → slice_get paths j ≡ Some q → ConflictAt p q now → ⊥
+  unfolding path_of
+  apart i j p q before i_path j_path conflict =
+      let now_size = length-map paths (λ path. at path now) in
+      let next_size = length-map paths (λ path. at path (now + 1)) in
+      let is_p = get_or_from_slice_get paths i p [] i_path in
+      let is_q = get_or_from_slice_get paths j q [] j_path in
+      let paths_j = slice_get_within paths j q j_path in
+      let here_i : i < length (cells_at paths now) = omega arith in
+      let here_j : j < length (cells_at paths now) = omega arith in
+      let next_i : i < length (cells_at paths (now + 1)) = omega arith in
+      let next_j : j < length (cells_at paths (now + 1)) = omega arith in
+      let cell_i = cell_of paths i now here_i ∙ ap (λ path. at path now) is_p in
+      let cell_j = cell_of paths j now here_j ∙ ap (λ path. at path now) is_q in
+      let to_i = cell_of paths i (now + 1) next_i ∙ ap (λ path. at path (now + 1)) is_p in
+      let to_j = cell_of paths j (now + 1) next_j ∙ ap (λ path. at path (now + 1)) is_q in
+      ⊎_elim
+      (λ (shares : at p now ≡ at q now). share i j before here_j (cell_i ∙ shares ∙ sym cell_j))
+      (λ (exchanges : (at p now ≡ at q (now + 1)) × (at p (now + 1) ≡ at q now)).
+      exchange i j before here_j (cell_j ∙ sym exchanges.1 ∙ sym to_i, to_j ∙ sym exchanges.0 ∙ sym cell_i))
+      conflict
+
+  pub free_one_more : AreConflictFreeBefore paths now → AreConflictFreeBefore paths (now + 1)
+  free_one_more before i j tick p q below differ i_path j_path conflict = ⊎_elim
+      (λ (earlier : tick < now). before i j tick p q earlier differ i_path j_path conflict)
+      (λ (past : now ≤ tick).
+      let same : tick ≡ now = omega arith in
+      let at_now : ConflictAt p q now = subst (ConflictAt p q) same conflict in
+      ⊎_elim
+      (λ (less : i < j). apart i j p q less i_path j_path at_now)
+      (λ (not_less : j ≤ i).
+      let more : j < i = ⊎_elim
+      (λ (less : j < i). less)
+      (λ (no_less : i ≤ j). let equal : i ≡ j = omega arith in absurd (differ equal))
+      (cases_lt j i) in
+      apart j i q p more j_path i_path (ConflictAt-sym p q now at_now))
+      (cases_lt i j))
+      (cases_lt tick now)
+
+-- after its last cell an agent stays there
+at_rest : (path : List ℕ) (end tick : ℕ) → length path ≤ end → end ≤ tick + 1 → at path tick ≡ at path (end - 1)
+at_rest path end tick short late =
+    let same : min tick (length path - 1) ≡ min (end - 1) (length path - 1) = omega arith in
+    ap (slice_index path) same
+
+-- no conflict comes after all agents rest
+pub never : (paths : List (List ℕ)) (end : ℕ) → 1 ≤ end → All (λ path. length path ≤ end) paths → AreConflictFreeBefore paths end → HaveSomeConflict paths → ⊥
+never paths end positive short before (i, j, tick, p, q, differ, i_path, j_path, conflict) = ⊎_elim
+    (λ (early : tick < end). before i j tick p q early differ i_path j_path conflict)
+    (λ (late : end ≤ tick).
+    before i j (end - 1) p q (omega arith) differ i_path j_path (inl (⊎_elim
+    (λ (shares : at p tick ≡ at q tick). sym (at_rest p end tick short_p (omega arith)) ∙ shares ∙ at_rest q end tick short_q (omega arith))
+    (λ (exchanges : (at p tick ≡ at q (tick + 1)) × (at p (tick + 1) ≡ at q tick)).
+    sym (at_rest p end tick short_p (omega arith)) ∙ exchanges.0 ∙ at_rest q end (tick + 1) short_q (omega arith))
+    conflict)))
+    (cases_lt tick end)
+  where
+    short_p : length p ≤ end
+    short_p = subst (λ path. length path ≤ end) (get_or_from_slice_get paths i p [] i_path) (short i [] (slice_get_within paths i p i_path))
+
+    short_q : length q ≤ end
+    short_q = subst (λ path. length path ≤ end) (get_or_from_slice_get paths j q [] j_path) (short j [] (slice_get_within paths j q j_path))

@@ -1,0 +1,178 @@
+ghost use Rattle.std.specs.Prelude.{◌≡◌, ◌≤◌, length, take, All, IfNone, IfSome};
+ghost use Rattle.mapf_model.specs.Earned.{tick_of, HasConflict, AreConflictFreeBefore, HaveSomeConflict};
+ghost use Rattle.mapf_conflicts.specs.Pairs.{cells_at, ShareCell, ExchangeCells, HoldsOfNoPair, IsConflictOf, IsOrdered};
+
+use crate::pairs::{exchanging_pair, may_conflict, sharing_pair};
+use mapf_model::{Cell, Conflict, Path, Plan, Tick};
+
+/// The first conflict of the paths: of least tick, a vertex conflict before a swapping conflict, then
+/// of the least agent `i`, then of the least agent `j` above it. None where no two agents ever conflict,
+/// however long they rest at the ends of their paths.
+pub fn first_conflict(plan: &Plan) -> Option<Conflict>
+    ensures some { IfSome result (HasConflict plan.now) }
+    ensures first { IfSome result (λ conflict. AreConflictFreeBefore plan.now (tick_of conflict)) }
+    ensures ordered { IfSome result IsOrdered }
+    ensures none { IfNone result (HaveSomeConflict plan.now → ⊥) }
+{
+    let paths = plan.paths();
+    let count = paths.len();
+    let mut here = cells_at(paths, 0);
+    for tick in 0..longest(paths) {
+        let next = cells_at(paths, tick + 1);
+        if let Some(conflict) = conflict_of(&here[..count], &next[..count], tick) {
+            return Some(conflict);
+        }
+        here = next;
+    }
+    None
+}
+
+// The number of cells of the longest path.
+fn longest(paths: &[Path]) -> Tick
+    ensures longest { All (λ path. length path ≤ result) paths.now }
+    ensures positive { 1 ≤ result }
+    ensures bounded { result ≤ 10000000 }
+{
+    let mut longest = 1;
+    for path in paths {
+        longest = longest.max(path.cells().len());
+    }
+    longest as Tick
+}
+
+// The agents' cells at the tick, in front of cells that are no agent's.
+fn cells_at(paths: &[Path], tick: Tick) -> [Cell; 200]
+    requires { length paths.now ≤ 200 }
+    ensures { take (length paths.now) result ≡ cells_at paths.now tick }
+{
+    let mut cells = [Cell(0); 200];
+    for (i, path) in paths.iter().enumerate() {
+        cells[i] = path.at(tick);
+    }
+    cells
+}
+
+// The first conflict of agents that are in these cells at the tick, and in those at the next.
+fn conflict_of(here: &[Cell], next: &[Cell], tick: Tick) -> Option<Conflict>
+    requires size { length next.now ≡ length here.now }
+    requires few { length here.now ≤ 200 }
+    ensures some { IfSome result (IsConflictOf here.now next.now tick) }
+    ensures share { IfNone result (HoldsOfNoPair (ShareCell here.now) (length here.now)) }
+    ensures exchange { IfNone result (HoldsOfNoPair (ExchangeCells here.now next.now) (length here.now)) }
+{
+    if !may_conflict(here, next) {
+        return None;
+    }
+    if let Some((i, j)) = sharing_pair(here) {
+        return Some(Conflict::Vertex {
+            i: i as u32,
+            j: j as u32,
+            cell: here[i],
+            tick,
+        });
+    }
+    let (i, j) = exchanging_pair(here, next)?;
+    Some(Conflict::Swap {
+        i: i as u32,
+        j: j as u32,
+        from: here[i],
+        to: next[i],
+        tick,
+    })
+}
+
+#[cfg(test)]
+mod tests {
+    use super::*;
+    use std::alloc::Global;
+    use std::test::Fail;
+
+    // A plan of these paths, each a list of cell numbers.
+    fn plan(alloc: Global, paths: &[&[u32]]) -> Result<Plan, Fail> {
+        let mut all = Vec::new(alloc);
+        for path in paths {
+            let mut cells = Vec::new(alloc);
+            for number in *path {
+                cells.push(Cell(*number))?;
+            }
+            all.push(Path::of(cells).ok_or("no path")?)?;
+        }
+        Ok(Plan::of(all).ok_or("no plan")?)
+    }
+
+    fn vertex(i: u32, j: u32, cell: u32, tick: Tick) -> Option<Conflict> {
+        Some(Conflict::Vertex {
+            i,
+            j,
+            cell: Cell(cell),
+            tick,
+        })
+    }
+
+    fn swap(i: u32, j: u32, from: u32, to: u32, tick: Tick) -> Option<Conflict> {
+        Some(Conflict::Swap {
+            i,
+            j,
+            from: Cell(from),
+            to: Cell(to),
+            tick,
+        })
+    }
+
+    #[test]
+    fn takes_vertex_before_swap_then_least_agents(rt: HostRuntime) -> Result<(), Fail> {
+        let both = plan(rt.alloc(), &[&[0, 1], &[1, 0], &[2], &[2], &[2]])?;
+        assert_eq!(rt; first_conflict(&both), vertex(2, 3, 2, 0));
+        let nested = plan(rt.alloc(), &[&[4], &[3], &[3], &[4]])?;
+        assert_eq!(rt; first_conflict(&nested), vertex(0, 3, 4, 0));
+        let swaps = plan(rt.alloc(), &[&[0, 1], &[4, 5], &[5, 4], &[1, 0]])?;
+        assert_eq!(rt; first_conflict(&swaps), swap(0, 3, 0, 1, 0));
+        Ok(())
+    }
+
+    #[test]
+    fn takes_the_least_tick(rt: HostRuntime) -> Result<(), Fail> {
+        let plan = plan(
+            rt.alloc(),
+            &[&[6, 7, 8], &[8, 8, 8], &[3, 0, 1], &[4, 1, 0]],
+        )?;
+        assert_eq!(rt; first_conflict(&plan), swap(2, 3, 0, 1, 1));
+        Ok(())
+    }
+
+    #[test]
+    fn meets_an_agent_at_rest(rt: HostRuntime) -> Result<(), Fail> {
+        let plan = plan(rt.alloc(), &[&[2], &[0, 1, 2]])?;
+        assert_eq!(rt; first_conflict(&plan), vertex(0, 1, 2, 2));
+        Ok(())
+    }
+
+    #[test]
+    fn lets_agents_follow_and_rotate(rt: HostRuntime) -> Result<(), Fail> {
+        let follow = plan(rt.alloc(), &[&[0, 1, 2], &[1, 2, 3]])?;
+        assert_eq!(rt; first_conflict(&follow), None);
+        let rotate = plan(rt.alloc(), &[&[0, 1], &[1, 3], &[3, 2], &[2, 0]])?;
+        assert_eq!(rt; first_conflict(&rotate), None);
+        Ok(())
+    }
+
+    #[test]
+    fn looks_at_each_of_200_agents(rt: HostRuntime) -> Result<(), Fail> {
+        for last in [198, 199] {
+            let mut paths = Vec::new(rt.alloc());
+            for agent in 0..200 {
+                let mut cells = Vec::new(rt.alloc());
+                cells.push(Cell(agent.min(last)))?;
+                paths.push(Path::of(cells).ok_or("no path")?)?;
+            }
+            let plan = Plan::of(paths).ok_or("no plan")?;
+            let expected = if last == 198 {
+                vertex(198, 199, 198, 0)
+            } else {
+                None
+            };
+            assert_eq!(rt; first_conflict(&plan), expected);
+        }
+        Ok(())
+    }
+}

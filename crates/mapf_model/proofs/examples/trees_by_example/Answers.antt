@@ -1,0 +1,8 @@
+use Rattle.mapf_model.proofs.ExampleLemmas.{a_clash_shows_impossibility, each_child_bars_its_agent}
+use Rattle.mapf_model.proofs.examples.trees_by_example.Goals as goal
+
+pub returns-clause-clash : goal.returns-clause-clash
+returns-clause-clash c = a_clash_shows_impossibility
+
+pub returns-clause-children : goal.returns-clause-children
+returns-clause-children c = each_child_bars_its_agent

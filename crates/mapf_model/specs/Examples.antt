@@ -1,0 +1,66 @@
+-- Small problems on which the definitions can be tried.
+use Rattle.std.specs.Prelude.{◌≡◌, ℕ, true, List, [], ◌∷◌}
+use Rattle.mapf_model.specs.declared.bar.Bar.TheVariants.{Cell, Move}
+use Rattle.mapf_model.specs.declared.conflict.Conflict.TheVariants.{Swap}
+use Rattle.mapf_model.specs.declared.item.Claim.TheVariants.{Impossible}
+use Rattle.mapf_model.specs.declared.label.Entry.{Entry}
+use Rattle.mapf_model.specs.declared.label.Label.{Label}
+use Rattle.mapf_model.specs.declared.label.Label.TheVariants.{Ticks}
+use Rattle.mapf_model.specs.declared.problem.Agent.{Agent}
+use Rattle.mapf_model.specs.Grid.{GridMap}
+use Rattle.mapf_model.specs.Labels.{entries_of, AreSound}
+use Rattle.mapf_model.specs.Plan.{Instance, IsValid}
+use Rattle.mapf_model.specs.Tree.{Clash, root, left_child_constraints, right_child_constraints, Shows}
+
+-- three by three free cells
+abbrev pub open_square : GridMap
+open_square = record { width = 3; height = 3; free = true ∷ true ∷ true ∷ true ∷ true ∷ true ∷ true ∷ true ∷ true ∷ [] }
+
+-- free cells side by side
+abbrev pub two_cells : GridMap
+two_cells = record { width = 2; height = 1; free = true ∷ true ∷ [] }
+
+abbrev pub three_cells : GridMap
+three_cells = record { width = 3; height = 1; free = true ∷ true ∷ true ∷ [] }
+
+abbrev pub entry : ℕ → ℕ → Label → Entry
+entry cell tick label = record { cell = cell; tick = tick; label = label }
+
+abbrev pub agent : ℕ → ℕ → Agent
+agent start goal = record { start = start; goal = goal }
+
+-- an agent from the left of the square to its right that is barred from the middle at tick 1 may wait, so at
+-- the start 3 ticks are left and not 4
+abbrev pub WaitingBoundsALabel : Type 0
+WaitingBoundsALabel = AreSound open_square 5 (Cell 4 1 ∷ []) (entries_of (entry 3 0 (Ticks 4) ∷ [])) → ⊥
+
+-- no label is raised at a goal that no bar touches
+abbrev pub NoLabelIsRaisedAtAFreeGoal : Type 0
+NoLabelIsRaisedAtAFreeGoal = AreSound open_square 7 (Cell 4 1 ∷ []) (entries_of (entry 1 0 (Ticks 3) ∷ entry 7 0 (Ticks 1) ∷ [])) → ⊥
+
+-- two agents with one goal can't both stay there
+abbrev pub one_goal : Instance
+one_goal = record { grid = three_cells; agents = agent 0 1 ∷ agent 2 1 ∷ [] }
+
+abbrev pub AClashShowsImpossibility : Type 0
+AClashShowsImpossibility = Shows one_goal Impossible (Clash 0 1)
+
+-- two agents with one start are in one cell at tick 0
+abbrev pub one_start : Instance
+one_start = record { grid = three_cells; agents = agent 0 1 ∷ agent 0 2 ∷ [] }
+
+abbrev pub OneStartIsNoPlan : Type 0
+OneStartIsNoPlan = (plan : List (List ℕ)) → IsValid one_start plan → ⊥
+
+-- neighbours may not exchange their cells
+abbrev pub neighbours : Instance
+neighbours = record { grid = two_cells; agents = agent 0 1 ∷ agent 1 0 ∷ [] }
+
+abbrev pub SwappingIsNoPlan : Type 0
+SwappingIsNoPlan = IsValid neighbours ((0 ∷ 1 ∷ []) ∷ (1 ∷ 0 ∷ []) ∷ []) → ⊥
+
+-- the children of a split on a swap: the first agent is barred from its move, the second from its own
+abbrev pub EachChildBarsItsAgent : Type 0
+EachChildBarsItsAgent =
+    ((left_child_constraints root (Swap 0 1 3 4 5)).bars 0 ≡ Move 3 4 5 ∷ []) × ((left_child_constraints root (Swap 0 1 3 4 5)).bars 1 ≡ []) ×
+    ((right_child_constraints root (Swap 0 1 3 4 5)).bars 0 ≡ []) × ((right_child_constraints root (Swap 0 1 3 4 5)).bars 1 ≡ Move 4 3 5 ∷ [])

@@ -1,0 +1,80 @@
+ghost use Rattle.std.specs.Prelude.{◌≡◌, ◌↔◌, ◌<◌, [], IsTrue, Some, IfSome, length, not, option_map};
+ghost use Rattle.std.specs.Char.{is_ascii_digit};
+ghost use Rattle.std.specs.List.{position_from};
+ghost use Rattle.mapf_text.specs.Decimals.{IsDecimal, after_sign, drop_digits, after_digits, after_fraction, after_exponent, after_decimal};
+
+/// Whether a word is decimal text: an optional sign, digits, optionally a point and digits, and
+/// optionally `e` or `E`, an optional sign and digits.
+pub fn is_decimal(word: &[u8]) -> bool
+    ensures { IsTrue result ↔ IsDecimal word.now }
+{
+    match after_decimal(word) {
+        Some(rest) => rest.is_empty(),
+        None => false,
+    }
+}
+
+// What follows decimal text, as much of it as there is.
+#[tactic(auto, unfolding(crate::specs::Decimals::after_decimal))]
+fn after_decimal(text: &[u8]) -> Option<&[u8]>
+    ensures { option_map (λ rest. rest.now) result ≡ after_decimal text.now }
+{
+    let text = after_digits(after_sign(text))?;
+    let text = after_fraction(text)?;
+    after_exponent(text)
+}
+
+fn after_sign(text: &[u8]) -> &[u8]
+    ensures { result.now ≡ after_sign text.now }
+{
+    match text {
+        [b'+' | b'-', rest @ ..] => rest,
+        _ => text,
+    }
+}
+
+fn after_fraction(text: &[u8]) -> Option<&[u8]>
+    ensures { option_map (λ rest. rest.now) result ≡ after_fraction text.now }
+{
+    match text {
+        [b'.', rest @ ..] => after_digits(rest),
+        _ => Some(text),
+    }
+}
+
+fn after_exponent(text: &[u8]) -> Option<&[u8]>
+    ensures { option_map (λ rest. rest.now) result ≡ after_exponent text.now }
+{
+    match text {
+        [b'e' | b'E', rest @ ..] => after_digits(after_sign(rest)),
+        _ => Some(text),
+    }
+}
+
+// What follows one or more digits.
+fn after_digits(text: &[u8]) -> Option<&[u8]>
+    ensures { option_map (λ rest. rest.now) result ≡ after_digits text.now }
+{
+    match text {
+        [first, rest @ ..] if first.is_ascii_digit() => Some(drop_digits(rest)),
+        _ => None,
+    }
+}
+
+// What follows the digits at the front.
+fn drop_digits(text: &[u8]) -> &[u8]
+    ensures { result.now ≡ drop_digits text.now }
+{
+    match first_no_digit(text) {
+        Some(at) => &text[at..],
+        None => &[],
+    }
+}
+
+// The place of the first byte that is no digit.
+fn first_no_digit(text: &[u8]) -> Option<usize>
+    ensures place { result ≡ position_from (λ b. not (is_ascii_digit b)) 0 text.now }
+    ensures within { IfSome result (λ at. at < length text.now) }
+{
+    text.iter().position(|byte| !byte.is_ascii_digit())
+}

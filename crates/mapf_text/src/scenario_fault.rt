@@ -1,0 +1,20 @@
+/// Why bytes are no scenario text for a grid: the first fault in the order of the text.
+#[derive(Clone, Copy, Debug, PartialEq, Eq)]
+pub enum ScenFault {
+    /// The first line that isn't blank isn't `version 1` or `version 1.0`.
+    S1,
+    /// This row, counted from 0, hasn't nine words.
+    S2 { row: u32 },
+    /// This field of the row, counted from 1, isn't a number of at most 4,294,967,295.
+    S3 { row: u32, field: u32 },
+    /// The map's width or height in this row isn't the grid's.
+    S4 { row: u32 },
+    /// The start or the goal of this row is outside the grid or blocked.
+    S5 { row: u32 },
+    /// The length in this row isn't decimal text.
+    S6 { row: u32 },
+    /// The text ends after so many rows, fewer than there are to be agents.
+    S7 { rows: u32 },
+    /// A request for memory was refused.
+    Memory,
+}

@@ -1,0 +1,111 @@
+use clap::{Arg, Command, value_parser};
+use std::alloc::{AllocError, Global};
+
+/// How many agents a run has at most.
+pub const MOST_AGENTS: u32 = 200;
+
+/// How many splits a run may be given at most.
+pub const MOST_SPLITS: u32 = 100_000;
+
+const ABOUT: &str =
+    "Finds cheapest collision-free routes for many agents on a grid, with a certificate that
+nothing cheaper is possible, and checks such certificates. Without words it solves and
+checks a small built-in problem.";
+
+const OVERVIEW: &str = "Files:
+  MAP   the grid: a MovingAI map of type octile
+  SCEN  the agents: a MovingAI scenario of version 1, of which the first K rows count
+  PLAN  the plan text, and CERT its certificate: solve writes both, check reads them
+
+Standard output of solve is one line, as 'cost 5', of check one line, as 'optimal 5', and
+without words it is the built-in problem's plan text, certificate and verdict.
+
+Exit status:
+  0  solved, accepted, or shown
+  1  check refused the plan text or the certificate
+  2  a fault, or wrong words, told on standard error
+  3  solve found that no plan is possible
+  4  solve met a limit before it had an answer
+
+Faults, with details in the same line: F1 the map's text, F2 the scenario's text, F4 a file
+that can't be read, F5 one that can't be written, F6 no memory left.";
+
+const SOLVE_ABOUT: &str =
+    "Finds a cheapest plan for the first K agents, and writes it with its certificate";
+
+const SOLVE_OUTPUT: &str = "Standard output has one line:
+  cost C       the sum of the agents' costs, in ticks
+  impossible   no plan is valid
+  limit N      no answer after N splits; CERT is then empty
+  limit ticks  no answer, for the agents meet too late; CERT is then empty
+
+Exit status:
+  0  solved
+  2  a fault, or wrong words, told on standard error
+  3  impossible
+  4  a limit was met";
+
+const CHECK_ABOUT: &str =
+    "Judges whether CERT shows that the plan of PLAN is cheapest, or that none is possible";
+
+const CHECK_OUTPUT: &str = "Standard output has one line:
+  optimal C    the plan is valid, costs C, and no valid plan costs less
+  impossible   no plan is valid
+  refused ..   the texts don't show it, with the reason
+
+Exit status:
+  0  accepted
+  1  refused
+  2  a fault, or wrong words, told on standard error";
+
+const MAP: &str = "The grid: a MovingAI map of type octile";
+
+const SCEN: &str = "The agents: a MovingAI scenario of version 1 for that map";
+
+const K: &str = "How many agents: the first K rows of SCEN, 1 to 200";
+
+const LIMIT: &str = "How often the search may split on a conflict, 0 to 100000";
+
+fn file<'a>(alloc: Global, name: &'a str, help: &'a str) -> Arg<'a> {
+    Arg::new(alloc, name).required(true).help(help)
+}
+
+fn number<'a>(alloc: Global, name: &'a str, low: u32, high: u32, help: &'a str) -> Arg<'a> {
+    Arg::new(alloc, name)
+        .required(true)
+        .value_parser(value_parser!(u32).range(i64::from(low)..=i64::from(high)))
+        .help(help)
+}
+
+fn solve<'a>(alloc: Global) -> Result<Command<'a>, AllocError> {
+    Command::new(alloc, "solve")
+        .about(SOLVE_ABOUT)
+        .after_help(SOLVE_OUTPUT)
+        .arg(file(alloc, "MAP", MAP))?
+        .arg(file(alloc, "SCEN", SCEN))?
+        .arg(number(alloc, "K", 1, MOST_AGENTS, K))?
+        .arg(number(alloc, "LIMIT", 0, MOST_SPLITS, LIMIT))?
+        .arg(file(alloc, "PLAN", "Where the plan text is written"))?
+        .arg(file(alloc, "CERT", "Where the certificate is written"))
+}
+
+fn check<'a>(alloc: Global) -> Result<Command<'a>, AllocError> {
+    Command::new(alloc, "check")
+        .about(CHECK_ABOUT)
+        .after_help(CHECK_OUTPUT)
+        .arg(file(alloc, "MAP", MAP))?
+        .arg(file(alloc, "SCEN", SCEN))?
+        .arg(number(alloc, "K", 1, MOST_AGENTS, K))?
+        .arg(file(alloc, "PLAN", "The plan text, as solve wrote it"))?
+        .arg(file(alloc, "CERT", "The certificate, as solve wrote it"))
+}
+
+/// The words that the program takes.
+pub fn mapf<'a>(alloc: Global) -> Result<Command<'a>, AllocError> {
+    Command::new(alloc, "mapf")
+        .about(ABOUT)
+        .after_help(OVERVIEW)
+        .subcommand_required(true)
+        .subcommand(solve(alloc)?)?
+        .subcommand(check(alloc)?)
+}

@@ -1,0 +1,26 @@
+/// What the words ask for. The texts are names of files.
+#[derive(Debug, PartialEq, Eq, Drop)]
+pub enum Job {
+    /// Solve and check a small built-in problem.
+    Demo,
+    /// Find a cheapest plan for the first `k` agents with at most `limit` splits.
+    Solve {
+        map: String,
+        scen: String,
+        /// 1 to 200.
+        k: u32,
+        /// 0 to 100,000.
+        limit: u32,
+        plan: String,
+        cert: String,
+    },
+    /// Judge a plan text of the first `k` agents by its certificate.
+    Check {
+        map: String,
+        scen: String,
+        /// 1 to 200.
+        k: u32,
+        plan: String,
+        cert: String,
+    },
+}

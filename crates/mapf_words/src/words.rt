@@ -1,0 +1,91 @@
+ghost use Rattle.std.specs.Prelude.{◌≡◌, ◌≤◌, ◌<◌, ◌↔◌, IfOk, vec_len, ◌≢◌};
+ghost use Rattle.mapf_words.specs.Jobs.{IsInRange};
+
+use crate::command::{MOST_AGENTS, MOST_SPLITS, mapf};
+use crate::job::Job;
+use crate::words_fault::WordsFault;
+use clap::ArgMatches;
+use clap::error::ErrorKind;
+use std::alloc::{AllocError, Global};
+
+// The text of the argument of that name.
+fn text_of(alloc: Global, given: &ArgMatches<'_>, name: &str) -> Result<String, AllocError> {
+    String::from_str(alloc, given.get_str(name).unwrap_or(""))
+}
+
+// The number of the argument of that name. The command line has the same range for the user's sake; this
+// test is the one that counts.
+fn number_of(
+    alloc: Global,
+    given: &ArgMatches<'_>,
+    name: &str,
+    low: u32,
+    high: u32,
+) -> Result<u32, WordsFault>
+    ensures { IfOk result (λ n. (low ≤ n) × (n ≤ high)) }
+{
+    match given.get_one::<u32>(name) {
+        Some(n) if low <= n && n <= high => Ok(n),
+        _ => Err(WordsFault::Bad(format!(in alloc;
+            "error: {name} isn't a number from {low} to {high}\n"
+        )?)),
+    }
+}
+
+fn solve_of(alloc: Global, given: &ArgMatches<'_>) -> Result<Job, WordsFault>
+    ensures range { IfOk result IsInRange }
+    ensures command { result ≢ Ok Job.Demo }
+{
+    Ok(Job::Solve {
+        map: text_of(alloc, given, "MAP")?,
+        scen: text_of(alloc, given, "SCEN")?,
+        k: number_of(alloc, given, "K", 1, MOST_AGENTS)?,
+        limit: number_of(alloc, given, "LIMIT", 0, MOST_SPLITS)?,
+        plan: text_of(alloc, given, "PLAN")?,
+        cert: text_of(alloc, given, "CERT")?,
+    })
+}
+
+fn check_of(alloc: Global, given: &ArgMatches<'_>) -> Result<Job, WordsFault>
+    ensures range { IfOk result IsInRange }
+    ensures command { result ≢ Ok Job.Demo }
+{
+    Ok(Job::Check {
+        map: text_of(alloc, given, "MAP")?,
+        scen: text_of(alloc, given, "SCEN")?,
+        k: number_of(alloc, given, "K", 1, MOST_AGENTS)?,
+        plan: text_of(alloc, given, "PLAN")?,
+        cert: text_of(alloc, given, "CERT")?,
+    })
+}
+
+fn fault_of(alloc: Global, error: &clap::Error) -> WordsFault {
+    if error.kind() == ErrorKind::OutOfMemory {
+        return WordsFault::Memory;
+    }
+    match error.to_string(alloc) {
+        Ok(text) if error.use_stderr() => WordsFault::Bad(text),
+        Ok(text) => WordsFault::Shown(text),
+        Err(_) => WordsFault::Memory,
+    }
+}
+
+/// What the words ask for, of which the first is the program's name. No further word, and no word at
+/// all, is the demo.
+pub fn job_of(alloc: Global, words: Vec<String>) -> Result<Job, WordsFault>
+    ensures range { IfOk result IsInRange }
+    ensures demo { (result ≡ Ok Job.Demo) ↔ (vec_len words < 2) }
+{
+    if words.len() < 2 {
+        return Ok(Job::Demo);
+    }
+    let matches = match mapf(alloc)?.try_get_matches_from(words.as_slice()) {
+        Ok(matches) => matches,
+        Err(error) => return Err(fault_of(alloc, &error)),
+    };
+    match matches.subcommand() {
+        Some(("solve", given)) => solve_of(alloc, given),
+        Some(("check", given)) => check_of(alloc, given),
+        _ => Err(WordsFault::Bad(String::from_str(alloc, "error: no such command\n")?)),
+    }
+}
