@@ -10,8 +10,8 @@ use Rattle.mapf_model.specs.Bars.{Satisfies}
 use Rattle.mapf_model.specs.Distance.{IsDistance, IsUnreachable}
 use Rattle.mapf_model.specs.Grid.{GridMap, IsFree, IsGridMap}
 use Rattle.mapf_model.specs.Labels.{entries_of, IsSoundEntry}
-use Rattle.mapf_model.specs.Path.{at, IsPath, IsCost}
-use Rattle.mapf_model.specs.Printed.{IsLabelInRange, IsEntryInRange, IsOnGrid, IsTight}
+use Rattle.mapf_model.specs.Path.{at, IsPath, IsCost, IsTight}
+use Rattle.mapf_model.specs.Printed.{IsLabelInRange, IsEntryInRange, IsOnGrid}
 use Rattle.mapf_spacetime.specs.declared.state.State.{State}
 use Rattle.mapf_spacetime.specs.Task.{Task, IsValue, IsWithin, IsBelow, state_at, start_of}
 use Rattle.mapf_spacetime.specs.States.{States, first_states, low_states, IsFrontier, HasArrived, IsSpent, IsBelowLimit}

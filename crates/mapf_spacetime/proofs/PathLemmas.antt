@@ -7,8 +7,7 @@ use Rattle.mapf_model.specs.declared.bar.Bar.TheVariants.{Cell, Move}
 use Rattle.mapf_model.specs.Bars.{Satisfies, AreBars}
 use Rattle.mapf_model.specs.Distance.{Walk}
 use Rattle.mapf_model.specs.Laws.{NeighboursMakePaths}
-use Rattle.mapf_model.specs.Path.{at, IsPath, IsLawful, IsCost}
-use Rattle.mapf_model.specs.Printed.{IsTight}
+use Rattle.mapf_model.specs.Path.{at, IsPath, IsLawful, IsCost, IsTight}
 use Rattle.mapf_model.proofs.PathLemmas.{IsCost-from_end}
 use Rattle.mapf_spacetime.specs.Task.{Task, Goes, IsValue, IsOpen, MayRestFrom, agent_of, state_at, start_of}
 use Rattle.mapf_spacetime.specs.States.{States, HasArrived}

@@ -4,8 +4,8 @@ use Rattle.mapf_model.specs.declared.label.Entry.{Entry}
 use Rattle.mapf_model.specs.declared.label.Label.TheVariants.{Ticks, Never}
 use Rattle.mapf_model.specs.Bars.{Satisfies}
 use Rattle.mapf_model.specs.Labels.{AreSound, IsLabel, entries_of}
-use Rattle.mapf_model.specs.Path.{IsLawful, IsCost}
-use Rattle.mapf_model.specs.Printed.{IsBefore, IsEntryInRange, IsTight}
+use Rattle.mapf_model.specs.Path.{IsLawful, IsCost, IsTight}
+use Rattle.mapf_model.specs.Printed.{IsBefore, IsEntryInRange}
 use Rattle.mapf_spacetime.specs.declared.found.Found.{Found}
 use Rattle.mapf_spacetime.specs.declared.found.Found.TheVariants.{Arrives, Dead}
 use Rattle.mapf_spacetime.specs.Task.{Task, agent_of}
