@@ -1,6 +1,3 @@
-ghost use Rattle.std.specs.Prelude.{◌≡◌, ◌<◌, ◌≤◌, ◌↔◌, ◌∷◌, [], ℕ, List, IfOk, OnErr, OnOk, IsTrue, Contains, Option};
-ghost use Rattle.mapf_model.specs.declared.bar.Bar.{Bar};
-ghost use Rattle.mapf_model.specs.Laws.{AreSameBars};
 ghost use Rattle.mapf_constraints.specs.BarSets.{AreBefore, IsHorizon, IsLastOn};
 
 use crate::bar_table::BarTable;

@@ -1,0 +1,126 @@
+-- How a search starts and ends.
+use Rattle.std.proofs.Common.{◌≡◌, inl, inr, ⊎_elim, ℕ, ◌-◌, ◌<◌, ◌≤◌, false, Some, None, List, [], ◌∷◌, All, Contains, length, slice_index_or, sym, subst, ◌∙◌, arith}
+use Rattle.std.proofs.lemmas.Bool.{cases_lt, false≢true}
+use Rattle.std.proofs.lemmas.List.{get_or_past}
+use Rattle.std.proofs.lemmas.List.Elements.{Contains-push, Contains-get_or}
+use Rattle.mapf_model.specs.declared.bar.Bar.TheVariants.{Cell}
+use Rattle.mapf_model.specs.declared.label.Entry.{Entry}
+use Rattle.mapf_model.specs.declared.label.Label.TheVariants.{Never}
+use Rattle.mapf_model.specs.Bars.{Satisfies}
+use Rattle.mapf_model.specs.Distance.{IsDistance, IsUnreachable}
+use Rattle.mapf_model.specs.Grid.{GridMap, IsFree, IsGridMap}
+use Rattle.mapf_model.specs.Labels.{entries_of, IsSoundEntry}
+use Rattle.mapf_model.specs.Path.{at, IsPath, IsCost, IsTight}
+use Rattle.mapf_model.specs.Printed.{IsLabelInRange, IsEntryInRange, IsOnGrid}
+use Rattle.mapf_spacetime.specs.declared.state.State.{State}
+use Rattle.mapf_spacetime.specs.Task.{Task, IsValue, IsWithin, IsBelow, state_at, start_of}
+use Rattle.mapf_spacetime.specs.States.{States, first_states, low_states, IsFrontier, HasArrived, IsSpent, IsBelowLimit}
+use Rattle.mapf_spacetime.specs.Listed.{AreEntriesOf}
+use Rattle.mapf_spacetime.specs.Answer.{AreGoodLabels, IsArrival, ShowNone}
+use Rattle.mapf_spacetime.proofs.ValueLemmas.{value_free}
+use Rattle.mapf_spacetime.proofs.FrontierLemmas.{none_held, one_held, reached_within}
+use Rattle.mapf_spacetime.proofs.LabelLemmas.{entry_is, entry_none, entry_there, listed_label, never_label, sound_spent, start_spent}
+
+pub first_frontier : (task : Task) (first : ℕ) → IsValue task (start_of task) first → IsFrontier task [] (first_states (start_of task) first)
+first_frontier task first is = record {
+  start = inr (Contains-push [] (start_of task));
+  low = λ s h. absurd (none_held s h);
+  top = λ s h. absurd (none_held s h);
+  bound = omega arith;
+  level = λ s h. subst (λ t. IsValue task t first) (one_held (start_of task) s h) is;
+  past = λ s h. absurd (none_held s h);
+  entered = λ s k. ⊎_elim
+      (λ r. absurd (none_held s r))
+      (λ other. ⊎_elim (λ o. inl (sym (one_held (start_of task) s o))) (λ q. absurd (none_held s q)) other)
+      k;
+  closed = λ s h. absurd (none_held s h);
+  quiet = λ tick h. absurd (none_held (state_at task.goal tick) h);
+}
+
+pub first_limit : (task : Task) (first : ℕ) → IsValue task (start_of task) first → IsBelowLimit task first
+first_limit task first is bound above = let sum = is.sum in let few = is.few in omega arith
+
+pub first_small : (task : Task) (first : ℕ) → IsValue task (start_of task) first → first < 4194304
+first_small task first is = let sum = is.sum in let small = is.small in omega arith
+
+pub spent_shows : (task : Task) (states : States) → IsSpent task states → (entries : List Entry) → AreEntriesOf states.reached None entries → ShowNone task entries
+spent_shows task states spent entries a = record { sound = sound_spent task states spent entries a; start = start_spent task states spent entries a }
+
+pub spent_few : (task : Task) (states : States) → IsSpent task states → states.cost < 6000000 → (s : State) → Contains states.reached s → IsWithin task 9999999 s
+spent_few task states spent small s h = let (value, is, le) = reached_within task [] states spent.walked.frontier s h in (value, is, omega arith)
+
+-- the start is barred at tick 0
+pub barred_shows : (task : Task) (first : ℕ) → IsValue task (start_of task) first → Contains task.bars (Cell task.start 0) → (entries : List Entry) → AreEntriesOf (start_of task ∷ []) None entries → ShowNone task entries
+barred_shows task first is barred entries a = record {
+  sound = λ cell tick label e.
+      let (listed, label_is) = entry_is (start_of task ∷ []) None entries a cell tick label e in
+      let same = one_held (start_of task) (state_at cell tick) listed in
+      let here : Contains task.bars (Cell cell tick) = subst (λ s. Contains task.bars (Cell s.cell s.tick)) same barred in
+      let value = subst (λ s. IsValue task s first) same is in
+      subst (IsSoundEntry task.grid task.goal task.bars (entries_of entries) cell tick) (sym label_is) (record {
+        raised = (value.distance, value.is, tt);
+        at_goal = λ open_cell at. absurd (open_cell here);
+        onward = λ open_cell next may. absurd (open_cell here);
+      });
+  start = listed_label task.grid task.goal entries task.start 0 Never (entry_there (start_of task ∷ []) None entries a task.start 0 (Contains-push [] (start_of task)));
+}
+
+-- no steps lead from the start to the goal
+pub unreachable_shows : (task : Task) → IsUnreachable task.grid task.goal task.start → (entries : List Entry) → AreEntriesOf [] None entries → ShowNone task entries
+unreachable_shows task none entries a = record {
+  sound = λ cell tick label e. absurd (none_held (state_at cell tick) (entry_is [] None entries a cell tick label e).0);
+  start = never_label task.grid task.goal entries task.start 0 (entry_none [] None entries a task.start 0 (λ h. none_held (start_of task) h)) none;
+}
+
+free_on_grid : (grid : GridMap) → IsGridMap grid → (cell : ℕ) → IsFree grid cell → IsOnGrid grid cell
+free_on_grid grid shape cell free = ⊎_elim
+    (λ (inside : cell < length grid.free). let area = shape.4 in subst (λ n. cell < n) area inside)
+    (λ (outside : length grid.free ≤ cell). absurd (false≢true (sym (get_or_past grid.free cell false outside) ∙ free)))
+    (cases_lt cell (length grid.free))
+
+module _ (task : Task) (shape : IsGridMap task.grid) (states : List State) (entries : List Entry) where
+  pub ranges_some : (cost : ℕ) → cost < 6000000 → ((s : State) → Contains states s → IsBelow task cost s) → AreEntriesOf states (Some cost) entries → All (IsEntryInRange task.grid) entries
+  ranges_some cost small low a k d lt =
+      let e = slice_index_or entries k d in
+      let (listed, label_is) = a.each e (Contains-get_or entries k d lt) in
+      let (value, is, less) = low (state_at e.cell e.tick) listed in
+      let sum = is.sum in
+      (free_on_grid task.grid shape e.cell (value_free task (state_at e.cell e.tick) value is), omega arith, subst IsLabelInRange (sym label_is) (omega arith, omega arith))
+
+  pub ranges_none : ((s : State) → Contains states s → IsWithin task 9999999 s) → AreEntriesOf states None entries → All (IsEntryInRange task.grid) entries
+  ranges_none few a k d lt =
+      let e = slice_index_or entries k d in
+      let (listed, label_is) = a.each e (Contains-get_or entries k d lt) in
+      let (value, is, le) = few (state_at e.cell e.tick) listed in
+      let sum = is.sum in
+      (free_on_grid task.grid shape e.cell (value_free task (state_at e.cell e.tick) value is), omega arith, subst IsLabelInRange (sym label_is) tt)
+
+-- no entries at all
+pub no_labels : (task : Task) → AreGoodLabels task []
+no_labels task = record {
+  sound = λ cell tick label e. cc;
+  rising = λ i j d less within. absurd (omega arith);
+  ranges = λ k d lt. absurd (omega arith);
+}
+
+pub low_ticks : (task : Task) (states : States) → HasArrived task states → (s : State) (least : ℕ) → Contains (low_states states) s → Some states.cost ≡ Some least → s.tick ≤ least
+low_ticks task states h s least held e = let same : states.cost ≡ least = cc in let (value, is, less) = h.frontier.low s held in let sum = is.sum in omega arith
+
+-- a shortest path that satisfies the bars is a cheapest one, and needs no labels
+pub shortest_arrives : (task : Task) (first : ℕ) (path : List ℕ) → IsValue task (start_of task) first → IsPath task.grid path → at path 0 ≡ task.start → at path (length path - 1) ≡ task.goal →
+    IsDistance task.grid task.goal task.start (length path - 1) → IsCost task.goal path (length path - 1) → IsTight path → Satisfies task.bars path → IsArrival task path []
+shortest_arrives task first path value is_path starts ends shortest is_cost tight satisfies =
+    let short = value.is.least (length path - 1) shortest.walk in
+    let long = shortest.least value.distance value.is.walk in
+    let sum = value.sum in
+    let same : first ≡ length path - 1 = omega arith in
+    record {
+      cost = length path - 1;
+      lawful = record { is_path = is_path; start = starts; goal = ends };
+      satisfies = satisfies;
+      is_cost = is_cost;
+      tight = tight;
+      limit = subst (IsBelowLimit task) same (first_limit task first value);
+      labels = no_labels task;
+      start = shortest;
+    }

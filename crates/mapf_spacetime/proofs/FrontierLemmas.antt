@@ -1,0 +1,202 @@
+-- A frontier stays one when states are added to it.
+use Rattle.std.proofs.Common.{◌≡◌, ◌⊎◌, ◌↔◌, inl, inr, ⊎_elim, ℕ, ◌+◌, ◌<◌, ◌≤◌, List, [], ◌∷◌, ◌++◌, length, slice_index_or, Contains, refl, sym, ap, subst, ◌∙◌, arith, length-append}
+use Rattle.std.proofs.lemmas.List.{get_or_default, take-append-le}
+use Rattle.std.proofs.lemmas.List.Elements.{Contains-append_left, Contains-push, Contains-push_cases}
+use Rattle.mapf_model.specs.Distance.{IsUnreachable}
+use Rattle.mapf_model.specs.Grid.{Step}
+use Rattle.mapf_model.specs.Labels.{MayGo}
+use Rattle.mapf_spacetime.specs.declared.state.State.{State}
+use Rattle.mapf_spacetime.specs.Task.{Task, Goes, IsValue, IsWithin, IsPast, IsBarredLater, MayRestFrom, state_at, start_of}
+use Rattle.mapf_spacetime.specs.States.{States, with_reached, with_open, with_waiting, low_states, IsKnown, IsTaken, IsClosed, IsFrontier, Keeps, Takes, HasArrived}
+use Rattle.mapf_spacetime.proofs.ValueLemmas.{below_within, level_within, at_goal}
+
+pub none_held : {X : Type 0} (x : X) → Contains [] x → ⊥
+none_held x (k, lt, is) = omega arith
+
+pub one_held : {X : Type 0} (x y : X) → Contains (x ∷ []) y → x ≡ y
+one_held x y h = ⊎_elim (λ none. absurd (none_held y none)) (λ same. same) (Contains-push_cases [] x y h)
+
+module _ (states : States) (new : State) where
+  pub known_open : (s : State) → IsKnown states s → IsKnown (with_open states new) s
+  known_open s k = ⊎_elim (λ r. inl r) (λ other. inr (⊎_elim (λ o. inl (Contains-append_left states.open_states (new ∷ []) s o)) (λ w. inr w) other)) k
+
+  pub known_waiting : (s : State) → IsKnown states s → IsKnown (with_waiting states new) s
+  known_waiting s k = ⊎_elim (λ r. inl r) (λ other. inr (⊎_elim (λ o. inl o) (λ w. inr (Contains-append_left states.waiting (new ∷ []) s w)) other)) k
+
+  pub known_open_cases : (s : State) → IsKnown (with_open states new) s → IsKnown states s ⊎ (new ≡ s)
+  known_open_cases s k = ⊎_elim (λ r. inl (inl r)) (λ other. ⊎_elim
+      (λ o. ⊎_elim (λ old. inl (inr (inl old))) (λ same. inr same) (Contains-push_cases states.open_states new s o))
+      (λ w. inl (inr (inr w)))
+      other) k
+
+  known_waiting_cases : (s : State) → IsKnown (with_waiting states new) s → IsKnown states s ⊎ (new ≡ s)
+  known_waiting_cases s k = ⊎_elim (λ r. inl (inl r)) (λ other. ⊎_elim
+      (λ o. inl (inr (inl o)))
+      (λ w. ⊎_elim (λ old. inl (inr (inr old))) (λ same. inr same) (Contains-push_cases states.waiting new s w))
+      other) k
+
+pub IsTaken-known : (task : Task) (old new : States) → ((s : State) → IsKnown old s → IsKnown new s) → (from : State) (to : ℕ) → IsTaken task old from to → IsTaken task new from to
+IsTaken-known task old new known from to taken may = ⊎_elim (λ k. inl (known (state_at to (from.tick + 1)) k)) (λ none. inr none) (taken may)
+
+pub IsClosed-known : (task : Task) (old new : States) → ((s : State) → IsKnown old s → IsKnown new s) → (from : State) → IsClosed task old from → IsClosed task new from
+IsClosed-known task old new known from closed to = IsTaken-known task old new known from to (closed to)
+
+-- a reached state is within the cost
+pub reached_within : (task : Task) (busy : List State) (states : States) → IsFrontier task busy states → (s : State) → Contains states.reached s → IsWithin task states.cost s
+reached_within task busy states f s h = ⊎_elim (λ low. below_within task s states.cost (f.low s low)) (λ level. level_within task s states.cost level) (f.top s h)
+
+-- a state that can be stepped into is left to be reached
+module _ (task : Task) (busy : List State) (states : States) (f : IsFrontier task busy states) (from to : State) (is_reached : Contains states.reached from) (goes : Goes task from to) where
+  add_open : IsValue task to states.cost → IsFrontier task busy (with_open states to)
+  add_open level = record {
+    start = ⊎_elim (λ r. inl r) (λ o. inr (Contains-append_left states.open_states (to ∷ []) (start_of task) o)) f.start;
+    low = f.low;
+    top = f.top;
+    bound = f.bound;
+    level = λ s h. ⊎_elim (λ old. f.level s old) (λ same. subst (λ t. IsValue task t states.cost) same level) (Contains-push_cases states.open_states to s h);
+    past = f.past;
+    entered = λ s k. ⊎_elim (λ old. f.entered s old) (λ same. inr (from, is_reached, subst (Goes task from) same goes)) (known_open_cases states to s k);
+    closed = λ s h. ⊎_elim (λ b. inl b) (λ c. inr (IsClosed-known task states (with_open states to) (known_open states to) s c)) (f.closed s h);
+    quiet = f.quiet;
+  }
+
+  add_waiting : IsPast task states.cost to → IsFrontier task busy (with_waiting states to)
+  add_waiting past = record {
+    start = f.start;
+    low = f.low;
+    top = f.top;
+    bound = f.bound;
+    level = f.level;
+    past = λ s h. ⊎_elim (λ old. f.past s old) (λ same. subst (IsPast task states.cost) same past) (Contains-push_cases states.waiting to s h);
+    entered = λ s k. ⊎_elim (λ old. f.entered s old) (λ same. inr (from, is_reached, subst (Goes task from) same goes)) (known_waiting_cases states to s k);
+    closed = λ s h. ⊎_elim (λ b. inl b) (λ c. inr (IsClosed-known task states (with_waiting states to) (known_waiting states to) s c)) (f.closed s h);
+    quiet = f.quiet;
+  }
+
+pub Keeps-refl : (states : States) → Keeps states states
+Keeps-refl states = record { reached = refl; cost = refl; below = refl; known = λ s k. k }
+
+pub Keeps-trans : (a b c : States) → Keeps a b → Keeps b c → Keeps a c
+Keeps-trans a b c p q = record { reached = q.reached ∙ p.reached; cost = q.cost ∙ p.cost; below = q.below ∙ p.below; known = λ s k. q.known s (p.known s k) }
+
+module _ (task : Task) (busy : List State) (states : States) (f : IsFrontier task busy states) (from : State) (to : ℕ) where
+  pub take_barred : (MayGo task.grid task.bars from.cell to from.tick → ⊥) → Takes task busy from to states states
+  take_barred barred = record { frontier = f; keeps = Keeps-refl states; taken = λ may. absurd (barred may) }
+
+  pub take_unreachable : IsUnreachable task.grid task.goal to → Takes task busy from to states states
+  take_unreachable none = record { frontier = f; keeps = Keeps-refl states; taken = λ may. inr none }
+
+  module _ (is_reached : Contains states.reached from) (may : MayGo task.grid task.bars from.cell to from.tick) where
+    goes : Goes task from (state_at to (from.tick + 1))
+    goes = record { may = may; tick = refl }
+
+    pub take_level : IsValue task (state_at to (from.tick + 1)) states.cost → (new : States) → new ≡ with_open states (state_at to (from.tick + 1)) → Takes task busy from to states new
+    take_level level new is =
+        let next = state_at to (from.tick + 1) in
+        subst (Takes task busy from to states) (sym is) (record {
+          frontier = add_open task busy states f from next is_reached goes level;
+          keeps = record { reached = refl; cost = refl; below = refl; known = known_open states next };
+          taken = λ m. inl (inr (inl (Contains-push states.open_states next)));
+        })
+
+    pub take_past : IsPast task states.cost (state_at to (from.tick + 1)) → (new : States) → new ≡ with_waiting states (state_at to (from.tick + 1)) → Takes task busy from to states new
+    take_past past new is =
+        let next = state_at to (from.tick + 1) in
+        subst (Takes task busy from to states) (sym is) (record {
+          frontier = add_waiting task busy states f from next is_reached goes past;
+          keeps = record { reached = refl; cost = refl; below = refl; known = known_waiting states next };
+          taken = λ m. inl (inr (inr (Contains-push states.waiting next)));
+        })
+
+-- once all steps from the state were taken, none is busy
+pub close : (task : Task) (states : States) (from : State) → IsFrontier task (from ∷ []) states →
+    (steps : List ℕ) → ((to : ℕ) → Contains steps to ↔ Step task.grid from.cell to) →
+    ((k : ℕ) → k < length steps → IsTaken task states from (slice_index_or steps k 0)) →
+    IsFrontier task [] states
+close task states from f steps exact taken = record {
+  start = f.start;
+  low = f.low;
+  top = f.top;
+  bound = f.bound;
+  level = f.level;
+  past = f.past;
+  entered = f.entered;
+  closed = λ s h. ⊎_elim
+      (λ busy. let same = one_held from s busy in inr (subst (IsClosed task states) same
+      (λ to may. let (j, within, to_is) = (exact to).1 may.step in subst (IsTaken task states from) (get_or_default steps j 0 to within ∙ to_is) (taken j within) may)))
+      (λ c. inr c)
+      (f.closed s h);
+  quiet = f.quiet;
+}
+
+-- the last open state is taken
+module _ (task : Task) (states : States) (state : State) (f : IsFrontier task [] (with_open states state)) where
+  known_reached : (s : State) → IsKnown (with_open states state) s → IsKnown (with_reached states state) s
+  known_reached s k = ⊎_elim
+      (λ old. ⊎_elim (λ r. inl (Contains-append_left states.reached (state ∷ []) s r)) (λ other. inr other) old)
+      (λ same. inl (subst (Contains (states.reached ++ state ∷ [])) same (Contains-push states.reached state)))
+      (known_open_cases states state s k)
+
+  known_back : (s : State) → IsKnown (with_reached states state) s → IsKnown (with_open states state) s
+  known_back s k = ⊎_elim
+      (λ r. ⊎_elim (λ old. inl old) (λ same. inr (inl (subst (Contains (states.open_states ++ state ∷ [])) same (Contains-push states.open_states state)))) (Contains-push_cases states.reached state s r))
+      (λ other. ⊎_elim (λ o. inr (inl (Contains-append_left states.open_states (state ∷ []) s o))) (λ w. inr (inr w)) other)
+      k
+
+  pub open_value : IsValue task state states.cost
+  open_value = f.level state (Contains-push states.open_states state)
+
+  -- it is the arrival
+  pub arrived : state.cell ≡ task.goal → MayRestFrom task state.tick → HasArrived task states
+  arrived is rest =
+      let tick = at_goal task state states.cost open_value is in
+      let same : state ≡ state_at task.goal states.cost = λ i. record { tick = tick i; cell = is i } in
+      record { frontier = subst (λ s. IsFrontier task [] (with_open states s)) same f; rest = subst (MayRestFrom task) tick rest }
+
+  low_same : low_states (with_reached states state) ≡ low_states states
+  low_same = let bound : states.below ≤ length states.reached = f.bound in take-append-le states.below states.reached (state ∷ []) bound
+
+  -- it is reached, and its steps are still to be taken
+  pub reach_new : (state.cell ≡ task.goal → IsBarredLater task state.tick) → IsFrontier task (state ∷ []) (with_reached states state)
+  reach_new no_arrival = record {
+    start = ⊎_elim
+        (λ r. inl (Contains-append_left states.reached (state ∷ []) (start_of task) r))
+        (λ o. ⊎_elim (λ old. inr old) (λ same. inl (subst (Contains (states.reached ++ state ∷ [])) same (Contains-push states.reached state))) (Contains-push_cases states.open_states state (start_of task) o))
+        f.start;
+    low = λ s h. f.low s (subst (λ l. Contains l s) low_same h);
+    top = λ s h. ⊎_elim
+        (λ old. ⊎_elim (λ low. inl (subst (λ l. Contains l s) (sym low_same) low)) (λ level. inr level) (f.top s old))
+        (λ same. inr (subst (λ t. IsValue task t states.cost) same open_value))
+        (Contains-push_cases states.reached state s h);
+    bound = (let bound : states.below ≤ length states.reached = f.bound in omega (arith, length-append states.reached (state ∷ [])));
+    level = λ s h. f.level s (Contains-append_left states.open_states (state ∷ []) s h);
+    past = f.past;
+    entered = λ s k. ⊎_elim
+        (λ is. inl is)
+        (λ e. let (from, held, goes) = e in inr (from, Contains-append_left states.reached (state ∷ []) from held, goes))
+        (f.entered s (known_back s k));
+    closed = λ s h. ⊎_elim
+        (λ old. ⊎_elim (λ b. absurd (none_held s b)) (λ c. inr (IsClosed-known task (with_open states state) (with_reached states state) known_reached s c)) (f.closed s old))
+        (λ same. inl (subst (Contains (state ∷ [])) same (Contains-push [] state)))
+        (Contains-push_cases states.reached state s h);
+    quiet = λ tick h. ⊎_elim
+        (λ old. f.quiet tick old)
+        (λ same. subst (IsBarredLater task) (ap (λ s. s.tick) same) (no_arrival (ap (λ s. s.cell) same)))
+        (Contains-push_cases states.reached state (state_at task.goal tick) h);
+  }
+
+  -- it was reached before
+  pub reach_old : Contains states.reached state → IsFrontier task [] states
+  reach_old there =
+      let known : (s : State) → IsKnown (with_open states state) s → IsKnown states s = λ s k. ⊎_elim (λ old. old) (λ same. inl (subst (Contains states.reached) same there)) (known_open_cases states state s k) in
+      record {
+        start = ⊎_elim (λ r. inl r) (λ o. ⊎_elim (λ old. inr old) (λ same. inl (subst (Contains states.reached) same there)) (Contains-push_cases states.open_states state (start_of task) o)) f.start;
+        low = f.low;
+        top = f.top;
+        bound = f.bound;
+        level = λ s h. f.level s (Contains-append_left states.open_states (state ∷ []) s h);
+        past = f.past;
+        entered = λ s k. f.entered s (known_open states state s k);
+        closed = λ s h. ⊎_elim (λ b. inl b) (λ c. inr (IsClosed-known task (with_open states state) states known s c)) (f.closed s h);
+        quiet = f.quiet;
+      }

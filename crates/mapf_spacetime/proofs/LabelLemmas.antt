@@ -1,0 +1,202 @@
+-- The labels of a search are sound.
+use Rattle.std.proofs.Common.{◌≡◌, ◌⊎◌, inl, ⊎_elim, ℕ, zero, suc, ◌+◌, ◌-◌, ◌<◌, ◌≤◌, Bool, true, false, ◌==◌, ◌&&◌, cond, take, drop, add-one, drop-cons, Option, Some, None, List, [], ◌∷◌, length, slice_index_or, Contains, find, option_map, refl, sym, ap, subst, ◌∙◌, arith}
+use Rattle.std.proofs.lemmas.Bool.{eqb-true, eq-eqb}
+use Rattle.mapf_model.specs.declared.label.Entry.{Entry}
+use Rattle.mapf_model.specs.declared.label.Label.{Label}
+use Rattle.mapf_model.specs.declared.label.Label.TheVariants.{Ticks, Never}
+use Rattle.mapf_model.specs.Distance.{IsDistance, IsUnreachable}
+use Rattle.mapf_model.specs.Grid.{GridMap}
+use Rattle.mapf_model.specs.Labels.{entries_of, AreSound, IsSoundEntry, IsLabel, IsEntryOrDistance, IsWithinOne, MayGo}
+use Rattle.mapf_spacetime.specs.declared.state.State.{State}
+use Rattle.mapf_spacetime.specs.Task.{Task, IsValue, state_at, start_of}
+use Rattle.mapf_spacetime.specs.States.{States, low_states, HasArrived, IsSpent}
+use Rattle.mapf_spacetime.specs.Listed.{label_of, AreEntriesOf}
+use Rattle.mapf_spacetime.proofs.ValueLemmas.{value_unique, value_none}
+use Rattle.mapf_spacetime.proofs.FrontierLemmas.{none_held, reached_within}
+
+both : (a b : Bool) → (a && b) ≡ true → (a ≡ true) × (b ≡ true)
+both true b e = (refl, e)
+both false b e = cc
+
+both_hold : (a b : Bool) → a ≡ true → b ≡ true → (a && b) ≡ true
+both_hold a b e f = rw (e, f) refl
+
+Contains-later : {X : Type 0} (x : X) (xs : List X) (y : X) → Contains xs y → Contains (x ∷ xs) y
+Contains-later x xs y (k, lt, is) = (suc k, omega arith, is)
+
+find_holds : {X : Type 0} (p : X → Bool) (xs : List X) (y : X) → find p xs ≡ Some y → Contains xs y × (p y ≡ true)
+find_holds p [] y e = cc
+find_holds p (x ∷ xs) y e = by (p x) refl (λ found. find_holds p xs y found) e
+  where
+    by : (b : Bool) → p x ≡ b → (find p xs ≡ Some y → Contains xs y × (p y ≡ true)) → cond b (Some x) (find p xs) ≡ Some y → Contains (x ∷ xs) y × (p y ≡ true)
+    by true is rest found = let same : x ≡ y = cc in (subst (Contains (x ∷ xs)) same (0, omega arith, refl), subst (λ z. p z ≡ true) same is)
+    by false is rest found = let (later, holds) = rest found in (Contains-later x xs y later, holds)
+
+find_finds : {X : Type 0} (p : X → Bool) (xs : List X) (y : X) (k : ℕ) → k < length xs → slice_index_or xs k y ≡ y → p y ≡ true → (z : X) × (find p xs ≡ Some z)
+find_finds p [] y k lt is holds = absurd (omega arith)
+find_finds p (x ∷ xs) y zero lt is holds = (x, rw (subst (λ z. p z ≡ true) (sym is) holds) refl)
+find_finds p (x ∷ xs) y (suc k) lt is holds = by (p x) (find_finds p xs y k (omega arith) is holds)
+  where
+    by : (b : Bool) → (z : _) × (find p xs ≡ Some z) → (z : _) × (cond b (Some x) (find p xs) ≡ Some z)
+    by true rest = (x, refl)
+    by false rest = rest
+
+abbrev test : ℕ → ℕ → Entry → Bool
+test cell tick entry = (entry.cell == cell) && (entry.tick == tick)
+
+module _ (states : List State) (cost : Option ℕ) (entries : List Entry) (a : AreEntriesOf states cost entries) where
+  pub entry_there : (cell tick : ℕ) → Contains states (state_at cell tick) → entries_of entries cell tick ≡ Some (label_of cost tick)
+  entry_there cell tick listed =
+      let (e, (k, lt, at), cell_is, tick_is) = a.all (state_at cell tick) listed in
+      let passes = both_hold (e.cell == cell) (e.tick == tick) (eq-eqb e.cell cell cell_is) (eq-eqb e.tick tick tick_is) in
+      let (found, is) = find_finds (test cell tick) entries e k lt at passes in
+      let (stands, holds) = find_holds (test cell tick) entries found is in
+      let (c, t) = both (found.cell == cell) (found.tick == tick) holds in
+      ap (option_map (λ entry. entry.label)) is ∙ ap (λ l. Some l) ((a.each found stands).1 ∙ ap (label_of cost) (eqb-true found.tick tick t))
+
+  pub entry_is : (cell tick : ℕ) (label : Label) → entries_of entries cell tick ≡ Some label → Contains states (state_at cell tick) × (label ≡ label_of cost tick)
+  entry_is cell tick label e = by (find (test cell tick) entries) refl e
+    where
+      by : (r : Option Entry) → find (test cell tick) entries ≡ r → option_map (λ entry. entry.label) r ≡ Some label → Contains states (state_at cell tick) × (label ≡ label_of cost tick)
+      by None is some = cc
+      by (Some found) is some =
+          let (stands, holds) = find_holds (test cell tick) entries found is in
+          let (c, t) = both (found.cell == cell) (found.tick == tick) holds in
+          let ticks = eqb-true found.tick tick t in
+          let cells = eqb-true found.cell cell c in
+          let (listed, label_is) = a.each found stands in
+          let same : found.label ≡ label = cc in
+          (subst (Contains states) (λ i. state_at (cells i) (ticks i)) listed, sym same ∙ label_is ∙ ap (label_of cost) ticks)
+
+  pub entry_none : (cell tick : ℕ) → (Contains states (state_at cell tick) → ⊥) → entries_of entries cell tick ≡ None
+  entry_none cell tick unlisted = by (entries_of entries cell tick) refl
+    where
+      by : (r : Option Label) → entries_of entries cell tick ≡ r → entries_of entries cell tick ≡ None
+      by None e = e
+      by (Some label) e = absurd (unlisted (entry_is cell tick label e).0)
+
+pub listed_label : (grid : GridMap) (goal : ℕ) (entries : List Entry) (cell tick : ℕ) (label : Label) → entries_of entries cell tick ≡ Some label → IsLabel grid goal (entries_of entries) cell tick label
+listed_label grid goal entries cell tick label e = subst (λ entry. IsEntryOrDistance grid goal cell entry label) (sym e) refl
+
+pub distance_label : (grid : GridMap) (goal : ℕ) (entries : List Entry) (cell tick d : ℕ) → entries_of entries cell tick ≡ None → IsDistance grid goal cell d → IsLabel grid goal (entries_of entries) cell tick (Ticks d)
+distance_label grid goal entries cell tick d e is = subst (λ entry. IsEntryOrDistance grid goal cell entry (Ticks d)) (sym e) is
+
+pub never_label : (grid : GridMap) (goal : ℕ) (entries : List Entry) (cell tick : ℕ) → entries_of entries cell tick ≡ None → IsUnreachable grid goal cell → IsLabel grid goal (entries_of entries) cell tick Never
+never_label grid goal entries cell tick e is = subst (λ entry. IsEntryOrDistance grid goal cell entry Never) (sym e) is
+
+drop_at : {X : Type 0} (xs : List X) (k : ℕ) (x : X) → k < length xs → x ≡ slice_index_or xs k x → drop k xs ≡ x ∷ drop (k + 1) xs
+drop_at xs k x lt is = rw (add-one, is) (drop-cons xs k x lt)
+
+-- the look-up goes on behind an entry of another state
+pub find_next : {X : Type 0} (p : X → Bool) (xs : List X) (k : ℕ) (x : X) → k < length xs → x ≡ slice_index_or xs k x → p x ≡ false → find p (drop k xs) ≡ find p (drop (k + 1) xs)
+find_next p xs k x lt is other = rw (drop_at xs k x lt is) (rw other refl)
+
+-- and ends at an entry of the state
+pub find_here : {X : Type 0} (p : X → Bool) (xs : List X) (k : ℕ) (x : X) → k < length xs → x ≡ slice_index_or xs k x → p x ≡ true → find p (drop k xs) ≡ Some x
+find_here p xs k x lt is here = rw (drop_at xs k x lt is) (rw here refl)
+
+pub low_reached : (xs : List State) (n : ℕ) (s : State) → Contains (take n xs) s → Contains xs s
+low_reached xs zero s h = absurd (none_held s h)
+low_reached [] (suc n) s h = absurd (none_held s h)
+low_reached (x ∷ xs) (suc n) s (zero, lt, is) = (zero, omega arith, is)
+low_reached (x ∷ xs) (suc n) s (suc k, lt, is) = Contains-later x xs s (low_reached xs n s (k, omega arith, is))
+
+-- the labels below a cost at which the agent arrives
+module _ (task : Task) (states : States) (h : HasArrived task states) (entries : List Entry) (a : AreEntriesOf (low_states states) (Some states.cost) entries) where
+  -- a state at the cost or beyond it has no entry
+  unlisted : (cell tick value : ℕ) → IsValue task (state_at cell tick) value → states.cost ≤ value → entries_of entries cell tick ≡ None
+  unlisted cell tick value is least = entry_none (low_states states) (Some states.cost) entries a cell tick
+      (λ listed. let (low, low_is, less) = h.frontier.low (state_at cell tick) listed in let same = value_unique task (state_at cell tick) value low is low_is in absurd (omega arith))
+
+  at_distance : (cell tick value : ℕ) (v : IsValue task (state_at cell tick) value) → states.cost ≤ value → IsLabel task.grid task.goal (entries_of entries) cell tick (Ticks v.distance)
+  at_distance cell tick value v least = distance_label task.grid task.goal entries cell tick v.distance (unlisted cell tick value v least) v.is
+
+  onward : (cell tick next : ℕ) → Contains states.reached (state_at cell tick) → tick < states.cost → MayGo task.grid task.bars cell next tick → IsWithinOne task.grid task.goal (entries_of entries) (Ticks (states.cost - tick)) next (tick + 1)
+  onward cell tick next reached less may = ⊎_elim
+      (λ busy. absurd (none_held (state_at cell tick) busy))
+      (λ closed. ⊎_elim
+      (λ known. ⊎_elim
+      (λ there. ⊎_elim
+      (λ listed. (Ticks (states.cost - (tick + 1)), listed_label task.grid task.goal entries next (tick + 1) (Ticks (states.cost - (tick + 1))) (entry_there (low_states states) (Some states.cost) entries a next (tick + 1) listed), omega arith))
+      (λ level. let sum = level.sum in (Ticks level.distance, at_distance next (tick + 1) states.cost level (omega arith), omega arith))
+      (h.frontier.top (state_at next (tick + 1)) there))
+      (λ other. ⊎_elim
+      (λ is_open. let level = h.frontier.level (state_at next (tick + 1)) is_open in let sum = level.sum in (Ticks level.distance, at_distance next (tick + 1) states.cost level (omega arith), omega arith))
+      (λ waits. let (value, past, more) = h.frontier.past (state_at next (tick + 1)) waits in let sum = past.sum in (Ticks past.distance, at_distance next (tick + 1) value past (omega arith), omega arith))
+      other)
+      known)
+      (λ none. (
+        Never,
+        never_label task.grid task.goal entries next (tick + 1)
+            (entry_none (low_states states) (Some states.cost) entries a next (tick + 1) (λ listed. let (value, is, below) = h.frontier.low (state_at next (tick + 1)) listed in value_none task (state_at next (tick + 1)) value none is)) none,
+        tt,
+      ))
+      (closed next may))
+      (h.frontier.closed (state_at cell tick) reached)
+
+  pub sound_arrives : AreSound task.grid task.goal task.bars (entries_of entries)
+  sound_arrives cell tick label e =
+      let (listed, label_is) = entry_is (low_states states) (Some states.cost) entries a cell tick label e in
+      let reached = low_reached states.reached states.below (state_at cell tick) listed in
+      let (value, is, less) = h.frontier.low (state_at cell tick) listed in
+      let sum = is.sum in
+      subst (IsSoundEntry task.grid task.goal task.bars (entries_of entries) cell tick) (sym label_is)
+      (record {
+        raised = (is.distance, is.is, omega arith);
+        at_goal = λ open_cell at_goal. h.frontier.quiet tick (subst (λ v. Contains states.reached (state_at v tick)) at_goal reached);
+        onward = λ open_cell next may. onward cell tick next reached (omega arith) may;
+      })
+
+  level_start : IsValue task (start_of task) states.cost → IsLabel task.grid task.goal (entries_of entries) task.start 0 (Ticks states.cost)
+  level_start level =
+      let sum = level.sum in
+      let same : level.distance ≡ states.cost = omega arith in
+      subst (λ n. IsLabel task.grid task.goal (entries_of entries) task.start 0 (Ticks n)) same (at_distance task.start 0 states.cost level (omega arith))
+
+  pub start_arrives : IsLabel task.grid task.goal (entries_of entries) task.start 0 (Ticks states.cost)
+  start_arrives = ⊎_elim
+      (λ reached. ⊎_elim
+      (λ listed. listed_label task.grid task.goal entries task.start 0 (Ticks states.cost) (entry_there (low_states states) (Some states.cost) entries a task.start 0 listed ∙ ap (λ n. Some (Ticks n)) (omega arith)))
+      (λ level. level_start level)
+      (h.frontier.top (start_of task) reached))
+      (λ is_open. level_start (h.frontier.level (start_of task) is_open))
+      h.frontier.start
+
+-- the labels where no state is left to reach
+module _ (task : Task) (states : States) (h : IsSpent task states) (entries : List Entry) (a : AreEntriesOf states.reached None entries) where
+  never_there : (cell tick : ℕ) → Contains states.reached (state_at cell tick) → IsLabel task.grid task.goal (entries_of entries) cell tick Never
+  never_there cell tick reached = listed_label task.grid task.goal entries cell tick Never (entry_there states.reached None entries a cell tick reached)
+
+  all_reached : (s : State) → Contains states.open_states s ⊎ Contains states.waiting s → ⊥
+  all_reached s other = ⊎_elim (λ o. none_held s (subst (λ l. Contains l s) h.walked.none_open o)) (λ w. none_held s (subst (λ l. Contains l s) h.none_waits w)) other
+
+  onward_spent : (cell tick next : ℕ) → Contains states.reached (state_at cell tick) → MayGo task.grid task.bars cell next tick → IsWithinOne task.grid task.goal (entries_of entries) Never next (tick + 1)
+  onward_spent cell tick next reached may = ⊎_elim
+      (λ busy. absurd (none_held (state_at cell tick) busy))
+      (λ closed. ⊎_elim
+      (λ known. ⊎_elim
+      (λ there. (Never, never_there next (tick + 1) there, tt))
+      (λ other. absurd (all_reached (state_at next (tick + 1)) other))
+      known)
+      (λ none. (
+        Never,
+        never_label task.grid task.goal entries next (tick + 1)
+            (entry_none states.reached None entries a next (tick + 1) (λ there. let (value, is, le) = reached_within task [] states h.walked.frontier (state_at next (tick + 1)) there in value_none task (state_at next (tick + 1)) value none is)) none,
+        tt,
+      ))
+      (closed next may))
+      (h.walked.frontier.closed (state_at cell tick) reached)
+
+  pub sound_spent : AreSound task.grid task.goal task.bars (entries_of entries)
+  sound_spent cell tick label e =
+      let (reached, label_is) = entry_is states.reached None entries a cell tick label e in
+      let (value, is, le) = reached_within task [] states h.walked.frontier (state_at cell tick) reached in
+      subst (IsSoundEntry task.grid task.goal task.bars (entries_of entries) cell tick) (sym label_is)
+      (record {
+        raised = (is.distance, is.is, tt);
+        at_goal = λ open_cell at_goal. h.walked.frontier.quiet tick (subst (λ v. Contains states.reached (state_at v tick)) at_goal reached);
+        onward = λ open_cell next may. onward_spent cell tick next reached may;
+      })
+
+  pub start_spent : IsLabel task.grid task.goal (entries_of entries) task.start 0 Never
+  start_spent = never_there task.start 0 (⊎_elim (λ reached. reached) (λ o. absurd (all_reached (start_of task) (inl o))) h.walked.frontier.start)

@@ -1,0 +1,9 @@
+pub mod SetLemmas
+pub mod ValueLemmas
+pub mod FrontierLemmas
+pub mod GrowLemmas
+pub mod EntryLemmas
+pub mod LabelLemmas
+pub mod WayLemmas
+pub mod PathLemmas
+pub mod AnswerLemmas

@@ -1,0 +1,146 @@
+-- Walks of states as paths.
+use Rattle.std.proofs.Common.{◌≡◌, ◌≢◌, inl, inr, ⊎_elim, ℕ, zero, suc, ◌+◌, ◌-◌, ◌<◌, ◌≤◌, min, List, length, slice_index, slice_index_or, Contains, sym, ap, subst, ◌∙◌, arith}
+use Rattle.std.proofs.lemmas.Bool.{cases_lt}
+use Rattle.std.proofs.lemmas.List.{get_or_default}
+use Rattle.mapf_model.specs.Grid.{GridMap, Step}
+use Rattle.mapf_model.specs.declared.bar.Bar.TheVariants.{Cell, Move}
+use Rattle.mapf_model.specs.Bars.{Satisfies, AreBars}
+use Rattle.mapf_model.specs.Distance.{Walk}
+use Rattle.mapf_model.specs.Laws.{NeighboursMakePaths}
+use Rattle.mapf_model.specs.Path.{at, IsPath, IsLawful, IsCost, IsTight}
+use Rattle.mapf_model.proofs.PathLemmas.{IsCost-from_end}
+use Rattle.mapf_spacetime.specs.Task.{Task, Goes, IsValue, IsOpen, MayRestFrom, agent_of, state_at, start_of}
+use Rattle.mapf_spacetime.specs.States.{States, HasArrived}
+use Rattle.mapf_spacetime.specs.Way.{state_of, IsWholeWay}
+use Rattle.mapf_spacetime.proofs.ValueLemmas.{value_free, value_unique, value_none, no_lower}
+use Rattle.mapf_spacetime.proofs.FrontierLemmas.{none_held}
+
+pub at_is : (cells : List ℕ) (tick : ℕ) → tick < length cells → at cells tick ≡ slice_index cells tick
+at_is cells tick lt = let same : min tick (length cells - 1) ≡ tick = omega arith in ap (λ n. slice_index cells n) same
+
+pub at_past : (cells : List ℕ) (tick : ℕ) → length cells - 1 ≤ tick → at cells tick ≡ slice_index cells (length cells - 1)
+at_past cells tick le = let same : min tick (length cells - 1) ≡ length cells - 1 = omega arith in ap (λ n. slice_index cells n) same
+
+-- two neighbours on a path are a step
+pub path_step : (grid : GridMap) (cells : List ℕ) → IsPath grid cells → (tick from to : ℕ) → tick + 1 < length cells → from ≡ slice_index_or cells tick from → to ≡ slice_index_or cells (tick + 1) to → Step grid from to
+path_step grid cells path tick from to lt from_is to_is =
+    let here : at cells tick ≡ from = at_is cells tick (omega arith) ∙ get_or_default cells tick 0 from (omega arith) ∙ sym from_is in
+    let next : at cells (tick + 1) ≡ to = at_is cells (tick + 1) lt ∙ get_or_default cells (tick + 1) 0 to lt ∙ sym to_is in
+    subst (λ c. Step grid c to) here (subst (Step grid (at cells tick)) next (path.steps tick))
+
+-- an agent that goes from open state to open state and may rest at the end violates no bar
+module _ (task : Task) (cells : List ℕ) (some : 1 ≤ length cells) (start : slice_index cells 0 ≡ task.start) (start_open : IsOpen task (start_of task))
+    (goes : (k : ℕ) → k + 1 < length cells → Goes task (state_of cells k) (state_of cells (k + 1)))
+    (ends : slice_index cells (length cells - 1) ≡ task.goal) (rest : MayRestFrom task (length cells - 1)) (proper : AreBars task.bars) where
+  pub is_open : (k : ℕ) → k < length cells → IsOpen task (state_of cells k)
+  is_open zero lt barred = start_open (subst (λ c. Contains task.bars (Cell c 0)) start barred)
+  is_open (suc k) lt barred =
+      let next : suc k ≡ k + 1 = omega arith in
+      (goes k (omega arith)).may.arrival (subst (λ n. Contains task.bars (Cell (slice_index cells n) n)) next barred)
+
+  pub way_satisfies : Satisfies task.bars cells
+  way_satisfies (Cell cell tick) barred meets = ⊎_elim
+      (λ (during : tick < length cells). is_open tick during (subst (λ c. Contains task.bars (Cell c tick)) (sym meets ∙ at_is cells tick during) barred))
+      (λ (after : length cells ≤ tick). rest tick (omega arith) (subst (λ c. Contains task.bars (Cell c tick)) (sym meets ∙ at_past cells tick (omega arith) ∙ ends) barred))
+      (cases_lt tick (length cells))
+  way_satisfies (Move from to tick) barred meets = ⊎_elim
+      (λ (during : tick + 1 < length cells).
+      (goes tick during).may.move
+      (subst (λ c. Contains task.bars (Move c (slice_index cells (tick + 1)) tick)) (sym meets.0 ∙ at_is cells tick (omega arith))
+      (subst (λ c. Contains task.bars (Move from c tick)) (sym meets.1 ∙ at_is cells (tick + 1) during) barred)))
+      (λ (after : length cells ≤ tick + 1).
+      proper (Move from to tick) barred (sym meets.0 ∙ at_past cells tick (omega arith) ∙ sym (at_past cells (tick + 1) (omega arith)) ∙ meets.1))
+      (cases_lt (tick + 1) (length cells))
+
+-- a walk of the least cost
+module _ (task : Task) (states : States) (cells : List ℕ) (h : HasArrived task states) (w : IsWholeWay task states.cost cells) (start_open : IsOpen task (start_of task)) (proper : AreBars task.bars) where
+  pub ends : slice_index cells (length cells - 1) ≡ task.goal
+  ends =
+      let count = w.count in
+      let last : length cells - 1 ≡ states.cost = omega arith in
+      let (value, is, le) = w.way.within states.cost (omega arith) in
+      let none : is.distance ≡ 0 = (let sum = is.sum in omega arith) in
+      ap (λ n. slice_index cells n) last ∙ (subst (Walk task.grid (slice_index cells states.cost) task.goal) none is.is.walk).1
+
+  -- the walk goes through reached states while it is below the cost
+  low_walk : (k : ℕ) → k < length cells → (value : ℕ) → IsValue task (state_of cells k) value → value < states.cost → Contains states.reached (state_of cells k)
+  low_walk zero lt value is less =
+      let same : start_of task ≡ state_of cells 0 = ap (λ c. state_at c 0) (sym w.way.start) in
+      ⊎_elim
+      (λ r. subst (Contains states.reached) same r)
+      (λ o. let level = h.frontier.level (start_of task) o in
+      let one = value_unique task (state_of cells 0) value states.cost is (subst (λ s. IsValue task s states.cost) same level) in absurd (omega arith))
+      h.frontier.start
+  low_walk (suc k) lt value is less =
+      let next : k + 1 ≡ suc k = omega arith in
+      let goes = subst (λ n. Goes task (state_of cells k) (state_of cells n)) next (w.way.goes k (omega arith)) in
+      let (before, before_is, le) = w.way.within k (omega arith) in
+      let low = no_lower task (state_of cells k) (state_of cells (suc k)) before value before_is is goes in
+      let reached = low_walk k (omega arith) before before_is (omega arith) in
+      let same : state_at (slice_index cells (suc k)) (k + 1) ≡ state_of cells (suc k) = ap (state_at (slice_index cells (suc k))) next in
+      ⊎_elim
+      (λ busy. absurd (none_held (state_of cells k) busy))
+      (λ closed. ⊎_elim
+      (λ known. ⊎_elim
+      (λ r. subst (Contains states.reached) same r)
+      (λ other. ⊎_elim
+      (λ o. let level = subst (λ s. IsValue task s states.cost) same (h.frontier.level (state_at (slice_index cells (suc k)) (k + 1)) o) in
+      let one = value_unique task (state_of cells (suc k)) value states.cost is level in absurd (omega arith))
+      (λ q. let (v, v_is, more) = h.frontier.past (state_at (slice_index cells (suc k)) (k + 1)) q in
+      let one = value_unique task (state_of cells (suc k)) value v is (subst (λ s. IsValue task s v) same v_is) in absurd (omega arith))
+      other)
+      known)
+      (λ none. absurd (value_none task (state_of cells (suc k)) value none is))
+      (closed (slice_index cells (suc k)) goes.may))
+      (h.frontier.closed (state_of cells k) reached)
+
+  opens : (k : ℕ) → k < length cells → IsOpen task (state_of cells k)
+  opens = is_open task cells w.way.some w.way.start start_open w.way.goes ends (let count = w.count in let last : length cells - 1 ≡ states.cost = omega arith in subst (MayRestFrom task) (sym last) h.rest) proper
+
+  not_before : 0 < states.cost → slice_index cells (states.cost - 1) ≢ task.goal
+  not_before some is =
+      let count = w.count in
+      let (value, v, le) = w.way.within (states.cost - 1) (omega arith) in
+      let here : state_of cells (states.cost - 1) ≡ state_at task.goal (states.cost - 1) = ap (λ c. state_at c (states.cost - 1)) is in
+      let none : value ≡ states.cost - 1 = (
+      let free = value_free task (state_of cells (states.cost - 1)) value v in
+      let rest = v.is.least 0 (free, is) in
+      let sum = v.sum in omega arith) in
+      let reached = low_walk (states.cost - 1) (omega arith) value v (omega arith) in
+      let (later, after, barred) = h.frontier.quiet (states.cost - 1) (subst (Contains states.reached) here reached) in
+      ⊎_elim
+      (λ (now : later < states.cost).
+      let same : later ≡ states.cost - 1 = omega arith in
+      opens (states.cost - 1) (omega arith) (subst (λ c. Contains task.bars (Cell c (states.cost - 1))) (sym is) (subst (λ n. Contains task.bars (Cell task.goal n)) same barred)))
+      (λ (rest : states.cost ≤ later). h.rest later rest barred)
+      (cases_lt later states.cost)
+
+  pub walk_satisfies : Satisfies task.bars cells
+  walk_satisfies = way_satisfies task cells w.way.some w.way.start start_open w.way.goes ends (let count = w.count in let last : length cells - 1 ≡ states.cost = omega arith in subst (MayRestFrom task) (sym last) h.rest) proper
+
+  pub walk_cost : IsCost task.goal cells states.cost
+  walk_cost = let count = w.count in
+      IsCost-from_end task.goal cells states.cost (omega arith)
+      (λ k le lt. let k_is : length cells - 1 ≡ k = omega arith in subst (λ n. slice_index cells n ≡ task.goal) k_is ends)
+      not_before
+
+  pub walk_tight : IsTight cells
+  walk_tight = let count = w.count in ⊎_elim
+      (λ (none : states.cost < 1). inl (omega arith))
+      (λ (some : 1 ≤ states.cost).
+      let before : length cells - 2 ≡ states.cost - 1 = omega arith in
+      inr (λ same. not_before some (ap (λ n. slice_index cells n) (sym before) ∙ sym same ∙ ends)))
+      (cases_lt states.cost 1)
+
+  pub walk_lawful : NeighboursMakePaths → IsLawful task.grid (agent_of task) cells
+  walk_lawful paths =
+      let some = w.way.some in
+      record {
+        is_path = (paths task.grid cells).1 (record {
+          nonempty = λ e. (let n = ap length e in absurd (omega arith));
+          first = (let (value, is, le) = w.way.within 0 (omega arith) in value_free task (state_of cells 0) value is);
+          neighbours = λ k lt. (w.way.goes k lt).may.step;
+        });
+        start = at_is cells 0 (omega arith) ∙ w.way.start;
+        goal = at_is cells (length cells - 1) (omega arith) ∙ ends;
+      }

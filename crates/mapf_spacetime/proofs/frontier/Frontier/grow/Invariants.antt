@@ -1,0 +1,14 @@
+use Rattle.std.proofs.Common.{◌≡◌, ◌-◌, ◌+◌, ◌<◌, []}
+use Rattle.mapf_spacetime.specs.States.{IsFrontier, IsBelowLimit}
+use Rattle.mapf_spacetime.proofs.frontier.Frontier.grow.Given as goal
+
+abbrev pub invariant-loop-self : goal.invariant-loop-self
+invariant-loop-self g l = record {
+  frontier : IsFrontier l.ground [] l.self;
+  cost : l.self.cost ≡ l.cost;
+  limit : IsBelowLimit l.ground l.cost;
+  small : l.cost < l.horizon + 4194304;
+}
+
+abbrev pub decreases-loop-self : goal.decreases-loop-self
+decreases-loop-self g l = (l.horizon + 4194304) - l.cost

@@ -1,0 +1,44 @@
+use Rattle.std.proofs.Common.{◌∷◌, ◌∙◌, [], refl, sym, ap, subst, Contains}
+use Rattle.std.proofs.lemmas.List.Elements.{Contains-push}
+use Rattle.mapf_spacetime.specs.Task.{IsValue}
+use Rattle.mapf_spacetime.specs.States.{IsFrontier}
+use Rattle.mapf_spacetime.proofs.ValueLemmas.{value_free}
+use Rattle.mapf_spacetime.proofs.FrontierLemmas.{arrived, open_value, reach_new, reach_old}
+use Rattle.mapf_spacetime.proofs.frontier.Frontier.walk_level.Goals as goal
+
+pub returns-then-is_arrival-clause-arrives : goal.returns-then-is_arrival-clause-arrives
+returns-then-is_arrival-clause-arrives g c =
+    let task = c.args.ground.now in
+    let f = subst (IsFrontier task []) c.in-Some.ensures.some c.loop-state.invariant.frontier in
+    λ yes. arrived task c.take_open.new.self c.in-Some.state f (c.if-is_arrival.ensures.goal refl) (c.if-is_arrival.ensures.rest refl)
+
+pub steps-steps-requires : goal.steps-steps-requires
+steps-steps-requires g c =
+    let task = c.args.ground.now in
+    let f = subst (IsFrontier task []) c.in-Some.ensures.some c.loop-state.invariant.frontier in
+    value_free task c.in-Some.state c.take_open.new.self.cost (open_value task c.take_open.new.self c.in-Some.state f)
+
+pub take_all-requires-clause-frontier : goal.take_all-requires-clause-frontier
+take_all-requires-clause-frontier g c =
+    let task = c.args.ground.now in
+    let f = subst (IsFrontier task []) c.in-Some.ensures.some c.loop-state.invariant.frontier in
+    subst (IsFrontier task (c.in-Some.state ∷ [])) (sym (c.in_ok-reach.ensures.new c.if-branch.true)) (reach_new task c.take_open.new.self c.in-Some.state f (c.if-is_arrival.ensures.no refl))
+
+pub take_all-requires-clause-reached : goal.take_all-requires-clause-reached
+take_all-requires-clause-reached g c = subst (λ states. Contains states.reached c.in-Some.state) (sym (c.in_ok-reach.ensures.new c.if-branch.true)) (Contains-push c.take_open.new.self.reached c.in-Some.state)
+
+pub take_all-requires-clause-level : goal.take_all-requires-clause-level
+take_all-requires-clause-level g c =
+    let task = c.args.ground.now in
+    let f = subst (IsFrontier task []) c.in-Some.ensures.some c.loop-state.invariant.frontier in
+    subst (λ states. IsValue task c.in-Some.state states.cost) (sym (c.in_ok-reach.ensures.new c.if-branch.true)) (open_value task c.take_open.new.self c.in-Some.state f)
+
+pub loop-state-preserved : goal.loop-state-preserved
+loop-state-preserved g c =
+    let task = c.args.ground.now in
+    let f = subst (IsFrontier task []) c.in-Some.ensures.some c.loop-state.invariant.frontier in
+    let old = c.in_ok-reach.ensures.old c.if-branch.false in
+    record {
+      frontier = subst (IsFrontier task []) (sym old.0) (reach_old task c.take_open.new.self c.in-Some.state f old.1);
+      cost = ap (λ states. states.cost) old.0 ∙ sym (ap (λ states. states.cost) c.in-Some.ensures.some) ∙ c.loop-state.invariant.cost;
+    }

@@ -1,0 +1,9 @@
+use Rattle.std.proofs.Common.{arith}
+use Rattle.std.proofs.lemmas.Bool.Decides.{nat_tests}
+use Rattle.mapf_spacetime.proofs.ground.Ground.may_rest_from.Goals as goal
+
+pub returns-in-Some-clause-yes : goal.returns-in-Some-clause-yes
+returns-in-Some-clause-yes g c = rw (← c.self.view_is) (λ yes later after barred. let le = c.in-Some.ensures.1 later barred in grind (arith, nat_tests))
+
+pub returns-in-None-clause-yes : goal.returns-in-None-clause-yes
+returns-in-None-clause-yes g c = rw (← c.self.view_is) (λ yes later after barred. c.in-None.ensures later barred)

@@ -1,0 +1,43 @@
+-- What an answer of the search means.
+use Rattle.std.specs.Prelude.{ℕ, List, All, AllPairs}
+use Rattle.mapf_model.specs.declared.label.Entry.{Entry}
+use Rattle.mapf_model.specs.declared.label.Label.TheVariants.{Ticks, Never}
+use Rattle.mapf_model.specs.Bars.{Satisfies}
+use Rattle.mapf_model.specs.Labels.{AreSound, IsLabel, entries_of}
+use Rattle.mapf_model.specs.Path.{IsLawful, IsCost, IsTight}
+use Rattle.mapf_model.specs.Printed.{IsBefore, IsEntryInRange}
+use Rattle.mapf_spacetime.specs.declared.found.Found.{Found}
+use Rattle.mapf_spacetime.specs.declared.found.Found.TheVariants.{Arrives, Dead}
+use Rattle.mapf_spacetime.specs.Task.{Task, agent_of}
+use Rattle.mapf_spacetime.specs.States.{IsBelowLimit}
+
+-- the labels are sound, rise by tick and cell and can be printed
+pub record AreGoodLabels (task : Task) (entries : List Entry) : Type 0 where
+  pub sound : AreSound task.grid task.goal task.bars (entries_of entries)
+  pub rising : AllPairs IsBefore entries
+  pub ranges : All (IsEntryInRange task.grid) entries
+
+-- a lawful, tight path that satisfies the bars, whose cost the labels show to be the least
+pub record IsArrival (task : Task) (path : List ℕ) (entries : List Entry) : Type 0 where
+  pub cost : ℕ
+  pub lawful : IsLawful task.grid (agent_of task) path
+  pub satisfies : Satisfies task.bars path
+  pub is_cost : IsCost task.goal path cost
+  pub tight : IsTight path
+  pub limit : IsBelowLimit task cost
+  pub labels : AreGoodLabels task entries
+  pub start : IsLabel task.grid task.goal (entries_of entries) task.start 0 (Ticks cost)
+
+-- the labels show that no path arrives
+pub record IsDeath (task : Task) (entries : List Entry) : Type 0 where
+  pub labels : AreGoodLabels task entries
+  pub start : IsLabel task.grid task.goal (entries_of entries) task.start 0 Never
+
+-- the entries are sound and show that no path arrives
+pub record ShowNone (task : Task) (entries : List Entry) : Type 0 where
+  pub sound : AreSound task.grid task.goal task.bars (entries_of entries)
+  pub start : IsLabel task.grid task.goal (entries_of entries) task.start 0 Never
+
+abbrev pub IsAnswer : Task → Found → Type 0
+IsAnswer task (Arrives path labels) = IsArrival task path labels
+IsAnswer task (Dead labels) = IsDeath task labels

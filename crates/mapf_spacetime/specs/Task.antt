@@ -1,0 +1,69 @@
+-- One agent's task, and the states that it may go through.
+use Rattle.std.specs.Prelude.{◌≡◌, ℕ, ◌+◌, ◌<◌, ◌≤◌, List, Contains}
+use Rattle.mapf_model.specs.declared.bar.Bar.{Bar}
+use Rattle.mapf_model.specs.declared.bar.Bar.TheVariants.{Cell}
+use Rattle.mapf_model.specs.declared.problem.Agent.{Agent}
+use Rattle.mapf_model.specs.Distance.{IsDistance}
+use Rattle.mapf_model.specs.Grid.{GridMap, free_cell_count}
+use Rattle.mapf_model.specs.Labels.{MayGo}
+use Rattle.mapf_spacetime.specs.declared.state.State.{State}
+
+-- a grid, where an agent starts and where it goes, and its bars
+pub record Task : Type 0 where
+  pub grid : GridMap
+  pub start : ℕ
+  pub goal : ℕ
+  pub bars : List Bar
+
+abbrev pub task_of : GridMap → Agent → List Bar → Task
+task_of grid agent bars = record { grid = grid; start = agent.start; goal = agent.goal; bars = bars }
+
+abbrev pub agent_of : Task → Agent
+agent_of task = record { start = task.start; goal = task.goal }
+
+abbrev pub state_at : ℕ → ℕ → State
+state_at cell tick = record { tick = tick; cell = cell }
+
+abbrev pub start_of : Task → State
+start_of task = state_at task.start 0
+
+-- from one state the agent may go to the other
+pub record Goes (task : Task) (from to : State) : Type 0 where
+  pub may : MayGo task.grid task.bars from.cell to.cell from.tick
+  pub tick : to.tick ≡ from.tick + 1
+
+-- the value of a state: its tick and the distance of its cell. No step lowers it
+pub record IsValue (task : Task) (state : State) (value : ℕ) : Type 0 where
+  pub distance : ℕ
+  pub is : IsDistance task.grid task.goal state.cell distance
+  pub sum : state.tick + distance ≡ value
+  pub few : distance < free_cell_count task.grid
+  pub small : distance < 4194304
+
+-- the state has a value, and it is at most this
+abbrev pub IsWithin : Task → ℕ → State → Type 0
+IsWithin task cost state = (value : ℕ) × IsValue task state value × (value ≤ cost)
+
+-- the state has a value, and it is less than this
+abbrev pub IsBelow : Task → ℕ → State → Type 0
+IsBelow task cost state = (value : ℕ) × IsValue task state value × (value < cost)
+
+-- the state has a value, and it is more than this
+abbrev pub IsPast : Task → ℕ → State → Type 0
+IsPast task cost state = (value : ℕ) × IsValue task state value × (cost < value)
+
+-- the state has a value, and it is no less than this
+abbrev pub IsNotBelow : Task → ℕ → State → Type 0
+IsNotBelow task cost state = (value : ℕ) × IsValue task state value × (cost ≤ value)
+
+-- the agent isn't forbidden to be in the state
+abbrev pub IsOpen : Task → State → Type 0
+IsOpen task state = Contains task.bars (Cell state.cell state.tick) → ⊥
+
+-- some bar stands on the goal at this tick or later
+abbrev pub IsBarredLater : Task → ℕ → Type 0
+IsBarredLater task tick = (later : ℕ) × (tick ≤ later) × Contains task.bars (Cell task.goal later)
+
+-- no bar stands on the goal at this tick or later
+abbrev pub MayRestFrom : Task → ℕ → Type 0
+MayRestFrom task tick = (later : ℕ) → tick ≤ later → Contains task.bars (Cell task.goal later) → ⊥

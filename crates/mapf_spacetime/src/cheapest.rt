@@ -1,0 +1,147 @@
+ghost use Rattle.std.specs.Prelude.{◌≡◌, ◌-◌, ◌<◌, ◌≤◌, [], ◌∷◌, List, None, length, IfOk, IsTrue, Contains};
+ghost use Rattle.mapf_model.specs.Bars.{Satisfies};
+ghost use Rattle.mapf_model.specs.Path.{IsPath, at};
+ghost use Rattle.mapf_model.specs.Grid.{IsGridMap};
+ghost use Rattle.mapf_model.specs.declared.label.Entry.{Entry};
+ghost use Rattle.mapf_spacetime.specs.declared.state.State.{State};
+ghost use Rattle.mapf_spacetime.specs.Task.{task_of, IsOpen, IsValue, IsWithin, start_of};
+ghost use Rattle.mapf_spacetime.specs.Listed.{AreEntriesOf};
+ghost use Rattle.mapf_spacetime.specs.States.{HasArrived, IsBelowLimit};
+ghost use Rattle.mapf_spacetime.specs.Answer.{IsAnswer, ShowNone};
+
+use crate::entries::entries_of;
+use crate::found::Found;
+use crate::frontier::Frontier;
+use crate::ground::Ground;
+use crate::labels::Labels;
+use crate::state::State;
+use crate::way::least_way;
+use mapf_constraints::BarTable;
+use mapf_distance::Distances;
+use mapf_model::{Agent, Cell, Grid, OutOfMemory, Path, Tick};
+use std::alloc::Global;
+
+/// A cheapest path of the agent under its bars, with labels that show that none is cheaper, or
+/// labels that show that no path arrives. Of all cheapest paths it is the one whose cell numbers are
+/// least, compared from the first on.
+pub fn search<'a, B: BarTable>(
+    alloc: Global,
+    grid: &'a Grid,
+    distances: &'a Distances,
+    bars: &'a B,
+    agent: Agent,
+) -> Result<Found, OutOfMemory>
+    requires grid { distances.now.grid ≡ grid.now }
+    requires goal { distances.now.goal ≡ agent.goal }
+    ensures { IfOk result (IsAnswer (task_of grid.now agent (B.bars bars.now))) }
+{
+    // The width tells the shape of the grid.
+    let _width = grid.width();
+    let ground = Ground::of(grid, distances, bars, agent);
+    let start = State {
+        tick: 0,
+        cell: ground.start(),
+    };
+    let Some(first) = ground.value(&start) else {
+        return dead(alloc, &ground, &[]);
+    };
+    if !ground.lets_start() {
+        return dead(alloc, &ground, &[start]);
+    }
+    let path = distances.descend(alloc, ground.start())?;
+    let lets_path = lets_path(&ground, path.cells());
+    if lets_path {
+        return Ok(Found::Arrives {
+            path,
+            labels: Labels::of(Vec::new(alloc)),
+        });
+    }
+    by_cost(alloc, &ground, first)
+}
+
+/// What the agent can do where not every shortest path is open to it, from its distance on.
+fn by_cost<B: BarTable>(alloc: Global, ground: &Ground<B>, first: u32) -> Result<Found, OutOfMemory>
+    requires shape { IsGridMap ground.now.grid }
+    requires start { IsOpen ground.now (start_of ground.now) }
+    requires first { IsValue ground.now (start_of ground.now) first }
+    ensures { IfOk result (IsAnswer ground.now) }
+{
+    let start = State {
+        tick: 0,
+        cell: ground.start(),
+    };
+    let mut frontier = Frontier::of(alloc, start, first)?;
+    if frontier.grow(alloc, ground)? {
+        return arrive(alloc, ground, &frontier);
+    }
+    let reached = frontier.reached();
+    dead(alloc, ground, reached)
+}
+
+/// Whether the bars let the agent take the path and stay at its end.
+fn lets_path<B: BarTable>(ground: &Ground<B>, cells: &[Cell]) -> bool
+    requires some { 1 ≤ length cells.now }
+    requires short { length cells.now ≤ 10000000 }
+    requires path { IsPath ground.now.grid cells.now }
+    requires start { at cells.now 0 ≡ ground.now.start }
+    requires goal { at cells.now (length cells.now - 1) ≡ ground.now.goal }
+    ensures { IsTrue result → Satisfies ground.now.bars cells.now }
+{
+    if !ground.lets_start() || !ground.may_rest_from(cells.len() as Tick - 1) {
+        return false;
+    }
+    // The horizon tells that move bars have two cells.
+    let _horizon = ground.horizon();
+    for tick in 0..cells.len() - 1 {
+        let from = State {
+            tick: tick as Tick,
+            cell: cells[tick],
+        };
+        if !ground.lets(&from, cells[tick + 1]) {
+            return false;
+        }
+    }
+    true
+}
+
+/// The path and the labels of an agent that arrives at the cost of the frontier.
+fn arrive<B: BarTable>(
+    alloc: Global,
+    ground: &Ground<B>,
+    frontier: &Frontier,
+) -> Result<Found, OutOfMemory>
+    requires shape { IsGridMap ground.now.grid }
+    requires small { frontier.now.cost < 6000000 }
+    requires limit { IsBelowLimit ground.now frontier.now.cost }
+    requires start { IsOpen ground.now (start_of ground.now) }
+    requires arrived { HasArrived ground.now frontier.now }
+    ensures { IfOk result (IsAnswer ground.now) }
+{
+    mapf_model::laws::definitions_are_decided();
+    // The horizon tells that move bars have two cells.
+    let _horizon = ground.horizon();
+    let cost = frontier.cost();
+    let cells = least_way(alloc, ground, cost)?;
+    let entries = entries_of(alloc, frontier.low(), Some(cost))?;
+    Ok(Found::Arrives {
+        path: Path::of(cells).unwrap(),
+        labels: Labels::of(entries),
+    })
+}
+
+/// The labels `Never` of these states.
+fn dead<B: BarTable>(
+    alloc: Global,
+    ground: &Ground<B>,
+    states: &[State],
+) -> Result<Found, OutOfMemory>
+    requires shape { IsGridMap ground.now.grid }
+    requires few { (s : State) → Contains states.now s → IsWithin ground.now 9999999 s }
+    requires none { (entries : List Entry) → AreEntriesOf states.now None entries → ShowNone ground.now entries }
+    ensures { IfOk result (IsAnswer ground.now) }
+{
+    let entries = entries_of(alloc, states, None)?;
+    Ok(Found::Dead {
+        labels: Labels::of(entries),
+    })
+}

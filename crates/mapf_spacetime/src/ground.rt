@@ -1,0 +1,136 @@
+ghost use Rattle.std.specs.Prelude.{◌≡◌, ◌≤◌, ◌↔◌, ℕ, IfSome, IfNone, IsTrue, Contains, false};
+ghost use Rattle.mapf_model.specs.declared.bar.Bar.{Bar};
+ghost use Rattle.mapf_model.specs.Bars.{AreBars};
+ghost use Rattle.mapf_constraints.specs.BarSets.{AreBefore};
+ghost use Rattle.mapf_model.specs.Distance.{IsUnreachable};
+ghost use Rattle.mapf_model.specs.Grid.{IsFree, Step};
+ghost use Rattle.mapf_model.specs.Labels.{MayGo};
+ghost use Rattle.mapf_spacetime.specs.Task.{task_of, start_of, IsOpen, IsValue, IsBarredLater, MayRestFrom};
+
+use crate::state::State;
+use mapf_constraints::BarTable;
+use mapf_distance::Distances;
+use mapf_model::{Agent, Cell, Grid, Tick};
+use smallvec::SmallVec;
+use std::alloc::Global;
+use std::marker::Model;
+
+/// Where an agent goes, and what is barred to it.
+#[derive(Drop)]
+pub struct Ground<'a, B: BarTable> {
+    grid: &'a Grid,
+    distances: &'a Distances,
+    bars: &'a B,
+    agent: Agent,
+}
+
+impl<'a, B: BarTable> Model for Ground<'a, B> {
+    ghost use Rattle.std.specs.Prelude.{◌≡◌};
+    ghost use Rattle.mapf_spacetime.specs.Task.{Task, task_of};
+
+    ghost Value = { Task };
+
+    ghost view = { λ ground. task_of ground.grid.now ground.agent (B.bars ground.bars.now) };
+
+    ghost invariant = { λ ground. (ground.distances.now.grid ≡ ground.grid.now) × (ground.distances.now.goal ≡ ground.agent.goal) };
+}
+
+impl<'a, B: BarTable> Ground<'a, B> {
+    pub fn of(grid: &'a Grid, distances: &'a Distances, bars: &'a B, agent: Agent) -> Ground<'a, B>
+        requires grid { distances.now.grid ≡ grid.now }
+        requires goal { distances.now.goal ≡ agent.goal }
+        ensures { result ≡ task_of grid.now agent (B.bars bars.now) }
+    {
+        Ground {
+            grid,
+            distances,
+            bars,
+            agent,
+        }
+    }
+
+    pub fn start(&self) -> Cell
+        ensures { result ≡ self.now.start }
+    {
+        self.agent.start
+    }
+
+    pub fn goal(&self) -> Cell
+        ensures { result ≡ self.now.goal }
+    {
+        self.agent.goal
+    }
+
+    /// Where the agent may be one tick after it is in the cell, bars aside.
+    pub fn steps(&self, alloc: Global, cell: Cell) -> SmallVec<Cell, 5>
+        requires { IsFree self.now.grid cell }
+        ensures exact { (to : ℕ) → Contains result.items to ↔ Step self.now.grid cell to }
+    {
+        self.grid.steps(alloc, cell)
+    }
+
+    /// The tick and the distance of the cell together, None where no steps lead to the goal.
+    pub fn value(&self, state: &State) -> Option<u32>
+        requires { state.now.tick ≤ 10000000 }
+        ensures some { IfSome result (IsValue self.now state.now) }
+        ensures none { IfNone result (IsUnreachable self.now.grid self.now.goal state.now.cell) }
+    {
+        match self.distances.get(state.cell) {
+            Some(distance) => Some(state.tick + distance),
+            None => None,
+        }
+    }
+
+    /// Whether the bars let the agent go from the state to the cell.
+    pub fn lets(&self, from: &State, to: Cell) -> bool
+        requires small { from.now.tick ≤ 10000000 }
+        requires step { Step self.now.grid from.now.cell to }
+        ensures yes { IsTrue result → MayGo self.now.grid self.now.bars from.now.cell to from.now.tick }
+        ensures no { result ≡ false → MayGo self.now.grid self.now.bars from.now.cell to from.now.tick → ⊥ }
+    {
+        if self.bars.bars_cell(to, from.tick + 1) {
+            return false;
+        }
+        !self.bars.bars_move(from.cell, to, from.tick)
+    }
+
+    /// Whether the agent may be in its start at tick 0.
+    pub fn lets_start(&self) -> bool
+        ensures yes { IsTrue result → IsOpen self.now (start_of self.now) }
+        ensures no { result ≡ false → Contains self.now.bars (Bar.Cell self.now.start 0) }
+    {
+        !self.bars.bars_cell(self.agent.start, 0)
+    }
+
+    /// Whether the agent may stay at its goal from the tick on.
+    pub fn may_rest_from(&self, tick: Tick) -> bool
+        ensures yes { IsTrue result → MayRestFrom self.now tick }
+        ensures no { result ≡ false → IsBarredLater self.now tick }
+    {
+        match self.bars.last_on(self.agent.goal) {
+            Some(last) => last < tick,
+            None => true,
+        }
+    }
+
+    /// Whether the agent arrives in this state and may stay.
+    pub fn is_arrival(&self, state: &State) -> bool
+        ensures goal { IsTrue result → state.now.cell ≡ self.now.goal }
+        ensures rest { IsTrue result → MayRestFrom self.now state.now.tick }
+        ensures no { result ≡ false → state.now.cell ≡ self.now.goal → IsBarredLater self.now state.now.tick }
+    {
+        if state.cell != self.agent.goal {
+            return false;
+        }
+        self.may_rest_from(state.tick)
+    }
+
+    /// The first tick from which on no bar stands.
+    pub fn horizon(&self) -> Tick
+        ensures above { AreBefore result self.now.bars }
+        ensures early { result ≤ 1000000 }
+        ensures bars { AreBars self.now.bars }
+    {
+        self.bars.horizon()
+    }
+}

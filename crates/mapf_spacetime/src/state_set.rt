@@ -1,0 +1,63 @@
+ghost use Rattle.std.specs.Prelude.{◌≡◌, ◌<◌, ◌↔◌, ◌^◌, ◌++◌, ◌∷◌, [], false, length, IsTrue, IfOk, OnOk, Contains};
+
+use crate::state::State;
+use indexmap::IndexSet;
+use mapf_model::OutOfMemory;
+use std::alloc::Global;
+use std::marker::Model;
+
+/// A set of states, in the order in which they came.
+#[derive(Drop)]
+pub struct StateSet {
+    states: IndexSet<State>,
+}
+
+impl Model for StateSet {
+    ghost use Rattle.std.specs.Prelude.{List};
+    ghost use Rattle.mapf_spacetime.specs.declared.state.State.{State};
+
+    ghost Value = { List State };
+
+    ghost view = { λ set. set.states.keys };
+}
+
+impl StateSet {
+    pub fn new(alloc: Global) -> StateSet
+        ensures { result ≡ [] }
+    {
+        StateSet {
+            states: IndexSet::new(alloc),
+        }
+    }
+
+    pub fn len(&self) -> usize
+        ensures len { result ≡ length self.now }
+        ensures small { result < 2 ^ 63 }
+    {
+        self.states.len()
+    }
+
+    pub fn states(&self) -> &[State]
+        ensures { result.now ≡ self.now }
+    {
+        self.states.as_slice()
+    }
+
+    pub fn has(&self, state: &State) -> bool
+        ensures { IsTrue result ↔ Contains self.now state.now }
+    {
+        self.states.contains(state)
+    }
+
+    /// Adds a state, and answers whether it is new.
+    pub fn add(&mut self, state: State) -> Result<bool, OutOfMemory>
+        ensures new { IfOk result (λ new. IsTrue new → self.new ≡ self.old ++ state ∷ []) }
+        ensures small { OnOk result (length self.new < 2 ^ 63) }
+        ensures old { IfOk result (λ new. new ≡ false → (self.new ≡ self.old) × Contains self.old state) }
+    {
+        let new = self.states.insert(state)?;
+        // The length tells the bound on it.
+        let _count = self.states.len();
+        Ok(new)
+    }
+}
