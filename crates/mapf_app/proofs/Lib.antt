@@ -1,2 +1,5 @@
+pub mod InputLemmas
+pub mod PrintLemmas
 pub mod ShortestLemmas
 pub mod ShowLemmas
+pub mod SolveLemmas

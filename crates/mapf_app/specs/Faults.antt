@@ -1,56 +1,116 @@
--- The faults of a run.
+-- What each fault of a run says of its inputs.
+use Rattle.std.specs.Prelude.{◌≡◌, ℕ, List, Option, ⊤}
+use Rattle.mapf_model.specs.Grid.{GridMap}
+use Rattle.mapf_app.specs.Problems.{IsMapDefect, IsAgentsDefect, IsScenarioDefect}
 use Rattle.mapf_app.specs.declared.fault.Fault.{Fault}
 use Rattle.mapf_app.specs.declared.fault.Fault.TheVariants.{F1, F2, F4, F5, F6, Refused}
 use Rattle.mapf_app.specs.declared.fault.Input.{Input}
 use Rattle.mapf_app.specs.declared.fault.Input.TheVariants.{Map, Scen, Plan, Cert}
 use Rattle.mapf_app.specs.declared.fault.Output.{Output}
 use Rattle.mapf_app.specs.declared.fault.Output.TheVariants.{Plan as PlanText, Cert as CertText, Out}
+use Rattle.mapf_text.specs.declared.map_fault.MapFault.{MapFault}
+use Rattle.mapf_text.specs.declared.map_fault.MapFault.TheVariants as map_faults
+use Rattle.mapf_text.specs.declared.scenario_fault.ScenFault.{ScenFault}
+use Rattle.mapf_text.specs.declared.scenario_fault.ScenFault.TheVariants as scenario_faults
 
 -- the map or the scenario
 abbrev pub IsOfProblem : Input → Type 0
-IsOfProblem Map = Unit {0}
-IsOfProblem Scen = Unit {0}
+IsOfProblem Map = ⊤
+IsOfProblem Scen = ⊤
 IsOfProblem Plan = ⊥
 IsOfProblem Cert = ⊥
 
--- a fault of reading a problem
-abbrev pub IsReadingProblem : Fault → Type 0
-IsReadingProblem (F1 map) = Unit {0}
-IsReadingProblem (F2 scenario) = Unit {0}
-IsReadingProblem (F4 input) = IsOfProblem input
-IsReadingProblem (F5 output) = ⊥
-IsReadingProblem F6 = Unit {0}
-IsReadingProblem (Refused refusal) = ⊥
+-- a device or memory, and no input's bytes
+abbrev pub IsNoDefect : Fault → Type 0
+IsNoDefect (F1 fault) = ⊥
+IsNoDefect (F2 fault) = ⊥
+IsNoDefect (F4 input) = ⊤
+IsNoDefect (F5 output) = ⊤
+IsNoDefect F6 = ⊤
+IsNoDefect (Refused refusal) = ⊥
+
+-- what a fault of reading a map says of its bytes
+abbrev pub IsReadingMap : Option (List ℕ) → Fault → Type 0
+IsReadingMap map (F1 fault) = IsMapDefect map fault
+IsReadingMap map (F2 fault) = ⊥
+IsReadingMap map (F4 input) = input ≡ Map
+IsReadingMap map (F5 output) = ⊥
+IsReadingMap map F6 = ⊤
+IsReadingMap map (Refused refusal) = ⊥
+
+-- what a fault of reading a scenario on a grid says of its bytes
+abbrev pub IsReadingAgents : Option (List ℕ) → GridMap → ℕ → Fault → Type 0
+IsReadingAgents scen grid count (F1 fault) = ⊥
+IsReadingAgents scen grid count (F2 fault) = IsAgentsDefect scen grid count fault
+IsReadingAgents scen grid count (F4 input) = input ≡ Scen
+IsReadingAgents scen grid count (F5 output) = ⊥
+IsReadingAgents scen grid count F6 = ⊤
+IsReadingAgents scen grid count (Refused refusal) = ⊥
+
+-- what a fault of reading a problem says of the bytes of the map and the scenario
+abbrev pub IsReading : Option (List ℕ) → Option (List ℕ) → ℕ → Fault → Type 0
+IsReading map scen count (F1 fault) = IsMapDefect map fault
+IsReading map scen count (F2 fault) = IsScenarioDefect map scen count fault
+IsReading map scen count (F4 input) = IsOfProblem input
+IsReading map scen count (F5 output) = ⊥
+IsReading map scen count F6 = ⊤
+IsReading map scen count (Refused refusal) = ⊥
 
 -- the fault comes before anything is written
 abbrev pub IsBeforeWriting : Fault → Type 0
-IsBeforeWriting (F1 map) = Unit {0}
-IsBeforeWriting (F2 scenario) = Unit {0}
-IsBeforeWriting (F4 input) = Unit {0}
+IsBeforeWriting (F1 fault) = ⊤
+IsBeforeWriting (F2 fault) = ⊤
+IsBeforeWriting (F4 input) = ⊤
 IsBeforeWriting (F5 output) = ⊥
-IsBeforeWriting F6 = Unit {0}
-IsBeforeWriting (Refused refusal) = Unit {0}
+IsBeforeWriting F6 = ⊤
+IsBeforeWriting (Refused refusal) = ⊤
 
 -- one of the two texts
 abbrev pub IsOfTexts : Output → Type 0
-IsOfTexts PlanText = Unit {0}
-IsOfTexts CertText = Unit {0}
+IsOfTexts PlanText = ⊤
+IsOfTexts CertText = ⊤
 IsOfTexts Out = ⊥
 
--- a fault of solving
-abbrev pub IsSolving : Fault → Type 0
-IsSolving (F1 map) = Unit {0}
-IsSolving (F2 scenario) = Unit {0}
-IsSolving (F4 input) = IsOfProblem input
-IsSolving (F5 output) = IsOfTexts output
-IsSolving F6 = Unit {0}
-IsSolving (Refused refusal) = ⊥
+-- what a fault of solving says
+abbrev pub IsSolving : Option (List ℕ) → Option (List ℕ) → ℕ → Fault → Type 0
+IsSolving map scen count (F1 fault) = IsMapDefect map fault
+IsSolving map scen count (F2 fault) = IsScenarioDefect map scen count fault
+IsSolving map scen count (F4 input) = IsOfProblem input
+IsSolving map scen count (F5 output) = IsOfTexts output
+IsSolving map scen count F6 = ⊤
+IsSolving map scen count (Refused refusal) = ⊥
 
--- a fault of checking
-abbrev pub IsChecking : Fault → Type 0
-IsChecking (F1 map) = Unit {0}
-IsChecking (F2 scenario) = Unit {0}
-IsChecking (F4 input) = Unit {0}
-IsChecking (F5 output) = ⊥
-IsChecking F6 = Unit {0}
-IsChecking (Refused refusal) = Unit {0}
+-- what a fault of checking says
+abbrev pub IsChecking : Option (List ℕ) → Option (List ℕ) → ℕ → Fault → Type 0
+IsChecking map scen count (F1 fault) = IsMapDefect map fault
+IsChecking map scen count (F2 fault) = IsScenarioDefect map scen count fault
+IsChecking map scen count (F4 input) = ⊤
+IsChecking map scen count (F5 output) = ⊥
+IsChecking map scen count F6 = ⊤
+IsChecking map scen count (Refused refusal) = ⊤
+
+-- the fault comes before the certificate is pulled
+abbrev pub IsBeforeCertificate : Fault → Type 0
+IsBeforeCertificate (F1 fault) = ⊤
+IsBeforeCertificate (F2 fault) = ⊤
+IsBeforeCertificate (F4 Map) = ⊤
+IsBeforeCertificate (F4 Scen) = ⊤
+IsBeforeCertificate (F4 Plan) = ⊤
+IsBeforeCertificate (F4 Cert) = ⊥
+IsBeforeCertificate (F5 output) = ⊥
+IsBeforeCertificate F6 = ⊥
+IsBeforeCertificate (Refused refusal) = ⊥
+
+-- the fault that a reader's fault becomes
+abbrev pub fault_of_map : MapFault → Fault
+fault_of_map map_faults.Memory = F6
+fault_of_map fault = F1 fault
+
+abbrev pub fault_of_scenario : ScenFault → Fault
+fault_of_scenario scenario_faults.Memory = F6
+fault_of_scenario fault = F2 fault
+
+-- not an output's
+abbrev pub IsNoOutput : Fault → Type 0
+IsNoOutput (F5 output) = ⊥
+IsNoOutput _ = ⊤

@@ -1,5 +1,6 @@
-ghost use Rattle.std.specs.Prelude.{◌≡◌, ◌≤◌, false, IfErr, IsErrOf};
-ghost use Rattle.mapf_app.specs.Faults.{IsChecking};
+ghost use Rattle.std.specs.Prelude.{◌≡◌, ◌≤◌, false, IfOk, IfErr, IsErrOf};
+ghost use Rattle.mapf_app.specs.Checked.{JudgesTruly};
+ghost use Rattle.mapf_app.specs.Faults.{IsBeforeCertificate, IsChecking};
 ghost use Rattle.mapf_app.specs.Unreadable.{IsUnreadable};
 
 use crate::fault::{Fault, Input};
@@ -25,13 +26,17 @@ pub fn run_check<M: Source, S: Source, P: Source, C: Source>(
     requires cert_works { C.has_failed cert.old ≡ false }
     requires some { 1 ≤ k }
     requires few { k ≤ 200 }
-    ensures fault { IfErr result IsChecking }
+    // The verdict is true of the problem that was read.
+    ensures verdict { IfOk result (JudgesTruly (M.remaining map.old) (S.remaining scen.old) k) }
+    // A fault stands where it says.
+    ensures fault { IfErr result (IsChecking (M.remaining map.old) (S.remaining scen.old) k) }
     ensures map { IsErrOf result (Fault.F4 Input.Map) →
         IsUnreadable (M.has_failed map.new) (M.remaining map.old) (M.remaining map.new) TEXT_LIMIT }
     ensures scen { IsErrOf result (Fault.F4 Input.Scen) →
         IsUnreadable (S.has_failed scen.new) (S.remaining scen.old) (S.remaining scen.new) TEXT_LIMIT }
     ensures plan { IsErrOf result (Fault.F4 Input.Plan) →
         IsUnreadable (P.has_failed plan.new) (P.remaining plan.old) (P.remaining plan.new) TEXT_LIMIT }
+    ensures unpulled { IfErr result (λ fault. IsBeforeCertificate fault → cert.new ≡ cert.old) }
 {
     let problem = read_problem(alloc, map, scen, k)?;
     let plan_text = read_text(alloc, plan, Input::Plan)?;

@@ -1,9 +1,13 @@
-ghost use Rattle.std.specs.Prelude.{◌≡◌, ◌≤◌, ◌⊎◌, false, IfOk, IfErr, IfSome, IsErrOf};
-ghost use Rattle.mapf_app.specs.Faults.{IsReadingProblem};
+ghost use Rattle.std.specs.Prelude.{◌≡◌, ◌≤◌, ◌⊎◌, false, Ok, IfOk, IfErr, IfSome, IsSome, IsErrOf};
+ghost use Rattle.std.specs.Result.{IsErrAnd};
+ghost use Rattle.mapf_app.specs.Faults.{IsNoDefect, IsReadingMap, IsReadingAgents, IsReading, fault_of_map, fault_of_scenario};
+ghost use Rattle.mapf_app.specs.Problems.{SpellsGrid, SpellsAgents, SpellsProblem};
 ghost use Rattle.mapf_app.specs.Unreadable.{IsUnreadable};
+ghost use Rattle.mapf_model.specs.Grid.{GridMap};
+ghost use Rattle.mapf_model.specs.Plan.{Instance};
 
 use crate::fault::{Fault, Input};
-use mapf_model::{Problem, ReadEnd, Source, read_all};
+use mapf_model::{Grid, Problem, ReadEnd, Source, read_all};
 use mapf_text::{MapFault, ScenFault, read_map, read_scen};
 use std::alloc::Global;
 
@@ -28,7 +32,64 @@ pub fn read_text<S: Source>(alloc: Global, source: &mut S, input: Input) -> Resu
     }
 }
 
-/// The problem that a map and a scenario spell.
+// The name of a map's fault among those of a run.
+fn fault_of_map(fault: MapFault) -> Fault
+    ensures { result ≡ fault_of_map fault }
+{
+    match fault {
+        MapFault::Memory => Fault::F6,
+        _ => Fault::F1(fault),
+    }
+}
+
+// The name of a scenario's fault among those of a run.
+fn fault_of_scenario(fault: ScenFault) -> Fault
+    ensures { result ≡ fault_of_scenario fault }
+{
+    match fault {
+        ScenFault::Memory => Fault::F6,
+        _ => Fault::F2(fault),
+    }
+}
+
+// The grid that a map spells.
+fn read_grid<M: Source>(alloc: Global, map: &mut M) -> Result<Grid, Fault>
+    requires { M.has_failed map.old ≡ false }
+    ensures found { IfOk result (SpellsGrid (M.remaining map.old)) }
+    ensures only { (grid : GridMap) → IsSome (M.remaining map.old) → SpellsGrid (M.remaining map.old) grid →
+        (result ≡ Ok grid) ⊎ IsErrAnd result IsNoDefect }
+    ensures fault { IfErr result (IsReadingMap (M.remaining map.old)) }
+    ensures unreadable { IsErrOf result (Fault.F4 Input.Map) →
+        IsUnreadable (M.has_failed map.new) (M.remaining map.old) (M.remaining map.new) TEXT_LIMIT }
+{
+    let text = read_text(alloc, map, Input::Map)?;
+    match read_map(alloc, text.as_slice()) {
+        Ok(grid) => Ok(grid),
+        Err(fault) => Err(fault_of_map(fault)),
+    }
+}
+
+// The problem of the `k` agents that a scenario spells on the grid.
+fn read_agents<S: Source>(alloc: Global, scen: &mut S, grid: Grid, k: u32) -> Result<Problem, Fault>
+    requires works { S.has_failed scen.old ≡ false }
+    requires some { 1 ≤ k }
+    requires few { k ≤ 200 }
+    ensures found { IfOk result (SpellsAgents (S.remaining scen.old) grid k) }
+    ensures on_grid { IfOk result (λ problem. problem.grid ≡ grid) }
+    ensures only { (problem : Instance) → IsSome (S.remaining scen.old) → SpellsAgents (S.remaining scen.old) grid k problem →
+        (result ≡ Ok problem) ⊎ IsErrAnd result IsNoDefect }
+    ensures fault { IfErr result (IsReadingAgents (S.remaining scen.old) grid k) }
+    ensures unreadable { IsErrOf result (Fault.F4 Input.Scen) →
+        IsUnreadable (S.has_failed scen.new) (S.remaining scen.old) (S.remaining scen.new) TEXT_LIMIT }
+{
+    let text = read_text(alloc, scen, Input::Scen)?;
+    match read_scen(alloc, text.as_slice(), grid, k) {
+        Ok(problem) => Ok(problem),
+        Err(fault) => Err(fault_of_scenario(fault)),
+    }
+}
+
+/// The problem that a map and a scenario spell. The map is parsed before the scenario is pulled.
 pub fn read_problem<M: Source, S: Source>(
     alloc: Global,
     map: &mut M,
@@ -39,22 +100,19 @@ pub fn read_problem<M: Source, S: Source>(
     requires scen_works { S.has_failed scen.old ≡ false }
     requires some { 1 ≤ k }
     requires few { k ≤ 200 }
-    ensures fault { IfErr result IsReadingProblem }
+    // What is read is spelled so.
+    ensures found { IfOk result (SpellsProblem (M.remaining map.old) (S.remaining scen.old) k) }
+    // What is spelled so is read, unless a device or memory prevents it.
+    ensures only { (problem : Instance) → IsSome (M.remaining map.old) → IsSome (S.remaining scen.old) →
+        SpellsProblem (M.remaining map.old) (S.remaining scen.old) k problem →
+        (result ≡ Ok problem) ⊎ IsErrAnd result IsNoDefect }
+    // A defect stands where the fault says.
+    ensures fault { IfErr result (IsReading (M.remaining map.old) (S.remaining scen.old) k) }
     ensures map { IsErrOf result (Fault.F4 Input.Map) →
         IsUnreadable (M.has_failed map.new) (M.remaining map.old) (M.remaining map.new) TEXT_LIMIT }
     ensures scen { IsErrOf result (Fault.F4 Input.Scen) →
         IsUnreadable (S.has_failed scen.new) (S.remaining scen.old) (S.remaining scen.new) TEXT_LIMIT }
 {
-    let text = read_text(alloc, map, Input::Map)?;
-    let grid = match read_map(alloc, text.as_slice()) {
-        Ok(grid) => grid,
-        Err(MapFault::Memory) => return Err(Fault::F6),
-        Err(fault) => return Err(Fault::F1(fault)),
-    };
-    let rows = read_text(alloc, scen, Input::Scen)?;
-    match read_scen(alloc, rows.as_slice(), grid, k) {
-        Ok(problem) => Ok(problem),
-        Err(ScenFault::Memory) => Err(Fault::F6),
-        Err(fault) => Err(Fault::F2(fault)),
-    }
+    let grid = read_grid(alloc, map)?;
+    read_agents(alloc, scen, grid, k)
 }

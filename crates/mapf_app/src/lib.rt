@@ -1,6 +1,7 @@
 //! The runs: bytes in, bytes out, each fault by its name.
 #![tactic(auto)]
 
+mod answer;
 mod check;
 mod demo;
 mod fault;
@@ -22,3 +23,6 @@ pub use mapf_text::{MapFault, ScenFault};
 pub use mapf_words::{Job, WordsFault, job_of};
 pub use solve::run_solve;
 pub use tell::{tell_check, tell_run, tell_solve};
+
+#[cfg(test)]
+mod tests;

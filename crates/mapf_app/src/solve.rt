@@ -1,5 +1,7 @@
-ghost use Rattle.std.specs.Prelude.{◌≡◌, ◌≤◌, false, true, IfErr, IsErrOf};
+ghost use Rattle.std.specs.Prelude.{◌≡◌, ◌≤◌, ℕ, List, false, true, take, IfOk, IfErr, IsErrOf};
+ghost use Rattle.std.specs.Io.KnownBytes.{Appends};
 ghost use Rattle.mapf_app.specs.Faults.{IsBeforeWriting, IsSolving};
+ghost use Rattle.mapf_app.specs.Solved.{PrintsTruly};
 ghost use Rattle.mapf_app.specs.Unreadable.{IsUnreadable};
 
 use crate::fault::{Fault, Input, Output};
@@ -28,7 +30,14 @@ pub fn run_solve<M: Source, S: Source, P: Sink, C: Sink>(
     requires some { 1 ≤ k }
     requires few { k ≤ 200 }
     requires limit { limit ≤ 100000 }
-    ensures fault { IfErr result IsSolving }
+    // A plan that is printed is cheapest, 'impossible' is printed only where no plan is valid, and both
+    // texts are accepted for the problem that was read.
+    ensures printed { IfOk result (λ kind. (plan_text : List ℕ) × (cert_text : List ℕ)
+        × PrintsTruly (M.remaining map.old) (S.remaining scen.old) k limit kind plan_text cert_text
+        × Appends (P.contents plan_sink.old) (P.contents plan_sink.new) plan_text
+        × Appends (C.contents cert_sink.old) (C.contents cert_sink.new) cert_text) }
+    // A fault stands where it says.
+    ensures fault { IfErr result (IsSolving (M.remaining map.old) (S.remaining scen.old) k) }
     ensures map { IsErrOf result (Fault.F4 Input.Map) →
         IsUnreadable (M.has_failed map.new) (M.remaining map.old) (M.remaining map.new) TEXT_LIMIT }
     ensures scen { IsErrOf result (Fault.F4 Input.Scen) →
@@ -36,12 +45,19 @@ pub fn run_solve<M: Source, S: Source, P: Sink, C: Sink>(
     ensures plan { IsErrOf result (Fault.F5 Output.Plan) →
         (P.has_failed plan_sink.new ≡ true) × (cert_sink.new ≡ cert_sink.old) }
     ensures cert { IsErrOf result (Fault.F5 Output.Cert) → C.has_failed cert_sink.new ≡ true }
+    // What a sink that failed got is a front of such texts.
+    ensures plan_front { IsErrOf result (Fault.F5 Output.Plan) → (kind : Kind) × (plan_text : List ℕ) × (cert_text : List ℕ) × (n : ℕ)
+        × PrintsTruly (M.remaining map.old) (S.remaining scen.old) k limit kind plan_text cert_text
+        × Appends (P.contents plan_sink.old) (P.contents plan_sink.new) (take n plan_text) }
+    ensures cert_front { IsErrOf result (Fault.F5 Output.Cert) → (kind : Kind) × (plan_text : List ℕ) × (cert_text : List ℕ) × (n : ℕ)
+        × PrintsTruly (M.remaining map.old) (S.remaining scen.old) k limit kind plan_text cert_text
+        × Appends (P.contents plan_sink.old) (P.contents plan_sink.new) plan_text
+        × Appends (C.contents cert_sink.old) (C.contents cert_sink.new) (take n cert_text) }
     ensures unwritten { IfErr result (λ fault. IsBeforeWriting fault →
         (plan_sink.new ≡ plan_sink.old) × (cert_sink.new ≡ cert_sink.old)) }
 {
-    let _limit = limit;
     let problem = read_problem(alloc, map, scen, k)?;
-    let Ok(texts) = texts_of(alloc, &problem) else {
+    let Ok(texts) = texts_of(alloc, &problem, limit) else {
         return Err(Fault::F6);
     };
     if write_all(plan_sink, texts.plan.as_slice()).is_err() {

@@ -1,10 +1,14 @@
-ghost use Rattle.std.specs.Prelude.{length};
+ghost use Rattle.std.specs.Prelude.{◌≡◌, ◌≤◌, ℕ, IfOk, length, map};
+ghost use Rattle.mapf_app.specs.Answers.{IsFound, ItemsShow, AllowsCause};
+ghost use Rattle.mapf_app.specs.Solved.{SpellsAnswer, Prints};
+ghost use Rattle.mapf_certificate.specs.Certificates.{cert_text};
 ghost use Rattle.mapf_certificate.specs.Plans.{IsAnswer};
+ghost use Rattle.mapf_model.specs.Tree.{node_of};
 
+use crate::answer::{Answered, answer_of};
 use crate::kind::Kind;
-use crate::shortest::{Shortest, try_shortest};
 use mapf_certificate::{Cert, PlanAnswer, PlanText, write_cert, write_plan};
-use mapf_model::{Block, Cause, Claim, Item, OutOfMemory, Plan, Problem};
+use mapf_model::{Cause, Claim, Item, OutOfMemory, Plan, Problem, laws};
 use std::alloc::Global;
 
 /// What a run writes: both texts, of which the second is empty on a limit.
@@ -15,25 +19,9 @@ pub struct Texts {
     pub cert: Vec<u8>,
 }
 
-// The tree of one leaf in which every label is a distance.
-fn bare_leaf(alloc: Global) -> Result<Vec<Item>, OutOfMemory> {
-    let blocks: Vec<Block> = Vec::new(alloc);
-    let mut tree = Vec::new(alloc);
-    tree.push(Item::Leaf(blocks))?;
-    Ok(tree)
-}
-
-fn cert_text(alloc: Global, problem: &Problem, claim: Claim) -> Result<Vec<u8>, OutOfMemory> {
-    let cert = Cert {
-        agents: problem.agents().len() as u32,
-        claim,
-        tree: bare_leaf(alloc)?,
-    };
-    write_cert(alloc, &cert, problem.grid())
-}
-
-fn plan_text(alloc: Global, problem: &Problem, answer: PlanAnswer) -> Result<Vec<u8>, OutOfMemory>
+fn plan_bytes(alloc: Global, problem: &Problem, answer: PlanAnswer) -> Result<Vec<u8>, OutOfMemory>
     requires { IsAnswer problem.now.grid (length problem.now.agents) answer }
+    ensures { IfOk result (λ bytes. SpellsAnswer problem.now answer bytes.items) }
 {
     let text = PlanText {
         agents: problem.agents().len() as u32,
@@ -42,39 +30,72 @@ fn plan_text(alloc: Global, problem: &Problem, answer: PlanAnswer) -> Result<Vec
     write_plan(alloc, &text, problem.grid())
 }
 
-fn found(alloc: Global, problem: &Problem, plan: Plan, sum: u64) -> Result<Texts, OutOfMemory>
-    requires { IsAnswer problem.now.grid (length problem.now.agents) (PlanAnswer.Found plan) }
+fn cert_bytes(
+    alloc: Global,
+    problem: &Problem,
+    claim: Claim,
+    tree: Vec<Item>,
+) -> Result<Vec<u8>, OutOfMemory>
+    ensures { IfOk result (λ bytes.
+        bytes.items ≡ cert_text problem.now.grid.width (length problem.now.agents) claim (map node_of tree.items)) }
 {
+    let cert = Cert {
+        agents: problem.agents().len() as u32,
+        claim,
+        tree,
+    };
+    write_cert(alloc, &cert, problem.grid())
+}
+
+fn found(
+    alloc: Global,
+    problem: &Problem,
+    plan: Plan,
+    sum: u64,
+    tree: Vec<Item>,
+) -> Result<Texts, OutOfMemory>
+    requires { IsFound problem.now plan sum tree.items }
+    ensures { IfOk result (λ texts. (limit : ℕ) → Prints problem.now limit texts.kind texts.plan.items texts.cert.items) }
+{
+    laws::accepted_is_true();
     Ok(Texts {
         kind: Kind::Found(sum),
-        plan: plan_text(alloc, problem, PlanAnswer::Found(plan))?,
-        cert: cert_text(alloc, problem, Claim::Cost(sum))?,
+        plan: plan_bytes(alloc, problem, PlanAnswer::Found(plan))?,
+        cert: cert_bytes(alloc, problem, Claim::Cost(sum), tree)?,
     })
 }
 
-fn impossible(alloc: Global, problem: &Problem) -> Result<Texts, OutOfMemory> {
+fn impossible(alloc: Global, problem: &Problem, tree: Vec<Item>) -> Result<Texts, OutOfMemory>
+    requires { ItemsShow problem.now Claim.Impossible tree.items }
+    ensures { IfOk result (λ texts. (limit : ℕ) → Prints problem.now limit texts.kind texts.plan.items texts.cert.items) }
+{
+    laws::accepted_is_true();
     Ok(Texts {
         kind: Kind::Impossible,
-        plan: plan_text(alloc, problem, PlanAnswer::Impossible)?,
-        cert: cert_text(alloc, problem, Claim::Impossible)?,
+        plan: plan_bytes(alloc, problem, PlanAnswer::Impossible)?,
+        cert: cert_bytes(alloc, problem, Claim::Impossible, tree)?,
     })
 }
 
 fn limited(alloc: Global, problem: &Problem, cause: Cause) -> Result<Texts, OutOfMemory>
     requires { IsAnswer problem.now.grid (length problem.now.agents) (PlanAnswer.Limit cause) }
+    ensures { IfOk result (λ texts. (limit : ℕ) → AllowsCause limit cause → Prints problem.now limit texts.kind texts.plan.items texts.cert.items) }
 {
     Ok(Texts {
         kind: Kind::Limit(cause),
-        plan: plan_text(alloc, problem, PlanAnswer::Limit(cause))?,
+        plan: plan_bytes(alloc, problem, PlanAnswer::Limit(cause))?,
         cert: Vec::new(alloc),
     })
 }
 
-/// Solves the problem and makes both texts.
-pub fn texts_of(alloc: Global, problem: &Problem) -> Result<Texts, OutOfMemory> {
-    match try_shortest(alloc, problem)? {
-        Shortest::Found(plan, sum) => found(alloc, problem, plan, sum),
-        Shortest::Unreachable => impossible(alloc, problem),
-        Shortest::Meet(cause) => limited(alloc, problem, cause),
+/// Solves the problem with at most `limit` splits and makes both texts.
+pub fn texts_of(alloc: Global, problem: &Problem, limit: u32) -> Result<Texts, OutOfMemory>
+    requires { limit ≤ 100000 }
+    ensures { IfOk result (λ texts. Prints problem.now limit texts.kind texts.plan.items texts.cert.items) }
+{
+    match answer_of(alloc, problem, limit)? {
+        Answered::Found { plan, sum, tree } => found(alloc, problem, plan, sum, tree),
+        Answered::Impossible { tree } => impossible(alloc, problem, tree),
+        Answered::Limit(cause) => limited(alloc, problem, cause),
     }
 }

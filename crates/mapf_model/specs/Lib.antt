@@ -12,3 +12,4 @@ pub mod Blocks
 pub mod Accepted
 pub mod Printed
 pub mod Examples
+pub mod Devices

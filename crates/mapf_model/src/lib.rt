@@ -5,6 +5,7 @@ mod bar;
 mod cause;
 mod cell;
 mod conflict;
+pub mod devices;
 pub mod examples;
 mod grid;
 mod item;
