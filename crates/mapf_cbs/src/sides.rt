@@ -1,7 +1,14 @@
+ghost use Rattle.std.specs.Prelude.{◌≡◌};
+ghost use Rattle.mapf_model.specs.Earned.{tick_of};
+ghost use Rattle.mapf_model.specs.Tree.{SplitNode, node_of};
+ghost use Rattle.mapf_cbs.specs.Search.{left_agent, right_agent, left_bar, right_bar};
+
 use mapf_model::{Bar, Conflict, Item, Tick};
 
 /// The agent that the left child of a split binds.
-pub fn left_agent(conflict: &Conflict) -> u32 {
+pub fn left_agent(conflict: &Conflict) -> u32
+    ensures { result ≡ left_agent conflict.now }
+{
     match *conflict {
         Conflict::Vertex { i, .. } => i,
         Conflict::Swap { i, .. } => i,
@@ -9,7 +16,9 @@ pub fn left_agent(conflict: &Conflict) -> u32 {
 }
 
 /// The bar by which the left child binds its agent.
-pub fn left_bar(conflict: &Conflict) -> Bar {
+pub fn left_bar(conflict: &Conflict) -> Bar
+    ensures { result ≡ left_bar conflict.now }
+{
     match *conflict {
         Conflict::Vertex { cell, tick, .. } => Bar::Cell { cell, tick },
         Conflict::Swap { from, to, tick, .. } => Bar::Move { from, to, tick },
@@ -17,7 +26,9 @@ pub fn left_bar(conflict: &Conflict) -> Bar {
 }
 
 /// The agent that the right child of a split binds.
-pub fn right_agent(conflict: &Conflict) -> u32 {
+pub fn right_agent(conflict: &Conflict) -> u32
+    ensures { result ≡ right_agent conflict.now }
+{
     match *conflict {
         Conflict::Vertex { j, .. } => j,
         Conflict::Swap { j, .. } => j,
@@ -25,7 +36,9 @@ pub fn right_agent(conflict: &Conflict) -> u32 {
 }
 
 /// The bar by which the right child binds its agent.
-pub fn right_bar(conflict: &Conflict) -> Bar {
+pub fn right_bar(conflict: &Conflict) -> Bar
+    ensures { result ≡ right_bar conflict.now }
+{
     match *conflict {
         Conflict::Vertex { cell, tick, .. } => Bar::Cell { cell, tick },
         Conflict::Swap { from, to, tick, .. } => Bar::Move {
@@ -37,7 +50,9 @@ pub fn right_bar(conflict: &Conflict) -> Bar {
 }
 
 /// When the conflict is.
-pub fn tick_of(conflict: &Conflict) -> Tick {
+pub fn tick_of(conflict: &Conflict) -> Tick
+    ensures { result ≡ tick_of conflict.now }
+{
     match *conflict {
         Conflict::Vertex { tick, .. } => tick,
         Conflict::Swap { tick, .. } => tick,
@@ -45,7 +60,9 @@ pub fn tick_of(conflict: &Conflict) -> Tick {
 }
 
 /// The item of a node that is split on the conflict.
-pub fn split_item(conflict: Conflict) -> Item {
+pub fn split_item(conflict: Conflict) -> Item
+    ensures { node_of result ≡ SplitNode conflict }
+{
     match conflict {
         Conflict::Vertex { i, j, cell, tick } => Item::Vertex { i, j, cell, tick },
         Conflict::Swap {

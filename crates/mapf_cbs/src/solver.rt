@@ -1,3 +1,14 @@
+ghost use Rattle.std.specs.Prelude.{◌≡◌, ◌+◌, ◌<◌, ◌≤◌, ◌∷◌, [], ℕ, List, Some, length, slice_get, IfOk, OnOk};
+ghost use Rattle.mapf_model.specs.Earned.{HasConflict, AreConflictFreeBefore, tick_of};
+ghost use Rattle.mapf_model.specs.Grid.{IsGridMap};
+ghost use Rattle.mapf_model.specs.Tree.{ShareGoal};
+ghost use Rattle.mapf_cbs.specs.Answer.{IsAnswer};
+ghost use Rattle.mapf_cbs.specs.Arena.{AreViews};
+ghost use Rattle.mapf_cbs.specs.Route.{AreTables};
+ghost use Rattle.mapf_cbs.specs.Search.{View, IsLive};
+ghost use Rattle.mapf_cbs.specs.Start.{AreShortest};
+ghost use Rattle.mapf_cbs.specs.State.{IsPopped, IsState};
+
 use crate::answer::Answer;
 use crate::child::child;
 use crate::clash::sharing_pair;
@@ -17,7 +28,10 @@ const LAST_TICK: u32 = 1_000_000;
 
 /// Searches for a cheapest valid plan with at most so many splits of the constraint tree, 0 to
 /// 100,000.
-pub fn solve(alloc: Global, problem: &Problem, limit: u32) -> Result<Answer, OutOfMemory> {
+pub fn solve(alloc: Global, problem: &Problem, limit: u32) -> Result<Answer, OutOfMemory>
+    requires { limit ≤ 100000 }
+    ensures { IfOk result (IsAnswer problem.now limit) }
+{
     solve_with::<TickBars>(alloc, problem, limit)
 }
 
@@ -26,7 +40,12 @@ pub fn solve_with<B: BarTable>(
     alloc: Global,
     problem: &Problem,
     limit: u32,
-) -> Result<Answer, OutOfMemory> {
+) -> Result<Answer, OutOfMemory>
+    requires { limit ≤ 100000 }
+    ensures { IfOk result (IsAnswer problem.now limit) }
+{
+    // The width tells the shape of the grid.
+    let _width = problem.grid().width();
     if let Some((i, j)) = sharing_pair(problem.agents()) {
         let clash = Item::Clash {
             i: i as u32,
@@ -46,7 +65,9 @@ pub fn solve_with<B: BarTable>(
 }
 
 // The items of a tree of one node.
-fn one_item(alloc: Global, item: Item) -> Result<Vec<Item>, OutOfMemory> {
+fn one_item(alloc: Global, item: Item) -> Result<Vec<Item>, OutOfMemory>
+    ensures { IfOk result (λ tree. tree.items ≡ item ∷ []) }
+{
     let mut tree = Vec::new(alloc);
     tree.push(item)?;
     Ok(tree)
@@ -60,7 +81,16 @@ fn search_from<B: BarTable>(
     tables: &[Distances],
     paths: Vec<Path>,
     limit: u32,
-) -> Result<Answer, OutOfMemory> {
+) -> Result<Answer, OutOfMemory>
+    requires shape { IsGridMap problem.now.grid }
+    requires agents { (1 ≤ length problem.now.agents) × (length problem.now.agents ≤ 200) }
+    requires limit { limit ≤ 100000 }
+    requires goals { (i j : ℕ) → ShareGoal problem.now i j → ⊥ }
+    requires tables { AreTables problem.now tables.now }
+    requires count { length paths.items ≡ length problem.now.agents }
+    requires shortest { AreShortest problem.now paths.items }
+    ensures { IfOk result (IsAnswer problem.now limit) }
+{
     let agents = problem.agents().len() as u32;
     let total = total_of(&paths);
     let mut search = SearchTree::of(alloc, paths, total)?;
@@ -101,7 +131,16 @@ fn split<B: BarTable>(
     k: u32,
     total: u64,
     conflict: &Conflict,
-) -> Result<(), OutOfMemory> {
+) -> Result<(), OutOfMemory>
+    requires tables { AreTables problem.now tables.now }
+    requires popped { IsPopped problem.now search.old.nodes.items search.old.fates.items search.old.open.keys search.old.splits total k }
+    requires goals { (i j : ℕ) → ShareGoal problem.now i j → ⊥ }
+    requires meet { (views : List View) (view : View) → AreViews search.old.nodes.items views → slice_get views k ≡ Some view → IsLive problem.now view → HasConflict view.paths conflict.now × AreConflictFreeBefore view.paths (tick_of conflict.now) }
+    requires early { tick_of conflict.now < 1000000 }
+    requires few { search.old.splits < 100000 }
+    ensures state { OnOk result (IsState problem.now search.new.nodes.items search.new.fates.items search.new.open.keys (search.old.splits + 1)) }
+    ensures splits { OnOk result (search.new.splits ≡ search.old.splits + 1) }
+{
     let left = child::<B>(
         alloc,
         problem,

@@ -1,3 +1,8 @@
+ghost use Rattle.std.specs.Prelude.{◌≡◌, ◌<◌, ℕ, List, Some, length, slice_get, IfOk};
+ghost use Rattle.mapf_model.specs.Tree.{ConstraintTree, Spell};
+ghost use Rattle.mapf_cbs.specs.Search.{View, AreBlocksOf, AreCutsLater, IsTreeAt};
+ghost use Rattle.mapf_cbs.specs.Arena.{AreNodesFor, AreViews};
+
 use crate::node::{Fate, Node};
 use crate::sides::split_item;
 use crate::walks::labels_at;
@@ -10,7 +15,13 @@ pub fn tree_items(
     nodes: &[Node],
     fates: &[Fate],
     agents: u32,
-) -> Result<Vec<Item>, OutOfMemory> {
+) -> Result<Vec<Item>, OutOfMemory>
+    requires nodes { (agent : ℕ) → agent < agents → AreNodesFor agent nodes.now }
+    requires same { length fates.now ≡ length nodes.now }
+    requires some { 0 < length nodes.now }
+    requires later { AreCutsLater fates.now }
+    ensures { IfOk result (λ items. (views : List View) → AreViews nodes.now views → (tree : ConstraintTree) × Spell items.items tree × IsTreeAt agents views fates.now 0 tree) }
+{
     let mut items = Vec::new(alloc);
     let mut owed: Vec<u32> = Vec::new(alloc);
     owed.push(0)?;
@@ -41,7 +52,11 @@ fn blocks_at(
     nodes: &[Node],
     k: u32,
     agents: u32,
-) -> Result<Vec<Block>, OutOfMemory> {
+) -> Result<Vec<Block>, OutOfMemory>
+    requires nodes { (agent : ℕ) → agent < agents → AreNodesFor agent nodes.now }
+    requires inside { k < length nodes.now }
+    ensures { IfOk result (λ blocks. (views : List View) (view : View) → AreViews nodes.now views → slice_get views k ≡ Some view → AreBlocksOf agents view.entries blocks.items) }
+{
     let mut blocks = Vec::new(alloc);
     for agent in 0..agents {
         let entries = entries_at(alloc, nodes, k, agent)?;
@@ -58,7 +73,11 @@ fn entries_at(
     nodes: &[Node],
     k: u32,
     agent: u32,
-) -> Result<Vec<Entry>, OutOfMemory> {
+) -> Result<Vec<Entry>, OutOfMemory>
+    requires nodes { AreNodesFor agent nodes.now }
+    requires inside { k < length nodes.now }
+    ensures { IfOk result (λ entries. (views : List View) (view : View) → AreViews nodes.now views → slice_get views k ≡ Some view → view.entries agent ≡ entries.items) }
+{
     match labels_at(nodes, k, agent) {
         Some(labels) => Ok(Vec::from_slice(alloc, labels.entries())?),
         None => Ok(Vec::new(alloc)),
