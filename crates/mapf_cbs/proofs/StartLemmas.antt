@@ -10,6 +10,7 @@ use Rattle.mapf_model.specs.declared.item.Item.{Item}
 use Rattle.mapf_model.specs.declared.item.Item.TheVariants.{Leaf as LeafItem, Clash as ClashItem}
 use Rattle.mapf_model.specs.declared.problem.Agent.{Agent}
 use Rattle.mapf_model.specs.Blocks.{LabelBlock}
+use Rattle.mapf_model.specs.Grid.{GridMap}
 use Rattle.mapf_model.specs.Plan.{Instance}
 use Rattle.mapf_model.specs.Tree.{ConstraintTree, Leaf, Clash, Shows, ShareGoal, root}
 use Rattle.mapf_model.proofs.SumLemmas.{snoc_get}
@@ -38,7 +39,7 @@ AreShortest-more problem paths agent path shortest this is =
           (snoc_get paths path i p ep);
     }
 
-some_cells : (grid : _) (agent : Agent) (path : List ℕ) → IsShortest grid agent path → 1 ≤ length path
+some_cells : (grid : GridMap) (agent : Agent) (path : List ℕ) → IsShortest grid agent path → 1 ≤ length path
 some_cells grid agent [] short = absurd (short.lawful.is_path.nonempty refl)
 some_cells grid agent (x ∷ xs) short = omega arith
 
@@ -65,7 +66,7 @@ root_of problem paths count shortest = record {
 }
 
 -- a leaf without blocks, where a goal can't be reached
-pub leaf_answer : (problem : Instance) → SomeGoalIsUnreachable problem → (items : List Item) (blocks : _) → items ≡ LeafItem blocks ∷ [] → blocks.items ≡ [] → (tree : ConstraintTree) × IsTreeOf problem items tree × IsShownImpossible problem tree
+pub leaf_answer : (problem : Instance) → SomeGoalIsUnreachable problem → (items : List Item) (blocks : Vec LabelBlock Global) → items ≡ LeafItem blocks ∷ [] → blocks.items ≡ [] → (tree : ConstraintTree) × IsTreeOf problem items tree × IsShownImpossible problem tree
 leaf_answer problem (i, agent, is, unreachable) items blocks items_are none = (
   Leaf [],
   record {
