@@ -1,0 +1,197 @@
+-- What the state of a search says of its answers.
+use Rattle.std.proofs.Common.{◌≡◌, All, ℕ, zero, suc, ◌+◌, ◌*◌, ◌^◌, ◌<◌, ◌≤◌, List, [], ◌∷◌, Some, Vec, Contains, length, sum, slice_get, refl, sym, ◌∙◌, ap, subst, inl, inr, arith, get_or}
+use Rattle.std.specs.declared.alloc.Global.{Global}
+use Rattle.std.specs.declared.cmp.Ordering.TheVariants.{Less}
+use Rattle.std.specs.Bool.{⊤}
+use Rattle.mapf_model.proofs.ClaimLemmas.{slice_get_inside, holds_of_plans, shown_of_plan}
+use Rattle.mapf_model.proofs.SplitLemmas.{AllSatisfy-root}
+use Rattle.std.proofs.lemmas.Option.{slice_get_within, same_Some}
+use Rattle.mapf_model.specs.declared.item.Claim.{Claim}
+use Rattle.mapf_model.specs.declared.item.Claim.TheVariants.{Cost, Impossible}
+use Rattle.mapf_model.specs.declared.conflict.Conflict.{Conflict}
+use Rattle.mapf_model.specs.declared.conflict.Conflict.TheVariants.{Vertex, Swap}
+use Rattle.mapf_model.specs.declared.label.Entry.{Entry}
+use Rattle.mapf_model.specs.declared.item.Item.{Item}
+use Rattle.mapf_model.specs.Plan.{Instance, IsValid}
+use Rattle.mapf_model.specs.Tree.{ConstraintTree, Spell, Shows, Holds, ShareGoal, split_count, root}
+use Rattle.mapf_model.specs.Earned.{HasConflict, AreConflictFreeBefore, HaveSomeConflict, IsEarned, IsStopped, IsStoppedFrom, tick_of}
+use Rattle.mapf_cbs.specs.declared.node.Node.{Node}
+use Rattle.mapf_cbs.specs.declared.node.Node.TheVariants.{Root}
+use Rattle.mapf_cbs.specs.declared.node.Fate.{Fate}
+use Rattle.mapf_cbs.specs.declared.node.Fate.TheVariants.{Open, Cut}
+use Rattle.mapf_model.specs.Grid.{IsGridMap, free_cell_count}
+use Rattle.mapf_cbs.specs.Search.{View, IsLive, IsSearched, AreCutsLater, IsTreeAt}
+use Rattle.mapf_cbs.specs.Arena.{IsRootView, IsNodeView, IsNodeFor, AreNodesFor, HasTableBar, HaveTableBars}
+use Rattle.mapf_cbs.specs.Answer.{IsTreeOf, IsShownOptimal, IsShownImpossible}
+use Rattle.mapf_cbs.specs.State.{IsOpenSet, IsState, IsPopped, key_cmp}
+use Rattle.mapf_cbs.proofs.ViewLemmas.{live_sum, live_cheapest}
+use Rattle.mapf_cbs.proofs.ChildLemmas.{conflict_early}
+use Rattle.mapf_cbs.proofs.TreeLemmas.{is_earned, shows_cost, shows_impossible, has_splits, is_stopped}
+use Rattle.mapf_cbs.proofs.GrowLemmas.{searched_first}
+use Rattle.mapf_cbs.proofs.RangeLemmas.{tree_in_range, plan_in_range, sum_in_range}
+use Rattle.mapf_cbs.proofs.OpenLemmas.{first_open, Contains-first}
+use Rattle.mapf_cbs.proofs.StateLemmas.{IsInHand, in_hand}
+
+none_left : {X : Type 0} (x : X) → Contains [] x → ⊥
+none_left x (k, within, is) = omega arith
+
+-- the state as it begins
+pub state_first : (problem : Instance) (paths : Vec (List ℕ) Global) (total : ℕ) (view : View) → IsRootView paths.items view → IsLive problem view → total ≡ sum view.costs → total ≤ 200 * 2 ^ 32 →
+    (nodes : List Node) → nodes ≡ Root paths ∷ [] → IsState problem nodes (Open ∷ []) ((total, 0) ∷ []) 0
+state_first problem paths total view root_view live total_is small nodes nodes_is = subst (λ ns. IsState problem ns (Open ∷ []) ((total, 0) ∷ []) 0) (sym nodes_is) (record {
+  views = view ∷ [];
+  are = record { lengths = refl; each = each_view };
+  searched = searched_first problem view root_view.constraints live;
+  opens = record {
+    only = λ key in_it. only key in_it;
+    each = each_open;
+  };
+  nodes_for = each_node;
+  bars = each_low;
+  size = omega arith;
+  small = λ key in_it. small_key key in_it;
+})
+  where
+    each_view : (k : ℕ) (node : Node) (v : View) → slice_get (Root paths ∷ []) k ≡ Some node → slice_get (view ∷ []) k ≡ Some v → IsNodeView (view ∷ []) k node v
+    each_view zero node v node_is v_is = subst (λ n. IsNodeView (view ∷ []) 0 n v) (same_Some (Root paths) node node_is) (subst (λ w. IsRootView paths.items w) (same_Some view v v_is) root_view)
+    each_view (suc k) node v node_is v_is = absurd cc
+
+    first_key : (key : ℕ × ℕ) → Contains {X = ℕ × ℕ} ((total, 0) ∷ []) key → (total, 0) ≡ key
+    first_key key (zero, within, is) = is
+    first_key key (suc k, within, is) = absurd (omega arith)
+
+    only : (key : ℕ × ℕ) → Contains {X = ℕ × ℕ} ((total, 0) ∷ []) key → (v : View) × (slice_get (view ∷ []) key.1 ≡ Some v) × (slice_get (Open ∷ []) key.1 ≡ Some Open) × (key.0 ≡ sum v.costs)
+    only key in_it = subst (λ (x : ℕ × ℕ). (v : View) × (slice_get (view ∷ []) x.1 ≡ Some v) × (slice_get (Open ∷ []) x.1 ≡ Some Open) × (x.0 ≡ sum v.costs)) (first_key key in_it) (view, refl, refl, total_is)
+
+    each_open : (m : ℕ) (v : View) → slice_get (view ∷ []) m ≡ Some v → slice_get (Open ∷ []) m ≡ Some Open → Contains {X = ℕ × ℕ} ((total, 0) ∷ []) (sum v.costs, m)
+    each_open zero v v_is open_is = subst (λ (w : View). Contains {X = ℕ × ℕ} ((total, 0) ∷ []) (sum w.costs, 0)) (same_Some view v v_is) (subst (λ n. Contains {X = ℕ × ℕ} ((total, 0) ∷ []) (n, 0)) total_is (Contains-first (total, 0) []))
+    each_open (suc m) v v_is open_is = absurd cc
+
+    each_node : (agent : ℕ) → agent < length problem.agents → AreNodesFor agent (Root paths ∷ [])
+    each_node agent known zero node node_is =
+        let one : length view.paths ≡ length paths.items = ap length root_view.same_paths in
+        let two = live.counted.paths in
+        subst (λ n. IsNodeFor agent 0 n) (same_Some (Root paths) node node_is) (refl, omega arith)
+    each_node agent known (suc k) node node_is = absurd cc
+
+    each_low : HaveTableBars (Root paths ∷ [])
+    each_low zero node node_is = subst HasTableBar (same_Some (Root paths) node node_is) tt
+    each_low (suc k) node node_is = absurd cc
+
+    small_key : (key : ℕ × ℕ) → Contains {X = ℕ × ℕ} ((total, 0) ∷ []) key → key.0 ≤ (0 + 201) * 2 ^ 32
+    small_key key in_it = let e : total ≡ key.0 = ap (λ (x : ℕ × ℕ). x.0) (first_key key in_it) in omega arith
+
+-- children come later
+pub cuts_later : (problem : Instance) (views : List View) (fates : List Fate) (count : ℕ) → IsSearched problem views fates count → AreCutsLater fates
+cuts_later problem views fates count searched k conflict a b is =
+    let size = searched.lengths in
+    let inside : k < length fates = slice_get_within fates k (Cut conflict a b) is in
+    let view : (view : View) × (slice_get views k ≡ Some view) = slice_get_inside views k (omega arith) in
+    let cut = searched.each k view.0 (Cut conflict a b) view.1 is in
+    let in_a = slice_get_within views a cut.to_left.0 cut.to_left.1 in
+    let in_b = slice_get_within views b cut.to_right.0 cut.to_right.1 in
+    (cut.left_later, cut.right_later, omega arith, omega arith)
+
+pub popped_of : (problem : Instance) (nodes : List Node) (fates : List Fate) (keys rest : List (ℕ × ℕ)) (count total k : ℕ) → IsState problem nodes fates keys count → keys ≡ (total, k) ∷ rest → ((key : ℕ × ℕ) → Contains rest key → key_cmp (total, k) key ≡ Less) → IsPopped problem nodes fates rest count total k
+popped_of problem nodes fates keys rest count total k state e above = record {
+  views = state.views;
+  are = state.are;
+  searched = state.searched;
+  opens = subst (λ ks. IsOpenSet ks state.views fates) e state.opens;
+  above = above;
+  nodes_for = state.nodes_for;
+  bars = state.bars;
+  size = state.size;
+  small = subst (λ ks. (key : ℕ × ℕ) → Contains ks key → key.0 ≤ (count + 201) * 2 ^ 32) e state.small;
+}
+
+pub not_apart : (paths : List (List ℕ)) (conflict : Conflict) → HasConflict paths conflict → HaveSomeConflict paths
+not_apart paths (Vertex i j cell tick) (differ, p, q, ip, jq, here, there) = (i, j, tick, p, q, differ, ip, jq, inl (here ∙ sym there))
+not_apart paths (Swap i j from to tick) (differ, moved, p, q, ip, jq, here, there) = (i, j, tick, p, q, differ, ip, jq, inr (here.0 ∙ sym there.1, here.1 ∙ sym there.0))
+
+-- a tree of the search can be printed, and its splits are earned
+is_tree_of : (problem : Instance) → IsGridMap problem.grid → (views : List View) (fates : List Fate) (count : ℕ) → IsSearched problem views fates count → (items : List Item) (tree : ConstraintTree) → Spell items tree → IsTreeAt (length problem.agents) views fates 0 tree → IsTreeOf problem items tree
+is_tree_of problem shape views fates count searched items tree spelled on_tree = record {
+  spelled = spelled;
+  earned = is_earned problem views fates count searched tree on_tree;
+  in_range = tree_in_range problem shape views fates count searched tree 0 on_tree;
+}
+
+-- what a tree shows is so
+shown_holds : (problem : Instance) (claim : Claim) (tree : ConstraintTree) → Shows problem claim tree → Holds problem claim
+shown_holds problem claim tree shows = holds_of_plans problem claim (λ plan valid. shown_of_plan problem plan valid claim tree root shows.proper shows.nodes (AllSatisfy-root plan))
+
+pub is_shown_impossible : (problem : Instance) (tree : ConstraintTree) → Shows problem Impossible tree → IsShownImpossible problem tree
+is_shown_impossible problem tree shows = record { shows = shows; impossible = shown_holds problem Impossible tree shows }
+
+-- no open node is left
+pub answer_impossible : (problem : Instance) → IsGridMap problem.grid → (nodes : List Node) (fates : List Fate) (count : ℕ) (state : IsState problem nodes fates [] count) (items : List Item) → (tree : ConstraintTree) × Spell items tree × IsTreeAt (length problem.agents) state.views fates 0 tree →
+    (tree : ConstraintTree) × IsTreeOf problem items tree × IsShownImpossible problem tree
+answer_impossible problem shape nodes fates count state items (tree, spell, on_tree) = (
+  tree,
+  is_tree_of problem shape state.views fates count state.searched items tree spell on_tree,
+  is_shown_impossible problem tree (shows_impossible problem state.views fates count state.searched tree on_tree (λ m m_open.
+      let size = state.searched.lengths in
+      let inside = slice_get_within fates m Open m_open in
+      let view : (view : View) × (slice_get state.views m ≡ Some view) = slice_get_inside state.views m (omega arith) in
+      none_left (sum view.0.costs, m) (state.opens.each m view.0 view.1 m_open))),
+)
+
+module _ (problem : Instance) (shape : IsGridMap problem.grid) (nodes : List Node) (fates : List Fate) (rest : List (ℕ × ℕ)) (count total k : ℕ) (popped : IsPopped problem nodes fates rest count total k) (items : List Item) (found : (tree : ConstraintTree) × Spell items tree × IsTreeAt (length problem.agents) popped.views fates 0 tree) where
+  hand : IsInHand problem fates k total popped.views
+  hand = in_hand problem nodes fates rest count total k popped
+
+  tree_is : IsTreeOf problem items found.0
+  tree_is = is_tree_of problem shape popped.views fates count popped.searched items found.0 found.1 found.2
+
+  module _ (view : View) (is : slice_get popped.views k ≡ Some view) (is_open : slice_get fates k ≡ Some Open) (live : IsLive problem view) where
+    least : (m : ℕ) (other : View) → slice_get popped.views m ≡ Some other → slice_get fates m ≡ Some Open → sum view.costs ≤ sum other.costs
+    least m other m_is m_open =
+        let first = first_open ((total, k) ∷ rest) rest (total, k) popped.views fates refl popped.above popped.opens in
+        let same : first.0 ≡ view = same_Some first.0 view (sym first.1 ∙ is) in
+        subst (λ (w : View). sum w.costs ≤ sum other.costs) same (first.4 m other m_is m_open)
+
+    valid_of : (HaveSomeConflict view.paths → ⊥) → IsValid problem view.paths
+    valid_of none = record {
+      count = live.counted.paths;
+      lawful = λ i agent path a p. (let h = (live_cheapest problem view live).lawful i agent path a p in h.0);
+      apart = λ i j tick p q differ ip jq meet. none (i, j, tick, p, q, differ, ip, jq, meet);
+    }
+
+    shown_cost : Shows problem (Cost (sum view.costs)) found.0
+    shown_cost = shows_cost problem popped.views fates count popped.searched found.0 found.2 (sum view.costs) least
+
+    pub answer_found : 1 ≤ length problem.agents → length problem.agents ≤ 200 → All (λ path. length path ≤ 10000000) view.paths → (HaveSomeConflict view.paths → ⊥) → (tree : ConstraintTree) × IsTreeOf problem items tree × IsShownOptimal problem view.paths tree
+    answer_found some few short none = (
+      found.0,
+      tree_is,
+      record {
+        total = sum view.costs;
+        optimal = record { valid = valid_of none; sum = live_sum problem view live; least = shown_holds problem (Cost (sum view.costs)) found.0 shown_cost };
+        shows = shown_cost;
+        plan_in_range = plan_in_range problem shape view live short few some;
+        claim_in_range = sum_in_range problem shape view live short few;
+      },
+    )
+
+    pub answer_splits : (conflict : Conflict) → HasConflict view.paths conflict → (tree : ConstraintTree) × IsTreeOf problem items tree × IsStopped problem tree × (split_count tree ≡ count)
+    answer_splits conflict meet = (
+      found.0,
+      tree_is,
+      is_stopped problem popped.views fates count popped.searched found.0 found.2 (λ paths. ⊤) k view is is_open least (not_apart view.paths conflict meet) tt,
+      has_splits problem popped.views fates count popped.searched found.0 found.2,
+    )
+
+    pub answer_ticks : ((i j : ℕ) → ShareGoal problem i j → ⊥) → (conflict : Conflict) → HasConflict view.paths conflict → AreConflictFreeBefore view.paths (tick_of conflict) → 1000000 ≤ tick_of conflict →
+        (tree : ConstraintTree) × IsTreeOf problem items tree × IsStoppedFrom 1000000 problem tree × (1000000 < (split_count tree + 1) * free_cell_count problem.grid)
+    answer_ticks goals conflict meet apart late =
+        let early = conflict_early problem view live goals (count * free_cell_count problem.grid) (λ i. popped.searched.low k view i is) conflict meet in
+        let size = has_splits problem popped.views fates count popped.searched found.0 found.2 in (
+          found.0,
+          tree_is,
+          is_stopped problem popped.views fates count popped.searched found.0 found.2 (λ paths. AreConflictFreeBefore paths 1000000) k view is is_open least (not_apart view.paths conflict meet) (λ i j tick p q before. apart i j tick p q (omega arith)),
+          rw size (omega arith),
+        )
+
+pub above_of : (rest : List (ℕ × ℕ)) (total k : ℕ) → ((n : ℕ) (d : ℕ × ℕ) → n < length rest → key_cmp (total, k) (get_or rest n d) ≡ Less) → (key : ℕ × ℕ) → Contains rest key → key_cmp (total, k) key ≡ Less
+above_of rest total k all key (n, within, is) = subst (λ (x : ℕ × ℕ). key_cmp (total, k) x ≡ Less) is (all n key within)

@@ -1,0 +1,141 @@
+-- What a node means follows from what its parent means.
+use Rattle.std.proofs.Common.{◌≡◌, ◌≢◌, ◌⊎◌, ℕ, ◌<◌, List, Some, length, slice_get, refl, sym, ◌∙◌, ap, subst, inl, inr, ⊎_elim, arith, Vec, ◌∷◌, cond, nat_eq, true, eq-eqb, Contains, []}
+use Rattle.std.proofs.lemmas.Bool.{cond_both, eqb-true}
+use Rattle.mapf_model.specs.Tree.{NodeConstraints, with_bar}
+use Rattle.mapf_model.specs.Laws.{AreSameBars}
+use Rattle.mapf_model.proofs.SplitLemmas.{Contains-cons_cases}
+use Rattle.mapf_cbs.proofs.ChildLemmas.{Contains-later}
+use Rattle.std.proofs.lemmas.Option.{slice_get_within, same_Some}
+use Rattle.std.specs.declared.alloc.Global.{Global}
+use Rattle.mapf_model.specs.declared.bar.Bar.{Bar}
+use Rattle.mapf_model.specs.declared.label.Entry.{Entry}
+use Rattle.mapf_model.proofs.ClaimLemmas.{slice_get_inside}
+use Rattle.mapf_spacetime.specs.declared.found.Found.{Found}
+use Rattle.mapf_spacetime.specs.declared.found.Found.TheVariants.{Arrives, Dead}
+use Rattle.mapf_cbs.specs.declared.node.Node.{Node}
+use Rattle.mapf_cbs.specs.declared.node.Node.TheVariants.{Root, Child}
+use Rattle.mapf_cbs.specs.Search.{View}
+use Rattle.mapf_cbs.specs.Arena.{AreViews, IsChildView, AreJoined}
+use Rattle.mapf_cbs.proofs.SumLemmas.{slice_get-set_same, slice_get-set_other}
+
+-- a path that this node didn't find is the parent's
+paths_kept : (before : View) (agent bound : ℕ) (bar : Bar) (found : Found) (view : View) → (agent ≢ bound) ⊎ ((labels : List Entry) × (found ≡ Dead labels)) → IsChildView before bound bar found view → slice_get view.paths agent ≡ slice_get before.paths agent
+paths_kept before agent bound bar (Arrives path labels) view (inl other) (cost, e) = ap (λ (v : View). slice_get v.paths agent) e ∙ slice_get-set_other before.paths bound agent path other
+paths_kept before agent bound bar (Arrives path labels) view (inr (ls, dead)) is = absurd cc
+paths_kept before agent bound bar (Dead labels) view why e = ap (λ (v : View). slice_get v.paths agent) e
+
+cond_not : {X : Type 0} (k i : ℕ) (x y : X) → k ≢ i → cond (nat_eq k i) x y ≡ y
+cond_not k i x y other = cond_both (nat_eq k i) x y (λ z. z ≡ y) (λ same. absurd (other (eqb-true k i same))) (λ differ. refl)
+
+cond_same : {X : Type 0} (k : ℕ) (x y : X) → cond (nat_eq k k) x y ≡ x
+cond_same k x y = let h : nat_eq k k ≡ true = eq-eqb k k refl in rw h refl
+
+abbrev pub found_labels : Found → List Entry
+found_labels (Arrives path labels) = labels
+found_labels (Dead labels) = labels
+
+entries_kept : (before : View) (agent bound : ℕ) (bar : Bar) (found : Found) (view : View) → agent ≢ bound → IsChildView before bound bar found view → view.entries agent ≡ before.entries agent
+entries_kept before agent bound bar (Arrives path labels) view other (cost, e) = ap (λ (v : View). v.entries agent) e ∙ cond_not agent bound labels (before.entries agent) other
+entries_kept before agent bound bar (Dead labels) view other e = ap (λ (v : View). v.entries agent) e ∙ cond_not agent bound labels (before.entries agent) other
+
+entries_new : (before : View) (bound : ℕ) (bar : Bar) (found : Found) (view : View) → IsChildView before bound bar found view → view.entries bound ≡ found_labels found
+entries_new before bound bar (Arrives path labels) view (cost, e) = ap (λ (v : View). v.entries bound) e ∙ cond_same bound labels (before.entries bound)
+entries_new before bound bar (Dead labels) view e = ap (λ (v : View). v.entries bound) e ∙ cond_same bound labels (before.entries bound)
+
+constraints_are : (before : View) (bound : ℕ) (bar : Bar) (found : Found) (view : View) → IsChildView before bound bar found view → view.constraints.bars ≡ with_bar before.constraints.bars bound bar
+constraints_are before bound bar (Arrives path labels) view (cost, e) = ap (λ (v : View). v.constraints.bars) e
+constraints_are before bound bar (Dead labels) view e = ap (λ (v : View). v.constraints.bars) e
+
+-- the bars at a node are the parent's, with one more for the agent that is bound
+bars_other : (before : View) (agent bound : ℕ) (bar : Bar) (found : Found) (view : View) → agent ≢ bound → IsChildView before bound bar found view → view.constraints.bars agent ≡ before.constraints.bars agent
+bars_other before agent bound bar found view other is = ap (λ (bars : ℕ → List Bar). bars agent) (constraints_are before bound bar found view is) ∙ cond_not agent bound (bar ∷ before.constraints.bars agent) (before.constraints.bars agent) other
+
+bars_bound : (before : View) (bound : ℕ) (bar : Bar) (found : Found) (view : View) → IsChildView before bound bar found view → view.constraints.bars bound ≡ bar ∷ before.constraints.bars bound
+bars_bound before bound bar found view is = ap (λ (bars : ℕ → List Bar). bars bound) (constraints_are before bound bar found view is) ∙ cond_same bound (bar ∷ before.constraints.bars bound) (before.constraints.bars bound)
+
+module _ (nodes : List Node) (views : List View) (are : AreViews nodes views) (k : ℕ) (view : View) (is : slice_get views k ≡ Some view) where
+  pub view_in : k < length nodes
+  view_in = let e = are.lengths in let h : k < length views = slice_get_within views k view is in omega arith
+
+  pub root_path : (paths : Vec (List ℕ) Global) (agent : ℕ) → slice_get nodes k ≡ Some (Root paths) → slice_get view.paths agent ≡ slice_get paths.items agent
+  root_path paths agent at = ap (λ ps. slice_get ps agent) (are.each k (Root paths) view at is).same_paths
+
+  module _ (parent bound : ℕ) (bar : Bar) (found : Found) (at : slice_get nodes k ≡ Some (Child parent bound bar found)) where
+    pub parent_view : (before : View) × (slice_get views parent ≡ Some before) × IsChildView before bound bar found view
+    parent_view = let h = are.each k (Child parent bound bar found) view at is in (h.1, h.2, h.4)
+
+    pub paths_up : (agent : ℕ) → (agent ≢ bound) ⊎ ((labels : List Entry) × (found ≡ Dead labels)) → (before : View) → slice_get views parent ≡ Some before → slice_get view.paths agent ≡ slice_get before.paths agent
+    paths_up agent why before before_is =
+        let h = are.each k (Child parent bound bar found) view at is in
+        let same : h.1 ≡ before = same_Some h.1 before (sym h.2 ∙ before_is) in
+        subst (λ (v : View). slice_get view.paths agent ≡ slice_get v.paths agent) same (paths_kept h.1 agent bound bar found view why h.4)
+
+    pub entries_up : (agent : ℕ) → agent ≢ bound → (before : View) → slice_get views parent ≡ Some before → view.entries agent ≡ before.entries agent
+    entries_up agent other before before_is =
+        let h = are.each k (Child parent bound bar found) view at is in
+        let same : h.1 ≡ before = same_Some h.1 before (sym h.2 ∙ before_is) in
+        subst (λ (v : View). view.entries agent ≡ v.entries agent) same (entries_kept h.1 agent bound bar found view other h.4)
+
+    pub found_entries : view.entries bound ≡ found_labels found
+    found_entries = let h = are.each k (Child parent bound bar found) view at is in entries_new h.1 bound bar found view h.4
+
+    pub bars_up : (agent : ℕ) → agent ≢ bound → (before : View) → slice_get views parent ≡ Some before → view.constraints.bars agent ≡ before.constraints.bars agent
+    bars_up agent other before before_is =
+        let h = are.each k (Child parent bound bar found) view at is in
+        let same : h.1 ≡ before = same_Some h.1 before (sym h.2 ∙ before_is) in
+        subst (λ (v : View). view.constraints.bars agent ≡ v.constraints.bars agent) same (bars_other h.1 agent bound bar found view other h.4)
+
+    pub bars_more : (before : View) → slice_get views parent ≡ Some before → view.constraints.bars bound ≡ bar ∷ before.constraints.bars bound
+    bars_more before before_is =
+        let h = are.each k (Child parent bound bar found) view at is in
+        let same : h.1 ≡ before = same_Some h.1 before (sym h.2 ∙ before_is) in
+        subst (λ (v : View). view.constraints.bars bound ≡ bar ∷ v.constraints.bars bound) same (bars_bound h.1 bound bar found view h.4)
+
+  pub root_bars : (paths : Vec (List ℕ) Global) (agent : ℕ) → slice_get nodes k ≡ Some (Root paths) → view.constraints.bars agent ≡ []
+  root_bars paths agent at = ap (λ (w : NodeConstraints). w.bars agent) (are.each k (Root paths) view at is).constraints
+
+  pub root_entries : (paths : Vec (List ℕ) Global) (agent : ℕ) → slice_get nodes k ≡ Some (Root paths) → view.entries agent ≡ []
+  root_entries paths agent at = (are.each k (Root paths) view at is).entries agent
+
+  pub found_path : (parent bound : ℕ) (bar : Bar) (path : List ℕ) (labels : List Entry) → slice_get nodes k ≡ Some (Child parent bound bar (Arrives path labels)) → slice_get view.paths bound ≡ Some path
+  found_path parent bound bar path labels at =
+      let h = are.each k (Child parent bound bar (Arrives path labels)) view at is in
+      ap (λ (v : View). slice_get v.paths bound) h.4.1 ∙ slice_get-set_same h.1.paths bound path h.3
+
+pub view_at : (nodes : List Node) (views : List View) → AreViews nodes views → (k : ℕ) → k < length nodes → (view : View) × (slice_get views k ≡ Some view)
+view_at nodes views are k within = let e = are.lengths in slice_get_inside views k (omega arith)
+
+none_within : {X : Type 0} (x : X) → Contains [] x → ⊥
+none_within x (k, within, is) = omega arith
+
+pub joined_first : (all : List Bar) (front : List Bar) → front ≡ [] → AreJoined all front all
+joined_first all front e = record {
+  apart = λ bar in_all. inr in_all;
+  from_front = λ bar in_front. absurd (none_within bar (subst (λ bs. Contains bs bar) e in_front));
+  from_rest = λ bar in_rest. in_rest;
+}
+
+pub joined_same : (all front rest here : List Bar) → here ≡ rest → AreJoined all front here → AreJoined all front rest
+joined_same all front rest here e joined = subst (λ bs. AreJoined all front bs) e joined
+
+pub joined_more : (all front rest more : List Bar) (bar : Bar) → AreJoined all front (bar ∷ rest) → AreSameBars more (bar ∷ front) → AreJoined all more rest
+joined_more all front rest more bar joined same = record {
+  apart = λ b in_all. ⊎_elim
+      (λ (h : Contains front b). inl ((same b).1 (Contains-later bar b front h)))
+      (λ (h : Contains (bar ∷ rest) b). ⊎_elim
+      (λ (e : bar ≡ b). inl ((same b).1 (0, omega arith, e)))
+      (λ (in_rest : Contains rest b). inr in_rest)
+      (Contains-cons_cases bar b rest h))
+      (joined.apart b in_all);
+  from_front = λ b in_more. ⊎_elim
+      (λ (e : bar ≡ b). joined.from_rest b (0, omega arith, e))
+      (λ (in_front : Contains front b). joined.from_front b in_front)
+      (Contains-cons_cases bar b front ((same b).0 in_more));
+  from_rest = λ b in_rest. joined.from_rest b (Contains-later bar b rest in_rest);
+}
+
+pub joined_done : (all front rest : List Bar) → rest ≡ [] → AreJoined all front rest → AreSameBars all front
+joined_done all front rest e joined bar = (
+  λ in_all. ⊎_elim (λ (h : Contains front bar). h) (λ (h : Contains rest bar). absurd (none_within bar (subst (λ bs. Contains bs bar) e h))) (joined.apart bar in_all),
+  λ in_front. joined.from_front bar in_front,
+)

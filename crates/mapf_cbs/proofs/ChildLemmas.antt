@@ -1,0 +1,164 @@
+-- Children of a node: more bars, no cheaper path, conflicts before a bound.
+use Rattle.std.proofs.Common.{◌≡◌, ◌≢◌, ◌⊎◌, ℕ, zero, suc, ◌+◌, ◌<◌, ◌≤◌, Bool, true, false, List, [], ◌∷◌, Some, Contains, length, sum, slice_get, slice_set, refl, sym, ◌∙◌, subst, inl, inr, ⊎_elim, arith, nat_eq, cond, eq-eqb}
+use Rattle.std.proofs.lemmas.Bool.{cases_eq, cases_lt, cond_both, eqb-true}
+use Rattle.std.proofs.lemmas.Option.{slice_get_within, same_Some}
+use Rattle.mapf_model.specs.declared.bar.Bar.{Bar}
+use Rattle.mapf_model.specs.declared.problem.Agent.{Agent}
+use Rattle.mapf_model.specs.declared.label.Entry.{Entry}
+use Rattle.mapf_model.specs.declared.conflict.Conflict.{Conflict}
+use Rattle.mapf_model.specs.declared.conflict.Conflict.TheVariants.{Vertex, Swap}
+use Rattle.mapf_model.specs.Grid.{GridMap, Step, IsFree, free_cell_count}
+use Rattle.mapf_model.specs.Path.{at}
+use Rattle.mapf_model.specs.Labels.{entries_of}
+use Rattle.mapf_model.specs.Plan.{Instance}
+use Rattle.mapf_model.specs.Tree.{with_bar, IsProperSplit, ShareGoal}
+use Rattle.mapf_model.specs.Earned.{HasConflict, tick_of}
+use Rattle.mapf_model.specs.Laws.{AreSameBars}
+use Rattle.mapf_model.proofs.BarLemmas.{Satisfies-same, AreSound-same}
+use Rattle.mapf_model.proofs.SplitLemmas.{Contains-cons_cases}
+use Rattle.mapf_constraints.specs.BarSets.{tick_of as bar_tick, AreBefore}
+use Rattle.mapf_spacetime.specs.Answer.{AreGoodLabels}
+use Rattle.mapf_spacetime.specs.Task.{task_of}
+use Rattle.mapf_cbs.specs.Route.{IsCheapestPath, HasNoPath}
+use Rattle.mapf_cbs.specs.Search.{View, IsCheapestOf, IsLive, IsDead, live_child, dead_child}
+use Rattle.mapf_cbs.proofs.SumLemmas.{slice_get-set_same, slice_get-set_other, length-slice_set, sum-set}
+use Rattle.mapf_cbs.proofs.ViewLemmas.{route_of}
+
+pub Contains-later : {X : Type 0} (x y : X) (xs : List X) → Contains xs y → Contains (x ∷ xs) y
+Contains-later x y xs (k, within, is) = (suc k, omega arith, is)
+
+-- a list of bars stands for its set
+good_same : (grid : GridMap) (agent : Agent) (xs ys : List Bar) (entries : List Entry) → AreSameBars xs ys → AreGoodLabels (task_of grid agent xs) entries → AreGoodLabels (task_of grid agent ys) entries
+good_same grid agent xs ys entries same good = record { sound = AreSound-same xs ys same grid agent.goal (entries_of entries) good.sound; rising = good.rising; ranges = good.ranges }
+
+pub IsCheapestPath-same : (grid : GridMap) (agent : Agent) (xs ys : List Bar) (path : List ℕ) (cost : ℕ) (entries : List Entry) → AreSameBars xs ys → IsCheapestPath grid agent xs path cost entries → IsCheapestPath grid agent ys path cost entries
+IsCheapestPath-same grid agent xs ys path cost entries same route = record {
+  lawful = route.lawful;
+  satisfies = Satisfies-same xs ys same path route.satisfies;
+  tight = route.tight;
+  is_cost = route.is_cost;
+  least = λ other other_cost lawful satisfies is. route.least other other_cost lawful (λ bar in_xs. satisfies bar ((same bar).0 in_xs)) is;
+  labels = good_same grid agent xs ys entries same route.labels;
+  start = route.start;
+  below = λ horizon below. route.below horizon (λ bar in_xs. below bar ((same bar).0 in_xs));
+}
+
+pub HasNoPath-same : (grid : GridMap) (agent : Agent) (xs ys : List Bar) (entries : List Entry) → AreSameBars xs ys → HasNoPath grid agent xs entries → HasNoPath grid agent ys entries
+HasNoPath-same grid agent xs ys entries same blocked = record {
+  none = λ path lawful satisfies. blocked.none path lawful (λ bar in_xs. satisfies bar ((same bar).0 in_xs));
+  labels = good_same grid agent xs ys entries same blocked.labels;
+  start = blocked.start;
+}
+
+module _ (problem : Instance) (view : View) (live : IsLive problem view) (i : ℕ) (agent : Agent) (known : slice_get problem.agents i ≡ Some agent) (bar : Bar) (es : List Entry) where
+  -- an agent that isn't bound keeps its path
+  kept : (k : ℕ) (other : Agent) (path : List ℕ) (cost : ℕ) → k ≢ i → slice_get problem.agents k ≡ Some other → slice_get view.paths k ≡ Some path → slice_get view.costs k ≡ Some cost →
+      (b : Bool) → nat_eq k i ≡ b → IsCheapestPath problem.grid other (cond b (bar ∷ view.constraints.bars k) (view.constraints.bars k)) path cost (cond b es (view.entries k))
+  kept k other path cost differ a p c true is = absurd (differ (eqb-true k i is))
+  kept k other path cost differ a p c false is = live.each k other path cost a p c
+
+  pub dead_child_dead : HasNoPath problem.grid agent (bar ∷ view.constraints.bars i) es → IsDead problem (dead_child view i bar es)
+  dead_child_dead blocked = record {
+    counted = record { paths = live.counted.paths; costs = live.counted.costs };
+    who = i;
+    agent = agent;
+    known = known;
+    blocked = let here : nat_eq i i ≡ true = eq-eqb i i refl in rw here blocked;
+    each = λ k other path cost differ a p c. kept k other path cost differ a p c (nat_eq k i) refl;
+  }
+
+  module _ (path' : List ℕ) (cost' : ℕ) (route : IsCheapestPath problem.grid agent (bar ∷ view.constraints.bars i) path' cost' es) where
+    within : i < length problem.agents
+    within = slice_get_within problem.agents i agent known
+
+    by_agent : (k : ℕ) (other : Agent) (path : List ℕ) (cost : ℕ) → slice_get problem.agents k ≡ Some other → slice_get (slice_set view.paths i path') k ≡ Some path → slice_get (slice_set view.costs i cost') k ≡ Some cost →
+        (k ≡ i) ⊎ (k ≢ i) → IsCheapestOf problem (live_child view i bar path' cost' es) k other path cost
+    by_agent k other path cost a p c (inl same) =
+        let one = live.counted.paths in let two = live.counted.costs in let three = within in
+        let here : nat_eq k i ≡ true = eq-eqb k i same in
+        let this_path : path' ≡ path = same_Some path' path (sym (slice_get-set_same view.paths i path' (omega arith)) ∙ subst (λ n. slice_get (slice_set view.paths i path') n ≡ Some path) same p) in
+        let this_cost : cost' ≡ cost = same_Some cost' cost (sym (slice_get-set_same view.costs i cost' (omega arith)) ∙ subst (λ n. slice_get (slice_set view.costs i cost') n ≡ Some cost) same c) in
+        let this_agent : agent ≡ other = same_Some agent other (sym known ∙ subst (λ n. slice_get problem.agents n ≡ Some other) same a) in
+        let moved : IsCheapestPath problem.grid other (bar ∷ view.constraints.bars i) path cost es =
+        subst (λ x. IsCheapestPath problem.grid x (bar ∷ view.constraints.bars i) path cost es) this_agent
+        (subst (λ x. IsCheapestPath problem.grid agent (bar ∷ view.constraints.bars i) x cost es) this_path
+        (subst (λ x. IsCheapestPath problem.grid agent (bar ∷ view.constraints.bars i) path' x es) this_cost route)) in
+        rw here (subst (λ n. IsCheapestPath problem.grid other (bar ∷ view.constraints.bars n) path cost es) (sym same) moved)
+    by_agent k other path cost a p c (inr differ) =
+        kept k other path cost differ a (sym (slice_get-set_other view.paths i k path' differ) ∙ p) (sym (slice_get-set_other view.costs i k cost' differ) ∙ c) (nat_eq k i) refl
+
+    pub live_child_live : IsLive problem (live_child view i bar path' cost' es)
+    live_child_live = record {
+      counted = record { paths = length-slice_set view.paths i path' ∙ live.counted.paths; costs = length-slice_set view.costs i cost' ∙ live.counted.costs };
+      each = λ k other path cost a p c. by_agent k other path cost a p c (cases_eq k i);
+    }
+
+    -- a child is no cheaper
+    pub live_child_sum : (cost : ℕ) → slice_get view.costs i ≡ Some cost → (sum (slice_set view.costs i cost') + cost ≡ sum view.costs + cost') × (cost ≤ cost')
+    live_child_sum cost is =
+        let r = route_of problem view live.counted i agent known in
+        let old = live.each i agent r.0 cost known r.2 is in
+        (sum-set view.costs i cost cost' is, old.least path' cost' route.lawful (λ b in_it. route.satisfies b (Contains-later bar b (view.constraints.bars i) in_it)) route.is_cost)
+
+-- the bars of a child, one of which is new, are below a later bound
+pub AreBefore-with_bar : (bars : ℕ → List Bar) (i : ℕ) (bar : Bar) (horizon later : ℕ) → horizon ≤ later → bar_tick bar < later → ((k : ℕ) → AreBefore horizon (bars k)) → (k : ℕ) → AreBefore later (with_bar bars i bar k)
+AreBefore-with_bar bars i bar horizon later more this each k =
+    cond_both (nat_eq k i) (bar ∷ bars k) (bars k) (λ bs. AreBefore later bs)
+    (λ same b in_it. ⊎_elim
+    (λ (e : bar ≡ b). subst (λ x. bar_tick x < later) e this)
+    (λ (rest : Contains (bars k) b). let low = each k b rest in omega arith)
+    (Contains-cons_cases bar b (bars k) in_it))
+    (λ other b in_it. let low = each k b in_it in omega arith)
+
+pub step_free : (grid : GridMap) (u v : ℕ) → Step grid u v → IsFree grid u
+step_free grid u v (inl wait) = wait.0
+step_free grid u v (inr move) = move.from_free
+
+module _ (problem : Instance) (view : View) (live : IsLive problem view) where
+  agent_of : (i : ℕ) (path : List ℕ) → slice_get view.paths i ≡ Some path → (agent : Agent) × (cost : ℕ) × (slice_get problem.agents i ≡ Some agent) × IsCheapestOf problem view i agent path cost
+  agent_of i path is =
+      let one = live.counted.paths in
+      let inside : i < length view.paths = slice_get_within view.paths i path is in
+      let agent : (agent : Agent) × (slice_get problem.agents i ≡ Some agent) = slice_inside problem.agents i (omega arith) in
+      let r = route_of problem view live.counted i agent.0 agent.1 in
+      (agent.0, r.1, agent.1, live.each i agent.0 path r.1 agent.1 is r.3)
+    where
+      slice_inside : {X : Type 0} (xs : List X) (i : ℕ) → i < length xs → (x : X) × (slice_get xs i ≡ Some x)
+      slice_inside [] i within = absurd (omega arith)
+      slice_inside (x ∷ xs) zero within = (x, refl)
+      slice_inside (x ∷ xs) (suc i) within = slice_inside xs i (omega arith)
+
+  -- a conflict of the paths is proper
+  pub conflict_proper : (conflict : Conflict) → HasConflict view.paths conflict → IsProperSplit problem conflict
+  conflict_proper (Vertex i j cell tick) (differ, p, q, ip, jq, here, there) =
+      let a = agent_of i p ip in let b = agent_of j q jq in (
+        (differ, slice_get_within problem.agents i a.0 a.2, slice_get_within problem.agents j b.0 b.2),
+        subst (λ c. IsFree problem.grid c) here (step_free problem.grid (at p tick) (at p (tick + 1)) (a.3.lawful.is_path.steps tick)),
+      )
+  conflict_proper (Swap i j from to tick) (differ, moved, p, q, ip, jq, here, there) =
+      let a = agent_of i p ip in let b = agent_of j q jq in
+      let step : Step problem.grid from to = subst (λ c. Step problem.grid c to) here.0 (subst (λ c. Step problem.grid (at p tick) c) here.1 (a.3.lawful.is_path.steps tick)) in (
+        (differ, slice_get_within problem.agents i a.0 a.2, slice_get_within problem.agents j b.0 b.2),
+        elim step [ inl wait ↦ absurd (moved wait.1) | inr move ↦ move ],
+      )
+
+  module _ (goals : (i j : ℕ) → ShareGoal problem i j → ⊥) (horizon : ℕ) (below : (i : ℕ) → AreBefore horizon (view.constraints.bars i)) where
+    -- past both arrivals two agents of different goals don't meet
+    pub conflict_early : (conflict : Conflict) → HasConflict view.paths conflict → tick_of conflict < horizon + free_cell_count problem.grid
+    conflict_early (Vertex i j cell tick) (differ, p, q, ip, jq, here, there) =
+        let a = agent_of i p ip in let b = agent_of j q jq in
+        let low = a.3.below horizon (below i) in let low' = b.3.below horizon (below j) in
+        ⊎_elim
+        (λ (less : tick < a.1). omega arith)
+        (λ (past : a.1 ≤ tick). ⊎_elim
+        (λ (less : tick < b.1). omega arith)
+        (λ (past' : b.1 ≤ tick). absurd (goals i j (differ, a.0, b.0, a.2, b.2, sym (a.3.is_cost.rests tick past) ∙ here ∙ sym there ∙ b.3.is_cost.rests tick past')))
+        (cases_lt tick b.1))
+        (cases_lt tick a.1)
+    conflict_early (Swap i j from to tick) (differ, moved, p, q, ip, jq, here, there) =
+        let a = agent_of i p ip in let b = agent_of j q jq in
+        let low = a.3.below horizon (below i) in let low' = b.3.below horizon (below j) in
+        ⊎_elim
+        (λ (less : tick < a.1). omega arith)
+        (λ (past : a.1 ≤ tick). absurd (moved (sym here.0 ∙ a.3.is_cost.rests tick past ∙ sym (a.3.is_cost.rests (tick + 1) (omega arith)) ∙ here.1)))
+        (cases_lt tick a.1)

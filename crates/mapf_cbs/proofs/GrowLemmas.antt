@@ -1,0 +1,231 @@
+-- A search goes on: an open node of least sum is split.
+use Rattle.std.proofs.Common.{◌≡◌, ◌≢◌, ◌⊎◌, ℕ, zero, suc, ◌+◌, ◌*◌, ◌<◌, ◌≤◌, List, [], ◌∷◌, ◌++◌, Some, length, sum, slice_get, refl, sym, ◌∙◌, ap, subst, inl, inr, ⊎_elim, arith}
+use Rattle.std.proofs.lemmas.Bool.{cases_eq, cases_lt}
+use Rattle.std.proofs.lemmas.Option.{slice_get_within, same_Some}
+use Rattle.mapf_model.specs.declared.bar.Bar.TheVariants.{Cell, Move}
+use Rattle.mapf_model.specs.declared.conflict.Conflict.{Conflict}
+use Rattle.mapf_model.specs.declared.conflict.Conflict.TheVariants.{Vertex, Swap}
+use Rattle.mapf_model.specs.Plan.{Instance}
+use Rattle.mapf_model.specs.Tree.{NodeConstraints, root, left_child_constraints, right_child_constraints, ShareGoal}
+use Rattle.mapf_model.specs.Earned.{HasConflict, AreConflictFreeBefore, tick_of}
+use Rattle.mapf_cbs.specs.declared.node.Fate.{Fate}
+use Rattle.mapf_cbs.specs.declared.node.Fate.TheVariants.{Open, Dead, Cut}
+use Rattle.mapf_model.specs.Grid.{free_cell_count}
+use Rattle.mapf_constraints.specs.BarSets.{AreBefore}
+use Rattle.mapf_cbs.specs.Search.{View, IsLive, IsDead, IsFate, IsCutAt, IsCutFate, IsEndFate, End, occurrences, IsSearched}
+use Rattle.mapf_cbs.proofs.SumLemmas.{slice_get-front, slice_get-here, slice_get-second, length-two_more}
+use Rattle.mapf_cbs.proofs.ChildLemmas.{AreBefore-with_bar, conflict_proper, conflict_early}
+use Rattle.mapf_cbs.proofs.ShapeLemmas.{IsGrown, IsOneTree-grown}
+
+-- what is so of a new child by its fate
+abbrev pub IsChildFate : Instance → View → View → Fate → Type 0
+IsChildFate problem view child Open = IsLive problem child × (sum view.costs ≤ sum child.costs)
+IsChildFate problem view child Dead = IsDead problem child
+IsChildFate problem view child (Cut conflict left right) = ⊥
+
+child_end : (problem : Instance) (view child : View) (fate : Fate) → IsChildFate problem view child fate → IsEndFate fate
+child_end problem view child Open is = tt
+child_end problem view child Dead is = tt
+child_end problem view child (Cut c a b) is = is
+
+pub searched_first : (problem : Instance) (view : View) → view.constraints ≡ root → IsLive problem view → IsSearched problem (view ∷ []) (Open ∷ []) 0
+searched_first problem view at_root live = record {
+  lengths = refl;
+  first = (view, refl, at_root);
+  each = each;
+  least = least;
+  tree = record { shape = End 0; is_shape = (refl, Open, refl, tt); exact = refl; once = once };
+  low = low;
+}
+  where
+    each : (k : ℕ) (v : View) (fate : Fate) → slice_get (view ∷ []) k ≡ Some v → slice_get (Open ∷ []) k ≡ Some fate → IsFate problem (view ∷ []) (Open ∷ []) k v fate
+    each zero v fate is open_is = subst (λ f. IsFate problem (view ∷ []) (Open ∷ []) 0 v f) (same_Some Open fate open_is) (subst (λ x. IsLive problem x) (same_Some view v is) live)
+    each (suc k) v fate is open_is = absurd cc
+
+    least : (k m : ℕ) (v other : View) (fate : Fate) → slice_get (view ∷ []) k ≡ Some v → slice_get (view ∷ []) m ≡ Some other → slice_get (Open ∷ []) k ≡ Some fate → IsCutFate fate → slice_get (Open ∷ []) m ≡ Some Open → sum v.costs ≤ sum other.costs
+    least zero m v other fate is other_is fate_is cut open_is = absurd (subst IsCutFate (sym (same_Some Open fate fate_is)) cut)
+    least (suc k) m v other fate is other_is fate_is cut open_is = absurd cc
+
+    once : (k : ℕ) (fate : Fate) → slice_get (Open ∷ []) k ≡ Some fate → IsEndFate fate → occurrences k (End 0) ≡ 1
+    once zero fate is end = refl
+    once (suc k) fate is end = absurd cc
+
+    low : (k : ℕ) (v : View) (i : ℕ) → slice_get (view ∷ []) k ≡ Some v → AreBefore (0 * free_cell_count problem.grid) (v.constraints.bars i)
+    low zero v i is bar (n, within, at) =
+        let e : v.constraints.bars i ≡ [] = subst (λ x. x.bars i ≡ []) (sym at_root ∙ ap (λ (x : View). x.constraints) (same_Some view v is)) refl in
+        let h : n < length (v.constraints.bars i) = within in
+        absurd (let z : length (v.constraints.bars i) ≡ 0 = ap length e in omega arith)
+    low (suc k) v i is bar in_it = absurd cc
+
+module _ (problem : Instance) (goals : (i j : ℕ) → ShareGoal problem i j → ⊥)
+    (views : List View) (fates : List Fate) (count : ℕ) (searched : IsSearched problem views fates count)
+    (j : ℕ) (view : View) (is : slice_get views j ≡ Some view) (was_open : slice_get fates j ≡ Some Open)
+    (least : (m : ℕ) (other : View) → slice_get views m ≡ Some other → slice_get fates m ≡ Some Open → sum view.costs ≤ sum other.costs)
+    (conflict : Conflict) (meet : HasConflict view.paths conflict) (apart : AreConflictFreeBefore view.paths (tick_of conflict)) (in_time : tick_of conflict < 1000000)
+    (x y : View) (x_constraints : x.constraints ≡ left_child_constraints view.constraints conflict) (y_constraints : y.constraints ≡ right_child_constraints view.constraints conflict)
+    (left right : Fate) (x_is : IsChildFate problem view x left) (y_is : IsChildFate problem view y right)
+    (after : List Fate) (grown : IsGrown fates after j conflict left right)
+  where
+    live : IsLive problem view
+    live = searched.each j view Open is was_open
+
+    more : List View
+    more = views ++ x ∷ y ∷ []
+
+    -- a place of the longer list
+    data Place (k : ℕ) (v : View) (fate : Fate) : Type 0 where
+      Old : k < length fates → k ≢ j → slice_get views k ≡ Some v → slice_get fates k ≡ Some fate → Place k v fate
+      This : k ≡ j → v ≡ view → fate ≡ Cut conflict (length fates) (length fates + 1) → Place k v fate
+      First : k ≡ length fates → v ≡ x → fate ≡ left → Place k v fate
+      Second : k ≡ length fates + 1 → v ≡ y → fate ≡ right → Place k v fate
+
+    x_at : slice_get (views ++ x ∷ y ∷ []) (length fates) ≡ Some x
+    x_at = subst (λ n. slice_get (views ++ x ∷ y ∷ []) n ≡ Some x) searched.lengths (slice_get-here views (y ∷ []) x)
+
+    y_at : slice_get (views ++ x ∷ y ∷ []) (length fates + 1) ≡ Some y
+    y_at = subst (λ n. slice_get (views ++ x ∷ y ∷ []) (n + 1) ≡ Some y) searched.lengths (slice_get-second views x y)
+
+    old_view : (k : ℕ) (v : View) → slice_get views k ≡ Some v → slice_get (views ++ x ∷ y ∷ []) k ≡ Some v
+    old_view k v at = slice_get-front views (x ∷ y ∷ []) k (slice_get_within views k v at) ∙ at
+
+    place : (k : ℕ) (v : View) (fate : Fate) → slice_get (views ++ x ∷ y ∷ []) k ≡ Some v → slice_get after k ≡ Some fate → Place k v fate
+    place k v fate v_is fate_is =
+        let size = searched.lengths in
+        let grew = grown.size in
+        let within : k < length after = slice_get_within after k fate fate_is in
+        ⊎_elim
+        (λ (this : k ≡ j). This this
+        (same_Some v view (sym v_is ∙ subst (λ n. slice_get (views ++ x ∷ y ∷ []) n ≡ Some view) (sym this) (old_view j view is)))
+        (same_Some fate (Cut conflict (length fates) (length fates + 1)) (sym fate_is ∙ subst (λ n. slice_get after n ≡ Some (Cut conflict (length fates) (length fates + 1))) (sym this) grown.split)))
+        (λ (other : k ≢ j). ⊎_elim
+        (λ (old : k < length fates). Old old other (sym (slice_get-front views (x ∷ y ∷ []) k (omega arith)) ∙ v_is) (sym (grown.others k old other) ∙ fate_is))
+        (λ (new : length fates ≤ k). ⊎_elim
+        (λ (first : k ≡ length fates). First first
+        (same_Some v x (sym v_is ∙ subst (λ n. slice_get (views ++ x ∷ y ∷ []) n ≡ Some x) (sym first) x_at))
+        (same_Some fate left (sym fate_is ∙ subst (λ n. slice_get after n ≡ Some left) (sym first) grown.first)))
+        (λ (not_first : k ≢ length fates).
+        let second : k ≡ length fates + 1 = omega arith in
+        Second second
+        (same_Some v y (sym v_is ∙ subst (λ n. slice_get (views ++ x ∷ y ∷ []) n ≡ Some y) (sym second) y_at))
+        (same_Some fate right (sym fate_is ∙ subst (λ n. slice_get after n ≡ Some right) (sym second) grown.second)))
+        (cases_eq k (length fates)))
+        (cases_lt k (length fates)))
+        (cases_eq k j)
+
+    lift_fate : (k : ℕ) (v : View) (fate : Fate) → IsFate problem views fates k v fate → IsFate problem (views ++ x ∷ y ∷ []) after k v fate
+    lift_fate k v Open h = h
+    lift_fate k v Dead h = h
+    lift_fate k v (Cut c a b) h = record {
+      live = h.live;
+      proper = h.proper;
+      early = h.early;
+      meet = h.meet;
+      apart = h.apart;
+      to_left = (h.to_left.0, old_view a h.to_left.0 h.to_left.1, h.to_left.2);
+      to_right = (h.to_right.0, old_view b h.to_right.0 h.to_right.1, h.to_right.2);
+      left_later = h.left_later;
+      right_later = h.right_later;
+    }
+
+    child_fate : (k : ℕ) (child : View) (fate : Fate) → IsChildFate problem view child fate → IsFate problem (views ++ x ∷ y ∷ []) after k child fate
+    child_fate k child Open h = h.0
+    child_fate k child Dead h = h
+    child_fate k child (Cut c a b) h = absurd h
+
+    this_cut : IsCutAt problem (views ++ x ∷ y ∷ []) after j view conflict (length fates) (length fates + 1)
+    this_cut =
+        let inside : j < length fates = slice_get_within fates j Open was_open in
+        record {
+          live = searched.each j view Open is was_open;
+          proper = conflict_proper problem view (searched.each j view Open is was_open) conflict meet;
+          early = in_time;
+          meet = meet;
+          apart = apart;
+          to_left = (x, x_at, x_constraints);
+          to_right = (y, y_at, y_constraints);
+          left_later = inside;
+          right_later = omega arith;
+        }
+
+    each_at : (k : ℕ) (v : View) (fate : Fate) → Place k v fate → IsFate problem (views ++ x ∷ y ∷ []) after k v fate
+    each_at k v fate (Old old other v_is fate_is) = lift_fate k v fate (searched.each k v fate v_is fate_is)
+    each_at k v fate (This this v_is fate_is) =
+        subst (λ f. IsFate problem (views ++ x ∷ y ∷ []) after k v f) (sym fate_is)
+        (subst (λ w. IsCutAt problem (views ++ x ∷ y ∷ []) after k w conflict (length fates) (length fates + 1)) (sym v_is)
+        (subst (λ n. IsCutAt problem (views ++ x ∷ y ∷ []) after n view conflict (length fates) (length fates + 1)) (sym this) this_cut))
+    each_at k v fate (First first v_is fate_is) =
+        subst (λ f. IsFate problem (views ++ x ∷ y ∷ []) after k v f) (sym fate_is) (child_fate k v left (subst (λ w. IsChildFate problem view w left) (sym v_is) x_is))
+    each_at k v fate (Second second v_is fate_is) =
+        subst (λ f. IsFate problem (views ++ x ∷ y ∷ []) after k v f) (sym fate_is) (child_fate k v right (subst (λ w. IsChildFate problem view w right) (sym v_is) y_is))
+
+    child_least : (child : View) (fate : Fate) → IsChildFate problem view child fate → fate ≡ Open → sum view.costs ≤ sum child.costs
+    child_least child Open h is_open = h.1
+    child_least child Dead h is_open = absurd cc
+    child_least child (Cut c a b) h is_open = absurd h
+
+    -- an open node is an old one, or no cheaper than the node that was split
+    open_at : (m : ℕ) (v : View) → Place m v Open → ((slice_get views m ≡ Some v) × (slice_get fates m ≡ Some Open)) ⊎ (sum view.costs ≤ sum v.costs)
+    open_at m v (Old old other v_is fate_is) = inl (v_is, fate_is)
+    open_at m v (This this v_is fate_is) = absurd cc
+    open_at m v (First first v_is fate_is) = inr (subst (λ (w : View). sum view.costs ≤ sum w.costs) (sym v_is) (child_least x left x_is (sym fate_is)))
+    open_at m v (Second second v_is fate_is) = inr (subst (λ (w : View). sum view.costs ≤ sum w.costs) (sym v_is) (child_least y right y_is (sym fate_is)))
+
+    child_not_cut : (child : View) (fate : Fate) → IsChildFate problem view child fate → IsCutFate fate → ⊥
+    child_not_cut child Open h cut = cut
+    child_not_cut child Dead h cut = cut
+    child_not_cut child (Cut c a b) h cut = h
+
+    least_at : (k m : ℕ) (v other : View) (fate : Fate) → Place k v fate → Place m other Open → IsCutFate fate → sum v.costs ≤ sum other.costs
+    least_at k m v other fate (Old old differ v_is fate_is) at cut = ⊎_elim
+        (λ (h : (slice_get views m ≡ Some other) × (slice_get fates m ≡ Some Open)). searched.least k m v other fate v_is h.0 fate_is cut h.1)
+        (λ (h : sum view.costs ≤ sum other.costs). let first = searched.least k j v view fate v_is is fate_is cut was_open in omega arith)
+        (open_at m other at)
+    least_at k m v other fate (This this v_is fate_is) at cut = subst (λ (w : View). sum w.costs ≤ sum other.costs) (sym v_is) (⊎_elim
+        (λ (h : (slice_get views m ≡ Some other) × (slice_get fates m ≡ Some Open)). least m other h.0 h.1)
+        (λ (h : sum view.costs ≤ sum other.costs). h)
+        (open_at m other at))
+    least_at k m v other fate (First first v_is fate_is) at cut = absurd (child_not_cut x left x_is (subst IsCutFate fate_is cut))
+    least_at k m v other fate (Second second v_is fate_is) at cut = absurd (child_not_cut y right y_is (subst IsCutFate fate_is cut))
+
+    early : tick_of conflict < count * free_cell_count problem.grid + free_cell_count problem.grid
+    early = conflict_early problem view (searched.each j view Open is was_open) goals (count * free_cell_count problem.grid) (λ i. searched.low j view i is) conflict meet
+
+    low_left : (c : Conflict) → tick_of c < (count + 1) * free_cell_count problem.grid → (i : ℕ) → AreBefore ((count + 1) * free_cell_count problem.grid) ((left_child_constraints view.constraints c).bars i)
+    low_left (Vertex a b cell tick) before = AreBefore-with_bar view.constraints.bars a (Cell cell tick) (count * free_cell_count problem.grid) ((count + 1) * free_cell_count problem.grid) (omega arith) before (λ i. searched.low j view i is)
+    low_left (Swap a b from to tick) before = AreBefore-with_bar view.constraints.bars a (Move from to tick) (count * free_cell_count problem.grid) ((count + 1) * free_cell_count problem.grid) (omega arith) before (λ i. searched.low j view i is)
+
+    low_right : (c : Conflict) → tick_of c < (count + 1) * free_cell_count problem.grid → (i : ℕ) → AreBefore ((count + 1) * free_cell_count problem.grid) ((right_child_constraints view.constraints c).bars i)
+    low_right (Vertex a b cell tick) before = AreBefore-with_bar view.constraints.bars b (Cell cell tick) (count * free_cell_count problem.grid) ((count + 1) * free_cell_count problem.grid) (omega arith) before (λ i. searched.low j view i is)
+    low_right (Swap a b from to tick) before = AreBefore-with_bar view.constraints.bars b (Move to from tick) (count * free_cell_count problem.grid) ((count + 1) * free_cell_count problem.grid) (omega arith) before (λ i. searched.low j view i is)
+
+    low_at : (k : ℕ) (v : View) → slice_get (views ++ x ∷ y ∷ []) k ≡ Some v → (i : ℕ) → AreBefore ((count + 1) * free_cell_count problem.grid) (v.constraints.bars i)
+    low_at k v v_is i =
+        let size = searched.lengths in
+        let two = length-two_more views x y in
+        let within : k < length (views ++ x ∷ y ∷ []) = slice_get_within (views ++ x ∷ y ∷ []) k v v_is in
+        let before : tick_of conflict < (count + 1) * free_cell_count problem.grid = (let e = early in omega arith) in
+        ⊎_elim
+        (λ (old : k < length fates).
+        λ bar in_it. let b = searched.low k v i (sym (slice_get-front views (x ∷ y ∷ []) k (omega arith)) ∙ v_is) bar in_it in omega arith)
+        (λ (new : length fates ≤ k). ⊎_elim
+        (λ (first : k ≡ length fates).
+        let e : x ≡ v = same_Some x v (sym x_at ∙ subst (λ n. slice_get (views ++ x ∷ y ∷ []) n ≡ Some v) first v_is) in
+        subst (λ (w : View). AreBefore ((count + 1) * free_cell_count problem.grid) (w.constraints.bars i)) e (subst (λ (w : NodeConstraints). AreBefore ((count + 1) * free_cell_count problem.grid) (w.bars i)) (sym x_constraints) (low_left conflict before i)))
+        (λ (not_first : k ≢ length fates).
+        let second : k ≡ length fates + 1 = omega arith in
+        let e : y ≡ v = same_Some y v (sym y_at ∙ subst (λ n. slice_get (views ++ x ∷ y ∷ []) n ≡ Some v) second v_is) in
+        subst (λ (w : View). AreBefore ((count + 1) * free_cell_count problem.grid) (w.constraints.bars i)) e (subst (λ (w : NodeConstraints). AreBefore ((count + 1) * free_cell_count problem.grid) (w.bars i)) (sym y_constraints) (low_right conflict before i)))
+        (cases_eq k (length fates)))
+        (cases_lt k (length fates))
+
+    pub searched_grown : IsSearched problem (views ++ x ∷ y ∷ []) after (count + 1)
+    searched_grown =
+        let size = searched.lengths in let two = length-two_more views x y in let grew = grown.size in
+        record {
+          lengths = omega arith;
+          first = (searched.first.0, old_view 0 searched.first.0 searched.first.1, searched.first.2);
+          each = λ k v fate v_is fate_is. each_at k v fate (place k v fate v_is fate_is);
+          least = λ k m v other fate v_is other_is fate_is cut is_open. least_at k m v other fate (place k v fate v_is fate_is) (place m other Open other_is is_open) cut;
+          tree = IsOneTree-grown fates after j conflict left right Open grown was_open tt count searched.tree;
+          low = λ k v i v_is. low_at k v v_is i;
+        }

@@ -1,0 +1,16 @@
+pub mod RouteLemmas
+pub mod SumLemmas
+pub mod ViewLemmas
+pub mod ChildLemmas
+pub mod TreeLemmas
+pub mod ShapeLemmas
+pub mod GrowLemmas
+pub mod ArenaLemmas
+pub mod BlockLemmas
+pub mod ItemLemmas
+pub mod RangeLemmas
+pub mod BornLemmas
+pub mod OpenLemmas
+pub mod StateLemmas
+pub mod AnswerLemmas
+pub mod StartLemmas

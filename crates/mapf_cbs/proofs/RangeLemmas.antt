@@ -1,0 +1,144 @@
+-- What a search finds can be printed.
+use Rattle.std.proofs.Common.{◌≡◌, ◌≢◌, ◌⊎◌, ℕ, zero, suc, ◌+◌, ◌*◌, ◌-◌, ◌<◌, ◌≤◌, min, true, false, List, [], ◌∷◌, Some, All, AllPairs, length, sum, slice_get, slice_index, get_or, refl, sym, ◌∙◌, subst, inl, inr, ⊎_elim, arith}
+use Rattle.std.proofs.lemmas.Bool.{cases_eq, cases_lt}
+use Rattle.std.proofs.lemmas.List.{get_or_past, get_or_default}
+use Rattle.std.proofs.lemmas.List.Sums.{sum_by-cons}
+use Rattle.std.proofs.lemmas.Option.{slice_get_within, get_or_from_slice_get, same_Some}
+use Rattle.mapf_model.specs.Blocks.{LabelBlock}
+use Rattle.mapf_model.specs.declared.conflict.Conflict.{Conflict}
+use Rattle.mapf_model.specs.declared.conflict.Conflict.TheVariants.{Vertex, Swap}
+use Rattle.mapf_model.specs.declared.problem.Agent.{Agent}
+use Rattle.mapf_model.specs.Earned.{tick_of}
+use Rattle.mapf_model.specs.Grid.{GridMap, IsGridMap, IsFree, Step}
+use Rattle.mapf_model.specs.Path.{at, IsLawful, IsTight}
+use Rattle.mapf_model.specs.Plan.{Instance}
+use Rattle.mapf_model.specs.Printed.{IsOnGrid, IsBefore, IsEntryInRange, AreBlocksInRange, IsConflictInRange, IsTreeInRange, IsPathInRange, IsPlanInRange}
+use Rattle.mapf_model.specs.Tree.{ConstraintTree, Split, Leaf, Clash, IsProperSplit}
+use Rattle.mapf_model.proofs.ClaimLemmas.{slice_get_inside}
+use Rattle.mapf_model.proofs.DecidedLemmas.{cost_unique}
+use Rattle.mapf_model.proofs.PathLemmas.{IsCost-tight}
+use Rattle.mapf_cbs.specs.declared.node.Fate.{Fate}
+use Rattle.mapf_cbs.specs.declared.node.Fate.TheVariants.{Open, Dead, Cut}
+use Rattle.mapf_cbs.specs.Search.{View, IsLive, IsDead, IsSearched, AreBlocksOf, IsTreeAt}
+use Rattle.mapf_cbs.proofs.ChildLemmas.{step_free}
+use Rattle.mapf_cbs.proofs.ViewLemmas.{route_of}
+
+free_on_grid : (grid : GridMap) (cell : ℕ) → IsGridMap grid → IsFree grid cell → IsOnGrid grid cell
+free_on_grid grid cell shape free =
+    let flags = shape.4 in
+    ⊎_elim
+    (λ (inside : cell < length grid.free). omega arith)
+    (λ (past : length grid.free ≤ cell). absurd (let none = get_or_past grid.free cell false past in let clash : false ≡ true = sym none ∙ free in cc))
+    (cases_lt cell (length grid.free))
+
+path_in_range : (grid : GridMap) (agent : Agent) (path : List ℕ) → IsGridMap grid → IsLawful grid agent path → IsTight path → length path ≤ 10000000 → IsPathInRange grid path
+path_in_range grid agent [] shape lawful tight short = absurd (lawful.is_path.nonempty refl)
+path_in_range grid agent (x ∷ xs) shape lawful tight short = record {
+  some = omega arith;
+  short = short;
+  on_grid = λ k d within.
+      let here : min k (length (x ∷ xs) - 1) ≡ k = omega arith in
+      let free : IsFree grid (slice_index (x ∷ xs) k) = rw here at (step_free grid (at (x ∷ xs) k) (at (x ∷ xs) (k + 1)) (lawful.is_path.steps k)) in
+      let same : get_or (x ∷ xs) k d ≡ slice_index (x ∷ xs) k = get_or_default (x ∷ xs) k d 0 within in
+      rw same (free_on_grid grid (slice_index (x ∷ xs) k) shape free);
+  tight = tight;
+}
+
+sum_at_most : (xs : List ℕ) (top : ℕ) → ((i x : ℕ) → slice_get xs i ≡ Some x → x ≤ top) → sum xs ≤ length xs * top
+sum_at_most [] top each = omega arith
+sum_at_most (x ∷ xs) top each =
+    let first = each 0 x refl in
+    let rest = sum_at_most xs top (λ i. each (suc i)) in
+    rw sum_by-cons (omega arith)
+
+-- the entries of each agent rise and are in range
+abbrev pub AreEntriesInRange : Instance → View → Type 0
+AreEntriesInRange problem view = (i : ℕ) → i < length problem.agents → AllPairs IsBefore (view.entries i) × All (IsEntryInRange problem.grid) (view.entries i)
+
+module _ (problem : Instance) (shape : IsGridMap problem.grid) where
+  conflict_in_range : (conflict : Conflict) → IsProperSplit problem conflict → tick_of conflict < 1000000 → IsConflictInRange problem.grid (length problem.agents) conflict
+  conflict_in_range (Vertex i j cell tick) proper early = (proper.0.1, proper.0.2, free_on_grid problem.grid cell shape proper.1, omega arith)
+  conflict_in_range (Swap i j from to tick) proper early = (proper.0.1, proper.0.2, free_on_grid problem.grid from shape proper.1.from_free, free_on_grid problem.grid to shape proper.1.to_free, omega arith)
+
+  live_entries : (view : View) → IsLive problem view → AreEntriesInRange problem view
+  live_entries view live i within =
+      let agent = slice_get_inside problem.agents i within in
+      let r = route_of problem view live.counted i agent.0 agent.1 in
+      let labels = (live.each i agent.0 r.0 r.1 agent.1 r.2 r.3).labels in
+      (labels.rising, labels.ranges)
+
+  dead_entries : (view : View) → IsDead problem view → AreEntriesInRange problem view
+  dead_entries view dead i within = ⊎_elim
+      (λ (same : i ≡ dead.who).
+      subst (λ n. AllPairs IsBefore (view.entries n) × All (IsEntryInRange problem.grid) (view.entries n)) (sym same) (dead.blocked.labels.rising, dead.blocked.labels.ranges))
+      (λ (other : i ≢ dead.who).
+      let agent = slice_get_inside problem.agents i within in
+      let r = route_of problem view dead.counted i agent.0 agent.1 in
+      let labels = (dead.each i agent.0 r.0 r.1 other agent.1 r.2 r.3).labels in
+      (labels.rising, labels.ranges))
+      (cases_eq i dead.who)
+
+  leaf_in_range : (view : View) (blocks : List LabelBlock) → AreBlocksOf (length problem.agents) view.entries blocks → AreEntriesInRange problem view → AreBlocksInRange problem.grid (length problem.agents) blocks
+  leaf_in_range view blocks are good = record {
+    each = λ k d within.
+        let filled = are.filled k d within in
+        let known = are.of_agents k d within in
+        let g = good (get_or blocks k d).agent known in
+        record {
+          agent = known;
+          some = filled.1;
+          few = filled.2;
+          entries = subst (λ es. All (IsEntryInRange problem.grid) es) (sym filled.0) g.1;
+          rising = subst (λ es. AllPairs IsBefore es) (sym filled.0) g.0;
+        };
+    rising = are.rising;
+  }
+
+  pub tree_in_range : (views : List View) (fates : List Fate) (count : ℕ) → IsSearched problem views fates count → (tree : ConstraintTree) (k : ℕ) → IsTreeAt (length problem.agents) views fates k tree → IsTreeInRange problem.grid (length problem.agents) tree
+  tree_in_range views fates count searched (Split conflict left right) k (a, b, cut, on_left, on_right) =
+      let size = searched.lengths in
+      let inside : k < length fates = slice_get_within fates k (Cut conflict a b) cut in
+      let view = slice_get_inside views k (omega arith) in
+      let at_cut = searched.each k view.0 (Cut conflict a b) view.1 cut in
+      (conflict_in_range conflict at_cut.proper at_cut.early, tree_in_range views fates count searched left a on_left, tree_in_range views fates count searched right b on_right)
+  tree_in_range views fates count searched (Leaf blocks) k (view, Open, view_is, fate_is, end, are) = leaf_in_range view blocks are (live_entries view (searched.each k view Open view_is fate_is))
+  tree_in_range views fates count searched (Leaf blocks) k (view, Dead, view_is, fate_is, end, are) = leaf_in_range view blocks are (dead_entries view (searched.each k view Dead view_is fate_is))
+  tree_in_range views fates count searched (Leaf blocks) k (view, Cut c a b, view_is, fate_is, end, are) = absurd end
+  tree_in_range views fates count searched (Clash i j) k none = absurd none
+
+  module _ (view : View) (live : IsLive problem view) (short : All (λ path. length path ≤ 10000000) view.paths) (few : length problem.agents ≤ 200) where
+    short_at : (i : ℕ) (path : List ℕ) → slice_get view.paths i ≡ Some path → length path ≤ 10000000
+    short_at i path is =
+        let here : get_or view.paths i path ≡ path = get_or_from_slice_get view.paths i path path is in
+        rw here at (short i path (slice_get_within view.paths i path is))
+
+    pub plan_in_range : 1 ≤ length problem.agents → IsPlanInRange problem.grid view.paths
+    plan_in_range some =
+        let count = live.counted.paths in
+        record {
+          some = omega arith;
+          few = omega arith;
+          paths = λ k d within.
+              let agent = slice_get_inside problem.agents k (omega arith) in
+              let r = route_of problem view live.counted k agent.0 agent.1 in
+              let route = live.each k agent.0 r.0 r.1 agent.1 r.2 r.3 in
+              let here : get_or view.paths k d ≡ r.0 = get_or_from_slice_get view.paths k r.0 d r.2 in
+              rw here (path_in_range problem.grid agent.0 r.0 shape route.lawful route.tight (short_at k r.0 r.2));
+        }
+
+    cost_at_most : (i cost : ℕ) → slice_get view.costs i ≡ Some cost → cost ≤ 9999999
+    cost_at_most i cost is =
+        let count = live.counted.costs in
+        let inside : i < length view.costs = slice_get_within view.costs i cost is in
+        let agent = slice_get_inside problem.agents i (omega arith) in
+        let r = route_of problem view live.counted i agent.0 agent.1 in
+        let route = live.each i agent.0 r.0 cost agent.1 r.2 is in
+        let same : cost ≡ length r.0 - 1 = cost_unique agent.0.goal r.0 cost (length r.0 - 1) route.is_cost (IsCost-tight problem.grid agent.0 r.0 route.lawful route.tight) in
+        let low = short_at i r.0 r.2 in
+        omega (arith, same, low)
+
+    pub sum_in_range : sum view.costs ≤ 1999999800
+    sum_in_range =
+        let top = sum_at_most view.costs 9999999 cost_at_most in
+        let count = live.counted.costs in
+        omega arith

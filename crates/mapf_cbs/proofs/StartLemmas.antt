@@ -1,0 +1,101 @@
+-- The root of a search, and the trees of one node.
+use Rattle.std.proofs.Common.{◌≡◌, ◌≢◌, ℕ, zero, suc, ◌+◌, ◌-◌, ◌<◌, ◌≤◌, ◌++◌, List, [], ◌∷◌, Some, Vec, map, length, length-append, sum, sum_by, slice_get, get_or, refl, sym, ◌∙◌, ap, subst, inl, inr, ⊎_elim, arith}
+use Rattle.std.specs.declared.alloc.Global.{Global}
+use Rattle.std.proofs.lemmas.Bool.{cases_lt}
+use Rattle.std.proofs.lemmas.Option.{slice_get_read, slice_get_within, same_Some, slice_get-map}
+use Rattle.std.proofs.lemmas.List.{length-map}
+use Rattle.std.proofs.lemmas.List.Sums.{sum-map}
+use Rattle.mapf_model.specs.declared.item.Claim.TheVariants.{Impossible}
+use Rattle.mapf_model.specs.declared.item.Item.{Item}
+use Rattle.mapf_model.specs.declared.item.Item.TheVariants.{Leaf as LeafItem, Clash as ClashItem}
+use Rattle.mapf_model.specs.declared.problem.Agent.{Agent}
+use Rattle.mapf_model.specs.Blocks.{LabelBlock}
+use Rattle.mapf_model.specs.Grid.{GridMap}
+use Rattle.mapf_model.specs.Plan.{Instance}
+use Rattle.mapf_model.specs.Tree.{ConstraintTree, Leaf, Clash, Shows, ShareGoal, root}
+use Rattle.mapf_model.proofs.SumLemmas.{snoc_get}
+use Rattle.mapf_cbs.specs.Answer.{IsTreeOf, IsShownImpossible}
+use Rattle.mapf_cbs.specs.Arena.{IsRootView}
+use Rattle.mapf_cbs.specs.Search.{View, IsCheapestOf, IsLive}
+use Rattle.mapf_cbs.specs.Start.{HaveGoal, IsShortest, AreShortest, SomeGoalIsUnreachable}
+use Rattle.mapf_cbs.proofs.AnswerLemmas.{is_shown_impossible}
+use Rattle.mapf_cbs.proofs.RouteLemmas.{cheapest_of_shortest}
+
+-- an element of a list that is known by another name
+pub read_through : {X : Type 0} (xs ys : List X) (i : ℕ) (x : X) → xs ≡ ys → i < length xs → x ≡ get_or xs i x → slice_get ys i ≡ Some x
+read_through xs ys i x same within is = subst (λ zs. slice_get zs i ≡ Some x) same (slice_get_read xs (length xs) i x refl within is)
+
+pub AreShortest-more : (problem : Instance) (paths : List (List ℕ)) (agent : Agent) (path : List ℕ) → AreShortest problem paths →
+    slice_get problem.agents (length paths) ≡ Some agent → IsShortest problem.grid agent path → AreShortest problem (paths ++ path ∷ [])
+AreShortest-more problem paths agent path shortest this is =
+    let inside : length paths < length problem.agents = slice_get_within problem.agents (length paths) agent this in
+    record {
+      within = omega (arith, length-append paths (path ∷ []));
+      each = λ i a p ea ep. ⊎_elim
+          (λ (old : slice_get paths i ≡ Some p). shortest.each i a p ea old)
+          (λ (new : (i ≡ length paths) × (path ≡ p)).
+          let same = same_Some agent a (sym this ∙ subst (λ j. slice_get problem.agents j ≡ Some a) new.0 ea) in
+          subst (λ x. IsShortest problem.grid a x) new.1 (subst (λ x. IsShortest problem.grid x path) same is))
+          (snoc_get paths path i p ep);
+    }
+
+some_cells : (grid : GridMap) (agent : Agent) (path : List ℕ) → IsShortest grid agent path → 1 ≤ length path
+some_cells grid agent [] short = absurd (short.lawful.is_path.nonempty refl)
+some_cells grid agent (x ∷ xs) short = omega arith
+
+-- the root: no bars, and the agents' shortest paths
+pub record IsRootOf (problem : Instance) (paths : List (List ℕ)) : Type 0 where
+  pub view : View
+  pub is_root : IsRootView paths view
+  pub live : IsLive problem view
+  pub total : sum view.costs ≡ sum_by (λ path. length path - 1) paths
+
+pub root_of : (problem : Instance) (paths : List (List ℕ)) → length paths ≡ length problem.agents → AreShortest problem paths → IsRootOf problem paths
+root_of problem paths count shortest = record {
+  view = record { constraints = root; paths = paths; costs = map (λ path. length path - 1) paths; entries = λ i. [] };
+  is_root = record { constraints = refl; same_paths = refl; entries = λ i. refl };
+  live = record {
+    counted = record { paths = count; costs = length-map paths (λ path. length path - 1) ∙ count };
+    each = λ i agent path cost a p c.
+        let e = slice_get-map (λ path. length path - 1) paths i in
+        let same : length path - 1 ≡ cost = same_Some (length path - 1) cost (let f : slice_get (map (λ path. length path - 1) paths) i ≡ Some (length path - 1) = rw p at e in sym f ∙ c) in
+        let short = shortest.each i agent path a p in
+        rw (← same) (cheapest_of_shortest problem.grid agent path short (some_cells problem.grid agent path short));
+  };
+  total = sum-map (λ path. length path - 1) paths;
+}
+
+-- a leaf without blocks, where a goal can't be reached
+pub leaf_answer : (problem : Instance) → SomeGoalIsUnreachable problem → (items : List Item) (blocks : Vec LabelBlock Global) → items ≡ LeafItem blocks ∷ [] → blocks.items ≡ [] → (tree : ConstraintTree) × IsTreeOf problem items tree × IsShownImpossible problem tree
+leaf_answer problem (i, agent, is, unreachable) items blocks items_are none = (
+  Leaf [],
+  record {
+    spelled = rw items_are (rw none refl);
+    earned = record { proper = (λ a b d lt within. absurd (omega arith), λ k d within. absurd (omega arith)); splits = tt };
+    in_range = record { each = λ k d within. absurd (omega arith); rising = λ a b d lt within. absurd (omega arith) };
+  },
+  is_shown_impossible problem (Leaf []) (record { proper = (λ a b d lt within. absurd (omega arith), λ k d within. absurd (omega arith)); nodes = (λ j other block this found. cc, (i, agent, is, unreachable)) }),
+)
+
+share_goal : (problem : Instance) (i j : ℕ) → i ≢ j → HaveGoal problem.agents i j → ShareGoal problem i j
+share_goal problem i j differ (a, b, ia, jb, same) = (differ, a, b, ia, jb, same)
+
+-- a clash of two agents that have one goal
+pub clash_answer : (problem : Instance) (i j : ℕ) → i < j → j < length problem.agents → HaveGoal problem.agents i j → (items : List Item) → items ≡ ClashItem i j ∷ [] → (tree : ConstraintTree) × IsTreeOf problem items tree × IsShownImpossible problem tree
+clash_answer problem i j less within shared items items_are = (
+  Clash i j,
+  record {
+    spelled = rw items_are refl;
+    earned = record { proper = tt; splits = tt };
+    in_range = (omega arith, within);
+  },
+  is_shown_impossible problem (Clash i j) (record { proper = tt; nodes = share_goal problem i j (λ e. omega arith) shared }),
+)
+
+
+-- where no agent and a later one have one goal, no two have
+pub none_share : (problem : Instance) → ((i j : ℕ) → i < j → j < length problem.agents → HaveGoal problem.agents i j → ⊥) → (i j : ℕ) → ShareGoal problem i j → ⊥
+none_share problem none i j (differ, a, b, ia, jb, same) = ⊎_elim
+    (λ (less : i < j). none i j less (slice_get_within problem.agents j b jb) (a, b, ia, jb, same))
+    (λ (more : j ≤ i). none j i (omega arith) (slice_get_within problem.agents i a ia) (b, a, jb, ia, sym same))
+    (cases_lt i j)

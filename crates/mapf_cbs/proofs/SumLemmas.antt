@@ -1,0 +1,72 @@
+-- Lists by place, and sums of costs and labels.
+use Rattle.std.proofs.Common.{◌≡◌, ◌≢◌, ℕ, zero, suc, ◌+◌, ◌<◌, ◌≤◌, List, [], ◌∷◌, ◌++◌, Some, length, sum, map, slice_get, slice_set, refl, sym, ◌∙◌, ap, arith}
+use Rattle.std.proofs.lemmas.Option.{same_Some}
+use Rattle.std.proofs.lemmas.List.Sums.{sum_by-cons}
+use Rattle.mapf_model.specs.declared.label.Label.{Label}
+use Rattle.mapf_model.specs.declared.label.Label.TheVariants.{Ticks, Never}
+use Rattle.mapf_model.specs.Labels.{label_sum, label_plus}
+
+pub slice_get-set_same : {X : Type 0} (xs : List X) (i : ℕ) (x : X) → i < length xs → slice_get (slice_set xs i x) i ≡ Some x
+slice_get-set_same [] i x within = absurd (omega arith)
+slice_get-set_same (y ∷ xs) zero x within = refl
+slice_get-set_same (y ∷ xs) (suc i) x within = slice_get-set_same xs i x (omega arith)
+
+pub slice_get-set_other : {X : Type 0} (xs : List X) (i k : ℕ) (x : X) → k ≢ i → slice_get (slice_set xs i x) k ≡ slice_get xs k
+slice_get-set_other [] i k x other = refl
+slice_get-set_other (y ∷ xs) zero zero x other = absurd (other refl)
+slice_get-set_other (y ∷ xs) zero (suc k) x other = refl
+slice_get-set_other (y ∷ xs) (suc i) zero x other = refl
+slice_get-set_other (y ∷ xs) (suc i) (suc k) x other = slice_get-set_other xs i k x (λ e. other (ap suc e))
+
+pub length-slice_set : {X : Type 0} (xs : List X) (i : ℕ) (x : X) → length (slice_set xs i x) ≡ length xs
+length-slice_set [] i x = refl
+length-slice_set (y ∷ xs) zero x = refl
+length-slice_set (y ∷ xs) (suc i) x = ap suc (length-slice_set xs i x)
+
+pub slice_get-front : {X : Type 0} (xs ys : List X) (k : ℕ) → k < length xs → slice_get (xs ++ ys) k ≡ slice_get xs k
+slice_get-front [] ys k within = absurd (omega arith)
+slice_get-front (x ∷ xs) ys zero within = refl
+slice_get-front (x ∷ xs) ys (suc k) within = slice_get-front xs ys k (omega arith)
+
+pub slice_get-here : {X : Type 0} (xs ys : List X) (x : X) → slice_get (xs ++ x ∷ ys) (length xs) ≡ Some x
+slice_get-here [] ys x = refl
+slice_get-here (y ∷ xs) ys x = slice_get-here xs ys x
+
+pub slice_get-second : {X : Type 0} (xs : List X) (x y : X) → slice_get (xs ++ x ∷ y ∷ []) (length xs + 1) ≡ Some y
+slice_get-second [] x y = refl
+slice_get-second (z ∷ xs) x y = let e : suc (length xs) + 1 ≡ suc (length xs + 1) = omega arith in rw e (slice_get-second xs x y)
+
+pub length-two_more : {X : Type 0} (xs : List X) (x y : X) → length (xs ++ x ∷ y ∷ []) ≡ length xs + 2
+length-two_more [] x y = omega arith
+length-two_more (z ∷ xs) x y = let rest = length-two_more xs x y in omega arith
+
+pub sum-set : (xs : List ℕ) (i x y : ℕ) → slice_get xs i ≡ Some x → sum (slice_set xs i y) + x ≡ sum xs + y
+sum-set [] i x y is = absurd cc
+sum-set (z ∷ xs) zero x y is = let same : z ≡ x = same_Some z x is in rw sum_by-cons (rw sum_by-cons (omega arith))
+sum-set (z ∷ xs) (suc i) x y is = let rest = sum-set xs i x y is in rw sum_by-cons (rw sum_by-cons (omega arith))
+
+-- with an infinite part the sum is infinite
+pub label_sum-never : (labels : List Label) (i : ℕ) → slice_get labels i ≡ Some Never → label_sum labels ≡ Never
+label_sum-never [] i is = absurd cc
+label_sum-never (Ticks n ∷ labels) zero is = absurd cc
+label_sum-never (Never ∷ labels) zero is = refl
+label_sum-never (Ticks n ∷ labels) (suc i) is = ap (label_plus (Ticks n)) (label_sum-never labels i is)
+label_sum-never (Never ∷ labels) (suc i) is = refl
+
+pub label_sum-ticks : (costs : List ℕ) → label_sum (map Ticks costs) ≡ Ticks (sum costs)
+label_sum-ticks [] = refl
+label_sum-ticks (cost ∷ costs) = ap (label_plus (Ticks cost)) (label_sum-ticks costs) ∙ ap Ticks (sym (sum_by-cons (λ x. x) cost costs))
+
+-- sums of lists whose elements are in order
+pub sum-le : (xs ys : List ℕ) → length xs ≡ length ys → ((i x y : ℕ) → slice_get xs i ≡ Some x → slice_get ys i ≡ Some y → x ≤ y) → sum xs ≤ sum ys
+sum-le [] [] same each = omega arith
+sum-le [] (y ∷ ys) same each = absurd (omega arith)
+sum-le (x ∷ xs) [] same each = absurd (omega arith)
+sum-le (x ∷ xs) (y ∷ ys) same each =
+    let first = each 0 x y refl refl in
+    let rest = sum-le xs ys (omega arith) (λ i. each (suc i)) in
+    rw sum_by-cons (rw sum_by-cons (omega arith))
+
+pub length-ticks : (costs : List ℕ) → length (map Ticks costs) ≡ length costs
+length-ticks [] = refl
+length-ticks (cost ∷ costs) = ap suc (length-ticks costs)

@@ -1,0 +1,270 @@
+-- What the tree of a search shows, and that it is earned.
+use Rattle.std.proofs.Common.{◌≡◌, ◌≢◌, ◌⊎◌, ℕ, ◌<◌, ◌≤◌, List, Option, Some, None, length, sum, map, slice_get, slice_set, refl, sym, ◌∙◌, subst, inl, inr, ⊎_elim, arith, nat_eq}
+use Rattle.std.proofs.lemmas.Bool.{cases_eq, cases_lt, cond_both, eqb-true}
+use Rattle.std.proofs.lemmas.Option.{slice_get_within, same_Some, slice_get-map}
+use Rattle.mapf_model.specs.declared.problem.Agent.{Agent}
+use Rattle.mapf_model.specs.declared.label.Label.{Label}
+use Rattle.mapf_model.specs.declared.label.Label.TheVariants.{Ticks, Never}
+use Rattle.mapf_model.specs.declared.item.Claim.TheVariants.{Cost, Impossible}
+use Rattle.mapf_model.specs.Blocks.{LabelBlock}
+use Rattle.mapf_model.specs.Labels.{entries_of, AreSound, IsLabel, IsAtMost, label_sum}
+use Rattle.mapf_model.specs.Plan.{Instance, IsSumOfCosts}
+use Rattle.mapf_model.specs.Tree.{ConstraintTree, Split, Leaf, Clash, NodeConstraints, AtEachNode, AtEachEnd, AtSomeLeaf, split_count, IsProper, IsProperNode, block_of, entries_or, with_blocks, no_entries, AreBlocksSound, AreStartLabels, NodeShows, Shows}
+use Rattle.mapf_model.specs.Earned.{AreCheapest, AreDue, HaveSomeConflict, IsEarnedNode, IsEarned, IsStoppedWhere}
+use Rattle.mapf_cbs.specs.declared.node.Fate.{Fate}
+use Rattle.mapf_cbs.specs.declared.node.Fate.TheVariants.{Open, Dead, Cut}
+use Rattle.mapf_cbs.specs.Search.{View, IsLive, IsDead, IsCheapestOf, IsEndFate, Shape, Node, End, splits, occurrences, IsShape, IsSearched, AreBlocksOf, IsTreeAt}
+use Rattle.mapf_cbs.proofs.SumLemmas.{slice_get-set_same, slice_get-set_other, length-slice_set, length-ticks, label_sum-never, label_sum-ticks}
+use Rattle.mapf_cbs.proofs.ViewLemmas.{route_of, live_cheapest, live_sum, live_least, dead_none}
+
+-- sound entries for each agent, and the labels of the starts
+pub record AreLabelled (problem : Instance) (view : View) (labels : List Label) : Type 0 where
+  pub sound : (i : ℕ) (agent : Agent) → slice_get problem.agents i ≡ Some agent → AreSound problem.grid agent.goal (view.constraints.bars i) (entries_of (view.entries i))
+  pub starts : AreStartLabels problem (λ i. entries_of (view.entries i)) labels
+
+module _ (problem : Instance) (view : View) where
+  route_label : (i : ℕ) (agent : Agent) (label : Label) (path : List ℕ) (cost : ℕ) → slice_get view.costs i ≡ Some cost → slice_get (map Ticks view.costs) i ≡ Some label →
+      IsCheapestOf problem view i agent path cost → IsLabel problem.grid agent.goal (entries_of (view.entries i)) agent.start 0 label
+  route_label i agent label path cost is l route =
+      let e = slice_get-map Ticks view.costs i in
+      let same : Ticks cost ≡ label = same_Some (Ticks cost) label (let f : slice_get (map Ticks view.costs) i ≡ Some (Ticks cost) = rw is at e in sym f ∙ l) in
+      subst (λ x. IsLabel problem.grid agent.goal (entries_of (view.entries i)) agent.start 0 x) same route.start
+
+  pub live_labelled : IsLive problem view → AreLabelled problem view (map Ticks view.costs)
+  live_labelled live = record {
+    sound = λ i agent a. let r = route_of problem view live.counted i agent a in (live.each i agent r.0 r.1 a r.2 r.3).labels.sound;
+    starts = record {
+      count = length-ticks view.costs ∙ live.counted.costs;
+      each = λ i agent label a l. let r = route_of problem view live.counted i agent a in route_label i agent label r.0 r.1 r.3 l (live.each i agent r.0 r.1 a r.2 r.3);
+    };
+  }
+
+  dead_sound : (dead : IsDead problem view) (i : ℕ) (agent : Agent) → slice_get problem.agents i ≡ Some agent → (i ≡ dead.who) ⊎ (i ≢ dead.who) → AreSound problem.grid agent.goal (view.constraints.bars i) (entries_of (view.entries i))
+  dead_sound dead i agent a (inl same) =
+      let is : dead.agent ≡ agent = same_Some dead.agent agent (sym dead.known ∙ subst (λ n. slice_get problem.agents n ≡ Some agent) same a) in
+      subst (λ n. AreSound problem.grid agent.goal (view.constraints.bars n) (entries_of (view.entries n))) (sym same)
+      (subst (λ (x : Agent). AreSound problem.grid x.goal (view.constraints.bars dead.who) (entries_of (view.entries dead.who))) is dead.blocked.labels.sound)
+  dead_sound dead i agent a (inr differ) =
+      let r = route_of problem view dead.counted i agent a in (dead.each i agent r.0 r.1 differ a r.2 r.3).labels.sound
+
+  dead_start : (dead : IsDead problem view) (i : ℕ) (agent : Agent) (label : Label) → slice_get problem.agents i ≡ Some agent → slice_get (slice_set (map Ticks view.costs) dead.who Never) i ≡ Some label → (i ≡ dead.who) ⊎ (i ≢ dead.who) →
+      IsLabel problem.grid agent.goal (entries_of (view.entries i)) agent.start 0 label
+  dead_start dead i agent label a l (inl same) =
+      let is : dead.agent ≡ agent = same_Some dead.agent agent (sym dead.known ∙ subst (λ n. slice_get problem.agents n ≡ Some agent) same a) in
+      let inside : dead.who < length problem.agents = slice_get_within problem.agents dead.who dead.agent dead.known in
+      let size : length (map Ticks view.costs) ≡ length problem.agents = length-ticks view.costs ∙ dead.counted.costs in
+      let never : Never ≡ label = same_Some Never label (sym (slice_get-set_same (map Ticks view.costs) dead.who Never (omega arith)) ∙ subst (λ n. slice_get (slice_set (map Ticks view.costs) dead.who Never) n ≡ Some label) same l) in
+      subst (λ n. IsLabel problem.grid agent.goal (entries_of (view.entries n)) agent.start 0 label) (sym same)
+      (subst (λ (x : Agent). IsLabel problem.grid x.goal (entries_of (view.entries dead.who)) x.start 0 label) is
+      (subst (λ x. IsLabel problem.grid dead.agent.goal (entries_of (view.entries dead.who)) dead.agent.start 0 x) never dead.blocked.start))
+  dead_start dead i agent label a l (inr differ) =
+      let r = route_of problem view dead.counted i agent a in
+      route_label i agent label r.0 r.1 r.3 (sym (slice_get-set_other (map Ticks view.costs) dead.who i Never differ) ∙ l) (dead.each i agent r.0 r.1 differ a r.2 r.3)
+
+  pub dead_labelled : (dead : IsDead problem view) → AreLabelled problem view (slice_set (map Ticks view.costs) dead.who Never)
+  dead_labelled dead = record {
+    sound = λ i agent a. dead_sound dead i agent a (cases_eq i dead.who);
+    starts = record {
+      count = length-slice_set (map Ticks view.costs) dead.who Never ∙ length-ticks view.costs ∙ dead.counted.costs;
+      each = λ i agent label a l. dead_start dead i agent label a l (cases_eq i dead.who);
+    };
+  }
+
+  pub dead_infinite : (dead : IsDead problem view) → label_sum (slice_set (map Ticks view.costs) dead.who Never) ≡ Never
+  dead_infinite dead =
+      let inside : dead.who < length problem.agents = slice_get_within problem.agents dead.who dead.agent dead.known in
+      let size : length (map Ticks view.costs) ≡ length problem.agents = length-ticks view.costs ∙ dead.counted.costs in
+      label_sum-never (slice_set (map Ticks view.costs) dead.who Never) dead.who (slice_get-set_same (map Ticks view.costs) dead.who Never (omega arith))
+
+  module _ (blocks : List LabelBlock) (are : AreBlocksOf (length problem.agents) view.entries blocks) where
+    -- the blocks give each agent its entries
+    by_block : (i : ℕ) (agent : Agent) (label : Label) → i < length problem.agents → (found : Option LabelBlock) → block_of blocks i ≡ found →
+        IsLabel problem.grid agent.goal (entries_of (view.entries i)) agent.start 0 label → IsLabel problem.grid agent.goal (entries_or found (no_entries i)) agent.start 0 label
+    by_block i agent label inside (Some block) is h = subst (λ es. IsLabel problem.grid agent.goal (entries_of es) agent.start 0 label) (sym (are.some i block is)) h
+    by_block i agent label inside None is h = subst (λ es. IsLabel problem.grid agent.goal (entries_of es) agent.start 0 label) (are.none i inside is) h
+
+    pub blocks_sound : (labels : List Label) → AreLabelled problem view labels → AreBlocksSound problem view.constraints blocks
+    blocks_sound labels labelled i agent block a is =
+        subst (λ es. AreSound problem.grid agent.goal (view.constraints.bars i) (entries_of es)) (sym (are.some i block is)) (labelled.sound i agent a)
+
+    pub blocks_start : (labels : List Label) → AreLabelled problem view labels → AreStartLabels problem (with_blocks blocks no_entries) labels
+    blocks_start labels labelled = record {
+      count = labelled.starts.count;
+      each = λ i agent label a l. by_block i agent label (slice_get_within problem.agents i agent a) (block_of blocks i) refl (labelled.starts.each i agent label a l);
+    }
+
+    pub live_shows : IsLive problem view → (cost : ℕ) → cost ≤ sum view.costs → NodeShows problem (Cost cost) view.constraints (Leaf blocks)
+    live_shows live cost low =
+        let labelled = live_labelled live in (
+          blocks_sound (map Ticks view.costs) labelled,
+          (map Ticks view.costs, blocks_start (map Ticks view.costs) labelled, let e : label_sum (map Ticks view.costs) ≡ Ticks (sum view.costs) = label_sum-ticks view.costs in subst (λ l. IsAtMost (Ticks cost) l) (sym e) low),
+        )
+
+    pub dead_shows : IsDead problem view → (cost : ℕ) → NodeShows problem (Cost cost) view.constraints (Leaf blocks)
+    dead_shows dead cost =
+        let labelled = dead_labelled dead in
+        let labels = slice_set (map Ticks view.costs) dead.who Never in
+        (blocks_sound labels labelled, (labels, blocks_start labels labelled, subst (λ l. IsAtMost (Ticks cost) l) (sym (dead_infinite dead)) tt))
+
+    pub dead_shows_impossible : IsDead problem view → NodeShows problem Impossible view.constraints (Leaf blocks)
+    dead_shows_impossible dead =
+        let labelled = dead_labelled dead in
+        let inside : dead.who < length problem.agents = slice_get_within problem.agents dead.who dead.agent dead.known in (
+          blocks_sound (slice_set (map Ticks view.costs) dead.who Never) labelled,
+          (dead.who, dead.agent, dead.known, by_block dead.who dead.agent Never inside (block_of blocks dead.who) refl dead.blocked.start),
+        )
+
+module _ (problem : Instance) (views : List View) (fates : List Fate) (count : ℕ) (searched : IsSearched problem views fates count) where
+  -- what is so of each node of the search is so of each node of its tree
+  pub each_node : (P : NodeConstraints → ConstraintTree → Type 0) → ((k : ℕ) (view : View) (tree : ConstraintTree) → slice_get views k ≡ Some view → IsTreeAt (length problem.agents) views fates k tree → P view.constraints tree) →
+      (tree : ConstraintTree) (k : ℕ) (view : View) → slice_get views k ≡ Some view → IsTreeAt (length problem.agents) views fates k tree → AtEachNode P view.constraints tree
+  each_node P f (Split conflict left right) k view is (a, b, cut, on_left, on_right) =
+      let at_cut = searched.each k view (Cut conflict a b) is cut in
+      let x = at_cut.to_left in let y = at_cut.to_right in (
+        f k view (Split conflict left right) is (a, b, cut, on_left, on_right),
+        subst (λ constraints. AtEachNode P constraints left) x.2 (each_node P f left a x.0 x.1 on_left),
+        subst (λ constraints. AtEachNode P constraints right) y.2 (each_node P f right b y.0 y.1 on_right),
+      )
+  each_node P f (Leaf blocks) k view is at_leaf = f k view (Leaf blocks) is at_leaf
+  each_node P f (Clash i j) k view is none = absurd none
+
+  pub each_end : (P : NodeConstraints → Type 0) → ((k : ℕ) (view : View) (fate : Fate) → slice_get views k ≡ Some view → slice_get fates k ≡ Some fate → IsEndFate fate → P view.constraints) →
+      (tree : ConstraintTree) (k : ℕ) (view : View) → slice_get views k ≡ Some view → IsTreeAt (length problem.agents) views fates k tree → AtEachEnd P view.constraints tree
+  each_end P f (Split conflict left right) k view is (a, b, cut, on_left, on_right) =
+      let at_cut = searched.each k view (Cut conflict a b) is cut in
+      let x = at_cut.to_left in let y = at_cut.to_right in (
+        subst (λ constraints. AtEachEnd P constraints left) x.2 (each_end P f left a x.0 x.1 on_left),
+        subst (λ constraints. AtEachEnd P constraints right) y.2 (each_end P f right b y.0 y.1 on_right),
+      )
+  each_end P f (Leaf blocks) k view is (other, fate, other_is, fate_is, end, blocks_are) = f k view fate is fate_is end
+  each_end P f (Clash i j) k view is none = absurd none
+
+  -- the search's tree has as many splits as its form
+  pub split_count_is : (tree : ConstraintTree) (shape : Shape) (k : ℕ) → IsShape fates k shape → IsTreeAt (length problem.agents) views fates k tree → split_count tree ≡ splits shape
+  split_count_is (Split conflict left right) (Node l r) k (c, x, y, is, on_l, on_r) (a, b, cut, on_left, on_right) =
+      let same : Cut c x y ≡ Cut conflict a b = same_Some (Cut c x y) (Cut conflict a b) (sym is ∙ cut) in
+      let x_is : x ≡ a = cc in
+      let y_is : y ≡ b = cc in
+      let e = split_count_is left l a (subst (λ n. IsShape fates n l) x_is on_l) on_left in
+      let f = split_count_is right r b (subst (λ n. IsShape fates n r) y_is on_r) on_right in
+      omega arith
+  split_count_is (Split conflict left right) (End m) k (same, fate, is, end) (a, b, cut, on_left, on_right) =
+      absurd (subst IsEndFate (same_Some fate (Cut conflict a b) (sym is ∙ cut)) end)
+  split_count_is (Leaf blocks) (Node l r) k (c, x, y, is, on_l, on_r) (view, fate, view_is, fate_is, end, are) =
+      absurd (subst IsEndFate (same_Some fate (Cut c x y) (sym fate_is ∙ is)) end)
+  split_count_is (Leaf blocks) (End m) k on at_leaf = refl
+  split_count_is (Clash i j) shape k on none = absurd none
+
+  -- an end of the form is a leaf of the tree
+  pub some_leaf : (P : NodeConstraints → Type 0) (j : ℕ) (view_j : View) → slice_get views j ≡ Some view_j → P view_j.constraints →
+      (tree : ConstraintTree) (shape : Shape) (k : ℕ) (view : View) → slice_get views k ≡ Some view → IsShape fates k shape → IsTreeAt (length problem.agents) views fates k tree → 0 < occurrences j shape → AtSomeLeaf P view.constraints tree
+  some_leaf P j view_j j_is holds (Split conflict left right) (Node l r) k view is (c, x, y, split, on_l, on_r) (a, b, cut, on_left, on_right) some =
+      let at_cut = searched.each k view (Cut conflict a b) is cut in
+      let to_left = at_cut.to_left in let to_right = at_cut.to_right in
+      let same : Cut c x y ≡ Cut conflict a b = same_Some (Cut c x y) (Cut conflict a b) (sym split ∙ cut) in
+      let x_is : x ≡ a = cc in
+      let y_is : y ≡ b = cc in
+      ⊎_elim
+      (λ (here : 0 < occurrences j l). inl (subst (λ constraints. AtSomeLeaf P constraints left) to_left.2 (some_leaf P j view_j j_is holds left l a to_left.0 to_left.1 (subst (λ n. IsShape fates n l) x_is on_l) on_left here)))
+      (λ (not_here : occurrences j l ≤ 0). inr (subst (λ constraints. AtSomeLeaf P constraints right) to_right.2 (some_leaf P j view_j j_is holds right r b to_right.0 to_right.1 (subst (λ n. IsShape fates n r) y_is on_r) on_right (omega arith))))
+      (cases_lt 0 (occurrences j l))
+  some_leaf P j view_j j_is holds (Split conflict left right) (End m) k view is (same, fate, fate_is, end) (a, b, cut, on_left, on_right) some =
+      absurd (subst IsEndFate (same_Some fate (Cut conflict a b) (sym fate_is ∙ cut)) end)
+  some_leaf P j view_j j_is holds (Leaf blocks) (Node l r) k view is (c, x, y, split, on_l, on_r) (other, fate, other_is, fate_is, end, are) some =
+      absurd (subst IsEndFate (same_Some fate (Cut c x y) (sym fate_is ∙ split)) end)
+  some_leaf P j view_j j_is holds (Leaf blocks) (End m) k view is (same, fate, fate_is, end) at_leaf some = ⊎_elim
+      (λ (e : j ≡ m). subst (λ (v : View). P v.constraints) (same_Some view_j view (sym j_is ∙ subst (λ n. slice_get views n ≡ Some view) (same ∙ sym e) is)) holds)
+      (λ (e : j ≢ m). absurd (cond_both (nat_eq j m) 1 0 (λ n. 0 < n → ⊥) (λ t. absurd (e (eqb-true j m t))) (λ f h. omega arith) some))
+      (cases_eq j m)
+  some_leaf P j view_j j_is holds (Clash a b) shape k view is on none some = absurd none
+
+  at_least : (low : ℕ) → ((m : ℕ) (view : View) → slice_get views m ≡ Some view → slice_get fates m ≡ Some Open → low ≤ sum view.costs) →
+      (k : ℕ) (view : View) (fate : Fate) → slice_get views k ≡ Some view → slice_get fates k ≡ Some fate → IsEndFate fate →
+      (others : List (List ℕ)) (total : ℕ) → AreCheapest problem view.constraints others → IsSumOfCosts problem.agents others total → low ≤ total
+  at_least low least k view Open is fate_is end others total cheapest is_sum =
+      let one = least k view is fate_is in let two = live_least problem view (searched.each k view Open is fate_is) others total cheapest is_sum in omega arith
+  at_least low least k view Dead is fate_is end others total cheapest is_sum = absurd (dead_none problem view (searched.each k view Dead is fate_is) others cheapest)
+  at_least low least k view (Cut c a b) is fate_is end others total cheapest is_sum = absurd end
+
+  module _ (tree : ConstraintTree) (on_tree : IsTreeAt (length problem.agents) views fates 0 tree) where
+    -- a list of a node is due where no open node has a smaller sum
+    pub due : (view : View) → IsLive problem view → ((m : ℕ) (other : View) → slice_get views m ≡ Some other → slice_get fates m ≡ Some Open → sum view.costs ≤ sum other.costs) → AreDue problem tree view.constraints view.paths (sum view.costs)
+    due view live least = record {
+      cheapest = live_cheapest problem view live;
+      sum = live_sum problem view live;
+      least = subst (λ constraints. AtEachEnd (λ end_constraints. (others : List (List ℕ)) (other_total : ℕ) → AreCheapest problem end_constraints others → IsSumOfCosts problem.agents others other_total → sum view.costs ≤ other_total) constraints tree) searched.first.2
+          (each_end (λ end_constraints. (others : List (List ℕ)) (other_total : ℕ) → AreCheapest problem end_constraints others → IsSumOfCosts problem.agents others other_total → sum view.costs ≤ other_total)
+          (at_least (sum view.costs) least) tree 0 searched.first.0 searched.first.1 on_tree);
+    }
+
+    proper_node : (k : ℕ) (view : View) (node : ConstraintTree) → slice_get views k ≡ Some view → IsTreeAt (length problem.agents) views fates k node → IsProperNode problem node
+    proper_node k view (Split c left right) is (a, b, cut, on_left, on_right) = (searched.each k view (Cut c a b) is cut).proper
+    proper_node k view (Leaf blocks) is (other, fate, other_is, fate_is, end, are) = (are.different, are.of_agents)
+    proper_node k view (Clash i j) is none = absurd none
+
+    pub is_proper : IsProper problem tree
+    is_proper = subst (λ constraints. AtEachNode (λ to node. IsProperNode problem node) constraints tree) searched.first.2 (each_node (λ to node. IsProperNode problem node) proper_node tree 0 searched.first.0 searched.first.1 on_tree)
+
+    earned_node : (k : ℕ) (view : View) (node : ConstraintTree) → slice_get views k ≡ Some view → IsTreeAt (length problem.agents) views fates k node → IsEarnedNode problem tree view.constraints node
+    earned_node k view (Split c left right) is (a, b, cut, on_left, on_right) =
+        let at_cut = searched.each k view (Cut c a b) is cut in
+        (view.paths, sum view.costs, due view at_cut.live (λ m other other_is is_open. searched.least k m view other (Cut c a b) is other_is cut tt is_open), at_cut.meet, at_cut.apart)
+    earned_node k view (Leaf blocks) is at_leaf = tt
+    earned_node k view (Clash i j) is none = tt
+
+    pub is_earned : IsEarned problem tree
+    is_earned = record {
+      proper = is_proper;
+      splits = subst (λ constraints. AtEachNode (IsEarnedNode problem tree) constraints tree) searched.first.2 (each_node (IsEarnedNode problem tree) earned_node tree 0 searched.first.0 searched.first.1 on_tree);
+    }
+
+    cost_node : (cost : ℕ) → ((m : ℕ) (other : View) → slice_get views m ≡ Some other → slice_get fates m ≡ Some Open → cost ≤ sum other.costs) →
+        (k : ℕ) (view : View) (node : ConstraintTree) → slice_get views k ≡ Some view → IsTreeAt (length problem.agents) views fates k node → NodeShows problem (Cost cost) view.constraints node
+    cost_node cost least k view (Split c left right) is at = tt
+    cost_node cost least k view (Leaf blocks) is (other, Open, other_is, fate_is, end, are) =
+        let blocks_are = subst (λ (v : View). AreBlocksOf (length problem.agents) v.entries blocks) (same_Some other view (sym other_is ∙ is)) are in
+        live_shows problem view blocks blocks_are (searched.each k view Open is fate_is) cost (least k view is fate_is)
+    cost_node cost least k view (Leaf blocks) is (other, Dead, other_is, fate_is, end, are) =
+        let blocks_are = subst (λ (v : View). AreBlocksOf (length problem.agents) v.entries blocks) (same_Some other view (sym other_is ∙ is)) are in
+        dead_shows problem view blocks blocks_are (searched.each k view Dead is fate_is) cost
+    cost_node cost least k view (Leaf blocks) is (other, Cut c a b, other_is, fate_is, end, are) = absurd end
+    cost_node cost least k view (Clash i j) is none = absurd none
+
+    -- the least sum of the open nodes is shown
+    pub shows_cost : (cost : ℕ) → ((m : ℕ) (other : View) → slice_get views m ≡ Some other → slice_get fates m ≡ Some Open → cost ≤ sum other.costs) → Shows problem (Cost cost) tree
+    shows_cost cost least = record {
+      proper = is_proper;
+      nodes = subst (λ constraints. AtEachNode (NodeShows problem (Cost cost)) constraints tree) searched.first.2 (each_node (NodeShows problem (Cost cost)) (cost_node cost least) tree 0 searched.first.0 searched.first.1 on_tree);
+    }
+
+    impossible_node : ((m : ℕ) → slice_get fates m ≡ Some Open → ⊥) →
+        (k : ℕ) (view : View) (node : ConstraintTree) → slice_get views k ≡ Some view → IsTreeAt (length problem.agents) views fates k node → NodeShows problem Impossible view.constraints node
+    impossible_node none_open k view (Split c left right) is at = tt
+    impossible_node none_open k view (Leaf blocks) is (other, Open, other_is, fate_is, end, are) = absurd (none_open k fate_is)
+    impossible_node none_open k view (Leaf blocks) is (other, Dead, other_is, fate_is, end, are) =
+        let blocks_are = subst (λ (v : View). AreBlocksOf (length problem.agents) v.entries blocks) (same_Some other view (sym other_is ∙ is)) are in
+        dead_shows_impossible problem view blocks blocks_are (searched.each k view Dead is fate_is)
+    impossible_node none_open k view (Leaf blocks) is (other, Cut c a b, other_is, fate_is, end, are) = absurd end
+    impossible_node none_open k view (Clash i j) is none = absurd none
+
+    pub shows_impossible : ((m : ℕ) → slice_get fates m ≡ Some Open → ⊥) → Shows problem Impossible tree
+    shows_impossible none_open = record {
+      proper = is_proper;
+      nodes = subst (λ constraints. AtEachNode (NodeShows problem Impossible) constraints tree) searched.first.2 (each_node (NodeShows problem Impossible) (impossible_node none_open) tree 0 searched.first.0 searched.first.1 on_tree);
+    }
+
+    pub has_splits : split_count tree ≡ count
+    has_splits = split_count_is tree searched.tree.shape 0 searched.tree.is_shape on_tree ∙ searched.tree.exact
+
+    -- an open node of least sum whose list has a conflict stops the tree
+    pub is_stopped : (Fact : List (List ℕ) → Type 0) (j : ℕ) (view : View) → slice_get views j ≡ Some view → slice_get fates j ≡ Some Open →
+        ((m : ℕ) (other : View) → slice_get views m ≡ Some other → slice_get fates m ≡ Some Open → sum view.costs ≤ sum other.costs) → HaveSomeConflict view.paths → Fact view.paths → IsStoppedWhere Fact problem tree
+    is_stopped Fact j view is is_open least meet fact = record {
+      earned = is_earned;
+      leaf =
+          let P : NodeConstraints → Type 0 = λ constraints. (paths : List (List ℕ)) × (total : ℕ) × AreDue problem tree constraints paths total × HaveSomeConflict paths × Fact paths in
+          let once = searched.tree.once j Open is_open tt in
+          subst (λ constraints. AtSomeLeaf P constraints tree) searched.first.2
+          (some_leaf P j view is (view.paths, sum view.costs, due view (searched.each j view Open is is_open) least, meet, fact)
+          tree searched.tree.shape 0 searched.first.0 searched.first.1 searched.tree.is_shape on_tree (omega arith));
+    }

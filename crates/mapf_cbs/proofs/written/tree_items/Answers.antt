@@ -1,0 +1,66 @@
+use Rattle.std.proofs.Common.{◌≡◌, ◌<◌, ◌∷◌, [], ◌++◌, Some, All, reverse, length, refl, sym, ◌∙◌, ap, subst, arith}
+use Rattle.std.proofs.lemmas.Option.{slice_get_read}
+use Rattle.std.proofs.lemmas.List.Elements.{All-pop, All-push}
+use Rattle.mapf_model.specs.declared.item.Item.TheVariants.{Leaf as LeafItem}
+use Rattle.mapf_cbs.proofs.ArenaLemmas.{view_at}
+use Rattle.mapf_cbs.proofs.ItemLemmas.{Leads, weights, weights-leaf, weights-split, reverse_push, leads_split, leads_leaf, leads_done, no_items, end_of}
+use Rattle.mapf_cbs.proofs.written.tree_items.Goals as goal
+
+pub loop-k-smaller-in-Continue-branch-4 : goal.loop-k-smaller-in-Continue-branch-4
+loop-k-smaller-in-Continue-branch-4 c =
+    let popped = All-pop (λ n. n < length c.args.fates.now) c.loop-k.owed.items c.pop.new.self.items (Some c.in-Some.k) c.in-Some.ensures.items c.loop-k.invariant.within in
+    let cut = slice_get_read c.args.fates.now (length c.args.fates.now) c.in-Some.k c.index-fates-k.result refl popped.1 c.index-fates-k.is ∙ ap Some c.in-Cut.is in
+    let later = c.requires.later c.in-Some.k c.in-Cut.conflict c.in-Cut.left c.in-Cut.right cut in
+    let before : c.loop-k.owed.items ≡ c.pop.new.self.items ++ c.in-Some.k ∷ [] = c.in-Some.ensures.items in
+    let after : c.push-in-Cut-3.new.self.items ≡ (c.pop.new.self.items ++ c.in-Cut.right ∷ []) ++ c.in-Cut.left ∷ [] = c.in_ok-push-in-Cut-3.ensures.items ∙ ap (λ xs. xs ++ c.in-Cut.left ∷ []) c.in_ok-push-in-Cut-2.ensures.items in
+    subst (λ xs. weights (length c.args.fates.now) xs < weights (length c.args.fates.now) c.loop-k.owed.items) (sym after)
+    (subst (λ xs. weights (length c.args.fates.now) ((c.pop.new.self.items ++ c.in-Cut.right ∷ []) ++ c.in-Cut.left ∷ []) < weights (length c.args.fates.now) xs) (sym before)
+    (weights-split (length c.args.fates.now) c.pop.new.self.items c.in-Some.k c.in-Cut.left c.in-Cut.right later.0 later.1 later.2 later.3))
+
+pub loop-k-preserved-in-Continue-branch-4 : goal.loop-k-preserved-in-Continue-branch-4
+loop-k-preserved-in-Continue-branch-4 c =
+    let popped = All-pop (λ n. n < length c.args.fates.now) c.loop-k.owed.items c.pop.new.self.items (Some c.in-Some.k) c.in-Some.ensures.items c.loop-k.invariant.within in
+    let cut = slice_get_read c.args.fates.now (length c.args.fates.now) c.in-Some.k c.index-fates-k.result refl popped.1 c.index-fates-k.is ∙ ap Some c.in-Cut.is in
+    let later = c.requires.later c.in-Some.k c.in-Cut.conflict c.in-Cut.left c.in-Cut.right cut in
+    let owed : c.push-in-Cut-3.new.self.items ≡ (c.pop.new.self.items ++ c.in-Cut.right ∷ []) ++ c.in-Cut.left ∷ [] = c.in_ok-push-in-Cut-3.ensures.items ∙ ap (λ xs. xs ++ c.in-Cut.left ∷ []) c.in_ok-push-in-Cut-2.ensures.items in
+    record {
+      within = subst (λ xs. All (λ n. n < length c.args.fates.now) xs) (sym owed)
+          (All-push (λ n. n < length c.args.fates.now) (c.pop.new.self.items ++ c.in-Cut.right ∷ []) c.in-Cut.left
+          (All-push (λ n. n < length c.args.fates.now) c.pop.new.self.items c.in-Cut.right popped.0 later.3) later.2);
+      leads = λ views are.
+          let before : Leads c.args.agents views c.args.fates.now c.loop-k.items.items (c.in-Some.k ∷ reverse c.pop.new.self.items) =
+          subst (λ xs. Leads c.args.agents views c.args.fates.now c.loop-k.items.items xs) (ap reverse c.in-Some.ensures.items ∙ reverse_push c.pop.new.self.items c.in-Some.k) (c.loop-k.invariant.leads views are) in
+          let after = leads_split c.args.agents views c.args.fates.now c.loop-k.items.items c.in-Some.k (reverse c.pop.new.self.items) before c.split_item.result c.in-Cut.conflict c.in-Cut.left c.in-Cut.right cut c.split_item.ensures in
+          subst (λ xs. Leads c.args.agents views c.args.fates.now c.push-in-Cut.new.self.items xs)
+          (sym (ap reverse owed ∙ reverse_push (c.pop.new.self.items ++ c.in-Cut.right ∷ []) c.in-Cut.left ∙ ap (λ xs. c.in-Cut.left ∷ xs) (reverse_push c.pop.new.self.items c.in-Cut.right)))
+          (subst (λ its. Leads c.args.agents views c.args.fates.now its (c.in-Cut.left ∷ c.in-Cut.right ∷ reverse c.pop.new.self.items)) (sym c.in_ok-push-in-Cut.ensures.items) after);
+    }
+
+pub loop-k-smaller : goal.loop-k-smaller
+loop-k-smaller c =
+    let before : c.loop-k.owed.items ≡ c.pop.new.self.items ++ c.in-Some.k ∷ [] = c.in-Some.ensures.items in
+    subst (λ xs. weights (length c.args.fates.now) c.pop.new.self.items < weights (length c.args.fates.now) xs) (sym before) (weights-leaf (length c.args.fates.now) c.pop.new.self.items c.in-Some.k)
+
+pub loop-k-preserved : goal.loop-k-preserved
+loop-k-preserved c =
+    let popped = All-pop (λ n. n < length c.args.fates.now) c.loop-k.owed.items c.pop.new.self.items (Some c.in-Some.k) c.in-Some.ensures.items c.loop-k.invariant.within in
+    let fate = slice_get_read c.args.fates.now (length c.args.fates.now) c.in-Some.k c.index-fates-k.result refl popped.1 c.index-fates-k.is in
+    record {
+      within = popped.0;
+      leads = λ views are.
+          let same = c.requires.same in
+          let inside : c.in-Some.k < length c.args.nodes.now = (let h = popped.1 in omega (arith, h, same)) in
+          let view = view_at c.args.nodes.now views are c.in-Some.k inside in
+          let before : Leads c.args.agents views c.args.fates.now c.loop-k.items.items (c.in-Some.k ∷ reverse c.pop.new.self.items) =
+          subst (λ xs. Leads c.args.agents views c.args.fates.now c.loop-k.items.items xs) (ap reverse c.in-Some.ensures.items ∙ reverse_push c.pop.new.self.items c.in-Some.k) (c.loop-k.invariant.leads views are) in
+          let blocks = c.in_ok-blocks-in_default-fate.ensures views view.0 are view.1 in
+          let after = leads_leaf c.args.agents views c.args.fates.now c.loop-k.items.items c.in-Some.k (reverse c.pop.new.self.items) before (LeafItem c.in_ok-blocks-in_default-fate.blocks) c.in_ok-blocks-in_default-fate.blocks.items
+          (view.0, c.index-fates-k.result, view.1, fate, end_of c.index-fates-k.result c.in_default-fate.not-Cut, blocks) refl in
+          subst (λ its. Leads c.args.agents views c.args.fates.now its (reverse c.pop.new.self.items)) (sym c.in_ok-push-in_default-fate.ensures.items) after;
+    }
+
+pub returns : goal.returns
+returns c views are =
+    let none : c.loop-k.owed.items ≡ [] = no_items c.loop-k.owed.items (let h = c.in_default.ensures.cases.0 in omega (arith, h, c.loop-k.owed.ok)) in
+    leads_done c.args.agents views c.args.fates.now c.loop-k.items.items
+    (subst (λ xs. Leads c.args.agents views c.args.fates.now c.loop-k.items.items xs) (ap reverse none) (c.loop-k.invariant.leads views are))

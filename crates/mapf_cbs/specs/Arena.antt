@@ -1,0 +1,51 @@
+-- Nodes that hold their change alone, and what they mean.
+use Rattle.std.specs.Prelude.{◌≡◌, ◌⊎◌, ℕ, ◌<◌, List, [], Some, length, slice_get, Contains}
+use Rattle.mapf_model.specs.declared.bar.Bar.{Bar}
+use Rattle.mapf_model.specs.Tree.{root}
+use Rattle.mapf_spacetime.specs.declared.found.Found.{Found}
+use Rattle.mapf_spacetime.specs.declared.found.Found.TheVariants.{Arrives, Dead}
+use Rattle.mapf_cbs.specs.declared.node.Node.{Node}
+use Rattle.mapf_cbs.specs.declared.node.Node.TheVariants.{Root, Child}
+use Rattle.mapf_cbs.specs.Route.{IsTableBar}
+use Rattle.mapf_cbs.specs.Search.{View, live_child, dead_child}
+
+-- parents come before their children, and the root, which comes first, has a path of the agent
+abbrev pub IsNodeFor : ℕ → ℕ → Node → Type 0
+IsNodeFor agent k (Root paths) = (k ≡ 0) × (agent < length paths.items)
+IsNodeFor agent k (Child parent bound bar found) = parent < k
+
+abbrev pub AreNodesFor : ℕ → List Node → Type 0
+AreNodesFor agent nodes = (k : ℕ) (node : Node) → slice_get nodes k ≡ Some node → IsNodeFor agent k node
+
+-- the bars are such as a table takes
+abbrev pub HasTableBar : Node → Type 0
+HasTableBar (Root paths) = Unit {0}
+HasTableBar (Child parent bound bar found) = IsTableBar bar
+
+abbrev pub HaveTableBars : List Node → Type 0
+HaveTableBars nodes = (k : ℕ) (node : Node) → slice_get nodes k ≡ Some node → HasTableBar node
+
+abbrev pub IsChildView : View → ℕ → Bar → Found → View → Type 0
+IsChildView before agent bar (Arrives path labels) view = (cost : ℕ) × (view ≡ live_child before agent bar path cost labels)
+IsChildView before agent bar (Dead labels) view = view ≡ dead_child before agent bar labels
+
+-- no bars, no entries, and these paths
+pub record IsRootView (paths : List (List ℕ)) (view : View) : Type 0 where
+  pub constraints : view.constraints ≡ root
+  pub same_paths : view.paths ≡ paths
+  pub entries : (i : ℕ) → view.entries i ≡ []
+
+-- what a node means, by what its parent means
+abbrev pub IsNodeView : List View → ℕ → Node → View → Type 0
+IsNodeView views k (Root paths) view = IsRootView paths.items view
+IsNodeView views k (Child parent agent bar found) view = (parent < k) × (before : View) × (slice_get views parent ≡ Some before) × (agent < length before.paths) × IsChildView before agent bar found view
+
+pub record AreViews (nodes : List Node) (views : List View) : Type 0 where
+  pub lengths : length views ≡ length nodes
+  pub each : (k : ℕ) (node : Node) (view : View) → slice_get nodes k ≡ Some node → slice_get views k ≡ Some view → IsNodeView views k node view
+
+-- the bars of one list are those of two others
+pub record AreJoined (all front rest : List Bar) : Type 0 where
+  pub apart : (bar : Bar) → Contains all bar → Contains front bar ⊎ Contains rest bar
+  pub from_front : (bar : Bar) → Contains front bar → Contains all bar
+  pub from_rest : (bar : Bar) → Contains rest bar → Contains all bar

@@ -1,0 +1,7 @@
+pub mod Route
+pub mod Search
+pub mod Arena
+pub mod Born
+pub mod State
+pub mod Start
+pub mod Answer

@@ -1,0 +1,52 @@
+-- The state of a search.
+use Rattle.std.specs.Prelude.{◌≡◌, ℕ, ◌+◌, ◌*◌, ◌<◌, ◌≤◌, ◌^◌, List, ◌∷◌, Option, None, Some, length, slice_get, sum, Contains}
+use Rattle.std.specs.declared.cmp.Ordering.{Ordering}
+use Rattle.std.specs.declared.cmp.Ordering.TheVariants.{Less}
+use Rattle.std.specs.Ordering.{nat_cmp, ordering_then}
+use Rattle.std.specs.BTreeSet.{insert_key}
+use Rattle.mapf_model.specs.Plan.{Instance}
+use Rattle.mapf_cbs.specs.declared.node.Node.{Node}
+use Rattle.mapf_cbs.specs.declared.node.Fate.{Fate}
+use Rattle.mapf_cbs.specs.declared.node.Fate.TheVariants.{Open, Dead}
+use Rattle.mapf_cbs.specs.Search.{View, IsSearched}
+use Rattle.mapf_cbs.specs.Arena.{AreNodesFor, HaveTableBars, AreViews}
+
+-- a child that has a sum is open
+abbrev pub fate_of : Option ℕ → Fate
+fate_of None = Dead
+fate_of (Some total) = Open
+
+-- the order of sums, then of numbers
+abbrev pub key_cmp : ℕ × ℕ → ℕ × ℕ → Ordering
+key_cmp a b = ordering_then (nat_cmp a.0 b.0) (nat_cmp a.1 b.1)
+
+abbrev pub with_key : List (ℕ × ℕ) → Option ℕ → ℕ → List (ℕ × ℕ)
+with_key keys None number = keys
+with_key keys (Some total) number = insert_key key_cmp keys (total, number)
+
+-- the open nodes by their sums
+pub record IsOpenSet (keys : List (ℕ × ℕ)) (views : List View) (fates : List Fate) : Type 0 where
+  pub only : (key : ℕ × ℕ) → Contains keys key → (view : View) × (slice_get views key.1 ≡ Some view) × (slice_get fates key.1 ≡ Some Open) × (key.0 ≡ sum view.costs)
+  pub each : (m : ℕ) (view : View) → slice_get views m ≡ Some view → slice_get fates m ≡ Some Open → Contains keys (sum view.costs, m)
+
+pub record IsState (problem : Instance) (nodes : List Node) (fates : List Fate) (keys : List (ℕ × ℕ)) (count : ℕ) : Type 0 where
+  pub views : List View
+  pub are : AreViews nodes views
+  pub searched : IsSearched problem views fates count
+  pub opens : IsOpenSet keys views fates
+  pub nodes_for : (agent : ℕ) → agent < length problem.agents → AreNodesFor agent nodes
+  pub bars : HaveTableBars nodes
+  pub size : length nodes ≡ 2 * count + 1
+  pub small : (key : ℕ × ℕ) → Contains keys key → key.0 ≤ (count + 201) * 2 ^ 32
+
+-- the state while its first open node is in hand
+pub record IsPopped (problem : Instance) (nodes : List Node) (fates : List Fate) (rest : List (ℕ × ℕ)) (count total k : ℕ) : Type 0 where
+  pub views : List View
+  pub are : AreViews nodes views
+  pub searched : IsSearched problem views fates count
+  pub opens : IsOpenSet ((total, k) ∷ rest) views fates
+  pub above : (key : ℕ × ℕ) → Contains rest key → key_cmp (total, k) key ≡ Less
+  pub nodes_for : (agent : ℕ) → agent < length problem.agents → AreNodesFor agent nodes
+  pub bars : HaveTableBars nodes
+  pub size : length nodes ≡ 2 * count + 1
+  pub small : (key : ℕ × ℕ) → Contains ((total, k) ∷ rest) key → key.0 ≤ (count + 201) * 2 ^ 32

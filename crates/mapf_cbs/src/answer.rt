@@ -1,0 +1,12 @@
+use mapf_model::{Cause, Item, Plan};
+
+/// What a search answers, with the items of its constraint tree in pre-order.
+#[derive(Debug, Drop)]
+pub enum Answer {
+    /// A cheapest valid plan, and a tree that shows that none is cheaper.
+    Found { plan: Plan, tree: Vec<Item> },
+    /// No plan is valid, and the tree shows it.
+    Impossible { tree: Vec<Item> },
+    /// The search was stopped, at a leaf of the tree whose paths conflict. Nothing is said of plans.
+    Limit { cause: Cause, tree: Vec<Item> },
+}

@@ -1,0 +1,99 @@
+ghost use Rattle.std.specs.Prelude.{◌≡◌, ◌+◌, ◌-◌, ◌<◌, ◌∷◌, ◌^◌, List, Some, length, slice_get, sum, IfOk};
+ghost use Rattle.mapf_model.specs.Laws.{AreSameBars};
+ghost use Rattle.mapf_model.specs.Path.{at, IsCost};
+ghost use Rattle.mapf_model.specs.declared.bar.Bar.{Bar};
+ghost use Rattle.mapf_model.specs.declared.problem.Agent.{Agent};
+ghost use Rattle.mapf_spacetime.specs.Answer.{IsAnswer};
+ghost use Rattle.mapf_spacetime.specs.Task.{task_of};
+ghost use Rattle.mapf_cbs.specs.Route.{IsTableBar, AreTables};
+ghost use Rattle.mapf_cbs.specs.Search.{View, IsLive};
+ghost use Rattle.mapf_cbs.specs.Arena.{AreNodesFor, HaveTableBars, AreViews};
+ghost use Rattle.mapf_cbs.specs.Born.{IsBorn, EndsAt, IsTotal};
+
+use crate::node::Node;
+use crate::walks::{bars_at, path_at};
+use mapf_constraints::BarTable;
+use mapf_distance::Distances;
+use mapf_model::{Bar, Cell, OutOfMemory, Path, Problem};
+use mapf_spacetime::{Found, search};
+use std::alloc::Global;
+
+/// What one more bar led to, with the sum of the new costs where the agent still arrives.
+#[derive(Debug, Drop)]
+pub struct Born {
+    pub found: Found,
+    pub total: Option<u64>,
+}
+
+/// The child of a node in which one more bar binds the agent.
+pub fn child<B: BarTable>(
+    alloc: Global,
+    problem: &Problem,
+    tables: &[Distances],
+    nodes: &[Node],
+    k: u32,
+    total: u64,
+    agent: u32,
+    bar: Bar,
+) -> Result<Born, OutOfMemory>
+    requires tables { AreTables problem.now tables.now }
+    requires nodes { AreNodesFor agent nodes.now }
+    requires bars { HaveTableBars nodes.now }
+    requires inside { k < length nodes.now }
+    requires known { agent < length problem.now.agents }
+    requires bar { IsTableBar bar }
+    requires small { total + 2 ^ 32 < 2 ^ 64 }
+    requires live { (views : List View) × (view : View) × AreViews nodes.now views × (slice_get views k ≡ Some view) × IsLive problem.now view × (total ≡ sum view.costs) }
+    ensures { IfOk result (λ born. (views : List View) (view : View) → AreViews nodes.now views → slice_get views k ≡ Some view → IsLive problem.now view → total ≡ sum view.costs → IsBorn problem.now view agent bar born.found born.total) }
+{
+    let who = problem.agents()[agent as usize];
+    let found = search_with::<B>(alloc, problem, tables, nodes, k, agent, bar)?;
+    let old = cost_of(path_at(nodes, k, agent), who.goal);
+    let total = new_total(&found, who.goal, total - u64::from(old));
+    Ok(Born { found, total })
+}
+
+// What the agent can do under its bars at the node and one more.
+fn search_with<B: BarTable>(
+    alloc: Global,
+    problem: &Problem,
+    tables: &[Distances],
+    nodes: &[Node],
+    k: u32,
+    agent: u32,
+    bar: Bar,
+) -> Result<Found, OutOfMemory>
+    requires tables { AreTables problem.now tables.now }
+    requires nodes { AreNodesFor agent nodes.now }
+    requires bars { HaveTableBars nodes.now }
+    requires inside { k < length nodes.now }
+    requires known { agent < length problem.now.agents }
+    requires bar { IsTableBar bar }
+    ensures { IfOk result (λ found. (who : Agent) (views : List View) (view : View) → slice_get problem.now.agents agent ≡ Some who → AreViews nodes.now views → slice_get views k ≡ Some view → (bars : List Bar) × AreSameBars bars (bar ∷ view.constraints.bars agent) × IsAnswer (task_of problem.now.grid who bars) found) }
+{
+    let who = problem.agents()[agent as usize];
+    let mut table: B = bars_at(alloc, nodes, k, agent)?;
+    table.add(bar)?;
+    search(alloc, problem.grid(), &tables[agent as usize], &table, who)
+}
+
+fn cost_of(path: &Path, goal: Cell) -> u32
+    requires { at path.now (length path.now - 1) ≡ goal }
+    ensures { IsCost goal path.now result }
+{
+    match path.cost(goal) {
+        Some(cost) => cost,
+        None => unreachable!(),
+    }
+}
+
+fn new_total(found: &Found, goal: Cell, rest: u64) -> Option<u64>
+    requires lawful { EndsAt found.now goal }
+    requires small { rest + 2 ^ 32 < 2 ^ 64 }
+    ensures { IsTotal found.now goal rest result }
+{
+    match found {
+        Found::Arrives { path, .. } => Some(rest + u64::from(cost_of(path, goal))),
+        Found::Dead { .. } => None,
+    }
+}

@@ -1,0 +1,21 @@
+//! Which plan is cheapest, and which constraint tree shows it? Conflict-based search (Sharon et al.
+//! 2015).
+#![tactic(auto)]
+
+mod answer;
+mod child;
+mod clash;
+mod node;
+mod search_tree;
+mod sides;
+mod solver;
+mod start;
+mod walks;
+mod written;
+
+pub use answer::Answer;
+pub use mapf_model::Cause;
+pub use solver::{solve, solve_with};
+
+#[cfg(test)]
+mod tests;

@@ -1,0 +1,33 @@
+use mapf_model::{Bar, Conflict, Path};
+use mapf_spacetime::Found;
+
+/// A node of the constraint tree by its change: all else is found at its ancestors.
+#[derive(Debug, Drop)]
+pub enum Node {
+    /// No agent has bars, and these are the agents' paths.
+    Root {
+        paths: Vec<Path>,
+    },
+    /// The agent has one bar more than at the parent, and this is what its search found.
+    Child {
+        parent: u32,
+        agent: u32,
+        bar: Bar,
+        found: Found,
+    },
+}
+
+/// What became of a node.
+#[derive(Clone, Copy, Debug)]
+pub enum Fate {
+    /// Each agent has a path, and the node wasn't split.
+    Open,
+    /// Some agent can't arrive.
+    Dead,
+    /// The node was split on the conflict.
+    Cut {
+        conflict: Conflict,
+        left: u32,
+        right: u32,
+    },
+}

@@ -1,0 +1,125 @@
+ghost use Rattle.std.specs.Prelude.{◌≡◌, ◌+◌, ◌^◌, ◌<◌, ◌∷◌, [], ◌++◌, length, slice_set, IfOk, OnOk};
+ghost use Rattle.mapf_cbs.specs.Search.{left_agent, right_agent, left_bar, right_bar};
+ghost use Rattle.mapf_cbs.specs.State.{fate_of, with_key};
+
+use crate::child::Born;
+use crate::node::{Fate, Node};
+use crate::sides::{left_agent, left_bar, right_agent, right_bar};
+use mapf_model::{Conflict, OutOfMemory, Path};
+use std::alloc::Global;
+use std::collections::BTreeSet;
+
+/// The constraint tree of a search. Nodes are numbered as they were made, the root has number 0.
+#[derive(Debug, Drop)]
+pub struct SearchTree {
+    pub nodes: Vec<Node>,
+    // What became of each node.
+    pub fates: Vec<Fate>,
+    // The sum and the number of each open node.
+    pub open: BTreeSet<(u64, u32)>,
+    // How many nodes were split.
+    pub splits: u32,
+}
+
+impl SearchTree {
+    /// The tree of a root with these paths, whose costs have this sum.
+    pub fn of(alloc: Global, paths: Vec<Path>, total: u64) -> Result<SearchTree, OutOfMemory>
+        ensures nodes { IfOk result (λ tree. tree.nodes.items ≡ Node.Root paths ∷ []) }
+        ensures fates { IfOk result (λ tree. tree.fates.items ≡ Fate.Open ∷ []) }
+        ensures open { IfOk result (λ tree. tree.open.keys ≡ (total, 0) ∷ []) }
+        ensures splits { IfOk result (λ tree. tree.splits ≡ 0) }
+    {
+        let mut tree = SearchTree {
+            nodes: Vec::new(alloc),
+            fates: Vec::new(alloc),
+            open: BTreeSet::new(alloc),
+            splits: 0,
+        };
+        tree.plant(paths, total)?;
+        Ok(tree)
+    }
+
+    // Makes the root of an empty tree.
+    fn plant(&mut self, paths: Vec<Path>, total: u64) -> Result<(), OutOfMemory>
+        requires nodes { self.old.nodes.items ≡ [] }
+        requires fates { self.old.fates.items ≡ [] }
+        requires open { self.old.open.keys ≡ [] }
+        ensures nodes { OnOk result (self.new.nodes.items ≡ Node.Root paths ∷ []) }
+        ensures fates { OnOk result (self.new.fates.items ≡ Fate.Open ∷ []) }
+        ensures open { OnOk result (self.new.open.keys ≡ (total, 0) ∷ []) }
+        ensures splits { OnOk result (self.new.splits ≡ self.old.splits) }
+    {
+        // The prover finds the type of a fate's conflict only where it is named.
+        let _conflict: Option<Conflict> = None;
+        self.open.insert((total, 0))?;
+        self.nodes.push(Node::Root { paths })?;
+        self.fates.push(Fate::Open)?;
+        Ok(())
+    }
+
+    /// Splits a node on the conflict: its children are added, the left one first.
+    pub fn grow(
+        &mut self,
+        k: u32,
+        conflict: &Conflict,
+        left: Born,
+        right: Born,
+    ) -> Result<(), OutOfMemory>
+        requires same { length self.old.nodes.items ≡ length self.old.fates.items }
+        requires few { length self.old.nodes.items < 2 ^ 31 }
+        requires inside { k < length self.old.fates.items }
+        requires splits { self.old.splits < 2 ^ 31 }
+        ensures nodes { OnOk result (self.new.nodes.items ≡ (self.old.nodes.items ++ Node.Child k (left_agent conflict.now) (left_bar conflict.now) left.found ∷ []) ++ Node.Child k (right_agent conflict.now) (right_bar conflict.now) right.found ∷ []) }
+        ensures fates { OnOk result (self.new.fates.items ≡ slice_set ((self.old.fates.items ++ fate_of left.total ∷ []) ++ fate_of right.total ∷ []) k (Fate.Cut conflict.now (length self.old.nodes.items) (length self.old.nodes.items + 1))) }
+        ensures open { OnOk result (self.new.open.keys ≡ with_key (with_key self.old.open.keys left.total (length self.old.nodes.items)) right.total (length self.old.nodes.items + 1)) }
+        ensures splits { OnOk result (self.new.splits ≡ self.old.splits + 1) }
+    {
+        let number = self.nodes.len() as u32;
+        self.fates.push(fate_of(&left.total))?;
+        self.fates.push(fate_of(&right.total))?;
+        self.fates[k as usize] = Fate::Cut {
+            conflict: *conflict,
+            left: number,
+            right: number + 1,
+        };
+        self.add_open(left.total, number)?;
+        self.add_open(right.total, number + 1)?;
+        self.nodes.push(Node::Child {
+            parent: k,
+            agent: left_agent(conflict),
+            bar: left_bar(conflict),
+            found: left.found,
+        })?;
+        self.nodes.push(Node::Child {
+            parent: k,
+            agent: right_agent(conflict),
+            bar: right_bar(conflict),
+            found: right.found,
+        })?;
+        self.splits += 1;
+        Ok(())
+    }
+
+    // Notes a node that is open, where it has a sum.
+    fn add_open(&mut self, total: Option<u64>, number: u32) -> Result<(), OutOfMemory>
+        ensures open { OnOk result (self.new.open.keys ≡ with_key self.old.open.keys total number) }
+        ensures nodes { OnOk result (self.new.nodes ≡ self.old.nodes) }
+        ensures fates { OnOk result (self.new.fates ≡ self.old.fates) }
+        ensures splits { OnOk result (self.new.splits ≡ self.old.splits) }
+    {
+        if let Some(total) = total {
+            self.open.insert((total, number))?;
+        }
+        Ok(())
+    }
+}
+
+/// A child is open where it has a sum.
+fn fate_of(total: &Option<u64>) -> Fate
+    ensures { result ≡ fate_of total.now }
+{
+    match total {
+        Some(_) => Fate::Open,
+        None => Fate::Dead,
+    }
+}

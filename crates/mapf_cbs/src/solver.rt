@@ -1,0 +1,165 @@
+ghost use Rattle.std.specs.Prelude.{◌≡◌, ◌+◌, ◌<◌, ◌≤◌, ◌∷◌, [], ℕ, List, Some, length, slice_get, IfOk, OnOk};
+ghost use Rattle.mapf_model.specs.Earned.{HasConflict, AreConflictFreeBefore, tick_of};
+ghost use Rattle.mapf_model.specs.Grid.{IsGridMap};
+ghost use Rattle.mapf_model.specs.Tree.{ShareGoal};
+ghost use Rattle.mapf_cbs.specs.Answer.{IsAnswer};
+ghost use Rattle.mapf_cbs.specs.Arena.{AreViews};
+ghost use Rattle.mapf_cbs.specs.Route.{AreTables};
+ghost use Rattle.mapf_cbs.specs.Search.{View, IsLive};
+ghost use Rattle.mapf_cbs.specs.Start.{AreShortest};
+ghost use Rattle.mapf_cbs.specs.State.{IsPopped, IsState};
+
+use crate::answer::Answer;
+use crate::child::child;
+use crate::clash::sharing_pair;
+use crate::search_tree::SearchTree;
+use crate::sides::{left_agent, left_bar, right_agent, right_bar, tick_of};
+use crate::start::{goal_tables, shortest_paths, total_of};
+use crate::walks::plan_at;
+use crate::written::tree_items;
+use mapf_conflicts::first_conflict;
+use mapf_constraints::{BarTable, TickBars};
+use mapf_distance::Distances;
+use mapf_model::{Cause, Conflict, Item, OutOfMemory, Path, Problem};
+use std::alloc::Global;
+
+/// A conflict at this tick or later isn't split.
+const LAST_TICK: u32 = 1_000_000;
+
+/// Searches for a cheapest valid plan with at most so many splits of the constraint tree, 0 to
+/// 100,000.
+pub fn solve(alloc: Global, problem: &Problem, limit: u32) -> Result<Answer, OutOfMemory>
+    requires { limit ≤ 100000 }
+    ensures { IfOk result (IsAnswer problem.now limit) }
+{
+    solve_with::<TickBars>(alloc, problem, limit)
+}
+
+/// The same, with bars kept in tables of this type. All give one answer.
+pub fn solve_with<B: BarTable>(
+    alloc: Global,
+    problem: &Problem,
+    limit: u32,
+) -> Result<Answer, OutOfMemory>
+    requires { limit ≤ 100000 }
+    ensures { IfOk result (IsAnswer problem.now limit) }
+{
+    // The width tells the shape of the grid.
+    let _width = problem.grid().width();
+    if let Some((i, j)) = sharing_pair(problem.agents()) {
+        let clash = Item::Clash {
+            i: i as u32,
+            j: j as u32,
+        };
+        let tree = one_item(alloc, clash)?;
+        return Ok(Answer::Impossible { tree });
+    }
+    let tables = goal_tables(alloc, problem)?;
+    match shortest_paths(alloc, problem, &tables)? {
+        Some(paths) => search_from::<B>(alloc, problem, &tables, paths, limit),
+        None => {
+            let tree = one_item(alloc, Item::Leaf(Vec::new(alloc)))?;
+            Ok(Answer::Impossible { tree })
+        }
+    }
+}
+
+// The items of a tree of one node.
+fn one_item(alloc: Global, item: Item) -> Result<Vec<Item>, OutOfMemory>
+    ensures { IfOk result (λ tree. tree.items ≡ item ∷ []) }
+{
+    let mut tree = Vec::new(alloc);
+    tree.push(item)?;
+    Ok(tree)
+}
+
+// Splits nodes from a root with these paths on, least sum first, until a plan is found, no node is
+// open or a limit is met.
+fn search_from<B: BarTable>(
+    alloc: Global,
+    problem: &Problem,
+    tables: &[Distances],
+    paths: Vec<Path>,
+    limit: u32,
+) -> Result<Answer, OutOfMemory>
+    requires shape { IsGridMap problem.now.grid }
+    requires agents { (1 ≤ length problem.now.agents) × (length problem.now.agents ≤ 200) }
+    requires limit { limit ≤ 100000 }
+    requires goals { (i j : ℕ) → ShareGoal problem.now i j → ⊥ }
+    requires tables { AreTables problem.now tables.now }
+    requires count { length paths.items ≡ length problem.now.agents }
+    requires shortest { AreShortest problem.now paths.items }
+    ensures { IfOk result (IsAnswer problem.now limit) }
+{
+    let agents = problem.agents().len() as u32;
+    let total = total_of(&paths);
+    let mut search = SearchTree::of(alloc, paths, total)?;
+    loop {
+        let Some((total, k)) = search.open.pop_first() else {
+            let tree = tree_items(alloc, &search.nodes, &search.fates, agents)?;
+            return Ok(Answer::Impossible { tree });
+        };
+        let plan = plan_at(alloc, &search.nodes, k, agents)?;
+        let Some(conflict) = first_conflict(&plan) else {
+            let tree = tree_items(alloc, &search.nodes, &search.fates, agents)?;
+            return Ok(Answer::Found { plan, tree });
+        };
+        if tick_of(&conflict) >= LAST_TICK {
+            let tree = tree_items(alloc, &search.nodes, &search.fates, agents)?;
+            return Ok(Answer::Limit {
+                cause: Cause::Ticks,
+                tree,
+            });
+        }
+        if search.splits == limit {
+            let tree = tree_items(alloc, &search.nodes, &search.fates, agents)?;
+            return Ok(Answer::Limit {
+                cause: Cause::Splits(limit),
+                tree,
+            });
+        }
+        split::<B>(alloc, problem, tables, &mut search, k, total, &conflict)?;
+    }
+}
+
+// Splits the node on the conflict.
+fn split<B: BarTable>(
+    alloc: Global,
+    problem: &Problem,
+    tables: &[Distances],
+    search: &mut SearchTree,
+    k: u32,
+    total: u64,
+    conflict: &Conflict,
+) -> Result<(), OutOfMemory>
+    requires tables { AreTables problem.now tables.now }
+    requires popped { IsPopped problem.now search.old.nodes.items search.old.fates.items search.old.open.keys search.old.splits total k }
+    requires goals { (i j : ℕ) → ShareGoal problem.now i j → ⊥ }
+    requires meet { (views : List View) (view : View) → AreViews search.old.nodes.items views → slice_get views k ≡ Some view → IsLive problem.now view → HasConflict view.paths conflict.now × AreConflictFreeBefore view.paths (tick_of conflict.now) }
+    requires early { tick_of conflict.now < 1000000 }
+    requires few { search.old.splits < 100000 }
+    ensures state { OnOk result (IsState problem.now search.new.nodes.items search.new.fates.items search.new.open.keys (search.old.splits + 1)) }
+    ensures splits { OnOk result (search.new.splits ≡ search.old.splits + 1) }
+{
+    let left = child::<B>(
+        alloc,
+        problem,
+        tables,
+        &search.nodes,
+        k,
+        total,
+        left_agent(conflict),
+        left_bar(conflict),
+    )?;
+    let right = child::<B>(
+        alloc,
+        problem,
+        tables,
+        &search.nodes,
+        k,
+        total,
+        right_agent(conflict),
+        right_bar(conflict),
+    )?;
+    search.grow(k, conflict, left, right)
+}

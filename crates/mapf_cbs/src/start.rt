@@ -1,0 +1,70 @@
+ghost use Rattle.std.specs.Prelude.{◌≡◌, ◌*◌, ◌^◌, ◌≤◌, ◌-◌, length, sum_by, IfOk, IfSome, IfNone, MatchOption};
+ghost use Rattle.mapf_model.specs.Distance.{IsUnreachable};
+ghost use Rattle.mapf_cbs.specs.Route.{AreTables};
+ghost use Rattle.mapf_cbs.specs.Start.{IsShortest, AreShortest, SomeGoalIsUnreachable};
+
+use mapf_distance::Distances;
+use mapf_model::{Agent, Grid, OutOfMemory, Path, Problem};
+use std::alloc::Global;
+
+/// The distances to each agent's goal.
+pub fn goal_tables(alloc: Global, problem: &Problem) -> Result<Vec<Distances>, OutOfMemory>
+    ensures { IfOk result (λ tables. AreTables problem.now tables.items) }
+{
+    let mut tables = Vec::new(alloc);
+    for agent in problem.agents() {
+        tables.push(Distances::of(alloc, problem.grid(), agent.goal)?)?;
+    }
+    Ok(tables)
+}
+
+/// A shortest path of each agent. None where some goal can't be reached.
+pub fn shortest_paths(
+    alloc: Global,
+    problem: &Problem,
+    tables: &[Distances],
+) -> Result<Option<Vec<Path>>, OutOfMemory>
+    requires { AreTables problem.now tables.now }
+    ensures unreachable { IfOk result (λ found. IfNone found (SomeGoalIsUnreachable problem.now)) }
+    ensures count { IfOk result (λ found. IfSome found (λ paths. length paths.items ≡ length problem.now.agents)) }
+    ensures shortest { IfOk result (λ found. IfSome found (λ paths. AreShortest problem.now paths.items)) }
+{
+    let mut paths = Vec::new(alloc);
+    for (i, agent) in problem.agents().iter().enumerate() {
+        match shortest_path(alloc, &tables[i], agent)? {
+            Some(path) => paths.push(path)?,
+            None => return Ok(None),
+        }
+    }
+    Ok(Some(paths))
+}
+
+// A shortest path of the agent, None where its goal can't be reached.
+fn shortest_path(
+    alloc: Global,
+    distances: &Distances,
+    agent: &Agent,
+) -> Result<Option<Path>, OutOfMemory>
+    requires { distances.now.goal ≡ agent.now.goal }
+    ensures { IfOk result (λ found. MatchOption found
+        (IsUnreachable distances.now.grid agent.now.goal agent.now.start)
+        (IsShortest distances.now.grid agent.now)) }
+{
+    if distances.get(agent.start).is_none() {
+        return Ok(None);
+    }
+    Ok(Some(distances.descend(alloc, agent.start)?))
+}
+
+/// The sum of the paths' lengths in ticks.
+pub fn total_of(paths: &[Path]) -> u64
+    requires { length paths.now ≤ 200 }
+    ensures sum { result ≡ sum_by (λ path. length path - 1) paths.now }
+    ensures small { result ≤ 200 * 2 ^ 32 }
+{
+    let mut total = 0u64;
+    for path in paths {
+        total += path.cells().len() as u64 - 1;
+    }
+    total
+}

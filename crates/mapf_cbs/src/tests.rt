@@ -1,0 +1,192 @@
+use crate::{Answer, Cause, solve, solve_with};
+use mapf_constraints::{BarTable, ListBars, TickBars};
+use mapf_model::{Agent, Block, Cell, Grid, Item, Label, Path, Plan, Problem};
+use std::alloc::{AllocError, Global};
+use std::process::Abort;
+use std::test::Fail;
+
+/// The problem on the grid of these rows, in which a dot is a free cell, with agents that go from
+/// one cell to another.
+fn problem_of(alloc: Global, rows: &str, ends: &[(u32, u32)]) -> Result<Problem, Fail> {
+    let mut free = Vec::new(alloc);
+    let mut width = 0;
+    let mut height = 0;
+    for row in rows.split_whitespace() {
+        width = row.len();
+        height = u32::checked_add(height, 1).ok_or("too high")?;
+        for byte in row.as_bytes() {
+            free.push(*byte == b'.')?;
+        }
+    }
+    let width = u32::try_from(width).ok().ok_or("too wide")?;
+    let grid = Grid::of(width, height, free).ok_or("no grid")?;
+    let mut agents = Vec::new(alloc);
+    for (start, goal) in ends {
+        agents.push(Agent {
+            start: Cell(*start),
+            goal: Cell(*goal),
+        })?;
+    }
+    Ok(Problem::of(grid, agents).ok_or("no problem")?)
+}
+
+/// The cells of each path after a colon.
+fn plan_text(alloc: Global, plan: &Plan) -> Result<String, AllocError> {
+    let mut text = String::from_str(alloc, "found")?;
+    for path in plan.paths() {
+        text.push_str(&path_text(alloc, path)?)?;
+    }
+    Ok(text)
+}
+
+fn path_text(alloc: Global, path: &Path) -> Result<String, AllocError> {
+    let mut text = String::from_str(alloc, ":")?;
+    for cell in path.cells() {
+        text.push_str(&format!(in alloc; " {}", cell.0)?)?;
+    }
+    Ok(text)
+}
+
+/// The entries as cell@tick=label.
+fn block_text(alloc: Global, block: &Block) -> Result<String, AllocError> {
+    let mut text = format!(in alloc; " {}:", block.agent)?;
+    for entry in &block.entries {
+        text.push_str(&format!(in alloc; " {}@{}=", entry.cell.0, entry.tick)?)?;
+        match entry.label {
+            Label::Ticks(ticks) => text.push_str(&format!(in alloc; "{ticks}")?)?,
+            Label::Never => text.push_str("inf")?,
+        }
+    }
+    Ok(text)
+}
+
+fn leaf_text(alloc: Global, blocks: &[Block]) -> Result<String, AllocError> {
+    let mut text = String::from_str(alloc, "leaf")?;
+    for block in blocks {
+        text.push_str(&block_text(alloc, block)?)?;
+    }
+    Ok(text)
+}
+
+fn item_text(alloc: Global, item: &Item) -> Result<String, AllocError> {
+    match item {
+        Item::Vertex { i, j, cell, tick } => format!(in alloc; "vertex {i} {j} {} {tick}", cell.0),
+        Item::Swap {
+            i,
+            j,
+            from,
+            to,
+            tick,
+        } => format!(in alloc; "swap {i} {j} {} {} {tick}", from.0, to.0),
+        Item::Leaf(blocks) => leaf_text(alloc, blocks),
+        Item::Clash { i, j } => format!(in alloc; "clash {i} {j}"),
+    }
+}
+
+fn tree_text(alloc: Global, tree: &[Item]) -> Result<String, AllocError> {
+    let mut text = String::new(alloc);
+    for item in tree {
+        text.push_str(" / ")?;
+        text.push_str(&item_text(alloc, item)?)?;
+    }
+    Ok(text)
+}
+
+fn answer_text(alloc: Global, answer: &Answer) -> Result<String, AllocError> {
+    let (mut text, tree) = match answer {
+        Answer::Found { plan, tree } => (plan_text(alloc, plan)?, tree),
+        Answer::Impossible { tree } => (String::from_str(alloc, "impossible")?, tree),
+        Answer::Limit {
+            cause: Cause::Ticks,
+            tree,
+        } => (String::from_str(alloc, "limit ticks")?, tree),
+        Answer::Limit {
+            cause: Cause::Splits(n),
+            tree,
+        } => (format!(in alloc; "limit {n}")?, tree),
+    };
+    text.push_str(&tree_text(alloc, tree)?)?;
+    Ok(text)
+}
+
+/// Both tables of bars lead to this answer.
+fn solves(
+    rt: &impl Abort,
+    alloc: Global,
+    rows: &str,
+    ends: &[(u32, u32)],
+    limit: u32,
+    expected: &str,
+) -> Result<(), Fail> {
+    let problem = problem_of(alloc, rows, ends)?;
+    if limit <= 100_000 {
+        let by_list = solve_with::<ListBars>(alloc, &problem, limit)?;
+        assert_eq!(rt; answer_text(alloc, &by_list)?.as_str(), expected);
+        let by_tick = solve_with::<TickBars>(alloc, &problem, limit)?;
+        assert_eq!(rt; answer_text(alloc, &by_tick)?.as_str(), expected);
+    }
+    Ok(())
+}
+
+#[test]
+fn lets_one_agent_wait_for_another(rt: HostRuntime) -> Result<(), Fail> {
+    let rows = "... ... ...";
+    let ends = [(3, 5), (1, 7)].as_slice();
+    let expected = "found: 3 3 4 5: 1 4 7 / vertex 0 1 4 1 / leaf 0: 3@0=3 / leaf 1: 1@0=3";
+    solves(&rt, rt.alloc(), rows, ends, 10, expected)?;
+    solves(&rt, rt.alloc(), rows, ends, 1, expected)?;
+    solves(&rt, rt.alloc(), rows, ends, 0, "limit 0 / leaf")
+}
+
+// Agent 1 has to leave its goal for agent 0 and to return.
+const PASSING: &str = "found: 0 1 2: 1 4 1 / vertex 0 1 1 1 / vertex 0 1 1 2 / vertex 0 1 1 3 \
+    / leaf 0: 0@0=5 0@1=4 0@2=3 \
+    / leaf 0: 0@0=4 0@1=3 1: 1@0=4 0@1=3 1@1=3 2@1=3 4@1=3 0@2=2 1@2=2 2@2=2 4@2=2 \
+    / leaf 0: 0@0=3 1: 1@0=3 0@1=2 1@1=2 2@1=2 4@1=2 \
+    / swap 0 1 0 1 0 / leaf 0: 0@0=3 1: 1@0=2 / swap 0 1 1 2 1 / leaf 0: 0@0=3 1@1=2 1: 1@0=2 \
+    / leaf 1: 1@0=2";
+
+#[test]
+fn lets_an_agent_pass(rt: HostRuntime) -> Result<(), Fail> {
+    let ends = [(0, 2), (1, 1)].as_slice();
+    solves(&rt, rt.alloc(), "... @.@", ends, 5, PASSING)?;
+    let problem = problem_of(rt.alloc(), "... @.@", ends)?;
+    let answer = solve(rt.alloc(), &problem, 4)?;
+    let text = answer_text(rt.alloc(), &answer)?;
+    assert!(rt; text.starts_with("limit 4 / vertex 0 1 1 1 / "));
+    Ok(())
+}
+
+#[test]
+fn stops_where_two_agents_block_each_other(rt: HostRuntime) -> Result<(), Fail> {
+    let ends = [(0, 1), (1, 0)].as_slice();
+    let expected = "limit 3 / swap 0 1 0 1 0 / vertex 0 1 0 1 / leaf 0: 0@0=inf \
+        / leaf 0: 0@0=2 1: 1@0=2 / vertex 0 1 1 1 / leaf 0: 0@0=2 1: 1@0=2 / leaf 1: 1@0=inf";
+    solves(&rt, rt.alloc(), "..", ends, 3, expected)
+}
+
+#[test]
+fn shows_that_no_plan_is_valid(rt: HostRuntime) -> Result<(), Fail> {
+    let one_start = [(0, 1), (0, 2)].as_slice();
+    let expected = "impossible / vertex 0 1 0 0 / leaf 0: 0@0=inf / leaf 1: 0@0=inf";
+    solves(&rt, rt.alloc(), "...", one_start, 1, expected)?;
+    solves(&rt, rt.alloc(), "...", one_start, 0, "limit 0 / leaf")?;
+    let one_goal = [(0, 1), (2, 1)].as_slice();
+    solves(
+        &rt,
+        rt.alloc(),
+        "...",
+        one_goal,
+        0,
+        "impossible / clash 0 1",
+    )?;
+    let walled = [(0, 2)].as_slice();
+    solves(&rt, rt.alloc(), ".@.", walled, 0, "impossible / leaf")
+}
+
+#[test]
+fn lets_four_agents_rotate(rt: HostRuntime) -> Result<(), Fail> {
+    let ends = [(0, 1), (1, 3), (3, 2), (2, 0)].as_slice();
+    let expected = "found: 0 1: 1 3: 3 2: 2 0 / leaf";
+    solves(&rt, rt.alloc(), ".. ..", ends, 0, expected)
+}

@@ -1,0 +1,85 @@
+ghost use Rattle.std.specs.Prelude.{◌≡◌, ◌<◌, ℕ, List, Some, length, slice_get, IfOk};
+ghost use Rattle.mapf_model.specs.Tree.{ConstraintTree, Spell};
+ghost use Rattle.mapf_cbs.specs.Search.{View, AreBlocksOf, AreCutsLater, IsTreeAt};
+ghost use Rattle.mapf_cbs.specs.Arena.{AreNodesFor, AreViews};
+
+use crate::node::{Fate, Node};
+use crate::sides::split_item;
+use crate::walks::labels_at;
+use mapf_model::{Block, Entry, Item, OutOfMemory};
+use std::alloc::Global;
+
+/// The items of the nodes' tree in pre-order.
+pub fn tree_items(
+    alloc: Global,
+    nodes: &[Node],
+    fates: &[Fate],
+    agents: u32,
+) -> Result<Vec<Item>, OutOfMemory>
+    requires nodes { (agent : ℕ) → agent < agents → AreNodesFor agent nodes.now }
+    requires same { length fates.now ≡ length nodes.now }
+    requires some { 0 < length nodes.now }
+    requires later { AreCutsLater fates.now }
+    ensures { IfOk result (λ items. (views : List View) → AreViews nodes.now views → (tree : ConstraintTree) × Spell items.items tree × IsTreeAt agents views fates.now 0 tree) }
+{
+    let mut items = Vec::new(alloc);
+    let mut owed: Vec<u32> = Vec::new(alloc);
+    owed.push(0)?;
+    while let Some(k) = owed.pop() {
+        let fate = fates[k as usize];
+        match fate {
+            Fate::Cut {
+                conflict,
+                left,
+                right,
+            } => {
+                items.push(split_item(conflict))?;
+                owed.push(right)?;
+                owed.push(left)?;
+            }
+            _ => {
+                let blocks = blocks_at(alloc, nodes, k, agents)?;
+                items.push(Item::Leaf(blocks))?;
+            }
+        }
+    }
+    Ok(items)
+}
+
+// One block for each agent that has labels at the node.
+fn blocks_at(
+    alloc: Global,
+    nodes: &[Node],
+    k: u32,
+    agents: u32,
+) -> Result<Vec<Block>, OutOfMemory>
+    requires nodes { (agent : ℕ) → agent < agents → AreNodesFor agent nodes.now }
+    requires inside { k < length nodes.now }
+    ensures { IfOk result (λ blocks. (views : List View) (view : View) → AreViews nodes.now views → slice_get views k ≡ Some view → AreBlocksOf agents view.entries blocks.items) }
+{
+    let mut blocks = Vec::new(alloc);
+    for agent in 0..agents {
+        let entries = entries_at(alloc, nodes, k, agent)?;
+        if !entries.is_empty() {
+            blocks.push(Block { agent, entries })?;
+        }
+    }
+    Ok(blocks)
+}
+
+// The entries of the agent at the node, none where it isn't bound.
+fn entries_at(
+    alloc: Global,
+    nodes: &[Node],
+    k: u32,
+    agent: u32,
+) -> Result<Vec<Entry>, OutOfMemory>
+    requires nodes { AreNodesFor agent nodes.now }
+    requires inside { k < length nodes.now }
+    ensures { IfOk result (λ entries. (views : List View) (view : View) → AreViews nodes.now views → slice_get views k ≡ Some view → view.entries agent ≡ entries.items) }
+{
+    match labels_at(nodes, k, agent) {
+        Some(labels) => Ok(Vec::from_slice(alloc, labels.entries())?),
+        None => Ok(Vec::new(alloc)),
+    }
+}
