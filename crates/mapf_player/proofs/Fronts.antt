@@ -1,0 +1,47 @@
+-- Texts that go out in parts.
+use Rattle.std.proofs.Common.{◌≡◌, ℕ, List, [], ◌∷◌, ◌++◌, Option, Some, None, Result, Ok, Err, OnErr, OnOk, length, take, drop, take-append-drop, append_assoc, append-nil, refl, sym, ap, ◌∙◌, subst, ◌≤◌}
+use Rattle.std.specs.Io.KnownBytes.{Appends}
+use Rattle.std.proofs.KnownBytes.{Appends-trans, Appends-nil}
+use Rattle.mapf_player.specs.Pages.{Passes, WritesFront}
+
+pub from_take : (a b : Option (List ℕ)) (t : List ℕ) (n : ℕ) → Appends a b (take n t) → WritesFront a b t
+from_take a b t n w = record { front = take n t; rest = drop n t; same = sym (take-append-drop n t); wrote = w }
+
+-- nothing went out
+pub holds : (a : Option (List ℕ)) (held text : List ℕ) → Passes a a held (held ++ text) text
+holds a held text = record { gone = []; same = refl; wrote = Appends-nil a }
+
+-- no text
+pub passes_none : (a : Option (List ℕ)) (held : List ℕ) → Passes a a held held []
+passes_none a held = record { gone = []; same = append-nil held; wrote = Appends-nil a }
+
+-- what was held went out
+pub passes_held : (a b : Option (List ℕ)) (held text : List ℕ) → Appends a b held → Passes a b held text text
+passes_held a b held text w = record { gone = held; same = refl; wrote = w }
+
+-- what was held went out, and then the text
+pub passes_all : (a b c : Option (List ℕ)) (held text : List ℕ) → Appends a b held → Appends b c text → Passes a c held [] text
+passes_all a b c held text w v = record { gone = held ++ text; same = sym (append-nil (held ++ text)); wrote = Appends-trans a b c held text w v }
+
+pub passes_trans : (a b c : Option (List ℕ)) (h i j t u : List ℕ) → Passes a b h i t → Passes b c i j u → Passes a c h j (t ++ u)
+passes_trans a b c h i j t u p q = record {
+  gone = p.gone ++ q.gone;
+  same = sym (append_assoc h t u) ∙ ap (λ x. x ++ u) p.same ∙ append_assoc p.gone i u ∙ ap (λ x. p.gone ++ x) q.same ∙ sym (append_assoc p.gone q.gone j);
+  wrote = Appends-trans a b c p.gone q.gone p.wrote q.wrote;
+}
+
+-- a front of the next text, and so of both
+pub front_after : (a b c : Option (List ℕ)) (h i t u : List ℕ) → Passes a b h i t → WritesFront b c (i ++ u) → WritesFront a c (h ++ (t ++ u))
+front_after a b c h i t u p w = record {
+  front = p.gone ++ w.front;
+  rest = w.rest;
+  same = sym (append_assoc h t u) ∙ ap (λ x. x ++ u) p.same ∙ append_assoc p.gone i u ∙ ap (λ x. p.gone ++ x) w.same ∙ sym (append_assoc p.gone w.front w.rest);
+  wrote = Appends-trans a b c p.gone w.front p.wrote w.wrote;
+}
+
+-- a front of the first text is one of both
+pub front_before : (a b : Option (List ℕ)) (t u : List ℕ) → WritesFront a b t → WritesFront a b (t ++ u)
+front_before a b t u w = record { front = w.front; rest = w.rest ++ u; same = ap (λ x. x ++ u) w.same ∙ append_assoc w.front w.rest u; wrote = w.wrote }
+
+pub front_held : (a b : Option (List ℕ)) (h t u : List ℕ) → WritesFront a b (h ++ t) → WritesFront a b (h ++ (t ++ u))
+front_held a b h t u w = subst (WritesFront a b) (append_assoc h t u) (front_before a b (h ++ t) u w)
