@@ -45,3 +45,33 @@ front_before a b t u w = record { front = w.front; rest = w.rest ++ u; same = ap
 
 pub front_held : (a b : Option (List ℕ)) (h t u : List ℕ) → WritesFront a b (h ++ t) → WritesFront a b (h ++ (t ++ u))
 front_held a b h t u w = subst (WritesFront a b) (append_assoc h t u) (front_before a b (h ++ t) u w)
+
+-- a front of the next text after one that went out whole
+pub front_next : (a b c : Option (List ℕ)) (t u : List ℕ) → Appends a b t → WritesFront b c u → WritesFront a c (t ++ u)
+front_next a b c t u p w = record {
+  front = t ++ w.front;
+  rest = w.rest;
+  same = ap (λ x. t ++ x) w.same ∙ sym (append_assoc t w.front w.rest);
+  wrote = Appends-trans a b c t w.front p w.wrote;
+}
+
+-- the same for what the last of several calls answers
+pub text_then : {T E : Type 0} (r : Result T E) (a b c : Option (List ℕ)) (h i j t u : List ℕ) → Passes a b h i t → OnOk r (Passes b c i j u) → OnOk r (Passes a c h j (t ++ u))
+text_then (Ok x) a b c h i j t u p q = passes_trans a b c h i j t u p q
+text_then (Err e) a b c h i j t u p q = tt
+
+pub front_then : {T E : Type 0} (r : Result T E) (a b c : Option (List ℕ)) (h i t u : List ℕ) → Passes a b h i t → OnErr r (WritesFront b c (i ++ u)) → OnErr r (WritesFront a c (h ++ (t ++ u)))
+front_then (Ok x) a b c h i t u p w = tt
+front_then (Err e) a b c h i t u p w = front_after a b c h i t u p w
+
+pub front_first : {T E : Type 0} (r : Result T E) (a b : Option (List ℕ)) (h t u : List ℕ) → WritesFront a b (h ++ t) → OnErr r (WritesFront a b (h ++ (t ++ u)))
+front_first (Ok x) a b h t u w = tt
+front_first (Err e) a b h t u w = front_held a b h t u w
+
+pub text_unheld : {T E : Type 0} (r : Result T E) (a b c : Option (List ℕ)) (held left text : List ℕ) → Appends a b held → left ≡ [] → OnOk r (Appends b c text) → OnOk r (Passes a c held left text)
+text_unheld (Ok x) a b c held left text w none v = subst (λ l. Passes a c held l text) (sym none) (passes_all a b c held text w v)
+text_unheld (Err e) a b c held left text w none v = tt
+
+pub front_unheld : {T E : Type 0} (r : Result T E) (a b c : Option (List ℕ)) (held text : List ℕ) → Appends a b held → OnErr r ((n : ℕ) × (n ≤ length text) × Appends b c (take n text)) → OnErr r (WritesFront a c (held ++ text))
+front_unheld (Ok x) a b c held text w v = tt
+front_unheld (Err e) a b c held text w v = front_next a b c held text w (from_take b c text v.0 v.2)
