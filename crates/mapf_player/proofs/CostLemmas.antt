@@ -1,9 +1,10 @@
 -- The greatest cost of the paths so far.
-use Rattle.std.proofs.Common.{◌≡◌, ℕ, zero, suc, ◌+◌, ◌<◌, ◌≤◌, max, List, Option, Some, slice_get, length, refl, sym, ap, ◌∙◌, subst, ⊎_elim, arith}
+use Rattle.std.proofs.Common.{◌≡◌, ℕ, zero, suc, ◌+◌, ◌<◌, ◌≤◌, max, List, Option, Some, None, IsSome, IfNone, ◌≢◌, ◌-◌, slice_get, length, refl, sym, ap, ◌∙◌, subst, ⊎_elim, arith}
 use Rattle.std.proofs.lemmas.Bool.{cases_lt, cases_eq}
 use Rattle.std.proofs.lemmas.Option.{same_Some, slice_get_within}
 use Rattle.mapf_model.specs.declared.problem.Agent.{Agent}
-use Rattle.mapf_model.specs.Path.{IsCost}
+use Rattle.mapf_model.specs.Path.{at, IsCost}
+use Rattle.mapf_model.specs.Plan.{Instance, IsValid}
 use Rattle.mapf_player.specs.Play.{IsGreatestCost}
 
 -- some path costs this
@@ -53,3 +54,9 @@ IsGreatestOf-all agents plan count greatest all nonempty far = record {
   some = far.some nonempty;
   most = λ i agent path cost a p k. far.most i agent path cost (let within = slice_get_within plan i path p in omega arith) a p k;
 }
+
+-- a path that ends at its goal has a cost
+pub lawful_costs : (problem : Instance) (plan : List (List ℕ)) (i : ℕ) (agent : Agent) (path : List ℕ) (cost : Option ℕ) → IsValid problem plan → slice_get problem.agents i ≡ Some agent → slice_get plan i ≡ Some path →
+    IfNone cost (at path (length path - 1) ≢ agent.goal) → IsSome cost
+lawful_costs problem plan i agent path None valid a p none = absurd (none (valid.lawful i agent path a p).goal)
+lawful_costs problem plan i agent path (Some cost) valid a p none = refl

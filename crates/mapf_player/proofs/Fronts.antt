@@ -1,5 +1,6 @@
 -- Texts that go out in parts.
-use Rattle.std.proofs.Common.{◌≡◌, ℕ, List, [], ◌∷◌, ◌++◌, Option, Some, None, Result, Ok, Err, OnErr, OnOk, length, take, drop, take-append-drop, append_assoc, append-nil, refl, sym, ap, ◌∙◌, subst, ◌≤◌}
+use Rattle.std.proofs.Common.{◌≡◌, ℕ, List, [], ◌∷◌, ◌++◌, Option, Some, None, Result, Ok, Err, OnErr, OnOk, length, take, drop, take-append-drop, append_assoc, append-nil, refl, sym, ap, ◌∙◌, subst, ◌≤◌, length-append, arith}
+use Rattle.std.proofs.lemmas.List.{take_at}
 use Rattle.std.specs.Io.KnownBytes.{Appends}
 use Rattle.std.proofs.KnownBytes.{Appends-trans, Appends-nil}
 use Rattle.mapf_player.specs.Pages.{Passes, WritesFront}
@@ -75,3 +76,27 @@ text_unheld (Err e) a b c held left text w none v = tt
 pub front_unheld : {T E : Type 0} (r : Result T E) (a b c : Option (List ℕ)) (held text : List ℕ) → Appends a b held → OnErr r ((n : ℕ) × (n ≤ length text) × Appends b c (take n text)) → OnErr r (WritesFront a c (held ++ text))
 front_unheld (Ok x) a b c held text w v = tt
 front_unheld (Err e) a b c held text w v = front_next a b c held text w (from_take b c text v.0 v.2)
+
+pub on_err : {T E : Type 0} (r : Result T E) (P : Type 0) → P → OnErr r P
+on_err (Ok x) P p = tt
+on_err (Err e) P p = p
+
+-- the last that is held goes out
+pub finish : {T E : Type 0} (r : Result T E) (a b c : Option (List ℕ)) (left text : List ℕ) (P : List ℕ → Type 0) → P text → Passes a b [] left text → OnOk r (Appends b c left) → OnOk r ((t : List ℕ) × P t × Appends a c t)
+finish (Ok x) a b c left text P is p w = (text, is, subst (Appends a c) (sym p.same) (Appends-trans a b c p.gone left p.wrote w))
+finish (Err e) a b c left text P is p w = tt
+
+pub finish_front : {T E : Type 0} (r : Result T E) (a b c : Option (List ℕ)) (left text : List ℕ) → Passes a b [] left text → OnErr r (WritesFront b c left) → OnErr r (WritesFront a c text)
+finish_front (Ok x) a b c left text p w = tt
+finish_front (Err e) a b c left text p w = subst (WritesFront a c) (sym p.same) (front_next a b c p.gone left p.wrote w)
+
+-- a front is the first so many bytes
+pub to_take : {T E : Type 0} (r : Result T E) (a b : Option (List ℕ)) (text : List ℕ) (P : List ℕ → Type 0) → P text → OnErr r (WritesFront a b text) → OnErr r ((t : List ℕ) × P t × (n : ℕ) × (n ≤ length t) × Appends a b (take n t))
+to_take (Ok x) a b text P is w = tt
+to_take (Err e) a b text P is w = (
+  text,
+  is,
+  length w.front,
+  omega (arith, ap length w.same, length-append w.front w.rest),
+  subst (Appends a b) (sym (ap (take (length w.front)) w.same ∙ take_at w.front w.rest (length w.front) refl)) w.wrote,
+)

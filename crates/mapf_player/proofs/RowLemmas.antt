@@ -1,12 +1,14 @@
 -- The bytes of a row, as agents are marked one by one, the last first.
-use Rattle.std.proofs.Common.{◌≡◌, ℕ, zero, suc, ◌+◌, ◌*◌, ◌/◌, ◌%◌, ◌<◌, ◌≤◌, eqb, cond, not, Bool, true, false, ltb, List, [], ◌∷◌, Option, Some, None, option_map, unwrap_or, length, set, get_or, refl, sym, ap, ◌∙◌, subst, ⊎_elim, arith}
+use Rattle.std.proofs.Common.{◌≡◌, ℕ, zero, suc, ◌+◌, ◌-◌, drop, ◌*◌, ◌/◌, ◌%◌, ◌<◌, ◌≤◌, eqb, cond, not, Bool, true, false, ltb, List, [], ◌∷◌, Option, Some, None, option_map, unwrap_or, length, set, get_or, refl, sym, ap, ◌∙◌, subst, ⊎_elim, arith}
 use Rattle.std.specs.List.{position, prefix_len}
 use Rattle.std.proofs.lemmas.Bool.{cases_Bool, cases_lt, cases_eq, cond_below, cond_above, ne_eqb}
-use Rattle.std.proofs.lemmas.List.{get_or-set_same, get_or-set_other}
+use Rattle.std.proofs.lemmas.List.{get_or-set_same, get_or-set_other, drop_more, drop_all}
+use Rattle.std.proofs.lemmas.List.FromFn.{fill_by_all}
 use Rattle.std.proofs.lemmas.Nat.{div-add-mod', div-mul-add, mod-mul-add}
 use Rattle.std.proofs.lemmas.Bool.Decides.{nat_tests}
 use Rattle.mapf_model.specs.Path.{at}
-use Rattle.mapf_player.specs.Play.{mark, agent_in}
+use Rattle.mapf_model.specs.Grid.{GridMap}
+use Rattle.mapf_player.specs.Play.{mark, agent_in, ground, cell_byte, row_cells}
 
 -- the byte of a cell under these agents, the first of which has this number, over another byte
 pub marked : ℕ → List (List ℕ) → ℕ → ℕ → ℕ → ℕ
@@ -34,6 +36,7 @@ shifted m n = ⊎_elim
 
 position_hit : {X : Type 0} (p : X → Bool) (x : X) (xs : List X) → p x ≡ true → position p (x ∷ xs) ≡ Some 0
 position_hit p x xs e = ap (λ b. cond (ltb (cond (not b) (1 + prefix_len (λ y. not (p y)) xs) 0) (suc (length xs))) (Some (cond (not b) (1 + prefix_len (λ y. not (p y)) xs) 0)) None) e
+    ∙ sym (cond_below 0 (suc (length xs)) (Some 0) None (omega arith))
 
 position_miss : {X : Type 0} (p : X → Bool) (x : X) (xs : List X) → p x ≡ false → position p (x ∷ xs) ≡ option_map suc (position p xs)
 position_miss p x xs e =
@@ -86,3 +89,44 @@ module _ (w y first : ℕ) (path : List ℕ) (paths : List (List ℕ)) (tick : �
   marked_elsewhere away x within =
       let miss : eqb (at path tick) (y * w + x) ≡ false = ne_eqb (at path tick) (y * w + x) (λ is. away (ap (λ n. n / w) is ∙ div-mul-add y w x within)) in
       before x within ∙ sym (marked_miss first path paths tick (y * w + x) (get_or old x 0) miss)
+
+module _ (w y agent : ℕ) (paths : List (List ℕ)) (path : List ℕ) (tick cell : ℕ) (old row : List ℕ) (some : 0 < w) (size : length row ≡ w) (left : 0 < agent) (within : agent ≤ length paths) (path_is : path ≡ get_or paths (agent - 1) path) (cell_is : cell ≡ at path tick) (before : AreMarked w y agent (drop agent paths) tick old row) where
+  before_this : AreMarked w y (agent - 1 + 1) (drop (agent - 1 + 1) paths) tick old row
+  before_this = let same : agent ≡ agent - 1 + 1 = omega arith in subst (λ k. AreMarked w y k (drop k paths) tick old row) same before
+
+  this_first : drop (agent - 1) paths ≡ path ∷ drop (agent - 1 + 1) paths
+  this_first = drop_more paths (agent - 1) path (omega arith) ∙ ap (λ p. p ∷ drop (agent - 1 + 1) paths) (sym path_is)
+
+  pub step_here : (byte : ℕ) → byte ≡ mark (agent - 1) → cell / w ≡ y → AreMarked w y (agent - 1) (drop (agent - 1) paths) tick old (set row (cell % w) byte)
+  step_here byte byte_is row_is =
+      let row_at : at path tick / w ≡ y = ap (λ n. n / w) (sym cell_is) ∙ row_is in
+      let here = marked_here w y (agent - 1) path (drop (agent - 1 + 1) paths) tick old row some size before_this row_at in
+      subst (λ ps. AreMarked w y (agent - 1) ps tick old (set row (cell % w) byte)) (sym this_first)
+      (subst (λ n. AreMarked w y (agent - 1) (path ∷ drop (agent - 1 + 1) paths) tick old (set row (n % w) byte)) (sym cell_is)
+      (subst (λ b. AreMarked w y (agent - 1) (path ∷ drop (agent - 1 + 1) paths) tick old (set row (at path tick % w) b)) (sym byte_is) here))
+
+  pub step_elsewhere : (cell / w ≡ y → ⊥) → AreMarked w y (agent - 1) (drop (agent - 1) paths) tick old row
+  step_elsewhere away = subst (λ ps. AreMarked w y (agent - 1) ps tick old row) (sym this_first)
+      (marked_elsewhere w y (agent - 1) path (drop (agent - 1 + 1) paths) tick old row some size before_this (λ row_at. away (ap (λ n. n / w) cell_is ∙ row_at)))
+
+pub AreMarked-none : (w y : ℕ) (paths : List (List ℕ)) (tick : ℕ) (row : List ℕ) → AreMarked w y (length paths) (drop (length paths) paths) tick row row
+AreMarked-none w y paths tick row x within =
+    sym (ap (λ ps. marked (length paths) ps tick (y * w + x) (get_or row x 0)) (drop_all (length paths) paths (omega arith)) ∙ marked_none (length paths) tick (y * w + x) (get_or row x 0))
+
+pub AreMarked-all : (w y agent : ℕ) (paths : List (List ℕ)) (tick : ℕ) (old row : List ℕ) → agent ≤ 0 → AreMarked w y agent (drop agent paths) tick old row → (x : ℕ) → x < w → get_or row x 0 ≡ unwrap_or (option_map mark (agent_in paths tick (y * w + x))) (get_or old x 0)
+AreMarked-all w y agent paths tick old row over all x within =
+    let none : agent ≡ 0 = omega arith in
+    subst (λ k. get_or row x 0 ≡ marked k (drop k paths) tick (y * w + x) (get_or old x 0)) none (all x within) ∙ marked_is paths tick (y * w + x) (get_or old x 0)
+
+module _ (grid : GridMap) (paths : List (List ℕ)) (tick y : ℕ) (old plain drawn : List ℕ) (whole : length old ≡ grid.width) (plain_long : length plain ≡ length old) (drawn_long : length drawn ≡ length plain)
+    (fills : (x : ℕ) → x < length old → get_or plain x 0 ≡ ground grid (y * length old + x))
+    (marks : (x : ℕ) → x < length plain → get_or drawn x 0 ≡ unwrap_or (option_map mark (agent_in paths tick (y * length plain + x))) (get_or plain x 0))
+  where
+  byte_drawn : (x : ℕ) → x < grid.width → get_or drawn x 0 ≡ cell_byte grid paths tick (y * grid.width + x)
+  byte_drawn x within =
+      let plain_whole : length plain ≡ grid.width = plain_long ∙ whole in
+      marks x (omega arith) ∙ ap (λ w. unwrap_or (option_map mark (agent_in paths tick (y * w + x))) (get_or plain x 0)) plain_whole
+      ∙ ap (unwrap_or (option_map mark (agent_in paths tick (y * grid.width + x)))) (fills x (omega arith) ∙ ap (λ w. ground grid (y * w + x)) whole)
+
+  pub row_drawn : drawn ≡ row_cells grid paths tick y
+  row_drawn = fill_by_all (λ x. cell_byte grid paths tick (y * grid.width + x)) drawn grid.width 0 (drawn_long ∙ plain_long ∙ whole) byte_drawn

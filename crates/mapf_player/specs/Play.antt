@@ -27,13 +27,17 @@ cell_byte grid plan tick cell = unwrap_or (option_map mark (agent_in plan tick c
 abbrev pub row_cells : GridMap → List (List ℕ) → ℕ → ℕ → List ℕ
 row_cells grid plan tick row = map (λ column. cell_byte grid plan tick (row * grid.width + column)) (range_with_len 0 grid.width)
 
+-- a row's line
+unfoldable pub row_line : GridMap → List (List ℕ) → ℕ → ℕ → List ℕ
+row_line grid plan tick row = row_cells grid plan tick row ++ (10 ∷ [])
+
 -- a word, a number and LF
 abbrev pub line : List ℕ → ℕ → List ℕ
 line word number = word ++ (decimal number ++ (10 ∷ []))
 
 -- the grid at a tick: a line for each row, from the top to the bottom
 abbrev pub rows : GridMap → List (List ℕ) → ℕ → List ℕ
-rows grid plan tick = flat_map (λ row. row_cells grid plan tick row ++ (10 ∷ [])) (range_with_len 0 grid.height)
+rows grid plan tick = flat_map (row_line grid plan tick) (range_with_len 0 grid.height)
 
 -- what is shown of a tick
 unfoldable pub frame : GridMap → List (List ℕ) → ℕ → List ℕ

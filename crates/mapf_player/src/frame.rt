@@ -1,7 +1,7 @@
-ghost use Rattle.std.specs.Prelude.{◌≡◌, ◌<◌, ◌++◌, ◌∷◌, [], false, codes, OnOk, OnErr};
+ghost use Rattle.std.specs.Prelude.{◌≡◌, ◌<◌, ◌++◌, ◌∷◌, [], false, codes, length, OnOk, OnErr};
 ghost use Rattle.std.specs.Result.{is_err};
 ghost use Rattle.mapf_player.specs.Pages.{Passes, WritesFront};
-ghost use Rattle.mapf_player.specs.Play.{frame, line, row_cells, rows};
+ghost use Rattle.mapf_player.specs.Play.{frame, line, row_line, rows};
 
 use crate::page::Page;
 use crate::row::draw_row;
@@ -21,27 +21,25 @@ pub fn put_line<K: Sink>(page: &mut Page, sink: &mut K, word: &[u8], number: u32
     page.put(sink, b"\n")
 }
 
-// Writes a row of the grid and LF.
+// Writes a row of the grid and LF, by way of a buffer for a row.
 fn put_row<K: Sink>(
     page: &mut Page,
     sink: &mut K,
+    row: &mut [u8],
     grid: &Grid,
     paths: &[Path],
     tick: Tick,
     y: u32,
 ) -> Result<(), Failed>
     requires works { K.has_failed sink.old ≡ false }
+    requires whole { length row.old ≡ grid.now.width }
     requires inside { y < grid.now.height }
-    ensures text { OnOk result (Passes (K.contents sink.old) (K.contents sink.new) page.old page.new
-        (row_cells grid.now paths.now tick y ++ (10 ∷ []))) }
+    ensures text { OnOk result (Passes (K.contents sink.old) (K.contents sink.new) page.old page.new (row_line grid.now paths.now tick y)) }
     ensures failed { K.has_failed sink.new ≡ is_err result }
-    ensures front { OnErr result (WritesFront (K.contents sink.old) (K.contents sink.new)
-        (page.old ++ (row_cells grid.now paths.now tick y ++ (10 ∷ [])))) }
+    ensures front { OnErr result (WritesFront (K.contents sink.old) (K.contents sink.new) (page.old ++ row_line grid.now paths.now tick y)) }
 {
-    let mut cells = [0; 2048];
-    let width = grid.width() as usize;
-    draw_row(&mut cells[..width], grid, paths, tick, y);
-    page.put(sink, &cells[..width])?;
+    draw_row(row, grid, paths, tick, y);
+    page.put(sink, row)?;
     page.put(sink, b"\n")
 }
 
@@ -58,8 +56,10 @@ fn put_rows<K: Sink>(
     ensures failed { K.has_failed sink.new ≡ is_err result }
     ensures front { OnErr result (WritesFront (K.contents sink.old) (K.contents sink.new) (page.old ++ rows grid.now paths.now tick)) }
 {
+    let mut cells = [0; 2048];
+    let width = grid.width() as usize;
     for y in 0..grid.height() {
-        put_row(page, sink, grid, paths, tick, y)?;
+        put_row(page, sink, &mut cells[..width], grid, paths, tick, y)?;
     }
     Ok(())
 }

@@ -16,7 +16,7 @@ fn last_tick(problem: &Problem, plan: &Plan) -> Tick
     ensures { IsGreatestCost problem.now.agents plan.now result }
 {
     let agents = problem.agents();
-    let mut last = 0;
+    let mut last: Tick = 0;
     for (i, path) in plan.paths().iter().enumerate() {
         last = last.max(path.cost(agents[i].goal).unwrap());
     }
