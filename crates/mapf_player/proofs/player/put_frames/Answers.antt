@@ -1,4 +1,4 @@
-use Rattle.std.proofs.Common.{◌+◌, arith, rules}
+use Rattle.std.proofs.Common.{◌≡◌, ◌+◌, arith, rules}
 use Rattle.mapf_player.specs.Play.{frame}
 use Rattle.mapf_player.proofs.Fronts.{on_err}
 use Rattle.mapf_player.proofs.Pieces.{pieces_more, pieces_front}
@@ -15,4 +15,7 @@ loop-tick-preserved g c = record {
 }
 
 pub returns-in_ok-put_frame-clause-text : goal.returns-in_ok-put_frame-clause-text
-returns-in_ok-put_frame-clause-text g c = let h = c.loop-tick-test in ?
+returns-in_ok-put_frame-clause-text g c =
+    let last : c.loop-tick.tick ≡ c.args.last = omega arith in
+    let frames = pieces_more (frame c.args.grid.now c.args.paths.now) c.loop-tick.tick _ _ _ _ _ _ c.loop-tick.invariant.frames c.in_ok-put_frame.ensures.text in
+    rw last at frames
