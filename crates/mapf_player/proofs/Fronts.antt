@@ -82,15 +82,20 @@ on_err (Ok x) P p = tt
 on_err (Err e) P p = p
 
 -- the last that is held goes out
-pub finish : {T E : Type 0} (r : Result T E) (a b c : Option (List ℕ)) (left text : List ℕ) (P : List ℕ → Type 0) → P text → Passes a b [] left text → OnOk r (Appends b c left) → OnOk r ((t : List ℕ) × P t × Appends a c t)
-finish (Ok x) a b c left text P is p w = (text, is, subst (Appends a c) (sym p.same) (Appends-trans a b c p.gone left p.wrote w))
-finish (Err e) a b c left text P is p w = tt
+pub finish : {T E : Type 0} (r : Result T E) (a b c : Option (List ℕ)) (left text : List ℕ) → Passes a b [] left text → OnOk r (Appends b c left) → OnOk r (Appends a c text)
+finish (Ok x) a b c left text p w = subst (Appends a c) (sym p.same) (Appends-trans a b c p.gone left p.wrote w)
+finish (Err e) a b c left text p w = tt
 
 pub finish_front : {T E : Type 0} (r : Result T E) (a b c : Option (List ℕ)) (left text : List ℕ) → Passes a b [] left text → OnErr r (WritesFront b c left) → OnErr r (WritesFront a c text)
 finish_front (Ok x) a b c left text p w = tt
 finish_front (Err e) a b c left text p w = subst (WritesFront a c) (sym p.same) (front_next a b c p.gone left p.wrote w)
 
--- a front is the first so many bytes
+-- a text of some kind was written
+pub to_some : {T E : Type 0} (r : Result T E) (a b : Option (List ℕ)) (text : List ℕ) (P : List ℕ → Type 0) → P text → OnOk r (Appends a b text) → OnOk r ((t : List ℕ) × P t × Appends a b t)
+to_some (Ok x) a b text P is w = (text, is, w)
+to_some (Err e) a b text P is w = tt
+
+-- or the first so many bytes of it
 pub to_take : {T E : Type 0} (r : Result T E) (a b : Option (List ℕ)) (text : List ℕ) (P : List ℕ → Type 0) → P text → OnErr r (WritesFront a b text) → OnErr r ((t : List ℕ) × P t × (n : ℕ) × (n ≤ length t) × Appends a b (take n t))
 to_take (Ok x) a b text P is w = tt
 to_take (Err e) a b text P is w = (

@@ -44,6 +44,24 @@ fn put_frames<K: Sink>(
     Ok(())
 }
 
+// Writes the frames of the ticks from 0 to the last one, and the line after them.
+fn write_text<K: Sink>(
+    sink: &mut K,
+    grid: &Grid,
+    paths: &[Path],
+    last: Tick,
+) -> Result<(), Failed>
+    requires { K.has_failed sink.old ≡ false }
+    ensures text { OnOk result (Appends (K.contents sink.old) (K.contents sink.new) (play_text grid.now paths.now last)) }
+    ensures failed { K.has_failed sink.new ≡ is_err result }
+    ensures front { OnErr result (WritesFront (K.contents sink.old) (K.contents sink.new) (play_text grid.now paths.now last)) }
+{
+    let mut page = Page::empty();
+    put_frames(&mut page, sink, grid, paths, last)?;
+    put_line(&mut page, sink, b"end ", last)?;
+    page.flush(sink)
+}
+
 /// Writes what the plan looks like at each tick, from 0 to the greatest cost of the agents' paths: a
 /// line `tick t`, and a line for each row of the grid. Last comes a line `end m` with that cost. A free
 /// cell is `.`, a blocked one `@`. The agents are `0` to `9`, `a` to `z`, `A` to `Z`, and from the 63rd
@@ -59,8 +77,5 @@ pub fn play<K: Sink>(problem: &Problem, plan: &Plan, sink: &mut K) -> Result<(),
         × (n : ℕ) × (n ≤ length text) × Appends (K.contents sink.old) (K.contents sink.new) (take n text)) }
 {
     let last = last_tick(problem, plan);
-    let mut page = Page::empty();
-    put_frames(&mut page, sink, problem.grid(), plan.paths(), last)?;
-    put_line(&mut page, sink, b"end ", last)?;
-    page.flush(sink)
+    write_text(sink, problem.grid(), plan.paths(), last)
 }
