@@ -9,3 +9,6 @@ mod player;
 mod row;
 
 pub use player::play;
+
+#[cfg(test)]
+mod tests;

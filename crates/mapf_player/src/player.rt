@@ -44,8 +44,8 @@ fn put_frames<K: Sink>(
     Ok(())
 }
 
-// Writes the frames of the ticks from 0 to the last one, and the line after them.
-fn write_text<K: Sink>(
+/// Writes the frames of the ticks from 0 to the last one, and the line after them.
+pub fn write_text<K: Sink>(
     sink: &mut K,
     grid: &Grid,
     paths: &[Path],
