@@ -122,11 +122,11 @@ module _ (grid : GridMap) (paths : List (List ℕ)) (tick y : ℕ) (old plain dr
     (fills : (x : ℕ) → x < length old → get_or plain x 0 ≡ ground grid (y * length old + x))
     (marks : (x : ℕ) → x < length plain → get_or drawn x 0 ≡ unwrap_or (option_map mark (agent_in paths tick (y * length plain + x))) (get_or plain x 0))
   where
-  byte_drawn : (x : ℕ) → x < grid.width → get_or drawn x 0 ≡ cell_byte grid paths tick (y * grid.width + x)
-  byte_drawn x within =
-      let plain_whole : length plain ≡ grid.width = plain_long ∙ whole in
-      marks x (omega arith) ∙ ap (λ w. unwrap_or (option_map mark (agent_in paths tick (y * w + x))) (get_or plain x 0)) plain_whole
-      ∙ ap (unwrap_or (option_map mark (agent_in paths tick (y * grid.width + x)))) (fills x (omega arith) ∙ ap (λ w. ground grid (y * w + x)) whole)
+    byte_drawn : (x : ℕ) → x < grid.width → get_or drawn x 0 ≡ cell_byte grid paths tick (y * grid.width + x)
+    byte_drawn x within =
+        let plain_whole : length plain ≡ grid.width = plain_long ∙ whole in
+        marks x (omega arith) ∙ ap (λ w. unwrap_or (option_map mark (agent_in paths tick (y * w + x))) (get_or plain x 0)) plain_whole
+        ∙ ap (unwrap_or (option_map mark (agent_in paths tick (y * grid.width + x)))) (fills x (omega arith) ∙ ap (λ w. ground grid (y * w + x)) whole)
 
-  pub row_drawn : drawn ≡ row_cells grid paths tick y
-  row_drawn = fill_by_all (λ x. cell_byte grid paths tick (y * grid.width + x)) drawn grid.width 0 (drawn_long ∙ plain_long ∙ whole) byte_drawn
+    pub row_drawn : drawn ≡ row_cells grid paths tick y
+    row_drawn = fill_by_all (λ x. cell_byte grid paths tick (y * grid.width + x)) drawn grid.width 0 (drawn_long ∙ plain_long ∙ whole) byte_drawn

@@ -9,7 +9,12 @@ use itoa::Buffer;
 use mapf_model::{Failed, Grid, Path, Sink, Tick};
 
 /// Writes a word, a number and LF.
-pub fn put_line<K: Sink>(page: &mut Page, sink: &mut K, word: &[u8], number: u32) -> Result<(), Failed>
+pub fn put_line<K: Sink>(
+    page: &mut Page,
+    sink: &mut K,
+    word: &[u8],
+    number: u32,
+) -> Result<(), Failed>
     requires { K.has_failed sink.old ≡ false }
     ensures text { OnOk result (Passes (K.contents sink.old) (K.contents sink.new) page.old page.new (line word.now number)) }
     ensures failed { K.has_failed sink.new ≡ is_err result }

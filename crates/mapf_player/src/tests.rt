@@ -75,8 +75,7 @@ fn marks_sixty_three_agents(rt: HostRuntime) -> Result<(), Fail> {
         paths.push(Path::of(cells).ok_or("a path")?)?;
     }
     let sink = text(rt.alloc(), &row, &paths, 0)?;
-    let shown =
-        "tick 0\n0123456789abcdefghijklmnopqrstuvwxyzABCDEFGHIJKLMNOPQRSTUVWXYZ*\nend 0\n";
+    let shown = "tick 0\n0123456789abcdefghijklmnopqrstuvwxyzABCDEFGHIJKLMNOPQRSTUVWXYZ*\nend 0\n";
     assert_eq!(rt; sink.bytes(), shown.as_bytes());
     Ok(())
 }
