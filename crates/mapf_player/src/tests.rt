@@ -1,5 +1,8 @@
+ghost use Rattle.std.specs.Prelude.{◌≡◌, ◌∷◌, [], true, IfOk};
+
+use crate::play;
 use crate::player::write_text;
-use mapf_model::{BytesSink, Cell, Failed, Grid, Path, Sink, Tick};
+use mapf_model::{Agent, BytesSink, Cell, Failed, Grid, Path, Plan, Problem, Sink, Tick};
 use std::alloc::Global;
 use std::test::Fail;
 
@@ -38,21 +41,50 @@ fn text(alloc: Global, grid: &Grid, paths: &[Path], last: Tick) -> Result<BytesS
     Ok(sink)
 }
 
+// One agent in the only cell of a grid.
+fn one_cell(alloc: Global) -> Result<Problem, Fail>
+    ensures { IfOk result (λ problem. problem ≡ record {
+        grid = record { width = 1; height = 1; free = true ∷ [] };
+        agents = record { start = 0; goal = 0 } ∷ [] }) }
+{
+    let mut free = Vec::new(alloc);
+    free.push(true)?;
+    let mut agents = Vec::new(alloc);
+    agents.push(Agent {
+        start: Cell(0),
+        goal: Cell(0),
+    })?;
+    let grid = Grid::of(1, 1, free).ok_or("a grid")?;
+    Ok(Problem::of(grid, agents).ok_or("a problem")?)
+}
+
+// It rests.
+fn at_rest(alloc: Global) -> Result<Plan, Fail>
+    ensures { IfOk result (λ plan. plan ≡ (0 ∷ []) ∷ []) }
+{
+    let mut cells = Vec::new(alloc);
+    cells.push(Cell(0))?;
+    let mut paths = Vec::new(alloc);
+    paths.push(Path::of(cells).ok_or("a path")?)?;
+    Ok(Plan::of(paths).ok_or("a plan")?)
+}
+
+#[test]
+fn plays_an_agent_at_rest(rt: HostRuntime) -> Result<(), Fail> {
+    let problem = one_cell(rt.alloc())?;
+    let plan = at_rest(rt.alloc())?;
+    let mut sink = BytesSink::with_room(rt.alloc(), 100)?;
+    play(&problem, &plan, &mut sink)?;
+    assert_eq!(rt; sink.bytes(), b"tick 0\n0\nend 0\n".as_slice());
+    Ok(())
+}
+
 #[test]
 fn shows_agents_that_cross(rt: HostRuntime) -> Result<(), Fail> {
     let open = grid(rt.alloc(), 3, 3, &[])?;
     let paths = paths(rt.alloc(), CROSSING)?;
     let sink = text(rt.alloc(), &open, &paths, 3)?;
     assert_eq!(rt; sink.bytes(), CROSSING_TEXT.as_bytes());
-    Ok(())
-}
-
-#[test]
-fn shows_one_cell(rt: HostRuntime) -> Result<(), Fail> {
-    let cell = grid(rt.alloc(), 1, 1, &[])?;
-    let paths = paths(rt.alloc(), &[&[0]])?;
-    let sink = text(rt.alloc(), &cell, &paths, 0)?;
-    assert_eq!(rt; sink.bytes(), b"tick 0\n0\nend 0\n".as_slice());
     Ok(())
 }
 
