@@ -1,0 +1,61 @@
+-- The text of a plan that is played: one frame for each tick.
+use Rattle.std.specs.Prelude.{◌≡◌, ◌≤◌, ℕ, ◌+◌, ◌-◌, ◌*◌, if◌then◌else◌, ◌==◌, nat_lt, Bool, false, Option, Some, option_map, unwrap_or, List, [], ◌∷◌, ◌++◌, map, codes, position, flat_map, slice_get, slice_index_or}
+use Rattle.std.specs.List.{range_with_len}
+use Rattle.std.specs.Fmt.{decimal}
+use Rattle.mapf_model.specs.declared.problem.Agent.{Agent}
+use Rattle.mapf_model.specs.Grid.{GridMap}
+use Rattle.mapf_model.specs.Path.{at, IsCost}
+use Rattle.mapf_model.specs.Plan.{Instance}
+
+-- the byte of an agent, by its number: `0` to `9`, then `a` to `z`, then `A` to `Z`, and `*` from 62 on
+abbrev pub mark : ℕ → ℕ
+mark agent = if nat_lt agent 10 then 48 + agent else (if nat_lt agent 36 then 97 + (agent - 10) else (if nat_lt agent 62 then 65 + (agent - 36) else 42))
+
+-- the byte of a cell in which nobody stands: `.` where it is free, else `@`
+abbrev pub ground : GridMap → ℕ → ℕ
+ground grid cell = if slice_index_or grid.free cell false then 46 else 64
+
+-- the first agent whose path is in the cell at the tick
+abbrev pub agent_in : List (List ℕ) → ℕ → ℕ → Option ℕ
+agent_in plan tick cell = position (λ path. at path tick == cell) plan
+
+-- the byte of a cell: the mark of the first agent that stands in it, else the ground
+abbrev pub cell_byte : GridMap → List (List ℕ) → ℕ → ℕ → ℕ
+cell_byte grid plan tick cell = unwrap_or (option_map mark (agent_in plan tick cell)) (ground grid cell)
+
+-- the bytes of a row's cells, from the left to the right
+abbrev pub row_cells : GridMap → List (List ℕ) → ℕ → ℕ → List ℕ
+row_cells grid plan tick row = map (λ column. cell_byte grid plan tick (row * grid.width + column)) (range_with_len 0 grid.width)
+
+-- a row's line
+unfoldable pub row_line : GridMap → List (List ℕ) → ℕ → ℕ → List ℕ
+row_line grid plan tick row = row_cells grid plan tick row ++ (10 ∷ [])
+
+-- a word, a number and LF
+abbrev pub line : List ℕ → ℕ → List ℕ
+line word number = word ++ (decimal number ++ (10 ∷ []))
+
+-- the grid at a tick: a line for each row, from the top to the bottom
+abbrev pub rows : GridMap → List (List ℕ) → ℕ → List ℕ
+rows grid plan tick = flat_map (row_line grid plan tick) (range_with_len 0 grid.height)
+
+-- what is shown of a tick
+unfoldable pub frame : GridMap → List (List ℕ) → ℕ → List ℕ
+frame grid plan tick = line (codes "tick ") tick ++ rows grid plan tick
+
+-- the frames of the ticks from 0 to the last one, and then how many ticks the plan takes
+abbrev pub play_text : GridMap → List (List ℕ) → ℕ → List ℕ
+play_text grid plan last = flat_map (frame grid plan) (range_with_len 0 (last + 1)) ++ line (codes "end ") last
+
+-- some agent's path costs this, and no agent's path costs more
+pub record IsGreatestCost (agents : List Agent) (plan : List (List ℕ)) (greatest : ℕ) : Type 0 where
+  pub some : (i : ℕ) × (agent : Agent) × (path : List ℕ) × (slice_get agents i ≡ Some agent) × (slice_get plan i ≡ Some path) × IsCost agent.goal path greatest
+  pub most : (i : ℕ) (agent : Agent) (path : List ℕ) (cost : ℕ) → slice_get agents i ≡ Some agent → slice_get plan i ≡ Some path → IsCost agent.goal path cost → cost ≤ greatest
+
+-- the text that plays the plan, up to the greatest cost of the agents' paths
+abbrev pub IsPlayText : Instance → List (List ℕ) → List ℕ → Type 0
+IsPlayText problem plan text = (last : ℕ) × IsGreatestCost problem.agents plan last × (text ≡ play_text problem.grid plan last)
+
+-- a plan has one such text at most
+abbrev pub PlaysAreOne : Type 0
+PlaysAreOne = (problem : Instance) (plan : List (List ℕ)) (a b : List ℕ) → IsPlayText problem plan a → IsPlayText problem plan b → a ≡ b

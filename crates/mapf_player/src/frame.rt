@@ -1,0 +1,87 @@
+ghost use Rattle.std.specs.Prelude.{◌≡◌, ◌<◌, ◌++◌, ◌∷◌, [], false, codes, length, OnOk, OnErr};
+ghost use Rattle.std.specs.Result.{is_err};
+ghost use Rattle.mapf_player.specs.Pages.{Passes, WritesFront};
+ghost use Rattle.mapf_player.specs.Play.{frame, line, row_line, rows};
+
+use crate::page::Page;
+use crate::row::draw_row;
+use itoa::Buffer;
+use mapf_model::{Failed, Grid, Path, Sink, Tick};
+
+/// Writes a word, a number and LF.
+pub fn put_line<K: Sink>(
+    page: &mut Page,
+    sink: &mut K,
+    word: &[u8],
+    number: u32,
+) -> Result<(), Failed>
+    requires { K.has_failed sink.old ≡ false }
+    ensures text { OnOk result (Passes (K.contents sink.old) (K.contents sink.new) page.old page.new (line word.now number)) }
+    ensures failed { K.has_failed sink.new ≡ is_err result }
+    ensures front { OnErr result (WritesFront (K.contents sink.old) (K.contents sink.new) (page.old ++ line word.now number)) }
+{
+    let mut buffer = Buffer::new();
+    page.put(sink, word)?;
+    page.put(sink, buffer.format(number).as_bytes())?;
+    page.put(sink, b"\n")
+}
+
+// Writes a row of the grid and LF, by way of a buffer for a row.
+fn put_row<K: Sink>(
+    page: &mut Page,
+    sink: &mut K,
+    row: &mut [u8],
+    grid: &Grid,
+    paths: &[Path],
+    tick: Tick,
+    y: u32,
+) -> Result<(), Failed>
+    requires works { K.has_failed sink.old ≡ false }
+    requires whole { length row.old ≡ grid.now.width }
+    requires inside { y < grid.now.height }
+    ensures text { OnOk result (Passes (K.contents sink.old) (K.contents sink.new) page.old page.new (row_line grid.now paths.now tick y)) }
+    ensures failed { K.has_failed sink.new ≡ is_err result }
+    ensures front { OnErr result (WritesFront (K.contents sink.old) (K.contents sink.new) (page.old ++ row_line grid.now paths.now tick y)) }
+{
+    draw_row(row, grid, paths, tick, y);
+    page.put(sink, row)?;
+    page.put(sink, b"\n")
+}
+
+// Writes the rows of the grid.
+fn put_rows<K: Sink>(
+    page: &mut Page,
+    sink: &mut K,
+    grid: &Grid,
+    paths: &[Path],
+    tick: Tick,
+) -> Result<(), Failed>
+    requires { K.has_failed sink.old ≡ false }
+    ensures text { OnOk result (Passes (K.contents sink.old) (K.contents sink.new) page.old page.new (rows grid.now paths.now tick)) }
+    ensures failed { K.has_failed sink.new ≡ is_err result }
+    ensures front { OnErr result (WritesFront (K.contents sink.old) (K.contents sink.new) (page.old ++ rows grid.now paths.now tick)) }
+{
+    let mut cells = [0; 2048];
+    let width = grid.width() as usize;
+    for y in 0..grid.height() {
+        put_row(page, sink, &mut cells[..width], grid, paths, tick, y)?;
+    }
+    Ok(())
+}
+
+/// Writes what is shown of a tick.
+pub fn put_frame<K: Sink>(
+    page: &mut Page,
+    sink: &mut K,
+    grid: &Grid,
+    paths: &[Path],
+    tick: Tick,
+) -> Result<(), Failed>
+    requires { K.has_failed sink.old ≡ false }
+    ensures text { OnOk result (Passes (K.contents sink.old) (K.contents sink.new) page.old page.new (frame grid.now paths.now tick)) }
+    ensures failed { K.has_failed sink.new ≡ is_err result }
+    ensures front { OnErr result (WritesFront (K.contents sink.old) (K.contents sink.new) (page.old ++ frame grid.now paths.now tick)) }
+{
+    put_line(page, sink, b"tick ", tick)?;
+    put_rows(page, sink, grid, paths, tick)
+}

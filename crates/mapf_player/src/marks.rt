@@ -1,0 +1,23 @@
+ghost use Rattle.std.specs.Prelude.{◌≡◌};
+ghost use Rattle.mapf_player.specs.Play.{ground, mark};
+
+use mapf_model::{Cell, Grid};
+
+/// The byte of an agent, by its number.
+pub fn mark_of(agent: usize) -> u8
+    ensures { result ≡ mark agent }
+{
+    match agent {
+        0..=9 => b'0' + agent as u8,
+        10..=35 => b'a' + (agent - 10) as u8,
+        36..=61 => b'A' + (agent - 36) as u8,
+        _ => b'*',
+    }
+}
+
+/// The byte of a cell in which nobody stands.
+pub fn ground_of(grid: &Grid, cell: Cell) -> u8
+    ensures { result ≡ ground grid.now cell }
+{
+    if grid.is_free(cell) { b'.' } else { b'@' }
+}

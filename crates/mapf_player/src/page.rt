@@ -1,0 +1,98 @@
+ghost use Rattle.std.specs.Prelude.{◌≡◌, ◌+◌, ◌<◌, ◌≤◌, ◌↔◌, ◌++◌, [], List, ℕ, false, IsTrue, length, OnOk, OnErr};
+ghost use Rattle.std.specs.Result.{is_err};
+ghost use Rattle.std.specs.Io.KnownBytes.{Appends};
+ghost use Rattle.mapf_player.specs.Pages.{Passes, WritesFront};
+
+use mapf_model::{Failed, Sink, write_all};
+use std::marker::Model;
+
+// How many bytes are gathered at most.
+const ROOM: usize = 8192;
+
+/// Bytes that wait to be pushed together.
+#[derive(Drop)]
+pub struct Page {
+    bytes: [u8; ROOM],
+    used: usize,
+}
+
+impl Model for Page {
+    ghost use Rattle.std.specs.Prelude.{List, ℕ, ◌≤◌, take};
+
+    ghost Value = { List ℕ };
+
+    ghost view = { λ p. take p.used p.bytes };
+
+    ghost invariant = { λ p. p.used ≤ 8192 };
+}
+
+impl Page {
+    pub fn empty() -> Page
+        ensures { result ≡ [] }
+    {
+        Page {
+            bytes: [0; ROOM],
+            used: 0,
+        }
+    }
+
+    fn has_room(&self, count: usize) -> bool
+        ensures { IsTrue result ↔ (length self.now + count ≤ 8192) }
+    {
+        count <= ROOM - self.used
+    }
+
+    fn append(&mut self, bytes: &[u8])
+        requires { length self.old + length bytes.now ≤ 8192 }
+        ensures { self.new ≡ self.old ++ bytes.now }
+    {
+        let end = self.used + bytes.len();
+        self.bytes[self.used..end].copy_from_slice(bytes);
+        self.used = end;
+    }
+
+    fn clear(&mut self)
+        ensures { self.new ≡ [] }
+    {
+        self.used = 0;
+    }
+
+    fn as_slice(&self) -> &[u8]
+        ensures { result.now ≡ self.now }
+    {
+        &self.bytes[..self.used]
+    }
+
+    /// Pushes what is held.
+    #[tactic(auto, using(crate::proofs::Fronts::from_take))]
+    pub fn flush<K: Sink>(&mut self, sink: &mut K) -> Result<(), Failed>
+        requires { K.has_failed sink.old ≡ false }
+        ensures text { OnOk result (Appends (K.contents sink.old) (K.contents sink.new) self.old) }
+        ensures empty { OnOk result (self.new ≡ []) }
+        ensures failed { K.has_failed sink.new ≡ is_err result }
+        ensures front { OnErr result (WritesFront (K.contents sink.old) (K.contents sink.new) self.old) }
+    {
+        write_all(sink, self.as_slice())?;
+        self.clear();
+        Ok(())
+    }
+
+    /// Adds bytes to those that are held, and pushes where they don't fit.
+    pub fn put<K: Sink>(&mut self, sink: &mut K, bytes: &[u8]) -> Result<(), Failed>
+        requires { K.has_failed sink.old ≡ false }
+        ensures text { OnOk result (Passes (K.contents sink.old) (K.contents sink.new) self.old self.new bytes.now) }
+        ensures failed { K.has_failed sink.new ≡ is_err result }
+        ensures front { OnErr result (WritesFront (K.contents sink.old) (K.contents sink.new) (self.old ++ bytes.now)) }
+    {
+        if self.has_room(bytes.len()) {
+            self.append(bytes);
+            return Ok(());
+        }
+        self.flush(sink)?;
+        if self.has_room(bytes.len()) {
+            self.append(bytes);
+            return Ok(());
+        }
+        write_all(sink, bytes)
+    }
+}

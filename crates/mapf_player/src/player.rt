@@ -1,0 +1,81 @@
+ghost use Rattle.std.specs.Prelude.{◌≡◌, ◌≤◌, ◌+◌, ◌++◌, ℕ, List, false, length, take, codes, flat_map, OnOk, OnErr};
+ghost use Rattle.std.specs.List.{range_with_len};
+ghost use Rattle.std.specs.Result.{is_err};
+ghost use Rattle.std.specs.Io.KnownBytes.{Appends};
+ghost use Rattle.mapf_model.specs.Plan.{IsValid};
+ghost use Rattle.mapf_player.specs.Pages.{Passes, WritesFront};
+ghost use Rattle.mapf_player.specs.Play.{frame, line, play_text, IsGreatestCost, IsPlayText};
+
+use crate::frame::{put_frame, put_line};
+use crate::page::Page;
+use mapf_model::{Failed, Grid, Path, Plan, Problem, Sink, Tick};
+
+// The greatest of the costs of the agents' paths, in ticks.
+fn last_tick(problem: &Problem, plan: &Plan) -> Tick
+    requires { IsValid problem.now plan.now }
+    ensures { IsGreatestCost problem.now.agents plan.now result }
+{
+    let agents = problem.agents();
+    let mut last: Tick = 0;
+    for (i, path) in plan.paths().iter().enumerate() {
+        last = last.max(path.cost(agents[i].goal).unwrap());
+    }
+    last
+}
+
+// Writes the frames of the ticks from 0 to the last one.
+fn put_frames<K: Sink>(
+    page: &mut Page,
+    sink: &mut K,
+    grid: &Grid,
+    paths: &[Path],
+    last: Tick,
+) -> Result<(), Failed>
+    requires { K.has_failed sink.old ≡ false }
+    ensures text { OnOk result (Passes (K.contents sink.old) (K.contents sink.new) page.old page.new
+        (flat_map (frame grid.now paths.now) (range_with_len 0 (last + 1)))) }
+    ensures failed { K.has_failed sink.new ≡ is_err result }
+    ensures front { OnErr result (WritesFront (K.contents sink.old) (K.contents sink.new)
+        (page.old ++ flat_map (frame grid.now paths.now) (range_with_len 0 (last + 1)))) }
+{
+    for tick in 0..=last {
+        put_frame(page, sink, grid, paths, tick)?;
+    }
+    Ok(())
+}
+
+/// Writes the frames of the ticks from 0 to the last one, and the line after them.
+pub fn write_text<K: Sink>(
+    sink: &mut K,
+    grid: &Grid,
+    paths: &[Path],
+    last: Tick,
+) -> Result<(), Failed>
+    requires { K.has_failed sink.old ≡ false }
+    ensures text { OnOk result (Appends (K.contents sink.old) (K.contents sink.new) (play_text grid.now paths.now last)) }
+    ensures failed { K.has_failed sink.new ≡ is_err result }
+    ensures front { OnErr result (WritesFront (K.contents sink.old) (K.contents sink.new) (play_text grid.now paths.now last)) }
+{
+    let mut page = Page::empty();
+    put_frames(&mut page, sink, grid, paths, last)?;
+    put_line(&mut page, sink, b"end ", last)?;
+    page.flush(sink)
+}
+
+/// Writes what the plan looks like at each tick, from 0 to the greatest cost of the agents' paths: a
+/// line `tick t`, and a line for each row of the grid. Last comes a line `end m` with that cost. A free
+/// cell is `.`, a blocked one `@`. The agents are `0` to `9`, `a` to `z`, `A` to `Z`, and from the 63rd
+/// on `*`. After its path ended an agent stays where it is. It takes no memory. `Failed` is answered only
+/// where the sink failed, and then it got a front of that text.
+pub fn play<K: Sink>(problem: &Problem, plan: &Plan, sink: &mut K) -> Result<(), Failed>
+    requires works { K.has_failed sink.old ≡ false }
+    requires valid { IsValid problem.now plan.now }
+    ensures text { OnOk result ((text : List ℕ) × IsPlayText problem.now plan.now text
+        × Appends (K.contents sink.old) (K.contents sink.new) text) }
+    ensures failed { K.has_failed sink.new ≡ is_err result }
+    ensures front { OnErr result ((text : List ℕ) × IsPlayText problem.now plan.now text
+        × (n : ℕ) × (n ≤ length text) × Appends (K.contents sink.old) (K.contents sink.new) (take n text)) }
+{
+    let last = last_tick(problem, plan);
+    write_text(sink, problem.grid(), plan.paths(), last)
+}

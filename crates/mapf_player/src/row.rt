@@ -1,0 +1,46 @@
+ghost use Rattle.std.specs.Prelude.{◌≡◌, ◌<◌, ◌≤◌, ◌+◌, ◌*◌, ℕ, length, slice_index, option_map, unwrap_or};
+ghost use Rattle.mapf_player.specs.Play.{agent_in, ground, mark, row_cells};
+
+use crate::marks::{ground_of, mark_of};
+use mapf_model::{Cell, Grid, Path, Tick};
+
+// Fills a row as if nobody stood in it.
+fn fill_ground(row: &mut [u8], grid: &Grid, y: u32)
+    requires whole { length row.old ≡ grid.now.width }
+    requires inside { y < grid.now.height }
+    ensures { (x : ℕ) → x < length row.old → slice_index row.new x ≡ ground grid.now (y * length row.old + x) }
+{
+    let first = y * grid.width();
+    for (x, byte) in row.iter_mut().enumerate() {
+        *byte = ground_of(grid, Cell(first + x as u32));
+    }
+}
+
+// Marks the cells of a row in which agents stand. The first of several in one cell is seen.
+fn mark_agents(row: &mut [u8], paths: &[Path], tick: Tick, y: u32)
+    requires some { 0 < length row.old }
+    requires few { length row.old ≤ 2048 }
+    ensures { (x : ℕ) → x < length row.old → slice_index row.new x
+        ≡ unwrap_or (option_map mark (agent_in paths.now tick (y * length row.old + x))) (slice_index row.old x) }
+{
+    let width = row.len() as u32;
+    let mut agent = paths.len();
+    while agent > 0 {
+        agent -= 1;
+        let cell = paths[agent].at(tick);
+        if cell.0 / width == y {
+            row[(cell.0 % width) as usize] = mark_of(agent);
+        }
+    }
+}
+
+/// Fills a row with its cells at the tick.
+pub fn draw_row(row: &mut [u8], grid: &Grid, paths: &[Path], tick: Tick, y: u32)
+    requires whole { length row.old ≡ grid.now.width }
+    requires inside { y < grid.now.height }
+    ensures { row.new ≡ row_cells grid.now paths.now tick y }
+{
+    let _width = grid.width();
+    fill_ground(row, grid, y);
+    mark_agents(row, paths, tick, y);
+}

@@ -1,0 +1,181 @@
+ghost use Rattle.std.specs.Prelude.{◌≡◌, ◌∷◌, [], true, IfOk};
+
+use crate::play;
+use crate::player::write_text;
+use mapf_model::{Agent, BytesSink, Cell, Failed, Grid, Path, Plan, Problem, Sink, Tick};
+use std::alloc::Global;
+use std::test::Fail;
+
+// Two agents that cross, one of which waits first.
+const CROSSING: &[&[u32]] = &[&[3, 3, 4, 5], &[1, 4, 7]];
+
+const CROSSING_TEXT: &str =
+    "tick 0\n.1.\n0..\n...\ntick 1\n...\n01.\n...\ntick 2\n...\n.0.\n.1.\ntick 3\n...\n..0\n.1.\nend 3\n";
+
+// A grid of which these cells are blocked, by their numbers.
+fn grid(alloc: Global, width: u32, height: u32, blocked: &[u32]) -> Result<Grid, Fail> {
+    let mut free = Vec::new(alloc);
+    for number in 0..width.saturating_mul(height) {
+        free.push(!blocked.contains(&number))?;
+    }
+    Ok(Grid::of(width, height, free).ok_or("a grid")?)
+}
+
+// Paths, each a list of cell numbers.
+fn paths(alloc: Global, all: &[&[u32]]) -> Result<Vec<Path>, Fail> {
+    let mut paths = Vec::new(alloc);
+    for numbers in all {
+        let mut cells = Vec::new(alloc);
+        for number in *numbers {
+            cells.push(Cell(*number))?;
+        }
+        paths.push(Path::of(cells).ok_or("a path")?)?;
+    }
+    Ok(paths)
+}
+
+// What is written of these paths.
+fn text(alloc: Global, grid: &Grid, paths: &[Path], last: Tick) -> Result<BytesSink, Fail> {
+    let mut sink = BytesSink::with_room(alloc, 20000)?;
+    write_text(&mut sink, grid, paths, last)?;
+    Ok(sink)
+}
+
+// One agent in the only cell of a grid.
+fn one_cell(alloc: Global) -> Result<Problem, Fail>
+    ensures { IfOk result (λ problem. problem ≡ record {
+        grid = record { width = 1; height = 1; free = true ∷ [] };
+        agents = record { start = 0; goal = 0 } ∷ [] }) }
+{
+    let mut free = Vec::new(alloc);
+    free.push(true)?;
+    let mut agents = Vec::new(alloc);
+    agents.push(Agent {
+        start: Cell(0),
+        goal: Cell(0),
+    })?;
+    let grid = Grid::of(1, 1, free).ok_or("a grid")?;
+    Ok(Problem::of(grid, agents).ok_or("a problem")?)
+}
+
+// It rests.
+fn at_rest(alloc: Global) -> Result<Plan, Fail>
+    ensures { IfOk result (λ plan. plan ≡ (0 ∷ []) ∷ []) }
+{
+    let mut cells = Vec::new(alloc);
+    cells.push(Cell(0))?;
+    let mut paths = Vec::new(alloc);
+    paths.push(Path::of(cells).ok_or("a path")?)?;
+    Ok(Plan::of(paths).ok_or("a plan")?)
+}
+
+#[test]
+fn plays_an_agent_at_rest(rt: HostRuntime) -> Result<(), Fail> {
+    let problem = one_cell(rt.alloc())?;
+    let plan = at_rest(rt.alloc())?;
+    let mut sink = BytesSink::with_room(rt.alloc(), 100)?;
+    play(&problem, &plan, &mut sink)?;
+    assert_eq!(rt; sink.bytes(), b"tick 0\n0\nend 0\n".as_slice());
+    Ok(())
+}
+
+#[test]
+fn shows_agents_that_cross(rt: HostRuntime) -> Result<(), Fail> {
+    let open = grid(rt.alloc(), 3, 3, &[])?;
+    let paths = paths(rt.alloc(), CROSSING)?;
+    let sink = text(rt.alloc(), &open, &paths, 3)?;
+    assert_eq!(rt; sink.bytes(), CROSSING_TEXT.as_bytes());
+    Ok(())
+}
+
+#[test]
+fn shows_walls_and_the_first_of_two_agents(rt: HostRuntime) -> Result<(), Fail> {
+    let walled = grid(rt.alloc(), 3, 2, &[1, 3])?;
+    let paths = paths(rt.alloc(), &[&[0], &[5], &[5]])?;
+    let sink = text(rt.alloc(), &walled, &paths, 0)?;
+    assert_eq!(rt; sink.bytes(), b"tick 0\n0@.\n@.1\nend 0\n".as_slice());
+    Ok(())
+}
+
+#[test]
+fn marks_sixty_three_agents(rt: HostRuntime) -> Result<(), Fail> {
+    let row = grid(rt.alloc(), 63, 1, &[])?;
+    let mut paths = Vec::new(rt.alloc());
+    for number in 0..63 {
+        let mut cells = Vec::new(rt.alloc());
+        cells.push(Cell(number))?;
+        paths.push(Path::of(cells).ok_or("a path")?)?;
+    }
+    let sink = text(rt.alloc(), &row, &paths, 0)?;
+    let shown = "tick 0\n0123456789abcdefghijklmnopqrstuvwxyzABCDEFGHIJKLMNOPQRSTUVWXYZ*\nend 0\n";
+    assert_eq!(rt; sink.bytes(), shown.as_bytes());
+    Ok(())
+}
+
+#[test]
+fn shows_a_grid_that_no_page_holds(rt: HostRuntime) -> Result<(), Fail> {
+    let large = grid(rt.alloc(), 100, 90, &[])?;
+    let paths = paths(rt.alloc(), &[&[0]])?;
+    let sink = text(rt.alloc(), &large, &paths, 0)?;
+    let mut shown = Vec::new(rt.alloc());
+    shown.extend_from_slice(b"tick 0\n0")?;
+    for place in 1..9090u32 {
+        shown.push(if place % 101 == 100 { b'\n' } else { b'.' })?;
+    }
+    shown.extend_from_slice(b"end 0\n")?;
+    assert_eq!(rt; sink.bytes(), shown.as_slice());
+    Ok(())
+}
+
+// Takes one byte a push, and fails after so many.
+#[derive(Drop)]
+struct Drip {
+    bytes: Vec<u8>,
+    left: usize,
+    is_failed: bool,
+}
+
+impl Sink for Drip {
+    ghost use Rattle.std.specs.Prelude.{Some};
+
+    ghost contents = { λ s. Some s.bytes.items };
+
+    ghost has_failed = { λ s. s.is_failed };
+
+    fn push(&mut self, bytes: &[u8]) -> Result<usize, Failed> {
+        if self.left == 0 {
+            self.is_failed = true;
+            return Err(Failed);
+        }
+        self.left -= 1;
+        match self.bytes.push(bytes[0]) {
+            Ok(()) => Ok(1),
+            Err(_) => {
+                self.is_failed = true;
+                Err(Failed)
+            }
+        }
+    }
+
+    fn failed(&self) -> bool {
+        self.is_failed
+    }
+}
+
+#[test]
+fn leaves_a_front_in_a_sink_that_fails(rt: HostRuntime) -> Result<(), Fail> {
+    let open = grid(rt.alloc(), 3, 3, &[])?;
+    let paths = paths(rt.alloc(), CROSSING)?;
+    let whole = CROSSING_TEXT.as_bytes();
+    for left in 0..=whole.len() {
+        let mut sink = Drip {
+            bytes: Vec::new(rt.alloc()),
+            left,
+            is_failed: false,
+        };
+        let answer = write_text(&mut sink, &open, &paths, 3);
+        assert_eq!(rt; answer.is_ok(), left == whole.len());
+        assert_eq!(rt; sink.bytes.as_slice(), &whole[..left]);
+    }
+    Ok(())
+}
