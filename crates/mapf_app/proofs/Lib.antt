@@ -1,5 +1,3 @@
 pub mod InputLemmas
 pub mod PrintLemmas
-pub mod ShortestLemmas
-pub mod ShowLemmas
 pub mod SolveLemmas

@@ -1,9 +1,7 @@
 -- What the two texts of a right answer are.
-use Rattle.std.proofs.Common.{◌≡◌, ℕ, ◌-◌, ◌<◌, ◌≤◌, List, [], length, map, get_or, refl, subst, arith}
-use Rattle.std.proofs.lemmas.List.Sums.{sum_by-le}
-use Rattle.std.proofs.lemmas.Option.{get_or_from_slice_get}
-use Rattle.mapf_app.specs.Answers.{IsFound, ItemsShow}
+use Rattle.std.proofs.Common.{◌≡◌, ℕ, List, length, map, refl, subst}
 use Rattle.mapf_app.specs.Solved.{SpellsAnswer, PrintsOptimal, PrintsImpossible, text_of}
+use Rattle.mapf_cbs.specs.Answer.{IsTreeOf, IsShownOptimal, IsShownImpossible}
 use Rattle.mapf_certificate.specs.Certificates.{SpellsCert, cert_text}
 use Rattle.mapf_certificate.specs.Plans.{SpellsPlan}
 use Rattle.mapf_certificate.specs.Lines.{IsAgentCount}
@@ -12,83 +10,69 @@ use Rattle.mapf_model.specs.Accepted.{GoTogether, SaysPlan, SaysImpossible, Opti
 use Rattle.mapf_model.specs.declared.item.Claim.{Claim}
 use Rattle.mapf_model.specs.declared.item.Claim.TheVariants.{Cost, Impossible}
 use Rattle.mapf_model.specs.declared.item.Item.{Item}
-use Rattle.mapf_model.specs.Laws.{AcceptedIsTrue}
-use Rattle.mapf_model.specs.Plan.{Instance, AreCosts}
-use Rattle.mapf_model.specs.Printed.{IsClaimInRange, IsPathInRange}
-use Rattle.mapf_model.specs.Tree.{node_of}
-use Rattle.mapf_model.proofs.ClaimLemmas.{slice_get_inside}
-use Rattle.mapf_model.proofs.DecidedLemmas.{cost_unique}
-use Rattle.mapf_model.proofs.PathLemmas.{IsCost-tight}
+use Rattle.mapf_model.specs.Laws.{SumsAreOne}
+use Rattle.mapf_model.specs.Plan.{Instance, IsValid, IsSumOfCosts, SomePathEndsElsewhere}
+use Rattle.mapf_model.specs.Printed.{IsClaimInRange}
+use Rattle.mapf_model.specs.Tree.{ConstraintTree, node_of}
 
--- the bytes of a certificate that shows its claim spell it
-spells_cert : (problem : Instance) (claim : Claim) (items : List Item) (shown : ItemsShow problem claim items) → IsAgentCount (length problem.agents) → IsClaimInRange claim → (bytes : List ℕ) →
-    bytes ≡ cert_text problem.grid.width (length problem.agents) claim (map node_of items) → SpellsCert problem.grid bytes (length problem.agents) claim shown.tree
-spells_cert problem claim items shown count in_range bytes written = record {
+-- each path of a valid plan ends at its agent's goal
+pub valid_ends : (problem : Instance) (plan : List (List ℕ)) → IsValid problem plan → SomePathEndsElsewhere problem.agents plan → ⊥
+valid_ends problem plan valid (i, agent, path, is_agent, is_path, elsewhere) = elsewhere (valid.lawful i agent path is_agent is_path).goal
+
+-- the bytes of a certificate that can be printed spell it
+spells_cert : (problem : Instance) (claim : Claim) (items : List Item) (tree : ConstraintTree) → IsTreeOf problem items tree → IsAgentCount (length problem.agents) → IsClaimInRange claim → (bytes : List ℕ) →
+    bytes ≡ cert_text problem.grid.width (length problem.agents) claim (map node_of items) → SpellsCert problem.grid bytes (length problem.agents) claim tree
+spells_cert problem claim items tree of count in_range bytes written = record {
   agents_in_range = count;
   claim_in_range = in_range;
-  tree_in_range = shown.in_range;
-  spelled = subst (λ nodes. bytes ≡ cert_text problem.grid.width (length problem.agents) claim nodes) shown.spelled written;
+  tree_in_range = of.in_range;
+  spelled = subst (λ nodes. bytes ≡ cert_text problem.grid.width (length problem.agents) claim nodes) of.spelled written;
 }
 
--- the cost of a path that can be printed is small
-module _ (problem : Instance) (plan : List (List ℕ)) (total : ℕ) (items : List Item) (is : IsFound problem plan total items) where
-  cost_at : (costs : List ℕ) → AreCosts problem.agents plan costs → (k d : ℕ) → k < length costs → get_or costs k d ≤ 9999999
-  cost_at costs are k d within =
-      let one_each = are.one_each in
-      let count = are.count in
-      let agent = slice_get_inside problem.agents k (omega arith) in
-      let path = slice_get_inside plan k (omega arith) in
-      let cost = slice_get_inside costs k within in
-      let here : IsPathInRange problem.grid path.0 = subst (IsPathInRange problem.grid) (get_or_from_slice_get plan k path.0 [] path.1) (is.in_range k [] (omega arith)) in
-      let short = here.short in
-      let lawful = is.valid.lawful k agent.0 path.0 agent.1 path.1 in
-      let same : length path.0 - 1 ≡ cost.0 = cost_unique agent.0.goal path.0 (length path.0 - 1) cost.0 (IsCost-tight problem.grid agent.0 path.0 lawful here.tight) (are.each k agent.0 path.0 cost.0 agent.1 path.1 cost.1) in
-      let read : get_or costs k d ≡ cost.0 = get_or_from_slice_get costs k cost.0 d cost.1 in
-      omega (arith, read, same, short)
+-- with the sum of the tree's claim
+prints_total : (problem : Instance) (plan : List (List ℕ)) (items : List Item) (tree : ConstraintTree) → IsTreeOf problem items tree → (shown : IsShownOptimal problem plan tree) →
+    (plan_bytes cert_bytes : List ℕ) → SpellsAnswer problem (answers.Found plan) plan_bytes →
+    cert_bytes ≡ cert_text problem.grid.width (length problem.agents) (Cost shown.total) (map node_of items) → PrintsOptimal problem shown.total plan_bytes cert_bytes
+prints_total problem plan items tree of shown plan_bytes cert_bytes spells written =
+    let spelled : SpellsPlan problem.grid plan_bytes (length problem.agents) (SaysPlan plan) = record { text = text_of problem (answers.Found plan); in_range = spells.in_range; spelled = spells.spelled; for_agents = refl; same = refl } in
+    let together : GoTogether problem (SaysPlan plan) (Cost shown.total) tree (OptimalOutcome shown.total) = (shown.optimal.valid, shown.optimal.sum, refl, shown.shows) in
+    record {
+      plan = plan;
+      spelled = spelled;
+      optimal = shown.optimal;
+      accepted = record {
+        says = SaysPlan plan;
+        claim = Cost shown.total;
+        tree = tree;
+        plan_spelled = spelled;
+        cert_spelled = spells_cert problem (Cost shown.total) items tree of spells.in_range.0 shown.claim_in_range cert_bytes written;
+        together = together;
+      };
+    }
 
-  sum_in_range : length problem.agents ≤ 200 → total ≤ 1999999800
-  sum_in_range few =
-      let costs = is.adds_up.0 in
-      let are = is.adds_up.1 in
-      let adds = is.adds_up.2 in
-      let one_each = are.one_each in
-      let count = are.count in
-      let bound = sum_by-le (λ x. x) 9999999 costs (cost_at costs are) in
-      omega (arith, bound, adds, one_each, count, few)
+-- with the sum of the plan
+pub prints_optimal : (problem : Instance) (plan : List (List ℕ)) (items : List Item) (tree : ConstraintTree) → IsTreeOf problem items tree → IsShownOptimal problem plan tree →
+    SumsAreOne → (sum : ℕ) → IsSumOfCosts problem.agents plan sum → (plan_bytes cert_bytes : List ℕ) → SpellsAnswer problem (answers.Found plan) plan_bytes →
+    cert_bytes ≡ cert_text problem.grid.width (length problem.agents) (Cost sum) (map node_of items) → PrintsOptimal problem sum plan_bytes cert_bytes
+prints_optimal problem plan items tree of shown law sum adds_up plan_bytes cert_bytes spells written =
+    let same : shown.total ≡ sum = (law problem plan shown.optimal.valid).one shown.total sum shown.optimal.sum adds_up in
+    subst (λ total. cert_bytes ≡ cert_text problem.grid.width (length problem.agents) (Cost total) (map node_of items) → PrintsOptimal problem total plan_bytes cert_bytes) same
+      (prints_total problem plan items tree of shown plan_bytes cert_bytes spells) written
 
-  pub prints_optimal : AcceptedIsTrue → (plan_bytes cert_bytes : List ℕ) → SpellsAnswer problem (answers.Found plan) plan_bytes →
-      cert_bytes ≡ cert_text problem.grid.width (length problem.agents) (Cost total) (map node_of items) → PrintsOptimal problem total plan_bytes cert_bytes
-  prints_optimal law plan_bytes cert_bytes spells written =
-      let spelled : SpellsPlan problem.grid plan_bytes (length problem.agents) (SaysPlan plan) = record { text = text_of problem (answers.Found plan); in_range = spells.in_range; spelled = spells.spelled; for_agents = refl; same = refl } in
-      let together : GoTogether problem (SaysPlan plan) (Cost total) is.shown.tree (OptimalOutcome total) = (is.valid, is.adds_up, refl, is.shown.shown) in
-      record {
-        plan = plan;
-        spelled = spelled;
-        optimal = law problem (SaysPlan plan) (Cost total) is.shown.tree (OptimalOutcome total) together;
-        accepted = record {
-          says = SaysPlan plan;
-          claim = Cost total;
-          tree = is.shown.tree;
-          plan_spelled = spelled;
-          cert_spelled = spells_cert problem (Cost total) items is.shown spells.in_range.0 (sum_in_range spells.in_range.0.1) cert_bytes written;
-          together = together;
-        };
-      }
-
-pub prints_impossible : (problem : Instance) (items : List Item) → ItemsShow problem Impossible items → AcceptedIsTrue → (plan_bytes cert_bytes : List ℕ) → SpellsAnswer problem answers.Impossible plan_bytes →
+pub prints_impossible : (problem : Instance) (items : List Item) (tree : ConstraintTree) → IsTreeOf problem items tree → IsShownImpossible problem tree → (plan_bytes cert_bytes : List ℕ) → SpellsAnswer problem answers.Impossible plan_bytes →
     cert_bytes ≡ cert_text problem.grid.width (length problem.agents) Impossible (map node_of items) → PrintsImpossible problem plan_bytes cert_bytes
-prints_impossible problem items shown law plan_bytes cert_bytes spells written =
+prints_impossible problem items tree of shown plan_bytes cert_bytes spells written =
     let spelled : SpellsPlan problem.grid plan_bytes (length problem.agents) SaysImpossible = record { text = text_of problem answers.Impossible; in_range = spells.in_range; spelled = spells.spelled; for_agents = refl; same = refl } in
-    let together : GoTogether problem SaysImpossible Impossible shown.tree ImpossibleOutcome = (refl, shown.shown) in
+    let together : GoTogether problem SaysImpossible Impossible tree ImpossibleOutcome = (refl, shown.shows) in
     record {
       spelled = spelled;
-      impossible = law problem SaysImpossible Impossible shown.tree ImpossibleOutcome together;
+      impossible = shown.impossible;
       accepted = record {
         says = SaysImpossible;
         claim = Impossible;
-        tree = shown.tree;
+        tree = tree;
         plan_spelled = spelled;
-        cert_spelled = spells_cert problem Impossible items shown spells.in_range.0 tt cert_bytes written;
+        cert_spelled = spells_cert problem Impossible items tree of spells.in_range.0 tt cert_bytes written;
         together = together;
       };
     }

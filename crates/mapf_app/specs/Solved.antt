@@ -2,7 +2,7 @@
 use Rattle.std.specs.Prelude.{◌≡◌, ℕ, List, [], Option, length}
 use Rattle.mapf_app.specs.declared.kind.Kind.{Kind}
 use Rattle.mapf_app.specs.declared.kind.Kind.TheVariants.{Found, Impossible, Limit}
-use Rattle.mapf_app.specs.Answers.{AllowsCause}
+use Rattle.mapf_cbs.specs.Answer.{IsTreeOf, MayStop}
 use Rattle.mapf_app.specs.Problems.{SpellsProblem}
 use Rattle.mapf_certificate.specs.Certificates.{SpellsCert}
 use Rattle.mapf_certificate.specs.Plans.{SpellsPlan, IsPlanText, plan_text}
@@ -11,7 +11,9 @@ use Rattle.mapf_certificate.specs.declared.plan_text.PlanAnswer.TheVariants as a
 use Rattle.mapf_certificate.specs.declared.plan_text.PlanText.{PlanText}
 use Rattle.mapf_model.specs.Accepted.{IsAccepted, SaysPlan, SaysImpossible, Outcome, OptimalOutcome, ImpossibleOutcome}
 use Rattle.mapf_model.specs.declared.cause.Cause.{Cause}
+use Rattle.mapf_model.specs.declared.item.Item.{Item}
 use Rattle.mapf_model.specs.Plan.{Instance, IsOptimal, IsImpossible}
+use Rattle.mapf_model.specs.Tree.{ConstraintTree}
 
 -- the plan text of the problem's agents with this answer
 abbrev pub text_of : Instance → PlanAnswer → PlanText
@@ -39,11 +41,14 @@ pub record PrintsImpossible (problem : Instance) (plan_bytes cert_bytes : List �
   pub impossible : IsImpossible problem
   pub accepted : AreAccepted problem plan_bytes cert_bytes ImpossibleOutcome
 
--- the first text spells the limit that was met, and there is no second
+-- the first text spells the limit that was met, and there is no second; with some tree the search may stop for this cause
 pub record PrintsLimit (problem : Instance) (limit : ℕ) (cause : Cause) (plan_bytes cert_bytes : List ℕ) : Type 0 where
   pub spelled : SpellsAnswer problem (answers.Limit cause) plan_bytes
   pub nothing : cert_bytes ≡ []
-  pub allowed : AllowsCause limit cause
+  pub items : List Item
+  pub tree : ConstraintTree
+  pub searched : IsTreeOf problem items tree
+  pub stopped : MayStop problem limit cause tree
 
 -- what the two texts are, by the kind of answer
 abbrev pub Prints : Instance → ℕ → Kind → List ℕ → List ℕ → Type 0

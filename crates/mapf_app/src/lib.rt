@@ -1,14 +1,12 @@
 //! The runs: bytes in, bytes out, each fault by its name.
 #![tactic(auto)]
 
-mod answer;
 mod check;
 mod demo;
 mod fault;
 mod input;
 mod kind;
 mod line;
-mod shortest;
 mod solve;
 mod tell;
 mod texts;

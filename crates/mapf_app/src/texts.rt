@@ -1,12 +1,13 @@
-ghost use Rattle.std.specs.Prelude.{◌≡◌, ◌≤◌, ℕ, IfOk, length, map};
-ghost use Rattle.mapf_app.specs.Answers.{IsFound, ItemsShow, AllowsCause};
+ghost use Rattle.std.specs.Prelude.{◌≡◌, ◌≤◌, ℕ, List, IfOk, length, map};
 ghost use Rattle.mapf_app.specs.Solved.{SpellsAnswer, Prints};
 ghost use Rattle.mapf_certificate.specs.Certificates.{cert_text};
-ghost use Rattle.mapf_certificate.specs.Plans.{IsAnswer};
-ghost use Rattle.mapf_model.specs.Tree.{node_of};
+ghost use Rattle.mapf_cbs.specs.Answer.{IsTreeOf, IsShownOptimal, IsShownImpossible, MayStop};
+ghost use Rattle.mapf_certificate.specs.Plans.{IsAnswer as IsPlanAnswer};
+ghost use Rattle.mapf_model.specs.Plan.{IsValid, IsSumOfCosts};
+ghost use Rattle.mapf_model.specs.Tree.{ConstraintTree, node_of};
 
-use crate::answer::{Answered, answer_of};
 use crate::kind::Kind;
+use mapf_cbs::{Answer, solve};
 use mapf_certificate::{Cert, PlanAnswer, PlanText, write_cert, write_plan};
 use mapf_model::{Cause, Claim, Item, OutOfMemory, Plan, Problem, laws};
 use std::alloc::Global;
@@ -20,7 +21,7 @@ pub struct Texts {
 }
 
 fn plan_bytes(alloc: Global, problem: &Problem, answer: PlanAnswer) -> Result<Vec<u8>, OutOfMemory>
-    requires { IsAnswer problem.now.grid (length problem.now.agents) answer }
+    requires { IsPlanAnswer problem.now.grid (length problem.now.agents) answer }
     ensures { IfOk result (λ bytes. SpellsAnswer problem.now answer bytes.items) }
 {
     let text = PlanText {
@@ -47,17 +48,25 @@ fn cert_bytes(
     write_cert(alloc, &cert, problem.grid())
 }
 
+// The sum of costs of a valid plan.
+fn sum_of(problem: &Problem, plan: &Plan) -> u64
+    requires { IsValid problem.now plan.now }
+    ensures { IsSumOfCosts problem.now.agents plan.now result }
+{
+    plan.sum(problem).unwrap()
+}
+
 fn found(
     alloc: Global,
     problem: &Problem,
     plan: Plan,
-    sum: u64,
     tree: Vec<Item>,
 ) -> Result<Texts, OutOfMemory>
-    requires { IsFound problem.now plan sum tree.items }
+    requires { (shown : ConstraintTree) × IsTreeOf problem.now tree.items shown × IsShownOptimal problem.now plan shown }
     ensures { IfOk result (λ texts. (limit : ℕ) → Prints problem.now limit texts.kind texts.plan.items texts.cert.items) }
 {
-    laws::accepted_is_true();
+    laws::sums_are_one();
+    let sum = sum_of(problem, &plan);
     Ok(Texts {
         kind: Kind::Found(sum),
         plan: plan_bytes(alloc, problem, PlanAnswer::Found(plan))?,
@@ -66,10 +75,9 @@ fn found(
 }
 
 fn impossible(alloc: Global, problem: &Problem, tree: Vec<Item>) -> Result<Texts, OutOfMemory>
-    requires { ItemsShow problem.now Claim.Impossible tree.items }
+    requires { (shown : ConstraintTree) × IsTreeOf problem.now tree.items shown × IsShownImpossible problem.now shown }
     ensures { IfOk result (λ texts. (limit : ℕ) → Prints problem.now limit texts.kind texts.plan.items texts.cert.items) }
 {
-    laws::accepted_is_true();
     Ok(Texts {
         kind: Kind::Impossible,
         plan: plan_bytes(alloc, problem, PlanAnswer::Impossible)?,
@@ -78,8 +86,9 @@ fn impossible(alloc: Global, problem: &Problem, tree: Vec<Item>) -> Result<Texts
 }
 
 fn limited(alloc: Global, problem: &Problem, cause: Cause) -> Result<Texts, OutOfMemory>
-    requires { IsAnswer problem.now.grid (length problem.now.agents) (PlanAnswer.Limit cause) }
-    ensures { IfOk result (λ texts. (limit : ℕ) → AllowsCause limit cause → Prints problem.now limit texts.kind texts.plan.items texts.cert.items) }
+    requires { IsPlanAnswer problem.now.grid (length problem.now.agents) (PlanAnswer.Limit cause) }
+    ensures { IfOk result (λ texts. (limit : ℕ) (items : List Item) (tree : ConstraintTree) → IsTreeOf problem.now items tree → MayStop problem.now limit cause tree →
+        Prints problem.now limit texts.kind texts.plan.items texts.cert.items) }
 {
     Ok(Texts {
         kind: Kind::Limit(cause),
@@ -93,9 +102,9 @@ pub fn texts_of(alloc: Global, problem: &Problem, limit: u32) -> Result<Texts, O
     requires { limit ≤ 100000 }
     ensures { IfOk result (λ texts. Prints problem.now limit texts.kind texts.plan.items texts.cert.items) }
 {
-    match answer_of(alloc, problem, limit)? {
-        Answered::Found { plan, sum, tree } => found(alloc, problem, plan, sum, tree),
-        Answered::Impossible { tree } => impossible(alloc, problem, tree),
-        Answered::Limit(cause) => limited(alloc, problem, cause),
+    match solve(alloc, problem, limit)? {
+        Answer::Found { plan, tree } => found(alloc, problem, plan, tree),
+        Answer::Impossible { tree } => impossible(alloc, problem, tree),
+        Answer::Limit { cause, tree: _ } => limited(alloc, problem, cause),
     }
 }

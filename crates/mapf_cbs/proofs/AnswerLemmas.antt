@@ -110,9 +110,10 @@ not_apart paths (Vertex i j cell tick) (differ, p, q, ip, jq, here, there) = (i,
 not_apart paths (Swap i j from to tick) (differ, moved, p, q, ip, jq, here, there) = (i, j, tick, p, q, differ, ip, jq, inr (here.0 ∙ sym there.1, here.1 ∙ sym there.0))
 
 -- a tree of the search can be printed, and its splits are earned
-is_tree_of : (problem : Instance) → IsGridMap problem.grid → (views : List View) (fates : List Fate) (count : ℕ) → IsSearched problem views fates count → (items : List Item) (tree : ConstraintTree) → Spell items tree → IsTreeAt (length problem.agents) views fates 0 tree → IsTreeOf problem items tree
-is_tree_of problem shape views fates count searched items tree spelled on_tree = record {
+is_tree_of : (problem : Instance) → IsGridMap problem.grid → (views : List View) (fates : List Fate) (count limit : ℕ) → count ≤ limit → IsSearched problem views fates count → (items : List Item) (tree : ConstraintTree) → Spell items tree → IsTreeAt (length problem.agents) views fates 0 tree → IsTreeOf problem limit items tree
+is_tree_of problem shape views fates count limit within searched items tree spelled on_tree = record {
   spelled = spelled;
+  few = (let size = has_splits problem views fates count searched tree on_tree in omega (arith, size, within));
   earned = is_earned problem views fates count searched tree on_tree;
   in_range = tree_in_range problem shape views fates count searched tree 0 on_tree;
 }
@@ -125,11 +126,11 @@ pub is_shown_impossible : (problem : Instance) (tree : ConstraintTree) → Shows
 is_shown_impossible problem tree shows = record { shows = shows; impossible = shown_holds problem Impossible tree shows }
 
 -- no open node is left
-pub answer_impossible : (problem : Instance) → IsGridMap problem.grid → (nodes : List Node) (fates : List Fate) (count : ℕ) (state : IsState problem nodes fates [] count) (items : List Item) → (tree : ConstraintTree) × Spell items tree × IsTreeAt (length problem.agents) state.views fates 0 tree →
-    (tree : ConstraintTree) × IsTreeOf problem items tree × IsShownImpossible problem tree
-answer_impossible problem shape nodes fates count state items (tree, spell, on_tree) = (
+pub answer_impossible : (problem : Instance) → IsGridMap problem.grid → (nodes : List Node) (fates : List Fate) (count limit : ℕ) → count ≤ limit → (state : IsState problem nodes fates [] count) (items : List Item) → (tree : ConstraintTree) × Spell items tree × IsTreeAt (length problem.agents) state.views fates 0 tree →
+    (tree : ConstraintTree) × IsTreeOf problem limit items tree × IsShownImpossible problem tree
+answer_impossible problem shape nodes fates count limit within state items (tree, spell, on_tree) = (
   tree,
-  is_tree_of problem shape state.views fates count state.searched items tree spell on_tree,
+  is_tree_of problem shape state.views fates count limit within state.searched items tree spell on_tree,
   is_shown_impossible problem tree (shows_impossible problem state.views fates count state.searched tree on_tree (λ m m_open.
       let size = state.searched.lengths in
       let inside = slice_get_within fates m Open m_open in
@@ -137,12 +138,12 @@ answer_impossible problem shape nodes fates count state items (tree, spell, on_t
       none_left (sum view.0.costs, m) (state.opens.each m view.0 view.1 m_open))),
 )
 
-module _ (problem : Instance) (shape : IsGridMap problem.grid) (nodes : List Node) (fates : List Fate) (rest : List (ℕ × ℕ)) (count total k : ℕ) (popped : IsPopped problem nodes fates rest count total k) (items : List Item) (found : (tree : ConstraintTree) × Spell items tree × IsTreeAt (length problem.agents) popped.views fates 0 tree) where
+module _ (problem : Instance) (shape : IsGridMap problem.grid) (nodes : List Node) (fates : List Fate) (rest : List (ℕ × ℕ)) (count total k : ℕ) (popped : IsPopped problem nodes fates rest count total k) (limit : ℕ) (within : count ≤ limit) (items : List Item) (found : (tree : ConstraintTree) × Spell items tree × IsTreeAt (length problem.agents) popped.views fates 0 tree) where
   hand : IsInHand problem fates k total popped.views
   hand = in_hand problem nodes fates rest count total k popped
 
-  tree_is : IsTreeOf problem items found.0
-  tree_is = is_tree_of problem shape popped.views fates count popped.searched items found.0 found.1 found.2
+  tree_is : IsTreeOf problem limit items found.0
+  tree_is = is_tree_of problem shape popped.views fates count limit within popped.searched items found.0 found.1 found.2
 
   module _ (view : View) (is : slice_get popped.views k ≡ Some view) (is_open : slice_get fates k ≡ Some Open) (live : IsLive problem view) where
     least : (m : ℕ) (other : View) → slice_get popped.views m ≡ Some other → slice_get fates m ≡ Some Open → sum view.costs ≤ sum other.costs
@@ -161,7 +162,7 @@ module _ (problem : Instance) (shape : IsGridMap problem.grid) (nodes : List Nod
     shown_cost : Shows problem (Cost (sum view.costs)) found.0
     shown_cost = shows_cost problem popped.views fates count popped.searched found.0 found.2 (sum view.costs) least
 
-    pub answer_found : 1 ≤ length problem.agents → length problem.agents ≤ 200 → All (λ path. length path ≤ 10000000) view.paths → (HaveSomeConflict view.paths → ⊥) → (tree : ConstraintTree) × IsTreeOf problem items tree × IsShownOptimal problem view.paths tree
+    pub answer_found : 1 ≤ length problem.agents → length problem.agents ≤ 200 → All (λ path. length path ≤ 10000000) view.paths → (HaveSomeConflict view.paths → ⊥) → (tree : ConstraintTree) × IsTreeOf problem limit items tree × IsShownOptimal problem view.paths tree
     answer_found some few short none = (
       found.0,
       tree_is,
@@ -174,7 +175,7 @@ module _ (problem : Instance) (shape : IsGridMap problem.grid) (nodes : List Nod
       },
     )
 
-    pub answer_splits : (conflict : Conflict) → HasConflict view.paths conflict → (tree : ConstraintTree) × IsTreeOf problem items tree × IsStopped problem tree × (split_count tree ≡ count)
+    pub answer_splits : (conflict : Conflict) → HasConflict view.paths conflict → (tree : ConstraintTree) × IsTreeOf problem limit items tree × IsStopped problem tree × (split_count tree ≡ count)
     answer_splits conflict meet = (
       found.0,
       tree_is,
@@ -183,7 +184,7 @@ module _ (problem : Instance) (shape : IsGridMap problem.grid) (nodes : List Nod
     )
 
     pub answer_ticks : ((i j : ℕ) → ShareGoal problem i j → ⊥) → (conflict : Conflict) → HasConflict view.paths conflict → AreConflictFreeBefore view.paths (tick_of conflict) → 1000000 ≤ tick_of conflict →
-        (tree : ConstraintTree) × IsTreeOf problem items tree × IsStoppedFrom 1000000 problem tree × (1000000 < (split_count tree + 1) * free_cell_count problem.grid)
+        (tree : ConstraintTree) × IsTreeOf problem limit items tree × IsStoppedFrom 1000000 problem tree × (1000000 < (split_count tree + 1) * free_cell_count problem.grid)
     answer_ticks goals conflict meet apart late =
         let early = conflict_early problem view live goals (count * free_cell_count problem.grid) (λ i. popped.searched.low k view i is) conflict meet in
         let size = has_splits problem popped.views fates count popped.searched found.0 found.2 in (

@@ -66,11 +66,12 @@ root_of problem paths count shortest = record {
 }
 
 -- a leaf without blocks, where a goal can't be reached
-pub leaf_answer : (problem : Instance) → SomeGoalIsUnreachable problem → (items : List Item) (blocks : Vec LabelBlock Global) → items ≡ LeafItem blocks ∷ [] → blocks.items ≡ [] → (tree : ConstraintTree) × IsTreeOf problem items tree × IsShownImpossible problem tree
-leaf_answer problem (i, agent, is, unreachable) items blocks items_are none = (
+pub leaf_answer : (problem : Instance) (limit : ℕ) → SomeGoalIsUnreachable problem → (items : List Item) (blocks : Vec LabelBlock Global) → items ≡ LeafItem blocks ∷ [] → blocks.items ≡ [] → (tree : ConstraintTree) × IsTreeOf problem limit items tree × IsShownImpossible problem tree
+leaf_answer problem limit (i, agent, is, unreachable) items blocks items_are none = (
   Leaf [],
   record {
     spelled = rw items_are (rw none refl);
+    few = omega arith;
     earned = record { proper = (λ a b d lt within. absurd (omega arith), λ k d within. absurd (omega arith)); splits = tt };
     in_range = record { each = λ k d within. absurd (omega arith); rising = λ a b d lt within. absurd (omega arith) };
   },
@@ -81,11 +82,12 @@ share_goal : (problem : Instance) (i j : ℕ) → i ≢ j → HaveGoal problem.a
 share_goal problem i j differ (a, b, ia, jb, same) = (differ, a, b, ia, jb, same)
 
 -- a clash of two agents that have one goal
-pub clash_answer : (problem : Instance) (i j : ℕ) → i < j → j < length problem.agents → HaveGoal problem.agents i j → (items : List Item) → items ≡ ClashItem i j ∷ [] → (tree : ConstraintTree) × IsTreeOf problem items tree × IsShownImpossible problem tree
-clash_answer problem i j less within shared items items_are = (
+pub clash_answer : (problem : Instance) (limit i j : ℕ) → i < j → j < length problem.agents → HaveGoal problem.agents i j → (items : List Item) → items ≡ ClashItem i j ∷ [] → (tree : ConstraintTree) × IsTreeOf problem limit items tree × IsShownImpossible problem tree
+clash_answer problem limit i j less within shared items items_are = (
   Clash i j,
   record {
     spelled = rw items_are refl;
+    few = omega arith;
     earned = record { proper = tt; splits = tt };
     in_range = (omega arith, within);
   },

@@ -1,5 +1,6 @@
 -- What an answer of the search says.
-use Rattle.std.specs.Prelude.{◌≡◌, ℕ, ◌+◌, ◌*◌, ◌<◌, List, length}
+use Rattle.std.specs.Prelude.{◌≡◌, ℕ, ◌+◌, ◌*◌, ◌<◌, ◌≤◌, List, length}
+use Rattle.mapf_model.specs.declared.cause.Cause.{Cause}
 use Rattle.mapf_model.specs.declared.cause.Cause.TheVariants.{Splits, Ticks}
 use Rattle.mapf_model.specs.declared.item.Claim.TheVariants.{Cost, Impossible}
 use Rattle.mapf_model.specs.declared.item.Item.{Item}
@@ -11,10 +12,11 @@ use Rattle.mapf_model.specs.Tree.{ConstraintTree, Spell, Shows, split_count}
 use Rattle.mapf_cbs.specs.declared.answer.Answer.{Answer}
 use Rattle.mapf_cbs.specs.declared.answer.Answer.TheVariants.{Found as FoundAnswer, Impossible as ImpossibleAnswer, Limit as LimitAnswer}
 
--- the items spell this tree; each split of it stands on an earliest conflict of cheapest paths, at a node
--- no dearer than any end; and it can be printed
-pub record IsTreeOf (problem : Instance) (items : List Item) (tree : ConstraintTree) : Type 0 where
+-- the items spell this tree; it has at most so many splits, each of which stands on an earliest conflict of cheapest
+-- paths, at a node no dearer than any end; and it can be printed
+pub record IsTreeOf (problem : Instance) (limit : ℕ) (items : List Item) (tree : ConstraintTree) : Type 0 where
   pub spelled : Spell items tree
+  pub few : split_count tree ≤ limit
   pub earned : IsEarned problem tree
   pub in_range : IsTreeInRange problem.grid (length problem.agents) tree
 
@@ -32,11 +34,15 @@ pub record IsShownImpossible (problem : Instance) (tree : ConstraintTree) : Type
   pub shows : Shows problem Impossible tree
   pub impossible : IsImpossible problem
 
--- a plan or impossibility with a tree that shows it; or a limit that was met at a leaf whose due paths
--- conflict: that of splits, with exactly so many, or that of ticks, where such paths have no conflict before
--- tick 1,000,000, which takes that many splits or cells
+-- a search with so many splits at most may stop for this cause, with this tree: at a leaf of it due paths conflict, and the
+-- tree has exactly the limit's splits; or such paths have no conflict before tick 1,000,000, and one more than the splits,
+-- times the free cells, exceeds 1,000,000
+abbrev pub MayStop : Instance → ℕ → Cause → ConstraintTree → Type 0
+MayStop problem limit (Splits n) tree = IsStopped problem tree × (n ≡ limit) × (split_count tree ≡ limit)
+MayStop problem limit Ticks tree = IsStoppedFrom 1000000 problem tree × (1000000 < (split_count tree + 1) * free_cell_count problem.grid)
+
+-- a plan or impossibility with a tree that shows it, or a limit that was met
 abbrev pub IsAnswer : Instance → ℕ → Answer → Type 0
-IsAnswer problem limit (FoundAnswer plan items) = (tree : ConstraintTree) × IsTreeOf problem items.items tree × IsShownOptimal problem plan tree
-IsAnswer problem limit (ImpossibleAnswer items) = (tree : ConstraintTree) × IsTreeOf problem items.items tree × IsShownImpossible problem tree
-IsAnswer problem limit (LimitAnswer (Splits n) items) = (tree : ConstraintTree) × IsTreeOf problem items.items tree × IsStopped problem tree × (n ≡ limit) × (split_count tree ≡ limit)
-IsAnswer problem limit (LimitAnswer Ticks items) = (tree : ConstraintTree) × IsTreeOf problem items.items tree × IsStoppedFrom 1000000 problem tree × (1000000 < (split_count tree + 1) * free_cell_count problem.grid)
+IsAnswer problem limit (FoundAnswer plan items) = (tree : ConstraintTree) × IsTreeOf problem limit items.items tree × IsShownOptimal problem plan tree
+IsAnswer problem limit (ImpossibleAnswer items) = (tree : ConstraintTree) × IsTreeOf problem limit items.items tree × IsShownImpossible problem tree
+IsAnswer problem limit (LimitAnswer cause items) = (tree : ConstraintTree) × IsTreeOf problem limit items.items tree × MayStop problem limit cause tree

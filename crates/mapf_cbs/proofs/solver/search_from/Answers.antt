@@ -48,7 +48,7 @@ returns-in_default g c =
     let s = c.loop-total.invariant.state in
     let none : c.loop-total.search.open.keys ≡ [] = no_items c.loop-total.search.open.keys (let v = c.in_default.ensures.variant in no_length (length c.loop-total.search.open.keys) v.1) in
     let state = subst (λ ks. IsState c.args.problem.now c.loop-total.search.nodes.items c.loop-total.search.fates.items ks c.loop-total.search.splits) none s in
-    answer_impossible c.args.problem.now c.requires.shape c.loop-total.search.nodes.items c.loop-total.search.fates.items c.loop-total.search.splits state c.in_ok-tree.tree.items
+    answer_impossible c.args.problem.now c.requires.shape c.loop-total.search.nodes.items c.loop-total.search.fates.items c.loop-total.search.splits c.args.limit c.loop-total.invariant.within state c.in_ok-tree.tree.items
     (tree_of c.agents.result.now c.args.problem.now.agents c.deref-in_default-2.result.now c.loop-total.search.fates.items state.views c.in_ok-tree.tree.items c.agents.ensures.value c.deref-in_default-2.ensures.value (c.in_ok-tree.ensures state.views (subst (λ ns. AreViews ns state.views) (sym c.deref-in_default.ensures.value) state.are)))
 
 pub plan_at-requires-clause-inside : goal.plan_at-requires-clause-inside
@@ -80,7 +80,7 @@ returns-in_default-first_conflict g c =
     let h = in_hand c.args.problem.now c.loop-total.search.nodes.items c.loop-total.search.fates.items c.pop_first.new.self.keys c.loop-total.search.splits c.in-Some.total c.in-Some.k p in
     let plan : c.in_ok-plan.plan ≡ h.view.paths = c.in_ok-plan.ensures.paths p.views h.view (subst (λ ns. AreViews ns p.views) (sym c.deref-in-loop-total.ensures.value) p.are) h.is (h.live.counted.paths ∙ (let e = c.agents.ensures.value in ap length (sym e))) in
     let found = tree_of c.agents.result.now c.args.problem.now.agents c.deref-in_default-first_conflict-2.result.now c.loop-total.search.fates.items p.views c.in_ok-tree-2.tree.items c.agents.ensures.value c.deref-in_default-first_conflict-2.ensures.value (c.in_ok-tree-2.ensures p.views (subst (λ ns. AreViews ns p.views) (sym c.deref-in_default-first_conflict.ensures.value) p.are)) in
-    subst (λ ps. (tree : ConstraintTree) × IsTreeOf c.args.problem.now c.in_ok-tree-2.tree.items tree × IsShownOptimal c.args.problem.now ps tree) (sym plan) (answer_found c.args.problem.now c.requires.shape c.loop-total.search.nodes.items c.loop-total.search.fates.items c.pop_first.new.self.keys c.loop-total.search.splits c.in-Some.total c.in-Some.k p c.in_ok-tree-2.tree.items found h.view h.is h.is_open h.live c.requires.agents.0 c.requires.agents.1 (subst (λ ps. All (λ path. length path ≤ 10000000) ps) plan c.in_ok-plan.ensures.short) (subst (λ ps. HaveSomeConflict ps → ⊥) plan c.in_default-first_conflict.ensures.none))
+    subst (λ ps. (tree : ConstraintTree) × IsTreeOf c.args.problem.now c.args.limit c.in_ok-tree-2.tree.items tree × IsShownOptimal c.args.problem.now ps tree) (sym plan) (answer_found c.args.problem.now c.requires.shape c.loop-total.search.nodes.items c.loop-total.search.fates.items c.pop_first.new.self.keys c.loop-total.search.splits c.in-Some.total c.in-Some.k p c.args.limit c.loop-total.invariant.within c.in_ok-tree-2.tree.items found h.view h.is h.is_open h.live c.requires.agents.0 c.requires.agents.1 (subst (λ ps. All (λ path. length path ≤ 10000000) ps) plan c.in_ok-plan.ensures.short) (subst (λ ps. HaveSomeConflict ps → ⊥) plan c.in_default-first_conflict.ensures.none))
 
 pub returns-then-tick_of-ge-LAST_TICK : goal.returns-then-tick_of-ge-LAST_TICK
 returns-then-tick_of-ge-LAST_TICK g c =
@@ -90,7 +90,8 @@ returns-then-tick_of-ge-LAST_TICK g c =
     let plan : c.in_ok-plan.plan ≡ h.view.paths = c.in_ok-plan.ensures.paths p.views h.view (subst (λ ns. AreViews ns p.views) (sym c.deref-in-loop-total.ensures.value) p.are) h.is (h.live.counted.paths ∙ (let e = c.agents.ensures.value in ap length (sym e))) in
     let found = tree_of c.agents.result.now c.args.problem.now.agents c.deref-then-tick_of-ge-LAST_TICK-2.result.now c.loop-total.search.fates.items p.views c.in_ok-tree-3.tree.items c.agents.ensures.value c.deref-then-tick_of-ge-LAST_TICK-2.ensures.value (c.in_ok-tree-3.ensures p.views (subst (λ ns. AreViews ns p.views) (sym c.deref-then-tick_of-ge-LAST_TICK.ensures.value) p.are)) in
     let meet = subst (λ ps. HasConflict ps c.in-Some-first_conflict.conflict × AreConflictFreeBefore ps (tick_of c.in-Some-first_conflict.conflict)) plan (c.in-Some-first_conflict.ensures.some, c.in-Some-first_conflict.ensures.first) in
-    answer_ticks c.args.problem.now c.requires.shape c.loop-total.search.nodes.items c.loop-total.search.fates.items c.pop_first.new.self.keys c.loop-total.search.splits c.in-Some.total c.in-Some.k p c.in_ok-tree-3.tree.items found h.view h.is h.is_open h.live c.requires.goals c.in-Some-first_conflict.conflict meet.0 meet.1 (let t = c.tick_of.ensures in let l = c.if-tick_of-ge-LAST_TICK.true in omega (arith, t, l))
+    let a = answer_ticks c.args.problem.now c.requires.shape c.loop-total.search.nodes.items c.loop-total.search.fates.items c.pop_first.new.self.keys c.loop-total.search.splits c.in-Some.total c.in-Some.k p c.args.limit c.loop-total.invariant.within c.in_ok-tree-3.tree.items found h.view h.is h.is_open h.live c.requires.goals c.in-Some-first_conflict.conflict meet.0 meet.1 (let t = c.tick_of.ensures in let l = c.if-tick_of-ge-LAST_TICK.true in omega (arith, t, l)) in
+    (a.0, a.1, (a.2, a.3))
 
 pub returns-then-search-limit : goal.returns-then-search-limit
 returns-then-search-limit g c =
@@ -100,8 +101,8 @@ returns-then-search-limit g c =
     let plan : c.in_ok-plan.plan ≡ h.view.paths = c.in_ok-plan.ensures.paths p.views h.view (subst (λ ns. AreViews ns p.views) (sym c.deref-in-loop-total.ensures.value) p.are) h.is (h.live.counted.paths ∙ (let e = c.agents.ensures.value in ap length (sym e))) in
     let found = tree_of c.agents.result.now c.args.problem.now.agents c.deref-then-search-limit-2.result.now c.loop-total.search.fates.items p.views c.in_ok-tree-4.tree.items c.agents.ensures.value c.deref-then-search-limit-2.ensures.value (c.in_ok-tree-4.ensures p.views (subst (λ ns. AreViews ns p.views) (sym c.deref-then-search-limit.ensures.value) p.are)) in
     let meet = subst (λ ps. HasConflict ps c.in-Some-first_conflict.conflict × AreConflictFreeBefore ps (tick_of c.in-Some-first_conflict.conflict)) plan (c.in-Some-first_conflict.ensures.some, c.in-Some-first_conflict.ensures.first) in
-    let a = answer_splits c.args.problem.now c.requires.shape c.loop-total.search.nodes.items c.loop-total.search.fates.items c.pop_first.new.self.keys c.loop-total.search.splits c.in-Some.total c.in-Some.k p c.in_ok-tree-4.tree.items found h.view h.is h.is_open h.live c.in-Some-first_conflict.conflict meet.0 in
-    (a.0, a.1, a.2, refl, a.3 ∙ c.if-search-limit.true)
+    let a = answer_splits c.args.problem.now c.requires.shape c.loop-total.search.nodes.items c.loop-total.search.fates.items c.pop_first.new.self.keys c.loop-total.search.splits c.in-Some.total c.in-Some.k p c.args.limit c.loop-total.invariant.within c.in_ok-tree-4.tree.items found h.view h.is h.is_open h.live c.in-Some-first_conflict.conflict meet.0 in
+    (a.0, a.1, (a.2, refl, a.3 ∙ c.if-search-limit.true))
 
 pub split-requires-clause-popped : goal.split-requires-clause-popped
 split-requires-clause-popped g c =

@@ -8,7 +8,7 @@ returns-in-Some g c =
     let agents = c.agents.ensures.value in
     let size = ap length agents in
     let inside = c.in-Some.ensures.inside in
-    clash_answer c.args.problem.now c.in-Some.i c.in-Some.j c.in-Some.ensures.order (omega (arith, size, inside)) (subst (λ xs. HaveGoal xs c.in-Some.i c.in-Some.j) agents c.in-Some.ensures.some) c.in_ok-tree.tree.items c.in_ok-tree.ensures
+    clash_answer c.args.problem.now c.args.limit c.in-Some.i c.in-Some.j c.in-Some.ensures.order (omega (arith, size, inside)) (subst (λ xs. HaveGoal xs c.in-Some.i c.in-Some.j) agents c.in-Some.ensures.some) c.in_ok-tree.tree.items c.in_ok-tree.ensures
 
 pub search_from-requires-clause-goals : goal.search_from-requires-clause-goals
 search_from-requires-clause-goals g c =
@@ -19,4 +19,4 @@ search_from-requires-clause-goals g c =
 pub returns : goal.returns
 returns g c =
     let unreachable = rw c.in-None.is at c.in_ok-paths.ensures.unreachable in
-    leaf_answer c.args.problem.now unreachable c.in_ok-tree-in-None.tree.items c.new.result c.in_ok-tree-in-None.ensures c.new.ensures.items
+    leaf_answer c.args.problem.now c.args.limit unreachable c.in_ok-tree-in-None.tree.items c.new.result c.in_ok-tree-in-None.ensures c.new.ensures.items
