@@ -20,9 +20,9 @@ pub valid_ends : (problem : Instance) (plan : List (List ℕ)) → IsValid probl
 valid_ends problem plan valid (i, agent, path, is_agent, is_path, elsewhere) = elsewhere (valid.lawful i agent path is_agent is_path).goal
 
 -- the bytes of a certificate that can be printed spell it
-spells_cert : (problem : Instance) (claim : Claim) (items : List Item) (tree : ConstraintTree) → IsTreeOf problem items tree → IsAgentCount (length problem.agents) → IsClaimInRange claim → (bytes : List ℕ) →
+spells_cert : (problem : Instance) (claim : Claim) (items : List Item) (tree : ConstraintTree) (limit : ℕ) → IsTreeOf problem limit items tree → IsAgentCount (length problem.agents) → IsClaimInRange claim → (bytes : List ℕ) →
     bytes ≡ cert_text problem.grid.width (length problem.agents) claim (map node_of items) → SpellsCert problem.grid bytes (length problem.agents) claim tree
-spells_cert problem claim items tree of count in_range bytes written = record {
+spells_cert problem claim items tree limit of count in_range bytes written = record {
   agents_in_range = count;
   claim_in_range = in_range;
   tree_in_range = of.in_range;
@@ -30,10 +30,10 @@ spells_cert problem claim items tree of count in_range bytes written = record {
 }
 
 -- with the sum of the tree's claim
-prints_total : (problem : Instance) (plan : List (List ℕ)) (items : List Item) (tree : ConstraintTree) → IsTreeOf problem items tree → (shown : IsShownOptimal problem plan tree) →
+prints_total : (problem : Instance) (plan : List (List ℕ)) (items : List Item) (tree : ConstraintTree) (limit : ℕ) → IsTreeOf problem limit items tree → (shown : IsShownOptimal problem plan tree) →
     (plan_bytes cert_bytes : List ℕ) → SpellsAnswer problem (answers.Found plan) plan_bytes →
     cert_bytes ≡ cert_text problem.grid.width (length problem.agents) (Cost shown.total) (map node_of items) → PrintsOptimal problem shown.total plan_bytes cert_bytes
-prints_total problem plan items tree of shown plan_bytes cert_bytes spells written =
+prints_total problem plan items tree limit of shown plan_bytes cert_bytes spells written =
     let spelled : SpellsPlan problem.grid plan_bytes (length problem.agents) (SaysPlan plan) = record { text = text_of problem (answers.Found plan); in_range = spells.in_range; spelled = spells.spelled; for_agents = refl; same = refl } in
     let together : GoTogether problem (SaysPlan plan) (Cost shown.total) tree (OptimalOutcome shown.total) = (shown.optimal.valid, shown.optimal.sum, refl, shown.shows) in
     record {
@@ -45,23 +45,23 @@ prints_total problem plan items tree of shown plan_bytes cert_bytes spells writt
         claim = Cost shown.total;
         tree = tree;
         plan_spelled = spelled;
-        cert_spelled = spells_cert problem (Cost shown.total) items tree of spells.in_range.0 shown.claim_in_range cert_bytes written;
+        cert_spelled = spells_cert problem (Cost shown.total) items tree limit of spells.in_range.0 shown.claim_in_range cert_bytes written;
         together = together;
       };
     }
 
 -- with the sum of the plan
-pub prints_optimal : (problem : Instance) (plan : List (List ℕ)) (items : List Item) (tree : ConstraintTree) → IsTreeOf problem items tree → IsShownOptimal problem plan tree →
+pub prints_optimal : (problem : Instance) (plan : List (List ℕ)) (items : List Item) (tree : ConstraintTree) (limit : ℕ) → IsTreeOf problem limit items tree → IsShownOptimal problem plan tree →
     SumsAreOne → (sum : ℕ) → IsSumOfCosts problem.agents plan sum → (plan_bytes cert_bytes : List ℕ) → SpellsAnswer problem (answers.Found plan) plan_bytes →
     cert_bytes ≡ cert_text problem.grid.width (length problem.agents) (Cost sum) (map node_of items) → PrintsOptimal problem sum plan_bytes cert_bytes
-prints_optimal problem plan items tree of shown law sum adds_up plan_bytes cert_bytes spells written =
+prints_optimal problem plan items tree limit of shown law sum adds_up plan_bytes cert_bytes spells written =
     let same : shown.total ≡ sum = (law problem plan shown.optimal.valid).one shown.total sum shown.optimal.sum adds_up in
     subst (λ total. cert_bytes ≡ cert_text problem.grid.width (length problem.agents) (Cost total) (map node_of items) → PrintsOptimal problem total plan_bytes cert_bytes) same
-      (prints_total problem plan items tree of shown plan_bytes cert_bytes spells) written
+      (prints_total problem plan items tree limit of shown plan_bytes cert_bytes spells) written
 
-pub prints_impossible : (problem : Instance) (items : List Item) (tree : ConstraintTree) → IsTreeOf problem items tree → IsShownImpossible problem tree → (plan_bytes cert_bytes : List ℕ) → SpellsAnswer problem answers.Impossible plan_bytes →
+pub prints_impossible : (problem : Instance) (items : List Item) (tree : ConstraintTree) (limit : ℕ) → IsTreeOf problem limit items tree → IsShownImpossible problem tree → (plan_bytes cert_bytes : List ℕ) → SpellsAnswer problem answers.Impossible plan_bytes →
     cert_bytes ≡ cert_text problem.grid.width (length problem.agents) Impossible (map node_of items) → PrintsImpossible problem plan_bytes cert_bytes
-prints_impossible problem items tree of shown plan_bytes cert_bytes spells written =
+prints_impossible problem items tree limit of shown plan_bytes cert_bytes spells written =
     let spelled : SpellsPlan problem.grid plan_bytes (length problem.agents) SaysImpossible = record { text = text_of problem answers.Impossible; in_range = spells.in_range; spelled = spells.spelled; for_agents = refl; same = refl } in
     let together : GoTogether problem SaysImpossible Impossible tree ImpossibleOutcome = (refl, shown.shows) in
     record {
@@ -72,7 +72,7 @@ prints_impossible problem items tree of shown plan_bytes cert_bytes spells writt
         claim = Impossible;
         tree = tree;
         plan_spelled = spelled;
-        cert_spelled = spells_cert problem Impossible items tree of spells.in_range.0 tt cert_bytes written;
+        cert_spelled = spells_cert problem Impossible items tree limit of spells.in_range.0 tt cert_bytes written;
         together = together;
       };
     }

@@ -47,7 +47,7 @@ pub record PrintsLimit (problem : Instance) (limit : ℕ) (cause : Cause) (plan_
   pub nothing : cert_bytes ≡ []
   pub items : List Item
   pub tree : ConstraintTree
-  pub searched : IsTreeOf problem items tree
+  pub searched : IsTreeOf problem limit items tree
   pub stopped : MayStop problem limit cause tree
 
 -- what the two texts are, by the kind of answer

@@ -62,7 +62,7 @@ fn found(
     plan: Plan,
     tree: Vec<Item>,
 ) -> Result<Texts, OutOfMemory>
-    requires { (shown : ConstraintTree) × IsTreeOf problem.now tree.items shown × IsShownOptimal problem.now plan shown }
+    requires { (limit : ℕ) × (shown : ConstraintTree) × IsTreeOf problem.now limit tree.items shown × IsShownOptimal problem.now plan shown }
     ensures { IfOk result (λ texts. (limit : ℕ) → Prints problem.now limit texts.kind texts.plan.items texts.cert.items) }
 {
     laws::sums_are_one();
@@ -75,7 +75,7 @@ fn found(
 }
 
 fn impossible(alloc: Global, problem: &Problem, tree: Vec<Item>) -> Result<Texts, OutOfMemory>
-    requires { (shown : ConstraintTree) × IsTreeOf problem.now tree.items shown × IsShownImpossible problem.now shown }
+    requires { (limit : ℕ) × (shown : ConstraintTree) × IsTreeOf problem.now limit tree.items shown × IsShownImpossible problem.now shown }
     ensures { IfOk result (λ texts. (limit : ℕ) → Prints problem.now limit texts.kind texts.plan.items texts.cert.items) }
 {
     Ok(Texts {
@@ -87,7 +87,7 @@ fn impossible(alloc: Global, problem: &Problem, tree: Vec<Item>) -> Result<Texts
 
 fn limited(alloc: Global, problem: &Problem, cause: Cause) -> Result<Texts, OutOfMemory>
     requires { IsPlanAnswer problem.now.grid (length problem.now.agents) (PlanAnswer.Limit cause) }
-    ensures { IfOk result (λ texts. (limit : ℕ) (items : List Item) (tree : ConstraintTree) → IsTreeOf problem.now items tree → MayStop problem.now limit cause tree →
+    ensures { IfOk result (λ texts. (limit : ℕ) (items : List Item) (tree : ConstraintTree) → IsTreeOf problem.now limit items tree → MayStop problem.now limit cause tree →
         Prints problem.now limit texts.kind texts.plan.items texts.cert.items) }
 {
     Ok(Texts {
