@@ -25,13 +25,13 @@ pub record IsFound (problem : Instance) (plan : List (List ℕ)) (sum : ℕ) (it
   pub in_range : All (IsPathInRange problem.grid) plan
   pub shown : ItemsShow problem (claims.Cost sum) items
 
--- so many splits at most may be the cause that a search with the limit ends without an answer
-abbrev pub AllowsCause : ℕ → Cause → Type 0
-AllowsCause limit (Splits count) = count ≤ limit
-AllowsCause limit Ticks = ⊤
+-- why a search of the problem with at most so many splits may end without an answer
+abbrev pub AllowsCause : Instance → ℕ → Cause → Type 0
+AllowsCause problem limit (Splits count) = count ≤ limit
+AllowsCause problem limit Ticks = ⊤
 
 -- what each answer to the problem says, for so many splits at most
 abbrev pub IsAnswerOf : Instance → ℕ → Answered → Type 0
 IsAnswerOf problem limit (Found plan sum tree) = IsFound problem plan sum tree.items
 IsAnswerOf problem limit (Impossible tree) = ItemsShow problem claims.Impossible tree.items
-IsAnswerOf problem limit (Limit cause) = AllowsCause limit cause
+IsAnswerOf problem limit (Limit cause) = AllowsCause problem limit cause

@@ -43,7 +43,7 @@ pub record PrintsImpossible (problem : Instance) (plan_bytes cert_bytes : List �
 pub record PrintsLimit (problem : Instance) (limit : ℕ) (cause : Cause) (plan_bytes cert_bytes : List ℕ) : Type 0 where
   pub spelled : SpellsAnswer problem (answers.Limit cause) plan_bytes
   pub nothing : cert_bytes ≡ []
-  pub allowed : AllowsCause limit cause
+  pub allowed : AllowsCause problem limit cause
 
 -- what the two texts are, by the kind of answer
 abbrev pub Prints : Instance → ℕ → Kind → List ℕ → List ℕ → Type 0

@@ -79,7 +79,7 @@ fn impossible(alloc: Global, problem: &Problem, tree: Vec<Item>) -> Result<Texts
 
 fn limited(alloc: Global, problem: &Problem, cause: Cause) -> Result<Texts, OutOfMemory>
     requires { IsAnswer problem.now.grid (length problem.now.agents) (PlanAnswer.Limit cause) }
-    ensures { IfOk result (λ texts. (limit : ℕ) → AllowsCause limit cause → Prints problem.now limit texts.kind texts.plan.items texts.cert.items) }
+    ensures { IfOk result (λ texts. (limit : ℕ) → AllowsCause problem.now limit cause → Prints problem.now limit texts.kind texts.plan.items texts.cert.items) }
 {
     Ok(Texts {
         kind: Kind::Limit(cause),
