@@ -1,7 +1,9 @@
-ghost use Rattle.std.specs.Prelude.{◌≡◌, ◌≤◌, false, IfOk, IfErr, IsErrOf};
+ghost use Rattle.std.specs.Prelude.{◌≡◌, ◌≤◌, false, IfOk, IfErr, IsErrOf, IsSome};
 ghost use Rattle.mapf_app.specs.Checked.{JudgesTruly};
-ghost use Rattle.mapf_app.specs.Faults.{IsBeforeCertificate, IsChecking};
+ghost use Rattle.mapf_app.specs.Faults.{IsBeforeCertificate, IsChecking, IsNoDefect};
+ghost use Rattle.mapf_app.specs.Problems.{SpellsProblem};
 ghost use Rattle.mapf_app.specs.Unreadable.{IsUnreadable};
+ghost use Rattle.mapf_model.specs.Plan.{Instance};
 
 use crate::fault::{Fault, Input};
 use crate::input::{CERT_LIMIT, TEXT_LIMIT, read_problem, read_text};
@@ -28,6 +30,9 @@ pub fn run_check<M: Source, S: Source, P: Source, C: Source>(
     requires few { k ≤ 200 }
     // The verdict is true of the problem that was read.
     ensures verdict { IfOk result (JudgesTruly (M.remaining map.old) (S.remaining scen.old) k) }
+    // Inputs that spell a problem are not faulted.
+    ensures only { (problem : Instance) → IsSome (M.remaining map.old) → IsSome (S.remaining scen.old) →
+        SpellsProblem (M.remaining map.old) (S.remaining scen.old) k problem → IfErr result IsNoDefect }
     // A fault stands where it says.
     ensures fault { IfErr result (IsChecking (M.remaining map.old) (S.remaining scen.old) k) }
     ensures map { IsErrOf result (Fault.F4 Input.Map) →
