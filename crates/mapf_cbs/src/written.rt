@@ -47,12 +47,7 @@ pub fn tree_items(
 }
 
 // One block for each agent that has labels at the node.
-fn blocks_at(
-    alloc: Global,
-    nodes: &[Node],
-    k: u32,
-    agents: u32,
-) -> Result<Vec<Block>, OutOfMemory>
+fn blocks_at(alloc: Global, nodes: &[Node], k: u32, agents: u32) -> Result<Vec<Block>, OutOfMemory>
     requires nodes { (agent : ℕ) → agent < agents → AreNodesFor agent nodes.now }
     requires inside { k < length nodes.now }
     ensures { IfOk result (λ blocks. (views : List View) (view : View) → AreViews nodes.now views → slice_get views k ≡ Some view → AreBlocksOf agents view.entries blocks.items) }
@@ -68,12 +63,7 @@ fn blocks_at(
 }
 
 // The entries of the agent at the node, none where it isn't bound.
-fn entries_at(
-    alloc: Global,
-    nodes: &[Node],
-    k: u32,
-    agent: u32,
-) -> Result<Vec<Entry>, OutOfMemory>
+fn entries_at(alloc: Global, nodes: &[Node], k: u32, agent: u32) -> Result<Vec<Entry>, OutOfMemory>
     requires nodes { AreNodesFor agent nodes.now }
     requires inside { k < length nodes.now }
     ensures { IfOk result (λ entries. (views : List View) (view : View) → AreViews nodes.now views → slice_get views k ≡ Some view → view.entries agent ≡ entries.items) }
