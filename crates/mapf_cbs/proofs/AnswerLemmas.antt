@@ -22,8 +22,11 @@ use Rattle.mapf_cbs.specs.declared.node.Fate.TheVariants.{Open, Cut}
 use Rattle.mapf_model.specs.Grid.{IsGridMap, free_cell_count}
 use Rattle.mapf_cbs.specs.Search.{View, IsLive, IsSearched, AreCutsLater, IsTreeAt}
 use Rattle.mapf_cbs.specs.Arena.{IsRootView, IsNodeView, IsNodeFor, AreNodesFor, HasTableBar, HaveTableBars}
-use Rattle.mapf_cbs.specs.Answer.{IsTreeOf, IsShownOptimal, IsShownImpossible}
-use Rattle.mapf_cbs.specs.State.{IsOpenSet, IsState, IsPopped, key_cmp}
+use Rattle.mapf_model.specs.declared.cause.Cause.{Cause}
+use Rattle.mapf_model.specs.declared.cause.Cause.TheVariants.{Splits, Ticks}
+use Rattle.mapf_cbs.specs.declared.answer.Answer.TheVariants.{Limit as LimitAnswer}
+use Rattle.mapf_cbs.specs.Answer.{IsTreeOf, IsShownOptimal, IsShownImpossible, IsAnswer}
+use Rattle.mapf_cbs.specs.State.{IsOpenSet, IsState, IsPopped, IsCauseToStop, key_cmp}
 use Rattle.mapf_cbs.proofs.ViewLemmas.{live_sum, live_cheapest}
 use Rattle.mapf_cbs.proofs.ChildLemmas.{conflict_early}
 use Rattle.mapf_cbs.proofs.TreeLemmas.{is_earned, shows_cost, shows_impossible, has_splits, is_stopped}
@@ -175,7 +178,7 @@ module _ (problem : Instance) (shape : IsGridMap problem.grid) (nodes : List Nod
       },
     )
 
-    pub answer_splits : (conflict : Conflict) → HasConflict view.paths conflict → (tree : ConstraintTree) × IsTreeOf problem limit items tree × IsStopped problem tree × (split_count tree ≡ count)
+    answer_splits : (conflict : Conflict) → HasConflict view.paths conflict → (tree : ConstraintTree) × IsTreeOf problem limit items tree × IsStopped problem tree × (split_count tree ≡ count)
     answer_splits conflict meet = (
       found.0,
       tree_is,
@@ -183,7 +186,7 @@ module _ (problem : Instance) (shape : IsGridMap problem.grid) (nodes : List Nod
       has_splits problem popped.views fates count popped.searched found.0 found.2,
     )
 
-    pub answer_ticks : ((i j : ℕ) → ShareGoal problem i j → ⊥) → (conflict : Conflict) → HasConflict view.paths conflict → AreConflictFreeBefore view.paths (tick_of conflict) → 1000000 ≤ tick_of conflict →
+    answer_ticks : ((i j : ℕ) → ShareGoal problem i j → ⊥) → (conflict : Conflict) → HasConflict view.paths conflict → AreConflictFreeBefore view.paths (tick_of conflict) → 1000000 ≤ tick_of conflict →
         (tree : ConstraintTree) × IsTreeOf problem limit items tree × IsStoppedFrom 1000000 problem tree × (1000000 < (split_count tree + 1) * free_cell_count problem.grid)
     answer_ticks goals conflict meet apart late =
         let early = conflict_early problem view live goals (count * free_cell_count problem.grid) (λ i. popped.searched.low k view i is) conflict meet in
@@ -193,6 +196,16 @@ module _ (problem : Instance) (shape : IsGridMap problem.grid) (nodes : List Nod
           is_stopped problem popped.views fates count popped.searched found.0 found.2 (λ paths. AreConflictFreeBefore paths 1000000) k view is is_open least (not_apart view.paths conflict meet) (λ i j tick p q before. apart i j tick p q (omega arith)),
           rw size (omega arith),
         )
+
+    -- the answer of a search that stops
+    pub answer_limit : ((i j : ℕ) → ShareGoal problem i j → ⊥) → (conflict : Conflict) → HasConflict view.paths conflict → AreConflictFreeBefore view.paths (tick_of conflict) → (cause : Cause) → IsCauseToStop conflict count limit cause →
+        (listed : Vec Item Global) → listed.items ≡ items → IsAnswer problem limit (LimitAnswer cause listed)
+    answer_limit goals conflict meet apart Ticks late listed same =
+        let a = answer_ticks goals conflict meet apart late in
+        (a.0, subst (λ its. IsTreeOf problem limit its a.0) (sym same) a.1, (a.2, a.3))
+    answer_limit goals conflict meet apart (Splits n) (is_limit, all) listed same =
+        let a = answer_splits conflict meet in
+        (a.0, subst (λ its. IsTreeOf problem limit its a.0) (sym same) a.1, (a.2, is_limit, a.3 ∙ all))
 
 pub above_of : (rest : List (ℕ × ℕ)) (total k : ℕ) → ((n : ℕ) (d : ℕ × ℕ) → n < length rest → key_cmp (total, k) (get_or rest n d) ≡ Less) → (key : ℕ × ℕ) → Contains rest key → key_cmp (total, k) key ≡ Less
 above_of rest total k all key (n, within, is) = subst (λ (x : ℕ × ℕ). key_cmp (total, k) x ≡ Less) is (all n key within)

@@ -9,6 +9,7 @@ pub mod ArenaLemmas
 pub mod BlockLemmas
 pub mod ItemLemmas
 pub mod RangeLemmas
+pub mod FinderLemmas
 pub mod BornLemmas
 pub mod OpenLemmas
 pub mod StateLemmas

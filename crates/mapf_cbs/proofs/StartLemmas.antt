@@ -94,7 +94,6 @@ clash_answer problem limit i j less within shared items items_are = (
   is_shown_impossible problem (Clash i j) (record { proper = tt; nodes = share_goal problem i j (λ e. omega arith) shared }),
 )
 
-
 -- where no agent and a later one have one goal, no two have
 pub none_share : (problem : Instance) → ((i j : ℕ) → i < j → j < length problem.agents → HaveGoal problem.agents i j → ⊥) → (i j : ℕ) → ShareGoal problem i j → ⊥
 none_share problem none i j (differ, a, b, ia, jb, same) = ⊎_elim

@@ -25,4 +25,3 @@ pub record AreShortest (problem : Instance) (paths : List (List ℕ)) : Type 0 w
 -- some agent can't reach its goal
 abbrev pub SomeGoalIsUnreachable : Instance → Type 0
 SomeGoalIsUnreachable problem = (i : ℕ) × (agent : Agent) × (slice_get problem.agents i ≡ Some agent) × IsUnreachable problem.grid agent.goal agent.start
-

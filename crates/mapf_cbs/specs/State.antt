@@ -4,6 +4,10 @@ use Rattle.std.specs.declared.cmp.Ordering.{Ordering}
 use Rattle.std.specs.declared.cmp.Ordering.TheVariants.{Less}
 use Rattle.std.specs.Ordering.{nat_cmp, ordering_then}
 use Rattle.std.specs.BTreeSet.{insert_key}
+use Rattle.mapf_model.specs.declared.cause.Cause.{Cause}
+use Rattle.mapf_model.specs.declared.cause.Cause.TheVariants.{Splits, Ticks}
+use Rattle.mapf_model.specs.declared.conflict.Conflict.{Conflict}
+use Rattle.mapf_model.specs.Earned.{tick_of}
 use Rattle.mapf_model.specs.Plan.{Instance}
 use Rattle.mapf_cbs.specs.declared.node.Node.{Node}
 use Rattle.mapf_cbs.specs.declared.node.Fate.{Fate}
@@ -38,6 +42,11 @@ pub record IsState (problem : Instance) (nodes : List Node) (fates : List Fate) 
   pub bars : HaveTableBars nodes
   pub size : length nodes ≡ 2 * count + 1
   pub small : (key : ℕ × ℕ) → Contains keys key → key.0 ≤ (count + 201) * 2 ^ 32
+
+-- the conflict is too late, or as many splits were made as are allowed
+abbrev pub IsCauseToStop : Conflict → ℕ → ℕ → Cause → Type 0
+IsCauseToStop conflict splits limit Ticks = 1000000 ≤ tick_of conflict
+IsCauseToStop conflict splits limit (Splits n) = (n ≡ limit) × (splits ≡ limit)
 
 -- the state while its first open node is in hand
 pub record IsPopped (problem : Instance) (nodes : List Node) (fates : List Fate) (rest : List (ℕ × ℕ)) (count total k : ℕ) : Type 0 where

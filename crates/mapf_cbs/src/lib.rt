@@ -5,6 +5,7 @@
 mod answer;
 mod child;
 mod clash;
+mod finders;
 mod node;
 mod search_tree;
 mod sides;

@@ -1,4 +1,4 @@
-ghost use Rattle.std.specs.Prelude.{◌≡◌, ◌+◌, ◌<◌, ◌≤◌, ◌∷◌, [], ℕ, List, Some, length, slice_get, IfOk, OnOk};
+ghost use Rattle.std.specs.Prelude.{◌≡◌, ◌≢◌, ◌+◌, ◌<◌, ◌≤◌, ◌∷◌, [], ℕ, List, Some, length, slice_get, IfOk, IfSome, IfNone, OnOk};
 ghost use Rattle.mapf_model.specs.Earned.{HasConflict, AreConflictFreeBefore, tick_of};
 ghost use Rattle.mapf_model.specs.Grid.{IsGridMap};
 ghost use Rattle.mapf_model.specs.Tree.{ShareGoal};
@@ -7,7 +7,7 @@ ghost use Rattle.mapf_cbs.specs.Arena.{AreViews};
 ghost use Rattle.mapf_cbs.specs.Route.{AreTables};
 ghost use Rattle.mapf_cbs.specs.Search.{View, IsLive};
 ghost use Rattle.mapf_cbs.specs.Start.{AreShortest};
-ghost use Rattle.mapf_cbs.specs.State.{IsPopped, IsState};
+ghost use Rattle.mapf_cbs.specs.State.{IsPopped, IsState, IsCauseToStop};
 
 use crate::answer::Answer;
 use crate::child::child;
@@ -24,7 +24,7 @@ use mapf_model::{Cause, Conflict, Item, OutOfMemory, Path, Problem};
 use std::alloc::Global;
 
 /// A conflict at this tick or later isn't split.
-const LAST_TICK: u32 = 1_000_000;
+const TICK_LIMIT: u32 = 1_000_000;
 
 /// Searches for a cheapest valid plan with at most so many splits of the constraint tree, 0 to
 /// 100,000.
@@ -104,22 +104,27 @@ fn search_from<B: BarTable>(
             let tree = tree_items(alloc, &search.nodes, &search.fates, agents)?;
             return Ok(Answer::Found { plan, tree });
         };
-        if tick_of(&conflict) >= LAST_TICK {
+        if let Some(cause) = cause_to_stop(&conflict, search.splits, limit) {
             let tree = tree_items(alloc, &search.nodes, &search.fates, agents)?;
-            return Ok(Answer::Limit {
-                cause: Cause::Ticks,
-                tree,
-            });
-        }
-        if search.splits == limit {
-            let tree = tree_items(alloc, &search.nodes, &search.fates, agents)?;
-            return Ok(Answer::Limit {
-                cause: Cause::Splits(limit),
-                tree,
-            });
+            return Ok(Answer::Limit { cause, tree });
         }
         split::<B>(alloc, problem, tables, &mut search, k, total, &conflict)?;
     }
+}
+
+// Why the conflict isn't split after so many splits, None where it is.
+fn cause_to_stop(conflict: &Conflict, splits: u32, limit: u32) -> Option<Cause>
+    ensures some { IfSome result (IsCauseToStop conflict.now splits limit) }
+    ensures early { IfNone result (tick_of conflict.now < 1000000) }
+    ensures allowed { IfNone result (splits ≢ limit) }
+{
+    if tick_of(conflict) >= TICK_LIMIT {
+        return Some(Cause::Ticks);
+    }
+    if splits == limit {
+        return Some(Cause::Splits(limit));
+    }
+    None
 }
 
 // Splits the node on the conflict.

@@ -190,3 +190,66 @@ fn lets_four_agents_rotate(rt: HostRuntime) -> Result<(), Fail> {
     let expected = "found: 0 1: 1 3: 3 2: 2 0 / leaf";
     solves(&rt, rt.alloc(), ".. ..", ends, 0, expected)
 }
+/// A corridor of 2,098,175 cells that winds through 2,047 rows.
+fn corridor(alloc: Global) -> Result<Grid, Fail> {
+    let mut free = Vec::new(alloc);
+    for row in 0u32..2047 {
+        let gap = if row % 4 == 1 { 2047 } else { 0 };
+        for column in 0..2048 {
+            free.push(row % 2 == 0 || column == gap)?;
+        }
+    }
+    Ok(Grid::of(2048, 2047, free).ok_or("no grid")?)
+}
+
+#[test]
+fn stops_at_a_conflict_that_is_too_late(rt: HostRuntime) -> Result<(), Fail> {
+    let last = 2046 * 2048;
+    let mut agents = Vec::new(rt.alloc());
+    for (start, goal) in [(0, last), (last, 0)] {
+        agents.push(Agent {
+            start: Cell(start),
+            goal: Cell(goal),
+        })?;
+    }
+    let problem = Problem::of(corridor(rt.alloc())?, agents).ok_or("no problem")?;
+    let answer = solve(rt.alloc(), &problem, 0)?;
+    assert_eq!(rt;
+        answer_text(rt.alloc(), &answer)?.as_str(),
+        "limit ticks / leaf"
+    );
+    Ok(())
+}
+
+/// Eighteen open rows of 2,048 cells, and below a wall a row of two cells alone.
+fn lanes(alloc: Global) -> Result<Grid, Fail> {
+    let mut free = Vec::new(alloc);
+    for row in 0u32..20 {
+        for column in 0..2048 {
+            free.push(row < 18 || row == 19 && column < 2)?;
+        }
+    }
+    Ok(Grid::of(2048, 20, free).ok_or("no grid")?)
+}
+
+#[test]
+fn keeps_the_cost_of_a_split(rt: HostRuntime) -> Result<(), Fail> {
+    let mut agents = Vec::new(rt.alloc());
+    for (start, goal) in [(19 * 2048, 19 * 2048 + 1), (19 * 2048 + 1, 19 * 2048)] {
+        agents.push(Agent {
+            start: Cell(start),
+            goal: Cell(goal),
+        })?;
+    }
+    for lane in 0..18 {
+        agents.push(Agent {
+            start: Cell(lane * 2048),
+            goal: Cell(lane * 2048 + 2047),
+        })?;
+    }
+    let problem = Problem::of(lanes(rt.alloc())?, agents).ok_or("no problem")?;
+    let answer = solve(rt.alloc(), &problem, 5000)?;
+    let text = answer_text(rt.alloc(), &answer)?;
+    assert!(rt; text.starts_with("limit 5000 / "));
+    Ok(())
+}

@@ -3,6 +3,7 @@ ghost use Rattle.mapf_model.specs.Laws.{AreSameBars};
 ghost use Rattle.mapf_cbs.specs.Search.{View};
 ghost use Rattle.mapf_cbs.specs.Arena.{AreNodesFor, HaveTableBars, AreViews};
 
+use crate::finders::finders_at;
 use crate::node::Node;
 use mapf_constraints::BarTable;
 use mapf_model::{OutOfMemory, Path, Plan};
@@ -104,9 +105,11 @@ pub fn plan_at(alloc: Global, nodes: &[Node], k: u32, agents: u32) -> Result<Pla
     ensures paths { IfOk result (λ plan. (views : List View) (view : View) → AreViews nodes.now views → slice_get views k ≡ Some view → length view.paths ≡ agents → plan ≡ view.paths) }
     ensures short { IfOk result (λ plan. All (λ path. length path ≤ 10000000) plan) }
 {
+    let finders = finders_at(alloc, nodes, k, agents)?;
     let mut paths = Vec::new(alloc);
     for agent in 0..agents {
-        let path = copied(alloc, path_at(nodes, k, agent))?;
+        let finder = finders[agent as usize].unwrap_or(0);
+        let path = copied(alloc, path_at(nodes, finder, agent))?;
         paths.push(path)?;
     }
     match Plan::of(paths) {

@@ -3,6 +3,7 @@ ghost use Rattle.mapf_model.specs.Tree.{ConstraintTree, Spell};
 ghost use Rattle.mapf_cbs.specs.Search.{View, AreBlocksOf, AreCutsLater, IsTreeAt};
 ghost use Rattle.mapf_cbs.specs.Arena.{AreNodesFor, AreViews};
 
+use crate::finders::finders_at;
 use crate::node::{Fate, Node};
 use crate::sides::split_item;
 use crate::walks::labels_at;
@@ -17,6 +18,7 @@ pub fn tree_items(
     agents: u32,
 ) -> Result<Vec<Item>, OutOfMemory>
     requires nodes { (agent : ℕ) → agent < agents → AreNodesFor agent nodes.now }
+    requires agents { 0 < agents }
     requires same { length fates.now ≡ length nodes.now }
     requires some { 0 < length nodes.now }
     requires later { AreCutsLater fates.now }
@@ -47,19 +49,17 @@ pub fn tree_items(
 }
 
 // One block for each agent that has labels at the node.
-fn blocks_at(
-    alloc: Global,
-    nodes: &[Node],
-    k: u32,
-    agents: u32,
-) -> Result<Vec<Block>, OutOfMemory>
+fn blocks_at(alloc: Global, nodes: &[Node], k: u32, agents: u32) -> Result<Vec<Block>, OutOfMemory>
     requires nodes { (agent : ℕ) → agent < agents → AreNodesFor agent nodes.now }
+    requires agents { 0 < agents }
     requires inside { k < length nodes.now }
     ensures { IfOk result (λ blocks. (views : List View) (view : View) → AreViews nodes.now views → slice_get views k ≡ Some view → AreBlocksOf agents view.entries blocks.items) }
 {
+    let finders = finders_at(alloc, nodes, k, agents)?;
     let mut blocks = Vec::new(alloc);
     for agent in 0..agents {
-        let entries = entries_at(alloc, nodes, k, agent)?;
+        let finder = finders[agent as usize].unwrap_or(0);
+        let entries = entries_at(alloc, nodes, finder, agent)?;
         if !entries.is_empty() {
             blocks.push(Block { agent, entries })?;
         }
@@ -68,12 +68,7 @@ fn blocks_at(
 }
 
 // The entries of the agent at the node, none where it isn't bound.
-fn entries_at(
-    alloc: Global,
-    nodes: &[Node],
-    k: u32,
-    agent: u32,
-) -> Result<Vec<Entry>, OutOfMemory>
+fn entries_at(alloc: Global, nodes: &[Node], k: u32, agent: u32) -> Result<Vec<Entry>, OutOfMemory>
     requires nodes { AreNodesFor agent nodes.now }
     requires inside { k < length nodes.now }
     ensures { IfOk result (λ entries. (views : List View) (view : View) → AreViews nodes.now views → slice_get views k ≡ Some view → view.entries agent ≡ entries.items) }

@@ -10,7 +10,7 @@ use Rattle.mapf_cbs.specs.Answer.{IsTreeOf, IsShownOptimal}
 use Rattle.mapf_cbs.specs.Arena.{AreViews}
 use Rattle.mapf_cbs.specs.Search.{View, AreCutsLater, IsTreeAt}
 use Rattle.mapf_cbs.specs.State.{IsState}
-use Rattle.mapf_cbs.proofs.AnswerLemmas.{above_of, state_first, cuts_later, popped_of, answer_impossible, answer_found, answer_splits, answer_ticks}
+use Rattle.mapf_cbs.proofs.AnswerLemmas.{above_of, state_first, cuts_later, popped_of, answer_impossible, answer_found, answer_limit}
 use Rattle.mapf_cbs.proofs.ArenaLemmas.{view_in}
 use Rattle.mapf_cbs.proofs.ItemLemmas.{no_items}
 use Rattle.mapf_cbs.proofs.StartLemmas.{root_of}
@@ -63,15 +63,10 @@ tree_items-requires-in_default-first_conflict-clause-later g c =
     let s = c.loop-total.invariant.state in
     subst AreCutsLater (sym c.deref-in_default-first_conflict-2.ensures.value) (cuts_later c.args.problem.now s.views c.loop-total.search.fates.items c.loop-total.search.splits s.searched)
 
-pub tree_items-requires-then-tick_of-ge-LAST_TICK-clause-later : goal.tree_items-requires-then-tick_of-ge-LAST_TICK-clause-later
-tree_items-requires-then-tick_of-ge-LAST_TICK-clause-later g c =
+pub tree_items-requires-in-Some-cause_to_stop-clause-later : goal.tree_items-requires-in-Some-cause_to_stop-clause-later
+tree_items-requires-in-Some-cause_to_stop-clause-later g c =
     let s = c.loop-total.invariant.state in
-    subst AreCutsLater (sym c.deref-then-tick_of-ge-LAST_TICK-2.ensures.value) (cuts_later c.args.problem.now s.views c.loop-total.search.fates.items c.loop-total.search.splits s.searched)
-
-pub tree_items-requires-then-search-limit-clause-later : goal.tree_items-requires-then-search-limit-clause-later
-tree_items-requires-then-search-limit-clause-later g c =
-    let s = c.loop-total.invariant.state in
-    subst AreCutsLater (sym c.deref-then-search-limit-2.ensures.value) (cuts_later c.args.problem.now s.views c.loop-total.search.fates.items c.loop-total.search.splits s.searched)
+    subst AreCutsLater (sym c.deref-in-Some-cause_to_stop-2.ensures.value) (cuts_later c.args.problem.now s.views c.loop-total.search.fates.items c.loop-total.search.splits s.searched)
 
 pub returns-in_default-first_conflict : goal.returns-in_default-first_conflict
 returns-in_default-first_conflict g c =
@@ -82,27 +77,15 @@ returns-in_default-first_conflict g c =
     let found = tree_of c.agents.result.now c.args.problem.now.agents c.deref-in_default-first_conflict-2.result.now c.loop-total.search.fates.items p.views c.in_ok-tree-2.tree.items c.agents.ensures.value c.deref-in_default-first_conflict-2.ensures.value (c.in_ok-tree-2.ensures p.views (subst (λ ns. AreViews ns p.views) (sym c.deref-in_default-first_conflict.ensures.value) p.are)) in
     subst (λ ps. (tree : ConstraintTree) × IsTreeOf c.args.problem.now c.args.limit c.in_ok-tree-2.tree.items tree × IsShownOptimal c.args.problem.now ps tree) (sym plan) (answer_found c.args.problem.now c.requires.shape c.loop-total.search.nodes.items c.loop-total.search.fates.items c.pop_first.new.self.keys c.loop-total.search.splits c.in-Some.total c.in-Some.k p c.args.limit c.loop-total.invariant.within c.in_ok-tree-2.tree.items found h.view h.is h.is_open h.live c.requires.agents.0 c.requires.agents.1 (subst (λ ps. All (λ path. length path ≤ 10000000) ps) plan c.in_ok-plan.ensures.short) (subst (λ ps. HaveSomeConflict ps → ⊥) plan c.in_default-first_conflict.ensures.none))
 
-pub returns-then-tick_of-ge-LAST_TICK : goal.returns-then-tick_of-ge-LAST_TICK
-returns-then-tick_of-ge-LAST_TICK g c =
+pub returns-in-Some-cause_to_stop : goal.returns-in-Some-cause_to_stop
+returns-in-Some-cause_to_stop g c =
     let s = c.loop-total.invariant.state in
     let p = popped_of c.args.problem.now c.loop-total.search.nodes.items c.loop-total.search.fates.items c.loop-total.search.open.keys c.pop_first.new.self.keys c.loop-total.search.splits c.in-Some.total c.in-Some.k s c.in-Some.ensures.removal (above_of c.pop_first.new.self.keys c.in-Some.total c.in-Some.k c.in-Some.ensures.all_above) in
     let h = in_hand c.args.problem.now c.loop-total.search.nodes.items c.loop-total.search.fates.items c.pop_first.new.self.keys c.loop-total.search.splits c.in-Some.total c.in-Some.k p in
     let plan : c.in_ok-plan.plan ≡ h.view.paths = c.in_ok-plan.ensures.paths p.views h.view (subst (λ ns. AreViews ns p.views) (sym c.deref-in-loop-total.ensures.value) p.are) h.is (h.live.counted.paths ∙ (let e = c.agents.ensures.value in ap length (sym e))) in
-    let found = tree_of c.agents.result.now c.args.problem.now.agents c.deref-then-tick_of-ge-LAST_TICK-2.result.now c.loop-total.search.fates.items p.views c.in_ok-tree-3.tree.items c.agents.ensures.value c.deref-then-tick_of-ge-LAST_TICK-2.ensures.value (c.in_ok-tree-3.ensures p.views (subst (λ ns. AreViews ns p.views) (sym c.deref-then-tick_of-ge-LAST_TICK.ensures.value) p.are)) in
+    let found = tree_of c.agents.result.now c.args.problem.now.agents c.deref-in-Some-cause_to_stop-2.result.now c.loop-total.search.fates.items p.views c.in_ok-tree-3.tree.items c.agents.ensures.value c.deref-in-Some-cause_to_stop-2.ensures.value (c.in_ok-tree-3.ensures p.views (subst (λ ns. AreViews ns p.views) (sym c.deref-in-Some-cause_to_stop.ensures.value) p.are)) in
     let meet = subst (λ ps. HasConflict ps c.in-Some-first_conflict.conflict × AreConflictFreeBefore ps (tick_of c.in-Some-first_conflict.conflict)) plan (c.in-Some-first_conflict.ensures.some, c.in-Some-first_conflict.ensures.first) in
-    let a = answer_ticks c.args.problem.now c.requires.shape c.loop-total.search.nodes.items c.loop-total.search.fates.items c.pop_first.new.self.keys c.loop-total.search.splits c.in-Some.total c.in-Some.k p c.args.limit c.loop-total.invariant.within c.in_ok-tree-3.tree.items found h.view h.is h.is_open h.live c.requires.goals c.in-Some-first_conflict.conflict meet.0 meet.1 (let t = c.tick_of.ensures in let l = c.if-tick_of-ge-LAST_TICK.true in omega (arith, t, l)) in
-    (a.0, a.1, (a.2, a.3))
-
-pub returns-then-search-limit : goal.returns-then-search-limit
-returns-then-search-limit g c =
-    let s = c.loop-total.invariant.state in
-    let p = popped_of c.args.problem.now c.loop-total.search.nodes.items c.loop-total.search.fates.items c.loop-total.search.open.keys c.pop_first.new.self.keys c.loop-total.search.splits c.in-Some.total c.in-Some.k s c.in-Some.ensures.removal (above_of c.pop_first.new.self.keys c.in-Some.total c.in-Some.k c.in-Some.ensures.all_above) in
-    let h = in_hand c.args.problem.now c.loop-total.search.nodes.items c.loop-total.search.fates.items c.pop_first.new.self.keys c.loop-total.search.splits c.in-Some.total c.in-Some.k p in
-    let plan : c.in_ok-plan.plan ≡ h.view.paths = c.in_ok-plan.ensures.paths p.views h.view (subst (λ ns. AreViews ns p.views) (sym c.deref-in-loop-total.ensures.value) p.are) h.is (h.live.counted.paths ∙ (let e = c.agents.ensures.value in ap length (sym e))) in
-    let found = tree_of c.agents.result.now c.args.problem.now.agents c.deref-then-search-limit-2.result.now c.loop-total.search.fates.items p.views c.in_ok-tree-4.tree.items c.agents.ensures.value c.deref-then-search-limit-2.ensures.value (c.in_ok-tree-4.ensures p.views (subst (λ ns. AreViews ns p.views) (sym c.deref-then-search-limit.ensures.value) p.are)) in
-    let meet = subst (λ ps. HasConflict ps c.in-Some-first_conflict.conflict × AreConflictFreeBefore ps (tick_of c.in-Some-first_conflict.conflict)) plan (c.in-Some-first_conflict.ensures.some, c.in-Some-first_conflict.ensures.first) in
-    let a = answer_splits c.args.problem.now c.requires.shape c.loop-total.search.nodes.items c.loop-total.search.fates.items c.pop_first.new.self.keys c.loop-total.search.splits c.in-Some.total c.in-Some.k p c.args.limit c.loop-total.invariant.within c.in_ok-tree-4.tree.items found h.view h.is h.is_open h.live c.in-Some-first_conflict.conflict meet.0 in
-    (a.0, a.1, (a.2, refl, a.3 ∙ c.if-search-limit.true))
+    answer_limit c.args.problem.now c.requires.shape c.loop-total.search.nodes.items c.loop-total.search.fates.items c.pop_first.new.self.keys c.loop-total.search.splits c.in-Some.total c.in-Some.k p c.args.limit c.loop-total.invariant.within c.in_ok-tree-3.tree.items found h.view h.is h.is_open h.live c.requires.goals c.in-Some-first_conflict.conflict meet.0 meet.1 c.in-Some-cause_to_stop.cause c.in-Some-cause_to_stop.ensures.some c.in_ok-tree-3.tree refl
 
 pub split-requires-clause-popped : goal.split-requires-clause-popped
 split-requires-clause-popped g c =

@@ -1,0 +1,18 @@
+use Rattle.std.proofs.Common.{◌≡◌, ◌<◌, ℕ, List, Option, None, Some, length, slice_get}
+use Rattle.mapf_cbs.specs.Arena.{AreViews}
+use Rattle.mapf_cbs.specs.Finders.{AreInside}
+use Rattle.mapf_cbs.specs.Search.{View}
+use Rattle.mapf_cbs.proofs.FinderLemmas.{IsFoundSoFar}
+use Rattle.mapf_cbs.proofs.finders.finders_at.Given as goal
+
+abbrev pub invariant-loop-at : goal.invariant-loop-at
+invariant-loop-at l = record {
+  inside : l.at < length l.nodes;
+  count : length l.finders.items ≡ l.agents;
+  finders : AreInside l.nodes l.finders.items;
+  same : (views : List View) (view here : View) → AreViews l.nodes views → slice_get views l.k ≡ Some view → slice_get views l.at ≡ Some here →
+      (i : ℕ) (finder : Option ℕ) → slice_get l.finders.items i ≡ Some finder → IsFoundSoFar views view here i finder;
+}
+
+abbrev pub decreases-loop-at : goal.decreases-loop-at
+decreases-loop-at l = l.at

@@ -1,0 +1,54 @@
+ghost use Rattle.std.specs.Prelude.{◌≡◌, ◌<◌, ℕ, List, Some, length, slice_get, IfOk};
+ghost use Rattle.mapf_cbs.specs.Arena.{AreNodesFor, AreViews};
+ghost use Rattle.mapf_cbs.specs.Finders.{AreFinders, AreInside, AreNone, IsNoted};
+ghost use Rattle.mapf_cbs.specs.Search.{View};
+
+use crate::node::Node;
+use mapf_model::OutOfMemory;
+use std::alloc::Global;
+
+/// For each agent the nearest node on the way up that bound it, so that its path and labels are found
+/// there. None is the root.
+pub fn finders_at(
+    alloc: Global,
+    nodes: &[Node],
+    k: u32,
+    agents: u32,
+) -> Result<Vec<Option<u32>>, OutOfMemory>
+    requires nodes { (agent : ℕ) → agent < agents → AreNodesFor agent nodes.now }
+    requires some { 0 < agents }
+    requires inside { k < length nodes.now }
+    ensures count { IfOk result (λ finders. length finders.items ≡ agents) }
+    ensures inside { IfOk result (λ finders. AreInside nodes.now finders.items) }
+    ensures found { IfOk result (λ finders. (views : List View) (view : View) → AreViews nodes.now views → slice_get views k ≡ Some view → AreFinders views view finders.items) }
+{
+    let mut finders = none_of(alloc, agents)?;
+    let mut at = k;
+    while let Node::Child { parent, agent, .. } = &nodes[at as usize] {
+        note(&mut finders, *agent, at);
+        at = *parent;
+    }
+    Ok(finders)
+}
+
+// No node for any agent.
+fn none_of(alloc: Global, agents: u32) -> Result<Vec<Option<u32>>, OutOfMemory>
+    ensures count { IfOk result (λ finders. length finders.items ≡ agents) }
+    ensures none { IfOk result (λ finders. AreNone finders.items) }
+{
+    let mut finders = Vec::new(alloc);
+    for _ in 0..agents {
+        finders.push(None)?;
+    }
+    Ok(finders)
+}
+
+// The node bound the agent, unless one nearer did.
+fn note(finders: &mut Vec<Option<u32>>, agent: u32, node: u32)
+    ensures count { length finders.new.items ≡ length finders.old.items }
+    ensures noted { IsNoted finders.old.items finders.new.items agent node }
+{
+    if matches!(finders.get(agent as usize), Some(None)) {
+        finders[agent as usize] = Some(node);
+    }
+}
