@@ -6,5 +6,4 @@ pub mod EntryLemmas
 pub mod StartLemmas
 pub mod BlockLemmas
 pub mod TreeLemmas
-pub mod RiseLemmas
 pub mod VerdictLemmas

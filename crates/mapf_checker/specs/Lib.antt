@@ -8,5 +8,6 @@ pub mod Way
 pub mod Order
 pub mod Ground
 pub mod Leaf
+pub mod NodeDefects
 pub mod Progress
 pub mod Verdict

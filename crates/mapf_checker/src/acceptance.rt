@@ -2,7 +2,6 @@ ghost use Rattle.std.specs.Prelude.{◌≡◌, false, IfOk, OnOk, IsSome, None};
 ghost use Rattle.mapf_checker.specs.Verdict.{IsTrueVerdict, IsGoodAnswer, IsShown, claim_of};
 
 use crate::fault::{CheckFault, FromFault, Verdict};
-use crate::order::is_orderly;
 use crate::tree::Progress;
 use crate::validity::check_plan;
 use mapf_certificate::{CertFault, CertLines, PlanAnswer, PlanText, read_plan};
@@ -119,9 +118,6 @@ fn judge_tree<S: Source>(
     let _claim = *claim;
     let mut progress = Progress::new(alloc);
     while let Some(item) = lines.next_item(source)? {
-        if progress.is_over || !is_orderly(&item) {
-            return Err(FromFault::Refused(CheckFault::C2(CertFault::K1(lines.line()))));
-        }
         progress.item(alloc, problem, claim, &item, lines.line())?;
     }
     if progress.is_over {

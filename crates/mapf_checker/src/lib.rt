@@ -10,7 +10,6 @@ mod labels;
 mod lawful;
 mod leaf;
 mod meeting;
-mod order;
 mod plan_fault;
 #[cfg(test)]
 mod samples;
