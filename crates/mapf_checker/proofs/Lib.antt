@@ -7,3 +7,5 @@ pub mod StartLemmas
 pub mod BlockLemmas
 pub mod TreeLemmas
 pub mod VerdictLemmas
+pub mod PlanLemmas
+pub mod CertLemmas

@@ -10,4 +10,7 @@ pub mod Ground
 pub mod Leaf
 pub mod NodeDefects
 pub mod Progress
+pub mod Faults
 pub mod Verdict
+pub mod Refusals
+pub mod CertJudging

@@ -1,11 +1,8 @@
 -- How far a tree was judged.
-use Rattle.std.specs.Prelude.{◌≡◌, ⊤, Bool, true, false, List, [], ◌∷◌, fold}
+use Rattle.std.specs.Prelude.{◌≡◌, Bool, true, false, List, [], ◌∷◌, fold}
 use Rattle.mapf_model.specs.Plan.{Instance}
 use Rattle.mapf_model.specs.Tree.{Node, SplitNode, LeafNode, ClashNode, NodeConstraints, left_child_constraints, right_child_constraints}
 use Rattle.mapf_checker.specs.declared.tree.Progress.{Progress}
-use Rattle.mapf_checker.specs.declared.fault.CheckFault.{CheckFault}
-use Rattle.mapf_checker.specs.declared.fault.FromFault.{FromFault}
-use Rattle.mapf_checker.specs.declared.fault.FromFault.TheVariants.{Refused, Device, TooLong, Memory}
 use Rattle.mapf_checker.specs.Leaf.{AreTables}
 use Rattle.mapf_checker.specs.Way.{Place, place_of}
 
@@ -35,10 +32,3 @@ here_of progress = (place_of progress.way).here
 -- the tables, once there are some, are those of the problem
 abbrev pub IsReady : Instance → Progress → Type 0
 IsReady problem progress = (progress.tables.items ≡ [] → ⊥) → AreTables problem progress.tables.items
-
--- a fault that comes of judging: a refusal that says this, or want of memory
-abbrev pub IsOfJudging : (CheckFault → Type 0) → FromFault → Type 0
-IsOfJudging Says (Refused fault) = Says fault
-IsOfJudging Says Device = ⊥
-IsOfJudging Says TooLong = ⊥
-IsOfJudging Says Memory = ⊤

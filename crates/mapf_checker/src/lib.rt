@@ -3,6 +3,7 @@
 
 mod acceptance;
 mod bound;
+mod cert_judge;
 mod fault;
 mod index;
 mod judge;
@@ -11,6 +12,7 @@ mod lawful;
 mod leaf;
 mod meeting;
 mod plan_fault;
+mod plan_judge;
 #[cfg(test)]
 mod samples;
 mod step;

@@ -4,6 +4,7 @@ ghost use Rattle.mapf_model.specs.declared.item.Claim.{Claim};
 ghost use Rattle.mapf_model.specs.Plan.{Instance};
 ghost use Rattle.mapf_model.specs.Printed.{AreBlocksInRange};
 ghost use Rattle.mapf_model.specs.Tree.{SplitNode, LeafNode, ClashNode, IsProperSplit, AreTwoAgents, ShareGoal, node_of, root};
+ghost use Rattle.mapf_checker.specs.Faults.{IsOfJudging};
 ghost use Rattle.mapf_checker.specs.Leaf.{AreTables};
 ghost use Rattle.mapf_checker.specs.NodeDefects.{HasNodeDefect, IsGoodNode};
 ghost use Rattle.mapf_checker.specs.Way.{place_of};
@@ -27,7 +28,7 @@ pub struct Progress {
 }
 
 impl Progress {
-    ghost use Rattle.mapf_checker.specs.Progress.{owed_by, owed_after, here_of, IsReady, IsOfJudging};
+    ghost use Rattle.mapf_checker.specs.Progress.{owed_by, owed_after, here_of, IsReady};
 
     /// Before the root.
     pub fn new(alloc: Global) -> Progress

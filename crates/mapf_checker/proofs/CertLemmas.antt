@@ -1,0 +1,1 @@
+-- A certificate that is read item by item, and judged as it is read.
