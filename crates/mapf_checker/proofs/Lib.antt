@@ -8,4 +8,5 @@ pub mod BlockLemmas
 pub mod TreeLemmas
 pub mod VerdictLemmas
 pub mod PlanLemmas
+pub mod ReadLemmas
 pub mod CertLemmas
