@@ -1,5 +1,5 @@
 -- A certificate's header and tree together.
-use Rattle.std.proofs.Common.{◌≡◌, ◌≢◌, ◌↔◌, ℕ, zero, suc, ◌*◌, ◌<◌, Bool, List, [], ◌∷◌, ◌++◌, Option, Some, IfSome, Result, Ok, Err, OnOk, IfErr, MatchResult, All, length, refl, sym, ◌∙◌, ap, subst, append_assoc, arith}
+use Rattle.std.proofs.Common.{◌≡◌, ◌≢◌, ◌↔◌, ℕ, zero, suc, ◌*◌, ◌<◌, Bool, List, [], ◌∷◌, ◌++◌, Option, Some, None, IfSome, Result, Ok, Err, OnOk, IfErr, MatchResult, All, length, refl, sym, ◌∙◌, ap, subst, append_assoc, arith}
 use Rattle.std.proofs.lemmas.List.{append-nil}
 use Rattle.std.proofs.lemmas.Option.{same_Some}
 use Rattle.std.specs.Result.{IsErrAnd}
@@ -7,7 +7,7 @@ use Rattle.mapf_model.specs.declared.item.Claim.{Claim}
 use Rattle.mapf_model.specs.declared.conflict.Conflict.{Conflict}
 use Rattle.mapf_model.specs.Blocks.{LabelBlock}
 use Rattle.mapf_model.specs.Grid.{GridMap}
-use Rattle.mapf_model.specs.Laws.{FrontDecides}
+use Rattle.mapf_model.specs.Laws.{FrontDecides, TreeIsUnique}
 use Rattle.mapf_model.specs.Plan.{Instance}
 use Rattle.mapf_model.specs.Printed.{IsTreeInRange}
 use Rattle.mapf_model.specs.Tree.{ConstraintTree, Split, Leaf, Clash, Node, SplitNode, LeafNode, ClashNode, NodesShow, ShowsFrom, Shows, nodes_of, nodes_of_all, root}
@@ -18,7 +18,7 @@ use Rattle.mapf_certificate.specs.Buffered.{Buffered}
 use Rattle.mapf_certificate.specs.CertReading.{Awaits, AwaitsCert, TakesHeader}
 use Rattle.mapf_certificate.specs.Certificates.{SpellsCert, header_text, rest_text}
 use Rattle.mapf_certificate.specs.Reading.{Reading, grid_at}
-use Rattle.mapf_certificate.specs.Window.{Fails, IsNoTextFault}
+use Rattle.mapf_certificate.specs.Window.{Window, Fails, Exceeds, IsNoTextFault}
 use Rattle.mapf_certificate.proofs.Windows.{Window-known, Exceeds-after}
 use Rattle.mapf_checker.specs.declared.fault.CheckFault.{CheckFault}
 use Rattle.mapf_checker.specs.declared.fault.CheckFault.TheVariants.{C1, C2, C3, C4, C5, C6, C7, C8, C9}
@@ -31,11 +31,6 @@ use Rattle.mapf_checker.specs.Refusals.{BeginsWithHeader, HasBadNode, HasBadNode
 use Rattle.mapf_checker.specs.Verdict.{IsGoodCert, IsShown}
 use Rattle.mapf_checker.proofs.ReadLemmas.{node_moved}
 
--- an error that is passed on
-pub err_matched : {A E : Type 0} (r : Result A E) (P : A → Type 0) (Q : E → Type 0) (e : E) → IsErrAnd r (λ y. y ≡ e) → Q e → MatchResult r P Q
-err_matched (Ok x) P Q e is holds = absurd is
-err_matched (Err y) P Q e is holds = subst Q (sym is) holds
-
 -- a tree that is in range on one grid is so on another of the same size
 tree_moved : (g h : GridMap) (agents : ℕ) → g.width * g.height ≡ h.width * h.height → (tree : ConstraintTree) → IsTreeInRange g agents tree → IsTreeInRange h agents tree
 tree_moved g h agents size (Split conflict left right) (in_range, one, two) = (node_moved g h agents size (SplitNode conflict) in_range, tree_moved g h agents size left one, tree_moved g h agents size right two)
@@ -43,7 +38,7 @@ tree_moved g h agents size (Leaf blocks) in_range = node_moved g h agents size (
 tree_moved g h agents size (Clash i j) in_range = in_range
 
 module _ (problem : Instance) (claim : Claim) (had : Option (List ℕ)) (start : Reading) (opened : IsOpened problem start) (bytes : List ℕ) (known : had ≡ Some bytes) where
-  same_bytes : start.buffer.bytes ++ bytes ≡ bytes
+  pub same_bytes : start.buffer.bytes ++ bytes ≡ bytes
   same_bytes = ap (λ b. b ++ bytes) opened.buffer
 
   same_size : (grid_at start).width * (grid_at start).height ≡ problem.grid.width * problem.grid.height
@@ -108,3 +103,74 @@ stops_heading problem claim had left failed start IsText (Text (texts.K4 line)) 
 stops_heading problem claim had left failed start IsText Device fails none = fails
 stops_heading problem claim had left failed start IsText TooLong fails none = fails
 stops_heading problem claim had left failed start IsText Memory fails none = tt
+
+-- what is so of known bytes
+if_known : {X : Type 0} (o : Option X) (P : X → Type 0) → ((x : X) → o ≡ Some x → P x) → IfSome o P
+if_known None P f = tt
+if_known (Some x) P f = f x refl
+
+-- the same reason, said otherwise
+pub stops_as : {P Q : CheckFault → Type 0} (had left : Option (List ℕ)) (failed : Bool) (old new : Buffered) (fault : FromFault) → old ≡ new → ((refusal : CheckFault) → P refusal → Q refusal) → Stops had left failed old P fault → Stops had left failed new Q fault
+stops_as had left failed old new (from.Refused refusal) same f stops = f refusal stops
+stops_as had left failed old new from.Device same f stops = stops
+stops_as had left failed old new from.TooLong same f stops = subst (λ b. Exceeds had left b) same stops
+stops_as had left failed old new from.Memory same f stops = tt
+
+-- after a part was taken
+pub stops_after : {P Q : CheckFault → Type 0} (had mid left : Option (List ℕ)) (failed : Bool) (old now new : Buffered) (taken : List ℕ) (fault : FromFault) → old ≡ new → Window had mid old now taken → ((refusal : CheckFault) → P refusal → Q refusal) →
+    Stops mid left failed now P fault → Stops had left failed new Q fault
+stops_after had mid left failed old now new taken (from.Refused refusal) same window f stops = f refusal stops
+stops_after had mid left failed old now new taken from.Device same window f stops = stops
+stops_after had mid left failed old now new taken from.TooLong same window f stops = subst (λ b. Exceeds had left b) same (Exceeds-after had mid left old now taken window stops)
+stops_after had mid left failed old now new taken from.Memory same window f stops = tt
+
+module _ (problem : Instance) (claim : Claim) (had : Option (List ℕ)) (start : Reading) (opened : IsOpened problem start) where
+  -- a refusal of the header is one of the certificate
+  pub header_refusal : (refusal : CheckFault) → HasHeaderRefusal problem claim had start refusal → HasCertRefusal problem claim had refusal
+  header_refusal (C1 fault) is = absurd is
+  header_refusal (C2 fault) (other, none) = (other, if_known had _ (λ bytes known agents claimed tree spells. none agents claimed (nodes_of tree) (awaits_spelled problem claim had start opened bytes known agents claimed tree spells)))
+  header_refusal C3 is = if_known had _ is
+  header_refusal C4 is = if_known had _ is
+  header_refusal (C5 fault) is = absurd is
+  header_refusal (C6 line) is = absurd is
+  header_refusal (C7 line) is = absurd is
+  header_refusal (C8 line) is = absurd is
+  header_refusal (C9 line) is = absurd is
+  header_refusal refusals.Memory is = absurd is
+
+  module _ (mid : Option (List ℕ)) (headed : Reading) (takes : TakesHeader had mid start headed (length problem.agents) claim) where
+    -- the bytes after the header
+    after_header : (bytes : List ℕ) → had ≡ Some bytes → (rest : List ℕ) × (mid ≡ Some rest) × (bytes ≡ header_text problem.grid.width (length problem.agents) claim ++ (headed.buffer.bytes ++ rest))
+    after_header bytes known =
+        let (rest, known_mid, same, count) = Window-known had mid start.buffer headed.buffer (header_text start.width (length problem.agents) claim) bytes takes.window known in
+        (rest, known_mid, sym (same_bytes problem claim had start opened bytes known) ∙ subst (λ w. start.buffer.bytes ++ bytes ≡ header_text w (length problem.agents) claim ++ (headed.buffer.bytes ++ rest)) opened.width same)
+
+    bad_node_in : (refusal : CheckFault) → ((bytes : List ℕ) → mid ≡ Some bytes → HasBadNode problem claim refusal (headed.buffer.bytes ++ bytes)) → IfSome had (HasBadNodeInCert problem claim refusal)
+    bad_node_in refusal bad = if_known had _ (λ bytes known. let (rest, known_mid, same) = after_header bytes known in (headed.buffer.bytes ++ rest, same, bad rest known_mid))
+
+    -- so is one of the tree
+    pub refusal_of_tree : ((agents : ℕ) (claimed : Claim) (nodes : List Node) → AwaitsCert had start agents claimed nodes → Awaits mid headed nodes) → (refusal : CheckFault) → HasTreeRefusal problem claim mid headed refusal → HasCertRefusal problem claim had refusal
+    refusal_of_tree ahead (C1 fault) is = absurd is
+    refusal_of_tree ahead (C2 fault) (other, none) = (other, if_known had _ (λ bytes known agents claimed tree spells. none (nodes_of tree) (ahead agents claimed (nodes_of tree) (awaits_spelled problem claim had start opened bytes known agents claimed tree spells))))
+    refusal_of_tree ahead C3 is = absurd is
+    refusal_of_tree ahead C4 is = absurd is
+    refusal_of_tree ahead (C5 fault) is = absurd is
+    refusal_of_tree ahead (C6 line) is = bad_node_in (C6 line) is
+    refusal_of_tree ahead (C7 line) is = bad_node_in (C7 line) is
+    refusal_of_tree ahead (C8 line) is = bad_node_in (C8 line) is
+    refusal_of_tree ahead (C9 line) is = bad_node_in (C9 line) is
+    refusal_of_tree ahead refusals.Memory is = absurd is
+
+    -- a tree that was judged is the certificate's
+    pub good_cert : FrontDecides → TreeIsUnique → IsJudgedTree problem claim mid headed → (bytes : List ℕ) → had ≡ Some bytes → IsGoodCert problem claim bytes
+    good_cert law unique judged bytes known =
+        let (rest, known_mid, same) = after_header bytes known in
+        let (tree, is, spells) = spelled_awaited problem claim had start opened bytes known (length problem.agents) claim judged.nodes (takes.joins bytes known judged.nodes (judged.read rest known_mid)) in
+        let (shown, is_shown, shows) = ((law problem claim).whole judged.nodes).0 judged.shows in
+        record { tree = tree; spelled = spells; shows = subst (λ t. Shows problem claim t) (unique shown tree (sym is_shown ∙ is)) shows }
+
+pub shown_tree : FrontDecides → (problem : Instance) (claim : Claim) (mid : Option (List ℕ)) (headed : Reading) → IsJudgedTree problem claim mid headed → IsShown problem claim
+shown_tree law problem claim mid headed judged = let (tree, is, shows) = ((law problem claim).whole judged.nodes).0 judged.shows in (tree, shows)
+
+pub nodes_show : FrontDecides → (problem : Instance) (claim : Claim) (tree : ConstraintTree) → Shows problem claim tree → NodesShow problem claim (root ∷ []) (nodes_of tree)
+nodes_show law problem claim tree shows = ((law problem claim).whole (nodes_of tree)).1 (tree, refl, shows)

@@ -221,3 +221,8 @@ node_moved g h agents size (ClashNode i j) is = is
 pub err_passed : {A E : Type 0} (r : Result A E) (P : E → Type 0) (e : E) → IsErrAnd r (λ y. y ≡ e) → P e → IfErr r P
 err_passed (Ok x) P e is holds = tt
 err_passed (Err y) P e is holds = subst P (sym is) holds
+
+-- what is said of an error, said otherwise
+pub err_made : {A E : Type 0} {P Q : E → Type 0} (r : Result A E) → ((e : E) → P e → Q e) → IfErr r P → IfErr r Q
+err_made (Ok x) f is = tt
+err_made (Err e) f is = f e is

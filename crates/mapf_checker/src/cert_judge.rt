@@ -1,10 +1,7 @@
-ghost use Rattle.std.specs.Prelude.{◌≡◌, ◌∷◌, [], ℕ, List, Some, None, true, false, length, IfErr, OnOk, IfOk, MatchResult};
+ghost use Rattle.std.specs.Prelude.{◌≡◌, ◌↔◌, ◌∷◌, [], ℕ, List, Some, false, length, IfErr, OnOk, IsTrue};
 ghost use Rattle.mapf_certificate.specs.CertReading.{Awaits, AwaitsCert, TakesHeader};
-ghost use Rattle.mapf_certificate.specs.Reading.{Reading};
 ghost use Rattle.mapf_model.specs.declared.item.Claim.{Claim};
-ghost use Rattle.mapf_model.specs.Tree.{Node, ConstraintTree, NodesShow, Shows, root};
-ghost use Rattle.mapf_model.specs.Plan.{Instance};
-ghost use Rattle.mapf_certificate.specs.Certificates.{SpellsCert};
+ghost use Rattle.mapf_model.specs.Tree.{Node, NodesShow, root};
 ghost use Rattle.mapf_checker.specs.CertJudging.{IsOpened, IsHeaded, HasHeaderRefusal, HasTreeRefusal, IsJudgedTree};
 ghost use Rattle.mapf_checker.specs.Faults.{Stops, IsNoRefusal};
 ghost use Rattle.mapf_checker.specs.Refusals.{HasCertRefusal};
@@ -31,6 +28,8 @@ pub fn judge_cert<S: Source>(
     ensures stops { IfErr result (Stops (S.remaining source.old) (S.remaining source.new) (S.has_failed source.new) (record { bytes = []; left = limit })
         (HasCertRefusal problem.now claim.now (S.remaining source.old))) }
 {
+    laws::items_are_judged_by_front();
+    laws::tree_is_unique();
     let grid = problem.grid();
     let mut lines = CertLines::open(alloc, grid.width(), grid.height(), limit)?;
     judge_header(problem, claim, &mut lines, source)?;
@@ -49,8 +48,8 @@ fn judge_header<S: Source>(
     ensures works { OnOk result (S.has_failed source.new ≡ false) }
     ensures headed { OnOk result (IsHeaded problem.now claim.now lines.new) }
     ensures taken { OnOk result (TakesHeader (S.remaining source.old) (S.remaining source.new) lines.old lines.new (length problem.now.agents) claim.now) }
-    ensures only { (nodes : List Node) → AwaitsCert (S.remaining source.old) lines.old (length problem.now.agents) claim.now nodes
-        → MatchResult result (λ _. Awaits (S.remaining source.new) lines.new nodes) IsNoRefusal }
+    ensures ahead { OnOk result ((agents : ℕ) (claimed : Claim) (nodes : List Node) → AwaitsCert (S.remaining source.old) lines.old agents claimed nodes → Awaits (S.remaining source.new) lines.new nodes) }
+    ensures only { (nodes : List Node) → AwaitsCert (S.remaining source.old) lines.old (length problem.now.agents) claim.now nodes → IfErr result IsNoRefusal }
     ensures stops { IfErr result (Stops (S.remaining source.old) (S.remaining source.new) (S.has_failed source.new) lines.old.buffer
         (HasHeaderRefusal problem.now claim.now (S.remaining source.old) lines.old)) }
 {
@@ -58,10 +57,20 @@ fn judge_header<S: Source>(
     if agents as usize != problem.agents().len() {
         return Err(FromFault::Refused(CheckFault::C3));
     }
-    if claimed != *claim {
+    if !are_one_claim(&claimed, claim) {
         return Err(FromFault::Refused(CheckFault::C4));
     }
     Ok(())
+}
+
+fn are_one_claim(a: &Claim, b: &Claim) -> bool
+    ensures { IsTrue result ↔ a.now ≡ b.now }
+{
+    match (*a, *b) {
+        (Claim::Cost(a), Claim::Cost(b)) => a == b,
+        (Claim::Impossible, Claim::Impossible) => true,
+        _ => false,
+    }
 }
 
 // Whether the items of the certificate's tree show the claim.

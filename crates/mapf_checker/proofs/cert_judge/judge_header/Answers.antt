@@ -1,15 +1,16 @@
-use Rattle.std.proofs.Common.{◌≡◌, Some, length, sym, ◌∙◌, ap}
-use Rattle.mapf_certificate.specs.CertReading.{Awaits, HasHeader}
+use Rattle.std.proofs.Common.{length, sym, ◌∙◌, ap}
+use Rattle.std.proofs.lemmas.Bool.{iff_false}
+use Rattle.mapf_certificate.specs.CertReading.{HasHeader}
 use Rattle.mapf_checker.specs.CertJudging.{HasHeaderRefusal}
 use Rattle.mapf_checker.specs.Faults.{of_cert, IsNoRefusal, Stops}
-use Rattle.mapf_checker.proofs.CertLemmas.{begins, err_matched, stops_heading}
+use Rattle.mapf_checker.proofs.CertLemmas.{begins, stops_heading}
 use Rattle.mapf_checker.proofs.ReadLemmas.{err_passed, no_refusal}
 use Rattle.mapf_checker.proofs.cert_judge.judge_header.Goals as goal
 
 pub returns-in_err-agents-clause-only : goal.returns-in_err-agents-clause-only
 returns-in_err-agents-clause-only g c nodes awaits =
     let fault = c.in_err-agents.field-0.0 in
-    err_matched c.from_residual.result (λ _. Awaits ((g.S.Source).remaining c.header.new.source) c.header.new.self nodes) IsNoRefusal (of_cert fault) c.from_residual.ensures.1
+    err_passed c.from_residual.result IsNoRefusal (of_cert fault) c.from_residual.ensures.1
     (no_refusal fault (c.in_err-agents.ensures.only (length c.args.problem.now.agents) c.args.claim.now nodes c.requires.opened.fault c.requires.opened.header awaits))
 
 pub returns-in_err-agents-clause-stops : goal.returns-in_err-agents-clause-stops
@@ -39,22 +40,19 @@ returns-then-agents-clause-stops g c bytes known =
       λ same. c.if-agents.true (same ∙ ap length (sym c.agents.ensures.value)),
     )
 
-pub returns-then-ne-clause-only : goal.returns-then-ne-clause-only
-returns-then-ne-clause-only g c nodes awaits =
+pub returns-then-not-are_one_claim-clause-only : goal.returns-then-not-are_one_claim-clause-only
+returns-then-not-are_one_claim-clause-only g c nodes awaits =
     let same = c.in_ok-agents.ensures.only (length c.args.problem.now.agents) c.args.claim.now nodes c.requires.opened.fault c.requires.opened.header awaits in
-    let e = c.if-ne.ensures in
-    let f = c.ne.ensures in
-    let h = c.if-ne.true in
-    ?
+    iff_false c.are_one_claim.ensures c.if-not-are_one_claim.true same.1
 
-pub returns-then-ne-clause-stops : goal.returns-then-ne-clause-stops
-returns-then-ne-clause-stops g c bytes known =
+pub returns-then-not-are_one_claim-clause-stops : goal.returns-then-not-are_one_claim-clause-stops
+returns-then-not-are_one_claim-clause-stops g c bytes known =
     let takes = c.in_ok-agents.ensures.header c.requires.opened.fault c.requires.opened.header in (
       c.in_ok-agents.agents,
       c.in_ok-agents.claimed,
       begins c.args.problem.now c.args.claim.now ((g.S.Source).remaining c.args.source.now) c.args.lines.now c.requires.opened bytes known ((g.S.Source).remaining c.header.new.source) c.header.new.self c.in_ok-agents.agents c.in_ok-agents.claimed takes,
-      ?,
+      iff_false c.are_one_claim.ensures c.if-not-are_one_claim.true,
     )
 
-pub returns-clause-only : goal.returns-clause-only
-returns-clause-only g c nodes awaits = (c.in_ok-agents.ensures.only (length c.args.problem.now.agents) c.args.claim.now nodes c.requires.opened.fault c.requires.opened.header awaits).2
+pub returns-clause-ahead : goal.returns-clause-ahead
+returns-clause-ahead g c agents claimed nodes awaits = (c.in_ok-agents.ensures.only agents claimed nodes c.requires.opened.fault c.requires.opened.header awaits).2
