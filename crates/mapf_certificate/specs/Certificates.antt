@@ -1,5 +1,5 @@
 -- How a certificate is spelled.
-use Rattle.std.specs.Prelude.{◌≡◌, ℕ, ◌<◌, List, [], ◌∷◌, ◌++◌, length, All}
+use Rattle.std.specs.Prelude.{◌≡◌, ℕ, ◌<◌, ◌≤◌, List, [], ◌∷◌, ◌++◌, length, All}
 use Rattle.std.specs.List.{flat_map}
 use Rattle.mapf_model.specs.declared.item.Claim.{Claim}
 use Rattle.mapf_model.specs.declared.item.Item.{Item}
@@ -62,9 +62,15 @@ IsNode grid agents (SplitNode conflict) = IsConflictInRange grid agents conflict
 IsNode grid agents (LeafNode blocks) = AreBlocksInRange grid agents blocks
 IsNode grid agents (ClashNode i j) = (i < agents) × (j < agents)
 
--- what is still to come of a certificate, for a number of trees that are owed
-pub record IsRest (grid : GridMap) (agents owed : ℕ) (bytes : List ℕ) : Type 0 where
+-- what is still to come of a certificate: nodes that complete so many trees, and the end
+pub record IsRest (grid : GridMap) (agents owed : ℕ) (nodes : List Node) (bytes : List ℕ) : Type 0 where
   pub trees : List ConstraintTree
   pub count : length trees ≡ owed
   pub in_range : All (IsTreeInRange grid agents) trees
-  pub spelled : bytes ≡ rest_text grid.width (nodes_of_all trees)
+  pub same : nodes ≡ nodes_of_all trees
+  pub spelled : bytes ≡ rest_text grid.width nodes
+
+-- no bytes spell two certificates
+abbrev pub SpellsOneCert : Type 0
+SpellsOneCert = (grid : GridMap) (bytes : List ℕ) (agents agents' : ℕ) (claim claim' : Claim) (tree tree' : ConstraintTree) → 1 ≤ grid.width → grid.width ≤ 2048 → 1 ≤ grid.height → grid.height ≤ 2048
+    → SpellsCert grid bytes agents claim tree → SpellsCert grid bytes agents' claim' tree' → (agents ≡ agents') × (claim ≡ claim') × (tree ≡ tree')

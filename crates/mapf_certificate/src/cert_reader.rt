@@ -1,5 +1,9 @@
-ghost use Rattle.std.specs.Prelude.{◌≡◌, ◌<◌, IfOk, OnOk, IsSome, Some, None};
-ghost use Rattle.mapf_certificate.specs.Window.{spare};
+ghost use Rattle.mapf_certificate.specs.CertReading.{IsSpelled, IsCertOf, Awaits, AwaitsCert, TakesHeader, TakesNode, TakesEnd};
+ghost use Rattle.mapf_certificate.specs.Certificates.{SpellsCert};
+ghost use Rattle.mapf_model.specs.declared.item.Claim.{Claim};
+ghost use Rattle.mapf_model.specs.Tree.{ConstraintTree};
+ghost use Rattle.std.specs.Prelude.{◌≡◌, ◌<◌, ℕ, IfOk, OnOk, IsSome, Some, None, MatchResult};
+ghost use Rattle.mapf_certificate.specs.Buffered.{spare};
 
 use crate::cert::{Cert, CertFault, LinesFault};
 use crate::cert_lines::CertLines;
@@ -37,7 +41,12 @@ fn item_of(lines: &mut CertLines, source: &mut BytesSource) -> Result<Option<Ite
 }
 
 /// Reads a certificate for a grid of this size.
-pub fn read_cert(alloc: Global, bytes: &[u8], grid: &Grid) -> Result<Cert, CertFault> {
+pub fn read_cert(alloc: Global, bytes: &[u8], grid: &Grid) -> Result<Cert, CertFault>
+    // What is read is spelled so, in range.
+    ensures found { IfOk result (IsSpelled grid.now bytes.now) }
+    // What is spelled so is read, want of memory aside.
+    ensures only { (agents : ℕ) (claim : Claim) (tree : ConstraintTree) → SpellsCert grid.now bytes.now agents claim tree → MatchResult result (IsCertOf agents claim tree) (λ fault. fault ≡ CertFault.Memory) }
+{
     let mut source = BytesSource::of(bytes);
     let Ok(mut lines) = CertLines::open(alloc, grid.width(), grid.height(), bytes.len() as u64)
     else {

@@ -1,6 +1,14 @@
-ghost use Rattle.mapf_certificate.specs.Window.{spare};
-ghost use Rattle.mapf_certificate.specs.Lines.{IsLine};
-ghost use Rattle.std.specs.Prelude.{◌≡◌, ◌<◌, ◌≤◌, ◌+◌, IfOk, IfSome, OnOk, [], false};
+ghost use Rattle.mapf_certificate.specs.Buffered.{spare};
+ghost use Rattle.mapf_certificate.specs.CertReading.{AreInOrder, MayFollow};
+ghost use Rattle.mapf_certificate.specs.Certificates.{line_text, entry_text, entries_text, block_text, blocks_text};
+ghost use Rattle.mapf_certificate.specs.Lines.{IsLine, width_of, grid_of};
+ghost use Rattle.mapf_certificate.specs.Window.{Window, BeginsWith, Fails};
+ghost use Rattle.mapf_certificate.specs.declared.line.Line.{Line};
+ghost use Rattle.mapf_model.specs.declared.label.Entry.{Entry};
+ghost use Rattle.mapf_model.specs.Blocks.{LabelBlock};
+ghost use Rattle.mapf_model.specs.Printed.{IsBefore, IsEntryInRange, IsBlockInRange};
+ghost use Rattle.std.specs.Io.KnownBytes.{IsAtEnd};
+ghost use Rattle.std.specs.Prelude.{◌≡◌, ◌<◌, ◌≤◌, ◌+◌, ◌↔◌, IsTrue, List, ℕ, AllPairs, IfOk, IfErr, IfSome, OnOk, [], false};
 
 use crate::buffer::{LineBuffer, NoLine};
 use crate::cert::{CertFault, LinesFault};
@@ -19,7 +27,9 @@ pub struct Lines {
 }
 
 /// Whether the second entry may follow the first in a block.
-fn are_rising(a: &Entry, b: &Entry) -> bool {
+fn are_rising(a: &Entry, b: &Entry) -> bool
+    ensures { IsTrue result ↔ IsBefore a.now b.now }
+{
     a.tick < b.tick || (a.tick == b.tick && a.cell.0 < b.cell.0)
 }
 
@@ -66,6 +76,8 @@ impl Lines {
         ensures nearer { OnOk result (spare self.new.buffer + 2 ≤ spare self.old.buffer) }
         ensures spare { spare self.new.buffer ≤ spare self.old.buffer }
         ensures line { IfOk result (λ line. IsLine due.now line) }
+        ensures taken { IfOk result (λ line. Window (S.remaining source.old) (S.remaining source.new) self.old.buffer self.new.buffer (line_text (width_of due.now) line)) }
+        ensures fails { IfErr result (Fails (S.remaining source.old) (S.remaining source.new) (S.has_failed source.new) self.old.buffer (BeginsWith Line (IsLine due.now) (line_text (width_of due.now)))) }
     {
         self.count = self.count.saturating_add(1);
         match self.buffer.ready(source) {
@@ -86,6 +98,10 @@ impl Lines {
         requires { S.has_failed source.old ≡ false }
         ensures works { OnOk result (S.has_failed source.new ≡ false) }
         ensures spare { spare self.new.buffer ≤ spare self.old.buffer }
+        ensures taken { OnOk result (Window (S.remaining source.old) (S.remaining source.new) self.old.buffer self.new.buffer []) }
+        ensures ended { OnOk result (IsAtEnd (S.remaining source.new)) }
+        ensures empty { OnOk result (self.new.buffer.bytes ≡ []) }
+        ensures fails { IfErr result (Fails (S.remaining source.old) (S.remaining source.new) (S.has_failed source.new) self.old.buffer (λ text. text ≡ [])) }
     {
         let line = self.count.saturating_add(1);
         if !self.buffer.is_empty() {
@@ -109,6 +125,9 @@ impl Lines {
         requires { S.has_failed source.old ≡ false }
         ensures works { OnOk result (S.has_failed source.new ≡ false) }
         ensures spare { spare self.new.buffer ≤ spare self.old.buffer }
+        ensures entries { IfOk result (λ entries. AreInOrder Entry (IsEntryInRange (grid_of sizes.now.width sizes.now.height)) IsBefore count entries.items) }
+        ensures taken { IfOk result (λ entries. Window (S.remaining source.old) (S.remaining source.new) self.old.buffer self.new.buffer (entries_text sizes.now.width entries.items)) }
+        ensures fails { IfErr result (Fails (S.remaining source.old) (S.remaining source.new) (S.has_failed source.new) self.old.buffer (BeginsWith (List Entry) (AreInOrder Entry (IsEntryInRange (grid_of sizes.now.width sizes.now.height)) IsBefore count) (entries_text sizes.now.width))) }
     {
         let mut entries = Vec::new(alloc);
         for _ in 0..count {
@@ -127,9 +146,13 @@ impl Lines {
         sizes: &Sizes,
         before: &[Entry],
     ) -> Result<Entry, LinesFault>
-        requires { S.has_failed source.old ≡ false }
+        requires works { S.has_failed source.old ≡ false }
+        requires rising { AllPairs IsBefore before.now }
         ensures works { OnOk result (S.has_failed source.new ≡ false) }
         ensures spare { spare self.new.buffer ≤ spare self.old.buffer }
+        ensures entry { IfOk result (λ entry. MayFollow Entry (IsEntryInRange (grid_of sizes.now.width sizes.now.height)) IsBefore before.now entry) }
+        ensures taken { IfOk result (λ entry. Window (S.remaining source.old) (S.remaining source.new) self.old.buffer self.new.buffer (entry_text sizes.now.width entry)) }
+        ensures fails { IfErr result (Fails (S.remaining source.old) (S.remaining source.new) (S.has_failed source.new) self.old.buffer (BeginsWith Entry (MayFollow Entry (IsEntryInRange (grid_of sizes.now.width sizes.now.height)) IsBefore before.now) (entry_text sizes.now.width))) }
     {
         let Line::At(entry) = self.next(source, &Due::Tree(*sizes))? else {
             return Err(self.misfit());
@@ -148,9 +171,13 @@ impl Lines {
         sizes: &Sizes,
         before: &[Block],
     ) -> Result<Block, LinesFault>
-        requires { S.has_failed source.old ≡ false }
+        requires works { S.has_failed source.old ≡ false }
+        requires rising { AllPairs (λ a b. a.agent < b.agent) before.now }
         ensures works { OnOk result (S.has_failed source.new ≡ false) }
         ensures spare { spare self.new.buffer ≤ spare self.old.buffer }
+        ensures block { IfOk result (λ block. MayFollow LabelBlock (IsBlockInRange (grid_of sizes.now.width sizes.now.height) sizes.now.agents) (λ a b. a.agent < b.agent) before.now block) }
+        ensures taken { IfOk result (λ block. Window (S.remaining source.old) (S.remaining source.new) self.old.buffer self.new.buffer (block_text sizes.now.width block)) }
+        ensures fails { IfErr result (Fails (S.remaining source.old) (S.remaining source.new) (S.has_failed source.new) self.old.buffer (BeginsWith LabelBlock (MayFollow LabelBlock (IsBlockInRange (grid_of sizes.now.width sizes.now.height) sizes.now.agents) (λ a b. a.agent < b.agent) before.now) (block_text sizes.now.width))) }
     {
         let Line::Agent { agent, entries } = self.next(source, &Due::Tree(*sizes))? else {
             return Err(self.misfit());
@@ -173,6 +200,9 @@ impl Lines {
         requires { S.has_failed source.old ≡ false }
         ensures works { OnOk result (S.has_failed source.new ≡ false) }
         ensures spare { spare self.new.buffer ≤ spare self.old.buffer }
+        ensures blocks { IfOk result (λ blocks. AreInOrder LabelBlock (IsBlockInRange (grid_of sizes.now.width sizes.now.height) sizes.now.agents) (λ a b. a.agent < b.agent) count blocks.items) }
+        ensures taken { IfOk result (λ blocks. Window (S.remaining source.old) (S.remaining source.new) self.old.buffer self.new.buffer (blocks_text sizes.now.width blocks.items)) }
+        ensures fails { IfErr result (Fails (S.remaining source.old) (S.remaining source.new) (S.has_failed source.new) self.old.buffer (BeginsWith (List LabelBlock) (AreInOrder LabelBlock (IsBlockInRange (grid_of sizes.now.width sizes.now.height) sizes.now.agents) (λ a b. a.agent < b.agent) count) (blocks_text sizes.now.width))) }
     {
         let mut blocks = Vec::new(alloc);
         for _ in 0..count {

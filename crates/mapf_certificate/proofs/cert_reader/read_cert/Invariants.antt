@@ -1,5 +1,5 @@
 use Rattle.std.proofs.Common.{◌≡◌, None, IsSome}
-use Rattle.mapf_certificate.specs.Window.{spare}
+use Rattle.mapf_certificate.specs.Buffered.{spare}
 use Rattle.mapf_certificate.proofs.cert_reader.read_cert.Given as goal
 
 abbrev pub invariant-loop-tree : goal.invariant-loop-tree

@@ -1,5 +1,5 @@
 use Rattle.std.proofs.Common.{◌≡◌, ◌≤◌, false}
-use Rattle.mapf_certificate.specs.Window.{spare}
+use Rattle.mapf_certificate.specs.Buffered.{spare}
 use Rattle.mapf_certificate.proofs.lines.Lines.blocks.Given as goal
 
 abbrev pub invariant-loop : goal.invariant-loop
