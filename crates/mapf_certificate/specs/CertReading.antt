@@ -45,22 +45,27 @@ pub record Awaits (remaining : Option (List ℕ)) (reading : Reading) (nodes : L
   pub known : remaining ≡ Some bytes
   pub rest : IsRest (grid_at reading) (agents_at reading) reading.owed nodes (reading.buffer.bytes ++ bytes)
 
+-- the bytes spell a header, then these nodes, which complete so many trees, and the end
+pub record IsCertText (grid : GridMap) (owed agents : ℕ) (claim : Claim) (nodes : List Node) (bytes : List ℕ) : Type 0 where
+  pub agents_in_range : IsAgentCount agents
+  pub claim_in_range : IsClaimInRange claim
+  pub after : List ℕ
+  pub spelled : bytes ≡ header_text grid.width agents claim ++ after
+  pub rest : IsRest grid agents owed nodes after
+
 -- what is in the buffer and then still comes from the source spells this header, then these nodes, and the end
 pub record AwaitsCert (remaining : Option (List ℕ)) (reading : Reading) (agents : ℕ) (claim : Claim) (nodes : List Node) : Type 0 where
   pub bytes : List ℕ
   pub known : remaining ≡ Some bytes
-  pub agents_in_range : IsAgentCount agents
-  pub claim_in_range : IsClaimInRange claim
-  pub after : List ℕ
-  pub spelled : reading.buffer.bytes ++ bytes ≡ header_text reading.width agents claim ++ after
-  pub rest : IsRest (grid_at reading) agents reading.owed nodes after
+  pub text : IsCertText (grid_at reading) reading.owed agents claim nodes (reading.buffer.bytes ++ bytes)
 
--- a header was read: its three lines were taken, and what follows it makes a certificate with it
+-- a header was read: its three lines were taken, and what follows it makes a certificate with it, where the source tells
+-- its bytes
 pub record TakesHeader (had left : Option (List ℕ)) (old new : Reading) (agents : ℕ) (claim : Claim) : Type 0 where
   pub agents_in_range : IsAgentCount agents
   pub claim_in_range : IsClaimInRange claim
   pub window : Window had left old.buffer new.buffer (header_text old.width agents claim)
-  pub joins : (nodes : List Node) → Awaits left new nodes → AwaitsCert had old agents claim nodes
+  pub joins : (bytes : List ℕ) → had ≡ Some bytes → (nodes : List Node) → Awaits left new nodes → AwaitsCert had old agents claim nodes
 
 -- these lines of a node follow this first line of it
 pub record CompletesNode (grid : GridMap) (agents : ℕ) (had left : Option (List ℕ)) (old new : Buffered) (line : Line) (node : Node) : Type 0 where
@@ -87,7 +92,7 @@ pub record ReadsEnd (had left : Option (List ℕ)) (old new : Reading) : Type 0 
 -- so the node is the next one: what completes the trees owed after it makes what completes those owed before it
 pub record TakesNode (had left : Option (List ℕ)) (old new : Reading) (node : Node) : Type 0 where
   pub read : ReadsNode had left old new node
-  pub joins : (nodes : List Node) → Awaits left new nodes → Awaits had old (node ∷ nodes)
+  pub joins : (bytes : List ℕ) → had ≡ Some bytes → (nodes : List Node) → Awaits left new nodes → Awaits had old (node ∷ nodes)
 
 -- so nothing was left but the end
 pub record TakesEnd (had left : Option (List ℕ)) (old new : Reading) : Type 0 where

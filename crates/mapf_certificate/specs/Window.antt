@@ -46,6 +46,24 @@ IsNoTextFault Device = Unit {0}
 IsNoTextFault TooLong = Unit {0}
 IsNoTextFault Memory = Unit {0}
 
+-- the fault is one of the text
+abbrev pub IsTextFault : LinesFault → Type 0
+IsTextFault (Text (texts.K1 line)) = Unit {0}
+IsTextFault (Text (texts.K2 line)) = Unit {0}
+IsTextFault (Text (texts.K3 line)) = Unit {0}
+IsTextFault (Text (texts.K4 line)) = Unit {0}
+IsTextFault (Text texts.Memory) = ⊥
+IsTextFault Device = ⊥
+IsTextFault TooLong = ⊥
+IsTextFault Memory = ⊥
+
+-- the fault that says why no line is there
+abbrev pub Tells : NoLine → LinesFault → Type 0
+Tells stops.Ended fault = IsTextFault fault
+Tells stops.Overlong fault = IsTextFault fault
+Tells stops.Device fault = fault ≡ Device
+Tells stops.PastLimit fault = fault ≡ TooLong
+
 -- the bytes begin with a spelled value
 pub record BeginsWith (A : Type 0) (Is : A → Type 0) (text : A → List ℕ) (bytes : List ℕ) : Type 0 where
   pub value : A

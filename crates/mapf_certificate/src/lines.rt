@@ -2,13 +2,13 @@ ghost use Rattle.mapf_certificate.specs.Buffered.{spare};
 ghost use Rattle.mapf_certificate.specs.CertReading.{AreInOrder, MayFollow};
 ghost use Rattle.mapf_certificate.specs.Certificates.{line_text, entry_text, entries_text, block_text, blocks_text};
 ghost use Rattle.mapf_certificate.specs.Lines.{IsLine, width_of, grid_of};
-ghost use Rattle.mapf_certificate.specs.Window.{Window, BeginsWith, Fails};
+ghost use Rattle.mapf_certificate.specs.Window.{Window, BeginsWith, Fails, IsTextFault, Tells};
 ghost use Rattle.mapf_certificate.specs.declared.line.Line.{Line};
 ghost use Rattle.mapf_model.specs.declared.label.Entry.{Entry};
 ghost use Rattle.mapf_model.specs.Blocks.{LabelBlock};
 ghost use Rattle.mapf_model.specs.Printed.{IsBefore, IsEntryInRange, IsBlockInRange};
 ghost use Rattle.std.specs.Io.KnownBytes.{IsAtEnd};
-ghost use Rattle.std.specs.Prelude.{◌≡◌, ◌<◌, ◌≤◌, ◌+◌, ◌↔◌, IsTrue, List, ℕ, AllPairs, IfOk, IfErr, IfSome, OnOk, [], false};
+ghost use Rattle.std.specs.Prelude.{◌≡◌, ◌<◌, ◌≤◌, ◌+◌, ◌↔◌, IsTrue, List, ℕ, All, AllPairs, IfOk, IfErr, IfSome, OnOk, [], false};
 
 use crate::buffer::{LineBuffer, NoLine};
 use crate::cert::{CertFault, LinesFault};
@@ -33,14 +33,40 @@ fn are_rising(a: &Entry, b: &Entry) -> bool
     a.tick < b.tick || (a.tick == b.tick && a.cell.0 < b.cell.0)
 }
 
-fn fault_of_line(line: u64, fault: LineFault) -> LinesFault {
+/// Whether the entry may come after these.
+fn follows_entries(before: &[Entry], entry: &Entry) -> bool
+    requires { AllPairs IsBefore before.now }
+    ensures { IsTrue result ↔ All (λ b. IsBefore b entry.now) before.now }
+{
+    match before.last() {
+        Some(last) => are_rising(last, entry),
+        None => true,
+    }
+}
+
+/// Whether a block of this agent may come after these.
+fn follows_blocks(before: &[Block], agent: u32) -> bool
+    requires { AllPairs (λ a b. a.agent < b.agent) before.now }
+    ensures { IsTrue result ↔ All (λ b. b.agent < agent) before.now }
+{
+    match before.last() {
+        Some(last) => last.agent < agent,
+        None => true,
+    }
+}
+
+fn fault_of_line(line: u64, fault: LineFault) -> LinesFault
+    ensures { IsTextFault result }
+{
     match fault {
         LineFault::Shape => LinesFault::Text(CertFault::K1(line)),
         LineFault::Range => LinesFault::Text(CertFault::K3(line)),
     }
 }
 
-fn fault_without_line(line: u64, why: NoLine) -> LinesFault {
+fn fault_without_line(line: u64, why: NoLine) -> LinesFault
+    ensures { Tells why result }
+{
     match why {
         NoLine::Ended => LinesFault::Text(CertFault::K2(line)),
         NoLine::Overlong => LinesFault::Text(CertFault::K1(line)),
@@ -65,7 +91,9 @@ impl Lines {
     }
 
     /// The line that was taken last doesn't fit where it stands.
-    pub fn misfit(&self) -> LinesFault {
+    pub fn misfit(&self) -> LinesFault
+        ensures { IsTextFault result }
+    {
         LinesFault::Text(CertFault::K1(self.count))
     }
 
@@ -130,7 +158,7 @@ impl Lines {
         ensures fails { IfErr result (Fails (S.remaining source.old) (S.remaining source.new) (S.has_failed source.new) self.old.buffer (BeginsWith (List Entry) (AreInOrder Entry (IsEntryInRange (grid_of sizes.now.width sizes.now.height)) IsBefore count) (entries_text sizes.now.width))) }
     {
         let mut entries = Vec::new(alloc);
-        for _ in 0..count {
+        for _taken in 0..count {
             let entry = self.entry(source, sizes, &entries)?;
             if entries.push(entry).is_err() {
                 return Err(LinesFault::Memory);
@@ -157,10 +185,10 @@ impl Lines {
         let Line::At(entry) = self.next(source, &Due::Tree(*sizes))? else {
             return Err(self.misfit());
         };
-        match before.last() {
-            Some(last) if !are_rising(last, &entry) => Err(self.misfit()),
-            _ => Ok(entry),
+        if !follows_entries(before, &entry) {
+            return Err(self.misfit());
         }
+        Ok(entry)
     }
 
     /// The next block after these.
@@ -182,7 +210,7 @@ impl Lines {
         let Line::Agent { agent, entries } = self.next(source, &Due::Tree(*sizes))? else {
             return Err(self.misfit());
         };
-        if matches!(before.last(), Some(last) if agent <= last.agent) {
+        if !follows_blocks(before, agent) {
             return Err(self.misfit());
         }
         let entries = self.entries(alloc, source, sizes, entries)?;
@@ -205,7 +233,7 @@ impl Lines {
         ensures fails { IfErr result (Fails (S.remaining source.old) (S.remaining source.new) (S.has_failed source.new) self.old.buffer (BeginsWith (List LabelBlock) (AreInOrder LabelBlock (IsBlockInRange (grid_of sizes.now.width sizes.now.height) sizes.now.agents) (λ a b. a.agent < b.agent) count) (blocks_text sizes.now.width))) }
     {
         let mut blocks = Vec::new(alloc);
-        for _ in 0..count {
+        for _taken in 0..count {
             let block = self.block(alloc, source, sizes, &blocks)?;
             if blocks.push(block).is_err() {
                 return Err(LinesFault::Memory);
