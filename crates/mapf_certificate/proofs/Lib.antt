@@ -13,3 +13,7 @@ pub mod Windows
 pub mod LineWindows
 pub mod Sequences
 pub mod Blocks
+pub mod Nodes
+pub mod EndWindows
+pub mod Rests
+pub mod Readings

@@ -1,5 +1,5 @@
 ghost use Rattle.mapf_certificate.specs.Buffered.{spare};
-ghost use Rattle.mapf_certificate.specs.CertReading.{HasHeader, IsRestAt, Awaits, AwaitsCert, TakesHeader, TakesNode, TakesEnd, ReadsNode, ReadsEnd, CompletesNode, owed_after};
+ghost use Rattle.mapf_certificate.specs.CertReading.{HasHeader, IsRestAt, Awaits, AwaitsCert, TakesHeader, TakesNode, TakesEnd, ReadsEnd, CompletesNode, owed_after};
 ghost use Rattle.mapf_certificate.specs.Certificates.{IsNode, line_text, node_text, header_text};
 ghost use Rattle.mapf_certificate.specs.Lines.{IsAgentCount, IsTreeLine, grid_of};
 ghost use Rattle.mapf_certificate.specs.Reading.{Reading};
@@ -10,8 +10,7 @@ ghost use Rattle.mapf_model.specs.declared.item.Claim.{Claim};
 ghost use Rattle.mapf_model.specs.Printed.{IsClaimInRange};
 ghost use Rattle.mapf_model.specs.Tree.{Node, node_of};
 ghost use Rattle.std.specs.Io.KnownBytes.{IsAtEnd};
-ghost use Rattle.std.specs.Option.{ForSome};
-ghost use Rattle.std.specs.Prelude.{[], ◌∷◌, ◌++◌, ℕ, List, Some, true, IfErr, ◌^◌, ◌≡◌, ◌<◌, ◌≤◌, ◌+◌, IfOk, IfSome, IsSome, OnOk, None, false, MatchOption, MatchResult};
+ghost use Rattle.std.specs.Prelude.{[], ◌∷◌, ◌++◌, ℕ, List, Some, true, IfErr, ◌^◌, ◌≡◌, ◌<◌, ◌≤◌, ◌+◌, IfOk, IfSome, IsSome, IsSomeAnd, OnOk, None, false, MatchOption, MatchResult};
 
 use crate::cert::LinesFault;
 use crate::line::Line;
@@ -156,7 +155,7 @@ impl CertLines {
         ensures end { self.old.fault ≡ None → self.old.is_whole ≡ false → IfOk result (λ o. o ≡ None → TakesEnd (S.remaining source.old) (S.remaining source.new) self.old self.new) }
         ensures fails { self.old.fault ≡ None → IfErr result (Fails (S.remaining source.old) (S.remaining source.new) (S.has_failed source.new) self.old.buffer (IsRestAt self.old)) }
         ensures only_item { (node : Node) (nodes : List Node) → self.old.fault ≡ None → self.old.is_whole ≡ false → Awaits (S.remaining source.old) self.old (node ∷ nodes)
-            → MatchResult result (λ o. ForSome o (λ item. (node_of item ≡ node) × Awaits (S.remaining source.new) self.new nodes)) IsNoTextFault }
+            → MatchResult result (λ o. IsSomeAnd o (λ item. (node_of item ≡ node) × Awaits (S.remaining source.new) self.new nodes)) IsNoTextFault }
         ensures only_end { self.old.fault ≡ None → self.old.is_whole ≡ false → Awaits (S.remaining source.old) self.old [] → MatchResult result (λ o. o ≡ None) IsNoTextFault }
 
         ensures grid { (self.new.width ≡ self.old.width) × (self.new.height ≡ self.old.height) }
@@ -192,9 +191,11 @@ impl CertLines {
         ensures header { self.new.header ≡ self.old.header }
         ensures part { self.new.is_whole ≡ self.old.is_whole }
         ensures grid { (self.new.width ≡ self.old.width) × (self.new.height ≡ self.old.height) }
-        ensures item { IfOk result (λ o. IfSome o (λ item. ReadsNode (S.remaining source.old) (S.remaining source.new) self.old self.new (node_of item))) }
+        ensures item { IfOk result (λ o. IfSome o (λ item. TakesNode (S.remaining source.old) (S.remaining source.new) self.old self.new (node_of item))) }
         ensures end { IfOk result (λ o. o ≡ None → ReadsEnd (S.remaining source.old) (S.remaining source.new) self.old self.new) }
         ensures fails { IfErr result (Fails (S.remaining source.old) (S.remaining source.new) (S.has_failed source.new) self.old.buffer (IsRestAt self.old)) }
+        ensures same { (node : Node) (nodes : List Node) → Awaits (S.remaining source.old) self.old (node ∷ nodes)
+            → IfOk result (λ o. IfSome o (λ item. (node_of item ≡ node) × Awaits (S.remaining source.new) self.new nodes)) }
         ensures works { OnOk result (S.has_failed source.new ≡ false) }
         ensures nearer { OnOk result (spare self.new.buffer < spare self.old.buffer) }
     {
