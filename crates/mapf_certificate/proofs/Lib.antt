@@ -17,3 +17,4 @@ pub mod Nodes
 pub mod EndWindows
 pub mod Rests
 pub mod Readings
+pub mod Headers
