@@ -18,3 +18,5 @@ pub mod EndWindows
 pub mod Rests
 pub mod Readings
 pub mod Headers
+pub mod CertTexts
+pub mod Collecting

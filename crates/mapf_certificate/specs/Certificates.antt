@@ -1,12 +1,12 @@
 -- How a certificate is spelled.
-use Rattle.std.specs.Prelude.{◌≡◌, ℕ, ◌<◌, ◌≤◌, List, [], ◌∷◌, ◌++◌, length, All}
+use Rattle.std.specs.Prelude.{◌≡◌, ℕ, ◌<◌, List, [], ◌∷◌, ◌++◌, length, All}
 use Rattle.std.specs.List.{flat_map}
 use Rattle.mapf_model.specs.declared.item.Claim.{Claim}
 use Rattle.mapf_model.specs.declared.item.Item.{Item}
 use Rattle.mapf_model.specs.declared.conflict.Conflict.TheVariants as conflicts
 use Rattle.mapf_model.specs.declared.label.Entry.{Entry}
 use Rattle.mapf_model.specs.Blocks.{LabelBlock}
-use Rattle.mapf_model.specs.Grid.{GridMap}
+use Rattle.mapf_model.specs.Grid.{GridMap, IsGridMap}
 use Rattle.mapf_model.specs.Printed.{IsConflictInRange, AreBlocksInRange, IsClaimInRange, IsTreeInRange}
 use Rattle.mapf_model.specs.Tree.{ConstraintTree, Node, SplitNode, LeafNode, ClashNode, node_of, nodes_of, nodes_of_all}
 use Rattle.mapf_certificate.specs.declared.line.Line.{Line}
@@ -72,5 +72,5 @@ pub record IsRest (grid : GridMap) (agents owed : ℕ) (nodes : List Node) (byte
 
 -- no bytes spell two certificates
 abbrev pub SpellsOneCert : Type 0
-SpellsOneCert = (grid : GridMap) (bytes : List ℕ) (agents agents' : ℕ) (claim claim' : Claim) (tree tree' : ConstraintTree) → 1 ≤ grid.width → grid.width ≤ 2048 → 1 ≤ grid.height → grid.height ≤ 2048
+SpellsOneCert = (grid : GridMap) (bytes : List ℕ) (agents agents' : ℕ) (claim claim' : Claim) (tree tree' : ConstraintTree) → IsGridMap grid
     → SpellsCert grid bytes agents claim tree → SpellsCert grid bytes agents' claim' tree' → (agents ≡ agents') × (claim ≡ claim') × (tree ≡ tree')

@@ -46,6 +46,13 @@ IsNoTextFault Device = Unit {0}
 IsNoTextFault TooLong = Unit {0}
 IsNoTextFault Memory = Unit {0}
 
+-- what stops a reader other than the text: the source failed, or too many bytes came, or memory was refused
+abbrev pub Stops : Option (List ℕ) → Option (List ℕ) → Bool → Buffered → LinesFault → Type 0
+Stops had left failed buffer (Text fault) = Unit {0}
+Stops had left failed buffer Device = failed ≡ true
+Stops had left failed buffer TooLong = Exceeds had left buffer
+Stops had left failed buffer Memory = Unit {0}
+
 -- the fault is one of the text
 abbrev pub IsTextFault : LinesFault → Type 0
 IsTextFault (Text (texts.K1 line)) = Unit {0}
