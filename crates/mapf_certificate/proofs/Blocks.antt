@@ -1,9 +1,9 @@
 -- Entries and blocks in a certificate's text.
-use Rattle.std.proofs.Common.{◌≡◌, ℕ, ◌<◌, ◌≤◌, ◌+◌, ◌^◌, ◌⊎◌, List, [], ◌∷◌, ◌++◌, length, All, AllPairs, Option, Bool, refl, sym, ap, subst, ◌∙◌, arith, append_assoc, inl, inr}
+use Rattle.std.proofs.Common.{◌≡◌, ℕ, ◌<◌, List, ◌++◌, length, All, Option, Bool, refl, sym, ap, subst, ◌∙◌, arith, append_assoc, inl, inr}
 use Rattle.mapf_model.specs.declared.label.Entry.{Entry}
 use Rattle.mapf_model.specs.Blocks.{LabelBlock}
 use Rattle.mapf_model.specs.Grid.{GridMap}
-use Rattle.mapf_model.specs.Printed.{IsBefore, IsEntryInRange, IsBlockInRange, AreBlocksInRange}
+use Rattle.mapf_model.specs.Printed.{IsBefore, IsEntryInRange, IsBlockInRange}
 use Rattle.mapf_certificate.specs.declared.line.Line.{Line}
 use Rattle.mapf_certificate.specs.declared.line.Line.TheVariants as lines
 use Rattle.mapf_certificate.specs.declared.sizes.Sizes.{Sizes}
@@ -67,7 +67,7 @@ blocks_apart sizes = record { apart = by }
         let first : Line = lines.Agent a.agent (length a.entries) in
         let second : Line = lines.Agent b.agent (length b.entries) in
         let e' : line_text w first ++ (entries_text w a.entries ++ s) ≡ line_text w second ++ (entries_text w b.entries ++ t) =
-            sym (append_assoc (line_text w first) (entries_text w a.entries) s) ∙ e ∙ append_assoc (line_text w second) (entries_text w b.entries) t in
+        sym (append_assoc (line_text w first) (entries_text w a.entries) s) ∙ e ∙ append_assoc (line_text w second) (entries_text w b.entries) t in
         let (same, more) = same_line (dues.Tree sizes) first second (entries_text w a.entries ++ s) (entries_text w b.entries ++ t) (agent_line sizes a p) (agent_line sizes b q) e' in
         let (agent, count) = agent_same a.agent b.agent (length a.entries) (length b.entries) same in
         let (entries, rest) = same_list (InRange sizes) (entry_text w) (entries_apart sizes) a.entries b.entries s t p.entries q.entries count more in
@@ -100,13 +100,17 @@ unfolding block_is_line
 block_fits sizes before line more is begins =
     let block = begins.value in
     let begun = block_is_line sizes before (line_text sizes.width line ++ more) begins in
-    let (same, rest) = same_line (dues.Tree sizes) line begun.value more begun.rest is begun.is begun.spelled in
-    (block, same, begins.is, record {
-      value = block.entries;
-      is = record { many = refl; each = begins.is.0.entries; rising = begins.is.0.rising };
-      rest = begins.rest;
-      spelled = rest;
-    })
+    let (same, rest) = same_line (dues.Tree sizes) line begun.value more begun.rest is begun.is begun.spelled in (
+      block,
+      same,
+      begins.is,
+      record {
+        value = block.entries;
+        is = record { many = refl; each = begins.is.0.entries; rising = begins.is.0.rising };
+        rest = begins.rest;
+        spelled = rest;
+      },
+    )
 
 -- after a block's line its entries are due
 pub entries_due : (sizes : Sizes) (before : List LabelBlock) (agent count : ℕ) (more : List ℕ) → IsLine (dues.Tree sizes) (lines.Agent agent count) → NextBlock sizes before (line_text sizes.width (lines.Agent agent count) ++ more)
@@ -117,13 +121,16 @@ entries_due sizes before agent count more is begins =
 
 pub block_is : (sizes : Sizes) (before : List LabelBlock) (agent count : ℕ) (entries : List Entry) → IsLine (dues.Tree sizes) (lines.Agent agent count) → AreInOrder Entry (InRange sizes) IsBefore count entries
     → All (λ b. b.agent < agent) before → MayFollow LabelBlock (BlockInRange sizes) Rises before (record { agent = agent; entries = entries })
-block_is sizes before agent count entries (inside, some, few) are above = (record {
-  agent = inside;
-  some = omega (arith, are.many);
-  few = omega (arith, are.many);
-  entries = are.each;
-  rising = are.rising;
-}, above)
+block_is sizes before agent count entries (inside, some, few) are above = (
+  record {
+    agent = inside;
+    some = omega (arith, are.many);
+    few = omega (arith, are.many);
+    entries = are.each;
+    rising = are.rising;
+  },
+  above,
+)
 
 pub before_trans : (a b c : Entry) → IsBefore a b → IsBefore b c → IsBefore a c
 before_trans a b c (inl p) (inl q) = inl (omega arith)
@@ -136,25 +143,25 @@ pub misfit_entry : (sizes : Sizes) (before : List Entry) (a b : Option (List ℕ
     → Window a b x y (line_text sizes.width line) → line ≡ lines.At entry → (All (λ e. IsBefore e entry) before → ⊥) → Fails a b failed x (NextEntry sizes before) fault
 misfit_entry sizes before a b failed x y line entry fault is ranged window same never =
     Fails-text a b failed x (NextEntry sizes before) fault is (Refuses-taken a b x y (line_text sizes.width line) (NextEntry sizes before) window (λ more begins.
-        let (e, fits, follows) = entry_fits sizes before line more ranged begins in
-        let one : e ≡ entry = at_same e entry (sym fits ∙ same) in
-        never (subst (λ (v : Entry). All (λ d. IsBefore d v) before) one follows.1)))
+    let (e, fits, follows) = entry_fits sizes before line more ranged begins in
+    let one : e ≡ entry = at_same e entry (sym fits ∙ same) in
+    never (subst (λ (v : Entry). All (λ d. IsBefore d v) before) one follows.1)))
 
 -- a block of an agent that may not follow
 pub misfit_block : (sizes : Sizes) (before : List LabelBlock) (a b : Option (List ℕ)) (failed : Bool) (x y : Buffered) (line : Line) (agent count : ℕ) (fault : LinesFault) → IsTextFault fault → IsLine (dues.Tree sizes) line
     → Window a b x y (line_text sizes.width line) → line ≡ lines.Agent agent count → (All (λ d. d.agent < agent) before → ⊥) → Fails a b failed x (NextBlock sizes before) fault
 misfit_block sizes before a b failed x y line agent count fault is ranged window same never =
     Fails-text a b failed x (NextBlock sizes before) fault is (Refuses-taken a b x y (line_text sizes.width line) (NextBlock sizes before) window (λ more begins.
-        let (block, fits, follows, next) = block_fits sizes before line more ranged begins in
-        let one : block.agent ≡ agent = (agent_same block.agent agent (length block.entries) count (sym fits ∙ same)).0 in
-        never (subst (λ (n : ℕ). All (λ d. d.agent < n) before) one follows.1)))
+    let (block, fits, follows, next) = block_fits sizes before line more ranged begins in
+    let one : block.agent ≡ agent = (agent_same block.agent agent (length block.entries) count (sym fits ∙ same)).0 in
+    never (subst (λ (n : ℕ). All (λ d. d.agent < n) before) one follows.1)))
 
 -- a block whose entries are refused
 pub fails_in_entries : (sizes : Sizes) (before : List LabelBlock) (a b c : Option (List ℕ)) (failed : Bool) (x y : Buffered) (line : Line) (agent count : ℕ) (fault : LinesFault) → IsLine (dues.Tree sizes) line
     → Window a b x y (line_text sizes.width line) → line ≡ lines.Agent agent count → Fails b c failed y (NextEntries sizes count) fault → Fails a c failed x (NextBlock sizes before) fault
 fails_in_entries sizes before a b c failed x y line agent count fault ranged window same fails =
     Fails-after a b c failed x y (line_text sizes.width line) (NextBlock sizes before) (NextEntries sizes count) fault window
-        (λ more begins. entries_due sizes before agent count more (subst (IsLine (dues.Tree sizes)) same ranged) (subst (λ (l : Line). NextBlock sizes before (line_text sizes.width l ++ more)) same begins)) fails
+    (λ more begins. entries_due sizes before agent count more (subst (IsLine (dues.Tree sizes)) same ranged) (subst (λ (l : Line). NextBlock sizes before (line_text sizes.width l ++ more)) same begins)) fails
 
 -- a block's line and its entries
 pub block_window : (sizes : Sizes) (a b c : Option (List ℕ)) (x y z : Buffered) (line : Line) (agent count : ℕ) (entries : List Entry) → Window a b x y (line_text sizes.width line) → line ≡ lines.Agent agent count → length entries ≡ count

@@ -1,15 +1,14 @@
 -- Whole certificates: what a reader awaits, and what bytes spell.
-use Rattle.std.proofs.Common.{◌≡◌, ℕ, ◌<◌, ◌≤◌, ◌+◌, ◌*◌, List, [], ◌∷◌, ◌++◌, length, All, Bool, false, Option, Some, None, refl, sym, ap, subst, ◌∙◌, arith, append_assoc, inl, inr}
+use Rattle.std.proofs.Common.{◌≡◌, ℕ, ◌<◌, ◌*◌, List, [], ◌∷◌, ◌++◌, length, All, false, Option, Some, None, refl, sym, ap, subst, ◌∙◌, arith, inl, inr}
 use Rattle.std.proofs.lemmas.List.{append-nil}
-use Rattle.std.proofs.lemmas.List.Elements.{All-head, All-cons, All-nil, All-weaker}
+use Rattle.std.proofs.lemmas.List.Elements.{All-head, All-cons, All-nil}
 use Rattle.std.proofs.lemmas.Bool.{cases_lt}
 use Rattle.mapf_model.specs.declared.item.Claim.{Claim}
 use Rattle.mapf_model.specs.declared.conflict.Conflict.{Conflict}
 use Rattle.mapf_model.specs.declared.conflict.Conflict.TheVariants as conflicts
-use Rattle.mapf_model.specs.declared.label.Entry.{Entry}
 use Rattle.mapf_model.specs.Blocks.{LabelBlock}
-use Rattle.mapf_model.specs.Grid.{GridMap, IsGridMap}
-use Rattle.mapf_model.specs.Printed.{IsEntryInRange, IsConflictInRange, IsBlockInRange, AreBlocksInRange, IsTreeInRange}
+use Rattle.mapf_model.specs.Grid.{GridMap}
+use Rattle.mapf_model.specs.Printed.{IsConflictInRange, IsBlockInRange, AreBlocksInRange, IsTreeInRange}
 use Rattle.mapf_model.specs.Tree.{ConstraintTree, Split, Leaf, Clash, Node, nodes_of, nodes_of_all}
 use Rattle.mapf_model.proofs.ItemLemmas.{cut}
 use Rattle.mapf_certificate.specs.declared.sizes.Sizes.{Sizes}
@@ -61,13 +60,16 @@ spells_from_text grid other agents claim nodes bytes sized text = by text.rest.t
     by : (trees : List ConstraintTree) → length trees ≡ 1 → All (IsTreeInRange other agents) trees → nodes ≡ nodes_of_all trees → (tree : ConstraintTree) × SpellsCert grid bytes agents claim tree × (nodes ≡ nodes_of tree)
     by [] count all same = absurd (omega arith)
     by (tree ∷ []) count all same =
-        let one : nodes ≡ nodes_of tree = same ∙ append-nil (nodes_of tree) in
-        (tree, record {
-          agents_in_range = text.agents_in_range;
-          claim_in_range = text.claim_in_range;
-          tree_in_range = tree_moved other grid sized agents tree (All-head (IsTreeInRange other agents) tree [] all);
-          spelled = text.spelled ∙ ap (λ l. header_text other.width agents claim ++ l) (text.rest.spelled ∙ ap (rest_text other.width) one) ∙ ap (λ w. cert_text w agents claim (nodes_of tree)) sized.width;
-        }, one)
+        let one : nodes ≡ nodes_of tree = same ∙ append-nil (nodes_of tree) in (
+          tree,
+          record {
+            agents_in_range = text.agents_in_range;
+            claim_in_range = text.claim_in_range;
+            tree_in_range = tree_moved other grid sized agents tree (All-head (IsTreeInRange other agents) tree [] all);
+            spelled = text.spelled ∙ ap (λ l. header_text other.width agents claim ++ l) (text.rest.spelled ∙ ap (rest_text other.width) one) ∙ ap (λ w. cert_text w agents claim (nodes_of tree)) sized.width;
+          },
+          one,
+        )
     by (tree ∷ more ∷ trees) count all same = absurd (omega arith)
 
 pub text_from_spells : (grid other : GridMap) (agents : ℕ) (claim : Claim) (tree : ConstraintTree) (bytes : List ℕ) → AreSized grid other → SpellsCert grid bytes agents claim tree → IsCertText other 1 agents claim (nodes_of tree) bytes
@@ -112,8 +114,10 @@ same_rest sizes owed (n ∷ ns) ms t u p q e = elim (cases_lt 0 owed) [
   where
     head_same : (x y : Node) (xs ys : List Node) → y ∷ ys ≡ x ∷ xs → x ≡ y
     head_same x y xs ys e = cc
+
     tail_same : (x y : Node) (xs ys : List Node) → y ∷ ys ≡ x ∷ xs → xs ≡ ys
     tail_same x y xs ys e = cc
+
     not_none : (x : Node) (xs : List Node) → x ∷ xs ≡ [] → ⊥
     not_none x xs e = cc
 

@@ -1,10 +1,9 @@
 -- Items collected one after another.
-use Rattle.std.proofs.Common.{◌≡◌, ℕ, ◌+◌, ◌≤◌, Bool, true, false, length, List, [], ◌∷◌, ◌++◌, Option, Some, None, Result, Err, MatchResult, refl, sym, ap, subst, ◌∙◌, append_assoc}
+use Rattle.std.proofs.Common.{◌≡◌, ℕ, ◌≤◌, Bool, false, length, List, [], ◌∷◌, ◌++◌, Option, Some, Result, Err, MatchResult, refl, sym, ap, subst, ◌∙◌, append_assoc}
 use Rattle.std.proofs.lemmas.Bool.{false≢true}
 use Rattle.std.proofs.lemmas.List.{append-nil}
 use Rattle.mapf_model.specs.declared.item.Claim.{Claim}
 use Rattle.mapf_model.specs.Tree.{Node}
-use Rattle.mapf_certificate.specs.declared.cert.CertFault.TheVariants as texts
 use Rattle.mapf_certificate.specs.declared.cert.LinesFault.{LinesFault}
 use Rattle.mapf_certificate.specs.declared.cert.LinesFault.TheVariants.{Text, Device, TooLong, Memory}
 use Rattle.mapf_certificate.specs.Buffered.{Buffered}
@@ -45,6 +44,7 @@ collected_more start mid now opened r s agents claim seen new node before takes 
   where
     after : (nodes : List Node) → new ++ nodes ≡ seen ++ (node ∷ nodes)
     after nodes = ap (λ l. l ++ nodes) grown ∙ append_assoc seen (node ∷ []) nodes
+
     by : (all nodes : List Node) → all ≡ seen ++ nodes → Awaits mid r nodes → (more : List Node) × (all ≡ new ++ more) × Awaits now s more
     by all [] e next = absurd (ends next)
     by all (due ∷ nodes) e next =

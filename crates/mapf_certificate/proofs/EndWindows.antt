@@ -1,5 +1,5 @@
 -- The end of a source.
-use Rattle.std.proofs.Common.{◌≡◌, ℕ, ◌<◌, ◌≤◌, ◌+◌, List, [], ◌∷◌, ◌++◌, length, Option, Bool, true, false, refl, sym, ap, subst, ◌∙◌, arith, append_assoc, inl, inr, length-append}
+use Rattle.std.proofs.Common.{◌≡◌, ℕ, ◌<◌, List, [], ◌∷◌, ◌++◌, length, Option, Bool, refl, sym, ap, subst, arith, inl, length-append}
 use Rattle.std.proofs.KnownBytes.{Consumes-nil}
 use Rattle.mapf_certificate.specs.declared.buffer.NoLine.{NoLine}
 use Rattle.mapf_certificate.specs.declared.buffer.NoLine.TheVariants as stops

@@ -1,5 +1,5 @@
 -- The header of a certificate.
-use Rattle.std.proofs.Common.{◌≡◌, ℕ, ◌<◌, ◌≤◌, ◌+◌, Bool, List, [], ◌∷◌, ◌++◌, codes, Option, Some, None, refl, sym, ap, subst, ◌∙◌, append_assoc}
+use Rattle.std.proofs.Common.{◌≡◌, ℕ, Bool, List, ◌++◌, Option, Some, refl, sym, ap, subst, ◌∙◌, append_assoc}
 use Rattle.mapf_model.specs.declared.item.Claim.{Claim}
 use Rattle.mapf_model.specs.declared.item.Claim.TheVariants as claims
 use Rattle.mapf_model.specs.Grid.{GridMap}
@@ -10,15 +10,14 @@ use Rattle.mapf_certificate.specs.declared.line.Line.{Line}
 use Rattle.mapf_certificate.specs.declared.line.Line.TheVariants as lines
 use Rattle.mapf_certificate.specs.declared.tree_line.Due.TheVariants as dues
 use Rattle.mapf_certificate.specs.Buffered.{Buffered}
-use Rattle.mapf_certificate.specs.Lines.{IsLine, IsAgentCount, words}
+use Rattle.mapf_certificate.specs.Lines.{IsLine, IsAgentCount}
 use Rattle.mapf_certificate.specs.Certificates.{line_text, header_text, IsRest}
 use Rattle.mapf_certificate.specs.Reading.{Reading, grid_at, agents_at}
-use Rattle.mapf_certificate.specs.CertReading.{HasHeader, Awaits, AwaitsCert, IsCertText}
-use Rattle.mapf_certificate.specs.Window.{Window, BeginsWith, Fails, IsNoTextFault}
+use Rattle.mapf_certificate.specs.CertReading.{HasHeader, Awaits, AwaitsCert}
+use Rattle.mapf_certificate.specs.Window.{Window, Fails, IsNoTextFault}
 use Rattle.mapf_certificate.proofs.PlainLines.{same_line}
 use Rattle.mapf_certificate.proofs.Windows.{Window-trans, Window-known, Fails-after, Fails-weaker, Fails-not}
 use Rattle.mapf_certificate.proofs.LineWindows.{IsNext}
-use Rattle.mapf_certificate.proofs.Sequences.{AreApart}
 
 -- only a claim's line could hang on the width, and it doesn't
 claim_words : (width : ℕ) (claim : Claim) → line_text width (lines.Claim claim) ≡ line_text 1 (lines.Claim claim)
@@ -75,14 +74,14 @@ pub fails_in_claim : (width : ℕ) (had one mid left : Option (List ℕ)) (faile
     → Window had one x y (line_text 1 first) → Window one mid y z (line_text 1 second) → Fails mid left failed z (IsNext dues.Claim) fault → Fails had left failed x (HasHeader width) fault
 fails_in_claim width had one mid left failed x y z first second fault is_first is_second window more fails =
     Fails-after had one left failed x y (line_text 1 first) (HasHeader width) Counted fault window (λ t has. after_title width first t is_first has)
-        (Fails-after one mid left failed y z (line_text 1 second) Counted (IsNext dues.Claim) fault more (λ t counted. after_agents second t is_second counted) fails)
+    (Fails-after one mid left failed y z (line_text 1 second) Counted (IsNext dues.Claim) fault more (λ t counted. after_agents second t is_second counted) fails)
 
 pub header_window : (width : ℕ) (had one mid left : Option (List ℕ)) (x y z w : Buffered) (first second third : Line) (agents : ℕ) (claim : Claim) → Window had one x y (line_text 1 first) → Window one mid y z (line_text 1 second) → Window mid left z w (line_text 1 third)
     → IsLine dues.Title first → second ≡ lines.Agents agents → third ≡ lines.Claim claim → Window had left x w (header_text width agents claim)
 header_window width had one mid left x y z w first second third agents claim p q r is_first is_second is_third =
     let last : line_text 1 third ≡ line_text width (lines.Claim claim) = ap (line_text 1) is_third ∙ sym (claim_words width claim) in
     let all : line_text 1 first ++ (line_text 1 second ++ line_text 1 third) ≡ header_text width agents claim =
-        ap (λ l. line_text 1 first ++ (line_text 1 second ++ l)) last ∙ ap (λ l. line_text 1 first ++ (line_text 1 l ++ line_text width (lines.Claim claim))) is_second ∙ ap (λ l. line_text 1 l ++ (line_text 1 (lines.Agents agents) ++ line_text width (lines.Claim claim))) is_first in
+    ap (λ l. line_text 1 first ++ (line_text 1 second ++ l)) last ∙ ap (λ l. line_text 1 first ++ (line_text 1 l ++ line_text width (lines.Claim claim))) is_second ∙ ap (λ l. line_text 1 l ++ (line_text 1 (lines.Agents agents) ++ line_text width (lines.Claim claim))) is_first in
     subst (Window had left x w) all (Window-trans had one left x y w (line_text 1 first) (line_text 1 second ++ line_text 1 third) p (Window-trans one mid left y z w (line_text 1 second) (line_text 1 third) q r))
 
 agents_same : (a b : ℕ) → lines.Agents a ≡ lines.Agents b → a ≡ b

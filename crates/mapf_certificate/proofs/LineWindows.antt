@@ -1,14 +1,12 @@
 -- What refuses a line that is due.
-use Rattle.std.proofs.Common.{◌≡◌, ℕ, ◌<◌, ◌≤◌, ◌+◌, ◌&&◌, Bool, true, false, not, List, [], ◌∷◌, ◌++◌, length, take, drop, Option, Some, None, suc, zero, MatchOption, IfSome, IfNone, min, refl, sym, ap, subst, ◌∙◌, arith, inl, inr, append_assoc, ◌==◌}
-use Rattle.std.specs.Io.KnownBytes.{Consumes, IsAtEnd}
+use Rattle.std.proofs.Common.{◌≡◌, ℕ, ◌<◌, ◌≤◌, ◌+◌, Bool, true, not, List, [], ◌∷◌, ◌++◌, length, take, drop, Option, Some, None, suc, zero, MatchOption, IfSome, IfNone, min, sym, ap, subst, ◌∙◌, arith, inl, inr, append_assoc, ◌==◌}
+use Rattle.std.specs.Io.KnownBytes.{IsAtEnd}
 use Rattle.std.proofs.Math.Seq.{take-append_seam, drop-append-add}
 use Rattle.std.proofs.lemmas.Bool.{cases_lt}
 use Rattle.std.proofs.lemmas.List.{take-append-le, take-append-drop, length-take-le, length-take, take_all}
-use Rattle.std.proofs.lemmas.List.Folds.{list_all-append}
 use Rattle.mapf_certificate.specs.declared.buffer.NoLine.{NoLine}
 use Rattle.mapf_certificate.specs.declared.buffer.NoLine.TheVariants as stops
 use Rattle.mapf_certificate.specs.declared.cert.LinesFault.{LinesFault}
-use Rattle.mapf_certificate.specs.declared.cert.LinesFault.TheVariants.{Device, TooLong}
 use Rattle.mapf_certificate.specs.declared.line.Line.{Line}
 use Rattle.mapf_certificate.specs.declared.tree_line.Due.{Due}
 use Rattle.mapf_certificate.specs.Buffered.{Buffered}
@@ -37,9 +35,12 @@ pub refused_early : (due : Due) (a b : Option (List ℕ)) (x y : Buffered) → E
 refused_early due a b x y early = record {
   pulled = early.window.pulled;
   source = early.window.source;
-  wrong = inr (early.ended, λ is.
-      let all : y.bytes ≡ words (width_of due) is.value ++ (10 ∷ is.rest) = sym early.window.same ∙ is.spelled ∙ append_assoc (words (width_of due) is.value) (10 ∷ []) is.rest in
-      has_end (words (width_of due) is.value) is.rest (sym (ap lacks_end all) ∙ early.lacking));
+  wrong = inr (
+    early.ended,
+    λ is.
+        let all : y.bytes ≡ words (width_of due) is.value ++ (10 ∷ is.rest) = sym early.window.same ∙ is.spelled ∙ append_assoc (words (width_of due) is.value) (10 ∷ []) is.rest in
+        has_end (words (width_of due) is.value) is.rest (sym (ap lacks_end all) ∙ early.lacking),
+  );
 }
 
 pub refused_overlong : (due : Due) (a b : Option (List ℕ)) (x y : Buffered) → IsOverlong a b x y → Refuses a b x (IsNext due)
@@ -68,7 +69,6 @@ refused_line due a b x y line rest window found never = record {
 at_place : (bs line rest : List ℕ) → bs ≡ line ++ (10 ∷ rest) → (take (length line) bs ≡ line) × (drop (length line + 1) bs ≡ rest)
 at_place bs line rest e = (ap (take (length line)) e ∙ take-append_seam line (10 ∷ rest), ap (drop (length line + 1)) e ∙ drop-append-add line (10 ∷ rest) 1)
 
-
 pub first_of_front : (bs : List ℕ) (m n : ℕ) → (n < length (take m bs)) × IsCut (take m bs) (take n (take m bs)) (drop (n + 1) (take m bs)) → (n < length bs) × IsCut bs (take n bs) (drop (n + 1) bs)
 first_of_front bs m n (inside, found) =
     let line = take n (take m bs) in
@@ -80,11 +80,11 @@ first_of_front bs m n (inside, found) =
     let (front', back') = subst P many (front, back) in
     (omega (arith, length-take m bs), record { same = all ∙ ap (λ l. l ++ (10 ∷ rest)) (sym front') ∙ ap (λ r. take n bs ++ (10 ∷ r)) (sym back'); whole = ap lacks_end front' ∙ found.whole })
 
-pub early : (a b c : Option (List ℕ)) (x y z : Buffered) → Window a b x y [] → Window b c y z [] → IsAtEnd c → z.bytes ≡ y.bytes → length y.bytes ≤ 64 → lacks_end (take 65 y.bytes) ≡ true → EndsEarly a c x z
-early a b c x y z first second ended same short lacks = record {
+pub early : (a b c : Option (List ℕ)) (x y z : Buffered) → Window a b x y [] → Window b c y z [] → IsAtEnd c → z.bytes ≡ y.bytes → length y.bytes ≤ 64 → (front : List ℕ) → front ≡ y.bytes → lacks_end (take 65 front) ≡ true → EndsEarly a c x z
+early a b c x y z first second ended same short front is lacks = record {
   window = Window-trans a b c x y z [] [] first second;
   ended = ended;
-  lacking = ap lacks_end (same ∙ sym (take_all 65 y.bytes (omega arith))) ∙ lacks;
+  lacking = ap lacks_end (same ∙ sym (take_all 65 y.bytes (omega arith))) ∙ ap (λ l. lacks_end (take 65 l)) (sym is) ∙ lacks;
 }
 
 pub stopped : (a b c : Option (List ℕ)) (failed : Bool) (x y z : Buffered) (why : NoLine) → Window a b x y [] → LacksBytes b c failed y why → LacksLine a c failed x z why

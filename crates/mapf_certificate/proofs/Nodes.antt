@@ -1,11 +1,10 @@
 -- Nodes in a certificate's text.
-use Rattle.std.proofs.Common.{◌≡◌, ℕ, ◌<◌, ◌≤◌, ◌+◌, List, [], ◌∷◌, ◌++◌, length, get_or, All, AllPairs, Option, Bool, suc, zero, refl, sym, ap, subst, ◌∙◌, arith, append_assoc, inl, inr}
+use Rattle.std.proofs.Common.{◌≡◌, ℕ, ◌<◌, ◌≤◌, List, [], ◌∷◌, ◌++◌, length, get_or, AllPairs, Option, Bool, suc, zero, refl, sym, ap, subst, ◌∙◌, arith, append_assoc, inl}
 use Rattle.std.proofs.lemmas.List.{append-nil}
 use Rattle.std.proofs.KnownBytes.{Consumes-nil}
 use Rattle.mapf_model.specs.declared.conflict.Conflict.TheVariants as conflicts
 use Rattle.mapf_model.specs.Blocks.{LabelBlock}
-use Rattle.mapf_model.specs.Grid.{GridMap}
-use Rattle.mapf_model.specs.Printed.{IsBlockInRange, AreBlocksInRange}
+use Rattle.mapf_model.specs.Printed.{AreBlocksInRange}
 use Rattle.mapf_model.specs.Tree.{Node, SplitNode, LeafNode, ClashNode}
 use Rattle.mapf_certificate.specs.declared.cert.LinesFault.{LinesFault}
 use Rattle.mapf_certificate.specs.declared.line.Line.{Line}
@@ -13,10 +12,10 @@ use Rattle.mapf_certificate.specs.declared.line.Line.TheVariants as lines
 use Rattle.mapf_certificate.specs.declared.sizes.Sizes.{Sizes}
 use Rattle.mapf_certificate.specs.declared.tree_line.Due.TheVariants as dues
 use Rattle.mapf_certificate.specs.Buffered.{Buffered}
-use Rattle.mapf_certificate.specs.Lines.{IsLine, IsTreeLine, grid_of}
+use Rattle.mapf_certificate.specs.Lines.{IsLine}
 use Rattle.mapf_certificate.specs.Certificates.{line_text, blocks_text, block_text, node_text, IsNode}
 use Rattle.mapf_certificate.specs.CertReading.{AreInOrder, CompletesNode}
-use Rattle.mapf_certificate.specs.Window.{Window, BeginsWith, Refuses, Fails, IsTextFault}
+use Rattle.mapf_certificate.specs.Window.{Window, BeginsWith, Fails, IsTextFault}
 use Rattle.mapf_certificate.proofs.PlainLines.{same_line}
 use Rattle.mapf_certificate.proofs.Windows.{Fails-weaker, Fails-text}
 use Rattle.mapf_certificate.proofs.LineWindows.{IsNext}
@@ -88,10 +87,12 @@ node_fits sizes line more is begins =
 
 -- nodes are told apart
 pub nodes_apart : (sizes : Sizes) → AreApart Node (NodeInRange sizes) (node_text sizes.width)
-nodes_apart sizes = record { apart = λ a b s t p q e.
-    let w = sizes.width in
-    let (same, rest) = same_line (dues.Tree sizes) (first_line a) (first_line b) (after_first w a ++ s) (after_first w b ++ t) (node_line sizes a p) (node_line sizes b q) (sym (node_cut w a s) ∙ e ∙ node_cut w b t) in
-    by a b s t p q same rest }
+nodes_apart sizes = record {
+  apart = λ a b s t p q e.
+      let w = sizes.width in
+      let (same, rest) = same_line (dues.Tree sizes) (first_line a) (first_line b) (after_first w a ++ s) (after_first w b ++ t) (node_line sizes a p) (node_line sizes b q) (sym (node_cut w a s) ∙ e ∙ node_cut w b t) in
+      by a b s t p q same rest;
+}
   where
     by : (a b : Node) (s t : List ℕ) → NodeInRange sizes a → NodeInRange sizes b → first_line a ≡ first_line b → after_first sizes.width a ++ s ≡ after_first sizes.width b ++ t → (a ≡ b) × (s ≡ t)
     by (SplitNode (conflicts.Vertex i j cell tick)) (SplitNode (conflicts.Vertex i' j' cell' tick')) s t p q e rest = (cc, rest)
@@ -148,7 +149,7 @@ pub fails_in_blocks : (sizes : Sizes) (had left : Option (List ℕ)) (failed : B
 fails_in_blocks sizes had left failed x line count fault is same fails =
     let few : count ≤ sizes.agents = subst (IsLine (dues.Tree sizes)) same is in
     Fails-weaker had left failed x (λ t. NextNode sizes (line_text sizes.width line ++ t)) (NextBlocks sizes count) fault
-        (λ t begins. blocks_due sizes count t few (subst (λ (l : Line). NextNode sizes (line_text sizes.width l ++ t)) same begins)) fails
+    (λ t begins. blocks_due sizes count t few (subst (λ (l : Line). NextNode sizes (line_text sizes.width l ++ t)) same begins)) fails
 
 -- a line that begins no node
 pub begins_no_node : (sizes : Sizes) (had : Option (List ℕ)) (failed : Bool) (x : Buffered) (line : Line) (fault : LinesFault) → IsTextFault fault → IsLine (dues.Tree sizes) line → ((node : Node) → line ≡ first_line node → ⊥)

@@ -1,5 +1,5 @@
 -- What the answers of a reader of certificates say of the bytes that its source gave.
-use Rattle.std.proofs.Common.{◌≡◌, ℕ, ◌<◌, ◌≤◌, ◌+◌, ◌⊎◌, inl, inr, Bool, List, [], ◌∷◌, ◌++◌, length, Option, Some, None, IfSome, refl, sym, ap, subst, ◌∙◌, arith, append_assoc}
+use Rattle.std.proofs.Common.{◌≡◌, ℕ, ◌≤◌, inl, inr, Bool, List, [], ◌∷◌, ◌++◌, Option, Some, IfSome, sym, ap, subst, ◌∙◌, arith}
 use Rattle.std.proofs.lemmas.List.{append-nil}
 use Rattle.std.proofs.lemmas.Bool.{cases_lt}
 use Rattle.std.specs.Io.KnownBytes.{IsAtEnd}
@@ -12,17 +12,17 @@ use Rattle.mapf_certificate.specs.declared.line.Line.TheVariants as lines
 use Rattle.mapf_certificate.specs.declared.sizes.Sizes.{Sizes}
 use Rattle.mapf_certificate.specs.declared.tree_line.Due.TheVariants as dues
 use Rattle.mapf_certificate.specs.Buffered.{Buffered}
-use Rattle.mapf_certificate.specs.Lines.{IsLine, IsAgentCount, grid_of}
+use Rattle.mapf_certificate.specs.Lines.{IsLine, IsAgentCount}
 use Rattle.mapf_certificate.specs.Certificates.{line_text, node_text, IsNode, IsRest}
 use Rattle.mapf_certificate.specs.Reading.{Reading, grid_at, agents_at}
-use Rattle.mapf_certificate.specs.CertReading.{IsRestAt, Awaits, CompletesNode, ReadsNode, ReadsEnd, TakesNode, owed_after}
+use Rattle.mapf_certificate.specs.CertReading.{IsRestAt, Awaits, CompletesNode, ReadsNode, ReadsEnd, owed_after}
 use Rattle.mapf_certificate.specs.Window.{Window, Fails, IsNoTextFault}
 use Rattle.mapf_certificate.proofs.PlainLines.{same_line}
 use Rattle.mapf_certificate.proofs.Windows.{Window-trans, Window-known, Fails-after, Fails-weaker, Fails-not}
 use Rattle.mapf_certificate.proofs.LineWindows.{IsNext}
 use Rattle.mapf_certificate.proofs.Blocks.{grid_for}
 use Rattle.mapf_certificate.proofs.Nodes.{NextNode, node_is_line, nodes_apart}
-use Rattle.mapf_certificate.proofs.Rests.{StartsRest, rest_starts, rest_ends, end_is_rest, rest_joins}
+use Rattle.mapf_certificate.proofs.Rests.{rest_starts, rest_ends, end_is_rest, rest_joins}
 
 -- what bounds the numbers of a reading's lines
 pub record Bounds (sizes : Sizes) (r : Reading) : Type 0 where
@@ -80,7 +80,7 @@ pub fails_in_end : (sizes : Sizes) (r : Reading) (had mid left : Option (List �
     → Window had mid x y (line_text sizes.width line) → Fails mid left failed y (λ t. (line ≡ lines.End) × (t ≡ [])) fault → Fails had left failed x (IsRestAt r) fault
 fails_in_end sizes r had mid left failed x y line fault bounds none is window fails =
     Fails-after had mid left failed x y (line_text sizes.width line) (IsRestAt r) (λ t. (line ≡ lines.End) × (t ≡ [])) fault window
-        (λ more rest. same_line (dues.Tree sizes) line lines.End more [] is tt (end_next sizes r (line_text sizes.width line ++ more) bounds none rest ∙ sym (append-nil (line_text sizes.width lines.End)))) fails
+    (λ more rest. same_line (dues.Tree sizes) line lines.End more [] is tt (end_next sizes r (line_text sizes.width line ++ more) bounds none rest ∙ sym (append-nil (line_text sizes.width lines.End)))) fails
 
 pub reads_node : (sizes : Sizes) (had mid left : Option (List ℕ)) (old new : Reading) (y : Buffered) (line : Line) (node : Node) → Bounds sizes old → old.width ≡ sizes.width → Window had mid old.buffer y (line_text sizes.width line)
     → CompletesNode (grid_for sizes) sizes.agents mid left y new.buffer line node → 1 ≤ old.owed → new.owed ≡ owed_after old.owed node → ReadsNode had left old new node
@@ -121,12 +121,14 @@ node_same sizes had left old new node due nodes bounds wide on reads awaits =
     let others : starts.others ≡ nodes = cc (starts.same) in
     let owed : owed_after old.owed starts.node ≡ new.owed = ap (owed_after old.owed) (sym one) ∙ sym reads.owed in
     let after = subst (λ (n : ℕ). IsRest (grid_for sizes) sizes.agents n starts.others starts.after) owed starts.rest in
-    let moved = rest_moved (grid_for sizes) (grid_at new) sizes.agents (agents_at new) new.owed starts.others starts.after (sym bounds.grid ∙ sym on.grid) (sym bounds.agents ∙ sym on.agents) after in
-    (one ∙ head, record {
-      bytes = rest;
-      known = kept;
-      rest = subst (λ (ns : List Node). IsRest (grid_at new) (agents_at new) new.owed ns (new.buffer.bytes ++ rest)) others (subst (IsRest (grid_at new) (agents_at new) new.owed starts.others) (sym tail) moved);
-    })
+    let moved = rest_moved (grid_for sizes) (grid_at new) sizes.agents (agents_at new) new.owed starts.others starts.after (sym bounds.grid ∙ sym on.grid) (sym bounds.agents ∙ sym on.agents) after in (
+      one ∙ head,
+      record {
+        bytes = rest;
+        known = kept;
+        rest = subst (λ (ns : List Node). IsRest (grid_at new) (agents_at new) new.owed ns (new.buffer.bytes ++ rest)) others (subst (IsRest (grid_at new) (agents_at new) new.owed starts.others) (sym tail) moved);
+      },
+    )
 
 pub end_joins : (had left : Option (List ℕ)) (old new : Reading) → ReadsEnd had left old new → (bytes : List ℕ) → had ≡ Some bytes → Awaits had old []
 end_joins had left old new reads bytes known =

@@ -1,5 +1,5 @@
 -- What is still to come of a certificate, node after node.
-use Rattle.std.proofs.Common.{◌≡◌, ℕ, ◌<◌, ◌≤◌, ◌+◌, ◌-◌, List, [], ◌∷◌, ◌++◌, length, All, Option, Some, None, refl, sym, ap, subst, ◌∙◌, arith, append_assoc}
+use Rattle.std.proofs.Common.{◌≡◌, ℕ, ◌≤◌, ◌+◌, List, [], ◌∷◌, ◌++◌, length, All, refl, sym, ap, ◌∙◌, arith, append_assoc}
 use Rattle.std.specs.List.{flat_map}
 use Rattle.std.proofs.lemmas.List.Elements.{All-head, All-tail, All-cons, All-nil}
 use Rattle.mapf_model.specs.Grid.{GridMap}
@@ -8,7 +8,6 @@ use Rattle.mapf_model.specs.Tree.{ConstraintTree, Split, Leaf, Clash, Node, Spli
 use Rattle.mapf_certificate.specs.declared.line.Line.TheVariants as lines
 use Rattle.mapf_certificate.specs.Certificates.{line_text, node_text, rest_text, IsNode, IsRest}
 use Rattle.mapf_certificate.specs.CertReading.{owed_after}
-use Rattle.mapf_certificate.specs.Window.{BeginsWith}
 
 -- a rest with a tree owed begins with a node, and what follows is the rest after it
 pub record StartsRest (grid : GridMap) (agents owed : ℕ) (nodes : List Node) (bytes : List ℕ) : Type 0 where

@@ -1,10 +1,8 @@
 -- Windows one after another, and what refuses a part of a text.
-use Rattle.std.proofs.Common.{◌≡◌, ℕ, ◌<◌, ◌≤◌, ◌+◌, ◌⊎◌, inl, inr, Bool, true, false, List, [], ◌∷◌, ◌++◌, length, take, drop, Option, Some, None, Result, Ok, Err, IfErr, refl, sym, ap, subst, ◌∙◌, arith, append_assoc, length-append}
+use Rattle.std.proofs.Common.{◌≡◌, ℕ, ◌≤◌, ◌+◌, ◌⊎◌, inl, inr, Bool, List, ◌++◌, length, Option, Some, None, Result, Err, IfErr, refl, sym, ap, subst, ◌∙◌, arith, append_assoc, length-append}
 use Rattle.std.proofs.lemmas.List.{append-nil}
 use Rattle.std.specs.Io.KnownBytes.{Consumes, IsAtEnd}
 use Rattle.std.proofs.KnownBytes.{Consumes-trans}
-use Rattle.mapf_certificate.specs.declared.buffer.NoLine.{NoLine}
-use Rattle.mapf_certificate.specs.declared.buffer.NoLine.TheVariants as stops
 use Rattle.mapf_certificate.specs.declared.cert.CertFault.TheVariants as texts
 use Rattle.mapf_certificate.specs.declared.cert.LinesFault.{LinesFault}
 use Rattle.mapf_certificate.specs.declared.cert.LinesFault.TheVariants.{Text, Device, TooLong, Memory}
@@ -40,6 +38,7 @@ Refuses-after a b c x y t Is After first follows refused = record {
   where
     all : x.bytes ++ (first.pulled ++ refused.pulled) ≡ t ++ (y.bytes ++ refused.pulled)
     all = after_both x.bytes first.pulled refused.pulled t y.bytes first.same
+
     by : ((more : List ℕ) → After ((y.bytes ++ refused.pulled) ++ more) → ⊥) ⊎ (IsAtEnd c × (After (y.bytes ++ refused.pulled) → ⊥))
         → ((more : List ℕ) → Is ((x.bytes ++ (first.pulled ++ refused.pulled)) ++ more) → ⊥) ⊎ (IsAtEnd c × (Is (x.bytes ++ (first.pulled ++ refused.pulled)) → ⊥))
     by (inl never) = inl (λ more is. never more (follows ((y.bytes ++ refused.pulled) ++ more) (subst Is (ap (λ l. l ++ more) all ∙ append_assoc t (y.bytes ++ refused.pulled) more) is)))

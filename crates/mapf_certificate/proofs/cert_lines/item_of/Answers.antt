@@ -1,4 +1,4 @@
-use Rattle.std.proofs.Common.{◌≡◌, ◌≤◌, Err, List, ℕ, ◌++◌, refl, subst, le_refl}
+use Rattle.std.proofs.Common.{◌++◌, refl, subst, le_refl}
 use Rattle.std.proofs.lemmas.Result.{err_from_is_err_and}
 use Rattle.mapf_model.specs.declared.conflict.Conflict.TheVariants as conflicts
 use Rattle.mapf_model.specs.Tree.{SplitNode}
@@ -20,7 +20,7 @@ returns-in_err-blocks-in-Leaf-clause-fails g c =
     let line = c.args.line.now in
     let fault = c.in_err-blocks-in-Leaf.field-0.0 in
     err_passed c.from_residual.result (Fails had left failed c.args.lines.now.buffer (λ t. NextNode sizes (line_text sizes.width line ++ t))) fault (err_from_is_err_and c.from_residual.result c.from_residual.ensures.1)
-        (fails_in_blocks sizes had left failed c.args.lines.now.buffer line c.in-Leaf.count fault c.requires.line c.in-Leaf.is c.in_err-blocks-in-Leaf.ensures.fails)
+    (fails_in_blocks sizes had left failed c.args.lines.now.buffer line c.in-Leaf.count fault c.requires.line c.in-Leaf.is c.in_err-blocks-in-Leaf.ensures.fails)
 
 pub returns-in-Vertex-clause-item : goal.returns-in-Vertex-clause-item
 returns-in-Vertex-clause-item g c =

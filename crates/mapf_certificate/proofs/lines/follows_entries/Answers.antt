@@ -1,4 +1,4 @@
-use Rattle.std.proofs.Common.{◌≡◌, ◌∙◌, sym, ap}
+use Rattle.std.proofs.Common.{sym}
 use Rattle.mapf_model.specs.Printed.{IsBefore}
 use Rattle.mapf_certificate.proofs.Sequences.{last_decides}
 use Rattle.mapf_certificate.proofs.Blocks.{before_trans}

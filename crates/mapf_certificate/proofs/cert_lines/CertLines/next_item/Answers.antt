@@ -1,6 +1,6 @@
-use Rattle.std.proofs.Common.{◌≡◌, ◌∷◌, [], List, Option, Some, None, IfSome, true, subst, sym, refl}
+use Rattle.std.proofs.Common.{◌≡◌, ◌∷◌, [], Option, IfSome, true, subst, sym, refl}
 use Rattle.mapf_model.specs.declared.item.Item.{Item}
-use Rattle.mapf_model.specs.Tree.{Node, node_of}
+use Rattle.mapf_model.specs.Tree.{node_of}
 use Rattle.mapf_certificate.specs.Reading.{Reading}
 use Rattle.mapf_certificate.specs.CertReading.{Awaits, ReadsEnd, TakesNode}
 use Rattle.mapf_certificate.proofs.Readings.{end_joins, no_node, no_end, awaited}

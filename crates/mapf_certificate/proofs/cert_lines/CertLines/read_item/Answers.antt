@@ -1,4 +1,4 @@
-use Rattle.std.proofs.Common.{◌≡◌, ◌≤◌, IfErr, Err, List, ◌∷◌, ap, sym, subst, ◌∙◌, refl, arith}
+use Rattle.std.proofs.Common.{◌≡◌, ◌≤◌, IfErr, List, ◌∷◌, ap, subst, refl, arith}
 use Rattle.std.proofs.lemmas.Result.{err_from_is_err_and}
 use Rattle.mapf_model.specs.Tree.{Node, node_of}
 use Rattle.mapf_certificate.specs.Reading.{Reading, agents_in}
@@ -20,7 +20,7 @@ returns-in_err-line-clause-fails g c =
     let failed = s.has_failed c.next.new.source in
     let P : Reading → Type 0 = λ r. IfErr c.from_residual.result (Fails had left failed r.buffer (IsRestAt r)) in
     subst P c.self.view_is (err_passed c.from_residual.result (Fails had left failed old.buffer (IsRestAt old)) c.in_err-line.field-0.0 (err_from_is_err_and c.from_residual.result c.from_residual.ensures.1)
-        (fails_first sizes old had left failed old.buffer c.in_err-line.field-0.0 bounds c.in_err-line.ensures.fails))
+    (fails_first sizes old had left failed old.buffer c.in_err-line.field-0.0 bounds c.in_err-line.ensures.fails))
 
 pub returns-in_err-take_end-clause-fails : goal.returns-in_err-take_end-clause-fails
 returns-in_err-take_end-clause-fails g c =
@@ -34,7 +34,7 @@ returns-in_err-take_end-clause-fails g c =
     let failed = s.has_failed c.take_end.new.source in
     let P : Reading → Type 0 = λ r. IfErr c.from_residual-in_err-take_end.result (Fails had left failed r.buffer (IsRestAt r)) in
     subst P c.self.view_is (err_passed c.from_residual-in_err-take_end.result (Fails had left failed old.buffer (IsRestAt old)) c.in_err-take_end.field-0.0 (err_from_is_err_and c.from_residual-in_err-take_end.result c.from_residual-in_err-take_end.ensures.1)
-        (fails_in_end sizes old had (s.remaining c.next.new.source) left failed old.buffer c.next.new.self.buffer c.in_ok-line.line c.in_err-take_end.field-0.0 bounds c.if-self-eq0.true c.in_ok-line.ensures.line c.in_ok-line.ensures.taken c.in_err-take_end.ensures.fails))
+    (fails_in_end sizes old had (s.remaining c.next.new.source) left failed old.buffer c.next.new.self.buffer c.in_ok-line.line c.in_err-take_end.field-0.0 bounds c.if-self-eq0.true c.in_ok-line.ensures.line c.in_ok-line.ensures.taken c.in_err-take_end.ensures.fails))
 
 pub returns-in_err-item-clause-fails : goal.returns-in_err-item-clause-fails
 returns-in_err-item-clause-fails g c =
@@ -48,7 +48,7 @@ returns-in_err-item-clause-fails g c =
     let failed = s.has_failed c.item_of.new.source in
     let P : Reading → Type 0 = λ r. IfErr c.from_residual-in_err-item.result (Fails had left failed r.buffer (IsRestAt r)) in
     subst P c.self.view_is (err_passed c.from_residual-in_err-item.result (Fails had left failed old.buffer (IsRestAt old)) c.in_err-item.field-0.0 (err_from_is_err_and c.from_residual-in_err-item.result c.from_residual-in_err-item.ensures.1)
-        (fails_in_item sizes old had (s.remaining c.next.new.source) left failed old.buffer c.next.new.self.buffer c.in_ok-line.line c.in_err-item.field-0.0 bounds (omega (arith, c.if-self-eq0.false)) c.in_ok-line.ensures.taken c.in_err-item.ensures.fails))
+    (fails_in_item sizes old had (s.remaining c.next.new.source) left failed old.buffer c.next.new.self.buffer c.in_ok-line.line c.in_err-item.field-0.0 bounds (omega (arith, c.if-self-eq0.false)) c.in_ok-line.ensures.taken c.in_err-item.ensures.fails))
 
 pub returns-clause-item : goal.returns-clause-item
 returns-clause-item g c =

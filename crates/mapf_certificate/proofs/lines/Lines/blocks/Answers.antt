@@ -1,4 +1,4 @@
-use Rattle.std.proofs.Common.{◌≡◌, ◌<◌, ℕ, List, Err, sym, ◌∙◌, arith, ap, subst, length, length-append, [], ◌∷◌, ◌++◌}
+use Rattle.std.proofs.Common.{◌≡◌, ◌<◌, List, arith, ap, subst, length, length-append, [], ◌∷◌, ◌++◌}
 use Rattle.std.proofs.lemmas.Result.{err_from_is_err_and}
 use Rattle.mapf_model.specs.Blocks.{LabelBlock}
 use Rattle.mapf_certificate.specs.Certificates.{block_text, blocks_text}
@@ -24,9 +24,9 @@ returns-in_err-block-clause-fails g c =
     let fault = c.in_err-block.field-0.0 in
     let less : length values < c.args.count = omega (arith, c.loop-taken.invariant.many, c.loop-taken-test.true) in
     err_passed c.from_residual.result (Fails had left failed old (NextBlocks sizes c.args.count)) fault (err_from_is_err_and c.from_residual.result c.from_residual.ensures.1)
-        (Fails-after had mid left failed old here (blocks_text sizes.width values) (NextBlocks sizes c.args.count) (NextBlock sizes values) fault c.loop-taken.invariant.window
-        (λ more. goes_on LabelBlock (BlockInRange sizes) Rises (block_text sizes.width) (blocks_apart sizes) c.args.count values more c.loop-taken.invariant.taken less)
-        (subst (λ (v : List LabelBlock). Fails mid left failed here (NextBlock sizes v) fault) c.deref.ensures.value c.in_err-block.ensures.fails))
+    (Fails-after had mid left failed old here (blocks_text sizes.width values) (NextBlocks sizes c.args.count) (NextBlock sizes values) fault c.loop-taken.invariant.window
+    (λ more. goes_on LabelBlock (BlockInRange sizes) Rises (block_text sizes.width) (blocks_apart sizes) c.args.count values more c.loop-taken.invariant.taken less)
+    (subst (λ (v : List LabelBlock). Fails mid left failed here (NextBlock sizes v) fault) c.deref.ensures.value c.in_err-block.ensures.fails))
 
 pub returns-clause-blocks : goal.returns-clause-blocks
 returns-clause-blocks g c = record {

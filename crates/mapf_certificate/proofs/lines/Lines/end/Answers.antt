@@ -1,4 +1,4 @@
-use Rattle.std.proofs.Common.{◌≡◌, [], sym, ◌∙◌, arith}
+use Rattle.std.proofs.Common.{◌≡◌, [], ◌∙◌}
 use Rattle.mapf_certificate.proofs.PathLaws.{not_empty, is_empty}
 use Rattle.mapf_certificate.proofs.EndWindows.{more_there, lacks_fails}
 use Rattle.mapf_certificate.proofs.lines.Lines.end.Goals as goal

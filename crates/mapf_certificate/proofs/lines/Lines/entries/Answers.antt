@@ -1,4 +1,4 @@
-use Rattle.std.proofs.Common.{◌≡◌, ◌<◌, ℕ, List, Err, sym, ◌∙◌, arith, ap, subst, length, length-append, [], ◌∷◌, ◌++◌}
+use Rattle.std.proofs.Common.{◌≡◌, ◌<◌, List, arith, ap, subst, length, length-append, [], ◌∷◌, ◌++◌}
 use Rattle.std.proofs.lemmas.Result.{err_from_is_err_and}
 use Rattle.mapf_model.specs.declared.label.Entry.{Entry}
 use Rattle.mapf_model.specs.Printed.{IsBefore}
@@ -25,9 +25,9 @@ returns-in_err-entry-clause-fails g c =
     let fault = c.in_err-entry.field-0.0 in
     let less : length values < c.args.count = omega (arith, c.loop-taken.invariant.many, c.loop-taken-test.true) in
     err_passed c.from_residual.result (Fails had left failed old (NextEntries sizes c.args.count)) fault (err_from_is_err_and c.from_residual.result c.from_residual.ensures.1)
-        (Fails-after had mid left failed old here (entries_text sizes.width values) (NextEntries sizes c.args.count) (NextEntry sizes values) fault c.loop-taken.invariant.window
-        (λ more. goes_on Entry (InRange sizes) IsBefore (entry_text sizes.width) (entries_apart sizes) c.args.count values more c.loop-taken.invariant.taken less)
-        (subst (λ (v : List Entry). Fails mid left failed here (NextEntry sizes v) fault) c.deref.ensures.value c.in_err-entry.ensures.fails))
+    (Fails-after had mid left failed old here (entries_text sizes.width values) (NextEntries sizes c.args.count) (NextEntry sizes values) fault c.loop-taken.invariant.window
+    (λ more. goes_on Entry (InRange sizes) IsBefore (entry_text sizes.width) (entries_apart sizes) c.args.count values more c.loop-taken.invariant.taken less)
+    (subst (λ (v : List Entry). Fails mid left failed here (NextEntry sizes v) fault) c.deref.ensures.value c.in_err-entry.ensures.fails))
 
 pub returns-clause-entries : goal.returns-clause-entries
 returns-clause-entries g c = record {
