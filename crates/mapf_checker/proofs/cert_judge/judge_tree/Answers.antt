@@ -84,7 +84,7 @@ returns-in_err-item-2-clause-only g c nodes awaits shows =
     let node = node_of c.in-Some.item in
     let place = place_of c.loop-progress.progress.way in
     let takes : TakesNode mid left now new node = rw c.in-Some.is at (c.in_ok-item.ensures.item inv.fault inv.part) in
-    let only_item : (other : Node) (nodes : List Node) → Awaits mid now (other ∷ nodes) → (node ≡ other) × Awaits left new nodes = λ other nodes there. c.in_ok-item.ensures.only_item other nodes inv.fault inv.part there c.in-Some.item c.in-Some.is in
+    let only_item : (other : Node) (nodes : List Node) → Awaits mid now (other ∷ nodes) → (node ≡ other) × Awaits left new nodes = λ other nodes there. rw c.in-Some.is at (c.in_ok-item.ensures.only_item other nodes inv.fault inv.part there) in
     let only_end : Awaits mid now [] → ⊥ = λ there. let none = sym c.in-Some.is ∙ c.in_ok-item.ensures.only_end inv.fault inv.part there in cc in
     let going = is_going c.loop-progress.progress.is_over place now.owed takes.read.was_owed inv.read.count in
     let is_owed = owed_going c.loop-progress.progress.is_over place going in
@@ -109,7 +109,7 @@ returns-in_err-item-2-clause-stops g c =
     let node = node_of c.in-Some.item in
     let place = place_of c.loop-progress.progress.way in
     let takes : TakesNode mid left now new node = rw c.in-Some.is at (c.in_ok-item.ensures.item inv.fault inv.part) in
-    let only_item : (other : Node) (nodes : List Node) → Awaits mid now (other ∷ nodes) → (node ≡ other) × Awaits left new nodes = λ other nodes there. c.in_ok-item.ensures.only_item other nodes inv.fault inv.part there c.in-Some.item c.in-Some.is in
+    let only_item : (other : Node) (nodes : List Node) → Awaits mid now (other ∷ nodes) → (node ≡ other) × Awaits left new nodes = λ other nodes there. rw c.in-Some.is at (c.in_ok-item.ensures.only_item other nodes inv.fault inv.part there) in
     let only_end : Awaits mid now [] → ⊥ = λ there. let none = sym c.in-Some.is ∙ c.in_ok-item.ensures.only_end inv.fault inv.part there in cc in
     let going = is_going c.loop-progress.progress.is_over place now.owed takes.read.was_owed inv.read.count in
     let is_owed = owed_going c.loop-progress.progress.is_over place going in
@@ -135,7 +135,7 @@ loop-progress-preserved-in_ok-item-2 g c =
     let node = node_of c.in-Some.item in
     let place = place_of c.loop-progress.progress.way in
     let takes : TakesNode mid left now new node = rw c.in-Some.is at (c.in_ok-item.ensures.item inv.fault inv.part) in
-    let only_item : (other : Node) (nodes : List Node) → Awaits mid now (other ∷ nodes) → (node ≡ other) × Awaits left new nodes = λ other nodes there. c.in_ok-item.ensures.only_item other nodes inv.fault inv.part there c.in-Some.item c.in-Some.is in
+    let only_item : (other : Node) (nodes : List Node) → Awaits mid now (other ∷ nodes) → (node ≡ other) × Awaits left new nodes = λ other nodes there. rw c.in-Some.is at (c.in_ok-item.ensures.only_item other nodes inv.fault inv.part there) in
     let only_end : Awaits mid now [] → ⊥ = λ there. let none = sym c.in-Some.is ∙ c.in_ok-item.ensures.only_end inv.fault inv.part there in cc in
     let going = is_going c.loop-progress.progress.is_over place now.owed takes.read.was_owed inv.read.count in
     let is_owed = owed_going c.loop-progress.progress.is_over place going in
@@ -166,7 +166,7 @@ loop-progress-preserved g c =
     let node = node_of c.in-Some.item in
     let place = place_of c.loop-progress.progress.way in
     let takes : TakesNode mid left now new node = rw c.in-Some.is at (c.in_ok-item.ensures.item inv.fault inv.part) in
-    let only_item : (other : Node) (nodes : List Node) → Awaits mid now (other ∷ nodes) → (node ≡ other) × Awaits left new nodes = λ other nodes there. c.in_ok-item.ensures.only_item other nodes inv.fault inv.part there c.in-Some.item c.in-Some.is in
+    let only_item : (other : Node) (nodes : List Node) → Awaits mid now (other ∷ nodes) → (node ≡ other) × Awaits left new nodes = λ other nodes there. rw c.in-Some.is at (c.in_ok-item.ensures.only_item other nodes inv.fault inv.part there) in
     let only_end : Awaits mid now [] → ⊥ = λ there. let none = sym c.in-Some.is ∙ c.in_ok-item.ensures.only_end inv.fault inv.part there in cc in
     let going = is_going c.loop-progress.progress.is_over place now.owed takes.read.was_owed inv.read.count in
     let is_owed = owed_going c.loop-progress.progress.is_over place going in
