@@ -15,10 +15,11 @@ use Rattle.mapf_certificate.specs.declared.cert.LinesFault.{LinesFault}
 use Rattle.mapf_certificate.specs.declared.cert.LinesFault.TheVariants.{Text, Device, TooLong, Memory}
 use Rattle.mapf_certificate.specs.declared.cert.CertFault.TheVariants as texts
 use Rattle.mapf_certificate.specs.Buffered.{Buffered}
-use Rattle.mapf_certificate.specs.CertReading.{Awaits, AwaitsCert, TakesHeader}
+use Rattle.mapf_certificate.specs.CertReading.{Awaits, AwaitsCert, IsCertText, TakesHeader}
 use Rattle.mapf_certificate.specs.Certificates.{SpellsCert, header_text, rest_text}
 use Rattle.mapf_certificate.specs.Reading.{Reading, grid_at}
 use Rattle.mapf_certificate.specs.Window.{Window, Fails, Exceeds, IsNoTextFault}
+use Rattle.mapf_certificate.proofs.CertTexts.{AreSized, spells_from_text, text_from_spells}
 use Rattle.mapf_certificate.proofs.Windows.{Window-known, Exceeds-after}
 use Rattle.mapf_checker.specs.declared.fault.CheckFault.{CheckFault}
 use Rattle.mapf_checker.specs.declared.fault.CheckFault.TheVariants.{C1, C2, C3, C4, C5, C6, C7, C8, C9}
@@ -29,62 +30,29 @@ use Rattle.mapf_checker.specs.CertJudging.{IsOpened, HasHeaderRefusal, HasTreeRe
 use Rattle.mapf_checker.specs.Faults.{of_cert, IsNoRefusal, Stops}
 use Rattle.mapf_checker.specs.Refusals.{BeginsWithHeader, HasBadNode, HasBadNodeInCert, HasCertRefusal}
 use Rattle.mapf_checker.specs.Verdict.{IsGoodCert, IsShown}
-use Rattle.mapf_checker.proofs.ReadLemmas.{node_moved}
-
--- a tree that is in range on one grid is so on another of the same size
-tree_moved : (g h : GridMap) (agents : ℕ) → g.width * g.height ≡ h.width * h.height → (tree : ConstraintTree) → IsTreeInRange g agents tree → IsTreeInRange h agents tree
-tree_moved g h agents size (Split conflict left right) (in_range, one, two) = (node_moved g h agents size (SplitNode conflict) in_range, tree_moved g h agents size left one, tree_moved g h agents size right two)
-tree_moved g h agents size (Leaf blocks) in_range = node_moved g h agents size (LeafNode blocks) in_range
-tree_moved g h agents size (Clash i j) in_range = in_range
 
 module _ (problem : Instance) (claim : Claim) (had : Option (List ℕ)) (start : Reading) (opened : IsOpened problem start) (bytes : List ℕ) (known : had ≡ Some bytes) where
   pub same_bytes : start.buffer.bytes ++ bytes ≡ bytes
   same_bytes = ap (λ b. b ++ bytes) opened.buffer
 
-  same_size : (grid_at start).width * (grid_at start).height ≡ problem.grid.width * problem.grid.height
-  same_size = rw (opened.width, opened.height) refl
+  sized : AreSized problem.grid (grid_at start)
+  sized = record { width = sym opened.width; height = sym opened.height }
 
   -- what spells a certificate is awaited
   pub awaits_spelled : (agents : ℕ) (claimed : Claim) (tree : ConstraintTree) → SpellsCert problem.grid bytes agents claimed tree → AwaitsCert had start agents claimed (nodes_of tree)
   awaits_spelled agents claimed tree spells = record {
     bytes = bytes;
     known = known;
-    text = record {
-      agents_in_range = spells.agents_in_range;
-      claim_in_range = spells.claim_in_range;
-      after = rest_text start.width (nodes_of tree);
-      spelled = same_bytes ∙ subst (λ w. bytes ≡ header_text w agents claimed ++ rest_text w (nodes_of tree)) (sym opened.width) spells.spelled;
-      rest = record {
-        trees = tree ∷ [];
-        count = sym opened.owed;
-        in_range = λ k d within. one_tree (tree_moved problem.grid (grid_at start) agents (sym same_size) tree spells.tree_in_range) k d within;
-        same = sym (append-nil (nodes_of tree));
-        spelled = refl;
-      };
-    };
-  } where
-    one_tree : IsTreeInRange (grid_at start) agents tree → All (IsTreeInRange (grid_at start) agents) (tree ∷ [])
-    one_tree is zero d within = is
-    one_tree is (suc k) d within = absurd (omega arith)
+    text = subst (λ owed. IsCertText (grid_at start) owed agents claimed (nodes_of tree) (start.buffer.bytes ++ bytes)) (sym opened.owed)
+        (subst (λ b. IsCertText (grid_at start) 1 agents claimed (nodes_of tree) b) (sym same_bytes) (text_from_spells problem.grid (grid_at start) agents claimed tree bytes sized spells));
+  }
 
   -- and what is awaited spells one
-  pub spelled_awaited : (agents : ℕ) (claimed : Claim) (nodes : List Node) → AwaitsCert had start agents claimed nodes → (tree : ConstraintTree) × (nodes ≡ nodes_of tree) × SpellsCert problem.grid bytes agents claimed tree
-  spelled_awaited agents claimed nodes awaits = by awaits.text.rest.trees (awaits.text.rest.count ∙ opened.owed) awaits.text.rest.in_range awaits.text.rest.same where
-    came : awaits.bytes ≡ bytes
-    came = same_Some awaits.bytes bytes (sym awaits.known ∙ known)
-    by : (trees : List ConstraintTree) → length trees ≡ 1 → All (IsTreeInRange (grid_at start) agents) trees → nodes ≡ nodes_of_all trees → (tree : ConstraintTree) × (nodes ≡ nodes_of tree) × SpellsCert problem.grid bytes agents claimed tree
-    by [] count in_range same = absurd (omega (arith, count))
-    by (tree ∷ []) count in_range same =
-        let is : nodes ≡ nodes_of tree = same ∙ append-nil (nodes_of tree) in
-        let whole : start.buffer.bytes ++ awaits.bytes ≡ header_text start.width agents claimed ++ rest_text start.width nodes = awaits.text.spelled ∙ ap (λ r. header_text start.width agents claimed ++ r) awaits.text.rest.spelled in
-        (tree, is, record {
-          agents_in_range = awaits.text.agents_in_range;
-          claim_in_range = awaits.text.claim_in_range;
-          tree_in_range = tree_moved (grid_at start) problem.grid agents same_size tree (in_range 0 tree (omega arith));
-          spelled = sym same_bytes ∙ ap (λ b. start.buffer.bytes ++ b) (sym came) ∙ subst (λ ns. start.buffer.bytes ++ awaits.bytes ≡ header_text problem.grid.width agents claimed ++ rest_text problem.grid.width ns) is
-              (subst (λ w. start.buffer.bytes ++ awaits.bytes ≡ header_text w agents claimed ++ rest_text w nodes) opened.width whole);
-        })
-    by (tree ∷ other ∷ trees) count in_range same = absurd (omega (arith, count))
+  pub spelled_awaited : (agents : ℕ) (claimed : Claim) (nodes : List Node) → AwaitsCert had start agents claimed nodes → (tree : ConstraintTree) × SpellsCert problem.grid bytes agents claimed tree × (nodes ≡ nodes_of tree)
+  spelled_awaited agents claimed nodes awaits =
+      let came : start.buffer.bytes ++ awaits.bytes ≡ bytes = ap (λ b. start.buffer.bytes ++ b) (same_Some awaits.bytes bytes (sym awaits.known ∙ known)) ∙ same_bytes in
+      spells_from_text problem.grid (grid_at start) agents claimed nodes bytes (record { width = opened.width; height = opened.height })
+      (subst (λ owed. IsCertText (grid_at start) owed agents claimed nodes bytes) opened.owed (subst (λ b. IsCertText (grid_at start) start.owed agents claimed nodes b) came awaits.text))
 
   -- the header stands in front
   pub begins : (left : Option (List ℕ)) (new : Reading) (agents : ℕ) (claimed : Claim) → TakesHeader had left start new agents claimed → BeginsWithHeader problem bytes agents claimed
@@ -165,7 +133,7 @@ module _ (problem : Instance) (claim : Claim) (had : Option (List ℕ)) (start :
     pub good_cert : FrontDecides → TreeIsUnique → IsJudgedTree problem claim mid headed → (bytes : List ℕ) → had ≡ Some bytes → IsGoodCert problem claim bytes
     good_cert law unique judged bytes known =
         let (rest, known_mid, same) = after_header bytes known in
-        let (tree, is, spells) = spelled_awaited problem claim had start opened bytes known (length problem.agents) claim judged.nodes (takes.joins bytes known judged.nodes (judged.read rest known_mid)) in
+        let (tree, spells, is) = spelled_awaited problem claim had start opened bytes known (length problem.agents) claim judged.nodes (takes.joins bytes known judged.nodes (judged.read rest known_mid)) in
         let (shown, is_shown, shows) = ((law problem claim).whole judged.nodes).0 judged.shows in
         record { tree = tree; spelled = spells; shows = subst (λ t. Shows problem claim t) (unique shown tree (sym is_shown ∙ is)) shows }
 

@@ -11,8 +11,8 @@ use Rattle.mapf_model.specs.Blocks.{LabelBlock}
 use Rattle.mapf_model.specs.Grid.{GridMap}
 use Rattle.mapf_model.specs.Laws.{FrontDecides}
 use Rattle.mapf_model.specs.Plan.{Instance}
-use Rattle.mapf_model.specs.Printed.{IsConflictInRange, IsBlockInRange, AreBlocksInRange}
-use Rattle.mapf_model.specs.Tree.{Node, SplitNode, LeafNode, ClashNode, NodeConstraints, NodesShow, root}
+use Rattle.mapf_model.specs.Printed.{AreBlocksInRange}
+use Rattle.mapf_model.specs.Tree.{Split, Leaf, Node, SplitNode, LeafNode, ClashNode, NodeConstraints, NodesShow, root}
 use Rattle.mapf_certificate.specs.declared.cert.LinesFault.{LinesFault}
 use Rattle.mapf_certificate.specs.declared.cert.LinesFault.TheVariants.{Text, Device, TooLong, Memory}
 use Rattle.mapf_certificate.specs.declared.cert.CertFault.TheVariants as texts
@@ -20,6 +20,7 @@ use Rattle.mapf_certificate.specs.CertReading.{Awaits, TakesNode, TakesEnd, owed
 use Rattle.mapf_certificate.specs.Certificates.{IsNode, node_text}
 use Rattle.mapf_certificate.specs.Reading.{Reading, grid_at, agents_at}
 use Rattle.mapf_certificate.specs.Window.{Window, Fails, IsNoTextFault}
+use Rattle.mapf_certificate.proofs.CertTexts.{AreSized, tree_moved}
 use Rattle.mapf_certificate.proofs.Windows.{Window-trans, Window-known, Exceeds-after}
 use Rattle.mapf_checker.specs.declared.fault.CheckFault.{CheckFault}
 use Rattle.mapf_checker.specs.declared.fault.FromFault.{FromFault}
@@ -203,19 +204,12 @@ no_refusal_judging P from.TooLong is none = tt
 no_refusal_judging P from.Memory is none = tt
 
 -- a node that is in range on one grid is so on another of the same size
-pub node_moved : (g h : GridMap) (agents : ℕ) → g.width * g.height ≡ h.width * h.height → (node : Node) → IsNode g agents node → IsNode h agents node
-node_moved g h agents size (SplitNode (Vertex i j cell tick)) (one, two, on, early) = (one, two, omega (arith, on, size), early)
-node_moved g h agents size (SplitNode (Swap i j from to tick)) (one, two, on, there, early) = (one, two, omega (arith, on, size), omega (arith, there, size), early)
-node_moved g h agents size (LeafNode blocks) are = record { each = λ k d within. block_moved (slice_index_or blocks k d) (are.each k d within); rising = are.rising } where
-  block_moved : (block : LabelBlock) → IsBlockInRange g agents block → IsBlockInRange h agents block
-  block_moved block is = record {
-    agent = is.agent;
-    some = is.some;
-    few = is.few;
-    entries = λ k d within. let entry = is.entries k d within in (omega (arith, entry.0, size), entry.1, entry.2);
-    rising = is.rising;
-  }
-node_moved g h agents size (ClashNode i j) is = is
+pub node_moved : (g h : GridMap) (agents : ℕ) → AreSized g h → (node : Node) → IsNode g agents node → IsNode h agents node
+node_moved g h agents same (SplitNode conflict) is = (tree_moved g h same agents (Split conflict (Leaf []) (Leaf [])) (is, none, none)).0 where
+  none : {grid : GridMap} → AreBlocksInRange grid agents []
+  none = record { each = λ k d within. absurd (omega arith); rising = λ i j d less within. absurd (omega arith) }
+node_moved g h agents same (LeafNode blocks) is = tree_moved g h same agents (Leaf blocks) is
+node_moved g h agents same (ClashNode i j) is = is
 
 -- an error that is passed on
 pub err_passed : {A E : Type 0} (r : Result A E) (P : E → Type 0) (e : E) → IsErrAnd r (λ y. y ≡ e) → P e → IfErr r P

@@ -3,6 +3,7 @@ use Rattle.mapf_model.specs.Tree.{Node, node_of}
 use Rattle.mapf_certificate.specs.CertReading.{Awaits, TakesNode, IsRestAt}
 use Rattle.mapf_certificate.specs.Certificates.{IsNode}
 use Rattle.mapf_certificate.specs.Reading.{grid_at}
+use Rattle.mapf_certificate.proofs.CertTexts.{AreSized}
 use Rattle.mapf_checker.specs.CertJudging.{HasTreeRefusal}
 use Rattle.mapf_checker.specs.Faults.{of_cert, IsNoRefusal, Stops}
 use Rattle.mapf_checker.specs.NodeDefects.{HasNodeDefect}
@@ -33,7 +34,7 @@ item-requires-clause-node g c =
     let problem = c.args.problem.now in
     let now = c.loop-progress.lines in
     let takes : TakesNode ((g.S.Source).remaining c.loop-progress.source) ((g.S.Source).remaining c.next_item.new.source) now c.next_item.new.self (node_of c.in-Some.item) = rw c.in-Some.is at (c.in_ok-item.ensures.item inv.fault inv.part) in
-    let size : (grid_at now).width * (grid_at now).height ≡ problem.grid.width * problem.grid.height = rw (inv.width, inv.height) refl in
+    let size : AreSized (grid_at now) problem.grid = record { width = inv.width; height = inv.height } in
     let in_range : IsNode (grid_at now) (length problem.agents) (node_of c.in-Some.item) = rw inv.header at takes.read.in_range in
     node_moved (grid_at now) problem.grid (length problem.agents) size (node_of c.in-Some.item) in_range
 
