@@ -9,3 +9,14 @@ pub mod PlanParts
 pub mod PathLaws
 pub mod PathsLaws
 pub mod PlanTexts
+pub mod Windows
+pub mod LineWindows
+pub mod Sequences
+pub mod Blocks
+pub mod Nodes
+pub mod EndWindows
+pub mod Rests
+pub mod Readings
+pub mod Headers
+pub mod CertTexts
+pub mod Collecting

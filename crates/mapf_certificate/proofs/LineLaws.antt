@@ -15,7 +15,7 @@ use Rattle.mapf_model.specs.Printed.{IsLabelInRange, IsEntryInRange, IsClaimInRa
 use Rattle.mapf_certificate.specs.declared.line.Line.{Line}
 use Rattle.mapf_certificate.specs.declared.line.Line.TheVariants as lines
 use Rattle.mapf_certificate.specs.declared.line.LineFault.{LineFault}
-use Rattle.mapf_certificate.specs.declared.line.LineFault.TheVariants.{Shape, Range}
+use Rattle.mapf_certificate.specs.declared.line.LineFault.TheVariants.{Shape}
 use Rattle.mapf_certificate.specs.declared.sizes.Sizes.{Sizes}
 use Rattle.mapf_certificate.specs.declared.tree_line.Due.{Due}
 use Rattle.mapf_certificate.specs.declared.tree_line.Due.TheVariants as dues
@@ -25,7 +25,7 @@ use Rattle.mapf_certificate.specs.Numbers.{◌>>=◌, field, pair, strip, read_f
 use Rattle.mapf_certificate.specs.Lines.{words, label_words, IsLine, IsTreeLine, IsAgentCount, grid_of, width_of}
 use Rattle.mapf_certificate.specs.LineReading.{read_title, read_count, read_cost, read_agents, read_claim, read_vertex, read_swap, read_leaf, read_clash, read_agent, read_label_word, label_in_range, read_entry, read_tree_line, read_line}
 use Rattle.mapf_certificate.proofs.Strips.{strip-some}
-use Rattle.mapf_certificate.proofs.Fields.{guarded, through, same_ok, IsPastDigits, field_takes, field_again, last_takes, last_again, pair_takes, pair_again, below_takes, below_again, range_takes, range_again, cell_takes, cell_again, row-below}
+use Rattle.mapf_certificate.proofs.Fields.{guarded, through, same_ok, IsPastDigits, field_takes, field_again, last_takes, last_again, pair_takes, pair_again, below_takes, below_again, range_takes, range_again, cell_again, row-below}
 
 -- what a line is read to is spelled by it, in its ranges
 abbrev Takes : Sizes → List ℕ → Line → Type 0

@@ -1,14 +1,11 @@
 -- The pairs of a path's line, and the paths of a plan, read one after another.
-use Rattle.std.proofs.Common.{◌≡◌, ◌≢◌, ℕ, ◌<◌, ◌≤◌, ◌^◌, ◌+◌, ◌-◌, ◌*◌, ◌/◌, ◌%◌, Bool, true, false, cond, List, [], ◌∷◌, ◌++◌, codes, length, get_or, take, drop, Option, Some, None, Result, Ok, Err, refl, sym, ap, subst, ◌∙◌, arith, append_assoc, append-nil, length-append, length-drop, All, inl, inr, ◌⊎◌, ◌==◌, suc, zero, is_ok, is_err}
-use Rattle.std.specs.List.{flat_map}
+use Rattle.std.proofs.Common.{◌≡◌, ◌≢◌, ℕ, ◌<◌, ◌≤◌, ◌^◌, ◌/◌, ◌%◌, Bool, true, false, cond, List, [], ◌∷◌, ◌++◌, length, Option, Some, Result, Ok, Err, refl, sym, ap, subst, ◌∙◌, arith, append_assoc, append-nil, length-drop, All, ◌==◌, suc, zero, is_ok, is_err}
 use Rattle.std.proofs.lemmas.List.Elements.{All-append}
 use Rattle.std.proofs.lemmas.Grind.{flat_map-append, common_steps}
-use Rattle.mapf_model.specs.Grid.{GridMap}
-use Rattle.mapf_model.specs.Printed.{IsOnGrid, IsPathInRange}
-use Rattle.mapf_certificate.specs.declared.line.LineFault.{LineFault}
-use Rattle.mapf_certificate.specs.declared.line.LineFault.TheVariants.{Shape, Range}
+use Rattle.mapf_model.specs.Printed.{IsOnGrid}
+use Rattle.mapf_certificate.specs.declared.line.LineFault.TheVariants.{Shape}
 use Rattle.mapf_certificate.specs.declared.sizes.Sizes.{Sizes}
-use Rattle.mapf_certificate.specs.Numbers.{◌>>=◌, field, pair, begins_well, front_digits, after_digits, read_number, read_field, read_pair}
+use Rattle.mapf_certificate.specs.Numbers.{field, pair, begins_well, front_digits, after_digits, read_number, read_field, read_pair}
 use Rattle.mapf_certificate.specs.Lines.{grid_of}
 use Rattle.std.specs.Fmt.{decimal}
 use Rattle.mapf_certificate.specs.Plans.{cells_text, path_words, ticks_of, HasCells, GoesOn}

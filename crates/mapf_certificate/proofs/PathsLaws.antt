@@ -1,17 +1,15 @@
 -- The paths of a plan, read one after another.
-use Rattle.std.proofs.Common.{◌≡◌, ℕ, ◌<◌, ◌≤◌, ◌^◌, ◌+◌, ◌-◌, ◌&&◌, Bool, true, false, not, List, [], ◌∷◌, ◌++◌, codes, length, Some, None, Result, Ok, Err, refl, sym, ap, subst, ◌∙◌, arith, append_assoc, append-nil, length-append, All, ◌==◌, sum_by}
-use Rattle.std.specs.List.{list_all}
+use Rattle.std.proofs.Common.{◌≡◌, ℕ, ◌<◌, ◌+◌, ◌-◌, ◌&&◌, true, not, List, [], ◌∷◌, ◌++◌, codes, length, Ok, refl, sym, ap, subst, ◌∙◌, arith, append_assoc, append-nil, length-append, All, ◌==◌}
 use Rattle.std.proofs.lemmas.List.Elements.{All-append, All-tail}
 use Rattle.std.proofs.lemmas.List.Folds.{list_all-append}
 use Rattle.std.proofs.lemmas.List.Sums.{sum_by-append}
 use Rattle.mapf_model.specs.Printed.{IsOnGrid, IsPathInRange}
 use Rattle.mapf_certificate.specs.declared.sizes.Sizes.{Sizes}
-use Rattle.mapf_certificate.specs.declared.plan_text.PlanTextFault.{PlanTextFault}
 use Rattle.mapf_certificate.specs.Numbers.{field, pair}
-use Rattle.mapf_certificate.specs.Lines.{grid_of, lacks_end, IsCut}
-use Rattle.mapf_certificate.specs.Plans.{cells_text, path_words, path_text, paths_text, ticks_of, cost_of, ArePaths, PathsGoOn}
+use Rattle.mapf_certificate.specs.Lines.{grid_of, lacks_end}
+use Rattle.mapf_certificate.specs.Plans.{cells_text, path_words, path_text, paths_text, ticks_of, ArePaths, PathsGoOn}
 use Rattle.mapf_certificate.specs.PlanReading.{next_line}
-use Rattle.mapf_certificate.proofs.PlainLines.{plain-field, plain-pair, plain-word}
+use Rattle.mapf_certificate.proofs.PlainLines.{plain-field, plain-pair}
 use Rattle.mapf_certificate.proofs.PlanParts.{line_takes, line_again}
 use Rattle.mapf_certificate.proofs.PathLaws.{All-middle, All-one}
 

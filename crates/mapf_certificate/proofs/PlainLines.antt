@@ -1,14 +1,11 @@
 -- Where a line ends: no line has an LF in it, and none of a certificate is longer than 64 bytes.
-use Rattle.std.proofs.Common.{◌≡◌, ℕ, ◌<◌, ◌≤◌, ◌^◌, ◌+◌, ◌-◌, ◌/◌, ◌%◌, ◌*◌, ◌&&◌, Bool, true, false, not, cond, List, [], ◌∷◌, ◌++◌, codes, length, Option, Some, None, Ok, refl, sym, ap, subst, ◌∙◌, arith, append_assoc, length-append, ◌==◌}
-use Rattle.std.specs.Char.{digit_value}
+use Rattle.std.proofs.Common.{◌≡◌, ℕ, ◌<◌, ◌≤◌, ◌^◌, ◌+◌, ◌/◌, ◌%◌, ◌*◌, ◌&&◌, true, not, List, [], ◌∷◌, ◌++◌, codes, length, refl, sym, ap, subst, ◌∙◌, arith, append_assoc, length-append, ◌==◌}
 use Rattle.std.specs.Fmt.{decimal}
-use Rattle.std.specs.List.{list_all}
 use Rattle.std.specs.Str.Parse.{AllDigits}
 use Rattle.std.proofs.lemmas.Str.Parse.{digit_from_value}
 use Rattle.std.proofs.lemmas.Fmt.{decimal_is_IsNumeral, length-decimal-le}
 use Rattle.std.proofs.lemmas.List.Folds.{list_all-append}
 use Rattle.std.proofs.lemmas.Bool.Decides.{nat_tests}
-use Rattle.std.proofs.lemmas.Option.{some_pair_parts}
 use Rattle.mapf_model.specs.declared.item.Claim.TheVariants as claims
 use Rattle.mapf_model.specs.declared.label.Label.{Label}
 use Rattle.mapf_model.specs.declared.label.Label.TheVariants as labels
@@ -20,7 +17,7 @@ use Rattle.mapf_certificate.specs.declared.sizes.Sizes.{Sizes}
 use Rattle.mapf_certificate.specs.declared.tree_line.Due.{Due}
 use Rattle.mapf_certificate.specs.declared.tree_line.Due.TheVariants as dues
 use Rattle.mapf_certificate.specs.Numbers.{field, pair}
-use Rattle.mapf_certificate.specs.Lines.{lacks_end, IsCut, words, label_words, IsLine, IsTreeLine, grid_of, width_of}
+use Rattle.mapf_certificate.specs.Lines.{lacks_end, words, label_words, IsLine, IsTreeLine, grid_of, width_of}
 use Rattle.mapf_certificate.specs.LineReading.{read_line}
 use Rattle.mapf_certificate.specs.Certificates.{line_text}
 use Rattle.mapf_certificate.proofs.Fields.{both, row-below, same_ok}

@@ -1,23 +1,21 @@
 -- Lines of a plan text: what is read is spelled so, and what is spelled so is read.
-use Rattle.std.proofs.Common.{◌≡◌, ℕ, ◌<◌, ◌≤◌, ◌^◌, ◌+◌, Bool, true, false, cond, List, [], ◌∷◌, ◌++◌, codes, drop, Option, Some, None, Result, Ok, Err, refl, sym, ap, subst, ◌∙◌, arith, inl, inr, ◌⊎◌}
+use Rattle.std.proofs.Common.{◌≡◌, ℕ, ◌<◌, ◌≤◌, ◌^◌, Bool, true, false, cond, List, ◌++◌, codes, drop, Ok, Err, refl, ap, subst, ◌∙◌, arith, inl, inr}
 use Rattle.std.specs.Fmt.{decimal}
 use Rattle.std.specs.Str.{bytes_eq}
 use Rattle.std.specs.Str.Parse.{AllDigits}
-use Rattle.std.specs.Option.{option_map_or}
 use Rattle.std.proofs.lemmas.Fmt.{decimal_is_IsNumeral}
 use Rattle.std.proofs.lemmas.Slice.Eq.{bytes_eq-Decides}
 use Rattle.mapf_model.specs.declared.cause.Cause.TheVariants.{Splits, Ticks}
-use Rattle.mapf_certificate.specs.declared.line.LineFault.{LineFault}
-use Rattle.mapf_certificate.specs.declared.line.LineFault.TheVariants.{Shape, Range}
+use Rattle.mapf_certificate.specs.declared.line.LineFault.TheVariants.{Shape}
 use Rattle.mapf_certificate.specs.declared.plan_lines.AnswerLine.{AnswerLine}
 use Rattle.mapf_certificate.specs.declared.plan_lines.AnswerLine.TheVariants as answers
-use Rattle.mapf_certificate.specs.Numbers.{◌>>=◌, strip, field, read_field, read_last, in_range}
+use Rattle.mapf_certificate.specs.Numbers.{◌>>=◌, field, read_last, in_range}
 use Rattle.mapf_certificate.specs.Lines.{IsAgentCount, lacks_end}
 use Rattle.mapf_certificate.specs.LineReading.{read_count, read_cost}
-use Rattle.mapf_certificate.specs.PlanReading.{agents_words, answer_words, IsAnswerLine, read_agents_line, read_limit, read_answer_line, something, read_path_front}
-use Rattle.mapf_certificate.proofs.Fields.{through, same_ok, field_takes, field_again, last_again, range_again, IsPastDigits}
+use Rattle.mapf_certificate.specs.PlanReading.{agents_words, answer_words, IsAnswerLine, read_agents_line, read_limit, read_answer_line}
+use Rattle.mapf_certificate.proofs.Fields.{through, same_ok, last_again, range_again}
 use Rattle.mapf_certificate.proofs.LineLaws.{chosen, front_takes, then_ok, last_range, count_takes, cost_takes, count_again, cost_again}
-use Rattle.mapf_certificate.proofs.PlainLines.{IsPlain, plain-append, plain-word, plain-field}
+use Rattle.mapf_certificate.proofs.PlainLines.{plain-append, plain-word, plain-field}
 
 pub agents_takes : (bs : List ℕ) (n : ℕ) → read_agents_line bs ≡ Ok n → IsAgentCount n × (bs ≡ agents_words n)
 unfolding read_agents_line

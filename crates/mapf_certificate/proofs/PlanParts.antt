@@ -1,19 +1,18 @@
 -- Parts of a plan text: what is read is spelled so, and what is spelled so is read.
-use Rattle.std.proofs.Common.{◌≡◌, ℕ, ◌<◌, ◌≤◌, ◌^◌, ◌+◌, ◌*◌, ◌/◌, ◌%◌, Bool, true, false, cond, List, [], ◌∷◌, ◌++◌, codes, Option, Some, None, Result, Ok, Err, refl, sym, ap, subst, ◌∙◌, arith, append_assoc, append-nil}
+use Rattle.std.proofs.Common.{◌≡◌, ℕ, ◌<◌, ◌^◌, ◌*◌, Bool, true, false, cond, List, [], ◌∷◌, ◌++◌, codes, Option, Some, None, Result, Ok, Err, refl, ap, ◌∙◌}
 use Rattle.std.specs.Str.{bytes_eq}
 use Rattle.std.specs.Option.{option_map_or}
 use Rattle.std.specs.Result.{result_ok}
 use Rattle.std.proofs.lemmas.Slice.Eq.{bytes_eq-Decides}
 use Rattle.mapf_certificate.specs.declared.line.LineFault.{LineFault}
 use Rattle.mapf_certificate.specs.declared.line.LineFault.TheVariants.{Shape, Range}
-use Rattle.mapf_certificate.specs.declared.plan_text.PlanTextFault.{PlanTextFault}
-use Rattle.mapf_certificate.specs.declared.plan_text.PlanTextFault.TheVariants.{P1, P2, P3, P4}
+use Rattle.mapf_certificate.specs.declared.plan_text.PlanTextFault.TheVariants.{P1, P2}
 use Rattle.mapf_certificate.specs.declared.plan_lines.AnswerLine.{AnswerLine}
 use Rattle.mapf_certificate.specs.declared.sizes.Sizes.{Sizes}
-use Rattle.mapf_certificate.specs.Numbers.{◌>>=◌, field, pair, strip, read_field, read_pair, read_cell}
+use Rattle.mapf_certificate.specs.Numbers.{field, pair, read_field, read_pair, read_cell}
 use Rattle.mapf_certificate.specs.Lines.{IsAgentCount, IsCut, lacks_end}
 use Rattle.mapf_certificate.specs.PlanReading.{cut, next_line, fault_at, next_words, next_agents, next_answer, nothing_after, read_end, read_pair_cell, read_path_front, something, agents_words, answer_words, IsAnswerLine, read_agents_line, read_answer_line}
-use Rattle.mapf_certificate.proofs.Fields.{through, same_ok, ok_pair_parts, pair_takes, field_takes, field_again, IsPastDigits, row-below, cell_again, pair_again}
+use Rattle.mapf_certificate.proofs.Fields.{through, same_ok, ok_pair_parts, pair_takes, field_takes, field_again, IsPastDigits}
 use Rattle.mapf_certificate.proofs.LineLaws.{then_ok, front_takes, pair_cell_again, cell_sizes_again}
 use Rattle.mapf_certificate.proofs.Cuts.{cut_is, cut_takes}
 use Rattle.mapf_certificate.proofs.PlanLaws.{agents_takes, agents_again, answer_takes, answer_again, agents_lack, answer_lacks}

@@ -1,5 +1,5 @@
 -- Whole plan texts: the first three lines, and what follows them.
-use Rattle.std.proofs.Common.{◌≡◌, ◌≢◌, ℕ, ◌<◌, ◌≤◌, ◌+◌, ◌*◌, ◌-◌, List, [], ◌∷◌, ◌++◌, codes, length, Result, Ok, Err, refl, sym, ap, subst, ◌∙◌, arith, append_assoc, All}
+use Rattle.std.proofs.Common.{◌≡◌, ◌≢◌, ℕ, ◌<◌, ◌≤◌, ◌*◌, List, [], ◌∷◌, ◌++◌, codes, length, Ok, refl, ap, subst, ◌∙◌, arith, append_assoc, All}
 use Rattle.std.proofs.lemmas.List.Elements.{All-head, All-tail, All-weaker}
 use Rattle.std.proofs.lemmas.List.Sums.{sum_by-append}
 use Rattle.mapf_model.specs.declared.cause.Cause.{Cause}
@@ -9,11 +9,10 @@ use Rattle.mapf_model.specs.Printed.{IsPathInRange}
 use Rattle.mapf_certificate.specs.declared.plan_text.PlanText.{PlanText}
 use Rattle.mapf_certificate.specs.declared.plan_text.PlanAnswer.{PlanAnswer}
 use Rattle.mapf_certificate.specs.declared.plan_text.PlanAnswer.TheVariants as texts
-use Rattle.mapf_certificate.specs.declared.plan_text.PlanTextFault.{PlanTextFault}
 use Rattle.mapf_certificate.specs.declared.plan_lines.AnswerLine.{AnswerLine}
 use Rattle.mapf_certificate.specs.declared.plan_lines.AnswerLine.TheVariants as answers
-use Rattle.mapf_certificate.specs.Numbers.{◌>>=◌, field}
-use Rattle.mapf_certificate.specs.Lines.{IsAgentCount, grid_of}
+use Rattle.mapf_certificate.specs.Numbers.{field}
+use Rattle.mapf_certificate.specs.Lines.{IsAgentCount}
 use Rattle.mapf_certificate.specs.Plans.{paths_text, cost_of, ticks_of, answer_text, plan_text, IsAnswer, IsPlanText}
 use Rattle.mapf_certificate.specs.PlanReading.{next_words, next_agents, next_answer, agents_words, answer_words, IsAnswerLine, read_header, line_of, rest_of}
 use Rattle.mapf_certificate.proofs.Fields.{through, same_ok}

@@ -6,7 +6,7 @@ use Rattle.mapf_model.specs.declared.item.Item.{Item}
 use Rattle.mapf_model.specs.declared.conflict.Conflict.TheVariants as conflicts
 use Rattle.mapf_model.specs.declared.label.Entry.{Entry}
 use Rattle.mapf_model.specs.Blocks.{LabelBlock}
-use Rattle.mapf_model.specs.Grid.{GridMap}
+use Rattle.mapf_model.specs.Grid.{GridMap, IsGridMap}
 use Rattle.mapf_model.specs.Printed.{IsConflictInRange, AreBlocksInRange, IsClaimInRange, IsTreeInRange}
 use Rattle.mapf_model.specs.Tree.{ConstraintTree, Node, SplitNode, LeafNode, ClashNode, node_of, nodes_of, nodes_of_all}
 use Rattle.mapf_certificate.specs.declared.line.Line.{Line}
@@ -62,9 +62,15 @@ IsNode grid agents (SplitNode conflict) = IsConflictInRange grid agents conflict
 IsNode grid agents (LeafNode blocks) = AreBlocksInRange grid agents blocks
 IsNode grid agents (ClashNode i j) = (i < agents) × (j < agents)
 
--- what is still to come of a certificate, for a number of trees that are owed
-pub record IsRest (grid : GridMap) (agents owed : ℕ) (bytes : List ℕ) : Type 0 where
+-- what is still to come of a certificate: nodes that complete so many trees, and the end
+pub record IsRest (grid : GridMap) (agents owed : ℕ) (nodes : List Node) (bytes : List ℕ) : Type 0 where
   pub trees : List ConstraintTree
   pub count : length trees ≡ owed
   pub in_range : All (IsTreeInRange grid agents) trees
-  pub spelled : bytes ≡ rest_text grid.width (nodes_of_all trees)
+  pub same : nodes ≡ nodes_of_all trees
+  pub spelled : bytes ≡ rest_text grid.width nodes
+
+-- no bytes spell two certificates
+abbrev pub SpellsOneCert : Type 0
+SpellsOneCert = (grid : GridMap) (bytes : List ℕ) (agents agents' : ℕ) (claim claim' : Claim) (tree tree' : ConstraintTree) → IsGridMap grid
+    → SpellsCert grid bytes agents claim tree → SpellsCert grid bytes agents' claim' tree' → (agents ≡ agents') × (claim ≡ claim') × (tree ≡ tree')

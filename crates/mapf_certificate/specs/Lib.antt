@@ -4,6 +4,8 @@ pub mod LineReading
 pub mod Certificates
 pub mod Plans
 pub mod PlanReading
+pub mod Buffered
 pub mod Window
 pub mod Reading
+pub mod CertReading
 pub mod Untouched

@@ -1,9 +1,10 @@
 -- How far a certificate was read from its source.
-use Rattle.std.specs.Prelude.{◌≡◌, ◌+◌, ◌≤◌, ◌^◌, ℕ, Bool, Option, IfSome}
+use Rattle.std.specs.Prelude.{◌+◌, ◌≤◌, ◌^◌, ℕ, Bool, Option, Some, None, IfSome}
 use Rattle.mapf_model.specs.declared.item.Claim.{Claim}
+use Rattle.mapf_model.specs.Grid.{GridMap}
 use Rattle.mapf_certificate.specs.declared.cert.LinesFault.{LinesFault}
-use Rattle.mapf_certificate.specs.Lines.{IsAgentCount}
-use Rattle.mapf_certificate.specs.Window.{Buffered, spare}
+use Rattle.mapf_certificate.specs.Lines.{IsAgentCount, grid_of}
+use Rattle.mapf_certificate.specs.Buffered.{Buffered, spare}
 
 pub record Reading : Type 0 where
   pub width : ℕ
@@ -20,3 +21,15 @@ pub record IsReading (r : Reading) : Type 0 where
   pub rows : (1 ≤ r.height) × (r.height ≤ 2048)
   pub agents : IfSome r.header (λ h. IsAgentCount h.0)
   pub bounded : r.owed + spare r.buffer ≤ 2 ^ 64
+
+-- the size of the grid; which cells are free plays no part
+abbrev pub grid_at : Reading → GridMap
+grid_at r = grid_of r.width r.height
+
+-- the header's number of agents
+abbrev pub agents_in : Option (ℕ × Claim) → ℕ
+agents_in (Some (agents, claim)) = agents
+agents_in None = 0
+
+abbrev pub agents_at : Reading → ℕ
+agents_at r = agents_in r.header

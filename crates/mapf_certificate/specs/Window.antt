@@ -1,11 +1,13 @@
--- What a call takes from a buffer and the source behind it.
-use Rattle.std.specs.Prelude.{◌≡◌, ◌+◌, ℕ, List, ◌++◌, length, Option}
-use Rattle.std.specs.Io.KnownBytes.{Consumes}
-
--- bytes that came and weren't taken yet, and how many more may come
-pub record Buffered : Type 0 where
-  pub bytes : List ℕ
-  pub left : ℕ
+-- What a call takes from a buffer and the source behind it, and why it takes nothing.
+use Rattle.std.specs.Prelude.{◌≡◌, ◌⊎◌, ◌+◌, ◌<◌, ℕ, Bool, true, List, [], ◌++◌, length, take, Option}
+use Rattle.std.specs.Io.KnownBytes.{Consumes, IsAtEnd}
+use Rattle.mapf_certificate.specs.declared.buffer.NoLine.{NoLine}
+use Rattle.mapf_certificate.specs.declared.buffer.NoLine.TheVariants as stops
+use Rattle.mapf_certificate.specs.declared.cert.CertFault.TheVariants as texts
+use Rattle.mapf_certificate.specs.declared.cert.LinesFault.{LinesFault}
+use Rattle.mapf_certificate.specs.declared.cert.LinesFault.TheVariants.{Text, Device, TooLong, Memory}
+use Rattle.mapf_certificate.specs.Buffered.{Buffered}
+use Rattle.mapf_certificate.specs.Lines.{lacks_end}
 
 -- the old bytes and then those that were pulled are those that were taken and then the new ones
 pub record Window (had left : Option (List ℕ)) (old new : Buffered) (taken : List ℕ) : Type 0 where
@@ -14,6 +16,90 @@ pub record Window (had left : Option (List ℕ)) (old new : Buffered) (taken : L
   pub same : old.bytes ++ pulled ≡ taken ++ new.bytes
   pub within : old.left ≡ new.left + length pulled
 
--- how many bytes may still be taken
-abbrev pub spare : Buffered → ℕ
-spare buffer = length buffer.bytes + buffer.left
+-- more bytes came than were left of the limit
+pub record Exceeds (had left : Option (List ℕ)) (buffer : Buffered) : Type 0 where
+  pub pulled : List ℕ
+  pub source : Consumes had left pulled
+  pub beyond : buffer.left < length pulled
+
+-- no text of this kind begins with what was in the buffer and then came; or nothing more comes, and that is none
+pub record Refuses (had left : Option (List ℕ)) (buffer : Buffered) (IsText : List ℕ → Type 0) : Type 0 where
+  pub pulled : List ℕ
+  pub source : Consumes had left pulled
+  pub wrong : ((more : List ℕ) → IsText ((buffer.bytes ++ pulled) ++ more) → ⊥) ⊎ (IsAtEnd left × (IsText (buffer.bytes ++ pulled) → ⊥))
+
+-- why a text of this kind isn't read: it isn't one, or the source failed, or too many bytes came, or memory was refused
+abbrev pub Fails : Option (List ℕ) → Option (List ℕ) → Bool → Buffered → (List ℕ → Type 0) → LinesFault → Type 0
+Fails had left failed buffer IsText (Text (texts.K1 line)) = Refuses had left buffer IsText
+Fails had left failed buffer IsText (Text (texts.K2 line)) = Refuses had left buffer IsText
+Fails had left failed buffer IsText (Text (texts.K3 line)) = Refuses had left buffer IsText
+Fails had left failed buffer IsText (Text (texts.K4 line)) = Refuses had left buffer IsText
+Fails had left failed buffer IsText (Text texts.Memory) = ⊥
+Fails had left failed buffer IsText Device = failed ≡ true
+Fails had left failed buffer IsText TooLong = Exceeds had left buffer
+Fails had left failed buffer IsText Memory = Unit {0}
+
+-- the fault isn't one of the text
+abbrev pub IsNoTextFault : LinesFault → Type 0
+IsNoTextFault (Text fault) = ⊥
+IsNoTextFault Device = Unit {0}
+IsNoTextFault TooLong = Unit {0}
+IsNoTextFault Memory = Unit {0}
+
+-- what stops a reader other than the text: the source failed, or too many bytes came, or memory was refused
+abbrev pub Stops : Option (List ℕ) → Option (List ℕ) → Bool → Buffered → LinesFault → Type 0
+Stops had left failed buffer (Text fault) = Unit {0}
+Stops had left failed buffer Device = failed ≡ true
+Stops had left failed buffer TooLong = Exceeds had left buffer
+Stops had left failed buffer Memory = Unit {0}
+
+-- the fault is one of the text
+abbrev pub IsTextFault : LinesFault → Type 0
+IsTextFault (Text (texts.K1 line)) = Unit {0}
+IsTextFault (Text (texts.K2 line)) = Unit {0}
+IsTextFault (Text (texts.K3 line)) = Unit {0}
+IsTextFault (Text (texts.K4 line)) = Unit {0}
+IsTextFault (Text texts.Memory) = ⊥
+IsTextFault Device = ⊥
+IsTextFault TooLong = ⊥
+IsTextFault Memory = ⊥
+
+-- the fault that says why no line is there
+abbrev pub Tells : NoLine → LinesFault → Type 0
+Tells stops.Ended fault = IsTextFault fault
+Tells stops.Overlong fault = IsTextFault fault
+Tells stops.Device fault = fault ≡ Device
+Tells stops.PastLimit fault = fault ≡ TooLong
+
+-- the bytes begin with a spelled value
+pub record BeginsWith (A : Type 0) (Is : A → Type 0) (text : A → List ℕ) (bytes : List ℕ) : Type 0 where
+  pub value : A
+  pub is : Is value
+  pub rest : List ℕ
+  pub spelled : bytes ≡ text value ++ rest
+
+-- the source ended before a line did
+pub record EndsEarly (had left : Option (List ℕ)) (old new : Buffered) : Type 0 where
+  pub window : Window had left old new []
+  pub ended : IsAtEnd left
+  pub lacking : lacks_end new.bytes ≡ true
+
+-- more than 64 bytes stand before the end of a line
+pub record IsOverlong (had left : Option (List ℕ)) (old new : Buffered) : Type 0 where
+  pub window : Window had left old new []
+  pub many : 64 < length new.bytes
+  pub lacking : lacks_end (take 65 new.bytes) ≡ true
+
+-- why no line is there
+abbrev pub LacksLine : Option (List ℕ) → Option (List ℕ) → Bool → Buffered → Buffered → NoLine → Type 0
+LacksLine had left failed old new stops.Ended = EndsEarly had left old new
+LacksLine had left failed old new stops.Overlong = IsOverlong had left old new
+LacksLine had left failed old new stops.Device = failed ≡ true
+LacksLine had left failed old new stops.PastLimit = Exceeds had left old
+
+-- why no bytes came
+abbrev pub LacksBytes : Option (List ℕ) → Option (List ℕ) → Bool → Buffered → NoLine → Type 0
+LacksBytes had left failed buffer stops.Ended = ⊥
+LacksBytes had left failed buffer stops.Overlong = ⊥
+LacksBytes had left failed buffer stops.Device = failed ≡ true
+LacksBytes had left failed buffer stops.PastLimit = Exceeds had left buffer

@@ -1,7 +1,10 @@
 ghost use Rattle.std.specs.Io.KnownBytes.{IsAtEnd};
-ghost use Rattle.mapf_certificate.specs.Window.{Window, spare};
-ghost use Rattle.std.specs.Prelude.{[], ◌++◌, take, ◌≡◌, ◌<◌, ◌≤◌, ◌+◌, ◌==◌, List, ℕ, length, drop, IfOk, IfSome, OnOk, OnErr, vec_len, vec_capacity, false, true};
+ghost use Rattle.mapf_certificate.specs.Buffered.{spare};
+ghost use Rattle.mapf_certificate.specs.Lines.{IsCut, lacks_end};
+ghost use Rattle.mapf_certificate.specs.Window.{Window, LacksLine, LacksBytes};
+ghost use Rattle.std.specs.Prelude.{[], ◌++◌, take, ◌≡◌, ◌<◌, ◌≤◌, ◌+◌, ◌==◌, List, ℕ, length, drop, IfOk, IfErr, IfSome, IfNone, OnOk, OnErr, vec_len, vec_capacity, false, true};
 
+use crate::ends::line_length;
 use mapf_model::{Failed, OutOfMemory, Source};
 use std::alloc::Global;
 use std::marker::Model;
@@ -21,7 +24,7 @@ pub struct LineBuffer {
 
 impl Model for LineBuffer {
     ghost use Rattle.std.specs.Prelude.{◌≤◌, ◌+◌, drop, vec_len, vec_capacity};
-    ghost use Rattle.mapf_certificate.specs.Window.{Buffered};
+    ghost use Rattle.mapf_certificate.specs.Buffered.{Buffered};
 
     ghost Value = { Buffered };
 
@@ -45,10 +48,10 @@ pub enum NoLine {
 
 /// The length of the line that bytes begin with. It is at most 64.
 fn line_end(bytes: &[u8]) -> Option<usize>
-    ensures within { IfSome result (λ n. n < length bytes.now) }
+    ensures line { IfSome result (λ n. (n < length bytes.now) × IsCut bytes.now (take n bytes.now) (drop (n + 1) bytes.now)) }
+    ensures none { IfNone result (lacks_end (take 65 bytes.now) ≡ true) }
 {
-    let most = bytes.len().min(65);
-    bytes[..most].iter().position(|b| *b == b'\n')
+    line_length(&bytes[..bytes.len().min(65)])
 }
 
 impl LineBuffer {
@@ -97,7 +100,8 @@ impl LineBuffer {
         requires room { length self.old.bytes ≤ 64 }
         ensures window { OnOk result (Window (S.remaining source.old) (S.remaining source.new) self.old self.new []) }
         ensures grows { IfOk result (λ more. more ≡ true → length self.old.bytes < length self.new.bytes) }
-        ensures end { IfOk result (λ more. more ≡ false → IsAtEnd (S.remaining source.new)) }
+        ensures end { IfOk result (λ more. more ≡ false → IsAtEnd (S.remaining source.new) × (self.new.bytes ≡ self.old.bytes)) }
+        ensures stopped { IfErr result (LacksBytes (S.remaining source.old) (S.remaining source.new) (S.has_failed source.new) self.old) }
         ensures works { OnOk result (S.has_failed source.new ≡ false) }
         ensures spare { spare self.new ≡ spare self.old }
     {
@@ -131,7 +135,8 @@ impl LineBuffer {
     pub fn ready<S: Source>(&mut self, source: &mut S) -> Result<usize, NoLine>
         requires { S.has_failed source.old ≡ false }
         ensures window { OnOk result (Window (S.remaining source.old) (S.remaining source.new) self.old self.new []) }
-        ensures within { IfOk result (λ n. n < length self.new.bytes) }
+        ensures line { IfOk result (λ n. (n < length self.new.bytes) × IsCut self.new.bytes (take n self.new.bytes) (drop (n + 1) self.new.bytes)) }
+        ensures stopped { IfErr result (LacksLine (S.remaining source.old) (S.remaining source.new) (S.has_failed source.new) self.old self.new) }
         ensures works { OnOk result (S.has_failed source.new ≡ false) }
         ensures spare { spare self.new ≡ spare self.old }
     {

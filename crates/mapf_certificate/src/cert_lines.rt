@@ -1,7 +1,16 @@
-ghost use Rattle.mapf_certificate.specs.Lines.{IsAgentCount};
-ghost use Rattle.mapf_certificate.specs.Window.{spare};
+ghost use Rattle.mapf_certificate.specs.Buffered.{spare};
+ghost use Rattle.mapf_certificate.specs.CertReading.{HasHeader, IsRestAt, Awaits, AwaitsCert, TakesHeader, TakesNode, TakesEnd, ReadsEnd, CompletesNode, owed_after};
+ghost use Rattle.mapf_certificate.specs.Certificates.{IsNode, line_text, node_text, header_text};
+ghost use Rattle.mapf_certificate.specs.Lines.{IsAgentCount, IsTreeLine, grid_of};
+ghost use Rattle.mapf_certificate.specs.Reading.{Reading};
 ghost use Rattle.mapf_certificate.specs.Untouched.{IsUntouched};
-ghost use Rattle.std.specs.Prelude.{[], Some, true, IfErr, ◌^◌, ◌≡◌, ◌<◌, ◌≤◌, ◌+◌, IfOk, IfSome, IsSome, OnOk, None, false};
+ghost use Rattle.mapf_certificate.specs.Window.{Window, BeginsWith, Fails, IsNoTextFault};
+ghost use Rattle.mapf_certificate.specs.declared.line.Line.TheVariants.{End};
+ghost use Rattle.mapf_model.specs.declared.item.Claim.{Claim};
+ghost use Rattle.mapf_model.specs.Printed.{IsClaimInRange};
+ghost use Rattle.mapf_model.specs.Tree.{Node, node_of};
+ghost use Rattle.std.specs.Io.KnownBytes.{IsAtEnd};
+ghost use Rattle.std.specs.Prelude.{[], ◌∷◌, ◌++◌, ℕ, List, Some, true, IfErr, ◌^◌, ◌≡◌, ◌<◌, ◌≤◌, ◌+◌, IfOk, IfSome, IsSome, IsSomeAnd, OnOk, None, false, MatchOption, MatchResult};
 
 use crate::cert::LinesFault;
 use crate::line::Line;
@@ -105,6 +114,15 @@ impl CertLines {
         ensures repeats_fault { IfSome self.old.fault (λ fault. (result ≡ Err fault) × IsUntouched self.old self.new source.old source.new) }
         ensures repeats_header { self.old.fault ≡ None → IfSome self.old.header (λ h. (result ≡ Ok h) × IsUntouched self.old self.new source.old source.new) }
 
+        // What the bytes say.
+        ensures header { self.old.fault ≡ None → self.old.header ≡ None → IfOk result (λ h. TakesHeader (S.remaining source.old) (S.remaining source.new) self.old self.new h.0 h.1) }
+        ensures fails { self.old.fault ≡ None → IfErr result (Fails (S.remaining source.old) (S.remaining source.new) (S.has_failed source.new) self.old.buffer (HasHeader self.old.width)) }
+        ensures only { (agents : ℕ) (claim : Claim) (nodes : List Node) → self.old.fault ≡ None → self.old.header ≡ None → AwaitsCert (S.remaining source.old) self.old agents claim nodes
+            → MatchResult result (λ h. (h.0 ≡ agents) × (h.1 ≡ claim) × Awaits (S.remaining source.new) self.new nodes) IsNoTextFault }
+
+        ensures grid { (self.new.width ≡ self.old.width) × (self.new.height ≡ self.old.height) }
+        ensures owed { self.new.owed ≡ self.old.owed }
+        ensures part { self.new.is_whole ≡ self.old.is_whole }
         ensures known { IfOk result (λ h. self.new.header ≡ Some h) }
         ensures unfaulted { OnOk result (self.new.fault ≡ None) }
         ensures works { OnOk result (S.has_failed source.new ≡ false) }
@@ -132,6 +150,16 @@ impl CertLines {
         ensures repeats_fault { IfSome self.old.fault (λ fault. (result ≡ Err fault) × IsUntouched self.old self.new source.old source.new) }
         ensures repeats_end { self.old.fault ≡ None → self.old.is_whole ≡ true → (result ≡ Ok None) × IsUntouched self.old self.new source.old source.new }
 
+        // What the bytes say.
+        ensures item { self.old.fault ≡ None → self.old.is_whole ≡ false → IfOk result (λ o. IfSome o (λ item. TakesNode (S.remaining source.old) (S.remaining source.new) self.old self.new (node_of item))) }
+        ensures end { self.old.fault ≡ None → self.old.is_whole ≡ false → IfOk result (λ o. o ≡ None → TakesEnd (S.remaining source.old) (S.remaining source.new) self.old self.new) }
+        ensures fails { self.old.fault ≡ None → IfErr result (Fails (S.remaining source.old) (S.remaining source.new) (S.has_failed source.new) self.old.buffer (IsRestAt self.old)) }
+        ensures only_item { (node : Node) (nodes : List Node) → self.old.fault ≡ None → self.old.is_whole ≡ false → Awaits (S.remaining source.old) self.old (node ∷ nodes)
+            → MatchResult result (λ o. IsSomeAnd o (λ item. (node_of item ≡ node) × Awaits (S.remaining source.new) self.new nodes)) IsNoTextFault }
+        ensures only_end { self.old.fault ≡ None → self.old.is_whole ≡ false → Awaits (S.remaining source.old) self.old [] → MatchResult result (λ o. o ≡ None) IsNoTextFault }
+
+        ensures grid { (self.new.width ≡ self.old.width) × (self.new.height ≡ self.old.height) }
+        ensures part { IfOk result (λ o. IsSome o → self.new.is_whole ≡ false) }
         ensures known { self.new.header ≡ self.old.header }
         ensures unfaulted { OnOk result (self.new.fault ≡ None) }
         ensures works { OnOk result (S.has_failed source.new ≡ false) }
@@ -161,6 +189,13 @@ impl CertLines {
         requires header { IsSome self.old.header }
         ensures unfaulted { self.new.fault ≡ self.old.fault }
         ensures header { self.new.header ≡ self.old.header }
+        ensures part { self.new.is_whole ≡ self.old.is_whole }
+        ensures grid { (self.new.width ≡ self.old.width) × (self.new.height ≡ self.old.height) }
+        ensures item { IfOk result (λ o. IfSome o (λ item. TakesNode (S.remaining source.old) (S.remaining source.new) self.old self.new (node_of item))) }
+        ensures end { IfOk result (λ o. o ≡ None → ReadsEnd (S.remaining source.old) (S.remaining source.new) self.old self.new) }
+        ensures fails { IfErr result (Fails (S.remaining source.old) (S.remaining source.new) (S.has_failed source.new) self.old.buffer (IsRestAt self.old)) }
+        ensures same { (node : Node) (nodes : List Node) → Awaits (S.remaining source.old) self.old (node ∷ nodes)
+            → IfOk result (λ o. IfSome o (λ item. (node_of item ≡ node) × Awaits (S.remaining source.new) self.new nodes)) }
         ensures works { OnOk result (S.has_failed source.new ≡ false) }
         ensures nearer { OnOk result (spare self.new.buffer < spare self.old.buffer) }
     {
@@ -187,7 +222,7 @@ impl CertLines {
 fn owed_after(owed: u64, item: &Item) -> u64
     requires some { 1 ≤ owed }
     requires few { owed + 1 < 2 ^ 64 }
-    ensures { result ≤ owed + 1 }
+    ensures { result ≡ owed_after owed (node_of item.now) }
 {
     match item {
         Item::Vertex { .. } | Item::Swap { .. } => owed + 1,
@@ -200,6 +235,11 @@ fn take_end<S: Source>(lines: &mut Lines, source: &mut S, line: &Line) -> Result
     requires { S.has_failed source.old ≡ false }
     ensures works { OnOk result (S.has_failed source.new ≡ false) }
     ensures spare { spare lines.new.buffer ≤ spare lines.old.buffer }
+    ensures end { OnOk result (line.now ≡ End) }
+    ensures taken { OnOk result (Window (S.remaining source.old) (S.remaining source.new) lines.old.buffer lines.new.buffer []) }
+    ensures ended { OnOk result (IsAtEnd (S.remaining source.new)) }
+    ensures empty { OnOk result (lines.new.buffer.bytes ≡ []) }
+    ensures fails { IfErr result (Fails (S.remaining source.old) (S.remaining source.new) (S.has_failed source.new) lines.old.buffer (λ text. (line.now ≡ End) × (text ≡ []))) }
 {
     match line {
         Line::End => lines.end(source),
@@ -215,9 +255,12 @@ fn item_of<S: Source>(
     sizes: &Sizes,
     line: &Line,
 ) -> Result<Item, LinesFault>
-    requires { S.has_failed source.old ≡ false }
+    requires works { S.has_failed source.old ≡ false }
+    requires line { IsTreeLine (grid_of sizes.now.width sizes.now.height) sizes.now.agents line.now }
     ensures works { OnOk result (S.has_failed source.new ≡ false) }
     ensures spare { spare lines.new.buffer ≤ spare lines.old.buffer }
+    ensures item { IfOk result (λ item. CompletesNode (grid_of sizes.now.width sizes.now.height) sizes.now.agents (S.remaining source.old) (S.remaining source.new) lines.old.buffer lines.new.buffer line.now (node_of item)) }
+    ensures fails { IfErr result (Fails (S.remaining source.old) (S.remaining source.new) (S.has_failed source.new) lines.old.buffer (λ text. BeginsWith Node (IsNode (grid_of sizes.now.width sizes.now.height) sizes.now.agents) (node_text sizes.now.width) (line_text sizes.now.width line.now ++ text))) }
 {
     match *line {
         Line::Vertex { i, j, cell, tick } => Ok(Item::Vertex { i, j, cell, tick }),
@@ -243,8 +286,11 @@ fn item_of<S: Source>(
 fn read_header<S: Source>(lines: &mut Lines, source: &mut S) -> Result<(u32, Claim), LinesFault>
     requires { S.has_failed source.old ≡ false }
     ensures agents { IfOk result (λ h. IsAgentCount h.0) }
+    ensures claim { IfOk result (λ h. IsClaimInRange h.1) }
     ensures works { OnOk result (S.has_failed source.new ≡ false) }
     ensures spare { spare lines.new.buffer ≤ spare lines.old.buffer }
+    ensures taken { (width : ℕ) → IfOk result (λ h. Window (S.remaining source.old) (S.remaining source.new) lines.old.buffer lines.new.buffer (header_text width h.0 h.1)) }
+    ensures fails { (width : ℕ) → IfErr result (Fails (S.remaining source.old) (S.remaining source.new) (S.has_failed source.new) lines.old.buffer (HasHeader width)) }
 {
     lines.next(source, &Due::Title)?;
     let Line::Agents(agents) = lines.next(source, &Due::Agents)? else {

@@ -1,12 +1,18 @@
-ghost use Rattle.std.specs.Prelude.{◌≡◌, ◌<◌, IfOk, OnOk, IsSome, Some, None};
-ghost use Rattle.mapf_certificate.specs.Window.{spare};
+ghost use Rattle.mapf_certificate.specs.CertReading.{IsSpelled, IsCertOf, AwaitsCert};
+ghost use Rattle.mapf_certificate.specs.Certificates.{SpellsCert};
+ghost use Rattle.mapf_certificate.specs.Window.{Stops, IsNoTextFault};
+ghost use Rattle.mapf_model.specs.declared.item.Claim.{Claim};
+ghost use Rattle.mapf_model.specs.Tree.{ConstraintTree, Node, node_of};
+ghost use Rattle.std.specs.Prelude.{◌≡◌, ℕ, List, Some, None, false, map, IfOk, IfErr, MatchResult};
 
 use crate::cert::{Cert, CertFault, LinesFault};
 use crate::cert_lines::CertLines;
-use mapf_model::{BytesSource, Claim, Grid, Item};
+use mapf_model::{BytesSource, Grid, Source};
 use std::alloc::Global;
 
-fn fault_in_memory(fault: LinesFault) -> CertFault {
+fn fault_in_memory(fault: LinesFault) -> CertFault
+    ensures { fault ≡ LinesFault.Memory → result ≡ CertFault.Memory }
+{
     match fault {
         LinesFault::Text(fault) => fault,
         LinesFault::Memory => CertFault::Memory,
@@ -14,40 +20,26 @@ fn fault_in_memory(fault: LinesFault) -> CertFault {
     }
 }
 
-fn header_of(lines: &mut CertLines, source: &mut BytesSource) -> Result<(u32, Claim), CertFault>
-    ensures known { IfOk result (λ h. lines.new.header ≡ Some h) }
-    ensures unfaulted { OnOk result (lines.new.fault ≡ None) }
+/// The certificate that a source gives.
+fn collect<S: Source>(
+    alloc: Global,
+    lines: &mut CertLines,
+    source: &mut S,
+) -> Result<Cert, LinesFault>
+    requires works { S.has_failed source.old ≡ false }
+    requires unfaulted { lines.old.fault ≡ None }
+    requires unread { lines.old.header ≡ None }
+    requires part { lines.old.is_whole ≡ false }
+    ensures found { IfOk result (λ cert. (bytes : List ℕ) → S.remaining source.old ≡ Some bytes → AwaitsCert (S.remaining source.old) lines.old cert.agents cert.claim (map node_of cert.tree.items)) }
+    ensures only { (agents : ℕ) (claim : Claim) (nodes : List Node) → AwaitsCert (S.remaining source.old) lines.old agents claim nodes
+        → MatchResult result (λ cert. (cert.agents ≡ agents) × (cert.claim ≡ claim) × (map node_of cert.tree.items ≡ nodes)) IsNoTextFault }
+    ensures stops { IfErr result (Stops (S.remaining source.old) (S.remaining source.new) (S.has_failed source.new) lines.old.buffer) }
 {
-    match lines.header(source) {
-        Ok(header) => Ok(header),
-        Err(fault) => Err(fault_in_memory(fault)),
-    }
-}
-
-fn item_of(lines: &mut CertLines, source: &mut BytesSource) -> Result<Option<Item>, CertFault>
-    requires { IsSome lines.old.header }
-    ensures known { lines.new.header ≡ lines.old.header }
-    ensures unfaulted { OnOk result (lines.new.fault ≡ None) }
-    ensures nearer { IfOk result (λ o. IsSome o → spare lines.new.buffer < spare lines.old.buffer) }
-{
-    match lines.next_item(source) {
-        Ok(item) => Ok(item),
-        Err(fault) => Err(fault_in_memory(fault)),
-    }
-}
-
-/// Reads a certificate for a grid of this size.
-pub fn read_cert(alloc: Global, bytes: &[u8], grid: &Grid) -> Result<Cert, CertFault> {
-    let mut source = BytesSource::of(bytes);
-    let Ok(mut lines) = CertLines::open(alloc, grid.width(), grid.height(), bytes.len() as u64)
-    else {
-        return Err(CertFault::Memory);
-    };
-    let (agents, claim) = header_of(&mut lines, &mut source)?;
+    let (agents, claim) = lines.header(source)?;
     let mut tree = Vec::new(alloc);
-    while let Some(item) = item_of(&mut lines, &mut source)? {
+    while let Some(item) = lines.next_item(source)? {
         if tree.push(item).is_err() {
-            return Err(CertFault::Memory);
+            return Err(LinesFault::Memory);
         }
     }
     Ok(Cert {
@@ -55,4 +47,22 @@ pub fn read_cert(alloc: Global, bytes: &[u8], grid: &Grid) -> Result<Cert, CertF
         claim,
         tree,
     })
+}
+
+/// Reads a certificate for a grid of this size.
+pub fn read_cert(alloc: Global, bytes: &[u8], grid: &Grid) -> Result<Cert, CertFault>
+    // What is read is spelled so, in range.
+    ensures found { IfOk result (IsSpelled grid.now bytes.now) }
+    // What is spelled so is read, want of memory aside.
+    ensures only { (agents : ℕ) (claim : Claim) (tree : ConstraintTree) → SpellsCert grid.now bytes.now agents claim tree → MatchResult result (IsCertOf agents claim tree) (λ fault. fault ≡ CertFault.Memory) }
+{
+    let mut source = BytesSource::of(bytes);
+    let Ok(mut lines) = CertLines::open(alloc, grid.width(), grid.height(), bytes.len() as u64)
+    else {
+        return Err(CertFault::Memory);
+    };
+    match collect(alloc, &mut lines, &mut source) {
+        Ok(cert) => Ok(cert),
+        Err(fault) => Err(fault_in_memory(fault)),
+    }
 }

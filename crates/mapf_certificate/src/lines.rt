@@ -1,6 +1,14 @@
-ghost use Rattle.mapf_certificate.specs.Window.{spare};
-ghost use Rattle.mapf_certificate.specs.Lines.{IsLine};
-ghost use Rattle.std.specs.Prelude.{◌≡◌, ◌<◌, ◌≤◌, ◌+◌, IfOk, IfSome, OnOk, [], false};
+ghost use Rattle.mapf_certificate.specs.Buffered.{spare};
+ghost use Rattle.mapf_certificate.specs.CertReading.{AreInOrder, MayFollow};
+ghost use Rattle.mapf_certificate.specs.Certificates.{line_text, entry_text, entries_text, block_text, blocks_text};
+ghost use Rattle.mapf_certificate.specs.Lines.{IsLine, width_of, grid_of};
+ghost use Rattle.mapf_certificate.specs.Window.{Window, BeginsWith, Fails, IsTextFault, Tells};
+ghost use Rattle.mapf_certificate.specs.declared.line.Line.{Line};
+ghost use Rattle.mapf_model.specs.declared.label.Entry.{Entry};
+ghost use Rattle.mapf_model.specs.Blocks.{LabelBlock};
+ghost use Rattle.mapf_model.specs.Printed.{IsBefore, IsEntryInRange, IsBlockInRange};
+ghost use Rattle.std.specs.Io.KnownBytes.{IsAtEnd};
+ghost use Rattle.std.specs.Prelude.{◌≡◌, ◌<◌, ◌≤◌, ◌+◌, ◌↔◌, IsTrue, List, ℕ, All, AllPairs, IfOk, IfErr, IfSome, OnOk, [], false};
 
 use crate::buffer::{LineBuffer, NoLine};
 use crate::cert::{CertFault, LinesFault};
@@ -19,18 +27,46 @@ pub struct Lines {
 }
 
 /// Whether the second entry may follow the first in a block.
-fn are_rising(a: &Entry, b: &Entry) -> bool {
+fn are_rising(a: &Entry, b: &Entry) -> bool
+    ensures { IsTrue result ↔ IsBefore a.now b.now }
+{
     a.tick < b.tick || (a.tick == b.tick && a.cell.0 < b.cell.0)
 }
 
-fn fault_of_line(line: u64, fault: LineFault) -> LinesFault {
+/// Whether the entry may come after these.
+fn follows_entries(before: &[Entry], entry: &Entry) -> bool
+    requires { AllPairs IsBefore before.now }
+    ensures { IsTrue result ↔ All (λ b. IsBefore b entry.now) before.now }
+{
+    match before.last() {
+        Some(last) => are_rising(last, entry),
+        None => true,
+    }
+}
+
+/// Whether a block of this agent may come after these.
+fn follows_blocks(before: &[Block], agent: u32) -> bool
+    requires { AllPairs (λ a b. a.agent < b.agent) before.now }
+    ensures { IsTrue result ↔ All (λ b. b.agent < agent) before.now }
+{
+    match before.last() {
+        Some(last) => last.agent < agent,
+        None => true,
+    }
+}
+
+fn fault_of_line(line: u64, fault: LineFault) -> LinesFault
+    ensures { IsTextFault result }
+{
     match fault {
         LineFault::Shape => LinesFault::Text(CertFault::K1(line)),
         LineFault::Range => LinesFault::Text(CertFault::K3(line)),
     }
 }
 
-fn fault_without_line(line: u64, why: NoLine) -> LinesFault {
+fn fault_without_line(line: u64, why: NoLine) -> LinesFault
+    ensures { Tells why result }
+{
     match why {
         NoLine::Ended => LinesFault::Text(CertFault::K2(line)),
         NoLine::Overlong => LinesFault::Text(CertFault::K1(line)),
@@ -55,7 +91,9 @@ impl Lines {
     }
 
     /// The line that was taken last doesn't fit where it stands.
-    pub fn misfit(&self) -> LinesFault {
+    pub fn misfit(&self) -> LinesFault
+        ensures { IsTextFault result }
+    {
         LinesFault::Text(CertFault::K1(self.count))
     }
 
@@ -66,6 +104,8 @@ impl Lines {
         ensures nearer { OnOk result (spare self.new.buffer + 2 ≤ spare self.old.buffer) }
         ensures spare { spare self.new.buffer ≤ spare self.old.buffer }
         ensures line { IfOk result (λ line. IsLine due.now line) }
+        ensures taken { IfOk result (λ line. Window (S.remaining source.old) (S.remaining source.new) self.old.buffer self.new.buffer (line_text (width_of due.now) line)) }
+        ensures fails { IfErr result (Fails (S.remaining source.old) (S.remaining source.new) (S.has_failed source.new) self.old.buffer (BeginsWith Line (IsLine due.now) (line_text (width_of due.now)))) }
     {
         self.count = self.count.saturating_add(1);
         match self.buffer.ready(source) {
@@ -86,6 +126,10 @@ impl Lines {
         requires { S.has_failed source.old ≡ false }
         ensures works { OnOk result (S.has_failed source.new ≡ false) }
         ensures spare { spare self.new.buffer ≤ spare self.old.buffer }
+        ensures taken { OnOk result (Window (S.remaining source.old) (S.remaining source.new) self.old.buffer self.new.buffer []) }
+        ensures ended { OnOk result (IsAtEnd (S.remaining source.new)) }
+        ensures empty { OnOk result (self.new.buffer.bytes ≡ []) }
+        ensures fails { IfErr result (Fails (S.remaining source.old) (S.remaining source.new) (S.has_failed source.new) self.old.buffer (λ text. text ≡ [])) }
     {
         let line = self.count.saturating_add(1);
         if !self.buffer.is_empty() {
@@ -109,9 +153,12 @@ impl Lines {
         requires { S.has_failed source.old ≡ false }
         ensures works { OnOk result (S.has_failed source.new ≡ false) }
         ensures spare { spare self.new.buffer ≤ spare self.old.buffer }
+        ensures entries { IfOk result (λ entries. AreInOrder Entry (IsEntryInRange (grid_of sizes.now.width sizes.now.height)) IsBefore count entries.items) }
+        ensures taken { IfOk result (λ entries. Window (S.remaining source.old) (S.remaining source.new) self.old.buffer self.new.buffer (entries_text sizes.now.width entries.items)) }
+        ensures fails { IfErr result (Fails (S.remaining source.old) (S.remaining source.new) (S.has_failed source.new) self.old.buffer (BeginsWith (List Entry) (AreInOrder Entry (IsEntryInRange (grid_of sizes.now.width sizes.now.height)) IsBefore count) (entries_text sizes.now.width))) }
     {
         let mut entries = Vec::new(alloc);
-        for _ in 0..count {
+        for _taken in 0..count {
             let entry = self.entry(source, sizes, &entries)?;
             if entries.push(entry).is_err() {
                 return Err(LinesFault::Memory);
@@ -127,17 +174,21 @@ impl Lines {
         sizes: &Sizes,
         before: &[Entry],
     ) -> Result<Entry, LinesFault>
-        requires { S.has_failed source.old ≡ false }
+        requires works { S.has_failed source.old ≡ false }
+        requires rising { AllPairs IsBefore before.now }
         ensures works { OnOk result (S.has_failed source.new ≡ false) }
         ensures spare { spare self.new.buffer ≤ spare self.old.buffer }
+        ensures entry { IfOk result (λ entry. MayFollow Entry (IsEntryInRange (grid_of sizes.now.width sizes.now.height)) IsBefore before.now entry) }
+        ensures taken { IfOk result (λ entry. Window (S.remaining source.old) (S.remaining source.new) self.old.buffer self.new.buffer (entry_text sizes.now.width entry)) }
+        ensures fails { IfErr result (Fails (S.remaining source.old) (S.remaining source.new) (S.has_failed source.new) self.old.buffer (BeginsWith Entry (MayFollow Entry (IsEntryInRange (grid_of sizes.now.width sizes.now.height)) IsBefore before.now) (entry_text sizes.now.width))) }
     {
         let Line::At(entry) = self.next(source, &Due::Tree(*sizes))? else {
             return Err(self.misfit());
         };
-        match before.last() {
-            Some(last) if !are_rising(last, &entry) => Err(self.misfit()),
-            _ => Ok(entry),
+        if !follows_entries(before, &entry) {
+            return Err(self.misfit());
         }
+        Ok(entry)
     }
 
     /// The next block after these.
@@ -148,14 +199,18 @@ impl Lines {
         sizes: &Sizes,
         before: &[Block],
     ) -> Result<Block, LinesFault>
-        requires { S.has_failed source.old ≡ false }
+        requires works { S.has_failed source.old ≡ false }
+        requires rising { AllPairs (λ a b. a.agent < b.agent) before.now }
         ensures works { OnOk result (S.has_failed source.new ≡ false) }
         ensures spare { spare self.new.buffer ≤ spare self.old.buffer }
+        ensures block { IfOk result (λ block. MayFollow LabelBlock (IsBlockInRange (grid_of sizes.now.width sizes.now.height) sizes.now.agents) (λ a b. a.agent < b.agent) before.now block) }
+        ensures taken { IfOk result (λ block. Window (S.remaining source.old) (S.remaining source.new) self.old.buffer self.new.buffer (block_text sizes.now.width block)) }
+        ensures fails { IfErr result (Fails (S.remaining source.old) (S.remaining source.new) (S.has_failed source.new) self.old.buffer (BeginsWith LabelBlock (MayFollow LabelBlock (IsBlockInRange (grid_of sizes.now.width sizes.now.height) sizes.now.agents) (λ a b. a.agent < b.agent) before.now) (block_text sizes.now.width))) }
     {
         let Line::Agent { agent, entries } = self.next(source, &Due::Tree(*sizes))? else {
             return Err(self.misfit());
         };
-        if matches!(before.last(), Some(last) if agent <= last.agent) {
+        if !follows_blocks(before, agent) {
             return Err(self.misfit());
         }
         let entries = self.entries(alloc, source, sizes, entries)?;
@@ -173,9 +228,12 @@ impl Lines {
         requires { S.has_failed source.old ≡ false }
         ensures works { OnOk result (S.has_failed source.new ≡ false) }
         ensures spare { spare self.new.buffer ≤ spare self.old.buffer }
+        ensures blocks { IfOk result (λ blocks. AreInOrder LabelBlock (IsBlockInRange (grid_of sizes.now.width sizes.now.height) sizes.now.agents) (λ a b. a.agent < b.agent) count blocks.items) }
+        ensures taken { IfOk result (λ blocks. Window (S.remaining source.old) (S.remaining source.new) self.old.buffer self.new.buffer (blocks_text sizes.now.width blocks.items)) }
+        ensures fails { IfErr result (Fails (S.remaining source.old) (S.remaining source.new) (S.has_failed source.new) self.old.buffer (BeginsWith (List LabelBlock) (AreInOrder LabelBlock (IsBlockInRange (grid_of sizes.now.width sizes.now.height) sizes.now.agents) (λ a b. a.agent < b.agent) count) (blocks_text sizes.now.width))) }
     {
         let mut blocks = Vec::new(alloc);
-        for _ in 0..count {
+        for _taken in 0..count {
             let block = self.block(alloc, source, sizes, &blocks)?;
             if blocks.push(block).is_err() {
                 return Err(LinesFault::Memory);

@@ -1,27 +1,37 @@
 -- Blocks that are sound, one by one and together.
 use Rattle.std.proofs.Common.{◌≡◌, ℕ, ◌<◌, List, Some, All, AllPairs, slice_get, slice_index_or, sym, ◌∙◌, ap, subst, refl, arith}
 use Rattle.std.proofs.lemmas.List.{get_or_default}
-use Rattle.std.proofs.lemmas.Option.{same_Some, slice_get_within}
+use Rattle.std.proofs.lemmas.Option.{same_Some, slice_get_within, get_or_from_slice_get}
 use Rattle.mapf_model.specs.declared.problem.Agent.{Agent}
 use Rattle.mapf_model.specs.declared.label.Entry.{Entry}
 use Rattle.mapf_model.specs.Blocks.{LabelBlock}
-use Rattle.mapf_model.specs.Grid.{GridMap}
-use Rattle.mapf_model.specs.Labels.{entries_of, AreSound}
+use Rattle.mapf_model.specs.Labels.{entries_of, AreSound, IsSoundEntry}
 use Rattle.mapf_model.specs.Plan.{Instance}
 use Rattle.mapf_model.specs.declared.item.Claim.{Claim}
 use Rattle.mapf_model.specs.Tree.{NodeConstraints, Leaf, ShowsFrom, StartsShow, with_blocks, no_entries, AreBlocksSound, AreOfAgents, AreOfDifferentAgents}
 use Rattle.mapf_model.proofs.ClaimLemmas.{slice_get_inside}
+use Rattle.mapf_checker.specs.declared.judge.Ground.{Ground}
+use Rattle.mapf_checker.specs.Ground.{bars_on}
 use Rattle.mapf_checker.specs.Leaf.{IsGoalOf, IsGoodBlock}
+use Rattle.mapf_checker.specs.NodeDefects.{HasUnsoundEntry, IsUnsoundAt}
 use Rattle.mapf_checker.proofs.StartLemmas.{block_of-at, block_of-found}
 
-pub bad_block : (problem : Instance) (here : NodeConstraints) (block : LabelBlock) (grid : GridMap) (goal agent : ℕ) (entries : List Entry) → grid ≡ problem.grid → agent ≡ block.agent → entries ≡ block.entries → IsGoalOf problem agent goal →
-    (AreSound grid goal (here.bars agent) (entries_of entries) → ⊥) → IsGoodBlock problem here block → ⊥
-bad_block problem here block grid goal agent entries on of these (a, is_a, is_goal) bad (b, is_b, sound) =
-    let same : a ≡ b = same_Some a b (sym (subst (λ i. slice_get problem.agents i ≡ Some a) of is_a) ∙ is_b) in
-    let at_goal : AreSound problem.grid goal (here.bars block.agent) (entries_of block.entries) = subst (λ g. AreSound problem.grid g (here.bars block.agent) (entries_of block.entries)) (sym (ap (λ (x : Agent). x.goal) same) ∙ is_goal) sound in
-    bad (subst (λ g. AreSound g goal (here.bars agent) (entries_of entries)) (sym on)
-    (subst (λ i. AreSound problem.grid goal (here.bars i) (entries_of entries)) (sym of)
-    (subst (λ es. AreSound problem.grid goal (here.bars block.agent) (entries_of es)) (sym these) at_goal)))
+-- an entry that isn't sound by itself isn't sound in its block
+pub unsound_entry : (problem : Instance) (here : NodeConstraints) (block : LabelBlock) (ground : Ground) (entries : List Entry) (place : ℕ) → ground.grid.now ≡ problem.grid → bars_on ground ≡ here.bars block.agent → entries ≡ block.entries →
+    IsGoalOf problem block.agent ground.goal → IsUnsoundAt ground entries place → HasUnsoundEntry problem here block
+unsound_entry problem here block ground entries place on under these (agent, is_agent, is_goal) bad =
+    let is = subst (λ es. slice_get es place ≡ Some bad.entry) these bad.is_entry in
+    record {
+      agent = agent;
+      is_agent = is_agent;
+      entry = bad.entry;
+      listed = (place, slice_get_within block.entries place bad.entry is, get_or_from_slice_get block.entries place bad.entry bad.entry is);
+      unsound = λ sound. bad.unsound
+          (subst (λ g. IsSoundEntry g ground.goal (bars_on ground) (entries_of entries) bad.entry.cell bad.entry.tick bad.entry.label) (sym on)
+          (subst (λ goal. IsSoundEntry problem.grid goal (bars_on ground) (entries_of entries) bad.entry.cell bad.entry.tick bad.entry.label) is_goal
+          (subst (λ bars. IsSoundEntry problem.grid agent.goal bars (entries_of entries) bad.entry.cell bad.entry.tick bad.entry.label) (sym under)
+          (subst (λ es. IsSoundEntry problem.grid agent.goal (here.bars block.agent) (entries_of es) bad.entry.cell bad.entry.tick bad.entry.label) (sym these) sound))));
+    }
 
 module _ (problem : Instance) (here : NodeConstraints) (blocks : List LabelBlock) where
   pub blocks_sound : All (IsGoodBlock problem here) blocks → AreBlocksSound problem here blocks

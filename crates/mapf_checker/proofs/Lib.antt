@@ -6,5 +6,7 @@ pub mod EntryLemmas
 pub mod StartLemmas
 pub mod BlockLemmas
 pub mod TreeLemmas
-pub mod RiseLemmas
 pub mod VerdictLemmas
+pub mod PlanLemmas
+pub mod ReadLemmas
+pub mod CertLemmas

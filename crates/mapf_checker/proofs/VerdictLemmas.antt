@@ -1,34 +1,64 @@
--- What the nodes of a whole tree show, and what follows for the plans.
-use Rattle.std.proofs.Common.{◌≡◌, ◌↔◌, Bool, true, false, List, [], ◌∷◌, ◌++◌, subst, append_assoc}
-use Rattle.std.proofs.lemmas.List.{append-nil}
+-- A good plan text and a good certificate together.
+use Rattle.std.proofs.Common.{◌≡◌, ◌⊎◌, ℕ, List, Option, Some, Result, Ok, Err, IfOk, IfErr, MatchResult, length, refl, sym, ◌∙◌, subst, inl, inr}
+use Rattle.mapf_model.specs.Accepted.{PlanSays, SaysPlan, SaysImpossible, SaysLimit, Outcome, OptimalOutcome, ImpossibleOutcome, GoTogether}
 use Rattle.mapf_model.specs.declared.item.Claim.{Claim}
+use Rattle.mapf_model.specs.declared.item.Claim.TheVariants as claims
+use Rattle.mapf_model.specs.Laws.{ShownClaimsHold}
 use Rattle.mapf_model.specs.Plan.{Instance}
-use Rattle.mapf_model.specs.Laws.{FrontDecides, ShownClaimsHold}
-use Rattle.mapf_model.specs.Tree.{Node, NodeConstraints, NodesShow, root}
+use Rattle.mapf_model.specs.Tree.{ConstraintTree, Shows}
+use Rattle.mapf_certificate.specs.Certificates.{SpellsCert}
+use Rattle.mapf_checker.specs.declared.fault.CheckFault.{CheckFault}
+use Rattle.mapf_checker.specs.declared.fault.CheckFault.TheVariants as refusals
+use Rattle.mapf_checker.specs.declared.fault.FromFault.{FromFault}
+use Rattle.mapf_checker.specs.declared.fault.FromFault.TheVariants.{Refused, Device, TooLong, Memory}
 use Rattle.mapf_checker.specs.declared.fault.Verdict.{Verdict}
 use Rattle.mapf_checker.specs.declared.fault.Verdict.TheVariants.{Optimal, Impossible}
-use Rattle.mapf_checker.specs.Way.{Place}
-use Rattle.mapf_checker.specs.Progress.{owed_at, IsJudged}
-use Rattle.mapf_checker.specs.Verdict.{IsTrueVerdict, IsGoodAnswer, IsShown, claim_of}
+use Rattle.mapf_checker.specs.Faults.{IfRefused, IsNoRefusal, IsOfJudging, Stops}
+use Rattle.mapf_checker.specs.Refusals.{HasPlanRefusal, HasCertRefusal, HasRefusal}
+use Rattle.mapf_checker.specs.Verdict.{AreAccepted, IsTrueVerdict, IsGoodFor, IsGoodPlan, IsGoodCert, IsShown, claim_of, outcome_of}
 
--- one node more was judged
-pub given_more : (problem : Instance) (claim : Claim) (given : List Node) (node : Node) (old new : List NodeConstraints) →
-    ((rest : List Node) → NodesShow problem claim (root ∷ []) (given ++ rest) ↔ NodesShow problem claim old rest) → IsJudged problem claim old node new →
-    (nodes : List Node) × ((rest : List Node) → NodesShow problem claim (root ∷ []) (nodes ++ rest) ↔ NodesShow problem claim new rest)
-given_more problem claim given node old new before judged = (
-  given ++ node ∷ [],
-  λ rest. rw (append_assoc given (node ∷ []) rest) (λ shows. (judged rest).0 ((before (node ∷ rest)).0 shows), λ shows. (before (node ∷ rest)).1 ((judged rest).1 shows)),
-)
+-- what is good and shown is so
+pub true_verdict : ShownClaimsHold → (problem : Instance) (plan : List ℕ) (verdict : Verdict) → IsGoodPlan problem plan verdict → IsShown problem (claim_of verdict) → IsTrueVerdict problem verdict
+true_verdict law problem plan verdict good shown = by verdict good.says good.good shown where
+  by : (verdict : Verdict) (said : PlanSays) → IsGoodFor problem said verdict → IsShown problem (claim_of verdict) → IsTrueVerdict problem verdict
+  by (Optimal sum) (SaysPlan plan) fits (tree, shows) = (plan, record { valid = fits.0; sum = fits.1; least = law problem (claims.Cost sum) tree shows })
+  by (Optimal sum) SaysImpossible fits (tree, shows) = absurd fits
+  by (Optimal sum) SaysLimit fits (tree, shows) = absurd fits
+  by Impossible said fits (tree, shows) = law problem claims.Impossible tree shows
 
--- the whole tree was judged
-pub shown_at_end : FrontDecides → (problem : Instance) (claim : Claim) (given : List Node) (is_over : Bool) (place : Place) → is_over ≡ true →
-    ((rest : List Node) → NodesShow problem claim (root ∷ []) (given ++ rest) ↔ NodesShow problem claim (owed_at is_over place) rest) → IsShown problem claim
-shown_at_end law problem claim given false place over all = absurd cc
-shown_at_end law problem claim given true place over all =
-    let shows = (all []).1 (law problem claim).over in
-    let (tree, same, shown) = ((law problem claim).whole given).0 (subst (λ nodes. NodesShow problem claim (root ∷ []) nodes) (append-nil given) shows) in
-    (tree, shown)
+-- what is good is accepted
+pub accepted_if_good : (problem : Instance) (plan cert : List ℕ) (verdict : Verdict) → IsGoodPlan problem plan verdict → IsGoodCert problem (claim_of verdict) cert → AreAccepted problem plan cert verdict
+accepted_if_good problem plan cert verdict good shown = record {
+  says = good.says;
+  claim = claim_of verdict;
+  tree = shown.tree;
+  plan_spelled = good.spelled;
+  cert_spelled = shown.spelled;
+  together = by verdict good.says good.good shown.shows;
+} where
+  by : (verdict : Verdict) (said : PlanSays) → IsGoodFor problem said verdict → Shows problem (claim_of verdict) shown.tree → GoTogether problem said (claim_of verdict) shown.tree (outcome_of verdict)
+  by (Optimal sum) (SaysPlan plan) fits shows = (fits.0, fits.1, refl, shows)
+  by (Optimal sum) SaysImpossible fits shows = absurd fits
+  by (Optimal sum) SaysLimit fits shows = absurd fits
+  by Impossible (SaysPlan plan) fits shows = absurd fits
+  by Impossible SaysImpossible fits shows = (refl, shows)
+  by Impossible SaysLimit fits shows = absurd fits
 
-pub true_verdict : ShownClaimsHold → (problem : Instance) (verdict : Verdict) → IsGoodAnswer problem verdict → IsShown problem (claim_of verdict) → IsTrueVerdict problem verdict
-true_verdict law problem (Optimal sum) (plan, valid, adds) (tree, shows) = (plan, record { valid = valid; sum = adds; least = law problem (claim_of (Optimal sum)) tree shows })
-true_verdict law problem Impossible good (tree, shows) = law problem (claim_of Impossible) tree shows
+-- and what is accepted is good
+pub good_if_accepted : (problem : Instance) (plan cert : List ℕ) (verdict : Verdict) → AreAccepted problem plan cert verdict → IsGoodPlan problem plan verdict × IsGoodCert problem (claim_of verdict) cert
+good_if_accepted problem plan cert verdict accepted =
+    let (fits, is, shows) = by verdict accepted.says accepted.claim accepted.together in (
+      record { says = accepted.says; spelled = accepted.plan_spelled; good = fits },
+      record {
+        tree = accepted.tree;
+        spelled = subst (λ c. SpellsCert problem.grid cert (length problem.agents) c accepted.tree) is accepted.cert_spelled;
+        shows = subst (λ c. Shows problem c accepted.tree) is shows;
+      },
+    ) where
+  by : (verdict : Verdict) (said : PlanSays) (claim : Claim) → GoTogether problem said claim accepted.tree (outcome_of verdict) → IsGoodFor problem said verdict × (claim ≡ claim_of verdict) × Shows problem claim accepted.tree
+  by (Optimal sum) (SaysPlan plan) claim together = ((together.0, together.1), together.2, together.3)
+  by (Optimal sum) SaysImpossible claim together = absurd together
+  by (Optimal sum) SaysLimit claim together = absurd together
+  by Impossible (SaysPlan plan) claim together = absurd together
+  by Impossible SaysImpossible claim together = (tt, together.0, together.1)
+  by Impossible SaysLimit claim together = absurd together

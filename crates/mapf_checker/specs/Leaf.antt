@@ -1,5 +1,5 @@
 -- What the leaves of a certificate's tree are judged by.
-use Rattle.std.specs.Prelude.{◌≡◌, ⊤, ℕ, ◌+◌, ◌<◌, ◌≤◌, List, Option, Some, None, All, AllPairs, length, slice_get, slice_index_or}
+use Rattle.std.specs.Prelude.{◌≡◌, ⊤, ℕ, ◌+◌, ◌<◌, ◌≤◌, List, Option, Some, None, length, slice_get, slice_index_or}
 use Rattle.mapf_model.specs.declared.problem.Agent.{Agent}
 use Rattle.mapf_model.specs.declared.label.Label.{Label}
 use Rattle.mapf_model.specs.declared.label.Label.TheVariants.{Ticks, Never}
@@ -8,7 +8,6 @@ use Rattle.mapf_model.specs.declared.item.Claim.TheVariants.{Cost, Impossible}
 use Rattle.mapf_model.specs.Blocks.{LabelBlock}
 use Rattle.mapf_model.specs.Labels.{entries_of, AreSound, IsLabel, label_sum}
 use Rattle.mapf_model.specs.Plan.{Instance}
-use Rattle.mapf_model.specs.Printed.{IsBefore}
 use Rattle.mapf_model.specs.Tree.{NodeConstraints, AreStartLabels, block_of, with_blocks, no_entries}
 use Rattle.mapf_distance.specs.Distances.{GoalMap}
 
@@ -16,14 +15,6 @@ use Rattle.mapf_distance.specs.Distances.{GoalMap}
 pub record AreTables (problem : Instance) (tables : List GoalMap) : Type 0 where
   pub count : length tables ≡ length problem.agents
   pub each : (i : ℕ) (agent : Agent) (table : GoalMap) → slice_get problem.agents i ≡ Some agent → slice_get tables i ≡ Some table → (table.grid ≡ problem.grid) × (table.goal ≡ agent.goal)
-
--- entries that rise, at ticks that a text can spell
-abbrev pub IsOrderly : LabelBlock → Type 0
-IsOrderly block = AllPairs IsBefore block.entries × All (λ entry. entry.tick ≤ 9999999) block.entries
-
--- blocks of agents that rise
-abbrev pub AreOrderly : List LabelBlock → Type 0
-AreOrderly blocks = AllPairs (λ a b. a.agent < b.agent) blocks × All IsOrderly blocks
 
 -- the goal of the agent of this number
 abbrev pub IsGoalOf : Instance → ℕ → ℕ → Type 0

@@ -8,5 +8,9 @@ pub mod Way
 pub mod Order
 pub mod Ground
 pub mod Leaf
+pub mod NodeDefects
 pub mod Progress
+pub mod Faults
 pub mod Verdict
+pub mod Refusals
+pub mod CertJudging

@@ -1,11 +1,13 @@
-ghost use Rattle.std.specs.Prelude.{◌≡◌, false, IfOk, OnOk, IsSome, None};
-ghost use Rattle.mapf_checker.specs.Verdict.{IsTrueVerdict, IsGoodAnswer, IsShown, claim_of};
+ghost use Rattle.std.specs.Prelude.{◌≡◌, ◌⊎◌, ◌<◌, ℕ, List, Some, true, false, length, IfOk, IfErr, IsErrOf, MatchResult};
+ghost use Rattle.std.specs.Io.KnownBytes.{Consumes};
+ghost use Rattle.mapf_checker.specs.declared.fault.Verdict.{Verdict};
+ghost use Rattle.mapf_checker.specs.Faults.{IfRefused, IsNoRefusal};
+ghost use Rattle.mapf_checker.specs.Refusals.{HasRefusal};
+ghost use Rattle.mapf_checker.specs.Verdict.{AreAccepted, IsTrueVerdict, claim_of};
 
+use crate::cert_judge::judge_cert;
 use crate::fault::{CheckFault, FromFault, Verdict};
-use crate::order::is_orderly;
-use crate::tree::Progress;
-use crate::validity::check_plan;
-use mapf_certificate::{CertFault, CertLines, PlanAnswer, PlanText, read_plan};
+use crate::plan_judge::judge_plan;
 use mapf_model::{BytesSource, Claim, Problem, Source, laws};
 use std::alloc::Global;
 
@@ -17,14 +19,19 @@ pub fn check(
     plan_text: &[u8],
     cert_text: &[u8],
 ) -> Result<Verdict, CheckFault>
-    ensures { IfOk result (IsTrueVerdict problem.now) }
+    ensures truth { IfOk result (IsTrueVerdict problem.now) }
+    // What is accepted is accepted by definition, and what is so is accepted, unless memory is refused.
+    ensures accepted { IfOk result (AreAccepted problem.now plan_text.now cert_text.now) }
+    ensures only { (verdict : Verdict) → AreAccepted problem.now plan_text.now cert_text.now verdict → MatchResult result (λ given. given ≡ verdict) (λ fault. fault ≡ CheckFault.Memory) }
+    ensures refused { IfErr result (λ fault. (fault ≡ CheckFault.Memory) ⊎ HasRefusal problem.now plan_text.now (Some cert_text.now) fault) }
 {
     let mut source = BytesSource::of(cert_text);
     let limit = cert_text.len() as u64;
     match check_from(alloc, problem, plan_text, &mut source, limit) {
         Ok(verdict) => Ok(verdict),
         Err(FromFault::Refused(fault)) => Err(fault),
-        Err(_) => Err(CheckFault::Memory),
+        Err(FromFault::Memory) => Err(CheckFault::Memory),
+        Err(FromFault::Device | FromFault::TooLong) => unreachable!(),
     }
 }
 
@@ -38,35 +45,19 @@ pub fn check_from<S: Source>(
     limit: u64,
 ) -> Result<Verdict, FromFault>
     requires { S.has_failed source.old ≡ false }
-    ensures { IfOk result (IsTrueVerdict problem.now) }
+    ensures truth { IfOk result (IsTrueVerdict problem.now) }
+    // Where the source tells its bytes: what is accepted is accepted by definition, and what is so is accepted,
+    // unless memory is refused, the source fails or too many bytes come.
+    ensures accepted { (bytes : List ℕ) → S.remaining source.old ≡ Some bytes → IfOk result (AreAccepted problem.now plan_text.now bytes) }
+    ensures only { (bytes : List ℕ) (verdict : Verdict) → S.remaining source.old ≡ Some bytes → AreAccepted problem.now plan_text.now bytes verdict → MatchResult result (λ given. given ≡ verdict) IsNoRefusal }
+    ensures refused { IfErr result (IfRefused (HasRefusal problem.now plan_text.now (S.remaining source.old))) }
+    ensures device { IsErrOf result FromFault.Device → S.has_failed source.new ≡ true }
+    ensures too_long { IsErrOf result FromFault.TooLong → (came : List ℕ) × Consumes (S.remaining source.old) (S.remaining source.new) came × (limit < length came) }
 {
     laws::shown_claims_hold();
     let verdict = judge_plan(alloc, problem, plan_text)?;
     judge_cert(alloc, problem, &claimed_by(verdict), source, limit)?;
     Ok(verdict)
-}
-
-// What the plan text answers, if it is good for the problem.
-fn judge_plan(alloc: Global, problem: &Problem, plan_text: &[u8]) -> Result<Verdict, FromFault>
-    ensures { IfOk result (IsGoodAnswer problem.now) }
-{
-    let PlanText { agents, answer } = read_plan(alloc, plan_text, problem.grid())?;
-    if agents as usize != problem.agents().len() {
-        return Err(FromFault::Refused(CheckFault::C3));
-    }
-    match answer {
-        PlanAnswer::Found(plan) => {
-            if plan.paths().len() != problem.agents().len() {
-                return Err(FromFault::Refused(CheckFault::C3));
-            }
-            match check_plan(problem, &plan) {
-                Ok(sum) => Ok(Verdict::Optimal(sum)),
-                Err(fault) => Err(FromFault::Refused(CheckFault::C5(fault))),
-            }
-        }
-        PlanAnswer::Impossible => Ok(Verdict::Impossible),
-        PlanAnswer::Limit(_) => Err(FromFault::Refused(CheckFault::C4)),
-    }
 }
 
 // What a certificate has to claim.
@@ -76,57 +67,5 @@ fn claimed_by(verdict: Verdict) -> Claim
     match verdict {
         Verdict::Optimal(sum) => Claim::Cost(sum),
         Verdict::Impossible => Claim::Impossible,
-    }
-}
-
-// Whether the source gives a certificate that shows the claim.
-fn judge_cert<S: Source>(
-    alloc: Global,
-    problem: &Problem,
-    claim: &Claim,
-    source: &mut S,
-    limit: u64,
-) -> Result<(), FromFault>
-    requires { S.has_failed source.old ≡ false }
-    ensures { OnOk result (IsShown problem.now claim.now) }
-{
-    let grid = problem.grid();
-    let mut lines = CertLines::open(alloc, grid.width(), grid.height(), limit)?;
-    let (agents, claimed) = lines.header(source)?;
-    if agents as usize != problem.agents().len() {
-        return Err(FromFault::Refused(CheckFault::C3));
-    }
-    if claimed != *claim {
-        return Err(FromFault::Refused(CheckFault::C4));
-    }
-    judge_tree(alloc, problem, claim, &mut lines, source)
-}
-
-// Whether the items of the certificate's tree show the claim.
-fn judge_tree<S: Source>(
-    alloc: Global,
-    problem: &Problem,
-    claim: &Claim,
-    lines: &mut CertLines,
-    source: &mut S,
-) -> Result<(), FromFault>
-    requires works { S.has_failed source.old ≡ false }
-    requires header { IsSome lines.old.header }
-    requires fault { lines.old.fault ≡ None }
-    ensures { OnOk result (IsShown problem.now claim.now) }
-{
-    laws::items_are_judged_by_front();
-    let _claim = *claim;
-    let mut progress = Progress::new(alloc);
-    while let Some(item) = lines.next_item(source)? {
-        if progress.is_over || !is_orderly(&item) {
-            return Err(FromFault::Refused(CheckFault::C2(CertFault::K1(lines.line()))));
-        }
-        progress.item(alloc, problem, claim, &item, lines.line())?;
-    }
-    if progress.is_over {
-        Ok(())
-    } else {
-        Err(FromFault::Refused(CheckFault::C2(CertFault::K2(lines.line()))))
     }
 }

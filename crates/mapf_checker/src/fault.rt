@@ -53,18 +53,22 @@ pub enum FromFault {
 }
 
 impl From<OutOfMemory> for FromFault {
+    ghost use Rattle.std.specs.Prelude.{◌≡◌};
+    ghost use Rattle.mapf_checker.specs.declared.fault.FromFault.TheVariants.{Memory};
+
+    ghost from_gives = { λ _ fault. fault ≡ Memory };
+
     fn from(_refused: OutOfMemory) -> FromFault {
         FromFault::Memory
     }
 }
 
-impl From<CheckFault> for FromFault {
-    fn from(fault: CheckFault) -> FromFault {
-        FromFault::Refused(fault)
-    }
-}
-
 impl From<PlanTextFault> for FromFault {
+    ghost use Rattle.std.specs.Prelude.{◌≡◌};
+    ghost use Rattle.mapf_checker.specs.Faults.{of_plan};
+
+    ghost from_gives = { λ given fault. fault ≡ of_plan given };
+
     fn from(fault: PlanTextFault) -> FromFault {
         match fault {
             PlanTextFault::Memory => FromFault::Memory,
@@ -74,6 +78,11 @@ impl From<PlanTextFault> for FromFault {
 }
 
 impl From<LinesFault> for FromFault {
+    ghost use Rattle.std.specs.Prelude.{◌≡◌};
+    ghost use Rattle.mapf_checker.specs.Faults.{of_cert};
+
+    ghost from_gives = { λ given fault. fault ≡ of_cert given };
+
     fn from(fault: LinesFault) -> FromFault {
         match fault {
             LinesFault::Text(CertFault::Memory) | LinesFault::Memory => FromFault::Memory,

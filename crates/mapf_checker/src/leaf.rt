@@ -1,11 +1,12 @@
-ghost use Rattle.std.specs.Prelude.{◌≡◌, ◌+◌, ◌*◌, ◌<◌, ◌≤◌, ◌↔◌, ℕ, List, All, AllPairs, length, slice_get, None, false, IsTrue, IfNone, IfSome, ◌^◌, OnOk, OnErr, OnSome, IfOk};
+ghost use Rattle.std.specs.Prelude.{◌≡◌, ◌+◌, ◌*◌, ◌<◌, ◌≤◌, ◌↔◌, ℕ, List, All, AllPairs, length, false, IsTrue, IfNone, IfSome, ◌^◌, OnOk, OnErr, IfOk, IfErr};
 ghost use Rattle.std.specs.Option.{ForSome};
 ghost use Rattle.mapf_model.specs.declared.item.Claim.{Claim};
 ghost use Rattle.mapf_model.specs.Labels.{entries_of, AreSound, label_plus};
-ghost use Rattle.mapf_model.specs.Printed.{IsBefore};
-ghost use Rattle.mapf_model.specs.Tree.{ShowsFrom, Leaf};
+ghost use Rattle.mapf_model.specs.Printed.{IsBefore, IsBlockInRange, AreBlocksInRange};
+ghost use Rattle.mapf_model.specs.Tree.{ShowsFrom, Leaf, LeafNode};
 ghost use Rattle.mapf_checker.specs.Ground.{IsGround, bars_on};
-ghost use Rattle.mapf_checker.specs.Leaf.{AreTables, AreOrderly, IsOrderly, IsGoodBlock, IsStartTotal, IsEnough, IsGoalOf, IsStartOf, IsStartLabel, IsCut, TakesBlock, LeavesBlock, label_of};
+ghost use Rattle.mapf_checker.specs.Leaf.{AreTables, IsGoodBlock, IsStartTotal, IsEnough, IsGoalOf, IsStartOf, IsStartLabel, IsCut, TakesBlock, LeavesBlock, label_of};
+ghost use Rattle.mapf_checker.specs.NodeDefects.{HasNodeDefect, HasUnsoundBlock, HasUnsoundEntry, IsUnsoundAt};
 ghost use Rattle.mapf_checker.specs.Way.{place_of};
 
 use crate::fault::CheckFault;
@@ -27,7 +28,7 @@ pub fn tables_of(alloc: Global, problem: &Problem) -> Result<Vec<Distances>, Out
     Ok(tables)
 }
 
-/// Whether the leaf shows the claim: each entry of its blocks can stand, and the labels of the starts
+/// Whether the leaf shows the claim: each entry of its blocks is sound, and the labels of the starts
 /// are enough. `line` is that of the leaf.
 pub fn judge_leaf(
     alloc: Global,
@@ -39,12 +40,14 @@ pub fn judge_leaf(
     line: u64,
 ) -> Result<(), CheckFault>
     requires tables { AreTables problem.now tables.now }
-    requires orderly { AreOrderly blocks.now }
+    requires blocks { AreBlocksInRange problem.now.grid (length problem.now.agents) blocks.now }
     ensures ok { OnOk result (ShowsFrom problem.now claim.now (place_of way.now).here (Leaf blocks.now)) }
-    ensures err { OnErr result (ShowsFrom problem.now claim.now (place_of way.now).here (Leaf blocks.now) → ⊥) }
+    ensures err { IfErr result (HasNodeDefect problem.now claim.now (place_of way.now).here (LeafNode blocks.now)) }
 {
     laws::definitions_are_decided();
-    judge_blocks(alloc, problem, tables, way, blocks, line)?;
+    if let Err(unsound) = judge_blocks(alloc, problem, tables, way, blocks, line) {
+        return Err(CheckFault::C7(unsound));
+    }
     let total = start_total(problem, tables, blocks);
     if is_enough(claim, total) {
         Ok(())
@@ -53,6 +56,7 @@ pub fn judge_leaf(
     }
 }
 
+// Whether each entry of the blocks is sound; else the line of the first that isn't.
 fn judge_blocks(
     alloc: Global,
     problem: &Problem,
@@ -60,11 +64,11 @@ fn judge_blocks(
     way: &Way,
     blocks: &[Block],
     line: u64,
-) -> Result<(), CheckFault>
+) -> Result<(), u64>
     requires tables { AreTables problem.now tables.now }
-    requires orderly { All IsOrderly blocks.now }
+    requires blocks { All (IsBlockInRange problem.now.grid (length problem.now.agents)) blocks.now }
     ensures ok { OnOk result (All (IsGoodBlock problem.now (place_of way.now).here) blocks.now) }
-    ensures err { OnErr result (All (IsGoodBlock problem.now (place_of way.now).here) blocks.now → ⊥) }
+    ensures err { OnErr result (HasUnsoundBlock problem.now (place_of way.now).here blocks.now) }
 {
     let mut line = line;
     for block in blocks {
@@ -75,6 +79,8 @@ fn judge_blocks(
     Ok(())
 }
 
+// Whether each entry of the block that begins in this line is sound; else the line of the first that
+// isn't.
 fn judge_block(
     alloc: Global,
     problem: &Problem,
@@ -82,16 +88,14 @@ fn judge_block(
     way: &Way,
     block: &Block,
     line: u64,
-) -> Result<(), CheckFault>
+) -> Result<(), u64>
     requires tables { AreTables problem.now tables.now }
-    requires orderly { IsOrderly block.now }
+    requires block { IsBlockInRange problem.now.grid (length problem.now.agents) block.now }
     ensures ok { OnOk result (IsGoodBlock problem.now (place_of way.now).here block.now) }
-    ensures err { OnErr result (IsGoodBlock problem.now (place_of way.now).here block.now → ⊥) }
+    ensures err { OnErr result (HasUnsoundEntry problem.now (place_of way.now).here block.now) }
 {
     let agent = agent_of(block);
-    let Some(goal) = goal_of(problem, agent) else {
-        return Err(CheckFault::C7(line));
-    };
+    let goal = goal_of(problem, agent);
     let ground = Ground {
         grid: problem.grid(),
         distances: &tables[agent as usize],
@@ -100,7 +104,7 @@ fn judge_block(
         goal,
     };
     match first_unsound(alloc, &ground, entries_in(block)) {
-        Some(k) => Err(CheckFault::C7(line.saturating_add(k as u64).saturating_add(1))),
+        Some(k) => Err(line.saturating_add(k as u64).saturating_add(1)),
         None => Ok(()),
     }
 }
@@ -117,26 +121,20 @@ pub fn entries_in(block: &Block) -> &[Entry]
     &block.entries
 }
 
-fn goal_of(problem: &Problem, agent: u32) -> Option<Cell>
-    ensures some { IfSome result (IsGoalOf problem.now agent) }
-    ensures none { IfNone result (slice_get problem.now.agents agent ≡ None) }
+fn goal_of(problem: &Problem, agent: u32) -> Cell
+    requires { agent < length problem.now.agents }
+    ensures { IsGoalOf problem.now agent result }
 {
-    let agents = problem.agents();
-    let place = agent as usize;
-    if place < agents.len() {
-        Some(agents[place].goal)
-    } else {
-        None
-    }
+    problem.agents()[agent as usize].goal
 }
 
-// The place of the first entry that can't stand in a block.
+// The place of the first entry of a block that isn't sound.
 fn first_unsound(alloc: Global, ground: &Ground, entries: &[Entry]) -> Option<usize>
     requires ground { IsGround ground.now }
     requires rising { AllPairs IsBefore entries.now }
     requires ticks { All (λ entry. entry.tick ≤ 9999999) entries.now }
     ensures none { IfNone result (AreSound ground.now.grid.now ground.now.goal (bars_on ground.now) (entries_of entries.now)) }
-    ensures some { OnSome result (AreSound ground.now.grid.now ground.now.goal (bars_on ground.now) (entries_of entries.now) → ⊥) }
+    ensures some { IfSome result (IsUnsoundAt ground.now entries.now) }
 {
     for k in 0..entries.len() {
         if !is_sound(alloc, ground, entries, &entries[k]) {
@@ -149,7 +147,7 @@ fn first_unsound(alloc: Global, ground: &Ground, entries: &[Entry]) -> Option<us
 // The labels of the starts at tick 0, added up; None where one is infinite.
 fn start_total(problem: &Problem, tables: &[Distances], blocks: &[Block]) -> Option<u64>
     requires tables { AreTables problem.now tables.now }
-    requires orderly { AreOrderly blocks.now }
+    requires blocks { AreBlocksInRange problem.now.grid (length problem.now.agents) blocks.now }
     ensures { IsStartTotal problem.now blocks.now result }
 {
     let count = problem.agents().len();
@@ -172,7 +170,7 @@ fn start_label(
     agent: usize,
 ) -> Label
     requires tables { AreTables problem.now tables.now }
-    requires orderly { AreOrderly blocks.now }
+    requires blocks { AreBlocksInRange problem.now.grid (length problem.now.agents) blocks.now }
     requires cut { IsCut blocks.now place agent }
     requires inside { agent < length problem.now.agents }
     ensures { IsStartLabel problem.now blocks.now agent result }

@@ -3,6 +3,7 @@
 
 mod acceptance;
 mod bound;
+mod cert_judge;
 mod fault;
 mod index;
 mod judge;
@@ -10,8 +11,8 @@ mod labels;
 mod lawful;
 mod leaf;
 mod meeting;
-mod order;
 mod plan_fault;
+mod plan_judge;
 #[cfg(test)]
 mod samples;
 mod step;

@@ -1,53 +1,39 @@
-// Problems and plans for tests.
+// Two agents whose shortest paths cross: on an open 3x3 grid one goes from (0,1) to (2,1), the other
+// from (1,0) to (1,2).
 use mapf_model::{Agent, Cell, Grid, Path, Plan, Problem};
 use std::alloc::Global;
 use std::test::Fail;
 
-/// Agents with these starts and goals, as cell numbers, on a grid whose free cells are the dots.
-pub fn problem(
-    alloc: Global,
-    width: u32,
-    height: u32,
-    cells: &str,
-    ends: &[(u32, u32)],
-) -> Result<Problem, Fail> {
+pub fn crossing(alloc: Global) -> Result<Problem, Fail> {
     let mut free = Vec::new(alloc);
-    for byte in cells.as_bytes() {
-        free.push(*byte == b'.')?;
+    for _ in 0..9 {
+        free.push(true)?;
     }
-    let grid = Grid::of(width, height, free).ok_or("no grid")?;
+    let grid = Grid::of(3, 3, free).ok_or("no grid")?;
     let mut agents = Vec::new(alloc);
-    for (start, goal) in ends {
+    for (start, goal) in [(3, 5), (1, 7)] {
         agents.push(Agent {
-            start: Cell(*start),
-            goal: Cell(*goal),
+            start: Cell(start),
+            goal: Cell(goal),
         })?;
     }
     Ok(Problem::of(grid, agents).ok_or("no problem")?)
 }
 
-/// Paths along cells with these numbers.
-pub fn plan(alloc: Global, paths: &[&[u32]]) -> Result<Plan, Fail> {
-    let mut made = Vec::new(alloc);
-    for numbers in paths {
-        let mut cells = Vec::new(alloc);
-        for number in *numbers {
-            cells.push(Cell(*number))?;
-        }
-        made.push(Path::of(cells).ok_or("no path")?)?;
+/// The first agent waits for a tick.
+pub fn crossing_plan(alloc: Global) -> Result<Plan, Fail> {
+    let mut paths = Vec::new(alloc);
+    paths.push(path(alloc, &[3, 3, 4, 5])?)?;
+    paths.push(path(alloc, &[1, 4, 7])?)?;
+    Ok(Plan::of(paths).ok_or("no plan")?)
+}
+
+fn path(alloc: Global, numbers: &[u32]) -> Result<Path, Fail> {
+    let mut cells = Vec::new(alloc);
+    for number in numbers {
+        cells.push(Cell(*number))?;
     }
-    Ok(Plan::of(made).ok_or("no plan")?)
-}
-
-/// The text of these lines for so many agents.
-pub fn text(alloc: Global, kind: &str, agents: u32, lines: &str) -> Result<String, Fail> {
-    Ok(format!(in alloc; "mapf-{kind} 1\nagents {agents}\n{lines}end\n")?)
-}
-
-/// Two agents whose shortest paths cross: on an open 3x3 grid one goes from (0,1) to (2,1), the other
-/// from (1,0) to (1,2).
-pub fn crossing(alloc: Global) -> Result<Problem, Fail> {
-    problem(alloc, 3, 3, ".........", &[(3, 5), (1, 7)])
+    Ok(Path::of(cells).ok_or("no path")?)
 }
 
 pub const CROSSING_PLAN: &str =

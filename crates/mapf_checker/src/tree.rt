@@ -1,7 +1,12 @@
-ghost use Rattle.std.specs.Prelude.{◌≡◌, ◌↔◌, ◌∷◌, [], false, IfErr, OnOk, OnErr, IsTrue};
+ghost use Rattle.std.specs.Prelude.{◌≡◌, ◌↔◌, ◌∷◌, [], false, length, IfErr, OnOk, IsTrue};
+ghost use Rattle.mapf_certificate.specs.Certificates.{IsNode};
+ghost use Rattle.mapf_model.specs.declared.item.Claim.{Claim};
 ghost use Rattle.mapf_model.specs.Plan.{Instance};
+ghost use Rattle.mapf_model.specs.Printed.{AreBlocksInRange};
 ghost use Rattle.mapf_model.specs.Tree.{SplitNode, LeafNode, ClashNode, IsProperSplit, AreTwoAgents, ShareGoal, node_of, root};
-ghost use Rattle.mapf_checker.specs.Leaf.{AreOrderly, AreTables};
+ghost use Rattle.mapf_checker.specs.Faults.{IsOfJudging};
+ghost use Rattle.mapf_checker.specs.Leaf.{AreTables};
+ghost use Rattle.mapf_checker.specs.NodeDefects.{HasNodeDefect, IsGoodNode};
 ghost use Rattle.mapf_checker.specs.Way.{place_of};
 
 use crate::fault::{CheckFault, FromFault};
@@ -9,7 +14,7 @@ use crate::leaf::{judge_leaf, tables_of};
 use crate::step::are_adjacent;
 use crate::way::Way;
 use mapf_distance::Distances;
-use mapf_model::{Block, Claim, Conflict, Item, OutOfMemory, Problem, laws};
+use mapf_model::{Block, Claim, Conflict, Item, OutOfMemory, Problem};
 use std::alloc::Global;
 
 /// How far a tree was judged whose items come in pre-order.
@@ -23,7 +28,7 @@ pub struct Progress {
 }
 
 impl Progress {
-    ghost use Rattle.mapf_checker.specs.Progress.{owed_by, IsReady, IsOrderlyItem, IsJudged, IsWrong, IfRefused};
+    ghost use Rattle.mapf_checker.specs.Progress.{owed_by, owed_after, here_of, IsReady};
 
     /// Before the root.
     pub fn new(alloc: Global) -> Progress
@@ -48,10 +53,11 @@ impl Progress {
     ) -> Result<(), FromFault>
         requires ready { IsReady problem.now self.old }
         requires going { self.old.is_over ≡ false }
-        requires orderly { IsOrderlyItem item.now }
+        requires node { IsNode problem.now.grid (length problem.now.agents) (node_of item.now) }
         ensures ready { OnOk result (IsReady problem.now self.new) }
-        ensures judged { OnOk result (IsJudged problem.now claim.now (owed_by self.old) (node_of item.now) (owed_by self.new)) }
-        ensures refused { IfErr result (λ fault. IfRefused fault (IsWrong problem.now claim.now (owed_by self.old) (node_of item.now))) }
+        ensures owed { OnOk result (owed_by self.new ≡ owed_after (owed_by self.old) (node_of item.now)) }
+        ensures good { OnOk result (IsGoodNode problem.now claim.now (here_of self.old) (node_of item.now)) }
+        ensures refused { IfErr result (IsOfJudging (HasNodeDefect problem.now claim.now (here_of self.old) (node_of item.now))) }
     {
         match item {
             Item::Vertex { i, j, cell, tick } => {
@@ -61,7 +67,7 @@ impl Progress {
                     cell: *cell,
                     tick: *tick,
                 };
-                self.split(problem, claim, &conflict, line)
+                self.split(problem, &conflict, line)
             }
             Item::Swap {
                 i,
@@ -77,27 +83,25 @@ impl Progress {
                     to: *to,
                     tick: *tick,
                 };
-                self.split(problem, claim, &conflict, line)
+                self.split(problem, &conflict, line)
             }
             Item::Leaf(blocks) => self.leaf(alloc, problem, claim, blocks, line),
-            Item::Clash { i, j } => self.clash(problem, claim, *i, *j, line),
+            Item::Clash { i, j } => self.clash(problem, *i, *j, line),
         }
     }
 
     fn split(
         &mut self,
         problem: &Problem,
-        claim: &Claim,
         conflict: &Conflict,
         line: u64,
     ) -> Result<(), FromFault>
         requires going { self.old.is_over ≡ false }
         ensures tables { self.new.tables.items ≡ self.old.tables.items }
-        ensures judged { OnOk result (IsJudged problem.now claim.now (owed_by self.old) (SplitNode conflict.now) (owed_by self.new)) }
-        ensures refused { IfErr result (λ fault. IfRefused fault (IsWrong problem.now claim.now (owed_by self.old) (SplitNode conflict.now))) }
+        ensures owed { OnOk result (owed_by self.new ≡ owed_after (owed_by self.old) (SplitNode conflict.now)) }
+        ensures good { OnOk result (IsProperSplit problem.now conflict.now) }
+        ensures refused { (claim : Claim) → IfErr result (IsOfJudging (HasNodeDefect problem.now claim (here_of self.old) (SplitNode conflict.now))) }
     {
-        laws::items_are_judged_by_front();
-        let _claim = *claim;
         if !is_proper_split(problem, conflict) {
             return Err(FromFault::Refused(CheckFault::C6(line)));
         }
@@ -117,12 +121,12 @@ impl Progress {
     ) -> Result<(), FromFault>
         requires ready { IsReady problem.now self.old }
         requires going { self.old.is_over ≡ false }
-        requires orderly { AreOrderly blocks.now }
+        requires blocks { AreBlocksInRange problem.now.grid (length problem.now.agents) blocks.now }
         ensures ready { OnOk result (IsReady problem.now self.new) }
-        ensures judged { OnOk result (IsJudged problem.now claim.now (owed_by self.old) (LeafNode blocks.now) (owed_by self.new)) }
-        ensures refused { IfErr result (λ fault. IfRefused fault (IsWrong problem.now claim.now (owed_by self.old) (LeafNode blocks.now))) }
+        ensures owed { OnOk result (owed_by self.new ≡ owed_after (owed_by self.old) (LeafNode blocks.now)) }
+        ensures good { OnOk result (IsGoodNode problem.now claim.now (here_of self.old) (LeafNode blocks.now)) }
+        ensures refused { IfErr result (IsOfJudging (HasNodeDefect problem.now claim.now (here_of self.old) (LeafNode blocks.now))) }
     {
-        laws::items_are_judged_by_front();
         self.see_to_tables(alloc, problem)?;
         if let Err(fault) = judge_leaf(
             alloc,
@@ -156,21 +160,13 @@ impl Progress {
         Ok(())
     }
 
-    fn clash(
-        &mut self,
-        problem: &Problem,
-        claim: &Claim,
-        i: u32,
-        j: u32,
-        line: u64,
-    ) -> Result<(), FromFault>
+    fn clash(&mut self, problem: &Problem, i: u32, j: u32, line: u64) -> Result<(), FromFault>
         requires going { self.old.is_over ≡ false }
         ensures tables { self.new.tables.items ≡ self.old.tables.items }
-        ensures judged { OnOk result (IsJudged problem.now claim.now (owed_by self.old) (ClashNode i j) (owed_by self.new)) }
-        ensures refused { IfErr result (λ fault. IfRefused fault (IsWrong problem.now claim.now (owed_by self.old) (ClashNode i j))) }
+        ensures owed { OnOk result (owed_by self.new ≡ owed_after (owed_by self.old) (ClashNode i j)) }
+        ensures good { OnOk result (ShareGoal problem.now i j) }
+        ensures refused { (claim : Claim) → IfErr result (IsOfJudging (HasNodeDefect problem.now claim (here_of self.old) (ClashNode i j))) }
     {
-        laws::items_are_judged_by_front();
-        let _claim = *claim;
         if !share_goal(problem, i, j) {
             return Err(FromFault::Refused(CheckFault::C9(line)));
         }

@@ -72,104 +72,18 @@ fn fault_of(encounter: Encounter) -> PlanFault
 #[cfg(test)]
 mod tests {
     use super::*;
-    use crate::samples::{plan, problem};
-    use std::alloc::Global;
+    use crate::samples::{crossing, crossing_plan};
     use std::test::Fail;
-
-    fn checked(
-        alloc: Global,
-        problem: &Problem,
-        paths: &[&[u32]],
-    ) -> Result<Result<u64, PlanFault>, Fail> {
-        let plan = plan(alloc, paths)?;
-        if plan.paths().len() != problem.agents().len() {
-            return Err(Fail::from("not one path for each agent"));
-        }
-        Ok(check_plan(problem, &plan))
-    }
 
     #[test]
     fn adds_up_the_costs(rt: HostRuntime) -> Result<(), Fail> {
         let alloc = rt.alloc();
-        let crossing = problem(alloc, 3, 3, ".........", &[(3, 5), (1, 7)])?;
-        assert_eq!(rt;
-            checked(alloc, &crossing, &[&[3, 3, 4, 5], &[1, 4, 7]])?,
-            Ok(5)
-        );
-        // The second agent leaves its goal for a while.
-        let narrow = problem(alloc, 3, 2, "...@.@", &[(0, 2), (1, 1)])?;
-        assert_eq!(rt; checked(alloc, &narrow, &[&[0, 1, 2], &[1, 4, 1]])?, Ok(4));
-        // Four agents rotate.
-        let ring = problem(alloc, 2, 2, "....", &[(0, 1), (1, 3), (3, 2), (2, 0)])?;
-        assert_eq!(rt;
-            checked(alloc, &ring, &[&[0, 1], &[1, 3], &[3, 2], &[2, 0]])?,
-            Ok(4)
-        );
-        Ok(())
-    }
-
-    #[test]
-    fn names_the_first_fault(rt: HostRuntime) -> Result<(), Fail> {
-        let alloc = rt.alloc();
-        let crossing = problem(alloc, 3, 3, ".........", &[(3, 5), (1, 7)])?;
-        assert_eq!(rt;
-            checked(alloc, &crossing, &[&[3, 4, 5], &[1, 4, 7]])?,
-            Err(PlanFault::V4 {
-                i: 0,
-                j: 1,
-                tick: 1
-            })
-        );
-        assert_eq!(rt;
-            checked(alloc, &crossing, &[&[3, 5], &[0, 4, 7]])?,
-            Err(PlanFault::V2 { agent: 0, tick: 0 })
-        );
-        assert_eq!(rt;
-            checked(alloc, &crossing, &[&[3, 4, 4], &[0, 4, 7]])?,
-            Err(PlanFault::V3 { agent: 0 })
-        );
-        assert_eq!(rt;
-            checked(alloc, &crossing, &[&[3, 4, 5], &[0, 4, 7]])?,
-            Err(PlanFault::V1 { agent: 1 })
-        );
-        let pair = problem(alloc, 2, 1, "..", &[(0, 1), (1, 0)])?;
-        assert_eq!(rt;
-            checked(alloc, &pair, &[&[0, 1], &[1, 0]])?,
-            Err(PlanFault::V5 {
-                i: 0,
-                j: 1,
-                tick: 0
-            })
-        );
-        // A step into a blocked cell.
-        let walled = problem(alloc, 3, 1, ".@.", &[(0, 2)])?;
-        assert_eq!(rt;
-            checked(alloc, &walled, &[&[0, 1, 2]])?,
-            Err(PlanFault::V2 { agent: 0, tick: 0 })
-        );
-        Ok(())
-    }
-
-    // Agents 0 and 1 exchange their cells at tick 0, and 2, 3 and 4 are then in one cell.
-    #[test]
-    fn takes_vertex_conflicts_first(rt: HostRuntime) -> Result<(), Fail> {
-        let alloc = rt.alloc();
-        let row = problem(
-            alloc,
-            3,
-            1,
-            "...",
-            &[(0, 1), (1, 0), (2, 2), (2, 2), (2, 2)],
-        )?;
-        let paths: [&[u32]; 5] = [&[0, 1], &[1, 0], &[2], &[2], &[2]];
-        assert_eq!(rt;
-            checked(alloc, &row, &paths)?,
-            Err(PlanFault::V4 {
-                i: 2,
-                j: 3,
-                tick: 0
-            })
-        );
+        let crossing = crossing(alloc)?;
+        let plan = crossing_plan(alloc)?;
+        if plan.paths().len() != crossing.agents().len() {
+            return Err(Fail::from("not one path for each agent"));
+        }
+        assert_eq!(rt; check_plan(&crossing, &plan), Ok(5));
         Ok(())
     }
 }

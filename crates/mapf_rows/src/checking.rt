@@ -4,7 +4,7 @@ use crate::runs::{CROSSING, check};
 use mapf_app::{CheckFault, Fault, PlanFault, PlanTextFault, Verdict};
 use std::test::Fail;
 
-const PLAN: &str =
+pub const PLAN: &str =
     "mapf-plan 1\nagents 2\ncost 5\npath 0 3 0,1 0,1 1,1 2,1\npath 1 2 1,0 1,1 1,2\nend\n";
 
 // The plan with another sum in its third line.
@@ -15,7 +15,7 @@ const WRONG_SUM: &str =
 const MEETING: &str =
     "mapf-plan 1\nagents 2\ncost 4\npath 0 2 0,1 1,1 2,1\npath 1 2 1,0 1,1 1,2\nend\n";
 
-const CERT: &str =
+pub const CERT: &str =
     "mapf-cert 1\nagents 2\nclaim cost 5\nvertex 0 1 1,1 1\nleaf 1\nagent 0 1\nat 0,1 0 3\nleaf 1\nagent 1 1\nat 1,0 0 3\nend\n";
 
 #[test]

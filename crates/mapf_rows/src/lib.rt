@@ -8,3 +8,5 @@ mod faults;
 pub mod runs;
 #[cfg(test)]
 mod solving;
+#[cfg(test)]
+mod streams;

@@ -1,9 +1,9 @@
 //! Runs over memory.
 
-ghost use Rattle.std.specs.Prelude.{◌≤◌};
+ghost use Rattle.std.specs.Prelude.{◌≡◌, ◌≤◌, false};
 
 use mapf_app::{Fault, Kind, Verdict, run_check, run_solve};
-use mapf_model::{BytesSink, BytesSource, OutOfMemory};
+use mapf_model::{BytesSink, BytesSource, OutOfMemory, Source};
 use std::alloc::Global;
 
 /// A problem's texts and its number of agents.
@@ -41,11 +41,24 @@ pub fn check(alloc: Global, given: &Given, plan: &[u8], cert: &[u8]) -> Result<V
     requires some { 1 ≤ given.now.k }
     requires few { given.now.k ≤ 200 }
 {
+    check_pulled(alloc, given, plan, &mut BytesSource::of(cert))
+}
+
+/// Checks a certificate that comes from this source.
+pub fn check_pulled<S: Source>(
+    alloc: Global,
+    given: &Given,
+    plan: &[u8],
+    cert: &mut S,
+) -> Result<Verdict, Fault>
+    requires works { S.has_failed cert.old ≡ false }
+    requires some { 1 ≤ given.now.k }
+    requires few { given.now.k ≤ 200 }
+{
     let mut map = BytesSource::of(given.map.as_bytes());
     let mut scen = BytesSource::of(given.scen.as_bytes());
     let mut plan = BytesSource::of(plan);
-    let mut cert = BytesSource::of(cert);
-    run_check(alloc, &mut map, &mut scen, given.k, &mut plan, &mut cert)
+    run_check(alloc, &mut map, &mut scen, given.k, &mut plan, cert)
 }
 
 /// Two agents that cross on an open square of nine cells.

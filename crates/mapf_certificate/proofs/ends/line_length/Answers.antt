@@ -1,5 +1,4 @@
 use Rattle.mapf_certificate.proofs.Cuts.{end_is}
-use Rattle.mapf_certificate.proofs.PlainLines as plain
 use Rattle.mapf_certificate.proofs.ends.line_length.Goals as goal
 
 pub returns : goal.returns

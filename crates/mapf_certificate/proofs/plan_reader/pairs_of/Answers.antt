@@ -1,4 +1,4 @@
-use Rattle.std.proofs.Common.{◌≡◌, ◌≢◌, ◌++◌, ◌∷◌, [], List, ℕ, Ok, Err, Some, None, Result, Option, Bool, true, false, All, ap, sym, subst, ◌∙◌, inl, refl}
+use Rattle.std.proofs.Common.{◌≡◌, ◌≢◌, ◌++◌, ◌∷◌, [], List, ℕ, Ok, Err, Some, None, Result, Option, All, ap, sym, subst, ◌∙◌, inl, refl}
 use Rattle.std.proofs.lemmas.Bool.{false≢true}
 use Rattle.mapf_model.specs.Printed.{IsOnGrid}
 use Rattle.mapf_certificate.specs.declared.line.LineFault.{LineFault}

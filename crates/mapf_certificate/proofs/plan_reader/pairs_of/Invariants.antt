@@ -1,4 +1,4 @@
-use Rattle.std.proofs.Common.{◌≡◌, ◌++◌, ℕ, List, All, true, length}
+use Rattle.std.proofs.Common.{◌≡◌, ℕ, List, All, true, length}
 use Rattle.mapf_model.specs.Printed.{IsOnGrid}
 use Rattle.mapf_certificate.specs.Lines.{grid_of}
 use Rattle.mapf_certificate.specs.Plans.{cells_text, HasCells, GoesOn}

@@ -1,6 +1,5 @@
-use Rattle.std.proofs.Common.{◌≡◌, ◌++◌, ◌+◌, ℕ, List, Ok, Err, Result, All, codes, length, ap, sym, subst, ◌∙◌, inl, inr, ◌⊎◌}
+use Rattle.std.proofs.Common.{◌≡◌, ◌++◌, ◌+◌, ℕ, List, Ok, Err, All, codes, length, ap, sym, subst, ◌∙◌, inl, inr}
 use Rattle.mapf_model.specs.Printed.{IsPathInRange}
-use Rattle.mapf_certificate.specs.declared.plan_text.PlanTextFault.{PlanTextFault}
 use Rattle.mapf_certificate.specs.declared.sizes.Sizes.{Sizes}
 use Rattle.mapf_certificate.specs.Lines.{grid_of}
 use Rattle.mapf_certificate.specs.Plans.{paths_text, cost_of, ArePaths}

@@ -1,4 +1,4 @@
-use Rattle.std.proofs.Common.{◌≡◌, ℕ, ◌≤◌, List, Ok, Err, Result, codes, ap, sym, subst, ◌∙◌, inl, inr, ◌⊎◌, refl}
+use Rattle.std.proofs.Common.{◌≡◌, ℕ, List, Ok, Err, ap, sym, ◌∙◌, inl, inr}
 use Rattle.std.proofs.lemmas.Result.{err_from_is_err_and}
 use Rattle.mapf_model.specs.Grid.{GridMap}
 use Rattle.mapf_certificate.specs.declared.plan_text.PlanText.{PlanText}
@@ -7,7 +7,7 @@ use Rattle.mapf_certificate.specs.declared.plan_text.PlanTextFault.TheVariants.{
 use Rattle.mapf_certificate.specs.declared.plan_text.PlanAnswer.{PlanAnswer}
 use Rattle.mapf_certificate.specs.declared.plan_lines.AnswerLine.{AnswerLine}
 use Rattle.mapf_certificate.specs.declared.sizes.Sizes.{Sizes}
-use Rattle.mapf_certificate.specs.Lines.{grid_of, IsAgentCount}
+use Rattle.mapf_certificate.specs.Lines.{grid_of}
 use Rattle.mapf_certificate.specs.Plans.{plan_text, IsPlanText, IsAnswer}
 use Rattle.mapf_certificate.specs.PlanReading.{read_header, line_of, rest_of}
 use Rattle.mapf_certificate.proofs.PathLaws.{same_err, passed_on, ok_triple_parts}

@@ -4,16 +4,15 @@ use Rattle.std.proofs.lemmas.Option.{slice_get_read, get_or_from_slice_get}
 use Rattle.mapf_model.specs.declared.label.Entry.{Entry}
 use Rattle.mapf_model.specs.Labels.{entries_of, IsSoundEntry}
 use Rattle.mapf_checker.specs.Ground.{bars_on}
-use Rattle.mapf_checker.proofs.EntryLemmas.{AreSound-each, IsSoundEntry-at}
+use Rattle.mapf_checker.proofs.EntryLemmas.{AreSound-each}
 use Rattle.mapf_checker.proofs.leaf.first_unsound.Goals as goal
 
 pub returns-then-not-is_sound-clause-some : goal.returns-then-not-is_sound-clause-some
-returns-then-not-is_sound-clause-some c =
-    let ground = c.args.ground.now in
-    let entries = c.args.entries.now in
-    let read = slice_get_read entries _ c.loop-k.k c.index-entries-k.result refl c.loop-k-test.true c.index-entries-k.is in
-    λ sound. iff_false c.is_sound.ensures c.if-not-is_sound.true
-    (IsSoundEntry-at ground.grid.now ground.goal (bars_on ground) entries c.requires.rising c.loop-k.k c.index-entries-k.result c.loop-k-test.true (λ d. get_or_from_slice_get entries c.loop-k.k c.index-entries-k.result d read) sound)
+returns-then-not-is_sound-clause-some c = record {
+  entry = c.index-entries-k.result;
+  is_entry = slice_get_read c.args.entries.now _ c.loop-k.k c.index-entries-k.result refl c.loop-k-test.true c.index-entries-k.is;
+  unsound = iff_false c.is_sound.ensures c.if-not-is_sound.true;
+}
 
 pub loop-k-preserved : goal.loop-k-preserved
 loop-k-preserved c =

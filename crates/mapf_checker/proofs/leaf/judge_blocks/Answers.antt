@@ -1,7 +1,8 @@
-use Rattle.std.proofs.Common.{◌≡◌, ◌<◌, Result, Ok, Err, OnErr, slice_index_or, refl, sym, subst, ⊎_elim, arith}
+use Rattle.std.proofs.Common.{◌≡◌, ◌<◌, Result, Ok, Err, OnErr, length, slice_index_or, refl, sym, subst, ⊎_elim, arith}
 use Rattle.std.proofs.lemmas.Bool.{cases_lt}
 use Rattle.std.proofs.lemmas.Option.{slice_get_read, get_or_from_slice_get}
-use Rattle.mapf_checker.specs.Leaf.{IsOrderly, IsGoodBlock}
+use Rattle.mapf_model.specs.Printed.{IsBlockInRange}
+use Rattle.mapf_checker.specs.Leaf.{IsGoodBlock}
 use Rattle.mapf_checker.specs.Way.{place_of}
 use Rattle.mapf_checker.proofs.leaf.judge_blocks.Goals as goal
 
@@ -9,14 +10,16 @@ on_err : {E X : Type 0} (r : Result X E) (P : Type 0) → P → OnErr r P
 on_err (Ok x) P p = tt
 on_err (Err e) P p = p
 
-pub judge_block-requires-clause-orderly : goal.judge_block-requires-clause-orderly
-judge_block-requires-clause-orderly c = subst IsOrderly (sym c.block-item.is) (c.requires.orderly c.loop-block.block-index c.block-item.result c.loop-block-test.true)
+pub judge_block-requires-clause-block : goal.judge_block-requires-clause-block
+judge_block-requires-clause-block c =
+    subst (λ b. IsBlockInRange c.args.problem.now.grid (length c.args.problem.now.agents) b) (sym c.block-item.is) (c.requires.blocks c.loop-block.block-index c.block-item.result c.loop-block-test.true)
 
 pub returns-in_err-judge_block-clause-err : goal.returns-in_err-judge_block-clause-err
-returns-in_err-judge_block-clause-err c =
-    let here = (place_of c.args.way.now).here in
-    on_err c.from_residual.result _ (λ all. c.in_err-judge_block.ensures.err
-    (subst (λ b. IsGoodBlock c.args.problem.now here b) (sym c.block-item.is) (all c.loop-block.block-index c.block-item.result c.loop-block-test.true)))
+returns-in_err-judge_block-clause-err c = on_err c.from_residual.result _ (record {
+  block = c.block-item.result;
+  listed = (c.loop-block.block-index, c.loop-block-test.true, sym c.block-item.is);
+  unsound = c.in_err-judge_block.ensures.err;
+})
 
 pub loop-block-preserved : goal.loop-block-preserved
 loop-block-preserved c =

@@ -1,14 +1,15 @@
 use Rattle.std.proofs.Common.{◌<◌, length, Some, refl, sym, ◌∙◌, ap, subst, arith}
 use Rattle.std.proofs.lemmas.Option.{slice_get_read}
-use Rattle.mapf_checker.specs.Leaf.{IsOrderly}
+use Rattle.mapf_model.specs.Printed.{IsBlockInRange}
 use Rattle.mapf_checker.proofs.StartLemmas.{start_by_block, start_by_distance}
 use Rattle.mapf_checker.proofs.leaf.start_label.Goals as goal
 
 pub label_at-requires : goal.label_at-requires
 label_at-requires c =
     let takes = c.is_block_of.ensures.some c.if-is_block_of.true in
-    let orderly = subst IsOrderly (sym c.index-blocks-place.is) (c.requires.orderly.1 c.args.place c.index-blocks-place.result takes.inside) in
-    rw c.entries_in.ensures orderly.0
+    let problem = c.args.problem.now in
+    let in_range = subst (λ b. IsBlockInRange problem.grid (length problem.agents) b) (sym c.index-blocks-place.is) (c.requires.blocks.each c.args.place c.index-blocks-place.result takes.inside) in
+    rw c.entries_in.ensures in_range.rising
 
 pub returns-then-is_block_of : goal.returns-then-is_block_of
 returns-then-is_block_of c =

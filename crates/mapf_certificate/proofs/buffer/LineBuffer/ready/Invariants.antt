@@ -1,5 +1,6 @@
 use Rattle.std.proofs.Common.{◌≡◌, ◌-◌, false, [], length}
-use Rattle.mapf_certificate.specs.Window.{Window, spare}
+use Rattle.mapf_certificate.specs.Buffered.{spare}
+use Rattle.mapf_certificate.specs.Window.{Window}
 use Rattle.mapf_certificate.proofs.buffer.LineBuffer.ready.Given as goal
 
 abbrev pub invariant-loop-n : goal.invariant-loop-n

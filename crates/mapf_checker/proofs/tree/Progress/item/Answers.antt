@@ -1,28 +1,40 @@
 use Rattle.mapf_checker.proofs.tree.Progress.item.Goals as goal
 
-pub leaf-requires-clause-orderly : goal.leaf-requires-clause-orderly
-leaf-requires-clause-orderly c = rw c.deref.ensures.value (rw c.in-Leaf.is at c.requires.orderly)
+pub leaf-requires-clause-blocks : goal.leaf-requires-clause-blocks
+leaf-requires-clause-blocks c = rw c.deref.ensures.value (rw c.in-Leaf.is at c.requires.node)
 
-pub returns-in-Vertex-clause-judged : goal.returns-in-Vertex-clause-judged
-returns-in-Vertex-clause-judged c = rw c.in-Vertex.is c.split.ensures.judged
+pub returns-in-Vertex-clause-owed : goal.returns-in-Vertex-clause-owed
+returns-in-Vertex-clause-owed c = rw c.in-Vertex.is c.split.ensures.owed
+
+pub returns-in-Vertex-clause-good : goal.returns-in-Vertex-clause-good
+returns-in-Vertex-clause-good c = rw c.in-Vertex.is c.split.ensures.good
 
 pub returns-in-Vertex-clause-refused : goal.returns-in-Vertex-clause-refused
-returns-in-Vertex-clause-refused c = rw c.in-Vertex.is c.split.ensures.refused
+returns-in-Vertex-clause-refused c = rw c.in-Vertex.is (c.split.ensures.refused c.args.claim.now)
 
-pub returns-in-Swap-clause-judged : goal.returns-in-Swap-clause-judged
-returns-in-Swap-clause-judged c = rw c.in-Swap.is c.split-in-Swap.ensures.judged
+pub returns-in-Swap-clause-owed : goal.returns-in-Swap-clause-owed
+returns-in-Swap-clause-owed c = rw c.in-Swap.is c.split-in-Swap.ensures.owed
+
+pub returns-in-Swap-clause-good : goal.returns-in-Swap-clause-good
+returns-in-Swap-clause-good c = rw c.in-Swap.is c.split-in-Swap.ensures.good
 
 pub returns-in-Swap-clause-refused : goal.returns-in-Swap-clause-refused
-returns-in-Swap-clause-refused c = rw c.in-Swap.is c.split-in-Swap.ensures.refused
+returns-in-Swap-clause-refused c = rw c.in-Swap.is (c.split-in-Swap.ensures.refused c.args.claim.now)
 
-pub returns-in-Leaf-clause-judged : goal.returns-in-Leaf-clause-judged
-returns-in-Leaf-clause-judged c = rw c.in-Leaf.is (rw c.deref.ensures.value at c.leaf.ensures.judged)
+pub returns-in-Leaf-clause-owed : goal.returns-in-Leaf-clause-owed
+returns-in-Leaf-clause-owed c = rw c.in-Leaf.is (rw c.deref.ensures.value at c.leaf.ensures.owed)
+
+pub returns-in-Leaf-clause-good : goal.returns-in-Leaf-clause-good
+returns-in-Leaf-clause-good c = rw c.in-Leaf.is (rw c.deref.ensures.value at c.leaf.ensures.good)
 
 pub returns-in-Leaf-clause-refused : goal.returns-in-Leaf-clause-refused
 returns-in-Leaf-clause-refused c = rw c.in-Leaf.is (rw c.deref.ensures.value at c.leaf.ensures.refused)
 
-pub returns-in-Clash-clause-judged : goal.returns-in-Clash-clause-judged
-returns-in-Clash-clause-judged c = rw c.in-Clash.is c.clash.ensures.judged
+pub returns-in-Clash-clause-owed : goal.returns-in-Clash-clause-owed
+returns-in-Clash-clause-owed c = rw c.in-Clash.is c.clash.ensures.owed
+
+pub returns-in-Clash-clause-good : goal.returns-in-Clash-clause-good
+returns-in-Clash-clause-good c = rw c.in-Clash.is c.clash.ensures.good
 
 pub returns-in-Clash-clause-refused : goal.returns-in-Clash-clause-refused
-returns-in-Clash-clause-refused c = rw c.in-Clash.is c.clash.ensures.refused
+returns-in-Clash-clause-refused c = rw c.in-Clash.is (c.clash.ensures.refused c.args.claim.now)

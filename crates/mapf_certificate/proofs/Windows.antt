@@ -1,0 +1,130 @@
+-- Windows one after another, and what refuses a part of a text.
+use Rattle.std.proofs.Common.{◌≡◌, ℕ, ◌≤◌, ◌+◌, ◌⊎◌, inl, inr, Bool, List, ◌++◌, length, Option, Some, None, Result, Err, IfErr, refl, sym, ap, subst, ◌∙◌, arith, append_assoc, length-append}
+use Rattle.std.proofs.lemmas.List.{append-nil}
+use Rattle.std.specs.Io.KnownBytes.{Consumes, IsAtEnd}
+use Rattle.std.proofs.KnownBytes.{Consumes-trans}
+use Rattle.mapf_certificate.specs.declared.cert.CertFault.TheVariants as texts
+use Rattle.mapf_certificate.specs.declared.cert.LinesFault.{LinesFault}
+use Rattle.mapf_certificate.specs.declared.cert.LinesFault.TheVariants.{Text, Device, TooLong, Memory}
+use Rattle.mapf_certificate.specs.Buffered.{Buffered}
+use Rattle.mapf_certificate.specs.Window.{Window, Exceeds, Refuses, Fails, IsTextFault, IsNoTextFault}
+
+-- what comes after two windows
+after_both : (x p q t y : List ℕ) → x ++ p ≡ t ++ y → x ++ (p ++ q) ≡ t ++ (y ++ q)
+after_both x p q t y e = sym (append_assoc x p q) ∙ ap (λ l. l ++ q) e ∙ append_assoc t y q
+
+pub Window-trans : (a b c : Option (List ℕ)) (x y z : Buffered) (t u : List ℕ) → Window a b x y t → Window b c y z u → Window a c x z (t ++ u)
+Window-trans a b c x y z t u first second = record {
+  pulled = first.pulled ++ second.pulled;
+  source = Consumes-trans a b c first.pulled second.pulled first.source second.source;
+  same = after_both x.bytes first.pulled second.pulled t y.bytes first.same ∙ ap (λ l. t ++ l) second.same ∙ sym (append_assoc t u z.bytes);
+  within = omega (arith, first.within, second.within, length-append first.pulled second.pulled);
+}
+
+pub Exceeds-after : (a b c : Option (List ℕ)) (x y : Buffered) (t : List ℕ) → Window a b x y t → Exceeds b c y → Exceeds a c x
+Exceeds-after a b c x y t first more = record {
+  pulled = first.pulled ++ more.pulled;
+  source = Consumes-trans a b c first.pulled more.pulled first.source more.source;
+  beyond = omega (arith, first.within, more.beyond, length-append first.pulled more.pulled);
+}
+
+-- what doesn't follow refuses the whole
+pub Refuses-after : (a b c : Option (List ℕ)) (x y : Buffered) (t : List ℕ) (Is After : List ℕ → Type 0) → Window a b x y t → ((more : List ℕ) → Is (t ++ more) → After more) → Refuses b c y After → Refuses a c x Is
+Refuses-after a b c x y t Is After first follows refused = record {
+  pulled = first.pulled ++ refused.pulled;
+  source = Consumes-trans a b c first.pulled refused.pulled first.source refused.source;
+  wrong = by refused.wrong;
+}
+  where
+    all : x.bytes ++ (first.pulled ++ refused.pulled) ≡ t ++ (y.bytes ++ refused.pulled)
+    all = after_both x.bytes first.pulled refused.pulled t y.bytes first.same
+
+    by : ((more : List ℕ) → After ((y.bytes ++ refused.pulled) ++ more) → ⊥) ⊎ (IsAtEnd c × (After (y.bytes ++ refused.pulled) → ⊥))
+        → ((more : List ℕ) → Is ((x.bytes ++ (first.pulled ++ refused.pulled)) ++ more) → ⊥) ⊎ (IsAtEnd c × (Is (x.bytes ++ (first.pulled ++ refused.pulled)) → ⊥))
+    by (inl never) = inl (λ more is. never more (follows ((y.bytes ++ refused.pulled) ++ more) (subst Is (ap (λ l. l ++ more) all ∙ append_assoc t (y.bytes ++ refused.pulled) more) is)))
+    by (inr (ended, never)) = inr (ended, λ is. never (follows (y.bytes ++ refused.pulled) (subst Is all is)))
+
+pub Refuses-weaker : (a b : Option (List ℕ)) (x : Buffered) (Is Wider : List ℕ → Type 0) → ((t : List ℕ) → Is t → Wider t) → Refuses a b x Wider → Refuses a b x Is
+Refuses-weaker a b x Is Wider wider refused = record { pulled = refused.pulled; source = refused.source; wrong = by refused.wrong }
+  where
+    by : ((more : List ℕ) → Wider ((x.bytes ++ refused.pulled) ++ more) → ⊥) ⊎ (IsAtEnd b × (Wider (x.bytes ++ refused.pulled) → ⊥)) → ((more : List ℕ) → Is ((x.bytes ++ refused.pulled) ++ more) → ⊥) ⊎ (IsAtEnd b × (Is (x.bytes ++ refused.pulled) → ⊥))
+    by (inl never) = inl (λ more is. never more (wider ((x.bytes ++ refused.pulled) ++ more) is))
+    by (inr (ended, never)) = inr (ended, λ is. never (wider (x.bytes ++ refused.pulled) is))
+
+-- what was taken begins no such text
+pub Refuses-taken : (a b : Option (List ℕ)) (x y : Buffered) (t : List ℕ) (Is : List ℕ → Type 0) → Window a b x y t → ((more : List ℕ) → Is (t ++ more) → ⊥) → Refuses a b x Is
+Refuses-taken a b x y t Is first never = record {
+  pulled = first.pulled;
+  source = first.source;
+  wrong = inl (λ more is. never (y.bytes ++ more) (subst Is (ap (λ l. l ++ more) first.same ∙ append_assoc t y.bytes more) is));
+}
+
+pub Fails-text : (a b : Option (List ℕ)) (failed : Bool) (x : Buffered) (Is : List ℕ → Type 0) (fault : LinesFault) → IsTextFault fault → Refuses a b x Is → Fails a b failed x Is fault
+Fails-text a b failed x Is (Text (texts.K1 n)) is refused = refused
+Fails-text a b failed x Is (Text (texts.K2 n)) is refused = refused
+Fails-text a b failed x Is (Text (texts.K3 n)) is refused = refused
+Fails-text a b failed x Is (Text (texts.K4 n)) is refused = refused
+Fails-text a b failed x Is (Text texts.Memory) is refused = absurd is
+Fails-text a b failed x Is Device is refused = absurd is
+Fails-text a b failed x Is TooLong is refused = absurd is
+Fails-text a b failed x Is Memory is refused = absurd is
+
+pub Fails-after : (a b c : Option (List ℕ)) (failed : Bool) (x y : Buffered) (t : List ℕ) (Is After : List ℕ → Type 0) (fault : LinesFault) → Window a b x y t → ((more : List ℕ) → Is (t ++ more) → After more)
+    → Fails b c failed y After fault → Fails a c failed x Is fault
+Fails-after a b c failed x y t Is After (Text (texts.K1 n)) first follows refused = Refuses-after a b c x y t Is After first follows refused
+Fails-after a b c failed x y t Is After (Text (texts.K2 n)) first follows refused = Refuses-after a b c x y t Is After first follows refused
+Fails-after a b c failed x y t Is After (Text (texts.K3 n)) first follows refused = Refuses-after a b c x y t Is After first follows refused
+Fails-after a b c failed x y t Is After (Text (texts.K4 n)) first follows refused = Refuses-after a b c x y t Is After first follows refused
+Fails-after a b c failed x y t Is After (Text texts.Memory) first follows refused = refused
+Fails-after a b c failed x y t Is After Device first follows refused = refused
+Fails-after a b c failed x y t Is After TooLong first follows refused = Exceeds-after a b c x y t first refused
+Fails-after a b c failed x y t Is After Memory first follows refused = tt
+
+pub Fails-weaker : (a b : Option (List ℕ)) (failed : Bool) (x : Buffered) (Is Wider : List ℕ → Type 0) (fault : LinesFault) → ((t : List ℕ) → Is t → Wider t) → Fails a b failed x Wider fault → Fails a b failed x Is fault
+Fails-weaker a b failed x Is Wider (Text (texts.K1 n)) wider refused = Refuses-weaker a b x Is Wider wider refused
+Fails-weaker a b failed x Is Wider (Text (texts.K2 n)) wider refused = Refuses-weaker a b x Is Wider wider refused
+Fails-weaker a b failed x Is Wider (Text (texts.K3 n)) wider refused = Refuses-weaker a b x Is Wider wider refused
+Fails-weaker a b failed x Is Wider (Text (texts.K4 n)) wider refused = Refuses-weaker a b x Is Wider wider refused
+Fails-weaker a b failed x Is Wider (Text texts.Memory) wider refused = refused
+Fails-weaker a b failed x Is Wider Device wider refused = refused
+Fails-weaker a b failed x Is Wider TooLong wider refused = refused
+Fails-weaker a b failed x Is Wider Memory wider refused = tt
+
+-- what a source tells, it tells on
+pub Window-known : (a b : Option (List ℕ)) (x y : Buffered) (t bytes : List ℕ) → Window a b x y t → a ≡ Some bytes → (rest : List ℕ) × (b ≡ Some rest) × (x.bytes ++ bytes ≡ t ++ (y.bytes ++ rest)) × (length bytes + y.left ≡ length rest + x.left)
+Window-known a b x y t bytes first known = by b (subst (λ o. Consumes o b first.pulled) known first.source)
+  where
+    by : (o : Option (List ℕ)) → Consumes (Some bytes) o first.pulled → (rest : List ℕ) × (o ≡ Some rest) × (x.bytes ++ bytes ≡ t ++ (y.bytes ++ rest)) × (length bytes + y.left ≡ length rest + x.left)
+    by None c = absurd c
+    by (Some rest) c = (rest, refl, ap (λ l. x.bytes ++ l) c ∙ after_both x.bytes first.pulled rest t y.bytes first.same, omega (arith, first.within, ap length c, length-append first.pulled rest))
+
+-- what comes isn't refused
+pub Refuses-not : (a b : Option (List ℕ)) (x : Buffered) (Is : List ℕ → Type 0) (bytes : List ℕ) → Refuses a b x Is → a ≡ Some bytes → Is (x.bytes ++ bytes) → ⊥
+Refuses-not a b x Is bytes refused known is = by b (subst (λ o. Consumes o b refused.pulled) known refused.source) refused.wrong
+  where
+    by : (o : Option (List ℕ)) → Consumes (Some bytes) o refused.pulled → ((more : List ℕ) → Is ((x.bytes ++ refused.pulled) ++ more) → ⊥) ⊎ (IsAtEnd o × (Is (x.bytes ++ refused.pulled) → ⊥)) → ⊥
+    by None c wrong = absurd c
+    by (Some rest) c (inl never) = never rest (subst Is (ap (λ l. x.bytes ++ l) c ∙ sym (append_assoc x.bytes refused.pulled rest)) is)
+    by (Some rest) c (inr (ended, never)) = never (subst Is (ap (λ l. x.bytes ++ l) (c ∙ ap (λ l. refused.pulled ++ l) ended ∙ append-nil refused.pulled)) is)
+
+pub Fails-not : (a b : Option (List ℕ)) (failed : Bool) (x : Buffered) (Is : List ℕ → Type 0) (fault : LinesFault) (bytes : List ℕ) → Fails a b failed x Is fault → a ≡ Some bytes → Is (x.bytes ++ bytes) → IsNoTextFault fault
+Fails-not a b failed x Is (Text (texts.K1 n)) bytes refused known is = absurd (Refuses-not a b x Is bytes refused known is)
+Fails-not a b failed x Is (Text (texts.K2 n)) bytes refused known is = absurd (Refuses-not a b x Is bytes refused known is)
+Fails-not a b failed x Is (Text (texts.K3 n)) bytes refused known is = absurd (Refuses-not a b x Is bytes refused known is)
+Fails-not a b failed x Is (Text (texts.K4 n)) bytes refused known is = absurd (Refuses-not a b x Is bytes refused known is)
+Fails-not a b failed x Is (Text texts.Memory) bytes refused known is = absurd refused
+Fails-not a b failed x Is Device bytes refused known is = tt
+Fails-not a b failed x Is TooLong bytes refused known is = tt
+Fails-not a b failed x Is Memory bytes refused known is = tt
+
+-- where the limit is no less than what the source has, not too many bytes come
+pub Exceeds-not : (a b : Option (List ℕ)) (x : Buffered) (bytes : List ℕ) → Exceeds a b x → a ≡ Some bytes → length bytes ≤ x.left → ⊥
+Exceeds-not a b x bytes more known enough = by b (subst (λ o. Consumes o b more.pulled) known more.source)
+  where
+    by : (o : Option (List ℕ)) → Consumes (Some bytes) o more.pulled → ⊥
+    by None c = absurd c
+    by (Some rest) c = absurd (omega (arith, more.beyond, ap length c, length-append more.pulled rest))
+
+-- an error that is passed on
+pub err_passed : {A E : Type 0} (r : Result A E) (P : E → Type 0) (e : E) → (y : E) × (r ≡ Err y) × (y ≡ e) → P e → IfErr r P
+err_passed {A = A} {E = E} r P e (y, is, same) holds = let Q : Result A E → Type 0 = λ s. IfErr s P in subst Q (sym is) (subst P (sym same) holds)

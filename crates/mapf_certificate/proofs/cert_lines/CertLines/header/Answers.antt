@@ -1,0 +1,61 @@
+use Rattle.std.proofs.Common.{◌≡◌, ℕ, List, Some, None, subst, refl}
+use Rattle.mapf_model.specs.declared.item.Claim.{Claim}
+use Rattle.mapf_model.specs.Tree.{Node}
+use Rattle.mapf_certificate.specs.Reading.{Reading}
+use Rattle.mapf_certificate.specs.CertReading.{HasHeader, Awaits, AwaitsCert, TakesHeader}
+use Rattle.mapf_certificate.specs.Window.{Fails, IsNoTextFault}
+use Rattle.mapf_certificate.proofs.Headers.{header_joins, header_same, header_awaited}
+use Rattle.mapf_certificate.proofs.cert_lines.CertLines.header.Goals as goal
+
+pub returns-in-Ok-clause-header : goal.returns-in-Ok-clause-header
+returns-in-Ok-clause-header g c =
+    let s = g.S.Source in
+    let i = c.self.inside in
+    let had = s.remaining c.args.source.now in
+    let left = s.remaining c.read_header-read.new.source in
+    let failed = s.has_failed c.read_header-read.new.source in
+    let old : Reading = record { width = i.width; height = i.height; buffer = i.lines.buffer; header = i.header; fault = i.fault; is_whole = i.is_whole; owed = i.owed } in
+    let h = c.in-Ok.header in
+    let new : Reading = record { width = i.width; height = i.height; buffer = c.read_header-read.new.lines.buffer; header = Some h; fault = i.fault; is_whole = i.is_whole; owed = i.owed } in
+    let P : Reading → Type 0 = λ r. r.fault ≡ None → r.header ≡ None → TakesHeader had left r new h.0 h.1 in
+    subst P c.self.view_is (λ p q. record {
+      agents_in_range = c.in-Ok.ensures.agents;
+      claim_in_range = c.in-Ok.ensures.claim;
+      window = c.in-Ok.ensures.taken i.width;
+      joins = header_joins had left old new h.0 h.1 c.in-Ok.ensures.agents c.in-Ok.ensures.claim (c.in-Ok.ensures.taken i.width) refl refl refl;
+    })
+
+pub returns-in-Ok-clause-only : goal.returns-in-Ok-clause-only
+returns-in-Ok-clause-only g c =
+    let s = g.S.Source in
+    let i = c.self.inside in
+    let had = s.remaining c.args.source.now in
+    let left = s.remaining c.read_header-read.new.source in
+    let failed = s.has_failed c.read_header-read.new.source in
+    let old : Reading = record { width = i.width; height = i.height; buffer = i.lines.buffer; header = i.header; fault = i.fault; is_whole = i.is_whole; owed = i.owed } in
+    let h = c.in-Ok.header in
+    let new : Reading = record { width = i.width; height = i.height; buffer = c.read_header-read.new.lines.buffer; header = Some h; fault = i.fault; is_whole = i.is_whole; owed = i.owed } in
+    let P : Reading → Type 0 = λ r. (agents : ℕ) (claim : Claim) (nodes : List Node) → r.fault ≡ None → r.header ≡ None → AwaitsCert had r agents claim nodes → (h.0 ≡ agents) × (h.1 ≡ claim) × Awaits left new nodes in
+    subst P c.self.view_is (λ agents claim nodes p q awaits. header_same had left old new h.0 agents h.1 claim nodes c.in-Ok.ensures.agents c.in-Ok.ensures.claim (c.in-Ok.ensures.taken i.width) refl refl refl awaits)
+
+pub returns-in-Err-clause-fails : goal.returns-in-Err-clause-fails
+returns-in-Err-clause-fails g c =
+    let s = g.S.Source in
+    let i = c.self.inside in
+    let had = s.remaining c.args.source.now in
+    let left = s.remaining c.read_header-read.new.source in
+    let failed = s.has_failed c.read_header-read.new.source in
+    let old : Reading = record { width = i.width; height = i.height; buffer = i.lines.buffer; header = i.header; fault = i.fault; is_whole = i.is_whole; owed = i.owed } in
+    let P : Reading → Type 0 = λ r. r.fault ≡ None → Fails had left failed r.buffer (HasHeader r.width) c.in-Err.fault in
+    subst P c.self.view_is (λ p. c.in-Err.ensures.fails i.width)
+
+pub returns-in-Err-clause-only : goal.returns-in-Err-clause-only
+returns-in-Err-clause-only g c =
+    let s = g.S.Source in
+    let i = c.self.inside in
+    let had = s.remaining c.args.source.now in
+    let left = s.remaining c.read_header-read.new.source in
+    let failed = s.has_failed c.read_header-read.new.source in
+    let old : Reading = record { width = i.width; height = i.height; buffer = i.lines.buffer; header = i.header; fault = i.fault; is_whole = i.is_whole; owed = i.owed } in
+    let P : Reading → Type 0 = λ r. (agents : ℕ) (claim : Claim) (nodes : List Node) → r.fault ≡ None → r.header ≡ None → AwaitsCert had r agents claim nodes → IsNoTextFault c.in-Err.fault in
+    subst P c.self.view_is (λ agents claim nodes p q awaits. header_awaited had left failed old agents claim nodes c.in-Err.fault awaits (c.in-Err.ensures.fails i.width))

@@ -1,0 +1,109 @@
+-- What the answers of a reader of certificates say of the bytes that its source gave.
+use Rattle.std.specs.Prelude.{◌≡◌, ℕ, ◌+◌, ◌-◌, ◌≤◌, true, List, [], ◌∷◌, ◌++◌, Option, Some, All, AllPairs, length}
+use Rattle.std.specs.Io.KnownBytes.{IsAtEnd}
+use Rattle.mapf_model.specs.declared.item.Claim.{Claim}
+use Rattle.mapf_model.specs.Grid.{GridMap}
+use Rattle.mapf_model.specs.Printed.{IsClaimInRange}
+use Rattle.mapf_model.specs.Tree.{ConstraintTree, Node, SplitNode, LeafNode, ClashNode, Spell}
+use Rattle.mapf_certificate.specs.declared.cert.Cert.{Cert}
+use Rattle.mapf_certificate.specs.declared.line.Line.{Line}
+use Rattle.mapf_certificate.specs.declared.line.Line.TheVariants as lines
+use Rattle.mapf_certificate.specs.Lines.{IsAgentCount}
+use Rattle.mapf_certificate.specs.Buffered.{Buffered}
+use Rattle.mapf_certificate.specs.Window.{Window, BeginsWith}
+use Rattle.mapf_certificate.specs.Reading.{Reading, grid_at, agents_at}
+use Rattle.mapf_certificate.specs.Certificates.{line_text, node_text, header_text, IsNode, IsRest, SpellsCert}
+
+-- so many values in this order, each of this kind
+pub record AreInOrder (A : Type 0) (Is : A → Type 0) (Precedes : A → A → Type 0) (count : ℕ) (values : List A) : Type 0 where
+  pub many : length values ≡ count
+  pub each : All Is values
+  pub rising : AllPairs Precedes values
+
+-- a value of this kind that may come after these
+abbrev pub MayFollow : (A : Type 0) → (A → Type 0) → (A → A → Type 0) → List A → A → Type 0
+MayFollow A Is Precedes before value = Is value × All (λ b. Precedes b value) before
+
+-- how many trees are owed after a node
+abbrev pub owed_after : ℕ → Node → ℕ
+owed_after owed (SplitNode conflict) = owed + 1
+owed_after owed (LeafNode blocks) = owed - 1
+owed_after owed (ClashNode i j) = owed - 1
+
+-- the bytes begin with a header
+abbrev pub HasHeader : ℕ → List ℕ → Type 0
+HasHeader width bytes = BeginsWith (ℕ × Claim) (λ h. IsAgentCount h.0 × IsClaimInRange h.1) (λ h. header_text width h.0 h.1) bytes
+
+-- the bytes are what is still to come of a certificate: some nodes that complete the trees owed, and the end
+abbrev pub IsRestAt : Reading → List ℕ → Type 0
+IsRestAt reading bytes = (nodes : List Node) × IsRest (grid_at reading) (agents_at reading) reading.owed nodes bytes
+
+-- what is in the buffer and then still comes from the source spells these nodes, which complete the trees owed, and the end.
+-- Of a source that doesn't tell its bytes this is never so
+pub record Awaits (remaining : Option (List ℕ)) (reading : Reading) (nodes : List Node) : Type 0 where
+  pub bytes : List ℕ
+  pub known : remaining ≡ Some bytes
+  pub rest : IsRest (grid_at reading) (agents_at reading) reading.owed nodes (reading.buffer.bytes ++ bytes)
+
+-- the bytes spell a header, then these nodes, which complete so many trees, and the end
+pub record IsCertText (grid : GridMap) (owed agents : ℕ) (claim : Claim) (nodes : List Node) (bytes : List ℕ) : Type 0 where
+  pub agents_in_range : IsAgentCount agents
+  pub claim_in_range : IsClaimInRange claim
+  pub after : List ℕ
+  pub spelled : bytes ≡ header_text grid.width agents claim ++ after
+  pub rest : IsRest grid agents owed nodes after
+
+-- what is in the buffer and then still comes from the source spells this header, then these nodes, and the end
+pub record AwaitsCert (remaining : Option (List ℕ)) (reading : Reading) (agents : ℕ) (claim : Claim) (nodes : List Node) : Type 0 where
+  pub bytes : List ℕ
+  pub known : remaining ≡ Some bytes
+  pub text : IsCertText (grid_at reading) reading.owed agents claim nodes (reading.buffer.bytes ++ bytes)
+
+-- a header was read: its three lines were taken, and what follows it makes a certificate with it, where the source tells
+-- its bytes
+pub record TakesHeader (had left : Option (List ℕ)) (old new : Reading) (agents : ℕ) (claim : Claim) : Type 0 where
+  pub agents_in_range : IsAgentCount agents
+  pub claim_in_range : IsClaimInRange claim
+  pub window : Window had left old.buffer new.buffer (header_text old.width agents claim)
+  pub joins : (bytes : List ℕ) → had ≡ Some bytes → (nodes : List Node) → Awaits left new nodes → AwaitsCert had old agents claim nodes
+
+-- these lines of a node follow this first line of it
+pub record CompletesNode (grid : GridMap) (agents : ℕ) (had left : Option (List ℕ)) (old new : Buffered) (line : Line) (node : Node) : Type 0 where
+  pub in_range : IsNode grid agents node
+  pub taken : List ℕ
+  pub spelled : line_text grid.width line ++ taken ≡ node_text grid.width node
+  pub window : Window had left old new taken
+
+-- a node was read: its lines were taken, and a tree was owed
+pub record ReadsNode (had left : Option (List ℕ)) (old new : Reading) (node : Node) : Type 0 where
+  pub in_range : IsNode (grid_at old) (agents_at old) node
+  pub window : Window had left old.buffer new.buffer (node_text old.width node)
+  pub was_owed : 1 ≤ old.owed
+  pub owed : new.owed ≡ owed_after old.owed node
+
+-- the end was read: no tree is owed, the last line was taken, and the source has ended
+pub record ReadsEnd (had left : Option (List ℕ)) (old new : Reading) : Type 0 where
+  pub none_owed : old.owed ≡ 0
+  pub window : Window had left old.buffer new.buffer (line_text old.width lines.End)
+  pub ended : IsAtEnd left
+  pub empty : new.buffer.bytes ≡ []
+  pub owed : new.owed ≡ 0
+
+-- so the node is the next one: what completes the trees owed after it makes what completes those owed before it
+pub record TakesNode (had left : Option (List ℕ)) (old new : Reading) (node : Node) : Type 0 where
+  pub read : ReadsNode had left old new node
+  pub joins : (bytes : List ℕ) → had ≡ Some bytes → (nodes : List Node) → Awaits left new nodes → Awaits had old (node ∷ nodes)
+
+-- so nothing was left but the end
+pub record TakesEnd (had left : Option (List ℕ)) (old new : Reading) : Type 0 where
+  pub read : ReadsEnd had left old new
+  pub whole : new.is_whole ≡ true
+  pub joins : (bytes : List ℕ) → had ≡ Some bytes → Awaits had old []
+
+-- the bytes spell a certificate that has the same items
+abbrev pub IsSpelled : GridMap → List ℕ → Cert → Type 0
+IsSpelled grid bytes cert = (tree : ConstraintTree) × SpellsCert grid bytes cert.agents cert.claim tree × Spell cert.tree.items tree
+
+-- the certificate has this header, and its items spell this tree
+abbrev pub IsCertOf : ℕ → Claim → ConstraintTree → Cert → Type 0
+IsCertOf agents claim tree cert = (cert.agents ≡ agents) × (cert.claim ≡ claim) × Spell cert.tree.items tree

@@ -1,0 +1,144 @@
+-- A certificate's header and tree together.
+use Rattle.std.proofs.Common.{◌≡◌, ◌≢◌, ◌↔◌, ℕ, zero, suc, ◌*◌, ◌<◌, Bool, List, [], ◌∷◌, ◌++◌, Option, Some, None, IfSome, Result, Ok, Err, OnOk, IfErr, MatchResult, All, length, refl, sym, ◌∙◌, ap, subst, append_assoc, arith}
+use Rattle.std.proofs.lemmas.List.{append-nil}
+use Rattle.std.proofs.lemmas.Option.{same_Some}
+use Rattle.std.specs.Result.{IsErrAnd}
+use Rattle.mapf_model.specs.declared.item.Claim.{Claim}
+use Rattle.mapf_model.specs.declared.conflict.Conflict.{Conflict}
+use Rattle.mapf_model.specs.Blocks.{LabelBlock}
+use Rattle.mapf_model.specs.Grid.{GridMap}
+use Rattle.mapf_model.specs.Laws.{FrontDecides, TreeIsUnique}
+use Rattle.mapf_model.specs.Plan.{Instance}
+use Rattle.mapf_model.specs.Printed.{IsTreeInRange}
+use Rattle.mapf_model.specs.Tree.{ConstraintTree, Split, Leaf, Clash, Node, SplitNode, LeafNode, ClashNode, NodesShow, ShowsFrom, Shows, nodes_of, nodes_of_all, root}
+use Rattle.mapf_certificate.specs.declared.cert.LinesFault.{LinesFault}
+use Rattle.mapf_certificate.specs.declared.cert.LinesFault.TheVariants.{Text, Device, TooLong, Memory}
+use Rattle.mapf_certificate.specs.declared.cert.CertFault.TheVariants as texts
+use Rattle.mapf_certificate.specs.Buffered.{Buffered}
+use Rattle.mapf_certificate.specs.CertReading.{Awaits, AwaitsCert, IsCertText, TakesHeader}
+use Rattle.mapf_certificate.specs.Certificates.{SpellsCert, header_text, rest_text}
+use Rattle.mapf_certificate.specs.Reading.{Reading, grid_at}
+use Rattle.mapf_certificate.specs.Window.{Window, Fails, Exceeds, IsNoTextFault}
+use Rattle.mapf_certificate.proofs.CertTexts.{AreSized, spells_from_text, text_from_spells}
+use Rattle.mapf_certificate.proofs.Windows.{Window-known, Exceeds-after}
+use Rattle.mapf_checker.specs.declared.fault.CheckFault.{CheckFault}
+use Rattle.mapf_checker.specs.declared.fault.CheckFault.TheVariants.{C1, C2, C3, C4, C5, C6, C7, C8, C9}
+use Rattle.mapf_checker.specs.declared.fault.CheckFault.TheVariants as refusals
+use Rattle.mapf_checker.specs.declared.fault.FromFault.{FromFault}
+use Rattle.mapf_checker.specs.declared.fault.FromFault.TheVariants as from
+use Rattle.mapf_checker.specs.CertJudging.{IsOpened, HasHeaderRefusal, HasTreeRefusal, IsJudgedTree}
+use Rattle.mapf_checker.specs.Faults.{of_cert, IsNoRefusal, Stops}
+use Rattle.mapf_checker.specs.Refusals.{BeginsWithHeader, HasBadNode, HasBadNodeInCert, HasCertRefusal}
+use Rattle.mapf_checker.specs.Verdict.{IsGoodCert, IsShown}
+
+module _ (problem : Instance) (claim : Claim) (had : Option (List ℕ)) (start : Reading) (opened : IsOpened problem start) (bytes : List ℕ) (known : had ≡ Some bytes) where
+  pub same_bytes : start.buffer.bytes ++ bytes ≡ bytes
+  same_bytes = ap (λ b. b ++ bytes) opened.buffer
+
+  sized : AreSized problem.grid (grid_at start)
+  sized = record { width = sym opened.width; height = sym opened.height }
+
+  -- what spells a certificate is awaited
+  pub awaits_spelled : (agents : ℕ) (claimed : Claim) (tree : ConstraintTree) → SpellsCert problem.grid bytes agents claimed tree → AwaitsCert had start agents claimed (nodes_of tree)
+  awaits_spelled agents claimed tree spells = record {
+    bytes = bytes;
+    known = known;
+    text = subst (λ owed. IsCertText (grid_at start) owed agents claimed (nodes_of tree) (start.buffer.bytes ++ bytes)) (sym opened.owed)
+        (subst (λ b. IsCertText (grid_at start) 1 agents claimed (nodes_of tree) b) (sym same_bytes) (text_from_spells problem.grid (grid_at start) agents claimed tree bytes sized spells));
+  }
+
+  -- and what is awaited spells one
+  pub spelled_awaited : (agents : ℕ) (claimed : Claim) (nodes : List Node) → AwaitsCert had start agents claimed nodes → (tree : ConstraintTree) × SpellsCert problem.grid bytes agents claimed tree × (nodes ≡ nodes_of tree)
+  spelled_awaited agents claimed nodes awaits =
+      let came : start.buffer.bytes ++ awaits.bytes ≡ bytes = ap (λ b. start.buffer.bytes ++ b) (same_Some awaits.bytes bytes (sym awaits.known ∙ known)) ∙ same_bytes in
+      spells_from_text problem.grid (grid_at start) agents claimed nodes bytes (record { width = opened.width; height = opened.height })
+      (subst (λ owed. IsCertText (grid_at start) owed agents claimed nodes bytes) opened.owed (subst (λ b. IsCertText (grid_at start) start.owed agents claimed nodes b) came awaits.text))
+
+  -- the header stands in front
+  pub begins : (left : Option (List ℕ)) (new : Reading) (agents : ℕ) (claimed : Claim) → TakesHeader had left start new agents claimed → BeginsWithHeader problem bytes agents claimed
+  begins left new agents claimed takes =
+      let (after, known_left, same, count) = Window-known had left start.buffer new.buffer (header_text start.width agents claimed) bytes takes.window known in
+      record { rest = new.buffer.bytes ++ after; spelled = sym same_bytes ∙ subst (λ w. start.buffer.bytes ++ bytes ≡ header_text w agents claimed ++ (new.buffer.bytes ++ after)) opened.width same }
+
+-- why reading a header stopped
+pub stops_heading : (problem : Instance) (claim : Claim) (had left : Option (List ℕ)) (failed : Bool) (start : Reading) (IsText : List ℕ → Type 0) (fault : LinesFault) → Fails had left failed start.buffer IsText fault →
+    ((agents : ℕ) (claimed : Claim) (nodes : List Node) → AwaitsCert had start agents claimed nodes → IsNoTextFault fault) → Stops had left failed start.buffer (HasHeaderRefusal problem claim had start) (of_cert fault)
+stops_heading problem claim had left failed start IsText (Text texts.Memory) fails none = absurd fails
+stops_heading problem claim had left failed start IsText (Text (texts.K1 line)) fails none = (λ e. cc, none)
+stops_heading problem claim had left failed start IsText (Text (texts.K2 line)) fails none = (λ e. cc, none)
+stops_heading problem claim had left failed start IsText (Text (texts.K3 line)) fails none = (λ e. cc, none)
+stops_heading problem claim had left failed start IsText (Text (texts.K4 line)) fails none = (λ e. cc, none)
+stops_heading problem claim had left failed start IsText Device fails none = fails
+stops_heading problem claim had left failed start IsText TooLong fails none = fails
+stops_heading problem claim had left failed start IsText Memory fails none = tt
+
+-- what is so of known bytes
+if_known : {X : Type 0} (o : Option X) (P : X → Type 0) → ((x : X) → o ≡ Some x → P x) → IfSome o P
+if_known None P f = tt
+if_known (Some x) P f = f x refl
+
+-- the same reason, said otherwise
+pub stops_as : {P Q : CheckFault → Type 0} (had left : Option (List ℕ)) (failed : Bool) (old new : Buffered) (fault : FromFault) → old ≡ new → ((refusal : CheckFault) → P refusal → Q refusal) → Stops had left failed old P fault → Stops had left failed new Q fault
+stops_as had left failed old new (from.Refused refusal) same f stops = f refusal stops
+stops_as had left failed old new from.Device same f stops = stops
+stops_as had left failed old new from.TooLong same f stops = subst (λ b. Exceeds had left b) same stops
+stops_as had left failed old new from.Memory same f stops = tt
+
+-- after a part was taken
+pub stops_after : {P Q : CheckFault → Type 0} (had mid left : Option (List ℕ)) (failed : Bool) (old now new : Buffered) (taken : List ℕ) (fault : FromFault) → old ≡ new → Window had mid old now taken → ((refusal : CheckFault) → P refusal → Q refusal) →
+    Stops mid left failed now P fault → Stops had left failed new Q fault
+stops_after had mid left failed old now new taken (from.Refused refusal) same window f stops = f refusal stops
+stops_after had mid left failed old now new taken from.Device same window f stops = stops
+stops_after had mid left failed old now new taken from.TooLong same window f stops = subst (λ b. Exceeds had left b) same (Exceeds-after had mid left old now taken window stops)
+stops_after had mid left failed old now new taken from.Memory same window f stops = tt
+
+module _ (problem : Instance) (claim : Claim) (had : Option (List ℕ)) (start : Reading) (opened : IsOpened problem start) where
+  -- a refusal of the header is one of the certificate
+  pub header_refusal : (refusal : CheckFault) → HasHeaderRefusal problem claim had start refusal → HasCertRefusal problem claim had refusal
+  header_refusal (C1 fault) is = absurd is
+  header_refusal (C2 fault) (other, none) = (other, if_known had _ (λ bytes known agents claimed tree spells. none agents claimed (nodes_of tree) (awaits_spelled problem claim had start opened bytes known agents claimed tree spells)))
+  header_refusal C3 is = if_known had _ is
+  header_refusal C4 is = if_known had _ is
+  header_refusal (C5 fault) is = absurd is
+  header_refusal (C6 line) is = absurd is
+  header_refusal (C7 line) is = absurd is
+  header_refusal (C8 line) is = absurd is
+  header_refusal (C9 line) is = absurd is
+  header_refusal refusals.Memory is = absurd is
+
+  module _ (mid : Option (List ℕ)) (headed : Reading) (takes : TakesHeader had mid start headed (length problem.agents) claim) where
+    -- the bytes after the header
+    after_header : (bytes : List ℕ) → had ≡ Some bytes → (rest : List ℕ) × (mid ≡ Some rest) × (bytes ≡ header_text problem.grid.width (length problem.agents) claim ++ (headed.buffer.bytes ++ rest))
+    after_header bytes known =
+        let (rest, known_mid, same, count) = Window-known had mid start.buffer headed.buffer (header_text start.width (length problem.agents) claim) bytes takes.window known in
+        (rest, known_mid, sym (same_bytes problem claim had start opened bytes known) ∙ subst (λ w. start.buffer.bytes ++ bytes ≡ header_text w (length problem.agents) claim ++ (headed.buffer.bytes ++ rest)) opened.width same)
+
+    bad_node_in : (refusal : CheckFault) → ((bytes : List ℕ) → mid ≡ Some bytes → HasBadNode problem claim refusal (headed.buffer.bytes ++ bytes)) → IfSome had (HasBadNodeInCert problem claim refusal)
+    bad_node_in refusal bad = if_known had _ (λ bytes known. let (rest, known_mid, same) = after_header bytes known in (headed.buffer.bytes ++ rest, same, bad rest known_mid))
+
+    -- so is one of the tree
+    pub refusal_of_tree : ((agents : ℕ) (claimed : Claim) (nodes : List Node) → AwaitsCert had start agents claimed nodes → Awaits mid headed nodes) → (refusal : CheckFault) → HasTreeRefusal problem claim mid headed refusal → HasCertRefusal problem claim had refusal
+    refusal_of_tree ahead (C1 fault) is = absurd is
+    refusal_of_tree ahead (C2 fault) (other, none) = (other, if_known had _ (λ bytes known agents claimed tree spells. none (nodes_of tree) (ahead agents claimed (nodes_of tree) (awaits_spelled problem claim had start opened bytes known agents claimed tree spells))))
+    refusal_of_tree ahead C3 is = absurd is
+    refusal_of_tree ahead C4 is = absurd is
+    refusal_of_tree ahead (C5 fault) is = absurd is
+    refusal_of_tree ahead (C6 line) is = bad_node_in (C6 line) is
+    refusal_of_tree ahead (C7 line) is = bad_node_in (C7 line) is
+    refusal_of_tree ahead (C8 line) is = bad_node_in (C8 line) is
+    refusal_of_tree ahead (C9 line) is = bad_node_in (C9 line) is
+    refusal_of_tree ahead refusals.Memory is = absurd is
+
+    -- a tree that was judged is the certificate's
+    pub good_cert : FrontDecides → TreeIsUnique → IsJudgedTree problem claim mid headed → (bytes : List ℕ) → had ≡ Some bytes → IsGoodCert problem claim bytes
+    good_cert law unique judged bytes known =
+        let (rest, known_mid, same) = after_header bytes known in
+        let (tree, spells, is) = spelled_awaited problem claim had start opened bytes known (length problem.agents) claim judged.nodes (takes.joins bytes known judged.nodes (judged.read rest known_mid)) in
+        let (shown, is_shown, shows) = ((law problem claim).whole judged.nodes).0 judged.shows in
+        record { tree = tree; spelled = spells; shows = subst (λ t. Shows problem claim t) (unique shown tree (sym is_shown ∙ is)) shows }
+
+pub shown_tree : FrontDecides → (problem : Instance) (claim : Claim) (mid : Option (List ℕ)) (headed : Reading) → IsJudgedTree problem claim mid headed → IsShown problem claim
+shown_tree law problem claim mid headed judged = let (tree, is, shows) = ((law problem claim).whole judged.nodes).0 judged.shows in (tree, shows)
+
+pub nodes_show : FrontDecides → (problem : Instance) (claim : Claim) (tree : ConstraintTree) → Shows problem claim tree → NodesShow problem claim (root ∷ []) (nodes_of tree)
+nodes_show law problem claim tree shows = ((law problem claim).whole (nodes_of tree)).1 (tree, refl, shows)

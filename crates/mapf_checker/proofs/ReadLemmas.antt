@@ -1,0 +1,227 @@
+-- A tree that is judged as it is read.
+use Rattle.std.proofs.Common.{◌≡◌, ◌↔◌, ℕ, ◌+◌, ◌*◌, ◌<◌, ◌≤◌, Bool, true, false, List, [], ◌∷◌, ◌++◌, Option, Some, Result, Ok, Err, IfErr, MatchResult, length, slice_index_or, refl, sym, ◌∙◌, ap, subst, append_assoc, inl, inr, arith}
+use Rattle.std.proofs.lemmas.List.{append-nil}
+use Rattle.std.specs.List.{flat_map}
+use Rattle.std.specs.Result.{IsErrAnd}
+use Rattle.std.proofs.KnownBytes.{Consumes-nil}
+use Rattle.mapf_model.specs.declared.item.Claim.{Claim}
+use Rattle.mapf_model.specs.declared.conflict.Conflict.{Conflict}
+use Rattle.mapf_model.specs.declared.conflict.Conflict.TheVariants.{Vertex, Swap}
+use Rattle.mapf_model.specs.Blocks.{LabelBlock}
+use Rattle.mapf_model.specs.Grid.{GridMap}
+use Rattle.mapf_model.specs.Laws.{FrontDecides}
+use Rattle.mapf_model.specs.Plan.{Instance}
+use Rattle.mapf_model.specs.Printed.{AreBlocksInRange}
+use Rattle.mapf_model.specs.Tree.{Split, Leaf, Node, SplitNode, LeafNode, ClashNode, NodeConstraints, NodesShow, root}
+use Rattle.mapf_certificate.specs.declared.cert.LinesFault.{LinesFault}
+use Rattle.mapf_certificate.specs.declared.cert.LinesFault.TheVariants.{Text, Device, TooLong, Memory}
+use Rattle.mapf_certificate.specs.declared.cert.CertFault.TheVariants as texts
+use Rattle.mapf_certificate.specs.CertReading.{Awaits, TakesNode, TakesEnd, owed_after as owed_count_after}
+use Rattle.mapf_certificate.specs.Certificates.{IsNode, node_text}
+use Rattle.mapf_certificate.specs.Reading.{Reading, grid_at, agents_at}
+use Rattle.mapf_certificate.specs.Window.{Window, Fails, IsNoTextFault}
+use Rattle.mapf_certificate.proofs.CertTexts.{AreSized, tree_moved}
+use Rattle.mapf_certificate.proofs.Windows.{Window-trans, Window-known, Exceeds-after}
+use Rattle.mapf_checker.specs.declared.fault.CheckFault.{CheckFault}
+use Rattle.mapf_checker.specs.declared.fault.FromFault.{FromFault}
+use Rattle.mapf_checker.specs.declared.fault.FromFault.TheVariants as from
+use Rattle.mapf_checker.specs.CertJudging.{HasTreeRefusal, IsJudgedTree}
+use Rattle.mapf_checker.specs.Faults.{of_cert, IsOfJudging, IsNoRefusal, Stops}
+use Rattle.mapf_checker.specs.NodeDefects.{HasNodeDefect, IsGoodNode}
+use Rattle.mapf_checker.specs.Progress.{owed_after, owed_after_all, owed_at}
+use Rattle.mapf_checker.specs.Refusals.{HasBadNode}
+use Rattle.mapf_checker.specs.Way.{Place}
+use Rattle.mapf_checker.proofs.TreeLemmas.{judged_good, shown_good, defect_refutes_node}
+
+-- how far a tree was read and judged: these nodes came, whether they and others show the claim goes by the others, and
+-- these constraints are owed
+pub record IsReadTo (problem : Instance) (claim : Claim) (had remaining : Option (List ℕ)) (start reading : Reading) (owed : List NodeConstraints) : Type 0 where
+  pub given : List Node
+  pub window : Window had remaining start.buffer reading.buffer (flat_map (node_text start.width) given)
+  pub ahead : (nodes : List Node) → Awaits had start nodes → (rest : List Node) × (nodes ≡ given ++ rest) × Awaits remaining reading rest
+  pub behind : (bytes : List ℕ) → had ≡ Some bytes → (rest : List Node) → Awaits remaining reading rest → Awaits had start (given ++ rest)
+  pub place : owed ≡ owed_after_all (root ∷ []) given
+  pub count : reading.owed ≡ length owed
+  pub shows : (rest : List Node) → NodesShow problem claim (root ∷ []) (given ++ rest) ↔ NodesShow problem claim owed rest
+
+-- nothing was read
+pub read_none : (problem : Instance) (claim : Claim) (had : Option (List ℕ)) (start : Reading) (owed : List NodeConstraints) → start.owed ≡ 1 → owed ≡ root ∷ [] → IsReadTo problem claim had had start start owed
+read_none problem claim had start owed one same = record {
+  given = [];
+  window = record { pulled = []; source = Consumes-nil had; same = append-nil start.buffer.bytes; within = omega arith };
+  ahead = λ nodes awaits. (nodes, refl, awaits);
+  behind = λ bytes known rest awaits. awaits;
+  place = same;
+  count = one ∙ ap length (sym same);
+  shows = λ rest. rw same (λ h. h, λ h. h);
+}
+
+-- a node more
+module _ (problem : Instance) (claim : Claim) (had mid left : Option (List ℕ)) (start now new : Reading) (owed : List NodeConstraints) (so_far : IsReadTo problem claim had mid start now owed) (node : Node) (same_width : now.width ≡ start.width)
+    (takes : TakesNode mid left now new node)
+    (only_item : (other : Node) (nodes : List Node) → Awaits mid now (other ∷ nodes) → (node ≡ other) × Awaits left new nodes) (only_end : Awaits mid now [] → ⊥) where
+  -- it is the next one
+  next_is : (given nodes rest : List Node) → nodes ≡ given ++ rest → Awaits mid now rest → (after : List Node) × (nodes ≡ (given ++ node ∷ []) ++ after) × (rest ≡ node ∷ after) × Awaits left new after
+  next_is given nodes [] same awaits = absurd (only_end awaits)
+  next_is given nodes (other ∷ rest) same awaits =
+      let (is, after) = only_item other rest awaits in
+      let front : other ∷ rest ≡ node ∷ rest = ap (λ n. n ∷ rest) (sym is) in
+      (rest, same ∙ ap (λ ns. given ++ ns) front ∙ sym (append_assoc given (node ∷ []) rest), front, after)
+
+  taken : Window had left start.buffer new.buffer (flat_map (node_text start.width) so_far.given ++ node_text start.width node)
+  taken = Window-trans had mid left start.buffer now.buffer new.buffer (flat_map (node_text start.width) so_far.given) (node_text start.width node) so_far.window (rw same_width at takes.read.window)
+
+  pub read_more : FrontDecides → (here : NodeConstraints) (others : List NodeConstraints) → owed ≡ here ∷ others → IsGoodNode problem claim here node → (after : List NodeConstraints) → after ≡ owed_after owed node → IsReadTo problem claim had left start new after
+  read_more law here others is_owed good after is_after = record {
+    given = so_far.given ++ node ∷ [];
+    window = subst (λ t. Window had left start.buffer new.buffer t) (sym (flat_map-push (node_text start.width) so_far.given node)) taken;
+    ahead = λ nodes awaits.
+        let (rest, same, there) = so_far.ahead nodes awaits in
+        let (further, whole, front, then) = next_is so_far.given nodes rest same there in
+        (further, whole, then);
+    behind = λ bytes known rest awaits.
+        let (had_left, known_mid, same, count) = Window-known had mid start.buffer now.buffer (flat_map (node_text start.width) so_far.given) bytes so_far.window known in
+        subst (λ ns. Awaits had start ns) (sym (append_assoc so_far.given (node ∷ []) rest)) (so_far.behind bytes known (node ∷ rest) (takes.joins had_left known_mid rest awaits));
+    place = is_after ∙ ap (λ o. owed_after o node) so_far.place ∙ sym (owed_after_push (root ∷ []) so_far.given node);
+    count = takes.read.owed ∙ count_after node now.owed owed here others so_far.count is_owed ∙ ap length (sym is_after);
+    shows = λ rest.
+        let before = so_far.shows (node ∷ rest) in
+        let here_on : NodesShow problem claim owed (node ∷ rest) ↔ NodesShow problem claim after rest = rw (is_after, is_owed) (judged_good law problem claim here others node good rest) in
+        rw (append_assoc so_far.given (node ∷ []) rest) (λ shows. here_on.0 (before.0 shows), λ shows. before.1 (here_on.1 shows));
+  } where
+    flat_map-push : (f : Node → List ℕ) (xs : List Node) (x : Node) → flat_map f (xs ++ x ∷ []) ≡ flat_map f xs ++ f x
+    flat_map-push f [] x = append-nil (f x)
+    flat_map-push f (y ∷ xs) x = ap (λ l. f y ++ l) (flat_map-push f xs x) ∙ sym (append_assoc (f y) (flat_map f xs) (f x))
+    owed_after_push : (owed : List NodeConstraints) (xs : List Node) (x : Node) → owed_after_all owed (xs ++ x ∷ []) ≡ owed_after (owed_after_all owed xs) x
+    owed_after_push owed [] x = refl
+    owed_after_push owed (y ∷ xs) x = owed_after_push (owed_after owed y) xs x
+    count_after : (node : Node) (n : ℕ) (owed : List NodeConstraints) (here : NodeConstraints) (others : List NodeConstraints) → n ≡ length owed → owed ≡ here ∷ others → owed_count_after n node ≡ length (owed_after owed node)
+    count_after (SplitNode conflict) n owed here others count is = rw (count, is) (omega arith)
+    count_after (LeafNode blocks) n owed here others count is = rw (count, is) (omega arith)
+    count_after (ClashNode i j) n owed here others count is = rw (count, is) (omega arith)
+
+  -- it has a defect
+  pub bad_node : start.width ≡ problem.grid.width → (here : NodeConstraints) (others : List NodeConstraints) → owed ≡ here ∷ others → (fault : CheckFault) → HasNodeDefect problem claim here node fault →
+      (bytes : List ℕ) → had ≡ Some bytes → HasBadNode problem claim fault (start.buffer.bytes ++ bytes)
+  bad_node width here others is_owed fault defect bytes known =
+      let text = node_text start.width in
+      let (after, known_left, same, count) = Window-known had left start.buffer new.buffer (flat_map text so_far.given ++ text node) bytes taken known in
+      record {
+        before = so_far.given;
+        node = node;
+        here = here;
+        owed = others;
+        place = sym so_far.place ∙ is_owed;
+        defect = defect;
+        rest = new.buffer.bytes ++ after;
+        spelled = subst (λ w. start.buffer.bytes ++ bytes ≡ flat_map (node_text w) so_far.given ++ (node_text w node ++ (new.buffer.bytes ++ after))) width
+            (same ∙ append_assoc (flat_map text so_far.given) (text node) (new.buffer.bytes ++ after));
+      }
+
+  -- so the nodes that were to come don't show the claim
+  pub defect_refutes_nodes : FrontDecides → (here : NodeConstraints) (others : List NodeConstraints) → owed ≡ here ∷ others → (fault : CheckFault) → HasNodeDefect problem claim here node fault →
+      (nodes : List Node) → Awaits had start nodes → NodesShow problem claim (root ∷ []) nodes → ⊥
+  defect_refutes_nodes law here others is_owed fault defect nodes awaits shows =
+      let (rest, same, there) = so_far.ahead nodes awaits in
+      let (after, whole, front, then) = next_is so_far.given nodes rest same there in
+      let all : nodes ≡ so_far.given ++ node ∷ after = same ∙ ap (λ ns. so_far.given ++ ns) front in
+      let left_to_show : NodesShow problem claim owed (node ∷ after) = (so_far.shows (node ∷ after)).0 (subst (λ ns. NodesShow problem claim (root ∷ []) ns) all shows) in
+      defect_refutes_node problem claim here (grid_at now) (agents_at now) node fault takes.read.in_range defect
+      (shown_good law problem claim here others node after (subst (λ o. NodesShow problem claim o (node ∷ after)) is_owed left_to_show))
+
+-- a tree is owed where the count says so
+pub is_going : (is_over : Bool) (place : Place) (n : ℕ) → 1 ≤ n → n ≡ length (owed_at is_over place) → is_over ≡ false
+is_going true place n some count = absurd (omega (arith, count))
+is_going false place n some count = refl
+
+pub owed_going : (is_over : Bool) (place : Place) → is_over ≡ false → owed_at is_over place ≡ place.here ∷ place.owed
+owed_going true place going = absurd cc
+owed_going false place going = refl
+
+-- the end was read
+pub read_all : FrontDecides → (problem : Instance) (claim : Claim) (had mid left : Option (List ℕ)) (start now new : Reading) (owed : List NodeConstraints) → IsReadTo problem claim had mid start now owed → TakesEnd mid left now new → IsJudgedTree problem claim had start
+read_all law problem claim had mid left start now new owed so_far takes = record {
+  nodes = so_far.given;
+  shows = subst (λ ns. NodesShow problem claim (root ∷ []) ns) (append-nil so_far.given)
+      ((so_far.shows []).1 (subst (λ o. NodesShow problem claim o []) (sym (none owed (sym so_far.count ∙ takes.read.none_owed))) (law problem claim).over));
+  read = λ bytes known.
+      let (rest, known_mid, same, count) = Window-known had mid start.buffer now.buffer (flat_map (node_text start.width) so_far.given) bytes so_far.window known in
+      subst (λ ns. Awaits had start ns) (append-nil so_far.given) (so_far.behind bytes known [] (takes.joins rest known_mid));
+} where
+  none : (owed : List NodeConstraints) → length owed ≡ 0 → owed ≡ []
+  none [] e = refl
+  none (o ∷ os) e = absurd (omega (arith, e))
+
+-- no nodes were to come where reading found a fault of the text
+pub none_awaited : (problem : Instance) (claim : Claim) (had mid : Option (List ℕ)) (start now : Reading) (owed : List NodeConstraints) (fault : LinesFault) → IsReadTo problem claim had mid start now owed →
+    ((other : Node) (nodes : List Node) → Awaits mid now (other ∷ nodes) → IsNoTextFault fault) → (Awaits mid now [] → IsNoTextFault fault) → (nodes : List Node) → Awaits had start nodes → IsNoTextFault fault
+none_awaited problem claim had mid start now owed fault so_far only_item only_end nodes awaits = let (rest, same, there) = so_far.ahead nodes awaits in by rest there where
+  by : (rest : List Node) → Awaits mid now rest → IsNoTextFault fault
+  by [] there = only_end there
+  by (other ∷ rest) there = only_item other rest there
+
+pub no_refusal : (fault : LinesFault) → IsNoTextFault fault → IsNoRefusal (of_cert fault)
+no_refusal (Text texts.Memory) is = tt
+no_refusal (Text (texts.K1 line)) is = absurd is
+no_refusal (Text (texts.K2 line)) is = absurd is
+no_refusal (Text (texts.K3 line)) is = absurd is
+no_refusal (Text (texts.K4 line)) is = absurd is
+no_refusal Device is = tt
+no_refusal TooLong is = tt
+no_refusal Memory is = tt
+
+module _ (problem : Instance) (claim : Claim) (had left : Option (List ℕ)) (failed : Bool) (start : Reading) where
+  -- why reading stopped
+  pub stops_reading : (mid : Option (List ℕ)) (now : Reading) (taken : List ℕ) (IsText : List ℕ → Type 0) (fault : LinesFault) → Window had mid start.buffer now.buffer taken → Fails mid left failed now.buffer IsText fault →
+      ((nodes : List Node) → Awaits had start nodes → IsNoTextFault fault) → Stops had left failed start.buffer (HasTreeRefusal problem claim had start) (of_cert fault)
+  stops_reading mid now taken IsText (Text texts.Memory) window fails none = absurd fails
+  stops_reading mid now taken IsText (Text (texts.K1 line)) window fails none = (λ e. cc, none)
+  stops_reading mid now taken IsText (Text (texts.K2 line)) window fails none = (λ e. cc, none)
+  stops_reading mid now taken IsText (Text (texts.K3 line)) window fails none = (λ e. cc, none)
+  stops_reading mid now taken IsText (Text (texts.K4 line)) window fails none = (λ e. cc, none)
+  stops_reading mid now taken IsText Device window fails none = fails
+  stops_reading mid now taken IsText TooLong window fails none = Exceeds-after had mid left start.buffer now.buffer taken window fails
+  stops_reading mid now taken IsText Memory window fails none = tt
+
+  tree_refusal : (here : NodeConstraints) (node : Node) (fault : CheckFault) → HasNodeDefect problem claim here node fault → ((bytes : List ℕ) → had ≡ Some bytes → HasBadNode problem claim fault (start.buffer.bytes ++ bytes)) → HasTreeRefusal problem claim had start fault
+  tree_refusal here (SplitNode conflict) fault (line, is, defect) bad = rw is (rw is at bad)
+  tree_refusal here (LeafNode blocks) fault (inl (line, is, defect)) bad = rw is (rw is at bad)
+  tree_refusal here (LeafNode blocks) fault (inr (line, is, defect)) bad = rw is (rw is at bad)
+  tree_refusal here (ClashNode i j) fault (line, is, defect) bad = rw is (rw is at bad)
+
+  -- why judging stopped
+  pub stops_judging : (here : NodeConstraints) (node : Node) (fault : FromFault) → IsOfJudging (HasNodeDefect problem claim here node) fault →
+      ((refusal : CheckFault) → HasNodeDefect problem claim here node refusal → (bytes : List ℕ) → had ≡ Some bytes → HasBadNode problem claim refusal (start.buffer.bytes ++ bytes)) → Stops had left failed start.buffer (HasTreeRefusal problem claim had start) fault
+  stops_judging here node (from.Refused refusal) is bad = tree_refusal here node refusal is (bad refusal is)
+  stops_judging here node from.Device is bad = absurd is
+  stops_judging here node from.TooLong is bad = absurd is
+  stops_judging here node from.Memory is bad = tt
+
+pub no_refusal_judging : (P : CheckFault → Type 0) (fault : FromFault) → IsOfJudging P fault → ((refusal : CheckFault) → P refusal → ⊥) → IsNoRefusal fault
+no_refusal_judging P (from.Refused refusal) is none = none refusal is
+no_refusal_judging P from.Device is none = tt
+no_refusal_judging P from.TooLong is none = tt
+no_refusal_judging P from.Memory is none = tt
+
+-- a node that is in range on one grid is so on another of the same size
+pub node_moved : (g h : GridMap) (agents : ℕ) → AreSized g h → (node : Node) → IsNode g agents node → IsNode h agents node
+node_moved g h agents same (SplitNode conflict) is = (tree_moved g h same agents (Split conflict (Leaf []) (Leaf [])) (is, none, none)).0 where
+  none : {grid : GridMap} → AreBlocksInRange grid agents []
+  none = record { each = λ k d within. absurd (omega arith); rising = λ i j d less within. absurd (omega arith) }
+node_moved g h agents same (LeafNode blocks) is = tree_moved g h same agents (Leaf blocks) is
+node_moved g h agents same (ClashNode i j) is = is
+
+-- an error that is passed on
+pub err_passed : {A E : Type 0} (r : Result A E) (P : E → Type 0) (e : E) → IsErrAnd r (λ y. y ≡ e) → P e → IfErr r P
+err_passed (Ok x) P e is holds = tt
+err_passed (Err y) P e is holds = subst P (sym is) holds
+
+-- what is said of an error, said otherwise
+pub err_made : {A E : Type 0} {P Q : E → Type 0} (r : Result A E) → ((e : E) → P e → Q e) → IfErr r P → IfErr r Q
+err_made (Ok x) f is = tt
+err_made (Err e) f is = f e is
+
+-- an error that is passed on beside what an answer says
+pub err_matched : {A E : Type 0} (r : Result A E) (P : A → Type 0) (Q : E → Type 0) (e : E) → IsErrAnd r (λ y. y ≡ e) → Q e → MatchResult r P Q
+err_matched (Ok x) P Q e is holds = absurd is
+err_matched (Err y) P Q e is holds = subst Q (sym is) holds

@@ -1,0 +1,44 @@
+use Rattle.std.proofs.Common.{◌≡◌, length, refl, sym, ◌∙◌, ap, subst}
+use Rattle.mapf_model.specs.Accepted.{SaysPlan, SaysImpossible, SaysLimit}
+use Rattle.mapf_certificate.specs.Plans.{says}
+use Rattle.mapf_checker.specs.declared.fault.Verdict.TheVariants.{Optimal}
+use Rattle.mapf_checker.specs.Verdict.{IsGoodFor}
+use Rattle.mapf_checker.proofs.PlanLemmas.{good_text, text_good, valid_if_good, optimal_if_good, impossible_if_good}
+use Rattle.mapf_checker.proofs.plan_judge.judge_plan.Goals as goal
+
+pub returns-then-agents-clause-only : goal.returns-then-agents-clause-only
+returns-then-agents-clause-only c verdict good =
+    let problem = c.args.problem.now in
+    absurd (c.if-agents.true ((good_text problem c.args.plan_text.now c.in_ok-agents.field-0 (rw c.grid.ensures at c.in_ok-agents.ensures.only) verdict good).0 ∙ ap length (sym c.agents.ensures.value)))
+
+pub returns-in-Ok-clause-good : goal.returns-in-Ok-clause-good
+returns-in-Ok-clause-good c =
+    let problem = c.args.problem.now in
+    text_good problem c.args.plan_text.now c.in_ok-agents.field-0 (rw c.grid.ensures at c.in_ok-agents.ensures.found) (c.if-agents.false ∙ ap length c.agents.ensures.value) (SaysPlan c.in-Found.plan) (ap says c.in-Found.is)
+    (Optimal c.in-Ok.sum) (c.in-Ok.ensures.valid.0 refl, c.in-Ok.ensures.sum)
+
+pub returns-in-Ok-clause-only : goal.returns-in-Ok-clause-only
+returns-in-Ok-clause-only c verdict good =
+    let problem = c.args.problem.now in
+    let fits = (good_text problem c.args.plan_text.now c.in_ok-agents.field-0 (rw c.grid.ensures at c.in_ok-agents.ensures.only) verdict good).1 in
+    optimal_if_good c.sums_are_one.ensures problem c.in-Found.plan c.in-Ok.sum verdict c.in-Ok.ensures.sum (subst (λ s. IsGoodFor problem s verdict) (ap says c.in-Found.is) fits)
+
+pub returns-in-Found-clause-only : goal.returns-in-Found-clause-only
+returns-in-Found-clause-only c verdict good =
+    let problem = c.args.problem.now in
+    let fits = (good_text problem c.args.plan_text.now c.in_ok-agents.field-0 (rw c.grid.ensures at c.in_ok-agents.ensures.only) verdict good).1 in
+    let valid = valid_if_good problem c.in-Found.plan verdict (subst (λ s. IsGoodFor problem s verdict) (ap says c.in-Found.is) fits) in
+    let no = c.in-Err.ensures.valid.1 valid in
+    absurd cc
+
+pub returns-in-Impossible-clause-only : goal.returns-in-Impossible-clause-only
+returns-in-Impossible-clause-only c verdict good =
+    let problem = c.args.problem.now in
+    let fits = (good_text problem c.args.plan_text.now c.in_ok-agents.field-0 (rw c.grid.ensures at c.in_ok-agents.ensures.only) verdict good).1 in
+    impossible_if_good problem verdict (subst (λ s. IsGoodFor problem s verdict) (ap says c.in-Impossible.is) fits)
+
+pub returns-clause-only : goal.returns-clause-only
+returns-clause-only c verdict good =
+    let problem = c.args.problem.now in
+    let fits = (good_text problem c.args.plan_text.now c.in_ok-agents.field-0 (rw c.grid.ensures at c.in_ok-agents.ensures.only) verdict good).1 in
+    absurd (subst (λ s. IsGoodFor problem s verdict) (ap says c.in-Limit.is) fits)

@@ -1,0 +1,52 @@
+-- What is known of a certificate while it is judged.
+use Rattle.std.specs.Prelude.{◌≡◌, ◌≢◌, ℕ, false, List, [], ◌∷◌, ◌++◌, Option, Some, None, length}
+use Rattle.mapf_model.specs.declared.item.Claim.{Claim}
+use Rattle.mapf_model.specs.Plan.{Instance}
+use Rattle.mapf_model.specs.Tree.{Node, NodesShow, root}
+use Rattle.mapf_certificate.specs.declared.cert.CertFault.TheVariants as certs
+use Rattle.mapf_certificate.specs.CertReading.{Awaits, AwaitsCert}
+use Rattle.mapf_certificate.specs.Reading.{Reading}
+use Rattle.mapf_checker.specs.declared.fault.CheckFault.{CheckFault}
+use Rattle.mapf_checker.specs.declared.fault.CheckFault.TheVariants.{C2, C3, C4, C6, C7, C8, C9}
+use Rattle.mapf_checker.specs.Refusals.{BeginsWithHeader, HasBadNode}
+
+-- nothing was read
+pub record IsOpened (problem : Instance) (reading : Reading) : Type 0 where
+  pub width : reading.width ≡ problem.grid.width
+  pub height : reading.height ≡ problem.grid.height
+  pub buffer : reading.buffer.bytes ≡ []
+  pub header : reading.header ≡ None
+  pub fault : reading.fault ≡ None
+  pub part : reading.is_whole ≡ false
+  pub owed : reading.owed ≡ 1
+
+-- the header was read, is for the problem's number of agents and makes this claim
+pub record IsHeaded (problem : Instance) (claim : Claim) (reading : Reading) : Type 0 where
+  pub width : reading.width ≡ problem.grid.width
+  pub height : reading.height ≡ problem.grid.height
+  pub header : reading.header ≡ Some (length problem.agents, claim)
+  pub fault : reading.fault ≡ None
+  pub part : reading.is_whole ≡ false
+  pub owed : reading.owed ≡ 1
+
+-- what a refusal says of the bytes that begin with a header
+abbrev pub HasHeaderRefusal : Instance → Claim → Option (List ℕ) → Reading → CheckFault → Type 0
+HasHeaderRefusal problem claim had reading (C2 fault) = (fault ≢ certs.Memory) × ((agents : ℕ) (claimed : Claim) (nodes : List Node) → AwaitsCert had reading agents claimed nodes → ⊥)
+HasHeaderRefusal problem claim had reading C3 = (bytes : List ℕ) → had ≡ Some bytes → (agents : ℕ) × (claimed : Claim) × BeginsWithHeader problem bytes agents claimed × (agents ≢ length problem.agents)
+HasHeaderRefusal problem claim had reading C4 = (bytes : List ℕ) → had ≡ Some bytes → (agents : ℕ) × (claimed : Claim) × BeginsWithHeader problem bytes agents claimed × (claimed ≢ claim)
+HasHeaderRefusal problem claim had reading fault = ⊥
+
+-- what a refusal says of the bytes after the header
+abbrev pub HasTreeRefusal : Instance → Claim → Option (List ℕ) → Reading → CheckFault → Type 0
+HasTreeRefusal problem claim had reading (C2 fault) = (fault ≢ certs.Memory) × ((nodes : List Node) → Awaits had reading nodes → ⊥)
+HasTreeRefusal problem claim had reading (C6 line) = (bytes : List ℕ) → had ≡ Some bytes → HasBadNode problem claim (C6 line) (reading.buffer.bytes ++ bytes)
+HasTreeRefusal problem claim had reading (C7 line) = (bytes : List ℕ) → had ≡ Some bytes → HasBadNode problem claim (C7 line) (reading.buffer.bytes ++ bytes)
+HasTreeRefusal problem claim had reading (C8 line) = (bytes : List ℕ) → had ≡ Some bytes → HasBadNode problem claim (C8 line) (reading.buffer.bytes ++ bytes)
+HasTreeRefusal problem claim had reading (C9 line) = (bytes : List ℕ) → had ≡ Some bytes → HasBadNode problem claim (C9 line) (reading.buffer.bytes ++ bytes)
+HasTreeRefusal problem claim had reading fault = ⊥
+
+-- the nodes show the claim, and they are what the reader had before it
+pub record IsJudgedTree (problem : Instance) (claim : Claim) (had : Option (List ℕ)) (reading : Reading) : Type 0 where
+  pub nodes : List Node
+  pub shows : NodesShow problem claim (root ∷ []) nodes
+  pub read : (bytes : List ℕ) → had ≡ Some bytes → Awaits had reading nodes

@@ -1,0 +1,53 @@
+-- Which fault of a check a fault of reading is, and what faults say.
+use Rattle.std.specs.Prelude.{◌≡◌, ⊤, ℕ, Bool, true, List, Option}
+use Rattle.mapf_certificate.specs.declared.cert.LinesFault.{LinesFault}
+use Rattle.mapf_certificate.specs.declared.cert.LinesFault.TheVariants as lines
+use Rattle.mapf_certificate.specs.declared.cert.CertFault.TheVariants as certs
+use Rattle.mapf_certificate.specs.declared.plan_text.PlanTextFault.{PlanTextFault}
+use Rattle.mapf_certificate.specs.declared.plan_text.PlanTextFault.TheVariants as plans
+use Rattle.mapf_certificate.specs.Buffered.{Buffered}
+use Rattle.mapf_certificate.specs.Window.{Exceeds}
+use Rattle.mapf_checker.specs.declared.fault.CheckFault.{CheckFault}
+use Rattle.mapf_checker.specs.declared.fault.CheckFault.TheVariants.{C1, C2}
+use Rattle.mapf_checker.specs.declared.fault.FromFault.{FromFault}
+use Rattle.mapf_checker.specs.declared.fault.FromFault.TheVariants.{Refused, Device, TooLong, Memory}
+
+abbrev pub of_plan : PlanTextFault → FromFault
+of_plan plans.Memory = Memory
+of_plan fault = Refused (C1 fault)
+
+abbrev pub of_cert : LinesFault → FromFault
+of_cert (lines.Text certs.Memory) = Memory
+of_cert (lines.Text fault) = Refused (C2 fault)
+of_cert lines.Device = Device
+of_cert lines.TooLong = TooLong
+of_cert lines.Memory = Memory
+
+-- a fault that comes of judging: a refusal that says this, or want of memory
+abbrev pub IsOfJudging : (CheckFault → Type 0) → FromFault → Type 0
+IsOfJudging Says (Refused fault) = Says fault
+IsOfJudging Says Device = ⊥
+IsOfJudging Says TooLong = ⊥
+IsOfJudging Says Memory = ⊤
+
+-- a fault that comes of reading and judging: a refusal that says this, or the source failed, or it gave more than was
+-- allowed, or want of memory
+abbrev pub Stops : Option (List ℕ) → Option (List ℕ) → Bool → Buffered → (CheckFault → Type 0) → FromFault → Type 0
+Stops had left failed buffer Says (Refused fault) = Says fault
+Stops had left failed buffer Says Device = failed ≡ true
+Stops had left failed buffer Says TooLong = Exceeds had left buffer
+Stops had left failed buffer Says Memory = ⊤
+
+-- what a refusal says
+abbrev pub IfRefused : (CheckFault → Type 0) → FromFault → Type 0
+IfRefused Says (Refused fault) = Says fault
+IfRefused Says Device = ⊤
+IfRefused Says TooLong = ⊤
+IfRefused Says Memory = ⊤
+
+-- the fault is no refusal
+abbrev pub IsNoRefusal : FromFault → Type 0
+IsNoRefusal (Refused fault) = ⊥
+IsNoRefusal Device = ⊤
+IsNoRefusal TooLong = ⊤
+IsNoRefusal Memory = ⊤

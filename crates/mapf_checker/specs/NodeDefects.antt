@@ -1,0 +1,48 @@
+-- What is good, or wrong, with a node of a certificate's tree.
+use Rattle.std.specs.Prelude.{◌≡◌, ◌⊎◌, ℕ, List, Some, Contains, slice_get}
+use Rattle.mapf_model.specs.declared.item.Claim.{Claim}
+use Rattle.mapf_model.specs.declared.label.Entry.{Entry}
+use Rattle.mapf_model.specs.declared.problem.Agent.{Agent}
+use Rattle.mapf_model.specs.Blocks.{LabelBlock}
+use Rattle.mapf_model.specs.Labels.{entries_of, IsSoundEntry}
+use Rattle.mapf_model.specs.Plan.{Instance}
+use Rattle.mapf_model.specs.Tree.{Node, SplitNode, LeafNode, ClashNode, NodeConstraints, Leaf, IsProperSplit, ShareGoal, ShowsFrom, StartsShow, with_blocks, no_entries}
+use Rattle.mapf_checker.specs.declared.fault.CheckFault.{CheckFault}
+use Rattle.mapf_checker.specs.declared.fault.CheckFault.TheVariants.{C6, C7, C8, C9}
+use Rattle.mapf_checker.specs.declared.judge.Ground.{Ground}
+use Rattle.mapf_checker.specs.Ground.{bars_on}
+
+-- the entry in this place isn't sound
+pub record IsUnsoundAt (ground : Ground) (entries : List Entry) (place : ℕ) : Type 0 where
+  pub entry : Entry
+  pub is_entry : slice_get entries place ≡ Some entry
+  pub unsound : IsSoundEntry ground.grid.now ground.goal (bars_on ground) (entries_of entries) entry.cell entry.tick entry.label → ⊥
+
+-- an entry of the block isn't sound under the bars of its agent
+pub record HasUnsoundEntry (problem : Instance) (here : NodeConstraints) (block : LabelBlock) : Type 0 where
+  pub agent : Agent
+  pub is_agent : slice_get problem.agents block.agent ≡ Some agent
+  pub entry : Entry
+  pub listed : Contains block.entries entry
+  pub unsound : IsSoundEntry problem.grid agent.goal (here.bars block.agent) (entries_of block.entries) entry.cell entry.tick entry.label → ⊥
+
+-- one of the blocks has such an entry
+pub record HasUnsoundBlock (problem : Instance) (here : NodeConstraints) (blocks : List LabelBlock) : Type 0 where
+  pub block : LabelBlock
+  pub listed : Contains blocks block
+  pub unsound : HasUnsoundEntry problem here block
+
+-- what a refusal says of the node, where it has these constraints: C6 that a split isn't proper, C7 that a label
+-- isn't sound, C8 that the labels of the starts don't show the claim, C9 that the agents of a clash don't share
+-- a goal
+abbrev pub HasNodeDefect : Instance → Claim → NodeConstraints → Node → CheckFault → Type 0
+HasNodeDefect problem claim here (SplitNode conflict) fault = (line : ℕ) × (fault ≡ C6 line) × (IsProperSplit problem conflict → ⊥)
+HasNodeDefect problem claim here (LeafNode blocks) fault = ((line : ℕ) × (fault ≡ C7 line) × HasUnsoundBlock problem here blocks) ⊎ ((line : ℕ) × (fault ≡ C8 line) × (StartsShow problem claim (with_blocks blocks no_entries) → ⊥))
+HasNodeDefect problem claim here (ClashNode i j) fault = (line : ℕ) × (fault ≡ C9 line) × (ShareGoal problem i j → ⊥)
+
+-- the node by itself shows the claim: a split is proper, a leaf's labels are sound and enough, and the agents of
+-- a clash share their goal
+abbrev pub IsGoodNode : Instance → Claim → NodeConstraints → Node → Type 0
+IsGoodNode problem claim here (SplitNode conflict) = IsProperSplit problem conflict
+IsGoodNode problem claim here (LeafNode blocks) = ShowsFrom problem claim here (Leaf blocks)
+IsGoodNode problem claim here (ClashNode i j) = ShareGoal problem i j

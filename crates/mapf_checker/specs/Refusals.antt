@@ -1,0 +1,71 @@
+-- What a refusal says of the two texts.
+use Rattle.std.specs.Prelude.{◌≡◌, ◌≢◌, ◌⊎◌, ℕ, List, [], ◌∷◌, ◌++◌, Option, Some, IfSome, length}
+use Rattle.std.specs.List.{flat_map}
+use Rattle.mapf_model.specs.declared.item.Claim.{Claim}
+use Rattle.mapf_model.specs.Accepted.{SaysPlan, SaysLimit}
+use Rattle.mapf_model.specs.Plan.{Instance}
+use Rattle.mapf_model.specs.Tree.{ConstraintTree, Node, NodeConstraints, root}
+use Rattle.mapf_certificate.specs.declared.cert.CertFault.TheVariants as certs
+use Rattle.mapf_certificate.specs.declared.plan_text.PlanText.{PlanText}
+use Rattle.mapf_certificate.specs.declared.plan_text.PlanTextFault.TheVariants as plans
+use Rattle.mapf_certificate.specs.Certificates.{SpellsCert, header_text, node_text}
+use Rattle.mapf_certificate.specs.Plans.{IsPlanText, plan_text, says}
+use Rattle.mapf_checker.specs.declared.fault.CheckFault.{CheckFault}
+use Rattle.mapf_checker.specs.declared.fault.CheckFault.TheVariants.{C1, C2, C3, C4, C5, C6, C7, C8, C9}
+use Rattle.mapf_checker.specs.declared.fault.Verdict.{Verdict}
+use Rattle.mapf_checker.specs.Defects.{HasDefect}
+use Rattle.mapf_checker.specs.NodeDefects.{HasNodeDefect}
+use Rattle.mapf_checker.specs.Progress.{owed_after_all}
+use Rattle.mapf_checker.specs.Verdict.{IsGoodPlan, claim_of}
+
+-- the bytes spell this plan text for a grid of the problem's size
+pub record SpellsText (problem : Instance) (bytes : List ℕ) (text : PlanText) : Type 0 where
+  pub in_range : IsPlanText problem.grid text
+  pub spelled : bytes ≡ plan_text problem.grid.width text
+
+-- what a refusal says of the plan text: it spells nothing, is for another number of agents, says that a limit was met,
+-- or has a plan with this defect
+abbrev pub HasPlanRefusal : Instance → List ℕ → CheckFault → Type 0
+HasPlanRefusal problem bytes (C1 fault) = (fault ≢ plans.Memory) × ((text : PlanText) → SpellsText problem bytes text → ⊥)
+HasPlanRefusal problem bytes C3 = (text : PlanText) × SpellsText problem bytes text × (text.agents ≢ length problem.agents)
+HasPlanRefusal problem bytes C4 = (text : PlanText) × SpellsText problem bytes text × (says text.answer ≡ SaysLimit)
+HasPlanRefusal problem bytes (C5 fault) = (text : PlanText) × (plan : List (List ℕ)) × SpellsText problem bytes text × (says text.answer ≡ SaysPlan plan) × HasDefect problem plan fault
+HasPlanRefusal problem bytes fault = ⊥
+
+-- the bytes begin with a header
+pub record BeginsWithHeader (problem : Instance) (bytes : List ℕ) (agents : ℕ) (claim : Claim) : Type 0 where
+  pub rest : List ℕ
+  pub spelled : bytes ≡ header_text problem.grid.width agents claim ++ rest
+
+-- among the nodes with which the bytes begin is one with this defect
+pub record HasBadNode (problem : Instance) (claim : Claim) (fault : CheckFault) (bytes : List ℕ) : Type 0 where
+  pub before : List Node
+  pub node : Node
+  pub here : NodeConstraints
+  pub owed : List NodeConstraints
+  -- the node has these constraints
+  pub place : owed_after_all (root ∷ []) before ≡ here ∷ owed
+  pub defect : HasNodeDefect problem claim here node fault
+  pub rest : List ℕ
+  pub spelled : bytes ≡ flat_map (node_text problem.grid.width) before ++ (node_text problem.grid.width node ++ rest)
+
+-- after the header for the problem and the claim
+abbrev pub HasBadNodeInCert : Instance → Claim → CheckFault → List ℕ → Type 0
+HasBadNodeInCert problem claim fault bytes = (nodes : List ℕ) × (bytes ≡ header_text problem.grid.width (length problem.agents) claim ++ nodes) × HasBadNode problem claim fault nodes
+
+-- what a refusal says of the certificate, where it is known and has to show this claim: it spells nothing, is for
+-- another number of agents, claims something else, or has a node with this defect
+abbrev pub HasCertRefusal : Instance → Claim → Option (List ℕ) → CheckFault → Type 0
+HasCertRefusal problem claim known (C2 fault) = (fault ≢ certs.Memory) × IfSome known (λ bytes. (agents : ℕ) (claimed : Claim) (tree : ConstraintTree) → SpellsCert problem.grid bytes agents claimed tree → ⊥)
+HasCertRefusal problem claim known C3 = IfSome known (λ bytes. (agents : ℕ) × (claimed : Claim) × BeginsWithHeader problem bytes agents claimed × (agents ≢ length problem.agents))
+HasCertRefusal problem claim known C4 = IfSome known (λ bytes. (agents : ℕ) × (claimed : Claim) × BeginsWithHeader problem bytes agents claimed × (claimed ≢ claim))
+HasCertRefusal problem claim known (C6 line) = IfSome known (HasBadNodeInCert problem claim (C6 line))
+HasCertRefusal problem claim known (C7 line) = IfSome known (HasBadNodeInCert problem claim (C7 line))
+HasCertRefusal problem claim known (C8 line) = IfSome known (HasBadNodeInCert problem claim (C8 line))
+HasCertRefusal problem claim known (C9 line) = IfSome known (HasBadNodeInCert problem claim (C9 line))
+HasCertRefusal problem claim known fault = ⊥
+
+-- what a refusal says of two texts, where the certificate's bytes may be unknown. The certificate counts only where
+-- the plan text is good
+abbrev pub HasRefusal : Instance → List ℕ → Option (List ℕ) → CheckFault → Type 0
+HasRefusal problem plan known fault = HasPlanRefusal problem plan fault ⊎ ((verdict : Verdict) × IsGoodPlan problem plan verdict × HasCertRefusal problem (claim_of verdict) known fault)

@@ -1,0 +1,97 @@
+ghost use Rattle.std.specs.Prelude.{◌≡◌, ◌↔◌, ◌∷◌, [], ℕ, List, Some, false, length, IfErr, OnOk, IsTrue};
+ghost use Rattle.mapf_certificate.specs.CertReading.{Awaits, AwaitsCert, TakesHeader};
+ghost use Rattle.mapf_model.specs.declared.item.Claim.{Claim};
+ghost use Rattle.mapf_model.specs.Tree.{Node, NodesShow, root};
+ghost use Rattle.mapf_checker.specs.CertJudging.{IsOpened, IsHeaded, HasHeaderRefusal, HasTreeRefusal, IsJudgedTree};
+ghost use Rattle.mapf_checker.specs.Faults.{Stops, IsNoRefusal};
+ghost use Rattle.mapf_checker.specs.Refusals.{HasCertRefusal};
+ghost use Rattle.mapf_checker.specs.Verdict.{IsShown, IsGoodCert};
+
+use crate::fault::{CheckFault, FromFault};
+use crate::tree::Progress;
+use mapf_certificate::CertLines;
+use mapf_model::{Claim, Problem, Source, laws};
+use std::alloc::Global;
+
+/// Whether the source gives a certificate for the problem that shows the claim.
+pub fn judge_cert<S: Source>(
+    alloc: Global,
+    problem: &Problem,
+    claim: &Claim,
+    source: &mut S,
+    limit: u64,
+) -> Result<(), FromFault>
+    requires { S.has_failed source.old ≡ false }
+    ensures shown { OnOk result (IsShown problem.now claim.now) }
+    ensures good { (bytes : List ℕ) → S.remaining source.old ≡ Some bytes → OnOk result (IsGoodCert problem.now claim.now bytes) }
+    ensures only { (bytes : List ℕ) → S.remaining source.old ≡ Some bytes → IsGoodCert problem.now claim.now bytes → IfErr result IsNoRefusal }
+    ensures stops { IfErr result (Stops (S.remaining source.old) (S.remaining source.new) (S.has_failed source.new) (record { bytes = []; left = limit })
+        (HasCertRefusal problem.now claim.now (S.remaining source.old))) }
+{
+    laws::items_are_judged_by_front();
+    laws::tree_is_unique();
+    let grid = problem.grid();
+    let mut lines = CertLines::open(alloc, grid.width(), grid.height(), limit)?;
+    judge_header(problem, claim, &mut lines, source)?;
+    judge_tree(alloc, problem, claim, &mut lines, source)
+}
+
+// Whether the header is for the problem's number of agents and makes the claim.
+fn judge_header<S: Source>(
+    problem: &Problem,
+    claim: &Claim,
+    lines: &mut CertLines,
+    source: &mut S,
+) -> Result<(), FromFault>
+    requires works { S.has_failed source.old ≡ false }
+    requires opened { IsOpened problem.now lines.old }
+    ensures works { OnOk result (S.has_failed source.new ≡ false) }
+    ensures headed { OnOk result (IsHeaded problem.now claim.now lines.new) }
+    ensures taken { OnOk result (TakesHeader (S.remaining source.old) (S.remaining source.new) lines.old lines.new (length problem.now.agents) claim.now) }
+    ensures ahead { OnOk result ((agents : ℕ) (claimed : Claim) (nodes : List Node) → AwaitsCert (S.remaining source.old) lines.old agents claimed nodes → Awaits (S.remaining source.new) lines.new nodes) }
+    ensures only { (nodes : List Node) → AwaitsCert (S.remaining source.old) lines.old (length problem.now.agents) claim.now nodes → IfErr result IsNoRefusal }
+    ensures stops { IfErr result (Stops (S.remaining source.old) (S.remaining source.new) (S.has_failed source.new) lines.old.buffer
+        (HasHeaderRefusal problem.now claim.now (S.remaining source.old) lines.old)) }
+{
+    let (agents, claimed) = lines.header(source)?;
+    if agents as usize != problem.agents().len() {
+        return Err(FromFault::Refused(CheckFault::C3));
+    }
+    if !are_one_claim(&claimed, claim) {
+        return Err(FromFault::Refused(CheckFault::C4));
+    }
+    Ok(())
+}
+
+fn are_one_claim(a: &Claim, b: &Claim) -> bool
+    ensures { IsTrue result ↔ a.now ≡ b.now }
+{
+    match (*a, *b) {
+        (Claim::Cost(a), Claim::Cost(b)) => a == b,
+        (Claim::Impossible, Claim::Impossible) => true,
+        _ => false,
+    }
+}
+
+// Whether the items of the certificate's tree show the claim.
+fn judge_tree<S: Source>(
+    alloc: Global,
+    problem: &Problem,
+    claim: &Claim,
+    lines: &mut CertLines,
+    source: &mut S,
+) -> Result<(), FromFault>
+    requires works { S.has_failed source.old ≡ false }
+    requires headed { IsHeaded problem.now claim.now lines.old }
+    ensures judged { OnOk result (IsJudgedTree problem.now claim.now (S.remaining source.old) lines.old) }
+    ensures only { (nodes : List Node) → Awaits (S.remaining source.old) lines.old nodes → NodesShow problem.now claim.now (root ∷ []) nodes → IfErr result IsNoRefusal }
+    ensures stops { IfErr result (Stops (S.remaining source.old) (S.remaining source.new) (S.has_failed source.new) lines.old.buffer
+        (HasTreeRefusal problem.now claim.now (S.remaining source.old) lines.old)) }
+{
+    laws::items_are_judged_by_front();
+    let mut progress = Progress::new(alloc);
+    while let Some(item) = lines.next_item(source)? {
+        progress.item(alloc, problem, claim, &item, lines.line())?;
+    }
+    Ok(())
+}
