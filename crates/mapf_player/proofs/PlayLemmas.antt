@@ -1,12 +1,12 @@
 -- What is seen of a plan.
-use Rattle.std.proofs.Common.{◌≡◌, ◌≢◌, ℕ, zero, suc, ◌≤◌, eqb, Bool, true, false, List, [], ◌∷◌, Option, Some, None, option_map, unwrap_or, slice_get, refl, sym, ap, ◌∙◌, subst, inl, ⊎_elim, arith}
+use Rattle.std.proofs.Common.{◌≡◌, ◌≢◌, ℕ, zero, suc, ◌≤◌, eqb, Bool, true, false, List, [], ◌∷◌, Some, None, option_map, unwrap_or, slice_get, refl, sym, ap, ◌∙◌, inl, ⊎_elim, arith}
 use Rattle.std.specs.List.{position}
-use Rattle.std.proofs.lemmas.Bool.{cases_Bool, cases_eq, false≢true}
+use Rattle.std.proofs.lemmas.Bool.{cases_Bool, cases_eq}
 use Rattle.std.proofs.lemmas.Bool.Decides.{nat_tests}
 use Rattle.std.proofs.lemmas.Option.{same_Some}
 use Rattle.mapf_model.specs.Path.{at}
-use Rattle.mapf_model.specs.Plan.{Instance, IsValid}
-use Rattle.mapf_player.specs.Play.{mark, ground, agent_in, cell_byte, IsPlayText, play_text, IsGreatestCost, PlaysAreOne, AgentsAreSeen, GroundIsSeen}
+use Rattle.mapf_model.specs.Plan.{Instance}
+use Rattle.mapf_player.specs.Play.{mark, ground, play_text, IsGreatestCost, PlaysAreOne, AgentsAreSeen, GroundIsSeen}
 use Rattle.mapf_player.proofs.RowLemmas.{position_hit, position_miss}
 
 greatest_below : (problem : Instance) (plan : List (List ℕ)) (a b : ℕ) → IsGreatestCost problem.agents plan a → IsGreatestCost problem.agents plan b → a ≤ b

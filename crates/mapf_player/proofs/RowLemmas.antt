@@ -1,5 +1,5 @@
 -- The bytes of a row, as agents are marked one by one, the last first.
-use Rattle.std.proofs.Common.{◌≡◌, ℕ, zero, suc, ◌+◌, ◌-◌, drop, ◌*◌, ◌/◌, ◌%◌, ◌<◌, ◌≤◌, eqb, cond, not, Bool, true, false, ltb, List, [], ◌∷◌, Option, Some, None, option_map, unwrap_or, length, set, get_or, refl, sym, ap, ◌∙◌, subst, ⊎_elim, arith}
+use Rattle.std.proofs.Common.{◌≡◌, ℕ, suc, ◌+◌, ◌-◌, drop, ◌*◌, ◌/◌, ◌%◌, ◌<◌, ◌≤◌, eqb, cond, not, Bool, true, false, ltb, List, [], ◌∷◌, Option, Some, None, option_map, unwrap_or, length, set, get_or, refl, sym, ap, ◌∙◌, subst, ⊎_elim, arith}
 use Rattle.std.specs.List.{position, prefix_len}
 use Rattle.std.proofs.lemmas.Bool.{cases_Bool, cases_lt, cases_eq, cond_below, cond_above, ne_eqb}
 use Rattle.std.proofs.lemmas.List.{get_or-set_same, get_or-set_other, drop_more, drop_all}

@@ -1,5 +1,5 @@
 -- The text of a plan that is played: one frame for each tick.
-use Rattle.std.specs.Prelude.{◌≡◌, ◌≢◌, ◌≤◌, ℕ, ◌+◌, ◌-◌, ◌*◌, if◌then◌else◌, ◌==◌, nat_lt, Bool, false, Option, Some, option_map, unwrap_or, List, [], ◌∷◌, ◌++◌, map, codes, position, flat_map, slice_get, slice_index_or}
+use Rattle.std.specs.Prelude.{◌≡◌, ◌≢◌, ◌≤◌, ℕ, ◌+◌, ◌-◌, ◌*◌, if◌then◌else◌, ◌==◌, nat_lt, false, Option, Some, option_map, unwrap_or, List, [], ◌∷◌, ◌++◌, map, codes, position, flat_map, slice_get, slice_index_or}
 use Rattle.std.specs.List.{range_with_len}
 use Rattle.std.specs.Fmt.{decimal}
 use Rattle.mapf_model.specs.declared.problem.Agent.{Agent}
