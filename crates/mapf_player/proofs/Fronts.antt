@@ -1,5 +1,5 @@
 -- Texts that go out in parts.
-use Rattle.std.proofs.Common.{◌≡◌, ℕ, List, [], ◌∷◌, ◌++◌, Option, Some, None, Result, Ok, Err, OnErr, OnOk, length, take, drop, take-append-drop, append_assoc, append-nil, refl, sym, ap, ◌∙◌, subst, ◌≤◌, length-append, arith}
+use Rattle.std.proofs.Common.{◌≡◌, ℕ, List, [], ◌++◌, Option, Result, Ok, Err, OnErr, OnOk, length, take, drop, take-append-drop, append_assoc, append-nil, refl, sym, ap, ◌∙◌, subst, ◌≤◌, length-append, arith}
 use Rattle.std.proofs.lemmas.List.{take_at}
 use Rattle.std.specs.Io.KnownBytes.{Appends}
 use Rattle.std.proofs.KnownBytes.{Appends-trans, Appends-nil}

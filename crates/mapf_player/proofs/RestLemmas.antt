@@ -1,10 +1,10 @@
 -- An agent that rests in the only cell of a grid follows a valid plan.
-use Rattle.std.proofs.Common.{◌≡◌, ℕ, zero, suc, ◌+◌, ◌-◌, min, List, [], ◌∷◌, true, false, Option, Some, None, slice_get, slice_index, slice_index_or, refl, sym, ap, ◌∙◌, subst, inl, arith}
+use Rattle.std.proofs.Common.{◌≡◌, ℕ, zero, suc, ◌+◌, min, [], ◌∷◌, true, false, Some, slice_get, slice_index, slice_index_or, refl, sym, ap, ◌∙◌, subst, inl, arith}
 use Rattle.std.proofs.lemmas.Option.{same_Some}
 use Rattle.mapf_model.specs.declared.problem.Agent.{Agent}
 use Rattle.mapf_model.specs.Grid.{GridMap}
 use Rattle.mapf_model.specs.Path.{at, IsLawful}
-use Rattle.mapf_model.specs.Plan.{Instance, IsValid}
+use Rattle.mapf_model.specs.Plan.{IsValid}
 
 abbrev one_free : GridMap
 one_free = record { width = 1; height = 1; free = true ∷ [] }

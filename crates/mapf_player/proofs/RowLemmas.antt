@@ -1,5 +1,5 @@
 -- The bytes of a row, as agents are marked one by one, the last first.
-use Rattle.std.proofs.Common.{◌≡◌, ℕ, zero, suc, ◌+◌, ◌-◌, drop, ◌*◌, ◌/◌, ◌%◌, ◌<◌, ◌≤◌, eqb, cond, not, Bool, true, false, ltb, List, [], ◌∷◌, Option, Some, None, option_map, unwrap_or, length, set, get_or, refl, sym, ap, ◌∙◌, subst, ⊎_elim, arith}
+use Rattle.std.proofs.Common.{◌≡◌, ℕ, suc, ◌+◌, ◌-◌, drop, ◌*◌, ◌/◌, ◌%◌, ◌<◌, ◌≤◌, eqb, cond, not, Bool, true, false, ltb, List, [], ◌∷◌, Option, Some, None, option_map, unwrap_or, length, set, get_or, refl, sym, ap, ◌∙◌, subst, ⊎_elim, arith}
 use Rattle.std.specs.List.{position, prefix_len}
 use Rattle.std.proofs.lemmas.Bool.{cases_Bool, cases_lt, cases_eq, cond_below, cond_above, ne_eqb}
 use Rattle.std.proofs.lemmas.List.{get_or-set_same, get_or-set_other, drop_more, drop_all}
@@ -34,11 +34,11 @@ shifted m n = ⊎_elim
     (λ (past : n ≤ m). sym (cond_above (1 + m) (suc n) (Some (1 + m)) None None (omega arith) refl) ∙ ap (option_map suc) (cond_above m n (Some m) None None past refl))
     (cases_lt m n)
 
-position_hit : {X : Type 0} (p : X → Bool) (x : X) (xs : List X) → p x ≡ true → position p (x ∷ xs) ≡ Some 0
+pub position_hit : {X : Type 0} (p : X → Bool) (x : X) (xs : List X) → p x ≡ true → position p (x ∷ xs) ≡ Some 0
 position_hit p x xs e = ap (λ b. cond (ltb (cond (not b) (1 + prefix_len (λ y. not (p y)) xs) 0) (suc (length xs))) (Some (cond (not b) (1 + prefix_len (λ y. not (p y)) xs) 0)) None) e
     ∙ sym (cond_below 0 (suc (length xs)) (Some 0) None (omega arith))
 
-position_miss : {X : Type 0} (p : X → Bool) (x : X) (xs : List X) → p x ≡ false → position p (x ∷ xs) ≡ option_map suc (position p xs)
+pub position_miss : {X : Type 0} (p : X → Bool) (x : X) (xs : List X) → p x ≡ false → position p (x ∷ xs) ≡ option_map suc (position p xs)
 position_miss p x xs e =
     ap (λ b. cond (ltb (cond (not b) (1 + prefix_len (λ y. not (p y)) xs) 0) (suc (length xs))) (Some (cond (not b) (1 + prefix_len (λ y. not (p y)) xs) 0)) None) e
     ∙ shifted (prefix_len (λ y. not (p y)) xs) (length xs)

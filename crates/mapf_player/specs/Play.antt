@@ -1,11 +1,11 @@
 -- The text of a plan that is played: one frame for each tick.
-use Rattle.std.specs.Prelude.{◌≡◌, ◌≤◌, ℕ, ◌+◌, ◌-◌, ◌*◌, if◌then◌else◌, ◌==◌, nat_lt, Bool, false, Option, Some, option_map, unwrap_or, List, [], ◌∷◌, ◌++◌, map, codes, position, flat_map, slice_get, slice_index_or}
+use Rattle.std.specs.Prelude.{◌≡◌, ◌≢◌, ◌≤◌, ℕ, ◌+◌, ◌-◌, ◌*◌, if◌then◌else◌, ◌==◌, nat_lt, false, Option, Some, option_map, unwrap_or, List, [], ◌∷◌, ◌++◌, map, codes, position, flat_map, slice_get, slice_index_or}
 use Rattle.std.specs.List.{range_with_len}
 use Rattle.std.specs.Fmt.{decimal}
 use Rattle.mapf_model.specs.declared.problem.Agent.{Agent}
 use Rattle.mapf_model.specs.Grid.{GridMap}
 use Rattle.mapf_model.specs.Path.{at, IsCost}
-use Rattle.mapf_model.specs.Plan.{Instance}
+use Rattle.mapf_model.specs.Plan.{Instance, IsValid}
 
 -- the byte of an agent, by its number: `0` to `9`, then `a` to `z`, then `A` to `Z`, and `*` from 62 on
 abbrev pub mark : ℕ → ℕ
@@ -59,3 +59,11 @@ IsPlayText problem plan text = (last : ℕ) × IsGreatestCost problem.agents pla
 -- a plan has one such text at most
 abbrev pub PlaysAreOne : Type 0
 PlaysAreOne = (problem : Instance) (plan : List (List ℕ)) (a b : List ℕ) → IsPlayText problem plan a → IsPlayText problem plan b → a ≡ b
+
+-- in a valid plan each agent is seen where it stands, at every tick
+abbrev pub AgentsAreSeen : Type 0
+AgentsAreSeen = (problem : Instance) (plan : List (List ℕ)) → IsValid problem plan → (i tick : ℕ) (path : List ℕ) → slice_get plan i ≡ Some path → cell_byte problem.grid plan tick (at path tick) ≡ mark i
+
+-- where no agent stands the ground is seen
+abbrev pub GroundIsSeen : Type 0
+GroundIsSeen = (grid : GridMap) (plan : List (List ℕ)) (tick cell : ℕ) → ((i : ℕ) (path : List ℕ) → slice_get plan i ≡ Some path → at path tick ≢ cell) → cell_byte grid plan tick cell ≡ ground grid cell

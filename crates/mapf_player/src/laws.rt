@@ -1,6 +1,12 @@
-ghost use Rattle.mapf_player.specs.Play.{PlaysAreOne};
+ghost use Rattle.mapf_player.specs.Play.{AgentsAreSeen, GroundIsSeen, PlaysAreOne};
 
 /// A plan is played by one text.
 pub fn plays_are_one()
     ensures { PlaysAreOne }
+{}
+
+/// What stands in a cell is seen there.
+pub fn cells_are_seen()
+    ensures agents { AgentsAreSeen }
+    ensures ground { GroundIsSeen }
 {}

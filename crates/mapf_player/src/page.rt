@@ -63,18 +63,18 @@ impl Page {
         &self.bytes[..self.used]
     }
 
-    /// Pushes what is held.
+    /// Pushes what is held, and holds nothing then, also where the sink failed.
     #[tactic(auto, using(crate::proofs::Fronts::from_take))]
     pub fn flush<K: Sink>(&mut self, sink: &mut K) -> Result<(), Failed>
         requires { K.has_failed sink.old ≡ false }
         ensures text { OnOk result (Appends (K.contents sink.old) (K.contents sink.new) self.old) }
-        ensures empty { OnOk result (self.new ≡ []) }
+        ensures empty { self.new ≡ [] }
         ensures failed { K.has_failed sink.new ≡ is_err result }
         ensures front { OnErr result (WritesFront (K.contents sink.old) (K.contents sink.new) self.old) }
     {
-        write_all(sink, self.as_slice())?;
+        let pushed = write_all(sink, self.as_slice());
         self.clear();
-        Ok(())
+        pushed
     }
 
     /// Adds bytes to those that are held, and pushes where they don't fit.

@@ -44,8 +44,9 @@ fn text(alloc: Global, grid: &Grid, paths: &[Path], last: Tick) -> Result<BytesS
 // One agent in the only cell of a grid.
 fn one_cell(alloc: Global) -> Result<Problem, Fail>
     ensures { IfOk result (λ problem. problem ≡ record {
-        grid = record { width = 1; height = 1; free = true ∷ [] };
-        agents = record { start = 0; goal = 0 } ∷ [] }) }
+      grid = record { width = 1; height = 1; free = true ∷ [] };
+      agents = record { start = 0; goal = 0 } ∷ [];
+    }) }
 {
     let mut free = Vec::new(alloc);
     free.push(true)?;

@@ -1,6 +1,6 @@
-use Rattle.std.proofs.Common.{◌≡◌, ◌++◌, ◌∷◌, []}
+use Rattle.std.proofs.Common.{◌++◌, ◌∷◌, []}
 use Rattle.std.specs.Fmt.{decimal}
-use Rattle.mapf_player.proofs.Fronts.{passes_trans, text_then, front_first, front_then}
+use Rattle.mapf_player.proofs.Fronts.{text_then, front_first, front_then}
 use Rattle.mapf_player.proofs.frame.put_line.Goals as goal
 
 pub returns-in_err-put-clause-front : goal.returns-in_err-put-clause-front

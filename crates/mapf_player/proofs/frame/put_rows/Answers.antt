@@ -1,4 +1,4 @@
-use Rattle.std.proofs.Common.{arith, rules}
+use Rattle.std.proofs.Common.{rules}
 use Rattle.mapf_player.specs.Play.{row_line}
 use Rattle.mapf_player.proofs.Fronts.{on_err}
 use Rattle.mapf_player.proofs.Pieces.{pieces_more, pieces_front}

@@ -1,6 +1,6 @@
 use Rattle.std.proofs.Common.{◌≡◌, ◌<◌, length, Some, slice_get, subst, sym, ap, refl, arith}
 use Rattle.std.proofs.lemmas.Option.{slice_get_read}
-use Rattle.mapf_player.proofs.CostLemmas.{IsGreatestOf, IsGreatestOf-none, IsGreatestOf-more, IsGreatestOf-all, lawful_costs}
+use Rattle.mapf_player.proofs.CostLemmas.{IsGreatestOf-none, IsGreatestOf-more, IsGreatestOf-all, lawful_costs}
 use Rattle.mapf_player.proofs.player.last_tick.Goals as goal
 
 pub loop-i-init : goal.loop-i-init

@@ -1,4 +1,4 @@
-use Rattle.std.proofs.Common.{◌≡◌, ◌≤◌, length, drop}
+use Rattle.std.proofs.Common.{◌≤◌, length, drop}
 use Rattle.mapf_player.proofs.RowLemmas.{AreMarked}
 use Rattle.mapf_player.proofs.row.mark_agents.Given as goal
 

@@ -1,4 +1,3 @@
-use Rattle.std.proofs.Common.{sym}
 use Rattle.mapf_player.proofs.RestLemmas.{rests_validly}
 use Rattle.mapf_player.proofs.tests.plays_an_agent_at_rest.Goals as goal
 
