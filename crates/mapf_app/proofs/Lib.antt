@@ -1,3 +1,4 @@
+pub mod CheckLemmas
 pub mod InputLemmas
 pub mod PrintLemmas
 pub mod SolveLemmas

@@ -1,6 +1,7 @@
 -- What each fault of a run says of its inputs.
 use Rattle.std.specs.Prelude.{◌≡◌, ℕ, List, Option, ⊤}
 use Rattle.mapf_model.specs.Grid.{GridMap}
+use Rattle.mapf_app.specs.Checked.{IsRefusalOf}
 use Rattle.mapf_app.specs.Problems.{IsMapDefect, IsAgentsDefect, IsScenarioDefect}
 use Rattle.mapf_app.specs.declared.fault.Fault.{Fault}
 use Rattle.mapf_app.specs.declared.fault.Fault.TheVariants.{F1, F2, F4, F5, F6, Refused}
@@ -81,25 +82,22 @@ IsSolving map scen count F6 = ⊤
 IsSolving map scen count (Refused refusal) = ⊥
 
 -- what a fault of checking says
-abbrev pub IsChecking : Option (List ℕ) → Option (List ℕ) → ℕ → Fault → Type 0
-IsChecking map scen count (F1 fault) = IsMapDefect map fault
-IsChecking map scen count (F2 fault) = IsScenarioDefect map scen count fault
-IsChecking map scen count (F4 input) = ⊤
-IsChecking map scen count (F5 output) = ⊥
-IsChecking map scen count F6 = ⊤
-IsChecking map scen count (Refused refusal) = ⊤
+abbrev pub IsChecking : Option (List ℕ) → Option (List ℕ) → Option (List ℕ) → Option (List ℕ) → ℕ → Fault → Type 0
+IsChecking map scen plan cert count (F1 fault) = IsMapDefect map fault
+IsChecking map scen plan cert count (F2 fault) = IsScenarioDefect map scen count fault
+IsChecking map scen plan cert count (F4 input) = ⊤
+IsChecking map scen plan cert count (F5 output) = ⊥
+IsChecking map scen plan cert count F6 = ⊤
+IsChecking map scen plan cert count (Refused refusal) = IsRefusalOf map scen plan cert count refusal
 
--- the fault comes before the certificate is pulled
-abbrev pub IsBeforeCertificate : Fault → Type 0
-IsBeforeCertificate (F1 fault) = ⊤
-IsBeforeCertificate (F2 fault) = ⊤
-IsBeforeCertificate (F4 Map) = ⊤
-IsBeforeCertificate (F4 Scen) = ⊤
-IsBeforeCertificate (F4 Plan) = ⊤
-IsBeforeCertificate (F4 Cert) = ⊥
-IsBeforeCertificate (F5 output) = ⊥
-IsBeforeCertificate F6 = ⊥
-IsBeforeCertificate (Refused refusal) = ⊥
+-- an input that can't be read, or want of memory
+abbrev pub IsOfInput : Fault → Type 0
+IsOfInput (F1 fault) = ⊥
+IsOfInput (F2 fault) = ⊥
+IsOfInput (F4 input) = ⊤
+IsOfInput (F5 output) = ⊥
+IsOfInput F6 = ⊤
+IsOfInput (Refused refusal) = ⊥
 
 -- the fault that a reader's fault becomes
 abbrev pub fault_of_map : MapFault → Fault

@@ -1,8 +1,9 @@
-ghost use Rattle.std.specs.Prelude.{◌≡◌, ◌≤◌, false, IfOk, IfErr, IsErrOf, IsSome};
-ghost use Rattle.mapf_app.specs.Checked.{JudgesTruly};
-ghost use Rattle.mapf_app.specs.Faults.{IsBeforeCertificate, IsChecking, IsNoDefect};
+ghost use Rattle.std.specs.Prelude.{◌≡◌, ◌≤◌, false, IfOk, IfErr, IsErrOf, IsSome, MatchResult};
+ghost use Rattle.mapf_app.specs.Checked.{JudgesTruly, IsDueVerdict, HasGoodPlan};
+ghost use Rattle.mapf_app.specs.Faults.{IsChecking, IsNoDefect, IsOfInput};
 ghost use Rattle.mapf_app.specs.Problems.{SpellsProblem};
 ghost use Rattle.mapf_app.specs.Unreadable.{IsUnreadable};
+ghost use Rattle.mapf_checker.specs.declared.fault.Verdict.{Verdict};
 ghost use Rattle.mapf_model.specs.Plan.{Instance};
 
 use crate::fault::{Fault, Input};
@@ -28,20 +29,27 @@ pub fn run_check<M: Source, S: Source, P: Source, C: Source>(
     requires cert_works { C.has_failed cert.old ≡ false }
     requires some { 1 ≤ k }
     requires few { k ≤ 200 }
-    // The verdict is true of the problem that was read.
-    ensures verdict { IfOk result (JudgesTruly (M.remaining map.old) (S.remaining scen.old) k) }
+    // The verdict is true of the problem that was read, and both texts are accepted for it.
+    ensures verdict { IfOk result (JudgesTruly (M.remaining map.old) (S.remaining scen.old) (P.remaining plan.old) (C.remaining cert.old) k) }
+    // What is to be accepted is accepted, unless a device or memory prevents it.
+    ensures accepted { (verdict : Verdict) → IsDueVerdict (M.remaining map.old) (S.remaining scen.old) (P.remaining plan.old) (C.remaining cert.old) k verdict →
+        MatchResult result (λ given. given ≡ verdict) IsOfInput }
     // Inputs that spell a problem are not faulted.
     ensures only { (problem : Instance) → IsSome (M.remaining map.old) → IsSome (S.remaining scen.old) →
         SpellsProblem (M.remaining map.old) (S.remaining scen.old) k problem → IfErr result IsNoDefect }
     // A fault stands where it says.
-    ensures fault { IfErr result (IsChecking (M.remaining map.old) (S.remaining scen.old) k) }
+    ensures fault { IfErr result (IsChecking (M.remaining map.old) (S.remaining scen.old) (P.remaining plan.old) (C.remaining cert.old) k) }
     ensures map { IsErrOf result (Fault.F4 Input.Map) →
         IsUnreadable (M.has_failed map.new) (M.remaining map.old) (M.remaining map.new) TEXT_LIMIT }
     ensures scen { IsErrOf result (Fault.F4 Input.Scen) →
         IsUnreadable (S.has_failed scen.new) (S.remaining scen.old) (S.remaining scen.new) TEXT_LIMIT }
     ensures plan { IsErrOf result (Fault.F4 Input.Plan) →
         IsUnreadable (P.has_failed plan.new) (P.remaining plan.old) (P.remaining plan.new) TEXT_LIMIT }
-    ensures unpulled { IfErr result (λ fault. IsBeforeCertificate fault → cert.new ≡ cert.old) }
+    ensures cert { IsErrOf result (Fault.F4 Input.Cert) →
+        IsUnreadable (C.has_failed cert.new) (C.remaining cert.old) (C.remaining cert.new) CERT_LIMIT }
+    // The certificate is pulled only after the plan text was found good.
+    ensures unpulled { (HasGoodPlan (M.remaining map.old) (S.remaining scen.old) (P.remaining plan.old) k → ⊥) →
+        cert.new ≡ cert.old }
 {
     let problem = read_problem(alloc, map, scen, k)?;
     let plan_text = read_text(alloc, plan, Input::Plan)?;

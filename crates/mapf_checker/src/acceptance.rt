@@ -3,7 +3,7 @@ ghost use Rattle.std.specs.Io.KnownBytes.{Consumes};
 ghost use Rattle.mapf_checker.specs.declared.fault.Verdict.{Verdict};
 ghost use Rattle.mapf_checker.specs.Faults.{IfRefused, IsNoRefusal};
 ghost use Rattle.mapf_checker.specs.Refusals.{HasRefusal};
-ghost use Rattle.mapf_checker.specs.Verdict.{AreAccepted, IsTrueVerdict, claim_of};
+ghost use Rattle.mapf_checker.specs.Verdict.{AreAccepted, IsGoodPlan, IsTrueVerdict, claim_of};
 
 use crate::cert_judge::judge_cert;
 use crate::fault::{CheckFault, FromFault, Verdict};
@@ -51,6 +51,8 @@ pub fn check_from<S: Source>(
     ensures accepted { (bytes : List ℕ) → S.remaining source.old ≡ Some bytes → IfOk result (AreAccepted problem.now plan_text.now bytes) }
     ensures only { (bytes : List ℕ) (verdict : Verdict) → S.remaining source.old ≡ Some bytes → AreAccepted problem.now plan_text.now bytes verdict → MatchResult result (λ given. given ≡ verdict) IsNoRefusal }
     ensures refused { IfErr result (IfRefused (HasRefusal problem.now plan_text.now (S.remaining source.old))) }
+    // Nothing is pulled where the plan text isn't good.
+    ensures unpulled { ((verdict : Verdict) → IsGoodPlan problem.now plan_text.now verdict → ⊥) → source.new ≡ source.old }
     ensures device { IsErrOf result FromFault.Device → S.has_failed source.new ≡ true }
     ensures too_long { IsErrOf result FromFault.TooLong → (came : List ℕ) × Consumes (S.remaining source.old) (S.remaining source.new) came × (limit < length came) }
 {

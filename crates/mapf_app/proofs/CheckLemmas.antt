@@ -1,0 +1,58 @@
+-- From what is read to what is judged.
+use Rattle.std.proofs.Common.{◌≡◌, ◌⊎◌, ⊎_elim, List, ℕ, None, Some, Ok, Err, Option, Result, IfSome, refl, sym, subst}
+use Rattle.std.specs.Option.{IsSome}
+use Rattle.std.specs.Result.{IsErrAnd}
+use Rattle.mapf_app.specs.Checked.{JudgesTruly, IsDueVerdict, IsRefusalOf, HasGoodPlan}
+use Rattle.mapf_app.specs.Problems.{SpellsProblem}
+use Rattle.mapf_app.proofs.InputLemmas.{told}
+use Rattle.mapf_checker.specs.Refusals.{HasRefusal}
+use Rattle.mapf_checker.specs.Verdict.{IsTrueVerdict, IsGoodPlan, AreAccepted}
+use Rattle.mapf_checker.specs.Faults.{IfRefused, IsNoRefusal}
+use Rattle.mapf_checker.specs.declared.fault.CheckFault.{CheckFault}
+use Rattle.mapf_checker.specs.declared.fault.FromFault.{FromFault}
+use Rattle.mapf_checker.specs.declared.fault.FromFault.TheVariants.{Refused}
+use Rattle.mapf_checker.specs.declared.fault.Verdict.{Verdict}
+use Rattle.mapf_model.specs.Plan.{Instance}
+
+for_told : {X : Type 0} (P : X → Type 0) (known : Option X) → ((x : X) → known ≡ Some x → P x) → IfSome known P
+for_told P None each = tt
+for_told P (Some x) each = each x refl
+
+-- what is so of the bytes that were told is so of the text
+text_is : (known : Option (List ℕ)) (text bytes : List ℕ) → IfSome known (λ b. text ≡ b) → known ≡ Some bytes → text ≡ bytes
+text_is None text bytes same is = absurd cc
+text_is (Some b) text bytes same is = cc
+
+-- a refusal is one
+pub is_refusal : (fault : FromFault) (refusal : CheckFault) → fault ≡ Refused refusal → IsNoRefusal fault → ⊥
+is_refusal fault refusal is says = subst IsNoRefusal is says
+
+-- and says what refusals say
+pub refusal_says : (Says : CheckFault → Type 0) (fault : FromFault) (refusal : CheckFault) → fault ≡ Refused refusal → IfRefused Says fault → Says refusal
+refusal_says Says fault refusal is says = subst (IfRefused Says) is says
+
+module _ (map scen plan cert : Option (List ℕ)) (count : ℕ) (problem : Instance) (read : SpellsProblem map scen count problem) (text : List ℕ) (same : IfSome plan (λ bytes. text ≡ bytes)) where
+  pub judges : (verdict : Verdict) → IsTrueVerdict problem verdict → ((bytes : List ℕ) → cert ≡ Some bytes → AreAccepted problem text bytes verdict) → JudgesTruly map scen plan cert count verdict
+  judges verdict is_true accepted = record {
+    problem = problem;
+    read = read;
+    is_true = is_true;
+    accepted = told (λ bytes. IfSome cert (λ others. AreAccepted problem bytes others verdict)) plan text same (for_told (λ others. AreAccepted problem text others verdict) cert accepted);
+  }
+
+  -- the problem that was read is the one that is spelled
+  pub due_here : ((other : Instance) → IsSome map → IsSome scen → SpellsProblem map scen count other → problem ≡ other) → (verdict : Verdict) → (due : IsDueVerdict map scen plan cert count verdict) → AreAccepted problem text due.cert_text verdict
+  due_here only verdict due =
+      let one = only due.problem due.map_told due.scen_told due.read in
+      let written = text_is plan text due.plan_text same due.plan_told in
+      subst (λ here. AreAccepted here text due.cert_text verdict) (sym one) (subst (λ bytes. AreAccepted due.problem bytes due.cert_text verdict) (sym written) due.accepted)
+
+  pub refusal_of : (refusal : CheckFault) → HasRefusal problem text cert refusal → IsRefusalOf map scen plan cert count refusal
+  refusal_of refusal has = record {
+    problem = problem;
+    read = read;
+    defect = told (λ bytes. HasRefusal problem bytes cert refusal) plan text same has;
+  }
+
+  pub none_good : (HasGoodPlan map scen plan count → ⊥) → (verdict : Verdict) → IsGoodPlan problem text verdict → ⊥
+  none_good none verdict good = none (record { problem = problem; read = read; verdict = verdict; good = told (λ bytes. IsGoodPlan problem bytes verdict) plan text same good })
