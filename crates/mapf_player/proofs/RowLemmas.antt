@@ -118,15 +118,12 @@ AreMarked-all w y agent paths tick old row over all x within =
     let none : agent ≡ 0 = omega arith in
     subst (λ k. get_or row x 0 ≡ marked k (drop k paths) tick (y * w + x) (get_or old x 0)) none (all x within) ∙ marked_is paths tick (y * w + x) (get_or old x 0)
 
-module _ (grid : GridMap) (paths : List (List ℕ)) (tick y : ℕ) (old plain drawn : List ℕ) (whole : length old ≡ grid.width) (plain_long : length plain ≡ length old) (drawn_long : length drawn ≡ length plain)
-    (fills : (x : ℕ) → x < length old → get_or plain x 0 ≡ ground grid (y * length old + x))
-    (marks : (x : ℕ) → x < length plain → get_or drawn x 0 ≡ unwrap_or (option_map mark (agent_in paths tick (y * length plain + x))) (get_or plain x 0))
+module _ (grid : GridMap) (paths : List (List ℕ)) (tick y : ℕ) (plain drawn : List ℕ) (whole : length drawn ≡ grid.width)
+    (fills : (x : ℕ) → x < grid.width → get_or plain x 0 ≡ ground grid (y * grid.width + x))
+    (marks : (x : ℕ) → x < grid.width → get_or drawn x 0 ≡ unwrap_or (option_map mark (agent_in paths tick (y * grid.width + x))) (get_or plain x 0))
   where
     byte_drawn : (x : ℕ) → x < grid.width → get_or drawn x 0 ≡ cell_byte grid paths tick (y * grid.width + x)
-    byte_drawn x within =
-        let plain_whole : length plain ≡ grid.width = plain_long ∙ whole in
-        marks x (omega arith) ∙ ap (λ w. unwrap_or (option_map mark (agent_in paths tick (y * w + x))) (get_or plain x 0)) plain_whole
-        ∙ ap (unwrap_or (option_map mark (agent_in paths tick (y * grid.width + x)))) (fills x (omega arith) ∙ ap (λ w. ground grid (y * w + x)) whole)
+    byte_drawn x within = marks x within ∙ ap (unwrap_or (option_map mark (agent_in paths tick (y * grid.width + x)))) (fills x within)
 
     pub row_drawn : drawn ≡ row_cells grid paths tick y
-    row_drawn = fill_by_all (λ x. cell_byte grid paths tick (y * grid.width + x)) drawn grid.width 0 (drawn_long ∙ plain_long ∙ whole) byte_drawn
+    row_drawn = fill_by_all (λ x. cell_byte grid paths tick (y * grid.width + x)) drawn grid.width 0 whole byte_drawn

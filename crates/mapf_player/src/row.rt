@@ -1,4 +1,4 @@
-ghost use Rattle.std.specs.Prelude.{◌≡◌, ◌<◌, ◌≤◌, ◌+◌, ◌*◌, ℕ, length, slice_index, option_map, unwrap_or};
+ghost use Rattle.std.specs.Prelude.{◌≡◌, ◌<◌, ◌+◌, ◌*◌, ℕ, length, slice_index, option_map, unwrap_or};
 ghost use Rattle.mapf_player.specs.Play.{agent_in, ground, mark, row_cells};
 
 use crate::marks::{ground_of, mark_of};
@@ -8,7 +8,7 @@ use mapf_model::{Cell, Grid, Path, Tick};
 fn fill_ground(row: &mut [u8], grid: &Grid, y: u32)
     requires whole { length row.old ≡ grid.now.width }
     requires inside { y < grid.now.height }
-    ensures { (x : ℕ) → x < length row.old → slice_index row.new x ≡ ground grid.now (y * length row.old + x) }
+    ensures { (x : ℕ) → x < grid.now.width → slice_index row.new x ≡ ground grid.now (y * grid.now.width + x) }
 {
     let first = y * grid.width();
     for (x, byte) in row.iter_mut().enumerate() {
@@ -17,13 +17,12 @@ fn fill_ground(row: &mut [u8], grid: &Grid, y: u32)
 }
 
 // Marks the cells of a row in which agents stand. The first of several in one cell is seen.
-fn mark_agents(row: &mut [u8], paths: &[Path], tick: Tick, y: u32)
-    requires some { 0 < length row.old }
-    requires few { length row.old ≤ 2048 }
-    ensures { (x : ℕ) → x < length row.old → slice_index row.new x
-        ≡ unwrap_or (option_map mark (agent_in paths.now tick (y * length row.old + x))) (slice_index row.old x) }
+fn mark_agents(row: &mut [u8], grid: &Grid, paths: &[Path], tick: Tick, y: u32)
+    requires { length row.old ≡ grid.now.width }
+    ensures { (x : ℕ) → x < grid.now.width → slice_index row.new x
+        ≡ unwrap_or (option_map mark (agent_in paths.now tick (y * grid.now.width + x))) (slice_index row.old x) }
 {
-    let width = row.len() as u32;
+    let width = grid.width();
     let mut agent = paths.len();
     while agent > 0 {
         agent -= 1;
@@ -40,7 +39,6 @@ pub fn draw_row(row: &mut [u8], grid: &Grid, paths: &[Path], tick: Tick, y: u32)
     requires inside { y < grid.now.height }
     ensures { row.new ≡ row_cells grid.now paths.now tick y }
 {
-    let _width = grid.width();
     fill_ground(row, grid, y);
-    mark_agents(row, paths, tick, y);
+    mark_agents(row, grid, paths, tick, y);
 }

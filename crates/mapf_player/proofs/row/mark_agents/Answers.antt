@@ -3,19 +3,19 @@ use Rattle.mapf_player.proofs.RowLemmas.{AreMarked-none, AreMarked-all, step_her
 use Rattle.mapf_player.proofs.row.mark_agents.Goals as goal
 
 pub loop-agent-init : goal.loop-agent-init
-loop-agent-init c = record { within = omega arith; marked = AreMarked-none _ c.args.y c.args.paths.now c.args.tick c.args.row.now }
+loop-agent-init c = record { within = omega arith; marked = AreMarked-none c.args.grid.now.width c.args.y c.args.paths.now c.args.tick c.args.row.now }
 
 pub loop-agent-preserved-then-cell-width : goal.loop-agent-preserved-then-cell-width
 loop-agent-preserved-then-cell-width c = record {
   within = omega arith;
-  marked = step_here _ c.args.y c.loop-agent.agent c.args.paths.now c.index-paths-agent.result c.args.tick c.cell.inside.0 c.args.row.now c.loop-agent.row c.requires.some c.loop-agent.auto.row c.loop-agent-test.true c.loop-agent.invariant.within c.index-paths-agent.is (c.cell.view_is ∙ c.at-cell.ensures) c.loop-agent.invariant.marked _ c.mark_of.ensures c.if-cell-width.true;
+  marked = rw c.width-width.ensures.width (step_here c.args.grid.now.width c.args.y c.loop-agent.agent c.args.paths.now c.index-paths-agent.result c.args.tick c.cell.inside.0 c.args.row.now c.loop-agent.row (omega arith) (c.loop-agent.auto.row ∙ c.requires) c.loop-agent-test.true c.loop-agent.invariant.within c.index-paths-agent.is (c.cell.view_is ∙ c.at-cell.ensures) c.loop-agent.invariant.marked _ c.mark_of.ensures (rw c.width-width.ensures.width at c.if-cell-width.true));
 }
 
 pub loop-agent-preserved : goal.loop-agent-preserved
 loop-agent-preserved c = record {
   within = omega arith;
-  marked = step_elsewhere _ c.args.y c.loop-agent.agent c.args.paths.now c.index-paths-agent.result c.args.tick c.cell.inside.0 c.args.row.now c.loop-agent.row c.requires.some c.loop-agent.auto.row c.loop-agent-test.true c.loop-agent.invariant.within c.index-paths-agent.is (c.cell.view_is ∙ c.at-cell.ensures) c.loop-agent.invariant.marked c.if-cell-width.false;
+  marked = step_elsewhere c.args.grid.now.width c.args.y c.loop-agent.agent c.args.paths.now c.index-paths-agent.result c.args.tick c.cell.inside.0 c.args.row.now c.loop-agent.row (omega arith) (c.loop-agent.auto.row ∙ c.requires) c.loop-agent-test.true c.loop-agent.invariant.within c.index-paths-agent.is (c.cell.view_is ∙ c.at-cell.ensures) c.loop-agent.invariant.marked (rw c.width-width.ensures.width at c.if-cell-width.false);
 }
 
 pub returns : goal.returns
-returns c = AreMarked-all _ c.args.y c.loop-agent.agent c.args.paths.now c.args.tick c.args.row.now c.loop-agent.row c.loop-agent-test.false c.loop-agent.invariant.marked
+returns c = AreMarked-all c.args.grid.now.width c.args.y c.loop-agent.agent c.args.paths.now c.args.tick c.args.row.now c.loop-agent.row c.loop-agent-test.false c.loop-agent.invariant.marked
