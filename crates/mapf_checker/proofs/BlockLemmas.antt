@@ -1,5 +1,5 @@
 -- Blocks that are sound, one by one and together.
-use Rattle.std.proofs.Common.{◌≡◌, ℕ, ◌<◌, List, Some, All, AllPairs, slice_get, slice_index_or, sym, ◌∙◌, ap, subst, refl, arith}
+use Rattle.std.proofs.Common.{◌≡◌, ℕ, ◌<◌, List, Some, All, AllPairs, slice_get, slice_index_or, sym, ◌∙◌, subst, refl, arith}
 use Rattle.std.proofs.lemmas.List.{get_or_default}
 use Rattle.std.proofs.lemmas.Option.{same_Some, slice_get_within, get_or_from_slice_get}
 use Rattle.mapf_model.specs.declared.problem.Agent.{Agent}

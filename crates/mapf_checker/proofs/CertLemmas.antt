@@ -1,22 +1,16 @@
 -- A certificate's header and tree together.
-use Rattle.std.proofs.Common.{◌≡◌, ◌≢◌, ◌↔◌, ℕ, zero, suc, ◌*◌, ◌<◌, Bool, List, [], ◌∷◌, ◌++◌, Option, Some, None, IfSome, Result, Ok, Err, OnOk, IfErr, MatchResult, All, length, refl, sym, ◌∙◌, ap, subst, append_assoc, arith}
-use Rattle.std.proofs.lemmas.List.{append-nil}
+use Rattle.std.proofs.Common.{◌≡◌, ℕ, Bool, List, [], ◌∷◌, ◌++◌, Option, Some, None, IfSome, length, refl, sym, ◌∙◌, ap, subst}
 use Rattle.std.proofs.lemmas.Option.{same_Some}
-use Rattle.std.specs.Result.{IsErrAnd}
 use Rattle.mapf_model.specs.declared.item.Claim.{Claim}
-use Rattle.mapf_model.specs.declared.conflict.Conflict.{Conflict}
-use Rattle.mapf_model.specs.Blocks.{LabelBlock}
-use Rattle.mapf_model.specs.Grid.{GridMap}
 use Rattle.mapf_model.specs.Laws.{FrontDecides, TreeIsUnique}
 use Rattle.mapf_model.specs.Plan.{Instance}
-use Rattle.mapf_model.specs.Printed.{IsTreeInRange}
-use Rattle.mapf_model.specs.Tree.{ConstraintTree, Split, Leaf, Clash, Node, SplitNode, LeafNode, ClashNode, NodesShow, ShowsFrom, Shows, nodes_of, nodes_of_all, root}
+use Rattle.mapf_model.specs.Tree.{ConstraintTree, Node, NodesShow, Shows, nodes_of, root}
 use Rattle.mapf_certificate.specs.declared.cert.LinesFault.{LinesFault}
 use Rattle.mapf_certificate.specs.declared.cert.LinesFault.TheVariants.{Text, Device, TooLong, Memory}
 use Rattle.mapf_certificate.specs.declared.cert.CertFault.TheVariants as texts
 use Rattle.mapf_certificate.specs.Buffered.{Buffered}
 use Rattle.mapf_certificate.specs.CertReading.{Awaits, AwaitsCert, IsCertText, TakesHeader}
-use Rattle.mapf_certificate.specs.Certificates.{SpellsCert, header_text, rest_text}
+use Rattle.mapf_certificate.specs.Certificates.{SpellsCert, header_text}
 use Rattle.mapf_certificate.specs.Reading.{Reading, grid_at}
 use Rattle.mapf_certificate.specs.Window.{Window, Fails, Exceeds, IsNoTextFault}
 use Rattle.mapf_certificate.proofs.CertTexts.{AreSized, spells_from_text, text_from_spells}
@@ -27,7 +21,7 @@ use Rattle.mapf_checker.specs.declared.fault.CheckFault.TheVariants as refusals
 use Rattle.mapf_checker.specs.declared.fault.FromFault.{FromFault}
 use Rattle.mapf_checker.specs.declared.fault.FromFault.TheVariants as from
 use Rattle.mapf_checker.specs.CertJudging.{IsOpened, HasHeaderRefusal, HasTreeRefusal, IsJudgedTree}
-use Rattle.mapf_checker.specs.Faults.{of_cert, IsNoRefusal, Stops}
+use Rattle.mapf_checker.specs.Faults.{of_cert, Stops}
 use Rattle.mapf_checker.specs.Refusals.{BeginsWithHeader, HasBadNode, HasBadNodeInCert, HasCertRefusal}
 use Rattle.mapf_checker.specs.Verdict.{IsGoodCert, IsShown}
 

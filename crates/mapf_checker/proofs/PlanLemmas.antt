@@ -1,6 +1,6 @@
 -- Plan texts that are good for a verdict.
 use Rattle.std.proofs.Common.{◌≡◌, ℕ, List, Result, Ok, length, sym, ◌∙◌, ap, subst, refl, inl, inr}
-use Rattle.mapf_model.specs.Accepted.{PlanSays, SaysPlan, SaysImpossible, SaysLimit}
+use Rattle.mapf_model.specs.Accepted.{PlanSays, SaysPlan, SaysImpossible}
 use Rattle.mapf_model.specs.Laws.{SumsAreOne}
 use Rattle.mapf_model.specs.Plan.{Instance, IsValid, IsSumOfCosts}
 use Rattle.mapf_certificate.specs.declared.plan_text.PlanText.{PlanText}

@@ -1,13 +1,10 @@
 -- A tree that is judged as it is read.
-use Rattle.std.proofs.Common.{◌≡◌, ◌↔◌, ℕ, ◌+◌, ◌*◌, ◌<◌, ◌≤◌, Bool, true, false, List, [], ◌∷◌, ◌++◌, Option, Some, Result, Ok, Err, IfErr, MatchResult, length, slice_index_or, refl, sym, ◌∙◌, ap, subst, append_assoc, inl, inr, arith}
+use Rattle.std.proofs.Common.{◌≡◌, ◌↔◌, ℕ, ◌≤◌, Bool, true, false, List, [], ◌∷◌, ◌++◌, Option, Some, Result, Ok, Err, IfErr, MatchResult, length, refl, sym, ◌∙◌, ap, subst, append_assoc, inl, inr, arith}
 use Rattle.std.proofs.lemmas.List.{append-nil}
 use Rattle.std.specs.List.{flat_map}
 use Rattle.std.specs.Result.{IsErrAnd}
 use Rattle.std.proofs.KnownBytes.{Consumes-nil}
 use Rattle.mapf_model.specs.declared.item.Claim.{Claim}
-use Rattle.mapf_model.specs.declared.conflict.Conflict.{Conflict}
-use Rattle.mapf_model.specs.declared.conflict.Conflict.TheVariants.{Vertex, Swap}
-use Rattle.mapf_model.specs.Blocks.{LabelBlock}
 use Rattle.mapf_model.specs.Grid.{GridMap}
 use Rattle.mapf_model.specs.Laws.{FrontDecides}
 use Rattle.mapf_model.specs.Plan.{Instance}
@@ -92,9 +89,11 @@ module _ (problem : Instance) (claim : Claim) (had mid left : Option (List ℕ))
     flat_map-push : (f : Node → List ℕ) (xs : List Node) (x : Node) → flat_map f (xs ++ x ∷ []) ≡ flat_map f xs ++ f x
     flat_map-push f [] x = append-nil (f x)
     flat_map-push f (y ∷ xs) x = ap (λ l. f y ++ l) (flat_map-push f xs x) ∙ sym (append_assoc (f y) (flat_map f xs) (f x))
+
     owed_after_push : (owed : List NodeConstraints) (xs : List Node) (x : Node) → owed_after_all owed (xs ++ x ∷ []) ≡ owed_after (owed_after_all owed xs) x
     owed_after_push owed [] x = refl
     owed_after_push owed (y ∷ xs) x = owed_after_push (owed_after owed y) xs x
+
     count_after : (node : Node) (n : ℕ) (owed : List NodeConstraints) (here : NodeConstraints) (others : List NodeConstraints) → n ≡ length owed → owed ≡ here ∷ others → owed_count_after n node ≡ length (owed_after owed node)
     count_after (SplitNode conflict) n owed here others count is = rw (count, is) (omega arith)
     count_after (LeafNode blocks) n owed here others count is = rw (count, is) (omega arith)

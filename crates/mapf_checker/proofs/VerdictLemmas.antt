@@ -1,20 +1,14 @@
 -- A good plan text and a good certificate together.
-use Rattle.std.proofs.Common.{◌≡◌, ◌⊎◌, ℕ, List, Option, Some, Result, Ok, Err, IfOk, IfErr, MatchResult, length, refl, sym, ◌∙◌, subst, inl, inr}
-use Rattle.mapf_model.specs.Accepted.{PlanSays, SaysPlan, SaysImpossible, SaysLimit, Outcome, OptimalOutcome, ImpossibleOutcome, GoTogether}
+use Rattle.std.proofs.Common.{◌≡◌, ℕ, List, length, refl, subst}
+use Rattle.mapf_model.specs.Accepted.{PlanSays, SaysPlan, SaysImpossible, SaysLimit, GoTogether}
 use Rattle.mapf_model.specs.declared.item.Claim.{Claim}
 use Rattle.mapf_model.specs.declared.item.Claim.TheVariants as claims
 use Rattle.mapf_model.specs.Laws.{ShownClaimsHold}
 use Rattle.mapf_model.specs.Plan.{Instance}
-use Rattle.mapf_model.specs.Tree.{ConstraintTree, Shows}
+use Rattle.mapf_model.specs.Tree.{Shows}
 use Rattle.mapf_certificate.specs.Certificates.{SpellsCert}
-use Rattle.mapf_checker.specs.declared.fault.CheckFault.{CheckFault}
-use Rattle.mapf_checker.specs.declared.fault.CheckFault.TheVariants as refusals
-use Rattle.mapf_checker.specs.declared.fault.FromFault.{FromFault}
-use Rattle.mapf_checker.specs.declared.fault.FromFault.TheVariants.{Refused, Device, TooLong, Memory}
 use Rattle.mapf_checker.specs.declared.fault.Verdict.{Verdict}
 use Rattle.mapf_checker.specs.declared.fault.Verdict.TheVariants.{Optimal, Impossible}
-use Rattle.mapf_checker.specs.Faults.{IfRefused, IsNoRefusal, IsOfJudging, Stops}
-use Rattle.mapf_checker.specs.Refusals.{HasPlanRefusal, HasCertRefusal, HasRefusal}
 use Rattle.mapf_checker.specs.Verdict.{AreAccepted, IsTrueVerdict, IsGoodFor, IsGoodPlan, IsGoodCert, IsShown, claim_of, outcome_of}
 
 -- what is good and shown is so
@@ -55,10 +49,10 @@ good_if_accepted problem plan cert verdict accepted =
         shows = subst (λ c. Shows problem c accepted.tree) is shows;
       },
     ) where
-  by : (verdict : Verdict) (said : PlanSays) (claim : Claim) → GoTogether problem said claim accepted.tree (outcome_of verdict) → IsGoodFor problem said verdict × (claim ≡ claim_of verdict) × Shows problem claim accepted.tree
-  by (Optimal sum) (SaysPlan plan) claim together = ((together.0, together.1), together.2, together.3)
-  by (Optimal sum) SaysImpossible claim together = absurd together
-  by (Optimal sum) SaysLimit claim together = absurd together
-  by Impossible (SaysPlan plan) claim together = absurd together
-  by Impossible SaysImpossible claim together = (tt, together.0, together.1)
-  by Impossible SaysLimit claim together = absurd together
+      by : (verdict : Verdict) (said : PlanSays) (claim : Claim) → GoTogether problem said claim accepted.tree (outcome_of verdict) → IsGoodFor problem said verdict × (claim ≡ claim_of verdict) × Shows problem claim accepted.tree
+      by (Optimal sum) (SaysPlan plan) claim together = ((together.0, together.1), together.2, together.3)
+      by (Optimal sum) SaysImpossible claim together = absurd together
+      by (Optimal sum) SaysLimit claim together = absurd together
+      by Impossible (SaysPlan plan) claim together = absurd together
+      by Impossible SaysImpossible claim together = (tt, together.0, together.1)
+      by Impossible SaysLimit claim together = absurd together

@@ -1,5 +1,5 @@
 -- What an answer of the checker says.
-use Rattle.std.specs.Prelude.{◌≡◌, ℕ, List, length}
+use Rattle.std.specs.Prelude.{ℕ, List, length}
 use Rattle.mapf_model.specs.declared.item.Claim.{Claim}
 use Rattle.mapf_model.specs.declared.item.Claim.TheVariants as claim
 use Rattle.mapf_model.specs.Accepted.{PlanSays, SaysPlan, SaysImpossible, SaysLimit, Outcome, OptimalOutcome, ImpossibleOutcome, IsAccepted}

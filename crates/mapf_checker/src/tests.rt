@@ -8,7 +8,12 @@ fn accepts_the_crossing(rt: HostRuntime) -> Result<(), Fail> {
     let alloc = rt.alloc();
     let crossing = crossing(alloc)?;
     assert_eq!(rt;
-        check(alloc, &crossing, CROSSING_PLAN.as_bytes(), CROSSING_CERT.as_bytes()),
+        check(
+            alloc,
+            &crossing,
+            CROSSING_PLAN.as_bytes(),
+            CROSSING_CERT.as_bytes()
+        ),
         Ok(Verdict::Optimal(5))
     );
     Ok(())
@@ -25,7 +30,10 @@ fn keeps_the_limit(rt: HostRuntime) -> Result<(), Fail> {
         (110, Err(FromFault::TooLong)),
     ] {
         let mut source = BytesSource::of(cert);
-        assert_eq!(rt; check_from(alloc, &crossing, plan, &mut source, limit), answer);
+        assert_eq!(rt;
+            check_from(alloc, &crossing, plan, &mut source, limit),
+            answer
+        );
     }
     Ok(())
 }

@@ -90,12 +90,7 @@ impl Progress {
         }
     }
 
-    fn split(
-        &mut self,
-        problem: &Problem,
-        conflict: &Conflict,
-        line: u64,
-    ) -> Result<(), FromFault>
+    fn split(&mut self, problem: &Problem, conflict: &Conflict, line: u64) -> Result<(), FromFault>
         requires going { self.old.is_over ≡ false }
         ensures tables { self.new.tables.items ≡ self.old.tables.items }
         ensures owed { OnOk result (owed_by self.new ≡ owed_after (owed_by self.old) (SplitNode conflict.now)) }

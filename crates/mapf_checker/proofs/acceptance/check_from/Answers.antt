@@ -1,5 +1,4 @@
 use Rattle.std.proofs.Common.{◌≡◌, sym, ◌∙◌, ap, subst}
-use Rattle.mapf_checker.specs.declared.fault.Verdict.{Verdict}
 use Rattle.mapf_checker.specs.Faults.{IsNoRefusal}
 use Rattle.mapf_checker.specs.Verdict.{IsGoodCert, claim_of}
 use Rattle.mapf_checker.proofs.ReadLemmas.{err_matched}

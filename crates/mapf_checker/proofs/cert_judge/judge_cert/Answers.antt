@@ -2,7 +2,7 @@ use Rattle.std.proofs.Common.{◌≡◌, [], length, refl, rules}
 use Rattle.mapf_model.specs.Tree.{nodes_of}
 use Rattle.mapf_certificate.specs.Buffered.{Buffered}
 use Rattle.mapf_certificate.specs.Certificates.{header_text}
-use Rattle.mapf_checker.specs.CertJudging.{IsOpened, IsJudgedTree}
+use Rattle.mapf_checker.specs.CertJudging.{IsOpened}
 use Rattle.mapf_checker.specs.Faults.{IsNoRefusal, Stops}
 use Rattle.mapf_checker.specs.Refusals.{HasCertRefusal}
 use Rattle.mapf_checker.proofs.CertLemmas.{awaits_spelled, good_cert, header_refusal, nodes_show, refusal_of_tree, shown_tree, stops_after, stops_as}

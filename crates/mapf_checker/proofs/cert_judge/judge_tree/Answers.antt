@@ -1,4 +1,4 @@
-use Rattle.std.proofs.Common.{◌≡◌, ◌*◌, ◌∷◌, [], List, Option, Some, None, length, refl, sym, ◌∙◌, rules}
+use Rattle.std.proofs.Common.{◌≡◌, ◌∷◌, [], List, Option, Some, None, length, refl, sym, ◌∙◌, rules}
 use Rattle.mapf_model.specs.Tree.{Node, node_of}
 use Rattle.mapf_certificate.specs.CertReading.{Awaits, TakesNode, IsRestAt}
 use Rattle.mapf_certificate.specs.Certificates.{IsNode}

@@ -1,5 +1,5 @@
-use Rattle.std.proofs.Common.{◌≡◌, length, refl, sym, ◌∙◌, ap, subst}
-use Rattle.mapf_model.specs.Accepted.{SaysPlan, SaysImpossible, SaysLimit}
+use Rattle.std.proofs.Common.{length, refl, sym, ◌∙◌, ap, subst}
+use Rattle.mapf_model.specs.Accepted.{SaysPlan}
 use Rattle.mapf_certificate.specs.Plans.{says}
 use Rattle.mapf_checker.specs.declared.fault.Verdict.TheVariants.{Optimal}
 use Rattle.mapf_checker.specs.Verdict.{IsGoodFor}
