@@ -1,14 +1,19 @@
 -- What each fault of a run says of its inputs.
 use Rattle.std.specs.Prelude.{◌≡◌, ℕ, List, Option, ⊤}
 use Rattle.mapf_model.specs.Grid.{GridMap}
+use Rattle.mapf_model.specs.Plan.{Instance}
 use Rattle.mapf_app.specs.Checked.{IsRefusalOf}
+use Rattle.mapf_app.specs.Played.{HasPlayFault, IsPlayDefect}
 use Rattle.mapf_app.specs.Problems.{IsMapDefect, IsAgentsDefect, IsScenarioDefect}
 use Rattle.mapf_app.specs.declared.fault.Fault.{Fault}
-use Rattle.mapf_app.specs.declared.fault.Fault.TheVariants.{F1, F2, F4, F5, F6, Refused}
+use Rattle.mapf_app.specs.declared.fault.Fault.TheVariants.{F1, F2, F3, F4, F5, F6, Refused}
+use Rattle.mapf_app.specs.declared.fault.PlayFault.TheVariants.{Text}
 use Rattle.mapf_app.specs.declared.fault.Input.{Input}
 use Rattle.mapf_app.specs.declared.fault.Input.TheVariants.{Map, Scen, Plan, Cert}
 use Rattle.mapf_app.specs.declared.fault.Output.{Output}
 use Rattle.mapf_app.specs.declared.fault.Output.TheVariants.{Plan as PlanText, Cert as CertText, Out}
+use Rattle.mapf_certificate.specs.declared.plan_text.PlanTextFault.{PlanTextFault}
+use Rattle.mapf_certificate.specs.declared.plan_text.PlanTextFault.TheVariants as plan_faults
 use Rattle.mapf_text.specs.declared.map_fault.MapFault.{MapFault}
 use Rattle.mapf_text.specs.declared.map_fault.MapFault.TheVariants as map_faults
 use Rattle.mapf_text.specs.declared.scenario_fault.ScenFault.{ScenFault}
@@ -25,6 +30,7 @@ IsOfProblem Cert = ⊥
 abbrev pub IsNoDefect : Fault → Type 0
 IsNoDefect (F1 fault) = ⊥
 IsNoDefect (F2 fault) = ⊥
+IsNoDefect (F3 fault) = ⊤
 IsNoDefect (F4 input) = ⊤
 IsNoDefect (F5 output) = ⊤
 IsNoDefect F6 = ⊤
@@ -34,6 +40,7 @@ IsNoDefect (Refused refusal) = ⊤
 abbrev pub IsReadingMap : Option (List ℕ) → Fault → Type 0
 IsReadingMap map (F1 fault) = IsMapDefect map fault
 IsReadingMap map (F2 fault) = ⊥
+IsReadingMap map (F3 fault) = ⊥
 IsReadingMap map (F4 input) = input ≡ Map
 IsReadingMap map (F5 output) = ⊥
 IsReadingMap map F6 = ⊤
@@ -43,6 +50,7 @@ IsReadingMap map (Refused refusal) = ⊥
 abbrev pub IsReadingAgents : Option (List ℕ) → GridMap → ℕ → Fault → Type 0
 IsReadingAgents scen grid count (F1 fault) = ⊥
 IsReadingAgents scen grid count (F2 fault) = IsAgentsDefect scen grid count fault
+IsReadingAgents scen grid count (F3 fault) = ⊥
 IsReadingAgents scen grid count (F4 input) = input ≡ Scen
 IsReadingAgents scen grid count (F5 output) = ⊥
 IsReadingAgents scen grid count F6 = ⊤
@@ -52,6 +60,7 @@ IsReadingAgents scen grid count (Refused refusal) = ⊥
 abbrev pub IsReading : Option (List ℕ) → Option (List ℕ) → ℕ → Fault → Type 0
 IsReading map scen count (F1 fault) = IsMapDefect map fault
 IsReading map scen count (F2 fault) = IsScenarioDefect map scen count fault
+IsReading map scen count (F3 fault) = ⊥
 IsReading map scen count (F4 input) = IsOfProblem input
 IsReading map scen count (F5 output) = ⊥
 IsReading map scen count F6 = ⊤
@@ -61,6 +70,7 @@ IsReading map scen count (Refused refusal) = ⊥
 abbrev pub IsBeforeWriting : Fault → Type 0
 IsBeforeWriting (F1 fault) = ⊤
 IsBeforeWriting (F2 fault) = ⊤
+IsBeforeWriting (F3 fault) = ⊤
 IsBeforeWriting (F4 input) = ⊤
 IsBeforeWriting (F5 output) = ⊥
 IsBeforeWriting F6 = ⊤
@@ -76,6 +86,7 @@ IsOfTexts Out = ⊥
 abbrev pub IsSolving : Option (List ℕ) → Option (List ℕ) → ℕ → Fault → Type 0
 IsSolving map scen count (F1 fault) = IsMapDefect map fault
 IsSolving map scen count (F2 fault) = IsScenarioDefect map scen count fault
+IsSolving map scen count (F3 fault) = ⊥
 IsSolving map scen count (F4 input) = IsOfProblem input
 IsSolving map scen count (F5 output) = IsOfTexts output
 IsSolving map scen count F6 = ⊤
@@ -85,15 +96,54 @@ IsSolving map scen count (Refused refusal) = ⊥
 abbrev pub IsChecking : Option (List ℕ) → Option (List ℕ) → Option (List ℕ) → Option (List ℕ) → ℕ → Fault → Type 0
 IsChecking map scen plan cert count (F1 fault) = IsMapDefect map fault
 IsChecking map scen plan cert count (F2 fault) = IsScenarioDefect map scen count fault
+IsChecking map scen plan cert count (F3 fault) = ⊥
 IsChecking map scen plan cert count (F4 input) = ⊤
 IsChecking map scen plan cert count (F5 output) = ⊥
 IsChecking map scen plan cert count F6 = ⊤
 IsChecking map scen plan cert count (Refused refusal) = IsRefusalOf map scen plan cert count refusal
 
+-- an input of a run that plays a plan
+abbrev pub IsOfPlay : Input → Type 0
+IsOfPlay Map = ⊤
+IsOfPlay Scen = ⊤
+IsOfPlay Plan = ⊤
+IsOfPlay Cert = ⊥
+
+-- what a fault of playing says
+abbrev pub IsPlaying : Option (List ℕ) → Option (List ℕ) → Option (List ℕ) → ℕ → Fault → Type 0
+IsPlaying map scen plan count (F1 fault) = IsMapDefect map fault
+IsPlaying map scen plan count (F2 fault) = IsScenarioDefect map scen count fault
+IsPlaying map scen plan count (F3 fault) = IsPlayDefect map scen plan count fault
+IsPlaying map scen plan count (F4 input) = IsOfPlay input
+IsPlaying map scen plan count (F5 output) = output ≡ Out
+IsPlaying map scen plan count F6 = ⊤
+IsPlaying map scen plan count (Refused refusal) = ⊥
+
+-- what a fault of a plan text that is to be played says of it
+abbrev pub IsReadingPlan : Instance → List ℕ → Fault → Type 0
+IsReadingPlan problem bytes (F1 fault) = ⊥
+IsReadingPlan problem bytes (F2 fault) = ⊥
+IsReadingPlan problem bytes (F3 fault) = HasPlayFault problem bytes fault
+IsReadingPlan problem bytes (F4 input) = ⊥
+IsReadingPlan problem bytes (F5 output) = ⊥
+IsReadingPlan problem bytes F6 = ⊤
+IsReadingPlan problem bytes (Refused refusal) = ⊥
+
+-- an input that can't be read, an output that can't be written, or want of memory
+abbrev pub IsOfDevices : Fault → Type 0
+IsOfDevices (F1 fault) = ⊥
+IsOfDevices (F2 fault) = ⊥
+IsOfDevices (F3 fault) = ⊥
+IsOfDevices (F4 input) = ⊤
+IsOfDevices (F5 output) = ⊤
+IsOfDevices F6 = ⊤
+IsOfDevices (Refused refusal) = ⊥
+
 -- an input that can't be read, or want of memory
 abbrev pub IsOfInput : Fault → Type 0
 IsOfInput (F1 fault) = ⊥
 IsOfInput (F2 fault) = ⊥
+IsOfInput (F3 fault) = ⊥
 IsOfInput (F4 input) = ⊤
 IsOfInput (F5 output) = ⊥
 IsOfInput F6 = ⊤
@@ -107,6 +157,10 @@ fault_of_map fault = F1 fault
 abbrev pub fault_of_scenario : ScenFault → Fault
 fault_of_scenario scenario_faults.Memory = F6
 fault_of_scenario fault = F2 fault
+
+abbrev pub fault_of_plan_text : PlanTextFault → Fault
+fault_of_plan_text plan_faults.Memory = F6
+fault_of_plan_text fault = F3 (Text fault)
 
 -- not an output's
 abbrev pub IsNoOutput : Fault → Type 0

@@ -1,4 +1,5 @@
-use mapf_checker::CheckFault;
+use mapf_certificate::PlanTextFault;
+use mapf_checker::{CheckFault, PlanFault};
 use mapf_text::{MapFault, ScenFault};
 use thiserror::Error;
 
@@ -20,6 +21,19 @@ pub enum Output {
     Out,
 }
 
+/// Why a plan text can't be played.
+#[derive(Clone, Copy, Debug, PartialEq, Eq)]
+pub enum PlayFault {
+    /// The bytes spell no plan text. The variant `Memory` is never in here.
+    Text(PlanTextFault),
+    /// The text says that no plan is valid, or that a limit was met.
+    NoPlan,
+    /// The plan is for another number of agents than the problem's.
+    OtherCount,
+    /// The plan isn't valid.
+    Invalid(PlanFault),
+}
+
 /// Why a run has no answer.
 #[derive(Clone, Copy, Debug, PartialEq, Eq, Error)]
 pub enum Fault {
@@ -29,6 +43,9 @@ pub enum Fault {
     /// The scenario's bytes have the defect.
     #[error("scenario: {0:?}")]
     F2(ScenFault),
+    /// The plan text can't be played.
+    #[error("plan: {0:?}")]
+    F3(PlayFault),
     /// The input couldn't be read: its source failed, or gave more than 67,108,864 bytes, of a
     /// certificate more than 1,099,511,627,776.
     #[error("read of {0:?}")]

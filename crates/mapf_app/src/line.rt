@@ -1,17 +1,18 @@
 ghost use Rattle.std.specs.Prelude.{◌≡◌, false};
 ghost use Rattle.std.specs.Result.{is_err};
 
-use crate::fault::{Fault, Input, Output};
+use crate::fault::{Fault, Input, Output, PlayFault};
 use itoa::Buffer;
 use mapf_certificate::{CertFault, PlanTextFault};
 use mapf_checker::{CheckFault, PlanFault};
 use mapf_model::{Failed, Sink, write_all};
 use mapf_text::{MapFault, ScenFault};
 
-/// A line that the program prints: words, and then numbers.
+/// A line that the program prints: words, the name of a text's or a plan's fault, and then numbers.
 #[derive(Clone, Copy, Debug, PartialEq, Eq)]
 pub struct Line {
     words: &'static str,
+    defect: Option<&'static str>,
     numbers: [Option<u64>; 3],
 }
 
@@ -20,29 +21,37 @@ impl Line {
     pub fn of(words: &'static str) -> Line {
         Line {
             words,
+            defect: None,
             numbers: [None, None, None],
+        }
+    }
+
+    fn naming(self, defect: &'static str) -> Line {
+        Line {
+            defect: Some(defect),
+            ..self
         }
     }
 
     /// The line with one number.
     pub fn with(self, number: u64) -> Line {
         Line {
-            words: self.words,
             numbers: [Some(number), None, None],
+            ..self
         }
     }
 
     fn with_two(self, first: u32, second: u32) -> Line {
         Line {
-            words: self.words,
             numbers: [Some(first as u64), Some(second as u64), None],
+            ..self
         }
     }
 
     fn with_three(self, first: u32, second: u32, third: u32) -> Line {
         Line {
-            words: self.words,
             numbers: [Some(first as u64), Some(second as u64), Some(third as u64)],
+            ..self
         }
     }
 
@@ -51,6 +60,7 @@ impl Line {
         match fault {
             Fault::F1(fault) => map_line(fault),
             Fault::F2(fault) => scenario_line(fault),
+            Fault::F3(fault) => play_line(fault),
             Fault::F4(Input::Map) => Line::of("F4 map"),
             Fault::F4(Input::Scen) => Line::of("F4 scen"),
             Fault::F4(Input::Plan) => Line::of("F4 plan"),
@@ -94,11 +104,11 @@ fn scenario_line(fault: ScenFault) -> Line {
 
 fn refusal_line(refusal: CheckFault) -> Line {
     match refusal {
-        CheckFault::C1(fault) => plan_text_line(fault),
+        CheckFault::C1(fault) => plan_text_line("refused C1", fault),
         CheckFault::C2(fault) => certificate_line(fault),
         CheckFault::C3 => Line::of("refused C3"),
         CheckFault::C4 => Line::of("refused C4"),
-        CheckFault::C5(fault) => plan_line(fault),
+        CheckFault::C5(fault) => plan_line("refused C5", fault),
         CheckFault::C6(line) => Line::of("refused C6").with(line),
         CheckFault::C7(line) => Line::of("refused C7").with(line),
         CheckFault::C8(line) => Line::of("refused C8").with(line),
@@ -107,12 +117,12 @@ fn refusal_line(refusal: CheckFault) -> Line {
     }
 }
 
-fn plan_text_line(fault: PlanTextFault) -> Line {
+fn plan_text_line(words: &'static str, fault: PlanTextFault) -> Line {
     match fault {
-        PlanTextFault::P1(line) => Line::of("refused C1 P1").with(line),
-        PlanTextFault::P2(line) => Line::of("refused C1 P2").with(line),
-        PlanTextFault::P3(line) => Line::of("refused C1 P3").with(line),
-        PlanTextFault::P4(line) => Line::of("refused C1 P4").with(line),
+        PlanTextFault::P1(line) => Line::of(words).naming("P1").with(line),
+        PlanTextFault::P2(line) => Line::of(words).naming("P2").with(line),
+        PlanTextFault::P3(line) => Line::of(words).naming("P3").with(line),
+        PlanTextFault::P4(line) => Line::of(words).naming("P4").with(line),
         PlanTextFault::Memory => Line::of("F6"),
     }
 }
@@ -127,14 +137,36 @@ fn certificate_line(fault: CertFault) -> Line {
     }
 }
 
-fn plan_line(fault: PlanFault) -> Line {
+fn plan_line(words: &'static str, fault: PlanFault) -> Line {
+    let line = Line::of(words);
     match fault {
-        PlanFault::V1 { agent } => Line::of("refused C5 V1").with(agent as u64),
-        PlanFault::V2 { agent, tick } => Line::of("refused C5 V2").with_two(agent, tick),
-        PlanFault::V3 { agent } => Line::of("refused C5 V3").with(agent as u64),
-        PlanFault::V4 { i, j, tick } => Line::of("refused C5 V4").with_three(i, j, tick),
-        PlanFault::V5 { i, j, tick } => Line::of("refused C5 V5").with_three(i, j, tick),
+        PlanFault::V1 { agent } => line.naming("V1").with(agent as u64),
+        PlanFault::V2 { agent, tick } => line.naming("V2").with_two(agent, tick),
+        PlanFault::V3 { agent } => line.naming("V3").with(agent as u64),
+        PlanFault::V4 { i, j, tick } => line.naming("V4").with_three(i, j, tick),
+        PlanFault::V5 { i, j, tick } => line.naming("V5").with_three(i, j, tick),
     }
+}
+
+fn play_line(fault: PlayFault) -> Line {
+    match fault {
+        PlayFault::Text(fault) => plan_text_line("F3", fault),
+        PlayFault::NoPlan => Line::of("F3 none"),
+        PlayFault::OtherCount => Line::of("F3 count"),
+        PlayFault::Invalid(fault) => plan_line("F3", fault),
+    }
+}
+
+// Writes a blank and the name, if there is one.
+fn write_defect<K: Sink>(sink: &mut K, defect: Option<&'static str>) -> Result<(), Failed>
+    requires { K.has_failed sink.old ≡ false }
+    ensures { K.has_failed sink.new ≡ is_err result }
+{
+    let Some(defect) = defect else {
+        return Ok(());
+    };
+    write_all(sink, b" ")?;
+    write_all(sink, defect.as_bytes())
 }
 
 // Writes a blank and the number, if there is one.
@@ -157,6 +189,7 @@ pub fn write_line<K: Sink>(sink: &mut K, line: &Line) -> Result<(), Failed>
 {
     let [first, second, third] = line.numbers;
     write_all(sink, line.words.as_bytes())?;
+    write_defect(sink, line.defect)?;
     write_number(sink, first)?;
     write_number(sink, second)?;
     write_number(sink, third)?;

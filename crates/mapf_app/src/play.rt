@@ -1,0 +1,95 @@
+ghost use Rattle.std.specs.Prelude.{◌≡◌, ◌≤◌, ◌⊎◌, ℕ, List, Ok, Err, false, true, take, IfOk, IfErr, OnOk, IsErrOf, IsSome};
+ghost use Rattle.std.specs.Io.KnownBytes.{Appends};
+ghost use Rattle.mapf_app.specs.Faults.{IsBeforeWriting, IsNoDefect, IsOfDevices, IsPlaying, IsReadingPlan, fault_of_plan_text};
+ghost use Rattle.mapf_app.specs.Played.{IsDuePlay, PlaysTruly, SpellsValidPlan};
+ghost use Rattle.mapf_app.specs.Problems.{SpellsProblem};
+ghost use Rattle.mapf_app.specs.Unreadable.{IsUnreadable};
+ghost use Rattle.mapf_model.specs.Plan.{Instance};
+
+use crate::fault::{Fault, Input, Output, PlayFault};
+use crate::input::{TEXT_LIMIT, read_problem, read_text};
+use mapf_certificate::{PlanAnswer, PlanText, PlanTextFault, read_plan};
+use mapf_checker::check_plan;
+use mapf_model::{Failed, Plan, Problem, Sink, Source};
+use mapf_player::play;
+use std::alloc::Global;
+
+// The name of a plan text's fault among those of a run.
+fn fault_of_plan_text(fault: PlanTextFault) -> Fault
+    ensures { result ≡ fault_of_plan_text fault }
+{
+    match fault {
+        PlanTextFault::Memory => Fault::F6,
+        _ => Fault::F3(PlayFault::Text(fault)),
+    }
+}
+
+// The valid plan that a plan text spells for the problem.
+fn valid_plan(alloc: Global, problem: &Problem, bytes: &[u8]) -> Result<Plan, Fault>
+    ensures found { IfOk result (SpellsValidPlan problem.now bytes.now) }
+    ensures only { (plan : List (List ℕ)) → SpellsValidPlan problem.now bytes.now plan → (result ≡ Ok plan) ⊎ (result ≡ Err Fault.F6) }
+    ensures fault { IfErr result (IsReadingPlan problem.now bytes.now) }
+{
+    let PlanText { agents, answer } = match read_plan(alloc, bytes, problem.grid()) {
+        Ok(text) => text,
+        Err(fault) => return Err(fault_of_plan_text(fault)),
+    };
+    let PlanAnswer::Found(plan) = answer else {
+        return Err(Fault::F3(PlayFault::NoPlan));
+    };
+    if agents as usize != problem.agents().len() {
+        return Err(Fault::F3(PlayFault::OtherCount));
+    }
+    match check_plan(problem, &plan) {
+        Ok(_) => Ok(plan),
+        Err(fault) => Err(Fault::F3(PlayFault::Invalid(fault))),
+    }
+}
+
+/// Reads a map, a scenario of which the first `k` agents count, and a plan text, and writes what its plan
+/// looks like at each tick. Nothing is written before the plan was found valid.
+pub fn run_play<M: Source, S: Source, P: Source, K: Sink>(
+    alloc: Global,
+    map: &mut M,
+    scen: &mut S,
+    k: u32,
+    plan: &mut P,
+    sink: &mut K,
+) -> Result<(), Fault>
+    requires map_works { M.has_failed map.old ≡ false }
+    requires scen_works { S.has_failed scen.old ≡ false }
+    requires plan_works { P.has_failed plan.old ≡ false }
+    requires sink_works { K.has_failed sink.old ≡ false }
+    requires some { 1 ≤ k }
+    requires few { k ≤ 200 }
+    // What is written plays the valid plan that was read, for the problem that was read.
+    ensures text { OnOk result ((text : List ℕ) × PlaysTruly (M.remaining map.old) (S.remaining scen.old) (P.remaining plan.old) k text
+        × Appends (K.contents sink.old) (K.contents sink.new) text) }
+    // What is to be played is played, unless a device or memory prevents it.
+    ensures due { IsDuePlay (M.remaining map.old) (S.remaining scen.old) (P.remaining plan.old) k → IfErr result IsOfDevices }
+    // Inputs that spell a problem are not faulted.
+    ensures only { (problem : Instance) → IsSome (M.remaining map.old) → IsSome (S.remaining scen.old) →
+        SpellsProblem (M.remaining map.old) (S.remaining scen.old) k problem → IfErr result IsNoDefect }
+    // A fault stands where it says.
+    ensures fault { IfErr result (IsPlaying (M.remaining map.old) (S.remaining scen.old) (P.remaining plan.old) k) }
+    ensures map { IsErrOf result (Fault.F4 Input.Map) →
+        IsUnreadable (M.has_failed map.new) (M.remaining map.old) (M.remaining map.new) TEXT_LIMIT }
+    ensures scen { IsErrOf result (Fault.F4 Input.Scen) →
+        IsUnreadable (S.has_failed scen.new) (S.remaining scen.old) (S.remaining scen.new) TEXT_LIMIT }
+    ensures plan { IsErrOf result (Fault.F4 Input.Plan) →
+        IsUnreadable (P.has_failed plan.new) (P.remaining plan.old) (P.remaining plan.new) TEXT_LIMIT }
+    ensures sink { IsErrOf result (Fault.F5 Output.Out) → K.has_failed sink.new ≡ true }
+    // What a sink that failed got is a front of such a text, and any other fault leaves it as it was.
+    ensures front { IsErrOf result (Fault.F5 Output.Out) → (text : List ℕ) × (n : ℕ)
+        × PlaysTruly (M.remaining map.old) (S.remaining scen.old) (P.remaining plan.old) k text
+        × Appends (K.contents sink.old) (K.contents sink.new) (take n text) }
+    ensures unwritten { IfErr result (λ fault. IsBeforeWriting fault → sink.new ≡ sink.old) }
+{
+    let problem = read_problem(alloc, map, scen, k)?;
+    let text = read_text(alloc, plan, Input::Plan)?;
+    let paths = valid_plan(alloc, &problem, text.as_slice())?;
+    match play(&problem, &paths, sink) {
+        Ok(()) => Ok(()),
+        Err(Failed) => Err(Fault::F5(Output::Out)),
+    }
+}
