@@ -1,0 +1,34 @@
+use Rattle.std.proofs.Common.{length, sym, ◌∙◌, ap, subst, inl, Ok}
+use Rattle.mapf_model.specs.Plan.{IsValid}
+use Rattle.mapf_certificate.specs.Plans.{says}
+use Rattle.mapf_app.proofs.PlayLemmas.{one_plan, same_plan, says_none, spells_text}
+use Rattle.mapf_app.proofs.play.valid_plan.Goals as goal
+
+pub returns-in_default : goal.returns-in_default
+returns-in_default c =
+    let problem = c.args.problem.now in
+    let text = c.in-Ok.text in
+    record {
+      found = tt;
+      only = λ plan spells. absurd (c.in_default.not-Found plan (one_plan problem c.args.bytes.now text (rw c.grid.ensures at c.in-Ok.ensures.only) (length problem.agents) plan spells.spelled).1);
+      fault = (text.agents, says text.answer, spells_text problem c.args.bytes.now text (rw c.grid.ensures at c.in-Ok.ensures.found), says_none text.answer c.in_default.not-Found);
+    }
+
+pub returns-then-agents-clause-only : goal.returns-then-agents-clause-only
+returns-then-agents-clause-only c = λ plan spells.
+    let problem = c.args.problem.now in
+    absurd (c.if-agents.true ((one_plan problem c.args.bytes.now c.in-Ok.text (rw c.grid.ensures at c.in-Ok.ensures.only) (length problem.agents) plan spells.spelled).0 ∙ ap length (sym c.agents.ensures.value)))
+
+pub returns-in-Ok-check_plan-clause-only : goal.returns-in-Ok-check_plan-clause-only
+returns-in-Ok-check_plan-clause-only c = λ plan spells.
+    let problem = c.args.problem.now in
+    let is = (one_plan problem c.args.bytes.now c.in-Ok.text (rw c.grid.ensures at c.in-Ok.ensures.only) (length problem.agents) plan spells.spelled).1 in
+    inl (ap Ok (same_plan c.in-Found.plan plan (sym c.in-Found.is ∙ is)))
+
+pub returns-in-Err-check_plan-clause-only : goal.returns-in-Err-check_plan-clause-only
+returns-in-Err-check_plan-clause-only c = λ plan spells.
+    let problem = c.args.problem.now in
+    let is = (one_plan problem c.args.bytes.now c.in-Ok.text (rw c.grid.ensures at c.in-Ok.ensures.only) (length problem.agents) plan spells.spelled).1 in
+    let same = same_plan c.in-Found.plan plan (sym c.in-Found.is ∙ is) in
+    let no = c.in-Err-check_plan.ensures.valid.1 (subst (IsValid problem) (sym same) spells.valid) in
+    absurd cc
