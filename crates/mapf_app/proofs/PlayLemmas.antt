@@ -1,5 +1,5 @@
 -- From the plan text that is read to what is played.
-use Rattle.std.proofs.Common.{◌≡◌, ℕ, List, Option, Result, Ok, IfSome, length, refl, sym, ◌∙◌, ap, subst, inl, inr}
+use Rattle.std.proofs.Common.{◌≡◌, ℕ, List, Option, Result, Ok, Err, IfErr, IfSome, length, refl, sym, ◌∙◌, ap, subst, inl, inr}
 use Rattle.mapf_app.proofs.InputLemmas.{told}
 use Rattle.mapf_app.specs.Faults.{IsPlaying, IsReadingPlan}
 use Rattle.mapf_app.specs.Played.{HasPlayFault, SaysNoPlan}
@@ -60,3 +60,7 @@ play_fault_told map scen plan count problem read text same (F4 input) says = abs
 play_fault_told map scen plan count problem read text same (F5 output) says = absurd says
 play_fault_told map scen plan count problem read text same F6 says = tt
 play_fault_told map scen plan count problem read text same (Refused refusal) says = absurd says
+
+-- what is so of the fault that a `?` hands on is so of the result
+pub handed_on : {T E : Type 0} (r : Result T E) (Says : E → Type 0) (fault : E) → (given : E) × (r ≡ Err given) × (given ≡ fault) → Says fault → IfErr r Says
+handed_on {T = T} {E = E} r Says fault (given, is, same) says = let P : Result T E → Type 0 = λ s. IfErr s Says in subst P (sym is) (subst Says (sym same) says)

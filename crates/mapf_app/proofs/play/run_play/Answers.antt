@@ -1,12 +1,15 @@
-use Rattle.std.proofs.Common.{rules, ◌≡◌, ◌≤◌, ◌⊎◌, ℕ, List, Ok, Err, false, true, take, IfOk, IfErr, OnOk, IsErrOf, IsSome, ◌+◌, ◌-◌, ◌*◌, ◌<◌, length, ◌/◌, ◌%◌, Bool, nat_eq, nat_lt, [], ◌∷◌, ◌++◌, slice_index_or, slice_set, bit_and, bit_or, Fits, w8, w32, w64, Bor, MutBor}
-use Rattle.std.specs.Io.KnownBytes.{Appends}
-use Rattle.mapf_app.specs.Faults.{IsBeforeWriting, IsNoDefect, IsOfDevices, IsPlaying, IsReadingPlan, fault_of_plan_text}
-use Rattle.mapf_app.specs.Played.{IsDuePlay, PlaysTruly, SpellsValidPlan}
-use Rattle.mapf_app.specs.Problems.{SpellsProblem}
-use Rattle.mapf_app.specs.Unreadable.{IsUnreadable}
-use Rattle.mapf_model.specs.Plan.{Instance}
+use Rattle.std.proofs.Common.{◌≡◌, List, ℕ, IfSome, sym, subst}
+use Rattle.std.proofs.lemmas.Result.{err_from_is_err_and}
+use Rattle.mapf_app.specs.Faults.{IsPlaying}
+use Rattle.mapf_app.proofs.PlayLemmas.{handed_on, play_fault_told}
 use Rattle.mapf_app.proofs.play.run_play.Goals as goal
 
--- src/play.rt:90:17
 pub returns-in_err-paths-clause-fault : goal.returns-in_err-paths-clause-fault
-returns-in_err-paths-clause-fault g c = ?
+returns-in_err-paths-clause-fault g c =
+    let map = g.M.Source.remaining c.args.map.now in
+    let scen = g.S.Source.remaining c.args.scen.now in
+    let plan = g.P.Source.remaining c.args.plan.now in
+    let fault = c.in_err-paths.field-0.0 in
+    let same : IfSome plan (λ bytes. c.as_slice.result.now ≡ bytes) = subst (λ text. IfSome plan (λ bytes. text ≡ bytes)) (sym c.as_slice.ensures.value) c.in_ok-text.ensures.whole in
+    handed_on c.from_residual-in_err-paths.result (IsPlaying map scen plan c.args.k) fault (err_from_is_err_and c.from_residual-in_err-paths.result c.from_residual-in_err-paths.ensures.1)
+      (play_fault_told map scen plan c.args.k c.in_ok-problem.problem c.in_ok-problem.ensures.found c.as_slice.result.now same fault c.in_err-paths.ensures.fault)
