@@ -1,8 +1,8 @@
 -- From what is read to what is judged.
-use Rattle.std.proofs.Common.{◌≡◌, ◌⊎◌, ⊎_elim, List, ℕ, None, Some, Ok, Err, Option, Result, IfSome, refl, sym, subst}
+use Rattle.std.proofs.Common.{◌≡◌, List, ℕ, None, Some, Option, IfSome, refl, sym, subst}
 use Rattle.std.specs.Option.{IsSome}
-use Rattle.std.specs.Result.{IsErrAnd}
-use Rattle.mapf_app.specs.Checked.{JudgesTruly, IsDueVerdict, IsRefusalOf, HasGoodPlan}
+use Rattle.mapf_app.specs.Checked.{IsRefusalOf, HasGoodPlan}
+use Rattle.mapf_app.specs.Headline.{JudgesTruly, IsDueVerdict}
 use Rattle.mapf_app.specs.Problems.{SpellsProblem}
 use Rattle.mapf_app.proofs.InputLemmas.{told}
 use Rattle.mapf_checker.specs.Refusals.{HasRefusal}

@@ -57,7 +57,7 @@ pub prints_optimal : (problem : Instance) (plan : List (List ℕ)) (items : List
 prints_optimal problem plan items tree limit of shown law sum adds_up plan_bytes cert_bytes spells written =
     let same : shown.total ≡ sum = (law problem plan shown.optimal.valid).one shown.total sum shown.optimal.sum adds_up in
     subst (λ total. cert_bytes ≡ cert_text problem.grid.width (length problem.agents) (Cost total) (map node_of items) → PrintsOptimal problem total plan_bytes cert_bytes) same
-      (prints_total problem plan items tree limit of shown plan_bytes cert_bytes spells) written
+    (prints_total problem plan items tree limit of shown plan_bytes cert_bytes spells) written
 
 pub prints_impossible : (problem : Instance) (items : List Item) (tree : ConstraintTree) (limit : ℕ) → IsTreeOf problem limit items tree → IsShownImpossible problem tree → (plan_bytes cert_bytes : List ℕ) → SpellsAnswer problem answers.Impossible plan_bytes →
     cert_bytes ≡ cert_text problem.grid.width (length problem.agents) Impossible (map node_of items) → PrintsImpossible problem plan_bytes cert_bytes

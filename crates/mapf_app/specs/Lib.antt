@@ -1,5 +1,6 @@
 pub mod Checked
 pub mod Faults
+pub mod Headline
 pub mod Played
 pub mod Problems
 pub mod Solved

@@ -1,9 +1,8 @@
 -- What a run that solves a problem prints.
-use Rattle.std.specs.Prelude.{◌≡◌, ℕ, List, [], Option, length}
+use Rattle.std.specs.Prelude.{◌≡◌, ℕ, List, [], length}
 use Rattle.mapf_app.specs.declared.kind.Kind.{Kind}
 use Rattle.mapf_app.specs.declared.kind.Kind.TheVariants.{Found, Impossible, Limit}
 use Rattle.mapf_cbs.specs.Answer.{IsTreeOf, MayStop}
-use Rattle.mapf_app.specs.Problems.{SpellsProblem}
 use Rattle.mapf_certificate.specs.Certificates.{SpellsCert}
 use Rattle.mapf_certificate.specs.Plans.{SpellsPlan, IsPlanText, plan_text}
 use Rattle.mapf_certificate.specs.declared.plan_text.PlanAnswer.{PlanAnswer}
@@ -55,11 +54,3 @@ abbrev pub Prints : Instance → ℕ → Kind → List ℕ → List ℕ → Type
 Prints problem limit (Found cost) plan cert = PrintsOptimal problem cost plan cert
 Prints problem limit Impossible plan cert = PrintsImpossible problem plan cert
 Prints problem limit (Limit cause) plan cert = PrintsLimit problem limit cause plan cert
-
--- the two texts are printed for the problem that the map and the scenario spell: a plan that is printed is valid and no valid
--- plan has a smaller sum of costs, 'impossible' is printed only where no plan is valid, and the checker's condition holds of
--- the certificate printed with either
-pub record PrintsTruly (map scen : Option (List ℕ)) (count limit : ℕ) (kind : Kind) (plan_bytes cert_bytes : List ℕ) : Type 0 where
-  pub problem : Instance
-  pub read : SpellsProblem map scen count problem
-  pub printed : Prints problem limit kind plan_bytes cert_bytes

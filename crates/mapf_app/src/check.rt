@@ -1,6 +1,7 @@
 ghost use Rattle.std.specs.Prelude.{◌≡◌, ◌≤◌, false, IfOk, IfErr, IsErrOf, IsSome, MatchResult};
-ghost use Rattle.mapf_app.specs.Checked.{JudgesTruly, IsDueVerdict, HasGoodPlan};
+ghost use Rattle.mapf_app.specs.Checked.{HasGoodPlan};
 ghost use Rattle.mapf_app.specs.Faults.{IsChecking, IsNoDefect, IsOfInput};
+ghost use Rattle.mapf_app.specs.Headline.{JudgesTruly, IsDueVerdict};
 ghost use Rattle.mapf_app.specs.Problems.{SpellsProblem};
 ghost use Rattle.mapf_app.specs.Unreadable.{IsUnreadable};
 ghost use Rattle.mapf_checker.specs.declared.fault.Verdict.{Verdict};

@@ -1,8 +1,8 @@
 ghost use Rattle.std.specs.Prelude.{◌≡◌, ◌≤◌, ℕ, List, false, true, take, IfOk, IfErr, IsErrOf, IsSome};
 ghost use Rattle.std.specs.Io.KnownBytes.{Appends};
 ghost use Rattle.mapf_app.specs.Faults.{IsBeforeWriting, IsNoDefect, IsSolving};
+ghost use Rattle.mapf_app.specs.Headline.{PrintsTruly};
 ghost use Rattle.mapf_app.specs.Problems.{SpellsProblem};
-ghost use Rattle.mapf_app.specs.Solved.{PrintsTruly};
 ghost use Rattle.mapf_app.specs.Unreadable.{IsUnreadable};
 ghost use Rattle.mapf_model.specs.Plan.{Instance};
 

@@ -1,5 +1,5 @@
 -- What the search for one agent found, and a shortest path, are cheapest under its bars.
-use Rattle.std.proofs.Common.{◌≡◌, ℕ, ◌+◌, ◌-◌, ◌<◌, ◌≤◌, List, [], Contains, length, refl, arith}
+use Rattle.std.proofs.Common.{ℕ, ◌-◌, ◌≤◌, List, [], length, arith}
 use Rattle.mapf_model.specs.declared.bar.Bar.{Bar}
 use Rattle.mapf_model.specs.declared.label.Entry.{Entry}
 use Rattle.mapf_model.specs.declared.label.Label.TheVariants.{Ticks, Never}

@@ -1,22 +1,21 @@
 -- The root of a search, and the trees of one node.
-use Rattle.std.proofs.Common.{◌≡◌, ◌≢◌, ℕ, zero, suc, ◌+◌, ◌-◌, ◌<◌, ◌≤◌, ◌++◌, List, [], ◌∷◌, Some, Vec, map, length, length-append, sum, sum_by, slice_get, get_or, refl, sym, ◌∙◌, ap, subst, inl, inr, ⊎_elim, arith}
+use Rattle.std.proofs.Common.{◌≡◌, ◌≢◌, ℕ, ◌-◌, ◌<◌, ◌≤◌, ◌++◌, List, [], ◌∷◌, Some, Vec, map, length, length-append, sum, sum_by, slice_get, get_or, refl, sym, ◌∙◌, subst, ⊎_elim, arith}
 use Rattle.std.specs.declared.alloc.Global.{Global}
 use Rattle.std.proofs.lemmas.Bool.{cases_lt}
 use Rattle.std.proofs.lemmas.Option.{slice_get_read, slice_get_within, same_Some, slice_get-map}
 use Rattle.std.proofs.lemmas.List.{length-map}
 use Rattle.std.proofs.lemmas.List.Sums.{sum-map}
-use Rattle.mapf_model.specs.declared.item.Claim.TheVariants.{Impossible}
 use Rattle.mapf_model.specs.declared.item.Item.{Item}
 use Rattle.mapf_model.specs.declared.item.Item.TheVariants.{Leaf as LeafItem, Clash as ClashItem}
 use Rattle.mapf_model.specs.declared.problem.Agent.{Agent}
 use Rattle.mapf_model.specs.Blocks.{LabelBlock}
 use Rattle.mapf_model.specs.Grid.{GridMap}
 use Rattle.mapf_model.specs.Plan.{Instance}
-use Rattle.mapf_model.specs.Tree.{ConstraintTree, Leaf, Clash, Shows, ShareGoal, root}
+use Rattle.mapf_model.specs.Tree.{ConstraintTree, Leaf, Clash, ShareGoal, root}
 use Rattle.mapf_model.proofs.SumLemmas.{snoc_get}
 use Rattle.mapf_cbs.specs.Answer.{IsTreeOf, IsShownImpossible}
 use Rattle.mapf_cbs.specs.Arena.{IsRootView}
-use Rattle.mapf_cbs.specs.Search.{View, IsCheapestOf, IsLive}
+use Rattle.mapf_cbs.specs.Search.{View, IsLive}
 use Rattle.mapf_cbs.specs.Start.{HaveGoal, IsShortest, AreShortest, SomeGoalIsUnreachable}
 use Rattle.mapf_cbs.proofs.AnswerLemmas.{is_shown_impossible}
 use Rattle.mapf_cbs.proofs.RouteLemmas.{cheapest_of_shortest}

@@ -14,6 +14,7 @@ abbrev pub IsNodeFor : ℕ → ℕ → Node → Type 0
 IsNodeFor agent k (Root paths) = (k ≡ 0) × (agent < length paths.items)
 IsNodeFor agent k (Child parent bound bar found) = parent < k
 
+-- so it is with all nodes
 abbrev pub AreNodesFor : ℕ → List Node → Type 0
 AreNodesFor agent nodes = (k : ℕ) (node : Node) → slice_get nodes k ≡ Some node → IsNodeFor agent k node
 
@@ -22,9 +23,11 @@ abbrev pub HasTableBar : Node → Type 0
 HasTableBar (Root paths) = Unit {0}
 HasTableBar (Child parent bound bar found) = IsTableBar bar
 
+-- so it is with the bars of all nodes
 abbrev pub HaveTableBars : List Node → Type 0
 HaveTableBars nodes = (k : ℕ) (node : Node) → slice_get nodes k ≡ Some node → HasTableBar node
 
+-- what a child means, by what its parent means and what was found
 abbrev pub IsChildView : View → ℕ → Bar → Found → View → Type 0
 IsChildView before agent bar (Arrives path labels) view = (cost : ℕ) × (view ≡ live_child before agent bar path cost labels)
 IsChildView before agent bar (Dead labels) view = view ≡ dead_child before agent bar labels
@@ -40,6 +43,7 @@ abbrev pub IsNodeView : List View → ℕ → Node → View → Type 0
 IsNodeView views k (Root paths) view = IsRootView paths.items view
 IsNodeView views k (Child parent agent bar found) view = (parent < k) × (before : View) × (slice_get views parent ≡ Some before) × (agent < length before.paths) × IsChildView before agent bar found view
 
+-- these are what the nodes mean
 pub record AreViews (nodes : List Node) (views : List View) : Type 0 where
   pub lengths : length views ≡ length nodes
   pub each : (k : ℕ) (node : Node) (view : View) → slice_get nodes k ≡ Some node → slice_get views k ≡ Some view → IsNodeView views k node view

@@ -9,14 +9,17 @@ use Rattle.mapf_spacetime.specs.declared.found.Found.TheVariants.{Arrives, Dead}
 use Rattle.mapf_cbs.specs.Search.{View, IsLive, IsDead}
 use Rattle.mapf_cbs.specs.Arena.{IsChildView}
 
+-- the path that was found ends at the goal
 abbrev pub EndsAt : Found → ℕ → Type 0
 EndsAt (Arrives path labels) goal = at path (length path - 1) ≡ goal
 EndsAt (Dead labels) goal = Unit {0}
 
+-- the sum with the cost of the path that was found
 abbrev pub IsTotal : Found → ℕ → ℕ → Option ℕ → Type 0
 IsTotal (Arrives path labels) goal rest total = (cost : ℕ) × IsCost goal path cost × (cost < 2 ^ 32) × (total ≡ Some (rest + cost))
 IsTotal (Dead labels) goal rest total = total ≡ None
 
+-- a child without a sum is dead; one with a sum is live, and no cheaper than its parent
 abbrev pub IsBornState : Instance → View → View → Option ℕ → Type 0
 IsBornState problem view child None = IsDead problem child
 IsBornState problem view child (Some total) = IsLive problem child × (total ≡ sum child.costs) × (sum view.costs ≤ total) × (total ≤ sum view.costs + 2 ^ 32)

@@ -8,6 +8,7 @@ use Rattle.mapf_cbs.specs.Search.{View}
 abbrev pub number_of : Option ℕ → ℕ
 number_of finder = unwrap_or finder 0
 
+-- these are numbers of nodes
 abbrev pub AreInside : List Node → List (Option ℕ) → Type 0
 AreInside nodes finders = (i : ℕ) (finder : Option ℕ) → slice_get finders i ≡ Some finder → number_of finder < length nodes
 

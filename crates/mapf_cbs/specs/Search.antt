@@ -23,9 +23,11 @@ pub record View : Type 0 where
   pub costs : List ℕ
   pub entries : ℕ → List Entry
 
+-- the agent's path is a cheapest one at the node
 abbrev pub IsCheapestOf : Instance → View → ℕ → Agent → List ℕ → ℕ → Type 0
 IsCheapestOf problem view i agent path cost = IsCheapestPath problem.grid agent (view.constraints.bars i) path cost (view.entries i)
 
+-- one path and one cost for each agent
 pub record AreCounted (problem : Instance) (view : View) : Type 0 where
   pub paths : length view.paths ≡ length problem.agents
   pub costs : length view.costs ≡ length problem.agents
@@ -92,6 +94,7 @@ IsCutFate Open = ⊥
 IsCutFate Dead = ⊥
 IsCutFate (Cut conflict left right) = Unit {0}
 
+-- the node is an end of the tree
 abbrev pub IsEndFate : Fate → Type 0
 IsEndFate Open = Unit {0}
 IsEndFate Dead = Unit {0}
@@ -102,6 +105,7 @@ pub data Shape : Type 0 where
   Node : (left right : Shape) → Shape
   End : (k : ℕ) → Shape
 
+-- how many splits a form has
 abbrev pub splits : Shape → ℕ
 splits (Node left right) = 1 + (splits left + splits right)
 splits (End k) = 0
@@ -111,6 +115,7 @@ abbrev pub occurrences : ℕ → Shape → ℕ
 occurrences m (Node left right) = occurrences m left + occurrences m right
 occurrences m (End k) = if m == k then 1 else 0
 
+-- the node with its descendants has this form
 abbrev pub IsShape : List Fate → ℕ → Shape → Type 0
 IsShape fates k (Node left right) = (conflict : Conflict) × (a : ℕ) × (b : ℕ) × (slice_get fates k ≡ Some (Cut conflict a b)) × IsShape fates a left × IsShape fates b right
 IsShape fates k (End m) = (same : k ≡ m) × (fate : Fate) × (slice_get fates k ≡ Some fate) × IsEndFate fate
@@ -122,6 +127,8 @@ pub record IsOneTree (fates : List Fate) (count : ℕ) : Type 0 where
   pub exact : splits shape ≡ count
   pub once : (k : ℕ) (fate : Fate) → slice_get fates k ≡ Some fate → IsEndFate fate → occurrences k shape ≡ 1
 
+-- what holds of the nodes of a search after so many splits: each is as its fate says, and no open node is
+-- cheaper than one that was split
 pub record IsSearched (problem : Instance) (views : List View) (fates : List Fate) (count : ℕ) : Type 0 where
   pub lengths : length views ≡ length fates
   pub first : (view : View) × (slice_get views 0 ≡ Some view) × (view.constraints ≡ root)

@@ -24,6 +24,7 @@ fate_of (Some total) = Open
 abbrev pub key_cmp : ℕ × ℕ → ℕ × ℕ → Ordering
 key_cmp a b = ordering_then (nat_cmp a.0 b.0) (nat_cmp a.1 b.1)
 
+-- the keys with that of a child, if it is open
 abbrev pub with_key : List (ℕ × ℕ) → Option ℕ → ℕ → List (ℕ × ℕ)
 with_key keys None number = keys
 with_key keys (Some total) number = insert_key key_cmp keys (total, number)
@@ -33,6 +34,7 @@ pub record IsOpenSet (keys : List (ℕ × ℕ)) (views : List View) (fates : Lis
   pub only : (key : ℕ × ℕ) → Contains keys key → (view : View) × (slice_get views key.1 ≡ Some view) × (slice_get fates key.1 ≡ Some Open) × (key.0 ≡ sum view.costs)
   pub each : (m : ℕ) (view : View) → slice_get views m ≡ Some view → slice_get fates m ≡ Some Open → Contains keys (sum view.costs, m)
 
+-- the nodes, their fates and the open ones' keys after so many splits
 pub record IsState (problem : Instance) (nodes : List Node) (fates : List Fate) (keys : List (ℕ × ℕ)) (count : ℕ) : Type 0 where
   pub views : List View
   pub are : AreViews nodes views

@@ -26,8 +26,10 @@ use std::alloc::Global;
 /// A conflict at this tick or later isn't split.
 const TICK_LIMIT: u32 = 1_000_000;
 
-/// Searches for a cheapest valid plan with at most so many splits of the constraint tree, 0 to
-/// 100,000.
+/// Searches for a cheapest valid plan, with at most so many splits of the constraint tree: 0 to
+/// 100,000. Of the open nodes the one of least sum of costs is split next, the oldest of these, on its
+/// first conflict. Where two agents have one goal, or a goal can't be reached, no node is split.
+/// Answers `OutOfMemory` where a request for memory was refused.
 pub fn solve(alloc: Global, problem: &Problem, limit: u32) -> Result<Answer, OutOfMemory>
     requires { limit ≤ 100000 }
     ensures { IfOk result (IsAnswer problem.now limit) }
@@ -35,7 +37,7 @@ pub fn solve(alloc: Global, problem: &Problem, limit: u32) -> Result<Answer, Out
     solve_with::<TickBars>(alloc, problem, limit)
 }
 
-/// The same, with bars kept in tables of this type. All give one answer.
+/// The same, with each agent's bars in a table of this type while its path is searched.
 pub fn solve_with<B: BarTable>(
     alloc: Global,
     problem: &Problem,

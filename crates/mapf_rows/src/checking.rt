@@ -38,3 +38,20 @@ fn judges_given_texts(rt: HostRuntime) -> Result<(), Fail> {
     }
     Ok(())
 }
+
+#[test]
+fn accepts_no_change_of_a_byte(rt: HostRuntime) -> Result<(), Fail> {
+    let cert = CERT.as_bytes();
+    let mut changed = Vec::from_slice(rt.alloc(), cert)?;
+    for i in 0..cert.len() {
+        for byte in 0..=255u8 {
+            changed.clear();
+            changed.extend_from_slice(&cert[..i])?;
+            changed.push(byte)?;
+            changed.extend_from_slice(&cert[i + 1..])?;
+            let answer = check(rt.alloc(), &CROSSING, PLAN.as_bytes(), &changed);
+            assert_eq!(rt; answer.is_ok(), byte == cert[i], "{i}: {byte}");
+        }
+    }
+    Ok(())
+}

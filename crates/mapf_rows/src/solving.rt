@@ -1,5 +1,6 @@
-//! What is written for problems that the agents' shortest paths decide.
+//! What is written for problems of each kind of answer.
 
+use crate::checking::{CERT, PLAN};
 use crate::runs::{CROSSING, Given, check, solve};
 use mapf_app::{Kind, Verdict};
 use mapf_model::Cause;
@@ -90,8 +91,17 @@ fn writes_plan_and_certificate(rt: HostRuntime) -> Result<(), Fail> {
 }
 
 #[test]
-fn answers_a_limit_where_shortest_paths_meet(rt: HostRuntime) -> Result<(), Fail> {
-    let solved = solve(rt.alloc(), &CROSSING, 10)?;
+fn splits_where_shortest_paths_meet(rt: HostRuntime) -> Result<(), Fail> {
+    let solved = solve(rt.alloc(), &CROSSING, 1)?;
+    assert_eq!(rt; solved.answer, Ok(Kind::Found(5)));
+    assert_eq!(rt; solved.plan.bytes(), PLAN.as_bytes());
+    assert_eq!(rt; solved.cert.bytes(), CERT.as_bytes());
+    Ok(())
+}
+
+#[test]
+fn stops_at_its_limit(rt: HostRuntime) -> Result<(), Fail> {
+    let solved = solve(rt.alloc(), &CROSSING, 0)?;
     assert_eq!(rt; solved.answer, Ok(Kind::Limit(Cause::Splits(0))));
     assert_eq!(rt;
         solved.plan.bytes(),

@@ -1,4 +1,4 @@
-use Rattle.std.proofs.Common.{◌≡◌, ⊎_elim, List, ℕ, IfSome, sym, subst}
+use Rattle.std.proofs.Common.{◌≡◌, ⊎_elim, IfSome, sym, subst}
 use Rattle.mapf_app.proofs.CheckLemmas.{judges, due_here, refusal_of, none_good, is_refusal, refusal_says}
 use Rattle.mapf_checker.specs.Refusals.{HasRefusal}
 use Rattle.mapf_app.proofs.check.run_check.Goals as goal

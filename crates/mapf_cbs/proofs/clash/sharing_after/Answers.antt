@@ -1,7 +1,6 @@
-use Rattle.std.proofs.Common.{◌≡◌, ◌≢◌, ◌<◌, false, ⊎_elim, length, refl, sym, ◌∙◌, ap, subst, arith, Some, slice_get, get_or}
+use Rattle.std.proofs.Common.{◌≡◌, ◌≢◌, ⊎_elim, sym, subst, arith, Some, slice_get}
 use Rattle.std.proofs.lemmas.Bool.{cases_eq, eqb-false}
 use Rattle.std.proofs.lemmas.Option.{get_or_from_slice_get}
-use Rattle.mapf_model.specs.declared.problem.Agent.{Agent}
 use Rattle.mapf_cbs.proofs.clash.sharing_after.Goals as goal
 
 pub loop-j-preserved : goal.loop-j-preserved

@@ -1,4 +1,4 @@
-use Rattle.std.proofs.Common.{◌≡◌, ◌<◌, ℕ, List, Option, None, Some, length, slice_get}
+use Rattle.std.proofs.Common.{◌≡◌, ◌<◌, ℕ, List, Option, Some, length, slice_get}
 use Rattle.mapf_cbs.specs.Arena.{AreViews}
 use Rattle.mapf_cbs.specs.Finders.{AreInside}
 use Rattle.mapf_cbs.specs.Search.{View}

@@ -1,11 +1,9 @@
-use Rattle.std.proofs.Common.{◌≡◌, ◌∷◌, [], ◌<◌, ◌≤◌, All, ℕ, List, length, refl, sym, ◌∙◌, ap, subst, arith, zero, suc, true, false}
+use Rattle.std.proofs.Common.{◌≡◌, [], ◌<◌, ◌≤◌, All, ℕ, List, length, refl, sym, ◌∙◌, ap, subst, arith, zero, suc, true, false}
 use Rattle.mapf_model.specs.declared.problem.Agent.{Agent}
 use Rattle.mapf_model.specs.declared.item.Item.{Item}
 use Rattle.mapf_model.specs.Earned.{HasConflict, AreConflictFreeBefore, HaveSomeConflict, tick_of}
 use Rattle.mapf_model.specs.Tree.{ConstraintTree, Spell}
-use Rattle.mapf_cbs.specs.declared.node.Node.TheVariants.{Root}
 use Rattle.mapf_cbs.specs.declared.node.Fate.{Fate}
-use Rattle.mapf_cbs.specs.declared.node.Fate.TheVariants.{Open}
 use Rattle.mapf_cbs.specs.Answer.{IsTreeOf, IsShownOptimal}
 use Rattle.mapf_cbs.specs.Arena.{AreViews}
 use Rattle.mapf_cbs.specs.Search.{View, AreCutsLater, IsTreeAt}

@@ -1,4 +1,4 @@
-use Rattle.std.proofs.Common.{◌≡◌, ◌<◌, length, sym, subst, ap, arith}
+use Rattle.std.proofs.Common.{length, sym, subst, ap, arith}
 use Rattle.mapf_cbs.specs.Start.{HaveGoal}
 use Rattle.mapf_cbs.proofs.StartLemmas.{leaf_answer, clash_answer, none_share}
 use Rattle.mapf_cbs.proofs.solver.solve_with.Goals as goal

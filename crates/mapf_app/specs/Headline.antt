@@ -1,0 +1,41 @@
+-- For every map text, scenario text, number of agents and limit that the readers accept, a printed plan is valid and no valid
+-- plan has a smaller sum of costs; 'impossible' is printed only where no plan is valid; the checker accepts the certificate
+-- printed with either; and whatever the checker accepts as optimal or as impossible truly is so, whoever wrote it.
+--
+-- Bytes are known where a source or a sink tells them; of a file no contract knows them.
+use Rattle.std.specs.Prelude.{◌≡◌, ℕ, List, Option, Some, IfSome, IsSome}
+use Rattle.mapf_app.specs.declared.kind.Kind.{Kind}
+use Rattle.mapf_app.specs.Problems.{SpellsProblem}
+use Rattle.mapf_app.specs.Solved.{Prints}
+use Rattle.mapf_checker.specs.Verdict.{IsTrueVerdict, AreAccepted}
+use Rattle.mapf_checker.specs.declared.fault.Verdict.{Verdict}
+use Rattle.mapf_model.specs.Plan.{Instance}
+
+-- what is printed for the problem that the map and the scenario spell: a plan that is valid and than which no valid plan has a
+-- smaller sum of costs, or 'impossible' where no plan is valid, either with a certificate by which both texts are accepted; or
+-- a limit that was met
+pub record PrintsTruly (map scen : Option (List ℕ)) (count limit : ℕ) (kind : Kind) (plan_bytes cert_bytes : List ℕ) : Type 0 where
+  pub problem : Instance
+  pub read : SpellsProblem map scen count problem
+  pub printed : Prints problem limit kind plan_bytes cert_bytes
+
+-- what is answered of two texts, whoever wrote them: the verdict is true of the problem that the map and the scenario spell,
+-- and the texts are accepted for it with the verdict
+pub record JudgesTruly (map scen plan cert : Option (List ℕ)) (count : ℕ) (verdict : Verdict) : Type 0 where
+  pub problem : Instance
+  pub read : SpellsProblem map scen count problem
+  pub is_true : IsTrueVerdict problem verdict
+  pub accepted : IfSome plan (λ plan_text. IfSome cert (λ cert_text. AreAccepted problem plan_text cert_text verdict))
+
+-- what has to be answered, of printed texts as of any: all inputs are told, and the texts are accepted with the verdict for
+-- the problem that the map and the scenario spell
+pub record IsDueVerdict (map scen plan cert : Option (List ℕ)) (count : ℕ) (verdict : Verdict) : Type 0 where
+  pub map_told : IsSome map
+  pub scen_told : IsSome scen
+  pub problem : Instance
+  pub read : SpellsProblem map scen count problem
+  pub plan_text : List ℕ
+  pub plan_told : plan ≡ Some plan_text
+  pub cert_text : List ℕ
+  pub cert_told : cert ≡ Some cert_text
+  pub accepted : AreAccepted problem plan_text cert_text verdict
