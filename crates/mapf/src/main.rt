@@ -1,4 +1,4 @@
-//! The program: it plans for many agents on a grid, and checks such plans.
+//! The program: it plans for many agents on a grid, and checks and shows such plans.
 #![tactic(auto)]
 
 ghost use Rattle.mapf_words.specs.Jobs.{IsInRange};
@@ -41,9 +41,8 @@ fn run(rt: &HostRuntime, job: &Job) -> ExitCode
                 scen: scen.as_str(),
                 k: *k,
                 plan: plan.as_str(),
-                cert: cert.as_str(),
             };
-            files::solve(rt, &named, *limit)
+            files::solve(rt, &named, *limit, cert.as_str())
         }
         Job::Check {
             map,
@@ -57,9 +56,17 @@ fn run(rt: &HostRuntime, job: &Job) -> ExitCode
                 scen: scen.as_str(),
                 k: *k,
                 plan: plan.as_str(),
-                cert: cert.as_str(),
             };
-            files::check(rt, &named)
+            files::check(rt, &named, cert.as_str())
+        }
+        Job::Play { map, scen, k, plan } => {
+            let named = Named {
+                map: map.as_str(),
+                scen: scen.as_str(),
+                k: *k,
+                plan: plan.as_str(),
+            };
+            files::play(rt, &named)
         }
     }
 }

@@ -9,16 +9,18 @@ pub const MOST_SPLITS: u32 = 100_000;
 
 const ABOUT: &str =
     "Finds cheapest collision-free routes for many agents on a grid, with a certificate that
-nothing cheaper is possible, and checks such certificates. Without words it solves and
-checks a small built-in problem.";
+nothing cheaper is possible, checks such certificates, and shows plans tick by tick.
+Without words it solves and checks a small built-in problem.";
 
 const OVERVIEW: &str = "Files:
   MAP   the grid: a MovingAI map of type octile
   SCEN  the agents: a MovingAI scenario of version 1, of which the first K rows count
-  PLAN  the plan text, and CERT its certificate: solve writes both, check reads them
+  PLAN  the plan text, and CERT its certificate: solve writes both, check reads them, and
+        play reads PLAN
 
-Standard output of solve is one line, as 'cost 5', of check one line, as 'optimal 5', and
-without words it is the built-in problem's plan text, certificate and verdict.
+Standard output of solve is one line, as 'cost 5', of check one line, as 'optimal 5', of play
+the grid at each tick, and without words it is the built-in problem's plan text, certificate
+and verdict.
 
 Exit status:
   0  solved, accepted, or shown
@@ -27,8 +29,9 @@ Exit status:
   3  solve found that no plan is possible
   4  solve met a limit before it had an answer
 
-Faults, with details in the same line: F1 the map's text, F2 the scenario's text, F4 a file
-that can't be read, F5 one that can't be written, F6 no memory left.";
+Faults, with details in the same line: F1 the map's text, F2 the scenario's text, F3 a plan
+text that can't be played, F4 a file that can't be read, F5 one that can't be written, F6 no
+memory left.";
 
 const SOLVE_ABOUT: &str =
     "Finds a cheapest plan for the first K agents, and writes it with its certificate";
@@ -56,6 +59,21 @@ const CHECK_OUTPUT: &str = "Standard output has one line:
 Exit status:
   0  accepted
   1  refused
+  2  a fault, or wrong words, told on standard error";
+
+const PLAY_ABOUT: &str = "Shows where the agents of the plan of PLAN are, tick by tick";
+
+const PLAY_OUTPUT: &str = "Standard output has, for each tick, a line 'tick T' and a line for each row of the grid, and
+last a line 'end M' with the greatest cost of an agent, in ticks. In a row:
+  .  a free cell
+  @  a blocked cell
+  0  an agent: 0 to 9, a to z for 10 to 35, A to Z for 36 to 61, * from 62 on
+
+A plan text can't be played (F3) where it spells no plan, or one for another number of agents,
+or one that isn't valid. Standard output is empty then.
+
+Exit status:
+  0  shown
   2  a fault, or wrong words, told on standard error";
 
 const MAP: &str = "The grid: a MovingAI map of type octile";
@@ -100,6 +118,16 @@ fn check<'a>(alloc: Global) -> Result<Command<'a>, AllocError> {
         .arg(file(alloc, "CERT", "The certificate, as solve wrote it"))
 }
 
+fn play<'a>(alloc: Global) -> Result<Command<'a>, AllocError> {
+    Command::new(alloc, "play")
+        .about(PLAY_ABOUT)
+        .after_help(PLAY_OUTPUT)
+        .arg(file(alloc, "MAP", MAP))?
+        .arg(file(alloc, "SCEN", SCEN))?
+        .arg(number(alloc, "K", 1, MOST_AGENTS, K))?
+        .arg(file(alloc, "PLAN", "The plan text, as solve wrote it"))
+}
+
 /// The words that the program takes.
 pub fn mapf<'a>(alloc: Global) -> Result<Command<'a>, AllocError> {
     Command::new(alloc, "mapf")
@@ -107,5 +135,6 @@ pub fn mapf<'a>(alloc: Global) -> Result<Command<'a>, AllocError> {
         .after_help(OVERVIEW)
         .subcommand_required(true)
         .subcommand(solve(alloc)?)?
-        .subcommand(check(alloc)?)
+        .subcommand(check(alloc)?)?
+        .subcommand(play(alloc)?)
 }

@@ -23,4 +23,12 @@ pub enum Job {
         plan: String,
         cert: String,
     },
+    /// Show the plan of a plan text of the first `k` agents, tick by tick.
+    Play {
+        map: String,
+        scen: String,
+        /// 1 to 200.
+        k: u32,
+        plan: String,
+    },
 }

@@ -30,6 +30,13 @@ fn reads_jobs(rt: HostRuntime) -> Result<(), Fail> {
         cert: String::from_str(alloc, "c")?,
     };
     assert_eq!(rt; asked(alloc, "mapf check m s 1 p c")?, Ok(check));
+    let play = Job::Play {
+        map: String::from_str(alloc, "m")?,
+        scen: String::from_str(alloc, "s")?,
+        k: 2,
+        plan: String::from_str(alloc, "p")?,
+    };
+    assert_eq!(rt; asked(alloc, "mapf play m s 2 p")?, Ok(play));
     assert_eq!(rt; asked(alloc, "mapf")?, Ok(Job::Demo));
     assert_eq!(rt; job_of(alloc, Vec::new(alloc)), Ok(Job::Demo));
     Ok(())
@@ -45,6 +52,9 @@ fn refuses_words(rt: HostRuntime) -> Result<(), Fail> {
         "mapf solve m s 2 10 p",
         "mapf check m s 201 p c",
         "mapf check m s 2 p c d",
+        "mapf play m s 2",
+        "mapf play m s 0 p",
+        "mapf play m s 201 p",
         "mapf dispatch m s 2 p e",
         "mapf --",
     ] {
@@ -69,6 +79,7 @@ fn shows_help(rt: HostRuntime) -> Result<(), Fail> {
         ("mapf solve --help", "\n  4  a limit was met"),
         ("mapf check --help", "\n  1  refused"),
         ("mapf help check", "\n  1  refused"),
+        ("mapf play --help", "\n  0  shown"),
     ] {
         match asked(rt.alloc(), text)? {
             Err(WordsFault::Shown(message)) => {

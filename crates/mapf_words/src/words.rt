@@ -59,6 +59,18 @@ fn check_of(alloc: Global, given: &ArgMatches<'_>) -> Result<Job, WordsFault>
     })
 }
 
+fn play_of(alloc: Global, given: &ArgMatches<'_>) -> Result<Job, WordsFault>
+    ensures range { IfOk result IsInRange }
+    ensures command { result ≢ Ok Job.Demo }
+{
+    Ok(Job::Play {
+        map: text_of(alloc, given, "MAP")?,
+        scen: text_of(alloc, given, "SCEN")?,
+        k: number_of(alloc, given, "K", 1, MOST_AGENTS)?,
+        plan: text_of(alloc, given, "PLAN")?,
+    })
+}
+
 fn fault_of(alloc: Global, error: &clap::Error) -> WordsFault {
     if error.kind() == ErrorKind::OutOfMemory {
         return WordsFault::Memory;
@@ -86,6 +98,7 @@ pub fn job_of(alloc: Global, words: Vec<String>) -> Result<Job, WordsFault>
     match matches.subcommand() {
         Some(("solve", given)) => solve_of(alloc, given),
         Some(("check", given)) => check_of(alloc, given),
+        Some(("play", given)) => play_of(alloc, given),
         _ => Err(WordsFault::Bad(String::from_str(alloc, "error: no such command\n")?)),
     }
 }
