@@ -1,7 +1,8 @@
 //! Runs over devices that fail, that never end, or that move one byte at a time.
 
 use crate::{
-    CertFault, CheckFault, Fault, Input, Kind, Output, PlanFault, run_check, run_demo, run_solve,
+    CertFault, CheckFault, Fault, Input, Kind, Output, PlanFault, PlayFault, run_check, run_demo,
+    run_play, run_solve,
 };
 use mapf_model::devices::{EndlessSource, FuseSink, FuseSource, Pace};
 use mapf_model::{BytesSink, BytesSource};
@@ -32,6 +33,12 @@ path 1 2 1,0 1,1 0,1\n\
 path 2 2 1,1 0,1 0,0\n\
 path 3 2 0,1 0,0 1,0\n\
 end\n";
+
+// No plan, and of another number of agents.
+const LIMIT: &[u8] = b"mapf-plan 1\nagents 3\nlimit 0\nend\n";
+
+// What the plan looks like, tick by tick.
+const PLAYED: &[u8] = b"tick 0\n01\n32\ntick 1\n30\n21\nend 1\n";
 
 const ROOM: usize = 4096;
 
@@ -170,6 +177,62 @@ fn writes_a_front_of_the_demo(rt: HostRuntime) -> Result<(), Fail> {
         let mut out = FuseSink::with_room(alloc, ROOM, Pace::ByteByByte, Some(calls as u64))?;
         assert_eq!(rt; run_demo(alloc, &mut out), Err(Fault::F5(Output::Out)));
         assert_eq!(rt; out.bytes(), &whole.bytes()[..calls]);
+    }
+    Ok(())
+}
+
+#[test]
+fn plays_a_front_into_a_sink_that_fails(rt: HostRuntime) -> Result<(), Fail> {
+    let alloc = rt.alloc();
+    for calls in 0..=PLAYED.len() {
+        let mut map = BytesSource::of(MAP);
+        let mut scen = BytesSource::of(SCEN);
+        let mut plan = BytesSource::of(PLAN);
+        let mut out = FuseSink::with_room(alloc, ROOM, Pace::ByteByByte, Some(calls as u64))?;
+        let answer = run_play(alloc, &mut map, &mut scen, 4, &mut plan, &mut out);
+        let whole = calls == PLAYED.len();
+        let wanted = if whole {
+            Ok(())
+        } else {
+            Err(Fault::F5(Output::Out))
+        };
+        assert_eq!(rt; answer, wanted, "after {calls} calls");
+        assert_eq!(rt; out.bytes(), &PLAYED[..calls]);
+    }
+    Ok(())
+}
+
+#[test]
+fn plays_nothing_of_a_plan_that_is_not_read(rt: HostRuntime) -> Result<(), Fail> {
+    let alloc = rt.alloc();
+    for calls in 0..=PLAN.len() {
+        let mut map = BytesSource::of(MAP);
+        let mut scen = BytesSource::of(SCEN);
+        let mut plan = FuseSource::of(PLAN, Pace::ByteByByte, Some(calls as u64));
+        let mut out = BytesSink::with_room(alloc, ROOM)?;
+        let answer = run_play(alloc, &mut map, &mut scen, 4, &mut plan, &mut out);
+        assert_eq!(rt; answer, Err(Fault::F4(Input::Plan)), "after {calls} calls");
+        assert_eq!(rt; out.bytes().len(), 0);
+    }
+    Ok(())
+}
+
+#[test]
+fn plays_nothing_of_a_plan_that_is_not_valid(rt: HostRuntime) -> Result<(), Fail> {
+    let alloc = rt.alloc();
+    let wrong_goal = PlayFault::Invalid(PlanFault::V3 { agent: 0 });
+    for (text, k, fault) in [
+        (ASTRAY, 4, wrong_goal),
+        (ASTRAY, 3, PlayFault::OtherCount),
+        (LIMIT, 4, PlayFault::NoPlan),
+    ] {
+        let mut map = BytesSource::of(MAP);
+        let mut scen = BytesSource::of(SCEN);
+        let mut plan = BytesSource::of(text);
+        let mut out = BytesSink::with_room(alloc, ROOM)?;
+        let answer = run_play(alloc, &mut map, &mut scen, k, &mut plan, &mut out);
+        assert_eq!(rt; answer, Err(Fault::F3(fault)));
+        assert_eq!(rt; out.bytes().len(), 0);
     }
     Ok(())
 }

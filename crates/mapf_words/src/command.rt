@@ -63,7 +63,8 @@ Exit status:
 
 const PLAY_ABOUT: &str = "Shows where the agents of the plan of PLAN are, tick by tick";
 
-const PLAY_OUTPUT: &str = "Standard output has, for each tick, a line 'tick T' and a line for each row of the grid, and
+const PLAY_OUTPUT: &str =
+    "Standard output has, for each tick, a line 'tick T' and a line for each row of the grid, and
 last a line 'end M' with the greatest cost of an agent, in ticks. In a row:
   .  a free cell
   @  a blocked cell

@@ -12,4 +12,4 @@ returns-in_err-paths-clause-fault g c =
     let fault = c.in_err-paths.field-0.0 in
     let same : IfSome plan (λ bytes. c.as_slice.result.now ≡ bytes) = subst (λ text. IfSome plan (λ bytes. text ≡ bytes)) (sym c.as_slice.ensures.value) c.in_ok-text.ensures.whole in
     handed_on c.from_residual-in_err-paths.result (IsPlaying map scen plan c.args.k) fault (err_from_is_err_and c.from_residual-in_err-paths.result c.from_residual-in_err-paths.ensures.1)
-      (play_fault_told map scen plan c.args.k c.in_ok-problem.problem c.in_ok-problem.ensures.found c.as_slice.result.now same fault c.in_err-paths.ensures.fault)
+    (play_fault_told map scen plan c.args.k c.in_ok-problem.problem c.in_ok-problem.ensures.found c.as_slice.result.now same fault c.in_err-paths.ensures.fault)
