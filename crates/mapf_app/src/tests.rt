@@ -8,37 +8,42 @@ use mapf_model::devices::{EndlessSource, FuseSink, FuseSource, Pace};
 use mapf_model::{BytesSink, BytesSource};
 use std::test::Fail;
 
-// Four agents that rotate on an open square.
-const MAP: &[u8] = b"type octile\nheight 2\nwidth 2\nmap\n..\n..\n";
+// Two agents that cross on an open square of nine cells.
+const MAP: &[u8] = b"type octile\nheight 3\nwidth 3\nmap\n...\n...\n...\n";
 
-const SCEN: &[u8] = b"version 1\n\
-0 a.map 2 2 0 0 1 0 1\n\
-0 a.map 2 2 1 0 1 1 1\n\
-0 a.map 2 2 1 1 0 1 1\n\
-0 a.map 2 2 0 1 0 0 1\n";
+const SCEN: &[u8] = b"version 1\n0 a.map 3 3 0 1 2 1 2\n0 a.map 3 3 1 0 1 2 2\n";
 
-const PLAN: &[u8] = b"mapf-plan 1\nagents 4\ncost 4\n\
-path 0 1 0,0 1,0\n\
-path 1 1 1,0 1,1\n\
-path 2 1 1,1 0,1\n\
-path 3 1 0,1 0,0\n\
+const PLAN: &[u8] = b"mapf-plan 1\nagents 2\ncost 5\n\
+path 0 3 0,1 0,1 1,1 2,1\n\
+path 1 2 1,0 1,1 1,2\n\
 end\n";
 
-const CERT: &[u8] = b"mapf-cert 1\nagents 4\nclaim cost 4\nleaf 0\nend\n";
-
-// The agents end in other cells than their goals.
-const ASTRAY: &[u8] = b"mapf-plan 1\nagents 4\ncost 8\n\
-path 0 2 0,0 0,1 1,1\n\
-path 1 2 1,0 1,1 0,1\n\
-path 2 2 1,1 0,1 0,0\n\
-path 3 2 0,1 0,0 1,0\n\
+const CERT: &[u8] = b"mapf-cert 1\nagents 2\nclaim cost 5\nvertex 0 1 1,1 1\n\
+leaf 1\nagent 0 1\nat 0,1 0 3\n\
+leaf 1\nagent 1 1\nat 1,0 0 3\n\
 end\n";
+
+// Both agents are in the middle at tick 1.
+const MEETING: &[u8] = b"mapf-plan 1\nagents 2\ncost 4\n\
+path 0 2 0,1 1,1 2,1\n\
+path 1 2 1,0 1,1 1,2\n\
+end\n";
+
+const MEET: PlanFault = PlanFault::V4 {
+    i: 0,
+    j: 1,
+    tick: 1,
+};
 
 // No plan, and of another number of agents.
 const LIMIT: &[u8] = b"mapf-plan 1\nagents 3\nlimit 0\nend\n";
 
 // What the plan looks like, tick by tick.
-const PLAYED: &[u8] = b"tick 0\n01\n32\ntick 1\n30\n21\nend 1\n";
+const PLAYED: &[u8] = b"tick 0\n.1.\n0..\n...\n\
+tick 1\n...\n01.\n...\n\
+tick 2\n...\n.0.\n.1.\n\
+tick 3\n...\n..0\n.1.\n\
+end 3\n";
 
 const ROOM: usize = 4096;
 
@@ -50,7 +55,7 @@ fn names_the_source_that_failed(rt: HostRuntime) -> Result<(), Fail> {
         let mut scen = BytesSource::of(SCEN);
         let mut plan = BytesSink::with_room(alloc, ROOM)?;
         let mut cert = BytesSink::with_room(alloc, ROOM)?;
-        let answer = run_solve(alloc, &mut map, &mut scen, 4, 0, &mut plan, &mut cert);
+        let answer = run_solve(alloc, &mut map, &mut scen, 2, 10, &mut plan, &mut cert);
         assert_eq!(rt; answer, Err(Fault::F4(Input::Map)), "after {calls} calls");
         assert_eq!(rt; (plan.bytes().len(), cert.bytes().len()), (0, 0));
     }
@@ -59,7 +64,7 @@ fn names_the_source_that_failed(rt: HostRuntime) -> Result<(), Fail> {
         let mut scen = FuseSource::of(SCEN, Pace::ByteByByte, Some(calls as u64));
         let mut plan = BytesSink::with_room(alloc, ROOM)?;
         let mut cert = BytesSink::with_room(alloc, ROOM)?;
-        let answer = run_solve(alloc, &mut map, &mut scen, 4, 0, &mut plan, &mut cert);
+        let answer = run_solve(alloc, &mut map, &mut scen, 2, 10, &mut plan, &mut cert);
         assert_eq!(rt; answer, Err(Fault::F4(Input::Scen)), "after {calls} calls");
         assert_eq!(rt; (plan.bytes().len(), cert.bytes().len()), (0, 0));
     }
@@ -74,7 +79,7 @@ fn names_the_sink_that_failed(rt: HostRuntime) -> Result<(), Fail> {
         let mut scen = BytesSource::of(SCEN);
         let mut plan = FuseSink::with_room(alloc, ROOM, Pace::ByteByByte, Some(calls as u64))?;
         let mut cert = BytesSink::with_room(alloc, ROOM)?;
-        let answer = run_solve(alloc, &mut map, &mut scen, 4, 0, &mut plan, &mut cert);
+        let answer = run_solve(alloc, &mut map, &mut scen, 2, 10, &mut plan, &mut cert);
         assert_eq!(rt; answer, Err(Fault::F5(Output::Plan)), "after {calls} calls");
         assert_eq!(rt; plan.bytes(), &PLAN[..calls]);
         assert_eq!(rt; cert.bytes().len(), 0);
@@ -84,7 +89,7 @@ fn names_the_sink_that_failed(rt: HostRuntime) -> Result<(), Fail> {
         let mut scen = BytesSource::of(SCEN);
         let mut plan = BytesSink::with_room(alloc, ROOM)?;
         let mut cert = FuseSink::with_room(alloc, ROOM, Pace::ByteByByte, Some(calls as u64))?;
-        let answer = run_solve(alloc, &mut map, &mut scen, 4, 0, &mut plan, &mut cert);
+        let answer = run_solve(alloc, &mut map, &mut scen, 2, 10, &mut plan, &mut cert);
         assert_eq!(rt; answer, Err(Fault::F5(Output::Cert)), "after {calls} calls");
         assert_eq!(rt; plan.bytes(), PLAN);
         assert_eq!(rt; cert.bytes(), &CERT[..calls]);
@@ -99,8 +104,8 @@ fn writes_the_same_byte_by_byte(rt: HostRuntime) -> Result<(), Fail> {
     let mut scen = FuseSource::of(SCEN, Pace::ByteByByte, None);
     let mut plan = FuseSink::with_room(alloc, ROOM, Pace::ByteByByte, None)?;
     let mut cert = FuseSink::with_room(alloc, ROOM, Pace::ByteByByte, None)?;
-    let answer = run_solve(alloc, &mut map, &mut scen, 4, 0, &mut plan, &mut cert);
-    assert_eq!(rt; answer, Ok(Kind::Found(4)));
+    let answer = run_solve(alloc, &mut map, &mut scen, 2, 10, &mut plan, &mut cert);
+    assert_eq!(rt; answer, Ok(Kind::Found(5)));
     assert_eq!(rt; plan.bytes(), PLAN);
     assert_eq!(rt; cert.bytes(), CERT);
     Ok(())
@@ -113,7 +118,7 @@ fn gives_up_on_a_map_that_never_ends(rt: HostRuntime) -> Result<(), Fail> {
     let mut scen = BytesSource::of(SCEN);
     let mut plan = BytesSink::with_room(alloc, ROOM)?;
     let mut cert = BytesSink::with_room(alloc, ROOM)?;
-    let answer = run_solve(alloc, &mut map, &mut scen, 4, 0, &mut plan, &mut cert);
+    let answer = run_solve(alloc, &mut map, &mut scen, 2, 10, &mut plan, &mut cert);
     assert_eq!(rt; answer, Err(Fault::F4(Input::Map)));
     Ok(())
 }
@@ -126,7 +131,7 @@ fn checks_over_sources_that_fail(rt: HostRuntime) -> Result<(), Fail> {
         let mut scen = BytesSource::of(SCEN);
         let mut plan = FuseSource::of(PLAN, Pace::ByteByByte, Some(calls as u64));
         let mut cert = BytesSource::of(CERT);
-        let verdict = run_check(alloc, &mut map, &mut scen, 4, &mut plan, &mut cert);
+        let verdict = run_check(alloc, &mut map, &mut scen, 2, &mut plan, &mut cert);
         assert_eq!(rt; verdict, Err(Fault::F4(Input::Plan)), "after {calls} calls");
     }
     for calls in 0..=CERT.len() {
@@ -134,7 +139,7 @@ fn checks_over_sources_that_fail(rt: HostRuntime) -> Result<(), Fail> {
         let mut scen = BytesSource::of(SCEN);
         let mut plan = BytesSource::of(PLAN);
         let mut cert = FuseSource::of(CERT, Pace::ByteByByte, Some(calls as u64));
-        let verdict = run_check(alloc, &mut map, &mut scen, 4, &mut plan, &mut cert);
+        let verdict = run_check(alloc, &mut map, &mut scen, 2, &mut plan, &mut cert);
         assert_eq!(rt; verdict, Err(Fault::F4(Input::Cert)), "after {calls} calls");
     }
     Ok(())
@@ -145,11 +150,10 @@ fn judges_the_plan_before_the_certificate_is_pulled(rt: HostRuntime) -> Result<(
     let alloc = rt.alloc();
     let mut map = BytesSource::of(MAP);
     let mut scen = BytesSource::of(SCEN);
-    let mut plan = BytesSource::of(ASTRAY);
+    let mut plan = BytesSource::of(MEETING);
     let mut cert = FuseSource::of(CERT, Pace::AllAtOnce, Some(0));
-    let verdict = run_check(alloc, &mut map, &mut scen, 4, &mut plan, &mut cert);
-    let wrong_goal = PlanFault::V3 { agent: 0 };
-    assert_eq!(rt; verdict, Err(Fault::Refused(CheckFault::C5(wrong_goal))));
+    let verdict = run_check(alloc, &mut map, &mut scen, 2, &mut plan, &mut cert);
+    assert_eq!(rt; verdict, Err(Fault::Refused(CheckFault::C5(MEET))));
     Ok(())
 }
 
@@ -160,7 +164,7 @@ fn refuses_a_certificate_that_never_ends(rt: HostRuntime) -> Result<(), Fail> {
     let mut scen = BytesSource::of(SCEN);
     let mut plan = BytesSource::of(PLAN);
     let mut cert = EndlessSource::of(b'x');
-    let verdict = run_check(alloc, &mut map, &mut scen, 4, &mut plan, &mut cert);
+    let verdict = run_check(alloc, &mut map, &mut scen, 2, &mut plan, &mut cert);
     assert_eq!(rt;
         verdict,
         Err(Fault::Refused(CheckFault::C2(CertFault::K1(1))))
@@ -189,7 +193,7 @@ fn plays_a_front_into_a_sink_that_fails(rt: HostRuntime) -> Result<(), Fail> {
         let mut scen = BytesSource::of(SCEN);
         let mut plan = BytesSource::of(PLAN);
         let mut out = FuseSink::with_room(alloc, ROOM, Pace::ByteByByte, Some(calls as u64))?;
-        let answer = run_play(alloc, &mut map, &mut scen, 4, &mut plan, &mut out);
+        let answer = run_play(alloc, &mut map, &mut scen, 2, &mut plan, &mut out);
         let whole = calls == PLAYED.len();
         let wanted = if whole {
             Ok(())
@@ -210,7 +214,7 @@ fn plays_nothing_of_a_plan_that_is_not_read(rt: HostRuntime) -> Result<(), Fail>
         let mut scen = BytesSource::of(SCEN);
         let mut plan = FuseSource::of(PLAN, Pace::ByteByByte, Some(calls as u64));
         let mut out = BytesSink::with_room(alloc, ROOM)?;
-        let answer = run_play(alloc, &mut map, &mut scen, 4, &mut plan, &mut out);
+        let answer = run_play(alloc, &mut map, &mut scen, 2, &mut plan, &mut out);
         assert_eq!(rt; answer, Err(Fault::F4(Input::Plan)), "after {calls} calls");
         assert_eq!(rt; out.bytes().len(), 0);
     }
@@ -220,11 +224,10 @@ fn plays_nothing_of_a_plan_that_is_not_read(rt: HostRuntime) -> Result<(), Fail>
 #[test]
 fn plays_nothing_of_a_plan_that_is_not_valid(rt: HostRuntime) -> Result<(), Fail> {
     let alloc = rt.alloc();
-    let wrong_goal = PlayFault::Invalid(PlanFault::V3 { agent: 0 });
     for (text, k, fault) in [
-        (ASTRAY, 4, wrong_goal),
-        (ASTRAY, 3, PlayFault::OtherCount),
-        (LIMIT, 4, PlayFault::NoPlan),
+        (MEETING, 2, PlayFault::Invalid(MEET)),
+        (MEETING, 1, PlayFault::OtherCount),
+        (LIMIT, 2, PlayFault::NoPlan),
     ] {
         let mut map = BytesSource::of(MAP);
         let mut scen = BytesSource::of(SCEN);

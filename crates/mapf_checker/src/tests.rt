@@ -1,5 +1,6 @@
 use crate::samples::{CROSSING_CERT, CROSSING_PLAN, crossing};
 use crate::{CheckFault, FromFault, Verdict, check, check_from};
+use mapf_certificate::CertFault;
 use mapf_model::{BytesSource, Failed, Source};
 use std::test::Fail;
 
@@ -24,12 +25,15 @@ fn keeps_the_limit(rt: HostRuntime) -> Result<(), Fail> {
     let alloc = rt.alloc();
     let crossing = crossing(alloc)?;
     let plan = CROSSING_PLAN.as_bytes();
-    let cert = CROSSING_CERT.as_bytes();
-    for (limit, answer) in [
-        (111, Ok(Verdict::Optimal(5))),
-        (110, Err(FromFault::TooLong)),
+    let longer = format!(in alloc; "{CROSSING_CERT}x")?;
+    let after_end = CheckFault::C2(CertFault::K4(12));
+    for (cert, limit, answer) in [
+        (CROSSING_CERT, 111, Ok(Verdict::Optimal(5))),
+        (CROSSING_CERT, 110, Err(FromFault::TooLong)),
+        (longer.as_str(), 111, Err(FromFault::TooLong)),
+        (longer.as_str(), 112, Err(FromFault::Refused(after_end))),
     ] {
-        let mut source = BytesSource::of(cert);
+        let mut source = BytesSource::of(cert.as_bytes());
         assert_eq!(rt;
             check_from(alloc, &crossing, plan, &mut source, limit),
             answer
