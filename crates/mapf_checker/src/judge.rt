@@ -91,7 +91,7 @@ fn steps_hold(steps: &[Cell], ground: &Ground, entries: &[Entry], entry: &Entry)
     true
 }
 
-// Whether the label is within one of that after this step, where the step isn't barred.
+// Whether the label is within one of that after this step, or the step is barred.
 fn step_holds(ground: &Ground, entries: &[Entry], entry: &Entry, next: Cell) -> bool
     requires ground { IsGround ground.now }
     requires rising { AllPairs IsBefore entries.now }
@@ -100,6 +100,11 @@ fn step_holds(ground: &Ground, entries: &[Entry], entry: &Entry, next: Cell) -> 
     ensures { IsTrue result ↔ (MayGo ground.now.grid.now (bars_on ground.now) entry.now.cell next entry.now.tick → IsWithinOne ground.now.grid.now ground.now.goal (entries_of entries.now) entry.now.label next (entry.now.tick + 1)) }
 {
     laws::definitions_are_decided();
+    // Few steps are barred, and a label tells more often than a bar.
+    let after = label_at(entries, ground.distances, next, entry.tick + 1);
+    if is_within_one(entry.label, after) {
+        return true;
+    }
     let arrival = Bar::Cell {
         cell: next,
         tick: entry.tick + 1,
@@ -112,9 +117,5 @@ fn step_holds(ground: &Ground, entries: &[Entry], entry: &Entry, next: Cell) -> 
         to: next,
         tick: entry.tick,
     };
-    if ground.way.has(ground.agent, departure) {
-        return true;
-    }
-    let after = label_at(entries, ground.distances, next, entry.tick + 1);
-    is_within_one(entry.label, after)
+    ground.way.has(ground.agent, departure)
 }
