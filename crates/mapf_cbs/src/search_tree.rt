@@ -115,7 +115,7 @@ impl SearchTree {
 }
 
 /// A child is open where it has a sum.
-fn fate_of(total: &Option<u64>) -> Fate
+pub fn fate_of(total: &Option<u64>) -> Fate
     ensures { result ≡ fate_of total.now }
 {
     match total {

@@ -66,8 +66,8 @@ pub fn solve_with<B: BarTable>(
     }
 }
 
-// The items of a tree of one node.
-fn one_item(alloc: Global, item: Item) -> Result<Vec<Item>, OutOfMemory>
+/// The items of a tree of one node.
+pub fn one_item(alloc: Global, item: Item) -> Result<Vec<Item>, OutOfMemory>
     ensures { IfOk result (λ tree. tree.items ≡ item ∷ []) }
 {
     let mut tree = Vec::new(alloc);
@@ -114,8 +114,8 @@ fn search_from<B: BarTable>(
     }
 }
 
-// Why the conflict isn't split after so many splits, None where it is.
-fn cause_to_stop(conflict: &Conflict, splits: u32, limit: u32) -> Option<Cause>
+/// Why the conflict isn't split after so many splits, None where it is.
+pub fn cause_to_stop(conflict: &Conflict, splits: u32, limit: u32) -> Option<Cause>
     ensures some { IfSome result (IsCauseToStop conflict.now splits limit) }
     ensures early { IfNone result (tick_of conflict.now < 1000000) }
     ensures allowed { IfNone result (splits ≢ limit) }

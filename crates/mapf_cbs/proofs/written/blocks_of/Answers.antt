@@ -6,8 +6,8 @@ use Rattle.mapf_model.specs.Blocks.{LabelBlock}
 use Rattle.mapf_cbs.specs.Search.{AreBlocksOf}
 use Rattle.mapf_cbs.proofs.BlockLemmas.{blocks_skip, blocks_more}
 use Rattle.mapf_cbs.proofs.ItemLemmas.{no_items}
-use Rattle.mapf_cbs.proofs.written.blocks_at.Goals as goal
-use Rattle.mapf_cbs.proofs.written.blocks_at.Goals.{then-not-is_empty+in_ok-push, else-not-is_empty}
+use Rattle.mapf_cbs.proofs.written.blocks_of.Goals as goal
+use Rattle.mapf_cbs.proofs.written.blocks_of.Goals.{then-not-is_empty+in_ok-push, else-not-is_empty}
 
 pub entries_at-requires-clause-inside : goal.entries_at-requires-clause-inside
 entries_at-requires-clause-inside c =
