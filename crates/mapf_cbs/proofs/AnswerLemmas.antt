@@ -38,9 +38,8 @@ none_left : {X : Type 0} (x : X) → Contains [] x → ⊥
 none_left x (k, within, is) = omega arith
 
 -- the state as it begins
-pub state_first : (problem : Instance) (paths : Vec (List ℕ) Global) (total : ℕ) (view : View) → IsRootView paths.items view → IsLive problem view → total ≡ sum view.costs → total ≤ 200 * 2 ^ 32 →
-    (nodes : List Node) → nodes ≡ Root paths ∷ [] → IsState problem nodes (Open ∷ []) ((total, 0) ∷ []) 0
-state_first problem paths total view root_view live total_is small nodes nodes_is = subst (λ ns. IsState problem ns (Open ∷ []) ((total, 0) ∷ []) 0) (sym nodes_is) (record {
+pub state_root : (problem : Instance) (paths : Vec (List ℕ) Global) (total : ℕ) (view : View) → IsRootView paths.items view → IsLive problem view → total ≡ sum view.costs → total ≤ 200 * 2 ^ 32 → IsState problem (Root paths ∷ []) (Open ∷ []) ((total, 0) ∷ []) 0
+state_root problem paths total view root_view live total_is small = record {
   views = view ∷ [];
   are = record { lengths = refl; each = each_view };
   searched = searched_first problem view root_view.constraints live;
@@ -52,7 +51,7 @@ state_first problem paths total view root_view live total_is small nodes nodes_i
   bars = each_low;
   size = omega arith;
   small = λ key in_it. small_key key in_it;
-})
+}
   where
     each_view : (k : ℕ) (node : Node) (v : View) → slice_get (Root paths ∷ []) k ≡ Some node → slice_get (view ∷ []) k ≡ Some v → IsNodeView (view ∷ []) k node v
     each_view zero node v node_is v_is = subst (λ n. IsNodeView (view ∷ []) 0 n v) (same_Some (Root paths) node node_is) (subst (λ w. IsRootView paths.items w) (same_Some view v v_is) root_view)
@@ -82,6 +81,14 @@ state_first problem paths total view root_view live total_is small nodes nodes_i
 
     small_key : (key : ℕ × ℕ) → Contains {X = ℕ × ℕ} ((total, 0) ∷ []) key → key.0 ≤ (0 + 201) * 2 ^ 32
     small_key key in_it = let e : total ≡ key.0 = ap (λ (x : ℕ × ℕ). x.0) (first_key key in_it) in omega arith
+
+pub root_views : (problem : Instance) (paths : Vec (List ℕ) Global) (total : ℕ) (view : View) (root_view : IsRootView paths.items view) (live : IsLive problem view) (total_is : total ≡ sum view.costs) (small : total ≤ 200 * 2 ^ 32) → (state_root problem paths total view root_view live total_is small).views ≡ view ∷ []
+unfolding state_root
+root_views problem paths total view root_view live total_is small = refl
+
+pub state_first : (problem : Instance) (paths : Vec (List ℕ) Global) (total : ℕ) (view : View) → IsRootView paths.items view → IsLive problem view → total ≡ sum view.costs → total ≤ 200 * 2 ^ 32 →
+    (nodes : List Node) → nodes ≡ Root paths ∷ [] → IsState problem nodes (Open ∷ []) ((total, 0) ∷ []) 0
+state_first problem paths total view root_view live total_is small nodes nodes_is = subst (λ ns. IsState problem ns (Open ∷ []) ((total, 0) ∷ []) 0) (sym nodes_is) (state_root problem paths total view root_view live total_is small)
 
 -- children come later
 pub cuts_later : (problem : Instance) (views : List View) (fates : List Fate) (count : ℕ) → IsSearched problem views fates count → AreCutsLater fates

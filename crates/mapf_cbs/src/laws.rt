@@ -45,7 +45,7 @@ pub fn solve_plain(alloc: Global, problem: &Problem, limit: u32) -> Result<Answe
     }
     let tables = goal_tables(alloc, problem)?;
     match shortest_paths(alloc, problem, &tables)? {
-        Some(paths) => search_plain(alloc, problem, &tables, &paths, limit),
+        Some(paths) => search_plain(alloc, problem, &tables, paths, limit),
         None => {
             let tree = one_item(alloc, Item::Leaf(Vec::new(alloc)))?;
             Ok(Answer::Impossible { tree })
@@ -59,7 +59,7 @@ fn search_plain(
     alloc: Global,
     problem: &Problem,
     tables: &[Distances],
-    paths: &[Path],
+    paths: Vec<Path>,
     limit: u32,
 ) -> Result<Answer, OutOfMemory>
     requires shape { IsGridMap problem.now.grid }
@@ -67,12 +67,12 @@ fn search_plain(
     requires limit { limit ≤ 100000 }
     requires goals { (i j : ℕ) → ShareGoal problem.now i j → ⊥ }
     requires tables { AreTables problem.now tables.now }
-    requires count { length paths.now ≡ length problem.now.agents }
-    requires shortest { AreShortest problem.now paths.now }
+    requires count { length paths.items ≡ length problem.now.agents }
+    requires shortest { AreShortest problem.now paths.items }
     ensures { IfOk result (IsAnswer problem.now limit) }
 {
     let agents = problem.agents().len() as u32;
-    let root = WholeNode::root(alloc, paths)?;
+    let root = WholeNode::root(alloc, &paths)?;
     let mut tree = WholeTree::of(alloc, root)?;
     loop {
         let Some(k) = least_open(&tree.nodes, &tree.fates) else {
@@ -148,10 +148,11 @@ fn child_of(
     ensures born { IfOk result (λ born. (view : View) → IsWhole node.now view → IsLive problem.now view → IsWholeBorn problem.now view agent bar born.node born.total) }
 {
     let who = problem.agents()[agent as usize];
+    let goal = who.goal;
     let bars = with_bar(&node.routes[agent as usize].bars, bar)?;
     let found = search(alloc, problem.grid(), &tables[agent as usize], &bars, who)?;
-    let old = cost_of(&node.routes[agent as usize].path, who.goal);
-    let total = new_total(&found, who.goal, node.total - u64::from(old));
+    let old = cost_of(&node.routes[agent as usize].path, goal);
+    let total = new_total(&found, goal, node.total - u64::from(old));
     let route = node.routes[agent as usize].after(alloc, &found, bars)?;
     let routes = routes_with(alloc, &node.routes, agent, route)?;
     let sum = total.unwrap_or(node.total);
