@@ -11,6 +11,7 @@ use Rattle.mapf_model.specs.declared.item.Claim.TheVariants.{Cost, Impossible}
 use Rattle.mapf_model.specs.declared.conflict.Conflict.{Conflict}
 use Rattle.mapf_model.specs.declared.conflict.Conflict.TheVariants.{Vertex, Swap}
 use Rattle.mapf_model.specs.declared.item.Item.{Item}
+use Rattle.mapf_model.specs.declared.problem.Agent.{Agent}
 use Rattle.mapf_model.specs.Plan.{Instance, IsValid}
 use Rattle.mapf_model.specs.Tree.{ConstraintTree, Spell, Shows, Holds, ShareGoal, split_count, root}
 use Rattle.mapf_model.specs.Earned.{HasConflict, AreConflictFreeBefore, HaveSomeConflict, IsStopped, IsStoppedFrom, tick_of}
@@ -100,6 +101,10 @@ cuts_later problem views fates count searched k conflict a b is =
     let in_a = slice_get_within views a cut.to_left.0 cut.to_left.1 in
     let in_b = slice_get_within views b cut.to_right.0 cut.to_right.1 in
     (cut.left_later, cut.right_later, omega arith, omega arith)
+
+-- a tree of lists that are known by other names
+pub tree_of : (agents others : List Agent) (fates more : List Fate) (views : List View) (items : List Item) → agents ≡ others → fates ≡ more → (tree : ConstraintTree) × Spell items tree × IsTreeAt (length agents) views fates 0 tree → (tree : ConstraintTree) × Spell items tree × IsTreeAt (length others) views more 0 tree
+tree_of agents others fates more views items same fates_same (tree, spell, is) = (tree, spell, subst (λ fs. IsTreeAt (length others) views fs 0 tree) fates_same (subst (λ xs. IsTreeAt (length xs) views fates 0 tree) same is))
 
 pub popped_of : (problem : Instance) (nodes : List Node) (fates : List Fate) (keys rest : List (ℕ × ℕ)) (count total k : ℕ) → IsState problem nodes fates keys count → keys ≡ (total, k) ∷ rest → ((key : ℕ × ℕ) → Contains rest key → key_cmp (total, k) key ≡ Less) → IsPopped problem nodes fates rest count total k
 popped_of problem nodes fates keys rest count total k state e above = record {

@@ -1,5 +1,5 @@
 -- The state of a search whose nodes hold all that is found at them.
-use Rattle.std.proofs.Common.{◌≡◌, ◌≢◌, ◌⊎◌, ℕ, ◌+◌, ◌*◌, ◌^◌, ◌<◌, ◌≤◌, List, [], ◌∷◌, ◌++◌, Option, Some, Contains, length, length-append, sum, slice_get, slice_set, refl, sym, ◌∙◌, ap, subst, ⊎_elim, arith, cond, nat_eq}
+use Rattle.std.proofs.Common.{◌≡◌, ◌≢◌, ◌⊎◌, ℕ, ◌+◌, ◌*◌, ◌^◌, ◌<◌, ◌≤◌, List, [], ◌∷◌, ◌++◌, Option, Some, Contains, length, length-append, sum, slice_get, slice_set, refl, sym, ◌∙◌, ap, subst, ⊎_elim, arith, cond, nat_eq, zero, suc, Vec}
 use Rattle.std.specs.declared.cmp.Ordering.TheVariants.{Less}
 use Rattle.std.proofs.lemmas.Bool.{cases_eq, cases_lt, cond_both, eqb-true, eqb-false}
 use Rattle.std.proofs.lemmas.Option.{slice_get_within, same_Some}
@@ -14,13 +14,15 @@ use Rattle.mapf_model.proofs.SplitLemmas.{Contains-cons_cases}
 use Rattle.mapf_model.proofs.SumLemmas.{snoc_get}
 use Rattle.mapf_cbs.specs.declared.node.Fate.{Fate}
 use Rattle.mapf_cbs.specs.declared.node.Fate.TheVariants.{Open, Cut}
-use Rattle.mapf_cbs.specs.declared.node.Node.TheVariants.{Child}
+use Rattle.mapf_cbs.specs.declared.node.Node.TheVariants.{Root, Child}
 use Rattle.mapf_cbs.specs.declared.whole_node.WholeNode.{WholeNode}
+use Rattle.std.specs.declared.alloc.Global.{Global}
+use Rattle.mapf_cbs.specs.Arena.{IsRootView}
 use Rattle.mapf_cbs.specs.Answer.{IsTreeOf, IsShownImpossible}
 use Rattle.mapf_cbs.specs.Search.{View, IsLive, IsTreeAt, left_agent, right_agent, left_bar, right_bar}
 use Rattle.mapf_cbs.specs.State.{IsOpenSet, IsState, IsPopped, key_cmp, fate_of, with_key}
-use Rattle.mapf_cbs.specs.Whole.{IsWhole, AreWhole, HaveRoutes, IsWholeBorn, IsLeastOpen, IsWholeState, IsWholePopped}
-use Rattle.mapf_cbs.proofs.AnswerLemmas.{answer_impossible}
+use Rattle.mapf_cbs.specs.Whole.{IsWhole, AreWhole, HaveRoutes, IsWholeBorn, IsLeastOpen, IsLeastBelow, IsWholeState, IsWholePopped}
+use Rattle.mapf_cbs.proofs.AnswerLemmas.{answer_impossible, state_root, root_views}
 use Rattle.mapf_cbs.proofs.ChildLemmas.{Contains-later}
 use Rattle.mapf_cbs.proofs.OpenLemmas.{Contains-first}
 use Rattle.mapf_cbs.proofs.SumLemmas.{slice_get-front, slice_get-here}
@@ -144,6 +146,27 @@ module _ (problem : Instance) (nodes : List WholeNode) (fates : List Fate) (coun
     size = s.state.size;
     small = λ key in_it. absurd (nothing_in key in_it);
   }) items found
+
+pub least_at : (nodes others : List WholeNode) (fates more : List Fate) (found : Option ℕ) → nodes ≡ others → fates ≡ more → IsLeastBelow nodes fates (length fates) found → IsLeastBelow others more (length more) found
+least_at nodes others fates more found a b is = subst (λ fs. IsLeastBelow others fs (length fs) found) b (subst (λ ns. IsLeastBelow ns fates (length fates) found) a is)
+
+-- the state as it begins
+pub whole_first : (problem : Instance) (paths : Vec (List ℕ) Global) (node : WholeNode) (view : View) → IsRootView paths.items view → IsLive problem view → IsWhole node view → node.total ≤ 200 * 2 ^ 32 → IsWholeState problem (node ∷ []) (Open ∷ []) 0
+whole_first problem paths node view is_root live is small = record {
+  changes = Root paths ∷ [];
+  keys = (node.total, 0) ∷ [];
+  state = state_root problem paths node.total view is_root live is.total small;
+  whole = subst (λ vs. AreWhole (node ∷ []) vs) (sym (root_views problem paths node.total view is_root live is.total small)) (record { lengths = refl; each = each_node });
+  routes = each_route;
+}
+  where
+    each_node : (k : ℕ) (n : WholeNode) (v : View) → slice_get (node ∷ []) k ≡ Some n → slice_get (view ∷ []) k ≡ Some v → IsWhole n v
+    each_node zero n v n_is v_is = subst (λ x. IsWhole x v) (same_Some node n n_is) (subst (λ w. IsWhole node w) (same_Some view v v_is) is)
+    each_node (suc k) n v n_is v_is = absurd cc
+
+    each_route : HaveRoutes (node ∷ []) (length problem.agents)
+    each_route zero n n_is = subst (λ (x : WholeNode). length x.routes.items ≡ length problem.agents) (same_Some node n n_is) (is.count ∙ live.counted.paths)
+    each_route (suc k) n n_is = absurd cc
 
 whole_more : (nodes : List WholeNode) (views : List View) → AreWhole nodes views → (node : WholeNode) (view : View) → IsWhole node view → AreWhole (nodes ++ node ∷ []) (views ++ view ∷ [])
 whole_more nodes views whole node view is =

@@ -8,15 +8,12 @@ use Rattle.mapf_cbs.specs.Answer.{IsTreeOf, IsShownOptimal}
 use Rattle.mapf_cbs.specs.Arena.{AreViews}
 use Rattle.mapf_cbs.specs.Search.{View, AreCutsLater, IsTreeAt}
 use Rattle.mapf_cbs.specs.State.{IsState}
-use Rattle.mapf_cbs.proofs.AnswerLemmas.{above_of, state_first, cuts_later, popped_of, answer_impossible, answer_found, answer_limit}
+use Rattle.mapf_cbs.proofs.AnswerLemmas.{tree_of, above_of, state_first, cuts_later, popped_of, answer_impossible, answer_found, answer_limit}
 use Rattle.mapf_cbs.proofs.ArenaLemmas.{view_in}
 use Rattle.mapf_cbs.proofs.ItemLemmas.{no_items}
 use Rattle.mapf_cbs.proofs.StartLemmas.{root_of}
 use Rattle.mapf_cbs.proofs.StateLemmas.{in_hand}
 use Rattle.mapf_cbs.proofs.solver.search_from.Goals as goal
-
-tree_of : (agents others : List Agent) (fates more : List Fate) (views : List View) (items : List Item) → agents ≡ others → fates ≡ more → (tree : ConstraintTree) × Spell items tree × IsTreeAt (length agents) views fates 0 tree → (tree : ConstraintTree) × Spell items tree × IsTreeAt (length others) views more 0 tree
-tree_of agents others fates more views items same fates_same (tree, spell, is) = (tree, spell, subst (λ fs. IsTreeAt (length others) views fs 0 tree) fates_same (subst (λ xs. IsTreeAt (length xs) views fates 0 tree) same is))
 
 no_length : (n : ℕ) → (0 < n → false ≡ true) → n ≡ 0
 no_length zero f = refl
