@@ -1,5 +1,5 @@
 -- The state of a search whose nodes hold all that is found at them.
-use Rattle.std.proofs.Common.{◌≡◌, ◌≢◌, ◌⊎◌, ℕ, ◌+◌, ◌*◌, ◌^◌, ◌<◌, ◌≤◌, List, [], ◌∷◌, ◌++◌, Option, Some, Contains, length, length-append, sum, slice_get, slice_set, refl, sym, ◌∙◌, ap, subst, ⊎_elim, arith, cond, nat_eq, zero, suc, Vec}
+use Rattle.std.proofs.Common.{◌≡◌, ◌≢◌, ℕ, ◌+◌, ◌*◌, ◌^◌, ◌<◌, ◌≤◌, List, [], ◌∷◌, ◌++◌, Option, Some, Contains, length, length-append, sum, slice_get, slice_set, refl, sym, ◌∙◌, ap, subst, ⊎_elim, arith, cond, nat_eq, zero, suc, Vec}
 use Rattle.std.specs.declared.cmp.Ordering.TheVariants.{Less}
 use Rattle.std.proofs.lemmas.Bool.{cases_eq, cases_lt, cond_both, eqb-true, eqb-false}
 use Rattle.std.proofs.lemmas.Option.{slice_get_within, same_Some}
@@ -20,7 +20,7 @@ use Rattle.std.specs.declared.alloc.Global.{Global}
 use Rattle.mapf_cbs.specs.Arena.{IsRootView}
 use Rattle.mapf_cbs.specs.Answer.{IsTreeOf, IsShownImpossible}
 use Rattle.mapf_cbs.specs.Search.{View, IsLive, IsTreeAt, left_agent, right_agent, left_bar, right_bar}
-use Rattle.mapf_cbs.specs.State.{IsOpenSet, IsState, IsPopped, key_cmp, fate_of, with_key}
+use Rattle.mapf_cbs.specs.State.{IsOpenSet, key_cmp, fate_of, with_key}
 use Rattle.mapf_cbs.specs.Whole.{IsWhole, AreWhole, HaveRoutes, IsWholeBorn, IsLeastOpen, IsLeastBelow, IsWholeState, IsWholePopped}
 use Rattle.mapf_cbs.proofs.AnswerLemmas.{answer_impossible, state_root, root_views}
 use Rattle.mapf_cbs.proofs.ChildLemmas.{Contains-later}

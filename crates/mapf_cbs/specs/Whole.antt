@@ -1,7 +1,6 @@
 -- Nodes that hold all that is found at them, and what they mean.
-use Rattle.std.specs.Prelude.{◌≡◌, ℕ, ◌<◌, ◌≤◌, ◌∷◌, List, Option, None, Some, length, slice_get, sum}
+use Rattle.std.specs.Prelude.{◌≡◌, ℕ, ◌<◌, ◌≤◌, List, Option, None, Some, length, slice_get, sum}
 use Rattle.mapf_model.specs.declared.bar.Bar.{Bar}
-use Rattle.mapf_model.specs.declared.label.Entry.{Entry}
 use Rattle.mapf_model.specs.Laws.{AreSameBars}
 use Rattle.mapf_model.specs.Plan.{Instance}
 use Rattle.mapf_spacetime.specs.declared.found.Found.{Found}

@@ -1,11 +1,11 @@
-use Rattle.std.proofs.Common.{◌≡◌, ◌-◌, ◌<◌, length, slice_set, sum, refl, sym, ◌∙◌, subst, arith}
+use Rattle.std.proofs.Common.{◌≡◌, ◌-◌, ◌<◌, length, slice_set, sum, refl, ◌∙◌, subst, arith}
 use Rattle.std.proofs.lemmas.Option.{slice_get_read}
 use Rattle.mapf_model.specs.Grid.{GridMap}
 use Rattle.mapf_spacetime.specs.Answer.{IsAnswer}
 use Rattle.mapf_spacetime.specs.Task.{task_of}
 use Rattle.mapf_cbs.specs.Born.{IsTotal}
 use Rattle.mapf_cbs.specs.Whole.{AreCopies}
-use Rattle.mapf_cbs.proofs.BornLemmas.{found_ends, ends_there, old_within, born, bars_with}
+use Rattle.mapf_cbs.proofs.BornLemmas.{ends_there, old_within, born, bars_with}
 use Rattle.mapf_cbs.proofs.WholeLemmas.{whole_child, total_born}
 use Rattle.mapf_cbs.proofs.laws.child_of.Goals as goal
 

@@ -1,10 +1,9 @@
-use Rattle.std.proofs.Common.{◌≡◌, ◌∷◌, [], ◌++◌, ◌+◌, Result, Ok, Err, OnOk, length, slice_set, refl, sym, ◌∙◌, subst, arith}
+use Rattle.std.proofs.Common.{◌∷◌, [], ◌++◌, ◌+◌, Result, Ok, Err, OnOk, length, refl, sym, ◌∙◌, subst, arith}
 use Rattle.std.proofs.lemmas.Option.{slice_get_read, slice_get_within}
 use Rattle.mapf_model.specs.declared.bar.Bar.{Bar}
-use Rattle.mapf_cbs.specs.declared.node.Fate.TheVariants.{Open, Cut}
+use Rattle.mapf_cbs.specs.declared.node.Fate.TheVariants.{Open}
 use Rattle.mapf_cbs.specs.Route.{IsTableBar}
 use Rattle.mapf_cbs.specs.Search.{left_agent, right_agent, left_bar, right_bar}
-use Rattle.mapf_cbs.specs.State.{fate_of}
 use Rattle.mapf_cbs.specs.Whole.{IsWholeBorn, IsWholeState}
 use Rattle.mapf_cbs.proofs.StateLemmas.{left_known, right_known, left_table_bar, right_table_bar}
 use Rattle.mapf_cbs.proofs.PlainLemmas.{whole_hand, hand_inside, hand_whole, hand_small, whole_grown}

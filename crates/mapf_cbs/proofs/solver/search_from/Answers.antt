@@ -1,12 +1,9 @@
-use Rattle.std.proofs.Common.{◌≡◌, [], ◌<◌, ◌≤◌, All, ℕ, List, length, refl, sym, ◌∙◌, ap, subst, arith, zero, suc, true, false}
-use Rattle.mapf_model.specs.declared.problem.Agent.{Agent}
-use Rattle.mapf_model.specs.declared.item.Item.{Item}
+use Rattle.std.proofs.Common.{◌≡◌, [], ◌<◌, ◌≤◌, All, ℕ, length, refl, sym, ◌∙◌, ap, subst, arith, zero, suc, true, false}
 use Rattle.mapf_model.specs.Earned.{HasConflict, AreConflictFreeBefore, HaveSomeConflict, tick_of}
-use Rattle.mapf_model.specs.Tree.{ConstraintTree, Spell}
-use Rattle.mapf_cbs.specs.declared.node.Fate.{Fate}
+use Rattle.mapf_model.specs.Tree.{ConstraintTree}
 use Rattle.mapf_cbs.specs.Answer.{IsTreeOf, IsShownOptimal}
 use Rattle.mapf_cbs.specs.Arena.{AreViews}
-use Rattle.mapf_cbs.specs.Search.{View, AreCutsLater, IsTreeAt}
+use Rattle.mapf_cbs.specs.Search.{AreCutsLater}
 use Rattle.mapf_cbs.specs.State.{IsState}
 use Rattle.mapf_cbs.proofs.AnswerLemmas.{tree_of, above_of, state_first, cuts_later, popped_of, answer_impossible, answer_found, answer_limit}
 use Rattle.mapf_cbs.proofs.ArenaLemmas.{view_in}

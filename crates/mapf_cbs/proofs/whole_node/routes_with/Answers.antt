@@ -1,4 +1,3 @@
-use Rattle.std.proofs.Common.{length, arith}
 use Rattle.mapf_cbs.proofs.WholeLemmas.{copies_with}
 use Rattle.mapf_cbs.proofs.whole_node.routes_with.Goals as goal
 

@@ -1,4 +1,4 @@
-use Rattle.std.proofs.Common.{◌≡◌, ◌<◌, ◌≤◌, length, refl, ap, subst, arith, None, Some, slice_get}
+use Rattle.std.proofs.Common.{◌≡◌, length, refl, ap, subst, arith, None, Some, slice_get}
 use Rattle.std.proofs.lemmas.Option.{slice_get_read}
 use Rattle.mapf_model.proofs.ClaimLemmas.{slice_get_inside}
 use Rattle.mapf_cbs.specs.declared.node.Fate.TheVariants.{Open}
