@@ -23,7 +23,7 @@ loop-total-init g c =
     let sum_is = c.total_of-total.ensures.sum in
     let first = state_first c.args.problem.now c.args.paths c.total_of-total.result r.view r.is_root r.live (rw paths_are at sum_is ∙ sym r.total) c.total_of-total.ensures.small c.in_ok-search.search.nodes.items c.in_ok-search.ensures.nodes in
     let f = c.in_ok-search.ensures.fates in
-    let o = c.in_ok-search.ensures.open in
+    let o = c.in_ok-search.ensures.waiting in
     let n = c.in_ok-search.ensures.splits in
     record {
       within = omega (arith, n);
@@ -38,7 +38,7 @@ tree_items-requires-clause-later g c =
 pub returns-in_default : goal.returns-in_default
 returns-in_default g c =
     let s = c.loop-total.invariant.state in
-    let none : c.loop-total.search.open.keys ≡ [] = no_items c.loop-total.search.open.keys (let v = c.in_default.ensures.variant in no_length (length c.loop-total.search.open.keys) v.1) in
+    let none : c.loop-total.search.waiting.keys ≡ [] = no_items c.loop-total.search.waiting.keys (let v = c.in_default.ensures.variant in no_length (length c.loop-total.search.waiting.keys) v.1) in
     let state = subst (λ ks. IsState c.args.problem.now c.loop-total.search.nodes.items c.loop-total.search.fates.items ks c.loop-total.search.splits) none s in
     answer_impossible c.args.problem.now c.requires.shape c.loop-total.search.nodes.items c.loop-total.search.fates.items c.loop-total.search.splits c.args.limit c.loop-total.invariant.within state c.in_ok-tree.tree.items
     (tree_of c.agents.result.now c.args.problem.now.agents c.deref-in_default.result.now c.loop-total.search.fates.items state.views c.in_ok-tree.tree.items c.agents.ensures.value c.deref-in_default.ensures.value (c.in_ok-tree.ensures state.views state.are (state.searched.lengths ∙ ap length (sym c.deref-in_default.ensures.value))))
@@ -46,7 +46,7 @@ returns-in_default g c =
 pub plan_at-requires-clause-inside : goal.plan_at-requires-clause-inside
 plan_at-requires-clause-inside g c =
     let s = c.loop-total.invariant.state in
-    let p = popped_of c.args.problem.now c.loop-total.search.nodes.items c.loop-total.search.fates.items c.loop-total.search.open.keys c.pop_first.new.self.keys c.loop-total.search.splits c.in-Some.total c.in-Some.k s c.in-Some.ensures.removal (above_of c.pop_first.new.self.keys c.in-Some.total c.in-Some.k c.in-Some.ensures.all_above) in
+    let p = popped_of c.args.problem.now c.loop-total.search.nodes.items c.loop-total.search.fates.items c.loop-total.search.waiting.keys c.pop_first.new.self.keys c.loop-total.search.splits c.in-Some.total c.in-Some.k s c.in-Some.ensures.removal (above_of c.pop_first.new.self.keys c.in-Some.total c.in-Some.k c.in-Some.ensures.all_above) in
     let h = in_hand c.args.problem.now c.loop-total.search.nodes.items c.loop-total.search.fates.items c.pop_first.new.self.keys c.loop-total.search.splits c.in-Some.total c.in-Some.k p in
     let e = c.deref-in-loop-total.ensures.value in rw e (view_in c.loop-total.search.nodes.items p.views p.are c.in-Some.k h.view h.is)
 
@@ -63,7 +63,7 @@ tree_items-requires-in-Some-cause_to_stop-clause-later g c =
 pub returns-in_default-first_conflict : goal.returns-in_default-first_conflict
 returns-in_default-first_conflict g c =
     let s = c.loop-total.invariant.state in
-    let p = popped_of c.args.problem.now c.loop-total.search.nodes.items c.loop-total.search.fates.items c.loop-total.search.open.keys c.pop_first.new.self.keys c.loop-total.search.splits c.in-Some.total c.in-Some.k s c.in-Some.ensures.removal (above_of c.pop_first.new.self.keys c.in-Some.total c.in-Some.k c.in-Some.ensures.all_above) in
+    let p = popped_of c.args.problem.now c.loop-total.search.nodes.items c.loop-total.search.fates.items c.loop-total.search.waiting.keys c.pop_first.new.self.keys c.loop-total.search.splits c.in-Some.total c.in-Some.k s c.in-Some.ensures.removal (above_of c.pop_first.new.self.keys c.in-Some.total c.in-Some.k c.in-Some.ensures.all_above) in
     let h = in_hand c.args.problem.now c.loop-total.search.nodes.items c.loop-total.search.fates.items c.pop_first.new.self.keys c.loop-total.search.splits c.in-Some.total c.in-Some.k p in
     let plan : c.in_ok-plan.plan ≡ h.view.paths = c.in_ok-plan.ensures.paths p.views h.view (subst (λ ns. AreViews ns p.views) (sym c.deref-in-loop-total.ensures.value) p.are) h.is (h.live.counted.paths ∙ (let e = c.agents.ensures.value in ap length (sym e))) in
     let found = tree_of c.agents.result.now c.args.problem.now.agents c.deref-in_default-first_conflict.result.now c.loop-total.search.fates.items p.views c.in_ok-tree-2.tree.items c.agents.ensures.value c.deref-in_default-first_conflict.ensures.value (c.in_ok-tree-2.ensures p.views p.are (p.searched.lengths ∙ ap length (sym c.deref-in_default-first_conflict.ensures.value))) in
@@ -72,7 +72,7 @@ returns-in_default-first_conflict g c =
 pub returns-in-Some-cause_to_stop : goal.returns-in-Some-cause_to_stop
 returns-in-Some-cause_to_stop g c =
     let s = c.loop-total.invariant.state in
-    let p = popped_of c.args.problem.now c.loop-total.search.nodes.items c.loop-total.search.fates.items c.loop-total.search.open.keys c.pop_first.new.self.keys c.loop-total.search.splits c.in-Some.total c.in-Some.k s c.in-Some.ensures.removal (above_of c.pop_first.new.self.keys c.in-Some.total c.in-Some.k c.in-Some.ensures.all_above) in
+    let p = popped_of c.args.problem.now c.loop-total.search.nodes.items c.loop-total.search.fates.items c.loop-total.search.waiting.keys c.pop_first.new.self.keys c.loop-total.search.splits c.in-Some.total c.in-Some.k s c.in-Some.ensures.removal (above_of c.pop_first.new.self.keys c.in-Some.total c.in-Some.k c.in-Some.ensures.all_above) in
     let h = in_hand c.args.problem.now c.loop-total.search.nodes.items c.loop-total.search.fates.items c.pop_first.new.self.keys c.loop-total.search.splits c.in-Some.total c.in-Some.k p in
     let plan : c.in_ok-plan.plan ≡ h.view.paths = c.in_ok-plan.ensures.paths p.views h.view (subst (λ ns. AreViews ns p.views) (sym c.deref-in-loop-total.ensures.value) p.are) h.is (h.live.counted.paths ∙ (let e = c.agents.ensures.value in ap length (sym e))) in
     let found = tree_of c.agents.result.now c.args.problem.now.agents c.deref-in-Some-cause_to_stop.result.now c.loop-total.search.fates.items p.views c.in_ok-tree-3.tree.items c.agents.ensures.value c.deref-in-Some-cause_to_stop.ensures.value (c.in_ok-tree-3.ensures p.views p.are (p.searched.lengths ∙ ap length (sym c.deref-in-Some-cause_to_stop.ensures.value))) in
@@ -82,5 +82,5 @@ returns-in-Some-cause_to_stop g c =
 pub split-requires-clause-popped : goal.split-requires-clause-popped
 split-requires-clause-popped g c =
     let s = c.loop-total.invariant.state in
-    let p = popped_of c.args.problem.now c.loop-total.search.nodes.items c.loop-total.search.fates.items c.loop-total.search.open.keys c.pop_first.new.self.keys c.loop-total.search.splits c.in-Some.total c.in-Some.k s c.in-Some.ensures.removal (above_of c.pop_first.new.self.keys c.in-Some.total c.in-Some.k c.in-Some.ensures.all_above) in
+    let p = popped_of c.args.problem.now c.loop-total.search.nodes.items c.loop-total.search.fates.items c.loop-total.search.waiting.keys c.pop_first.new.self.keys c.loop-total.search.splits c.in-Some.total c.in-Some.k s c.in-Some.ensures.removal (above_of c.pop_first.new.self.keys c.in-Some.total c.in-Some.k c.in-Some.ensures.all_above) in
     p
