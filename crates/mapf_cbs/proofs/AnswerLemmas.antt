@@ -11,6 +11,7 @@ use Rattle.mapf_model.specs.declared.item.Claim.TheVariants.{Cost, Impossible}
 use Rattle.mapf_model.specs.declared.conflict.Conflict.{Conflict}
 use Rattle.mapf_model.specs.declared.conflict.Conflict.TheVariants.{Vertex, Swap}
 use Rattle.mapf_model.specs.declared.item.Item.{Item}
+use Rattle.mapf_model.specs.declared.problem.Agent.{Agent}
 use Rattle.mapf_model.specs.Plan.{Instance, IsValid}
 use Rattle.mapf_model.specs.Tree.{ConstraintTree, Spell, Shows, Holds, ShareGoal, split_count, root}
 use Rattle.mapf_model.specs.Earned.{HasConflict, AreConflictFreeBefore, HaveSomeConflict, IsStopped, IsStoppedFrom, tick_of}
@@ -38,9 +39,8 @@ none_left : {X : Type 0} (x : X) → Contains [] x → ⊥
 none_left x (k, within, is) = omega arith
 
 -- the state as it begins
-pub state_first : (problem : Instance) (paths : Vec (List ℕ) Global) (total : ℕ) (view : View) → IsRootView paths.items view → IsLive problem view → total ≡ sum view.costs → total ≤ 200 * 2 ^ 32 →
-    (nodes : List Node) → nodes ≡ Root paths ∷ [] → IsState problem nodes (Open ∷ []) ((total, 0) ∷ []) 0
-state_first problem paths total view root_view live total_is small nodes nodes_is = subst (λ ns. IsState problem ns (Open ∷ []) ((total, 0) ∷ []) 0) (sym nodes_is) (record {
+pub state_root : (problem : Instance) (paths : Vec (List ℕ) Global) (total : ℕ) (view : View) → IsRootView paths.items view → IsLive problem view → total ≡ sum view.costs → total ≤ 200 * 2 ^ 32 → IsState problem (Root paths ∷ []) (Open ∷ []) ((total, 0) ∷ []) 0
+state_root problem paths total view root_view live total_is small = record {
   views = view ∷ [];
   are = record { lengths = refl; each = each_view };
   searched = searched_first problem view root_view.constraints live;
@@ -52,7 +52,7 @@ state_first problem paths total view root_view live total_is small nodes nodes_i
   bars = each_low;
   size = omega arith;
   small = λ key in_it. small_key key in_it;
-})
+}
   where
     each_view : (k : ℕ) (node : Node) (v : View) → slice_get (Root paths ∷ []) k ≡ Some node → slice_get (view ∷ []) k ≡ Some v → IsNodeView (view ∷ []) k node v
     each_view zero node v node_is v_is = subst (λ n. IsNodeView (view ∷ []) 0 n v) (same_Some (Root paths) node node_is) (subst (λ w. IsRootView paths.items w) (same_Some view v v_is) root_view)
@@ -83,6 +83,14 @@ state_first problem paths total view root_view live total_is small nodes nodes_i
     small_key : (key : ℕ × ℕ) → Contains {X = ℕ × ℕ} ((total, 0) ∷ []) key → key.0 ≤ (0 + 201) * 2 ^ 32
     small_key key in_it = let e : total ≡ key.0 = ap (λ (x : ℕ × ℕ). x.0) (first_key key in_it) in omega arith
 
+pub root_views : (problem : Instance) (paths : Vec (List ℕ) Global) (total : ℕ) (view : View) (root_view : IsRootView paths.items view) (live : IsLive problem view) (total_is : total ≡ sum view.costs) (small : total ≤ 200 * 2 ^ 32) → (state_root problem paths total view root_view live total_is small).views ≡ view ∷ []
+unfolding state_root
+root_views problem paths total view root_view live total_is small = refl
+
+pub state_first : (problem : Instance) (paths : Vec (List ℕ) Global) (total : ℕ) (view : View) → IsRootView paths.items view → IsLive problem view → total ≡ sum view.costs → total ≤ 200 * 2 ^ 32 →
+    (nodes : List Node) → nodes ≡ Root paths ∷ [] → IsState problem nodes (Open ∷ []) ((total, 0) ∷ []) 0
+state_first problem paths total view root_view live total_is small nodes nodes_is = subst (λ ns. IsState problem ns (Open ∷ []) ((total, 0) ∷ []) 0) (sym nodes_is) (state_root problem paths total view root_view live total_is small)
+
 -- children come later
 pub cuts_later : (problem : Instance) (views : List View) (fates : List Fate) (count : ℕ) → IsSearched problem views fates count → AreCutsLater fates
 cuts_later problem views fates count searched k conflict a b is =
@@ -93,6 +101,10 @@ cuts_later problem views fates count searched k conflict a b is =
     let in_a = slice_get_within views a cut.to_left.0 cut.to_left.1 in
     let in_b = slice_get_within views b cut.to_right.0 cut.to_right.1 in
     (cut.left_later, cut.right_later, omega arith, omega arith)
+
+-- a tree of lists that are known by other names
+pub tree_of : (agents others : List Agent) (fates more : List Fate) (views : List View) (items : List Item) → agents ≡ others → fates ≡ more → (tree : ConstraintTree) × Spell items tree × IsTreeAt (length agents) views fates 0 tree → (tree : ConstraintTree) × Spell items tree × IsTreeAt (length others) views more 0 tree
+tree_of agents others fates more views items same fates_same (tree, spell, is) = (tree, spell, subst (λ fs. IsTreeAt (length others) views fs 0 tree) fates_same (subst (λ xs. IsTreeAt (length xs) views fates 0 tree) same is))
 
 pub popped_of : (problem : Instance) (nodes : List Node) (fates : List Fate) (keys rest : List (ℕ × ℕ)) (count total k : ℕ) → IsState problem nodes fates keys count → keys ≡ (total, k) ∷ rest → ((key : ℕ × ℕ) → Contains rest key → key_cmp (total, k) key ≡ Less) → IsPopped problem nodes fates rest count total k
 popped_of problem nodes fates keys rest count total k state e above = record {

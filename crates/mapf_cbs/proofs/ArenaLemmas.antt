@@ -19,7 +19,7 @@ use Rattle.mapf_cbs.specs.Arena.{AreViews, IsChildView, AreJoined}
 use Rattle.mapf_cbs.proofs.SumLemmas.{slice_get-set_same, slice_get-set_other}
 
 -- a path that this node didn't find is the parent's
-paths_kept : (before : View) (agent bound : ℕ) (bar : Bar) (found : Found) (view : View) → (agent ≢ bound) ⊎ ((labels : List Entry) × (found ≡ Dead labels)) → IsChildView before bound bar found view → slice_get view.paths agent ≡ slice_get before.paths agent
+pub paths_kept : (before : View) (agent bound : ℕ) (bar : Bar) (found : Found) (view : View) → (agent ≢ bound) ⊎ ((labels : List Entry) × (found ≡ Dead labels)) → IsChildView before bound bar found view → slice_get view.paths agent ≡ slice_get before.paths agent
 paths_kept before agent bound bar (Arrives path labels) view (inl other) (cost, e) = ap (λ (v : View). slice_get v.paths agent) e ∙ slice_get-set_other before.paths bound agent path other
 paths_kept before agent bound bar (Arrives path labels) view (inr (ls, dead)) is = absurd cc
 paths_kept before agent bound bar (Dead labels) view why e = ap (λ (v : View). slice_get v.paths agent) e
@@ -34,11 +34,11 @@ abbrev pub found_labels : Found → List Entry
 found_labels (Arrives path labels) = labels
 found_labels (Dead labels) = labels
 
-entries_kept : (before : View) (agent bound : ℕ) (bar : Bar) (found : Found) (view : View) → agent ≢ bound → IsChildView before bound bar found view → view.entries agent ≡ before.entries agent
+pub entries_kept : (before : View) (agent bound : ℕ) (bar : Bar) (found : Found) (view : View) → agent ≢ bound → IsChildView before bound bar found view → view.entries agent ≡ before.entries agent
 entries_kept before agent bound bar (Arrives path labels) view other (cost, e) = ap (λ (v : View). v.entries agent) e ∙ cond_not agent bound labels (before.entries agent) other
 entries_kept before agent bound bar (Dead labels) view other e = ap (λ (v : View). v.entries agent) e ∙ cond_not agent bound labels (before.entries agent) other
 
-entries_new : (before : View) (bound : ℕ) (bar : Bar) (found : Found) (view : View) → IsChildView before bound bar found view → view.entries bound ≡ found_labels found
+pub entries_new : (before : View) (bound : ℕ) (bar : Bar) (found : Found) (view : View) → IsChildView before bound bar found view → view.entries bound ≡ found_labels found
 entries_new before bound bar (Arrives path labels) view (cost, e) = ap (λ (v : View). v.entries bound) e ∙ cond_same bound labels (before.entries bound)
 entries_new before bound bar (Dead labels) view e = ap (λ (v : View). v.entries bound) e ∙ cond_same bound labels (before.entries bound)
 
@@ -47,10 +47,10 @@ constraints_are before bound bar (Arrives path labels) view (cost, e) = ap (λ (
 constraints_are before bound bar (Dead labels) view e = ap (λ (v : View). v.constraints.bars) e
 
 -- the bars at a node are the parent's, with one more for the agent that is bound
-bars_other : (before : View) (agent bound : ℕ) (bar : Bar) (found : Found) (view : View) → agent ≢ bound → IsChildView before bound bar found view → view.constraints.bars agent ≡ before.constraints.bars agent
+pub bars_other : (before : View) (agent bound : ℕ) (bar : Bar) (found : Found) (view : View) → agent ≢ bound → IsChildView before bound bar found view → view.constraints.bars agent ≡ before.constraints.bars agent
 bars_other before agent bound bar found view other is = ap (λ (bars : ℕ → List Bar). bars agent) (constraints_are before bound bar found view is) ∙ cond_not agent bound (bar ∷ before.constraints.bars agent) (before.constraints.bars agent) other
 
-bars_bound : (before : View) (bound : ℕ) (bar : Bar) (found : Found) (view : View) → IsChildView before bound bar found view → view.constraints.bars bound ≡ bar ∷ before.constraints.bars bound
+pub bars_bound : (before : View) (bound : ℕ) (bar : Bar) (found : Found) (view : View) → IsChildView before bound bar found view → view.constraints.bars bound ≡ bar ∷ before.constraints.bars bound
 bars_bound before bound bar found view is = ap (λ (bars : ℕ → List Bar). bars bound) (constraints_are before bound bar found view is) ∙ cond_same bound (bar ∷ before.constraints.bars bound) (before.constraints.bars bound)
 
 module _ (nodes : List Node) (views : List View) (are : AreViews nodes views) (k : ℕ) (view : View) (is : slice_get views k ≡ Some view) where

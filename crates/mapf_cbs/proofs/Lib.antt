@@ -15,3 +15,5 @@ pub mod OpenLemmas
 pub mod StateLemmas
 pub mod AnswerLemmas
 pub mod StartLemmas
+pub mod WholeLemmas
+pub mod PlainLemmas

@@ -277,6 +277,10 @@ module _ (problem : Instance) (nodes : List Node) (fates : List Fate) (rest : Li
             small = small_grown;
           }
 
+      pub grown_views : (a_in : left_agent conflict < length view.paths) (b_in : right_agent conflict < length view.paths) (p_low : IsTableBar (left_bar conflict)) (q_low : IsTableBar (right_bar conflict)) → (state_grown a_in b_in p_low q_low).views ≡ popped.views ++ left.child ∷ right.child ∷ []
+      unfolding state_grown
+      grown_views a_in b_in p_low q_low = refl
+
 -- the node in hand
 pub record IsInHand (problem : Instance) (fates : List Fate) (k total : ℕ) (views : List View) : Type 0 where
   pub view : View

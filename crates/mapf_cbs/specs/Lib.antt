@@ -6,3 +6,4 @@ pub mod State
 pub mod Finders
 pub mod Start
 pub mod Answer
+pub mod Whole

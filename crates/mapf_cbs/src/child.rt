@@ -77,7 +77,8 @@ fn search_with<B: BarTable>(
     search(alloc, problem.grid(), &tables[agent as usize], &table, who)
 }
 
-fn cost_of(path: &Path, goal: Cell) -> u32
+/// The cost of a path that ends at the goal.
+pub fn cost_of(path: &Path, goal: Cell) -> u32
     requires { at path.now (length path.now - 1) ≡ goal }
     ensures { IsCost goal path.now result }
 {
@@ -87,7 +88,8 @@ fn cost_of(path: &Path, goal: Cell) -> u32
     }
 }
 
-fn new_total(found: &Found, goal: Cell, rest: u64) -> Option<u64>
+/// The sum with the cost of the path that was found, None where none was.
+pub fn new_total(found: &Found, goal: Cell, rest: u64) -> Option<u64>
     requires lawful { EndsAt found.now goal }
     requires small { rest + 2 ^ 32 < 2 ^ 64 }
     ensures { IsTotal found.now goal rest result }

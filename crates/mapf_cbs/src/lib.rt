@@ -6,12 +6,16 @@ mod answer;
 mod child;
 mod clash;
 mod finders;
+pub mod laws;
+mod leaves;
 mod node;
 mod search_tree;
 mod sides;
 mod solver;
 mod start;
 mod walks;
+mod whole_node;
+mod whole_tree;
 mod written;
 
 pub use answer::Answer;

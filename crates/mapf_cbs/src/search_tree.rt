@@ -16,7 +16,7 @@ pub struct SearchTree {
     // What became of each node.
     pub fates: Vec<Fate>,
     // The sum and the number of each open node.
-    pub open: BTreeSet<(u64, u32)>,
+    pub waiting: BTreeSet<(u64, u32)>,
     // How many nodes were split.
     pub splits: u32,
 }
@@ -26,13 +26,13 @@ impl SearchTree {
     pub fn of(alloc: Global, paths: Vec<Path>, total: u64) -> Result<SearchTree, OutOfMemory>
         ensures nodes { IfOk result (λ tree. tree.nodes.items ≡ Node.Root paths ∷ []) }
         ensures fates { IfOk result (λ tree. tree.fates.items ≡ Fate.Open ∷ []) }
-        ensures open { IfOk result (λ tree. tree.open.keys ≡ (total, 0) ∷ []) }
+        ensures waiting { IfOk result (λ tree. tree.waiting.keys ≡ (total, 0) ∷ []) }
         ensures splits { IfOk result (λ tree. tree.splits ≡ 0) }
     {
         let mut tree = SearchTree {
             nodes: Vec::new(alloc),
             fates: Vec::new(alloc),
-            open: BTreeSet::new(alloc),
+            waiting: BTreeSet::new(alloc),
             splits: 0,
         };
         tree.plant(paths, total)?;
@@ -43,15 +43,15 @@ impl SearchTree {
     fn plant(&mut self, paths: Vec<Path>, total: u64) -> Result<(), OutOfMemory>
         requires nodes { self.old.nodes.items ≡ [] }
         requires fates { self.old.fates.items ≡ [] }
-        requires open { self.old.open.keys ≡ [] }
+        requires waiting { self.old.waiting.keys ≡ [] }
         ensures nodes { OnOk result (self.new.nodes.items ≡ Node.Root paths ∷ []) }
         ensures fates { OnOk result (self.new.fates.items ≡ Fate.Open ∷ []) }
-        ensures open { OnOk result (self.new.open.keys ≡ (total, 0) ∷ []) }
+        ensures waiting { OnOk result (self.new.waiting.keys ≡ (total, 0) ∷ []) }
         ensures splits { OnOk result (self.new.splits ≡ self.old.splits) }
     {
         // The prover finds the type of a fate's conflict only where it is named.
         let _conflict: Option<Conflict> = None;
-        self.open.insert((total, 0))?;
+        self.waiting.insert((total, 0))?;
         self.nodes.push(Node::Root { paths })?;
         self.fates.push(Fate::Open)?;
         Ok(())
@@ -71,7 +71,7 @@ impl SearchTree {
         requires splits { self.old.splits < 2 ^ 31 }
         ensures nodes { OnOk result (self.new.nodes.items ≡ (self.old.nodes.items ++ Node.Child k (left_agent conflict.now) (left_bar conflict.now) left.found ∷ []) ++ Node.Child k (right_agent conflict.now) (right_bar conflict.now) right.found ∷ []) }
         ensures fates { OnOk result (self.new.fates.items ≡ slice_set ((self.old.fates.items ++ fate_of left.total ∷ []) ++ fate_of right.total ∷ []) k (Fate.Cut conflict.now (length self.old.nodes.items) (length self.old.nodes.items + 1))) }
-        ensures open { OnOk result (self.new.open.keys ≡ with_key (with_key self.old.open.keys left.total (length self.old.nodes.items)) right.total (length self.old.nodes.items + 1)) }
+        ensures waiting { OnOk result (self.new.waiting.keys ≡ with_key (with_key self.old.waiting.keys left.total (length self.old.nodes.items)) right.total (length self.old.nodes.items + 1)) }
         ensures splits { OnOk result (self.new.splits ≡ self.old.splits + 1) }
     {
         let number = self.nodes.len() as u32;
@@ -102,20 +102,20 @@ impl SearchTree {
 
     // Notes a node that is open, where it has a sum.
     fn add_open(&mut self, total: Option<u64>, number: u32) -> Result<(), OutOfMemory>
-        ensures open { OnOk result (self.new.open.keys ≡ with_key self.old.open.keys total number) }
+        ensures waiting { OnOk result (self.new.waiting.keys ≡ with_key self.old.waiting.keys total number) }
         ensures nodes { OnOk result (self.new.nodes ≡ self.old.nodes) }
         ensures fates { OnOk result (self.new.fates ≡ self.old.fates) }
         ensures splits { OnOk result (self.new.splits ≡ self.old.splits) }
     {
         if let Some(total) = total {
-            self.open.insert((total, number))?;
+            self.waiting.insert((total, number))?;
         }
         Ok(())
     }
 }
 
 /// A child is open where it has a sum.
-fn fate_of(total: &Option<u64>) -> Fate
+pub fn fate_of(total: &Option<u64>) -> Fate
     ensures { result ≡ fate_of total.now }
 {
     match total {

@@ -66,8 +66,8 @@ pub fn solve_with<B: BarTable>(
     }
 }
 
-// The items of a tree of one node.
-fn one_item(alloc: Global, item: Item) -> Result<Vec<Item>, OutOfMemory>
+/// The items of a tree of one node.
+pub fn one_item(alloc: Global, item: Item) -> Result<Vec<Item>, OutOfMemory>
     ensures { IfOk result (λ tree. tree.items ≡ item ∷ []) }
 {
     let mut tree = Vec::new(alloc);
@@ -97,7 +97,7 @@ fn search_from<B: BarTable>(
     let total = total_of(&paths);
     let mut search = SearchTree::of(alloc, paths, total)?;
     loop {
-        let Some((total, k)) = search.open.pop_first() else {
+        let Some((total, k)) = search.waiting.pop_first() else {
             let tree = tree_items(alloc, &search.nodes, &search.fates, agents)?;
             return Ok(Answer::Impossible { tree });
         };
@@ -114,8 +114,8 @@ fn search_from<B: BarTable>(
     }
 }
 
-// Why the conflict isn't split after so many splits, None where it is.
-fn cause_to_stop(conflict: &Conflict, splits: u32, limit: u32) -> Option<Cause>
+/// Why the conflict isn't split after so many splits, None where it is.
+pub fn cause_to_stop(conflict: &Conflict, splits: u32, limit: u32) -> Option<Cause>
     ensures some { IfSome result (IsCauseToStop conflict.now splits limit) }
     ensures early { IfNone result (tick_of conflict.now < 1000000) }
     ensures allowed { IfNone result (splits ≢ limit) }
@@ -140,12 +140,12 @@ fn split<B: BarTable>(
     conflict: &Conflict,
 ) -> Result<(), OutOfMemory>
     requires tables { AreTables problem.now tables.now }
-    requires popped { IsPopped problem.now search.old.nodes.items search.old.fates.items search.old.open.keys search.old.splits total k }
+    requires popped { IsPopped problem.now search.old.nodes.items search.old.fates.items search.old.waiting.keys search.old.splits total k }
     requires goals { (i j : ℕ) → ShareGoal problem.now i j → ⊥ }
     requires meet { (views : List View) (view : View) → AreViews search.old.nodes.items views → slice_get views k ≡ Some view → IsLive problem.now view → HasConflict view.paths conflict.now × AreConflictFreeBefore view.paths (tick_of conflict.now) }
     requires early { tick_of conflict.now < 1000000 }
     requires few { search.old.splits < 100000 }
-    ensures state { OnOk result (IsState problem.now search.new.nodes.items search.new.fates.items search.new.open.keys (search.old.splits + 1)) }
+    ensures state { OnOk result (IsState problem.now search.new.nodes.items search.new.fates.items search.new.waiting.keys (search.old.splits + 1)) }
     ensures splits { OnOk result (search.new.splits ≡ search.old.splits + 1) }
 {
     let left = child::<B>(

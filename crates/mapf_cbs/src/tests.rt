@@ -1,3 +1,4 @@
+use crate::laws::solve_plain;
 use crate::{Answer, Cause, solve, solve_with};
 use mapf_constraints::{BarTable, ListBars, TickBars};
 use mapf_model::{Agent, Block, Cell, Grid, Item, Label, Path, Plan, Problem};
@@ -109,7 +110,7 @@ fn answer_text(alloc: Global, answer: &Answer) -> Result<String, AllocError> {
     Ok(text)
 }
 
-/// Both tables of bars lead to this answer.
+/// Both tables of bars lead to this answer, and so does the plain search.
 fn solves(
     rt: &impl Abort,
     alloc: Global,
@@ -124,6 +125,8 @@ fn solves(
         assert_eq!(rt; answer_text(alloc, &by_list)?.as_str(), expected);
         let by_tick = solve_with::<TickBars>(alloc, &problem, limit)?;
         assert_eq!(rt; answer_text(alloc, &by_tick)?.as_str(), expected);
+        let plain = solve_plain(alloc, &problem, limit)?;
+        assert_eq!(rt; answer_text(alloc, &plain)?.as_str(), expected);
     }
     Ok(())
 }

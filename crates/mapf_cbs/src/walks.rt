@@ -118,7 +118,8 @@ pub fn plan_at(alloc: Global, nodes: &[Node], k: u32, agents: u32) -> Result<Pla
     }
 }
 
-fn copied(alloc: Global, path: &Path) -> Result<Path, OutOfMemory>
+/// A copy of the path.
+pub fn copied(alloc: Global, path: &Path) -> Result<Path, OutOfMemory>
     ensures same { IfOk result (λ copy. copy ≡ path.now) }
     ensures short { IfOk result (λ copy. length copy ≤ 10000000) }
 {

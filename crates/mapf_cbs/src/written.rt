@@ -4,6 +4,7 @@ ghost use Rattle.mapf_cbs.specs.Search.{View, AreBlocksOf, AreCutsLater, IsTreeA
 ghost use Rattle.mapf_cbs.specs.Arena.{AreNodesFor, AreViews};
 
 use crate::finders::finders_at;
+use crate::leaves::Leaves;
 use crate::node::{Fate, Node};
 use crate::sides::split_item;
 use crate::walks::labels_at;
@@ -11,18 +12,17 @@ use mapf_model::{Block, Entry, Item, OutOfMemory};
 use std::alloc::Global;
 
 /// The items of the nodes' tree in pre-order.
-pub fn tree_items(
+pub fn tree_items<L: Leaves>(
     alloc: Global,
-    nodes: &[Node],
+    nodes: &L,
     fates: &[Fate],
     agents: u32,
 ) -> Result<Vec<Item>, OutOfMemory>
-    requires nodes { (agent : ℕ) → agent < agents → AreNodesFor agent nodes.now }
-    requires agents { 0 < agents }
-    requires same { length fates.now ≡ length nodes.now }
-    requires some { 0 < length nodes.now }
+    requires nodes { L.are_for nodes.now agents }
+    requires same { length fates.now ≡ L.count nodes.now }
+    requires some { 0 < length fates.now }
     requires later { AreCutsLater fates.now }
-    ensures { IfOk result (λ items. (views : List View) → AreViews nodes.now views → (tree : ConstraintTree) × Spell items.items tree × IsTreeAt agents views fates.now 0 tree) }
+    ensures { IfOk result (λ items. (views : List View) → L.are_views nodes.now views → length views ≡ length fates.now → (tree : ConstraintTree) × Spell items.items tree × IsTreeAt agents views fates.now 0 tree) }
 {
     let mut items = Vec::new(alloc);
     let mut owed: Vec<u32> = Vec::new(alloc);
@@ -40,7 +40,7 @@ pub fn tree_items(
                 owed.push(left)?;
             }
             _ => {
-                let blocks = blocks_at(alloc, nodes, k, agents)?;
+                let blocks = nodes.blocks_at(alloc, k, agents)?;
                 items.push(Item::Leaf(blocks))?;
             }
         }
@@ -48,8 +48,20 @@ pub fn tree_items(
     Ok(items)
 }
 
+impl Leaves for Vec<Node> {
+    ghost are_views = { λ nodes views. AreViews nodes.items views };
+
+    ghost are_for = { λ nodes agents. (0 < agents) × ((agent : ℕ) → agent < agents → AreNodesFor agent nodes.items) };
+
+    ghost count = { λ nodes. length nodes.items };
+
+    fn blocks_at(&self, alloc: Global, k: u32, agents: u32) -> Result<Vec<Block>, OutOfMemory> {
+        blocks_of(alloc, self, k, agents)
+    }
+}
+
 // One block for each agent that has labels at the node.
-fn blocks_at(alloc: Global, nodes: &[Node], k: u32, agents: u32) -> Result<Vec<Block>, OutOfMemory>
+fn blocks_of(alloc: Global, nodes: &[Node], k: u32, agents: u32) -> Result<Vec<Block>, OutOfMemory>
     requires nodes { (agent : ℕ) → agent < agents → AreNodesFor agent nodes.now }
     requires agents { 0 < agents }
     requires inside { k < length nodes.now }

@@ -20,7 +20,7 @@ on_ok_three (Err e) f a b c = a
 pub child-requires-clause-nodes : goal.child-requires-clause-nodes
 child-requires-clause-nodes g c =
     let p = c.requires.popped in
-    let h = in_hand c.args.problem.now c.args.search.now.nodes.items c.args.search.now.fates.items c.args.search.now.open.keys c.args.search.now.splits c.args.total c.args.k p in
+    let h = in_hand c.args.problem.now c.args.search.now.nodes.items c.args.search.now.fates.items c.args.search.now.waiting.keys c.args.search.now.splits c.args.total c.args.k p in
     let size = h.live.counted.paths in
     let known = left_known h.view.paths c.args.conflict.now (c.requires.meet p.views h.view p.are h.is h.live).0 in
     let agent = c.left_agent.ensures in
@@ -29,13 +29,13 @@ child-requires-clause-nodes g c =
 pub child-requires-clause-inside : goal.child-requires-clause-inside
 child-requires-clause-inside g c =
     let p = c.requires.popped in
-    let h = in_hand c.args.problem.now c.args.search.now.nodes.items c.args.search.now.fates.items c.args.search.now.open.keys c.args.search.now.splits c.args.total c.args.k p in
+    let h = in_hand c.args.problem.now c.args.search.now.nodes.items c.args.search.now.fates.items c.args.search.now.waiting.keys c.args.search.now.splits c.args.total c.args.k p in
     let e = c.deref.ensures.value in rw e (view_in c.args.search.now.nodes.items p.views p.are c.args.k h.view h.is)
 
 pub child-requires-clause-known : goal.child-requires-clause-known
 child-requires-clause-known g c =
     let p = c.requires.popped in
-    let h = in_hand c.args.problem.now c.args.search.now.nodes.items c.args.search.now.fates.items c.args.search.now.open.keys c.args.search.now.splits c.args.total c.args.k p in
+    let h = in_hand c.args.problem.now c.args.search.now.nodes.items c.args.search.now.fates.items c.args.search.now.waiting.keys c.args.search.now.splits c.args.total c.args.k p in
     let size = h.live.counted.paths in
     let known = left_known h.view.paths c.args.conflict.now (c.requires.meet p.views h.view p.are h.is h.live).0 in
     let agent = c.left_agent.ensures in
@@ -43,20 +43,20 @@ child-requires-clause-known g c =
 
 pub child-requires-clause-small : goal.child-requires-clause-small
 child-requires-clause-small g c =
-    let h = c.requires.popped.small (c.args.total, c.args.k) (Contains-first (c.args.total, c.args.k) c.args.search.now.open.keys) in
+    let h = c.requires.popped.small (c.args.total, c.args.k) (Contains-first (c.args.total, c.args.k) c.args.search.now.waiting.keys) in
     let few = c.requires.few in
     omega (arith, h, few)
 
 pub child-requires-clause-live : goal.child-requires-clause-live
 child-requires-clause-live g c =
     let p = c.requires.popped in
-    let h = in_hand c.args.problem.now c.args.search.now.nodes.items c.args.search.now.fates.items c.args.search.now.open.keys c.args.search.now.splits c.args.total c.args.k p in
+    let h = in_hand c.args.problem.now c.args.search.now.nodes.items c.args.search.now.fates.items c.args.search.now.waiting.keys c.args.search.now.splits c.args.total c.args.k p in
     (p.views, h.view, subst (λ ns. AreViews ns p.views) (sym c.deref.ensures.value) p.are, h.is, h.live, h.total_is)
 
 pub child-requires-2-clause-nodes : goal.child-requires-2-clause-nodes
 child-requires-2-clause-nodes g c =
     let p = c.requires.popped in
-    let h = in_hand c.args.problem.now c.args.search.now.nodes.items c.args.search.now.fates.items c.args.search.now.open.keys c.args.search.now.splits c.args.total c.args.k p in
+    let h = in_hand c.args.problem.now c.args.search.now.nodes.items c.args.search.now.fates.items c.args.search.now.waiting.keys c.args.search.now.splits c.args.total c.args.k p in
     let size = h.live.counted.paths in
     let known = right_known h.view.paths c.args.conflict.now (c.requires.meet p.views h.view p.are h.is h.live).0 in
     let agent = c.right_agent.ensures in
@@ -65,13 +65,13 @@ child-requires-2-clause-nodes g c =
 pub child-requires-2-clause-inside : goal.child-requires-2-clause-inside
 child-requires-2-clause-inside g c =
     let p = c.requires.popped in
-    let h = in_hand c.args.problem.now c.args.search.now.nodes.items c.args.search.now.fates.items c.args.search.now.open.keys c.args.search.now.splits c.args.total c.args.k p in
+    let h = in_hand c.args.problem.now c.args.search.now.nodes.items c.args.search.now.fates.items c.args.search.now.waiting.keys c.args.search.now.splits c.args.total c.args.k p in
     let e = c.deref-2.ensures.value in rw e (view_in c.args.search.now.nodes.items p.views p.are c.args.k h.view h.is)
 
 pub child-requires-2-clause-known : goal.child-requires-2-clause-known
 child-requires-2-clause-known g c =
     let p = c.requires.popped in
-    let h = in_hand c.args.problem.now c.args.search.now.nodes.items c.args.search.now.fates.items c.args.search.now.open.keys c.args.search.now.splits c.args.total c.args.k p in
+    let h = in_hand c.args.problem.now c.args.search.now.nodes.items c.args.search.now.fates.items c.args.search.now.waiting.keys c.args.search.now.splits c.args.total c.args.k p in
     let size = h.live.counted.paths in
     let known = right_known h.view.paths c.args.conflict.now (c.requires.meet p.views h.view p.are h.is h.live).0 in
     let agent = c.right_agent.ensures in
@@ -79,38 +79,38 @@ child-requires-2-clause-known g c =
 
 pub child-requires-2-clause-small : goal.child-requires-2-clause-small
 child-requires-2-clause-small g c =
-    let h = c.requires.popped.small (c.args.total, c.args.k) (Contains-first (c.args.total, c.args.k) c.args.search.now.open.keys) in
+    let h = c.requires.popped.small (c.args.total, c.args.k) (Contains-first (c.args.total, c.args.k) c.args.search.now.waiting.keys) in
     let few = c.requires.few in
     omega (arith, h, few)
 
 pub child-requires-2-clause-live : goal.child-requires-2-clause-live
 child-requires-2-clause-live g c =
     let p = c.requires.popped in
-    let h = in_hand c.args.problem.now c.args.search.now.nodes.items c.args.search.now.fates.items c.args.search.now.open.keys c.args.search.now.splits c.args.total c.args.k p in
+    let h = in_hand c.args.problem.now c.args.search.now.nodes.items c.args.search.now.fates.items c.args.search.now.waiting.keys c.args.search.now.splits c.args.total c.args.k p in
     (p.views, h.view, subst (λ ns. AreViews ns p.views) (sym c.deref-2.ensures.value) p.are, h.is, h.live, h.total_is)
 
 pub child-requires-clause-bar : goal.child-requires-clause-bar
 child-requires-clause-bar g c =
     let p = c.requires.popped in
-    let h = in_hand c.args.problem.now c.args.search.now.nodes.items c.args.search.now.fates.items c.args.search.now.open.keys c.args.search.now.splits c.args.total c.args.k p in
+    let h = in_hand c.args.problem.now c.args.search.now.nodes.items c.args.search.now.fates.items c.args.search.now.waiting.keys c.args.search.now.splits c.args.total c.args.k p in
     subst IsTableBar (sym c.left_bar.ensures) (left_table_bar h.view.paths c.args.conflict.now (c.requires.meet p.views h.view p.are h.is h.live).0 c.requires.early)
 
 pub child-requires-2-clause-bar : goal.child-requires-2-clause-bar
 child-requires-2-clause-bar g c =
     let p = c.requires.popped in
-    let h = in_hand c.args.problem.now c.args.search.now.nodes.items c.args.search.now.fates.items c.args.search.now.open.keys c.args.search.now.splits c.args.total c.args.k p in
+    let h = in_hand c.args.problem.now c.args.search.now.nodes.items c.args.search.now.fates.items c.args.search.now.waiting.keys c.args.search.now.splits c.args.total c.args.k p in
     subst IsTableBar (sym c.right_bar.ensures) (right_table_bar h.view.paths c.args.conflict.now (c.requires.meet p.views h.view p.are h.is h.live).0 c.requires.early)
 
 pub grow-requires-clause-inside : goal.grow-requires-clause-inside
 grow-requires-clause-inside g c =
     let p = c.requires.popped in
-    let h = in_hand c.args.problem.now c.args.search.now.nodes.items c.args.search.now.fates.items c.args.search.now.open.keys c.args.search.now.splits c.args.total c.args.k p in
+    let h = in_hand c.args.problem.now c.args.search.now.nodes.items c.args.search.now.fates.items c.args.search.now.waiting.keys c.args.search.now.splits c.args.total c.args.k p in
     slice_get_within c.args.search.now.fates.items c.args.k Open h.is_open
 
 pub returns-clause-state : goal.returns-clause-state
 returns-clause-state g c =
     let p = c.requires.popped in
-    let h = in_hand c.args.problem.now c.args.search.now.nodes.items c.args.search.now.fates.items c.args.search.now.open.keys c.args.search.now.splits c.args.total c.args.k p in
+    let h = in_hand c.args.problem.now c.args.search.now.nodes.items c.args.search.now.fates.items c.args.search.now.waiting.keys c.args.search.now.splits c.args.total c.args.k p in
     let met = c.requires.meet p.views h.view p.are h.is h.live in
     let left : IsBorn c.args.problem.now h.view (left_agent c.args.conflict.now) (left_bar c.args.conflict.now) c.in_ok-left.left.found c.in_ok-left.left.total =
     subst (λ i. IsBorn c.args.problem.now h.view i (left_bar c.args.conflict.now) c.in_ok-left.left.found c.in_ok-left.left.total) c.left_agent.ensures
@@ -129,14 +129,14 @@ returns-clause-state g c =
     let inside = slice_get_within c.args.search.now.fates.items c.args.k Open h.is_open in
     let grown = grown_fates c.args.search.now.fates.items c.args.k c.args.conflict.now (fate_of c.in_ok-left.left.total) (fate_of c.in_ok-right.right.total) inside (end_of_total c.in_ok-left.left.total) (end_of_total c.in_ok-right.right.total) in
     let early = c.requires.early in
-    let state = state_grown c.args.problem.now c.args.search.now.nodes.items c.args.search.now.fates.items c.args.search.now.open.keys c.args.search.now.splits c.args.total c.args.k p c.requires.goals h.view h.is h.is_open h.total_is c.args.conflict.now met.0 met.1 early
+    let state = state_grown c.args.problem.now c.args.search.now.nodes.items c.args.search.now.fates.items c.args.search.now.waiting.keys c.args.search.now.splits c.args.total c.args.k p c.requires.goals h.view h.is h.is_open h.total_is c.args.conflict.now met.0 met.1 early
     c.in_ok-left.left.found c.in_ok-right.right.found c.in_ok-left.left.total c.in_ok-right.right.total left right
     (slice_set (c.args.search.now.fates.items ++ fate_of c.in_ok-left.left.total ∷ fate_of c.in_ok-right.right.total ∷ []) c.args.k (Cut c.args.conflict.now (length c.args.search.now.fates.items) (length c.args.search.now.fates.items + 1)))
     grown (left_known h.view.paths c.args.conflict.now met.0) (right_known h.view.paths c.args.conflict.now met.0)
     (left_table_bar h.view.paths c.args.conflict.now met.0 early) (right_table_bar h.view.paths c.args.conflict.now met.0 early) in
     on_ok_three c.grow.result (λ ns fs ks.
-    subst (λ xs. IsState c.args.problem.now xs c.grow.new.self.fates.items c.grow.new.self.open.keys (c.args.search.now.splits + 1)) (sym ns)
-    (subst (λ xs. IsState c.args.problem.now ((c.args.search.now.nodes.items ++ Child c.args.k (left_agent c.args.conflict.now) (left_bar c.args.conflict.now) c.in_ok-left.left.found ∷ []) ++ Child c.args.k (right_agent c.args.conflict.now) (right_bar c.args.conflict.now) c.in_ok-right.right.found ∷ []) xs c.grow.new.self.open.keys (c.args.search.now.splits + 1)) (sym (fs ∙ fates_is))
+    subst (λ xs. IsState c.args.problem.now xs c.grow.new.self.fates.items c.grow.new.self.waiting.keys (c.args.search.now.splits + 1)) (sym ns)
+    (subst (λ xs. IsState c.args.problem.now ((c.args.search.now.nodes.items ++ Child c.args.k (left_agent c.args.conflict.now) (left_bar c.args.conflict.now) c.in_ok-left.left.found ∷ []) ++ Child c.args.k (right_agent c.args.conflict.now) (right_bar c.args.conflict.now) c.in_ok-right.right.found ∷ []) xs c.grow.new.self.waiting.keys (c.args.search.now.splits + 1)) (sym (fs ∙ fates_is))
     (subst (λ xs. IsState c.args.problem.now ((c.args.search.now.nodes.items ++ Child c.args.k (left_agent c.args.conflict.now) (left_bar c.args.conflict.now) c.in_ok-left.left.found ∷ []) ++ Child c.args.k (right_agent c.args.conflict.now) (right_bar c.args.conflict.now) c.in_ok-right.right.found ∷ [])
     (slice_set (c.args.search.now.fates.items ++ fate_of c.in_ok-left.left.total ∷ fate_of c.in_ok-right.right.total ∷ []) c.args.k (Cut c.args.conflict.now (length c.args.search.now.fates.items) (length c.args.search.now.fates.items + 1))) xs (c.args.search.now.splits + 1)) (sym ks) state)))
-    c.grow.ensures.nodes c.grow.ensures.fates c.grow.ensures.open
+    c.grow.ensures.nodes c.grow.ensures.fates c.grow.ensures.waiting

@@ -1,4 +1,4 @@
-use Rattle.std.proofs.Common.{◌≡◌, ◌<◌, Some, length, slice_get, ◌∷◌, [], ◌++◌, ◌+◌, Vec, refl, sym, ◌∙◌, ap, subst, arith}
+use Rattle.std.proofs.Common.{◌≡◌, ◌∷◌, [], ◌++◌, ◌+◌, Vec, length, refl, sym, ◌∙◌, ap, subst, arith}
 use Rattle.std.specs.declared.alloc.Global.{Global}
 use Rattle.std.proofs.lemmas.Bool.{eqb-true, eqb-false}
 use Rattle.std.proofs.lemmas.Option.{slice_get_read}
@@ -6,24 +6,17 @@ use Rattle.mapf_model.specs.Blocks.{LabelBlock}
 use Rattle.mapf_cbs.specs.Search.{AreBlocksOf}
 use Rattle.mapf_cbs.proofs.BlockLemmas.{blocks_skip, blocks_more}
 use Rattle.mapf_cbs.proofs.ItemLemmas.{no_items}
-use Rattle.mapf_cbs.proofs.written.blocks_at.Goals as goal
-use Rattle.mapf_cbs.proofs.written.blocks_at.Goals.{then-not-is_empty+in_ok-push, else-not-is_empty}
-
-pub entries_at-requires-clause-inside : goal.entries_at-requires-clause-inside
-entries_at-requires-clause-inside c =
-    let within = c.loop-agent-test.true in
-    let count = c.in_ok-finders.ensures.count in
-    let finder = slice_get_read c.in_ok-finders.finders.items (length c.in_ok-finders.finders.items) c.loop-agent.agent c.index.result.now refl (omega (arith, within, count)) c.index.ensures in
-    subst (λ n. n < length c.args.nodes.now) (sym c.unwrap_or-finder.ensures) (c.in_ok-finders.ensures.inside c.loop-agent.agent c.index.result.now finder)
+use Rattle.mapf_cbs.proofs.whole_node.WholeNode.blocks.Goals as goal
+use Rattle.mapf_cbs.proofs.whole_node.WholeNode.blocks.Goals.{then-not-is_empty+in_ok-push, else-not-is_empty}
 
 pub loop-agent-preserved : goal.loop-agent-preserved
-loop-agent-preserved c views view are is =
-    let before = c.loop-agent.invariant views view are is in
+loop-agent-preserved c view whole =
+    let before = c.loop-agent.invariant view whole in
     let within = c.loop-agent-test.true in
-    let count = c.in_ok-finders.ensures.count in
-    let finder = slice_get_read c.in_ok-finders.finders.items (length c.in_ok-finders.finders.items) c.loop-agent.agent c.index.result.now refl (omega (arith, within, count)) c.index.ensures in
-    let found = c.in_ok-finders.ensures.found views view are is c.loop-agent.agent c.index.result.now finder in
-    let entries : view.entries c.loop-agent.agent ≡ c.in_ok-entries.entries.items = found.2.1 ∙ c.in_ok-entries.ensures views found.0 are (subst (λ n. slice_get views n ≡ Some found.0) (sym c.unwrap_or-finder.ensures) found.1) in
+    let count = c.requires in
+    let routes = c.args.self.now.routes.items in
+    let route = slice_get_read routes (length routes) c.loop-agent.agent c.index.result.now refl (omega (arith, within, count)) c.index.ensures in
+    let entries : view.entries c.loop-agent.agent ≡ c.in_ok-entries.entries.items = (whole.each c.loop-agent.agent c.index.result.now route).entries ∙ sym c.deref.ensures.value ∙ sym c.in_ok-entries.ensures.items in
     elim c.if-not-is_empty.branch [
       | then-not-is_empty+in_ok-push w ↦
           let e : c.if-not-is_empty.blocks.items ≡ c.loop-agent.blocks.items ++ record { agent = c.loop-agent.agent; entries = c.in_ok-entries.entries.items } ∷ [] = ap (λ (v : Vec LabelBlock Global). v.items) w.blocks-is ∙ w.in_ok-push.ensures.items in

@@ -1,0 +1,230 @@
+-- The state of a search whose nodes hold all that is found at them.
+use Rattle.std.proofs.Common.{◌≡◌, ◌≢◌, ℕ, ◌+◌, ◌*◌, ◌^◌, ◌<◌, ◌≤◌, List, [], ◌∷◌, ◌++◌, Option, Some, Contains, length, length-append, sum, slice_get, slice_set, refl, sym, ◌∙◌, ap, subst, ⊎_elim, arith, cond, nat_eq, zero, suc, Vec}
+use Rattle.std.specs.declared.cmp.Ordering.TheVariants.{Less}
+use Rattle.std.proofs.lemmas.Bool.{cases_eq, cases_lt, cond_both, eqb-true, eqb-false}
+use Rattle.std.proofs.lemmas.Option.{slice_get_within, same_Some}
+use Rattle.mapf_model.specs.declared.conflict.Conflict.{Conflict}
+use Rattle.mapf_model.specs.declared.item.Item.{Item}
+use Rattle.mapf_model.specs.Grid.{IsGridMap}
+use Rattle.mapf_model.specs.Plan.{Instance}
+use Rattle.mapf_model.specs.Tree.{ConstraintTree, Spell, ShareGoal}
+use Rattle.mapf_model.specs.Earned.{HasConflict, AreConflictFreeBefore, tick_of}
+use Rattle.mapf_model.proofs.ClaimLemmas.{slice_get_inside}
+use Rattle.mapf_model.proofs.SplitLemmas.{Contains-cons_cases}
+use Rattle.mapf_model.proofs.SumLemmas.{snoc_get}
+use Rattle.mapf_cbs.specs.declared.node.Fate.{Fate}
+use Rattle.mapf_cbs.specs.declared.node.Fate.TheVariants.{Open, Cut}
+use Rattle.mapf_cbs.specs.declared.node.Node.TheVariants.{Root, Child}
+use Rattle.mapf_cbs.specs.declared.whole_node.WholeNode.{WholeNode}
+use Rattle.std.specs.declared.alloc.Global.{Global}
+use Rattle.mapf_cbs.specs.Arena.{IsRootView}
+use Rattle.mapf_cbs.specs.Answer.{IsTreeOf, IsShownImpossible}
+use Rattle.mapf_cbs.specs.Search.{View, IsLive, IsTreeAt, left_agent, right_agent, left_bar, right_bar}
+use Rattle.mapf_cbs.specs.State.{IsOpenSet, key_cmp, fate_of, with_key}
+use Rattle.mapf_cbs.specs.Whole.{IsWhole, AreWhole, HaveRoutes, IsWholeBorn, IsLeastOpen, IsLeastBelow, IsWholeState, IsWholePopped}
+use Rattle.mapf_cbs.proofs.AnswerLemmas.{answer_impossible, state_root, root_views}
+use Rattle.mapf_cbs.proofs.ChildLemmas.{Contains-later}
+use Rattle.mapf_cbs.proofs.OpenLemmas.{Contains-first}
+use Rattle.mapf_cbs.proofs.SumLemmas.{slice_get-front, slice_get-here}
+use Rattle.mapf_cbs.proofs.StateLemmas.{IsInHand, in_hand, left_known, right_known, left_table_bar, right_table_bar, grown_fates, two_pushed, end_of_total, state_grown, grown_views}
+use Rattle.mapf_cbs.proofs.WholeLemmas.{less_key, each_more}
+
+-- the keys but that of one node
+abbrev others : List (ℕ × ℕ) → ℕ → List (ℕ × ℕ)
+others [] k = []
+others (x ∷ keys) k = cond (nat_eq x.1 k) (others keys k) (x ∷ others keys k)
+
+nothing_in : (x : ℕ × ℕ) → Contains {X = ℕ × ℕ} [] x → ⊥
+nothing_in x (n, within, is) = omega arith
+
+others_only : (keys : List (ℕ × ℕ)) (k : ℕ) (x : ℕ × ℕ) → Contains (others keys k) x → Contains keys x × (x.1 ≢ k)
+others_only [] k x in_it = absurd (nothing_in x in_it)
+others_only (y ∷ keys) k x in_it = cond_both (nat_eq y.1 k) (others keys k) (y ∷ others keys k) (λ zs. Contains zs x → Contains (y ∷ keys) x × (x.1 ≢ k))
+    (λ same h. let r = others_only keys k x h in (Contains-later y x keys r.0, r.1))
+    (λ differ h. ⊎_elim
+    (λ (e : y ≡ x). ((0, omega arith, e), λ f. eqb-false y.1 k differ (ap (λ (z : ℕ × ℕ). z.1) e ∙ f)))
+    (λ (rest : Contains (others keys k) x). let r = others_only keys k x rest in (Contains-later y x keys r.0, r.1))
+    (Contains-cons_cases y x (others keys k) h))
+    in_it
+
+others_old : (keys : List (ℕ × ℕ)) (k : ℕ) (x : ℕ × ℕ) → Contains keys x → x.1 ≢ k → Contains (others keys k) x
+others_old [] k x in_it other = absurd (nothing_in x in_it)
+others_old (y ∷ keys) k x in_it other = cond_both (nat_eq y.1 k) (others keys k) (y ∷ others keys k) (λ zs. Contains zs x)
+    (λ same. ⊎_elim
+    (λ (e : y ≡ x). absurd (other (sym (ap (λ (z : ℕ × ℕ). z.1) e) ∙ eqb-true y.1 k same)))
+    (λ (h : Contains keys x). others_old keys k x h other)
+    (Contains-cons_cases y x keys in_it))
+    (λ differ. ⊎_elim
+    (λ (e : y ≡ x). (0, omega arith, e))
+    (λ (h : Contains keys x). Contains-later y x (others keys k) (others_old keys k x h other))
+    (Contains-cons_cases y x keys in_it))
+
+module _ (problem : Instance) (nodes : List WholeNode) (fates : List Fate) (count : ℕ) (s : IsWholeState problem nodes fates count) where
+  node_of : (m : ℕ) (view : View) → slice_get s.state.views m ≡ Some view → (node : WholeNode) × (slice_get nodes m ≡ Some node) × IsWhole node view
+  node_of m view is =
+      let inside : m < length s.state.views = slice_get_within s.state.views m view is in
+      let size = s.whole.lengths in
+      let node : (node : WholeNode) × (slice_get nodes m ≡ Some node) = slice_get_inside nodes m (omega arith) in
+      (node.0, node.1, s.whole.each m node.0 view node.1 is)
+
+  module _ (k : ℕ) (least : IsLeastOpen nodes fates (length fates) k) where
+    view_of : (view : View) × (slice_get s.state.views k ≡ Some view) × IsWhole least.node view
+    view_of =
+        let inside : k < length nodes = slice_get_within nodes k least.node least.is in
+        let size = s.whole.lengths in
+        let view : (view : View) × (slice_get s.state.views k ≡ Some view) = slice_get_inside s.state.views k (omega arith) in
+        (view.0, view.1, s.whole.each k least.node view.0 least.is view.1)
+
+    opens : IsOpenSet ((least.node.total, k) ∷ others s.keys k) s.state.views fates
+    opens = record {
+      only = λ key in_it. ⊎_elim
+          (λ (e : (least.node.total, k) ≡ key). subst (λ (x : ℕ × ℕ). (view : View) × (slice_get s.state.views x.1 ≡ Some view) × (slice_get fates x.1 ≡ Some Open) × (x.0 ≡ sum view.costs)) e (view_of.0, view_of.1, least.is_open, view_of.2.total))
+          (λ (h : Contains (others s.keys k) key). s.state.opens.only key (others_only s.keys k key h).0)
+          (Contains-cons_cases (least.node.total, k) key (others s.keys k) in_it);
+      each = λ m view view_is m_open. ⊎_elim
+          (λ (e : m ≡ k).
+          let same : view_of.0 ≡ view = same_Some view_of.0 view (sym view_of.1 ∙ subst (λ n. slice_get s.state.views n ≡ Some view) e view_is) in
+          let sum_is : least.node.total ≡ sum view.costs = view_of.2.total ∙ ap (λ (v : View). sum v.costs) same in
+          (0, omega arith, ap (λ n. (n, k)) sum_is ∙ ap (λ n. (sum view.costs, n)) (sym e)))
+          (λ (e : m ≢ k). Contains-later (least.node.total, k) (sum view.costs, m) (others s.keys k) (others_old s.keys k (sum view.costs, m) (s.state.opens.each m view view_is m_open) e))
+          (cases_eq m k);
+    }
+
+    above : (key : ℕ × ℕ) → Contains (others s.keys k) key → key_cmp (least.node.total, k) key ≡ Less
+    above key in_rest =
+        let from = others_only s.keys k key in_rest in
+        let at = s.state.opens.only key from.0 in
+        let node = node_of key.1 at.0 at.1 in
+        let e : key.0 ≡ node.0.total = at.3 ∙ sym node.2.total in
+        let low = least.least key.1 node.0 (slice_get_within fates key.1 Open at.2) node.1 at.2 in
+        less_key (least.node.total, k) key (omega (arith, e, low)) (λ same. ⊎_elim
+        (λ (h : key.1 < k). absurd (let f = least.oldest key.1 node.0 h node.1 at.2 in omega (arith, e, f, same)))
+        (λ (h : k ≤ key.1). let differ = from.1 in omega (arith, h, differ))
+        (cases_lt key.1 k))
+
+    small : (key : ℕ × ℕ) → Contains ((least.node.total, k) ∷ others s.keys k) key → key.0 ≤ (count + 201) * 2 ^ 32
+    small key in_it = ⊎_elim
+        (λ (e : (least.node.total, k) ≡ key).
+        let h = s.state.small (sum view_of.0.costs, k) (s.state.opens.each k view_of.0 view_of.1 least.is_open) in
+        let f : least.node.total ≡ key.0 = ap (λ (x : ℕ × ℕ). x.0) e in let t = view_of.2.total in omega (arith, h, f, t))
+        (λ (h : Contains (others s.keys k) key). s.state.small key (others_only s.keys k key h).0)
+        (Contains-cons_cases (least.node.total, k) key (others s.keys k) in_it)
+
+    -- the least open node is taken
+    pub whole_popped : IsWholePopped problem nodes fates count least.node.total k
+    whole_popped = record {
+      changes = s.changes;
+      rest = others s.keys k;
+      popped = record {
+        views = s.state.views;
+        are = s.state.are;
+        searched = s.state.searched;
+        opens = opens;
+        above = above;
+        nodes_for = s.state.nodes_for;
+        bars = s.state.bars;
+        size = s.state.size;
+        small = small;
+      };
+      whole = s.whole;
+      routes = s.routes;
+    }
+
+  -- no node is open
+  pub whole_impossible : IsGridMap problem.grid → (limit : ℕ) → count ≤ limit → ((m : ℕ) → m < length fates → slice_get fates m ≡ Some Open → ⊥) → (items : List Item) →
+      (tree : ConstraintTree) × Spell items tree × IsTreeAt (length problem.agents) s.state.views fates 0 tree → (tree : ConstraintTree) × IsTreeOf problem limit items tree × IsShownImpossible problem tree
+  whole_impossible shape limit within none items found = answer_impossible problem shape s.changes fates count limit within (record {
+    views = s.state.views;
+    are = s.state.are;
+    searched = s.state.searched;
+    opens = record {
+      only = λ key in_it. absurd (nothing_in key in_it);
+      each = λ m view view_is m_open. absurd (none m (slice_get_within fates m Open m_open) m_open);
+    };
+    nodes_for = s.state.nodes_for;
+    bars = s.state.bars;
+    size = s.state.size;
+    small = λ key in_it. absurd (nothing_in key in_it);
+  }) items found
+
+pub least_at : (nodes others : List WholeNode) (fates more : List Fate) (found : Option ℕ) → nodes ≡ others → fates ≡ more → IsLeastBelow nodes fates (length fates) found → IsLeastBelow others more (length more) found
+least_at nodes others fates more found a b is = subst (λ fs. IsLeastBelow others fs (length fs) found) b (subst (λ ns. IsLeastBelow ns fates (length fates) found) a is)
+
+-- the state as it begins
+pub whole_first : (problem : Instance) (paths : Vec (List ℕ) Global) (node : WholeNode) (view : View) → IsRootView paths.items view → IsLive problem view → IsWhole node view → node.total ≤ 200 * 2 ^ 32 → IsWholeState problem (node ∷ []) (Open ∷ []) 0
+whole_first problem paths node view is_root live is small = record {
+  changes = Root paths ∷ [];
+  keys = (node.total, 0) ∷ [];
+  state = state_root problem paths node.total view is_root live is.total small;
+  whole = subst (λ vs. AreWhole (node ∷ []) vs) (sym (root_views problem paths node.total view is_root live is.total small)) (record { lengths = refl; each = each_node });
+  routes = each_route;
+}
+  where
+    each_node : (k : ℕ) (n : WholeNode) (v : View) → slice_get (node ∷ []) k ≡ Some n → slice_get (view ∷ []) k ≡ Some v → IsWhole n v
+    each_node zero n v n_is v_is = subst (λ x. IsWhole x v) (same_Some node n n_is) (subst (λ w. IsWhole node w) (same_Some view v v_is) is)
+    each_node (suc k) n v n_is v_is = absurd cc
+
+    each_route : HaveRoutes (node ∷ []) (length problem.agents)
+    each_route zero n n_is = subst (λ (x : WholeNode). length x.routes.items ≡ length problem.agents) (same_Some node n n_is) (is.count ∙ live.counted.paths)
+    each_route (suc k) n n_is = absurd cc
+
+whole_more : (nodes : List WholeNode) (views : List View) → AreWhole nodes views → (node : WholeNode) (view : View) → IsWhole node view → AreWhole (nodes ++ node ∷ []) (views ++ view ∷ [])
+whole_more nodes views whole node view is =
+    let size = whole.lengths in
+    record {
+      lengths = let a = length-append nodes (node ∷ []) in let b = length-append views (view ∷ []) in omega (arith, size, a, b);
+      each = λ m n v n_is v_is. ⊎_elim
+          (λ (old : slice_get nodes m ≡ Some n).
+          let inside : m < length nodes = slice_get_within nodes m n old in
+          whole.each m n v old (sym (slice_get-front views (view ∷ []) m (omega (arith, inside, size))) ∙ v_is))
+          (λ (new : (m ≡ length nodes) × (node ≡ n)).
+          let at : m ≡ length views = new.0 ∙ sym size in
+          let same : view ≡ v = same_Some view v (sym (slice_get-here views [] view) ∙ subst (λ i. slice_get (views ++ view ∷ []) i ≡ Some v) at v_is) in
+          subst (λ x. IsWhole x v) new.1 (subst (λ w. IsWhole node w) same is))
+          (snoc_get nodes node m n n_is);
+    }
+
+module _ (problem : Instance) (nodes : List WholeNode) (fates : List Fate) (count total k : ℕ) (p : IsWholePopped problem nodes fates count total k) where
+  pub whole_hand : IsInHand problem fates k total p.popped.views
+  whole_hand = in_hand problem p.changes fates p.rest count total k p.popped
+
+  pub hand_inside : k < length nodes
+  hand_inside = let h = slice_get_within p.popped.views k whole_hand.view whole_hand.is in let e = p.whole.lengths in omega (arith, h, e)
+
+  module _ (node : WholeNode) (here : slice_get nodes k ≡ Some node) where
+    pub hand_whole : IsWhole node whole_hand.view
+    hand_whole = p.whole.each k node whole_hand.view here whole_hand.is
+
+    pub hand_small : count < 100000 → node.total + 2 ^ 32 < 2 ^ 64
+    hand_small few =
+        let h = p.popped.small (total, k) (Contains-first (total, k) p.rest) in
+        let t = hand_whole.total in let e = whole_hand.total_is in
+        omega (arith, h, t, e, few)
+
+  -- the node is split
+  pub whole_grown : ((i j : ℕ) → ShareGoal problem i j → ⊥) → (conflict : Conflict) → HasConflict whole_hand.view.paths conflict → AreConflictFreeBefore whole_hand.view.paths (tick_of conflict) → tick_of conflict < 1000000 →
+      (l r : WholeNode) (a b : Option ℕ) → IsWholeBorn problem whole_hand.view (left_agent conflict) (left_bar conflict) l a → IsWholeBorn problem whole_hand.view (right_agent conflict) (right_bar conflict) r b →
+      length l.routes.items ≡ length problem.agents → length r.routes.items ≡ length problem.agents →
+      IsWholeState problem ((nodes ++ l ∷ []) ++ r ∷ []) (slice_set ((fates ++ fate_of a ∷ []) ++ fate_of b ∷ []) k (Cut conflict (length nodes) (length nodes + 1))) (count + 1)
+  whole_grown goals conflict meet apart early l r a b left right l_size r_size =
+      let size = p.whole.lengths in let sizes = p.popped.searched.lengths in
+      let same : length fates ≡ length nodes = omega (arith, size, sizes) in
+      let after = slice_set (fates ++ fate_of a ∷ fate_of b ∷ []) k (Cut conflict (length fates) (length fates + 1)) in
+      let fates_are : slice_set (fates ++ fate_of a ∷ fate_of b ∷ []) k (Cut conflict (length fates) (length fates + 1)) ≡ slice_set ((fates ++ fate_of a ∷ []) ++ fate_of b ∷ []) k (Cut conflict (length nodes) (length nodes + 1)) =
+      ap (λ n. slice_set (fates ++ fate_of a ∷ fate_of b ∷ []) k (Cut conflict n (n + 1))) same
+      ∙ ap (λ fs. slice_set fs k (Cut conflict (length nodes) (length nodes + 1))) (sym (two_pushed fates (fate_of a) (fate_of b))) in
+      let grown = grown_fates fates k conflict (fate_of a) (fate_of b) (slice_get_within fates k Open whole_hand.is_open) (end_of_total a) (end_of_total b) in
+      let left_in = left_known whole_hand.view.paths conflict meet in
+      let right_in = right_known whole_hand.view.paths conflict meet in
+      let left_low = left_table_bar whole_hand.view.paths conflict meet early in
+      let right_low = right_table_bar whole_hand.view.paths conflict meet early in
+      subst (λ fs. IsWholeState problem ((nodes ++ l ∷ []) ++ r ∷ []) fs (count + 1)) fates_are (record {
+        changes = (p.changes ++ Child k (left_agent conflict) (left_bar conflict) left.found ∷ []) ++ Child k (right_agent conflict) (right_bar conflict) right.found ∷ [];
+        keys = with_key (with_key p.rest a (length p.changes)) b (length p.changes + 1);
+        state = state_grown problem p.changes fates p.rest count total k p.popped goals whole_hand.view whole_hand.is whole_hand.is_open whole_hand.total_is conflict meet apart early left.found right.found a b left.born right.born after grown left_in right_in left_low right_low;
+        whole = subst (λ vs. AreWhole ((nodes ++ l ∷ []) ++ r ∷ []) vs)
+            (two_pushed p.popped.views left.born.child right.born.child ∙ sym (grown_views problem p.changes fates p.rest count total k p.popped goals whole_hand.view whole_hand.is whole_hand.is_open whole_hand.total_is conflict meet apart early left.found right.found a b left.born right.born after grown left_in right_in left_low right_low))
+            (whole_more (nodes ++ l ∷ []) (p.popped.views ++ left.born.child ∷ []) (whole_more nodes p.popped.views p.whole l left.born.child left.whole) r right.born.child right.whole);
+        routes = each_more (λ i n. length n.routes.items ≡ length problem.agents) (nodes ++ l ∷ []) r (length (nodes ++ l ∷ [])) refl
+            (each_more (λ i n. length n.routes.items ≡ length problem.agents) nodes l (length nodes) refl p.routes l_size) r_size;
+      })

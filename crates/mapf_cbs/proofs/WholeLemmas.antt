@@ -1,0 +1,196 @@
+-- Nodes that hold all that is found at them.
+use Rattle.std.proofs.Common.{◌≡◌, ◌≢◌, ℕ, ◌+◌, ◌<◌, ◌≤◌, List, [], ◌∷◌, ◌++◌, Option, None, Some, length, sum, slice_get, slice_set, refl, sym, ◌∙◌, ap, subst, inl, ⊎_elim, arith, Vec}
+use Rattle.std.specs.declared.cmp.Ordering.{Ordering}
+use Rattle.std.specs.declared.cmp.Ordering.TheVariants.{Less, Equal, Greater}
+use Rattle.std.specs.Ordering.{nat_cmp, ordering_then}
+use Rattle.std.proofs.lemmas.Bool.{cases_eq}
+use Rattle.std.proofs.lemmas.Cmp.{ranked}
+use Rattle.std.proofs.lemmas.Option.{slice_get_within, same_Some}
+use Rattle.mapf_model.specs.declared.bar.Bar.{Bar}
+use Rattle.mapf_model.specs.Laws.{AreSameBars}
+use Rattle.mapf_model.proofs.SumLemmas.{snoc_get}
+use Rattle.mapf_cbs.specs.declared.node.Fate.{Fate}
+use Rattle.mapf_cbs.specs.declared.node.Fate.TheVariants.{Open}
+use Rattle.std.specs.declared.alloc.Global.{Global}
+use Rattle.std.specs.Option.{unwrap_or}
+use Rattle.mapf_model.specs.Plan.{Instance}
+use Rattle.mapf_spacetime.specs.declared.found.Found.{Found}
+use Rattle.mapf_spacetime.specs.declared.found.Found.TheVariants.{Arrives, Dead}
+use Rattle.mapf_cbs.specs.declared.whole_node.AgentRoute.{AgentRoute}
+use Rattle.mapf_cbs.specs.declared.whole_node.WholeNode.{WholeNode}
+use Rattle.mapf_cbs.specs.Arena.{IsChildView}
+use Rattle.mapf_cbs.specs.Born.{IsTotal, IsBornState}
+use Rattle.mapf_cbs.specs.Search.{View}
+use Rattle.mapf_cbs.specs.State.{key_cmp}
+use Rattle.mapf_cbs.specs.Whole.{IsRouteAt, IsWhole, IsCopy, AreCopies, IsAfter, IsLeastOpen, IsLeastBelow}
+use Rattle.mapf_cbs.proofs.SumLemmas.{slice_get-set_same, slice_get-set_other, length-slice_set}
+use Rattle.mapf_cbs.proofs.ArenaLemmas.{paths_kept, found_labels, entries_kept, entries_new, bars_other, bars_bound}
+
+-- the least open node is found by a scan
+module _ (nodes : List WholeNode) (fates : List Fate) (k : ℕ) where
+  pub skip_closed : (least : Option ℕ) (fate : Fate) → slice_get fates k ≡ Some fate → (fate ≡ Open → ⊥) → IsLeastBelow nodes fates k least → IsLeastBelow nodes fates (k + 1) least
+  skip_closed None fate here closed none = λ m within is_open. ⊎_elim
+      (λ (e : m ≡ k). closed (same_Some fate Open (sym here ∙ subst (λ n. slice_get fates n ≡ Some Open) e is_open)))
+      (λ (e : m ≢ k). none m (omega (arith, within, e)) is_open)
+      (cases_eq m k)
+  skip_closed (Some l) fate here closed least = record {
+    inside = let h = least.inside in omega (arith, h);
+    node = least.node;
+    is = least.is;
+    is_open = least.is_open;
+    least = λ m other within is is_open. ⊎_elim
+        (λ (e : m ≡ k). absurd (closed (same_Some fate Open (sym here ∙ subst (λ n. slice_get fates n ≡ Some Open) e is_open))))
+        (λ (e : m ≢ k). least.least m other (omega (arith, within, e)) is is_open)
+        (cases_eq m k);
+    oldest = least.oldest;
+  }
+
+  pub take_first : (node : WholeNode) → slice_get nodes k ≡ Some node → slice_get fates k ≡ Some Open → IsLeastBelow nodes fates k None → IsLeastOpen nodes fates (k + 1) k
+  take_first node here is_open none = record {
+    inside = omega arith;
+    node = node;
+    is = here;
+    is_open = is_open;
+    least = λ m other within is other_open. ⊎_elim
+        (λ (e : m ≡ k).
+        let same : node ≡ other = same_Some node other (sym here ∙ subst (λ n. slice_get nodes n ≡ Some other) e is) in
+        let f : node.total ≡ other.total = ap (λ (n : WholeNode). n.total) same in omega (arith, f))
+        (λ (e : m ≢ k). absurd (none m (omega (arith, within, e)) other_open))
+        (cases_eq m k);
+    oldest = λ m other within is other_open. absurd (none m within other_open);
+  }
+
+  module _ (l : ℕ) (old : WholeNode) (old_is : slice_get nodes l ≡ Some old) (node : WholeNode) (here : slice_get nodes k ≡ Some node) (least : IsLeastOpen nodes fates k l) where
+    total_is : least.node.total ≡ old.total
+    total_is = ap (λ (n : WholeNode). n.total) (same_Some least.node old (sym least.is ∙ old_is))
+
+    pub keep_least : old.total ≤ node.total → IsLeastOpen nodes fates (k + 1) l
+    keep_least less = record {
+      inside = let h = least.inside in omega (arith, h);
+      node = least.node;
+      is = least.is;
+      is_open = least.is_open;
+      least = λ m other within is is_open. ⊎_elim
+          (λ (e : m ≡ k).
+          let same : node ≡ other = same_Some node other (sym here ∙ subst (λ n. slice_get nodes n ≡ Some other) e is) in
+          let f : node.total ≡ other.total = ap (λ (n : WholeNode). n.total) same in
+          let g = total_is in omega (arith, f, g, less))
+          (λ (e : m ≢ k). least.least m other (omega (arith, within, e)) is is_open)
+          (cases_eq m k);
+      oldest = least.oldest;
+    }
+
+    pub take_cheaper : slice_get fates k ≡ Some Open → node.total < old.total → IsLeastOpen nodes fates (k + 1) k
+    take_cheaper is_open less = record {
+      inside = omega arith;
+      node = node;
+      is = here;
+      is_open = is_open;
+      least = λ m other within is other_open. ⊎_elim
+          (λ (e : m ≡ k).
+          let same : node ≡ other = same_Some node other (sym here ∙ subst (λ n. slice_get nodes n ≡ Some other) e is) in
+          let f : node.total ≡ other.total = ap (λ (n : WholeNode). n.total) same in omega (arith, f))
+          (λ (e : m ≢ k). let h = least.least m other (omega (arith, within, e)) is other_open in let g = total_is in omega (arith, h, g, less))
+          (cases_eq m k);
+      oldest = λ m other within is other_open. let h = least.least m other within is other_open in let g = total_is in omega (arith, h, g, less);
+    }
+
+-- a key of no greater sum that was made earlier where the sums are one
+pub less_key : (a b : ℕ × ℕ) → a.0 ≤ b.0 → (a.0 ≡ b.0 → a.1 < b.1) → key_cmp a b ≡ Less
+less_key a b sums numbers = by (nat_cmp a.0 b.0) refl
+  where
+    at_number : a.0 ≡ b.0 → (r : Ordering) → nat_cmp a.1 b.1 ≡ r → nat_cmp a.1 b.1 ≡ Less
+    at_number same Less e = e
+    at_number same Equal e = absurd (let h = ranked a.1 b.1 Equal (sym e) in let f = numbers same in omega (arith, h, f))
+    at_number same Greater e = absurd (let h = ranked a.1 b.1 Greater (sym e) in let f = numbers same in omega (arith, h, f))
+
+    by : (r : Ordering) → nat_cmp a.0 b.0 ≡ r → key_cmp a b ≡ Less
+    by Less e = ap (λ r. ordering_then r (nat_cmp a.1 b.1)) e
+    by Equal e = ap (λ r. ordering_then r (nat_cmp a.1 b.1)) e ∙ at_number (ranked a.0 b.0 Equal (sym e)) (nat_cmp a.1 b.1) refl
+    by Greater e = absurd (let h = ranked a.0 b.0 Greater (sym e) in omega (arith, h, sums))
+
+pub bars_swap : (xs ys : List Bar) → AreSameBars xs ys → AreSameBars ys xs
+bars_swap xs ys same bar = ((same bar).1, (same bar).0)
+
+-- what is so of each element of a list and of one more
+pub each_more : {X : Type 0} (P : ℕ → X → Type 0) (xs : List X) (x : X) (n : ℕ) → length xs ≡ n → ((i : ℕ) (y : X) → slice_get xs i ≡ Some y → P i y) → P n x → (i : ℕ) (y : X) → slice_get (xs ++ x ∷ []) i ≡ Some y → P i y
+each_more P xs x n size each here i y is = ⊎_elim
+    (λ (old : slice_get xs i ≡ Some y). each i y old)
+    (λ (new : (i ≡ length xs) × (x ≡ y)). subst (λ z. P i z) new.1 (subst (λ m. P m x) (sym (new.0 ∙ size)) here))
+    (snoc_get xs x i y is)
+
+pub copies_with : (routes all : List AgentRoute) (agent : ℕ) (route : AgentRoute) → agent < length routes → AreCopies routes all → AreCopies (slice_set routes agent route) (slice_set all agent route)
+copies_with routes all agent route inside copies =
+    let size = copies.count in
+    record {
+      count = length-slice_set all agent route ∙ size ∙ sym (length-slice_set routes agent route);
+      each = λ i copy copy_is. ⊎_elim
+          (λ (e : i ≡ agent).
+          let same : route ≡ copy = same_Some route copy (sym (slice_get-set_same all agent route (omega (arith, inside, size))) ∙ subst (λ n. slice_get (slice_set all agent route) n ≡ Some copy) e copy_is) in
+          (route, subst (λ n. slice_get (slice_set routes agent route) n ≡ Some route) (sym e) (slice_get-set_same routes agent route inside), subst (λ r. IsCopy route r) same (record { path = refl; entries = refl; bars = λ bar. (λ h. h, λ h. h) })))
+          (λ (e : i ≢ agent).
+          let old = copies.each i copy (sym (slice_get-set_other all agent i route e) ∙ copy_is) in
+          (old.0, slice_get-set_other routes agent i route e ∙ old.1, old.2))
+          (cases_eq i agent);
+    }
+
+copy_at : (view : View) (i : ℕ) (route copy : AgentRoute) → IsRouteAt view i route → IsCopy route copy → IsRouteAt view i copy
+copy_at view i route copy at same = record {
+  path = at.path ∙ ap Some (sym same.path);
+  entries = at.entries ∙ sym same.entries;
+  bars = λ bar. (λ h. (same.bars bar).1 ((at.bars bar).0 h), λ h. (at.bars bar).1 ((same.bars bar).0 h));
+}
+
+paths_count : (view : View) (agent : ℕ) (bar : Bar) (found : Found) (child : View) → IsChildView view agent bar found child → length child.paths ≡ length view.paths
+paths_count view agent bar (Arrives path labels) child (cost, e) = ap (λ (v : View). length v.paths) e ∙ length-slice_set view.paths agent path
+paths_count view agent bar (Dead labels) child e = ap (λ (v : View). length v.paths) e
+
+path_new : (view : View) (agent : ℕ) (bar : Bar) (found : Found) (child : View) → IsChildView view agent bar found child → (bars : List Bar) (old route : AgentRoute) → slice_get view.paths agent ≡ Some old.path → IsAfter old found bars route → slice_get child.paths agent ≡ Some route.path
+path_new view agent bar (Arrives path labels) child (cost, e) bars old route old_is after = ap (λ (v : View). slice_get v.paths agent) e ∙ slice_get-set_same view.paths agent path (slice_get_within view.paths agent old.path old_is) ∙ ap Some (sym after.0)
+path_new view agent bar (Dead labels) child e bars old route old_is after = ap (λ (v : View). slice_get v.paths agent) e ∙ old_is ∙ ap Some (sym after.0)
+
+entries_after : (old : AgentRoute) (found : Found) (bars : List Bar) (route : AgentRoute) → IsAfter old found bars route → found_labels found ≡ route.entries.items
+entries_after old (Arrives path labels) bars route after = sym after.1
+entries_after old (Dead labels) bars route after = sym after.1
+
+bars_after : (old : AgentRoute) (found : Found) (bars : List Bar) (route : AgentRoute) → IsAfter old found bars route → route.bars ≡ bars
+bars_after old (Arrives path labels) bars route after = after.2
+bars_after old (Dead labels) bars route after = after.2
+
+-- a node in which one agent's route changed is the child
+module _ (view : View) (node : WholeNode) (whole : IsWhole node view) (agent : ℕ) (bar : Bar) (found : Found) (child : View) (is_child : IsChildView view agent bar found child) where
+  route_kept : (i : ℕ) (route : AgentRoute) → i ≢ agent → IsRouteAt view i route → IsRouteAt child i route
+  route_kept i route other at = record {
+    path = paths_kept view i agent bar found child (inl other) is_child ∙ at.path;
+    entries = entries_kept view i agent bar found child other is_child ∙ at.entries;
+    bars = subst (λ bs. AreSameBars bs route.bars) (sym (bars_other view i agent bar found child other is_child)) at.bars;
+  }
+
+  module _ (bars : List Bar) (same : AreSameBars bars (bar ∷ view.constraints.bars agent)) (old : AgentRoute) (here : slice_get node.routes.items agent ≡ Some old) (route : AgentRoute) (after : IsAfter old found bars route) where
+    route_new : IsRouteAt child agent route
+    route_new = record {
+      path = path_new view agent bar found child is_child bars old route (whole.each agent old here).path after;
+      entries = entries_new view agent bar found child is_child ∙ entries_after old found bars route after;
+      bars = subst (λ bs. AreSameBars bs route.bars) (sym (bars_bound view agent bar found child is_child))
+          (subst (λ bs. AreSameBars (bar ∷ view.constraints.bars agent) bs) (sym (bars_after old found bars route after)) (bars_swap bars (bar ∷ view.constraints.bars agent) same));
+    }
+
+    pub whole_child : (routes : Vec AgentRoute Global) → AreCopies (slice_set node.routes.items agent route) routes.items → (total : ℕ) → total ≡ sum child.costs → IsWhole (record { routes = routes; total = total }) child
+    whole_child routes copies total total_is = record {
+      count = copies.count ∙ length-slice_set node.routes.items agent route ∙ whole.count ∙ sym (paths_count view agent bar found child is_child);
+      each = λ i r r_is.
+          let from = copies.each i r r_is in
+          copy_at child i from.0 r (⊎_elim
+          (λ (e : i ≡ agent).
+          let now : route ≡ from.0 = same_Some route from.0 (sym (slice_get-set_same node.routes.items agent route (slice_get_within node.routes.items agent old here)) ∙ subst (λ n. slice_get (slice_set node.routes.items agent route) n ≡ Some from.0) e from.1) in
+          subst (λ n. IsRouteAt child n from.0) (sym e) (subst (λ x. IsRouteAt child agent x) now route_new))
+          (λ (e : i ≢ agent). route_kept i from.0 e (whole.each i from.0 (sym (slice_get-set_other node.routes.items agent i route e) ∙ from.1)))
+          (cases_eq i agent)) from.2;
+      total = total_is;
+    }
+
+pub total_born : (problem : Instance) (view child : View) (agent : ℕ) (bar : Bar) (found : Found) (goal rest : ℕ) (total : Option ℕ) (n : ℕ) → IsChildView view agent bar found child → IsTotal found goal rest total → IsBornState problem view child total → n ≡ sum view.costs → unwrap_or total n ≡ sum child.costs
+total_born problem view child agent bar (Arrives path labels) goal rest None n is_child (cost, is, fits, e) state sums = absurd cc
+total_born problem view child agent bar (Arrives path labels) goal rest (Some m) n is_child is_total state sums = state.1
+total_born problem view child agent bar (Dead labels) goal rest None n e is_total state sums = sums ∙ sym (ap (λ (v : View). sum v.costs) e)
+total_born problem view child agent bar (Dead labels) goal rest (Some m) n e is_total state sums = state.1

@@ -1,0 +1,18 @@
+use Rattle.std.proofs.Common.{◌≡◌, ◌++◌, ◌∷◌, [], Some, length, length-append, slice_get, refl, arith}
+use Rattle.std.proofs.lemmas.Option.{slice_get_read}
+use Rattle.mapf_cbs.specs.declared.whole_node.AgentRoute.{AgentRoute}
+use Rattle.mapf_cbs.specs.Whole.{IsCopy}
+use Rattle.mapf_cbs.proofs.WholeLemmas.{each_more}
+use Rattle.mapf_cbs.proofs.whole_node.copies.Goals as goal
+
+pub loop-i-preserved : goal.loop-i-preserved
+loop-i-preserved c =
+    let all = c.loop-i.all.items in
+    let so_many = c.loop-i.invariant.so_many in
+    let pushed : c.push.new.self.items ≡ all ++ c.in_ok-copy.field-0 ∷ [] = c.in_ok-push.ensures.items in
+    let longer = length-append all (c.in_ok-copy.field-0 ∷ []) in
+    let here = slice_get_read c.args.routes.now (length c.args.routes.now) c.loop-i.i c.index-routes-i.result refl c.loop-i-test.true c.index-routes-i.is in
+    record {
+      so_many = rw pushed (omega (arith, so_many, longer));
+      each = rw pushed (each_more (λ j copy. (route : AgentRoute) × (slice_get c.args.routes.now j ≡ Some route) × IsCopy route copy) all c.in_ok-copy.field-0 c.loop-i.i so_many c.loop-i.invariant.each (c.index-routes-i.result, here, c.in_ok-copy.ensures));
+    }

@@ -1,0 +1,5 @@
+use Rattle.mapf_cbs.specs.Whole.{IsLeastBelow}
+use Rattle.mapf_cbs.proofs.whole_tree.least_open.Given as goal
+
+abbrev pub invariant-loop-k : goal.invariant-loop-k
+invariant-loop-k l = IsLeastBelow l.nodes l.fates l.k l.least

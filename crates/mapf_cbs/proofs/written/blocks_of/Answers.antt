@@ -1,0 +1,35 @@
+use Rattle.std.proofs.Common.{◌≡◌, ◌<◌, Some, length, slice_get, ◌∷◌, [], ◌++◌, ◌+◌, Vec, refl, sym, ◌∙◌, ap, subst, arith}
+use Rattle.std.specs.declared.alloc.Global.{Global}
+use Rattle.std.proofs.lemmas.Bool.{eqb-true, eqb-false}
+use Rattle.std.proofs.lemmas.Option.{slice_get_read}
+use Rattle.mapf_model.specs.Blocks.{LabelBlock}
+use Rattle.mapf_cbs.specs.Search.{AreBlocksOf}
+use Rattle.mapf_cbs.proofs.BlockLemmas.{blocks_skip, blocks_more}
+use Rattle.mapf_cbs.proofs.ItemLemmas.{no_items}
+use Rattle.mapf_cbs.proofs.written.blocks_of.Goals as goal
+use Rattle.mapf_cbs.proofs.written.blocks_of.Goals.{then-not-is_empty+in_ok-push, else-not-is_empty}
+
+pub entries_at-requires-clause-inside : goal.entries_at-requires-clause-inside
+entries_at-requires-clause-inside c =
+    let within = c.loop-agent-test.true in
+    let count = c.in_ok-finders.ensures.count in
+    let finder = slice_get_read c.in_ok-finders.finders.items (length c.in_ok-finders.finders.items) c.loop-agent.agent c.index.result.now refl (omega (arith, within, count)) c.index.ensures in
+    subst (λ n. n < length c.args.nodes.now) (sym c.unwrap_or-finder.ensures) (c.in_ok-finders.ensures.inside c.loop-agent.agent c.index.result.now finder)
+
+pub loop-agent-preserved : goal.loop-agent-preserved
+loop-agent-preserved c views view are is =
+    let before = c.loop-agent.invariant views view are is in
+    let within = c.loop-agent-test.true in
+    let count = c.in_ok-finders.ensures.count in
+    let finder = slice_get_read c.in_ok-finders.finders.items (length c.in_ok-finders.finders.items) c.loop-agent.agent c.index.result.now refl (omega (arith, within, count)) c.index.ensures in
+    let found = c.in_ok-finders.ensures.found views view are is c.loop-agent.agent c.index.result.now finder in
+    let entries : view.entries c.loop-agent.agent ≡ c.in_ok-entries.entries.items = found.2.1 ∙ c.in_ok-entries.ensures views found.0 are (subst (λ n. slice_get views n ≡ Some found.0) (sym c.unwrap_or-finder.ensures) found.1) in
+    elim c.if-not-is_empty.branch [
+      | then-not-is_empty+in_ok-push w ↦
+          let e : c.if-not-is_empty.blocks.items ≡ c.loop-agent.blocks.items ++ record { agent = c.loop-agent.agent; entries = c.in_ok-entries.entries.items } ∷ [] = ap (λ (v : Vec LabelBlock Global). v.items) w.blocks-is ∙ w.in_ok-push.ensures.items in
+          subst (λ bs. AreBlocksOf (c.loop-agent.agent + 1) view.entries bs) (sym e)
+          (blocks_more c.loop-agent.agent view.entries c.loop-agent.blocks.items before (record { agent = c.loop-agent.agent; entries = c.in_ok-entries.entries.items }) refl (sym entries) (let h = eqb-false c.in_ok-entries.entries.len 0 (sym w.if-not-is_empty.ensures) in omega (arith, h, c.in_ok-entries.entries.ok)) (let s = c.in_ok-entries.entries.small in omega (arith, s)))
+      | else-not-is_empty w ↦
+          subst (λ (v : Vec LabelBlock Global). AreBlocksOf (c.loop-agent.agent + 1) view.entries v.items) (sym w.blocks-is)
+          (blocks_skip c.loop-agent.agent view.entries c.loop-agent.blocks.items before (entries ∙ (let h = eqb-true c.in_ok-entries.entries.len 0 (sym w.if-not-is_empty.ensures) in no_items c.in_ok-entries.entries.items (omega (arith, h, c.in_ok-entries.entries.ok)))))
+    ]

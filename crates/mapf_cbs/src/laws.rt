@@ -1,0 +1,173 @@
+//! A plain search beside the fast one: the same order of work and the same ties, with nodes kept
+//! whole and the next node found by a scan.
+ghost use Rattle.std.specs.Prelude.{◌≡◌, ◌+◌, ◌^◌, ◌<◌, ◌≤◌, ◌∷◌, ℕ, Some, length, slice_get, IfOk, OnOk};
+ghost use Rattle.mapf_model.specs.Earned.{HasConflict, AreConflictFreeBefore, tick_of};
+ghost use Rattle.mapf_model.specs.Grid.{IsGridMap};
+ghost use Rattle.mapf_model.specs.Laws.{AreSameBars};
+ghost use Rattle.mapf_model.specs.Tree.{ShareGoal};
+ghost use Rattle.mapf_cbs.specs.Answer.{IsAnswer};
+ghost use Rattle.mapf_cbs.specs.Route.{AreTables, IsTableBar};
+ghost use Rattle.mapf_cbs.specs.Search.{View, IsLive};
+ghost use Rattle.mapf_cbs.specs.Start.{AreShortest};
+ghost use Rattle.mapf_cbs.specs.Whole.{IsWhole, IsWholeBorn, IsWholePopped, IsWholeState};
+ghost use Rattle.mapf_cbs.specs.declared.whole_node.WholeNode.{WholeNode};
+
+use crate::answer::Answer;
+use crate::child::{cost_of, new_total};
+use crate::clash::sharing_pair;
+use crate::sides::{left_agent, left_bar, right_agent, right_bar};
+use crate::solver::{cause_to_stop, one_item};
+use crate::start::{goal_tables, shortest_paths};
+use crate::whole_node::{WholeNode, routes_with};
+use crate::whole_tree::{WholeBorn, WholeTree, least_open};
+use crate::written::tree_items;
+use mapf_conflicts::first_conflict;
+use mapf_constraints::{BarTable, ListBars};
+use mapf_distance::Distances;
+use mapf_model::{Bar, Conflict, Item, OutOfMemory, Path, Problem};
+use mapf_spacetime::{Found, search};
+use std::alloc::Global;
+
+/// Answers what `solve` answers, by the plainest means.
+pub fn solve_plain(alloc: Global, problem: &Problem, limit: u32) -> Result<Answer, OutOfMemory>
+    requires { limit ≤ 100000 }
+    ensures { IfOk result (IsAnswer problem.now limit) }
+{
+    // The width tells the shape of the grid.
+    let _width = problem.grid().width();
+    if let Some((i, j)) = sharing_pair(problem.agents()) {
+        let clash = Item::Clash {
+            i: i as u32,
+            j: j as u32,
+        };
+        let tree = one_item(alloc, clash)?;
+        return Ok(Answer::Impossible { tree });
+    }
+    let tables = goal_tables(alloc, problem)?;
+    match shortest_paths(alloc, problem, &tables)? {
+        Some(paths) => search_plain(alloc, problem, &tables, paths, limit),
+        None => {
+            let tree = one_item(alloc, Item::Leaf(Vec::new(alloc)))?;
+            Ok(Answer::Impossible { tree })
+        }
+    }
+}
+
+// Splits nodes from a root with these paths on, least sum first, until a plan is found, no node is
+// open or a limit is met.
+fn search_plain(
+    alloc: Global,
+    problem: &Problem,
+    tables: &[Distances],
+    paths: Vec<Path>,
+    limit: u32,
+) -> Result<Answer, OutOfMemory>
+    requires shape { IsGridMap problem.now.grid }
+    requires agents { (1 ≤ length problem.now.agents) × (length problem.now.agents ≤ 200) }
+    requires limit { limit ≤ 100000 }
+    requires goals { (i j : ℕ) → ShareGoal problem.now i j → ⊥ }
+    requires tables { AreTables problem.now tables.now }
+    requires count { length paths.items ≡ length problem.now.agents }
+    requires shortest { AreShortest problem.now paths.items }
+    ensures { IfOk result (IsAnswer problem.now limit) }
+{
+    let agents = problem.agents().len() as u32;
+    let root = WholeNode::root(alloc, &paths)?;
+    let mut tree = WholeTree::of(alloc, root)?;
+    loop {
+        let Some(k) = least_open(&tree.nodes, &tree.fates) else {
+            let items = tree_items(alloc, &tree.nodes, &tree.fates, agents)?;
+            return Ok(Answer::Impossible { tree: items });
+        };
+        let plan = tree.nodes[k as usize].plan(alloc)?;
+        let Some(conflict) = first_conflict(&plan) else {
+            let items = tree_items(alloc, &tree.nodes, &tree.fates, agents)?;
+            return Ok(Answer::Found { plan, tree: items });
+        };
+        if let Some(cause) = cause_to_stop(&conflict, tree.splits, limit) {
+            let items = tree_items(alloc, &tree.nodes, &tree.fates, agents)?;
+            return Ok(Answer::Limit { cause, tree: items });
+        }
+        split_whole(alloc, problem, tables, &mut tree, k, &conflict)?;
+    }
+}
+
+// Splits the node on the conflict.
+fn split_whole(
+    alloc: Global,
+    problem: &Problem,
+    tables: &[Distances],
+    tree: &mut WholeTree,
+    k: u32,
+    conflict: &Conflict,
+) -> Result<(), OutOfMemory>
+    requires tables { AreTables problem.now tables.now }
+    requires popped { (total : ℕ) × IsWholePopped problem.now tree.old.nodes.items tree.old.fates.items tree.old.splits total k }
+    requires goals { (i j : ℕ) → ShareGoal problem.now i j → ⊥ }
+    requires meet { (node : WholeNode) (view : View) → slice_get tree.old.nodes.items k ≡ Some node → IsWhole node view → HasConflict view.paths conflict.now × AreConflictFreeBefore view.paths (tick_of conflict.now) }
+    requires early { tick_of conflict.now < 1000000 }
+    requires few { tree.old.splits < 100000 }
+    ensures state { OnOk result (IsWholeState problem.now tree.new.nodes.items tree.new.fates.items (tree.old.splits + 1)) }
+    ensures splits { OnOk result (tree.new.splits ≡ tree.old.splits + 1) }
+{
+    let left = child_of(
+        alloc,
+        problem,
+        tables,
+        &tree.nodes[k as usize],
+        left_agent(conflict),
+        left_bar(conflict),
+    )?;
+    let right = child_of(
+        alloc,
+        problem,
+        tables,
+        &tree.nodes[k as usize],
+        right_agent(conflict),
+        right_bar(conflict),
+    )?;
+    tree.grow(k, conflict, left, right)
+}
+
+// The child of a node in which one more bar binds the agent.
+fn child_of(
+    alloc: Global,
+    problem: &Problem,
+    tables: &[Distances],
+    node: &WholeNode,
+    agent: u32,
+    bar: Bar,
+) -> Result<WholeBorn, OutOfMemory>
+    requires tables { AreTables problem.now tables.now }
+    requires known { agent < length problem.now.agents }
+    requires count { length node.now.routes.items ≡ length problem.now.agents }
+    requires bar { IsTableBar bar }
+    requires small { node.now.total + 2 ^ 32 < 2 ^ 64 }
+    requires live { (view : View) × IsWhole node.now view × IsLive problem.now view }
+    ensures count { IfOk result (λ born. length born.node.routes.items ≡ length node.now.routes.items) }
+    ensures born { IfOk result (λ born. (view : View) → IsWhole node.now view → IsLive problem.now view → IsWholeBorn problem.now view agent bar born.node born.total) }
+{
+    let who = problem.agents()[agent as usize];
+    let goal = who.goal;
+    let bars = with_bar(&node.routes[agent as usize].bars, bar)?;
+    let found = search(alloc, problem.grid(), &tables[agent as usize], &bars, who)?;
+    let old = cost_of(&node.routes[agent as usize].path, goal);
+    let total = new_total(&found, goal, node.total - u64::from(old));
+    let route = node.routes[agent as usize].after(alloc, &found, bars)?;
+    let routes = routes_with(alloc, &node.routes, agent, route)?;
+    let sum = total.unwrap_or(node.total);
+    Ok(WholeBorn {
+        node: WholeNode { routes, total: sum },
+        total,
+    })
+}
+
+// The bars and one more.
+fn with_bar(bars: &ListBars, bar: Bar) -> Result<ListBars, OutOfMemory>
+    requires { IsTableBar bar }
+    ensures { IfOk result (λ all. AreSameBars all (bar ∷ bars.now)) }
+{
+    let mut all = bars.copy()?;
+    all.add(bar)?;
+    Ok(all)
+}

@@ -1,0 +1,128 @@
+ghost use Rattle.std.specs.Prelude.{◌≡◌, ◌+◌, ◌^◌, ◌<◌, ◌≤◌, ◌∷◌, [], ◌++◌, ℕ, List, Some, length, slice_get, slice_set, IfOk, OnOk, IsTrue, ◌↔◌};
+ghost use Rattle.mapf_cbs.specs.State.{fate_of};
+ghost use Rattle.mapf_cbs.specs.Search.{View};
+ghost use Rattle.mapf_cbs.specs.Whole.{AreWhole, HaveRoutes, IsLeastBelow};
+
+use crate::leaves::Leaves;
+use crate::node::Fate;
+use crate::search_tree::fate_of;
+use crate::whole_node::WholeNode;
+use mapf_model::{Block, Conflict, OutOfMemory};
+use std::alloc::Global;
+
+/// A child with all that is found at it, and with its sum where the bound agent still arrives.
+#[derive(Debug, Drop)]
+pub struct WholeBorn {
+    pub node: WholeNode,
+    pub total: Option<u64>,
+}
+
+/// The constraint tree of a search that keeps its nodes whole, numbered as they were made.
+#[derive(Debug, Drop)]
+pub struct WholeTree {
+    pub nodes: Vec<WholeNode>,
+    // What became of each node.
+    pub fates: Vec<Fate>,
+    // How many nodes were split.
+    pub splits: u32,
+}
+
+impl Leaves for Vec<WholeNode> {
+    ghost are_views = { λ nodes views. AreWhole nodes.items views };
+
+    ghost are_for = { λ nodes agents. HaveRoutes nodes.items agents };
+
+    ghost count = { λ nodes. length nodes.items };
+
+    fn blocks_at(&self, alloc: Global, k: u32, agents: u32) -> Result<Vec<Block>, OutOfMemory> {
+        self[k as usize].blocks(alloc, agents)
+    }
+}
+
+impl WholeTree {
+    /// The tree of this root alone.
+    pub fn of(alloc: Global, root: WholeNode) -> Result<WholeTree, OutOfMemory>
+        ensures nodes { IfOk result (λ tree. tree.nodes.items ≡ root ∷ []) }
+        ensures fates { IfOk result (λ tree. tree.fates.items ≡ Fate.Open ∷ []) }
+        ensures splits { IfOk result (λ tree. tree.splits ≡ 0) }
+    {
+        // The prover finds the type of a fate's conflict only where it is named.
+        let _conflict: Option<Conflict> = None;
+        let mut nodes = Vec::new(alloc);
+        nodes.push(root)?;
+        let mut fates = Vec::new(alloc);
+        fates.push(Fate::Open)?;
+        Ok(WholeTree {
+            nodes,
+            fates,
+            splits: 0,
+        })
+    }
+
+    /// Splits a node on the conflict: its children are added, the left one first.
+    pub fn grow(
+        &mut self,
+        k: u32,
+        conflict: &Conflict,
+        left: WholeBorn,
+        right: WholeBorn,
+    ) -> Result<(), OutOfMemory>
+        requires same { length self.old.fates.items ≡ length self.old.nodes.items }
+        requires few { length self.old.nodes.items < 2 ^ 31 }
+        requires inside { k < length self.old.fates.items }
+        requires splits { self.old.splits < 2 ^ 31 }
+        ensures nodes { OnOk result (self.new.nodes.items ≡ (self.old.nodes.items ++ left.node ∷ []) ++ right.node ∷ []) }
+        ensures fates { OnOk result (self.new.fates.items ≡ slice_set ((self.old.fates.items ++ fate_of left.total ∷ []) ++ fate_of right.total ∷ []) k (Fate.Cut conflict.now (length self.old.nodes.items) (length self.old.nodes.items + 1))) }
+        ensures splits { OnOk result (self.new.splits ≡ self.old.splits + 1) }
+    {
+        let number = self.nodes.len() as u32;
+        self.fates.push(fate_of(&left.total))?;
+        self.fates.push(fate_of(&right.total))?;
+        self.fates[k as usize] = Fate::Cut {
+            conflict: *conflict,
+            left: number,
+            right: number + 1,
+        };
+        self.nodes.push(left.node)?;
+        self.nodes.push(right.node)?;
+        self.splits += 1;
+        Ok(())
+    }
+}
+
+/// The open node of least sum, the oldest of these. None where no node is open.
+pub fn least_open(nodes: &[WholeNode], fates: &[Fate]) -> Option<u32>
+    requires same { length fates.now ≡ length nodes.now }
+    requires few { length nodes.now < 2 ^ 32 }
+    ensures { IsLeastBelow nodes.now fates.now (length fates.now) result }
+{
+    let mut least = None;
+    for k in 0..nodes.len() as u32 {
+        least = least_with(nodes, fates, least, k);
+    }
+    least
+}
+
+// The least open node of those in front and this one.
+fn least_with(nodes: &[WholeNode], fates: &[Fate], least: Option<u32>, k: u32) -> Option<u32>
+    requires same { length fates.now ≡ length nodes.now }
+    requires inside { k < length nodes.now }
+    requires least { IsLeastBelow nodes.now fates.now k least }
+    ensures { IsLeastBelow nodes.now fates.now (k + 1) result }
+{
+    if !is_open(&fates[k as usize]) {
+        return least;
+    }
+    if let Some(m) = least {
+        if nodes[m as usize].total <= nodes[k as usize].total {
+            return least;
+        }
+    }
+    Some(k)
+}
+
+fn is_open(fate: &Fate) -> bool
+    ensures { IsTrue result ↔ (fate.now ≡ Fate.Open) }
+{
+    matches!(fate, Fate::Open)
+}
