@@ -132,6 +132,19 @@ class Case:
         return [] if got == wanted else [f"{stream} is {shown(got)}, wanted {shown(wanted)}"]
 
 
+def refuser(folder):
+    """Builds refuse_memory.c into this folder, to be preloaded."""
+    library = Path(folder) / "refuse_memory.so"
+    source = TESTS / "refuse_memory.c"
+    subprocess.run(["gcc", "-O2", "-Wall", "-shared", "-fPIC", "-o", str(library), str(source)], check=True)
+    return library
+
+
+def refusing(library, number, told):
+    """The environment in which the request of this number is refused, and told of by making the file."""
+    return {"LD_PRELOAD": str(library), "REFUSE_MEMORY_AT": str(number), "REFUSE_MEMORY_TOLD": str(told)}
+
+
 def cases_of(folder):
     return [Case(path.parent) for path in sorted(folder.glob("*/words"))]
 
