@@ -3,7 +3,7 @@ use Rattle.std.proofs.Common.{◌≡◌, List, ℕ, None, Some, Option, IfSome, 
 use Rattle.std.specs.Option.{IsSome}
 use Rattle.mapf_app.specs.Checked.{IsRefusalOf, HasGoodPlan}
 use Rattle.mapf_app.specs.Headline.{JudgesTruly, IsDueVerdict}
-use Rattle.mapf_app.specs.Problems.{SpellsProblem}
+use Rattle.mapf_app.specs.Problems.{IsPosed, SpellsProblem}
 use Rattle.mapf_app.proofs.InputLemmas.{told}
 use Rattle.mapf_certificate.specs.Plans.{SpellsPlan}
 use Rattle.mapf_checker.specs.Refusals.{HasRefusal}
@@ -33,9 +33,10 @@ pub refusal_says : (Says : CheckFault → Type 0) (fault : FromFault) (refusal :
 refusal_says Says fault refusal is says = subst (IfRefused Says) is says
 
 module _ (map scen plan cert : Option (List ℕ)) (count : ℕ) (problem : Instance) (read : SpellsProblem map scen count problem) (text : List ℕ) (same : IfSome plan (λ bytes. text ≡ bytes)) where
-  pub judges : (verdict : Verdict) → IsTrueText problem text verdict → ((bytes : List ℕ) → cert ≡ Some bytes → AreAccepted problem text bytes verdict) → JudgesTruly map scen plan cert count verdict
-  judges verdict truth accepted = record {
+  pub judges : IsPosed count problem → (verdict : Verdict) → IsTrueText problem text verdict → ((bytes : List ℕ) → cert ≡ Some bytes → AreAccepted problem text bytes verdict) → JudgesTruly map scen plan cert count verdict
+  judges posed verdict truth accepted = record {
     problem = problem;
+    posed = posed;
     read = read;
     says = truth.says;
     spelled = told (λ bytes. SpellsPlan problem.grid bytes (length problem.agents) truth.says) plan text same truth.spelled;

@@ -6,7 +6,7 @@
 use Rattle.std.specs.Prelude.{◌≡◌, ℕ, List, Option, Some, IfSome, IsSome, length}
 use Rattle.mapf_app.specs.declared.kind.Kind.{Kind}
 use Rattle.mapf_app.specs.declared.kind.Kind.TheVariants.{Found, Impossible, Limit}
-use Rattle.mapf_app.specs.Problems.{SpellsProblem}
+use Rattle.mapf_app.specs.Problems.{IsPosed, SpellsProblem}
 use Rattle.mapf_app.specs.Solved.{Prints}
 use Rattle.mapf_certificate.specs.Plans.{SpellsPlan}
 use Rattle.mapf_checker.specs.Verdict.{AreAccepted, outcome_of}
@@ -20,6 +20,7 @@ use Rattle.mapf_model.specs.Plan.{Instance}
 -- a limit that was met
 pub record PrintsTruly (map scen : Option (List ℕ)) (count limit : ℕ) (kind : Kind) (plan_bytes cert_bytes : List ℕ) : Type 0 where
   pub problem : Instance
+  pub posed : IsPosed count problem
   pub read : SpellsProblem map scen count problem
   pub printed : Prints problem limit kind plan_bytes cert_bytes
 
@@ -28,6 +29,7 @@ pub record PrintsTruly (map scen : Option (List ℕ)) (count limit : ℕ) (kind 
 -- with the verdict
 pub record JudgesTruly (map scen plan cert : Option (List ℕ)) (count : ℕ) (verdict : Verdict) : Type 0 where
   pub problem : Instance
+  pub posed : IsPosed count problem
   pub read : SpellsProblem map scen count problem
   pub says : PlanSays
   pub spelled : IfSome plan (λ plan_text. SpellsPlan problem.grid plan_text (length problem.agents) says)
