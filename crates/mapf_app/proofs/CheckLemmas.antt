@@ -1,12 +1,13 @@
 -- From what is read to what is judged.
-use Rattle.std.proofs.Common.{◌≡◌, List, ℕ, None, Some, Option, IfSome, refl, sym, subst}
+use Rattle.std.proofs.Common.{◌≡◌, List, ℕ, None, Some, Option, IfSome, length, refl, sym, subst}
 use Rattle.std.specs.Option.{IsSome}
 use Rattle.mapf_app.specs.Checked.{IsRefusalOf, HasGoodPlan}
 use Rattle.mapf_app.specs.Headline.{JudgesTruly, IsDueVerdict}
-use Rattle.mapf_app.specs.Problems.{SpellsProblem}
+use Rattle.mapf_app.specs.Problems.{IsPosed, SpellsProblem}
 use Rattle.mapf_app.proofs.InputLemmas.{told}
+use Rattle.mapf_certificate.specs.Plans.{SpellsPlan}
 use Rattle.mapf_checker.specs.Refusals.{HasRefusal}
-use Rattle.mapf_checker.specs.Verdict.{IsTrueVerdict, IsGoodPlan, AreAccepted}
+use Rattle.mapf_checker.specs.Verdict.{IsTrueText, IsGoodPlan, AreAccepted}
 use Rattle.mapf_checker.specs.Faults.{IfRefused, IsNoRefusal}
 use Rattle.mapf_checker.specs.declared.fault.CheckFault.{CheckFault}
 use Rattle.mapf_checker.specs.declared.fault.FromFault.{FromFault}
@@ -32,11 +33,14 @@ pub refusal_says : (Says : CheckFault → Type 0) (fault : FromFault) (refusal :
 refusal_says Says fault refusal is says = subst (IfRefused Says) is says
 
 module _ (map scen plan cert : Option (List ℕ)) (count : ℕ) (problem : Instance) (read : SpellsProblem map scen count problem) (text : List ℕ) (same : IfSome plan (λ bytes. text ≡ bytes)) where
-  pub judges : (verdict : Verdict) → IsTrueVerdict problem verdict → ((bytes : List ℕ) → cert ≡ Some bytes → AreAccepted problem text bytes verdict) → JudgesTruly map scen plan cert count verdict
-  judges verdict is_true accepted = record {
+  pub judges : IsPosed count problem → (verdict : Verdict) → IsTrueText problem text verdict → ((bytes : List ℕ) → cert ≡ Some bytes → AreAccepted problem text bytes verdict) → JudgesTruly map scen plan cert count verdict
+  judges posed verdict truth accepted = record {
     problem = problem;
+    posed = posed;
     read = read;
-    is_true = is_true;
+    says = truth.says;
+    spelled = told (λ bytes. SpellsPlan problem.grid bytes (length problem.agents) truth.says) plan text same truth.spelled;
+    is_true = truth.is_true;
     accepted = told (λ bytes. IfSome cert (λ others. AreAccepted problem bytes others verdict)) plan text same (for_told (λ others. AreAccepted problem text others verdict) cert accepted);
   }
 

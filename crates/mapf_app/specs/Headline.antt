@@ -3,12 +3,16 @@
 -- printed with either; and whatever the checker accepts as optimal or as impossible truly is so, whoever wrote it.
 --
 -- Bytes are known where a source or a sink tells them; of a file no contract knows them.
-use Rattle.std.specs.Prelude.{◌≡◌, ℕ, List, Option, Some, IfSome, IsSome}
+use Rattle.std.specs.Prelude.{◌≡◌, ℕ, List, Option, Some, IfSome, IsSome, length}
 use Rattle.mapf_app.specs.declared.kind.Kind.{Kind}
-use Rattle.mapf_app.specs.Problems.{SpellsProblem}
+use Rattle.mapf_app.specs.declared.kind.Kind.TheVariants.{Found, Impossible, Limit}
+use Rattle.mapf_app.specs.Problems.{IsPosed, SpellsProblem}
 use Rattle.mapf_app.specs.Solved.{Prints}
-use Rattle.mapf_checker.specs.Verdict.{IsTrueVerdict, AreAccepted}
+use Rattle.mapf_certificate.specs.Plans.{SpellsPlan}
+use Rattle.mapf_checker.specs.Verdict.{AreAccepted, outcome_of}
 use Rattle.mapf_checker.specs.declared.fault.Verdict.{Verdict}
+use Rattle.mapf_checker.specs.declared.fault.Verdict.TheVariants as verdicts
+use Rattle.mapf_model.specs.Accepted.{PlanSays, IsTrueOf}
 use Rattle.mapf_model.specs.Plan.{Instance}
 
 -- what is printed for the problem that the map and the scenario spell: a plan that is valid and than which no valid plan has a
@@ -16,15 +20,20 @@ use Rattle.mapf_model.specs.Plan.{Instance}
 -- a limit that was met
 pub record PrintsTruly (map scen : Option (List ℕ)) (count limit : ℕ) (kind : Kind) (plan_bytes cert_bytes : List ℕ) : Type 0 where
   pub problem : Instance
+  pub posed : IsPosed count problem
   pub read : SpellsProblem map scen count problem
   pub printed : Prints problem limit kind plan_bytes cert_bytes
 
--- what is answered of two texts, whoever wrote them: the verdict is true of the problem that the map and the scenario spell,
--- and the texts are accepted for it with the verdict
+-- what is answered of two texts, whoever wrote them: for the problem that the map and the scenario spell, the plan of the plan
+-- text is optimal with the verdict's sum, or the text says that no plan is valid and none is; and the texts are accepted for it
+-- with the verdict
 pub record JudgesTruly (map scen plan cert : Option (List ℕ)) (count : ℕ) (verdict : Verdict) : Type 0 where
   pub problem : Instance
+  pub posed : IsPosed count problem
   pub read : SpellsProblem map scen count problem
-  pub is_true : IsTrueVerdict problem verdict
+  pub says : PlanSays
+  pub spelled : IfSome plan (λ plan_text. SpellsPlan problem.grid plan_text (length problem.agents) says)
+  pub is_true : IsTrueOf problem says (outcome_of verdict)
   pub accepted : IfSome plan (λ plan_text. IfSome cert (λ cert_text. AreAccepted problem plan_text cert_text verdict))
 
 -- what has to be answered, of printed texts as of any: all inputs are told, and the texts are accepted with the verdict for
@@ -39,3 +48,15 @@ pub record IsDueVerdict (map scen plan cert : Option (List ℕ)) (count : ℕ) (
   pub cert_text : List ℕ
   pub cert_told : cert ≡ Some cert_text
   pub accepted : AreAccepted problem plan_text cert_text verdict
+
+-- the verdict that an answer asks for
+abbrev pub IsVerdictOn : Kind → Verdict → Type 0
+IsVerdictOn (Found cost) verdict = verdict ≡ verdicts.Optimal cost
+IsVerdictOn Impossible verdict = verdict ≡ verdicts.Impossible
+IsVerdictOn (Limit cause) verdict = ⊥
+
+-- what is printed beside a plan or 'impossible' has to be accepted, by whoever checks it for the same map, scenario and number
+-- of agents
+abbrev pub PrintedIsDue : Type 0
+PrintedIsDue = (map scen plan cert : List ℕ) (count limit : ℕ) (kind : Kind) (verdict : Verdict) → PrintsTruly (Some map) (Some scen) count limit kind plan cert → IsVerdictOn kind verdict →
+    IsDueVerdict (Some map) (Some scen) (Some plan) (Some cert) count verdict

@@ -1,7 +1,7 @@
 -- The problem that the inputs of a run spell. Where a source doesn't tell its bytes, nothing is said of them.
-use Rattle.std.specs.Prelude.{◌≢◌, ℕ, List, Option, IfSome}
+use Rattle.std.specs.Prelude.{◌≡◌, ◌≢◌, ℕ, List, Option, IfSome, length}
 use Rattle.mapf_model.specs.Grid.{GridMap}
-use Rattle.mapf_model.specs.Plan.{Instance}
+use Rattle.mapf_model.specs.Plan.{Instance, IsInstance}
 use Rattle.mapf_text.specs.Lines.{lines_of}
 use Rattle.mapf_text.specs.Maps.{SpellsMap, HasMapFault}
 use Rattle.mapf_text.specs.Scenarios.{SpellsScenario, HasScenarioFault, filled_lines}
@@ -22,6 +22,11 @@ SpellsAgents scen grid count problem = IfSome scen (λ bytes. SpellsScenario byt
 pub record SpellsProblem (map scen : Option (List ℕ)) (count : ℕ) (problem : Instance) : Type 0 where
   pub grid : SpellsGrid map problem.grid
   pub agents : SpellsAgents scen problem.grid count problem
+
+-- a problem of the benchmark's kind, of so many agents
+pub record IsPosed (count : ℕ) (problem : Instance) : Type 0 where
+  pub is_instance : IsInstance problem
+  pub many : length problem.agents ≡ count
 
 -- the map's bytes have the defect
 abbrev pub IsMapDefect : Option (List ℕ) → MapFault → Type 0

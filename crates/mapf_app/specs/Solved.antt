@@ -8,8 +8,13 @@ use Rattle.mapf_certificate.specs.Plans.{SpellsPlan, IsPlanText, plan_text}
 use Rattle.mapf_certificate.specs.declared.plan_text.PlanAnswer.{PlanAnswer}
 use Rattle.mapf_certificate.specs.declared.plan_text.PlanAnswer.TheVariants as answers
 use Rattle.mapf_certificate.specs.declared.plan_text.PlanText.{PlanText}
-use Rattle.mapf_model.specs.Accepted.{IsAccepted, SaysPlan, SaysImpossible, Outcome, OptimalOutcome, ImpossibleOutcome}
+use Rattle.mapf_checker.specs.Verdict.{AreAccepted}
+use Rattle.mapf_checker.specs.declared.fault.Verdict.TheVariants.{Optimal}
+use Rattle.mapf_checker.specs.declared.fault.Verdict.TheVariants as verdicts
+use Rattle.mapf_model.specs.Accepted.{SaysPlan, SaysImpossible}
 use Rattle.mapf_model.specs.declared.cause.Cause.{Cause}
+use Rattle.mapf_model.specs.declared.item.Claim.{Claim}
+use Rattle.mapf_model.specs.declared.item.Claim.TheVariants as claims
 use Rattle.mapf_model.specs.declared.item.Item.{Item}
 use Rattle.mapf_model.specs.Plan.{Instance, IsOptimal, IsImpossible}
 use Rattle.mapf_model.specs.Tree.{ConstraintTree}
@@ -23,22 +28,28 @@ pub record SpellsAnswer (problem : Instance) (answer : PlanAnswer) (bytes : List
   pub in_range : IsPlanText problem.grid (text_of problem answer)
   pub spelled : bytes ≡ plan_text problem.grid.width (text_of problem answer)
 
--- the two texts are accepted for the problem with the outcome
-abbrev pub AreAccepted : Instance → List ℕ → List ℕ → Outcome → Type 0
-AreAccepted problem plan cert outcome = IsAccepted SpellsPlan SpellsCert problem plan cert outcome
+-- the bytes spell a certificate of the claim, with a tree of at most so many splits that the search earned
+pub record SpellsTree (problem : Instance) (limit : ℕ) (claim : Claim) (cert_bytes : List ℕ) : Type 0 where
+  pub items : List Item
+  pub tree : ConstraintTree
+  pub searched : IsTreeOf problem limit items tree
+  pub spelled : SpellsCert problem.grid cert_bytes (length problem.agents) claim tree
 
--- the first text spells a plan that is valid with this sum, no valid plan has a smaller sum, and both texts are accepted
-pub record PrintsOptimal (problem : Instance) (cost : ℕ) (plan_bytes cert_bytes : List ℕ) : Type 0 where
+-- the first text spells a plan that is valid with this sum, no valid plan has a smaller sum, both texts are accepted, and the
+-- second has a tree of the search
+pub record PrintsOptimal (problem : Instance) (limit cost : ℕ) (plan_bytes cert_bytes : List ℕ) : Type 0 where
   pub plan : List (List ℕ)
   pub spelled : SpellsPlan problem.grid plan_bytes (length problem.agents) (SaysPlan plan)
   pub optimal : IsOptimal problem plan cost
-  pub accepted : AreAccepted problem plan_bytes cert_bytes (OptimalOutcome cost)
+  pub accepted : AreAccepted problem plan_bytes cert_bytes (Optimal cost)
+  pub searched : SpellsTree problem limit (claims.Cost cost) cert_bytes
 
--- the first text spells that no plan is valid, none is, and both texts are accepted
-pub record PrintsImpossible (problem : Instance) (plan_bytes cert_bytes : List ℕ) : Type 0 where
+-- the first text spells that no plan is valid, none is, both texts are accepted, and the second has a tree of the search
+pub record PrintsImpossible (problem : Instance) (limit : ℕ) (plan_bytes cert_bytes : List ℕ) : Type 0 where
   pub spelled : SpellsPlan problem.grid plan_bytes (length problem.agents) SaysImpossible
   pub impossible : IsImpossible problem
-  pub accepted : AreAccepted problem plan_bytes cert_bytes ImpossibleOutcome
+  pub accepted : AreAccepted problem plan_bytes cert_bytes verdicts.Impossible
+  pub searched : SpellsTree problem limit claims.Impossible cert_bytes
 
 -- the first text spells the limit that was met, and there is no second; with some tree the search may stop for this cause
 pub record PrintsLimit (problem : Instance) (limit : ℕ) (cause : Cause) (plan_bytes cert_bytes : List ℕ) : Type 0 where
@@ -51,6 +62,6 @@ pub record PrintsLimit (problem : Instance) (limit : ℕ) (cause : Cause) (plan_
 
 -- what the two texts are, by the kind of answer
 abbrev pub Prints : Instance → ℕ → Kind → List ℕ → List ℕ → Type 0
-Prints problem limit (Found cost) plan cert = PrintsOptimal problem cost plan cert
-Prints problem limit Impossible plan cert = PrintsImpossible problem plan cert
+Prints problem limit (Found cost) plan cert = PrintsOptimal problem limit cost plan cert
+Prints problem limit Impossible plan cert = PrintsImpossible problem limit plan cert
 Prints problem limit (Limit cause) plan cert = PrintsLimit problem limit cause plan cert

@@ -1,7 +1,7 @@
 ghost use Rattle.std.specs.Prelude.{◌≡◌, ◌≤◌, ◌⊎◌, false, Ok, IfOk, IfErr, IfSome, IsSome, IsErrOf};
 ghost use Rattle.std.specs.Result.{IsErrAnd};
 ghost use Rattle.mapf_app.specs.Faults.{IsNoDefect, IsReadingMap, IsReadingAgents, IsReading, fault_of_map, fault_of_scenario};
-ghost use Rattle.mapf_app.specs.Problems.{SpellsGrid, SpellsAgents, SpellsProblem};
+ghost use Rattle.mapf_app.specs.Problems.{IsPosed, SpellsGrid, SpellsAgents, SpellsProblem};
 ghost use Rattle.mapf_app.specs.Unreadable.{IsUnreadable};
 ghost use Rattle.mapf_model.specs.Grid.{GridMap};
 ghost use Rattle.mapf_model.specs.Plan.{Instance};
@@ -11,7 +11,7 @@ use mapf_model::{Grid, Problem, ReadEnd, Source, read_all};
 use mapf_text::{MapFault, ScenFault, read_map, read_scen};
 use std::alloc::Global;
 
-/// How many bytes a map, a scenario, a plan text or an event text may have.
+/// How many bytes a map, a scenario or a plan text may have.
 pub const TEXT_LIMIT: u64 = 67_108_864;
 
 /// How many bytes a certificate may have.
@@ -75,6 +75,7 @@ fn read_agents<S: Source>(alloc: Global, scen: &mut S, grid: Grid, k: u32) -> Re
     requires some { 1 ≤ k }
     requires few { k ≤ 200 }
     ensures found { IfOk result (SpellsAgents (S.remaining scen.old) grid k) }
+    ensures posed { IfOk result (IsPosed k) }
     ensures on_grid { IfOk result (λ problem. problem.grid ≡ grid) }
     ensures only { (problem : Instance) → IsSome (S.remaining scen.old) → SpellsAgents (S.remaining scen.old) grid k problem →
         (result ≡ Ok problem) ⊎ IsErrAnd result IsNoDefect }
@@ -102,6 +103,7 @@ pub fn read_problem<M: Source, S: Source>(
     requires few { k ≤ 200 }
     // What is read is spelled so.
     ensures found { IfOk result (SpellsProblem (M.remaining map.old) (S.remaining scen.old) k) }
+    ensures posed { IfOk result (IsPosed k) }
     // What is spelled so is read, unless a device or memory prevents it.
     ensures only { (problem : Instance) → IsSome (M.remaining map.old) → IsSome (S.remaining scen.old) →
         SpellsProblem (M.remaining map.old) (S.remaining scen.old) k problem →

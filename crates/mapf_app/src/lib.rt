@@ -6,6 +6,7 @@ mod demo;
 mod fault;
 mod input;
 mod kind;
+pub mod laws;
 mod line;
 mod play;
 mod solve;

@@ -1,6 +1,6 @@
 -- A good plan text and a good certificate together.
 use Rattle.std.proofs.Common.{◌≡◌, ℕ, List, length, refl, subst}
-use Rattle.mapf_model.specs.Accepted.{PlanSays, SaysPlan, SaysImpossible, SaysLimit, GoTogether}
+use Rattle.mapf_model.specs.Accepted.{PlanSays, SaysPlan, SaysImpossible, SaysLimit, GoTogether, IsTrueOf}
 use Rattle.mapf_model.specs.declared.item.Claim.{Claim}
 use Rattle.mapf_model.specs.declared.item.Claim.TheVariants as claims
 use Rattle.mapf_model.specs.Laws.{ShownClaimsHold}
@@ -9,16 +9,18 @@ use Rattle.mapf_model.specs.Tree.{Shows}
 use Rattle.mapf_certificate.specs.Certificates.{SpellsCert}
 use Rattle.mapf_checker.specs.declared.fault.Verdict.{Verdict}
 use Rattle.mapf_checker.specs.declared.fault.Verdict.TheVariants.{Optimal, Impossible}
-use Rattle.mapf_checker.specs.Verdict.{AreAccepted, IsTrueVerdict, IsGoodFor, IsGoodPlan, IsGoodCert, IsShown, claim_of, outcome_of}
+use Rattle.mapf_checker.specs.Verdict.{AreAccepted, IsTrueText, IsGoodFor, IsGoodPlan, IsGoodCert, IsShown, claim_of, outcome_of}
 
 -- what is good and shown is so
-pub true_verdict : ShownClaimsHold → (problem : Instance) (plan : List ℕ) (verdict : Verdict) → IsGoodPlan problem plan verdict → IsShown problem (claim_of verdict) → IsTrueVerdict problem verdict
-true_verdict law problem plan verdict good shown = by verdict good.says good.good shown where
-  by : (verdict : Verdict) (said : PlanSays) → IsGoodFor problem said verdict → IsShown problem (claim_of verdict) → IsTrueVerdict problem verdict
-  by (Optimal sum) (SaysPlan plan) fits (tree, shows) = (plan, record { valid = fits.0; sum = fits.1; least = law problem (claims.Cost sum) tree shows })
-  by (Optimal sum) SaysImpossible fits (tree, shows) = absurd fits
-  by (Optimal sum) SaysLimit fits (tree, shows) = absurd fits
-  by Impossible said fits (tree, shows) = law problem claims.Impossible tree shows
+pub true_text : ShownClaimsHold → (problem : Instance) (bytes : List ℕ) (verdict : Verdict) → IsGoodPlan problem bytes verdict → IsShown problem (claim_of verdict) → IsTrueText problem bytes verdict
+true_text law problem bytes verdict good shown = record { says = good.says; spelled = good.spelled; is_true = by verdict good.says good.good shown } where
+  by : (verdict : Verdict) (said : PlanSays) → IsGoodFor problem said verdict → IsShown problem (claim_of verdict) → IsTrueOf problem said (outcome_of verdict)
+  by (Optimal sum) (SaysPlan plan) fits (tree, shows) = record { valid = fits.0; sum = fits.1; least = law problem (claims.Cost sum) tree shows }
+  by (Optimal sum) SaysImpossible fits shown = absurd fits
+  by (Optimal sum) SaysLimit fits shown = absurd fits
+  by Impossible (SaysPlan plan) fits shown = absurd fits
+  by Impossible SaysImpossible fits (tree, shows) = law problem claims.Impossible tree shows
+  by Impossible SaysLimit fits shown = absurd fits
 
 -- what is good is accepted
 pub accepted_if_good : (problem : Instance) (plan cert : List ℕ) (verdict : Verdict) → IsGoodPlan problem plan verdict → IsGoodCert problem (claim_of verdict) cert → AreAccepted problem plan cert verdict

@@ -2,23 +2,24 @@
 use Rattle.std.specs.Prelude.{ℕ, List, length}
 use Rattle.mapf_model.specs.declared.item.Claim.{Claim}
 use Rattle.mapf_model.specs.declared.item.Claim.TheVariants as claim
-use Rattle.mapf_model.specs.Accepted.{PlanSays, SaysPlan, SaysImpossible, SaysLimit, Outcome, OptimalOutcome, ImpossibleOutcome, IsAccepted}
-use Rattle.mapf_model.specs.Plan.{Instance, IsValid, IsSumOfCosts, IsOptimal, IsImpossible}
+use Rattle.mapf_model.specs.Accepted.{PlanSays, SaysPlan, SaysImpossible, SaysLimit, Outcome, OptimalOutcome, ImpossibleOutcome, IsAccepted, IsTrueOf}
+use Rattle.mapf_model.specs.Plan.{Instance, IsValid, IsSumOfCosts}
 use Rattle.mapf_model.specs.Tree.{ConstraintTree, Shows}
 use Rattle.mapf_certificate.specs.Certificates.{SpellsCert}
 use Rattle.mapf_certificate.specs.Plans.{SpellsPlan}
 use Rattle.mapf_checker.specs.declared.fault.Verdict.{Verdict}
 use Rattle.mapf_checker.specs.declared.fault.Verdict.TheVariants.{Optimal, Impossible}
 
--- some plan is optimal with this sum, or no plan is valid
-abbrev pub IsTrueVerdict : Instance → Verdict → Type 0
-IsTrueVerdict problem (Optimal sum) = (plan : List (List ℕ)) × IsOptimal problem plan sum
-IsTrueVerdict problem Impossible = IsImpossible problem
-
 -- the outcome of two texts that the verdict names
 abbrev pub outcome_of : Verdict → Outcome
 outcome_of (Optimal sum) = OptimalOutcome sum
 outcome_of Impossible = ImpossibleOutcome
+
+-- the bytes spell a plan that is optimal with the verdict's sum; or they spell that no plan is valid, and none is
+pub record IsTrueText (problem : Instance) (bytes : List ℕ) (verdict : Verdict) : Type 0 where
+  pub says : PlanSays
+  pub spelled : SpellsPlan problem.grid bytes (length problem.agents) says
+  pub is_true : IsTrueOf problem says (outcome_of verdict)
 
 -- the two texts are accepted with this verdict
 abbrev pub AreAccepted : Instance → List ℕ → List ℕ → Verdict → Type 0

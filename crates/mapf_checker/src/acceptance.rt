@@ -3,7 +3,7 @@ ghost use Rattle.std.specs.Io.KnownBytes.{Consumes};
 ghost use Rattle.mapf_checker.specs.declared.fault.Verdict.{Verdict};
 ghost use Rattle.mapf_checker.specs.Faults.{IfRefused, IsNoRefusal};
 ghost use Rattle.mapf_checker.specs.Refusals.{HasRefusal};
-ghost use Rattle.mapf_checker.specs.Verdict.{AreAccepted, IsGoodPlan, IsTrueVerdict, claim_of};
+ghost use Rattle.mapf_checker.specs.Verdict.{AreAccepted, IsGoodPlan, IsTrueText, claim_of};
 
 use crate::cert_judge::judge_cert;
 use crate::fault::{CheckFault, FromFault, Verdict};
@@ -19,7 +19,8 @@ pub fn check(
     plan_text: &[u8],
     cert_text: &[u8],
 ) -> Result<Verdict, CheckFault>
-    ensures truth { IfOk result (IsTrueVerdict problem.now) }
+    // What the plan text says is true: its plan is optimal with that sum, or no plan is valid.
+    ensures truth { IfOk result (IsTrueText problem.now plan_text.now) }
     // What is accepted is accepted by definition, and what is so is accepted, unless memory is refused.
     ensures accepted { IfOk result (AreAccepted problem.now plan_text.now cert_text.now) }
     ensures only { (verdict : Verdict) → AreAccepted problem.now plan_text.now cert_text.now verdict → MatchResult result (λ given. given ≡ verdict) (λ fault. fault ≡ CheckFault.Memory) }
@@ -45,7 +46,8 @@ pub fn check_from<S: Source>(
     limit: u64,
 ) -> Result<Verdict, FromFault>
     requires { S.has_failed source.old ≡ false }
-    ensures truth { IfOk result (IsTrueVerdict problem.now) }
+    // What the plan text says is true: its plan is optimal with that sum, or no plan is valid.
+    ensures truth { IfOk result (IsTrueText problem.now plan_text.now) }
     // Where the source tells its bytes: what is accepted is accepted by definition, and what is so is accepted,
     // unless memory is refused, the source fails or too many bytes come.
     ensures accepted { (bytes : List ℕ) → S.remaining source.old ≡ Some bytes → IfOk result (AreAccepted problem.now plan_text.now bytes) }

@@ -1,4 +1,4 @@
-ghost use Rattle.std.specs.Prelude.{◌≡◌, ◌⊎◌, ◌↔◌, ℕ, ◌≤◌, List, [], ◌∷◌, IsTrue, Ok, Err, IfOk, IfErr, MatchOption, MatchResult};
+ghost use Rattle.std.specs.Prelude.{◌≡◌, ◌⊎◌, ◌↔◌, ℕ, ◌≤◌, List, [], ◌∷◌, IsTrue, length, Ok, Err, IfOk, IfErr, MatchOption, MatchResult};
 ghost use Rattle.mapf_model.specs.Plan.{Instance, IsInstance};
 ghost use Rattle.mapf_text.specs.Scenarios.{filled_lines, IsVersionLine, AfterVersion, HasAgents, SpellsScenario, HasRowsFault, HasScenarioFault};
 
@@ -21,8 +21,9 @@ pub fn read_scen(alloc: Global, bytes: &[u8], grid: Grid, k: u32) -> Result<Prob
     ensures only { (problem : Instance) → SpellsScenario bytes.now grid k problem → (result ≡ Ok problem) ⊎ (result ≡ Err ScenFault.Memory) }
     // The lines before the fault's place are good, and there its defect stands.
     ensures fault { IfErr result (HasScenarioFault grid (filled_lines bytes.now) k) }
-    // There are 1 to 200 agents, whose starts and goals are free cells.
+    // There are 1 to 200 agents, whose starts and goals are free cells, and as many as were asked for.
     ensures problem { IfOk result IsInstance }
+    ensures count { IfOk result (λ problem. length problem.agents ≡ k) }
 {
     problem_of(alloc, bytes, grid, k)
 }

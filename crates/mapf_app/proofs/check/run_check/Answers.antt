@@ -6,7 +6,7 @@ use Rattle.mapf_app.proofs.check.run_check.Goals as goal
 pub returns-in-Ok-clause-verdict : goal.returns-in-Ok-clause-verdict
 returns-in-Ok-clause-verdict g c =
     let same : IfSome (g.P.Source.remaining c.args.plan.now) (λ bytes. c.as_slice.result.now ≡ bytes) = subst (λ text. IfSome (g.P.Source.remaining c.args.plan.now) (λ bytes. text ≡ bytes)) (sym c.as_slice.ensures.value) c.in_ok-plan_text.ensures.whole in
-    judges (g.M.Source.remaining c.args.map.now) (g.S.Source.remaining c.args.scen.now) (g.P.Source.remaining c.args.plan.now) (g.C.Source.remaining c.args.cert.now) c.args.k c.in_ok-problem.problem c.in_ok-problem.ensures.found c.as_slice.result.now same c.in-Ok.verdict c.in-Ok.ensures.truth c.in-Ok.ensures.accepted
+    judges (g.M.Source.remaining c.args.map.now) (g.S.Source.remaining c.args.scen.now) (g.P.Source.remaining c.args.plan.now) (g.C.Source.remaining c.args.cert.now) c.args.k c.in_ok-problem.problem c.in_ok-problem.ensures.found c.as_slice.result.now same c.in_ok-problem.ensures.posed c.in-Ok.verdict c.in-Ok.ensures.truth c.in-Ok.ensures.accepted
 
 pub returns-in-Ok-clause-accepted : goal.returns-in-Ok-clause-accepted
 returns-in-Ok-clause-accepted g c =

@@ -2,7 +2,7 @@ use Rattle.std.proofs.Common.{◌≡◌, sym, ◌∙◌, ap, subst}
 use Rattle.mapf_checker.specs.Faults.{IsNoRefusal}
 use Rattle.mapf_checker.specs.Verdict.{IsGoodCert, claim_of}
 use Rattle.mapf_checker.proofs.ReadLemmas.{err_matched}
-use Rattle.mapf_checker.proofs.VerdictLemmas.{accepted_if_good, good_if_accepted, true_verdict}
+use Rattle.mapf_checker.proofs.VerdictLemmas.{accepted_if_good, good_if_accepted, true_text}
 use Rattle.mapf_checker.proofs.acceptance.check_from.Goals as goal
 
 pub returns-in_err-judge_cert-clause-only : goal.returns-in_err-judge_cert-clause-only
@@ -15,7 +15,7 @@ returns-in_err-judge_cert-clause-only g c bytes verdict known accepted =
     (c.in_err-judge_cert.ensures.only bytes known (subst (λ claim. IsGoodCert problem claim bytes) (sym claimed) both.1))
 
 pub returns-clause-truth : goal.returns-clause-truth
-returns-clause-truth g c = true_verdict c.shown_claims_hold.ensures c.args.problem.now c.args.plan_text.now c.in_ok-verdict.verdict c.in_ok-verdict.ensures.good (rw c.claimed_by.ensures at c.in_ok-judge_cert.ensures.shown)
+returns-clause-truth g c = true_text c.shown_claims_hold.ensures c.args.problem.now c.args.plan_text.now c.in_ok-verdict.verdict c.in_ok-verdict.ensures.good (rw c.claimed_by.ensures at c.in_ok-judge_cert.ensures.shown)
 
 pub returns-clause-accepted : goal.returns-clause-accepted
 returns-clause-accepted g c bytes known =

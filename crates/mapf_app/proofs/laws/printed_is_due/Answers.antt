@@ -1,0 +1,27 @@
+use Rattle.std.proofs.Common.{◌≡◌, ℕ, List, Some, refl, sym, subst}
+use Rattle.mapf_app.specs.Headline.{PrintsTruly, IsDueVerdict, IsVerdictOn}
+use Rattle.mapf_app.specs.Solved.{Prints}
+use Rattle.mapf_app.specs.declared.kind.Kind.{Kind}
+use Rattle.mapf_app.specs.declared.kind.Kind.TheVariants.{Found, Impossible, Limit}
+use Rattle.mapf_checker.specs.Verdict.{AreAccepted}
+use Rattle.mapf_checker.specs.declared.fault.Verdict.{Verdict}
+use Rattle.mapf_model.specs.Plan.{Instance}
+use Rattle.mapf_app.proofs.laws.printed_is_due.Goals as goal
+
+accepted_as : (problem : Instance) (limit : ℕ) (kind : Kind) (verdict : Verdict) (plan cert : List ℕ) → Prints problem limit kind plan cert → IsVerdictOn kind verdict → AreAccepted problem plan cert verdict
+accepted_as problem limit (Found cost) verdict plan cert prints is = subst (AreAccepted problem plan cert) (sym is) prints.accepted
+accepted_as problem limit Impossible verdict plan cert prints is = subst (AreAccepted problem plan cert) (sym is) prints.accepted
+accepted_as problem limit (Limit cause) verdict plan cert prints is = absurd is
+
+pub returns : goal.returns
+returns c = λ map scen plan cert count limit kind verdict truly is. record {
+  map_told = refl;
+  scen_told = refl;
+  problem = truly.problem;
+  read = truly.read;
+  plan_text = plan;
+  plan_told = refl;
+  cert_text = cert;
+  cert_told = refl;
+  accepted = accepted_as truly.problem limit kind verdict plan cert truly.printed is;
+}
