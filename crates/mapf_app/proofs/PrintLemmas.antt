@@ -32,7 +32,7 @@ spells_cert problem claim items tree limit of count in_range bytes written = rec
 -- with the sum of the tree's claim
 prints_total : (problem : Instance) (plan : List (List ℕ)) (items : List Item) (tree : ConstraintTree) (limit : ℕ) → IsTreeOf problem limit items tree → (shown : IsShownOptimal problem plan tree) →
     (plan_bytes cert_bytes : List ℕ) → SpellsAnswer problem (answers.Found plan) plan_bytes →
-    cert_bytes ≡ cert_text problem.grid.width (length problem.agents) (Cost shown.total) (map node_of items) → PrintsOptimal problem shown.total plan_bytes cert_bytes
+    cert_bytes ≡ cert_text problem.grid.width (length problem.agents) (Cost shown.total) (map node_of items) → PrintsOptimal problem limit shown.total plan_bytes cert_bytes
 prints_total problem plan items tree limit of shown plan_bytes cert_bytes spells written =
     let spelled : SpellsPlan problem.grid plan_bytes (length problem.agents) (SaysPlan plan) = record { text = text_of problem (answers.Found plan); in_range = spells.in_range; spelled = spells.spelled; for_agents = refl; same = refl } in
     let together : GoTogether problem (SaysPlan plan) (Cost shown.total) tree (OptimalOutcome shown.total) = (shown.optimal.valid, shown.optimal.sum, refl, shown.shows) in
@@ -48,19 +48,20 @@ prints_total problem plan items tree limit of shown plan_bytes cert_bytes spells
         cert_spelled = spells_cert problem (Cost shown.total) items tree limit of spells.in_range.0 shown.claim_in_range cert_bytes written;
         together = together;
       };
+      few = of.few;
     }
 
 -- with the sum of the plan
 pub prints_optimal : (problem : Instance) (plan : List (List ℕ)) (items : List Item) (tree : ConstraintTree) (limit : ℕ) → IsTreeOf problem limit items tree → IsShownOptimal problem plan tree →
     SumsAreOne → (sum : ℕ) → IsSumOfCosts problem.agents plan sum → (plan_bytes cert_bytes : List ℕ) → SpellsAnswer problem (answers.Found plan) plan_bytes →
-    cert_bytes ≡ cert_text problem.grid.width (length problem.agents) (Cost sum) (map node_of items) → PrintsOptimal problem sum plan_bytes cert_bytes
+    cert_bytes ≡ cert_text problem.grid.width (length problem.agents) (Cost sum) (map node_of items) → PrintsOptimal problem limit sum plan_bytes cert_bytes
 prints_optimal problem plan items tree limit of shown law sum adds_up plan_bytes cert_bytes spells written =
     let same : shown.total ≡ sum = (law problem plan shown.optimal.valid).one shown.total sum shown.optimal.sum adds_up in
-    subst (λ total. cert_bytes ≡ cert_text problem.grid.width (length problem.agents) (Cost total) (map node_of items) → PrintsOptimal problem total plan_bytes cert_bytes) same
+    subst (λ total. cert_bytes ≡ cert_text problem.grid.width (length problem.agents) (Cost total) (map node_of items) → PrintsOptimal problem limit total plan_bytes cert_bytes) same
     (prints_total problem plan items tree limit of shown plan_bytes cert_bytes spells) written
 
 pub prints_impossible : (problem : Instance) (items : List Item) (tree : ConstraintTree) (limit : ℕ) → IsTreeOf problem limit items tree → IsShownImpossible problem tree → (plan_bytes cert_bytes : List ℕ) → SpellsAnswer problem answers.Impossible plan_bytes →
-    cert_bytes ≡ cert_text problem.grid.width (length problem.agents) Impossible (map node_of items) → PrintsImpossible problem plan_bytes cert_bytes
+    cert_bytes ≡ cert_text problem.grid.width (length problem.agents) Impossible (map node_of items) → PrintsImpossible problem limit plan_bytes cert_bytes
 prints_impossible problem items tree limit of shown plan_bytes cert_bytes spells written =
     let spelled : SpellsPlan problem.grid plan_bytes (length problem.agents) SaysImpossible = record { text = text_of problem answers.Impossible; in_range = spells.in_range; spelled = spells.spelled; for_agents = refl; same = refl } in
     let together : GoTogether problem SaysImpossible Impossible tree ImpossibleOutcome = (refl, shown.shows) in
@@ -75,4 +76,5 @@ prints_impossible problem items tree limit of shown plan_bytes cert_bytes spells
         cert_spelled = spells_cert problem Impossible items tree limit of spells.in_range.0 tt cert_bytes written;
         together = together;
       };
+      few = of.few;
     }

@@ -1,6 +1,6 @@
 ghost use Rattle.std.specs.Prelude.{◌≡◌, ◌≤◌, false, IfOk, IfErr, IsErrOf, IsSome, MatchResult};
 ghost use Rattle.mapf_app.specs.Checked.{HasGoodPlan};
-ghost use Rattle.mapf_app.specs.Faults.{IsChecking, IsNoDefect, IsOfInput};
+ghost use Rattle.mapf_app.specs.Faults.{IsChecking, IsNoDefect, IsOfInput, IsOfMap, IsOfProblem};
 ghost use Rattle.mapf_app.specs.Headline.{JudgesTruly, IsDueVerdict};
 ghost use Rattle.mapf_app.specs.Problems.{SpellsProblem};
 ghost use Rattle.mapf_app.specs.Unreadable.{IsUnreadable};
@@ -48,7 +48,9 @@ pub fn run_check<M: Source, S: Source, P: Source, C: Source>(
         IsUnreadable (P.has_failed plan.new) (P.remaining plan.old) (P.remaining plan.new) TEXT_LIMIT }
     ensures cert { IsErrOf result (Fault.F4 Input.Cert) →
         IsUnreadable (C.has_failed cert.new) (C.remaining cert.old) (C.remaining cert.new) CERT_LIMIT }
-    // The certificate is pulled only after the plan text was found good.
+    // Each input is pulled only after those before it were read, the certificate only after the plan text was found good.
+    ensures scen_unpulled { IfErr result (λ fault. IsOfMap fault → scen.new ≡ scen.old) }
+    ensures plan_unpulled { IfErr result (λ fault. IsOfProblem fault → plan.new ≡ plan.old) }
     ensures unpulled { (HasGoodPlan (M.remaining map.old) (S.remaining scen.old) (P.remaining plan.old) k → ⊥) →
         cert.new ≡ cert.old }
 {

@@ -1,5 +1,5 @@
 ghost use Rattle.std.specs.Prelude.{◌≡◌, false, true, IfOk, IfErr, IsErrOf};
-ghost use Rattle.mapf_app.specs.Faults.{IsNoOutput};
+ghost use Rattle.mapf_app.specs.Faults.{IsBeforeWriting};
 ghost use Rattle.std.specs.Result.{is_err};
 
 use crate::check::run_check;
@@ -53,7 +53,7 @@ fn sink_with_room(alloc: Global) -> Result<BytesSink, Fault>
 }
 
 fn checked(alloc: Global, plan: &[u8], cert: &[u8]) -> Result<Verdict, Fault>
-    ensures { IfErr result IsNoOutput }
+    ensures { IfErr result IsBeforeWriting }
 {
     let mut map = BytesSource::of(MAP);
     let mut scen = BytesSource::of(SCEN);

@@ -1,6 +1,6 @@
 ghost use Rattle.std.specs.Prelude.{◌≡◌, ◌≤◌, ◌⊎◌, false, Ok, IfOk, IfErr, IfSome, IsSome, IsErrOf};
 ghost use Rattle.std.specs.Result.{IsErrAnd};
-ghost use Rattle.mapf_app.specs.Faults.{IsNoDefect, IsReadingMap, IsReadingAgents, IsReading, fault_of_map, fault_of_scenario};
+ghost use Rattle.mapf_app.specs.Faults.{IsNoDefect, IsOfMap, IsReadingMap, IsReadingAgents, IsReading, fault_of_map, fault_of_scenario};
 ghost use Rattle.mapf_app.specs.Problems.{SpellsGrid, SpellsAgents, SpellsProblem};
 ghost use Rattle.mapf_app.specs.Unreadable.{IsUnreadable};
 ghost use Rattle.mapf_model.specs.Grid.{GridMap};
@@ -112,6 +112,8 @@ pub fn read_problem<M: Source, S: Source>(
         IsUnreadable (M.has_failed map.new) (M.remaining map.old) (M.remaining map.new) TEXT_LIMIT }
     ensures scen { IsErrOf result (Fault.F4 Input.Scen) →
         IsUnreadable (S.has_failed scen.new) (S.remaining scen.old) (S.remaining scen.new) TEXT_LIMIT }
+    // The scenario is pulled only after the map was read.
+    ensures unpulled { IfErr result (λ fault. IsOfMap fault → scen.new ≡ scen.old) }
 {
     let grid = read_grid(alloc, map)?;
     read_agents(alloc, scen, grid, k)

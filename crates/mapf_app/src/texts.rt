@@ -63,7 +63,8 @@ fn found(
     tree: Vec<Item>,
 ) -> Result<Texts, OutOfMemory>
     requires { (limit : ℕ) × (shown : ConstraintTree) × IsTreeOf problem.now limit tree.items shown × IsShownOptimal problem.now plan shown }
-    ensures { IfOk result (λ texts. (limit : ℕ) → Prints problem.now limit texts.kind texts.plan.items texts.cert.items) }
+    ensures { IfOk result (λ texts. (limit : ℕ) (shown : ConstraintTree) → IsTreeOf problem.now limit tree.items shown → IsShownOptimal problem.now plan shown →
+        Prints problem.now limit texts.kind texts.plan.items texts.cert.items) }
 {
     laws::sums_are_one();
     let sum = sum_of(problem, &plan);
@@ -76,7 +77,8 @@ fn found(
 
 fn impossible(alloc: Global, problem: &Problem, tree: Vec<Item>) -> Result<Texts, OutOfMemory>
     requires { (limit : ℕ) × (shown : ConstraintTree) × IsTreeOf problem.now limit tree.items shown × IsShownImpossible problem.now shown }
-    ensures { IfOk result (λ texts. (limit : ℕ) → Prints problem.now limit texts.kind texts.plan.items texts.cert.items) }
+    ensures { IfOk result (λ texts. (limit : ℕ) (shown : ConstraintTree) → IsTreeOf problem.now limit tree.items shown → IsShownImpossible problem.now shown →
+        Prints problem.now limit texts.kind texts.plan.items texts.cert.items) }
 {
     Ok(Texts {
         kind: Kind::Impossible,
