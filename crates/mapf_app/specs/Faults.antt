@@ -41,16 +41,6 @@ IsOfTexts PlanText = ⊤
 IsOfTexts CertText = ⊤
 IsOfTexts Out = ⊥
 
--- no defect of the map or the scenario
-abbrev pub IsNoDefect : Fault → Type 0
-IsNoDefect (F1 fault) = ⊥
-IsNoDefect (F2 fault) = ⊥
-IsNoDefect (F3 fault) = ⊤
-IsNoDefect (F4 input) = ⊤
-IsNoDefect (F5 output) = ⊤
-IsNoDefect F6 = ⊤
-IsNoDefect (Refused refusal) = ⊤
-
 -- what a fault of reading a map says of its bytes
 abbrev pub IsReadingMap : Option (List ℕ) → Fault → Type 0
 IsReadingMap map (F1 fault) = IsMapDefect map fault

@@ -1,6 +1,6 @@
 ghost use Rattle.std.specs.Prelude.{◌≡◌, ◌≤◌, false, IfOk, IfErr, IsErrOf, IsSome, MatchResult};
 ghost use Rattle.mapf_app.specs.Checked.{HasGoodPlan};
-ghost use Rattle.mapf_app.specs.Faults.{IsChecking, IsNoDefect, IsOfInput, IsOfMap, IsOfProblem};
+ghost use Rattle.mapf_app.specs.Faults.{IsChecking, IsOfInput, IsOfMap, IsOfProblem};
 ghost use Rattle.mapf_app.specs.Headline.{JudgesTruly, IsDueVerdict};
 ghost use Rattle.mapf_app.specs.Problems.{SpellsProblem};
 ghost use Rattle.mapf_app.specs.Unreadable.{IsUnreadable};
@@ -35,9 +35,6 @@ pub fn run_check<M: Source, S: Source, P: Source, C: Source>(
     // What is to be accepted is accepted, unless a device or memory prevents it.
     ensures accepted { (verdict : Verdict) → IsDueVerdict (M.remaining map.old) (S.remaining scen.old) (P.remaining plan.old) (C.remaining cert.old) k verdict →
         MatchResult result (λ given. given ≡ verdict) IsOfInput }
-    // Inputs that spell a problem are not faulted.
-    ensures only { (problem : Instance) → IsSome (M.remaining map.old) → IsSome (S.remaining scen.old) →
-        SpellsProblem (M.remaining map.old) (S.remaining scen.old) k problem → IfErr result IsNoDefect }
     // A fault stands where it says.
     ensures fault { IfErr result (IsChecking (M.remaining map.old) (S.remaining scen.old) (P.remaining plan.old) (C.remaining cert.old) k) }
     ensures map { IsErrOf result (Fault.F4 Input.Map) →

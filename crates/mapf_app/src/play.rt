@@ -1,6 +1,6 @@
 ghost use Rattle.std.specs.Prelude.{◌≡◌, ◌≤◌, ◌⊎◌, ℕ, List, Ok, Err, false, true, take, IfOk, IfErr, OnOk, IsErrOf, IsSome};
 ghost use Rattle.std.specs.Io.KnownBytes.{Appends};
-ghost use Rattle.mapf_app.specs.Faults.{IsBeforeWriting, IsNoDefect, IsOfDevices, IsOfMap, IsOfProblem, IsPlaying, IsReadingPlan, fault_of_plan_text};
+ghost use Rattle.mapf_app.specs.Faults.{IsBeforeWriting, IsOfDevices, IsOfMap, IsOfProblem, IsPlaying, IsReadingPlan, fault_of_plan_text};
 ghost use Rattle.mapf_app.specs.Played.{IsDuePlay, PlaysTruly, SpellsValidPlan};
 ghost use Rattle.mapf_app.specs.Problems.{SpellsProblem};
 ghost use Rattle.mapf_app.specs.Unreadable.{IsUnreadable};
@@ -67,9 +67,6 @@ pub fn run_play<M: Source, S: Source, P: Source, K: Sink>(
         × Appends (K.contents sink.old) (K.contents sink.new) text) }
     // What is to be played is played, unless a device or memory prevents it.
     ensures due { IsDuePlay (M.remaining map.old) (S.remaining scen.old) (P.remaining plan.old) k → IfErr result IsOfDevices }
-    // Inputs that spell a problem are not faulted.
-    ensures only { (problem : Instance) → IsSome (M.remaining map.old) → IsSome (S.remaining scen.old) →
-        SpellsProblem (M.remaining map.old) (S.remaining scen.old) k problem → IfErr result IsNoDefect }
     // A fault stands where it says.
     ensures fault { IfErr result (IsPlaying (M.remaining map.old) (S.remaining scen.old) (P.remaining plan.old) k) }
     ensures map { IsErrOf result (Fault.F4 Input.Map) →
