@@ -4,4 +4,5 @@ pub mod Headline
 pub mod Played
 pub mod Problems
 pub mod Solved
+pub mod Told
 pub mod Unreadable

@@ -1,10 +1,12 @@
-ghost use Rattle.std.specs.Prelude.{◌≡◌, false};
+ghost use Rattle.std.specs.Prelude.{◌≡◌, false, Some, None, OnOk};
 ghost use Rattle.std.specs.Result.{is_err};
+ghost use Rattle.std.specs.Io.KnownBytes.{Appends};
+ghost use Rattle.mapf_app.specs.Told.{defect_text, line_text, number_text, verdict_text};
 
 use crate::fault::{Fault, Input, Output, PlayFault};
 use itoa::Buffer;
 use mapf_certificate::{CertFault, PlanTextFault};
-use mapf_checker::{CheckFault, PlanFault};
+use mapf_checker::{CheckFault, PlanFault, Verdict};
 use mapf_model::{Failed, Sink, write_all};
 use mapf_text::{MapFault, ScenFault};
 
@@ -13,16 +15,18 @@ use mapf_text::{MapFault, ScenFault};
 pub struct Line {
     words: &'static str,
     defect: Option<&'static str>,
-    numbers: [Option<u64>; 3],
+    numbers: (Option<u64>, Option<u64>, Option<u64>),
 }
 
 impl Line {
     /// The line with these words alone.
-    pub fn of(words: &'static str) -> Line {
+    pub fn of(words: &'static str) -> Line
+        ensures { result ≡ record { words = words.entry; defect = None; numbers = (None, None, None) } }
+    {
         Line {
             words,
             defect: None,
-            numbers: [None, None, None],
+            numbers: (None, None, None),
         }
     }
 
@@ -34,24 +38,36 @@ impl Line {
     }
 
     /// The line with one number.
-    pub fn with(self, number: u64) -> Line {
+    pub fn with(self, number: u64) -> Line
+        ensures { result ≡ record self { numbers = (Some number, None, None) } }
+    {
         Line {
-            numbers: [Some(number), None, None],
+            numbers: (Some(number), None, None),
             ..self
         }
     }
 
     fn with_two(self, first: u32, second: u32) -> Line {
         Line {
-            numbers: [Some(first as u64), Some(second as u64), None],
+            numbers: (Some(first as u64), Some(second as u64), None),
             ..self
         }
     }
 
     fn with_three(self, first: u32, second: u32, third: u32) -> Line {
         Line {
-            numbers: [Some(first as u64), Some(second as u64), Some(third as u64)],
+            numbers: (Some(first as u64), Some(second as u64), Some(third as u64)),
             ..self
+        }
+    }
+
+    /// The line of a verdict.
+    pub fn of_verdict(verdict: Verdict) -> Line
+        ensures { line_text result ≡ verdict_text verdict }
+    {
+        match verdict {
+            Verdict::Optimal(cost) => Line::of("optimal").with(cost),
+            Verdict::Impossible => Line::of("impossible"),
         }
     }
 
@@ -160,7 +176,8 @@ fn play_line(fault: PlayFault) -> Line {
 // Writes a blank and the name, if there is one.
 fn write_defect<K: Sink>(sink: &mut K, defect: Option<&'static str>) -> Result<(), Failed>
     requires { K.has_failed sink.old ≡ false }
-    ensures { K.has_failed sink.new ≡ is_err result }
+    ensures text { OnOk result (Appends (K.contents sink.old) (K.contents sink.new) (defect_text defect.entry)) }
+    ensures failed { K.has_failed sink.new ≡ is_err result }
 {
     let Some(defect) = defect else {
         return Ok(());
@@ -172,7 +189,8 @@ fn write_defect<K: Sink>(sink: &mut K, defect: Option<&'static str>) -> Result<(
 // Writes a blank and the number, if there is one.
 fn write_number<K: Sink>(sink: &mut K, number: Option<u64>) -> Result<(), Failed>
     requires { K.has_failed sink.old ≡ false }
-    ensures { K.has_failed sink.new ≡ is_err result }
+    ensures text { OnOk result (Appends (K.contents sink.old) (K.contents sink.new) (number_text number)) }
+    ensures failed { K.has_failed sink.new ≡ is_err result }
 {
     let Some(number) = number else {
         return Ok(());
@@ -185,9 +203,10 @@ fn write_number<K: Sink>(sink: &mut K, number: Option<u64>) -> Result<(), Failed
 /// Writes the line with its LF.
 pub fn write_line<K: Sink>(sink: &mut K, line: &Line) -> Result<(), Failed>
     requires { K.has_failed sink.old ≡ false }
-    ensures { K.has_failed sink.new ≡ is_err result }
+    ensures text { OnOk result (Appends (K.contents sink.old) (K.contents sink.new) (line_text line.now)) }
+    ensures failed { K.has_failed sink.new ≡ is_err result }
 {
-    let [first, second, third] = line.numbers;
+    let (first, second, third) = line.numbers;
     write_all(sink, line.words.as_bytes())?;
     write_defect(sink, line.defect)?;
     write_number(sink, first)?;
