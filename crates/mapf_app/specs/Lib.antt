@@ -1,4 +1,5 @@
 pub mod Checked
+pub mod FaultLines
 pub mod Faults
 pub mod Headline
 pub mod Played

@@ -27,11 +27,11 @@ abbrev pub line_text : Line → List ℕ
 line_text line = line.words.now ++ (defect_text line.defect ++ (number_text line.numbers.0 ++ (number_text line.numbers.1 ++ (number_text line.numbers.2 ++ (10 ∷ [])))))
 
 -- `cost C`, `impossible`, `limit N` or `limit ticks`
-abbrev pub kind_text : Kind → List ℕ
-kind_text (Found cost) = codes "cost " ++ (decimal cost ++ (10 ∷ []))
-kind_text Impossible = codes "impossible\n"
-kind_text (Limit (Splits splits)) = codes "limit " ++ (decimal splits ++ (10 ∷ []))
-kind_text (Limit Ticks) = codes "limit ticks\n"
+abbrev pub kind_line : Kind → List ℕ
+kind_line (Found cost) = codes "cost " ++ (decimal cost ++ (10 ∷ []))
+kind_line Impossible = codes "impossible\n"
+kind_line (Limit (Splits splits)) = codes "limit " ++ (decimal splits ++ (10 ∷ []))
+kind_line (Limit Ticks) = codes "limit ticks\n"
 
 -- 0 solved, 3 impossible, 4 a limit was met
 abbrev pub kind_status : Kind → ℕ
@@ -40,9 +40,9 @@ kind_status Impossible = 3
 kind_status (Limit cause) = 4
 
 -- `optimal C` or `impossible`
-abbrev pub verdict_text : Verdict → List ℕ
-verdict_text (verdicts.Optimal cost) = codes "optimal " ++ (decimal cost ++ (10 ∷ []))
-verdict_text verdicts.Impossible = codes "impossible\n"
+abbrev pub verdict_line : Verdict → List ℕ
+verdict_line (verdicts.Optimal cost) = codes "optimal " ++ (decimal cost ++ (10 ∷ []))
+verdict_line verdicts.Impossible = codes "impossible\n"
 
 -- the text was written and the status is this one, or the sink failed and the status is a fault's
 abbrev pub Tells : Bool → Option (List ℕ) → Option (List ℕ) → List ℕ → ℕ → ℕ → Type 0

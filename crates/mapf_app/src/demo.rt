@@ -3,7 +3,7 @@ ghost use Rattle.std.specs.Result.{is_err};
 ghost use Rattle.std.specs.Io.KnownBytes.{Appends};
 ghost use Rattle.mapf_app.specs.Faults.{IsBeforeWriting};
 ghost use Rattle.mapf_app.specs.Headline.{JudgesTruly};
-ghost use Rattle.mapf_app.specs.Told.{verdict_text};
+ghost use Rattle.mapf_app.specs.Told.{verdict_line};
 ghost use Rattle.mapf_checker.specs.declared.fault.Verdict.{Verdict};
 
 use crate::check::run_check;
@@ -35,7 +35,7 @@ pub fn run_demo<K: Sink>(alloc: Global, sink: &mut K) -> Result<(), Fault>
     // What is written is a plan text, a certificate and the verdict, by which both texts are accepted for the built-in problem.
     ensures text { OnOk result ((plan_text : List ℕ) × (cert_text : List ℕ) × (verdict : Verdict)
         × JudgesTruly (Some MAP.now) (Some SCEN.now) (Some plan_text) (Some cert_text) AGENTS verdict
-        × Appends (K.contents sink.old) (K.contents sink.new) (plan_text ++ (cert_text ++ verdict_text verdict))) }
+        × Appends (K.contents sink.old) (K.contents sink.new) (plan_text ++ (cert_text ++ verdict_line verdict))) }
     ensures sink { IsErrOf result (Fault.F5 Output.Out) → K.has_failed sink.new ≡ true }
     ensures unwritten { IfErr result (λ fault. IsBeforeWriting fault → sink.new ≡ sink.old) }
 {
@@ -75,7 +75,7 @@ fn checked(alloc: Global, plan: &[u8], cert: &[u8]) -> Result<Verdict, Fault>
 
 fn tell<K: Sink>(sink: &mut K, plan: &[u8], cert: &[u8], verdict: Verdict) -> Result<(), Failed>
     requires { K.has_failed sink.old ≡ false }
-    ensures text { OnOk result (Appends (K.contents sink.old) (K.contents sink.new) (plan.now ++ (cert.now ++ verdict_text verdict))) }
+    ensures text { OnOk result (Appends (K.contents sink.old) (K.contents sink.new) (plan.now ++ (cert.now ++ verdict_line verdict))) }
     ensures failed { K.has_failed sink.new ≡ is_err result }
 {
     write_all(sink, plan)?;

@@ -1,6 +1,7 @@
-ghost use Rattle.std.specs.Prelude.{◌≡◌, false, IfOk, IfErr, OnOk, OnErr, MatchBool, if◌then◌else◌};
+ghost use Rattle.std.specs.Prelude.{◌≡◌, false, IfOk, IfErr, OnOk, MatchBool, if◌then◌else◌};
 ghost use Rattle.std.specs.Result.{is_err};
-ghost use Rattle.mapf_app.specs.Told.{Tells, is_refusal, kind_status, kind_text, line_text, verdict_text};
+ghost use Rattle.mapf_app.specs.FaultLines.{fault_line};
+ghost use Rattle.mapf_app.specs.Told.{Tells, is_refusal, kind_status, kind_line, line_text, verdict_line};
 
 use crate::fault::Fault;
 use crate::kind::Kind;
@@ -30,7 +31,7 @@ fn told(written: Result<(), Failed>, status: u8) -> u8
 }
 
 fn kind_line(kind: Kind) -> (Line, u8)
-    ensures text { line_text result.0 ≡ kind_text kind }
+    ensures text { line_text result.0 ≡ kind_line kind }
     ensures status { result.1 ≡ kind_status kind }
 {
     match kind {
@@ -48,8 +49,9 @@ pub fn tell_solve<O: Sink, E: Sink>(answer: &Result<Kind, Fault>, out: &mut O, e
     requires err_works { E.has_failed err.old ≡ false }
     // Nothing is asked of the other sink.
     ensures answer { IfOk answer.now (λ kind. (err.new ≡ err.old)
-        × Tells (O.has_failed out.new) (O.contents out.old) (O.contents out.new) (kind_text kind) (kind_status kind) result) }
-    ensures fault { IfErr answer.now (λ fault. (out.new ≡ out.old) × (result ≡ 2)) }
+        × Tells (O.has_failed out.new) (O.contents out.old) (O.contents out.new) (kind_line kind) (kind_status kind) result) }
+    ensures fault { IfErr answer.now (λ fault. (out.new ≡ out.old)
+        × Tells (E.has_failed err.new) (E.contents err.old) (E.contents err.new) (fault_line fault) 2 result) }
 {
     match answer {
         Ok(kind) => {
@@ -68,10 +70,10 @@ pub fn tell_check<O: Sink, E: Sink>(answer: &Result<Verdict, Fault>, out: &mut O
     requires err_works { E.has_failed err.old ≡ false }
     // Nothing is asked of the other sink.
     ensures verdict { IfOk answer.now (λ verdict. (err.new ≡ err.old)
-        × Tells (O.has_failed out.new) (O.contents out.old) (O.contents out.new) (verdict_text verdict) 0 result) }
+        × Tells (O.has_failed out.new) (O.contents out.old) (O.contents out.new) (verdict_line verdict) 0 result) }
     ensures fault { IfErr answer.now (λ fault. MatchBool (is_refusal fault)
-        ((err.new ≡ err.old) × (result ≡ if O.has_failed out.new then 2 else 1))
-        ((out.new ≡ out.old) × (result ≡ 2))) }
+        ((err.new ≡ err.old) × Tells (O.has_failed out.new) (O.contents out.old) (O.contents out.new) (fault_line fault) 1 result)
+        ((out.new ≡ out.old) × Tells (E.has_failed err.new) (E.contents err.old) (E.contents err.new) (fault_line fault) 2 result)) }
 {
     match answer {
         Ok(verdict) => told(write_line(out, &Line::of_verdict(*verdict)), DONE),
@@ -90,7 +92,7 @@ pub fn tell_check<O: Sink, E: Sink>(answer: &Result<Verdict, Fault>, out: &mut O
 pub fn tell_run<E: Sink>(answer: &Result<(), Fault>, err: &mut E) -> u8
     requires { E.has_failed err.old ≡ false }
     ensures well { OnOk answer.now ((result ≡ 0) × (err.new ≡ err.old)) }
-    ensures fault { OnErr answer.now (result ≡ 2) }
+    ensures fault { IfErr answer.now (λ fault. Tells (E.has_failed err.new) (E.contents err.old) (E.contents err.new) (fault_line fault) 2 result) }
 {
     match answer {
         Ok(()) => DONE,
