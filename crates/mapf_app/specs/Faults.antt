@@ -7,6 +7,7 @@ use Rattle.mapf_app.specs.Played.{HasPlayFault, IsPlayDefect}
 use Rattle.mapf_app.specs.Problems.{IsMapDefect, IsAgentsDefect, IsScenarioDefect}
 use Rattle.mapf_app.specs.declared.fault.Fault.{Fault}
 use Rattle.mapf_app.specs.declared.fault.Fault.TheVariants.{F1, F2, F3, F4, F5, F6, Refused}
+use Rattle.mapf_app.specs.declared.fault.PlayFault.{PlayFault}
 use Rattle.mapf_app.specs.declared.fault.PlayFault.TheVariants.{Text}
 use Rattle.mapf_app.specs.declared.fault.Input.{Input}
 use Rattle.mapf_app.specs.declared.fault.Input.TheVariants.{Map, Scen, Plan, Cert}
@@ -14,27 +15,31 @@ use Rattle.mapf_app.specs.declared.fault.Output.{Output}
 use Rattle.mapf_app.specs.declared.fault.Output.TheVariants.{Plan as PlanText, Cert as CertText, Out}
 use Rattle.mapf_certificate.specs.declared.plan_text.PlanTextFault.{PlanTextFault}
 use Rattle.mapf_certificate.specs.declared.plan_text.PlanTextFault.TheVariants as plan_faults
+use Rattle.mapf_checker.specs.declared.fault.CheckFault.{CheckFault}
 use Rattle.mapf_text.specs.declared.map_fault.MapFault.{MapFault}
 use Rattle.mapf_text.specs.declared.map_fault.MapFault.TheVariants as map_faults
 use Rattle.mapf_text.specs.declared.scenario_fault.ScenFault.{ScenFault}
 use Rattle.mapf_text.specs.declared.scenario_fault.ScenFault.TheVariants as scenario_faults
 
--- the map or the scenario
-abbrev pub IsOfProblem : Input → Type 0
-IsOfProblem Map = ⊤
-IsOfProblem Scen = ⊤
-IsOfProblem Plan = ⊥
-IsOfProblem Cert = ⊥
+-- an input of every run
+abbrev pub IsProblemInput : Input → Type 0
+IsProblemInput Map = ⊤
+IsProblemInput Scen = ⊤
+IsProblemInput Plan = ⊥
+IsProblemInput Cert = ⊥
 
--- no defect of the map or the scenario
-abbrev pub IsNoDefect : Fault → Type 0
-IsNoDefect (F1 fault) = ⊥
-IsNoDefect (F2 fault) = ⊥
-IsNoDefect (F3 fault) = ⊤
-IsNoDefect (F4 input) = ⊤
-IsNoDefect (F5 output) = ⊤
-IsNoDefect F6 = ⊤
-IsNoDefect (Refused refusal) = ⊤
+-- an input of a run that plays a plan
+abbrev pub IsPlayInput : Input → Type 0
+IsPlayInput Map = ⊤
+IsPlayInput Scen = ⊤
+IsPlayInput Plan = ⊤
+IsPlayInput Cert = ⊥
+
+-- one of the two texts
+abbrev pub IsOfTexts : Output → Type 0
+IsOfTexts PlanText = ⊤
+IsOfTexts CertText = ⊤
+IsOfTexts Out = ⊥
 
 -- what a fault of reading a map says of its bytes
 abbrev pub IsReadingMap : Option (List ℕ) → Fault → Type 0
@@ -56,17 +61,54 @@ IsReadingAgents scen grid count (F5 output) = ⊥
 IsReadingAgents scen grid count F6 = ⊤
 IsReadingAgents scen grid count (Refused refusal) = ⊥
 
--- what a fault of reading a problem says of the bytes of the map and the scenario
-abbrev pub IsReading : Option (List ℕ) → Option (List ℕ) → ℕ → Fault → Type 0
-IsReading map scen count (F1 fault) = IsMapDefect map fault
-IsReading map scen count (F2 fault) = IsScenarioDefect map scen count fault
-IsReading map scen count (F3 fault) = ⊥
-IsReading map scen count (F4 input) = IsOfProblem input
-IsReading map scen count (F5 output) = ⊥
-IsReading map scen count F6 = ⊤
-IsReading map scen count (Refused refusal) = ⊥
+-- what a fault of a run says of its inputs: F1 and F2 in every run the same, F3, F4, F5 and a refusal what the run lets
+-- them say. Want of memory says nothing
+abbrev pub IsFaultOf : Option (List ℕ) → Option (List ℕ) → ℕ → (PlayFault → Type 0) → (Input → Type 0) → (Output → Type 0) → (CheckFault → Type 0) → Fault → Type 0
+IsFaultOf map scen count Plays Reads Writes Refuses (F1 fault) = IsMapDefect map fault
+IsFaultOf map scen count Plays Reads Writes Refuses (F2 fault) = IsScenarioDefect map scen count fault
+IsFaultOf map scen count Plays Reads Writes Refuses (F3 fault) = Plays fault
+IsFaultOf map scen count Plays Reads Writes Refuses (F4 input) = Reads input
+IsFaultOf map scen count Plays Reads Writes Refuses (F5 output) = Writes output
+IsFaultOf map scen count Plays Reads Writes Refuses F6 = ⊤
+IsFaultOf map scen count Plays Reads Writes Refuses (Refused refusal) = Refuses refusal
 
--- the fault comes before anything is written
+-- what a fault of reading a problem says
+abbrev pub IsReading : Option (List ℕ) → Option (List ℕ) → ℕ → Fault → Type 0
+IsReading map scen count = IsFaultOf map scen count (λ _. ⊥) IsProblemInput (λ _. ⊥) (λ _. ⊥)
+
+-- what a fault of solving says
+abbrev pub IsSolving : Option (List ℕ) → Option (List ℕ) → ℕ → Fault → Type 0
+IsSolving map scen count = IsFaultOf map scen count (λ _. ⊥) IsProblemInput IsOfTexts (λ _. ⊥)
+
+-- what a fault of checking says
+abbrev pub IsChecking : Option (List ℕ) → Option (List ℕ) → Option (List ℕ) → Option (List ℕ) → ℕ → Fault → Type 0
+IsChecking map scen plan cert count = IsFaultOf map scen count (λ _. ⊥) (λ _. ⊤) (λ _. ⊥) (IsRefusalOf map scen plan cert count)
+
+-- what a fault of playing says
+abbrev pub IsPlaying : Option (List ℕ) → Option (List ℕ) → Option (List ℕ) → ℕ → Fault → Type 0
+IsPlaying map scen plan count = IsFaultOf map scen count (IsPlayDefect map scen plan count) IsPlayInput (λ output. output ≡ Out) (λ _. ⊥)
+
+-- the map couldn't be read, or has a defect
+abbrev pub IsOfMap : Fault → Type 0
+IsOfMap (F1 fault) = ⊤
+IsOfMap (F2 fault) = ⊥
+IsOfMap (F3 fault) = ⊥
+IsOfMap (F4 input) = input ≡ Map
+IsOfMap (F5 output) = ⊥
+IsOfMap F6 = ⊥
+IsOfMap (Refused refusal) = ⊥
+
+-- the map or the scenario couldn't be read, or has a defect
+abbrev pub IsOfProblem : Fault → Type 0
+IsOfProblem (F1 fault) = ⊤
+IsOfProblem (F2 fault) = ⊤
+IsOfProblem (F3 fault) = ⊥
+IsOfProblem (F4 input) = IsProblemInput input
+IsOfProblem (F5 output) = ⊥
+IsOfProblem F6 = ⊥
+IsOfProblem (Refused refusal) = ⊥
+
+-- the fault comes before anything is written: it is no output's
 abbrev pub IsBeforeWriting : Fault → Type 0
 IsBeforeWriting (F1 fault) = ⊤
 IsBeforeWriting (F2 fault) = ⊤
@@ -75,49 +117,6 @@ IsBeforeWriting (F4 input) = ⊤
 IsBeforeWriting (F5 output) = ⊥
 IsBeforeWriting F6 = ⊤
 IsBeforeWriting (Refused refusal) = ⊤
-
--- one of the two texts
-abbrev pub IsOfTexts : Output → Type 0
-IsOfTexts PlanText = ⊤
-IsOfTexts CertText = ⊤
-IsOfTexts Out = ⊥
-
--- what a fault of solving says
-abbrev pub IsSolving : Option (List ℕ) → Option (List ℕ) → ℕ → Fault → Type 0
-IsSolving map scen count (F1 fault) = IsMapDefect map fault
-IsSolving map scen count (F2 fault) = IsScenarioDefect map scen count fault
-IsSolving map scen count (F3 fault) = ⊥
-IsSolving map scen count (F4 input) = IsOfProblem input
-IsSolving map scen count (F5 output) = IsOfTexts output
-IsSolving map scen count F6 = ⊤
-IsSolving map scen count (Refused refusal) = ⊥
-
--- what a fault of checking says
-abbrev pub IsChecking : Option (List ℕ) → Option (List ℕ) → Option (List ℕ) → Option (List ℕ) → ℕ → Fault → Type 0
-IsChecking map scen plan cert count (F1 fault) = IsMapDefect map fault
-IsChecking map scen plan cert count (F2 fault) = IsScenarioDefect map scen count fault
-IsChecking map scen plan cert count (F3 fault) = ⊥
-IsChecking map scen plan cert count (F4 input) = ⊤
-IsChecking map scen plan cert count (F5 output) = ⊥
-IsChecking map scen plan cert count F6 = ⊤
-IsChecking map scen plan cert count (Refused refusal) = IsRefusalOf map scen plan cert count refusal
-
--- an input of a run that plays a plan
-abbrev pub IsOfPlay : Input → Type 0
-IsOfPlay Map = ⊤
-IsOfPlay Scen = ⊤
-IsOfPlay Plan = ⊤
-IsOfPlay Cert = ⊥
-
--- what a fault of playing says
-abbrev pub IsPlaying : Option (List ℕ) → Option (List ℕ) → Option (List ℕ) → ℕ → Fault → Type 0
-IsPlaying map scen plan count (F1 fault) = IsMapDefect map fault
-IsPlaying map scen plan count (F2 fault) = IsScenarioDefect map scen count fault
-IsPlaying map scen plan count (F3 fault) = IsPlayDefect map scen plan count fault
-IsPlaying map scen plan count (F4 input) = IsOfPlay input
-IsPlaying map scen plan count (F5 output) = output ≡ Out
-IsPlaying map scen plan count F6 = ⊤
-IsPlaying map scen plan count (Refused refusal) = ⊥
 
 -- what a fault of a plan text that is to be played says of it
 abbrev pub IsReadingPlan : Instance → List ℕ → Fault → Type 0
@@ -161,8 +160,3 @@ fault_of_scenario fault = F2 fault
 abbrev pub fault_of_plan_text : PlanTextFault → Fault
 fault_of_plan_text plan_faults.Memory = F6
 fault_of_plan_text fault = F3 (Text fault)
-
--- not an output's
-abbrev pub IsNoOutput : Fault → Type 0
-IsNoOutput (F5 output) = ⊥
-IsNoOutput _ = ⊤

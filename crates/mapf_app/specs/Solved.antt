@@ -1,5 +1,5 @@
 -- What a run that solves a problem prints.
-use Rattle.std.specs.Prelude.{◌≡◌, ℕ, List, [], length}
+use Rattle.std.specs.Prelude.{◌≡◌, ⊤, ℕ, List, [], length}
 use Rattle.mapf_app.specs.declared.kind.Kind.{Kind}
 use Rattle.mapf_app.specs.declared.kind.Kind.TheVariants.{Found, Impossible, Limit}
 use Rattle.mapf_cbs.specs.Answer.{IsTreeOf, MayStop}
@@ -65,3 +65,9 @@ abbrev pub Prints : Instance → ℕ → Kind → List ℕ → List ℕ → Type
 Prints problem limit (Found cost) plan cert = PrintsOptimal problem limit cost plan cert
 Prints problem limit Impossible plan cert = PrintsImpossible problem limit plan cert
 Prints problem limit (Limit cause) plan cert = PrintsLimit problem limit cause plan cert
+
+-- the search ended without an answer
+abbrev pub IsLimit : Kind → Type 0
+IsLimit (Found cost) = ⊥
+IsLimit Impossible = ⊥
+IsLimit (Limit cause) = ⊤

@@ -1,6 +1,6 @@
 ghost use Rattle.std.specs.Prelude.{◌≡◌, ◌≤◌, false, IfOk, IfErr, IsErrOf, IsSome, MatchResult};
 ghost use Rattle.mapf_app.specs.Checked.{HasGoodPlan};
-ghost use Rattle.mapf_app.specs.Faults.{IsChecking, IsNoDefect, IsOfInput};
+ghost use Rattle.mapf_app.specs.Faults.{IsChecking, IsOfInput, IsOfMap, IsOfProblem};
 ghost use Rattle.mapf_app.specs.Headline.{JudgesTruly, IsDueVerdict};
 ghost use Rattle.mapf_app.specs.Problems.{SpellsProblem};
 ghost use Rattle.mapf_app.specs.Unreadable.{IsUnreadable};
@@ -35,9 +35,6 @@ pub fn run_check<M: Source, S: Source, P: Source, C: Source>(
     // What is to be accepted is accepted, unless a device or memory prevents it.
     ensures accepted { (verdict : Verdict) → IsDueVerdict (M.remaining map.old) (S.remaining scen.old) (P.remaining plan.old) (C.remaining cert.old) k verdict →
         MatchResult result (λ given. given ≡ verdict) IsOfInput }
-    // Inputs that spell a problem are not faulted.
-    ensures only { (problem : Instance) → IsSome (M.remaining map.old) → IsSome (S.remaining scen.old) →
-        SpellsProblem (M.remaining map.old) (S.remaining scen.old) k problem → IfErr result IsNoDefect }
     // A fault stands where it says.
     ensures fault { IfErr result (IsChecking (M.remaining map.old) (S.remaining scen.old) (P.remaining plan.old) (C.remaining cert.old) k) }
     ensures map { IsErrOf result (Fault.F4 Input.Map) →
@@ -48,7 +45,9 @@ pub fn run_check<M: Source, S: Source, P: Source, C: Source>(
         IsUnreadable (P.has_failed plan.new) (P.remaining plan.old) (P.remaining plan.new) TEXT_LIMIT }
     ensures cert { IsErrOf result (Fault.F4 Input.Cert) →
         IsUnreadable (C.has_failed cert.new) (C.remaining cert.old) (C.remaining cert.new) CERT_LIMIT }
-    // The certificate is pulled only after the plan text was found good.
+    // Each input is pulled only after those before it were read, the certificate only after the plan text was found good.
+    ensures scen_unpulled { IfErr result (λ fault. IsOfMap fault → scen.new ≡ scen.old) }
+    ensures plan_unpulled { IfErr result (λ fault. IsOfProblem fault → plan.new ≡ plan.old) }
     ensures unpulled { (HasGoodPlan (M.remaining map.old) (S.remaining scen.old) (P.remaining plan.old) k → ⊥) →
         cert.new ≡ cert.old }
 {

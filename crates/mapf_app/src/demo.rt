@@ -1,11 +1,15 @@
-ghost use Rattle.std.specs.Prelude.{◌≡◌, false, true, IfOk, IfErr, IsErrOf};
-ghost use Rattle.mapf_app.specs.Faults.{IsNoOutput};
+ghost use Rattle.std.specs.Prelude.{◌≡◌, ◌++◌, ℕ, List, false, true, Some, IfOk, IfErr, OnOk, IsErrOf};
 ghost use Rattle.std.specs.Result.{is_err};
+ghost use Rattle.std.specs.Io.KnownBytes.{Appends};
+ghost use Rattle.mapf_app.specs.Faults.{IsBeforeWriting};
+ghost use Rattle.mapf_app.specs.Headline.{JudgesTruly};
+ghost use Rattle.mapf_app.specs.Told.{verdict_line};
+ghost use Rattle.mapf_checker.specs.declared.fault.Verdict.{Verdict};
 
 use crate::check::run_check;
 use crate::fault::{Fault, Output};
+use crate::line::{Line, write_line};
 use crate::solve::run_solve;
-use itoa::Buffer;
 use mapf_checker::Verdict;
 use mapf_model::{BytesSink, BytesSource, Failed, OutOfMemory, Sink, write_all};
 use std::alloc::Global;
@@ -28,15 +32,21 @@ const ROOM: usize = 4096;
 /// verdict: four agents that rotate on an open square of four cells.
 pub fn run_demo<K: Sink>(alloc: Global, sink: &mut K) -> Result<(), Fault>
     requires { K.has_failed sink.old ≡ false }
-    ensures { IsErrOf result (Fault.F5 Output.Out) → K.has_failed sink.new ≡ true }
+    // What is written is a plan text, a certificate and the verdict, by which both texts are accepted for the built-in problem.
+    ensures text { OnOk result ((plan_text : List ℕ) × (cert_text : List ℕ) × (verdict : Verdict)
+        × JudgesTruly (Some MAP.now) (Some SCEN.now) (Some plan_text) (Some cert_text) AGENTS verdict
+        × Appends (K.contents sink.old) (K.contents sink.new) (plan_text ++ (cert_text ++ verdict_line verdict))) }
+    ensures sink { IsErrOf result (Fault.F5 Output.Out) → K.has_failed sink.new ≡ true }
+    ensures unwritten { IfErr result (λ fault. IsBeforeWriting fault → sink.new ≡ sink.old) }
 {
     let mut plan = sink_with_room(alloc)?;
     let mut cert = sink_with_room(alloc)?;
     let mut map = BytesSource::of(MAP);
     let mut scen = BytesSource::of(SCEN);
     run_solve(alloc, &mut map, &mut scen, AGENTS, 0, &mut plan, &mut cert)?;
-    let verdict = checked(alloc, plan.bytes(), cert.bytes())?;
-    match tell(sink, plan.bytes(), cert.bytes(), verdict) {
+    let (plan_text, cert_text) = (plan.bytes(), cert.bytes());
+    let verdict = checked(alloc, plan_text, cert_text)?;
+    match tell(sink, plan_text, cert_text, verdict) {
         Ok(()) => Ok(()),
         Err(Failed) => Err(Fault::F5(Output::Out)),
     }
@@ -53,7 +63,8 @@ fn sink_with_room(alloc: Global) -> Result<BytesSink, Fault>
 }
 
 fn checked(alloc: Global, plan: &[u8], cert: &[u8]) -> Result<Verdict, Fault>
-    ensures { IfErr result IsNoOutput }
+    ensures verdict { IfOk result (JudgesTruly (Some MAP.now) (Some SCEN.now) (Some plan.now) (Some cert.now) AGENTS) }
+    ensures fault { IfErr result IsBeforeWriting }
 {
     let mut map = BytesSource::of(MAP);
     let mut scen = BytesSource::of(SCEN);
@@ -64,17 +75,10 @@ fn checked(alloc: Global, plan: &[u8], cert: &[u8]) -> Result<Verdict, Fault>
 
 fn tell<K: Sink>(sink: &mut K, plan: &[u8], cert: &[u8], verdict: Verdict) -> Result<(), Failed>
     requires { K.has_failed sink.old ≡ false }
-    ensures { K.has_failed sink.new ≡ is_err result }
+    ensures text { OnOk result (Appends (K.contents sink.old) (K.contents sink.new) (plan.now ++ (cert.now ++ verdict_line verdict))) }
+    ensures failed { K.has_failed sink.new ≡ is_err result }
 {
     write_all(sink, plan)?;
     write_all(sink, cert)?;
-    match verdict {
-        Verdict::Optimal(cost) => {
-            let mut buffer = Buffer::new();
-            write_all(sink, b"optimal ")?;
-            write_all(sink, buffer.format(cost).as_bytes())?;
-            write_all(sink, b"\n")
-        }
-        Verdict::Impossible => write_all(sink, b"impossible\n"),
-    }
+    write_line(sink, &Line::of_verdict(verdict))
 }

@@ -1,6 +1,6 @@
 ghost use Rattle.std.specs.Prelude.{◌≡◌, ◌≤◌, ◌⊎◌, false, Ok, IfOk, IfErr, IfSome, IsSome, IsErrOf};
 ghost use Rattle.std.specs.Result.{IsErrAnd};
-ghost use Rattle.mapf_app.specs.Faults.{IsNoDefect, IsReadingMap, IsReadingAgents, IsReading, fault_of_map, fault_of_scenario};
+ghost use Rattle.mapf_app.specs.Faults.{IsOfInput, IsOfMap, IsReadingMap, IsReadingAgents, IsReading, fault_of_map, fault_of_scenario};
 ghost use Rattle.mapf_app.specs.Problems.{IsPosed, SpellsGrid, SpellsAgents, SpellsProblem};
 ghost use Rattle.mapf_app.specs.Unreadable.{IsUnreadable};
 ghost use Rattle.mapf_model.specs.Grid.{GridMap};
@@ -57,7 +57,7 @@ fn read_grid<M: Source>(alloc: Global, map: &mut M) -> Result<Grid, Fault>
     requires { M.has_failed map.old ≡ false }
     ensures found { IfOk result (SpellsGrid (M.remaining map.old)) }
     ensures only { (grid : GridMap) → IsSome (M.remaining map.old) → SpellsGrid (M.remaining map.old) grid →
-        (result ≡ Ok grid) ⊎ IsErrAnd result IsNoDefect }
+        (result ≡ Ok grid) ⊎ IsErrAnd result IsOfInput }
     ensures fault { IfErr result (IsReadingMap (M.remaining map.old)) }
     ensures unreadable { IsErrOf result (Fault.F4 Input.Map) →
         IsUnreadable (M.has_failed map.new) (M.remaining map.old) (M.remaining map.new) TEXT_LIMIT }
@@ -78,7 +78,7 @@ fn read_agents<S: Source>(alloc: Global, scen: &mut S, grid: Grid, k: u32) -> Re
     ensures posed { IfOk result (IsPosed k) }
     ensures on_grid { IfOk result (λ problem. problem.grid ≡ grid) }
     ensures only { (problem : Instance) → IsSome (S.remaining scen.old) → SpellsAgents (S.remaining scen.old) grid k problem →
-        (result ≡ Ok problem) ⊎ IsErrAnd result IsNoDefect }
+        (result ≡ Ok problem) ⊎ IsErrAnd result IsOfInput }
     ensures fault { IfErr result (IsReadingAgents (S.remaining scen.old) grid k) }
     ensures unreadable { IsErrOf result (Fault.F4 Input.Scen) →
         IsUnreadable (S.has_failed scen.new) (S.remaining scen.old) (S.remaining scen.new) TEXT_LIMIT }
@@ -107,13 +107,15 @@ pub fn read_problem<M: Source, S: Source>(
     // What is spelled so is read, unless a device or memory prevents it.
     ensures only { (problem : Instance) → IsSome (M.remaining map.old) → IsSome (S.remaining scen.old) →
         SpellsProblem (M.remaining map.old) (S.remaining scen.old) k problem →
-        (result ≡ Ok problem) ⊎ IsErrAnd result IsNoDefect }
+        (result ≡ Ok problem) ⊎ IsErrAnd result IsOfInput }
     // A defect stands where the fault says.
     ensures fault { IfErr result (IsReading (M.remaining map.old) (S.remaining scen.old) k) }
     ensures map { IsErrOf result (Fault.F4 Input.Map) →
         IsUnreadable (M.has_failed map.new) (M.remaining map.old) (M.remaining map.new) TEXT_LIMIT }
     ensures scen { IsErrOf result (Fault.F4 Input.Scen) →
         IsUnreadable (S.has_failed scen.new) (S.remaining scen.old) (S.remaining scen.new) TEXT_LIMIT }
+    // The scenario is pulled only after the map was read.
+    ensures unpulled { IfErr result (λ fault. IsOfMap fault → scen.new ≡ scen.old) }
 {
     let grid = read_grid(alloc, map)?;
     read_agents(alloc, scen, grid, k)

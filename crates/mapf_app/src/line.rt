@@ -1,10 +1,13 @@
-ghost use Rattle.std.specs.Prelude.{◌≡◌, false};
+ghost use Rattle.std.specs.Prelude.{◌≡◌, false, Some, None, OnOk};
 ghost use Rattle.std.specs.Result.{is_err};
+ghost use Rattle.std.specs.Io.KnownBytes.{Appends};
+ghost use Rattle.mapf_app.specs.FaultLines.{cert_fault_line, fault_line, map_fault_line, plan_fault_line, plan_text_fault_line, play_fault_line, refusal_line, scenario_fault_line};
+ghost use Rattle.mapf_app.specs.Told.{defect_text, line_text, number_text, verdict_line};
 
 use crate::fault::{Fault, Input, Output, PlayFault};
 use itoa::Buffer;
 use mapf_certificate::{CertFault, PlanTextFault};
-use mapf_checker::{CheckFault, PlanFault};
+use mapf_checker::{CheckFault, PlanFault, Verdict};
 use mapf_model::{Failed, Sink, write_all};
 use mapf_text::{MapFault, ScenFault};
 
@@ -13,20 +16,24 @@ use mapf_text::{MapFault, ScenFault};
 pub struct Line {
     words: &'static str,
     defect: Option<&'static str>,
-    numbers: [Option<u64>; 3],
+    numbers: (Option<u64>, Option<u64>, Option<u64>),
 }
 
 impl Line {
     /// The line with these words alone.
-    pub fn of(words: &'static str) -> Line {
+    pub fn of(words: &'static str) -> Line
+        ensures { result ≡ record { words = words.entry; defect = None; numbers = (None, None, None) } }
+    {
         Line {
             words,
             defect: None,
-            numbers: [None, None, None],
+            numbers: (None, None, None),
         }
     }
 
-    fn naming(self, defect: &'static str) -> Line {
+    fn naming(self, defect: &'static str) -> Line
+        ensures { result ≡ record self { defect = Some defect.entry } }
+    {
         Line {
             defect: Some(defect),
             ..self
@@ -34,29 +41,47 @@ impl Line {
     }
 
     /// The line with one number.
-    pub fn with(self, number: u64) -> Line {
+    pub fn with(self, number: u64) -> Line
+        ensures { result ≡ record self { numbers = (Some number, None, None) } }
+    {
         Line {
-            numbers: [Some(number), None, None],
+            numbers: (Some(number), None, None),
             ..self
         }
     }
 
-    fn with_two(self, first: u32, second: u32) -> Line {
+    fn with_two(self, first: u32, second: u32) -> Line
+        ensures { result ≡ record self { numbers = (Some first, Some second, None) } }
+    {
         Line {
-            numbers: [Some(first as u64), Some(second as u64), None],
+            numbers: (Some(first as u64), Some(second as u64), None),
             ..self
         }
     }
 
-    fn with_three(self, first: u32, second: u32, third: u32) -> Line {
+    fn with_three(self, first: u32, second: u32, third: u32) -> Line
+        ensures { result ≡ record self { numbers = (Some first, Some second, Some third) } }
+    {
         Line {
-            numbers: [Some(first as u64), Some(second as u64), Some(third as u64)],
+            numbers: (Some(first as u64), Some(second as u64), Some(third as u64)),
             ..self
+        }
+    }
+
+    /// The line of a verdict.
+    pub fn of_verdict(verdict: Verdict) -> Line
+        ensures { line_text result ≡ verdict_line verdict }
+    {
+        match verdict {
+            Verdict::Optimal(cost) => Line::of("optimal").with(cost),
+            Verdict::Impossible => Line::of("impossible"),
         }
     }
 
     /// The line of a fault.
-    pub fn of_fault(fault: Fault) -> Line {
+    pub fn of_fault(fault: Fault) -> Line
+        ensures { line_text result ≡ fault_line fault }
+    {
         match fault {
             Fault::F1(fault) => map_line(fault),
             Fault::F2(fault) => scenario_line(fault),
@@ -74,7 +99,9 @@ impl Line {
     }
 }
 
-fn map_line(fault: MapFault) -> Line {
+fn map_line(fault: MapFault) -> Line
+    ensures { line_text result ≡ map_fault_line fault }
+{
     match fault {
         MapFault::M1 => Line::of("F1 M1"),
         MapFault::M2 => Line::of("F1 M2"),
@@ -89,7 +116,9 @@ fn map_line(fault: MapFault) -> Line {
     }
 }
 
-fn scenario_line(fault: ScenFault) -> Line {
+fn scenario_line(fault: ScenFault) -> Line
+    ensures { line_text result ≡ scenario_fault_line fault }
+{
     match fault {
         ScenFault::S1 => Line::of("F2 S1"),
         ScenFault::S2 { row } => Line::of("F2 S2").with(row as u64),
@@ -102,7 +131,9 @@ fn scenario_line(fault: ScenFault) -> Line {
     }
 }
 
-fn refusal_line(refusal: CheckFault) -> Line {
+fn refusal_line(refusal: CheckFault) -> Line
+    ensures { line_text result ≡ refusal_line refusal }
+{
     match refusal {
         CheckFault::C1(fault) => plan_text_line("refused C1", fault),
         CheckFault::C2(fault) => certificate_line(fault),
@@ -117,7 +148,9 @@ fn refusal_line(refusal: CheckFault) -> Line {
     }
 }
 
-fn plan_text_line(words: &'static str, fault: PlanTextFault) -> Line {
+fn plan_text_line(words: &'static str, fault: PlanTextFault) -> Line
+    ensures { line_text result ≡ plan_text_fault_line words.entry.now fault }
+{
     match fault {
         PlanTextFault::P1(line) => Line::of(words).naming("P1").with(line),
         PlanTextFault::P2(line) => Line::of(words).naming("P2").with(line),
@@ -127,7 +160,9 @@ fn plan_text_line(words: &'static str, fault: PlanTextFault) -> Line {
     }
 }
 
-fn certificate_line(fault: CertFault) -> Line {
+fn certificate_line(fault: CertFault) -> Line
+    ensures { line_text result ≡ cert_fault_line fault }
+{
     match fault {
         CertFault::K1(line) => Line::of("refused C2 K1").with(line),
         CertFault::K2(line) => Line::of("refused C2 K2").with(line),
@@ -137,7 +172,9 @@ fn certificate_line(fault: CertFault) -> Line {
     }
 }
 
-fn plan_line(words: &'static str, fault: PlanFault) -> Line {
+fn plan_line(words: &'static str, fault: PlanFault) -> Line
+    ensures { line_text result ≡ plan_fault_line words.entry.now fault }
+{
     let line = Line::of(words);
     match fault {
         PlanFault::V1 { agent } => line.naming("V1").with(agent as u64),
@@ -148,7 +185,9 @@ fn plan_line(words: &'static str, fault: PlanFault) -> Line {
     }
 }
 
-fn play_line(fault: PlayFault) -> Line {
+fn play_line(fault: PlayFault) -> Line
+    ensures { line_text result ≡ play_fault_line fault }
+{
     match fault {
         PlayFault::Text(fault) => plan_text_line("F3", fault),
         PlayFault::NoPlan => Line::of("F3 none"),
@@ -160,7 +199,8 @@ fn play_line(fault: PlayFault) -> Line {
 // Writes a blank and the name, if there is one.
 fn write_defect<K: Sink>(sink: &mut K, defect: Option<&'static str>) -> Result<(), Failed>
     requires { K.has_failed sink.old ≡ false }
-    ensures { K.has_failed sink.new ≡ is_err result }
+    ensures text { OnOk result (Appends (K.contents sink.old) (K.contents sink.new) (defect_text defect.entry)) }
+    ensures failed { K.has_failed sink.new ≡ is_err result }
 {
     let Some(defect) = defect else {
         return Ok(());
@@ -172,7 +212,8 @@ fn write_defect<K: Sink>(sink: &mut K, defect: Option<&'static str>) -> Result<(
 // Writes a blank and the number, if there is one.
 fn write_number<K: Sink>(sink: &mut K, number: Option<u64>) -> Result<(), Failed>
     requires { K.has_failed sink.old ≡ false }
-    ensures { K.has_failed sink.new ≡ is_err result }
+    ensures text { OnOk result (Appends (K.contents sink.old) (K.contents sink.new) (number_text number)) }
+    ensures failed { K.has_failed sink.new ≡ is_err result }
 {
     let Some(number) = number else {
         return Ok(());
@@ -185,9 +226,10 @@ fn write_number<K: Sink>(sink: &mut K, number: Option<u64>) -> Result<(), Failed
 /// Writes the line with its LF.
 pub fn write_line<K: Sink>(sink: &mut K, line: &Line) -> Result<(), Failed>
     requires { K.has_failed sink.old ≡ false }
-    ensures { K.has_failed sink.new ≡ is_err result }
+    ensures text { OnOk result (Appends (K.contents sink.old) (K.contents sink.new) (line_text line.now)) }
+    ensures failed { K.has_failed sink.new ≡ is_err result }
 {
-    let [first, second, third] = line.numbers;
+    let (first, second, third) = line.numbers;
     write_all(sink, line.words.as_bytes())?;
     write_defect(sink, line.defect)?;
     write_number(sink, first)?;

@@ -1,6 +1,6 @@
 ghost use Rattle.std.specs.Prelude.{◌≡◌, ◌≤◌, ◌⊎◌, ℕ, List, Ok, Err, false, true, take, IfOk, IfErr, OnOk, IsErrOf, IsSome};
 ghost use Rattle.std.specs.Io.KnownBytes.{Appends};
-ghost use Rattle.mapf_app.specs.Faults.{IsBeforeWriting, IsNoDefect, IsOfDevices, IsPlaying, IsReadingPlan, fault_of_plan_text};
+ghost use Rattle.mapf_app.specs.Faults.{IsBeforeWriting, IsOfDevices, IsOfMap, IsOfProblem, IsPlaying, IsReadingPlan, fault_of_plan_text};
 ghost use Rattle.mapf_app.specs.Played.{IsDuePlay, PlaysTruly, SpellsValidPlan};
 ghost use Rattle.mapf_app.specs.Problems.{SpellsProblem};
 ghost use Rattle.mapf_app.specs.Unreadable.{IsUnreadable};
@@ -67,9 +67,6 @@ pub fn run_play<M: Source, S: Source, P: Source, K: Sink>(
         × Appends (K.contents sink.old) (K.contents sink.new) text) }
     // What is to be played is played, unless a device or memory prevents it.
     ensures due { IsDuePlay (M.remaining map.old) (S.remaining scen.old) (P.remaining plan.old) k → IfErr result IsOfDevices }
-    // Inputs that spell a problem are not faulted.
-    ensures only { (problem : Instance) → IsSome (M.remaining map.old) → IsSome (S.remaining scen.old) →
-        SpellsProblem (M.remaining map.old) (S.remaining scen.old) k problem → IfErr result IsNoDefect }
     // A fault stands where it says.
     ensures fault { IfErr result (IsPlaying (M.remaining map.old) (S.remaining scen.old) (P.remaining plan.old) k) }
     ensures map { IsErrOf result (Fault.F4 Input.Map) →
@@ -78,6 +75,9 @@ pub fn run_play<M: Source, S: Source, P: Source, K: Sink>(
         IsUnreadable (S.has_failed scen.new) (S.remaining scen.old) (S.remaining scen.new) TEXT_LIMIT }
     ensures plan { IsErrOf result (Fault.F4 Input.Plan) →
         IsUnreadable (P.has_failed plan.new) (P.remaining plan.old) (P.remaining plan.new) TEXT_LIMIT }
+    // Each input is pulled only after those before it were read.
+    ensures scen_unpulled { IfErr result (λ fault. IsOfMap fault → scen.new ≡ scen.old) }
+    ensures plan_unpulled { IfErr result (λ fault. IsOfProblem fault → plan.new ≡ plan.old) }
     ensures sink { IsErrOf result (Fault.F5 Output.Out) → K.has_failed sink.new ≡ true }
     // What a sink that failed got is a front of such a text, and any other fault leaves it as it was.
     ensures front { IsErrOf result (Fault.F5 Output.Out) → (text : List ℕ) × (n : ℕ)

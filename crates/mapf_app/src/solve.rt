@@ -1,8 +1,9 @@
-ghost use Rattle.std.specs.Prelude.{◌≡◌, ◌≤◌, ℕ, List, false, true, take, IfOk, IfErr, IsErrOf, IsSome};
+ghost use Rattle.std.specs.Prelude.{◌≡◌, ◌≤◌, ℕ, List, false, true, take, IfOk, IfErr, IsErrOf, IsSome, MatchResult};
 ghost use Rattle.std.specs.Io.KnownBytes.{Appends};
-ghost use Rattle.mapf_app.specs.Faults.{IsBeforeWriting, IsNoDefect, IsSolving};
+ghost use Rattle.mapf_app.specs.Faults.{IsBeforeWriting, IsOfDevices, IsOfMap, IsSolving};
 ghost use Rattle.mapf_app.specs.Headline.{PrintsTruly};
 ghost use Rattle.mapf_app.specs.Problems.{SpellsProblem};
+ghost use Rattle.mapf_app.specs.Solved.{IsLimit, Prints};
 ghost use Rattle.mapf_app.specs.Unreadable.{IsUnreadable};
 ghost use Rattle.mapf_model.specs.Plan.{Instance};
 
@@ -14,8 +15,8 @@ use mapf_model::{Sink, Source, write_all};
 use std::alloc::Global;
 
 /// Reads a map and then a scenario, solves the problem of its first `k` agents with at most `limit`
-/// splits, and writes the plan text and then the certificate. On a limit the certificate's sink gets
-/// nothing. Before both texts are made nothing is written.
+/// splits, and writes the plan text and then the certificate. On a limit there is no certificate, and its
+/// sink stays as it was. Before both texts are made nothing is written.
 pub fn run_solve<M: Source, S: Source, P: Sink, C: Sink>(
     alloc: Global,
     map: &mut M,
@@ -38,11 +39,18 @@ pub fn run_solve<M: Source, S: Source, P: Sink, C: Sink>(
         × PrintsTruly (M.remaining map.old) (S.remaining scen.old) k limit kind plan_text cert_text
         × Appends (P.contents plan_sink.old) (P.contents plan_sink.new) plan_text
         × Appends (C.contents cert_sink.old) (C.contents cert_sink.new) cert_text) }
-    // Inputs that spell a problem are not faulted.
-    ensures only { (problem : Instance) → IsSome (M.remaining map.old) → IsSome (S.remaining scen.old) →
-        SpellsProblem (M.remaining map.old) (S.remaining scen.old) k problem → IfErr result IsNoDefect }
-    // A fault stands where it says.
+    // A problem that is spelled is the one that is solved, unless a device or memory prevents it.
+    ensures due { (problem : Instance) → IsSome (M.remaining map.old) → IsSome (S.remaining scen.old) →
+        SpellsProblem (M.remaining map.old) (S.remaining scen.old) k problem →
+        MatchResult result (λ kind. (plan_text : List ℕ) × (cert_text : List ℕ)
+        × Prints problem limit kind plan_text cert_text
+        × Appends (P.contents plan_sink.old) (P.contents plan_sink.new) plan_text
+        × Appends (C.contents cert_sink.old) (C.contents cert_sink.new) cert_text) IsOfDevices }
+    // On a limit nothing is asked of the certificate's sink.
+    ensures limit { IfOk result (λ kind. IsLimit kind → cert_sink.new ≡ cert_sink.old) }
+    // A fault stands where it says, and the scenario is pulled only after the map was read.
     ensures fault { IfErr result (IsSolving (M.remaining map.old) (S.remaining scen.old) k) }
+    ensures unpulled { IfErr result (λ fault. IsOfMap fault → scen.new ≡ scen.old) }
     ensures map { IsErrOf result (Fault.F4 Input.Map) →
         IsUnreadable (M.has_failed map.new) (M.remaining map.old) (M.remaining map.new) TEXT_LIMIT }
     ensures scen { IsErrOf result (Fault.F4 Input.Scen) →
@@ -67,6 +75,10 @@ pub fn run_solve<M: Source, S: Source, P: Sink, C: Sink>(
     };
     if write_all(plan_sink, texts.plan.as_slice()).is_err() {
         return Err(Fault::F5(Output::Plan));
+    }
+    // A limit has no certificate.
+    if let Kind::Limit(_) = texts.kind {
+        return Ok(texts.kind);
     }
     if write_all(cert_sink, texts.cert.as_slice()).is_err() {
         return Err(Fault::F5(Output::Cert));

@@ -1,5 +1,7 @@
-ghost use Rattle.std.specs.Prelude.{◌≡◌, ◌≤◌, false, IfOk, IfErr};
+ghost use Rattle.std.specs.Prelude.{◌≡◌, false, IfOk, IfErr, OnOk, MatchBool, if◌then◌else◌};
 ghost use Rattle.std.specs.Result.{is_err};
+ghost use Rattle.mapf_app.specs.FaultLines.{fault_line};
+ghost use Rattle.mapf_app.specs.Told.{Tells, is_refusal, kind_status, kind_line, line_text, verdict_line};
 
 use crate::fault::Fault;
 use crate::kind::Kind;
@@ -19,14 +21,19 @@ const IMPOSSIBLE: u8 = 3;
 const LIMIT: u8 = 4;
 
 // The status, or that of a fault where its line couldn't be written.
-fn told(written: Result<(), Failed>, status: u8) -> u8 {
+fn told(written: Result<(), Failed>, status: u8) -> u8
+    ensures { result ≡ if is_err written then 2 else status }
+{
     match written {
         Ok(()) => status,
         Err(Failed) => FAULT,
     }
 }
 
-fn kind_line(kind: Kind) -> (Line, u8) {
+fn kind_line(kind: Kind) -> (Line, u8)
+    ensures text { line_text result.0 ≡ kind_line kind }
+    ensures status { result.1 ≡ kind_status kind }
+{
     match kind {
         Kind::Found(cost) => (Line::of("cost").with(cost), DONE),
         Kind::Impossible => (Line::of("impossible"), IMPOSSIBLE),
@@ -35,10 +42,16 @@ fn kind_line(kind: Kind) -> (Line, u8) {
     }
 }
 
-/// Tells how a solved run ended, on `out` or as a fault on `err`, and answers the exit status.
+/// Tells how a solved run ended, in one line on `out` or as a fault on `err`, and answers the exit
+/// status: 0 solved, 3 impossible, 4 a limit, 2 a fault, also where the line couldn't be written.
 pub fn tell_solve<O: Sink, E: Sink>(answer: &Result<Kind, Fault>, out: &mut O, err: &mut E) -> u8
     requires out_works { O.has_failed out.old ≡ false }
     requires err_works { E.has_failed err.old ≡ false }
+    // Nothing is asked of the other sink.
+    ensures answer { IfOk answer.now (λ kind. (err.new ≡ err.old)
+        × Tells (O.has_failed out.new) (O.contents out.old) (O.contents out.new) (kind_line kind) (kind_status kind) result) }
+    ensures fault { IfErr answer.now (λ fault. (out.new ≡ out.old)
+        × Tells (E.has_failed err.new) (E.contents err.old) (E.contents err.new) (fault_line fault) 2 result) }
 {
     match answer {
         Ok(kind) => {
@@ -49,15 +62,21 @@ pub fn tell_solve<O: Sink, E: Sink>(answer: &Result<Kind, Fault>, out: &mut O, e
     }
 }
 
-/// Tells how a checked run ended: a verdict or a refusal on `out`, another fault on `err`; and answers
-/// the exit status.
+/// Tells how a checked run ended, in one line: a verdict or a refusal on `out`, another fault on `err`;
+/// and answers the exit status: 0 accepted, 1 refused, 2 a fault, also where the line couldn't be
+/// written.
 pub fn tell_check<O: Sink, E: Sink>(answer: &Result<Verdict, Fault>, out: &mut O, err: &mut E) -> u8
     requires out_works { O.has_failed out.old ≡ false }
     requires err_works { E.has_failed err.old ≡ false }
+    // Nothing is asked of the other sink.
+    ensures verdict { IfOk answer.now (λ verdict. (err.new ≡ err.old)
+        × Tells (O.has_failed out.new) (O.contents out.old) (O.contents out.new) (verdict_line verdict) 0 result) }
+    ensures fault { IfErr answer.now (λ fault. MatchBool (is_refusal fault)
+        ((err.new ≡ err.old) × Tells (O.has_failed out.new) (O.contents out.old) (O.contents out.new) (fault_line fault) 1 result)
+        ((out.new ≡ out.old) × Tells (E.has_failed err.new) (E.contents err.old) (E.contents err.new) (fault_line fault) 2 result)) }
 {
     match answer {
-        Ok(Verdict::Optimal(cost)) => told(write_line(out, &Line::of("optimal").with(*cost)), DONE),
-        Ok(Verdict::Impossible) => told(write_line(out, &Line::of("impossible")), DONE),
+        Ok(verdict) => told(write_line(out, &Line::of_verdict(*verdict)), DONE),
         Err(Fault::Refused(refusal)) => {
             told(
                 write_line(out, &Line::of_fault(Fault::Refused(*refusal))),
@@ -72,6 +91,8 @@ pub fn tell_check<O: Sink, E: Sink>(answer: &Result<Verdict, Fault>, out: &mut O
 /// went well has nothing to tell.
 pub fn tell_run<E: Sink>(answer: &Result<(), Fault>, err: &mut E) -> u8
     requires { E.has_failed err.old ≡ false }
+    ensures well { OnOk answer.now ((result ≡ 0) × (err.new ≡ err.old)) }
+    ensures fault { IfErr answer.now (λ fault. Tells (E.has_failed err.new) (E.contents err.old) (E.contents err.new) (fault_line fault) 2 result) }
 {
     match answer {
         Ok(()) => DONE,

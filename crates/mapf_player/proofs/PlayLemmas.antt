@@ -6,16 +6,16 @@ use Rattle.std.proofs.lemmas.Bool.Decides.{nat_tests}
 use Rattle.std.proofs.lemmas.Option.{same_Some}
 use Rattle.mapf_model.specs.Path.{at}
 use Rattle.mapf_model.specs.Plan.{Instance}
-use Rattle.mapf_player.specs.Play.{mark, ground, play_text, IsGreatestCost, PlaysAreOne, AgentsAreSeen, GroundIsSeen}
+use Rattle.mapf_player.specs.Play.{mark, terrain, play_text, IsMakespan, PlaysAreOne, AgentsAreSeen, TerrainIsSeen}
 use Rattle.mapf_player.proofs.RowLemmas.{position_hit, position_miss}
 
-greatest_below : (problem : Instance) (plan : List (List ℕ)) (a b : ℕ) → IsGreatestCost problem.agents plan a → IsGreatestCost problem.agents plan b → a ≤ b
-greatest_below problem plan a b x y = y.most x.some.0 x.some.1 x.some.2 a x.some.3 x.some.4 x.some.5
+makespan_below : (problem : Instance) (plan : List (List ℕ)) (a b : ℕ) → IsMakespan problem.agents plan a → IsMakespan problem.agents plan b → a ≤ b
+makespan_below problem plan a b x y = y.most x.some.0 x.some.1 x.some.2 a x.some.3 x.some.4 x.some.5
 
 pub plays_are_one : PlaysAreOne
 plays_are_one problem plan a b (m, is_m, a_is) (n, is_n, b_is) =
-    let one = greatest_below problem plan m n is_m is_n in
-    let two = greatest_below problem plan n m is_n is_m in
+    let one = makespan_below problem plan m n is_m is_n in
+    let two = makespan_below problem plan n m is_n is_m in
     let same : m ≡ n = omega arith in
     a_is ∙ ap (play_text problem.grid plan) same ∙ sym b_is
 
@@ -61,8 +61,8 @@ agents_are_seen problem plan valid i tick path this =
     (λ (same : first.place ≡ i). same)
     (λ (differ : first.place ≡ i → ⊥). absurd (valid.apart first.place i tick first.item path differ first.stands this (inl meets)))
     (cases_eq first.place i) in
-    ap (λ o. unwrap_or (option_map mark o) (ground problem.grid (at path tick))) first.is_first ∙ ap mark is_i
+    ap (λ o. unwrap_or (option_map mark o) (terrain problem.grid (at path tick))) first.is_first ∙ ap mark is_i
 
-pub ground_is_seen : GroundIsSeen
-ground_is_seen grid plan tick cell none =
-    ap (λ o. unwrap_or (option_map mark o) (ground grid cell)) (nowhere (λ p. eqb (at p tick) cell) plan (λ i path this. other_cell (at path tick) cell (none i path this)))
+pub terrain_is_seen : TerrainIsSeen
+terrain_is_seen grid plan tick cell none =
+    ap (λ o. unwrap_or (option_map mark o) (terrain grid cell)) (nowhere (λ p. eqb (at p tick) cell) plan (λ i path this. other_cell (at path tick) cell (none i path this)))

@@ -8,7 +8,7 @@ use Rattle.std.proofs.lemmas.Nat.{div-add-mod', div-mul-add, mod-mul-add}
 use Rattle.std.proofs.lemmas.Bool.Decides.{nat_tests}
 use Rattle.mapf_model.specs.Path.{at}
 use Rattle.mapf_model.specs.Grid.{GridMap}
-use Rattle.mapf_player.specs.Play.{mark, agent_in, ground, cell_byte, row_cells}
+use Rattle.mapf_player.specs.Play.{mark, agent_in, terrain, cell_byte, row_cells}
 
 -- the byte of a cell under these agents, the first of which has this number, over another byte
 pub marked : ℕ → List (List ℕ) → ℕ → ℕ → ℕ → ℕ
@@ -119,7 +119,7 @@ AreMarked-all w y agent paths tick old row over all x within =
     subst (λ k. get_or row x 0 ≡ marked k (drop k paths) tick (y * w + x) (get_or old x 0)) none (all x within) ∙ marked_is paths tick (y * w + x) (get_or old x 0)
 
 module _ (grid : GridMap) (paths : List (List ℕ)) (tick y : ℕ) (plain drawn : List ℕ) (whole : length drawn ≡ grid.width)
-    (fills : (x : ℕ) → x < grid.width → get_or plain x 0 ≡ ground grid (y * grid.width + x))
+    (fills : (x : ℕ) → x < grid.width → get_or plain x 0 ≡ terrain grid (y * grid.width + x))
     (marks : (x : ℕ) → x < grid.width → get_or drawn x 0 ≡ unwrap_or (option_map mark (agent_in paths tick (y * grid.width + x))) (get_or plain x 0))
   where
     byte_drawn : (x : ℕ) → x < grid.width → get_or drawn x 0 ≡ cell_byte grid paths tick (y * grid.width + x)

@@ -12,16 +12,16 @@ abbrev pub mark : ℕ → ℕ
 mark agent = if nat_lt agent 10 then 48 + agent else (if nat_lt agent 36 then 97 + (agent - 10) else (if nat_lt agent 62 then 65 + (agent - 36) else 42))
 
 -- the byte of a cell in which nobody stands: `.` where it is free, else `@`
-abbrev pub ground : GridMap → ℕ → ℕ
-ground grid cell = if slice_index_or grid.free cell false then 46 else 64
+abbrev pub terrain : GridMap → ℕ → ℕ
+terrain grid cell = if slice_index_or grid.free cell false then 46 else 64
 
 -- the first agent whose path is in the cell at the tick
 abbrev pub agent_in : List (List ℕ) → ℕ → ℕ → Option ℕ
 agent_in plan tick cell = position (λ path. at path tick == cell) plan
 
--- the byte of a cell: the mark of the first agent that stands in it, else the ground
+-- the byte of a cell: the mark of the first agent that stands in it, else the terrain
 abbrev pub cell_byte : GridMap → List (List ℕ) → ℕ → ℕ → ℕ
-cell_byte grid plan tick cell = unwrap_or (option_map mark (agent_in plan tick cell)) (ground grid cell)
+cell_byte grid plan tick cell = unwrap_or (option_map mark (agent_in plan tick cell)) (terrain grid cell)
 
 -- the bytes of a row's cells, from the left to the right
 abbrev pub row_cells : GridMap → List (List ℕ) → ℕ → ℕ → List ℕ
@@ -43,18 +43,18 @@ rows grid plan tick = flat_map (row_line grid plan tick) (range_with_len 0 grid.
 unfoldable pub frame : GridMap → List (List ℕ) → ℕ → List ℕ
 frame grid plan tick = line (codes "tick ") tick ++ rows grid plan tick
 
--- the frames of the ticks from 0 to the last one, and then how many ticks the plan takes
+-- the frames of the ticks from 0 to the last one, and then the number of the last one
 abbrev pub play_text : GridMap → List (List ℕ) → ℕ → List ℕ
 play_text grid plan last = flat_map (frame grid plan) (range_with_len 0 (last + 1)) ++ line (codes "end ") last
 
--- some agent's path costs this, and no agent's path costs more
-pub record IsGreatestCost (agents : List Agent) (plan : List (List ℕ)) (greatest : ℕ) : Type 0 where
-  pub some : (i : ℕ) × (agent : Agent) × (path : List ℕ) × (slice_get agents i ≡ Some agent) × (slice_get plan i ≡ Some path) × IsCost agent.goal path greatest
-  pub most : (i : ℕ) (agent : Agent) (path : List ℕ) (cost : ℕ) → slice_get agents i ≡ Some agent → slice_get plan i ≡ Some path → IsCost agent.goal path cost → cost ≤ greatest
+-- the makespan, the tick at which the last agent arrives for good: some agent's path costs this, and none costs more
+pub record IsMakespan (agents : List Agent) (plan : List (List ℕ)) (makespan : ℕ) : Type 0 where
+  pub some : (i : ℕ) × (agent : Agent) × (path : List ℕ) × (slice_get agents i ≡ Some agent) × (slice_get plan i ≡ Some path) × IsCost agent.goal path makespan
+  pub most : (i : ℕ) (agent : Agent) (path : List ℕ) (cost : ℕ) → slice_get agents i ≡ Some agent → slice_get plan i ≡ Some path → IsCost agent.goal path cost → cost ≤ makespan
 
--- the text that plays the plan, up to the greatest cost of the agents' paths
+-- the text that plays the plan, up to its makespan
 abbrev pub IsPlayText : Instance → List (List ℕ) → List ℕ → Type 0
-IsPlayText problem plan text = (last : ℕ) × IsGreatestCost problem.agents plan last × (text ≡ play_text problem.grid plan last)
+IsPlayText problem plan text = (makespan : ℕ) × IsMakespan problem.agents plan makespan × (text ≡ play_text problem.grid plan makespan)
 
 -- a plan has one such text at most
 abbrev pub PlaysAreOne : Type 0
@@ -64,6 +64,6 @@ PlaysAreOne = (problem : Instance) (plan : List (List ℕ)) (a b : List ℕ) →
 abbrev pub AgentsAreSeen : Type 0
 AgentsAreSeen = (problem : Instance) (plan : List (List ℕ)) → IsValid problem plan → (i tick : ℕ) (path : List ℕ) → slice_get plan i ≡ Some path → cell_byte problem.grid plan tick (at path tick) ≡ mark i
 
--- where no agent stands the ground is seen
-abbrev pub GroundIsSeen : Type 0
-GroundIsSeen = (grid : GridMap) (plan : List (List ℕ)) (tick cell : ℕ) → ((i : ℕ) (path : List ℕ) → slice_get plan i ≡ Some path → at path tick ≢ cell) → cell_byte grid plan tick cell ≡ ground grid cell
+-- where no agent stands the terrain is seen
+abbrev pub TerrainIsSeen : Type 0
+TerrainIsSeen = (grid : GridMap) (plan : List (List ℕ)) (tick cell : ℕ) → ((i : ℕ) (path : List ℕ) → slice_get plan i ≡ Some path → at path tick ≢ cell) → cell_byte grid plan tick cell ≡ terrain grid cell

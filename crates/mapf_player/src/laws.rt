@@ -1,4 +1,4 @@
-ghost use Rattle.mapf_player.specs.Play.{AgentsAreSeen, GroundIsSeen, PlaysAreOne};
+ghost use Rattle.mapf_player.specs.Play.{AgentsAreSeen, TerrainIsSeen, PlaysAreOne};
 
 /// A plan is played by one text.
 pub fn plays_are_one()
@@ -8,5 +8,5 @@ pub fn plays_are_one()
 /// What stands in a cell is seen there.
 pub fn cells_are_seen()
     ensures agents { AgentsAreSeen }
-    ensures ground { GroundIsSeen }
+    ensures terrain { TerrainIsSeen }
 {}

@@ -1,5 +1,5 @@
 ghost use Rattle.std.specs.Prelude.{◌≡◌};
-ghost use Rattle.mapf_player.specs.Play.{ground, mark};
+ghost use Rattle.mapf_player.specs.Play.{terrain, mark};
 
 use mapf_model::{Cell, Grid};
 
@@ -16,8 +16,8 @@ pub fn mark_of(agent: usize) -> u8
 }
 
 /// The byte of a cell in which nobody stands.
-pub fn ground_of(grid: &Grid, cell: Cell) -> u8
-    ensures { result ≡ ground grid.now cell }
+pub fn terrain_of(grid: &Grid, cell: Cell) -> u8
+    ensures { result ≡ terrain grid.now cell }
 {
     if grid.is_free(cell) { b'.' } else { b'@' }
 }

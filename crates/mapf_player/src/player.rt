@@ -4,23 +4,23 @@ ghost use Rattle.std.specs.Result.{is_err};
 ghost use Rattle.std.specs.Io.KnownBytes.{Appends};
 ghost use Rattle.mapf_model.specs.Plan.{IsValid};
 ghost use Rattle.mapf_player.specs.Pages.{Passes, WritesFront};
-ghost use Rattle.mapf_player.specs.Play.{frame, line, play_text, IsGreatestCost, IsPlayText};
+ghost use Rattle.mapf_player.specs.Play.{frame, line, play_text, IsMakespan, IsPlayText};
 
 use crate::frame::{put_frame, put_line};
 use crate::page::Page;
 use mapf_model::{Failed, Grid, Path, Plan, Problem, Sink, Tick};
 
-// The greatest of the costs of the agents' paths, in ticks.
-fn last_tick(problem: &Problem, plan: &Plan) -> Tick
+// The tick at which the last agent arrives for good.
+fn makespan_of(problem: &Problem, plan: &Plan) -> Tick
     requires { IsValid problem.now plan.now }
-    ensures { IsGreatestCost problem.now.agents plan.now result }
+    ensures { IsMakespan problem.now.agents plan.now result }
 {
     let agents = problem.agents();
-    let mut last: Tick = 0;
+    let mut makespan: Tick = 0;
     for (i, path) in plan.paths().iter().enumerate() {
-        last = last.max(path.cost(agents[i].goal).unwrap());
+        makespan = makespan.max(path.cost(agents[i].goal).unwrap());
     }
-    last
+    makespan
 }
 
 // Writes the frames of the ticks from 0 to the last one.
@@ -62,11 +62,11 @@ pub fn write_text<K: Sink>(
     page.flush(sink)
 }
 
-/// Writes what the plan looks like at each tick, from 0 to the greatest cost of the agents' paths: a
-/// line `tick t`, and a line for each row of the grid. Last comes a line `end m` with that cost. A free
-/// cell is `.`, a blocked one `@`. The agents are `0` to `9`, `a` to `z`, `A` to `Z`, and from the 63rd
-/// on `*`. After its path ended an agent stays where it is. It takes no memory. `Failed` is answered only
-/// where the sink failed, and then it got a front of that text.
+/// Writes what the plan looks like at each tick, from 0 to its makespan, at which the last agent arrives
+/// for good: a line `tick t`, and a line for each row of the grid. Last comes a line `end m` with the
+/// makespan in ticks. A free cell is `.`, a blocked one `@`. The agents are `0` to `9`, `a` to `z`, `A` to
+/// `Z`, and from the 63rd on `*`. After its path ended an agent stays where it is. It takes no memory.
+/// `Failed` is answered only where the sink failed, and then it got a front of that text.
 pub fn play<K: Sink>(problem: &Problem, plan: &Plan, sink: &mut K) -> Result<(), Failed>
     requires works { K.has_failed sink.old ≡ false }
     requires valid { IsValid problem.now plan.now }
@@ -76,6 +76,6 @@ pub fn play<K: Sink>(problem: &Problem, plan: &Plan, sink: &mut K) -> Result<(),
     ensures front { OnErr result ((text : List ℕ) × IsPlayText problem.now plan.now text
         × (n : ℕ) × (n ≤ length text) × Appends (K.contents sink.old) (K.contents sink.new) (take n text)) }
 {
-    let last = last_tick(problem, plan);
-    write_text(sink, problem.grid(), plan.paths(), last)
+    let makespan = makespan_of(problem, plan);
+    write_text(sink, problem.grid(), plan.paths(), makespan)
 }

@@ -1,18 +1,18 @@
 ghost use Rattle.std.specs.Prelude.{◌≡◌, ◌<◌, ◌+◌, ◌*◌, ℕ, length, slice_index, option_map, unwrap_or};
-ghost use Rattle.mapf_player.specs.Play.{agent_in, ground, mark, row_cells};
+ghost use Rattle.mapf_player.specs.Play.{agent_in, terrain, mark, row_cells};
 
-use crate::marks::{ground_of, mark_of};
+use crate::marks::{mark_of, terrain_of};
 use mapf_model::{Cell, Grid, Path, Tick};
 
 // Fills a row as if nobody stood in it.
-fn fill_ground(row: &mut [u8], grid: &Grid, y: u32)
+fn fill_terrain(row: &mut [u8], grid: &Grid, y: u32)
     requires whole { length row.old ≡ grid.now.width }
     requires inside { y < grid.now.height }
-    ensures { (x : ℕ) → x < grid.now.width → slice_index row.new x ≡ ground grid.now (y * grid.now.width + x) }
+    ensures { (x : ℕ) → x < grid.now.width → slice_index row.new x ≡ terrain grid.now (y * grid.now.width + x) }
 {
     let first = y * grid.width();
     for (x, byte) in row.iter_mut().enumerate() {
-        *byte = ground_of(grid, Cell(first + x as u32));
+        *byte = terrain_of(grid, Cell(first + x as u32));
     }
 }
 
@@ -39,6 +39,6 @@ pub fn draw_row(row: &mut [u8], grid: &Grid, paths: &[Path], tick: Tick, y: u32)
     requires inside { y < grid.now.height }
     ensures { row.new ≡ row_cells grid.now paths.now tick y }
 {
-    fill_ground(row, grid, y);
+    fill_terrain(row, grid, y);
     mark_agents(row, grid, paths, tick, y);
 }

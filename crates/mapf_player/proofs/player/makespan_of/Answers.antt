@@ -1,10 +1,10 @@
 use Rattle.std.proofs.Common.{◌≡◌, ◌<◌, length, Some, slice_get, subst, sym, ap, refl, arith}
 use Rattle.std.proofs.lemmas.Option.{slice_get_read}
-use Rattle.mapf_player.proofs.CostLemmas.{IsGreatestOf-none, IsGreatestOf-more, IsGreatestOf-all, lawful_costs}
-use Rattle.mapf_player.proofs.player.last_tick.Goals as goal
+use Rattle.mapf_player.proofs.CostLemmas.{IsMakespanOf-none, IsMakespanOf-more, IsMakespanOf-all, lawful_costs}
+use Rattle.mapf_player.proofs.player.makespan_of.Goals as goal
 
 pub loop-i-init : goal.loop-i-init
-loop-i-init c = IsGreatestOf-none c.args.problem.now.agents c.args.plan.now
+loop-i-init c = IsMakespanOf-none c.args.problem.now.agents c.args.plan.now
 
 pub unwrap-requires : goal.unwrap-requires
 unwrap-requires c =
@@ -31,9 +31,9 @@ loop-i-preserved c =
     let agent = subst (λ xs. slice_get xs c.loop-i.i ≡ Some c.index-agents-i.result) agents_are (slice_get_read _ _ _ _ refl within c.index-agents-i.is) in
     let costs = rw c.unwrap.ensures at c.cost.ensures.cost in
     let is = rw (sym c.index-agents-i.is) at costs in
-    rw c.max-last.ensures (IsGreatestOf-more c.args.problem.now.agents c.args.plan.now c.loop-i.i c.loop-i.last c.index-agents-i.result c.path-item.result c.unwrap.result c.loop-i.invariant agent path is)
+    rw c.max-makespan.ensures (IsMakespanOf-more c.args.problem.now.agents c.args.plan.now c.loop-i.i c.loop-i.makespan c.index-agents-i.result c.path-item.result c.unwrap.result c.loop-i.invariant agent path is)
 
 pub returns : goal.returns
 returns c =
     let plan_long = ap (λ xs. length xs) c.paths-path-items.ensures.value in
-    IsGreatestOf-all c.args.problem.now.agents c.args.plan.now c.loop-i.i c.loop-i.last (omega arith) (omega arith) c.loop-i.invariant
+    IsMakespanOf-all c.args.problem.now.agents c.args.plan.now c.loop-i.i c.loop-i.makespan (omega arith) (omega arith) c.loop-i.invariant

@@ -1,0 +1,60 @@
+-- What the program tells of an answer, and by which status it ends.
+use Rattle.std.specs.Prelude.{◌≡◌, ◌++◌, ◌∷◌, [], ℕ, Bool, true, false, List, Option, Some, None, codes}
+use Rattle.std.specs.Borrow.{Bor}
+use Rattle.std.specs.Fmt.{decimal}
+use Rattle.std.specs.Io.KnownBytes.{Appends}
+use Rattle.mapf_app.specs.declared.fault.Fault.{Fault}
+use Rattle.mapf_app.specs.declared.fault.Fault.TheVariants.{F1, F2, F3, F4, F5, F6, Refused}
+use Rattle.mapf_app.specs.declared.kind.Kind.{Kind}
+use Rattle.mapf_app.specs.declared.kind.Kind.TheVariants.{Found, Impossible, Limit}
+use Rattle.mapf_app.specs.declared.line.Line.{Line}
+use Rattle.mapf_checker.specs.declared.fault.Verdict.{Verdict}
+use Rattle.mapf_checker.specs.declared.fault.Verdict.TheVariants as verdicts
+use Rattle.mapf_model.specs.declared.cause.Cause.TheVariants.{Splits, Ticks}
+
+-- a blank and the name, if there is one
+abbrev pub defect_text : Option (Bor (List ℕ)) → List ℕ
+defect_text None = []
+defect_text (Some name) = 32 ∷ name.now
+
+-- a blank and the number, if there is one
+abbrev pub number_text : Option ℕ → List ℕ
+number_text None = []
+number_text (Some number) = 32 ∷ decimal number
+
+-- a line's bytes: its words, a name, numbers, and LF
+abbrev pub line_text : Line → List ℕ
+line_text line = line.words.now ++ (defect_text line.defect ++ (number_text line.numbers.0 ++ (number_text line.numbers.1 ++ (number_text line.numbers.2 ++ (10 ∷ [])))))
+
+-- `cost C`, `impossible`, `limit N` or `limit ticks`
+abbrev pub kind_line : Kind → List ℕ
+kind_line (Found cost) = codes "cost " ++ (decimal cost ++ (10 ∷ []))
+kind_line Impossible = codes "impossible\n"
+kind_line (Limit (Splits splits)) = codes "limit " ++ (decimal splits ++ (10 ∷ []))
+kind_line (Limit Ticks) = codes "limit ticks\n"
+
+-- 0 solved, 3 impossible, 4 a limit was met
+abbrev pub kind_status : Kind → ℕ
+kind_status (Found cost) = 0
+kind_status Impossible = 3
+kind_status (Limit cause) = 4
+
+-- `optimal C` or `impossible`
+abbrev pub verdict_line : Verdict → List ℕ
+verdict_line (verdicts.Optimal cost) = codes "optimal " ++ (decimal cost ++ (10 ∷ []))
+verdict_line verdicts.Impossible = codes "impossible\n"
+
+-- the text was written and the status is this one, or the sink failed and the status is a fault's
+abbrev pub Tells : Bool → Option (List ℕ) → Option (List ℕ) → List ℕ → ℕ → ℕ → Type 0
+Tells true old new text wanted status = status ≡ 2
+Tells false old new text wanted status = (status ≡ wanted) × Appends old new text
+
+-- whether the fault is a refusal
+abbrev pub is_refusal : Fault → Bool
+is_refusal (F1 fault) = false
+is_refusal (F2 fault) = false
+is_refusal (F3 fault) = false
+is_refusal (F4 input) = false
+is_refusal (F5 output) = false
+is_refusal F6 = false
+is_refusal (Refused refusal) = true
