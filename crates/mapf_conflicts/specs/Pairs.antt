@@ -1,7 +1,8 @@
 -- Conflicts of agents, by the lists of their cells at one tick and at the next.
-use Rattle.std.specs.Prelude.{◌≡◌, ◌≢◌, ℕ, ◌<◌, List, length, map, slice_index}
+use Rattle.std.specs.Prelude.{◌≡◌, ◌≢◌, ◌⊎◌, ℕ, ◌<◌, List, length, map, slice_index}
 use Rattle.mapf_model.specs.declared.conflict.Conflict.{Conflict}
 use Rattle.mapf_model.specs.declared.conflict.Conflict.TheVariants.{Vertex, Swap}
+use Rattle.mapf_model.specs.Earned.{tick_of, HasConflict}
 use Rattle.mapf_model.specs.Path.{at}
 
 -- the agents' cells at the tick
@@ -16,6 +17,11 @@ ShareCell here i j = slice_index here i ≡ slice_index here j
 abbrev pub ExchangeCells : List ℕ → List ℕ → ℕ → ℕ → Type 0
 ExchangeCells here next i j = (slice_index here j ≡ slice_index next i) × (slice_index next j ≡ slice_index here i)
 
+-- of the pairs of an agent and a later one of which the fact holds, none comes before this one: none of a smaller
+-- first agent, and none of the same first agent and a smaller second one
+abbrev pub IsFirstPair : (ℕ → ℕ → Type 0) → ℕ → ℕ → ℕ → Type 0
+IsFirstPair Fact count i j = ((a b : ℕ) → a < i → a < b → b < count → Fact a b → ⊥) × ((b : ℕ) → i < b → b < j → Fact i b → ⊥)
+
 -- the fact holds of no agent and a later one
 abbrev pub HoldsOfNoPair : (ℕ → ℕ → Type 0) → ℕ → Type 0
 HoldsOfNoPair Fact count = (i j : ℕ) → i < j → j < count → Fact i j → ⊥
@@ -26,7 +32,28 @@ IsConflictOf here next now (Vertex i j cell tick) = (i < j) × (j < length here)
 IsConflictOf here next now (Swap i j from to tick) = (i < j) × (j < length here) × (tick ≡ now) × (from ≢ to)
     × (slice_index here i ≡ from) × (slice_index next i ≡ to) × (slice_index here j ≡ to) × (slice_index next j ≡ from)
 
+-- no conflict of agents that are in these cells comes before this one: vertex conflicts come first, then the pairs in
+-- the order of their agents
+abbrev pub IsFirstOf : List ℕ → List ℕ → Conflict → Type 0
+IsFirstOf here next (Vertex i j cell tick) = IsFirstPair (ShareCell here) (length here) i j
+IsFirstOf here next (Swap i j from to tick) = HoldsOfNoPair (ShareCell here) (length here) × IsFirstPair (ExchangeCells here next) (length here) i j
+
 -- the first agent has the smaller number
 abbrev pub IsOrdered : Conflict → Type 0
 IsOrdered (Vertex i j cell tick) = i < j
 IsOrdered (Swap i j from to tick) = i < j
+
+-- the first agents are less, or they are one agent and the second agents are less
+abbrev pub AreLess : ℕ → ℕ → ℕ → ℕ → Type 0
+AreLess i j k l = (i < k) ⊎ ((i ≡ k) × (j < l))
+
+-- of two conflicts of one tick: a vertex conflict comes before a swapping one, then the one of the lesser agents
+abbrev pub ComesBefore : Conflict → Conflict → Type 0
+ComesBefore (Vertex i j cell tick) (Vertex k l other_cell other_tick) = AreLess i j k l
+ComesBefore (Vertex i j cell tick) (Swap k l from to other_tick) = Unit {0}
+ComesBefore (Swap i j from to tick) (Vertex k l cell other_tick) = ⊥
+ComesBefore (Swap i j from to tick) (Swap k l other_from other_to other_tick) = AreLess i j k l
+
+-- no conflict of the paths at its tick comes before this one
+abbrev pub IsFirstOfItsTick : List (List ℕ) → Conflict → Type 0
+IsFirstOfItsTick paths conflict = (other : Conflict) → IsOrdered other → HasConflict paths other → tick_of other ≡ tick_of conflict → ComesBefore other conflict → ⊥

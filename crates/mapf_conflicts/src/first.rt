@@ -1,6 +1,6 @@
 ghost use Rattle.std.specs.Prelude.{◌≡◌, ◌≤◌, length, take, All, IfNone, IfSome};
 ghost use Rattle.mapf_model.specs.Earned.{tick_of, HasConflict, AreConflictFreeBefore, HaveSomeConflict};
-ghost use Rattle.mapf_conflicts.specs.Pairs.{cells_at, ShareCell, ExchangeCells, HoldsOfNoPair, IsConflictOf, IsOrdered};
+ghost use Rattle.mapf_conflicts.specs.Pairs.{cells_at, ShareCell, ExchangeCells, HoldsOfNoPair, IsConflictOf, IsFirstOf, IsFirstOfItsTick, IsOrdered};
 
 use crate::pairs::{exchanging_pair, may_conflict, sharing_pair};
 use mapf_model::{Cell, Conflict, Path, Plan, Tick};
@@ -12,6 +12,7 @@ pub fn first_conflict(plan: &Plan) -> Option<Conflict>
     ensures some { IfSome result (HasConflict plan.now) }
     ensures first { IfSome result (λ conflict. AreConflictFreeBefore plan.now (tick_of conflict)) }
     ensures ordered { IfSome result IsOrdered }
+    ensures least { IfSome result (IsFirstOfItsTick plan.now) }
     ensures none { IfNone result (HaveSomeConflict plan.now → ⊥) }
 {
     let paths = plan.paths();
@@ -57,6 +58,7 @@ fn conflict_of(here: &[Cell], next: &[Cell], tick: Tick) -> Option<Conflict>
     requires size { length next.now ≡ length here.now }
     requires few { length here.now ≤ 200 }
     ensures some { IfSome result (IsConflictOf here.now next.now tick) }
+    ensures first { IfSome result (IsFirstOf here.now next.now) }
     ensures share { IfNone result (HoldsOfNoPair (ShareCell here.now) (length here.now)) }
     ensures exchange { IfNone result (HoldsOfNoPair (ExchangeCells here.now next.now) (length here.now)) }
 {

@@ -1,5 +1,5 @@
 ghost use Rattle.std.specs.Prelude.{◌≡◌, ◌⊎◌, ◌<◌, ℕ, false, length, IfNone, IfSome};
-ghost use Rattle.mapf_conflicts.specs.Pairs.{ShareCell, ExchangeCells, HoldsOfNoPair};
+ghost use Rattle.mapf_conflicts.specs.Pairs.{ShareCell, ExchangeCells, IsFirstPair, HoldsOfNoPair};
 
 use mapf_model::Cell;
 
@@ -8,6 +8,7 @@ pub fn sharing_pair(here: &[Cell]) -> Option<(usize, usize)>
     ensures order { IfSome result (λ pair. pair.0 < pair.1) }
     ensures inside { IfSome result (λ pair. pair.1 < length here.now) }
     ensures some { IfSome result (λ pair. ShareCell here.now pair.0 pair.1) }
+    ensures first { IfSome result (λ pair. IsFirstPair (ShareCell here.now) (length here.now) pair.0 pair.1) }
     ensures none { IfNone result (HoldsOfNoPair (ShareCell here.now) (length here.now)) }
 {
     for i in 0..here.len() {
@@ -24,6 +25,7 @@ fn sharing_after(here: &[Cell], i: usize) -> Option<usize>
     ensures order { IfSome result (λ j. i < j) }
     ensures inside { IfSome result (λ j. j < length here.now) }
     ensures some { IfSome result (ShareCell here.now i) }
+    ensures first { IfSome result (λ j. (k : ℕ) → i < k → k < j → ShareCell here.now i k → ⊥) }
     ensures none { IfNone result ((j : ℕ) → i < j → j < length here.now → ShareCell here.now i j → ⊥) }
 {
     for j in i + 1..here.len() {
@@ -40,6 +42,7 @@ pub fn exchanging_pair(here: &[Cell], next: &[Cell]) -> Option<(usize, usize)>
     ensures order { IfSome result (λ pair. pair.0 < pair.1) }
     ensures inside { IfSome result (λ pair. pair.1 < length here.now) }
     ensures some { IfSome result (λ pair. ExchangeCells here.now next.now pair.0 pair.1) }
+    ensures first { IfSome result (λ pair. IsFirstPair (ExchangeCells here.now next.now) (length here.now) pair.0 pair.1) }
     ensures none { IfNone result (HoldsOfNoPair (ExchangeCells here.now next.now) (length here.now)) }
 {
     for i in 0..here.len() {
@@ -57,6 +60,7 @@ fn exchanging_after(here: &[Cell], next: &[Cell], i: usize) -> Option<usize>
     ensures order { IfSome result (λ j. i < j) }
     ensures inside { IfSome result (λ j. j < length here.now) }
     ensures some { IfSome result (ExchangeCells here.now next.now i) }
+    ensures first { IfSome result (λ j. (k : ℕ) → i < k → k < j → ExchangeCells here.now next.now i k → ⊥) }
     ensures none { IfNone result ((j : ℕ) → i < j → j < length here.now → ExchangeCells here.now next.now i j → ⊥) }
 {
     for j in i + 1..here.len() {

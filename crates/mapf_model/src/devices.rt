@@ -1,7 +1,9 @@
 //! Devices for tests: they move bytes of memory, one at a time or as many as they can, and fail at a
 //! call that is chosen; and a source that never ends.
 
-ghost use Rattle.std.specs.Prelude.{◌≡◌, ◌≢◌, ◌↔◌, [], None, Some, false, IfOk, IsTrue};
+ghost use Rattle.std.specs.Prelude.{◌≡◌, ◌≢◌, ◌↔◌, ◌⊎◌, ◌<◌, ◌≤◌, ◌+◌, [], None, Some, false, length, min, replicate, IfOk, IsErr, IsTrue};
+ghost use Rattle.std.specs.Result.{is_err};
+ghost use Rattle.std.specs.Io.KnownBytes.{ReadConsumes, WriteAppends};
 ghost use Rattle.mapf_model.specs.Devices.{moved, call_more};
 
 use crate::memory::OutOfMemory;
@@ -63,11 +65,18 @@ pub struct FuseSource<'a> {
     is_failed: bool,
 }
 
+impl<'a> Model for FuseSource<'a> {
+    ghost use Rattle.mapf_model.specs.Devices.{FuseReads};
+
+    ghost Value = { FuseReads };
+
+    ghost view = { λ s. record { remaining = s.bytes.now; pace = s.pace; calls = s.fuse.calls; has_failed = s.is_failed } };
+}
+
 impl<'a> FuseSource<'a> {
     /// A source of these bytes that fails once it stood so many calls, or never.
     pub fn of(bytes: &'a [u8], pace: Pace, calls: Option<u64>) -> FuseSource<'a>
-        ensures bytes { ⟦<FuseSource<'a> as Source>⟧.remaining result ≡ Some bytes.entry.now }
-        ensures works { ⟦<FuseSource<'a> as Source>⟧.has_failed result ≡ false }
+        ensures { result ≡ record { remaining = bytes.entry.now; pace = pace; calls = calls; has_failed = false } }
     {
         FuseSource {
             bytes,
@@ -79,11 +88,22 @@ impl<'a> FuseSource<'a> {
 }
 
 impl<'a> Source for FuseSource<'a> {
-    ghost remaining = { λ s. Some s.bytes.now };
+    ghost remaining = { λ s. Some s.remaining };
 
-    ghost has_failed = { λ s. s.is_failed };
+    ghost has_failed = { λ s. s.has_failed };
 
-    fn pull(&mut self, buf: &mut [u8]) -> Result<usize, Failed> {
+    /// Fails exactly where no call is left.
+    fn pull(&mut self, buf: &mut [u8]) -> Result<usize, Failed>
+        requires room { 0 < length buf.old }
+        requires working { self.old.has_failed ≡ false }
+        ensures bound { IfOk result (λ n. n ≤ length buf.new) }
+        ensures bytes { ReadConsumes (Some self.old.remaining) (Some self.new.remaining) result buf.new }
+        ensures failed { self.new.has_failed ≡ is_err result }
+        ensures fails { IsErr result ↔ (self.old.calls ≡ Some 0) }
+        ensures taken { IfOk result (λ n. n ≡ moved self.old.pace (min (length self.old.remaining) (length buf.old))) }
+        ensures count { self.new.calls ≡ call_more self.old.calls }
+        ensures pace { self.new.pace ≡ self.old.pace }
+    {
         if !self.fuse.stands() {
             self.is_failed = true;
             return Err(Failed);
@@ -101,14 +121,23 @@ impl<'a> Source for FuseSource<'a> {
 }
 
 /// A source that gives one byte for ever. It never fails.
-#[derive(Clone, Copy, Drop)]
+#[derive(Drop)]
 pub struct EndlessSource {
     byte: u8,
 }
 
+impl Model for EndlessSource {
+    ghost use Rattle.std.specs.Prelude.{ℕ};
+
+    ghost Value = { ℕ };
+
+    ghost view = { λ s. s.byte };
+}
+
 impl EndlessSource {
+    /// A source of this byte.
     pub fn of(byte: u8) -> EndlessSource
-        ensures works { ⟦<EndlessSource as Source>⟧.has_failed result ≡ false }
+        ensures { result ≡ byte }
     {
         EndlessSource { byte }
     }
@@ -119,7 +148,12 @@ impl Source for EndlessSource {
 
     ghost has_failed = { λ _. false };
 
-    fn pull(&mut self, buf: &mut [u8]) -> Result<usize, Failed> {
+    /// Fills the buffer.
+    fn pull(&mut self, buf: &mut [u8]) -> Result<usize, Failed>
+        ensures full { result ≡ Ok (length buf.new) }
+        ensures bytes { buf.new ≡ replicate (length buf.old) self.old }
+        ensures same { self.new ≡ self.old }
+    {
         buf.fill(self.byte);
         Ok(buf.len())
     }
@@ -140,11 +174,12 @@ pub struct FuseSink {
 }
 
 impl Model for FuseSink {
-    ghost use Rattle.std.specs.Prelude.{List, ℕ, Bool, ◌≤◌, ◌+◌, ◌≡◌, vec_len, vec_capacity};
+    ghost use Rattle.std.specs.Prelude.{◌≤◌, ◌+◌, vec_len, vec_capacity};
+    ghost use Rattle.mapf_model.specs.Devices.{FuseWrites};
 
-    ghost Value = { List ℕ × ℕ × Bool };
+    ghost Value = { FuseWrites };
 
-    ghost view = { λ s. (s.bytes.items, s.room, s.is_failed) };
+    ghost view = { λ s. record { contents = s.bytes.items; room = s.room; pace = s.pace; calls = s.fuse.calls; has_failed = s.is_failed } };
 
     ghost invariant = { λ s. vec_len s.bytes + s.room ≤ vec_capacity s.bytes };
 }
@@ -158,7 +193,7 @@ impl FuseSink {
         pace: Pace,
         calls: Option<u64>,
     ) -> Result<FuseSink, OutOfMemory>
-        ensures { IfOk result (λ s. s ≡ ([], room, false)) }
+        ensures { IfOk result (λ s. s ≡ record { contents = []; room = room; pace = pace; calls = calls; has_failed = false }) }
     {
         Ok(FuseSink {
             bytes: Vec::with_capacity(alloc, room)?,
@@ -171,7 +206,7 @@ impl FuseSink {
 
     /// What was pushed.
     pub fn bytes(&self) -> &[u8]
-        ensures value { result.now ≡ self.now.0 }
+        ensures value { result.now ≡ self.now.contents }
         ensures contents { ⟦<FuseSink as Sink>⟧.contents self.now ≡ Some result.now }
     {
         self.bytes.as_slice()
@@ -179,11 +214,24 @@ impl FuseSink {
 }
 
 impl Sink for FuseSink {
-    ghost contents = { λ s. Some s.0 };
+    ghost contents = { λ s. Some s.contents };
 
-    ghost has_failed = { λ s. s.2 };
+    ghost has_failed = { λ s. s.has_failed };
 
-    fn push(&mut self, bytes: &[u8]) -> Result<usize, Failed> {
+    /// Fails exactly where no call is left or it is full.
+    fn push(&mut self, bytes: &[u8]) -> Result<usize, Failed>
+        requires some { 0 < length bytes.now }
+        requires working { self.old.has_failed ≡ false }
+        ensures bound { IfOk result (λ n. n ≤ length bytes.now) }
+        ensures bytes { WriteAppends (Some self.old.contents) (Some self.new.contents) result bytes.now }
+        ensures failed { self.new.has_failed ≡ is_err result }
+        ensures progress { IfOk result (λ n. 0 < n) }
+        ensures fails { IsErr result ↔ ((self.old.calls ≡ Some 0) ⊎ (self.old.room ≡ 0)) }
+        ensures taken { IfOk result (λ n. n ≡ moved self.old.pace (min self.old.room (length bytes.now))) }
+        ensures room { self.new.room + length self.new.contents ≡ self.old.room + length self.old.contents }
+        ensures count { self.new.calls ≡ call_more self.old.calls }
+        ensures pace { self.new.pace ≡ self.old.pace }
+    {
         let n = self.pace.moved(self.room.min(bytes.len()));
         if !self.fuse.stands() || n == 0 {
             self.is_failed = true;

@@ -1,4 +1,4 @@
-ghost use Rattle.std.specs.Prelude.{◌≡◌, ◌<◌, ◌≤◌, [], List, ℕ, Bool, false, Some, Option, length, take, IfOk, OnOk, OnErr};
+ghost use Rattle.std.specs.Prelude.{◌≡◌, ◌<◌, ◌≤◌, ◌+◌, ◌↔◌, [], List, ℕ, Bool, false, Some, Option, length, min, take, IfOk, IsErr, OnOk, OnErr};
 ghost use Rattle.std.specs.Result.{is_err};
 ghost use Rattle.std.specs.Io.KnownBytes.{Appends, WriteAppends};
 
@@ -67,7 +67,7 @@ impl<W: Write> Sink for WriteSink<W> {
     }
 }
 
-/// Bytes in memory as a sink, with room for a number of bytes. It fails only where it is full.
+/// Bytes in memory as a sink, with room for a number of bytes.
 #[derive(Drop)]
 pub struct BytesSink {
     bytes: Vec<u8>,
@@ -111,7 +111,16 @@ impl Sink for BytesSink {
 
     ghost has_failed = { λ s. s.2 };
 
-    fn push(&mut self, bytes: &[u8]) -> Result<usize, Failed> {
+    /// Takes as many as there is room for, and fails exactly where there is none.
+    fn push(&mut self, bytes: &[u8]) -> Result<usize, Failed>
+        requires some { 0 < length bytes.now }
+        requires working { self.old.2 ≡ false }
+        ensures bytes { WriteAppends (Some self.old.0) (Some self.new.0) result bytes.now }
+        ensures failed { self.new.2 ≡ is_err result }
+        ensures full { IsErr result ↔ self.old.1 ≡ 0 }
+        ensures taken { IfOk result (λ n. n ≡ min self.old.1 (length bytes.now)) }
+        ensures room { self.new.1 + length self.new.0 ≡ self.old.1 + length self.old.0 }
+    {
         let n = self.room.min(bytes.len());
         if n == 0 {
             self.is_failed = true;

@@ -1,6 +1,7 @@
 use Rattle.std.proofs.Common.{◌≡◌, length, take, subst, sym, arith}
 use Rattle.mapf_model.specs.Earned.{tick_of, HasConflict, AreConflictFreeBefore, HaveSomeConflict}
-use Rattle.mapf_conflicts.proofs.ConflictLemmas.{has_conflict, conflict_tick, free_one_more, never}
+use Rattle.mapf_conflicts.specs.Pairs.{IsFirstOfItsTick}
+use Rattle.mapf_conflicts.proofs.ConflictLemmas.{has_conflict, first_of_its_tick, conflict_tick, free_one_more, never}
 use Rattle.mapf_conflicts.proofs.first.first_conflict.Goals as goal
 
 pub returns-in-Some-clause-some : goal.returns-in-Some-clause-some
@@ -15,6 +16,14 @@ returns-in-Some-clause-first c =
     let tick = conflict_tick (take (length c.paths-paths.result.now) c.loop-tick.here) (take (length c.paths-paths.result.now) c.cells_at-next.result) c.loop-tick.tick c.in-Some.conflict c.in-Some.ensures.some in
     subst (λ plan. AreConflictFreeBefore plan (tick_of c.in-Some.conflict)) c.paths-paths.ensures.value
     (subst (λ n. AreConflictFreeBefore c.paths-paths.result.now n) (sym tick) c.loop-tick.invariant.free)
+
+pub returns-in-Some-clause-least : goal.returns-in-Some-clause-least
+returns-in-Some-clause-least c =
+    let paths = c.paths-paths.result.now in
+    let tick = conflict_tick (take (length paths) c.loop-tick.here) (take (length paths) c.cells_at-next.result) c.loop-tick.tick c.in-Some.conflict c.in-Some.ensures.some in
+    subst (λ plan. IsFirstOfItsTick plan c.in-Some.conflict) c.paths-paths.ensures.value
+    (first_of_its_tick paths c.loop-tick.tick c.in-Some.conflict tick
+    (rw (c.loop-tick.invariant.cells, c.cells_at-next.ensures) at c.in-Some.ensures.first))
 
 pub loop-tick-preserved : goal.loop-tick-preserved
 loop-tick-preserved c =
