@@ -198,6 +198,15 @@ fn shows_that_no_plan_is_valid(rt: HostRuntime) -> Result<(), Fail> {
         0,
         "impossible / clash 0 1",
     )?;
+    let two_pairs = [(0, 2), (1, 3), (2, 3), (3, 2)].as_slice();
+    solves(
+        &rt,
+        rt.alloc(),
+        "....",
+        two_pairs,
+        0,
+        "impossible / clash 0 3",
+    )?;
     let walled = [(0, 2)].as_slice();
     solves(&rt, rt.alloc(), ".@.", walled, 0, "impossible / leaf")
 }
