@@ -1,7 +1,6 @@
 -- What the state of a search says of its answers.
-use Rattle.std.proofs.Common.{◌≡◌, All, ℕ, zero, suc, ◌+◌, ◌*◌, ◌^◌, ◌<◌, ◌≤◌, List, [], ◌∷◌, Some, Vec, Contains, length, sum, slice_get, refl, sym, ◌∙◌, ap, subst, inl, inr, arith, get_or}
+use Rattle.std.proofs.Common.{◌≡◌, All, ℕ, zero, suc, ◌+◌, ◌*◌, ◌^◌, ◌<◌, ◌≤◌, List, [], ◌∷◌, Some, Vec, Contains, length, sum, slice_get, refl, sym, ◌∙◌, ap, subst, inl, inr, arith}
 use Rattle.std.specs.declared.alloc.Global.{Global}
-use Rattle.std.specs.declared.cmp.Ordering.TheVariants.{Less}
 use Rattle.std.specs.Bool.{⊤}
 use Rattle.mapf_model.proofs.ClaimLemmas.{slice_get_inside, holds_of_plans, shown_of_plan}
 use Rattle.mapf_model.proofs.SplitLemmas.{AllSatisfy-root}
@@ -26,7 +25,7 @@ use Rattle.mapf_model.specs.declared.cause.Cause.{Cause}
 use Rattle.mapf_model.specs.declared.cause.Cause.TheVariants.{Splits, Ticks}
 use Rattle.mapf_cbs.specs.declared.answer.Answer.TheVariants.{Limit as LimitAnswer}
 use Rattle.mapf_cbs.specs.Answer.{IsTreeOf, IsShownOptimal, IsShownImpossible, IsAnswer}
-use Rattle.mapf_cbs.specs.State.{IsOpenSet, IsState, IsPopped, IsCauseToStop, key_cmp}
+use Rattle.mapf_cbs.specs.State.{IsOpenSet, IsState, IsPopped, IsCauseToStop, IsLeastKey}
 use Rattle.mapf_cbs.proofs.ViewLemmas.{live_sum, live_cheapest}
 use Rattle.mapf_cbs.proofs.ChildLemmas.{conflict_early}
 use Rattle.mapf_cbs.proofs.TreeLemmas.{is_earned, shows_cost, shows_impossible, has_splits, is_stopped}
@@ -106,17 +105,17 @@ cuts_later problem views fates count searched k conflict a b is =
 pub tree_of : (agents others : List Agent) (fates more : List Fate) (views : List View) (items : List Item) → agents ≡ others → fates ≡ more → (tree : ConstraintTree) × Spell items tree × IsTreeAt (length agents) views fates 0 tree → (tree : ConstraintTree) × Spell items tree × IsTreeAt (length others) views more 0 tree
 tree_of agents others fates more views items same fates_same (tree, spell, is) = (tree, spell, subst (λ fs. IsTreeAt (length others) views fs 0 tree) fates_same (subst (λ xs. IsTreeAt (length xs) views fates 0 tree) same is))
 
-pub popped_of : (problem : Instance) (nodes : List Node) (fates : List Fate) (keys rest : List (ℕ × ℕ)) (count total k : ℕ) → IsState problem nodes fates keys count → keys ≡ (total, k) ∷ rest → ((key : ℕ × ℕ) → Contains rest key → key_cmp (total, k) key ≡ Less) → IsPopped problem nodes fates rest count total k
-popped_of problem nodes fates keys rest count total k state e above = record {
+pub popped_of : (problem : Instance) (nodes : List Node) (fates : List Fate) (keys rest : List (ℕ × ℕ)) (count total k : ℕ) → IsState problem nodes fates keys count → IsLeastKey (total, k) keys rest → IsPopped problem nodes fates rest count total k
+popped_of problem nodes fates keys rest count total k state least = record {
   views = state.views;
   are = state.are;
   searched = state.searched;
-  opens = subst (λ ks. IsOpenSet ks state.views fates) e state.opens;
-  above = above;
+  opens = subst (λ ks. IsOpenSet ks state.views fates) least.removal state.opens;
+  above = least.above;
   nodes_for = state.nodes_for;
   bars = state.bars;
   size = state.size;
-  small = subst (λ ks. (key : ℕ × ℕ) → Contains ks key → key.0 ≤ (count + 201) * 2 ^ 32) e state.small;
+  small = subst (λ ks. (key : ℕ × ℕ) → Contains ks key → key.0 ≤ (count + 201) * 2 ^ 32) least.removal state.small;
 }
 
 pub not_apart : (paths : List (List ℕ)) (conflict : Conflict) → HasConflict paths conflict → HaveSomeConflict paths
@@ -217,6 +216,3 @@ module _ (problem : Instance) (shape : IsGridMap problem.grid) (nodes : List Nod
     answer_limit goals conflict meet apart (Splits n) (is_limit, all) listed same =
         let a = answer_splits conflict meet in
         (a.0, subst (λ its. IsTreeOf problem limit its a.0) (sym same) a.1, (a.2, is_limit, a.3 ∙ all))
-
-pub above_of : (rest : List (ℕ × ℕ)) (total k : ℕ) → ((n : ℕ) (d : ℕ × ℕ) → n < length rest → key_cmp (total, k) (get_or rest n d) ≡ Less) → (key : ℕ × ℕ) → Contains rest key → key_cmp (total, k) key ≡ Less
-above_of rest total k all key (n, within, is) = subst (λ (x : ℕ × ℕ). key_cmp (total, k) x ≡ Less) is (all n key within)

@@ -29,6 +29,11 @@ abbrev pub with_key : List (ℕ × ℕ) → Option ℕ → ℕ → List (ℕ × 
 with_key keys None number = keys
 with_key keys (Some total) number = insert_key key_cmp keys (total, number)
 
+-- the key is the least of the list, and these are the others
+pub record IsLeastKey (key : ℕ × ℕ) (keys rest : List (ℕ × ℕ)) : Type 0 where
+  pub removal : keys ≡ key ∷ rest
+  pub above : (other : ℕ × ℕ) → Contains rest other → key_cmp key other ≡ Less
+
 -- the open nodes by their sums
 pub record IsOpenSet (keys : List (ℕ × ℕ)) (views : List View) (fates : List Fate) : Type 0 where
   pub only : (key : ℕ × ℕ) → Contains keys key → (view : View) × (slice_get views key.1 ≡ Some view) × (slice_get fates key.1 ≡ Some Open) × (key.0 ≡ sum view.costs)

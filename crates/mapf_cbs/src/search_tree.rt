@@ -1,6 +1,6 @@
-ghost use Rattle.std.specs.Prelude.{◌≡◌, ◌+◌, ◌^◌, ◌<◌, ◌∷◌, [], ◌++◌, length, slice_set, IfOk, OnOk};
+ghost use Rattle.std.specs.Prelude.{◌≡◌, ◌+◌, ◌^◌, ◌<◌, ◌∷◌, [], ◌++◌, length, slice_set, IfOk, IfSome, IfNone, OnOk};
 ghost use Rattle.mapf_cbs.specs.Search.{left_agent, right_agent, left_bar, right_bar};
-ghost use Rattle.mapf_cbs.specs.State.{fate_of, with_key};
+ghost use Rattle.mapf_cbs.specs.State.{fate_of, with_key, IsLeastKey};
 
 use crate::child::Born;
 use crate::node::{Fate, Node};
@@ -112,6 +112,14 @@ impl SearchTree {
         }
         Ok(())
     }
+}
+
+/// Takes the key of the open node of least sum, the oldest of these. None where no node is open.
+pub fn take_least(waiting: &mut BTreeSet<(u64, u32)>) -> Option<(u64, u32)>
+    ensures some { IfSome result (λ key. IsLeastKey key waiting.old.keys waiting.new.keys) }
+    ensures none { IfNone result (waiting.old.keys ≡ []) }
+{
+    waiting.pop_first()
 }
 
 /// A child is open where it has a sum.

@@ -12,7 +12,7 @@ ghost use Rattle.mapf_cbs.specs.State.{IsPopped, IsState, IsCauseToStop};
 use crate::answer::Answer;
 use crate::child::child;
 use crate::clash::sharing_pair;
-use crate::search_tree::SearchTree;
+use crate::search_tree::{SearchTree, take_least};
 use crate::sides::{left_agent, left_bar, right_agent, right_bar, tick_of};
 use crate::start::{goal_tables, shortest_paths, total_of};
 use crate::walks::plan_at;
@@ -97,7 +97,7 @@ fn search_from<B: BarTable>(
     let total = total_of(&paths);
     let mut search = SearchTree::of(alloc, paths, total)?;
     loop {
-        let Some((total, k)) = search.waiting.pop_first() else {
+        let Some((total, k)) = take_least(&mut search.waiting) else {
             let tree = tree_items(alloc, &search.nodes, &search.fates, agents)?;
             return Ok(Answer::Impossible { tree });
         };

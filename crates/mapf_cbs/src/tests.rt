@@ -1,3 +1,5 @@
+ghost use Rattle.std.specs.Prelude.{◌≤◌};
+
 use crate::laws::solve_plain;
 use crate::{Answer, Cause, solve, solve_with};
 use mapf_constraints::{BarTable, ListBars, TickBars};
@@ -110,7 +112,25 @@ fn answer_text(alloc: Global, answer: &Answer) -> Result<String, AllocError> {
     Ok(text)
 }
 
-/// Both tables of bars lead to this answer, and so does the plain search.
+/// The answer to which both tables of bars lead, and the plain search too.
+fn common_text(
+    rt: &impl Abort,
+    alloc: Global,
+    problem: &Problem,
+    limit: u32,
+) -> Result<String, Fail>
+    requires { limit ≤ 100000 }
+{
+    let by_tick = solve_with::<TickBars>(alloc, problem, limit)?;
+    let text = answer_text(alloc, &by_tick)?;
+    let by_list = solve_with::<ListBars>(alloc, problem, limit)?;
+    assert_eq!(rt; answer_text(alloc, &by_list)?.as_str(), text.as_str());
+    let plain = solve_plain(alloc, problem, limit)?;
+    assert_eq!(rt; answer_text(alloc, &plain)?.as_str(), text.as_str());
+    Ok(text)
+}
+
+/// All searches give this answer.
 fn solves(
     rt: &impl Abort,
     alloc: Global,
@@ -118,16 +138,12 @@ fn solves(
     ends: &[(u32, u32)],
     limit: u32,
     expected: &str,
-) -> Result<(), Fail> {
+) -> Result<(), Fail>
+    requires { limit ≤ 100000 }
+{
     let problem = problem_of(alloc, rows, ends)?;
-    if limit <= 100_000 {
-        let by_list = solve_with::<ListBars>(alloc, &problem, limit)?;
-        assert_eq!(rt; answer_text(alloc, &by_list)?.as_str(), expected);
-        let by_tick = solve_with::<TickBars>(alloc, &problem, limit)?;
-        assert_eq!(rt; answer_text(alloc, &by_tick)?.as_str(), expected);
-        let plain = solve_plain(alloc, &problem, limit)?;
-        assert_eq!(rt; answer_text(alloc, &plain)?.as_str(), expected);
-    }
+    let text = common_text(rt, alloc, &problem, limit)?;
+    assert_eq!(rt; text.as_str(), expected);
     Ok(())
 }
 
@@ -154,8 +170,7 @@ fn lets_an_agent_pass(rt: HostRuntime) -> Result<(), Fail> {
     let ends = [(0, 2), (1, 1)].as_slice();
     solves(&rt, rt.alloc(), "... @.@", ends, 5, PASSING)?;
     let problem = problem_of(rt.alloc(), "... @.@", ends)?;
-    let answer = solve(rt.alloc(), &problem, 4)?;
-    let text = answer_text(rt.alloc(), &answer)?;
+    let text = common_text(&rt, rt.alloc(), &problem, 4)?;
     assert!(rt; text.starts_with("limit 4 / vertex 0 1 1 1 / "));
     Ok(())
 }
@@ -183,6 +198,15 @@ fn shows_that_no_plan_is_valid(rt: HostRuntime) -> Result<(), Fail> {
         0,
         "impossible / clash 0 1",
     )?;
+    let two_pairs = [(0, 2), (1, 3), (2, 3), (3, 2)].as_slice();
+    solves(
+        &rt,
+        rt.alloc(),
+        "....",
+        two_pairs,
+        0,
+        "impossible / clash 0 3",
+    )?;
     let walled = [(0, 2)].as_slice();
     solves(&rt, rt.alloc(), ".@.", walled, 0, "impossible / leaf")
 }
@@ -205,22 +229,44 @@ fn corridor(alloc: Global) -> Result<Grid, Fail> {
     Ok(Grid::of(2048, 2047, free).ok_or("no grid")?)
 }
 
-#[test]
-fn stops_at_a_conflict_that_is_too_late(rt: HostRuntime) -> Result<(), Fail> {
+/// Two agents that meet in the middle of the corridor, at tick 1,049,087.
+fn late_meeting(alloc: Global) -> Result<Problem, Fail> {
     let last = 2046 * 2048;
-    let mut agents = Vec::new(rt.alloc());
+    let mut agents = Vec::new(alloc);
     for (start, goal) in [(0, last), (last, 0)] {
         agents.push(Agent {
             start: Cell(start),
             goal: Cell(goal),
         })?;
     }
-    let problem = Problem::of(corridor(rt.alloc())?, agents).ok_or("no problem")?;
+    Ok(Problem::of(corridor(alloc)?, agents).ok_or("no problem")?)
+}
+
+// One test for each search, since the paths are long.
+#[test]
+fn stops_at_a_conflict_that_is_too_late(rt: HostRuntime) -> Result<(), Fail> {
+    let problem = late_meeting(rt.alloc())?;
     let answer = solve(rt.alloc(), &problem, 0)?;
-    assert_eq!(rt;
-        answer_text(rt.alloc(), &answer)?.as_str(),
-        "limit ticks / leaf"
-    );
+    let text = answer_text(rt.alloc(), &answer)?;
+    assert_eq!(rt; text.as_str(), "limit ticks / leaf");
+    Ok(())
+}
+
+#[test]
+fn stops_there_with_bars_in_a_list(rt: HostRuntime) -> Result<(), Fail> {
+    let problem = late_meeting(rt.alloc())?;
+    let answer = solve_with::<ListBars>(rt.alloc(), &problem, 0)?;
+    let text = answer_text(rt.alloc(), &answer)?;
+    assert_eq!(rt; text.as_str(), "limit ticks / leaf");
+    Ok(())
+}
+
+#[test]
+fn stops_there_in_the_plain_search(rt: HostRuntime) -> Result<(), Fail> {
+    let problem = late_meeting(rt.alloc())?;
+    let answer = solve_plain(rt.alloc(), &problem, 0)?;
+    let text = answer_text(rt.alloc(), &answer)?;
+    assert_eq!(rt; text.as_str(), "limit ticks / leaf");
     Ok(())
 }
 

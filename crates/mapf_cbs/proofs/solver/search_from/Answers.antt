@@ -1,20 +1,15 @@
-use Rattle.std.proofs.Common.{◌≡◌, [], ◌<◌, ◌≤◌, All, ℕ, length, refl, sym, ◌∙◌, ap, subst, arith, zero, suc, true, false}
+use Rattle.std.proofs.Common.{◌≡◌, [], ◌≤◌, All, length, refl, sym, ◌∙◌, ap, subst, arith}
 use Rattle.mapf_model.specs.Earned.{HasConflict, AreConflictFreeBefore, HaveSomeConflict, tick_of}
 use Rattle.mapf_model.specs.Tree.{ConstraintTree}
 use Rattle.mapf_cbs.specs.Answer.{IsTreeOf, IsShownOptimal}
 use Rattle.mapf_cbs.specs.Arena.{AreViews}
 use Rattle.mapf_cbs.specs.Search.{AreCutsLater}
 use Rattle.mapf_cbs.specs.State.{IsState}
-use Rattle.mapf_cbs.proofs.AnswerLemmas.{tree_of, above_of, state_first, cuts_later, popped_of, answer_impossible, answer_found, answer_limit}
+use Rattle.mapf_cbs.proofs.AnswerLemmas.{tree_of, state_first, cuts_later, popped_of, answer_impossible, answer_found, answer_limit}
 use Rattle.mapf_cbs.proofs.ArenaLemmas.{view_in}
-use Rattle.mapf_cbs.proofs.ItemLemmas.{no_items}
 use Rattle.mapf_cbs.proofs.StartLemmas.{root_of}
 use Rattle.mapf_cbs.proofs.StateLemmas.{in_hand}
 use Rattle.mapf_cbs.proofs.solver.search_from.Goals as goal
-
-no_length : (n : ℕ) → (0 < n → false ≡ true) → n ≡ 0
-no_length zero f = refl
-no_length (suc n) f = absurd (let e : false ≡ true = f (omega arith) in cc)
 
 pub loop-total-init : goal.loop-total-init
 loop-total-init g c =
@@ -38,7 +33,7 @@ tree_items-requires-clause-later g c =
 pub returns-in_default : goal.returns-in_default
 returns-in_default g c =
     let s = c.loop-total.invariant.state in
-    let none : c.loop-total.search.waiting.keys ≡ [] = no_items c.loop-total.search.waiting.keys (let v = c.in_default.ensures.variant in no_length (length c.loop-total.search.waiting.keys) v.1) in
+    let none : c.loop-total.search.waiting.keys ≡ [] = c.in_default.ensures.none in
     let state = subst (λ ks. IsState c.args.problem.now c.loop-total.search.nodes.items c.loop-total.search.fates.items ks c.loop-total.search.splits) none s in
     answer_impossible c.args.problem.now c.requires.shape c.loop-total.search.nodes.items c.loop-total.search.fates.items c.loop-total.search.splits c.args.limit c.loop-total.invariant.within state c.in_ok-tree.tree.items
     (tree_of c.agents.result.now c.args.problem.now.agents c.deref-in_default.result.now c.loop-total.search.fates.items state.views c.in_ok-tree.tree.items c.agents.ensures.value c.deref-in_default.ensures.value (c.in_ok-tree.ensures state.views state.are (state.searched.lengths ∙ ap length (sym c.deref-in_default.ensures.value))))
@@ -46,8 +41,8 @@ returns-in_default g c =
 pub plan_at-requires-clause-inside : goal.plan_at-requires-clause-inside
 plan_at-requires-clause-inside g c =
     let s = c.loop-total.invariant.state in
-    let p = popped_of c.args.problem.now c.loop-total.search.nodes.items c.loop-total.search.fates.items c.loop-total.search.waiting.keys c.pop_first.new.self.keys c.loop-total.search.splits c.in-Some.total c.in-Some.k s c.in-Some.ensures.removal (above_of c.pop_first.new.self.keys c.in-Some.total c.in-Some.k c.in-Some.ensures.all_above) in
-    let h = in_hand c.args.problem.now c.loop-total.search.nodes.items c.loop-total.search.fates.items c.pop_first.new.self.keys c.loop-total.search.splits c.in-Some.total c.in-Some.k p in
+    let p = popped_of c.args.problem.now c.loop-total.search.nodes.items c.loop-total.search.fates.items c.loop-total.search.waiting.keys c.take_least.new.waiting.keys c.loop-total.search.splits c.in-Some.total c.in-Some.k s c.in-Some.ensures.some in
+    let h = in_hand c.args.problem.now c.loop-total.search.nodes.items c.loop-total.search.fates.items c.take_least.new.waiting.keys c.loop-total.search.splits c.in-Some.total c.in-Some.k p in
     let e = c.deref-in-loop-total.ensures.value in rw e (view_in c.loop-total.search.nodes.items p.views p.are c.in-Some.k h.view h.is)
 
 pub tree_items-requires-in_default-first_conflict-clause-later : goal.tree_items-requires-in_default-first_conflict-clause-later
@@ -63,24 +58,24 @@ tree_items-requires-in-Some-cause_to_stop-clause-later g c =
 pub returns-in_default-first_conflict : goal.returns-in_default-first_conflict
 returns-in_default-first_conflict g c =
     let s = c.loop-total.invariant.state in
-    let p = popped_of c.args.problem.now c.loop-total.search.nodes.items c.loop-total.search.fates.items c.loop-total.search.waiting.keys c.pop_first.new.self.keys c.loop-total.search.splits c.in-Some.total c.in-Some.k s c.in-Some.ensures.removal (above_of c.pop_first.new.self.keys c.in-Some.total c.in-Some.k c.in-Some.ensures.all_above) in
-    let h = in_hand c.args.problem.now c.loop-total.search.nodes.items c.loop-total.search.fates.items c.pop_first.new.self.keys c.loop-total.search.splits c.in-Some.total c.in-Some.k p in
+    let p = popped_of c.args.problem.now c.loop-total.search.nodes.items c.loop-total.search.fates.items c.loop-total.search.waiting.keys c.take_least.new.waiting.keys c.loop-total.search.splits c.in-Some.total c.in-Some.k s c.in-Some.ensures.some in
+    let h = in_hand c.args.problem.now c.loop-total.search.nodes.items c.loop-total.search.fates.items c.take_least.new.waiting.keys c.loop-total.search.splits c.in-Some.total c.in-Some.k p in
     let plan : c.in_ok-plan.plan ≡ h.view.paths = c.in_ok-plan.ensures.paths p.views h.view (subst (λ ns. AreViews ns p.views) (sym c.deref-in-loop-total.ensures.value) p.are) h.is (h.live.counted.paths ∙ (let e = c.agents.ensures.value in ap length (sym e))) in
     let found = tree_of c.agents.result.now c.args.problem.now.agents c.deref-in_default-first_conflict.result.now c.loop-total.search.fates.items p.views c.in_ok-tree-2.tree.items c.agents.ensures.value c.deref-in_default-first_conflict.ensures.value (c.in_ok-tree-2.ensures p.views p.are (p.searched.lengths ∙ ap length (sym c.deref-in_default-first_conflict.ensures.value))) in
-    subst (λ ps. (tree : ConstraintTree) × IsTreeOf c.args.problem.now c.args.limit c.in_ok-tree-2.tree.items tree × IsShownOptimal c.args.problem.now ps tree) (sym plan) (answer_found c.args.problem.now c.requires.shape c.loop-total.search.nodes.items c.loop-total.search.fates.items c.pop_first.new.self.keys c.loop-total.search.splits c.in-Some.total c.in-Some.k p c.args.limit c.loop-total.invariant.within c.in_ok-tree-2.tree.items found h.view h.is h.is_open h.live c.requires.agents.0 c.requires.agents.1 (subst (λ ps. All (λ path. length path ≤ 10000000) ps) plan c.in_ok-plan.ensures.short) (subst (λ ps. HaveSomeConflict ps → ⊥) plan c.in_default-first_conflict.ensures.none))
+    subst (λ ps. (tree : ConstraintTree) × IsTreeOf c.args.problem.now c.args.limit c.in_ok-tree-2.tree.items tree × IsShownOptimal c.args.problem.now ps tree) (sym plan) (answer_found c.args.problem.now c.requires.shape c.loop-total.search.nodes.items c.loop-total.search.fates.items c.take_least.new.waiting.keys c.loop-total.search.splits c.in-Some.total c.in-Some.k p c.args.limit c.loop-total.invariant.within c.in_ok-tree-2.tree.items found h.view h.is h.is_open h.live c.requires.agents.0 c.requires.agents.1 (subst (λ ps. All (λ path. length path ≤ 10000000) ps) plan c.in_ok-plan.ensures.short) (subst (λ ps. HaveSomeConflict ps → ⊥) plan c.in_default-first_conflict.ensures.none))
 
 pub returns-in-Some-cause_to_stop : goal.returns-in-Some-cause_to_stop
 returns-in-Some-cause_to_stop g c =
     let s = c.loop-total.invariant.state in
-    let p = popped_of c.args.problem.now c.loop-total.search.nodes.items c.loop-total.search.fates.items c.loop-total.search.waiting.keys c.pop_first.new.self.keys c.loop-total.search.splits c.in-Some.total c.in-Some.k s c.in-Some.ensures.removal (above_of c.pop_first.new.self.keys c.in-Some.total c.in-Some.k c.in-Some.ensures.all_above) in
-    let h = in_hand c.args.problem.now c.loop-total.search.nodes.items c.loop-total.search.fates.items c.pop_first.new.self.keys c.loop-total.search.splits c.in-Some.total c.in-Some.k p in
+    let p = popped_of c.args.problem.now c.loop-total.search.nodes.items c.loop-total.search.fates.items c.loop-total.search.waiting.keys c.take_least.new.waiting.keys c.loop-total.search.splits c.in-Some.total c.in-Some.k s c.in-Some.ensures.some in
+    let h = in_hand c.args.problem.now c.loop-total.search.nodes.items c.loop-total.search.fates.items c.take_least.new.waiting.keys c.loop-total.search.splits c.in-Some.total c.in-Some.k p in
     let plan : c.in_ok-plan.plan ≡ h.view.paths = c.in_ok-plan.ensures.paths p.views h.view (subst (λ ns. AreViews ns p.views) (sym c.deref-in-loop-total.ensures.value) p.are) h.is (h.live.counted.paths ∙ (let e = c.agents.ensures.value in ap length (sym e))) in
     let found = tree_of c.agents.result.now c.args.problem.now.agents c.deref-in-Some-cause_to_stop.result.now c.loop-total.search.fates.items p.views c.in_ok-tree-3.tree.items c.agents.ensures.value c.deref-in-Some-cause_to_stop.ensures.value (c.in_ok-tree-3.ensures p.views p.are (p.searched.lengths ∙ ap length (sym c.deref-in-Some-cause_to_stop.ensures.value))) in
     let meet = subst (λ ps. HasConflict ps c.in-Some-first_conflict.conflict × AreConflictFreeBefore ps (tick_of c.in-Some-first_conflict.conflict)) plan (c.in-Some-first_conflict.ensures.some, c.in-Some-first_conflict.ensures.first) in
-    answer_limit c.args.problem.now c.requires.shape c.loop-total.search.nodes.items c.loop-total.search.fates.items c.pop_first.new.self.keys c.loop-total.search.splits c.in-Some.total c.in-Some.k p c.args.limit c.loop-total.invariant.within c.in_ok-tree-3.tree.items found h.view h.is h.is_open h.live c.requires.goals c.in-Some-first_conflict.conflict meet.0 meet.1 c.in-Some-cause_to_stop.cause c.in-Some-cause_to_stop.ensures.some c.in_ok-tree-3.tree refl
+    answer_limit c.args.problem.now c.requires.shape c.loop-total.search.nodes.items c.loop-total.search.fates.items c.take_least.new.waiting.keys c.loop-total.search.splits c.in-Some.total c.in-Some.k p c.args.limit c.loop-total.invariant.within c.in_ok-tree-3.tree.items found h.view h.is h.is_open h.live c.requires.goals c.in-Some-first_conflict.conflict meet.0 meet.1 c.in-Some-cause_to_stop.cause c.in-Some-cause_to_stop.ensures.some c.in_ok-tree-3.tree refl
 
 pub split-requires-clause-popped : goal.split-requires-clause-popped
 split-requires-clause-popped g c =
     let s = c.loop-total.invariant.state in
-    let p = popped_of c.args.problem.now c.loop-total.search.nodes.items c.loop-total.search.fates.items c.loop-total.search.waiting.keys c.pop_first.new.self.keys c.loop-total.search.splits c.in-Some.total c.in-Some.k s c.in-Some.ensures.removal (above_of c.pop_first.new.self.keys c.in-Some.total c.in-Some.k c.in-Some.ensures.all_above) in
+    let p = popped_of c.args.problem.now c.loop-total.search.nodes.items c.loop-total.search.fates.items c.loop-total.search.waiting.keys c.take_least.new.waiting.keys c.loop-total.search.splits c.in-Some.total c.in-Some.k s c.in-Some.ensures.some in
     p
