@@ -1,19 +1,21 @@
 -- A tree that is judged as it is read.
-use Rattle.std.proofs.Common.{◌≡◌, ◌↔◌, ℕ, ◌≤◌, Bool, true, false, List, [], ◌∷◌, ◌++◌, Option, Some, Result, Ok, Err, IfErr, MatchResult, length, refl, sym, ◌∙◌, ap, subst, append_assoc, inl, inr, arith}
+use Rattle.std.proofs.Common.{◌≡◌, ◌↔◌, ℕ, ◌≤◌, Bool, true, false, List, [], ◌∷◌, ◌++◌, Option, Some, None, IfSome, IsSomeAnd, Result, Ok, Err, IfErr, MatchResult, length, refl, sym, ◌∙◌, ap, subst, append_assoc, inl, inr, arith}
 use Rattle.std.proofs.lemmas.List.{append-nil}
+use Rattle.std.proofs.lemmas.Option.{same_Some}
 use Rattle.std.specs.List.{flat_map}
 use Rattle.std.specs.Result.{IsErrAnd}
 use Rattle.std.proofs.KnownBytes.{Consumes-nil}
 use Rattle.mapf_model.specs.declared.item.Claim.{Claim}
+use Rattle.mapf_model.specs.declared.item.Item.{Item}
 use Rattle.mapf_model.specs.Grid.{GridMap}
 use Rattle.mapf_model.specs.Laws.{FrontDecides}
 use Rattle.mapf_model.specs.Plan.{Instance}
 use Rattle.mapf_model.specs.Printed.{AreBlocksInRange}
-use Rattle.mapf_model.specs.Tree.{Split, Leaf, Node, SplitNode, LeafNode, ClashNode, NodeConstraints, NodesShow, root}
+use Rattle.mapf_model.specs.Tree.{Split, Leaf, Node, SplitNode, LeafNode, ClashNode, NodeConstraints, NodesShow, node_of, root}
 use Rattle.mapf_certificate.specs.declared.cert.LinesFault.{LinesFault}
 use Rattle.mapf_certificate.specs.declared.cert.LinesFault.TheVariants.{Text, Device, TooLong, Memory}
 use Rattle.mapf_certificate.specs.declared.cert.CertFault.TheVariants as texts
-use Rattle.mapf_certificate.specs.CertReading.{Awaits, TakesNode, TakesEnd, owed_after as owed_count_after}
+use Rattle.mapf_certificate.specs.CertReading.{Awaits, TakesNode, TakesEnd}
 use Rattle.mapf_certificate.specs.Certificates.{IsNode, node_text}
 use Rattle.mapf_certificate.specs.Reading.{Reading, grid_at, agents_at}
 use Rattle.mapf_certificate.specs.Window.{Window, Fails, IsNoTextFault}
@@ -22,55 +24,68 @@ use Rattle.mapf_certificate.proofs.Windows.{Window-trans, Window-known, Exceeds-
 use Rattle.mapf_checker.specs.declared.fault.CheckFault.{CheckFault}
 use Rattle.mapf_checker.specs.declared.fault.FromFault.{FromFault}
 use Rattle.mapf_checker.specs.declared.fault.FromFault.TheVariants as from
-use Rattle.mapf_checker.specs.CertJudging.{HasTreeRefusal, IsJudgedTree}
+use Rattle.mapf_checker.specs.declared.tree.Progress.{Progress}
+use Rattle.mapf_checker.specs.CertJudging.{HasTreeRefusal, IsBetweenItems, IsJudgedTree, IsReadTo}
 use Rattle.mapf_checker.specs.Faults.{of_cert, IsOfJudging, IsNoRefusal, Stops}
 use Rattle.mapf_checker.specs.NodeDefects.{HasNodeDefect, IsGoodNode}
-use Rattle.mapf_checker.specs.Progress.{owed_after, owed_after_all, owed_at}
+use Rattle.mapf_checker.specs.Progress.{owed_after, owed_after_all, owed_at, owed_by, here_of}
 use Rattle.mapf_checker.specs.Refusals.{HasBadNode}
-use Rattle.mapf_checker.specs.Way.{Place}
+use Rattle.mapf_checker.specs.Way.{Place, place_of}
 use Rattle.mapf_checker.proofs.TreeLemmas.{judged_good, shown_good, defect_refutes_node}
 
--- how far a tree was read and judged: these nodes came, whether they and others show the claim goes by the others, and
--- these constraints are owed
-pub record IsReadTo (problem : Instance) (claim : Claim) (had remaining : Option (List ℕ)) (start reading : Reading) (owed : List NodeConstraints) : Type 0 where
-  pub given : List Node
-  pub window : Window had remaining start.buffer reading.buffer (flat_map (node_text start.width) given)
-  pub ahead : (nodes : List Node) → Awaits had start nodes → (rest : List Node) × (nodes ≡ given ++ rest) × Awaits remaining reading rest
-  pub behind : (bytes : List ℕ) → had ≡ Some bytes → (rest : List Node) → Awaits remaining reading rest → Awaits had start (given ++ rest)
-  pub place : owed ≡ owed_after_all (root ∷ []) given
-  pub count : reading.owed ≡ length owed
-  pub shows : (rest : List Node) → NodesShow problem claim (root ∷ []) (given ++ rest) ↔ NodesShow problem claim owed rest
-
 -- nothing was read
-pub read_none : (problem : Instance) (claim : Claim) (had : Option (List ℕ)) (start : Reading) (owed : List NodeConstraints) → start.owed ≡ 1 → owed ≡ root ∷ [] → IsReadTo problem claim had had start start owed
-read_none problem claim had start owed one same = record {
+pub read_none : (problem : Instance) (claim : Claim) (had : Option (List ℕ)) (start : Reading) (owed : List NodeConstraints) → owed ≡ root ∷ [] → IsReadTo problem claim had had start start owed
+read_none problem claim had start owed same = record {
   given = [];
+  width = refl;
   window = record { pulled = []; source = Consumes-nil had; same = append-nil start.buffer.bytes; within = omega arith };
   ahead = λ nodes awaits. (nodes, refl, awaits);
   behind = λ bytes known rest awaits. awaits;
   place = same;
-  count = one ∙ ap length (sym same);
   shows = λ rest. rw same (λ h. h, λ h. h);
 }
 
+-- the node is the next one, and the end isn't
+pub record IsNext (had left : Option (List ℕ)) (old new : Reading) (node : Node) : Type 0 where
+  pub takes : TakesNode had left old new node
+  pub only_item : (other : Node) (nodes : List Node) → Awaits had old (other ∷ nodes) → (node ≡ other) × Awaits left new nodes
+  pub only_end : Awaits had old [] → ⊥
+
+-- an item that the reader gave is
+pub is_next : (had left : Option (List ℕ)) (old new : Reading) (given : Option Item) (item : Item) → given ≡ Some item → IfSome given (λ i. TakesNode had left old new (node_of i)) →
+    ((other : Node) (nodes : List Node) → Awaits had old (other ∷ nodes) → IsSomeAnd given (λ i. (node_of i ≡ other) × Awaits left new nodes)) → (Awaits had old [] → given ≡ None) → IsNext had left old new (node_of item)
+is_next had left old new None item is takes only_item only_end = absurd cc
+is_next had left old new (Some given) item is takes only_item only_end = rw (← same_Some given item is) (record {
+  takes = takes;
+  only_item = only_item;
+  only_end = λ there. let none = only_end there in cc;
+})
+
+-- a tree is owed where the reader took a node
+is_going : (is_over : Bool) (place : Place) (n : ℕ) → 1 ≤ n → n ≡ length (owed_at is_over place) → owed_at is_over place ≡ place.here ∷ place.owed
+is_going true place n some count = absurd (omega (arith, count))
+is_going false place n some count = refl
+
 -- a node more
-module _ (problem : Instance) (claim : Claim) (had mid left : Option (List ℕ)) (start now new : Reading) (owed : List NodeConstraints) (so_far : IsReadTo problem claim had mid start now owed) (node : Node) (same_width : now.width ≡ start.width)
-    (takes : TakesNode mid left now new node)
-    (only_item : (other : Node) (nodes : List Node) → Awaits mid now (other ∷ nodes) → (node ≡ other) × Awaits left new nodes) (only_end : Awaits mid now [] → ⊥) where
+module _ (problem : Instance) (claim : Claim) (had mid left : Option (List ℕ)) (start now new : Reading) (progress : Progress) (between : IsBetweenItems problem claim now progress) (so_far : IsReadTo problem claim had mid start now (owed_by progress)) (node : Node) (next : IsNext mid left now new node) where
+  is_owed : owed_by progress ≡ here_of progress ∷ (place_of progress.way).owed
+  is_owed = is_going progress.is_over (place_of progress.way) now.owed next.takes.read.was_owed between.count
+
   -- it is the next one
   next_is : (given nodes rest : List Node) → nodes ≡ given ++ rest → Awaits mid now rest → (after : List Node) × (nodes ≡ (given ++ node ∷ []) ++ after) × (rest ≡ node ∷ after) × Awaits left new after
-  next_is given nodes [] same awaits = absurd (only_end awaits)
+  next_is given nodes [] same awaits = absurd (next.only_end awaits)
   next_is given nodes (other ∷ rest) same awaits =
-      let (is, after) = only_item other rest awaits in
+      let (is, after) = next.only_item other rest awaits in
       let front : other ∷ rest ≡ node ∷ rest = ap (λ n. n ∷ rest) (sym is) in
       (rest, same ∙ ap (λ ns. given ++ ns) front ∙ sym (append_assoc given (node ∷ []) rest), front, after)
 
   taken : Window had left start.buffer new.buffer (flat_map (node_text start.width) so_far.given ++ node_text start.width node)
-  taken = Window-trans had mid left start.buffer now.buffer new.buffer (flat_map (node_text start.width) so_far.given) (node_text start.width node) so_far.window (rw same_width at takes.read.window)
+  taken = Window-trans had mid left start.buffer now.buffer new.buffer (flat_map (node_text start.width) so_far.given) (node_text start.width node) so_far.window (rw so_far.width at next.takes.read.window)
 
-  pub read_more : FrontDecides → (here : NodeConstraints) (others : List NodeConstraints) → owed ≡ here ∷ others → IsGoodNode problem claim here node → (after : List NodeConstraints) → after ≡ owed_after owed node → IsReadTo problem claim had left start new after
-  read_more law here others is_owed good after is_after = record {
+  pub read_more : FrontDecides → new.width ≡ now.width → IsGoodNode problem claim (here_of progress) node → (after : List NodeConstraints) → after ≡ owed_after (owed_by progress) node → IsReadTo problem claim had left start new after
+  read_more law same_width good after is_after = record {
     given = so_far.given ++ node ∷ [];
+    width = same_width ∙ so_far.width;
     window = subst (λ t. Window had left start.buffer new.buffer t) (sym (flat_map-push (node_text start.width) so_far.given node)) taken;
     ahead = λ nodes awaits.
         let (rest, same, there) = so_far.ahead nodes awaits in
@@ -78,12 +93,11 @@ module _ (problem : Instance) (claim : Claim) (had mid left : Option (List ℕ))
         (further, whole, then);
     behind = λ bytes known rest awaits.
         let (had_left, known_mid, same, count) = Window-known had mid start.buffer now.buffer (flat_map (node_text start.width) so_far.given) bytes so_far.window known in
-        subst (λ ns. Awaits had start ns) (sym (append_assoc so_far.given (node ∷ []) rest)) (so_far.behind bytes known (node ∷ rest) (takes.joins had_left known_mid rest awaits));
+        subst (λ ns. Awaits had start ns) (sym (append_assoc so_far.given (node ∷ []) rest)) (so_far.behind bytes known (node ∷ rest) (next.takes.joins had_left known_mid rest awaits));
     place = is_after ∙ ap (λ o. owed_after o node) so_far.place ∙ sym (owed_after_push (root ∷ []) so_far.given node);
-    count = takes.read.owed ∙ count_after node now.owed owed here others so_far.count is_owed ∙ ap length (sym is_after);
     shows = λ rest.
         let before = so_far.shows (node ∷ rest) in
-        let here_on : NodesShow problem claim owed (node ∷ rest) ↔ NodesShow problem claim after rest = rw (is_after, is_owed) (judged_good law problem claim here others node good rest) in
+        let here_on : NodesShow problem claim (owed_by progress) (node ∷ rest) ↔ NodesShow problem claim after rest = rw (is_after, is_owed) (judged_good law problem claim (here_of progress) (place_of progress.way).owed node good rest) in
         rw (append_assoc so_far.given (node ∷ []) rest) (λ shows. here_on.0 (before.0 shows), λ shows. before.1 (here_on.1 shows));
   } where
     flat_map-push : (f : Node → List ℕ) (xs : List Node) (x : Node) → flat_map f (xs ++ x ∷ []) ≡ flat_map f xs ++ f x
@@ -94,55 +108,39 @@ module _ (problem : Instance) (claim : Claim) (had mid left : Option (List ℕ))
     owed_after_push owed [] x = refl
     owed_after_push owed (y ∷ xs) x = owed_after_push (owed_after owed y) xs x
 
-    count_after : (node : Node) (n : ℕ) (owed : List NodeConstraints) (here : NodeConstraints) (others : List NodeConstraints) → n ≡ length owed → owed ≡ here ∷ others → owed_count_after n node ≡ length (owed_after owed node)
-    count_after (SplitNode conflict) n owed here others count is = rw (count, is) (omega arith)
-    count_after (LeafNode blocks) n owed here others count is = rw (count, is) (omega arith)
-    count_after (ClashNode i j) n owed here others count is = rw (count, is) (omega arith)
-
   -- it has a defect
-  pub bad_node : start.width ≡ problem.grid.width → (here : NodeConstraints) (others : List NodeConstraints) → owed ≡ here ∷ others → (fault : CheckFault) → HasNodeDefect problem claim here node fault →
-      (bytes : List ℕ) → had ≡ Some bytes → HasBadNode problem claim fault (start.buffer.bytes ++ bytes)
-  bad_node width here others is_owed fault defect bytes known =
+  pub bad_node : (fault : CheckFault) → HasNodeDefect problem claim (here_of progress) node fault → (bytes : List ℕ) → had ≡ Some bytes → HasBadNode problem claim fault (start.buffer.bytes ++ bytes)
+  bad_node fault defect bytes known =
       let text = node_text start.width in
       let (after, known_left, same, count) = Window-known had left start.buffer new.buffer (flat_map text so_far.given ++ text node) bytes taken known in
       record {
         before = so_far.given;
         node = node;
-        here = here;
-        owed = others;
+        here = here_of progress;
+        owed = (place_of progress.way).owed;
         place = sym so_far.place ∙ is_owed;
         defect = defect;
         rest = new.buffer.bytes ++ after;
-        spelled = subst (λ w. start.buffer.bytes ++ bytes ≡ flat_map (node_text w) so_far.given ++ (node_text w node ++ (new.buffer.bytes ++ after))) width
+        spelled = subst (λ w. start.buffer.bytes ++ bytes ≡ flat_map (node_text w) so_far.given ++ (node_text w node ++ (new.buffer.bytes ++ after))) (sym so_far.width ∙ between.width)
             (same ∙ append_assoc (flat_map text so_far.given) (text node) (new.buffer.bytes ++ after));
       }
 
   -- so the nodes that were to come don't show the claim
-  pub defect_refutes_nodes : FrontDecides → (here : NodeConstraints) (others : List NodeConstraints) → owed ≡ here ∷ others → (fault : CheckFault) → HasNodeDefect problem claim here node fault →
-      (nodes : List Node) → Awaits had start nodes → NodesShow problem claim (root ∷ []) nodes → ⊥
-  defect_refutes_nodes law here others is_owed fault defect nodes awaits shows =
+  pub defect_refutes_nodes : FrontDecides → (fault : CheckFault) → HasNodeDefect problem claim (here_of progress) node fault → (nodes : List Node) → Awaits had start nodes → NodesShow problem claim (root ∷ []) nodes → ⊥
+  defect_refutes_nodes law fault defect nodes awaits shows =
       let (rest, same, there) = so_far.ahead nodes awaits in
       let (after, whole, front, then) = next_is so_far.given nodes rest same there in
       let all : nodes ≡ so_far.given ++ node ∷ after = same ∙ ap (λ ns. so_far.given ++ ns) front in
-      let left_to_show : NodesShow problem claim owed (node ∷ after) = (so_far.shows (node ∷ after)).0 (subst (λ ns. NodesShow problem claim (root ∷ []) ns) all shows) in
-      defect_refutes_node problem claim here (grid_at now) (agents_at now) node fault takes.read.in_range defect
-      (shown_good law problem claim here others node after (subst (λ o. NodesShow problem claim o (node ∷ after)) is_owed left_to_show))
-
--- a tree is owed where the count says so
-pub is_going : (is_over : Bool) (place : Place) (n : ℕ) → 1 ≤ n → n ≡ length (owed_at is_over place) → is_over ≡ false
-is_going true place n some count = absurd (omega (arith, count))
-is_going false place n some count = refl
-
-pub owed_going : (is_over : Bool) (place : Place) → is_over ≡ false → owed_at is_over place ≡ place.here ∷ place.owed
-owed_going true place going = absurd cc
-owed_going false place going = refl
+      let left_to_show : NodesShow problem claim (owed_by progress) (node ∷ after) = (so_far.shows (node ∷ after)).0 (subst (λ ns. NodesShow problem claim (root ∷ []) ns) all shows) in
+      defect_refutes_node problem claim (here_of progress) (grid_at now) (agents_at now) node fault next.takes.read.in_range defect
+      (shown_good law problem claim (here_of progress) (place_of progress.way).owed node after (subst (λ o. NodesShow problem claim o (node ∷ after)) is_owed left_to_show))
 
 -- the end was read
-pub read_all : FrontDecides → (problem : Instance) (claim : Claim) (had mid left : Option (List ℕ)) (start now new : Reading) (owed : List NodeConstraints) → IsReadTo problem claim had mid start now owed → TakesEnd mid left now new → IsJudgedTree problem claim had start
-read_all law problem claim had mid left start now new owed so_far takes = record {
+pub read_all : FrontDecides → (problem : Instance) (claim : Claim) (had mid left : Option (List ℕ)) (start now new : Reading) (owed : List NodeConstraints) → now.owed ≡ length owed → IsReadTo problem claim had mid start now owed → TakesEnd mid left now new → IsJudgedTree problem claim had start
+read_all law problem claim had mid left start now new owed count so_far takes = record {
   nodes = so_far.given;
   shows = subst (λ ns. NodesShow problem claim (root ∷ []) ns) (append-nil so_far.given)
-      ((so_far.shows []).1 (subst (λ o. NodesShow problem claim o []) (sym (none owed (sym so_far.count ∙ takes.read.none_owed))) (law problem claim).over));
+      ((so_far.shows []).1 (subst (λ o. NodesShow problem claim o []) (sym (none owed (sym count ∙ takes.read.none_owed))) (law problem claim).over));
   read = λ bytes known.
       let (rest, known_mid, same, count) = Window-known had mid start.buffer now.buffer (flat_map (node_text start.width) so_far.given) bytes so_far.window known in
       subst (λ ns. Awaits had start ns) (append-nil so_far.given) (so_far.behind bytes known [] (takes.joins rest known_mid));

@@ -1,13 +1,18 @@
 -- What is known of a certificate while it is judged.
-use Rattle.std.specs.Prelude.{◌≡◌, ◌≢◌, ℕ, false, List, [], ◌∷◌, ◌++◌, Option, Some, None, length}
+use Rattle.std.specs.Prelude.{◌≡◌, ◌≢◌, ◌↔◌, ℕ, false, List, [], ◌∷◌, ◌++◌, Option, Some, None, length}
+use Rattle.std.specs.List.{flat_map}
 use Rattle.mapf_model.specs.declared.item.Claim.{Claim}
 use Rattle.mapf_model.specs.Plan.{Instance}
-use Rattle.mapf_model.specs.Tree.{Node, NodesShow, root}
+use Rattle.mapf_model.specs.Tree.{Node, NodeConstraints, NodesShow, root}
 use Rattle.mapf_certificate.specs.declared.cert.CertFault.TheVariants as certs
+use Rattle.mapf_certificate.specs.Certificates.{node_text}
 use Rattle.mapf_certificate.specs.CertReading.{Awaits, AwaitsCert}
 use Rattle.mapf_certificate.specs.Reading.{Reading}
+use Rattle.mapf_certificate.specs.Window.{Window}
 use Rattle.mapf_checker.specs.declared.fault.CheckFault.{CheckFault}
 use Rattle.mapf_checker.specs.declared.fault.CheckFault.TheVariants.{C2, C3, C4, C6, C7, C8, C9}
+use Rattle.mapf_checker.specs.declared.tree.Progress.{Progress}
+use Rattle.mapf_checker.specs.Progress.{owed_after_all, owed_by, IsReady}
 use Rattle.mapf_checker.specs.Refusals.{BeginsWithHeader, HasBadNode}
 
 -- nothing was read
@@ -50,3 +55,24 @@ pub record IsJudgedTree (problem : Instance) (claim : Claim) (had : Option (List
   pub nodes : List Node
   pub shows : NodesShow problem claim (root ∷ []) nodes
   pub read : (bytes : List ℕ) → had ≡ Some bytes → Awaits had reading nodes
+
+-- the header was read, and the reader and the judge wait for the same trees
+pub record IsBetweenItems (problem : Instance) (claim : Claim) (reading : Reading) (progress : Progress) : Type 0 where
+  pub width : reading.width ≡ problem.grid.width
+  pub height : reading.height ≡ problem.grid.height
+  pub header : reading.header ≡ Some (length problem.agents, claim)
+  pub fault : reading.fault ≡ None
+  pub part : reading.is_whole ≡ false
+  pub count : reading.owed ≡ length (owed_by progress)
+  pub ready : IsReady problem progress
+
+-- how far a tree was read and judged: these nodes came, whether they and others show the claim goes by the others, and
+-- these constraints are owed
+pub record IsReadTo (problem : Instance) (claim : Claim) (had left : Option (List ℕ)) (start reading : Reading) (owed : List NodeConstraints) : Type 0 where
+  pub given : List Node
+  pub width : reading.width ≡ start.width
+  pub window : Window had left start.buffer reading.buffer (flat_map (node_text start.width) given)
+  pub ahead : (nodes : List Node) → Awaits had start nodes → (rest : List Node) × (nodes ≡ given ++ rest) × Awaits left reading rest
+  pub behind : (bytes : List ℕ) → had ≡ Some bytes → (rest : List Node) → Awaits left reading rest → Awaits had start (given ++ rest)
+  pub place : owed ≡ owed_after_all (root ∷ []) given
+  pub shows : (rest : List Node) → NodesShow problem claim (root ∷ []) (given ++ rest) ↔ NodesShow problem claim owed rest

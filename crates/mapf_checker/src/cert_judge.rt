@@ -1,9 +1,12 @@
-ghost use Rattle.std.specs.Prelude.{◌≡◌, ◌↔◌, ◌∷◌, [], ℕ, List, Some, false, length, IfErr, OnOk, IsTrue};
+ghost use Rattle.std.specs.Prelude.{◌≡◌, ◌↔◌, ◌∷◌, ◌<◌, [], ℕ, List, Option, Some, false, length, IfErr, IfOk, OnOk, IsTrue, MatchBool};
+ghost use Rattle.mapf_certificate.specs.Buffered.{spare};
 ghost use Rattle.mapf_certificate.specs.CertReading.{Awaits, AwaitsCert, TakesHeader};
+ghost use Rattle.mapf_certificate.specs.Reading.{Reading};
 ghost use Rattle.mapf_model.specs.declared.item.Claim.{Claim};
 ghost use Rattle.mapf_model.specs.Tree.{Node, NodesShow, root};
-ghost use Rattle.mapf_checker.specs.CertJudging.{IsOpened, IsHeaded, HasHeaderRefusal, HasTreeRefusal, IsJudgedTree};
+ghost use Rattle.mapf_checker.specs.CertJudging.{IsOpened, IsHeaded, HasHeaderRefusal, HasTreeRefusal, IsBetweenItems, IsJudgedTree, IsReadTo};
 ghost use Rattle.mapf_checker.specs.Faults.{Stops, IsNoRefusal};
+ghost use Rattle.mapf_checker.specs.Progress.{owed_by};
 ghost use Rattle.mapf_checker.specs.Refusals.{HasCertRefusal};
 ghost use Rattle.mapf_checker.specs.Verdict.{IsShown, IsGoodCert};
 
@@ -88,10 +91,37 @@ fn judge_tree<S: Source>(
     ensures stops { IfErr result (Stops (S.remaining source.old) (S.remaining source.new) (S.has_failed source.new) lines.old.buffer
         (HasTreeRefusal problem.now claim.now (S.remaining source.old) lines.old)) }
 {
-    laws::items_are_judged_by_front();
     let mut progress = Progress::new(alloc);
-    while let Some(item) = lines.next_item(source)? {
-        progress.item(alloc, problem, claim, &item, lines.line())?;
-    }
+    while judge_next(alloc, problem, claim, lines, source, &mut progress)? {}
     Ok(())
+}
+
+// Judges the next item of the certificate's tree; false where its end came.
+fn judge_next<S: Source>(
+    alloc: Global,
+    problem: &Problem,
+    claim: &Claim,
+    lines: &mut CertLines,
+    source: &mut S,
+    progress: &mut Progress,
+) -> Result<bool, FromFault>
+    requires works { S.has_failed source.old ≡ false }
+    requires between { IsBetweenItems problem.now claim.now lines.old progress.old }
+    ensures works { OnOk result (S.has_failed source.new ≡ false) }
+    ensures between { IfOk result (λ came. IsTrue came → IsBetweenItems problem.now claim.now lines.new progress.new) }
+    ensures nearer { IfOk result (λ came. IsTrue came → spare lines.new.buffer < spare lines.old.buffer) }
+    // Whatever was read and judged before it.
+    ensures read { (had : Option (List ℕ)) (start : Reading) → IsReadTo problem.now claim.now had (S.remaining source.old) start lines.old (owed_by progress.old)
+        → IfOk result (λ came. MatchBool came (IsReadTo problem.now claim.now had (S.remaining source.new) start lines.new (owed_by progress.new)) (IsJudgedTree problem.now claim.now had start)) }
+    ensures only { (had : Option (List ℕ)) (start : Reading) (nodes : List Node) → IsReadTo problem.now claim.now had (S.remaining source.old) start lines.old (owed_by progress.old)
+        → Awaits had start nodes → NodesShow problem.now claim.now (root ∷ []) nodes → IfErr result IsNoRefusal }
+    ensures stops { (had : Option (List ℕ)) (start : Reading) → IsReadTo problem.now claim.now had (S.remaining source.old) start lines.old (owed_by progress.old)
+        → IfErr result (Stops had (S.remaining source.new) (S.has_failed source.new) start.buffer (HasTreeRefusal problem.now claim.now had start)) }
+{
+    laws::items_are_judged_by_front();
+    let Some(item) = lines.next_item(source)? else {
+        return Ok(false);
+    };
+    progress.item(alloc, problem, claim, &item, lines.line())?;
+    Ok(true)
 }
