@@ -36,7 +36,10 @@ memory left.";
 const SOLVE_ABOUT: &str =
     "Finds a cheapest plan for the first K agents, and writes it with its certificate";
 
-const SOLVE_OUTPUT: &str = "Standard output has one line:
+const SOLVE_OUTPUT: &str =
+    "PLAN and CERT are two files of their own, made or emptied before MAP and SCEN are read.
+
+Standard output has one line:
   cost C       the sum of the agents' costs, in ticks
   impossible   no plan is valid
   limit N      no answer after N splits; CERT is then empty
@@ -134,6 +137,7 @@ pub fn mapf<'a>(alloc: Global) -> Result<Command<'a>, AllocError> {
     Command::new(alloc, "mapf")
         .about(ABOUT)
         .after_help(OVERVIEW)
+        .override_usage("mapf [COMMAND]")
         .subcommand_required(true)
         .subcommand(solve(alloc)?)?
         .subcommand(check(alloc)?)?
