@@ -1,6 +1,7 @@
 //! The program: it plans for many agents on a grid, and checks and shows such plans.
 #![tactic(auto)]
 
+ghost use Rattle.std.specs.Prelude.{◌≡◌};
 ghost use Rattle.mapf_words.specs.Jobs.{IsInRange};
 
 mod files;
@@ -35,38 +36,26 @@ fn run(rt: &HostRuntime, job: &Job) -> ExitCode
             limit,
             plan,
             cert,
-        } => {
-            let named = Named {
-                map: map.as_str(),
-                scen: scen.as_str(),
-                k: *k,
-                plan: plan.as_str(),
-            };
-            files::solve(rt, &named, *limit, cert.as_str())
-        }
+        } => files::solve(rt, &named(map, scen, *k, plan), *limit, cert.as_str()),
         Job::Check {
             map,
             scen,
             k,
             plan,
             cert,
-        } => {
-            let named = Named {
-                map: map.as_str(),
-                scen: scen.as_str(),
-                k: *k,
-                plan: plan.as_str(),
-            };
-            files::check(rt, &named, cert.as_str())
-        }
-        Job::Play { map, scen, k, plan } => {
-            let named = Named {
-                map: map.as_str(),
-                scen: scen.as_str(),
-                k: *k,
-                plan: plan.as_str(),
-            };
-            files::play(rt, &named)
-        }
+        } => files::check(rt, &named(map, scen, *k, plan), cert.as_str()),
+        Job::Play { map, scen, k, plan } => files::play(rt, &named(map, scen, *k, plan)),
+    }
+}
+
+// The files that every command has.
+fn named<'a>(map: &'a String, scen: &'a String, k: u32, plan: &'a String) -> Named<'a>
+    ensures { result.k ≡ k }
+{
+    Named {
+        map: map.as_str(),
+        scen: scen.as_str(),
+        k,
+        plan: plan.as_str(),
     }
 }
