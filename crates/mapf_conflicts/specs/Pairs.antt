@@ -26,6 +26,14 @@ IsFirstPair Fact count i j = ((a b : ℕ) → a < i → a < b → b < count → 
 abbrev pub HoldsOfNoPair : (ℕ → ℕ → Type 0) → ℕ → Type 0
 HoldsOfNoPair Fact count = (i j : ℕ) → i < j → j < count → Fact i j → ⊥
 
+-- the fact holds of an agent and a later one
+abbrev pub HoldsOfSomePair : (ℕ → ℕ → Type 0) → ℕ → Type 0
+HoldsOfSomePair Fact count = (i : ℕ) × (j : ℕ) × (i < j) × (j < count) × Fact i j
+
+-- two agents share a cell or exchange their cells
+abbrev pub Meet : List ℕ → List ℕ → ℕ → ℕ → Type 0
+Meet here next i j = ShareCell here i j ⊎ ExchangeCells here next i j
+
 -- the conflict is one of agents that are in these cells at the tick, and in those at the next
 abbrev pub IsConflictOf : List ℕ → List ℕ → ℕ → Conflict → Type 0
 IsConflictOf here next now (Vertex i j cell tick) = (i < j) × (j < length here) × (tick ≡ now) × (slice_index here i ≡ cell) × (slice_index here j ≡ cell)

@@ -1,5 +1,5 @@
-ghost use Rattle.std.specs.Prelude.{◌≡◌, ◌⊎◌, ◌<◌, ℕ, false, length, IfNone, IfSome};
-ghost use Rattle.mapf_conflicts.specs.Pairs.{ShareCell, ExchangeCells, IsFirstPair, HoldsOfNoPair};
+ghost use Rattle.std.specs.Prelude.{◌≡◌, ◌⊎◌, ◌<◌, ℕ, false, true, length, IfNone, IfSome};
+ghost use Rattle.mapf_conflicts.specs.Pairs.{ShareCell, ExchangeCells, IsFirstPair, HoldsOfNoPair, HoldsOfSomePair, Meet};
 
 use mapf_model::Cell;
 
@@ -71,11 +71,12 @@ fn exchanging_after(here: &[Cell], next: &[Cell], i: usize) -> Option<usize>
     None
 }
 
-/// A quick test: where it is false no two agents conflict.
+/// A quick test: whether two of the agents are in one cell or go to each other's cells.
 pub fn may_conflict(here: &[Cell], next: &[Cell]) -> bool
     requires { length next.now ≡ length here.now }
     ensures share { result ≡ false → HoldsOfNoPair (ShareCell here.now) (length here.now) }
     ensures exchange { result ≡ false → HoldsOfNoPair (ExchangeCells here.now next.now) (length here.now) }
+    ensures some { result ≡ true → HoldsOfSomePair (Meet here.now next.now) (length here.now) }
 {
     for i in 0..here.len() {
         if may_conflict_after(here, next, i) {
@@ -92,6 +93,7 @@ fn may_conflict_after(here: &[Cell], next: &[Cell], i: usize) -> bool
     requires size { length next.now ≡ length here.now }
     ensures share { result ≡ false → (j : ℕ) → i < j → j < length here.now → ShareCell here.now i j → ⊥ }
     ensures exchange { result ≡ false → (j : ℕ) → i < j → j < length here.now → ExchangeCells here.now next.now i j → ⊥ }
+    ensures some { result ≡ true → (j : ℕ) × (i < j) × (j < length here.now) × Meet here.now next.now i j }
 {
     let (from, to) = (here[i], next[i]);
     let mut found = false;

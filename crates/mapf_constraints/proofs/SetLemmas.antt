@@ -35,9 +35,6 @@ Contains-map_cases f (x ∷ xs) y held = ⊎_elim
 abbrev pub AreSame : {X : Type 0} → List X → List X → Type 0
 AreSame {X} xs ys = (x : X) → Contains xs x ↔ Contains ys x
 
-pub AreSame-trans : {X : Type 0} (xs ys zs : List X) → AreSame xs ys → AreSame ys zs → AreSame xs zs
-AreSame-trans xs ys zs p q x = ((λ held. (q x).0 ((p x).0 held)), (λ held. (p x).1 ((q x).1 held)))
-
 pub AreSame-map : {X Y : Type 0} (f : X → Y) (xs ys : List X) → AreSame xs ys → AreSame (map f xs) (map f ys)
 AreSame-map f xs ys same y = (
   (λ held. let (x, x_held, is) = Contains-map_cases f xs y held in subst (Contains (map f ys)) is (Contains-map f ys x ((same x).0 x_held))),

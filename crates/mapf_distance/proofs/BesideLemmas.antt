@@ -1,6 +1,6 @@
 -- The places beside a cell hold the steps that leave it.
-use Rattle.std.proofs.Common.{◌≡◌, ℕ, zero, suc, ◌+◌, ◌<◌, Some, List, ◌++◌, Contains, ⊎_elim, arith}
-use Rattle.std.proofs.lemmas.Option.{same_Some}
+use Rattle.std.proofs.Common.{◌≡◌, ℕ, zero, suc, ◌+◌, ◌-◌, ◌/◌, ◌%◌, ◌<◌, ◌≤◌, Some, None, List, ◌++◌, Contains, nat_lt, slice_index_or, ⊎_elim, arith, rules}
+use Rattle.std.proofs.lemmas.Option.{cond_some, same_Some}
 use Rattle.std.proofs.lemmas.List.Elements.{Contains-append_cases, Contains-append_left, Contains-append_right}
 use Rattle.mapf_model.specs.Grid.{GridMap, IsFree, Step}
 use Rattle.mapf_model.specs.Neighbours.{above_of, left_of, right_of, kept}
@@ -56,3 +56,46 @@ module _ (grid : GridMap) (cell : ℕ) (wide : 0 < grid.width) (free : IsFree gr
       (Contains-append_cases (above ++ left ++ here) right next h4))
       (λ (at : Contains below next). (3, omega arith, (from_kept grid (Some (cell + grid.width)) next at).0))
       (Contains-append_cases (above ++ left ++ here ++ right) below next (to_neighbour grid cell wide free next step))
+
+-- which cell stands at a place, if one does
+cell_at_place : ℕ → ℕ → ℕ → ℕ
+cell_at_place width cell zero = cell - width
+cell_at_place width cell (suc zero) = cell - 1
+cell_at_place width cell (suc (suc zero)) = cell + 1
+cell_at_place width cell (suc (suc (suc place))) = cell + width
+
+at_place : (width cell place next : ℕ) → slice_index_or (beside_of width cell) place None ≡ Some next → cell_at_place width cell place ≡ next
+unfolding cell_at_place
+at_place width cell zero next is = let e = (cond_some (nat_lt 0 (cell / width)) (cell - width) next is).1 in omega arith
+at_place width cell (suc zero) next is = let e = (cond_some (nat_lt 0 (cell % width)) (cell - 1) next is).1 in omega arith
+at_place width cell (suc (suc zero)) next is = let e = (cond_some (nat_lt (cell % width + 1) width) (cell + 1) next is).1 in omega arith
+at_place width cell (suc (suc (suc zero))) next is = same_Some (cell + width) next is
+at_place width cell (suc (suc (suc (suc place)))) next is = grind (arith, rules)
+
+places_rise : (width cell a b : ℕ) → 0 < width → a ≤ b → cell_at_place width cell a ≤ cell_at_place width cell b
+unfolding cell_at_place
+places_rise width cell zero zero wide order = omega arith
+places_rise width cell zero (suc zero) wide order = omega arith
+places_rise width cell zero (suc (suc zero)) wide order = omega arith
+places_rise width cell zero (suc (suc (suc b))) wide order = omega arith
+places_rise width cell (suc zero) zero wide order = absurd (omega arith)
+places_rise width cell (suc zero) (suc zero) wide order = omega arith
+places_rise width cell (suc zero) (suc (suc zero)) wide order = omega arith
+places_rise width cell (suc zero) (suc (suc (suc b))) wide order = omega arith
+places_rise width cell (suc (suc zero)) zero wide order = absurd (omega arith)
+places_rise width cell (suc (suc zero)) (suc zero) wide order = absurd (omega arith)
+places_rise width cell (suc (suc zero)) (suc (suc zero)) wide order = omega arith
+places_rise width cell (suc (suc zero)) (suc (suc (suc b))) wide order = omega arith
+places_rise width cell (suc (suc (suc a))) zero wide order = absurd (omega arith)
+places_rise width cell (suc (suc (suc a))) (suc zero) wide order = absurd (omega arith)
+places_rise width cell (suc (suc (suc a))) (suc (suc zero)) wide order = absurd (omega arith)
+places_rise width cell (suc (suc (suc a))) (suc (suc (suc b))) wide order = omega arith
+
+-- the places stand in rising number
+pub beside_rises : (width cell a b x y : ℕ) → 0 < width → a ≤ b →
+    slice_index_or (beside_of width cell) a None ≡ Some x → slice_index_or (beside_of width cell) b None ≡ Some y → x ≤ y
+beside_rises width cell a b x y wide order is_x is_y =
+    let e = at_place width cell a x is_x in
+    let f = at_place width cell b y is_y in
+    let rise = places_rise width cell a b wide order in
+    omega arith

@@ -1,5 +1,5 @@
 -- Shortest paths to the goal, from the distances of their cells.
-use Rattle.std.proofs.Common.{◌≡◌, ◌≢◌, ℕ, suc, ◌+◌, ◌-◌, ◌<◌, ◌≤◌, min, List, [], ◌∷◌, ◌++◌, length, slice_index, add-one, refl, sym, ◌∙◌, ap, subst, inl, inr, ⊎_elim, arith}
+use Rattle.std.proofs.Common.{◌≡◌, ◌≢◌, ℕ, suc, ◌+◌, ◌-◌, ◌<◌, ◌≤◌, min, Some, List, [], ◌∷◌, ◌++◌, Contains, length, slice_index, add-one, refl, sym, ◌∙◌, ap, subst, inl, inr, ⊎_elim, arith}
 use Rattle.std.proofs.Math.ListN.{get_or-append}
 use Rattle.std.proofs.Math.Seq.{get_or-append_seam}
 use Rattle.std.proofs.lemmas.Bool.{cases_lt}
@@ -9,6 +9,9 @@ use Rattle.mapf_model.specs.Grid.{GridMap, Step}
 use Rattle.mapf_model.specs.Path.{at, IsPath, IsCost, IsTight}
 use Rattle.mapf_model.proofs.DecidedLemmas.{from_neighbours_path}
 use Rattle.mapf_model.proofs.PathLemmas.{IsCost-from_end}
+use Rattle.mapf_distance.specs.Beside.{beside_of}
+use Rattle.mapf_distance.specs.Distances.{IsLeastDescent}
+use Rattle.mapf_distance.proofs.BesideLemmas.{beside_step}
 use Rattle.mapf_distance.proofs.StepLemmas.{Walk-from_free}
 
 pub IsDistance-one : (grid : GridMap) (goal cell a b : ℕ) → IsDistance grid goal cell a → IsDistance grid goal cell b → a ≡ b
@@ -29,13 +32,21 @@ nearer_step grid goal cell distance is =
       },
     )
 
--- the cells lead from the first so many steps towards the goal
+-- a cell that is one step away and nearer by one is in one of the places beside
+pub nearer_beside : (grid : GridMap) (goal cell distance next : ℕ) → 0 < grid.width → IsDistance grid goal cell (distance + 1) →
+    Step grid cell next → IsDistance grid goal next distance → Contains (beside_of grid.width cell) (Some next)
+nearer_beside grid goal cell distance next wide far step near =
+    beside_step grid cell wide (Walk-from_free grid cell goal (distance + 1) far.walk) next step
+    (λ same. (let e = IsDistance-one grid goal next (distance + 1) distance (subst (λ at. IsDistance grid goal at (distance + 1)) same far) near in omega arith))
+
+-- the cells lead from the first so many steps towards the goal, each time to the least cell that is nearer
 pub record IsDescent (grid : GridMap) (goal cell distance steps : ℕ) (cells : List ℕ) : Type 0 where
   pub count : length cells ≡ steps + 1
   pub bound : steps ≤ distance
   pub first : slice_index cells 0 ≡ cell
   pub each : (k : ℕ) → k ≤ steps → IsDistance grid goal (slice_index cells k) (distance - k)
   pub moves : (k : ℕ) → k < steps → Step grid (slice_index cells k) (slice_index cells (k + 1))
+  pub least : (k other : ℕ) → k < steps → Step grid (slice_index cells k) other → IsDistance grid goal other (distance - (k + 1)) → slice_index cells (k + 1) ≤ other
 
 pub descent_start : (grid : GridMap) (goal cell distance : ℕ) → IsDistance grid goal cell distance → IsDescent grid goal cell distance 0 (cell ∷ [])
 descent_start grid goal cell distance is = record {
@@ -47,11 +58,14 @@ descent_start grid goal cell distance is = record {
       let whole : distance ≡ distance - 0 = omega arith in
       subst (λ n. IsDistance grid goal (slice_index (cell ∷ []) n) (distance - n)) zero_is (subst (λ n. IsDistance grid goal cell n) whole is);
   moves = λ k none. absurd (omega arith);
+  least = λ k other none. absurd (omega arith);
 }
 
 pub descent_more : (grid : GridMap) (goal cell distance steps : ℕ) (cells : List ℕ) (next : ℕ) → IsDescent grid goal cell distance steps cells → steps < distance →
-    Step grid (slice_index cells steps) next → IsDistance grid goal next (distance - steps - 1) → IsDescent grid goal cell distance (steps + 1) (cells ++ next ∷ [])
-descent_more grid goal cell distance steps cells next d more step nearer = record {
+    Step grid (slice_index cells steps) next → IsDistance grid goal next (distance - steps - 1) →
+    ((other : ℕ) → Step grid (slice_index cells steps) other → IsDistance grid goal other (distance - steps - 1) → next ≤ other) →
+    IsDescent grid goal cell distance (steps + 1) (cells ++ next ∷ [])
+descent_more grid goal cell distance steps cells next d more step nearer least_next = record {
   count = (let total = length_push cells next in let before = d.count in omega arith);
   bound = omega arith;
   first = old 0 (omega arith) ∙ d.first;
@@ -71,6 +85,17 @@ descent_more grid goal cell distance steps cells next d more step nearer = recor
       subst (λ n. Step grid (slice_index (cells ++ next ∷ []) n) (slice_index (cells ++ next ∷ []) (n + 1))) is_last
       (subst (λ to. Step grid (slice_index (cells ++ next ∷ []) steps) to) (sym new)
       (subst (λ from. Step grid from next) (sym (old steps (omega arith))) step)))
+      (cases_lt k steps);
+  least = λ k other within to_other near. ⊎_elim
+      (λ (earlier : k < steps). subst (λ to. to ≤ other) (sym (old (k + 1) (omega arith)))
+      (d.least k other earlier (subst (λ from. Step grid from other) (old k (omega arith)) to_other) near))
+      (λ (past : steps ≤ k).
+      let is_last : k ≡ steps = omega arith in
+      let left : distance - (k + 1) ≡ distance - steps - 1 = omega arith in
+      subst (λ to. to ≤ other) (sym (ap (λ n. slice_index (cells ++ next ∷ []) (n + 1)) is_last ∙ new))
+      (least_next other
+      (subst (λ from. Step grid from other) (ap (λ n. slice_index (cells ++ next ∷ []) n) is_last ∙ old steps (omega arith)) to_other)
+      (subst (λ n. IsDistance grid goal other n) left near)))
       (cases_lt k steps);
 }
   where
@@ -117,6 +142,12 @@ module _ (grid : GridMap) (goal cell distance : ℕ) (path : List ℕ) (d : IsDe
   descent_shortest =
       let total = d.count in
       subst (λ at. IsDistance grid goal at (length path - 1)) d.first (distance_at 0 (length path - 1) (omega arith) (omega arith))
+
+  pub descent_least : IsLeastDescent grid goal path
+  descent_least = λ k other within step near.
+      let total = d.count in
+      let left : length path - 1 - (k + 1) ≡ distance - (k + 1) = omega arith in
+      d.least k other (omega arith) step (subst (λ n. IsDistance grid goal other n) left near)
 
   pub descent_cost : IsCost goal path (length path - 1)
   descent_cost =

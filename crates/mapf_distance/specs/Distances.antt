@@ -1,7 +1,7 @@
 -- Tables of distances to a goal.
-use Rattle.std.specs.Prelude.{ℕ, ◌<◌, ◌≤◌, List}
+use Rattle.std.specs.Prelude.{ℕ, ◌+◌, ◌-◌, ◌<◌, ◌≤◌, List, length, slice_index}
 use Rattle.mapf_model.specs.Distance.{Walk, IsDistance, IsUnreachable}
-use Rattle.mapf_model.specs.Grid.{GridMap, IsGridMap, free_cell_count}
+use Rattle.mapf_model.specs.Grid.{GridMap, IsGridMap, Step, free_cell_count}
 use Rattle.mapf_distance.specs.declared.wave.TheConstants.{UNREACHED}
 use Rattle.mapf_distance.specs.Marks.{entry_of}
 
@@ -13,6 +13,11 @@ pub record GoalMap : Type 0 where
 -- some number of steps leads from the cell to the goal
 abbrev pub IsReachable : GridMap → ℕ → ℕ → Type 0
 IsReachable grid goal cell = (n : ℕ) × Walk grid cell goal n
+
+-- the path goes from each cell to the least cell, in number, of those that are one step from it and nearer to the goal
+abbrev pub IsLeastDescent : GridMap → ℕ → List ℕ → Type 0
+IsLeastDescent grid goal path =
+    (k other : ℕ) → k + 1 < length path → Step grid (slice_index path k) other → IsDistance grid goal other (length path - 1 - (k + 1)) → slice_index path (k + 1) ≤ other
 
 -- each entry is the cell's distance, or says that there is none
 pub record AreDistances (grid : GridMap) (goal : ℕ) (table : List ℕ) : Type 0 where

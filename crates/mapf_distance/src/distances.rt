@@ -1,9 +1,9 @@
-ghost use Rattle.std.specs.Prelude.{◌≡◌, ◌+◌, ◌-◌, ◌*◌, ◌<◌, ◌≤◌, ◌↔◌, length, IfOk, IfSome, IfNone, IsTrue, OnSome};
+ghost use Rattle.std.specs.Prelude.{◌≡◌, ℕ, ◌+◌, ◌-◌, ◌*◌, ◌<◌, ◌≤◌, ◌↔◌, length, IfOk, IfSome, IfNone, IsTrue, OnSome};
 ghost use Rattle.mapf_model.specs.Distance.{IsDistance, IsUnreachable};
 ghost use Rattle.mapf_model.specs.Grid.{IsFree, Step, free_cell_count};
 ghost use Rattle.mapf_model.specs.Path.{at, IsPath, IsCost, IsTight};
 ghost use Rattle.mapf_distance.specs.Beside.{beside_of};
-ghost use Rattle.mapf_distance.specs.Distances.{IsReachable};
+ghost use Rattle.mapf_distance.specs.Distances.{IsLeastDescent, IsReachable};
 
 use crate::beside::cells_beside;
 use crate::wave;
@@ -65,7 +65,7 @@ impl Distances {
     }
 
     /// A shortest path from the cell to the goal: of all these the one whose cell numbers are least,
-    /// compared from the first on.
+    /// compared from the first on. So it goes to the least cell that is nearer at each step.
     pub fn descend(&self, alloc: Global, cell: Cell) -> Result<Path, OutOfMemory>
         requires { IsReachable self.now.grid self.now.goal cell }
         ensures path { IfOk result (IsPath self.now.grid) }
@@ -74,6 +74,7 @@ impl Distances {
         ensures shortest { IfOk result (λ path. IsDistance self.now.grid self.now.goal cell (length path - 1)) }
         ensures cost { IfOk result (λ path. IsCost self.now.goal path (length path - 1)) }
         ensures tight { IfOk result IsTight }
+        ensures least { IfOk result (IsLeastDescent self.now.grid self.now.goal) }
         ensures few { IfOk result (λ path. length path ≤ 10000000) }
     {
         let Some(distance) = self.get(cell) else {
@@ -94,6 +95,7 @@ impl Distances {
         requires { IsDistance self.now.grid self.now.goal cell (distance + 1) }
         ensures step { Step self.now.grid cell result }
         ensures nearer { IsDistance self.now.grid self.now.goal result distance }
+        ensures least { (other : ℕ) → Step self.now.grid cell other → IsDistance self.now.grid self.now.goal other distance → result ≤ other }
     {
         for beside in self.beside(cell) {
             if let Some(next) = beside {

@@ -79,9 +79,6 @@ pub record AddsUpFirst (agents : List Agent) (plan : List (List ℕ)) (count tot
   pub small : total ≤ count * 4294967296
   pub each : (i : ℕ) (agent : Agent) (path : List ℕ) (cost : ℕ) → slice_get agents i ≡ Some agent → slice_get plan i ≡ Some path → slice_get costs i ≡ Some cost → IsCost agent.goal path cost
 
-pub AddsUpFirst-none : (agents : List Agent) (plan : List (List ℕ)) → AddsUpFirst agents plan 0 0
-AddsUpFirst-none agents plan = record { costs = []; so_many = refl; is_sum = refl; small = omega arith; each = λ i agent path cost a p k. absurd cc }
-
 pub AddsUpFirst-more : (agents : List Agent) (plan : List (List ℕ)) (count total : ℕ) (agent : Agent) (path : List ℕ) (cost : ℕ) → AddsUpFirst agents plan count total →
     slice_get agents count ≡ Some agent → slice_get plan count ≡ Some path → IsCost agent.goal path cost → cost < 4294967296 → AddsUpFirst agents plan (count + 1) (total + cost)
 AddsUpFirst-more agents plan count total agent path cost first this_agent this_path is small =
@@ -102,6 +99,3 @@ AddsUpFirst-more agents plan count total agent path cost first this_agent this_p
           subst (λ x. IsCost x.goal p k) same_agent (subst (λ x. IsCost agent.goal x k) same_path (subst (λ x. IsCost agent.goal path x) new.1 is)))
           (snoc_get first.costs cost i k ek);
     }
-
-pub AddsUpFirst-all : (agents : List Agent) (plan : List (List ℕ)) (total : ℕ) → length plan ≡ length agents → AddsUpFirst agents plan (length plan) total → IsSumOfCosts agents plan total
-AddsUpFirst-all agents plan total same first = (first.costs, record { one_each = same; count = first.so_many; each = first.each }, first.is_sum)

@@ -2,7 +2,7 @@ use Rattle.std.proofs.Common.{◌≡◌, ◌+◌, ◌-◌, sym, subst, refl, [],
 use Rattle.std.proofs.Math.Seq.{get_or-append_seam}
 use Rattle.mapf_model.specs.Grid.{Step}
 use Rattle.mapf_model.specs.Distance.{IsDistance}
-use Rattle.mapf_distance.proofs.DescentLemmas.{IsDescent, descent_start, descent_more, descent_path, descent_first, descent_end, descent_shortest, descent_cost, descent_tight}
+use Rattle.mapf_distance.proofs.DescentLemmas.{IsDescent, descent_start, descent_more, descent_path, descent_first, descent_end, descent_shortest, descent_least, descent_cost, descent_tight}
 use Rattle.mapf_distance.proofs.distances.Distances.descend.Goals as goal
 
 pub loop-steps-init : goal.loop-steps-init
@@ -33,7 +33,8 @@ loop-steps-preserved c =
     let cells = c.loop-steps.cells.items in
     let items = c.push_reserved-in-loop-steps.ensures.items in
     let step = subst (λ from. Step grid from c.nearer-here.result) (sym c.loop-steps.invariant.here) c.nearer-here.ensures.step in
-    let more = descent_more grid c.args.self.now.goal c.args.cell c.in-Some.distance c.loop-steps.steps cells c.nearer-here.result c.loop-steps.invariant.descent c.loop-steps-test.true step c.nearer-here.ensures.nearer in
+    let more = descent_more grid c.args.self.now.goal c.args.cell c.in-Some.distance c.loop-steps.steps cells c.nearer-here.result c.loop-steps.invariant.descent c.loop-steps-test.true step c.nearer-here.ensures.nearer
+    (λ other to_other near. c.nearer-here.ensures.least other (subst (λ from. Step grid from other) c.loop-steps.invariant.here to_other) near) in
     record {
       descent = rw items more;
       here = rw (items, ← c.loop-steps.invariant.descent.count) (get_or-append_seam cells c.nearer-here.result [] 0);
@@ -68,6 +69,9 @@ returns-clause-goal c = descent_end c.args.self.now.grid c.args.self.now.goal c.
 
 pub returns-clause-shortest : goal.returns-clause-shortest
 returns-clause-shortest c = descent_shortest c.args.self.now.grid c.args.self.now.goal c.args.cell c.in-Some.distance c.unwrap.result (descent c)
+
+pub returns-clause-least : goal.returns-clause-least
+returns-clause-least c = descent_least c.args.self.now.grid c.args.self.now.goal c.args.cell c.in-Some.distance c.unwrap.result (descent c)
 
 pub returns-clause-cost : goal.returns-clause-cost
 returns-clause-cost c = descent_cost c.args.self.now.grid c.args.self.now.goal c.args.cell c.in-Some.distance c.unwrap.result (descent c)

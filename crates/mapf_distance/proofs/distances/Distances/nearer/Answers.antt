@@ -3,8 +3,8 @@ use Rattle.std.proofs.lemmas.Bool.{cases_lt, both_ways}
 use Rattle.std.proofs.lemmas.List.{get_or_default}
 use Rattle.std.proofs.lemmas.Option.{same_Some}
 use Rattle.mapf_model.specs.Distance.{IsDistance}
-use Rattle.mapf_distance.proofs.BesideLemmas.{step_beside, beside_step}
-use Rattle.mapf_distance.proofs.DescentLemmas.{IsDistance-one, nearer_step}
+use Rattle.mapf_distance.proofs.BesideLemmas.{step_beside, beside_rises}
+use Rattle.mapf_distance.proofs.DescentLemmas.{nearer_step, nearer_beside}
 use Rattle.mapf_distance.proofs.StepLemmas.{Walk-from_free}
 use Rattle.mapf_distance.proofs.distances.Distances.nearer.Goals as goal
 use Rattle.mapf_distance.proofs.distances.Distances.nearer.Goals.{in-Some+else-is_at, in_default}
@@ -25,6 +25,28 @@ returns-then-is_at-clause-step c =
     step_beside grid cell c.beside-beside-items.ensures.wide (Walk-from_free grid cell c.args.self.now.goal (c.args.distance + 1) c.requires.walk) next
     (Walk-from_free grid next c.args.self.now.goal c.args.distance there.walk)
     (subst (λ places. Contains places (Some next)) c.beside-beside-items.ensures.cells held)
+
+-- what is nearer in an earlier place would have been taken, and in the later places the cells have greater numbers
+pub returns-then-is_at-clause-least : goal.returns-then-is_at-clause-least
+returns-then-is_at-clause-least c = λ other step there.
+    let grid = c.args.self.now.grid in
+    let cell = c.args.cell in
+    let wide = c.beside-beside-items.ensures.wide in
+    let items = c.beside-beside-items.result in
+    let index = c.loop-beside.beside-index in
+    let next = c.in-Some.next in
+    let cells = c.beside-beside-items.ensures.cells in
+    let four = ap length cells in
+    let (place, within, is) = subst (λ places. Contains places (Some other)) (sym cells) (nearer_beside grid c.args.self.now.goal cell c.args.distance other wide c.requires step there) in
+    let at_place = get_or_default items place None (Some other) within ∙ is in
+    let at_index = get_or_default items index None c.beside-item.result (omega arith) ∙ c.in-Some.is in
+    ⊎_elim
+    (λ (earlier : place < index). absurd (c.loop-beside.invariant place other earlier at_place there))
+    (λ (past : index ≤ place).
+    beside_rises grid.width cell index place next other wide past
+    (subst (λ places. slice_index_or places index None ≡ Some next) cells at_index)
+    (subst (λ places. slice_index_or places place None ≡ Some other) cells at_place))
+    (cases_lt place index)
 
 pub loop-beside-preserved : goal.loop-beside-preserved
 loop-beside-preserved c = λ place next below is there. ⊎_elim
@@ -53,9 +75,7 @@ unreachable-requires c =
     let distance = c.args.distance in
     let items = c.beside-beside-items.result in
     let (next, step, there) = nearer_step grid goal cell distance c.requires in
-    let moves : cell ≡ next → ⊥ = λ same. (let e = IsDistance-one grid goal next (distance + 1) distance (subst (λ at. IsDistance grid goal at (distance + 1)) same c.requires) there in omega arith) in
-    let free = Walk-from_free grid cell goal (distance + 1) c.requires.walk in
-    let held = subst (λ places. Contains places (Some next)) (sym c.beside-beside-items.ensures.cells) (beside_step grid cell c.beside-beside-items.ensures.wide free next step moves) in
+    let held = subst (λ places. Contains places (Some next)) (sym c.beside-beside-items.ensures.cells) (nearer_beside grid goal cell distance next c.beside-beside-items.ensures.wide c.requires step there) in
     let (place, within, is) = held in
     let four = ap length c.beside-beside-items.ensures.cells in
     c.loop-beside.invariant place next (omega arith) (get_or_default items place None (Some next) within ∙ is) there
