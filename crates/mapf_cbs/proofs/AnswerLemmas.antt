@@ -17,10 +17,10 @@ use Rattle.mapf_model.specs.Earned.{HasConflict, AreConflictFreeBefore, HaveSome
 use Rattle.mapf_cbs.specs.declared.node.Node.{Node}
 use Rattle.mapf_cbs.specs.declared.node.Node.TheVariants.{Root}
 use Rattle.mapf_cbs.specs.declared.node.Fate.{Fate}
-use Rattle.mapf_cbs.specs.declared.node.Fate.TheVariants.{Open, Cut}
+use Rattle.mapf_cbs.specs.declared.node.Fate.TheVariants.{Open, Expanded}
 use Rattle.mapf_model.specs.Grid.{IsGridMap, free_cell_count}
-use Rattle.mapf_cbs.specs.Search.{View, IsLive, IsSearched, AreCutsLater, IsTreeAt}
-use Rattle.mapf_cbs.specs.Arena.{IsRootView, IsNodeView, IsNodeFor, AreNodesFor, HasTableBar, HaveTableBars}
+use Rattle.mapf_cbs.specs.Search.{View, IsLive, IsSearched, AreChildrenLater, IsTreeAt}
+use Rattle.mapf_cbs.specs.Nodes.{IsRootView, IsNodeView, IsNodeFor, AreNodesFor, HasTableBar, HaveTableBars}
 use Rattle.mapf_model.specs.declared.cause.Cause.{Cause}
 use Rattle.mapf_model.specs.declared.cause.Cause.TheVariants.{Splits, Ticks}
 use Rattle.mapf_cbs.specs.declared.answer.Answer.TheVariants.{Limit as LimitAnswer}
@@ -91,15 +91,15 @@ pub state_first : (problem : Instance) (paths : Vec (List ℕ) Global) (total : 
 state_first problem paths total view root_view live total_is small nodes nodes_is = subst (λ ns. IsState problem ns (Open ∷ []) ((total, 0) ∷ []) 0) (sym nodes_is) (state_root problem paths total view root_view live total_is small)
 
 -- children come later
-pub cuts_later : (problem : Instance) (views : List View) (fates : List Fate) (count : ℕ) → IsSearched problem views fates count → AreCutsLater fates
-cuts_later problem views fates count searched k conflict a b is =
+pub children_later : (problem : Instance) (views : List View) (fates : List Fate) (count : ℕ) → IsSearched problem views fates count → AreChildrenLater fates
+children_later problem views fates count searched k conflict a b is =
     let size = searched.lengths in
-    let inside : k < length fates = slice_get_within fates k (Cut conflict a b) is in
+    let inside : k < length fates = slice_get_within fates k (Expanded conflict a b) is in
     let view : (view : View) × (slice_get views k ≡ Some view) = slice_get_inside views k (omega arith) in
-    let cut = searched.each k view.0 (Cut conflict a b) view.1 is in
-    let in_a = slice_get_within views a cut.to_left.0 cut.to_left.1 in
-    let in_b = slice_get_within views b cut.to_right.0 cut.to_right.1 in
-    (cut.left_later, cut.right_later, omega arith, omega arith)
+    let expanded = searched.each k view.0 (Expanded conflict a b) view.1 is in
+    let in_a = slice_get_within views a expanded.to_left.0 expanded.to_left.1 in
+    let in_b = slice_get_within views b expanded.to_right.0 expanded.to_right.1 in
+    (expanded.left_later, expanded.right_later, omega arith, omega arith)
 
 -- a tree of lists that are known by other names
 pub tree_of : (agents others : List Agent) (fates more : List Fate) (views : List View) (items : List Item) → agents ≡ others → fates ≡ more → (tree : ConstraintTree) × Spell items tree × IsTreeAt (length agents) views fates 0 tree → (tree : ConstraintTree) × Spell items tree × IsTreeAt (length others) views more 0 tree

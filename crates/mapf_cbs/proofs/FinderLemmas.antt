@@ -8,10 +8,10 @@ use Rattle.mapf_model.proofs.SumLemmas.{snoc_get}
 use Rattle.mapf_spacetime.specs.declared.found.Found.{Found}
 use Rattle.mapf_cbs.specs.declared.node.Node.{Node}
 use Rattle.mapf_cbs.specs.declared.node.Node.TheVariants.{Child}
-use Rattle.mapf_cbs.specs.Arena.{AreViews}
+use Rattle.mapf_cbs.specs.Nodes.{AreViews}
 use Rattle.mapf_cbs.specs.Finders.{number_of, AreInside, AreNone, HaveSame, IsNoted}
 use Rattle.mapf_cbs.specs.Search.{View}
-use Rattle.mapf_cbs.proofs.ArenaLemmas.{paths_up, entries_up}
+use Rattle.mapf_cbs.proofs.NodeLemmas.{paths_up, entries_up}
 
 -- an agent that no node on the way bound so far has the path and the entries of the node here
 abbrev pub IsFoundSoFar : List View → View → View → ℕ → Option ℕ → Type 0

@@ -5,10 +5,10 @@ ghost use Rattle.mapf_model.specs.Earned.{HasConflict, AreConflictFreeBefore, ti
 ghost use Rattle.mapf_model.specs.Laws.{AreSameBars};
 ghost use Rattle.mapf_model.specs.Tree.{ShareGoal};
 ghost use Rattle.mapf_cbs.specs.Answer.{IsAnswer};
-ghost use Rattle.mapf_cbs.specs.Route.{AreTables, IsTableBar};
+ghost use Rattle.mapf_cbs.specs.CheapestPath.{AreTables, IsTableBar};
 ghost use Rattle.mapf_cbs.specs.Search.{View, IsLive};
 ghost use Rattle.mapf_cbs.specs.Start.{IsRootStart};
-ghost use Rattle.mapf_cbs.specs.Whole.{IsWhole, IsWholeBorn, IsWholePopped, IsWholeState};
+ghost use Rattle.mapf_cbs.specs.Whole.{IsWhole, IsWholeChild, IsWholePopped, IsWholeState};
 ghost use Rattle.mapf_cbs.specs.declared.whole_node.WholeNode.{WholeNode};
 
 use crate::answer::Answer;
@@ -16,8 +16,8 @@ use crate::child::{cost_of, new_total};
 use crate::sides::{left_agent, left_bar, right_agent, right_bar};
 use crate::solver::cause_to_stop;
 use crate::start::{Beginning, begin};
-use crate::whole_node::{WholeNode, routes_with};
-use crate::whole_tree::{WholeBorn, WholeTree, least_open};
+use crate::whole_node::{WholeNode, agent_paths_with};
+use crate::whole_tree::{WholeChild, WholeTree, least_open};
 use crate::written::tree_items;
 use mapf_conflicts::first_conflict;
 use mapf_constraints::{BarTable, ListBars};
@@ -116,27 +116,30 @@ fn child_of(
     node: &WholeNode,
     agent: u32,
     bar: Bar,
-) -> Result<WholeBorn, OutOfMemory>
+) -> Result<WholeChild, OutOfMemory>
     requires tables { AreTables problem.now tables.now }
     requires known { agent < length problem.now.agents }
-    requires count { length node.now.routes.items ≡ length problem.now.agents }
+    requires count { length node.now.agent_paths.items ≡ length problem.now.agents }
     requires bar { IsTableBar bar }
     requires small { node.now.total + 2 ^ 32 < 2 ^ 64 }
     requires live { (view : View) × IsWhole node.now view × IsLive problem.now view }
-    ensures count { IfOk result (λ born. length born.node.routes.items ≡ length node.now.routes.items) }
-    ensures born { IfOk result (λ born. (view : View) → IsWhole node.now view → IsLive problem.now view → IsWholeBorn problem.now view agent bar born.node born.total) }
+    ensures count { IfOk result (λ generated. length generated.node.agent_paths.items ≡ length node.now.agent_paths.items) }
+    ensures generated { IfOk result (λ generated. (view : View) → IsWhole node.now view → IsLive problem.now view → IsWholeChild problem.now view agent bar generated.node generated.total) }
 {
     let who = problem.agents()[agent as usize];
     let goal = who.goal;
-    let bars = with_bar(&node.routes[agent as usize].bars, bar)?;
+    let bars = with_bar(&node.agent_paths[agent as usize].bars, bar)?;
     let found = search(alloc, problem.grid(), &tables[agent as usize], &bars, who)?;
-    let old = cost_of(&node.routes[agent as usize].path, goal);
+    let old = cost_of(&node.agent_paths[agent as usize].path, goal);
     let total = new_total(&found, goal, node.total - u64::from(old));
-    let route = node.routes[agent as usize].after(alloc, &found, bars)?;
-    let routes = routes_with(alloc, &node.routes, agent, route)?;
+    let agent_path = node.agent_paths[agent as usize].after(alloc, &found, bars)?;
+    let agent_paths = agent_paths_with(alloc, &node.agent_paths, agent, agent_path)?;
     let sum = total.unwrap_or(node.total);
-    Ok(WholeBorn {
-        node: WholeNode { routes, total: sum },
+    Ok(WholeChild {
+        node: WholeNode {
+            agent_paths,
+            total: sum,
+        },
         total,
     })
 }

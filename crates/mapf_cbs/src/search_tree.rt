@@ -2,7 +2,7 @@ ghost use Rattle.std.specs.Prelude.{◌≡◌, ◌+◌, ◌^◌, ◌<◌, ◌∷
 ghost use Rattle.mapf_cbs.specs.Search.{left_agent, right_agent, left_bar, right_bar};
 ghost use Rattle.mapf_cbs.specs.State.{fate_of, with_key, IsLeastKey};
 
-use crate::child::Born;
+use crate::child::GeneratedChild;
 use crate::node::{Fate, Node};
 use crate::sides::{left_agent, left_bar, right_agent, right_bar};
 use mapf_model::{Conflict, OutOfMemory, Path};
@@ -62,22 +62,22 @@ impl SearchTree {
         &mut self,
         k: u32,
         conflict: &Conflict,
-        left: Born,
-        right: Born,
+        left: GeneratedChild,
+        right: GeneratedChild,
     ) -> Result<(), OutOfMemory>
         requires same { length self.old.nodes.items ≡ length self.old.fates.items }
         requires few { length self.old.nodes.items < 2 ^ 31 }
         requires inside { k < length self.old.fates.items }
         requires splits { self.old.splits < 2 ^ 31 }
         ensures nodes { OnOk result (self.new.nodes.items ≡ (self.old.nodes.items ++ Node.Child k (left_agent conflict.now) (left_bar conflict.now) left.found ∷ []) ++ Node.Child k (right_agent conflict.now) (right_bar conflict.now) right.found ∷ []) }
-        ensures fates { OnOk result (self.new.fates.items ≡ slice_set ((self.old.fates.items ++ fate_of left.total ∷ []) ++ fate_of right.total ∷ []) k (Fate.Cut conflict.now (length self.old.nodes.items) (length self.old.nodes.items + 1))) }
+        ensures fates { OnOk result (self.new.fates.items ≡ slice_set ((self.old.fates.items ++ fate_of left.total ∷ []) ++ fate_of right.total ∷ []) k (Fate.Expanded conflict.now (length self.old.nodes.items) (length self.old.nodes.items + 1))) }
         ensures waiting { OnOk result (self.new.waiting.keys ≡ with_key (with_key self.old.waiting.keys left.total (length self.old.nodes.items)) right.total (length self.old.nodes.items + 1)) }
         ensures splits { OnOk result (self.new.splits ≡ self.old.splits + 1) }
     {
         let number = self.nodes.len() as u32;
         self.fates.push(fate_of(&left.total))?;
         self.fates.push(fate_of(&right.total))?;
-        self.fates[k as usize] = Fate::Cut {
+        self.fates[k as usize] = Fate::Expanded {
             conflict: *conflict,
             left: number,
             right: number + 1,

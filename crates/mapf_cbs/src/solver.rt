@@ -2,8 +2,8 @@ ghost use Rattle.std.specs.Prelude.{◌≡◌, ◌≢◌, ◌+◌, ◌<◌, ◌�
 ghost use Rattle.mapf_model.specs.Earned.{HasConflict, AreConflictFreeBefore, tick_of};
 ghost use Rattle.mapf_model.specs.Tree.{ShareGoal};
 ghost use Rattle.mapf_cbs.specs.Answer.{IsAnswer};
-ghost use Rattle.mapf_cbs.specs.Arena.{AreViews};
-ghost use Rattle.mapf_cbs.specs.Route.{AreTables};
+ghost use Rattle.mapf_cbs.specs.Nodes.{AreViews};
+ghost use Rattle.mapf_cbs.specs.CheapestPath.{AreTables};
 ghost use Rattle.mapf_cbs.specs.Search.{View, IsLive};
 ghost use Rattle.mapf_cbs.specs.Start.{IsRootStart};
 ghost use Rattle.mapf_cbs.specs.State.{IsPopped, IsState, IsCauseToStop};

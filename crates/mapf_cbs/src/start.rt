@@ -1,6 +1,6 @@
 ghost use Rattle.std.specs.Prelude.{◌≡◌, ◌*◌, ◌^◌, ◌≤◌, ◌-◌, ◌∷◌, [], length, sum_by, IfOk, IfSome, IfNone, MatchOption};
 ghost use Rattle.mapf_model.specs.Distance.{IsUnreachable};
-ghost use Rattle.mapf_cbs.specs.Route.{AreTables};
+ghost use Rattle.mapf_cbs.specs.CheapestPath.{AreTables};
 ghost use Rattle.mapf_cbs.specs.Start.{IsBeginning, IsShortest, AreShortest, SomeGoalIsUnreachable};
 
 use crate::clash::sharing_pair;

@@ -4,10 +4,10 @@ use Rattle.mapf_model.specs.Earned.{HasConflict, AreConflictFreeBefore, HaveSome
 use Rattle.mapf_model.specs.Tree.{ConstraintTree}
 use Rattle.mapf_cbs.specs.declared.whole_node.WholeNode.{WholeNode}
 use Rattle.mapf_cbs.specs.Answer.{IsTreeOf, IsShownOptimal}
-use Rattle.mapf_cbs.specs.Arena.{IsRootView}
-use Rattle.mapf_cbs.specs.Search.{AreCutsLater}
+use Rattle.mapf_cbs.specs.Nodes.{IsRootView}
+use Rattle.mapf_cbs.specs.Search.{AreChildrenLater}
 use Rattle.mapf_cbs.specs.Whole.{IsWhole, IsLeastOpen}
-use Rattle.mapf_cbs.proofs.AnswerLemmas.{tree_of, cuts_later, answer_found, answer_limit}
+use Rattle.mapf_cbs.proofs.AnswerLemmas.{tree_of, children_later, answer_found, answer_limit}
 use Rattle.mapf_cbs.proofs.PlainLemmas.{least_at, whole_first, whole_popped, whole_impossible, whole_hand, hand_whole}
 use Rattle.mapf_cbs.proofs.StartLemmas.{root_of}
 use Rattle.mapf_cbs.proofs.laws.search_plain.Goals as goal
@@ -27,17 +27,17 @@ loop-k-init c =
 pub tree_items-requires-clause-later : goal.tree_items-requires-clause-later
 tree_items-requires-clause-later c =
     let s = c.loop-k.invariant.state in
-    subst AreCutsLater (sym c.deref-in_default.ensures.value) (cuts_later c.args.problem.now s.state.views c.loop-k.tree.fates.items c.loop-k.tree.splits s.state.searched)
+    subst AreChildrenLater (sym c.deref-in_default.ensures.value) (children_later c.args.problem.now s.state.views c.loop-k.tree.fates.items c.loop-k.tree.splits s.state.searched)
 
 pub tree_items-requires-in_default-first_conflict-clause-later : goal.tree_items-requires-in_default-first_conflict-clause-later
 tree_items-requires-in_default-first_conflict-clause-later c =
     let s = c.loop-k.invariant.state in
-    subst AreCutsLater (sym c.deref-in_default-first_conflict.ensures.value) (cuts_later c.args.problem.now s.state.views c.loop-k.tree.fates.items c.loop-k.tree.splits s.state.searched)
+    subst AreChildrenLater (sym c.deref-in_default-first_conflict.ensures.value) (children_later c.args.problem.now s.state.views c.loop-k.tree.fates.items c.loop-k.tree.splits s.state.searched)
 
 pub tree_items-requires-in-Some-cause_to_stop-clause-later : goal.tree_items-requires-in-Some-cause_to_stop-clause-later
 tree_items-requires-in-Some-cause_to_stop-clause-later c =
     let s = c.loop-k.invariant.state in
-    subst AreCutsLater (sym c.deref-in-Some-cause_to_stop.ensures.value) (cuts_later c.args.problem.now s.state.views c.loop-k.tree.fates.items c.loop-k.tree.splits s.state.searched)
+    subst AreChildrenLater (sym c.deref-in-Some-cause_to_stop.ensures.value) (children_later c.args.problem.now s.state.views c.loop-k.tree.fates.items c.loop-k.tree.splits s.state.searched)
 
 pub returns-in_default : goal.returns-in_default
 returns-in_default c =
@@ -54,7 +54,7 @@ plan-requires c =
     let s = c.loop-k.invariant.state in
     let least : IsLeastOpen t.nodes.items t.fates.items (length t.fates.items) c.in-Some.k = least_at c.deref-in-loop-k.result.now t.nodes.items c.deref-in-loop-k-2.result.now t.fates.items (Some c.in-Some.k) c.deref-in-loop-k.ensures.value c.deref-in-loop-k-2.ensures.value c.in-Some.ensures in
     let here = slice_get_read t.nodes.items (length t.nodes.items) c.in-Some.k c.index.result.now refl (slice_get_within t.nodes.items c.in-Some.k least.node least.is) c.index.ensures in
-    let size = s.routes c.in-Some.k c.index.result.now here in
+    let size = s.agent_paths c.in-Some.k c.index.result.now here in
     let some = c.requires.root.agents.0 in let few = c.requires.root.agents.1 in
     (omega (arith, size, some), omega (arith, size, few))
 

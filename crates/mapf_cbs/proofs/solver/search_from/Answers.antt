@@ -2,11 +2,11 @@ use Rattle.std.proofs.Common.{◌≡◌, [], ◌≤◌, All, length, refl, sym, 
 use Rattle.mapf_model.specs.Earned.{HasConflict, AreConflictFreeBefore, HaveSomeConflict, tick_of}
 use Rattle.mapf_model.specs.Tree.{ConstraintTree}
 use Rattle.mapf_cbs.specs.Answer.{IsTreeOf, IsShownOptimal}
-use Rattle.mapf_cbs.specs.Arena.{AreViews}
-use Rattle.mapf_cbs.specs.Search.{AreCutsLater}
+use Rattle.mapf_cbs.specs.Nodes.{AreViews}
+use Rattle.mapf_cbs.specs.Search.{AreChildrenLater}
 use Rattle.mapf_cbs.specs.State.{IsState}
-use Rattle.mapf_cbs.proofs.AnswerLemmas.{tree_of, state_first, cuts_later, popped_of, answer_impossible, answer_found, answer_limit}
-use Rattle.mapf_cbs.proofs.ArenaLemmas.{view_in}
+use Rattle.mapf_cbs.proofs.AnswerLemmas.{tree_of, state_first, children_later, popped_of, answer_impossible, answer_found, answer_limit}
+use Rattle.mapf_cbs.proofs.NodeLemmas.{view_in}
 use Rattle.mapf_cbs.proofs.StartLemmas.{root_of}
 use Rattle.mapf_cbs.proofs.StateLemmas.{in_hand}
 use Rattle.mapf_cbs.proofs.solver.search_from.Goals as goal
@@ -28,7 +28,7 @@ loop-total-init g c =
 pub tree_items-requires-clause-later : goal.tree_items-requires-clause-later
 tree_items-requires-clause-later g c =
     let s = c.loop-total.invariant.state in
-    subst AreCutsLater (sym c.deref-in_default.ensures.value) (cuts_later c.args.problem.now s.views c.loop-total.search.fates.items c.loop-total.search.splits s.searched)
+    subst AreChildrenLater (sym c.deref-in_default.ensures.value) (children_later c.args.problem.now s.views c.loop-total.search.fates.items c.loop-total.search.splits s.searched)
 
 pub returns-in_default : goal.returns-in_default
 returns-in_default g c =
@@ -48,12 +48,12 @@ plan_at-requires-clause-inside g c =
 pub tree_items-requires-in_default-first_conflict-clause-later : goal.tree_items-requires-in_default-first_conflict-clause-later
 tree_items-requires-in_default-first_conflict-clause-later g c =
     let s = c.loop-total.invariant.state in
-    subst AreCutsLater (sym c.deref-in_default-first_conflict.ensures.value) (cuts_later c.args.problem.now s.views c.loop-total.search.fates.items c.loop-total.search.splits s.searched)
+    subst AreChildrenLater (sym c.deref-in_default-first_conflict.ensures.value) (children_later c.args.problem.now s.views c.loop-total.search.fates.items c.loop-total.search.splits s.searched)
 
 pub tree_items-requires-in-Some-cause_to_stop-clause-later : goal.tree_items-requires-in-Some-cause_to_stop-clause-later
 tree_items-requires-in-Some-cause_to_stop-clause-later g c =
     let s = c.loop-total.invariant.state in
-    subst AreCutsLater (sym c.deref-in-Some-cause_to_stop.ensures.value) (cuts_later c.args.problem.now s.views c.loop-total.search.fates.items c.loop-total.search.splits s.searched)
+    subst AreChildrenLater (sym c.deref-in-Some-cause_to_stop.ensures.value) (children_later c.args.problem.now s.views c.loop-total.search.fates.items c.loop-total.search.splits s.searched)
 
 pub returns-in_default-first_conflict : goal.returns-in_default-first_conflict
 returns-in_default-first_conflict g c =

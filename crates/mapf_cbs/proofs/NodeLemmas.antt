@@ -15,7 +15,7 @@ use Rattle.mapf_spacetime.specs.declared.found.Found.TheVariants.{Arrives, Dead}
 use Rattle.mapf_cbs.specs.declared.node.Node.{Node}
 use Rattle.mapf_cbs.specs.declared.node.Node.TheVariants.{Root, Child}
 use Rattle.mapf_cbs.specs.Search.{View}
-use Rattle.mapf_cbs.specs.Arena.{AreViews, IsChildView, AreJoined}
+use Rattle.mapf_cbs.specs.Nodes.{AreViews, IsChildView, AreJoined}
 use Rattle.mapf_cbs.proofs.SumLemmas.{slice_get-set_same, slice_get-set_other}
 
 -- a path that this node didn't find is the parent's
