@@ -32,7 +32,6 @@ use Rattle.mapf_cbs.proofs.TreeLemmas.{is_earned, shows_cost, shows_impossible, 
 use Rattle.mapf_cbs.proofs.GrowLemmas.{searched_first}
 use Rattle.mapf_cbs.proofs.RangeLemmas.{tree_in_range, plan_in_range, sum_in_range}
 use Rattle.mapf_cbs.proofs.OpenLemmas.{first_open, Contains-first}
-use Rattle.mapf_cbs.proofs.StateLemmas.{IsInHand, in_hand}
 
 none_left : {X : Type 0} (x : X) → Contains [] x → ⊥
 none_left x (k, within, is) = omega arith
@@ -152,9 +151,6 @@ answer_impossible problem shape nodes fates count limit within state items (tree
 )
 
 module _ (problem : Instance) (shape : IsGridMap problem.grid) (nodes : List Node) (fates : List Fate) (rest : List (ℕ × ℕ)) (count total k : ℕ) (popped : IsPopped problem nodes fates rest count total k) (limit : ℕ) (within : count ≤ limit) (items : List Item) (found : (tree : ConstraintTree) × Spell items tree × IsTreeAt (length problem.agents) popped.views fates 0 tree) where
-  hand : IsInHand problem fates k total popped.views
-  hand = in_hand problem nodes fates rest count total k popped
-
   tree_is : IsTreeOf problem limit items found.0
   tree_is = is_tree_of problem shape popped.views fates count limit within popped.searched items found.0 found.1 found.2
 

@@ -1,10 +1,9 @@
 -- Going up, what a node means is found at nodes on the way.
-use Rattle.std.proofs.Common.{◌≡◌, ◌≢◌, ℕ, ◌<◌, List, [], ◌∷◌, ◌++◌, Option, None, Some, length, slice_get, refl, sym, ◌∙◌, subst, inl, ⊎_elim, arith}
+use Rattle.std.proofs.Common.{◌≡◌, ◌≢◌, ℕ, ◌<◌, List, Option, None, Some, length, slice_get, refl, sym, ◌∙◌, subst, inl, ⊎_elim, arith}
 use Rattle.std.proofs.lemmas.Bool.{cases_eq}
 use Rattle.std.proofs.lemmas.Option.{slice_get_within, same_Some}
 use Rattle.mapf_model.specs.declared.bar.Bar.{Bar}
 use Rattle.mapf_model.proofs.ClaimLemmas.{slice_get_inside}
-use Rattle.mapf_model.proofs.SumLemmas.{snoc_get}
 use Rattle.mapf_spacetime.specs.declared.found.Found.{Found}
 use Rattle.mapf_cbs.specs.declared.node.Node.{Node}
 use Rattle.mapf_cbs.specs.declared.node.Node.TheVariants.{Child}
@@ -17,12 +16,6 @@ use Rattle.mapf_cbs.proofs.NodeLemmas.{paths_up, entries_up}
 abbrev pub IsFoundSoFar : List View → View → View → ℕ → Option ℕ → Type 0
 IsFoundSoFar views view here i None = HaveSame i view here
 IsFoundSoFar views view here i (Some k) = (other : View) × (slice_get views k ≡ Some other) × HaveSame i view other
-
-pub AreNone-more : (finders : List (Option ℕ)) → AreNone finders → AreNone (finders ++ None ∷ [])
-AreNone-more finders none i finder is = ⊎_elim
-    (λ (old : slice_get finders i ≡ Some finder). none i finder old)
-    (λ (new : (i ≡ length finders) × (None ≡ finder)). sym new.1)
-    (snoc_get finders None i finder is)
 
 pub none_inside : (nodes : List Node) (finders : List (Option ℕ)) → 0 < length nodes → AreNone finders → AreInside nodes finders
 none_inside nodes finders some none i finder is = rw (none i finder is) some

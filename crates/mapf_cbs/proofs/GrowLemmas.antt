@@ -23,11 +23,6 @@ IsChildFate problem view child Open = IsLive problem child × (sum view.costs �
 IsChildFate problem view child Dead = IsDead problem child
 IsChildFate problem view child (Expanded conflict left right) = ⊥
 
-child_end : (problem : Instance) (view child : View) (fate : Fate) → IsChildFate problem view child fate → IsEndFate fate
-child_end problem view child Open is = tt
-child_end problem view child Dead is = tt
-child_end problem view child (Expanded c a b) is = is
-
 pub searched_first : (problem : Instance) (view : View) → view.constraints ≡ root → IsLive problem view → IsSearched problem (view ∷ []) (Open ∷ []) 0
 searched_first problem view at_root live = record {
   lengths = refl;

@@ -19,14 +19,6 @@ pub reverse_push : (xs : List ℕ) (x : ℕ) → reverse (xs ++ x ∷ []) ≡ x 
 reverse_push xs x = reverse-append xs (x ∷ [])
 
 module _ (agents : ℕ) (views : List View) (fates : List Fate) where
-  first : (trees : List ConstraintTree) → AllZip (IsTreeAt agents views fates) (0 ∷ []) trees → (tree : ConstraintTree) × (map node_of [] ++ nodes_of_all trees ≡ nodes_of tree) × IsTreeAt agents views fates 0 tree
-  first [] zip = absurd zip
-  first (tree ∷ []) zip = (tree, append-nil (nodes_of tree), zip.0)
-  first (tree ∷ other ∷ trees) zip = absurd zip.1
-
-  pub leads_first : Leads agents views fates [] (0 ∷ [])
-  leads_first = record { leads = first }
-
   module _ (items : List Item) (k : ℕ) (owed : List ℕ) (before : Leads agents views fates items (k ∷ owed)) (item : Item) where
     after_split : (conflict : Conflict) (a b : ℕ) → slice_get fates k ≡ Some (Expanded conflict a b) → node_of item ≡ SplitNode conflict →
         (trees : List ConstraintTree) → AllZip (IsTreeAt agents views fates) (a ∷ b ∷ owed) trees → (tree : ConstraintTree) × (map node_of (items ++ item ∷ []) ++ nodes_of_all trees ≡ nodes_of tree) × IsTreeAt agents views fates 0 tree

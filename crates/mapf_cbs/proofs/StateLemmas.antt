@@ -146,9 +146,6 @@ module _ (problem : Instance) (nodes : List Node) (fates : List Fate) (rest : Li
     (conflict : Conflict) (meet : HasConflict view.paths conflict) (apart : AreConflictFreeBefore view.paths (tick_of conflict)) (early : tick_of conflict < 1000000)
     (f g : Found) (s t : Option ℕ) (left : IsGeneratedChild problem view (left_agent conflict) (left_bar conflict) f s) (right : IsGeneratedChild problem view (right_agent conflict) (right_bar conflict) g t)
   where
-    after_keys : List (ℕ × ℕ)
-    after_keys = with_key (with_key rest s (length nodes)) t (length nodes + 1)
-
     same_length : length popped.views ≡ length nodes
     same_length = popped.are.lengths
 

@@ -74,14 +74,7 @@ impl SearchTree {
         ensures waiting { OnOk result (self.new.waiting.keys ≡ with_key (with_key self.old.waiting.keys left.total (length self.old.nodes.items)) right.total (length self.old.nodes.items + 1)) }
         ensures splits { OnOk result (self.new.splits ≡ self.old.splits + 1) }
     {
-        let number = self.nodes.len() as u32;
-        self.fates.push(fate_of(&left.total))?;
-        self.fates.push(fate_of(&right.total))?;
-        self.fates[k as usize] = Fate::Expanded {
-            conflict: *conflict,
-            left: number,
-            right: number + 1,
-        };
+        let number = expand(&mut self.fates, k, conflict, left.total, right.total)?;
         self.add_open(left.total, number)?;
         self.add_open(right.total, number + 1)?;
         self.nodes.push(Node::Child {
@@ -122,8 +115,33 @@ pub fn take_least(waiting: &mut BTreeSet<(u64, u32)>) -> Option<(u64, u32)>
     waiting.pop_first()
 }
 
-/// A child is open where it has a sum.
-pub fn fate_of(total: &Option<u64>) -> Fate
+/// Splits a node on the conflict: its children are the next two nodes. Answers the number of the left
+/// one.
+pub fn expand(
+    fates: &mut Vec<Fate>,
+    k: u32,
+    conflict: &Conflict,
+    left: Option<u64>,
+    right: Option<u64>,
+) -> Result<u32, OutOfMemory>
+    requires few { length fates.old.items < 2 ^ 31 }
+    requires inside { k < length fates.old.items }
+    ensures number { IfOk result (λ number. number ≡ length fates.old.items) }
+    ensures fates { OnOk result (fates.new.items ≡ slice_set ((fates.old.items ++ fate_of left ∷ []) ++ fate_of right ∷ []) k (Fate.Expanded conflict.now (length fates.old.items) (length fates.old.items + 1))) }
+{
+    let number = fates.len() as u32;
+    fates.push(fate_of(&left))?;
+    fates.push(fate_of(&right))?;
+    fates[k as usize] = Fate::Expanded {
+        conflict: *conflict,
+        left: number,
+        right: number + 1,
+    };
+    Ok(number)
+}
+
+// A child is open where it has a sum.
+fn fate_of(total: &Option<u64>) -> Fate
     ensures { result ≡ fate_of total.now }
 {
     match total {

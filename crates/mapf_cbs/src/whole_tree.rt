@@ -5,7 +5,7 @@ ghost use Rattle.mapf_cbs.specs.Whole.{AreWhole, HaveAgentPaths, IsLeastBelow};
 
 use crate::leaves::Leaves;
 use crate::node::Fate;
-use crate::search_tree::fate_of;
+use crate::search_tree::expand;
 use crate::whole_node::WholeNode;
 use mapf_model::{Block, Conflict, OutOfMemory};
 use std::alloc::Global;
@@ -75,14 +75,7 @@ impl WholeTree {
         ensures fates { OnOk result (self.new.fates.items ≡ slice_set ((self.old.fates.items ++ fate_of left.total ∷ []) ++ fate_of right.total ∷ []) k (Fate.Expanded conflict.now (length self.old.nodes.items) (length self.old.nodes.items + 1))) }
         ensures splits { OnOk result (self.new.splits ≡ self.old.splits + 1) }
     {
-        let number = self.nodes.len() as u32;
-        self.fates.push(fate_of(&left.total))?;
-        self.fates.push(fate_of(&right.total))?;
-        self.fates[k as usize] = Fate::Expanded {
-            conflict: *conflict,
-            left: number,
-            right: number + 1,
-        };
+        expand(&mut self.fates, k, conflict, left.total, right.total)?;
         self.nodes.push(left.node)?;
         self.nodes.push(right.node)?;
         self.splits += 1;

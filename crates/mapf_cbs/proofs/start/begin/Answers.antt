@@ -1,6 +1,6 @@
-use Rattle.std.proofs.Common.{length, sym, ◌∙◌, subst, ap, arith}
+use Rattle.std.proofs.Common.{length, sym, subst, ap, arith}
 use Rattle.mapf_model.specs.Grid.{IsGridMap}
-use Rattle.mapf_cbs.specs.Start.{HaveGoal, AreShortest}
+use Rattle.mapf_cbs.specs.Start.{HaveGoal}
 use Rattle.mapf_cbs.proofs.StartLemmas.{leaf_answer, clash_answer, none_share}
 use Rattle.mapf_cbs.proofs.start.begin.Goals as goal
 

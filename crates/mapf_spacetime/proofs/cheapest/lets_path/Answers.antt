@@ -38,9 +38,9 @@ pub returns-then-not-lets_start-clause-no : goal.returns-then-not-lets_start-cla
 returns-then-not-lets_start-clause-no g c _ satisfies =
     let task = c.args.ground.now in
     elim c.then-not-lets_start.branch [
-      then-not-lets_start-via-then-not-lets_start w ↦ satisfies (Cell task.start 0) (w.if-not-lets_start.ensures.no refl) c.requires.start
-    | then-not-lets_start-via-else-not-lets_start+then-not-may_rest_from w ↦
-      barred_violates task c.args.cells.now c.requires.goal (w.if-not-may_rest_from.ensures.no refl) satisfies
+      | then-not-lets_start-via-then-not-lets_start w ↦ satisfies (Cell task.start 0) (w.if-not-lets_start.ensures.no refl) c.requires.start
+      | then-not-lets_start-via-else-not-lets_start+then-not-may_rest_from w ↦
+          barred_violates task c.args.cells.now c.requires.goal (w.if-not-may_rest_from.ensures.no refl) satisfies
     ]
 
 pub returns-then-not-lets-clause-no : goal.returns-then-not-lets-clause-no
