@@ -17,10 +17,10 @@ use Rattle.mapf_model.specs.Earned.{HasConflict, AreConflictFreeBefore, HaveSome
 use Rattle.mapf_cbs.specs.declared.node.Node.{Node}
 use Rattle.mapf_cbs.specs.declared.node.Node.TheVariants.{Root}
 use Rattle.mapf_cbs.specs.declared.node.Fate.{Fate}
-use Rattle.mapf_cbs.specs.declared.node.Fate.TheVariants.{Open, Cut}
+use Rattle.mapf_cbs.specs.declared.node.Fate.TheVariants.{Open, Expanded}
 use Rattle.mapf_model.specs.Grid.{IsGridMap, free_cell_count}
-use Rattle.mapf_cbs.specs.Search.{View, IsLive, IsSearched, AreCutsLater, IsTreeAt}
-use Rattle.mapf_cbs.specs.Arena.{IsRootView, IsNodeView, IsNodeFor, AreNodesFor, HasTableBar, HaveTableBars}
+use Rattle.mapf_cbs.specs.Search.{View, IsLive, IsSearched, AreChildrenLater, IsTreeAt}
+use Rattle.mapf_cbs.specs.Nodes.{IsRootView, IsNodeView, IsNodeFor, AreNodesFor, HasTableBar, HaveTableBars}
 use Rattle.mapf_model.specs.declared.cause.Cause.{Cause}
 use Rattle.mapf_model.specs.declared.cause.Cause.TheVariants.{Splits, Ticks}
 use Rattle.mapf_cbs.specs.declared.answer.Answer.TheVariants.{Limit as LimitAnswer}
@@ -32,7 +32,6 @@ use Rattle.mapf_cbs.proofs.TreeLemmas.{is_earned, shows_cost, shows_impossible, 
 use Rattle.mapf_cbs.proofs.GrowLemmas.{searched_first}
 use Rattle.mapf_cbs.proofs.RangeLemmas.{tree_in_range, plan_in_range, sum_in_range}
 use Rattle.mapf_cbs.proofs.OpenLemmas.{first_open, Contains-first}
-use Rattle.mapf_cbs.proofs.StateLemmas.{IsInHand, in_hand}
 
 none_left : {X : Type 0} (x : X) → Contains [] x → ⊥
 none_left x (k, within, is) = omega arith
@@ -91,15 +90,15 @@ pub state_first : (problem : Instance) (paths : Vec (List ℕ) Global) (total : 
 state_first problem paths total view root_view live total_is small nodes nodes_is = subst (λ ns. IsState problem ns (Open ∷ []) ((total, 0) ∷ []) 0) (sym nodes_is) (state_root problem paths total view root_view live total_is small)
 
 -- children come later
-pub cuts_later : (problem : Instance) (views : List View) (fates : List Fate) (count : ℕ) → IsSearched problem views fates count → AreCutsLater fates
-cuts_later problem views fates count searched k conflict a b is =
+pub children_later : (problem : Instance) (views : List View) (fates : List Fate) (count : ℕ) → IsSearched problem views fates count → AreChildrenLater fates
+children_later problem views fates count searched k conflict a b is =
     let size = searched.lengths in
-    let inside : k < length fates = slice_get_within fates k (Cut conflict a b) is in
+    let inside : k < length fates = slice_get_within fates k (Expanded conflict a b) is in
     let view : (view : View) × (slice_get views k ≡ Some view) = slice_get_inside views k (omega arith) in
-    let cut = searched.each k view.0 (Cut conflict a b) view.1 is in
-    let in_a = slice_get_within views a cut.to_left.0 cut.to_left.1 in
-    let in_b = slice_get_within views b cut.to_right.0 cut.to_right.1 in
-    (cut.left_later, cut.right_later, omega arith, omega arith)
+    let expanded = searched.each k view.0 (Expanded conflict a b) view.1 is in
+    let in_a = slice_get_within views a expanded.to_left.0 expanded.to_left.1 in
+    let in_b = slice_get_within views b expanded.to_right.0 expanded.to_right.1 in
+    (expanded.left_later, expanded.right_later, omega arith, omega arith)
 
 -- a tree of lists that are known by other names
 pub tree_of : (agents others : List Agent) (fates more : List Fate) (views : List View) (items : List Item) → agents ≡ others → fates ≡ more → (tree : ConstraintTree) × Spell items tree × IsTreeAt (length agents) views fates 0 tree → (tree : ConstraintTree) × Spell items tree × IsTreeAt (length others) views more 0 tree
@@ -152,9 +151,6 @@ answer_impossible problem shape nodes fates count limit within state items (tree
 )
 
 module _ (problem : Instance) (shape : IsGridMap problem.grid) (nodes : List Node) (fates : List Fate) (rest : List (ℕ × ℕ)) (count total k : ℕ) (popped : IsPopped problem nodes fates rest count total k) (limit : ℕ) (within : count ≤ limit) (items : List Item) (found : (tree : ConstraintTree) × Spell items tree × IsTreeAt (length problem.agents) popped.views fates 0 tree) where
-  hand : IsInHand problem fates k total popped.views
-  hand = in_hand problem nodes fates rest count total k popped
-
   tree_is : IsTreeOf problem limit items found.0
   tree_is = is_tree_of problem shape popped.views fates count limit within popped.searched items found.0 found.1 found.2
 

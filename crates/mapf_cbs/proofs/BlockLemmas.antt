@@ -29,16 +29,6 @@ no_block (block ∷ blocks) i low =
     (λ same. let e : block.agent ≡ i = eqb-true block.agent i same in absurd (omega arith))
     (λ differ. no_block blocks i (λ k d within. low (suc k) d (omega arith)))
 
-pub blocks_none : (listed : ℕ → List Entry) → AreBlocksOf 0 listed []
-blocks_none listed = record {
-  different = λ i j d before within. absurd (omega arith);
-  of_agents = λ k d within. absurd (omega arith);
-  some = λ i block is. absurd cc;
-  none = λ i within is. absurd (omega arith);
-  rising = λ i j d before within. absurd (omega arith);
-  filled = λ k d within. absurd (omega arith);
-}
-
 module _ (n : ℕ) (listed : ℕ → List Entry) (blocks : List LabelBlock) (are : AreBlocksOf n listed blocks) where
   pub blocks_skip : listed n ≡ [] → AreBlocksOf (n + 1) listed blocks
   blocks_skip empty = record {

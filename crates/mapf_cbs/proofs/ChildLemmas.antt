@@ -19,10 +19,10 @@ use Rattle.mapf_model.proofs.SplitLemmas.{Contains-cons_cases}
 use Rattle.mapf_constraints.specs.BarSets.{tick_of as bar_tick, AreBefore}
 use Rattle.mapf_spacetime.specs.Answer.{AreGoodLabels}
 use Rattle.mapf_spacetime.specs.Task.{task_of}
-use Rattle.mapf_cbs.specs.Route.{IsCheapestPath, HasNoPath}
+use Rattle.mapf_cbs.specs.CheapestPath.{IsCheapestPath, HasNoPath}
 use Rattle.mapf_cbs.specs.Search.{View, IsCheapestOf, IsLive, IsDead, live_child, dead_child}
 use Rattle.mapf_cbs.proofs.SumLemmas.{slice_get-set_same, slice_get-set_other, length-slice_set, sum-set}
-use Rattle.mapf_cbs.proofs.ViewLemmas.{route_of}
+use Rattle.mapf_cbs.proofs.ViewLemmas.{agent_path_of}
 
 pub Contains-later : {X : Type 0} (x y : X) (xs : List X) → Contains xs y → Contains (x ∷ xs) y
 Contains-later x y xs (k, within, is) = (suc k, omega arith, is)
@@ -32,15 +32,15 @@ good_same : (grid : GridMap) (agent : Agent) (xs ys : List Bar) (entries : List 
 good_same grid agent xs ys entries same good = record { sound = AreSound-same xs ys same grid agent.goal (entries_of entries) good.sound; rising = good.rising; ranges = good.ranges }
 
 pub IsCheapestPath-same : (grid : GridMap) (agent : Agent) (xs ys : List Bar) (path : List ℕ) (cost : ℕ) (entries : List Entry) → AreSameBars xs ys → IsCheapestPath grid agent xs path cost entries → IsCheapestPath grid agent ys path cost entries
-IsCheapestPath-same grid agent xs ys path cost entries same route = record {
-  lawful = route.lawful;
-  satisfies = Satisfies-same xs ys same path route.satisfies;
-  tight = route.tight;
-  is_cost = route.is_cost;
-  least = λ other other_cost lawful satisfies is. route.least other other_cost lawful (λ bar in_xs. satisfies bar ((same bar).0 in_xs)) is;
-  labels = good_same grid agent xs ys entries same route.labels;
-  start = route.start;
-  below = λ horizon below. route.below horizon (λ bar in_xs. below bar ((same bar).0 in_xs));
+IsCheapestPath-same grid agent xs ys path cost entries same agent_path = record {
+  lawful = agent_path.lawful;
+  satisfies = Satisfies-same xs ys same path agent_path.satisfies;
+  tight = agent_path.tight;
+  is_cost = agent_path.is_cost;
+  least = λ other other_cost lawful satisfies is. agent_path.least other other_cost lawful (λ bar in_xs. satisfies bar ((same bar).0 in_xs)) is;
+  labels = good_same grid agent xs ys entries same agent_path.labels;
+  start = agent_path.start;
+  below = λ horizon below. agent_path.below horizon (λ bar in_xs. below bar ((same bar).0 in_xs));
 }
 
 pub HasNoPath-same : (grid : GridMap) (agent : Agent) (xs ys : List Bar) (entries : List Entry) → AreSameBars xs ys → HasNoPath grid agent xs entries → HasNoPath grid agent ys entries
@@ -67,7 +67,7 @@ module _ (problem : Instance) (view : View) (live : IsLive problem view) (i : �
     each = λ k other path cost differ a p c. kept k other path cost differ a p c (nat_eq k i) refl;
   }
 
-  module _ (path' : List ℕ) (cost' : ℕ) (route : IsCheapestPath problem.grid agent (bar ∷ view.constraints.bars i) path' cost' es) where
+  module _ (path' : List ℕ) (cost' : ℕ) (agent_path : IsCheapestPath problem.grid agent (bar ∷ view.constraints.bars i) path' cost' es) where
     within : i < length problem.agents
     within = slice_get_within problem.agents i agent known
 
@@ -82,7 +82,7 @@ module _ (problem : Instance) (view : View) (live : IsLive problem view) (i : �
         let moved : IsCheapestPath problem.grid other (bar ∷ view.constraints.bars i) path cost es =
         subst (λ x. IsCheapestPath problem.grid x (bar ∷ view.constraints.bars i) path cost es) this_agent
         (subst (λ x. IsCheapestPath problem.grid agent (bar ∷ view.constraints.bars i) x cost es) this_path
-        (subst (λ x. IsCheapestPath problem.grid agent (bar ∷ view.constraints.bars i) path' x es) this_cost route)) in
+        (subst (λ x. IsCheapestPath problem.grid agent (bar ∷ view.constraints.bars i) path' x es) this_cost agent_path)) in
         rw here (subst (λ n. IsCheapestPath problem.grid other (bar ∷ view.constraints.bars n) path cost es) (sym same) moved)
     by_agent k other path cost a p c (inr differ) =
         kept k other path cost differ a (sym (slice_get-set_other view.paths i k path' differ) ∙ p) (sym (slice_get-set_other view.costs i k cost' differ) ∙ c) (nat_eq k i) refl
@@ -96,9 +96,9 @@ module _ (problem : Instance) (view : View) (live : IsLive problem view) (i : �
     -- a child is no cheaper
     pub live_child_sum : (cost : ℕ) → slice_get view.costs i ≡ Some cost → (sum (slice_set view.costs i cost') + cost ≡ sum view.costs + cost') × (cost ≤ cost')
     live_child_sum cost is =
-        let r = route_of problem view live.counted i agent known in
+        let r = agent_path_of problem view live.counted i agent known in
         let old = live.each i agent r.0 cost known r.2 is in
-        (sum-set view.costs i cost cost' is, old.least path' cost' route.lawful (λ b in_it. route.satisfies b (Contains-later bar b (view.constraints.bars i) in_it)) route.is_cost)
+        (sum-set view.costs i cost cost' is, old.least path' cost' agent_path.lawful (λ b in_it. agent_path.satisfies b (Contains-later bar b (view.constraints.bars i) in_it)) agent_path.is_cost)
 
 -- the bars of a child, one of which is new, are below a later bound
 pub AreBefore-with_bar : (bars : ℕ → List Bar) (i : ℕ) (bar : Bar) (horizon later : ℕ) → horizon ≤ later → bar_tick bar < later → ((k : ℕ) → AreBefore horizon (bars k)) → (k : ℕ) → AreBefore later (with_bar bars i bar k)
@@ -120,7 +120,7 @@ module _ (problem : Instance) (view : View) (live : IsLive problem view) where
       let one = live.counted.paths in
       let inside : i < length view.paths = slice_get_within view.paths i path is in
       let agent : (agent : Agent) × (slice_get problem.agents i ≡ Some agent) = slice_inside problem.agents i (omega arith) in
-      let r = route_of problem view live.counted i agent.0 agent.1 in
+      let r = agent_path_of problem view live.counted i agent.0 agent.1 in
       (agent.0, r.1, agent.1, live.each i agent.0 path r.1 agent.1 is r.3)
     where
       slice_inside : {X : Type 0} (xs : List X) (i : ℕ) → i < length xs → (x : X) × (slice_get xs i ≡ Some x)

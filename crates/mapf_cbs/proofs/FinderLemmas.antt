@@ -1,28 +1,21 @@
 -- Going up, what a node means is found at nodes on the way.
-use Rattle.std.proofs.Common.{◌≡◌, ◌≢◌, ℕ, ◌<◌, List, [], ◌∷◌, ◌++◌, Option, None, Some, length, slice_get, refl, sym, ◌∙◌, subst, inl, ⊎_elim, arith}
+use Rattle.std.proofs.Common.{◌≡◌, ◌≢◌, ℕ, ◌<◌, List, Option, None, Some, length, slice_get, refl, sym, ◌∙◌, subst, inl, ⊎_elim, arith}
 use Rattle.std.proofs.lemmas.Bool.{cases_eq}
 use Rattle.std.proofs.lemmas.Option.{slice_get_within, same_Some}
 use Rattle.mapf_model.specs.declared.bar.Bar.{Bar}
 use Rattle.mapf_model.proofs.ClaimLemmas.{slice_get_inside}
-use Rattle.mapf_model.proofs.SumLemmas.{snoc_get}
 use Rattle.mapf_spacetime.specs.declared.found.Found.{Found}
 use Rattle.mapf_cbs.specs.declared.node.Node.{Node}
 use Rattle.mapf_cbs.specs.declared.node.Node.TheVariants.{Child}
-use Rattle.mapf_cbs.specs.Arena.{AreViews}
+use Rattle.mapf_cbs.specs.Nodes.{AreViews}
 use Rattle.mapf_cbs.specs.Finders.{number_of, AreInside, AreNone, HaveSame, IsNoted}
 use Rattle.mapf_cbs.specs.Search.{View}
-use Rattle.mapf_cbs.proofs.ArenaLemmas.{paths_up, entries_up}
+use Rattle.mapf_cbs.proofs.NodeLemmas.{paths_up, entries_up}
 
 -- an agent that no node on the way bound so far has the path and the entries of the node here
 abbrev pub IsFoundSoFar : List View → View → View → ℕ → Option ℕ → Type 0
 IsFoundSoFar views view here i None = HaveSame i view here
 IsFoundSoFar views view here i (Some k) = (other : View) × (slice_get views k ≡ Some other) × HaveSame i view other
-
-pub AreNone-more : (finders : List (Option ℕ)) → AreNone finders → AreNone (finders ++ None ∷ [])
-AreNone-more finders none i finder is = ⊎_elim
-    (λ (old : slice_get finders i ≡ Some finder). none i finder old)
-    (λ (new : (i ≡ length finders) × (None ≡ finder)). sym new.1)
-    (snoc_get finders None i finder is)
 
 pub none_inside : (nodes : List Node) (finders : List (Option ℕ)) → 0 < length nodes → AreNone finders → AreInside nodes finders
 none_inside nodes finders some none i finder is = rw (none i finder is) some

@@ -9,10 +9,10 @@ use Rattle.mapf_model.specs.Plan.{Instance}
 use Rattle.mapf_model.specs.Tree.{NodeConstraints, root, left_child_constraints, right_child_constraints, ShareGoal}
 use Rattle.mapf_model.specs.Earned.{HasConflict, AreConflictFreeBefore, tick_of}
 use Rattle.mapf_cbs.specs.declared.node.Fate.{Fate}
-use Rattle.mapf_cbs.specs.declared.node.Fate.TheVariants.{Open, Dead, Cut}
+use Rattle.mapf_cbs.specs.declared.node.Fate.TheVariants.{Open, Dead, Expanded}
 use Rattle.mapf_model.specs.Grid.{free_cell_count}
 use Rattle.mapf_constraints.specs.BarSets.{AreBefore}
-use Rattle.mapf_cbs.specs.Search.{View, IsLive, IsDead, IsFate, IsCutAt, IsCutFate, IsEndFate, End, occurrences, IsSearched}
+use Rattle.mapf_cbs.specs.Search.{View, IsLive, IsDead, IsFate, IsExpandedAt, IsExpandedFate, IsEndFate, End, occurrences, IsSearched}
 use Rattle.mapf_cbs.proofs.SumLemmas.{slice_get-front, slice_get-here, slice_get-second, length-two_more}
 use Rattle.mapf_cbs.proofs.ChildLemmas.{AreBefore-with_bar, conflict_proper, conflict_early}
 use Rattle.mapf_cbs.proofs.ShapeLemmas.{IsGrown, IsOneTree-grown}
@@ -21,12 +21,7 @@ use Rattle.mapf_cbs.proofs.ShapeLemmas.{IsGrown, IsOneTree-grown}
 abbrev pub IsChildFate : Instance → View → View → Fate → Type 0
 IsChildFate problem view child Open = IsLive problem child × (sum view.costs ≤ sum child.costs)
 IsChildFate problem view child Dead = IsDead problem child
-IsChildFate problem view child (Cut conflict left right) = ⊥
-
-child_end : (problem : Instance) (view child : View) (fate : Fate) → IsChildFate problem view child fate → IsEndFate fate
-child_end problem view child Open is = tt
-child_end problem view child Dead is = tt
-child_end problem view child (Cut c a b) is = is
+IsChildFate problem view child (Expanded conflict left right) = ⊥
 
 pub searched_first : (problem : Instance) (view : View) → view.constraints ≡ root → IsLive problem view → IsSearched problem (view ∷ []) (Open ∷ []) 0
 searched_first problem view at_root live = record {
@@ -42,9 +37,9 @@ searched_first problem view at_root live = record {
     each zero v fate is open_is = subst (λ f. IsFate problem (view ∷ []) (Open ∷ []) 0 v f) (same_Some Open fate open_is) (subst (λ x. IsLive problem x) (same_Some view v is) live)
     each (suc k) v fate is open_is = absurd cc
 
-    least : (k m : ℕ) (v other : View) (fate : Fate) → slice_get (view ∷ []) k ≡ Some v → slice_get (view ∷ []) m ≡ Some other → slice_get (Open ∷ []) k ≡ Some fate → IsCutFate fate → slice_get (Open ∷ []) m ≡ Some Open → sum v.costs ≤ sum other.costs
-    least zero m v other fate is other_is fate_is cut open_is = absurd (subst IsCutFate (sym (same_Some Open fate fate_is)) cut)
-    least (suc k) m v other fate is other_is fate_is cut open_is = absurd cc
+    least : (k m : ℕ) (v other : View) (fate : Fate) → slice_get (view ∷ []) k ≡ Some v → slice_get (view ∷ []) m ≡ Some other → slice_get (Open ∷ []) k ≡ Some fate → IsExpandedFate fate → slice_get (Open ∷ []) m ≡ Some Open → sum v.costs ≤ sum other.costs
+    least zero m v other fate is other_is fate_is expanded open_is = absurd (subst IsExpandedFate (sym (same_Some Open fate fate_is)) expanded)
+    least (suc k) m v other fate is other_is fate_is expanded open_is = absurd cc
 
     once : (k : ℕ) (fate : Fate) → slice_get (Open ∷ []) k ≡ Some fate → IsEndFate fate → occurrences k (End 0) ≡ 1
     once zero fate is end = refl
@@ -75,7 +70,7 @@ module _ (problem : Instance) (goals : (i j : ℕ) → ShareGoal problem i j →
     -- a place of the longer list
     data Place (k : ℕ) (v : View) (fate : Fate) : Type 0 where
       Old : k < length fates → k ≢ j → slice_get views k ≡ Some v → slice_get fates k ≡ Some fate → Place k v fate
-      This : k ≡ j → v ≡ view → fate ≡ Cut conflict (length fates) (length fates + 1) → Place k v fate
+      This : k ≡ j → v ≡ view → fate ≡ Expanded conflict (length fates) (length fates + 1) → Place k v fate
       First : k ≡ length fates → v ≡ x → fate ≡ left → Place k v fate
       Second : k ≡ length fates + 1 → v ≡ y → fate ≡ right → Place k v fate
 
@@ -96,7 +91,7 @@ module _ (problem : Instance) (goals : (i j : ℕ) → ShareGoal problem i j →
         ⊎_elim
         (λ (this : k ≡ j). This this
         (same_Some v view (sym v_is ∙ subst (λ n. slice_get (views ++ x ∷ y ∷ []) n ≡ Some view) (sym this) (old_view j view is)))
-        (same_Some fate (Cut conflict (length fates) (length fates + 1)) (sym fate_is ∙ subst (λ n. slice_get after n ≡ Some (Cut conflict (length fates) (length fates + 1))) (sym this) grown.split)))
+        (same_Some fate (Expanded conflict (length fates) (length fates + 1)) (sym fate_is ∙ subst (λ n. slice_get after n ≡ Some (Expanded conflict (length fates) (length fates + 1))) (sym this) grown.split)))
         (λ (other : k ≢ j). ⊎_elim
         (λ (old : k < length fates). Old old other (sym (slice_get-front views (x ∷ y ∷ []) k (omega arith)) ∙ v_is) (sym (grown.others k old other) ∙ fate_is))
         (λ (new : length fates ≤ k). ⊎_elim
@@ -115,7 +110,7 @@ module _ (problem : Instance) (goals : (i j : ℕ) → ShareGoal problem i j →
     lift_fate : (k : ℕ) (v : View) (fate : Fate) → IsFate problem views fates k v fate → IsFate problem (views ++ x ∷ y ∷ []) after k v fate
     lift_fate k v Open h = h
     lift_fate k v Dead h = h
-    lift_fate k v (Cut c a b) h = record {
+    lift_fate k v (Expanded c a b) h = record {
       live = h.live;
       proper = h.proper;
       early = h.early;
@@ -130,10 +125,10 @@ module _ (problem : Instance) (goals : (i j : ℕ) → ShareGoal problem i j →
     child_fate : (k : ℕ) (child : View) (fate : Fate) → IsChildFate problem view child fate → IsFate problem (views ++ x ∷ y ∷ []) after k child fate
     child_fate k child Open h = h.0
     child_fate k child Dead h = h
-    child_fate k child (Cut c a b) h = absurd h
+    child_fate k child (Expanded c a b) h = absurd h
 
-    this_cut : IsCutAt problem (views ++ x ∷ y ∷ []) after j view conflict (length fates) (length fates + 1)
-    this_cut =
+    this_expanded : IsExpandedAt problem (views ++ x ∷ y ∷ []) after j view conflict (length fates) (length fates + 1)
+    this_expanded =
         let inside : j < length fates = slice_get_within fates j Open was_open in
         record {
           live = searched.each j view Open is was_open;
@@ -151,8 +146,8 @@ module _ (problem : Instance) (goals : (i j : ℕ) → ShareGoal problem i j →
     each_at k v fate (Old old other v_is fate_is) = lift_fate k v fate (searched.each k v fate v_is fate_is)
     each_at k v fate (This this v_is fate_is) =
         subst (λ f. IsFate problem (views ++ x ∷ y ∷ []) after k v f) (sym fate_is)
-        (subst (λ w. IsCutAt problem (views ++ x ∷ y ∷ []) after k w conflict (length fates) (length fates + 1)) (sym v_is)
-        (subst (λ n. IsCutAt problem (views ++ x ∷ y ∷ []) after n view conflict (length fates) (length fates + 1)) (sym this) this_cut))
+        (subst (λ w. IsExpandedAt problem (views ++ x ∷ y ∷ []) after k w conflict (length fates) (length fates + 1)) (sym v_is)
+        (subst (λ n. IsExpandedAt problem (views ++ x ∷ y ∷ []) after n view conflict (length fates) (length fates + 1)) (sym this) this_expanded))
     each_at k v fate (First first v_is fate_is) =
         subst (λ f. IsFate problem (views ++ x ∷ y ∷ []) after k v f) (sym fate_is) (child_fate k v left (subst (λ w. IsChildFate problem view w left) (sym v_is) x_is))
     each_at k v fate (Second second v_is fate_is) =
@@ -161,7 +156,7 @@ module _ (problem : Instance) (goals : (i j : ℕ) → ShareGoal problem i j →
     child_least : (child : View) (fate : Fate) → IsChildFate problem view child fate → fate ≡ Open → sum view.costs ≤ sum child.costs
     child_least child Open h is_open = h.1
     child_least child Dead h is_open = absurd cc
-    child_least child (Cut c a b) h is_open = absurd h
+    child_least child (Expanded c a b) h is_open = absurd h
 
     -- an open node is an old one, or no cheaper than the node that was split
     open_at : (m : ℕ) (v : View) → Place m v Open → ((slice_get views m ≡ Some v) × (slice_get fates m ≡ Some Open)) ⊎ (sum view.costs ≤ sum v.costs)
@@ -170,22 +165,22 @@ module _ (problem : Instance) (goals : (i j : ℕ) → ShareGoal problem i j →
     open_at m v (First first v_is fate_is) = inr (subst (λ (w : View). sum view.costs ≤ sum w.costs) (sym v_is) (child_least x left x_is (sym fate_is)))
     open_at m v (Second second v_is fate_is) = inr (subst (λ (w : View). sum view.costs ≤ sum w.costs) (sym v_is) (child_least y right y_is (sym fate_is)))
 
-    child_not_cut : (child : View) (fate : Fate) → IsChildFate problem view child fate → IsCutFate fate → ⊥
-    child_not_cut child Open h cut = cut
-    child_not_cut child Dead h cut = cut
-    child_not_cut child (Cut c a b) h cut = h
+    child_not_expanded : (child : View) (fate : Fate) → IsChildFate problem view child fate → IsExpandedFate fate → ⊥
+    child_not_expanded child Open h expanded = expanded
+    child_not_expanded child Dead h expanded = expanded
+    child_not_expanded child (Expanded c a b) h expanded = h
 
-    least_at : (k m : ℕ) (v other : View) (fate : Fate) → Place k v fate → Place m other Open → IsCutFate fate → sum v.costs ≤ sum other.costs
-    least_at k m v other fate (Old old differ v_is fate_is) at cut = ⊎_elim
-        (λ (h : (slice_get views m ≡ Some other) × (slice_get fates m ≡ Some Open)). searched.least k m v other fate v_is h.0 fate_is cut h.1)
-        (λ (h : sum view.costs ≤ sum other.costs). let first = searched.least k j v view fate v_is is fate_is cut was_open in omega arith)
+    least_at : (k m : ℕ) (v other : View) (fate : Fate) → Place k v fate → Place m other Open → IsExpandedFate fate → sum v.costs ≤ sum other.costs
+    least_at k m v other fate (Old old differ v_is fate_is) at expanded = ⊎_elim
+        (λ (h : (slice_get views m ≡ Some other) × (slice_get fates m ≡ Some Open)). searched.least k m v other fate v_is h.0 fate_is expanded h.1)
+        (λ (h : sum view.costs ≤ sum other.costs). let first = searched.least k j v view fate v_is is fate_is expanded was_open in omega arith)
         (open_at m other at)
-    least_at k m v other fate (This this v_is fate_is) at cut = subst (λ (w : View). sum w.costs ≤ sum other.costs) (sym v_is) (⊎_elim
+    least_at k m v other fate (This this v_is fate_is) at expanded = subst (λ (w : View). sum w.costs ≤ sum other.costs) (sym v_is) (⊎_elim
         (λ (h : (slice_get views m ≡ Some other) × (slice_get fates m ≡ Some Open)). least m other h.0 h.1)
         (λ (h : sum view.costs ≤ sum other.costs). h)
         (open_at m other at))
-    least_at k m v other fate (First first v_is fate_is) at cut = absurd (child_not_cut x left x_is (subst IsCutFate fate_is cut))
-    least_at k m v other fate (Second second v_is fate_is) at cut = absurd (child_not_cut y right y_is (subst IsCutFate fate_is cut))
+    least_at k m v other fate (First first v_is fate_is) at expanded = absurd (child_not_expanded x left x_is (subst IsExpandedFate fate_is expanded))
+    least_at k m v other fate (Second second v_is fate_is) at expanded = absurd (child_not_expanded y right y_is (subst IsExpandedFate fate_is expanded))
 
     early : tick_of conflict < count * free_cell_count problem.grid + free_cell_count problem.grid
     early = conflict_early problem view (searched.each j view Open is was_open) goals (count * free_cell_count problem.grid) (λ i. searched.low j view i is) conflict meet
@@ -225,7 +220,7 @@ module _ (problem : Instance) (goals : (i j : ℕ) → ShareGoal problem i j →
           lengths = omega arith;
           first = (searched.first.0, old_view 0 searched.first.0 searched.first.1, searched.first.2);
           each = λ k v fate v_is fate_is. each_at k v fate (place k v fate v_is fate_is);
-          least = λ k m v other fate v_is other_is fate_is cut is_open. least_at k m v other fate (place k v fate v_is fate_is) (place m other Open other_is is_open) cut;
+          least = λ k m v other fate v_is other_is fate_is expanded is_open. least_at k m v other fate (place k v fate v_is fate_is) (place m other Open other_is is_open) expanded;
           tree = IsOneTree-grown fates after j conflict left right Open grown was_open tt count searched.tree;
           low = λ k v i v_is. low_at k v v_is i;
         }

@@ -8,7 +8,7 @@ use Rattle.mapf_model.specs.declared.item.Item.{Item}
 use Rattle.mapf_model.specs.Blocks.{LabelBlock}
 use Rattle.mapf_model.specs.Tree.{ConstraintTree, Split, Leaf, SplitNode, LeafNode, node_of, nodes_of, nodes_of_all}
 use Rattle.mapf_cbs.specs.declared.node.Fate.{Fate}
-use Rattle.mapf_cbs.specs.declared.node.Fate.TheVariants.{Open, Dead, Cut}
+use Rattle.mapf_cbs.specs.declared.node.Fate.TheVariants.{Open, Dead, Expanded}
 use Rattle.mapf_cbs.specs.Search.{View, IsEndFate, IsTreeAt}
 
 -- once these items are followed by those of the trees that are owed, they are those of the whole tree
@@ -19,16 +19,8 @@ pub reverse_push : (xs : List ℕ) (x : ℕ) → reverse (xs ++ x ∷ []) ≡ x 
 reverse_push xs x = reverse-append xs (x ∷ [])
 
 module _ (agents : ℕ) (views : List View) (fates : List Fate) where
-  first : (trees : List ConstraintTree) → AllZip (IsTreeAt agents views fates) (0 ∷ []) trees → (tree : ConstraintTree) × (map node_of [] ++ nodes_of_all trees ≡ nodes_of tree) × IsTreeAt agents views fates 0 tree
-  first [] zip = absurd zip
-  first (tree ∷ []) zip = (tree, append-nil (nodes_of tree), zip.0)
-  first (tree ∷ other ∷ trees) zip = absurd zip.1
-
-  pub leads_first : Leads agents views fates [] (0 ∷ [])
-  leads_first = record { leads = first }
-
   module _ (items : List Item) (k : ℕ) (owed : List ℕ) (before : Leads agents views fates items (k ∷ owed)) (item : Item) where
-    after_split : (conflict : Conflict) (a b : ℕ) → slice_get fates k ≡ Some (Cut conflict a b) → node_of item ≡ SplitNode conflict →
+    after_split : (conflict : Conflict) (a b : ℕ) → slice_get fates k ≡ Some (Expanded conflict a b) → node_of item ≡ SplitNode conflict →
         (trees : List ConstraintTree) → AllZip (IsTreeAt agents views fates) (a ∷ b ∷ owed) trees → (tree : ConstraintTree) × (map node_of (items ++ item ∷ []) ++ nodes_of_all trees ≡ nodes_of tree) × IsTreeAt agents views fates 0 tree
     after_split conflict a b is e [] zip = absurd zip
     after_split conflict a b is e (left ∷ []) zip = absurd zip.1
@@ -36,7 +28,7 @@ module _ (agents : ℕ) (views : List View) (fates : List Fate) where
         let whole = before.leads (Split conflict left right ∷ trees) ((a, b, is, zip.0, zip.1.0), zip.1.1) in
         (whole.0, (let f = map_push node_of items item in rw f (rw e (simp append_assoc (simp append_assoc at whole.1)))), whole.2)
 
-    pub leads_split : (conflict : Conflict) (a b : ℕ) → slice_get fates k ≡ Some (Cut conflict a b) → node_of item ≡ SplitNode conflict → Leads agents views fates (items ++ item ∷ []) (a ∷ b ∷ owed)
+    pub leads_split : (conflict : Conflict) (a b : ℕ) → slice_get fates k ≡ Some (Expanded conflict a b) → node_of item ≡ SplitNode conflict → Leads agents views fates (items ++ item ∷ []) (a ∷ b ∷ owed)
     leads_split conflict a b is e = record { leads = after_split conflict a b is e }
 
     pub leads_leaf : (blocks : List LabelBlock) → IsTreeAt agents views fates k (Leaf blocks) → node_of item ≡ LeafNode blocks → Leads agents views fates (items ++ item ∷ []) owed
@@ -97,7 +89,7 @@ pub no_items : {X : Type 0} (xs : List X) → length xs ≡ 0 → xs ≡ []
 no_items [] e = refl
 no_items (x ∷ xs) e = absurd (omega arith)
 
-pub end_of : (fate : Fate) → ((conflict : Conflict) (a b : ℕ) → fate ≡ Cut conflict a b → ⊥) → IsEndFate fate
-end_of Open not_cut = tt
-end_of Dead not_cut = tt
-end_of (Cut conflict a b) not_cut = not_cut conflict a b refl
+pub end_of : (fate : Fate) → ((conflict : Conflict) (a b : ℕ) → fate ≡ Expanded conflict a b → ⊥) → IsEndFate fate
+end_of Open not_expanded = tt
+end_of Dead not_expanded = tt
+end_of (Expanded conflict a b) not_expanded = not_expanded conflict a b refl

@@ -13,15 +13,15 @@ use Rattle.mapf_model.proofs.ClaimLemmas.{slice_get_inside}
 use Rattle.mapf_model.proofs.SplitLemmas.{Contains-cons_cases}
 use Rattle.mapf_model.proofs.SumLemmas.{snoc_get}
 use Rattle.mapf_cbs.specs.declared.node.Fate.{Fate}
-use Rattle.mapf_cbs.specs.declared.node.Fate.TheVariants.{Open, Cut}
+use Rattle.mapf_cbs.specs.declared.node.Fate.TheVariants.{Open, Expanded}
 use Rattle.mapf_cbs.specs.declared.node.Node.TheVariants.{Root, Child}
 use Rattle.mapf_cbs.specs.declared.whole_node.WholeNode.{WholeNode}
 use Rattle.std.specs.declared.alloc.Global.{Global}
-use Rattle.mapf_cbs.specs.Arena.{IsRootView}
+use Rattle.mapf_cbs.specs.Nodes.{IsRootView}
 use Rattle.mapf_cbs.specs.Answer.{IsTreeOf, IsShownImpossible}
 use Rattle.mapf_cbs.specs.Search.{View, IsLive, IsTreeAt, left_agent, right_agent, left_bar, right_bar}
 use Rattle.mapf_cbs.specs.State.{IsOpenSet, key_cmp, fate_of, with_key}
-use Rattle.mapf_cbs.specs.Whole.{IsWhole, AreWhole, HaveRoutes, IsWholeBorn, IsLeastOpen, IsLeastBelow, IsWholeState, IsWholePopped}
+use Rattle.mapf_cbs.specs.Whole.{IsWhole, AreWhole, HaveAgentPaths, IsWholeChild, IsLeastOpen, IsLeastBelow, IsWholeState, IsWholePopped}
 use Rattle.mapf_cbs.proofs.AnswerLemmas.{answer_impossible, state_root, root_views}
 use Rattle.mapf_cbs.proofs.ChildLemmas.{Contains-later}
 use Rattle.mapf_cbs.proofs.OpenLemmas.{Contains-first}
@@ -127,7 +127,7 @@ module _ (problem : Instance) (nodes : List WholeNode) (fates : List Fate) (coun
         small = small;
       };
       whole = s.whole;
-      routes = s.routes;
+      agent_paths = s.agent_paths;
     }
 
   -- no node is open
@@ -157,16 +157,16 @@ whole_first problem paths node view is_root live is small = record {
   keys = (node.total, 0) ∷ [];
   state = state_root problem paths node.total view is_root live is.total small;
   whole = subst (λ vs. AreWhole (node ∷ []) vs) (sym (root_views problem paths node.total view is_root live is.total small)) (record { lengths = refl; each = each_node });
-  routes = each_route;
+  agent_paths = each_agent_path;
 }
   where
     each_node : (k : ℕ) (n : WholeNode) (v : View) → slice_get (node ∷ []) k ≡ Some n → slice_get (view ∷ []) k ≡ Some v → IsWhole n v
     each_node zero n v n_is v_is = subst (λ x. IsWhole x v) (same_Some node n n_is) (subst (λ w. IsWhole node w) (same_Some view v v_is) is)
     each_node (suc k) n v n_is v_is = absurd cc
 
-    each_route : HaveRoutes (node ∷ []) (length problem.agents)
-    each_route zero n n_is = subst (λ (x : WholeNode). length x.routes.items ≡ length problem.agents) (same_Some node n n_is) (is.count ∙ live.counted.paths)
-    each_route (suc k) n n_is = absurd cc
+    each_agent_path : HaveAgentPaths (node ∷ []) (length problem.agents)
+    each_agent_path zero n n_is = subst (λ (x : WholeNode). length x.agent_paths.items ≡ length problem.agents) (same_Some node n n_is) (is.count ∙ live.counted.paths)
+    each_agent_path (suc k) n n_is = absurd cc
 
 whole_more : (nodes : List WholeNode) (views : List View) → AreWhole nodes views → (node : WholeNode) (view : View) → IsWhole node view → AreWhole (nodes ++ node ∷ []) (views ++ view ∷ [])
 whole_more nodes views whole node view is =
@@ -203,16 +203,16 @@ module _ (problem : Instance) (nodes : List WholeNode) (fates : List Fate) (coun
 
   -- the node is split
   pub whole_grown : ((i j : ℕ) → ShareGoal problem i j → ⊥) → (conflict : Conflict) → HasConflict whole_hand.view.paths conflict → AreConflictFreeBefore whole_hand.view.paths (tick_of conflict) → tick_of conflict < 1000000 →
-      (l r : WholeNode) (a b : Option ℕ) → IsWholeBorn problem whole_hand.view (left_agent conflict) (left_bar conflict) l a → IsWholeBorn problem whole_hand.view (right_agent conflict) (right_bar conflict) r b →
-      length l.routes.items ≡ length problem.agents → length r.routes.items ≡ length problem.agents →
-      IsWholeState problem ((nodes ++ l ∷ []) ++ r ∷ []) (slice_set ((fates ++ fate_of a ∷ []) ++ fate_of b ∷ []) k (Cut conflict (length nodes) (length nodes + 1))) (count + 1)
+      (l r : WholeNode) (a b : Option ℕ) → IsWholeChild problem whole_hand.view (left_agent conflict) (left_bar conflict) l a → IsWholeChild problem whole_hand.view (right_agent conflict) (right_bar conflict) r b →
+      length l.agent_paths.items ≡ length problem.agents → length r.agent_paths.items ≡ length problem.agents →
+      IsWholeState problem ((nodes ++ l ∷ []) ++ r ∷ []) (slice_set ((fates ++ fate_of a ∷ []) ++ fate_of b ∷ []) k (Expanded conflict (length nodes) (length nodes + 1))) (count + 1)
   whole_grown goals conflict meet apart early l r a b left right l_size r_size =
       let size = p.whole.lengths in let sizes = p.popped.searched.lengths in
       let same : length fates ≡ length nodes = omega (arith, size, sizes) in
-      let after = slice_set (fates ++ fate_of a ∷ fate_of b ∷ []) k (Cut conflict (length fates) (length fates + 1)) in
-      let fates_are : slice_set (fates ++ fate_of a ∷ fate_of b ∷ []) k (Cut conflict (length fates) (length fates + 1)) ≡ slice_set ((fates ++ fate_of a ∷ []) ++ fate_of b ∷ []) k (Cut conflict (length nodes) (length nodes + 1)) =
-      ap (λ n. slice_set (fates ++ fate_of a ∷ fate_of b ∷ []) k (Cut conflict n (n + 1))) same
-      ∙ ap (λ fs. slice_set fs k (Cut conflict (length nodes) (length nodes + 1))) (sym (two_pushed fates (fate_of a) (fate_of b))) in
+      let after = slice_set (fates ++ fate_of a ∷ fate_of b ∷ []) k (Expanded conflict (length fates) (length fates + 1)) in
+      let fates_are : slice_set (fates ++ fate_of a ∷ fate_of b ∷ []) k (Expanded conflict (length fates) (length fates + 1)) ≡ slice_set ((fates ++ fate_of a ∷ []) ++ fate_of b ∷ []) k (Expanded conflict (length nodes) (length nodes + 1)) =
+      ap (λ n. slice_set (fates ++ fate_of a ∷ fate_of b ∷ []) k (Expanded conflict n (n + 1))) same
+      ∙ ap (λ fs. slice_set fs k (Expanded conflict (length nodes) (length nodes + 1))) (sym (two_pushed fates (fate_of a) (fate_of b))) in
       let grown = grown_fates fates k conflict (fate_of a) (fate_of b) (slice_get_within fates k Open whole_hand.is_open) (end_of_total a) (end_of_total b) in
       let left_in = left_known whole_hand.view.paths conflict meet in
       let right_in = right_known whole_hand.view.paths conflict meet in
@@ -221,10 +221,10 @@ module _ (problem : Instance) (nodes : List WholeNode) (fates : List Fate) (coun
       subst (λ fs. IsWholeState problem ((nodes ++ l ∷ []) ++ r ∷ []) fs (count + 1)) fates_are (record {
         changes = (p.changes ++ Child k (left_agent conflict) (left_bar conflict) left.found ∷ []) ++ Child k (right_agent conflict) (right_bar conflict) right.found ∷ [];
         keys = with_key (with_key p.rest a (length p.changes)) b (length p.changes + 1);
-        state = state_grown problem p.changes fates p.rest count total k p.popped goals whole_hand.view whole_hand.is whole_hand.is_open whole_hand.total_is conflict meet apart early left.found right.found a b left.born right.born after grown left_in right_in left_low right_low;
+        state = state_grown problem p.changes fates p.rest count total k p.popped goals whole_hand.view whole_hand.is whole_hand.is_open whole_hand.total_is conflict meet apart early left.found right.found a b left.generated right.generated after grown left_in right_in left_low right_low;
         whole = subst (λ vs. AreWhole ((nodes ++ l ∷ []) ++ r ∷ []) vs)
-            (two_pushed p.popped.views left.born.child right.born.child ∙ sym (grown_views problem p.changes fates p.rest count total k p.popped goals whole_hand.view whole_hand.is whole_hand.is_open whole_hand.total_is conflict meet apart early left.found right.found a b left.born right.born after grown left_in right_in left_low right_low))
-            (whole_more (nodes ++ l ∷ []) (p.popped.views ++ left.born.child ∷ []) (whole_more nodes p.popped.views p.whole l left.born.child left.whole) r right.born.child right.whole);
-        routes = each_more (λ i n. length n.routes.items ≡ length problem.agents) (nodes ++ l ∷ []) r (length (nodes ++ l ∷ [])) refl
-            (each_more (λ i n. length n.routes.items ≡ length problem.agents) nodes l (length nodes) refl p.routes l_size) r_size;
+            (two_pushed p.popped.views left.generated.child right.generated.child ∙ sym (grown_views problem p.changes fates p.rest count total k p.popped goals whole_hand.view whole_hand.is whole_hand.is_open whole_hand.total_is conflict meet apart early left.found right.found a b left.generated right.generated after grown left_in right_in left_low right_low))
+            (whole_more (nodes ++ l ∷ []) (p.popped.views ++ left.generated.child ∷ []) (whole_more nodes p.popped.views p.whole l left.generated.child left.whole) r right.generated.child right.whole);
+        agent_paths = each_more (λ i n. length n.agent_paths.items ≡ length problem.agents) (nodes ++ l ∷ []) r (length (nodes ++ l ∷ [])) refl
+            (each_more (λ i n. length n.agent_paths.items ≡ length problem.agents) nodes l (length nodes) refl p.agent_paths l_size) r_size;
       })

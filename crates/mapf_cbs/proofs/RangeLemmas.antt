@@ -18,10 +18,10 @@ use Rattle.mapf_model.proofs.ClaimLemmas.{slice_get_inside}
 use Rattle.mapf_model.proofs.DecidedLemmas.{cost_unique}
 use Rattle.mapf_model.proofs.PathLemmas.{IsCost-tight}
 use Rattle.mapf_cbs.specs.declared.node.Fate.{Fate}
-use Rattle.mapf_cbs.specs.declared.node.Fate.TheVariants.{Open, Dead, Cut}
+use Rattle.mapf_cbs.specs.declared.node.Fate.TheVariants.{Open, Dead, Expanded}
 use Rattle.mapf_cbs.specs.Search.{View, IsLive, IsDead, IsSearched, AreBlocksOf, IsTreeAt}
 use Rattle.mapf_cbs.proofs.ChildLemmas.{step_free}
-use Rattle.mapf_cbs.proofs.ViewLemmas.{route_of}
+use Rattle.mapf_cbs.proofs.ViewLemmas.{agent_path_of}
 
 free_on_grid : (grid : GridMap) (cell : ℕ) → IsGridMap grid → IsFree grid cell → IsOnGrid grid cell
 free_on_grid grid cell shape free =
@@ -63,7 +63,7 @@ module _ (problem : Instance) (shape : IsGridMap problem.grid) where
   live_entries : (view : View) → IsLive problem view → AreEntriesInRange problem view
   live_entries view live i within =
       let agent = slice_get_inside problem.agents i within in
-      let r = route_of problem view live.counted i agent.0 agent.1 in
+      let r = agent_path_of problem view live.counted i agent.0 agent.1 in
       let labels = (live.each i agent.0 r.0 r.1 agent.1 r.2 r.3).labels in
       (labels.rising, labels.ranges)
 
@@ -73,7 +73,7 @@ module _ (problem : Instance) (shape : IsGridMap problem.grid) where
       subst (λ n. AllPairs IsBefore (view.entries n) × All (IsEntryInRange problem.grid) (view.entries n)) (sym same) (dead.blocked.labels.rising, dead.blocked.labels.ranges))
       (λ (other : i ≢ dead.who).
       let agent = slice_get_inside problem.agents i within in
-      let r = route_of problem view dead.counted i agent.0 agent.1 in
+      let r = agent_path_of problem view dead.counted i agent.0 agent.1 in
       let labels = (dead.each i agent.0 r.0 r.1 other agent.1 r.2 r.3).labels in
       (labels.rising, labels.ranges))
       (cases_eq i dead.who)
@@ -95,15 +95,15 @@ module _ (problem : Instance) (shape : IsGridMap problem.grid) where
   }
 
   pub tree_in_range : (views : List View) (fates : List Fate) (count : ℕ) → IsSearched problem views fates count → (tree : ConstraintTree) (k : ℕ) → IsTreeAt (length problem.agents) views fates k tree → IsTreeInRange problem.grid (length problem.agents) tree
-  tree_in_range views fates count searched (Split conflict left right) k (a, b, cut, on_left, on_right) =
+  tree_in_range views fates count searched (Split conflict left right) k (a, b, expanded, on_left, on_right) =
       let size = searched.lengths in
-      let inside : k < length fates = slice_get_within fates k (Cut conflict a b) cut in
+      let inside : k < length fates = slice_get_within fates k (Expanded conflict a b) expanded in
       let view = slice_get_inside views k (omega arith) in
-      let at_cut = searched.each k view.0 (Cut conflict a b) view.1 cut in
-      (conflict_in_range conflict at_cut.proper at_cut.early, tree_in_range views fates count searched left a on_left, tree_in_range views fates count searched right b on_right)
+      let at_expanded = searched.each k view.0 (Expanded conflict a b) view.1 expanded in
+      (conflict_in_range conflict at_expanded.proper at_expanded.early, tree_in_range views fates count searched left a on_left, tree_in_range views fates count searched right b on_right)
   tree_in_range views fates count searched (Leaf blocks) k (view, Open, view_is, fate_is, end, are) = leaf_in_range view blocks are (live_entries view (searched.each k view Open view_is fate_is))
   tree_in_range views fates count searched (Leaf blocks) k (view, Dead, view_is, fate_is, end, are) = leaf_in_range view blocks are (dead_entries view (searched.each k view Dead view_is fate_is))
-  tree_in_range views fates count searched (Leaf blocks) k (view, Cut c a b, view_is, fate_is, end, are) = absurd end
+  tree_in_range views fates count searched (Leaf blocks) k (view, Expanded c a b, view_is, fate_is, end, are) = absurd end
   tree_in_range views fates count searched (Clash i j) k none = absurd none
 
   module _ (view : View) (live : IsLive problem view) (short : All (λ path. length path ≤ 10000000) view.paths) (few : length problem.agents ≤ 200) where
@@ -120,10 +120,10 @@ module _ (problem : Instance) (shape : IsGridMap problem.grid) where
           few = omega arith;
           paths = λ k d within.
               let agent = slice_get_inside problem.agents k (omega arith) in
-              let r = route_of problem view live.counted k agent.0 agent.1 in
-              let route = live.each k agent.0 r.0 r.1 agent.1 r.2 r.3 in
+              let r = agent_path_of problem view live.counted k agent.0 agent.1 in
+              let agent_path = live.each k agent.0 r.0 r.1 agent.1 r.2 r.3 in
               let here : get_or view.paths k d ≡ r.0 = get_or_from_slice_get view.paths k r.0 d r.2 in
-              rw here (path_in_range problem.grid agent.0 r.0 shape route.lawful route.tight (short_at k r.0 r.2));
+              rw here (path_in_range problem.grid agent.0 r.0 shape agent_path.lawful agent_path.tight (short_at k r.0 r.2));
         }
 
     cost_at_most : (i cost : ℕ) → slice_get view.costs i ≡ Some cost → cost ≤ 9999999
@@ -131,9 +131,9 @@ module _ (problem : Instance) (shape : IsGridMap problem.grid) where
         let count = live.counted.costs in
         let inside : i < length view.costs = slice_get_within view.costs i cost is in
         let agent = slice_get_inside problem.agents i (omega arith) in
-        let r = route_of problem view live.counted i agent.0 agent.1 in
-        let route = live.each i agent.0 r.0 cost agent.1 r.2 is in
-        let same : cost ≡ length r.0 - 1 = cost_unique agent.0.goal r.0 cost (length r.0 - 1) route.is_cost (IsCost-tight problem.grid agent.0 r.0 route.lawful route.tight) in
+        let r = agent_path_of problem view live.counted i agent.0 agent.1 in
+        let agent_path = live.each i agent.0 r.0 cost agent.1 r.2 is in
+        let same : cost ≡ length r.0 - 1 = cost_unique agent.0.goal r.0 cost (length r.0 - 1) agent_path.is_cost (IsCost-tight problem.grid agent.0 r.0 agent_path.lawful agent_path.tight) in
         let low = short_at i r.0 r.2 in
         omega (arith, same, low)
 

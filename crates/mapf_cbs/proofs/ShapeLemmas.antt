@@ -4,7 +4,7 @@ use Rattle.std.proofs.lemmas.Bool.{cases_eq, cond_both, eqb-true}
 use Rattle.std.proofs.lemmas.Option.{slice_get_within, same_Some}
 use Rattle.mapf_model.specs.declared.conflict.Conflict.{Conflict}
 use Rattle.mapf_cbs.specs.declared.node.Fate.{Fate}
-use Rattle.mapf_cbs.specs.declared.node.Fate.TheVariants.{Cut}
+use Rattle.mapf_cbs.specs.declared.node.Fate.TheVariants.{Expanded}
 use Rattle.mapf_cbs.specs.Search.{IsEndFate, Shape, Node, End, splits, occurrences, IsShape, IsOneTree}
 
 -- the end j becomes a node with two ends
@@ -66,7 +66,7 @@ occurrences-past fates k m (End n) (same, fate, is, end) past =
 -- where one end is split and two nodes are added
 pub record IsGrown (before after : List Fate) (j : ℕ) (conflict : Conflict) (left right : Fate) : Type 0 where
   pub size : length after ≡ length before + 2
-  pub split : slice_get after j ≡ Some (Cut conflict (length before) (length before + 1))
+  pub split : slice_get after j ≡ Some (Expanded conflict (length before) (length before + 1))
   pub first : slice_get after (length before) ≡ Some left
   pub second : slice_get after (length before + 1) ≡ Some right
   pub others : (k : ℕ) → k < length before → k ≢ j → slice_get after k ≡ slice_get before k
@@ -76,12 +76,12 @@ pub record IsGrown (before after : List Fate) (j : ℕ) (conflict : Conflict) (l
 module _ (before after : List Fate) (j : ℕ) (conflict : Conflict) (left right fate : Fate) (grown : IsGrown before after j conflict left right) (was : slice_get before j ≡ Some fate) (was_end : IsEndFate fate) where
   IsShape-graft : (k : ℕ) (shape : Shape) → IsShape before k shape → IsShape after k (graft j (length before) (length before + 1) shape)
   IsShape-graft k (Node l r) (c, x, y, is, on_left, on_right) =
-      let within : k < length before = slice_get_within before k (Cut c x y) is in
-      let other : k ≢ j = λ e. subst IsEndFate (same_Some fate (Cut c x y) (sym was ∙ subst (λ n. slice_get before n ≡ Some (Cut c x y)) e is)) was_end in
+      let within : k < length before = slice_get_within before k (Expanded c x y) is in
+      let other : k ≢ j = λ e. subst IsEndFate (same_Some fate (Expanded c x y) (sym was ∙ subst (λ n. slice_get before n ≡ Some (Expanded c x y)) e is)) was_end in
       (c, x, y, grown.others k within other ∙ is, IsShape-graft x l on_left, IsShape-graft y r on_right)
   IsShape-graft k (End m) (same, f, is, end) = ⊎_elim
       (λ (e : j ≡ m). subst (λ s. IsShape after k s) (sym (graft_here j (length before) (length before + 1) m e))
-      (conflict, length before, length before + 1, subst (λ n. slice_get after n ≡ Some (Cut conflict (length before) (length before + 1))) (e ∙ sym same) grown.split, (refl, left, grown.first, grown.left_end), (refl, right, grown.second, grown.right_end)))
+      (conflict, length before, length before + 1, subst (λ n. slice_get after n ≡ Some (Expanded conflict (length before) (length before + 1))) (e ∙ sym same) grown.split, (refl, left, grown.first, grown.left_end), (refl, right, grown.second, grown.right_end)))
       (λ (e : j ≢ m).
       let within : k < length before = slice_get_within before k f is in
       subst (λ s. IsShape after k s) (sym (graft_not j (length before) (length before + 1) m e))
@@ -107,7 +107,7 @@ module _ (before after : List Fate) (j : ℕ) (conflict : Conflict) (left right 
             (λ (not_second : k ≢ length before + 1).
             let within : k < length after = slice_get_within after k f is in
             let old : k < length before = omega arith in
-            let other : k ≢ j = λ e. subst IsEndFate (same_Some f (Cut conflict (length before) (length before + 1)) (sym is ∙ subst (λ n. slice_get after n ≡ Some (Cut conflict (length before) (length before + 1))) (sym e) grown.split)) end in
+            let other : k ≢ j = λ e. subst IsEndFate (same_Some f (Expanded conflict (length before) (length before + 1)) (sym is ∙ subst (λ n. slice_get after n ≡ Some (Expanded conflict (length before) (length before + 1))) (sym e) grown.split)) end in
             occurrences-graft_other j (length before) (length before + 1) k other not_first not_second tree.shape ∙ tree.once k f (sym (grown.others k old other) ∙ is) end)
             (cases_eq k (length before + 1)))
             (cases_eq k (length before));

@@ -14,11 +14,11 @@ use Rattle.mapf_model.specs.Plan.{Instance}
 use Rattle.mapf_model.specs.Tree.{ConstraintTree, Leaf, Clash, ShareGoal, root}
 use Rattle.mapf_model.proofs.SumLemmas.{snoc_get}
 use Rattle.mapf_cbs.specs.Answer.{IsTreeOf, IsShownImpossible}
-use Rattle.mapf_cbs.specs.Arena.{IsRootView}
+use Rattle.mapf_cbs.specs.Nodes.{IsRootView}
 use Rattle.mapf_cbs.specs.Search.{View, IsLive}
 use Rattle.mapf_cbs.specs.Start.{HaveGoal, IsShortest, AreShortest, SomeGoalIsUnreachable}
 use Rattle.mapf_cbs.proofs.AnswerLemmas.{is_shown_impossible}
-use Rattle.mapf_cbs.proofs.RouteLemmas.{cheapest_of_shortest}
+use Rattle.mapf_cbs.proofs.CheapestPathLemmas.{cheapest_of_shortest}
 
 -- an element of a list that is known by another name
 pub read_through : {X : Type 0} (xs ys : List X) (i : ℕ) (x : X) → xs ≡ ys → i < length xs → x ≡ get_or xs i x → slice_get ys i ≡ Some x

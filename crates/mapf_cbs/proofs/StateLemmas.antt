@@ -14,12 +14,12 @@ use Rattle.mapf_spacetime.specs.declared.found.Found.{Found}
 use Rattle.mapf_cbs.specs.declared.node.Node.{Node}
 use Rattle.mapf_cbs.specs.declared.node.Node.TheVariants.{Root, Child}
 use Rattle.mapf_cbs.specs.declared.node.Fate.{Fate}
-use Rattle.mapf_cbs.specs.declared.node.Fate.TheVariants.{Open, Cut}
+use Rattle.mapf_cbs.specs.declared.node.Fate.TheVariants.{Open, Expanded}
 use Rattle.mapf_cbs.specs.Search.{View, IsLive, IsEndFate, IsSearched, left_agent, right_agent, left_bar, right_bar}
-use Rattle.mapf_cbs.specs.Arena.{AreViews, IsNodeView, IsChildView, IsNodeFor, HasTableBar}
+use Rattle.mapf_cbs.specs.Nodes.{AreViews, IsNodeView, IsChildView, IsNodeFor, HasTableBar}
 use Rattle.mapf_constraints.specs.BarSets.{tick_of as bar_tick}
-use Rattle.mapf_cbs.specs.Route.{IsTableBar}
-use Rattle.mapf_cbs.specs.Born.{IsBorn, IsBornState}
+use Rattle.mapf_cbs.specs.CheapestPath.{IsTableBar}
+use Rattle.mapf_cbs.specs.GeneratedChild.{IsGeneratedChild, IsGeneratedState}
 use Rattle.mapf_cbs.specs.State.{IsOpenSet, IsState, IsPopped, fate_of, with_key}
 use Rattle.mapf_cbs.proofs.SumLemmas.{slice_get-set_same, slice_get-set_other, length-slice_set, slice_get-front, slice_get-here, slice_get-second, length-two_more}
 use Rattle.mapf_cbs.proofs.ShapeLemmas.{IsGrown}
@@ -38,9 +38,9 @@ right_constraints_are constraints (Swap i j from to tick) = refl
 pub two_pushed : {X : Type 0} (xs : List X) (x y : X) → (xs ++ x ∷ []) ++ y ∷ [] ≡ xs ++ x ∷ y ∷ []
 two_pushed xs x y = append_assoc xs (x ∷ []) (y ∷ [])
 
-born_fate : (problem : Instance) (view child : View) (total : Option ℕ) → IsBornState problem view child total → IsChildFate problem view child (fate_of total)
-born_fate problem view child None is = is
-born_fate problem view child (Some total) is = (is.0, let a = is.1 in let b = is.2 in omega arith)
+generated_fate : (problem : Instance) (view child : View) (total : Option ℕ) → IsGeneratedState problem view child total → IsChildFate problem view child (fate_of total)
+generated_fate problem view child None is = is
+generated_fate problem view child (Some total) is = (is.0, let a = is.1 in let b = is.2 in omega arith)
 
 pub end_of_total : (total : Option ℕ) → IsEndFate (fate_of total)
 end_of_total None = tt
@@ -63,17 +63,17 @@ two_more_at xs x y z k is =
 
 -- the fates after a split
 pub grown_fates : (fates : List Fate) (k : ℕ) (conflict : Conflict) (left right : Fate) → k < length fates → IsEndFate left → IsEndFate right →
-    IsGrown fates (slice_set (fates ++ left ∷ right ∷ []) k (Cut conflict (length fates) (length fates + 1))) k conflict left right
+    IsGrown fates (slice_set (fates ++ left ∷ right ∷ []) k (Expanded conflict (length fates) (length fates + 1))) k conflict left right
 grown_fates fates k conflict left right inside left_end right_end =
     let size = length-two_more fates left right in
-    let cut = Cut conflict (length fates) (length fates + 1) in
+    let expanded = Expanded conflict (length fates) (length fates + 1) in
     let more = fates ++ left ∷ right ∷ [] in
     record {
-      size = length-slice_set more k cut ∙ size;
-      split = slice_get-set_same more k cut (omega arith);
-      first = slice_get-set_other more k (length fates) cut (λ e. omega arith) ∙ slice_get-here fates (right ∷ []) left;
-      second = slice_get-set_other more k (length fates + 1) cut (λ e. omega arith) ∙ slice_get-second fates left right;
-      others = λ m within other. slice_get-set_other more k m cut other ∙ slice_get-front fates (left ∷ right ∷ []) m within;
+      size = length-slice_set more k expanded ∙ size;
+      split = slice_get-set_same more k expanded (omega arith);
+      first = slice_get-set_other more k (length fates) expanded (λ e. omega arith) ∙ slice_get-here fates (right ∷ []) left;
+      second = slice_get-set_other more k (length fates + 1) expanded (λ e. omega arith) ∙ slice_get-second fates left right;
+      others = λ m within other. slice_get-set_other more k m expanded other ∙ slice_get-front fates (left ∷ right ∷ []) m within;
       left_end = left_end;
       right_end = right_end;
     }
@@ -144,11 +144,8 @@ with_key_new keys (Some t) n s e = let same : t ≡ s = same_Some t s e in subst
 module _ (problem : Instance) (nodes : List Node) (fates : List Fate) (rest : List (ℕ × ℕ)) (count total k : ℕ) (popped : IsPopped problem nodes fates rest count total k)
     (goals : (i j : ℕ) → ShareGoal problem i j → ⊥) (view : View) (is : slice_get popped.views k ≡ Some view) (is_open : slice_get fates k ≡ Some Open) (total_is : total ≡ sum view.costs)
     (conflict : Conflict) (meet : HasConflict view.paths conflict) (apart : AreConflictFreeBefore view.paths (tick_of conflict)) (early : tick_of conflict < 1000000)
-    (f g : Found) (s t : Option ℕ) (left : IsBorn problem view (left_agent conflict) (left_bar conflict) f s) (right : IsBorn problem view (right_agent conflict) (right_bar conflict) g t)
+    (f g : Found) (s t : Option ℕ) (left : IsGeneratedChild problem view (left_agent conflict) (left_bar conflict) f s) (right : IsGeneratedChild problem view (right_agent conflict) (right_bar conflict) g t)
   where
-    after_keys : List (ℕ × ℕ)
-    after_keys = with_key (with_key rest s (length nodes)) t (length nodes + 1)
-
     same_length : length popped.views ≡ length nodes
     same_length = popped.are.lengths
 
@@ -168,13 +165,13 @@ module _ (problem : Instance) (nodes : List Node) (fates : List Fate) (rest : Li
       second_view : slice_get (popped.views ++ left.child ∷ right.child ∷ []) (length nodes + 1) ≡ Some right.child
       second_view = subst (λ n. slice_get (popped.views ++ left.child ∷ right.child ∷ []) (n + 1) ≡ Some right.child) same_length (slice_get-second popped.views left.child right.child)
 
-      born_sum : (child : View) (state : Option ℕ) (n : ℕ) → state ≡ Some n → IsBornState problem view child state → n ≡ sum child.costs
-      born_sum child None n e st = absurd cc
-      born_sum child (Some m) n e st = sym (same_Some m n e) ∙ st.1
+      generated_sum : (child : View) (state : Option ℕ) (n : ℕ) → state ≡ Some n → IsGeneratedState problem view child state → n ≡ sum child.costs
+      generated_sum child None n e st = absurd cc
+      generated_sum child (Some m) n e st = sym (same_Some m n e) ∙ st.1
 
-      born_small : (child : View) (state : Option ℕ) (n : ℕ) → state ≡ Some n → IsBornState problem view child state → n ≤ sum view.costs + 2 ^ 32
-      born_small child None n e st = absurd cc
-      born_small child (Some m) n e st = subst (λ z. z ≤ sum view.costs + 2 ^ 32) (same_Some m n e) st.3
+      generated_small : (child : View) (state : Option ℕ) (n : ℕ) → state ≡ Some n → IsGeneratedState problem view child state → n ≤ sum view.costs + 2 ^ 32
+      generated_small child None n e st = absurd cc
+      generated_small child (Some m) n e st = subst (λ z. z ≤ sum view.costs + 2 ^ 32) (same_Some m n e) st.3
 
       old_key : (x : ℕ × ℕ) → Contains rest x → (v : View) × (slice_get (popped.views ++ left.child ∷ right.child ∷ []) x.1 ≡ Some v) × (slice_get after x.1 ≡ Some Open) × (x.0 ≡ sum v.costs)
       old_key x in_rest =
@@ -186,13 +183,13 @@ module _ (problem : Instance) (nodes : List Node) (fates : List Fate) (rest : Li
           less_apart (total, k) x (popped.above x in_rest) (ap (λ n. (n, k)) (sym sum_is) ∙ ap (λ n. (x.0, n)) (sym e)) in
           (was.0, slice_get-front popped.views (left.child ∷ right.child ∷ []) x.1 (slice_get_within popped.views x.1 was.0 was.1) ∙ was.1, grown.others x.1 inside other ∙ was.2, was.3)
 
-      new_key : (n : ℕ) (child : View) (state : Option ℕ) (x : ℕ × ℕ) → slice_get (popped.views ++ left.child ∷ right.child ∷ []) n ≡ Some child → slice_get after n ≡ Some (fate_of state) → IsBornState problem view child state →
+      new_key : (n : ℕ) (child : View) (state : Option ℕ) (x : ℕ × ℕ) → slice_get (popped.views ++ left.child ∷ right.child ∷ []) n ≡ Some child → slice_get after n ≡ Some (fate_of state) → IsGeneratedState problem view child state →
           (z : ℕ) → state ≡ Some z → x ≡ (z, n) → (v : View) × (slice_get (popped.views ++ left.child ∷ right.child ∷ []) x.1 ≡ Some v) × (slice_get after x.1 ≡ Some Open) × (x.0 ≡ sum v.costs)
       new_key n child state x v_is f_is st z e x_is =
           let number : x.1 ≡ n = ap (λ (y : ℕ × ℕ). y.1) x_is in
           let value : x.0 ≡ z = ap (λ (y : ℕ × ℕ). y.0) x_is in
           let f_open : slice_get after n ≡ Some Open = f_is ∙ ap (λ o. Some (fate_of o)) e in
-          (child, subst (λ m. slice_get (popped.views ++ left.child ∷ right.child ∷ []) m ≡ Some child) (sym number) v_is, subst (λ m. slice_get after m ≡ Some Open) (sym number) f_open, value ∙ born_sum child state z e st)
+          (child, subst (λ m. slice_get (popped.views ++ left.child ∷ right.child ∷ []) m ≡ Some child) (sym number) v_is, subst (λ m. slice_get after m ≡ Some Open) (sym number) f_open, value ∙ generated_sum child state z e st)
 
       opens_grown : IsOpenSet (with_key (with_key rest s (length nodes)) t (length nodes + 1)) (popped.views ++ left.child ∷ right.child ∷ []) after
       opens_grown = record {
@@ -208,7 +205,7 @@ module _ (problem : Instance) (nodes : List Node) (fates : List Fate) (rest : Li
             ⊎_elim
             (λ (old : slice_get popped.views m ≡ Some v).
             let inside : m < length popped.views = slice_get_within popped.views m v old in
-            let other : m ≢ k = λ e. let cut : Open ≡ Cut conflict (length fates) (length fates + 1) = same_Some Open (Cut conflict (length fates) (length fates + 1)) (sym f_is ∙ subst (λ n. slice_get after n ≡ Some (Cut conflict (length fates) (length fates + 1))) (sym e) grown.split) in cc in
+            let other : m ≢ k = λ e. let expanded : Open ≡ Expanded conflict (length fates) (length fates + 1) = same_Some Open (Expanded conflict (length fates) (length fates + 1)) (sym f_is ∙ subst (λ n. slice_get after n ≡ Some (Expanded conflict (length fates) (length fates + 1))) (sym e) grown.split) in cc in
             let at = popped.opens.each m v old (sym (grown.others m (omega arith) other) ∙ f_is) in
             ⊎_elim
             (λ (same : (total, k) ≡ (sum v.costs, m)). absurd (other (sym (ap (λ (y : ℕ × ℕ). y.1) same))))
@@ -218,14 +215,14 @@ module _ (problem : Instance) (nodes : List Node) (fates : List Fate) (rest : Li
             (λ (h : (m ≡ length popped.views) × (left.child ≡ v)).
             let at : m ≡ length nodes = h.0 ∙ size in
             let is_some = open_total s (same_Some (fate_of s) Open (sym first_fate ∙ subst (λ n. slice_get after n ≡ Some Open) at f_is)) in
-            let value : is_some.0 ≡ sum v.costs = born_sum left.child s is_some.0 is_some.1 left.state ∙ ap (λ (w : View). sum w.costs) h.1 in
+            let value : is_some.0 ≡ sum v.costs = generated_sum left.child s is_some.0 is_some.1 left.state ∙ ap (λ (w : View). sum w.costs) h.1 in
             subst (λ n. Contains (with_key (with_key rest s (length nodes)) t (length nodes + 1)) (sum v.costs, n)) (sym at)
             (subst (λ z. Contains (with_key (with_key rest s (length nodes)) t (length nodes + 1)) (z, length nodes)) value
             (with_key_old (with_key rest s (length nodes)) t (length nodes + 1) (is_some.0, length nodes) (with_key_new rest s (length nodes) is_some.0 is_some.1))))
             (λ (h : (m ≡ length popped.views + 1) × (right.child ≡ v)).
             let at : m ≡ length nodes + 1 = h.0 ∙ ap (λ n. n + 1) size in
             let is_some = open_total t (same_Some (fate_of t) Open (sym second_fate ∙ subst (λ n. slice_get after n ≡ Some Open) at f_is)) in
-            let value : is_some.0 ≡ sum v.costs = born_sum right.child t is_some.0 is_some.1 right.state ∙ ap (λ (w : View). sum w.costs) h.1 in
+            let value : is_some.0 ≡ sum v.costs = generated_sum right.child t is_some.0 is_some.1 right.state ∙ ap (λ (w : View). sum w.costs) h.1 in
             subst (λ n. Contains (with_key (with_key rest s (length nodes)) t (length nodes + 1)) (sum v.costs, n)) (sym at)
             (subst (λ z. Contains (with_key (with_key rest s (length nodes)) t (length nodes + 1)) (z, length nodes + 1)) value
             (with_key_new (with_key rest s (length nodes)) t (length nodes + 1) is_some.0 is_some.1)))
@@ -239,9 +236,9 @@ module _ (problem : Instance) (nodes : List Node) (fates : List Fate) (rest : Li
           ⊎_elim
           (λ (h : Contains (with_key rest s (length nodes)) x). ⊎_elim
           (λ (old : Contains rest x). let b = popped.small x (Contains-later (total, k) x rest old) in omega (arith, b))
-          (λ (new : (z : ℕ) × (s ≡ Some z) × (x ≡ (z, length nodes))). let b = born_small left.child s new.0 new.1 left.state in let e = ap (λ (y : ℕ × ℕ). y.0) new.2 in omega (arith, b, e, top, total_is))
+          (λ (new : (z : ℕ) × (s ≡ Some z) × (x ≡ (z, length nodes))). let b = generated_small left.child s new.0 new.1 left.state in let e = ap (λ (y : ℕ × ℕ). y.0) new.2 in omega (arith, b, e, top, total_is))
           (with_key_only rest s (length nodes) x h))
-          (λ (new : (z : ℕ) × (t ≡ Some z) × (x ≡ (z, length nodes + 1))). let b = born_small right.child t new.0 new.1 right.state in let e = ap (λ (y : ℕ × ℕ). y.0) new.2 in omega (arith, b, e, top, total_is))
+          (λ (new : (z : ℕ) × (t ≡ Some z) × (x ≡ (z, length nodes + 1))). let b = generated_small right.child t new.0 new.1 right.state in let e = ap (λ (y : ℕ × ℕ). y.0) new.2 in omega (arith, b, e, top, total_is))
           (with_key_only (with_key rest s (length nodes)) t (length nodes + 1) x in_it)
 
       least_first : (m : ℕ) (other : View) → slice_get popped.views m ≡ Some other → slice_get fates m ≡ Some Open → sum view.costs ≤ sum other.costs
@@ -253,7 +250,7 @@ module _ (problem : Instance) (nodes : List Node) (fates : List Fate) (rest : Li
       pub searched_after : IsSearched problem (popped.views ++ left.child ∷ right.child ∷ []) after (count + 1)
       searched_after = searched_grown problem goals popped.views fates count popped.searched k view is is_open least_first conflict meet apart early left.child right.child
           (left.constraints ∙ sym (left_constraints_are view.constraints conflict)) (right.constraints ∙ sym (right_constraints_are view.constraints conflict))
-          (fate_of s) (fate_of t) (born_fate problem view left.child s left.state) (born_fate problem view right.child t right.state) after grown
+          (fate_of s) (fate_of t) (generated_fate problem view left.child s left.state) (generated_fate problem view right.child t right.state) after grown
 
       pub state_grown : left_agent conflict < length view.paths → right_agent conflict < length view.paths → IsTableBar (left_bar conflict) → IsTableBar (right_bar conflict) →
           IsState problem ((nodes ++ Child k (left_agent conflict) (left_bar conflict) f ∷ []) ++ Child k (right_agent conflict) (right_bar conflict) g ∷ []) after (with_key (with_key rest s (length nodes)) t (length nodes + 1)) (count + 1)

@@ -12,10 +12,10 @@ use Rattle.mapf_model.specs.Plan.{Instance, IsSumOfCosts}
 use Rattle.mapf_model.specs.Tree.{ConstraintTree, Split, Leaf, Clash, NodeConstraints, AtEachNode, AtEachEnd, AtSomeLeaf, split_count, IsProper, IsProperNode, block_of, entries_or, with_blocks, no_entries, AreBlocksSound, AreStartLabels, NodeShows, Shows}
 use Rattle.mapf_model.specs.Earned.{AreCheapest, AreDue, HaveSomeConflict, IsEarnedNode, IsEarned, IsStoppedWhere}
 use Rattle.mapf_cbs.specs.declared.node.Fate.{Fate}
-use Rattle.mapf_cbs.specs.declared.node.Fate.TheVariants.{Open, Dead, Cut}
+use Rattle.mapf_cbs.specs.declared.node.Fate.TheVariants.{Open, Dead, Expanded}
 use Rattle.mapf_cbs.specs.Search.{View, IsLive, IsDead, IsCheapestOf, IsEndFate, Shape, Node, End, splits, occurrences, IsShape, IsSearched, AreBlocksOf, IsTreeAt}
 use Rattle.mapf_cbs.proofs.SumLemmas.{slice_get-set_same, slice_get-set_other, length-slice_set, length-ticks, label_sum-never, label_sum-ticks}
-use Rattle.mapf_cbs.proofs.ViewLemmas.{route_of, live_cheapest, live_sum, live_least, dead_none}
+use Rattle.mapf_cbs.proofs.ViewLemmas.{agent_path_of, live_cheapest, live_sum, live_least, dead_none}
 
 -- sound entries for each agent, and the labels of the starts
 pub record AreLabelled (problem : Instance) (view : View) (labels : List Label) : Type 0 where
@@ -23,19 +23,19 @@ pub record AreLabelled (problem : Instance) (view : View) (labels : List Label) 
   pub starts : AreStartLabels problem (λ i. entries_of (view.entries i)) labels
 
 module _ (problem : Instance) (view : View) where
-  route_label : (i : ℕ) (agent : Agent) (label : Label) (path : List ℕ) (cost : ℕ) → slice_get view.costs i ≡ Some cost → slice_get (map Ticks view.costs) i ≡ Some label →
+  agent_path_label : (i : ℕ) (agent : Agent) (label : Label) (path : List ℕ) (cost : ℕ) → slice_get view.costs i ≡ Some cost → slice_get (map Ticks view.costs) i ≡ Some label →
       IsCheapestOf problem view i agent path cost → IsLabel problem.grid agent.goal (entries_of (view.entries i)) agent.start 0 label
-  route_label i agent label path cost is l route =
+  agent_path_label i agent label path cost is l agent_path =
       let e = slice_get-map Ticks view.costs i in
       let same : Ticks cost ≡ label = same_Some (Ticks cost) label (let f : slice_get (map Ticks view.costs) i ≡ Some (Ticks cost) = rw is at e in sym f ∙ l) in
-      subst (λ x. IsLabel problem.grid agent.goal (entries_of (view.entries i)) agent.start 0 x) same route.start
+      subst (λ x. IsLabel problem.grid agent.goal (entries_of (view.entries i)) agent.start 0 x) same agent_path.start
 
   pub live_labelled : IsLive problem view → AreLabelled problem view (map Ticks view.costs)
   live_labelled live = record {
-    sound = λ i agent a. let r = route_of problem view live.counted i agent a in (live.each i agent r.0 r.1 a r.2 r.3).labels.sound;
+    sound = λ i agent a. let r = agent_path_of problem view live.counted i agent a in (live.each i agent r.0 r.1 a r.2 r.3).labels.sound;
     starts = record {
       count = length-ticks view.costs ∙ live.counted.costs;
-      each = λ i agent label a l. let r = route_of problem view live.counted i agent a in route_label i agent label r.0 r.1 r.3 l (live.each i agent r.0 r.1 a r.2 r.3);
+      each = λ i agent label a l. let r = agent_path_of problem view live.counted i agent a in agent_path_label i agent label r.0 r.1 r.3 l (live.each i agent r.0 r.1 a r.2 r.3);
     };
   }
 
@@ -45,7 +45,7 @@ module _ (problem : Instance) (view : View) where
       subst (λ n. AreSound problem.grid agent.goal (view.constraints.bars n) (entries_of (view.entries n))) (sym same)
       (subst (λ (x : Agent). AreSound problem.grid x.goal (view.constraints.bars dead.who) (entries_of (view.entries dead.who))) is dead.blocked.labels.sound)
   dead_sound dead i agent a (inr differ) =
-      let r = route_of problem view dead.counted i agent a in (dead.each i agent r.0 r.1 differ a r.2 r.3).labels.sound
+      let r = agent_path_of problem view dead.counted i agent a in (dead.each i agent r.0 r.1 differ a r.2 r.3).labels.sound
 
   dead_start : (dead : IsDead problem view) (i : ℕ) (agent : Agent) (label : Label) → slice_get problem.agents i ≡ Some agent → slice_get (slice_set (map Ticks view.costs) dead.who Never) i ≡ Some label → (i ≡ dead.who) ⊎ (i ≢ dead.who) →
       IsLabel problem.grid agent.goal (entries_of (view.entries i)) agent.start 0 label
@@ -58,8 +58,8 @@ module _ (problem : Instance) (view : View) where
       (subst (λ (x : Agent). IsLabel problem.grid x.goal (entries_of (view.entries dead.who)) x.start 0 label) is
       (subst (λ x. IsLabel problem.grid dead.agent.goal (entries_of (view.entries dead.who)) dead.agent.start 0 x) never dead.blocked.start))
   dead_start dead i agent label a l (inr differ) =
-      let r = route_of problem view dead.counted i agent a in
-      route_label i agent label r.0 r.1 r.3 (sym (slice_get-set_other (map Ticks view.costs) dead.who i Never differ) ∙ l) (dead.each i agent r.0 r.1 differ a r.2 r.3)
+      let r = agent_path_of problem view dead.counted i agent a in
+      agent_path_label i agent label r.0 r.1 r.3 (sym (slice_get-set_other (map Ticks view.costs) dead.who i Never differ) ∙ l) (dead.each i agent r.0 r.1 differ a r.2 r.3)
 
   pub dead_labelled : (dead : IsDead problem view) → AreLabelled problem view (slice_set (map Ticks view.costs) dead.who Never)
   dead_labelled dead = record {
@@ -118,10 +118,10 @@ module _ (problem : Instance) (views : List View) (fates : List Fate) (count : �
   -- what is so of each node of the search is so of each node of its tree
   pub each_node : (P : NodeConstraints → ConstraintTree → Type 0) → ((k : ℕ) (view : View) (tree : ConstraintTree) → slice_get views k ≡ Some view → IsTreeAt (length problem.agents) views fates k tree → P view.constraints tree) →
       (tree : ConstraintTree) (k : ℕ) (view : View) → slice_get views k ≡ Some view → IsTreeAt (length problem.agents) views fates k tree → AtEachNode P view.constraints tree
-  each_node P f (Split conflict left right) k view is (a, b, cut, on_left, on_right) =
-      let at_cut = searched.each k view (Cut conflict a b) is cut in
-      let x = at_cut.to_left in let y = at_cut.to_right in (
-        f k view (Split conflict left right) is (a, b, cut, on_left, on_right),
+  each_node P f (Split conflict left right) k view is (a, b, expanded, on_left, on_right) =
+      let at_expanded = searched.each k view (Expanded conflict a b) is expanded in
+      let x = at_expanded.to_left in let y = at_expanded.to_right in (
+        f k view (Split conflict left right) is (a, b, expanded, on_left, on_right),
         subst (λ constraints. AtEachNode P constraints left) x.2 (each_node P f left a x.0 x.1 on_left),
         subst (λ constraints. AtEachNode P constraints right) y.2 (each_node P f right b y.0 y.1 on_right),
       )
@@ -130,9 +130,9 @@ module _ (problem : Instance) (views : List View) (fates : List Fate) (count : �
 
   pub each_end : (P : NodeConstraints → Type 0) → ((k : ℕ) (view : View) (fate : Fate) → slice_get views k ≡ Some view → slice_get fates k ≡ Some fate → IsEndFate fate → P view.constraints) →
       (tree : ConstraintTree) (k : ℕ) (view : View) → slice_get views k ≡ Some view → IsTreeAt (length problem.agents) views fates k tree → AtEachEnd P view.constraints tree
-  each_end P f (Split conflict left right) k view is (a, b, cut, on_left, on_right) =
-      let at_cut = searched.each k view (Cut conflict a b) is cut in
-      let x = at_cut.to_left in let y = at_cut.to_right in (
+  each_end P f (Split conflict left right) k view is (a, b, expanded, on_left, on_right) =
+      let at_expanded = searched.each k view (Expanded conflict a b) is expanded in
+      let x = at_expanded.to_left in let y = at_expanded.to_right in (
         subst (λ constraints. AtEachEnd P constraints left) x.2 (each_end P f left a x.0 x.1 on_left),
         subst (λ constraints. AtEachEnd P constraints right) y.2 (each_end P f right b y.0 y.1 on_right),
       )
@@ -141,37 +141,37 @@ module _ (problem : Instance) (views : List View) (fates : List Fate) (count : �
 
   -- the search's tree has as many splits as its form
   pub split_count_is : (tree : ConstraintTree) (shape : Shape) (k : ℕ) → IsShape fates k shape → IsTreeAt (length problem.agents) views fates k tree → split_count tree ≡ splits shape
-  split_count_is (Split conflict left right) (Node l r) k (c, x, y, is, on_l, on_r) (a, b, cut, on_left, on_right) =
-      let same : Cut c x y ≡ Cut conflict a b = same_Some (Cut c x y) (Cut conflict a b) (sym is ∙ cut) in
+  split_count_is (Split conflict left right) (Node l r) k (c, x, y, is, on_l, on_r) (a, b, expanded, on_left, on_right) =
+      let same : Expanded c x y ≡ Expanded conflict a b = same_Some (Expanded c x y) (Expanded conflict a b) (sym is ∙ expanded) in
       let x_is : x ≡ a = cc in
       let y_is : y ≡ b = cc in
       let e = split_count_is left l a (subst (λ n. IsShape fates n l) x_is on_l) on_left in
       let f = split_count_is right r b (subst (λ n. IsShape fates n r) y_is on_r) on_right in
       omega arith
-  split_count_is (Split conflict left right) (End m) k (same, fate, is, end) (a, b, cut, on_left, on_right) =
-      absurd (subst IsEndFate (same_Some fate (Cut conflict a b) (sym is ∙ cut)) end)
+  split_count_is (Split conflict left right) (End m) k (same, fate, is, end) (a, b, expanded, on_left, on_right) =
+      absurd (subst IsEndFate (same_Some fate (Expanded conflict a b) (sym is ∙ expanded)) end)
   split_count_is (Leaf blocks) (Node l r) k (c, x, y, is, on_l, on_r) (view, fate, view_is, fate_is, end, are) =
-      absurd (subst IsEndFate (same_Some fate (Cut c x y) (sym fate_is ∙ is)) end)
+      absurd (subst IsEndFate (same_Some fate (Expanded c x y) (sym fate_is ∙ is)) end)
   split_count_is (Leaf blocks) (End m) k on at_leaf = refl
   split_count_is (Clash i j) shape k on none = absurd none
 
   -- an end of the form is a leaf of the tree
   pub some_leaf : (P : NodeConstraints → Type 0) (j : ℕ) (view_j : View) → slice_get views j ≡ Some view_j → P view_j.constraints →
       (tree : ConstraintTree) (shape : Shape) (k : ℕ) (view : View) → slice_get views k ≡ Some view → IsShape fates k shape → IsTreeAt (length problem.agents) views fates k tree → 0 < occurrences j shape → AtSomeLeaf P view.constraints tree
-  some_leaf P j view_j j_is holds (Split conflict left right) (Node l r) k view is (c, x, y, split, on_l, on_r) (a, b, cut, on_left, on_right) some =
-      let at_cut = searched.each k view (Cut conflict a b) is cut in
-      let to_left = at_cut.to_left in let to_right = at_cut.to_right in
-      let same : Cut c x y ≡ Cut conflict a b = same_Some (Cut c x y) (Cut conflict a b) (sym split ∙ cut) in
+  some_leaf P j view_j j_is holds (Split conflict left right) (Node l r) k view is (c, x, y, split, on_l, on_r) (a, b, expanded, on_left, on_right) some =
+      let at_expanded = searched.each k view (Expanded conflict a b) is expanded in
+      let to_left = at_expanded.to_left in let to_right = at_expanded.to_right in
+      let same : Expanded c x y ≡ Expanded conflict a b = same_Some (Expanded c x y) (Expanded conflict a b) (sym split ∙ expanded) in
       let x_is : x ≡ a = cc in
       let y_is : y ≡ b = cc in
       ⊎_elim
       (λ (here : 0 < occurrences j l). inl (subst (λ constraints. AtSomeLeaf P constraints left) to_left.2 (some_leaf P j view_j j_is holds left l a to_left.0 to_left.1 (subst (λ n. IsShape fates n l) x_is on_l) on_left here)))
       (λ (not_here : occurrences j l ≤ 0). inr (subst (λ constraints. AtSomeLeaf P constraints right) to_right.2 (some_leaf P j view_j j_is holds right r b to_right.0 to_right.1 (subst (λ n. IsShape fates n r) y_is on_r) on_right (omega arith))))
       (cases_lt 0 (occurrences j l))
-  some_leaf P j view_j j_is holds (Split conflict left right) (End m) k view is (same, fate, fate_is, end) (a, b, cut, on_left, on_right) some =
-      absurd (subst IsEndFate (same_Some fate (Cut conflict a b) (sym fate_is ∙ cut)) end)
+  some_leaf P j view_j j_is holds (Split conflict left right) (End m) k view is (same, fate, fate_is, end) (a, b, expanded, on_left, on_right) some =
+      absurd (subst IsEndFate (same_Some fate (Expanded conflict a b) (sym fate_is ∙ expanded)) end)
   some_leaf P j view_j j_is holds (Leaf blocks) (Node l r) k view is (c, x, y, split, on_l, on_r) (other, fate, other_is, fate_is, end, are) some =
-      absurd (subst IsEndFate (same_Some fate (Cut c x y) (sym fate_is ∙ split)) end)
+      absurd (subst IsEndFate (same_Some fate (Expanded c x y) (sym fate_is ∙ split)) end)
   some_leaf P j view_j j_is holds (Leaf blocks) (End m) k view is (same, fate, fate_is, end) at_leaf some = ⊎_elim
       (λ (e : j ≡ m). subst (λ (v : View). P v.constraints) (same_Some view_j view (sym j_is ∙ subst (λ n. slice_get views n ≡ Some view) (same ∙ sym e) is)) holds)
       (λ (e : j ≢ m). absurd (cond_both (nat_eq j m) 1 0 (λ n. 0 < n → ⊥) (λ t. absurd (e (eqb-true j m t))) (λ f h. omega arith) some))
@@ -184,7 +184,7 @@ module _ (problem : Instance) (views : List View) (fates : List Fate) (count : �
   at_least low least k view Open is fate_is end others total cheapest is_sum =
       let one = least k view is fate_is in let two = live_least problem view (searched.each k view Open is fate_is) others total cheapest is_sum in omega arith
   at_least low least k view Dead is fate_is end others total cheapest is_sum = absurd (dead_none problem view (searched.each k view Dead is fate_is) others cheapest)
-  at_least low least k view (Cut c a b) is fate_is end others total cheapest is_sum = absurd end
+  at_least low least k view (Expanded c a b) is fate_is end others total cheapest is_sum = absurd end
 
   module _ (tree : ConstraintTree) (on_tree : IsTreeAt (length problem.agents) views fates 0 tree) where
     -- a list of a node is due where no open node has a smaller sum
@@ -198,7 +198,7 @@ module _ (problem : Instance) (views : List View) (fates : List Fate) (count : �
     }
 
     proper_node : (k : ℕ) (view : View) (node : ConstraintTree) → slice_get views k ≡ Some view → IsTreeAt (length problem.agents) views fates k node → IsProperNode problem node
-    proper_node k view (Split c left right) is (a, b, cut, on_left, on_right) = (searched.each k view (Cut c a b) is cut).proper
+    proper_node k view (Split c left right) is (a, b, expanded, on_left, on_right) = (searched.each k view (Expanded c a b) is expanded).proper
     proper_node k view (Leaf blocks) is (other, fate, other_is, fate_is, end, are) = (are.different, are.of_agents)
     proper_node k view (Clash i j) is none = absurd none
 
@@ -206,9 +206,9 @@ module _ (problem : Instance) (views : List View) (fates : List Fate) (count : �
     is_proper = subst (λ constraints. AtEachNode (λ to node. IsProperNode problem node) constraints tree) searched.first.2 (each_node (λ to node. IsProperNode problem node) proper_node tree 0 searched.first.0 searched.first.1 on_tree)
 
     earned_node : (k : ℕ) (view : View) (node : ConstraintTree) → slice_get views k ≡ Some view → IsTreeAt (length problem.agents) views fates k node → IsEarnedNode problem tree view.constraints node
-    earned_node k view (Split c left right) is (a, b, cut, on_left, on_right) =
-        let at_cut = searched.each k view (Cut c a b) is cut in
-        (view.paths, sum view.costs, due view at_cut.live (λ m other other_is is_open. searched.least k m view other (Cut c a b) is other_is cut tt is_open), at_cut.meet, at_cut.apart)
+    earned_node k view (Split c left right) is (a, b, expanded, on_left, on_right) =
+        let at_expanded = searched.each k view (Expanded c a b) is expanded in
+        (view.paths, sum view.costs, due view at_expanded.live (λ m other other_is is_open. searched.least k m view other (Expanded c a b) is other_is expanded tt is_open), at_expanded.meet, at_expanded.apart)
     earned_node k view (Leaf blocks) is at_leaf = tt
     earned_node k view (Clash i j) is none = tt
 
@@ -227,7 +227,7 @@ module _ (problem : Instance) (views : List View) (fates : List Fate) (count : �
     cost_node cost least k view (Leaf blocks) is (other, Dead, other_is, fate_is, end, are) =
         let blocks_are = subst (λ (v : View). AreBlocksOf (length problem.agents) v.entries blocks) (same_Some other view (sym other_is ∙ is)) are in
         dead_shows problem view blocks blocks_are (searched.each k view Dead is fate_is) cost
-    cost_node cost least k view (Leaf blocks) is (other, Cut c a b, other_is, fate_is, end, are) = absurd end
+    cost_node cost least k view (Leaf blocks) is (other, Expanded c a b, other_is, fate_is, end, are) = absurd end
     cost_node cost least k view (Clash i j) is none = absurd none
 
     -- the least sum of the open nodes is shown
@@ -244,7 +244,7 @@ module _ (problem : Instance) (views : List View) (fates : List Fate) (count : �
     impossible_node none_open k view (Leaf blocks) is (other, Dead, other_is, fate_is, end, are) =
         let blocks_are = subst (λ (v : View). AreBlocksOf (length problem.agents) v.entries blocks) (same_Some other view (sym other_is ∙ is)) are in
         dead_shows_impossible problem view blocks blocks_are (searched.each k view Dead is fate_is)
-    impossible_node none_open k view (Leaf blocks) is (other, Cut c a b, other_is, fate_is, end, are) = absurd end
+    impossible_node none_open k view (Leaf blocks) is (other, Expanded c a b, other_is, fate_is, end, are) = absurd end
     impossible_node none_open k view (Clash i j) is none = absurd none
 
     pub shows_impossible : ((m : ℕ) → slice_get fates m ≡ Some Open → ⊥) → Shows problem Impossible tree

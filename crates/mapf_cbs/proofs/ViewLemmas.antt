@@ -10,8 +10,8 @@ use Rattle.mapf_cbs.proofs.SumLemmas.{sum-le}
 
 module _ (problem : Instance) (view : View) where
   -- the agent's path and cost
-  pub route_of : AreCounted problem view → (i : ℕ) (agent : Agent) → slice_get problem.agents i ≡ Some agent → (path : List ℕ) × (cost : ℕ) × (slice_get view.paths i ≡ Some path) × (slice_get view.costs i ≡ Some cost)
-  route_of counted i agent is =
+  pub agent_path_of : AreCounted problem view → (i : ℕ) (agent : Agent) → slice_get problem.agents i ≡ Some agent → (path : List ℕ) × (cost : ℕ) × (slice_get view.paths i ≡ Some path) × (slice_get view.costs i ≡ Some cost)
+  agent_path_of counted i agent is =
       let within : i < length problem.agents = slice_get_within problem.agents i agent is in
       let one = counted.paths in let two = counted.costs in
       let path : (path : List ℕ) × (slice_get view.paths i ≡ Some path) = slice_get_inside view.paths i (omega arith) in
@@ -29,13 +29,13 @@ module _ (problem : Instance) (view : View) where
     count = live.counted.paths;
     lawful = λ i agent path a p.
         let c = cost_of_path live.counted i path p in
-        let route = live.each i agent path c.0 a p c.1 in
-        (route.lawful, route.satisfies);
+        let agent_path = live.each i agent path c.0 a p c.1 in
+        (agent_path.lawful, agent_path.satisfies);
     least = λ i agent path other cost other_cost a p open_to is other_is.
         let c = cost_of_path live.counted i path p in
-        let route = live.each i agent path c.0 a p c.1 in
-        let low = is.least c.0 route.is_cost.rests in
-        let high = route.least other other_cost open_to.0 open_to.1 other_is in
+        let agent_path = live.each i agent path c.0 a p c.1 in
+        let low = is.least c.0 agent_path.is_cost.rests in
+        let high = agent_path.least other other_cost open_to.0 open_to.1 other_is in
         omega arith;
   }
 
@@ -57,10 +57,10 @@ module _ (problem : Instance) (view : View) where
       let within : i < length view.costs = slice_get_within view.costs i x cx in
       let agent : (agent : Agent) × (slice_get problem.agents i ≡ Some agent) = slice_get_inside problem.agents i (omega arith) in
       let other : (path : List ℕ) × (slice_get others i ≡ Some path) = slice_get_inside others i (omega arith) in
-      let r = route_of live.counted i agent.0 agent.1 in
-      let route = live.each i agent.0 r.0 x agent.1 r.2 cx in
+      let r = agent_path_of live.counted i agent.0 agent.1 in
+      let agent_path = live.each i agent.0 r.0 x agent.1 r.2 cx in
       let obeying = cheapest.lawful i agent.0 other.0 agent.1 other.1 in
-      route.least other.0 y obeying.0 obeying.1 (are.each i agent.0 other.0 y agent.1 other.1 cy)))
+      agent_path.least other.0 y obeying.0 obeying.1 (are.each i agent.0 other.0 y agent.1 other.1 cy)))
 
   -- there is no cheapest list
   pub dead_none : IsDead problem view → (others : List (List ℕ)) → AreCheapest problem view.constraints others → ⊥

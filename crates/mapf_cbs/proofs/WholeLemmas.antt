@@ -16,15 +16,15 @@ use Rattle.std.specs.Option.{unwrap_or}
 use Rattle.mapf_model.specs.Plan.{Instance}
 use Rattle.mapf_spacetime.specs.declared.found.Found.{Found}
 use Rattle.mapf_spacetime.specs.declared.found.Found.TheVariants.{Arrives, Dead}
-use Rattle.mapf_cbs.specs.declared.whole_node.AgentRoute.{AgentRoute}
+use Rattle.mapf_cbs.specs.declared.whole_node.AgentPath.{AgentPath}
 use Rattle.mapf_cbs.specs.declared.whole_node.WholeNode.{WholeNode}
-use Rattle.mapf_cbs.specs.Arena.{IsChildView}
-use Rattle.mapf_cbs.specs.Born.{IsTotal, IsBornState}
+use Rattle.mapf_cbs.specs.Nodes.{IsChildView}
+use Rattle.mapf_cbs.specs.GeneratedChild.{IsTotal, IsGeneratedState}
 use Rattle.mapf_cbs.specs.Search.{View}
 use Rattle.mapf_cbs.specs.State.{key_cmp}
-use Rattle.mapf_cbs.specs.Whole.{IsRouteAt, IsWhole, IsCopy, AreCopies, IsAfter, IsLeastOpen, IsLeastBelow}
+use Rattle.mapf_cbs.specs.Whole.{IsAgentPathAt, IsWhole, IsCopy, AreCopies, IsAfter, IsLeastOpen, IsLeastBelow}
 use Rattle.mapf_cbs.proofs.SumLemmas.{slice_get-set_same, slice_get-set_other, length-slice_set}
-use Rattle.mapf_cbs.proofs.ArenaLemmas.{paths_kept, found_labels, entries_kept, entries_new, bars_other, bars_bound}
+use Rattle.mapf_cbs.proofs.NodeLemmas.{paths_kept, found_labels, entries_kept, entries_new, bars_other, bars_bound}
 
 -- the least open node is found by a scan
 module _ (nodes : List WholeNode) (fates : List Fate) (k : ℕ) where
@@ -119,23 +119,23 @@ each_more P xs x n size each here i y is = ⊎_elim
     (λ (new : (i ≡ length xs) × (x ≡ y)). subst (λ z. P i z) new.1 (subst (λ m. P m x) (sym (new.0 ∙ size)) here))
     (snoc_get xs x i y is)
 
-pub copies_with : (routes all : List AgentRoute) (agent : ℕ) (route : AgentRoute) → agent < length routes → AreCopies routes all → AreCopies (slice_set routes agent route) (slice_set all agent route)
-copies_with routes all agent route inside copies =
+pub copies_with : (agent_paths all : List AgentPath) (agent : ℕ) (agent_path : AgentPath) → agent < length agent_paths → AreCopies agent_paths all → AreCopies (slice_set agent_paths agent agent_path) (slice_set all agent agent_path)
+copies_with agent_paths all agent agent_path inside copies =
     let size = copies.count in
     record {
-      count = length-slice_set all agent route ∙ size ∙ sym (length-slice_set routes agent route);
+      count = length-slice_set all agent agent_path ∙ size ∙ sym (length-slice_set agent_paths agent agent_path);
       each = λ i copy copy_is. ⊎_elim
           (λ (e : i ≡ agent).
-          let same : route ≡ copy = same_Some route copy (sym (slice_get-set_same all agent route (omega (arith, inside, size))) ∙ subst (λ n. slice_get (slice_set all agent route) n ≡ Some copy) e copy_is) in
-          (route, subst (λ n. slice_get (slice_set routes agent route) n ≡ Some route) (sym e) (slice_get-set_same routes agent route inside), subst (λ r. IsCopy route r) same (record { path = refl; entries = refl; bars = λ bar. (λ h. h, λ h. h) })))
+          let same : agent_path ≡ copy = same_Some agent_path copy (sym (slice_get-set_same all agent agent_path (omega (arith, inside, size))) ∙ subst (λ n. slice_get (slice_set all agent agent_path) n ≡ Some copy) e copy_is) in
+          (agent_path, subst (λ n. slice_get (slice_set agent_paths agent agent_path) n ≡ Some agent_path) (sym e) (slice_get-set_same agent_paths agent agent_path inside), subst (λ r. IsCopy agent_path r) same (record { path = refl; entries = refl; bars = λ bar. (λ h. h, λ h. h) })))
           (λ (e : i ≢ agent).
-          let old = copies.each i copy (sym (slice_get-set_other all agent i route e) ∙ copy_is) in
-          (old.0, slice_get-set_other routes agent i route e ∙ old.1, old.2))
+          let old = copies.each i copy (sym (slice_get-set_other all agent i agent_path e) ∙ copy_is) in
+          (old.0, slice_get-set_other agent_paths agent i agent_path e ∙ old.1, old.2))
           (cases_eq i agent);
     }
 
-copy_at : (view : View) (i : ℕ) (route copy : AgentRoute) → IsRouteAt view i route → IsCopy route copy → IsRouteAt view i copy
-copy_at view i route copy at same = record {
+copy_at : (view : View) (i : ℕ) (agent_path copy : AgentPath) → IsAgentPathAt view i agent_path → IsCopy agent_path copy → IsAgentPathAt view i copy
+copy_at view i agent_path copy at same = record {
   path = at.path ∙ ap Some (sym same.path);
   entries = at.entries ∙ sym same.entries;
   bars = λ bar. (λ h. (same.bars bar).1 ((at.bars bar).0 h), λ h. (at.bars bar).1 ((same.bars bar).0 h));
@@ -145,52 +145,52 @@ paths_count : (view : View) (agent : ℕ) (bar : Bar) (found : Found) (child : V
 paths_count view agent bar (Arrives path labels) child (cost, e) = ap (λ (v : View). length v.paths) e ∙ length-slice_set view.paths agent path
 paths_count view agent bar (Dead labels) child e = ap (λ (v : View). length v.paths) e
 
-path_new : (view : View) (agent : ℕ) (bar : Bar) (found : Found) (child : View) → IsChildView view agent bar found child → (bars : List Bar) (old route : AgentRoute) → slice_get view.paths agent ≡ Some old.path → IsAfter old found bars route → slice_get child.paths agent ≡ Some route.path
-path_new view agent bar (Arrives path labels) child (cost, e) bars old route old_is after = ap (λ (v : View). slice_get v.paths agent) e ∙ slice_get-set_same view.paths agent path (slice_get_within view.paths agent old.path old_is) ∙ ap Some (sym after.0)
-path_new view agent bar (Dead labels) child e bars old route old_is after = ap (λ (v : View). slice_get v.paths agent) e ∙ old_is ∙ ap Some (sym after.0)
+path_new : (view : View) (agent : ℕ) (bar : Bar) (found : Found) (child : View) → IsChildView view agent bar found child → (bars : List Bar) (old agent_path : AgentPath) → slice_get view.paths agent ≡ Some old.path → IsAfter old found bars agent_path → slice_get child.paths agent ≡ Some agent_path.path
+path_new view agent bar (Arrives path labels) child (cost, e) bars old agent_path old_is after = ap (λ (v : View). slice_get v.paths agent) e ∙ slice_get-set_same view.paths agent path (slice_get_within view.paths agent old.path old_is) ∙ ap Some (sym after.0)
+path_new view agent bar (Dead labels) child e bars old agent_path old_is after = ap (λ (v : View). slice_get v.paths agent) e ∙ old_is ∙ ap Some (sym after.0)
 
-entries_after : (old : AgentRoute) (found : Found) (bars : List Bar) (route : AgentRoute) → IsAfter old found bars route → found_labels found ≡ route.entries.items
-entries_after old (Arrives path labels) bars route after = sym after.1
-entries_after old (Dead labels) bars route after = sym after.1
+entries_after : (old : AgentPath) (found : Found) (bars : List Bar) (agent_path : AgentPath) → IsAfter old found bars agent_path → found_labels found ≡ agent_path.entries.items
+entries_after old (Arrives path labels) bars agent_path after = sym after.1
+entries_after old (Dead labels) bars agent_path after = sym after.1
 
-bars_after : (old : AgentRoute) (found : Found) (bars : List Bar) (route : AgentRoute) → IsAfter old found bars route → route.bars ≡ bars
-bars_after old (Arrives path labels) bars route after = after.2
-bars_after old (Dead labels) bars route after = after.2
+bars_after : (old : AgentPath) (found : Found) (bars : List Bar) (agent_path : AgentPath) → IsAfter old found bars agent_path → agent_path.bars ≡ bars
+bars_after old (Arrives path labels) bars agent_path after = after.2
+bars_after old (Dead labels) bars agent_path after = after.2
 
--- a node in which one agent's route changed is the child
+-- a node in which one agent's path changed is the child
 module _ (view : View) (node : WholeNode) (whole : IsWhole node view) (agent : ℕ) (bar : Bar) (found : Found) (child : View) (is_child : IsChildView view agent bar found child) where
-  route_kept : (i : ℕ) (route : AgentRoute) → i ≢ agent → IsRouteAt view i route → IsRouteAt child i route
-  route_kept i route other at = record {
+  agent_path_kept : (i : ℕ) (agent_path : AgentPath) → i ≢ agent → IsAgentPathAt view i agent_path → IsAgentPathAt child i agent_path
+  agent_path_kept i agent_path other at = record {
     path = paths_kept view i agent bar found child (inl other) is_child ∙ at.path;
     entries = entries_kept view i agent bar found child other is_child ∙ at.entries;
-    bars = subst (λ bs. AreSameBars bs route.bars) (sym (bars_other view i agent bar found child other is_child)) at.bars;
+    bars = subst (λ bs. AreSameBars bs agent_path.bars) (sym (bars_other view i agent bar found child other is_child)) at.bars;
   }
 
-  module _ (bars : List Bar) (same : AreSameBars bars (bar ∷ view.constraints.bars agent)) (old : AgentRoute) (here : slice_get node.routes.items agent ≡ Some old) (route : AgentRoute) (after : IsAfter old found bars route) where
-    route_new : IsRouteAt child agent route
-    route_new = record {
-      path = path_new view agent bar found child is_child bars old route (whole.each agent old here).path after;
-      entries = entries_new view agent bar found child is_child ∙ entries_after old found bars route after;
-      bars = subst (λ bs. AreSameBars bs route.bars) (sym (bars_bound view agent bar found child is_child))
-          (subst (λ bs. AreSameBars (bar ∷ view.constraints.bars agent) bs) (sym (bars_after old found bars route after)) (bars_swap bars (bar ∷ view.constraints.bars agent) same));
+  module _ (bars : List Bar) (same : AreSameBars bars (bar ∷ view.constraints.bars agent)) (old : AgentPath) (here : slice_get node.agent_paths.items agent ≡ Some old) (agent_path : AgentPath) (after : IsAfter old found bars agent_path) where
+    agent_path_new : IsAgentPathAt child agent agent_path
+    agent_path_new = record {
+      path = path_new view agent bar found child is_child bars old agent_path (whole.each agent old here).path after;
+      entries = entries_new view agent bar found child is_child ∙ entries_after old found bars agent_path after;
+      bars = subst (λ bs. AreSameBars bs agent_path.bars) (sym (bars_bound view agent bar found child is_child))
+          (subst (λ bs. AreSameBars (bar ∷ view.constraints.bars agent) bs) (sym (bars_after old found bars agent_path after)) (bars_swap bars (bar ∷ view.constraints.bars agent) same));
     }
 
-    pub whole_child : (routes : Vec AgentRoute Global) → AreCopies (slice_set node.routes.items agent route) routes.items → (total : ℕ) → total ≡ sum child.costs → IsWhole (record { routes = routes; total = total }) child
-    whole_child routes copies total total_is = record {
-      count = copies.count ∙ length-slice_set node.routes.items agent route ∙ whole.count ∙ sym (paths_count view agent bar found child is_child);
+    pub whole_child : (agent_paths : Vec AgentPath Global) → AreCopies (slice_set node.agent_paths.items agent agent_path) agent_paths.items → (total : ℕ) → total ≡ sum child.costs → IsWhole (record { agent_paths = agent_paths; total = total }) child
+    whole_child agent_paths copies total total_is = record {
+      count = copies.count ∙ length-slice_set node.agent_paths.items agent agent_path ∙ whole.count ∙ sym (paths_count view agent bar found child is_child);
       each = λ i r r_is.
           let from = copies.each i r r_is in
           copy_at child i from.0 r (⊎_elim
           (λ (e : i ≡ agent).
-          let now : route ≡ from.0 = same_Some route from.0 (sym (slice_get-set_same node.routes.items agent route (slice_get_within node.routes.items agent old here)) ∙ subst (λ n. slice_get (slice_set node.routes.items agent route) n ≡ Some from.0) e from.1) in
-          subst (λ n. IsRouteAt child n from.0) (sym e) (subst (λ x. IsRouteAt child agent x) now route_new))
-          (λ (e : i ≢ agent). route_kept i from.0 e (whole.each i from.0 (sym (slice_get-set_other node.routes.items agent i route e) ∙ from.1)))
+          let now : agent_path ≡ from.0 = same_Some agent_path from.0 (sym (slice_get-set_same node.agent_paths.items agent agent_path (slice_get_within node.agent_paths.items agent old here)) ∙ subst (λ n. slice_get (slice_set node.agent_paths.items agent agent_path) n ≡ Some from.0) e from.1) in
+          subst (λ n. IsAgentPathAt child n from.0) (sym e) (subst (λ x. IsAgentPathAt child agent x) now agent_path_new))
+          (λ (e : i ≢ agent). agent_path_kept i from.0 e (whole.each i from.0 (sym (slice_get-set_other node.agent_paths.items agent i agent_path e) ∙ from.1)))
           (cases_eq i agent)) from.2;
       total = total_is;
     }
 
-pub total_born : (problem : Instance) (view child : View) (agent : ℕ) (bar : Bar) (found : Found) (goal rest : ℕ) (total : Option ℕ) (n : ℕ) → IsChildView view agent bar found child → IsTotal found goal rest total → IsBornState problem view child total → n ≡ sum view.costs → unwrap_or total n ≡ sum child.costs
-total_born problem view child agent bar (Arrives path labels) goal rest None n is_child (cost, is, fits, e) state sums = absurd cc
-total_born problem view child agent bar (Arrives path labels) goal rest (Some m) n is_child is_total state sums = state.1
-total_born problem view child agent bar (Dead labels) goal rest None n e is_total state sums = sums ∙ sym (ap (λ (v : View). sum v.costs) e)
-total_born problem view child agent bar (Dead labels) goal rest (Some m) n e is_total state sums = state.1
+pub total_generated : (problem : Instance) (view child : View) (agent : ℕ) (bar : Bar) (found : Found) (goal rest : ℕ) (total : Option ℕ) (n : ℕ) → IsChildView view agent bar found child → IsTotal found goal rest total → IsGeneratedState problem view child total → n ≡ sum view.costs → unwrap_or total n ≡ sum child.costs
+total_generated problem view child agent bar (Arrives path labels) goal rest None n is_child (cost, is, fits, e) state sums = absurd cc
+total_generated problem view child agent bar (Arrives path labels) goal rest (Some m) n is_child is_total state sums = state.1
+total_generated problem view child agent bar (Dead labels) goal rest None n e is_total state sums = sums ∙ sym (ap (λ (v : View). sum v.costs) e)
+total_generated problem view child agent bar (Dead labels) goal rest (Some m) n e is_total state sums = state.1

@@ -1,7 +1,7 @@
-pub mod Route
+pub mod CheapestPath
 pub mod Search
-pub mod Arena
-pub mod Born
+pub mod Nodes
+pub mod GeneratedChild
 pub mod State
 pub mod Finders
 pub mod Start

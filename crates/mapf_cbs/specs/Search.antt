@@ -12,9 +12,9 @@ use Rattle.mapf_model.specs.Tree.{ConstraintTree, Split, Leaf, Clash, NodeConstr
 use Rattle.mapf_model.specs.Earned.{HasConflict, AreConflictFreeBefore, tick_of}
 use Rattle.mapf_model.specs.Grid.{free_cell_count}
 use Rattle.mapf_constraints.specs.BarSets.{AreBefore}
-use Rattle.mapf_cbs.specs.Route.{IsCheapestPath, HasNoPath}
+use Rattle.mapf_cbs.specs.CheapestPath.{IsCheapestPath, HasNoPath}
 use Rattle.mapf_cbs.specs.declared.node.Fate.{Fate}
-use Rattle.mapf_cbs.specs.declared.node.Fate.TheVariants.{Open, Dead, Cut}
+use Rattle.mapf_cbs.specs.declared.node.Fate.TheVariants.{Open, Dead, Expanded}
 
 -- what a node means: all that is found at it and its ancestors
 pub record View : Type 0 where
@@ -71,7 +71,7 @@ abbrev pub live_child : View → ℕ → Bar → List ℕ → ℕ → List Entry
 live_child view i bar path cost entries = record { constraints = record { bars = with_bar view.constraints.bars i bar }; paths = slice_set view.paths i path; costs = slice_set view.costs i cost; entries = λ k. if k == i then entries else view.entries k }
 
 -- a node that was split: its list has the conflict first, and its children are later nodes
-pub record IsCutAt (problem : Instance) (views : List View) (fates : List Fate) (k : ℕ) (view : View) (conflict : Conflict) (left right : ℕ) : Type 0 where
+pub record IsExpandedAt (problem : Instance) (views : List View) (fates : List Fate) (k : ℕ) (view : View) (conflict : Conflict) (left right : ℕ) : Type 0 where
   pub live : IsLive problem view
   pub proper : IsProperSplit problem conflict
   pub early : tick_of conflict < 1000000
@@ -86,19 +86,19 @@ pub record IsCutAt (problem : Instance) (views : List View) (fates : List Fate) 
 abbrev pub IsFate : Instance → List View → List Fate → ℕ → View → Fate → Type 0
 IsFate problem views fates k view Open = IsLive problem view
 IsFate problem views fates k view Dead = IsDead problem view
-IsFate problem views fates k view (Cut conflict left right) = IsCutAt problem views fates k view conflict left right
+IsFate problem views fates k view (Expanded conflict left right) = IsExpandedAt problem views fates k view conflict left right
 
 -- the node is split
-abbrev pub IsCutFate : Fate → Type 0
-IsCutFate Open = ⊥
-IsCutFate Dead = ⊥
-IsCutFate (Cut conflict left right) = Unit {0}
+abbrev pub IsExpandedFate : Fate → Type 0
+IsExpandedFate Open = ⊥
+IsExpandedFate Dead = ⊥
+IsExpandedFate (Expanded conflict left right) = Unit {0}
 
 -- the node is an end of the tree
 abbrev pub IsEndFate : Fate → Type 0
 IsEndFate Open = Unit {0}
 IsEndFate Dead = Unit {0}
-IsEndFate (Cut conflict left right) = ⊥
+IsEndFate (Expanded conflict left right) = ⊥
 
 -- the form of a tree, with the numbers of its ends
 pub data Shape : Type 0 where
@@ -117,7 +117,7 @@ occurrences m (End k) = if m == k then 1 else 0
 
 -- the node with its descendants has this form
 abbrev pub IsShape : List Fate → ℕ → Shape → Type 0
-IsShape fates k (Node left right) = (conflict : Conflict) × (a : ℕ) × (b : ℕ) × (slice_get fates k ≡ Some (Cut conflict a b)) × IsShape fates a left × IsShape fates b right
+IsShape fates k (Node left right) = (conflict : Conflict) × (a : ℕ) × (b : ℕ) × (slice_get fates k ≡ Some (Expanded conflict a b)) × IsShape fates a left × IsShape fates b right
 IsShape fates k (End m) = (same : k ≡ m) × (fate : Fate) × (slice_get fates k ≡ Some fate) × IsEndFate fate
 
 -- the nodes form one tree with so many splits, of which each end is an end
@@ -133,7 +133,7 @@ pub record IsSearched (problem : Instance) (views : List View) (fates : List Fat
   pub lengths : length views ≡ length fates
   pub first : (view : View) × (slice_get views 0 ≡ Some view) × (view.constraints ≡ root)
   pub each : (k : ℕ) (view : View) (fate : Fate) → slice_get views k ≡ Some view → slice_get fates k ≡ Some fate → IsFate problem views fates k view fate
-  pub least : (k m : ℕ) (view other : View) (fate : Fate) → slice_get views k ≡ Some view → slice_get views m ≡ Some other → slice_get fates k ≡ Some fate → IsCutFate fate → slice_get fates m ≡ Some Open → sum view.costs ≤ sum other.costs
+  pub least : (k m : ℕ) (view other : View) (fate : Fate) → slice_get views k ≡ Some view → slice_get views m ≡ Some other → slice_get fates k ≡ Some fate → IsExpandedFate fate → slice_get fates m ≡ Some Open → sum view.costs ≤ sum other.costs
   pub tree : IsOneTree fates count
   pub low : (k : ℕ) (view : View) (i : ℕ) → slice_get views k ≡ Some view → AreBefore (count * free_cell_count problem.grid) (view.constraints.bars i)
 
@@ -148,10 +148,10 @@ pub record AreBlocksOf (count : ℕ) (listed : ℕ → List Entry) (blocks : Lis
 
 -- the node with its descendants is this tree
 abbrev pub IsTreeAt : ℕ → List View → List Fate → ℕ → ConstraintTree → Type 0
-IsTreeAt agents views fates k (Split conflict left right) = (a : ℕ) × (b : ℕ) × (slice_get fates k ≡ Some (Cut conflict a b)) × IsTreeAt agents views fates a left × IsTreeAt agents views fates b right
+IsTreeAt agents views fates k (Split conflict left right) = (a : ℕ) × (b : ℕ) × (slice_get fates k ≡ Some (Expanded conflict a b)) × IsTreeAt agents views fates a left × IsTreeAt agents views fates b right
 IsTreeAt agents views fates k (Leaf blocks) = (view : View) × (fate : Fate) × (slice_get views k ≡ Some view) × (slice_get fates k ≡ Some fate) × IsEndFate fate × AreBlocksOf agents view.entries blocks
 IsTreeAt agents views fates k (Clash i j) = ⊥
 
 -- children come after their parents
-abbrev pub AreCutsLater : List Fate → Type 0
-AreCutsLater fates = (k : ℕ) (conflict : Conflict) (a b : ℕ) → slice_get fates k ≡ Some (Cut conflict a b) → (k < a) × (k < b) × (a < length fates) × (b < length fates)
+abbrev pub AreChildrenLater : List Fate → Type 0
+AreChildrenLater fates = (k : ℕ) (conflict : Conflict) (a b : ℕ) → slice_get fates k ≡ Some (Expanded conflict a b) → (k < a) × (k < b) × (a < length fates) × (b < length fates)

@@ -2,9 +2,15 @@
 use Rattle.std.specs.Prelude.{◌≡◌, ◌-◌, ◌≤◌, ℕ, List, Some, length, slice_get}
 use Rattle.mapf_model.specs.declared.problem.Agent.{Agent}
 use Rattle.mapf_model.specs.Distance.{IsDistance, IsUnreachable}
-use Rattle.mapf_model.specs.Grid.{GridMap, free_cell_count}
+use Rattle.mapf_distance.specs.Distances.{GoalMap}
+use Rattle.mapf_model.specs.Grid.{GridMap, IsGridMap, free_cell_count}
 use Rattle.mapf_model.specs.Path.{IsLawful, IsTight}
 use Rattle.mapf_model.specs.Plan.{Instance}
+use Rattle.mapf_model.specs.Tree.{ConstraintTree, ShareGoal}
+use Rattle.mapf_cbs.specs.declared.start.Beginning.{Beginning}
+use Rattle.mapf_cbs.specs.declared.start.Beginning.TheVariants.{Impossible as ImpossibleBeginning, Root as RootBeginning}
+use Rattle.mapf_cbs.specs.Answer.{IsTreeOf, IsShownImpossible}
+use Rattle.mapf_cbs.specs.CheapestPath.{AreTables}
 
 -- these agents have one goal
 abbrev pub HaveGoal : List Agent → ℕ → ℕ → Type 0
@@ -25,3 +31,17 @@ pub record AreShortest (problem : Instance) (paths : List (List ℕ)) : Type 0 w
 -- some agent can't reach its goal
 abbrev pub SomeGoalIsUnreachable : Instance → Type 0
 SomeGoalIsUnreachable problem = (i : ℕ) × (agent : Agent) × (slice_get problem.agents i ≡ Some agent) × IsUnreachable problem.grid agent.goal agent.start
+
+-- the tables and paths with which a search begins at the root: no two agents have one goal, and each has a shortest path
+pub record IsRootStart (problem : Instance) (tables : List GoalMap) (paths : List (List ℕ)) : Type 0 where
+  pub shape : IsGridMap problem.grid
+  pub agents : (1 ≤ length problem.agents) × (length problem.agents ≤ 200)
+  pub goals : (i j : ℕ) → ShareGoal problem i j → ⊥
+  pub tables_are : AreTables problem tables
+  pub count : length paths ≡ length problem.agents
+  pub shortest : AreShortest problem paths
+
+-- a tree of no splits that shows that no plan is valid, or what a search begins with
+abbrev pub IsBeginning : Instance → Beginning → Type 0
+IsBeginning problem (ImpossibleBeginning items) = (limit : ℕ) → (tree : ConstraintTree) × IsTreeOf problem limit items.items tree × IsShownImpossible problem tree
+IsBeginning problem (RootBeginning tables paths) = IsRootStart problem tables.items paths.items

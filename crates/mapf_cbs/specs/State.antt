@@ -13,7 +13,7 @@ use Rattle.mapf_cbs.specs.declared.node.Node.{Node}
 use Rattle.mapf_cbs.specs.declared.node.Fate.{Fate}
 use Rattle.mapf_cbs.specs.declared.node.Fate.TheVariants.{Open, Dead}
 use Rattle.mapf_cbs.specs.Search.{View, IsSearched}
-use Rattle.mapf_cbs.specs.Arena.{AreNodesFor, HaveTableBars, AreViews}
+use Rattle.mapf_cbs.specs.Nodes.{AreNodesFor, HaveTableBars, AreViews}
 
 -- a child that has a sum is open
 abbrev pub fate_of : Option ℕ → Fate

@@ -8,22 +8,22 @@ use Rattle.mapf_spacetime.specs.declared.found.Found.TheVariants.{Arrives, Dead 
 use Rattle.mapf_cbs.specs.declared.node.Node.{Node}
 use Rattle.mapf_cbs.specs.declared.node.Fate.{Fate}
 use Rattle.mapf_cbs.specs.declared.node.Fate.TheVariants.{Open}
-use Rattle.mapf_cbs.specs.declared.whole_node.AgentRoute.{AgentRoute}
+use Rattle.mapf_cbs.specs.declared.whole_node.AgentPath.{AgentPath}
 use Rattle.mapf_cbs.specs.declared.whole_node.WholeNode.{WholeNode}
-use Rattle.mapf_cbs.specs.Born.{IsBorn}
+use Rattle.mapf_cbs.specs.GeneratedChild.{IsGeneratedChild}
 use Rattle.mapf_cbs.specs.Search.{View}
 use Rattle.mapf_cbs.specs.State.{IsState, IsPopped}
 
 -- the agent's path, entries and bars
-pub record IsRouteAt (view : View) (i : ℕ) (route : AgentRoute) : Type 0 where
-  pub path : slice_get view.paths i ≡ Some route.path
-  pub entries : view.entries i ≡ route.entries.items
-  pub bars : AreSameBars (view.constraints.bars i) route.bars
+pub record IsAgentPathAt (view : View) (i : ℕ) (agent_path : AgentPath) : Type 0 where
+  pub path : slice_get view.paths i ≡ Some agent_path.path
+  pub entries : view.entries i ≡ agent_path.entries.items
+  pub bars : AreSameBars (view.constraints.bars i) agent_path.bars
 
 -- the node holds just what is found at it
 pub record IsWhole (node : WholeNode) (view : View) : Type 0 where
-  pub count : length node.routes.items ≡ length view.paths
-  pub each : (i : ℕ) (route : AgentRoute) → slice_get node.routes.items i ≡ Some route → IsRouteAt view i route
+  pub count : length node.agent_paths.items ≡ length view.paths
+  pub each : (i : ℕ) (agent_path : AgentPath) → slice_get node.agent_paths.items i ≡ Some agent_path → IsAgentPathAt view i agent_path
   pub total : node.total ≡ sum view.costs
 
 -- so do all nodes
@@ -31,31 +31,31 @@ pub record AreWhole (nodes : List WholeNode) (views : List View) : Type 0 where
   pub lengths : length views ≡ length nodes
   pub each : (k : ℕ) (node : WholeNode) (view : View) → slice_get nodes k ≡ Some node → slice_get views k ≡ Some view → IsWhole node view
 
--- each node has a route of each agent
-abbrev pub HaveRoutes : List WholeNode → ℕ → Type 0
-HaveRoutes nodes agents = (k : ℕ) (node : WholeNode) → slice_get nodes k ≡ Some node → length node.routes.items ≡ agents
+-- each node has a path of each agent
+abbrev pub HaveAgentPaths : List WholeNode → ℕ → Type 0
+HaveAgentPaths nodes agents = (k : ℕ) (node : WholeNode) → slice_get nodes k ≡ Some node → length node.agent_paths.items ≡ agents
 
 -- the same path, entries and bars
-pub record IsCopy (route copy : AgentRoute) : Type 0 where
-  pub path : copy.path ≡ route.path
-  pub entries : copy.entries.items ≡ route.entries.items
-  pub bars : AreSameBars copy.bars route.bars
+pub record IsCopy (agent_path copy : AgentPath) : Type 0 where
+  pub path : copy.path ≡ agent_path.path
+  pub entries : copy.entries.items ≡ agent_path.entries.items
+  pub bars : AreSameBars copy.bars agent_path.bars
 
 -- so it is with each two of one place
-pub record AreCopies (routes all : List AgentRoute) : Type 0 where
-  pub count : length all ≡ length routes
-  pub each : (i : ℕ) (copy : AgentRoute) → slice_get all i ≡ Some copy → (route : AgentRoute) × (slice_get routes i ≡ Some route) × IsCopy route copy
+pub record AreCopies (agent_paths all : List AgentPath) : Type 0 where
+  pub count : length all ≡ length agent_paths
+  pub each : (i : ℕ) (copy : AgentPath) → slice_get all i ≡ Some copy → (agent_path : AgentPath) × (slice_get agent_paths i ≡ Some agent_path) × IsCopy agent_path copy
 
--- the route with what was found under these bars
-abbrev pub IsAfter : AgentRoute → Found → List Bar → AgentRoute → Type 0
-IsAfter before (Arrives path labels) bars route = (route.path ≡ path) × (route.entries.items ≡ labels) × (route.bars ≡ bars)
-IsAfter before (DeadEnd labels) bars route = (route.path ≡ before.path) × (route.entries.items ≡ labels) × (route.bars ≡ bars)
+-- the path with what was found under these bars
+abbrev pub IsAfter : AgentPath → Found → List Bar → AgentPath → Type 0
+IsAfter before (Arrives path labels) bars agent_path = (agent_path.path ≡ path) × (agent_path.entries.items ≡ labels) × (agent_path.bars ≡ bars)
+IsAfter before (DeadEnd labels) bars agent_path = (agent_path.path ≡ before.path) × (agent_path.entries.items ≡ labels) × (agent_path.bars ≡ bars)
 
 -- a whole child, live with this sum or dead
-pub record IsWholeBorn (problem : Instance) (view : View) (agent : ℕ) (bar : Bar) (node : WholeNode) (total : Option ℕ) : Type 0 where
+pub record IsWholeChild (problem : Instance) (view : View) (agent : ℕ) (bar : Bar) (node : WholeNode) (total : Option ℕ) : Type 0 where
   pub found : Found
-  pub born : IsBorn problem view agent bar found total
-  pub whole : IsWhole node born.child
+  pub generated : IsGeneratedChild problem view agent bar found total
+  pub whole : IsWhole node generated.child
 
 -- the node is open, and of all open nodes below n it has the least sum, and is the oldest of these
 pub record IsLeastOpen (nodes : List WholeNode) (fates : List Fate) (n k : ℕ) : Type 0 where
@@ -77,7 +77,7 @@ pub record IsWholeState (problem : Instance) (nodes : List WholeNode) (fates : L
   pub keys : List (ℕ × ℕ)
   pub state : IsState problem changes fates keys count
   pub whole : AreWhole nodes state.views
-  pub routes : HaveRoutes nodes (length problem.agents)
+  pub agent_paths : HaveAgentPaths nodes (length problem.agents)
 
 -- the same while the least open node is in hand
 pub record IsWholePopped (problem : Instance) (nodes : List WholeNode) (fates : List Fate) (count total k : ℕ) : Type 0 where
@@ -85,4 +85,4 @@ pub record IsWholePopped (problem : Instance) (nodes : List WholeNode) (fates : 
   pub rest : List (ℕ × ℕ)
   pub popped : IsPopped problem changes fates rest count total k
   pub whole : AreWhole nodes popped.views
-  pub routes : HaveRoutes nodes (length problem.agents)
+  pub agent_paths : HaveAgentPaths nodes (length problem.agents)

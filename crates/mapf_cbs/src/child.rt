@@ -5,10 +5,10 @@ ghost use Rattle.mapf_model.specs.declared.bar.Bar.{Bar};
 ghost use Rattle.mapf_model.specs.declared.problem.Agent.{Agent};
 ghost use Rattle.mapf_spacetime.specs.Answer.{IsAnswer};
 ghost use Rattle.mapf_spacetime.specs.Task.{task_of};
-ghost use Rattle.mapf_cbs.specs.Route.{IsTableBar, AreTables};
+ghost use Rattle.mapf_cbs.specs.CheapestPath.{IsTableBar, AreTables};
 ghost use Rattle.mapf_cbs.specs.Search.{View, IsLive};
-ghost use Rattle.mapf_cbs.specs.Arena.{AreNodesFor, HaveTableBars, AreViews};
-ghost use Rattle.mapf_cbs.specs.Born.{IsBorn, EndsAt, IsTotal};
+ghost use Rattle.mapf_cbs.specs.Nodes.{AreNodesFor, HaveTableBars, AreViews};
+ghost use Rattle.mapf_cbs.specs.GeneratedChild.{IsGeneratedChild, EndsAt, IsTotal};
 
 use crate::node::Node;
 use crate::walks::{bars_at, path_at};
@@ -20,7 +20,7 @@ use std::alloc::Global;
 
 /// What one more bar led to, with the sum of the new costs where the agent still arrives.
 #[derive(Debug, Drop)]
-pub struct Born {
+pub struct GeneratedChild {
     pub found: Found,
     pub total: Option<u64>,
 }
@@ -35,7 +35,7 @@ pub fn child<B: BarTable>(
     total: u64,
     agent: u32,
     bar: Bar,
-) -> Result<Born, OutOfMemory>
+) -> Result<GeneratedChild, OutOfMemory>
     requires tables { AreTables problem.now tables.now }
     requires nodes { AreNodesFor agent nodes.now }
     requires bars { HaveTableBars nodes.now }
@@ -44,13 +44,13 @@ pub fn child<B: BarTable>(
     requires bar { IsTableBar bar }
     requires small { total + 2 ^ 32 < 2 ^ 64 }
     requires live { (views : List View) × (view : View) × AreViews nodes.now views × (slice_get views k ≡ Some view) × IsLive problem.now view × (total ≡ sum view.costs) }
-    ensures { IfOk result (λ born. (views : List View) (view : View) → AreViews nodes.now views → slice_get views k ≡ Some view → IsLive problem.now view → total ≡ sum view.costs → IsBorn problem.now view agent bar born.found born.total) }
+    ensures { IfOk result (λ generated. (views : List View) (view : View) → AreViews nodes.now views → slice_get views k ≡ Some view → IsLive problem.now view → total ≡ sum view.costs → IsGeneratedChild problem.now view agent bar generated.found generated.total) }
 {
     let who = problem.agents()[agent as usize];
     let found = search_with::<B>(alloc, problem, tables, nodes, k, agent, bar)?;
     let old = cost_of(path_at(nodes, k, agent), who.goal);
     let total = new_total(&found, who.goal, total - u64::from(old));
-    Ok(Born { found, total })
+    Ok(GeneratedChild { found, total })
 }
 
 // What the agent can do under its bars at the node and one more.

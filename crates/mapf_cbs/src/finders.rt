@@ -1,5 +1,5 @@
 ghost use Rattle.std.specs.Prelude.{◌≡◌, ◌<◌, ℕ, List, Some, length, slice_get, IfOk};
-ghost use Rattle.mapf_cbs.specs.Arena.{AreNodesFor, AreViews};
+ghost use Rattle.mapf_cbs.specs.Nodes.{AreNodesFor, AreViews};
 ghost use Rattle.mapf_cbs.specs.Finders.{AreFinders, AreInside, AreNone, IsNoted};
 ghost use Rattle.mapf_cbs.specs.Search.{View};
 

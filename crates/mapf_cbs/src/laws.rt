@@ -2,29 +2,27 @@
 //! whole and the next node found by a scan.
 ghost use Rattle.std.specs.Prelude.{◌≡◌, ◌+◌, ◌^◌, ◌<◌, ◌≤◌, ◌∷◌, ℕ, Some, length, slice_get, IfOk, OnOk};
 ghost use Rattle.mapf_model.specs.Earned.{HasConflict, AreConflictFreeBefore, tick_of};
-ghost use Rattle.mapf_model.specs.Grid.{IsGridMap};
 ghost use Rattle.mapf_model.specs.Laws.{AreSameBars};
 ghost use Rattle.mapf_model.specs.Tree.{ShareGoal};
 ghost use Rattle.mapf_cbs.specs.Answer.{IsAnswer};
-ghost use Rattle.mapf_cbs.specs.Route.{AreTables, IsTableBar};
+ghost use Rattle.mapf_cbs.specs.CheapestPath.{AreTables, IsTableBar};
 ghost use Rattle.mapf_cbs.specs.Search.{View, IsLive};
-ghost use Rattle.mapf_cbs.specs.Start.{AreShortest};
-ghost use Rattle.mapf_cbs.specs.Whole.{IsWhole, IsWholeBorn, IsWholePopped, IsWholeState};
+ghost use Rattle.mapf_cbs.specs.Start.{IsRootStart};
+ghost use Rattle.mapf_cbs.specs.Whole.{IsWhole, IsWholeChild, IsWholePopped, IsWholeState};
 ghost use Rattle.mapf_cbs.specs.declared.whole_node.WholeNode.{WholeNode};
 
 use crate::answer::Answer;
 use crate::child::{cost_of, new_total};
-use crate::clash::sharing_pair;
 use crate::sides::{left_agent, left_bar, right_agent, right_bar};
-use crate::solver::{cause_to_stop, one_item};
-use crate::start::{goal_tables, shortest_paths};
-use crate::whole_node::{WholeNode, routes_with};
-use crate::whole_tree::{WholeBorn, WholeTree, least_open};
+use crate::solver::cause_to_stop;
+use crate::start::{Beginning, begin};
+use crate::whole_node::{WholeNode, agent_paths_with};
+use crate::whole_tree::{WholeChild, WholeTree, least_open};
 use crate::written::tree_items;
 use mapf_conflicts::first_conflict;
 use mapf_constraints::{BarTable, ListBars};
 use mapf_distance::Distances;
-use mapf_model::{Bar, Conflict, Item, OutOfMemory, Path, Problem};
+use mapf_model::{Bar, Conflict, OutOfMemory, Path, Problem};
 use mapf_spacetime::{Found, search};
 use std::alloc::Global;
 
@@ -33,23 +31,9 @@ pub fn solve_plain(alloc: Global, problem: &Problem, limit: u32) -> Result<Answe
     requires { limit ≤ 100000 }
     ensures { IfOk result (IsAnswer problem.now limit) }
 {
-    // The width tells the shape of the grid.
-    let _width = problem.grid().width();
-    if let Some((i, j)) = sharing_pair(problem.agents()) {
-        let clash = Item::Clash {
-            i: i as u32,
-            j: j as u32,
-        };
-        let tree = one_item(alloc, clash)?;
-        return Ok(Answer::Impossible { tree });
-    }
-    let tables = goal_tables(alloc, problem)?;
-    match shortest_paths(alloc, problem, &tables)? {
-        Some(paths) => search_plain(alloc, problem, &tables, paths, limit),
-        None => {
-            let tree = one_item(alloc, Item::Leaf(Vec::new(alloc)))?;
-            Ok(Answer::Impossible { tree })
-        }
+    match begin(alloc, problem)? {
+        Beginning::Impossible { tree } => Ok(Answer::Impossible { tree }),
+        Beginning::Root { tables, paths } => { search_plain(alloc, problem, &tables, paths, limit) }
     }
 }
 
@@ -62,13 +46,8 @@ fn search_plain(
     paths: Vec<Path>,
     limit: u32,
 ) -> Result<Answer, OutOfMemory>
-    requires shape { IsGridMap problem.now.grid }
-    requires agents { (1 ≤ length problem.now.agents) × (length problem.now.agents ≤ 200) }
     requires limit { limit ≤ 100000 }
-    requires goals { (i j : ℕ) → ShareGoal problem.now i j → ⊥ }
-    requires tables { AreTables problem.now tables.now }
-    requires count { length paths.items ≡ length problem.now.agents }
-    requires shortest { AreShortest problem.now paths.items }
+    requires root { IsRootStart problem.now tables.now paths.items }
     ensures { IfOk result (IsAnswer problem.now limit) }
 {
     let agents = problem.agents().len() as u32;
@@ -137,27 +116,30 @@ fn child_of(
     node: &WholeNode,
     agent: u32,
     bar: Bar,
-) -> Result<WholeBorn, OutOfMemory>
+) -> Result<WholeChild, OutOfMemory>
     requires tables { AreTables problem.now tables.now }
     requires known { agent < length problem.now.agents }
-    requires count { length node.now.routes.items ≡ length problem.now.agents }
+    requires count { length node.now.agent_paths.items ≡ length problem.now.agents }
     requires bar { IsTableBar bar }
     requires small { node.now.total + 2 ^ 32 < 2 ^ 64 }
     requires live { (view : View) × IsWhole node.now view × IsLive problem.now view }
-    ensures count { IfOk result (λ born. length born.node.routes.items ≡ length node.now.routes.items) }
-    ensures born { IfOk result (λ born. (view : View) → IsWhole node.now view → IsLive problem.now view → IsWholeBorn problem.now view agent bar born.node born.total) }
+    ensures count { IfOk result (λ generated. length generated.node.agent_paths.items ≡ length node.now.agent_paths.items) }
+    ensures generated { IfOk result (λ generated. (view : View) → IsWhole node.now view → IsLive problem.now view → IsWholeChild problem.now view agent bar generated.node generated.total) }
 {
     let who = problem.agents()[agent as usize];
     let goal = who.goal;
-    let bars = with_bar(&node.routes[agent as usize].bars, bar)?;
+    let bars = with_bar(&node.agent_paths[agent as usize].bars, bar)?;
     let found = search(alloc, problem.grid(), &tables[agent as usize], &bars, who)?;
-    let old = cost_of(&node.routes[agent as usize].path, goal);
+    let old = cost_of(&node.agent_paths[agent as usize].path, goal);
     let total = new_total(&found, goal, node.total - u64::from(old));
-    let route = node.routes[agent as usize].after(alloc, &found, bars)?;
-    let routes = routes_with(alloc, &node.routes, agent, route)?;
+    let agent_path = node.agent_paths[agent as usize].after(alloc, &found, bars)?;
+    let agent_paths = agent_paths_with(alloc, &node.agent_paths, agent, agent_path)?;
     let sum = total.unwrap_or(node.total);
-    Ok(WholeBorn {
-        node: WholeNode { routes, total: sum },
+    Ok(WholeChild {
+        node: WholeNode {
+            agent_paths,
+            total: sum,
+        },
         total,
     })
 }

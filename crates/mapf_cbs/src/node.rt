@@ -25,7 +25,7 @@ pub enum Fate {
     /// Some agent can't arrive.
     Dead,
     /// The node was split on the conflict.
-    Cut {
+    Expanded {
         conflict: Conflict,
         left: u32,
         right: u32,

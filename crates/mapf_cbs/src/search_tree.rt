@@ -2,7 +2,7 @@ ghost use Rattle.std.specs.Prelude.{◌≡◌, ◌+◌, ◌^◌, ◌<◌, ◌∷
 ghost use Rattle.mapf_cbs.specs.Search.{left_agent, right_agent, left_bar, right_bar};
 ghost use Rattle.mapf_cbs.specs.State.{fate_of, with_key, IsLeastKey};
 
-use crate::child::Born;
+use crate::child::GeneratedChild;
 use crate::node::{Fate, Node};
 use crate::sides::{left_agent, left_bar, right_agent, right_bar};
 use mapf_model::{Conflict, OutOfMemory, Path};
@@ -62,26 +62,19 @@ impl SearchTree {
         &mut self,
         k: u32,
         conflict: &Conflict,
-        left: Born,
-        right: Born,
+        left: GeneratedChild,
+        right: GeneratedChild,
     ) -> Result<(), OutOfMemory>
         requires same { length self.old.nodes.items ≡ length self.old.fates.items }
         requires few { length self.old.nodes.items < 2 ^ 31 }
         requires inside { k < length self.old.fates.items }
         requires splits { self.old.splits < 2 ^ 31 }
         ensures nodes { OnOk result (self.new.nodes.items ≡ (self.old.nodes.items ++ Node.Child k (left_agent conflict.now) (left_bar conflict.now) left.found ∷ []) ++ Node.Child k (right_agent conflict.now) (right_bar conflict.now) right.found ∷ []) }
-        ensures fates { OnOk result (self.new.fates.items ≡ slice_set ((self.old.fates.items ++ fate_of left.total ∷ []) ++ fate_of right.total ∷ []) k (Fate.Cut conflict.now (length self.old.nodes.items) (length self.old.nodes.items + 1))) }
+        ensures fates { OnOk result (self.new.fates.items ≡ slice_set ((self.old.fates.items ++ fate_of left.total ∷ []) ++ fate_of right.total ∷ []) k (Fate.Expanded conflict.now (length self.old.nodes.items) (length self.old.nodes.items + 1))) }
         ensures waiting { OnOk result (self.new.waiting.keys ≡ with_key (with_key self.old.waiting.keys left.total (length self.old.nodes.items)) right.total (length self.old.nodes.items + 1)) }
         ensures splits { OnOk result (self.new.splits ≡ self.old.splits + 1) }
     {
-        let number = self.nodes.len() as u32;
-        self.fates.push(fate_of(&left.total))?;
-        self.fates.push(fate_of(&right.total))?;
-        self.fates[k as usize] = Fate::Cut {
-            conflict: *conflict,
-            left: number,
-            right: number + 1,
-        };
+        let number = expand(&mut self.fates, k, conflict, left.total, right.total)?;
         self.add_open(left.total, number)?;
         self.add_open(right.total, number + 1)?;
         self.nodes.push(Node::Child {
@@ -122,8 +115,33 @@ pub fn take_least(waiting: &mut BTreeSet<(u64, u32)>) -> Option<(u64, u32)>
     waiting.pop_first()
 }
 
-/// A child is open where it has a sum.
-pub fn fate_of(total: &Option<u64>) -> Fate
+/// Splits a node on the conflict: its children are the next two nodes. Answers the number of the left
+/// one.
+pub fn expand(
+    fates: &mut Vec<Fate>,
+    k: u32,
+    conflict: &Conflict,
+    left: Option<u64>,
+    right: Option<u64>,
+) -> Result<u32, OutOfMemory>
+    requires few { length fates.old.items < 2 ^ 31 }
+    requires inside { k < length fates.old.items }
+    ensures number { IfOk result (λ number. number ≡ length fates.old.items) }
+    ensures fates { OnOk result (fates.new.items ≡ slice_set ((fates.old.items ++ fate_of left ∷ []) ++ fate_of right ∷ []) k (Fate.Expanded conflict.now (length fates.old.items) (length fates.old.items + 1))) }
+{
+    let number = fates.len() as u32;
+    fates.push(fate_of(&left))?;
+    fates.push(fate_of(&right))?;
+    fates[k as usize] = Fate::Expanded {
+        conflict: *conflict,
+        left: number,
+        right: number + 1,
+    };
+    Ok(number)
+}
+
+// A child is open where it has a sum.
+fn fate_of(total: &Option<u64>) -> Fate
     ensures { result ≡ fate_of total.now }
 {
     match total {

@@ -1,26 +1,24 @@
 ghost use Rattle.std.specs.Prelude.{◌≡◌, ◌≢◌, ◌+◌, ◌<◌, ◌≤◌, ◌∷◌, [], ℕ, List, Some, length, slice_get, IfOk, IfSome, IfNone, OnOk};
 ghost use Rattle.mapf_model.specs.Earned.{HasConflict, AreConflictFreeBefore, tick_of};
-ghost use Rattle.mapf_model.specs.Grid.{IsGridMap};
 ghost use Rattle.mapf_model.specs.Tree.{ShareGoal};
 ghost use Rattle.mapf_cbs.specs.Answer.{IsAnswer};
-ghost use Rattle.mapf_cbs.specs.Arena.{AreViews};
-ghost use Rattle.mapf_cbs.specs.Route.{AreTables};
+ghost use Rattle.mapf_cbs.specs.Nodes.{AreViews};
+ghost use Rattle.mapf_cbs.specs.CheapestPath.{AreTables};
 ghost use Rattle.mapf_cbs.specs.Search.{View, IsLive};
-ghost use Rattle.mapf_cbs.specs.Start.{AreShortest};
+ghost use Rattle.mapf_cbs.specs.Start.{IsRootStart};
 ghost use Rattle.mapf_cbs.specs.State.{IsPopped, IsState, IsCauseToStop};
 
 use crate::answer::Answer;
 use crate::child::child;
-use crate::clash::sharing_pair;
 use crate::search_tree::{SearchTree, take_least};
 use crate::sides::{left_agent, left_bar, right_agent, right_bar, tick_of};
-use crate::start::{goal_tables, shortest_paths, total_of};
+use crate::start::{Beginning, begin, total_of};
 use crate::walks::plan_at;
 use crate::written::tree_items;
 use mapf_conflicts::first_conflict;
 use mapf_constraints::{BarTable, TickBars};
 use mapf_distance::Distances;
-use mapf_model::{Cause, Conflict, Item, OutOfMemory, Path, Problem};
+use mapf_model::{Cause, Conflict, OutOfMemory, Path, Problem};
 use std::alloc::Global;
 
 /// A conflict at this tick or later isn't split.
@@ -46,33 +44,12 @@ pub fn solve_with<B: BarTable>(
     requires { limit ≤ 100000 }
     ensures { IfOk result (IsAnswer problem.now limit) }
 {
-    // The width tells the shape of the grid.
-    let _width = problem.grid().width();
-    if let Some((i, j)) = sharing_pair(problem.agents()) {
-        let clash = Item::Clash {
-            i: i as u32,
-            j: j as u32,
-        };
-        let tree = one_item(alloc, clash)?;
-        return Ok(Answer::Impossible { tree });
-    }
-    let tables = goal_tables(alloc, problem)?;
-    match shortest_paths(alloc, problem, &tables)? {
-        Some(paths) => search_from::<B>(alloc, problem, &tables, paths, limit),
-        None => {
-            let tree = one_item(alloc, Item::Leaf(Vec::new(alloc)))?;
-            Ok(Answer::Impossible { tree })
+    match begin(alloc, problem)? {
+        Beginning::Impossible { tree } => Ok(Answer::Impossible { tree }),
+        Beginning::Root { tables, paths } => {
+            search_from::<B>(alloc, problem, &tables, paths, limit)
         }
     }
-}
-
-/// The items of a tree of one node.
-pub fn one_item(alloc: Global, item: Item) -> Result<Vec<Item>, OutOfMemory>
-    ensures { IfOk result (λ tree. tree.items ≡ item ∷ []) }
-{
-    let mut tree = Vec::new(alloc);
-    tree.push(item)?;
-    Ok(tree)
 }
 
 // Splits nodes from a root with these paths on, least sum first, until a plan is found, no node is
@@ -84,13 +61,8 @@ fn search_from<B: BarTable>(
     paths: Vec<Path>,
     limit: u32,
 ) -> Result<Answer, OutOfMemory>
-    requires shape { IsGridMap problem.now.grid }
-    requires agents { (1 ≤ length problem.now.agents) × (length problem.now.agents ≤ 200) }
     requires limit { limit ≤ 100000 }
-    requires goals { (i j : ℕ) → ShareGoal problem.now i j → ⊥ }
-    requires tables { AreTables problem.now tables.now }
-    requires count { length paths.items ≡ length problem.now.agents }
-    requires shortest { AreShortest problem.now paths.items }
+    requires root { IsRootStart problem.now tables.now paths.items }
     ensures { IfOk result (IsAnswer problem.now limit) }
 {
     let agents = problem.agents().len() as u32;

@@ -1,14 +1,63 @@
-ghost use Rattle.std.specs.Prelude.{◌≡◌, ◌*◌, ◌^◌, ◌≤◌, ◌-◌, length, sum_by, IfOk, IfSome, IfNone, MatchOption};
+ghost use Rattle.std.specs.Prelude.{◌≡◌, ◌*◌, ◌^◌, ◌≤◌, ◌-◌, ◌∷◌, [], length, sum_by, IfOk, IfSome, IfNone, MatchOption};
 ghost use Rattle.mapf_model.specs.Distance.{IsUnreachable};
-ghost use Rattle.mapf_cbs.specs.Route.{AreTables};
-ghost use Rattle.mapf_cbs.specs.Start.{IsShortest, AreShortest, SomeGoalIsUnreachable};
+ghost use Rattle.mapf_cbs.specs.CheapestPath.{AreTables};
+ghost use Rattle.mapf_cbs.specs.Start.{IsBeginning, IsShortest, AreShortest, SomeGoalIsUnreachable};
 
+use crate::clash::sharing_pair;
 use mapf_distance::Distances;
-use mapf_model::{Agent, Grid, OutOfMemory, Path, Problem};
+use mapf_model::{Agent, Grid, Item, OutOfMemory, Path, Problem};
 use std::alloc::Global;
 
-/// The distances to each agent's goal.
-pub fn goal_tables(alloc: Global, problem: &Problem) -> Result<Vec<Distances>, OutOfMemory>
+/// How a search begins.
+#[derive(Debug, Drop)]
+pub enum Beginning {
+    /// No plan is valid, and this tree of one node shows it.
+    Impossible {
+        tree: Vec<Item>,
+    },
+    /// The distances to each agent's goal, and the paths of the root.
+    Root {
+        tables: Vec<Distances>,
+        paths: Vec<Path>,
+    },
+}
+
+/// What is known before any search under bars: no plan is valid where two agents have one goal, or
+/// where a goal can't be reached.
+pub fn begin(alloc: Global, problem: &Problem) -> Result<Beginning, OutOfMemory>
+    ensures { IfOk result (IsBeginning problem.now) }
+{
+    // The width tells the shape of the grid.
+    let _width = problem.grid().width();
+    if let Some((i, j)) = sharing_pair(problem.agents()) {
+        let clash = Item::Clash {
+            i: i as u32,
+            j: j as u32,
+        };
+        let tree = one_item(alloc, clash)?;
+        return Ok(Beginning::Impossible { tree });
+    }
+    let tables = goal_tables(alloc, problem)?;
+    match shortest_paths(alloc, problem, &tables)? {
+        Some(paths) => Ok(Beginning::Root { tables, paths }),
+        None => {
+            let tree = one_item(alloc, Item::Leaf(Vec::new(alloc)))?;
+            Ok(Beginning::Impossible { tree })
+        }
+    }
+}
+
+// The items of a tree of one node.
+fn one_item(alloc: Global, item: Item) -> Result<Vec<Item>, OutOfMemory>
+    ensures { IfOk result (λ tree. tree.items ≡ item ∷ []) }
+{
+    let mut tree = Vec::new(alloc);
+    tree.push(item)?;
+    Ok(tree)
+}
+
+// The distances to each agent's goal.
+fn goal_tables(alloc: Global, problem: &Problem) -> Result<Vec<Distances>, OutOfMemory>
     ensures { IfOk result (λ tables. AreTables problem.now tables.items) }
 {
     let mut tables = Vec::new(alloc);
@@ -18,8 +67,8 @@ pub fn goal_tables(alloc: Global, problem: &Problem) -> Result<Vec<Distances>, O
     Ok(tables)
 }
 
-/// A shortest path of each agent. None where some goal can't be reached.
-pub fn shortest_paths(
+// A shortest path of each agent. None where some goal can't be reached.
+fn shortest_paths(
     alloc: Global,
     problem: &Problem,
     tables: &[Distances],

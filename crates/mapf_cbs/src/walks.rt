@@ -1,7 +1,7 @@
 ghost use Rattle.std.specs.Prelude.{◌≡◌, ◌<◌, ◌≤◌, ℕ, [], List, Some, length, slice_get, All, IfOk, IfSome, IfNone};
 ghost use Rattle.mapf_model.specs.Laws.{AreSameBars};
 ghost use Rattle.mapf_cbs.specs.Search.{View};
-ghost use Rattle.mapf_cbs.specs.Arena.{AreNodesFor, HaveTableBars, AreViews};
+ghost use Rattle.mapf_cbs.specs.Nodes.{AreNodesFor, HaveTableBars, AreViews};
 
 use crate::finders::finders_at;
 use crate::node::Node;

@@ -1,6 +1,6 @@
 ghost use Rattle.std.specs.Prelude.{◌≡◌, ◌*◌, ◌-◌, ◌^◌, ◌<◌, ◌≤◌, ◌∷◌, [], length, slice_set, sum, sum_by, All, IfOk};
 ghost use Rattle.mapf_model.specs.Laws.{AreSameBars};
-ghost use Rattle.mapf_cbs.specs.Arena.{IsRootView};
+ghost use Rattle.mapf_cbs.specs.Nodes.{IsRootView};
 ghost use Rattle.mapf_cbs.specs.Search.{View, AreBlocksOf};
 ghost use Rattle.mapf_cbs.specs.Whole.{IsWhole, IsCopy, AreCopies, IsAfter};
 
@@ -13,7 +13,7 @@ use std::alloc::Global;
 
 /// What a node holds of one agent.
 #[derive(Debug, Drop)]
-pub struct AgentRoute {
+pub struct AgentPath {
     pub path: Path,
     pub entries: Vec<Entry>,
     pub bars: ListBars,
@@ -23,38 +23,38 @@ pub struct AgentRoute {
 #[derive(Debug, Drop)]
 pub struct WholeNode {
     // One for each agent.
-    pub routes: Vec<AgentRoute>,
+    pub agent_paths: Vec<AgentPath>,
     // The sum of the paths' costs.
     pub total: u64,
 }
 
-impl AgentRoute {
-    fn copy(&self, alloc: Global) -> Result<AgentRoute, OutOfMemory>
+impl AgentPath {
+    fn copy(&self, alloc: Global) -> Result<AgentPath, OutOfMemory>
         ensures { IfOk result (IsCopy self.now) }
     {
-        Ok(AgentRoute {
+        Ok(AgentPath {
             path: copied(alloc, &self.path)?,
             entries: Vec::from_slice(alloc, &self.entries)?,
             bars: self.bars.copy()?,
         })
     }
 
-    /// The route after a search under these bars: an agent that can't arrive keeps its path.
+    /// The path after a search under these bars: an agent that can't arrive keeps its path.
     pub fn after(
         &self,
         alloc: Global,
         found: &Found,
         bars: ListBars,
-    ) -> Result<AgentRoute, OutOfMemory>
+    ) -> Result<AgentPath, OutOfMemory>
         ensures { IfOk result (IsAfter self.now found.now bars) }
     {
         match found {
-            Found::Arrives { path, labels } => Ok(AgentRoute {
+            Found::Arrives { path, labels } => Ok(AgentPath {
                 path: copied(alloc, path)?,
                 entries: Vec::from_slice(alloc, labels.entries())?,
                 bars,
             }),
-            Found::Dead { labels } => Ok(AgentRoute {
+            Found::Dead { labels } => Ok(AgentPath {
                 path: copied(alloc, &self.path)?,
                 entries: Vec::from_slice(alloc, labels.entries())?,
                 bars,
@@ -63,27 +63,27 @@ impl AgentRoute {
     }
 }
 
-/// The routes with another one of the agent.
-pub fn routes_with(
+/// The paths with another one of the agent.
+pub fn agent_paths_with(
     alloc: Global,
-    routes: &[AgentRoute],
+    agent_paths: &[AgentPath],
     agent: u32,
-    route: AgentRoute,
-) -> Result<Vec<AgentRoute>, OutOfMemory>
-    requires { agent < length routes.now }
-    ensures { IfOk result (λ all. AreCopies (slice_set routes.now agent route) all.items) }
+    agent_path: AgentPath,
+) -> Result<Vec<AgentPath>, OutOfMemory>
+    requires { agent < length agent_paths.now }
+    ensures { IfOk result (λ all. AreCopies (slice_set agent_paths.now agent agent_path) all.items) }
 {
-    let mut all = copies(alloc, routes)?;
-    all[agent as usize] = route;
+    let mut all = copies(alloc, agent_paths)?;
+    all[agent as usize] = agent_path;
     Ok(all)
 }
 
-fn copies(alloc: Global, routes: &[AgentRoute]) -> Result<Vec<AgentRoute>, OutOfMemory>
-    ensures { IfOk result (λ all. AreCopies routes.now all.items) }
+fn copies(alloc: Global, agent_paths: &[AgentPath]) -> Result<Vec<AgentPath>, OutOfMemory>
+    ensures { IfOk result (λ all. AreCopies agent_paths.now all.items) }
 {
     let mut all = Vec::new(alloc);
-    for i in 0..routes.len() {
-        all.push(routes[i].copy(alloc)?)?;
+    for i in 0..agent_paths.len() {
+        all.push(agent_paths[i].copy(alloc)?)?;
     }
     Ok(all)
 }
@@ -92,31 +92,31 @@ impl WholeNode {
     /// The root of a tree: these paths, and no bars.
     pub fn root(alloc: Global, paths: &[Path]) -> Result<WholeNode, OutOfMemory>
         requires { length paths.now ≤ 200 }
-        ensures count { IfOk result (λ node. length node.routes.items ≡ length paths.now) }
+        ensures count { IfOk result (λ node. length node.agent_paths.items ≡ length paths.now) }
         ensures small { IfOk result (λ node. node.total ≤ 200 * 2 ^ 32) }
         ensures whole { IfOk result (λ node. (view : View) → IsRootView paths.now view → sum view.costs ≡ sum_by (λ path. length path - 1) paths.now → IsWhole node view) }
     {
         let total = total_of(paths);
-        let mut routes = Vec::new(alloc);
+        let mut agent_paths = Vec::new(alloc);
         for i in 0..paths.len() {
-            routes.push(AgentRoute {
+            agent_paths.push(AgentPath {
                 path: copied(alloc, &paths[i])?,
                 entries: Vec::new(alloc),
                 bars: ListBars::empty(alloc),
             })?;
         }
-        Ok(WholeNode { routes, total })
+        Ok(WholeNode { agent_paths, total })
     }
 
     /// The paths of the node.
     pub fn plan(&self, alloc: Global) -> Result<Plan, OutOfMemory>
-        requires { (1 ≤ length self.now.routes.items) × (length self.now.routes.items ≤ 200) }
+        requires { (1 ≤ length self.now.agent_paths.items) × (length self.now.agent_paths.items ≤ 200) }
         ensures paths { IfOk result (λ plan. (view : View) → IsWhole self.now view → plan ≡ view.paths) }
         ensures short { IfOk result (λ plan. All (λ path. length path ≤ 10000000) plan) }
     {
         let mut paths = Vec::new(alloc);
-        for i in 0..self.routes.len() {
-            paths.push(copied(alloc, &self.routes[i].path)?)?;
+        for i in 0..self.agent_paths.len() {
+            paths.push(copied(alloc, &self.agent_paths[i].path)?)?;
         }
         match Plan::of(paths) {
             Some(plan) => Ok(plan),
@@ -126,12 +126,12 @@ impl WholeNode {
 
     /// One block for each agent that has labels at the node.
     pub fn blocks(&self, alloc: Global, agents: u32) -> Result<Vec<Block>, OutOfMemory>
-        requires { length self.now.routes.items ≡ agents }
+        requires { length self.now.agent_paths.items ≡ agents }
         ensures { IfOk result (λ blocks. (view : View) → IsWhole self.now view → AreBlocksOf agents view.entries blocks.items) }
     {
         let mut blocks = Vec::new(alloc);
         for agent in 0..agents {
-            let entries = Vec::from_slice(alloc, &self.routes[agent as usize].entries)?;
+            let entries = Vec::from_slice(alloc, &self.agent_paths[agent as usize].entries)?;
             if !entries.is_empty() {
                 blocks.push(Block { agent, entries })?;
             }

@@ -1,18 +1,18 @@
 ghost use Rattle.std.specs.Prelude.{◌≡◌, ◌+◌, ◌^◌, ◌<◌, ◌≤◌, ◌∷◌, [], ◌++◌, ℕ, List, Some, length, slice_get, slice_set, IfOk, OnOk, IsTrue, ◌↔◌};
 ghost use Rattle.mapf_cbs.specs.State.{fate_of};
 ghost use Rattle.mapf_cbs.specs.Search.{View};
-ghost use Rattle.mapf_cbs.specs.Whole.{AreWhole, HaveRoutes, IsLeastBelow};
+ghost use Rattle.mapf_cbs.specs.Whole.{AreWhole, HaveAgentPaths, IsLeastBelow};
 
 use crate::leaves::Leaves;
 use crate::node::Fate;
-use crate::search_tree::fate_of;
+use crate::search_tree::expand;
 use crate::whole_node::WholeNode;
 use mapf_model::{Block, Conflict, OutOfMemory};
 use std::alloc::Global;
 
 /// A child with all that is found at it, and with its sum where the bound agent still arrives.
 #[derive(Debug, Drop)]
-pub struct WholeBorn {
+pub struct WholeChild {
     pub node: WholeNode,
     pub total: Option<u64>,
 }
@@ -30,7 +30,7 @@ pub struct WholeTree {
 impl Leaves for Vec<WholeNode> {
     ghost are_views = { λ nodes views. AreWhole nodes.items views };
 
-    ghost are_for = { λ nodes agents. HaveRoutes nodes.items agents };
+    ghost are_for = { λ nodes agents. HaveAgentPaths nodes.items agents };
 
     ghost count = { λ nodes. length nodes.items };
 
@@ -64,25 +64,18 @@ impl WholeTree {
         &mut self,
         k: u32,
         conflict: &Conflict,
-        left: WholeBorn,
-        right: WholeBorn,
+        left: WholeChild,
+        right: WholeChild,
     ) -> Result<(), OutOfMemory>
         requires same { length self.old.fates.items ≡ length self.old.nodes.items }
         requires few { length self.old.nodes.items < 2 ^ 31 }
         requires inside { k < length self.old.fates.items }
         requires splits { self.old.splits < 2 ^ 31 }
         ensures nodes { OnOk result (self.new.nodes.items ≡ (self.old.nodes.items ++ left.node ∷ []) ++ right.node ∷ []) }
-        ensures fates { OnOk result (self.new.fates.items ≡ slice_set ((self.old.fates.items ++ fate_of left.total ∷ []) ++ fate_of right.total ∷ []) k (Fate.Cut conflict.now (length self.old.nodes.items) (length self.old.nodes.items + 1))) }
+        ensures fates { OnOk result (self.new.fates.items ≡ slice_set ((self.old.fates.items ++ fate_of left.total ∷ []) ++ fate_of right.total ∷ []) k (Fate.Expanded conflict.now (length self.old.nodes.items) (length self.old.nodes.items + 1))) }
         ensures splits { OnOk result (self.new.splits ≡ self.old.splits + 1) }
     {
-        let number = self.nodes.len() as u32;
-        self.fates.push(fate_of(&left.total))?;
-        self.fates.push(fate_of(&right.total))?;
-        self.fates[k as usize] = Fate::Cut {
-            conflict: *conflict,
-            left: number,
-            right: number + 1,
-        };
+        expand(&mut self.fates, k, conflict, left.total, right.total)?;
         self.nodes.push(left.node)?;
         self.nodes.push(right.node)?;
         self.splits += 1;

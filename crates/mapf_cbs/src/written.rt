@@ -1,7 +1,7 @@
 ghost use Rattle.std.specs.Prelude.{◌≡◌, ◌<◌, ℕ, List, Some, length, slice_get, IfOk};
 ghost use Rattle.mapf_model.specs.Tree.{ConstraintTree, Spell};
-ghost use Rattle.mapf_cbs.specs.Search.{View, AreBlocksOf, AreCutsLater, IsTreeAt};
-ghost use Rattle.mapf_cbs.specs.Arena.{AreNodesFor, AreViews};
+ghost use Rattle.mapf_cbs.specs.Search.{View, AreBlocksOf, AreChildrenLater, IsTreeAt};
+ghost use Rattle.mapf_cbs.specs.Nodes.{AreNodesFor, AreViews};
 
 use crate::finders::finders_at;
 use crate::leaves::Leaves;
@@ -21,7 +21,7 @@ pub fn tree_items<L: Leaves>(
     requires nodes { L.are_for nodes.now agents }
     requires same { length fates.now ≡ L.count nodes.now }
     requires some { 0 < length fates.now }
-    requires later { AreCutsLater fates.now }
+    requires later { AreChildrenLater fates.now }
     ensures { IfOk result (λ items. (views : List View) → L.are_views nodes.now views → length views ≡ length fates.now → (tree : ConstraintTree) × Spell items.items tree × IsTreeAt agents views fates.now 0 tree) }
 {
     let mut items = Vec::new(alloc);
@@ -30,7 +30,7 @@ pub fn tree_items<L: Leaves>(
     while let Some(k) = owed.pop() {
         let fate = fates[k as usize];
         match fate {
-            Fate::Cut {
+            Fate::Expanded {
                 conflict,
                 left,
                 right,

@@ -40,9 +40,6 @@ first_frontier task first is = record {
 pub first_limit : (task : Task) (first : ℕ) → IsValue task (start_of task) first → IsBelowLimit task first
 first_limit task first is bound above = let sum = is.sum in let few = is.few in omega arith
 
-pub first_small : (task : Task) (first : ℕ) → IsValue task (start_of task) first → first < 4194304
-first_small task first is = let sum = is.sum in let small = is.small in omega arith
-
 pub spent_shows : (task : Task) (states : States) → IsSpent task states → (entries : List Entry) → AreEntriesOf states.reached None entries → ShowNone task entries
 spent_shows task states spent entries a = record { sound = sound_spent task states spent entries a; start = start_spent task states spent entries a }
 

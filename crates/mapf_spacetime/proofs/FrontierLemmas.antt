@@ -2,7 +2,6 @@
 use Rattle.std.proofs.Common.{◌≡◌, ◌⊎◌, ◌↔◌, inl, inr, ⊎_elim, ℕ, ◌+◌, ◌<◌, ◌≤◌, List, [], ◌∷◌, ◌++◌, length, slice_index_or, Contains, refl, sym, ap, subst, ◌∙◌, arith, length-append}
 use Rattle.std.proofs.lemmas.List.{get_or_default, take-append-le}
 use Rattle.std.proofs.lemmas.List.Elements.{Contains-append_left, Contains-push, Contains-push_cases}
-use Rattle.mapf_model.specs.Distance.{IsUnreachable}
 use Rattle.mapf_model.specs.Grid.{Step}
 use Rattle.mapf_model.specs.Labels.{MayGo}
 use Rattle.mapf_spacetime.specs.declared.state.State.{State}
@@ -73,19 +72,10 @@ module _ (task : Task) (busy : List State) (states : States) (f : IsFrontier tas
     quiet = f.quiet;
   }
 
-pub Keeps-refl : (states : States) → Keeps states states
-Keeps-refl states = record { reached = refl; cost = refl; below = refl; known = λ s k. k }
-
 pub Keeps-trans : (a b c : States) → Keeps a b → Keeps b c → Keeps a c
 Keeps-trans a b c p q = record { reached = q.reached ∙ p.reached; cost = q.cost ∙ p.cost; below = q.below ∙ p.below; known = λ s k. q.known s (p.known s k) }
 
 module _ (task : Task) (busy : List State) (states : States) (f : IsFrontier task busy states) (from : State) (to : ℕ) where
-  pub take_barred : (MayGo task.grid task.bars from.cell to from.tick → ⊥) → Takes task busy from to states states
-  take_barred barred = record { frontier = f; keeps = Keeps-refl states; taken = λ may. absurd (barred may) }
-
-  pub take_unreachable : IsUnreachable task.grid task.goal to → Takes task busy from to states states
-  take_unreachable none = record { frontier = f; keeps = Keeps-refl states; taken = λ may. inr none }
-
   module _ (is_reached : Contains states.reached from) (may : MayGo task.grid task.bars from.cell to from.tick) where
     goes : Goes task from (state_at to (from.tick + 1))
     goes = record { may = may; tick = refl }

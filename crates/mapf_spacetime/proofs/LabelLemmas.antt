@@ -1,5 +1,5 @@
 -- The labels of a search are sound.
-use Rattle.std.proofs.Common.{◌≡◌, ◌⊎◌, inl, ⊎_elim, ℕ, zero, suc, ◌+◌, ◌-◌, ◌<◌, ◌≤◌, Bool, true, false, ◌==◌, ◌&&◌, cond, take, drop, add-one, drop-cons, Option, Some, None, List, [], ◌∷◌, length, slice_index_or, Contains, find, option_map, refl, sym, ap, subst, ◌∙◌, arith}
+use Rattle.std.proofs.Common.{◌≡◌, ◌⊎◌, inl, ⊎_elim, ℕ, zero, suc, ◌+◌, ◌-◌, ◌<◌, ◌≤◌, Bool, true, false, ◌==◌, ◌&&◌, cond, take, Option, Some, None, List, [], ◌∷◌, length, slice_index_or, Contains, find, option_map, refl, sym, ap, subst, ◌∙◌, arith}
 use Rattle.std.proofs.lemmas.Bool.{eqb-true, eq-eqb}
 use Rattle.mapf_model.specs.declared.label.Entry.{Entry}
 use Rattle.mapf_model.specs.declared.label.Label.{Label}
@@ -83,17 +83,6 @@ distance_label grid goal entries cell tick d e is = subst (λ entry. IsEntryOrDi
 
 pub never_label : (grid : GridMap) (goal : ℕ) (entries : List Entry) (cell tick : ℕ) → entries_of entries cell tick ≡ None → IsUnreachable grid goal cell → IsLabel grid goal (entries_of entries) cell tick Never
 never_label grid goal entries cell tick e is = subst (λ entry. IsEntryOrDistance grid goal cell entry Never) (sym e) is
-
-drop_at : {X : Type 0} (xs : List X) (k : ℕ) (x : X) → k < length xs → x ≡ slice_index_or xs k x → drop k xs ≡ x ∷ drop (k + 1) xs
-drop_at xs k x lt is = rw (add-one, is) (drop-cons xs k x lt)
-
--- the look-up goes on behind an entry of another state
-pub find_next : {X : Type 0} (p : X → Bool) (xs : List X) (k : ℕ) (x : X) → k < length xs → x ≡ slice_index_or xs k x → p x ≡ false → find p (drop k xs) ≡ find p (drop (k + 1) xs)
-find_next p xs k x lt is other = rw (drop_at xs k x lt is) (rw other refl)
-
--- and ends at an entry of the state
-pub find_here : {X : Type 0} (p : X → Bool) (xs : List X) (k : ℕ) (x : X) → k < length xs → x ≡ slice_index_or xs k x → p x ≡ true → find p (drop k xs) ≡ Some x
-find_here p xs k x lt is here = rw (drop_at xs k x lt is) (rw here refl)
 
 pub low_reached : (xs : List State) (n : ℕ) (s : State) → Contains (take n xs) s → Contains xs s
 low_reached xs zero s h = absurd (none_held s h)

@@ -6,10 +6,11 @@ use Rattle.mapf_model.specs.Grid.{GridMap, Step}
 use Rattle.mapf_model.specs.declared.bar.Bar.TheVariants.{Cell, Move}
 use Rattle.mapf_model.specs.Bars.{Satisfies, AreBars}
 use Rattle.mapf_model.specs.Distance.{Walk}
+use Rattle.mapf_model.specs.Labels.{MayGo}
 use Rattle.mapf_model.specs.Laws.{NeighboursMakePaths}
 use Rattle.mapf_model.specs.Path.{at, IsPath, IsLawful, IsCost, IsTight}
 use Rattle.mapf_model.proofs.PathLemmas.{IsCost-from_end}
-use Rattle.mapf_spacetime.specs.Task.{Task, Goes, IsValue, IsOpen, MayRestFrom, agent_of, state_at, start_of}
+use Rattle.mapf_spacetime.specs.Task.{Task, Goes, IsValue, IsOpen, IsBarredLater, MayRestFrom, agent_of, state_at, start_of}
 use Rattle.mapf_spacetime.specs.States.{States, HasArrived}
 use Rattle.mapf_spacetime.specs.Way.{state_of, IsWholeWay}
 use Rattle.mapf_spacetime.proofs.ValueLemmas.{value_free, value_unique, value_none, no_lower}
@@ -27,6 +28,18 @@ path_step grid cells path tick from to lt from_is to_is =
     let here : at cells tick ≡ from = at_is cells tick (omega arith) ∙ get_or_default cells tick 0 from (omega arith) ∙ sym from_is in
     let next : at cells (tick + 1) ≡ to = at_is cells (tick + 1) lt ∙ get_or_default cells (tick + 1) 0 to lt ∙ sym to_is in
     subst (λ c. Step grid c to) here (subst (Step grid (at cells tick)) next (path.steps tick))
+
+-- a path that ends at the goal violates a later bar there
+pub barred_violates : (task : Task) (cells : List ℕ) → at cells (length cells - 1) ≡ task.goal → IsBarredLater task (length cells - 1) → Satisfies task.bars cells → ⊥
+barred_violates task cells ends (later, le, barred) satisfies = satisfies (Cell task.goal later) barred (at_past cells later le ∙ sym (at_past cells (length cells - 1) (omega arith)) ∙ ends)
+
+-- the bars let an agent take each step of a path that satisfies them
+pub satisfied_step : (task : Task) (cells : List ℕ) → IsPath task.grid cells → Satisfies task.bars cells → (tick from to : ℕ) → at cells tick ≡ from → at cells (tick + 1) ≡ to → MayGo task.grid task.bars from to tick
+satisfied_step task cells path satisfies tick from to here there = record {
+  step = subst (λ c. Step task.grid c to) here (subst (Step task.grid (at cells tick)) there (path.steps tick));
+  arrival = λ barred. satisfies (Cell to (tick + 1)) barred there;
+  move = λ barred. satisfies (Move from to tick) barred (here, there);
+}
 
 -- an agent that goes from open state to open state and may rest at the end violates no bar
 module _ (task : Task) (cells : List ℕ) (some : 1 ≤ length cells) (start : slice_index cells 0 ≡ task.start) (start_open : IsOpen task (start_of task))

@@ -9,22 +9,9 @@ use Rattle.mapf_model.specs.Labels.{MayGo}
 use Rattle.mapf_spacetime.specs.declared.state.State.{State}
 use Rattle.mapf_spacetime.specs.Task.{Task, Goes, IsWithin, state_at, start_of}
 use Rattle.mapf_spacetime.specs.States.{States, with_open, HasArrived, IsKnown}
-use Rattle.mapf_spacetime.specs.Way.{Walked, first_way, with_step, with_failure, CanArrive, state_of, IsSearching}
+use Rattle.mapf_spacetime.specs.Way.{Walked, with_step, with_failure, CanArrive, state_of, IsSearching}
 use Rattle.mapf_spacetime.proofs.ValueLemmas.{level_within}
-use Rattle.mapf_spacetime.proofs.FrontierLemmas.{none_held, reached_within}
-
-pub first_searching : (task : Task) (cost : ℕ) → IsWithin task cost (start_of task) → IsSearching task cost (first_way task.start)
-first_searching task cost within = record {
-  from = record {
-    some = omega arith;
-    start = refl;
-    within = λ k lt. (let none : 0 ≡ k = omega arith in subst (λ n. IsWithin task cost (state_of (task.start ∷ []) n)) none within);
-    goes = λ k lt. absurd (omega arith);
-  };
-  short = omega arith;
-  fresh = λ k lt held. none_held (state_of (task.start ∷ []) k) held;
-  stuck = λ s held. absurd (none_held s held);
-}
+use Rattle.mapf_spacetime.proofs.FrontierLemmas.{reached_within}
 
 module _ (task : Task) (cost : ℕ) (way : Walked) (w : IsSearching task cost way) (to : ℕ) (unfinished : length way.cells ≤ cost) where
   old : (k : ℕ) → k < length way.cells → slice_index (way.cells ++ to ∷ []) k ≡ slice_index way.cells k

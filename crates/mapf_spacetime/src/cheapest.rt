@@ -1,4 +1,4 @@
-ghost use Rattle.std.specs.Prelude.{◌≡◌, ◌-◌, ◌<◌, ◌≤◌, [], ◌∷◌, List, None, length, IfOk, IsTrue, Contains};
+ghost use Rattle.std.specs.Prelude.{◌≡◌, ◌-◌, ◌<◌, ◌≤◌, [], ◌∷◌, List, None, length, false, IfOk, IsTrue, Contains};
 ghost use Rattle.mapf_model.specs.Bars.{Satisfies};
 ghost use Rattle.mapf_model.specs.Path.{IsPath, at};
 ghost use Rattle.mapf_model.specs.Grid.{IsGridMap};
@@ -85,7 +85,8 @@ fn lets_path<B: BarTable>(ground: &Ground<B>, cells: &[Cell]) -> bool
     requires path { IsPath ground.now.grid cells.now }
     requires start { at cells.now 0 ≡ ground.now.start }
     requires goal { at cells.now (length cells.now - 1) ≡ ground.now.goal }
-    ensures { IsTrue result → Satisfies ground.now.bars cells.now }
+    ensures yes { IsTrue result → Satisfies ground.now.bars cells.now }
+    ensures no { result ≡ false → Satisfies ground.now.bars cells.now → ⊥ }
 {
     if !ground.lets_start() || !ground.may_rest_from(cells.len() as Tick - 1) {
         return false;

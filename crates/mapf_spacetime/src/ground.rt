@@ -125,7 +125,7 @@ impl<'a, B: BarTable> Ground<'a, B> {
         self.may_rest_from(state.tick)
     }
 
-    /// The first tick from which on no bar stands.
+    /// A tick from which on no bar stands.
     pub fn horizon(&self) -> Tick
         ensures above { AreBefore result self.now.bars }
         ensures early { result ≤ 1000000 }

@@ -1,7 +1,7 @@
 use Rattle.std.proofs.Common.{◌≡◌, ◌-◌, length, sum, refl, subst, arith}
 use Rattle.std.proofs.lemmas.Option.{slice_get_read}
-use Rattle.mapf_cbs.specs.Born.{IsTotal}
-use Rattle.mapf_cbs.proofs.BornLemmas.{found_ends, ends_there, old_within, born}
+use Rattle.mapf_cbs.specs.GeneratedChild.{IsTotal}
+use Rattle.mapf_cbs.proofs.GeneratedChildLemmas.{found_ends, ends_there, old_within, generated}
 use Rattle.mapf_cbs.proofs.child.child.Goals as goal
 
 pub cost_of-old-requires : goal.cost_of-old-requires
@@ -40,6 +40,6 @@ returns g c views view are is live total_is =
     let old = c.cost_of-old.result in
     let less = old_within c.args.problem.now view live c.args.agent c.index-agents-agent.result known c.path_at.result.now path old c.cost_of-old.ensures in
     let rest : c.args.total - c.from.result ≡ sum view.costs - old = (let e = c.from.ensures in rw e (rw total_is refl)) in
-    born c.args.problem.now view live c.args.agent c.index-agents-agent.result known c.args.bar f.0 f.1 old c.path_at.result.now path c.cost_of-old.ensures
+    generated c.args.problem.now view live c.args.agent c.index-agents-agent.result known c.args.bar f.0 f.1 old c.path_at.result.now path c.cost_of-old.ensures
     c.in_ok-found.found f.2 c.new_total-total.result less
     (subst (λ r. IsTotal c.in_ok-found.found c.index-agents-agent.result.goal r c.new_total-total.result) rest c.new_total-total.ensures)

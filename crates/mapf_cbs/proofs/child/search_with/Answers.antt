@@ -5,7 +5,7 @@ use Rattle.mapf_model.specs.declared.problem.Agent.{Agent}
 use Rattle.mapf_model.specs.Grid.{GridMap}
 use Rattle.mapf_spacetime.specs.Answer.{IsAnswer}
 use Rattle.mapf_spacetime.specs.Task.{task_of}
-use Rattle.mapf_cbs.proofs.BornLemmas.{bars_with}
+use Rattle.mapf_cbs.proofs.GeneratedChildLemmas.{bars_with}
 use Rattle.mapf_cbs.proofs.child.search_with.Goals as goal
 
 pub add-requires-clause-early : goal.add-requires-clause-early

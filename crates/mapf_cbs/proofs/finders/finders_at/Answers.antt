@@ -1,7 +1,7 @@
 use Rattle.std.proofs.Common.{◌≡◌, Some, length, slice_get, refl, sym, ◌∙◌, ap, subst, arith}
 use Rattle.std.proofs.lemmas.Option.{slice_get_read, same_Some}
 use Rattle.mapf_cbs.specs.declared.node.Node.TheVariants.{Root, Child}
-use Rattle.mapf_cbs.proofs.ArenaLemmas.{view_at}
+use Rattle.mapf_cbs.proofs.NodeLemmas.{view_at}
 use Rattle.mapf_cbs.proofs.FinderLemmas.{none_inside, none_so_far, noted_inside, noted_up, found_at_root}
 use Rattle.mapf_cbs.proofs.finders.finders_at.Goals as goal
 

@@ -1,5 +1,5 @@
 use Rattle.std.proofs.Common.{◌≡◌, ◌<◌, ℕ, List, Option, Some, length, slice_get}
-use Rattle.mapf_cbs.specs.Arena.{AreViews}
+use Rattle.mapf_cbs.specs.Nodes.{AreViews}
 use Rattle.mapf_cbs.specs.Finders.{AreInside}
 use Rattle.mapf_cbs.specs.Search.{View}
 use Rattle.mapf_cbs.proofs.FinderLemmas.{IsFoundSoFar}

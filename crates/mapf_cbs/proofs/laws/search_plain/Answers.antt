@@ -4,10 +4,10 @@ use Rattle.mapf_model.specs.Earned.{HasConflict, AreConflictFreeBefore, HaveSome
 use Rattle.mapf_model.specs.Tree.{ConstraintTree}
 use Rattle.mapf_cbs.specs.declared.whole_node.WholeNode.{WholeNode}
 use Rattle.mapf_cbs.specs.Answer.{IsTreeOf, IsShownOptimal}
-use Rattle.mapf_cbs.specs.Arena.{IsRootView}
-use Rattle.mapf_cbs.specs.Search.{AreCutsLater}
+use Rattle.mapf_cbs.specs.Nodes.{IsRootView}
+use Rattle.mapf_cbs.specs.Search.{AreChildrenLater}
 use Rattle.mapf_cbs.specs.Whole.{IsWhole, IsLeastOpen}
-use Rattle.mapf_cbs.proofs.AnswerLemmas.{tree_of, cuts_later, answer_found, answer_limit}
+use Rattle.mapf_cbs.proofs.AnswerLemmas.{tree_of, children_later, answer_found, answer_limit}
 use Rattle.mapf_cbs.proofs.PlainLemmas.{least_at, whole_first, whole_popped, whole_impossible, whole_hand, hand_whole}
 use Rattle.mapf_cbs.proofs.StartLemmas.{root_of}
 use Rattle.mapf_cbs.proofs.laws.search_plain.Goals as goal
@@ -15,7 +15,7 @@ use Rattle.mapf_cbs.proofs.laws.search_plain.Goals as goal
 pub loop-k-init : goal.loop-k-init
 loop-k-init c =
     let paths_are = c.deref.ensures.value in
-    let r = root_of c.args.problem.now c.args.paths.items c.requires.count c.requires.shortest in
+    let r = root_of c.args.problem.now c.args.paths.items c.requires.root.count c.requires.root.shortest in
     let whole = c.in_ok-root.ensures.whole r.view (subst (λ ps. IsRootView ps r.view) (sym paths_are) r.is_root) (rw paths_are r.total) in
     let first = whole_first c.args.problem.now c.args.paths c.in_ok-root.root r.view r.is_root r.live whole c.in_ok-root.ensures.small in
     let ns = c.in_ok-tree.ensures.nodes in let fs = c.in_ok-tree.ensures.fates in let n = c.in_ok-tree.ensures.splits in
@@ -27,24 +27,24 @@ loop-k-init c =
 pub tree_items-requires-clause-later : goal.tree_items-requires-clause-later
 tree_items-requires-clause-later c =
     let s = c.loop-k.invariant.state in
-    subst AreCutsLater (sym c.deref-in_default.ensures.value) (cuts_later c.args.problem.now s.state.views c.loop-k.tree.fates.items c.loop-k.tree.splits s.state.searched)
+    subst AreChildrenLater (sym c.deref-in_default.ensures.value) (children_later c.args.problem.now s.state.views c.loop-k.tree.fates.items c.loop-k.tree.splits s.state.searched)
 
 pub tree_items-requires-in_default-first_conflict-clause-later : goal.tree_items-requires-in_default-first_conflict-clause-later
 tree_items-requires-in_default-first_conflict-clause-later c =
     let s = c.loop-k.invariant.state in
-    subst AreCutsLater (sym c.deref-in_default-first_conflict.ensures.value) (cuts_later c.args.problem.now s.state.views c.loop-k.tree.fates.items c.loop-k.tree.splits s.state.searched)
+    subst AreChildrenLater (sym c.deref-in_default-first_conflict.ensures.value) (children_later c.args.problem.now s.state.views c.loop-k.tree.fates.items c.loop-k.tree.splits s.state.searched)
 
 pub tree_items-requires-in-Some-cause_to_stop-clause-later : goal.tree_items-requires-in-Some-cause_to_stop-clause-later
 tree_items-requires-in-Some-cause_to_stop-clause-later c =
     let s = c.loop-k.invariant.state in
-    subst AreCutsLater (sym c.deref-in-Some-cause_to_stop.ensures.value) (cuts_later c.args.problem.now s.state.views c.loop-k.tree.fates.items c.loop-k.tree.splits s.state.searched)
+    subst AreChildrenLater (sym c.deref-in-Some-cause_to_stop.ensures.value) (children_later c.args.problem.now s.state.views c.loop-k.tree.fates.items c.loop-k.tree.splits s.state.searched)
 
 pub returns-in_default : goal.returns-in_default
 returns-in_default c =
     let t = c.loop-k.tree in let problem = c.args.problem.now in
     let s = c.loop-k.invariant.state in
     let found = tree_of c.agents.result.now problem.agents c.deref-in_default.result.now t.fates.items s.state.views c.in_ok-items.items.items c.agents.ensures.value c.deref-in_default.ensures.value (c.in_ok-items.ensures s.state.views s.whole (s.state.searched.lengths ∙ ap length (sym c.deref-in_default.ensures.value))) in
-    whole_impossible problem t.nodes.items t.fates.items t.splits s c.requires.shape c.args.limit c.loop-k.invariant.within
+    whole_impossible problem t.nodes.items t.fates.items t.splits s c.requires.root.shape c.args.limit c.loop-k.invariant.within
     (least_at c.deref-in-loop-k.result.now t.nodes.items c.deref-in-loop-k-2.result.now t.fates.items None c.deref-in-loop-k.ensures.value c.deref-in-loop-k-2.ensures.value c.in_default.ensures)
     c.in_ok-items.items.items found
 
@@ -54,8 +54,8 @@ plan-requires c =
     let s = c.loop-k.invariant.state in
     let least : IsLeastOpen t.nodes.items t.fates.items (length t.fates.items) c.in-Some.k = least_at c.deref-in-loop-k.result.now t.nodes.items c.deref-in-loop-k-2.result.now t.fates.items (Some c.in-Some.k) c.deref-in-loop-k.ensures.value c.deref-in-loop-k-2.ensures.value c.in-Some.ensures in
     let here = slice_get_read t.nodes.items (length t.nodes.items) c.in-Some.k c.index.result.now refl (slice_get_within t.nodes.items c.in-Some.k least.node least.is) c.index.ensures in
-    let size = s.routes c.in-Some.k c.index.result.now here in
-    let some = c.requires.agents.0 in let few = c.requires.agents.1 in
+    let size = s.agent_paths c.in-Some.k c.index.result.now here in
+    let some = c.requires.root.agents.0 in let few = c.requires.root.agents.1 in
     (omega (arith, size, some), omega (arith, size, few))
 
 pub returns-in_default-first_conflict : goal.returns-in_default-first_conflict
@@ -70,7 +70,7 @@ returns-in_default-first_conflict c =
     let plan : c.in_ok-plan.plan ≡ h.view.paths = c.in_ok-plan.ensures.paths h.view whole in
     let found = tree_of c.agents.result.now problem.agents c.deref-in_default-first_conflict.result.now t.fates.items p.popped.views c.in_ok-items-2.items.items c.agents.ensures.value c.deref-in_default-first_conflict.ensures.value (c.in_ok-items-2.ensures p.popped.views p.whole (p.popped.searched.lengths ∙ ap length (sym c.deref-in_default-first_conflict.ensures.value))) in
     subst (λ ps. (tree : ConstraintTree) × IsTreeOf problem c.args.limit c.in_ok-items-2.items.items tree × IsShownOptimal problem ps tree) (sym plan)
-    (answer_found problem c.requires.shape p.changes t.fates.items p.rest t.splits least.node.total c.in-Some.k p.popped c.args.limit c.loop-k.invariant.within c.in_ok-items-2.items.items found h.view h.is h.is_open h.live c.requires.agents.0 c.requires.agents.1
+    (answer_found problem c.requires.root.shape p.changes t.fates.items p.rest t.splits least.node.total c.in-Some.k p.popped c.args.limit c.loop-k.invariant.within c.in_ok-items-2.items.items found h.view h.is h.is_open h.live c.requires.root.agents.0 c.requires.root.agents.1
     (subst (λ ps. All (λ path. length path ≤ 10000000) ps) plan c.in_ok-plan.ensures.short) (subst (λ ps. HaveSomeConflict ps → ⊥) plan c.in_default-first_conflict.ensures.none))
 
 pub returns-in-Some-cause_to_stop : goal.returns-in-Some-cause_to_stop
@@ -86,7 +86,7 @@ returns-in-Some-cause_to_stop c =
     let found = tree_of c.agents.result.now problem.agents c.deref-in-Some-cause_to_stop.result.now t.fates.items p.popped.views c.in_ok-items-3.items.items c.agents.ensures.value c.deref-in-Some-cause_to_stop.ensures.value (c.in_ok-items-3.ensures p.popped.views p.whole (p.popped.searched.lengths ∙ ap length (sym c.deref-in-Some-cause_to_stop.ensures.value))) in
     let conflict = c.in-Some-first_conflict.conflict in
     let meet = subst (λ ps. HasConflict ps conflict × AreConflictFreeBefore ps (tick_of conflict)) plan (c.in-Some-first_conflict.ensures.some, c.in-Some-first_conflict.ensures.first) in
-    answer_limit problem c.requires.shape p.changes t.fates.items p.rest t.splits least.node.total c.in-Some.k p.popped c.args.limit c.loop-k.invariant.within c.in_ok-items-3.items.items found h.view h.is h.is_open h.live c.requires.goals conflict meet.0 meet.1 c.in-Some-cause_to_stop.cause c.in-Some-cause_to_stop.ensures.some c.in_ok-items-3.items refl
+    answer_limit problem c.requires.root.shape p.changes t.fates.items p.rest t.splits least.node.total c.in-Some.k p.popped c.args.limit c.loop-k.invariant.within c.in_ok-items-3.items.items found h.view h.is h.is_open h.live c.requires.root.goals conflict meet.0 meet.1 c.in-Some-cause_to_stop.cause c.in-Some-cause_to_stop.ensures.some c.in_ok-items-3.items refl
 
 pub split_whole-requires-clause-popped : goal.split_whole-requires-clause-popped
 split_whole-requires-clause-popped c =

@@ -2,9 +2,9 @@ use Rattle.std.proofs.Common.{◌∷◌, [], ◌++◌, ◌+◌, Result, Ok, Err,
 use Rattle.std.proofs.lemmas.Option.{slice_get_read, slice_get_within}
 use Rattle.mapf_model.specs.declared.bar.Bar.{Bar}
 use Rattle.mapf_cbs.specs.declared.node.Fate.TheVariants.{Open}
-use Rattle.mapf_cbs.specs.Route.{IsTableBar}
+use Rattle.mapf_cbs.specs.CheapestPath.{IsTableBar}
 use Rattle.mapf_cbs.specs.Search.{left_agent, right_agent, left_bar, right_bar}
-use Rattle.mapf_cbs.specs.Whole.{IsWholeBorn, IsWholeState}
+use Rattle.mapf_cbs.specs.Whole.{IsWholeChild, IsWholeState}
 use Rattle.mapf_cbs.proofs.StateLemmas.{left_known, right_known, left_table_bar, right_table_bar}
 use Rattle.mapf_cbs.proofs.PlainLemmas.{whole_hand, hand_inside, hand_whole, hand_small, whole_grown}
 use Rattle.mapf_cbs.proofs.laws.split_whole.Goals as goal
@@ -34,7 +34,7 @@ pub child_of-requires-clause-count : goal.child_of-requires-clause-count
 child_of-requires-clause-count c =
     let t = c.args.tree.now in let p = c.requires.popped in
     let inside = hand_inside c.args.problem.now t.nodes.items t.fates.items t.splits p.0 c.args.k p.1 in
-    p.1.routes c.args.k c.index.result.now (slice_get_read t.nodes.items (length t.nodes.items) c.args.k c.index.result.now refl inside c.index.ensures)
+    p.1.agent_paths c.args.k c.index.result.now (slice_get_read t.nodes.items (length t.nodes.items) c.args.k c.index.result.now refl inside c.index.ensures)
 
 pub child_of-requires-clause-bar : goal.child_of-requires-clause-bar
 child_of-requires-clause-bar c =
@@ -81,7 +81,7 @@ pub child_of-requires-2-clause-count : goal.child_of-requires-2-clause-count
 child_of-requires-2-clause-count c =
     let t = c.args.tree.now in let p = c.requires.popped in
     let inside = hand_inside c.args.problem.now t.nodes.items t.fates.items t.splits p.0 c.args.k p.1 in
-    p.1.routes c.args.k c.index-2.result.now (slice_get_read t.nodes.items (length t.nodes.items) c.args.k c.index-2.result.now refl inside c.index-2.ensures)
+    p.1.agent_paths c.args.k c.index-2.result.now (slice_get_read t.nodes.items (length t.nodes.items) c.args.k c.index-2.result.now refl inside c.index-2.ensures)
 
 pub child_of-requires-2-clause-bar : goal.child_of-requires-2-clause-bar
 child_of-requires-2-clause-bar c =
@@ -124,17 +124,17 @@ returns-clause-state c =
     let whole = hand_whole problem t.nodes.items t.fates.items t.splits p.0 c.args.k p.1 c.index.result.now here in
     let whole-2 = hand_whole problem t.nodes.items t.fates.items t.splits p.0 c.args.k p.1 c.index-2.result.now here-2 in
     let met = c.requires.meet c.index.result.now h.view here whole in
-    let left : IsWholeBorn problem h.view (left_agent conflict) (left_bar conflict) c.in_ok-left.left.node c.in_ok-left.left.total =
-    subst (λ i. IsWholeBorn problem h.view i (left_bar conflict) c.in_ok-left.left.node c.in_ok-left.left.total) c.left_agent.ensures
-    (subst (λ (b : Bar). IsWholeBorn problem h.view c.left_agent.result b c.in_ok-left.left.node c.in_ok-left.left.total) c.left_bar.ensures
-    (c.in_ok-left.ensures.born h.view whole h.live)) in
-    let right : IsWholeBorn problem h.view (right_agent conflict) (right_bar conflict) c.in_ok-right.right.node c.in_ok-right.right.total =
-    subst (λ i. IsWholeBorn problem h.view i (right_bar conflict) c.in_ok-right.right.node c.in_ok-right.right.total) c.right_agent.ensures
-    (subst (λ (b : Bar). IsWholeBorn problem h.view c.right_agent.result b c.in_ok-right.right.node c.in_ok-right.right.total) c.right_bar.ensures
-    (c.in_ok-right.ensures.born h.view whole-2 h.live)) in
+    let left : IsWholeChild problem h.view (left_agent conflict) (left_bar conflict) c.in_ok-left.left.node c.in_ok-left.left.total =
+    subst (λ i. IsWholeChild problem h.view i (left_bar conflict) c.in_ok-left.left.node c.in_ok-left.left.total) c.left_agent.ensures
+    (subst (λ (b : Bar). IsWholeChild problem h.view c.left_agent.result b c.in_ok-left.left.node c.in_ok-left.left.total) c.left_bar.ensures
+    (c.in_ok-left.ensures.generated h.view whole h.live)) in
+    let right : IsWholeChild problem h.view (right_agent conflict) (right_bar conflict) c.in_ok-right.right.node c.in_ok-right.right.total =
+    subst (λ i. IsWholeChild problem h.view i (right_bar conflict) c.in_ok-right.right.node c.in_ok-right.right.total) c.right_agent.ensures
+    (subst (λ (b : Bar). IsWholeChild problem h.view c.right_agent.result b c.in_ok-right.right.node c.in_ok-right.right.total) c.right_bar.ensures
+    (c.in_ok-right.ensures.generated h.view whole-2 h.live)) in
     let state = whole_grown problem t.nodes.items t.fates.items t.splits p.0 c.args.k p.1 c.requires.goals conflict met.0 met.1 c.requires.early
     c.in_ok-left.left.node c.in_ok-right.right.node c.in_ok-left.left.total c.in_ok-right.right.total left right
-    (c.in_ok-left.ensures.count ∙ p.1.routes c.args.k c.index.result.now here) (c.in_ok-right.ensures.count ∙ p.1.routes c.args.k c.index-2.result.now here-2) in
+    (c.in_ok-left.ensures.count ∙ p.1.agent_paths c.args.k c.index.result.now here) (c.in_ok-right.ensures.count ∙ p.1.agent_paths c.args.k c.index-2.result.now here-2) in
     on_ok_two c.grow.result (λ ns fs.
     subst (λ xs. IsWholeState problem xs c.grow.new.self.fates.items (t.splits + 1)) (sym ns)
     (subst (λ xs. IsWholeState problem ((t.nodes.items ++ c.in_ok-left.left.node ∷ []) ++ c.in_ok-right.right.node ∷ []) xs (t.splits + 1)) (sym fs) state))

@@ -1,4 +1,4 @@
-use Rattle.mapf_cbs.proofs.BornLemmas.{bars_with}
+use Rattle.mapf_cbs.proofs.GeneratedChildLemmas.{bars_with}
 use Rattle.mapf_cbs.proofs.WholeLemmas.{bars_swap}
 use Rattle.mapf_cbs.proofs.laws.with_bar.Goals as goal
 

@@ -2,13 +2,13 @@ use Rattle.std.proofs.Common.{◌≡◌, ◌∷◌, [], ◌++◌, ◌+◌, Resul
 use Rattle.std.proofs.lemmas.Option.{slice_get_within}
 use Rattle.mapf_model.specs.declared.bar.Bar.{Bar}
 use Rattle.mapf_cbs.specs.declared.node.Node.TheVariants.{Child}
-use Rattle.mapf_cbs.specs.declared.node.Fate.TheVariants.{Open, Cut}
+use Rattle.mapf_cbs.specs.declared.node.Fate.TheVariants.{Open, Expanded}
 use Rattle.mapf_cbs.specs.Search.{left_agent, right_agent, left_bar, right_bar}
-use Rattle.mapf_cbs.specs.Arena.{AreViews, AreNodesFor}
-use Rattle.mapf_cbs.specs.Route.{IsTableBar}
-use Rattle.mapf_cbs.specs.Born.{IsBorn}
+use Rattle.mapf_cbs.specs.Nodes.{AreViews, AreNodesFor}
+use Rattle.mapf_cbs.specs.CheapestPath.{IsTableBar}
+use Rattle.mapf_cbs.specs.GeneratedChild.{IsGeneratedChild}
 use Rattle.mapf_cbs.specs.State.{IsState, fate_of}
-use Rattle.mapf_cbs.proofs.ArenaLemmas.{view_in}
+use Rattle.mapf_cbs.proofs.NodeLemmas.{view_in}
 use Rattle.mapf_cbs.proofs.OpenLemmas.{Contains-first}
 use Rattle.mapf_cbs.proofs.StateLemmas.{in_hand, left_known, right_known, left_table_bar, right_table_bar, grown_fates, two_pushed, end_of_total, state_grown}
 use Rattle.mapf_cbs.proofs.solver.split.Goals as goal
@@ -112,31 +112,31 @@ returns-clause-state g c =
     let p = c.requires.popped in
     let h = in_hand c.args.problem.now c.args.search.now.nodes.items c.args.search.now.fates.items c.args.search.now.waiting.keys c.args.search.now.splits c.args.total c.args.k p in
     let met = c.requires.meet p.views h.view p.are h.is h.live in
-    let left : IsBorn c.args.problem.now h.view (left_agent c.args.conflict.now) (left_bar c.args.conflict.now) c.in_ok-left.left.found c.in_ok-left.left.total =
-    subst (λ i. IsBorn c.args.problem.now h.view i (left_bar c.args.conflict.now) c.in_ok-left.left.found c.in_ok-left.left.total) c.left_agent.ensures
-    (subst (λ (b : Bar). IsBorn c.args.problem.now h.view c.left_agent.result b c.in_ok-left.left.found c.in_ok-left.left.total) c.left_bar.ensures
+    let left : IsGeneratedChild c.args.problem.now h.view (left_agent c.args.conflict.now) (left_bar c.args.conflict.now) c.in_ok-left.left.found c.in_ok-left.left.total =
+    subst (λ i. IsGeneratedChild c.args.problem.now h.view i (left_bar c.args.conflict.now) c.in_ok-left.left.found c.in_ok-left.left.total) c.left_agent.ensures
+    (subst (λ (b : Bar). IsGeneratedChild c.args.problem.now h.view c.left_agent.result b c.in_ok-left.left.found c.in_ok-left.left.total) c.left_bar.ensures
     (c.in_ok-left.ensures p.views h.view (subst (λ ns. AreViews ns p.views) (sym c.deref.ensures.value) p.are) h.is h.live h.total_is)) in
-    let right : IsBorn c.args.problem.now h.view (right_agent c.args.conflict.now) (right_bar c.args.conflict.now) c.in_ok-right.right.found c.in_ok-right.right.total =
-    subst (λ i. IsBorn c.args.problem.now h.view i (right_bar c.args.conflict.now) c.in_ok-right.right.found c.in_ok-right.right.total) c.right_agent.ensures
-    (subst (λ (b : Bar). IsBorn c.args.problem.now h.view c.right_agent.result b c.in_ok-right.right.found c.in_ok-right.right.total) c.right_bar.ensures
+    let right : IsGeneratedChild c.args.problem.now h.view (right_agent c.args.conflict.now) (right_bar c.args.conflict.now) c.in_ok-right.right.found c.in_ok-right.right.total =
+    subst (λ i. IsGeneratedChild c.args.problem.now h.view i (right_bar c.args.conflict.now) c.in_ok-right.right.found c.in_ok-right.right.total) c.right_agent.ensures
+    (subst (λ (b : Bar). IsGeneratedChild c.args.problem.now h.view c.right_agent.result b c.in_ok-right.right.found c.in_ok-right.right.total) c.right_bar.ensures
     (c.in_ok-right.ensures p.views h.view (subst (λ ns. AreViews ns p.views) (sym c.deref-2.ensures.value) p.are) h.is h.live h.total_is)) in
     let size = p.are.lengths in let sizes = p.searched.lengths in
     let same : length c.args.search.now.nodes.items ≡ length c.args.search.now.fates.items = omega (arith, size, sizes) in
-    let fates_is : slice_set ((c.args.search.now.fates.items ++ fate_of c.in_ok-left.left.total ∷ []) ++ fate_of c.in_ok-right.right.total ∷ []) c.args.k (Cut c.args.conflict.now (length c.args.search.now.nodes.items) (length c.args.search.now.nodes.items + 1)) ≡
-    slice_set (c.args.search.now.fates.items ++ fate_of c.in_ok-left.left.total ∷ fate_of c.in_ok-right.right.total ∷ []) c.args.k (Cut c.args.conflict.now (length c.args.search.now.fates.items) (length c.args.search.now.fates.items + 1)) =
-    ap (λ fs. slice_set fs c.args.k (Cut c.args.conflict.now (length c.args.search.now.nodes.items) (length c.args.search.now.nodes.items + 1))) (two_pushed c.args.search.now.fates.items (fate_of c.in_ok-left.left.total) (fate_of c.in_ok-right.right.total))
-    ∙ ap (λ n. slice_set (c.args.search.now.fates.items ++ fate_of c.in_ok-left.left.total ∷ fate_of c.in_ok-right.right.total ∷ []) c.args.k (Cut c.args.conflict.now n (n + 1))) same in
+    let fates_is : slice_set ((c.args.search.now.fates.items ++ fate_of c.in_ok-left.left.total ∷ []) ++ fate_of c.in_ok-right.right.total ∷ []) c.args.k (Expanded c.args.conflict.now (length c.args.search.now.nodes.items) (length c.args.search.now.nodes.items + 1)) ≡
+    slice_set (c.args.search.now.fates.items ++ fate_of c.in_ok-left.left.total ∷ fate_of c.in_ok-right.right.total ∷ []) c.args.k (Expanded c.args.conflict.now (length c.args.search.now.fates.items) (length c.args.search.now.fates.items + 1)) =
+    ap (λ fs. slice_set fs c.args.k (Expanded c.args.conflict.now (length c.args.search.now.nodes.items) (length c.args.search.now.nodes.items + 1))) (two_pushed c.args.search.now.fates.items (fate_of c.in_ok-left.left.total) (fate_of c.in_ok-right.right.total))
+    ∙ ap (λ n. slice_set (c.args.search.now.fates.items ++ fate_of c.in_ok-left.left.total ∷ fate_of c.in_ok-right.right.total ∷ []) c.args.k (Expanded c.args.conflict.now n (n + 1))) same in
     let inside = slice_get_within c.args.search.now.fates.items c.args.k Open h.is_open in
     let grown = grown_fates c.args.search.now.fates.items c.args.k c.args.conflict.now (fate_of c.in_ok-left.left.total) (fate_of c.in_ok-right.right.total) inside (end_of_total c.in_ok-left.left.total) (end_of_total c.in_ok-right.right.total) in
     let early = c.requires.early in
     let state = state_grown c.args.problem.now c.args.search.now.nodes.items c.args.search.now.fates.items c.args.search.now.waiting.keys c.args.search.now.splits c.args.total c.args.k p c.requires.goals h.view h.is h.is_open h.total_is c.args.conflict.now met.0 met.1 early
     c.in_ok-left.left.found c.in_ok-right.right.found c.in_ok-left.left.total c.in_ok-right.right.total left right
-    (slice_set (c.args.search.now.fates.items ++ fate_of c.in_ok-left.left.total ∷ fate_of c.in_ok-right.right.total ∷ []) c.args.k (Cut c.args.conflict.now (length c.args.search.now.fates.items) (length c.args.search.now.fates.items + 1)))
+    (slice_set (c.args.search.now.fates.items ++ fate_of c.in_ok-left.left.total ∷ fate_of c.in_ok-right.right.total ∷ []) c.args.k (Expanded c.args.conflict.now (length c.args.search.now.fates.items) (length c.args.search.now.fates.items + 1)))
     grown (left_known h.view.paths c.args.conflict.now met.0) (right_known h.view.paths c.args.conflict.now met.0)
     (left_table_bar h.view.paths c.args.conflict.now met.0 early) (right_table_bar h.view.paths c.args.conflict.now met.0 early) in
     on_ok_three c.grow.result (λ ns fs ks.
     subst (λ xs. IsState c.args.problem.now xs c.grow.new.self.fates.items c.grow.new.self.waiting.keys (c.args.search.now.splits + 1)) (sym ns)
     (subst (λ xs. IsState c.args.problem.now ((c.args.search.now.nodes.items ++ Child c.args.k (left_agent c.args.conflict.now) (left_bar c.args.conflict.now) c.in_ok-left.left.found ∷ []) ++ Child c.args.k (right_agent c.args.conflict.now) (right_bar c.args.conflict.now) c.in_ok-right.right.found ∷ []) xs c.grow.new.self.waiting.keys (c.args.search.now.splits + 1)) (sym (fs ∙ fates_is))
     (subst (λ xs. IsState c.args.problem.now ((c.args.search.now.nodes.items ++ Child c.args.k (left_agent c.args.conflict.now) (left_bar c.args.conflict.now) c.in_ok-left.left.found ∷ []) ++ Child c.args.k (right_agent c.args.conflict.now) (right_bar c.args.conflict.now) c.in_ok-right.right.found ∷ [])
-    (slice_set (c.args.search.now.fates.items ++ fate_of c.in_ok-left.left.total ∷ fate_of c.in_ok-right.right.total ∷ []) c.args.k (Cut c.args.conflict.now (length c.args.search.now.fates.items) (length c.args.search.now.fates.items + 1))) xs (c.args.search.now.splits + 1)) (sym ks) state)))
+    (slice_set (c.args.search.now.fates.items ++ fate_of c.in_ok-left.left.total ∷ fate_of c.in_ok-right.right.total ∷ []) c.args.k (Expanded c.args.conflict.now (length c.args.search.now.fates.items) (length c.args.search.now.fates.items + 1))) xs (c.args.search.now.splits + 1)) (sym ks) state)))
     c.grow.ensures.nodes c.grow.ensures.fates c.grow.ensures.waiting

@@ -2,8 +2,8 @@ use Rattle.std.proofs.Common.{◌≡◌, ◌∷◌, Some, length, refl, sym, ◌
 use Rattle.std.proofs.lemmas.Option.{slice_get_read, same_Some}
 use Rattle.mapf_cbs.specs.declared.node.Node.TheVariants.{Child}
 use Rattle.mapf_cbs.specs.Search.{View}
-use Rattle.mapf_cbs.specs.Arena.{AreJoined}
-use Rattle.mapf_cbs.proofs.ArenaLemmas.{view_at, root_bars, bars_up, bars_more, joined_first, joined_same, joined_more, joined_done}
+use Rattle.mapf_cbs.specs.Nodes.{AreJoined}
+use Rattle.mapf_cbs.proofs.NodeLemmas.{view_at, root_bars, bars_up, bars_more, joined_first, joined_same, joined_more, joined_done}
 use Rattle.mapf_cbs.proofs.walks.bars_at.Goals as goal
 use Rattle.mapf_cbs.proofs.walks.bars_at.Goals.{then-bound-agent+in_ok-add, else-bound-agent}
 

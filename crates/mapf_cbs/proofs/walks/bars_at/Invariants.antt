@@ -1,6 +1,6 @@
 use Rattle.std.proofs.Common.{◌≡◌, ◌<◌, List, Some, length, slice_get}
 use Rattle.mapf_cbs.specs.Search.{View}
-use Rattle.mapf_cbs.specs.Arena.{AreViews, AreJoined}
+use Rattle.mapf_cbs.specs.Nodes.{AreViews, AreJoined}
 use Rattle.mapf_cbs.proofs.walks.bars_at.Given as goal
 
 abbrev pub invariant-loop-at : goal.invariant-loop-at

@@ -2,7 +2,7 @@ use Rattle.std.proofs.Common.{◌≡◌, Some, length, slice_get, refl, sym, ◌
 use Rattle.std.proofs.lemmas.Option.{slice_get_read}
 use Rattle.mapf_cbs.specs.declared.node.Node.TheVariants.{Child}
 use Rattle.mapf_spacetime.specs.declared.found.Found.TheVariants.{Arrives, Dead}
-use Rattle.mapf_cbs.proofs.ArenaLemmas.{view_at, root_entries, found_entries, entries_up}
+use Rattle.mapf_cbs.proofs.NodeLemmas.{view_at, root_entries, found_entries, entries_up}
 use Rattle.mapf_cbs.proofs.walks.labels_at.Goals as goal
 
 pub returns-in-Root-clause-none : goal.returns-in-Root-clause-none

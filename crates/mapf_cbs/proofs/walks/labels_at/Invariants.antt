@@ -1,6 +1,6 @@
 use Rattle.std.proofs.Common.{◌≡◌, ◌<◌, List, Some, length, slice_get}
 use Rattle.mapf_cbs.specs.Search.{View}
-use Rattle.mapf_cbs.specs.Arena.{AreViews}
+use Rattle.mapf_cbs.specs.Nodes.{AreViews}
 use Rattle.mapf_cbs.proofs.walks.labels_at.Given as goal
 
 abbrev pub invariant-loop-at : goal.invariant-loop-at

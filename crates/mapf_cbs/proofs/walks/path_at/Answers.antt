@@ -2,7 +2,7 @@ use Rattle.std.proofs.Common.{◌≡◌, Some, length, slice_get, refl, sym, ◌
 use Rattle.std.proofs.lemmas.Option.{slice_get_read}
 use Rattle.mapf_cbs.specs.declared.node.Node.TheVariants.{Root, Child}
 use Rattle.mapf_spacetime.specs.declared.found.Found.TheVariants.{Arrives}
-use Rattle.mapf_cbs.proofs.ArenaLemmas.{view_at, root_path, found_path, paths_up}
+use Rattle.mapf_cbs.proofs.NodeLemmas.{view_at, root_path, found_path, paths_up}
 use Rattle.mapf_cbs.proofs.walks.path_at.Goals as goal
 use Rattle.mapf_cbs.proofs.walks.path_at.Goals.{then-bound-agent+in-Dead, else-bound-agent}
 

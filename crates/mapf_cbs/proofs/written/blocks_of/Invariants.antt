@@ -1,6 +1,6 @@
 use Rattle.std.proofs.Common.{◌≡◌, List, Some, slice_get}
 use Rattle.mapf_cbs.specs.Search.{View, AreBlocksOf}
-use Rattle.mapf_cbs.specs.Arena.{AreViews}
+use Rattle.mapf_cbs.specs.Nodes.{AreViews}
 use Rattle.mapf_cbs.proofs.written.blocks_of.Given as goal
 
 abbrev pub invariant-loop-agent : goal.invariant-loop-agent

@@ -10,31 +10,31 @@ use Rattle.mapf_cbs.proofs.written.tree_items.Goals as goal
 pub loop-k-smaller-in-Continue-branch-4 : goal.loop-k-smaller-in-Continue-branch-4
 loop-k-smaller-in-Continue-branch-4 g c =
     let popped = All-pop (λ n. n < length c.args.fates.now) c.loop-k.owed.items c.pop.new.self.items (Some c.in-Some.k) c.in-Some.ensures.items c.loop-k.invariant.within in
-    let cut = slice_get_read c.args.fates.now (length c.args.fates.now) c.in-Some.k c.index-fates-k.result refl popped.1 c.index-fates-k.is ∙ ap Some c.in-Cut.is in
-    let later = c.requires.later c.in-Some.k c.in-Cut.conflict c.in-Cut.left c.in-Cut.right cut in
+    let expanded = slice_get_read c.args.fates.now (length c.args.fates.now) c.in-Some.k c.index-fates-k.result refl popped.1 c.index-fates-k.is ∙ ap Some c.in-Expanded.is in
+    let later = c.requires.later c.in-Some.k c.in-Expanded.conflict c.in-Expanded.left c.in-Expanded.right expanded in
     let before : c.loop-k.owed.items ≡ c.pop.new.self.items ++ c.in-Some.k ∷ [] = c.in-Some.ensures.items in
-    let after : c.push-in-Cut-3.new.self.items ≡ (c.pop.new.self.items ++ c.in-Cut.right ∷ []) ++ c.in-Cut.left ∷ [] = c.in_ok-push-in-Cut-3.ensures.items ∙ ap (λ xs. xs ++ c.in-Cut.left ∷ []) c.in_ok-push-in-Cut-2.ensures.items in
+    let after : c.push-in-Expanded-3.new.self.items ≡ (c.pop.new.self.items ++ c.in-Expanded.right ∷ []) ++ c.in-Expanded.left ∷ [] = c.in_ok-push-in-Expanded-3.ensures.items ∙ ap (λ xs. xs ++ c.in-Expanded.left ∷ []) c.in_ok-push-in-Expanded-2.ensures.items in
     subst (λ xs. weights (length c.args.fates.now) xs < weights (length c.args.fates.now) c.loop-k.owed.items) (sym after)
-    (subst (λ xs. weights (length c.args.fates.now) ((c.pop.new.self.items ++ c.in-Cut.right ∷ []) ++ c.in-Cut.left ∷ []) < weights (length c.args.fates.now) xs) (sym before)
-    (weights-split (length c.args.fates.now) c.pop.new.self.items c.in-Some.k c.in-Cut.left c.in-Cut.right later.0 later.1 later.2 later.3))
+    (subst (λ xs. weights (length c.args.fates.now) ((c.pop.new.self.items ++ c.in-Expanded.right ∷ []) ++ c.in-Expanded.left ∷ []) < weights (length c.args.fates.now) xs) (sym before)
+    (weights-split (length c.args.fates.now) c.pop.new.self.items c.in-Some.k c.in-Expanded.left c.in-Expanded.right later.0 later.1 later.2 later.3))
 
 pub loop-k-preserved-in-Continue-branch-4 : goal.loop-k-preserved-in-Continue-branch-4
 loop-k-preserved-in-Continue-branch-4 g c =
     let popped = All-pop (λ n. n < length c.args.fates.now) c.loop-k.owed.items c.pop.new.self.items (Some c.in-Some.k) c.in-Some.ensures.items c.loop-k.invariant.within in
-    let cut = slice_get_read c.args.fates.now (length c.args.fates.now) c.in-Some.k c.index-fates-k.result refl popped.1 c.index-fates-k.is ∙ ap Some c.in-Cut.is in
-    let later = c.requires.later c.in-Some.k c.in-Cut.conflict c.in-Cut.left c.in-Cut.right cut in
-    let owed : c.push-in-Cut-3.new.self.items ≡ (c.pop.new.self.items ++ c.in-Cut.right ∷ []) ++ c.in-Cut.left ∷ [] = c.in_ok-push-in-Cut-3.ensures.items ∙ ap (λ xs. xs ++ c.in-Cut.left ∷ []) c.in_ok-push-in-Cut-2.ensures.items in
+    let expanded = slice_get_read c.args.fates.now (length c.args.fates.now) c.in-Some.k c.index-fates-k.result refl popped.1 c.index-fates-k.is ∙ ap Some c.in-Expanded.is in
+    let later = c.requires.later c.in-Some.k c.in-Expanded.conflict c.in-Expanded.left c.in-Expanded.right expanded in
+    let owed : c.push-in-Expanded-3.new.self.items ≡ (c.pop.new.self.items ++ c.in-Expanded.right ∷ []) ++ c.in-Expanded.left ∷ [] = c.in_ok-push-in-Expanded-3.ensures.items ∙ ap (λ xs. xs ++ c.in-Expanded.left ∷ []) c.in_ok-push-in-Expanded-2.ensures.items in
     record {
       within = subst (λ xs. All (λ n. n < length c.args.fates.now) xs) (sym owed)
-          (All-push (λ n. n < length c.args.fates.now) (c.pop.new.self.items ++ c.in-Cut.right ∷ []) c.in-Cut.left
-          (All-push (λ n. n < length c.args.fates.now) c.pop.new.self.items c.in-Cut.right popped.0 later.3) later.2);
+          (All-push (λ n. n < length c.args.fates.now) (c.pop.new.self.items ++ c.in-Expanded.right ∷ []) c.in-Expanded.left
+          (All-push (λ n. n < length c.args.fates.now) c.pop.new.self.items c.in-Expanded.right popped.0 later.3) later.2);
       leads = λ views are size.
           let before : Leads c.args.agents views c.args.fates.now c.loop-k.items.items (c.in-Some.k ∷ reverse c.pop.new.self.items) =
           subst (λ xs. Leads c.args.agents views c.args.fates.now c.loop-k.items.items xs) (ap reverse c.in-Some.ensures.items ∙ reverse_push c.pop.new.self.items c.in-Some.k) (c.loop-k.invariant.leads views are size) in
-          let after = leads_split c.args.agents views c.args.fates.now c.loop-k.items.items c.in-Some.k (reverse c.pop.new.self.items) before c.split_item.result c.in-Cut.conflict c.in-Cut.left c.in-Cut.right cut c.split_item.ensures in
-          subst (λ xs. Leads c.args.agents views c.args.fates.now c.push-in-Cut.new.self.items xs)
-          (sym (ap reverse owed ∙ reverse_push (c.pop.new.self.items ++ c.in-Cut.right ∷ []) c.in-Cut.left ∙ ap (λ xs. c.in-Cut.left ∷ xs) (reverse_push c.pop.new.self.items c.in-Cut.right)))
-          (subst (λ its. Leads c.args.agents views c.args.fates.now its (c.in-Cut.left ∷ c.in-Cut.right ∷ reverse c.pop.new.self.items)) (sym c.in_ok-push-in-Cut.ensures.items) after);
+          let after = leads_split c.args.agents views c.args.fates.now c.loop-k.items.items c.in-Some.k (reverse c.pop.new.self.items) before c.split_item.result c.in-Expanded.conflict c.in-Expanded.left c.in-Expanded.right expanded c.split_item.ensures in
+          subst (λ xs. Leads c.args.agents views c.args.fates.now c.push-in-Expanded.new.self.items xs)
+          (sym (ap reverse owed ∙ reverse_push (c.pop.new.self.items ++ c.in-Expanded.right ∷ []) c.in-Expanded.left ∙ ap (λ xs. c.in-Expanded.left ∷ xs) (reverse_push c.pop.new.self.items c.in-Expanded.right)))
+          (subst (λ its. Leads c.args.agents views c.args.fates.now its (c.in-Expanded.left ∷ c.in-Expanded.right ∷ reverse c.pop.new.self.items)) (sym c.in_ok-push-in-Expanded.ensures.items) after);
     }
 
 pub loop-k-smaller : goal.loop-k-smaller
@@ -54,7 +54,7 @@ loop-k-preserved g c =
           subst (λ xs. Leads c.args.agents views c.args.fates.now c.loop-k.items.items xs) (ap reverse c.in-Some.ensures.items ∙ reverse_push c.pop.new.self.items c.in-Some.k) (c.loop-k.invariant.leads views are size) in
           let blocks = c.in_ok-blocks-in_default-fate.ensures views view.0 are view.1 in
           let after = leads_leaf c.args.agents views c.args.fates.now c.loop-k.items.items c.in-Some.k (reverse c.pop.new.self.items) before (LeafItem c.in_ok-blocks-in_default-fate.blocks) c.in_ok-blocks-in_default-fate.blocks.items
-          (view.0, c.index-fates-k.result, view.1, fate, end_of c.index-fates-k.result c.in_default-fate.not-Cut, blocks) refl in
+          (view.0, c.index-fates-k.result, view.1, fate, end_of c.index-fates-k.result c.in_default-fate.not-Expanded, blocks) refl in
           subst (λ its. Leads c.args.agents views c.args.fates.now its (reverse c.pop.new.self.items)) (sym c.in_ok-push-in_default-fate.ensures.items) after;
     }
 

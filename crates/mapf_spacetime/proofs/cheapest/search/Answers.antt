@@ -26,7 +26,7 @@ returns-then-lets_path g c =
     let start : c.start.result ≡ task.start = c.start.ensures ∙ ap (λ t. t.start) c.of-ground.ensures in
     let again : c.start-2.result ≡ task.start = c.start-2.ensures ∙ ap (λ t. t.start) c.of-ground.ensures in
     let value = subst (λ t. IsValue t (state_at c.start.result 0) c.in-Some.first) c.of-ground.ensures c.in-Some.ensures.some in
-    let satisfies = subst (λ l. Satisfies task.bars l) c.cells.ensures.value (subst (λ t. Satisfies t.bars c.cells.result.now) c.of-ground.ensures (c.if-lets_path.ensures refl)) in
+    let satisfies = subst (λ l. Satisfies task.bars l) c.cells.ensures.value (subst (λ t. Satisfies t.bars c.cells.result.now) c.of-ground.ensures (c.if-lets_path.ensures.yes refl)) in
     let distance = subst (λ cell. IsDistance task.grid task.goal cell (length path - 1)) again
     (subst (λ goal. IsDistance task.grid goal c.start-2.result (length path - 1)) c.requires.goal
     (subst (λ grid. IsDistance grid c.args.distances.now.goal c.start-2.result (length path - 1)) c.requires.grid c.in_ok-path.ensures.shortest)) in

@@ -14,9 +14,9 @@ loop-agent-preserved c view whole =
     let before = c.loop-agent.invariant view whole in
     let within = c.loop-agent-test.true in
     let count = c.requires in
-    let routes = c.args.self.now.routes.items in
-    let route = slice_get_read routes (length routes) c.loop-agent.agent c.index.result.now refl (omega (arith, within, count)) c.index.ensures in
-    let entries : view.entries c.loop-agent.agent ≡ c.in_ok-entries.entries.items = (whole.each c.loop-agent.agent c.index.result.now route).entries ∙ sym c.deref.ensures.value ∙ sym c.in_ok-entries.ensures.items in
+    let agent_paths = c.args.self.now.agent_paths.items in
+    let agent_path = slice_get_read agent_paths (length agent_paths) c.loop-agent.agent c.index.result.now refl (omega (arith, within, count)) c.index.ensures in
+    let entries : view.entries c.loop-agent.agent ≡ c.in_ok-entries.entries.items = (whole.each c.loop-agent.agent c.index.result.now agent_path).entries ∙ sym c.deref.ensures.value ∙ sym c.in_ok-entries.ensures.items in
     elim c.if-not-is_empty.branch [
       | then-not-is_empty+in_ok-push w ↦
           let e : c.if-not-is_empty.blocks.items ≡ c.loop-agent.blocks.items ++ record { agent = c.loop-agent.agent; entries = c.in_ok-entries.entries.items } ∷ [] = ap (λ (v : Vec LabelBlock Global). v.items) w.blocks-is ∙ w.in_ok-push.ensures.items in

@@ -14,9 +14,9 @@ use Rattle.mapf_spacetime.specs.declared.found.Found.TheVariants.{Arrives, Dead}
 use Rattle.mapf_spacetime.specs.Answer.{IsAnswer}
 use Rattle.mapf_spacetime.specs.Task.{task_of}
 use Rattle.mapf_cbs.specs.Search.{View, IsLive, live_child, dead_child}
-use Rattle.mapf_cbs.specs.Born.{EndsAt, IsTotal, IsBorn}
-use Rattle.mapf_cbs.proofs.RouteLemmas.{cheapest_of, none_of}
-use Rattle.mapf_cbs.proofs.ViewLemmas.{route_of}
+use Rattle.mapf_cbs.specs.GeneratedChild.{EndsAt, IsTotal, IsGeneratedChild}
+use Rattle.mapf_cbs.proofs.CheapestPathLemmas.{cheapest_of, none_of}
+use Rattle.mapf_cbs.proofs.ViewLemmas.{agent_path_of}
 use Rattle.mapf_cbs.proofs.ChildLemmas.{Contains-later, IsCheapestPath-same, HasNoPath-same, dead_child_dead, live_child_live, live_child_sum}
 
 part_within : (xs : List ℕ) (i x : ℕ) → slice_get xs i ≡ Some x → x ≤ sum xs
@@ -44,13 +44,13 @@ bars_with all front more bar same added b = (
 module _ (problem : Instance) (view : View) (live : IsLive problem view) (i : ℕ) (agent : Agent) (known : slice_get problem.agents i ≡ Some agent) (path : List ℕ) (path_is : slice_get view.paths i ≡ Some path) where
   pub ends_there : at path (length path - 1) ≡ agent.goal
   ends_there =
-      let r = route_of problem view live.counted i agent known in
+      let r = agent_path_of problem view live.counted i agent known in
       (live.each i agent path r.1 known path_is r.3).lawful.goal
 
   module _ (old : ℕ) (old_is : IsCost agent.goal path old) where
     old_cost : slice_get view.costs i ≡ Some old
     old_cost =
-        let r = route_of problem view live.counted i agent known in
+        let r = agent_path_of problem view live.counted i agent known in
         let p : r.0 ≡ path = same_Some r.0 path (sym r.2 ∙ path_is) in
         let is : IsCost agent.goal path r.1 = subst (λ x. IsCost agent.goal x r.1) p (live.each i agent r.0 r.1 known r.2 r.3).is_cost in
         r.3 ∙ ap Some (cost_unique agent.goal path r.1 old is old_is)
@@ -61,22 +61,22 @@ module _ (problem : Instance) (view : View) (live : IsLive problem view) (i : �
 module _ (problem : Instance) (view : View) (live : IsLive problem view) (i : ℕ) (agent : Agent) (known : slice_get problem.agents i ≡ Some agent) (bar : Bar) (bars : List Bar) (same : AreSameBars bars (bar ∷ view.constraints.bars i))
     (old : ℕ) (path : List ℕ) (path_is : slice_get view.paths i ≡ Some path) (old_is : IsCost agent.goal path old)
   where
-    pub born : (found : Found) → IsAnswer (task_of problem.grid agent bars) found → (total : Option ℕ) → old ≤ sum view.costs → IsTotal found agent.goal (sum view.costs - old) total → IsBorn problem view i bar found total
-    born (Arrives new labels) arrival total less (cost', is', fits, total_is) =
+    pub generated : (found : Found) → IsAnswer (task_of problem.grid agent bars) found → (total : Option ℕ) → old ≤ sum view.costs → IsTotal found agent.goal (sum view.costs - old) total → IsGeneratedChild problem view i bar found total
+    generated (Arrives new labels) arrival total less (cost', is', fits, total_is) =
         let cost = arrival.cost in
-        let route = cheapest_of problem.grid agent bars new labels arrival in
-        let route' = IsCheapestPath-same problem.grid agent bars (bar ∷ view.constraints.bars i) new cost labels same route in
-        let one : cost' ≡ cost = cost_unique agent.goal new cost' cost is' route.is_cost in
-        let sums = live_child_sum problem view live i agent known bar labels new cost route' old (old_cost problem view live i agent known path path_is old old_is) in
+        let agent_path = cheapest_of problem.grid agent bars new labels arrival in
+        let agent_path' = IsCheapestPath-same problem.grid agent bars (bar ∷ view.constraints.bars i) new cost labels same agent_path in
+        let one : cost' ≡ cost = cost_unique agent.goal new cost' cost is' agent_path.is_cost in
+        let sums = live_child_sum problem view live i agent known bar labels new cost agent_path' old (old_cost problem view live i agent known path path_is old old_is) in
         let a = sums.0 in let b = sums.1 in
-        subst (λ t. IsBorn problem view i bar (Arrives new labels) t) (sym total_is) (record {
+        subst (λ t. IsGeneratedChild problem view i bar (Arrives new labels) t) (sym total_is) (record {
           child = live_child view i bar new cost labels;
           is_child = (cost, refl);
           constraints = refl;
-          state = (live_child_live problem view live i agent known bar labels new cost route', omega arith, omega arith, omega arith);
+          state = (live_child_live problem view live i agent known bar labels new cost agent_path', omega arith, omega arith, omega arith);
         })
-    born (Dead labels) death total less total_is =
-        subst (λ t. IsBorn problem view i bar (Dead labels) t) (sym total_is) (record {
+    generated (Dead labels) death total less total_is =
+        subst (λ t. IsGeneratedChild problem view i bar (Dead labels) t) (sym total_is) (record {
           child = dead_child view i bar labels;
           is_child = refl;
           constraints = refl;

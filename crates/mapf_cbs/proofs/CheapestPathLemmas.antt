@@ -10,7 +10,7 @@ use Rattle.mapf_model.proofs.LabelLemmas.{lawful_bound, lawful_rests}
 use Rattle.mapf_model.proofs.PathLemmas.{IsCost-tight}
 use Rattle.mapf_spacetime.specs.Answer.{AreGoodLabels, IsArrival, IsDeath}
 use Rattle.mapf_spacetime.specs.Task.{task_of}
-use Rattle.mapf_cbs.specs.Route.{IsCheapestPath, HasNoPath}
+use Rattle.mapf_cbs.specs.CheapestPath.{IsCheapestPath, HasNoPath}
 use Rattle.mapf_cbs.specs.Start.{IsShortest}
 
 module _ (grid : GridMap) (agent : Agent) (bars : List Bar) where

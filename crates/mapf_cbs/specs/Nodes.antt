@@ -6,7 +6,7 @@ use Rattle.mapf_spacetime.specs.declared.found.Found.{Found}
 use Rattle.mapf_spacetime.specs.declared.found.Found.TheVariants.{Arrives, Dead}
 use Rattle.mapf_cbs.specs.declared.node.Node.{Node}
 use Rattle.mapf_cbs.specs.declared.node.Node.TheVariants.{Root, Child}
-use Rattle.mapf_cbs.specs.Route.{IsTableBar}
+use Rattle.mapf_cbs.specs.CheapestPath.{IsTableBar}
 use Rattle.mapf_cbs.specs.Search.{View, live_child, dead_child}
 
 -- parents come before their children, and the root, which comes first, has a path of the agent

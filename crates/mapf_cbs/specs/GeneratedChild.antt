@@ -1,4 +1,4 @@
--- A child, as it is found.
+-- A generated child, as it is found.
 use Rattle.std.specs.Prelude.{◌≡◌, ℕ, ◌+◌, ◌-◌, ◌<◌, ◌≤◌, ◌^◌, Option, Some, None, length, sum}
 use Rattle.mapf_model.specs.declared.bar.Bar.{Bar}
 use Rattle.mapf_model.specs.Path.{at, IsCost}
@@ -7,7 +7,7 @@ use Rattle.mapf_model.specs.Tree.{with_bar}
 use Rattle.mapf_spacetime.specs.declared.found.Found.{Found}
 use Rattle.mapf_spacetime.specs.declared.found.Found.TheVariants.{Arrives, Dead}
 use Rattle.mapf_cbs.specs.Search.{View, IsLive, IsDead}
-use Rattle.mapf_cbs.specs.Arena.{IsChildView}
+use Rattle.mapf_cbs.specs.Nodes.{IsChildView}
 
 -- the path that was found ends at the goal
 abbrev pub EndsAt : Found → ℕ → Type 0
@@ -20,13 +20,13 @@ IsTotal (Arrives path labels) goal rest total = (cost : ℕ) × IsCost goal path
 IsTotal (Dead labels) goal rest total = total ≡ None
 
 -- a child without a sum is dead; one with a sum is live, and no cheaper than its parent
-abbrev pub IsBornState : Instance → View → View → Option ℕ → Type 0
-IsBornState problem view child None = IsDead problem child
-IsBornState problem view child (Some total) = IsLive problem child × (total ≡ sum child.costs) × (sum view.costs ≤ total) × (total ≤ sum view.costs + 2 ^ 32)
+abbrev pub IsGeneratedState : Instance → View → View → Option ℕ → Type 0
+IsGeneratedState problem view child None = IsDead problem child
+IsGeneratedState problem view child (Some total) = IsLive problem child × (total ≡ sum child.costs) × (sum view.costs ≤ total) × (total ≤ sum view.costs + 2 ^ 32)
 
 -- the view of a child, live with this sum or dead
-pub record IsBorn (problem : Instance) (view : View) (agent : ℕ) (bar : Bar) (found : Found) (total : Option ℕ) : Type 0 where
+pub record IsGeneratedChild (problem : Instance) (view : View) (agent : ℕ) (bar : Bar) (found : Found) (total : Option ℕ) : Type 0 where
   pub child : View
   pub is_child : IsChildView view agent bar found child
   pub constraints : child.constraints ≡ record { bars = with_bar view.constraints.bars agent bar }
-  pub state : IsBornState problem view child total
+  pub state : IsGeneratedState problem view child total

@@ -15,7 +15,7 @@ use Rattle.mapf_spacetime.specs.declared.found.Found.TheVariants.{Arrives, Dead}
 use Rattle.mapf_cbs.specs.declared.node.Node.{Node}
 use Rattle.mapf_cbs.specs.declared.node.Node.TheVariants.{Root, Child}
 use Rattle.mapf_cbs.specs.Search.{View}
-use Rattle.mapf_cbs.specs.Arena.{AreViews, IsChildView, AreJoined}
+use Rattle.mapf_cbs.specs.Nodes.{AreViews, IsChildView, AreJoined}
 use Rattle.mapf_cbs.proofs.SumLemmas.{slice_get-set_same, slice_get-set_other}
 
 -- a path that this node didn't find is the parent's
@@ -61,9 +61,6 @@ module _ (nodes : List Node) (views : List View) (are : AreViews nodes views) (k
   root_path paths agent at = ap (λ ps. slice_get ps agent) (are.each k (Root paths) view at is).same_paths
 
   module _ (parent bound : ℕ) (bar : Bar) (found : Found) (at : slice_get nodes k ≡ Some (Child parent bound bar found)) where
-    pub parent_view : (before : View) × (slice_get views parent ≡ Some before) × IsChildView before bound bar found view
-    parent_view = let h = are.each k (Child parent bound bar found) view at is in (h.1, h.2, h.4)
-
     pub paths_up : (agent : ℕ) → (agent ≢ bound) ⊎ ((labels : List Entry) × (found ≡ Dead labels)) → (before : View) → slice_get views parent ≡ Some before → slice_get view.paths agent ≡ slice_get before.paths agent
     paths_up agent why before before_is =
         let h = are.each k (Child parent bound bar found) view at is in
