@@ -19,14 +19,6 @@ more_there had x some = record {
     by [] more e = refl
     by (b ∷ bs) more e = cc
 
--- bytes that came refuse it
-pub more_came : (had left : Option (List ℕ)) (x y : Buffered) → Window had left x y [] → length x.bytes < length y.bytes → Refuses had left x (λ t. t ≡ [])
-more_came had left x y window grown = record {
-  pulled = window.pulled;
-  source = window.source;
-  wrong = inl (λ more none. absurd (omega (arith, ap length none, length-append (x.bytes ++ window.pulled) more, ap length window.same)));
-}
-
 pub lacks_fails : (had left : Option (List ℕ)) (failed : Bool) (x : Buffered) (Is : List ℕ → Type 0) (why : NoLine) (fault : LinesFault) → LacksBytes had left failed x why → Tells why fault → Fails had left failed x Is fault
 lacks_fails had left failed x Is stops.Ended fault lacks tells = absurd lacks
 lacks_fails had left failed x Is stops.Overlong fault lacks tells = absurd lacks

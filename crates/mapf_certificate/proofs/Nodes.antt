@@ -135,15 +135,6 @@ one_line sizes had x line node same none is = record {
   window = record { pulled = []; source = Consumes-nil had; same = append-nil x.bytes; within = omega arith };
 }
 
-pub leaf_lines : (sizes : Sizes) (had left : Option (List ℕ)) (x y : Buffered) (line : Line) (count : ℕ) (blocks : List LabelBlock) → line ≡ lines.Leaf count → AreInOrder LabelBlock (BlockInRange sizes) Rises count blocks
-    → Window had left x y (blocks_text sizes.width blocks) → CompletesNode (grid_for sizes) sizes.agents had left x y line (LeafNode blocks)
-leaf_lines sizes had left x y line count blocks same are window = record {
-  in_range = record { each = are.each; rising = are.rising };
-  taken = blocks_text sizes.width blocks;
-  spelled = ap (λ l. line_text sizes.width l ++ blocks_text sizes.width blocks) (same ∙ ap lines.Leaf (sym are.many));
-  window = window;
-}
-
 pub fails_in_blocks : (sizes : Sizes) (had left : Option (List ℕ)) (failed : Bool) (x : Buffered) (line : Line) (count : ℕ) (fault : LinesFault) → IsLine (dues.Tree sizes) line → line ≡ lines.Leaf count
     → Fails had left failed x (NextBlocks sizes count) fault → Fails had left failed x (λ t. NextNode sizes (line_text sizes.width line ++ t)) fault
 fails_in_blocks sizes had left failed x line count fault is same fails =

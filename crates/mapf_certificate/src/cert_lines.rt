@@ -1,5 +1,5 @@
 ghost use Rattle.mapf_certificate.specs.Buffered.{spare};
-ghost use Rattle.mapf_certificate.specs.CertReading.{HasHeader, IsRestAt, Awaits, AwaitsCert, TakesHeader, TakesNode, TakesEnd, ReadsEnd, CompletesNode, owed_after};
+ghost use Rattle.mapf_certificate.specs.CertReading.{HasHeader, IsRestAt, Awaits, AwaitsCert, TakesHeader, TakesNode, TakesEnd, ReadsEnd, CompletesNode, trees_owed_after};
 ghost use Rattle.mapf_certificate.specs.Certificates.{IsNode, line_text, node_text, header_text};
 ghost use Rattle.mapf_certificate.specs.Lines.{IsAgentCount, IsTreeLine, grid_of};
 ghost use Rattle.mapf_certificate.specs.Reading.{Reading};
@@ -212,17 +212,17 @@ impl CertLines {
             return Ok(None);
         }
         let item = item_of(self.alloc, &mut self.lines, source, &sizes, &line)?;
-        self.owed = owed_after(self.owed, &item);
+        self.owed = trees_owed_after(self.owed, &item);
         self.item_line = number;
         Ok(Some(item))
     }
 }
 
 /// The number of trees that are owed after an item, of this number before it.
-fn owed_after(owed: u64, item: &Item) -> u64
+fn trees_owed_after(owed: u64, item: &Item) -> u64
     requires some { 1 ≤ owed }
     requires few { owed + 1 < 2 ^ 64 }
-    ensures { result ≡ owed_after owed (node_of item.now) }
+    ensures { result ≡ trees_owed_after owed (node_of item.now) }
 {
     match item {
         Item::Vertex { .. } | Item::Swap { .. } => owed + 1,
