@@ -1,11 +1,11 @@
 -- The end of a source.
-use Rattle.std.proofs.Common.{◌≡◌, ℕ, ◌<◌, List, [], ◌∷◌, ◌++◌, length, Option, Bool, refl, sym, ap, subst, arith, inl, length-append}
+use Rattle.std.proofs.Common.{◌≡◌, ℕ, List, [], ◌∷◌, ◌++◌, Option, Bool, refl, sym, subst, inl}
 use Rattle.std.proofs.KnownBytes.{Consumes-nil}
 use Rattle.mapf_certificate.specs.declared.buffer.NoLine.{NoLine}
 use Rattle.mapf_certificate.specs.declared.buffer.NoLine.TheVariants as stops
 use Rattle.mapf_certificate.specs.declared.cert.LinesFault.{LinesFault}
 use Rattle.mapf_certificate.specs.Buffered.{Buffered}
-use Rattle.mapf_certificate.specs.Window.{Window, Refuses, Fails, LacksBytes, Tells}
+use Rattle.mapf_certificate.specs.Window.{Refuses, Fails, LacksBytes, Tells}
 
 -- bytes that are there refuse the end
 pub more_there : (had : Option (List ℕ)) (x : Buffered) → (x.bytes ≡ [] → ⊥) → Refuses had had x (λ t. t ≡ [])

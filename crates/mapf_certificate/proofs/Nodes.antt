@@ -14,8 +14,8 @@ use Rattle.mapf_certificate.specs.declared.tree_line.Due.TheVariants as dues
 use Rattle.mapf_certificate.specs.Buffered.{Buffered}
 use Rattle.mapf_certificate.specs.Lines.{IsLine}
 use Rattle.mapf_certificate.specs.Certificates.{line_text, blocks_text, block_text, node_text, IsNode}
-use Rattle.mapf_certificate.specs.CertReading.{AreInOrder, CompletesNode}
-use Rattle.mapf_certificate.specs.Window.{Window, BeginsWith, Fails, IsTextFault}
+use Rattle.mapf_certificate.specs.CertReading.{CompletesNode}
+use Rattle.mapf_certificate.specs.Window.{BeginsWith, Fails, IsTextFault}
 use Rattle.mapf_certificate.proofs.PlainLines.{same_line}
 use Rattle.mapf_certificate.proofs.Windows.{Fails-weaker, Fails-text}
 use Rattle.mapf_certificate.proofs.LineWindows.{IsNext}

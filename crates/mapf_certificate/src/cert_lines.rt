@@ -101,7 +101,8 @@ impl CertLines {
         })
     }
 
-    /// The line of the first word of the item given last, counted from 1.
+    /// The line in which the item given last begins, counted from 1, or 0 before the first. No contract
+    /// says which line it is; it is tested.
     pub fn line(&self) -> u64 {
         self.item_line
     }

@@ -1,4 +1,4 @@
--- What the entries of one agent are judged against.
+-- What the entries of one agent are judged against: its own problem at a node of the tree.
 use Rattle.std.specs.Prelude.{◌≡◌, List}
 use Rattle.mapf_model.specs.declared.bar.Bar.{Bar}
 use Rattle.mapf_checker.specs.declared.judge.AgentProblem.{AgentProblem}

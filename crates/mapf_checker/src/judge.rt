@@ -10,7 +10,8 @@ use mapf_distance::Distances;
 use mapf_model::{Bar, Cell, Entry, Grid, laws};
 use std::alloc::Global;
 
-/// What the entries of one agent are judged against.
+/// What the entries of one agent are judged against: its own problem at a node of the tree, with the bars
+/// on the way there.
 #[derive(Drop)]
 pub struct AgentProblem<'a> {
     pub grid: &'a Grid,
