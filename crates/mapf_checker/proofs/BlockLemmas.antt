@@ -1,6 +1,5 @@
 -- Blocks that are sound, one by one and together.
-use Rattle.std.proofs.Common.{◌≡◌, ℕ, ◌<◌, List, Some, All, AllPairs, slice_get, slice_index_or, sym, ◌∙◌, subst, refl, arith}
-use Rattle.std.proofs.lemmas.List.{get_or_default}
+use Rattle.std.proofs.Common.{◌≡◌, ℕ, ◌<◌, List, Some, All, AllPairs, slice_get, slice_index_or, sym, ◌∙◌, subst, arith}
 use Rattle.std.proofs.lemmas.Option.{same_Some, slice_get_within, get_or_from_slice_get}
 use Rattle.mapf_model.specs.declared.problem.Agent.{Agent}
 use Rattle.mapf_model.specs.declared.label.Entry.{Entry}
@@ -9,12 +8,11 @@ use Rattle.mapf_model.specs.Labels.{entries_of, AreSound, IsSoundEntry}
 use Rattle.mapf_model.specs.Plan.{Instance}
 use Rattle.mapf_model.specs.declared.item.Claim.{Claim}
 use Rattle.mapf_model.specs.Tree.{NodeConstraints, Leaf, ShowsFrom, StartsShow, with_blocks, no_entries, AreBlocksSound, AreOfAgents, AreOfDifferentAgents}
-use Rattle.mapf_model.proofs.ClaimLemmas.{slice_get_inside}
 use Rattle.mapf_checker.specs.declared.judge.AgentProblem.{AgentProblem}
 use Rattle.mapf_checker.specs.AgentProblem.{bars_on}
 use Rattle.mapf_checker.specs.Leaf.{IsGoalOf, IsGoodBlock}
 use Rattle.mapf_checker.specs.NodeDefects.{HasUnsoundEntry, IsUnsoundAt}
-use Rattle.mapf_checker.proofs.StartLemmas.{block_of-at, block_of-found}
+use Rattle.mapf_checker.proofs.StartLemmas.{block_of-found}
 
 -- an entry that isn't sound by itself isn't sound in its block
 pub unsound_entry : (problem : Instance) (here : NodeConstraints) (block : LabelBlock) (own : AgentProblem) (entries : List Entry) (place : ℕ) → own.grid.now ≡ problem.grid → bars_on own ≡ here.bars block.agent → entries ≡ block.entries →

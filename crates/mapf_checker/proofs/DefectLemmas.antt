@@ -10,12 +10,9 @@ use Rattle.mapf_checker.specs.declared.lawful.PathFault.{PathFault}
 use Rattle.mapf_checker.specs.declared.lawful.PathFault.TheVariants.{WrongStart, BadStep, WrongGoal}
 use Rattle.mapf_checker.specs.declared.plan_fault.PlanFault.{PlanFault}
 use Rattle.mapf_checker.specs.declared.plan_fault.PlanFault.TheVariants.{V1, V2, V3, V4, V5}
-use Rattle.mapf_checker.specs.declared.meeting.Kind.{Kind}
-use Rattle.mapf_checker.specs.declared.meeting.Kind.TheVariants.{InOneCell, Swapping}
-use Rattle.mapf_checker.specs.declared.meeting.Encounter.{Encounter}
 use Rattle.mapf_checker.specs.PathDefects.{HasPathDefect}
-use Rattle.mapf_checker.specs.Meetings.{IsEncounter, AreApart}
-use Rattle.mapf_checker.specs.Defects.{HasDefect, HaveMeeting, AreLawful, path_fault_of, meeting_fault_of}
+use Rattle.mapf_checker.specs.Meetings.{AreApart}
+use Rattle.mapf_checker.specs.Defects.{HasDefect, AreLawful, path_fault_of}
 use Rattle.mapf_checker.proofs.MeetingLemmas.{ConflictAt-sym}
 
 module _ (problem : Instance) (plan : List (List ℕ)) where

@@ -1,4 +1,4 @@
-use Rattle.std.proofs.Common.{List, Some, length, refl, sym, ◌∙◌, rules}
+use Rattle.std.proofs.Common.{length}
 use Rattle.mapf_model.specs.Tree.{node_of}
 use Rattle.mapf_certificate.specs.CertReading.{IsRestAt}
 use Rattle.mapf_certificate.specs.Certificates.{IsNode}
