@@ -119,19 +119,6 @@ entries_due sizes before agent count more is begins =
     let (block, same, follows, next) = block_fits sizes before (lines.Agent agent count) more is begins in
     subst (λ n. NextEntries sizes n more) (sym (agent_same agent block.agent count (length block.entries) same).1) next
 
-pub block_is : (sizes : Sizes) (before : List LabelBlock) (agent count : ℕ) (entries : List Entry) → IsLine (dues.Tree sizes) (lines.Agent agent count) → AreInOrder Entry (InRange sizes) IsBefore count entries
-    → All (λ b. b.agent < agent) before → MayFollow LabelBlock (BlockInRange sizes) Rises before (record { agent = agent; entries = entries })
-block_is sizes before agent count entries (inside, some, few) are above = (
-  record {
-    agent = inside;
-    some = omega (arith, are.many);
-    few = omega (arith, are.many);
-    entries = are.each;
-    rising = are.rising;
-  },
-  above,
-)
-
 pub before_trans : (a b c : Entry) → IsBefore a b → IsBefore b c → IsBefore a c
 before_trans a b c (inl p) (inl q) = inl (omega arith)
 before_trans a b c (inl p) (inr (q, r)) = inl (omega arith)

@@ -15,7 +15,7 @@ use Rattle.mapf_certificate.specs.declared.sizes.Sizes.{Sizes}
 use Rattle.mapf_certificate.specs.Lines.{grid_of}
 use Rattle.mapf_certificate.specs.Certificates.{header_text, rest_text, cert_text, IsRest, SpellsCert, SpellsOneCert}
 use Rattle.mapf_certificate.specs.Reading.{Reading}
-use Rattle.mapf_certificate.specs.CertReading.{IsCertText, AwaitsCert, owed_after}
+use Rattle.mapf_certificate.specs.CertReading.{IsCertText, AwaitsCert, trees_owed_after}
 use Rattle.mapf_certificate.proofs.Blocks.{grid_for}
 use Rattle.mapf_certificate.proofs.Nodes.{nodes_apart}
 use Rattle.mapf_certificate.proofs.Rests.{rest_starts, rest_ends}
@@ -105,9 +105,9 @@ same_rest sizes owed (n ∷ ns) ms t u p q e = elim (cases_lt 0 owed) [
       let (node, tail) = (nodes_apart sizes).apart here.node there.node here.after there.after here.in_range there.in_range (sym here.spelled ∙ e ∙ there.spelled) in
       let head : here.node ≡ n = head_same here.node n here.others ns here.same in
       let rest : here.others ≡ ns = tail_same here.node n here.others ns here.same in
-      let mine = subst (λ (l : List Node). IsRest (grid_for sizes) sizes.agents (owed_after owed here.node) l here.after) rest here.rest in
-      let other = subst (λ (m : Node). IsRest (grid_for sizes) sizes.agents (owed_after owed m) there.others there.after) (sym node) there.rest in
-      let more = same_rest sizes (owed_after owed here.node) ns there.others here.after there.after mine other tail in
+      let mine = subst (λ (l : List Node). IsRest (grid_for sizes) sizes.agents (trees_owed_after owed here.node) l here.after) rest here.rest in
+      let other = subst (λ (m : Node). IsRest (grid_for sizes) sizes.agents (trees_owed_after owed m) there.others there.after) (sym node) there.rest in
+      let more = same_rest sizes (trees_owed_after owed here.node) ns there.others here.after there.after mine other tail in
       ap (λ (m : Node). m ∷ ns) (sym head ∙ node) ∙ ap (λ l. there.node ∷ l) more ∙ sym there.same
   | inr none ↦ absurd (not_none n ns (rest_ends (grid_for sizes) sizes.agents owed (n ∷ ns) t p (omega arith)).0)
 ]

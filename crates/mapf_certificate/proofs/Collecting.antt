@@ -1,6 +1,5 @@
 -- Items collected one after another.
-use Rattle.std.proofs.Common.{◌≡◌, ℕ, ◌≤◌, Bool, false, length, List, [], ◌∷◌, ◌++◌, Option, Some, Result, Err, MatchResult, refl, sym, ap, subst, ◌∙◌, append_assoc}
-use Rattle.std.proofs.lemmas.Bool.{false≢true}
+use Rattle.std.proofs.Common.{◌≡◌, ℕ, Bool, List, [], ◌∷◌, ◌++◌, Option, Some, Result, Err, MatchResult, sym, ap, subst, ◌∙◌, append_assoc}
 use Rattle.std.proofs.lemmas.List.{append-nil}
 use Rattle.mapf_model.specs.declared.item.Claim.{Claim}
 use Rattle.mapf_model.specs.Tree.{Node}
@@ -10,7 +9,7 @@ use Rattle.mapf_certificate.specs.Buffered.{Buffered}
 use Rattle.mapf_certificate.specs.Reading.{Reading}
 use Rattle.mapf_certificate.specs.CertReading.{Awaits, AwaitsCert, TakesHeader, TakesNode, TakesEnd}
 use Rattle.mapf_certificate.specs.Window.{Window, Fails, Stops, IsNoTextFault}
-use Rattle.mapf_certificate.proofs.Windows.{Window-trans, Window-known, Exceeds-after, Exceeds-not}
+use Rattle.mapf_certificate.proofs.Windows.{Window-trans, Window-known, Exceeds-after}
 
 -- from the opened reader to this one a header and these nodes were read
 pub record Collected (start now : Option (List ℕ)) (opened r : Reading) (agents : ℕ) (claim : Claim) (seen : List Node) : Type 0 where
@@ -92,10 +91,3 @@ stops_after a b c failed x y t Is Memory window fails = tt
 -- an error that is passed on
 pub err_matches : {A E : Type 0} (r : Result A E) (P : A → Type 0) (Q : E → Type 0) (e : E) → (y : E) × (r ≡ Err y) × (y ≡ e) → Q e → MatchResult r P Q
 err_matches {A = A} {E = E} r P Q e (y, is, same) holds = let M : Result A E → Type 0 = λ s. MatchResult s P Q in subst M (sym is) (subst Q (sym same) holds)
-
--- where the source works and the limit is no less than what it has, only memory stops a reader of a certificate
-pub only_memory : (a b : Option (List ℕ)) (failed : Bool) (x : Buffered) (bytes : List ℕ) (fault : LinesFault) → IsNoTextFault fault → Stops a b failed x fault → failed ≡ false → a ≡ Some bytes → length bytes ≤ x.left → fault ≡ Memory
-only_memory a b failed x bytes (Text fault) is stops works known enough = absurd is
-only_memory a b failed x bytes Device is stops works known enough = absurd (false≢true (sym works ∙ stops))
-only_memory a b failed x bytes TooLong is stops works known enough = absurd (Exceeds-not a b x bytes stops known enough)
-only_memory a b failed x bytes Memory is stops works known enough = refl

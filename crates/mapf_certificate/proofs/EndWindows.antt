@@ -1,11 +1,11 @@
 -- The end of a source.
-use Rattle.std.proofs.Common.{◌≡◌, ℕ, ◌<◌, List, [], ◌∷◌, ◌++◌, length, Option, Bool, refl, sym, ap, subst, arith, inl, length-append}
+use Rattle.std.proofs.Common.{◌≡◌, ℕ, List, [], ◌∷◌, ◌++◌, Option, Bool, refl, sym, subst, inl}
 use Rattle.std.proofs.KnownBytes.{Consumes-nil}
 use Rattle.mapf_certificate.specs.declared.buffer.NoLine.{NoLine}
 use Rattle.mapf_certificate.specs.declared.buffer.NoLine.TheVariants as stops
 use Rattle.mapf_certificate.specs.declared.cert.LinesFault.{LinesFault}
 use Rattle.mapf_certificate.specs.Buffered.{Buffered}
-use Rattle.mapf_certificate.specs.Window.{Window, Refuses, Fails, LacksBytes, Tells}
+use Rattle.mapf_certificate.specs.Window.{Refuses, Fails, LacksBytes, Tells}
 
 -- bytes that are there refuse the end
 pub more_there : (had : Option (List ℕ)) (x : Buffered) → (x.bytes ≡ [] → ⊥) → Refuses had had x (λ t. t ≡ [])
@@ -18,14 +18,6 @@ more_there had x some = record {
     by : (xs more : List ℕ) → (xs ++ []) ++ more ≡ [] → xs ≡ []
     by [] more e = refl
     by (b ∷ bs) more e = cc
-
--- bytes that came refuse it
-pub more_came : (had left : Option (List ℕ)) (x y : Buffered) → Window had left x y [] → length x.bytes < length y.bytes → Refuses had left x (λ t. t ≡ [])
-more_came had left x y window grown = record {
-  pulled = window.pulled;
-  source = window.source;
-  wrong = inl (λ more none. absurd (omega (arith, ap length none, length-append (x.bytes ++ window.pulled) more, ap length window.same)));
-}
 
 pub lacks_fails : (had left : Option (List ℕ)) (failed : Bool) (x : Buffered) (Is : List ℕ → Type 0) (why : NoLine) (fault : LinesFault) → LacksBytes had left failed x why → Tells why fault → Fails had left failed x Is fault
 lacks_fails had left failed x Is stops.Ended fault lacks tells = absurd lacks

@@ -14,8 +14,8 @@ use Rattle.mapf_certificate.specs.declared.tree_line.Due.TheVariants as dues
 use Rattle.mapf_certificate.specs.Buffered.{Buffered}
 use Rattle.mapf_certificate.specs.Lines.{IsLine}
 use Rattle.mapf_certificate.specs.Certificates.{line_text, blocks_text, block_text, node_text, IsNode}
-use Rattle.mapf_certificate.specs.CertReading.{AreInOrder, CompletesNode}
-use Rattle.mapf_certificate.specs.Window.{Window, BeginsWith, Fails, IsTextFault}
+use Rattle.mapf_certificate.specs.CertReading.{CompletesNode}
+use Rattle.mapf_certificate.specs.Window.{BeginsWith, Fails, IsTextFault}
 use Rattle.mapf_certificate.proofs.PlainLines.{same_line}
 use Rattle.mapf_certificate.proofs.Windows.{Fails-weaker, Fails-text}
 use Rattle.mapf_certificate.proofs.LineWindows.{IsNext}
@@ -133,15 +133,6 @@ one_line sizes had x line node same none is = record {
   taken = [];
   spelled = ap (λ l. line_text sizes.width l ++ []) same ∙ sym (ap (λ l. line_text sizes.width (first_line node) ++ l) (ap (λ l. l ++ []) none)) ∙ sym (node_cut sizes.width node []) ∙ append-nil (node_text sizes.width node);
   window = record { pulled = []; source = Consumes-nil had; same = append-nil x.bytes; within = omega arith };
-}
-
-pub leaf_lines : (sizes : Sizes) (had left : Option (List ℕ)) (x y : Buffered) (line : Line) (count : ℕ) (blocks : List LabelBlock) → line ≡ lines.Leaf count → AreInOrder LabelBlock (BlockInRange sizes) Rises count blocks
-    → Window had left x y (blocks_text sizes.width blocks) → CompletesNode (grid_for sizes) sizes.agents had left x y line (LeafNode blocks)
-leaf_lines sizes had left x y line count blocks same are window = record {
-  in_range = record { each = are.each; rising = are.rising };
-  taken = blocks_text sizes.width blocks;
-  spelled = ap (λ l. line_text sizes.width l ++ blocks_text sizes.width blocks) (same ∙ ap lines.Leaf (sym are.many));
-  window = window;
 }
 
 pub fails_in_blocks : (sizes : Sizes) (had left : Option (List ℕ)) (failed : Bool) (x : Buffered) (line : Line) (count : ℕ) (fault : LinesFault) → IsLine (dues.Tree sizes) line → line ≡ lines.Leaf count

@@ -82,11 +82,3 @@ are_paths_step sizes due sum n bytes rest line after path paths new are read is 
           ∙ ap (λ t. t ++ after) (ap (λ j. paths_text width 0 paths ++ path_text width j path) (sym place) ∙ sym (paths_text-push width 0 paths path));
     } in
     subst (λ (l : List (List ℕ)). ArePaths (grid_of sizes.width sizes.height) (due + 1) bytes l (sum + (length path - 1)) after) (sym grown) all
-
--- at the end there are no other paths
-pub paths_go_on_end : (width due : ℕ) (plan paths : List (List ℕ)) (rest left : List ℕ) → length plan ≡ length paths → PathsGoOn width due plan paths rest left → (paths ≡ plan) × (left ≡ rest)
-paths_go_on_end width due plan paths rest left count on = by on.others on.same on.spelled
-  where
-    by : (others : List (List ℕ)) → plan ≡ paths ++ others → left ≡ paths_text width due others ++ rest → (paths ≡ plan) × (left ≡ rest)
-    by [] same spelled = (sym (same ∙ append-nil paths), spelled)
-    by (p ∷ others) same spelled = absurd (omega (arith, ap length same, length-append paths (p ∷ others)))

@@ -15,7 +15,7 @@ use Rattle.mapf_certificate.specs.Buffered.{Buffered}
 use Rattle.mapf_certificate.specs.Lines.{IsLine, IsAgentCount}
 use Rattle.mapf_certificate.specs.Certificates.{line_text, node_text, IsNode, IsRest}
 use Rattle.mapf_certificate.specs.Reading.{Reading, grid_at, agents_at}
-use Rattle.mapf_certificate.specs.CertReading.{IsRestAt, Awaits, CompletesNode, ReadsNode, ReadsEnd, owed_after}
+use Rattle.mapf_certificate.specs.CertReading.{IsRestAt, Awaits, CompletesNode, ReadsNode, ReadsEnd, trees_owed_after}
 use Rattle.mapf_certificate.specs.Window.{Window, Fails, IsNoTextFault}
 use Rattle.mapf_certificate.proofs.PlainLines.{same_line}
 use Rattle.mapf_certificate.proofs.Windows.{Window-trans, Window-known, Fails-after, Fails-weaker, Fails-not}
@@ -83,7 +83,7 @@ fails_in_end sizes r had mid left failed x y line fault bounds none is window fa
     (λ more rest. same_line (dues.Tree sizes) line lines.End more [] is tt (end_next sizes r (line_text sizes.width line ++ more) bounds none rest ∙ sym (append-nil (line_text sizes.width lines.End)))) fails
 
 pub reads_node : (sizes : Sizes) (had mid left : Option (List ℕ)) (old new : Reading) (y : Buffered) (line : Line) (node : Node) → Bounds sizes old → old.width ≡ sizes.width → Window had mid old.buffer y (line_text sizes.width line)
-    → CompletesNode (grid_for sizes) sizes.agents mid left y new.buffer line node → 1 ≤ old.owed → new.owed ≡ owed_after old.owed node → ReadsNode had left old new node
+    → CompletesNode (grid_for sizes) sizes.agents mid left y new.buffer line node → 1 ≤ old.owed → new.owed ≡ trees_owed_after old.owed node → ReadsNode had left old new node
 reads_node sizes had mid left old new y line node bounds wide first completes some owed =
     let window = Window-trans had mid left old.buffer y new.buffer (line_text sizes.width line) completes.taken first completes.window in
     record {
@@ -119,7 +119,7 @@ node_same sizes had left old new node due nodes bounds wide on reads awaits =
     let (one, tail) = (nodes_apart sizes).apart node starts.node (new.buffer.bytes ++ rest) starts.after in_range starts.in_range (ap (λ w. node_text w node ++ (new.buffer.bytes ++ rest)) (sym wide) ∙ sym same ∙ starts.spelled) in
     let head : starts.node ≡ due = cc (starts.same) in
     let others : starts.others ≡ nodes = cc (starts.same) in
-    let owed : owed_after old.owed starts.node ≡ new.owed = ap (owed_after old.owed) (sym one) ∙ sym reads.owed in
+    let owed : trees_owed_after old.owed starts.node ≡ new.owed = ap (trees_owed_after old.owed) (sym one) ∙ sym reads.owed in
     let after = subst (λ (n : ℕ). IsRest (grid_for sizes) sizes.agents n starts.others starts.after) owed starts.rest in
     let moved = rest_moved (grid_for sizes) (grid_at new) sizes.agents (agents_at new) new.owed starts.others starts.after (sym bounds.grid ∙ sym on.grid) (sym bounds.agents ∙ sym on.agents) after in (
       one ∙ head,

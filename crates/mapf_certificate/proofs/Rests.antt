@@ -7,7 +7,7 @@ use Rattle.mapf_model.specs.Printed.{IsTreeInRange}
 use Rattle.mapf_model.specs.Tree.{ConstraintTree, Split, Leaf, Clash, Node, SplitNode, LeafNode, ClashNode, nodes_of, nodes_of_all}
 use Rattle.mapf_certificate.specs.declared.line.Line.TheVariants as lines
 use Rattle.mapf_certificate.specs.Certificates.{line_text, node_text, rest_text, IsNode, IsRest}
-use Rattle.mapf_certificate.specs.CertReading.{owed_after}
+use Rattle.mapf_certificate.specs.CertReading.{trees_owed_after}
 
 -- a rest with a tree owed begins with a node, and what follows is the rest after it
 pub record StartsRest (grid : GridMap) (agents owed : ℕ) (nodes : List Node) (bytes : List ℕ) : Type 0 where
@@ -17,7 +17,7 @@ pub record StartsRest (grid : GridMap) (agents owed : ℕ) (nodes : List Node) (
   pub same : nodes ≡ node ∷ others
   pub in_range : IsNode grid agents node
   pub spelled : bytes ≡ node_text grid.width node ++ after
-  pub rest : IsRest grid agents (owed_after owed node) others after
+  pub rest : IsRest grid agents (trees_owed_after owed node) others after
 
 rest_cons : (width : ℕ) (node : Node) (others : List Node) → rest_text width (node ∷ others) ≡ node_text width node ++ rest_text width others
 rest_cons width node others = append_assoc (node_text width node) (flat_map (node_text width) others) (line_text width lines.End)
@@ -76,7 +76,7 @@ pub end_is_rest : (grid : GridMap) (agents owed : ℕ) → owed ≡ 0 → IsRest
 end_is_rest grid agents owed none = record { trees = []; count = sym none; in_range = All-nil (IsTreeInRange grid agents); same = refl; spelled = refl }
 
 -- a node before a rest
-pub rest_joins : (grid : GridMap) (agents owed : ℕ) (node : Node) (nodes : List Node) (bytes : List ℕ) → IsNode grid agents node → 1 ≤ owed → IsRest grid agents (owed_after owed node) nodes bytes
+pub rest_joins : (grid : GridMap) (agents owed : ℕ) (node : Node) (nodes : List Node) (bytes : List ℕ) → IsNode grid agents node → 1 ≤ owed → IsRest grid agents (trees_owed_after owed node) nodes bytes
     → IsRest grid agents owed (node ∷ nodes) (node_text grid.width node ++ bytes)
 rest_joins grid agents owed (SplitNode conflict) nodes bytes is some rest = by rest.trees rest.count rest.in_range rest.same
   where

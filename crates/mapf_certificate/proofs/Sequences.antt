@@ -1,12 +1,12 @@
 -- Values that are spelled one after another.
-use Rattle.std.proofs.Common.{◌≡◌, ℕ, ◌<◌, ◌≤◌, ◌-◌, List, [], ◌∷◌, ◌++◌, length, All, AllPairs, Option, Some, None, refl, sym, ap, subst, ◌∙◌, arith, append_assoc, length-append, get_or, slice_get, inl, inr}
+use Rattle.std.proofs.Common.{◌≡◌, ℕ, ◌<◌, ◌≤◌, ◌-◌, List, [], ◌∷◌, ◌++◌, length, All, AllPairs, Option, Some, refl, sym, ap, subst, ◌∙◌, arith, append_assoc, length-append, get_or, slice_get, inl, inr}
 use Rattle.std.specs.List.{flat_map}
 use Rattle.std.proofs.lemmas.List.Elements.{All-head, All-tail, All-append, All-cons, All-nil}
 use Rattle.std.proofs.lemmas.List.Quantifiers.{all_pairs_push}
 use Rattle.std.proofs.lemmas.Bool.{cases_lt}
 use Rattle.std.proofs.lemmas.Grind.{flat_map-append}
 use Rattle.std.proofs.lemmas.List.{append-nil}
-use Rattle.std.proofs.lemmas.Option.{get_or_from_slice_get, slice_get_within, slice_get-get_or}
+use Rattle.std.proofs.lemmas.Option.{get_or_from_slice_get, slice_get_within}
 use Rattle.std.proofs.Math.ListN.{get_or-append}
 use Rattle.std.proofs.Math.Seq.{get_or-append_seam}
 use Rattle.mapf_certificate.specs.CertReading.{AreInOrder, MayFollow}
@@ -48,10 +48,6 @@ All-later : {A : Type 0} (P : A → Type 0) (xs ys : List A) → All P (xs ++ ys
 All-later P [] ys h = h
 All-later P (x ∷ xs) ys h = All-later P xs ys (All-tail P x (xs ++ ys) h)
 
-All-earlier : {A : Type 0} (P : A → Type 0) (xs ys : List A) → All P (xs ++ ys) → All P xs
-All-earlier P [] ys h = All-nil P
-All-earlier P (x ∷ xs) ys h = All-cons P x xs (All-head P x (xs ++ ys) h) (All-earlier P xs ys (All-tail P x (xs ++ ys) h))
-
 -- what may follow a front of a list in order
 pub follows : {A : Type 0} (Is : A → Type 0) (R : A → A → Type 0) (front others : List A) (x : A) → All Is (front ++ (x ∷ others)) → AllPairs R (front ++ (x ∷ others)) → MayFollow A Is R front x
 follows {A = A} Is R front others x each rising = (
@@ -68,9 +64,6 @@ follows {A = A} Is R front others x each rising = (
 pub record Taken (A : Type 0) (Is : A → Type 0) (R : A → A → Type 0) (values : List A) : Type 0 where
   pub each : All Is values
   pub rising : AllPairs R values
-
-pub taken_none : (A : Type 0) (Is : A → Type 0) (R : A → A → Type 0) → Taken A Is R []
-taken_none A Is R = record { each = All-nil Is; rising = λ i j d before inside. absurd (omega arith) }
 
 pub taken_more : (A : Type 0) (Is : A → Type 0) (R : A → A → Type 0) (values new : List A) (x : A) → Taken A Is R values → MayFollow A Is R values x → new ≡ values ++ (x ∷ []) → Taken A Is R new
 taken_more A Is R values new x taken (is, after) grown = subst (Taken A Is R) (sym grown) (record {
@@ -104,14 +97,6 @@ last_decides {A = A} R P xs l closed rising e = (
   ],
   λ all. subst P (get_or_from_slice_get xs (length xs - 1) l l e) (all (length xs - 1) l (slice_get_within xs (length xs - 1) l e)),
 )
-
-pub none_last : {A : Type 0} (P : A → Type 0) (xs : List A) → slice_get xs (length xs - 1) ≡ None → All P xs
-none_last P [] e = All-nil P
-none_last {A = A} P (x ∷ xs) e =
-    let all : List A = x ∷ xs in
-    let there : slice_get all (length all - 1) ≡ Some (get_or all (length all - 1) x) = slice_get-get_or all (length all - 1) x (omega arith) in
-    let wrong : ◌≡◌ {A = Option A} None (Some (get_or all (length all - 1) x)) = sym e ∙ there in
-    cc
 
 -- one more value was taken
 pub window_more : {A : Type 0} (text : A → List ℕ) (a b c : Option (List ℕ)) (x y z : Buffered) (values new : List A) (v : A) → Window a b x y (flat_map text values) → Window b c y z (text v) → new ≡ values ++ (v ∷ []) → Window a c x z (flat_map text new)

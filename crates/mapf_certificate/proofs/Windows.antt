@@ -1,5 +1,5 @@
 -- Windows one after another, and what refuses a part of a text.
-use Rattle.std.proofs.Common.{◌≡◌, ℕ, ◌≤◌, ◌+◌, ◌⊎◌, inl, inr, Bool, List, ◌++◌, length, Option, Some, None, Result, Err, IfErr, refl, sym, ap, subst, ◌∙◌, arith, append_assoc, length-append}
+use Rattle.std.proofs.Common.{◌≡◌, ℕ, ◌+◌, ◌⊎◌, inl, inr, Bool, List, ◌++◌, length, Option, Some, None, Result, Err, IfErr, refl, sym, ap, subst, ◌∙◌, arith, append_assoc, length-append}
 use Rattle.std.proofs.lemmas.List.{append-nil}
 use Rattle.std.specs.Io.KnownBytes.{Consumes, IsAtEnd}
 use Rattle.std.proofs.KnownBytes.{Consumes-trans}
@@ -116,14 +116,6 @@ Fails-not a b failed x Is (Text texts.Memory) bytes refused known is = absurd re
 Fails-not a b failed x Is Device bytes refused known is = tt
 Fails-not a b failed x Is TooLong bytes refused known is = tt
 Fails-not a b failed x Is Memory bytes refused known is = tt
-
--- where the limit is no less than what the source has, not too many bytes come
-pub Exceeds-not : (a b : Option (List ℕ)) (x : Buffered) (bytes : List ℕ) → Exceeds a b x → a ≡ Some bytes → length bytes ≤ x.left → ⊥
-Exceeds-not a b x bytes more known enough = by b (subst (λ o. Consumes o b more.pulled) known more.source)
-  where
-    by : (o : Option (List ℕ)) → Consumes (Some bytes) o more.pulled → ⊥
-    by None c = absurd c
-    by (Some rest) c = absurd (omega (arith, more.beyond, ap length c, length-append more.pulled rest))
 
 -- an error that is passed on
 pub err_passed : {A E : Type 0} (r : Result A E) (P : E → Type 0) (e : E) → (y : E) × (r ≡ Err y) × (y ≡ e) → P e → IfErr r P

@@ -25,10 +25,10 @@ abbrev pub MayFollow : (A : Type 0) → (A → Type 0) → (A → A → Type 0) 
 MayFollow A Is Precedes before value = Is value × All (λ b. Precedes b value) before
 
 -- how many trees are owed after a node
-abbrev pub owed_after : ℕ → Node → ℕ
-owed_after owed (SplitNode conflict) = owed + 1
-owed_after owed (LeafNode blocks) = owed - 1
-owed_after owed (ClashNode i j) = owed - 1
+abbrev pub trees_owed_after : ℕ → Node → ℕ
+trees_owed_after owed (SplitNode conflict) = owed + 1
+trees_owed_after owed (LeafNode blocks) = owed - 1
+trees_owed_after owed (ClashNode i j) = owed - 1
 
 -- the bytes begin with a header
 abbrev pub HasHeader : ℕ → List ℕ → Type 0
@@ -79,7 +79,7 @@ pub record ReadsNode (had left : Option (List ℕ)) (old new : Reading) (node : 
   pub in_range : IsNode (grid_at old) (agents_at old) node
   pub window : Window had left old.buffer new.buffer (node_text old.width node)
   pub was_owed : 1 ≤ old.owed
-  pub owed : new.owed ≡ owed_after old.owed node
+  pub owed : new.owed ≡ trees_owed_after old.owed node
 
 -- the end was read: no tree is owed, the last line was taken, and the source has ended
 pub record ReadsEnd (had left : Option (List ℕ)) (old new : Reading) : Type 0 where

@@ -34,7 +34,7 @@ impl Model for LineBuffer {
 }
 
 /// Why no line is there.
-#[derive(Clone, Copy, Debug, PartialEq, Eq)]
+#[derive(Clone, Copy)]
 pub enum NoLine {
     /// The source ended.
     Ended,

@@ -1,5 +1,5 @@
 ghost use Rattle.mapf_certificate.specs.Buffered.{spare};
-ghost use Rattle.mapf_certificate.specs.CertReading.{HasHeader, IsRestAt, Awaits, AwaitsCert, TakesHeader, TakesNode, TakesEnd, ReadsEnd, CompletesNode, owed_after};
+ghost use Rattle.mapf_certificate.specs.CertReading.{HasHeader, IsRestAt, Awaits, AwaitsCert, TakesHeader, TakesNode, TakesEnd, ReadsEnd, CompletesNode, trees_owed_after};
 ghost use Rattle.mapf_certificate.specs.Certificates.{IsNode, line_text, node_text, header_text};
 ghost use Rattle.mapf_certificate.specs.Lines.{IsAgentCount, IsTreeLine, grid_of};
 ghost use Rattle.mapf_certificate.specs.Reading.{Reading};
@@ -101,7 +101,8 @@ impl CertLines {
         })
     }
 
-    /// The line of the first word of the item given last, counted from 1.
+    /// The line in which the item given last begins, counted from 1, or 0 before the first. No contract
+    /// says which line it is; it is tested.
     pub fn line(&self) -> u64 {
         self.item_line
     }
@@ -212,17 +213,17 @@ impl CertLines {
             return Ok(None);
         }
         let item = item_of(self.alloc, &mut self.lines, source, &sizes, &line)?;
-        self.owed = owed_after(self.owed, &item);
+        self.owed = trees_owed_after(self.owed, &item);
         self.item_line = number;
         Ok(Some(item))
     }
 }
 
 /// The number of trees that are owed after an item, of this number before it.
-fn owed_after(owed: u64, item: &Item) -> u64
+fn trees_owed_after(owed: u64, item: &Item) -> u64
     requires some { 1 ≤ owed }
     requires few { owed + 1 < 2 ^ 64 }
-    ensures { result ≡ owed_after owed (node_of item.now) }
+    ensures { result ≡ trees_owed_after owed (node_of item.now) }
 {
     match item {
         Item::Vertex { .. } | Item::Swap { .. } => owed + 1,

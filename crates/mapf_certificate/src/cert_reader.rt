@@ -10,16 +10,6 @@ use crate::cert_lines::CertLines;
 use mapf_model::{BytesSource, Grid, Source};
 use std::alloc::Global;
 
-fn fault_in_memory(fault: LinesFault) -> CertFault
-    ensures { fault ≡ LinesFault.Memory → result ≡ CertFault.Memory }
-{
-    match fault {
-        LinesFault::Text(fault) => fault,
-        LinesFault::Memory => CertFault::Memory,
-        LinesFault::Device | LinesFault::TooLong => CertFault::K2(0),
-    }
-}
-
 /// The certificate that a source gives.
 fn collect<S: Source>(
     alloc: Global,
@@ -63,6 +53,8 @@ pub fn read_cert(alloc: Global, bytes: &[u8], grid: &Grid) -> Result<Cert, CertF
     };
     match collect(alloc, &mut lines, &mut source) {
         Ok(cert) => Ok(cert),
-        Err(fault) => Err(fault_in_memory(fault)),
+        Err(LinesFault::Text(fault)) => Err(fault),
+        Err(LinesFault::Memory) => Err(CertFault::Memory),
+        Err(LinesFault::Device | LinesFault::TooLong) => unreachable!(),
     }
 }

@@ -2,7 +2,6 @@ ghost use Rattle.std.specs.Prelude.{◌≡◌, ◌<◌, ◌++◌, OnOk, IfOk, ma
 ghost use Rattle.std.specs.List.{flat_map};
 ghost use Rattle.mapf_model.specs.Tree.{node_of};
 ghost use Rattle.mapf_certificate.specs.Certificates.{entries_text, blocks_text, item_text, header_text, cert_text};
-ghost use Rattle.std.specs.Prelude.{◌<◌};
 
 use crate::cert::Cert;
 use crate::line::Line;
@@ -92,8 +91,10 @@ fn push_header(out: &mut Vec<u8>, cert: &Cert, width: u32) -> Result<(), AllocEr
     push_line(out, &Line::Claim(cert.claim), width)
 }
 
-/// The text of a certificate for a grid of this size. The condition for it to spell the certificate is
-/// that the numbers are in their ranges and the blocks in their orders.
+/// The text of a certificate for a grid of this size: its header, its items and `end`. `read_cert` reads
+/// it back where the number of agents, the claim and the numbers of the items are in the ranges of
+/// docs/FORMATS.md, the agents of each leaf's blocks and the entries of each block rise, and the items
+/// are those of one tree. Any other certificate is written too, and its text isn't read.
 pub fn write_cert(alloc: Global, cert: &Cert, grid: &Grid) -> Result<Vec<u8>, OutOfMemory>
     ensures { IfOk result (λ bytes. bytes.items ≡ cert_text grid.now.width cert.now.agents cert.now.claim (map node_of cert.now.tree.items)) }
 {

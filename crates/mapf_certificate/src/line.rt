@@ -1,7 +1,7 @@
 use mapf_model::{Cell, Claim, Entry, Tick};
 
 /// A line of a certificate.
-#[derive(Clone, Copy, Debug, PartialEq, Eq)]
+#[derive(Clone, Copy)]
 pub enum Line {
     Title,
     Agents(u32),
@@ -33,7 +33,7 @@ pub enum Line {
 }
 
 /// What is wrong with a line.
-#[derive(Clone, Copy, Debug, PartialEq, Eq)]
+#[derive(Clone, Copy)]
 pub enum LineFault {
     /// Its words.
     Shape,

@@ -9,7 +9,7 @@ use crate::tree_line::{agent_count, cost};
 use mapf_model::Cause;
 
 /// Line 3 of a plan text.
-#[derive(Clone, Copy, Debug)]
+#[derive(Clone, Copy)]
 pub enum AnswerLine {
     Cost(u64),
     Impossible,

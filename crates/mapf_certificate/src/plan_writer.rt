@@ -1,4 +1,4 @@
-ghost use Rattle.std.specs.Prelude.{◌≡◌, ◌<◌, ◌≤◌, ◌++◌, ◌∷◌, [], codes, OnOk, IfOk, All, length};
+ghost use Rattle.std.specs.Prelude.{◌≡◌, ◌<◌, ◌≤◌, ◌++◌, ◌∷◌, [], OnOk, IfOk, All, length};
 ghost use Rattle.mapf_certificate.specs.Plans.{cells_text, path_text, paths_text, cost_of, answer_text, plan_text, IsPlanText, IsFew};
 ghost use Rattle.mapf_certificate.specs.Numbers.{field};
 
@@ -51,10 +51,11 @@ fn cost_of(paths: &[Path]) -> u64
     cost
 }
 
-fn push_cost(out: &mut Vec<u8>, cost: u64) -> Result<(), AllocError>
-    ensures { OnOk result (out.new.items ≡ out.old.items ++ (codes "cost" ++ (field 32 cost ++ (10 ∷ [])))) }
+/// Writes a line of a word and a number.
+fn push_number_line(out: &mut Vec<u8>, word: &[u8], number: u64) -> Result<(), AllocError>
+    ensures { OnOk result (out.new.items ≡ out.old.items ++ (word.now ++ (field 32 number ++ (10 ∷ [])))) }
 {
-    push_one(out, b"cost", cost)?;
+    push_one(out, word, number)?;
     out.push(b'\n')?;
     Ok(())
 }
@@ -64,24 +65,8 @@ fn push_plan(out: &mut Vec<u8>, plan: &Plan, width: u32) -> Result<(), AllocErro
     requires few { length plan.now ≤ 200 }
     ensures { OnOk result (out.new.items ≡ out.old.items ++ answer_text width (PlanAnswer.Found plan.now)) }
 {
-    push_cost(out, cost_of(plan.paths()))?;
+    push_number_line(out, b"cost", cost_of(plan.paths()))?;
     push_paths(out, plan.paths(), width)
-}
-
-fn push_limit(out: &mut Vec<u8>, count: u64) -> Result<(), AllocError>
-    ensures { OnOk result (out.new.items ≡ out.old.items ++ (codes "limit" ++ (field 32 count ++ (10 ∷ [])))) }
-{
-    push_one(out, b"limit", count)?;
-    out.push(b'\n')?;
-    Ok(())
-}
-
-fn push_agents(out: &mut Vec<u8>, agents: u64) -> Result<(), AllocError>
-    ensures { OnOk result (out.new.items ≡ out.old.items ++ (codes "agents" ++ (field 32 agents ++ (10 ∷ [])))) }
-{
-    push_one(out, b"agents", agents)?;
-    out.push(b'\n')?;
-    Ok(())
 }
 
 fn push_answer(out: &mut Vec<u8>, answer: &PlanAnswer, width: u32) -> Result<(), AllocError>
@@ -93,7 +78,7 @@ fn push_answer(out: &mut Vec<u8>, answer: &PlanAnswer, width: u32) -> Result<(),
         PlanAnswer::Found(plan) => push_plan(out, plan, width),
         PlanAnswer::Impossible => out.extend_from_slice(b"impossible\n"),
         PlanAnswer::Limit(Cause::Ticks) => out.extend_from_slice(b"limit ticks\n"),
-        PlanAnswer::Limit(Cause::Splits(count)) => push_limit(out, *count as u64),
+        PlanAnswer::Limit(Cause::Splits(count)) => push_number_line(out, b"limit", *count as u64),
     }
 }
 
@@ -104,7 +89,7 @@ pub fn write_plan(alloc: Global, text: &PlanText, grid: &Grid) -> Result<Vec<u8>
 {
     let mut out = Vec::new(alloc);
     out.extend_from_slice(b"mapf-plan 1\n")?;
-    push_agents(&mut out, text.agents as u64)?;
+    push_number_line(&mut out, b"agents", text.agents as u64)?;
     push_answer(&mut out, &text.answer, grid.width())?;
     out.extend_from_slice(b"end\n")?;
     Ok(out)

@@ -5,7 +5,7 @@ use crate::line::LineFault;
 use mapf_model::{Cell, Grid};
 
 /// What bounds the numbers of a line: the size of the grid, and the number of agents.
-#[derive(Clone, Copy, Debug)]
+#[derive(Clone, Copy)]
 pub struct Sizes {
     pub width: u32,
     pub height: u32,

@@ -3,9 +3,8 @@ ghost use Rattle.std.specs.Prelude.{◌≡◌, false};
 use crate::{
     CertFault, CertLines, LinesFault, PlanTextFault, read_cert, read_plan, write_cert, write_plan,
 };
-use mapf_model::{Claim, Failed, Grid, Source};
+use mapf_model::{Failed, Grid, OutOfMemory, Source};
 use std::alloc::Global;
-use std::process::Abort;
 use std::test::Fail;
 
 const CROSSING: &str =
@@ -137,36 +136,25 @@ impl<'a> Source for Endless<'a> {
 
 /// How many items came, the line of the last, and the fault that ended them.
 fn run<S: Source>(
-    rt: &impl Abort,
     alloc: Global,
     source: &mut S,
     limit: u64,
-) -> (u64, u64, Option<LinesFault>)
+) -> Result<(u64, u64, Option<LinesFault>), OutOfMemory>
     requires { S.has_failed source.old ≡ false }
 {
-    let mut lines = CertLines::open(alloc, 3, 3, limit)
-        .ok()
-        .expect(rt, "memory");
+    let mut lines = CertLines::open(alloc, 3, 3, limit)?;
     if let Err(fault) = lines.header(source) {
-        assert!(rt; lines.header(source) == Err(fault));
-        return (0, 0, Some(fault));
+        return Ok((0, 0, Some(fault)));
     }
     let mut count = 0u64;
     for _ in 0..1000 {
         match lines.next_item(source) {
             Ok(Some(_)) => count = count.saturating_add(1),
-            Ok(None) => {
-                assert!(rt; matches!(lines.next_item(source), Ok(None)));
-                return (count, lines.line(), None);
-            }
-            Err(fault) => {
-                assert!(rt; matches!(lines.next_item(source), Err(again) if again == fault));
-                assert!(rt; lines.header(source) == Err(fault));
-                return (count, lines.line(), Some(fault));
-            }
+            Ok(None) => break,
+            Err(fault) => return Ok((count, lines.line(), Some(fault))),
         }
     }
-    (count, lines.line(), None)
+    Ok((count, lines.line(), None))
 }
 
 fn cert_fault(
@@ -176,11 +164,7 @@ fn cert_fault(
     lines: &str,
 ) -> Result<Option<CertFault>, Fail> {
     let text = with_lines(alloc, CROSSING, first, last, lines)?;
-    Ok(cert_fault_of(alloc, text.as_bytes(), &grid(alloc, 3, 3)?))
-}
-
-fn cert_fault_of(alloc: Global, bytes: &[u8], grid: &Grid) -> Option<CertFault> {
-    read_cert(alloc, bytes, grid).err()
+    Ok(read_cert(alloc, text.as_bytes(), &grid(alloc, 3, 3)?).err())
 }
 
 fn plan_fault(
@@ -195,104 +179,95 @@ fn plan_fault(
 
 #[test]
 fn certificates_are_read_and_written(rt: HostRuntime) -> Result<(), Fail> {
-    let grid3 = grid(rt.alloc(), 3, 3)?;
-    let cert = read_cert(rt.alloc(), CROSSING.as_bytes(), &grid3)
-        .ok()
-        .expect(&rt, "crossing");
-    assert_eq!(rt; cert.agents, 2);
-    assert_eq!(rt; cert.claim, Claim::Cost(5));
-    assert_eq!(rt; cert.tree.len(), 3);
-    let bytes = write_cert(rt.alloc(), &cert, &grid3)
-        .ok()
-        .expect(&rt, "memory");
-    assert_eq!(rt; bytes.as_slice(), CROSSING.as_bytes());
-    assert_eq!(rt; bytes.len(), 111);
-    let grid2 = grid(rt.alloc(), 3, 2)?;
-    let cert = read_cert(rt.alloc(), PASSING.as_bytes(), &grid2)
-        .ok()
-        .expect(&rt, "passing");
-    assert_eq!(rt; cert.tree.len(), 11);
-    let bytes = write_cert(rt.alloc(), &cert, &grid2)
-        .ok()
-        .expect(&rt, "memory");
-    assert_eq!(rt; bytes.as_slice(), PASSING.as_bytes());
+    let alloc = rt.alloc();
+    for (text, height, items) in [(CROSSING, 3, 3), (PASSING, 2, 11)] {
+        let grid = grid(alloc, 3, height)?;
+        let cert = read_cert(alloc, text.as_bytes(), &grid)
+            .ok()
+            .ok_or("a certificate")?;
+        assert_eq!(rt; cert.tree.len(), items);
+        let bytes = write_cert(alloc, &cert, &grid)?;
+        assert_eq!(rt; bytes.as_slice(), text.as_bytes());
+    }
     Ok(())
 }
 
+/// Which lines of the crossing's certificate are replaced by which text, and the fault that then comes.
+const CERT_FAULTS: [(usize, usize, &str, Option<CertFault>); 30] = [
+    (3, 3, "claim bound 4\n", Some(CertFault::K1(3))),
+    (4, 4, "vertex 0 1 1,1 1000000\n", Some(CertFault::K3(4))),
+    (4, 4, "vertex 0 1 1,1 999999\n", None),
+    (4, 4, "vertex 0 2 1,1 1\n", Some(CertFault::K3(4))),
+    (
+        4,
+        4,
+        "vertex 0 9999999999999999999999 x\n",
+        Some(CertFault::K1(4)),
+    ),
+    (4, 4, "", Some(CertFault::K1(7))),
+    (4, 4, "swap 0 1 0,0 2,2 1\n", None),
+    (4, 4, "swap 0 1 0,0 2,3 1\n", Some(CertFault::K3(4))),
+    (4, 10, "clash 0 1\n", None),
+    (4, 10, "leaf 0\nleaf 0\n", Some(CertFault::K1(5))),
+    (5, 5, "leaf 3\n", Some(CertFault::K3(5))),
+    (5, 5, "end\n", Some(CertFault::K1(5))),
+    (
+        5,
+        7,
+        "leaf 2\nagent 0 1\nat 0,1 0 3\nagent 0 1\nat 0,1 0 3\n",
+        Some(CertFault::K1(8)),
+    ),
+    (
+        6,
+        6,
+        "agent 0 18446744073709551615\n",
+        Some(CertFault::K1(8)),
+    ),
+    (
+        6,
+        6,
+        "agent 0 18446744073709551616\n",
+        Some(CertFault::K3(6)),
+    ),
+    (6, 6, "agent 0 0\n", Some(CertFault::K3(6))),
+    (7, 7, "at 0,1 0 03\n", Some(CertFault::K1(7))),
+    (7, 7, "at 0,1 0 10000000\n", Some(CertFault::K3(7))),
+    (7, 7, "at 0,1 0 inf\n", None),
+    (7, 7, "at 0,1 0 3\r\n", Some(CertFault::K1(7))),
+    (7, 7, "leaf 99\n", Some(CertFault::K3(7))),
+    (7, 7, "leaf 1\n", Some(CertFault::K1(7))),
+    (7, 7, "agents 999\n", Some(CertFault::K1(7))),
+    (9, 10, "agent 1 2\nat 1,0 0 3\nat 1,2 0 1\n", None),
+    (
+        9,
+        10,
+        "agent 1 2\nat 1,2 0 1\nat 1,0 0 3\n",
+        Some(CertFault::K1(11)),
+    ),
+    (11, 11, "", Some(CertFault::K2(11))),
+    (11, 11, "end\n\n", Some(CertFault::K4(12))),
+    (1, 11, "", Some(CertFault::K2(1))),
+    (
+        1,
+        11,
+        "xxxxxxxxxxxxxxxxxxxxxxxxxxxxxxxxxxxxxxxxxxxxxxxxxxxxxxxxxxxxxxxx",
+        Some(CertFault::K2(1)),
+    ),
+    (
+        1,
+        11,
+        "xxxxxxxxxxxxxxxxxxxxxxxxxxxxxxxxxxxxxxxxxxxxxxxxxxxxxxxxxxxxxxxxx",
+        Some(CertFault::K1(1)),
+    ),
+];
+
 #[test]
 fn certificates_are_refused(rt: HostRuntime) -> Result<(), Fail> {
-    let table = [
-        (3, 3, "claim bound 4\n", Some(CertFault::K1(3))),
-        (4, 4, "vertex 0 1 1,1 1000000\n", Some(CertFault::K3(4))),
-        (4, 4, "vertex 0 1 1,1 999999\n", None),
-        (4, 4, "vertex 0 2 1,1 1\n", Some(CertFault::K3(4))),
-        (
-            4,
-            4,
-            "vertex 0 9999999999999999999999 x\n",
-            Some(CertFault::K1(4)),
-        ),
-        (4, 4, "", Some(CertFault::K1(7))),
-        (4, 4, "swap 0 1 0,0 2,2 1\n", None),
-        (4, 4, "swap 0 1 0,0 2,3 1\n", Some(CertFault::K3(4))),
-        (4, 10, "clash 0 1\n", None),
-        (4, 10, "leaf 0\nleaf 0\n", Some(CertFault::K1(5))),
-        (5, 5, "leaf 3\n", Some(CertFault::K3(5))),
-        (5, 5, "end\n", Some(CertFault::K1(5))),
-        (
-            5,
-            7,
-            "leaf 2\nagent 0 1\nat 0,1 0 3\nagent 0 1\nat 0,1 0 3\n",
-            Some(CertFault::K1(8)),
-        ),
-        (
-            6,
-            6,
-            "agent 0 18446744073709551615\n",
-            Some(CertFault::K1(8)),
-        ),
-        (
-            6,
-            6,
-            "agent 0 18446744073709551616\n",
-            Some(CertFault::K3(6)),
-        ),
-        (6, 6, "agent 0 0\n", Some(CertFault::K3(6))),
-        (7, 7, "at 0,1 0 03\n", Some(CertFault::K1(7))),
-        (7, 7, "at 0,1 0 10000000\n", Some(CertFault::K3(7))),
-        (7, 7, "at 0,1 0 inf\n", None),
-        (7, 7, "at 0,1 0 3\r\n", Some(CertFault::K1(7))),
-        (7, 7, "leaf 99\n", Some(CertFault::K3(7))),
-        (7, 7, "leaf 1\n", Some(CertFault::K1(7))),
-        (7, 7, "agents 999\n", Some(CertFault::K1(7))),
-        (9, 10, "agent 1 2\nat 1,0 0 3\nat 1,2 0 1\n", None),
-        (
-            9,
-            10,
-            "agent 1 2\nat 1,2 0 1\nat 1,0 0 3\n",
-            Some(CertFault::K1(11)),
-        ),
-        (11, 11, "", Some(CertFault::K2(11))),
-        (11, 11, "end\n\n", Some(CertFault::K4(12))),
-        (1, 11, "", Some(CertFault::K2(1))),
-        (
-            1,
-            11,
-            "xxxxxxxxxxxxxxxxxxxxxxxxxxxxxxxxxxxxxxxxxxxxxxxxxxxxxxxxxxxxxxxx",
-            Some(CertFault::K2(1)),
-        ),
-        (
-            1,
-            11,
-            "xxxxxxxxxxxxxxxxxxxxxxxxxxxxxxxxxxxxxxxxxxxxxxxxxxxxxxxxxxxxxxxxx",
-            Some(CertFault::K1(1)),
-        ),
-    ];
-    for row in table.iter() {
+    for (first, last, lines, fault) in CERT_FAULTS {
         assert_eq!(rt;
-            cert_fault(rt.alloc(), row.0, row.1, row.2)?,
-            row.3,
-            "{row:?}"
+            cert_fault(rt.alloc(), first, last, lines)?,
+            fault,
+            "{lines}"
         );
     }
     Ok(())
@@ -300,149 +275,113 @@ fn certificates_are_refused(rt: HostRuntime) -> Result<(), Fail> {
 
 #[test]
 fn plans_are_read_and_written(rt: HostRuntime) -> Result<(), Fail> {
-    let grid3 = grid(rt.alloc(), 3, 3)?;
-    let table = [
+    let alloc = rt.alloc();
+    let grid = grid(alloc, 3, 3)?;
+    for text in [
         CROSSING_PLAN,
         "mapf-plan 1\nagents 1\ncost 0\npath 0 0 0,0\nend\n",
         "mapf-plan 1\nagents 200\nimpossible\nend\n",
         "mapf-plan 1\nagents 2\nlimit 100000\nend\n",
         "mapf-plan 1\nagents 2\nlimit ticks\nend\n",
-    ];
-    for text in table.iter() {
-        let plan = read_plan(rt.alloc(), text.as_bytes(), &grid3)
+    ] {
+        let plan = read_plan(alloc, text.as_bytes(), &grid)
             .ok()
-            .expect(&rt, "a plan text");
-        let bytes = write_plan(rt.alloc(), &plan, &grid3)
-            .ok()
-            .expect(&rt, "memory");
+            .ok_or("a plan text")?;
+        let bytes = write_plan(alloc, &plan, &grid)?;
         assert_eq!(rt; bytes.as_slice(), text.as_bytes());
     }
     Ok(())
 }
 
+/// The same of the crossing's plan text.
+const PLAN_FAULTS: [(usize, usize, &str, Option<PlanTextFault>); 19] = [
+    (2, 2, "agents 201\n", Some(PlanTextFault::P3(2))),
+    (2, 2, "agents 0\n", Some(PlanTextFault::P3(2))),
+    (
+        2,
+        2,
+        "agents 1111111111111111111111111111111111111111111111111111111111111111111111111111111111111111111111111111\n",
+        Some(PlanTextFault::P3(2)),
+    ),
+    (3, 3, "cost 4\n", Some(PlanTextFault::P1(3))),
+    (3, 3, "cost 1999999801\n", Some(PlanTextFault::P3(3))),
+    (3, 5, "limit 100001\n", Some(PlanTextFault::P3(3))),
+    (3, 5, "limit ticks \n", Some(PlanTextFault::P1(3))),
+    (4, 4, "path 0 3\n", Some(PlanTextFault::P1(4))),
+    (4, 4, "path 0 3 0,1 0,1 1,1\n", Some(PlanTextFault::P1(4))),
+    (
+        4,
+        4,
+        "path 0 3 0,1 0,1 2,1 2,1\n",
+        Some(PlanTextFault::P1(4)),
+    ),
+    (
+        4,
+        4,
+        "path 1 3 0,1 0,1 1,1 2,1\n",
+        Some(PlanTextFault::P1(4)),
+    ),
+    (
+        4,
+        4,
+        "path 0 3 0,1 0,3 1,1 2,1\n",
+        Some(PlanTextFault::P3(4)),
+    ),
+    (4, 4, "path 0 10000000 0,1\n", Some(PlanTextFault::P3(4))),
+    (
+        4,
+        4,
+        "path 0 3 0,1 0,1 1,1 2,1 \n",
+        Some(PlanTextFault::P1(4)),
+    ),
+    (
+        4,
+        4,
+        "path 0 3 0,3 0,1 1,1 2,x\n",
+        Some(PlanTextFault::P1(4)),
+    ),
+    (6, 6, "path 999 0 0,0\n", Some(PlanTextFault::P1(6))),
+    (6, 6, "end\n\n", Some(PlanTextFault::P4(7))),
+    (
+        3,
+        6,
+        "cost 4\npath 0 3 0,1 0,1 1,1 2,1\npath 1 2 1,0 1,1 1,2\nend\nx\n",
+        Some(PlanTextFault::P4(7)),
+    ),
+    (
+        3,
+        6,
+        "cost 2\npath 0 0 0,1\npath 1 2 1,0 1,1 1,2\nend\n",
+        None,
+    ),
+];
+
 #[test]
 fn plans_are_refused(rt: HostRuntime) -> Result<(), Fail> {
-    let table = [
-        (2, 2, "agents 201\n", Some(PlanTextFault::P3(2))),
-        (2, 2, "agents 0\n", Some(PlanTextFault::P3(2))),
-        (
-            2,
-            2,
-            "agents 1111111111111111111111111111111111111111111111111111111111111111111111111111111111111111111111111111\n",
-            Some(PlanTextFault::P3(2)),
-        ),
-        (3, 3, "cost 4\n", Some(PlanTextFault::P1(3))),
-        (3, 3, "cost 1999999801\n", Some(PlanTextFault::P3(3))),
-        (3, 5, "limit 100001\n", Some(PlanTextFault::P3(3))),
-        (3, 5, "limit ticks \n", Some(PlanTextFault::P1(3))),
-        (4, 4, "path 0 3\n", Some(PlanTextFault::P1(4))),
-        (4, 4, "path 0 3 0,1 0,1 1,1\n", Some(PlanTextFault::P1(4))),
-        (
-            4,
-            4,
-            "path 0 3 0,1 0,1 2,1 2,1\n",
-            Some(PlanTextFault::P1(4)),
-        ),
-        (
-            4,
-            4,
-            "path 1 3 0,1 0,1 1,1 2,1\n",
-            Some(PlanTextFault::P1(4)),
-        ),
-        (
-            4,
-            4,
-            "path 0 3 0,1 0,3 1,1 2,1\n",
-            Some(PlanTextFault::P3(4)),
-        ),
-        (4, 4, "path 0 10000000 0,1\n", Some(PlanTextFault::P3(4))),
-        (
-            4,
-            4,
-            "path 0 3 0,1 0,1 1,1 2,1 \n",
-            Some(PlanTextFault::P1(4)),
-        ),
-        (
-            4,
-            4,
-            "path 0 3 0,3 0,1 1,1 2,x\n",
-            Some(PlanTextFault::P1(4)),
-        ),
-        (6, 6, "path 999 0 0,0\n", Some(PlanTextFault::P1(6))),
-        (6, 6, "end\n\n", Some(PlanTextFault::P4(7))),
-        (
-            3,
-            6,
-            "cost 4\npath 0 3 0,1 0,1 1,1 2,1\npath 1 2 1,0 1,1 1,2\nend\nx\n",
-            Some(PlanTextFault::P4(7)),
-        ),
-        (
-            3,
-            6,
-            "cost 2\npath 0 0 0,1\npath 1 2 1,0 1,1 1,2\nend\n",
-            None,
-        ),
-    ];
-    for row in table.iter() {
+    for (first, last, lines, fault) in PLAN_FAULTS {
         assert_eq!(rt;
-            plan_fault(rt.alloc(), row.0, row.1, row.2)?,
-            row.3,
-            "{row:?}"
+            plan_fault(rt.alloc(), first, last, lines)?,
+            fault,
+            "{lines}"
         );
     }
     Ok(())
 }
 
-/// How many LF there are, and one.
-fn line_of_end(bytes: &[u8]) -> u64 {
-    let mut line = 1u64;
-    for b in bytes {
-        if *b == b'\n' {
-            line = line.saturating_add(1);
-        }
-    }
-    line
-}
-
 #[test]
 fn each_front_ended_early(rt: HostRuntime) -> Result<(), Fail> {
-    let grid3 = grid(rt.alloc(), 3, 3)?;
-    for n in 0..CROSSING.len() {
-        let front = &CROSSING.as_bytes()[..n];
-        let fault = read_cert(rt.alloc(), front, &grid3).err();
-        assert_eq!(rt; fault, Some(CertFault::K2(line_of_end(front))));
+    let grid = grid(rt.alloc(), 3, 3)?;
+    let mut line = 1u64;
+    for (n, byte) in CROSSING.as_bytes().iter().enumerate() {
+        let fault = read_cert(rt.alloc(), &CROSSING.as_bytes()[..n], &grid).err();
+        assert_eq!(rt; fault, Some(CertFault::K2(line)));
+        line = line.saturating_add((*byte == b'\n') as u64);
     }
-    for n in 0..CROSSING_PLAN.len() {
-        let front = &CROSSING_PLAN.as_bytes()[..n];
-        let fault = read_plan(rt.alloc(), front, &grid3).err();
-        assert_eq!(rt; fault, Some(PlanTextFault::P2(line_of_end(front))));
-    }
-    Ok(())
-}
-
-/// Whether the bytes spell no certificate, or spell one that is written so.
-fn is_written_back(rt: &impl Abort, alloc: Global, bytes: &[u8], grid: &Grid) -> bool {
-    match read_cert(alloc, bytes, grid) {
-        Ok(cert) => {
-            let written = write_cert(alloc, &cert, grid).ok().expect(rt, "memory");
-            written.as_slice() == bytes
-        }
-        Err(_) => true,
-    }
-}
-
-#[test]
-fn each_change_of_a_byte_is_seen(rt: HostRuntime) -> Result<(), Fail> {
-    let grid3 = grid(rt.alloc(), 3, 3)?;
-    let mut bytes = CROSSING.as_bytes().to_vec(rt.alloc())?;
-    for at in 0..CROSSING.len() {
-        assert!(rt; at < bytes.len());
-        let old = bytes[at];
-        for new in 0..=255u8 {
-            bytes[at] = new;
-            assert!(rt; is_written_back(&rt, rt.alloc(), &bytes, &grid3));
-        }
-        bytes[at] = old;
+    line = 1;
+    for (n, byte) in CROSSING_PLAN.as_bytes().iter().enumerate() {
+        let fault = read_plan(rt.alloc(), &CROSSING_PLAN.as_bytes()[..n], &grid).err();
+        assert_eq!(rt; fault, Some(PlanTextFault::P2(line)));
+        line = line.saturating_add((*byte == b'\n') as u64);
     }
     Ok(())
 }
@@ -452,25 +391,25 @@ fn pieces_and_limits(rt: HostRuntime) -> Result<(), Fail> {
     let bytes = CROSSING.as_bytes();
     for first in 1..bytes.len() {
         let mut source = Pieces::of(bytes, first, false, 1000);
-        assert_eq!(rt; run(&rt, rt.alloc(), &mut source, 111), (3, 8, None));
+        assert_eq!(rt; run(rt.alloc(), &mut source, 111)?, (3, 8, None));
     }
     let mut source = Pieces::of(bytes, 0, true, 1000);
-    assert_eq!(rt; run(&rt, rt.alloc(), &mut source, 111), (3, 8, None));
+    assert_eq!(rt; run(rt.alloc(), &mut source, 111)?, (3, 8, None));
     let mut source = Pieces::of(bytes, 0, true, 1000);
     assert_eq!(rt;
-        run(&rt, rt.alloc(), &mut source, 110),
+        run(rt.alloc(), &mut source, 110)?,
         (3, 8, Some(LinesFault::TooLong))
     );
     let mut longer = bytes.to_vec(rt.alloc())?;
     longer.push(b'x')?;
     let mut source = Pieces::of(&longer, 0, false, 1000);
     assert_eq!(rt;
-        run(&rt, rt.alloc(), &mut source, 111),
+        run(rt.alloc(), &mut source, 111)?,
         (3, 8, Some(LinesFault::TooLong))
     );
     let mut source = Pieces::of(&longer, 0, false, 1000);
     let more = Some(LinesFault::Text(CertFault::K4(12)));
-    assert_eq!(rt; run(&rt, rt.alloc(), &mut source, 112), (3, 8, more));
+    assert_eq!(rt; run(rt.alloc(), &mut source, 112)?, (3, 8, more));
     Ok(())
 }
 
@@ -481,7 +420,7 @@ fn sources_that_fail_or_never_end(rt: HostRuntime) -> Result<(), Fail> {
         let mut source = Pieces::of(bytes, 0, true, pulls);
         assert!(rt;
             matches!(
-                run(&rt, rt.alloc(), &mut source, 111),
+                run(rt.alloc(), &mut source, 111)?,
                 (_, _, Some(LinesFault::Device))
             )
         );
@@ -491,12 +430,12 @@ fn sources_that_fail_or_never_end(rt: HostRuntime) -> Result<(), Fail> {
         line: b"x",
     };
     let fault = Some(LinesFault::Text(CertFault::K1(1)));
-    assert_eq!(rt; run(&rt, rt.alloc(), &mut source, u64::MAX), (0, 0, fault));
+    assert_eq!(rt; run(rt.alloc(), &mut source, u64::MAX)?, (0, 0, fault));
     let mut source = Endless {
         front: b"mapf-cert 1\nagents 2\nclaim cost 0\n",
         line: b"vertex 0 1 0,0 0\n",
     };
-    let (items, line, fault) = run(&rt, rt.alloc(), &mut source, 10_000);
+    let (items, line, fault) = run(rt.alloc(), &mut source, 10_000)?;
     assert_eq!(rt; (items, line), (586, 589));
     assert_eq!(rt; fault, Some(LinesFault::TooLong));
     Ok(())

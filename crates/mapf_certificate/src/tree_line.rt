@@ -8,7 +8,7 @@ use crate::sizes::{Sizes, below, from_one_to, up_to, within};
 use mapf_model::{Claim, Entry, Label};
 
 /// Which line of a certificate is due.
-#[derive(Clone, Copy, Debug)]
+#[derive(Clone, Copy)]
 pub enum Due {
     Title,
     Agents,
@@ -134,7 +134,7 @@ fn agent(rest: &[u8], sizes: &Sizes) -> Result<Line, LineFault>
 }
 
 /// A label as it was read: its ticks, or `Never` for `inf`.
-#[derive(Clone, Copy, Debug)]
+#[derive(Clone, Copy)]
 enum LabelWord {
     Ticks(Option<u64>),
     Never,

@@ -1,6 +1,5 @@
 -- Blocks that are sound, one by one and together.
-use Rattle.std.proofs.Common.{◌≡◌, ℕ, ◌<◌, List, Some, All, AllPairs, slice_get, slice_index_or, sym, ◌∙◌, subst, refl, arith}
-use Rattle.std.proofs.lemmas.List.{get_or_default}
+use Rattle.std.proofs.Common.{◌≡◌, ℕ, ◌<◌, List, Some, All, AllPairs, slice_get, slice_index_or, sym, ◌∙◌, subst, arith}
 use Rattle.std.proofs.lemmas.Option.{same_Some, slice_get_within, get_or_from_slice_get}
 use Rattle.mapf_model.specs.declared.problem.Agent.{Agent}
 use Rattle.mapf_model.specs.declared.label.Entry.{Entry}
@@ -9,17 +8,16 @@ use Rattle.mapf_model.specs.Labels.{entries_of, AreSound, IsSoundEntry}
 use Rattle.mapf_model.specs.Plan.{Instance}
 use Rattle.mapf_model.specs.declared.item.Claim.{Claim}
 use Rattle.mapf_model.specs.Tree.{NodeConstraints, Leaf, ShowsFrom, StartsShow, with_blocks, no_entries, AreBlocksSound, AreOfAgents, AreOfDifferentAgents}
-use Rattle.mapf_model.proofs.ClaimLemmas.{slice_get_inside}
-use Rattle.mapf_checker.specs.declared.judge.Ground.{Ground}
-use Rattle.mapf_checker.specs.Ground.{bars_on}
+use Rattle.mapf_checker.specs.declared.judge.AgentProblem.{AgentProblem}
+use Rattle.mapf_checker.specs.AgentProblem.{bars_on}
 use Rattle.mapf_checker.specs.Leaf.{IsGoalOf, IsGoodBlock}
 use Rattle.mapf_checker.specs.NodeDefects.{HasUnsoundEntry, IsUnsoundAt}
-use Rattle.mapf_checker.proofs.StartLemmas.{block_of-at, block_of-found}
+use Rattle.mapf_checker.proofs.StartLemmas.{block_of-found}
 
 -- an entry that isn't sound by itself isn't sound in its block
-pub unsound_entry : (problem : Instance) (here : NodeConstraints) (block : LabelBlock) (ground : Ground) (entries : List Entry) (place : ℕ) → ground.grid.now ≡ problem.grid → bars_on ground ≡ here.bars block.agent → entries ≡ block.entries →
-    IsGoalOf problem block.agent ground.goal → IsUnsoundAt ground entries place → HasUnsoundEntry problem here block
-unsound_entry problem here block ground entries place on under these (agent, is_agent, is_goal) bad =
+pub unsound_entry : (problem : Instance) (here : NodeConstraints) (block : LabelBlock) (own : AgentProblem) (entries : List Entry) (place : ℕ) → own.grid.now ≡ problem.grid → bars_on own ≡ here.bars block.agent → entries ≡ block.entries →
+    IsGoalOf problem block.agent own.goal → IsUnsoundAt own entries place → HasUnsoundEntry problem here block
+unsound_entry problem here block own entries place on under these (agent, is_agent, is_goal) bad =
     let is = subst (λ es. slice_get es place ≡ Some bad.entry) these bad.is_entry in
     record {
       agent = agent;
@@ -27,8 +25,8 @@ unsound_entry problem here block ground entries place on under these (agent, is_
       entry = bad.entry;
       listed = (place, slice_get_within block.entries place bad.entry is, get_or_from_slice_get block.entries place bad.entry bad.entry is);
       unsound = λ sound. bad.unsound
-          (subst (λ g. IsSoundEntry g ground.goal (bars_on ground) (entries_of entries) bad.entry.cell bad.entry.tick bad.entry.label) (sym on)
-          (subst (λ goal. IsSoundEntry problem.grid goal (bars_on ground) (entries_of entries) bad.entry.cell bad.entry.tick bad.entry.label) is_goal
+          (subst (λ g. IsSoundEntry g own.goal (bars_on own) (entries_of entries) bad.entry.cell bad.entry.tick bad.entry.label) (sym on)
+          (subst (λ goal. IsSoundEntry problem.grid goal (bars_on own) (entries_of entries) bad.entry.cell bad.entry.tick bad.entry.label) is_goal
           (subst (λ bars. IsSoundEntry problem.grid agent.goal bars (entries_of entries) bad.entry.cell bad.entry.tick bad.entry.label) (sym under)
           (subst (λ es. IsSoundEntry problem.grid agent.goal (here.bars block.agent) (entries_of es) bad.entry.cell bad.entry.tick bad.entry.label) (sym these) sound))));
     }
@@ -45,12 +43,6 @@ module _ (problem : Instance) (here : NodeConstraints) (blocks : List LabelBlock
   pub blocks_of_agents : All (IsGoodBlock problem here) blocks → AreOfAgents problem blocks
   blocks_of_agents good k d within = let (a, is_a, sound) = good k d within in slice_get_within problem.agents (slice_index_or blocks k d).agent a is_a
 
-  pub blocks_good : AllPairs (λ a b. a.agent < b.agent) blocks → AreOfAgents problem blocks → AreBlocksSound problem here blocks → All (IsGoodBlock problem here) blocks
-  blocks_good rising of_agents sound k d within =
-      let block = slice_index_or blocks k d in
-      let (agent, is_agent) = slice_get_inside problem.agents block.agent (of_agents k d within) in
-      (agent, is_agent, sound block.agent agent block is_agent (block_of-at blocks block.agent k block rising within (λ e. get_or_default blocks k e d within) refl))
-
   pub rising_differ : AllPairs (λ a b. a.agent < b.agent) blocks → AreOfDifferentAgents blocks
   rising_differ rising i j d order within same = let h = rising i j d order within in omega (arith, h, same)
 
@@ -61,9 +53,3 @@ module _ (problem : Instance) (claim : Claim) (here : NodeConstraints) (blocks :
     proper = (rising_differ problem here blocks rising, blocks_of_agents problem here blocks good);
     nodes = (blocks_sound problem here blocks good, starts);
   }
-
-  pub leaf_good : ShowsFrom problem claim here (Leaf blocks) → All (IsGoodBlock problem here) blocks
-  leaf_good shows = blocks_good problem here blocks rising shows.proper.1 shows.nodes.0
-
-  pub leaf_starts : ShowsFrom problem claim here (Leaf blocks) → StartsShow problem claim (with_blocks blocks no_entries)
-  leaf_starts shows = shows.nodes.1

@@ -1,5 +1,5 @@
 -- A certificate's header and tree together.
-use Rattle.std.proofs.Common.{◌≡◌, ℕ, Bool, List, [], ◌∷◌, ◌++◌, Option, Some, None, IfSome, length, refl, sym, ◌∙◌, ap, subst}
+use Rattle.std.proofs.Common.{◌≡◌, ◌≤◌, ℕ, Bool, List, [], ◌∷◌, ◌++◌, Option, Some, None, IfSome, length, refl, sym, ◌∙◌, ap, subst, arith}
 use Rattle.std.proofs.lemmas.Option.{same_Some}
 use Rattle.mapf_model.specs.declared.item.Claim.{Claim}
 use Rattle.mapf_model.specs.Laws.{FrontDecides, TreeIsUnique}
@@ -130,6 +130,12 @@ module _ (problem : Instance) (claim : Claim) (had : Option (List ℕ)) (start :
         let (tree, spells, is) = spelled_awaited problem claim had start opened bytes known (length problem.agents) claim judged.nodes (takes.joins bytes known judged.nodes (judged.read rest known_mid)) in
         let (shown, is_shown, shows) = ((law problem claim).whole judged.nodes).0 judged.shows in
         record { tree = tree; spelled = spells; shows = subst (λ t. Shows problem claim t) (unique shown tree (sym is_shown ∙ is)) shows }
+
+    -- and has no more bytes than are allowed
+    pub cert_within : IsJudgedTree problem claim mid headed → (bytes : List ℕ) → had ≡ Some bytes → length bytes ≤ start.buffer.left
+    cert_within judged bytes known =
+        let (rest, known_mid, same, count) = Window-known had mid start.buffer headed.buffer (header_text start.width (length problem.agents) claim) bytes takes.window known in
+        omega (arith, count, judged.within rest known_mid)
 
 pub shown_tree : FrontDecides → (problem : Instance) (claim : Claim) (mid : Option (List ℕ)) (headed : Reading) → IsJudgedTree problem claim mid headed → IsShown problem claim
 shown_tree law problem claim mid headed judged = let (tree, is, shows) = ((law problem claim).whole judged.nodes).0 judged.shows in (tree, shows)

@@ -10,12 +10,9 @@ use Rattle.mapf_checker.specs.declared.lawful.PathFault.{PathFault}
 use Rattle.mapf_checker.specs.declared.lawful.PathFault.TheVariants.{WrongStart, BadStep, WrongGoal}
 use Rattle.mapf_checker.specs.declared.plan_fault.PlanFault.{PlanFault}
 use Rattle.mapf_checker.specs.declared.plan_fault.PlanFault.TheVariants.{V1, V2, V3, V4, V5}
-use Rattle.mapf_checker.specs.declared.meeting.Kind.{Kind}
-use Rattle.mapf_checker.specs.declared.meeting.Kind.TheVariants.{InOneCell, Swapping}
-use Rattle.mapf_checker.specs.declared.meeting.Encounter.{Encounter}
 use Rattle.mapf_checker.specs.PathDefects.{HasPathDefect}
-use Rattle.mapf_checker.specs.Meetings.{IsEncounter, AreApart}
-use Rattle.mapf_checker.specs.Defects.{HasDefect, HaveMeeting, AreLawful, path_fault_of, meeting_fault_of}
+use Rattle.mapf_checker.specs.Meetings.{AreApart}
+use Rattle.mapf_checker.specs.Defects.{HasDefect, AreLawful, path_fault_of}
 use Rattle.mapf_checker.proofs.MeetingLemmas.{ConflictAt-sym}
 
 module _ (problem : Instance) (plan : List (List ℕ)) where
@@ -31,13 +28,6 @@ module _ (problem : Instance) (plan : List (List ℕ)) where
   unlawful_defect i agent path WrongStart is_agent is_path wrong = (agent, path, is_agent, is_path, wrong)
   unlawful_defect i agent path (BadStep tick) is_agent is_path wrong = (agent, path, is_agent, is_path, wrong)
   unlawful_defect i agent path WrongGoal is_agent is_path wrong = (agent, path, is_agent, is_path, wrong)
-
-  meeting_defect : (i j tick : ℕ) (kind : Kind) → HaveMeeting plan i j tick kind → HasDefect problem plan (meeting_fault_of i j tick kind)
-  meeting_defect i j tick InOneCell meet = meet
-  meeting_defect i j tick Swapping meet = meet
-
-  pub encounter_defect : (encounter : Encounter) → IsEncounter plan encounter → HasDefect problem plan (meeting_fault_of encounter.i encounter.j encounter.meeting.tick encounter.meeting.kind)
-  encounter_defect encounter is = meeting_defect encounter.i encounter.j encounter.meeting.tick encounter.meeting.kind (is.order, is.first, is.second, is.is_first, is.is_second, is.meet)
 
   -- one more lawful path
   pub lawful_more : (count : ℕ) (agent : Agent) (path : List ℕ) → AreLawful problem plan count → slice_get problem.agents count ≡ Some agent → slice_get plan count ≡ Some path →

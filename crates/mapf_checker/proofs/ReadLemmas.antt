@@ -16,7 +16,8 @@ use Rattle.mapf_certificate.specs.declared.cert.LinesFault.{LinesFault}
 use Rattle.mapf_certificate.specs.declared.cert.LinesFault.TheVariants.{Text, Device, TooLong, Memory}
 use Rattle.mapf_certificate.specs.declared.cert.CertFault.TheVariants as texts
 use Rattle.mapf_certificate.specs.CertReading.{Awaits, TakesNode, TakesEnd}
-use Rattle.mapf_certificate.specs.Certificates.{IsNode, node_text}
+use Rattle.mapf_certificate.specs.declared.line.Line.TheVariants as lines
+use Rattle.mapf_certificate.specs.Certificates.{IsNode, line_text, node_text}
 use Rattle.mapf_certificate.specs.Reading.{Reading, grid_at, agents_at}
 use Rattle.mapf_certificate.specs.Window.{Window, Fails, IsNoTextFault}
 use Rattle.mapf_certificate.proofs.CertTexts.{AreSized, tree_moved}
@@ -28,7 +29,7 @@ use Rattle.mapf_checker.specs.declared.tree.Progress.{Progress}
 use Rattle.mapf_checker.specs.CertJudging.{HasTreeRefusal, IsBetweenItems, IsJudgedTree, IsReadTo}
 use Rattle.mapf_checker.specs.Faults.{of_cert, IsOfJudging, IsNoRefusal, Stops}
 use Rattle.mapf_checker.specs.NodeDefects.{HasNodeDefect, IsGoodNode}
-use Rattle.mapf_checker.specs.Progress.{owed_after, owed_after_all, owed_at, owed_by, here_of}
+use Rattle.mapf_checker.specs.Progress.{constraints_after, constraints_after_all, owed_at, owed_by, here_of}
 use Rattle.mapf_checker.specs.Refusals.{HasBadNode}
 use Rattle.mapf_checker.specs.Way.{Place, place_of}
 use Rattle.mapf_checker.proofs.TreeLemmas.{judged_good, shown_good, defect_refutes_node}
@@ -82,7 +83,7 @@ module _ (problem : Instance) (claim : Claim) (had mid left : Option (List ℕ))
   taken : Window had left start.buffer new.buffer (flat_map (node_text start.width) so_far.given ++ node_text start.width node)
   taken = Window-trans had mid left start.buffer now.buffer new.buffer (flat_map (node_text start.width) so_far.given) (node_text start.width node) so_far.window (rw so_far.width at next.takes.read.window)
 
-  pub read_more : FrontDecides → new.width ≡ now.width → IsGoodNode problem claim (here_of progress) node → (after : List NodeConstraints) → after ≡ owed_after (owed_by progress) node → IsReadTo problem claim had left start new after
+  pub read_more : FrontDecides → new.width ≡ now.width → IsGoodNode problem claim (here_of progress) node → (after : List NodeConstraints) → after ≡ constraints_after (owed_by progress) node → IsReadTo problem claim had left start new after
   read_more law same_width good after is_after = record {
     given = so_far.given ++ node ∷ [];
     width = same_width ∙ so_far.width;
@@ -94,7 +95,7 @@ module _ (problem : Instance) (claim : Claim) (had mid left : Option (List ℕ))
     behind = λ bytes known rest awaits.
         let (had_left, known_mid, same, count) = Window-known had mid start.buffer now.buffer (flat_map (node_text start.width) so_far.given) bytes so_far.window known in
         subst (λ ns. Awaits had start ns) (sym (append_assoc so_far.given (node ∷ []) rest)) (so_far.behind bytes known (node ∷ rest) (next.takes.joins had_left known_mid rest awaits));
-    place = is_after ∙ ap (λ o. owed_after o node) so_far.place ∙ sym (owed_after_push (root ∷ []) so_far.given node);
+    place = is_after ∙ ap (λ o. constraints_after o node) so_far.place ∙ sym (constraints_after_push (root ∷ []) so_far.given node);
     shows = λ rest.
         let before = so_far.shows (node ∷ rest) in
         let here_on : NodesShow problem claim (owed_by progress) (node ∷ rest) ↔ NodesShow problem claim after rest = rw (is_after, is_owed) (judged_good law problem claim (here_of progress) (place_of progress.way).owed node good rest) in
@@ -104,9 +105,9 @@ module _ (problem : Instance) (claim : Claim) (had mid left : Option (List ℕ))
     flat_map-push f [] x = append-nil (f x)
     flat_map-push f (y ∷ xs) x = ap (λ l. f y ++ l) (flat_map-push f xs x) ∙ sym (append_assoc (f y) (flat_map f xs) (f x))
 
-    owed_after_push : (owed : List NodeConstraints) (xs : List Node) (x : Node) → owed_after_all owed (xs ++ x ∷ []) ≡ owed_after (owed_after_all owed xs) x
-    owed_after_push owed [] x = refl
-    owed_after_push owed (y ∷ xs) x = owed_after_push (owed_after owed y) xs x
+    constraints_after_push : (owed : List NodeConstraints) (xs : List Node) (x : Node) → constraints_after_all owed (xs ++ x ∷ []) ≡ constraints_after (constraints_after_all owed xs) x
+    constraints_after_push owed [] x = refl
+    constraints_after_push owed (y ∷ xs) x = constraints_after_push (constraints_after owed y) xs x
 
   -- it has a defect
   pub bad_node : (fault : CheckFault) → HasNodeDefect problem claim (here_of progress) node fault → (bytes : List ℕ) → had ≡ Some bytes → HasBadNode problem claim fault (start.buffer.bytes ++ bytes)
@@ -144,6 +145,11 @@ read_all law problem claim had mid left start now new owed count so_far takes = 
   read = λ bytes known.
       let (rest, known_mid, same, count) = Window-known had mid start.buffer now.buffer (flat_map (node_text start.width) so_far.given) bytes so_far.window known in
       subst (λ ns. Awaits had start ns) (append-nil so_far.given) (so_far.behind bytes known [] (takes.joins rest known_mid));
+  within = λ bytes known.
+      let (rest, known_mid, same, count) = Window-known had mid start.buffer now.buffer (flat_map (node_text start.width) so_far.given) bytes so_far.window known in
+      let (after, known_left, same_end, count_end) = Window-known mid left now.buffer new.buffer (line_text now.width lines.End) rest takes.read.window known_mid in
+      let none_left : after ≡ [] = rw known_left at takes.read.ended in
+      omega (arith, count, count_end, ap length none_left);
 } where
   none : (owed : List NodeConstraints) → length owed ≡ 0 → owed ≡ []
   none [] e = refl

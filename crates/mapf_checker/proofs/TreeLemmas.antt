@@ -14,7 +14,7 @@ use Rattle.mapf_model.specs.Tree.{Node, SplitNode, LeafNode, ClashNode, NodeCons
 use Rattle.mapf_certificate.specs.Certificates.{IsNode}
 use Rattle.mapf_checker.specs.declared.fault.CheckFault.{CheckFault}
 use Rattle.mapf_checker.specs.Way.{Place, IsSplit}
-use Rattle.mapf_checker.specs.Progress.{owed_after, owed_at}
+use Rattle.mapf_checker.specs.Progress.{constraints_after, owed_at}
 use Rattle.mapf_checker.specs.NodeDefects.{HasNodeDefect, HasUnsoundBlock, IsGoodNode}
 use Rattle.mapf_checker.proofs.EntryLemmas.{IsSoundEntry-at}
 use Rattle.mapf_checker.proofs.StartLemmas.{block_of-at}
@@ -24,21 +24,21 @@ on_ok (Ok x) f p = f p
 on_ok (Err e) f p = tt
 
 -- what is owed after a node
-pub owed_after_split : (conflict : Conflict) (is_over : Bool) (old new : Place) → is_over ≡ false → IsSplit old conflict new → owed_at is_over new ≡ owed_after (owed_at is_over old) (SplitNode conflict)
-owed_after_split conflict true old new going split = absurd cc
-owed_after_split conflict false old new going (here, owed) = cc
+pub constraints_after_split : (conflict : Conflict) (is_over : Bool) (old new : Place) → is_over ≡ false → IsSplit old conflict new → owed_at is_over new ≡ constraints_after (owed_at is_over old) (SplitNode conflict)
+constraints_after_split conflict true old new going split = absurd cc
+constraints_after_split conflict false old new going (here, owed) = cc
 
-pub owed_after_leaf : (blocks : List LabelBlock) (is_over : Bool) (old : Place) (owed : List NodeConstraints) → is_over ≡ false → owed ≡ old.owed → owed ≡ owed_after (owed_at is_over old) (LeafNode blocks)
-owed_after_leaf blocks true old owed going same = absurd cc
-owed_after_leaf blocks false old owed going same = same
+pub constraints_after_leaf : (blocks : List LabelBlock) (is_over : Bool) (old : Place) (owed : List NodeConstraints) → is_over ≡ false → owed ≡ old.owed → owed ≡ constraints_after (owed_at is_over old) (LeafNode blocks)
+constraints_after_leaf blocks true old owed going same = absurd cc
+constraints_after_leaf blocks false old owed going same = same
 
-pub owed_after_clash : (i j : ℕ) (is_over : Bool) (old : Place) (owed : List NodeConstraints) → is_over ≡ false → owed ≡ old.owed → owed ≡ owed_after (owed_at is_over old) (ClashNode i j)
-owed_after_clash i j true old owed going same = absurd cc
-owed_after_clash i j false old owed going same = same
+pub constraints_after_clash : (i j : ℕ) (is_over : Bool) (old : Place) (owed : List NodeConstraints) → is_over ≡ false → owed ≡ old.owed → owed ≡ constraints_after (owed_at is_over old) (ClashNode i j)
+constraints_after_clash i j true old owed going same = absurd cc
+constraints_after_clash i j false old owed going same = same
 
 module _ (law : FrontDecides) (problem : Instance) (claim : Claim) (here : NodeConstraints) (owed : List NodeConstraints) where
   -- whether the nodes from a good one on show the claim goes by those after it
-  pub judged_good : (node : Node) → IsGoodNode problem claim here node → (rest : List Node) → NodesShow problem claim (here ∷ owed) (node ∷ rest) ↔ NodesShow problem claim (owed_after (here ∷ owed) node) rest
+  pub judged_good : (node : Node) → IsGoodNode problem claim here node → (rest : List Node) → NodesShow problem claim (here ∷ owed) (node ∷ rest) ↔ NodesShow problem claim (constraints_after (here ∷ owed) node) rest
   judged_good (SplitNode conflict) good rest = let both = (law problem claim).at_split here owed conflict rest in (λ shows. (both.0 shows).1, λ shows. both.1 (good, shows))
   judged_good (LeafNode blocks) good rest = let both = (law problem claim).at_leaf here owed blocks rest in (λ shows. (both.0 shows).1, λ shows. both.1 (good, shows))
   judged_good (ClashNode i j) good rest = let both = (law problem claim).at_clash here owed i j rest in (λ shows. (both.0 shows).1, λ shows. both.1 (good, shows))

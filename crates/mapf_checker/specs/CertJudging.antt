@@ -1,5 +1,5 @@
 -- What is known of a certificate while it is judged.
-use Rattle.std.specs.Prelude.{◌≡◌, ◌≢◌, ◌↔◌, ℕ, false, List, [], ◌∷◌, ◌++◌, Option, Some, None, length}
+use Rattle.std.specs.Prelude.{◌≡◌, ◌≢◌, ◌↔◌, ◌≤◌, ℕ, false, List, [], ◌∷◌, ◌++◌, Option, Some, None, length}
 use Rattle.std.specs.List.{flat_map}
 use Rattle.mapf_model.specs.declared.item.Claim.{Claim}
 use Rattle.mapf_model.specs.Plan.{Instance}
@@ -12,7 +12,7 @@ use Rattle.mapf_certificate.specs.Window.{Window}
 use Rattle.mapf_checker.specs.declared.fault.CheckFault.{CheckFault}
 use Rattle.mapf_checker.specs.declared.fault.CheckFault.TheVariants.{C2, C3, C4, C6, C7, C8, C9}
 use Rattle.mapf_checker.specs.declared.tree.Progress.{Progress}
-use Rattle.mapf_checker.specs.Progress.{owed_after_all, owed_by, IsReady}
+use Rattle.mapf_checker.specs.Progress.{constraints_after_all, owed_by, IsReady}
 use Rattle.mapf_checker.specs.Refusals.{BeginsWithHeader, HasBadNode}
 
 -- nothing was read
@@ -50,11 +50,12 @@ HasTreeRefusal problem claim had reading (C8 line) = (bytes : List ℕ) → had 
 HasTreeRefusal problem claim had reading (C9 line) = (bytes : List ℕ) → had ≡ Some bytes → HasBadNode problem claim (C9 line) (reading.buffer.bytes ++ bytes)
 HasTreeRefusal problem claim had reading fault = ⊥
 
--- the nodes show the claim, and they are what the reader had before it
+-- the nodes show the claim, they are what the reader had before it, and no more bytes came than were left of the limit
 pub record IsJudgedTree (problem : Instance) (claim : Claim) (had : Option (List ℕ)) (reading : Reading) : Type 0 where
   pub nodes : List Node
   pub shows : NodesShow problem claim (root ∷ []) nodes
   pub read : (bytes : List ℕ) → had ≡ Some bytes → Awaits had reading nodes
+  pub within : (bytes : List ℕ) → had ≡ Some bytes → length bytes ≤ reading.buffer.left
 
 -- the header was read, and the reader and the judge wait for the same trees
 pub record IsBetweenItems (problem : Instance) (claim : Claim) (reading : Reading) (progress : Progress) : Type 0 where
@@ -74,5 +75,5 @@ pub record IsReadTo (problem : Instance) (claim : Claim) (had left : Option (Lis
   pub window : Window had left start.buffer reading.buffer (flat_map (node_text start.width) given)
   pub ahead : (nodes : List Node) → Awaits had start nodes → (rest : List Node) × (nodes ≡ given ++ rest) × Awaits left reading rest
   pub behind : (bytes : List ℕ) → had ≡ Some bytes → (rest : List Node) → Awaits left reading rest → Awaits had start (given ++ rest)
-  pub place : owed ≡ owed_after_all (root ∷ []) given
+  pub place : owed ≡ constraints_after_all (root ∷ []) given
   pub shows : (rest : List Node) → NodesShow problem claim (root ∷ []) (given ++ rest) ↔ NodesShow problem claim owed rest

@@ -6,7 +6,7 @@ pub mod Keys
 pub mod Index
 pub mod Way
 pub mod Order
-pub mod Ground
+pub mod AgentProblem
 pub mod Leaf
 pub mod NodeDefects
 pub mod Progress

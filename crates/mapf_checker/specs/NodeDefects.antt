@@ -9,14 +9,14 @@ use Rattle.mapf_model.specs.Plan.{Instance}
 use Rattle.mapf_model.specs.Tree.{Node, SplitNode, LeafNode, ClashNode, NodeConstraints, Leaf, IsProperSplit, ShareGoal, ShowsFrom, StartsShow, with_blocks, no_entries}
 use Rattle.mapf_checker.specs.declared.fault.CheckFault.{CheckFault}
 use Rattle.mapf_checker.specs.declared.fault.CheckFault.TheVariants.{C6, C7, C8, C9}
-use Rattle.mapf_checker.specs.declared.judge.Ground.{Ground}
-use Rattle.mapf_checker.specs.Ground.{bars_on}
+use Rattle.mapf_checker.specs.declared.judge.AgentProblem.{AgentProblem}
+use Rattle.mapf_checker.specs.AgentProblem.{bars_on}
 
 -- the entry in this place isn't sound
-pub record IsUnsoundAt (ground : Ground) (entries : List Entry) (place : ℕ) : Type 0 where
+pub record IsUnsoundAt (own : AgentProblem) (entries : List Entry) (place : ℕ) : Type 0 where
   pub entry : Entry
   pub is_entry : slice_get entries place ≡ Some entry
-  pub unsound : IsSoundEntry ground.grid.now ground.goal (bars_on ground) (entries_of entries) entry.cell entry.tick entry.label → ⊥
+  pub unsound : IsSoundEntry own.grid.now own.goal (bars_on own) (entries_of entries) entry.cell entry.tick entry.label → ⊥
 
 -- an entry of the block isn't sound under the bars of its agent
 pub record HasUnsoundEntry (problem : Instance) (here : NodeConstraints) (block : LabelBlock) : Type 0 where

@@ -7,15 +7,15 @@ use Rattle.mapf_checker.specs.Leaf.{AreTables}
 use Rattle.mapf_checker.specs.Way.{Place, place_of}
 
 -- the constraints of the trees that are still to come, in pre-order, after this node
-abbrev pub owed_after : List NodeConstraints → Node → List NodeConstraints
-owed_after [] node = []
-owed_after (here ∷ owed) (SplitNode conflict) = left_child_constraints here conflict ∷ right_child_constraints here conflict ∷ owed
-owed_after (here ∷ owed) (LeafNode blocks) = owed
-owed_after (here ∷ owed) (ClashNode i j) = owed
+abbrev pub constraints_after : List NodeConstraints → Node → List NodeConstraints
+constraints_after [] node = []
+constraints_after (here ∷ owed) (SplitNode conflict) = left_child_constraints here conflict ∷ right_child_constraints here conflict ∷ owed
+constraints_after (here ∷ owed) (LeafNode blocks) = owed
+constraints_after (here ∷ owed) (ClashNode i j) = owed
 
 -- after all of these nodes
-abbrev pub owed_after_all : List NodeConstraints → List Node → List NodeConstraints
-owed_after_all owed nodes = fold owed_after owed nodes
+abbrev pub constraints_after_all : List NodeConstraints → List Node → List NodeConstraints
+constraints_after_all owed nodes = fold constraints_after owed nodes
 
 -- the constraints of the trees that are still to come
 abbrev pub owed_at : Bool → Place → List NodeConstraints

@@ -15,7 +15,7 @@ use Rattle.mapf_checker.specs.declared.fault.CheckFault.TheVariants.{C1, C2, C3,
 use Rattle.mapf_checker.specs.declared.fault.Verdict.{Verdict}
 use Rattle.mapf_checker.specs.Defects.{HasDefect}
 use Rattle.mapf_checker.specs.NodeDefects.{HasNodeDefect}
-use Rattle.mapf_checker.specs.Progress.{owed_after_all}
+use Rattle.mapf_checker.specs.Progress.{constraints_after_all}
 use Rattle.mapf_checker.specs.Verdict.{IsGoodPlan, claim_of}
 
 -- the bytes spell this plan text for a grid of the problem's size
@@ -44,7 +44,7 @@ pub record HasBadNode (problem : Instance) (claim : Claim) (fault : CheckFault) 
   pub here : NodeConstraints
   pub owed : List NodeConstraints
   -- the node has these constraints
-  pub place : owed_after_all (root ∷ []) before ≡ here ∷ owed
+  pub place : constraints_after_all (root ∷ []) before ≡ here ∷ owed
   pub defect : HasNodeDefect problem claim here node fault
   pub rest : List ℕ
   pub spelled : bytes ≡ flat_map (node_text problem.grid.width) before ++ (node_text problem.grid.width node ++ rest)

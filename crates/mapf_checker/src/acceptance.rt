@@ -1,4 +1,4 @@
-ghost use Rattle.std.specs.Prelude.{◌≡◌, ◌⊎◌, ◌<◌, ℕ, List, Some, true, false, length, IfOk, IfErr, IsErrOf, MatchResult};
+ghost use Rattle.std.specs.Prelude.{◌≡◌, ◌⊎◌, ◌<◌, ◌≤◌, ℕ, List, Some, true, false, length, IfOk, IfErr, OnOk, IsErrOf, MatchResult};
 ghost use Rattle.std.specs.Io.KnownBytes.{Consumes};
 ghost use Rattle.mapf_checker.specs.declared.fault.Verdict.{Verdict};
 ghost use Rattle.mapf_checker.specs.Faults.{IfRefused, IsNoRefusal};
@@ -53,6 +53,8 @@ pub fn check_from<S: Source>(
     ensures accepted { (bytes : List ℕ) → S.remaining source.old ≡ Some bytes → IfOk result (AreAccepted problem.now plan_text.now bytes) }
     ensures only { (bytes : List ℕ) (verdict : Verdict) → S.remaining source.old ≡ Some bytes → AreAccepted problem.now plan_text.now bytes verdict → MatchResult result (λ given. given ≡ verdict) IsNoRefusal }
     ensures refused { IfErr result (IfRefused (HasRefusal problem.now plan_text.now (S.remaining source.old))) }
+    // A certificate that has more bytes than are allowed is never accepted.
+    ensures within { (bytes : List ℕ) → S.remaining source.old ≡ Some bytes → OnOk result (length bytes ≤ limit) }
     // Nothing is pulled where the plan text isn't good.
     ensures unpulled { ((verdict : Verdict) → IsGoodPlan problem.now plan_text.now verdict → ⊥) → source.new ≡ source.old }
     ensures device { IsErrOf result FromFault.Device → S.has_failed source.new ≡ true }

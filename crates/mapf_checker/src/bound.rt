@@ -4,14 +4,14 @@ ghost use Rattle.mapf_checker.specs.Bounds.{barred_cell, left_bound, right_bound
 use mapf_model::{Bar, Cell, Conflict, Tick};
 
 /// A bar and the agent that it binds.
-#[derive(Clone, Copy, Debug, PartialEq, Eq, Hash)]
+#[derive(Clone, Copy, PartialEq, Eq, Hash)]
 pub struct AgentBar {
     pub agent: u32,
     pub bar: Bar,
 }
 
 /// A cell, seen by one agent.
-#[derive(Clone, Copy, Debug, PartialEq, Eq, Hash)]
+#[derive(Clone, Copy, PartialEq, Eq, Hash)]
 pub struct AgentCell {
     pub agent: u32,
     pub cell: Cell,

@@ -1,4 +1,4 @@
-ghost use Rattle.std.specs.Prelude.{◌≡◌, ◌↔◌, ◌∷◌, ◌<◌, [], ℕ, List, Option, Some, false, length, IfErr, IfOk, OnOk, IsTrue, MatchBool};
+ghost use Rattle.std.specs.Prelude.{◌≡◌, ◌↔◌, ◌∷◌, ◌<◌, ◌≤◌, [], ℕ, List, Option, Some, false, length, IfErr, IfOk, OnOk, IsTrue, MatchBool};
 ghost use Rattle.mapf_certificate.specs.Buffered.{spare};
 ghost use Rattle.mapf_certificate.specs.CertReading.{Awaits, AwaitsCert, TakesHeader};
 ghost use Rattle.mapf_certificate.specs.Reading.{Reading};
@@ -27,6 +27,7 @@ pub fn judge_cert<S: Source>(
     requires { S.has_failed source.old ≡ false }
     ensures shown { OnOk result (IsShown problem.now claim.now) }
     ensures good { (bytes : List ℕ) → S.remaining source.old ≡ Some bytes → OnOk result (IsGoodCert problem.now claim.now bytes) }
+    ensures within { (bytes : List ℕ) → S.remaining source.old ≡ Some bytes → OnOk result (length bytes ≤ limit) }
     ensures only { (bytes : List ℕ) → S.remaining source.old ≡ Some bytes → IsGoodCert problem.now claim.now bytes → IfErr result IsNoRefusal }
     ensures stops { IfErr result (Stops (S.remaining source.old) (S.remaining source.new) (S.has_failed source.new) (record { bytes = []; left = limit })
         (HasCertRefusal problem.now claim.now (S.remaining source.old))) }

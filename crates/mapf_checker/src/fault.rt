@@ -12,7 +12,8 @@ pub enum Verdict {
 }
 
 /// Why two texts are not accepted. Lines are counted from 1. The variant `Memory` of a text's fault is
-/// never in here.
+/// never in here. It is proved that the texts are at fault so; that this fault is the first, in this
+/// line, is only tested.
 #[derive(Clone, Copy, Debug, PartialEq, Eq)]
 pub enum CheckFault {
     /// The plan text spells nothing.

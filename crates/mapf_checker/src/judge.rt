@@ -2,7 +2,7 @@ ghost use Rattle.std.specs.Prelude.{◌≡◌, ◌+◌, ◌<◌, ◌≤◌, ◌�
 ghost use Rattle.mapf_model.specs.Grid.{IsFree, Step};
 ghost use Rattle.mapf_model.specs.Labels.{entries_of, IsSoundEntry, IsWithinOne, MayGo};
 ghost use Rattle.mapf_model.specs.Printed.{IsBefore};
-ghost use Rattle.mapf_checker.specs.Ground.{IsGround, bars_on};
+ghost use Rattle.mapf_checker.specs.AgentProblem.{HasGoalDistances, bars_on};
 
 use crate::labels::{exceeds, is_within_one, label_at};
 use crate::way::Way;
@@ -10,9 +10,10 @@ use mapf_distance::Distances;
 use mapf_model::{Bar, Cell, Entry, Grid, laws};
 use std::alloc::Global;
 
-/// What the entries of one agent are judged against.
+/// What the entries of one agent are judged against: its own problem at a node of the tree, with the bars
+/// on the way there.
 #[derive(Drop)]
-pub struct Ground<'a> {
+pub struct AgentProblem<'a> {
     pub grid: &'a Grid,
     /// The distances to the agent's goal.
     pub distances: &'a Distances,
@@ -24,67 +25,67 @@ pub struct Ground<'a> {
 /// Whether the entry can stand in the block: its label exceeds the distance; and unless the state is
 /// barred, a later bar touches the goal where the agent would rest there, and no step that isn't
 /// barred lowers the label by more than one.
-pub fn is_sound(alloc: Global, ground: &Ground, entries: &[Entry], entry: &Entry) -> bool
-    requires ground { IsGround ground.now }
+pub fn is_sound(alloc: Global, own: &AgentProblem, entries: &[Entry], entry: &Entry) -> bool
+    requires distances { HasGoalDistances own.now }
     requires rising { AllPairs IsBefore entries.now }
     requires tick { entry.now.tick ≤ 9999999 }
-    ensures { IsTrue result ↔ IsSoundEntry ground.now.grid.now ground.now.goal (bars_on ground.now) (entries_of entries.now) entry.now.cell entry.now.tick entry.now.label }
+    ensures { IsTrue result ↔ IsSoundEntry own.now.grid.now own.now.goal (bars_on own.now) (entries_of entries.now) entry.now.cell entry.now.tick entry.now.label }
 {
-    let Some(distance) = ground.distances.get(entry.cell) else {
+    let Some(distance) = own.distances.get(entry.cell) else {
         return false;
     };
     if !exceeds(entry.label, distance) {
         return false;
     }
-    is_barred(ground, entry) || is_open_sound(alloc, ground, entries, entry)
+    is_barred(own, entry) || is_open_sound(alloc, own, entries, entry)
 }
 
-fn is_barred(ground: &Ground, entry: &Entry) -> bool
-    ensures { IsTrue result ↔ Contains (bars_on ground.now) (Bar.Cell entry.now.cell entry.now.tick) }
+fn is_barred(own: &AgentProblem, entry: &Entry) -> bool
+    ensures { IsTrue result ↔ Contains (bars_on own.now) (Bar.Cell entry.now.cell entry.now.tick) }
 {
     let bar = Bar::Cell {
         cell: entry.cell,
         tick: entry.tick,
     };
-    ground.way.has(ground.agent, bar)
+    own.way.has(own.agent, bar)
 }
 
 // Whether a state that isn't barred can have its label.
-fn is_open_sound(alloc: Global, ground: &Ground, entries: &[Entry], entry: &Entry) -> bool
-    requires ground { IsGround ground.now }
+fn is_open_sound(alloc: Global, own: &AgentProblem, entries: &[Entry], entry: &Entry) -> bool
+    requires distances { HasGoalDistances own.now }
     requires rising { AllPairs IsBefore entries.now }
     requires tick { entry.now.tick ≤ 9999999 }
-    requires free { IsFree ground.now.grid.now entry.now.cell }
-    ensures { IsTrue result ↔ ((entry.now.cell ≡ ground.now.goal → (later : ℕ) × (entry.now.tick ≤ later) × Contains (bars_on ground.now) (Bar.Cell ground.now.goal later))
-        × ((next : ℕ) → MayGo ground.now.grid.now (bars_on ground.now) entry.now.cell next entry.now.tick → IsWithinOne ground.now.grid.now ground.now.goal (entries_of entries.now) entry.now.label next (entry.now.tick + 1))) }
+    requires free { IsFree own.now.grid.now entry.now.cell }
+    ensures { IsTrue result ↔ ((entry.now.cell ≡ own.now.goal → (later : ℕ) × (entry.now.tick ≤ later) × Contains (bars_on own.now) (Bar.Cell own.now.goal later))
+        × ((next : ℕ) → MayGo own.now.grid.now (bars_on own.now) entry.now.cell next entry.now.tick → IsWithinOne own.now.grid.now own.now.goal (entries_of entries.now) entry.now.label next (entry.now.tick + 1))) }
 {
-    if entry.cell == ground.goal && !ground.way.has_from(ground.agent, ground.goal, entry.tick) {
+    if entry.cell == own.goal && !own.way.has_from(own.agent, own.goal, entry.tick) {
         return false;
     }
-    goes_on(alloc, ground, entries, entry)
+    goes_on(alloc, own, entries, entry)
 }
 
 // Whether the label is within one of that after each step that isn't barred.
-fn goes_on(alloc: Global, ground: &Ground, entries: &[Entry], entry: &Entry) -> bool
-    requires ground { IsGround ground.now }
+fn goes_on(alloc: Global, own: &AgentProblem, entries: &[Entry], entry: &Entry) -> bool
+    requires distances { HasGoalDistances own.now }
     requires rising { AllPairs IsBefore entries.now }
     requires tick { entry.now.tick ≤ 9999999 }
-    requires free { IsFree ground.now.grid.now entry.now.cell }
-    ensures { IsTrue result ↔ ((next : ℕ) → MayGo ground.now.grid.now (bars_on ground.now) entry.now.cell next entry.now.tick → IsWithinOne ground.now.grid.now ground.now.goal (entries_of entries.now) entry.now.label next (entry.now.tick + 1)) }
+    requires free { IsFree own.now.grid.now entry.now.cell }
+    ensures { IsTrue result ↔ ((next : ℕ) → MayGo own.now.grid.now (bars_on own.now) entry.now.cell next entry.now.tick → IsWithinOne own.now.grid.now own.now.goal (entries_of entries.now) entry.now.label next (entry.now.tick + 1)) }
 {
-    let steps = ground.grid.steps(alloc, entry.cell);
-    steps_hold(steps.as_slice(), ground, entries, entry)
+    let steps = own.grid.steps(alloc, entry.cell);
+    steps_hold(steps.as_slice(), own, entries, entry)
 }
 
-fn steps_hold(steps: &[Cell], ground: &Ground, entries: &[Entry], entry: &Entry) -> bool
-    requires ground { IsGround ground.now }
+fn steps_hold(steps: &[Cell], own: &AgentProblem, entries: &[Entry], entry: &Entry) -> bool
+    requires distances { HasGoalDistances own.now }
     requires rising { AllPairs IsBefore entries.now }
     requires tick { entry.now.tick ≤ 9999999 }
-    requires steps { All (λ next. Step ground.now.grid.now entry.now.cell next) steps.now }
-    ensures { IsTrue result ↔ All (λ next. MayGo ground.now.grid.now (bars_on ground.now) entry.now.cell next entry.now.tick → IsWithinOne ground.now.grid.now ground.now.goal (entries_of entries.now) entry.now.label next (entry.now.tick + 1)) steps.now }
+    requires steps { All (λ next. Step own.now.grid.now entry.now.cell next) steps.now }
+    ensures { IsTrue result ↔ All (λ next. MayGo own.now.grid.now (bars_on own.now) entry.now.cell next entry.now.tick → IsWithinOne own.now.grid.now own.now.goal (entries_of entries.now) entry.now.label next (entry.now.tick + 1)) steps.now }
 {
     for next in steps {
-        if !step_holds(ground, entries, entry, *next) {
+        if !step_holds(own, entries, entry, *next) {
             return false;
         }
     }
@@ -92,16 +93,16 @@ fn steps_hold(steps: &[Cell], ground: &Ground, entries: &[Entry], entry: &Entry)
 }
 
 // Whether the label is within one of that after this step, or the step is barred.
-fn step_holds(ground: &Ground, entries: &[Entry], entry: &Entry, next: Cell) -> bool
-    requires ground { IsGround ground.now }
+fn step_holds(own: &AgentProblem, entries: &[Entry], entry: &Entry, next: Cell) -> bool
+    requires distances { HasGoalDistances own.now }
     requires rising { AllPairs IsBefore entries.now }
     requires tick { entry.now.tick ≤ 9999999 }
-    requires step { Step ground.now.grid.now entry.now.cell next }
-    ensures { IsTrue result ↔ (MayGo ground.now.grid.now (bars_on ground.now) entry.now.cell next entry.now.tick → IsWithinOne ground.now.grid.now ground.now.goal (entries_of entries.now) entry.now.label next (entry.now.tick + 1)) }
+    requires step { Step own.now.grid.now entry.now.cell next }
+    ensures { IsTrue result ↔ (MayGo own.now.grid.now (bars_on own.now) entry.now.cell next entry.now.tick → IsWithinOne own.now.grid.now own.now.goal (entries_of entries.now) entry.now.label next (entry.now.tick + 1)) }
 {
     laws::definitions_are_decided();
     // Few steps are barred, and a label tells more often than a bar.
-    let after = label_at(entries, ground.distances, next, entry.tick + 1);
+    let after = label_at(entries, own.distances, next, entry.tick + 1);
     if is_within_one(entry.label, after) {
         return true;
     }
@@ -109,7 +110,7 @@ fn step_holds(ground: &Ground, entries: &[Entry], entry: &Entry, next: Cell) -> 
         cell: next,
         tick: entry.tick + 1,
     };
-    if ground.way.has(ground.agent, arrival) {
+    if own.way.has(own.agent, arrival) {
         return true;
     }
     let departure = Bar::Move {
@@ -117,5 +118,5 @@ fn step_holds(ground: &Ground, entries: &[Entry], entry: &Entry, next: Cell) -> 
         to: next,
         tick: entry.tick,
     };
-    ground.way.has(ground.agent, departure)
+    own.way.has(own.agent, departure)
 }

@@ -7,7 +7,7 @@ use crate::step::is_step;
 use mapf_model::{Agent, Cell, Grid, Path, Tick, laws};
 
 /// What is wrong with one agent's path.
-#[derive(Clone, Copy, Debug, PartialEq, Eq)]
+#[derive(Clone, Copy)]
 pub enum PathFault {
     WrongStart,
     BadStep { tick: Tick },

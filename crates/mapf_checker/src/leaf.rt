@@ -4,13 +4,13 @@ ghost use Rattle.mapf_model.specs.declared.item.Claim.{Claim};
 ghost use Rattle.mapf_model.specs.Labels.{entries_of, AreSound, label_plus};
 ghost use Rattle.mapf_model.specs.Printed.{IsBefore, IsBlockInRange, AreBlocksInRange};
 ghost use Rattle.mapf_model.specs.Tree.{ShowsFrom, Leaf, LeafNode};
-ghost use Rattle.mapf_checker.specs.Ground.{IsGround, bars_on};
+ghost use Rattle.mapf_checker.specs.AgentProblem.{HasGoalDistances, bars_on};
 ghost use Rattle.mapf_checker.specs.Leaf.{AreTables, IsGoodBlock, IsStartTotal, IsEnough, IsGoalOf, IsStartOf, IsStartLabel, IsCut, TakesBlock, LeavesBlock, label_of};
 ghost use Rattle.mapf_checker.specs.NodeDefects.{HasNodeDefect, HasUnsoundBlock, HasUnsoundEntry, IsUnsoundAt};
 ghost use Rattle.mapf_checker.specs.Way.{place_of};
 
 use crate::fault::CheckFault;
-use crate::judge::{Ground, is_sound};
+use crate::judge::{AgentProblem, is_sound};
 use crate::labels::{distance_label, label_at};
 use crate::way::Way;
 use mapf_distance::Distances;
@@ -96,14 +96,14 @@ fn judge_block(
 {
     let agent = agent_of(block);
     let goal = goal_of(problem, agent);
-    let ground = Ground {
+    let own = AgentProblem {
         grid: problem.grid(),
         distances: &tables[agent as usize],
         way,
         agent,
         goal,
     };
-    match first_unsound(alloc, &ground, entries_in(block)) {
+    match first_unsound(alloc, &own, entries_in(block)) {
         Some(k) => Err(line.saturating_add(k as u64).saturating_add(1)),
         None => Ok(()),
     }
@@ -129,15 +129,15 @@ fn goal_of(problem: &Problem, agent: u32) -> Cell
 }
 
 // The place of the first entry of a block that isn't sound.
-fn first_unsound(alloc: Global, ground: &Ground, entries: &[Entry]) -> Option<usize>
-    requires ground { IsGround ground.now }
+fn first_unsound(alloc: Global, own: &AgentProblem, entries: &[Entry]) -> Option<usize>
+    requires distances { HasGoalDistances own.now }
     requires rising { AllPairs IsBefore entries.now }
     requires ticks { All (λ entry. entry.tick ≤ 9999999) entries.now }
-    ensures none { IfNone result (AreSound ground.now.grid.now ground.now.goal (bars_on ground.now) (entries_of entries.now)) }
-    ensures some { IfSome result (IsUnsoundAt ground.now entries.now) }
+    ensures none { IfNone result (AreSound own.now.grid.now own.now.goal (bars_on own.now) (entries_of entries.now)) }
+    ensures some { IfSome result (IsUnsoundAt own.now entries.now) }
 {
     for k in 0..entries.len() {
-        if !is_sound(alloc, ground, entries, &entries[k]) {
+        if !is_sound(alloc, own, entries, &entries[k]) {
             return Some(k);
         }
     }

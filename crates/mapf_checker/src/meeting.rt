@@ -5,7 +5,7 @@ ghost use Rattle.mapf_checker.specs.Meetings.{Meet, IsEncounter, AreApart};
 use mapf_model::{Path, Tick};
 
 /// How two agents are in conflict, the kind that is named first before the other.
-#[derive(Clone, Copy, Debug, PartialEq, Eq, PartialOrd, Ord)]
+#[derive(Clone, Copy, PartialEq, Eq, PartialOrd, Ord)]
 pub enum Kind {
     /// They are in one cell.
     InOneCell,
@@ -14,14 +14,14 @@ pub enum Kind {
 }
 
 /// When and how two agents are in conflict, in the order of the ticks.
-#[derive(Clone, Copy, Debug, PartialEq, Eq, PartialOrd, Ord)]
+#[derive(Clone, Copy, PartialEq, Eq, PartialOrd, Ord)]
 pub struct Meeting {
     pub tick: Tick,
     pub kind: Kind,
 }
 
 /// A conflict of agents `i` and `j`.
-#[derive(Clone, Copy, Debug, PartialEq, Eq)]
+#[derive(Clone, Copy)]
 pub struct Encounter {
     pub meeting: Meeting,
     pub i: u32,

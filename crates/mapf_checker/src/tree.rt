@@ -28,7 +28,7 @@ pub struct Progress {
 }
 
 impl Progress {
-    ghost use Rattle.mapf_checker.specs.Progress.{owed_by, owed_after, here_of, IsReady};
+    ghost use Rattle.mapf_checker.specs.Progress.{owed_by, constraints_after, here_of, IsReady};
 
     /// Before the root.
     pub fn new(alloc: Global) -> Progress
@@ -55,7 +55,7 @@ impl Progress {
         requires going { self.old.is_over ≡ false }
         requires node { IsNode problem.now.grid (length problem.now.agents) (node_of item.now) }
         ensures ready { OnOk result (IsReady problem.now self.new) }
-        ensures owed { OnOk result (owed_by self.new ≡ owed_after (owed_by self.old) (node_of item.now)) }
+        ensures owed { OnOk result (owed_by self.new ≡ constraints_after (owed_by self.old) (node_of item.now)) }
         ensures good { OnOk result (IsGoodNode problem.now claim.now (here_of self.old) (node_of item.now)) }
         ensures refused { IfErr result (IsOfJudging (HasNodeDefect problem.now claim.now (here_of self.old) (node_of item.now))) }
     {
@@ -93,7 +93,7 @@ impl Progress {
     fn split(&mut self, problem: &Problem, conflict: &Conflict, line: u64) -> Result<(), FromFault>
         requires going { self.old.is_over ≡ false }
         ensures tables { self.new.tables.items ≡ self.old.tables.items }
-        ensures owed { OnOk result (owed_by self.new ≡ owed_after (owed_by self.old) (SplitNode conflict.now)) }
+        ensures owed { OnOk result (owed_by self.new ≡ constraints_after (owed_by self.old) (SplitNode conflict.now)) }
         ensures good { OnOk result (IsProperSplit problem.now conflict.now) }
         ensures refused { (claim : Claim) → IfErr result (IsOfJudging (HasNodeDefect problem.now claim (here_of self.old) (SplitNode conflict.now))) }
     {
@@ -118,7 +118,7 @@ impl Progress {
         requires going { self.old.is_over ≡ false }
         requires blocks { AreBlocksInRange problem.now.grid (length problem.now.agents) blocks.now }
         ensures ready { OnOk result (IsReady problem.now self.new) }
-        ensures owed { OnOk result (owed_by self.new ≡ owed_after (owed_by self.old) (LeafNode blocks.now)) }
+        ensures owed { OnOk result (owed_by self.new ≡ constraints_after (owed_by self.old) (LeafNode blocks.now)) }
         ensures good { OnOk result (IsGoodNode problem.now claim.now (here_of self.old) (LeafNode blocks.now)) }
         ensures refused { IfErr result (IsOfJudging (HasNodeDefect problem.now claim.now (here_of self.old) (LeafNode blocks.now))) }
     {
@@ -158,7 +158,7 @@ impl Progress {
     fn clash(&mut self, problem: &Problem, i: u32, j: u32, line: u64) -> Result<(), FromFault>
         requires going { self.old.is_over ≡ false }
         ensures tables { self.new.tables.items ≡ self.old.tables.items }
-        ensures owed { OnOk result (owed_by self.new ≡ owed_after (owed_by self.old) (ClashNode i j)) }
+        ensures owed { OnOk result (owed_by self.new ≡ constraints_after (owed_by self.old) (ClashNode i j)) }
         ensures good { OnOk result (ShareGoal problem.now i j) }
         ensures refused { (claim : Claim) → IfErr result (IsOfJudging (HasNodeDefect problem.now claim (here_of self.old) (ClashNode i j))) }
     {

@@ -7,7 +7,7 @@ use std::alloc::Global;
 use std::marker::Model;
 
 /// One step on the way from the root of a constraint tree: into a child of a split.
-#[derive(Clone, Copy, Debug)]
+#[derive(Clone, Copy)]
 pub struct Turn {
     /// What the child bars, and to whom.
     pub bound: AgentBar,

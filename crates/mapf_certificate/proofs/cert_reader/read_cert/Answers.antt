@@ -1,8 +1,6 @@
-use Rattle.std.proofs.Common.{◌≤◌, ℕ, Some, false, length, ap, sym, subst, refl, map, le_refl}
+use Rattle.std.proofs.Common.{Some, length, map}
 use Rattle.mapf_model.specs.Tree.{node_of, nodes_of}
-use Rattle.mapf_certificate.specs.Reading.{Reading}
 use Rattle.mapf_certificate.proofs.CertTexts.{spells_from_awaits, awaits_from_spells}
-use Rattle.mapf_certificate.proofs.Collecting.{only_memory}
 use Rattle.mapf_certificate.proofs.cert_reader.read_cert.Goals as goal
 
 pub returns-in-Ok-collect-clause-found : goal.returns-in-Ok-collect-clause-found
@@ -19,11 +17,8 @@ returns-in-Ok-collect-clause-only c = λ agents claim tree spells.
     c.in-Ok-collect.ensures.only agents claim (nodes_of tree)
     (awaits_from_spells c.args.grid.now c.width.result c.height.result (length bytes) agents claim tree (Some c.of-source.result.bytes.now) bytes c.in-Ok.lines c.in-Ok.ensures c.width.ensures.width c.height.ensures.height c.of-source.ensures.bytes spells)
 
-pub returns-clause-only : goal.returns-clause-only
-returns-clause-only c = λ agents claim tree spells.
+pub returns-in-Err-Text-clause-only : goal.returns-in-Err-Text-clause-only
+returns-in-Err-Text-clause-only c agents claim tree spells =
     let bytes = c.args.bytes.now in
-    let known = c.of-source.ensures.bytes in
-    let no_text = c.in-Err.ensures.only agents claim (nodes_of tree)
-    (awaits_from_spells c.args.grid.now c.width.result c.height.result (length bytes) agents claim tree (Some c.of-source.result.bytes.now) bytes c.in-Ok.lines c.in-Ok.ensures c.width.ensures.width c.height.ensures.height known spells) in
-    let enough : length bytes ≤ c.in-Ok.lines.buffer.left = subst (λ (n : ℕ). length bytes ≤ n) (sym (ap (λ (r : Reading). r.buffer.left) c.in-Ok.ensures)) (le_refl (length bytes)) in
-    c.fault_in_memory.ensures (only_memory (Some c.of-source.result.bytes.now) (Some c.collect.new.source.bytes.now) false c.in-Ok.lines.buffer bytes c.in-Err.fault no_text c.in-Err.ensures.stops refl known enough)
+    absurd (rw c.in-Err-Text.field-0-is at (c.in-Err-Text.ensures.only agents claim (nodes_of tree)
+    (awaits_from_spells c.args.grid.now c.width.result c.height.result (length bytes) agents claim tree (Some c.of-source.result.bytes.now) bytes c.in-Ok.lines c.in-Ok.ensures c.width.ensures.width c.height.ensures.height c.of-source.ensures.bytes spells)))

@@ -5,7 +5,7 @@ use Rattle.mapf_certificate.specs.Certificates.{header_text}
 use Rattle.mapf_checker.specs.CertJudging.{IsOpened}
 use Rattle.mapf_checker.specs.Faults.{IsNoRefusal, Stops}
 use Rattle.mapf_checker.specs.Refusals.{HasCertRefusal}
-use Rattle.mapf_checker.proofs.CertLemmas.{awaits_spelled, good_cert, header_refusal, nodes_show, refusal_of_tree, shown_tree, stops_after, stops_as}
+use Rattle.mapf_checker.proofs.CertLemmas.{awaits_spelled, cert_within, good_cert, header_refusal, nodes_show, refusal_of_tree, shown_tree, stops_after, stops_as}
 use Rattle.mapf_checker.proofs.ReadLemmas.{err_passed, err_made}
 use Rattle.mapf_checker.proofs.TreeLemmas.{on_ok}
 use Rattle.mapf_checker.proofs.cert_judge.judge_cert.Goals as goal
@@ -40,6 +40,16 @@ returns-clause-good g c bytes known =
     let start = c.in_ok-lines.lines in
     let opened : IsOpened problem start = search rules in
     on_ok c.judge_tree.result (λ judged. good_cert problem claim had start opened mid c.judge_header.new.lines c.in_ok-judge_header.ensures.taken c.items_are_judged_by_front.ensures c.tree_is_unique.ensures judged bytes known) c.judge_tree.ensures.judged
+
+pub returns-clause-within : goal.returns-clause-within
+returns-clause-within g c bytes known =
+    let problem = c.args.problem.now in
+    let claim = c.args.claim.now in
+    let had = (g.S.Source).remaining c.args.source.now in
+    let start = c.in_ok-lines.lines in
+    let opened : IsOpened problem start = search rules in
+    let within = cert_within problem claim had start opened ((g.S.Source).remaining c.judge_header.new.source) c.judge_header.new.lines c.in_ok-judge_header.ensures.taken in
+    on_ok c.judge_tree.result (λ judged. rw c.in_ok-lines.ensures at (within judged bytes known)) c.judge_tree.ensures.judged
 
 pub returns-clause-only : goal.returns-clause-only
 returns-clause-only g c bytes known good =

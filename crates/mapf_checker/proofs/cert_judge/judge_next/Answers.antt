@@ -1,4 +1,4 @@
-use Rattle.std.proofs.Common.{List, Some, length, refl, sym, ◌∙◌, rules}
+use Rattle.std.proofs.Common.{length}
 use Rattle.mapf_model.specs.Tree.{node_of}
 use Rattle.mapf_certificate.specs.CertReading.{IsRestAt}
 use Rattle.mapf_certificate.specs.Certificates.{IsNode}
@@ -16,7 +16,7 @@ returns-in_err-item-clause-only g c had start nodes so_far awaits shows =
     let between = c.requires.between in
     let fault = c.in_err-item.field-0.0 in
     let none = none_awaited c.args.problem.now c.args.claim.now had ((g.S.Source).remaining c.args.source.now) start c.args.lines.now (owed_by c.args.progress.now) fault so_far
-        (λ other rest there. c.in_err-item.ensures.only_item other rest between.fault between.part there) (λ there. c.in_err-item.ensures.only_end between.fault between.part there) in
+    (λ other rest there. c.in_err-item.ensures.only_item other rest between.fault between.part there) (λ there. c.in_err-item.ensures.only_end between.fault between.part there) in
     err_passed c.from_residual.result IsNoRefusal (of_cert fault) c.from_residual.ensures.1 (no_refusal fault (none nodes awaits))
 
 pub returns-in_err-item-clause-stops : goal.returns-in_err-item-clause-stops
@@ -30,7 +30,7 @@ returns-in_err-item-clause-stops g c had start so_far =
     let now = c.args.lines.now in
     let fault = c.in_err-item.field-0.0 in
     let none = none_awaited problem claim had mid start now (owed_by c.args.progress.now) fault so_far
-        (λ other rest there. c.in_err-item.ensures.only_item other rest between.fault between.part there) (λ there. c.in_err-item.ensures.only_end between.fault between.part there) in
+    (λ other rest there. c.in_err-item.ensures.only_item other rest between.fault between.part there) (λ there. c.in_err-item.ensures.only_end between.fault between.part there) in
     err_passed c.from_residual.result (Stops had left failed start.buffer (HasTreeRefusal problem claim had start)) (of_cert fault) c.from_residual.ensures.1
     (stops_reading problem claim had left failed start mid now _ (IsRestAt now) fault so_far.window (c.in_err-item.ensures.fails between.fault) none)
 

@@ -58,13 +58,13 @@ returns-clause-item g c =
     let sizes = sizes_at i.width i.height i.header c.unwrap-agents.result c.self.invariant.columns c.self.invariant.rows c.self.invariant.agents c.unwrap-agents.ensures in
     let old : Reading = record { width = i.width; height = i.height; buffer = i.lines.buffer; header = i.header; fault = i.fault; is_whole = i.is_whole; owed = i.owed } in
     let bounds : Bounds sizes old = record { grid = refl; agents = ap agents_in c.unwrap-agents.ensures } in
-    let new : Reading = record { width = i.width; height = i.height; buffer = c.item_of.new.lines.buffer; header = i.header; fault = i.fault; is_whole = i.is_whole; owed = c.owed_after-self-inside.result } in
+    let new : Reading = record { width = i.width; height = i.height; buffer = c.item_of.new.lines.buffer; header = i.header; fault = i.fault; is_whole = i.is_whole; owed = c.trees_owed_after-self-inside.result } in
     let node = node_of c.in_ok-item.item in
     let on : Continues old new = record { grid = refl; agents = refl } in
     let some : 1 ≤ i.owed = omega (arith, c.if-self-eq0.false) in
     let mid = s.remaining c.next.new.source in
     let left = s.remaining c.item_of.new.source in
-    let read : ReadsNode had left old new node = reads_node sizes had mid left old new c.next.new.self.buffer c.in_ok-line.line node bounds refl c.in_ok-line.ensures.taken c.in_ok-item.ensures.item some c.owed_after-self-inside.ensures in
+    let read : ReadsNode had left old new node = reads_node sizes had mid left old new c.next.new.self.buffer c.in_ok-line.line node bounds refl c.in_ok-line.ensures.taken c.in_ok-item.ensures.item some c.trees_owed_after-self-inside.ensures in
     let P : Reading → Type 0 = λ r. TakesNode had left r new node in
     subst P c.self.view_is (record { read = read; joins = node_joins had left old new node on read })
 
@@ -76,12 +76,12 @@ returns-clause-same g c =
     let sizes = sizes_at i.width i.height i.header c.unwrap-agents.result c.self.invariant.columns c.self.invariant.rows c.self.invariant.agents c.unwrap-agents.ensures in
     let old : Reading = record { width = i.width; height = i.height; buffer = i.lines.buffer; header = i.header; fault = i.fault; is_whole = i.is_whole; owed = i.owed } in
     let bounds : Bounds sizes old = record { grid = refl; agents = ap agents_in c.unwrap-agents.ensures } in
-    let new : Reading = record { width = i.width; height = i.height; buffer = c.item_of.new.lines.buffer; header = i.header; fault = i.fault; is_whole = i.is_whole; owed = c.owed_after-self-inside.result } in
+    let new : Reading = record { width = i.width; height = i.height; buffer = c.item_of.new.lines.buffer; header = i.header; fault = i.fault; is_whole = i.is_whole; owed = c.trees_owed_after-self-inside.result } in
     let node = node_of c.in_ok-item.item in
     let on : Continues old new = record { grid = refl; agents = refl } in
     let some : 1 ≤ i.owed = omega (arith, c.if-self-eq0.false) in
     let mid = s.remaining c.next.new.source in
     let left = s.remaining c.item_of.new.source in
-    let read : ReadsNode had left old new node = reads_node sizes had mid left old new c.next.new.self.buffer c.in_ok-line.line node bounds refl c.in_ok-line.ensures.taken c.in_ok-item.ensures.item some c.owed_after-self-inside.ensures in
+    let read : ReadsNode had left old new node = reads_node sizes had mid left old new c.next.new.self.buffer c.in_ok-line.line node bounds refl c.in_ok-line.ensures.taken c.in_ok-item.ensures.item some c.trees_owed_after-self-inside.ensures in
     let P : Reading → Type 0 = λ r. (due : Node) (nodes : List Node) → Awaits had r (due ∷ nodes) → (node ≡ due) × Awaits left new nodes in
     subst P c.self.view_is (λ due nodes awaits. node_same sizes had left old new node due nodes bounds refl on read awaits)
