@@ -1,6 +1,5 @@
 -- What is known of bytes that a source tells.
-use Rattle.std.proofs.Common.{◌≡◌, ◌≢◌, ◌⊎◌, inl, inr, List, ℕ, None, Some, Option, Result, Ok, Err, IfSome, sym, subst}
-use Rattle.std.specs.Option.{IsSome}
+use Rattle.std.proofs.Common.{◌≡◌, ◌≢◌, ◌⊎◌, inl, inr, List, ℕ, None, Some, Option, Result, Ok, Err, IfSome, subst}
 use Rattle.mapf_app.specs.Faults.{IsReadingMap, IsReadingAgents, fault_of_map, fault_of_scenario}
 use Rattle.mapf_app.specs.Problems.{IsMapDefect, IsAgentsDefect}
 use Rattle.mapf_model.specs.Grid.{GridMap}
@@ -18,11 +17,6 @@ pub told : (P : List ℕ → Type 0) (known : Option (List ℕ)) (text : List �
 told P None text same is = tt
 told P (Some bytes) text same is = subst P same is
 
--- and the other way round, where it told some
-pub of_told : (P : List ℕ → Type 0) (known : Option (List ℕ)) (text : List ℕ) → IfSome known (λ bytes. text ≡ bytes) → IsSome known → IfSome known P → P text
-of_told P None text same some is = absurd cc
-of_told P (Some bytes) text same some is = subst P (sym same) is
-
 -- bytes that are faulted spell nothing
 no_other : {A E : Type 0} (fault memory : E) (x : A) → fault ≢ memory → ◌≡◌ {A = Result A E} (Err fault) (Ok x) ⊎ ◌≡◌ {A = Result A E} (Err fault) (Err memory) → ⊥
 no_other fault memory x differ (inl is) = absurd cc
@@ -33,7 +27,7 @@ module _ (known : Option (List ℕ)) (text : List ℕ) (same : IfSome known (λ 
   map_defect fault differ only has = (
     differ,
     told (λ bytes. ((grid : GridMap) → SpellsMap bytes grid → ⊥) × HasMapFault (lines_of bytes) fault) known text same
-    (λ grid spells. no_other fault Memory grid differ (only grid spells), has),
+        (λ grid spells. no_other fault Memory grid differ (only grid spells), has),
   )
 
   -- a map's fault by its name among those of a run
@@ -54,7 +48,7 @@ module _ (known : Option (List ℕ)) (text : List ℕ) (same : IfSome known (λ 
   agents_defect fault differ only has = (
     differ,
     told (λ bytes. ((problem : Instance) → SpellsScenario bytes grid count problem → ⊥) × HasScenarioFault grid (filled_lines bytes) count fault) known text same
-    (λ problem spells. no_other fault scenario.Memory problem differ (only problem spells), has),
+        (λ problem spells. no_other fault scenario.Memory problem differ (only problem spells), has),
   )
 
   -- a scenario's fault by its name among those of a run

@@ -43,9 +43,9 @@ pub fn run_solve<M: Source, S: Source, P: Sink, C: Sink>(
     ensures due { (problem : Instance) → IsSome (M.remaining map.old) → IsSome (S.remaining scen.old) →
         SpellsProblem (M.remaining map.old) (S.remaining scen.old) k problem →
         MatchResult result (λ kind. (plan_text : List ℕ) × (cert_text : List ℕ)
-            × Prints problem limit kind plan_text cert_text
-            × Appends (P.contents plan_sink.old) (P.contents plan_sink.new) plan_text
-            × Appends (C.contents cert_sink.old) (C.contents cert_sink.new) cert_text) IsOfDevices }
+        × Prints problem limit kind plan_text cert_text
+        × Appends (P.contents plan_sink.old) (P.contents plan_sink.new) plan_text
+        × Appends (C.contents cert_sink.old) (C.contents cert_sink.new) cert_text) IsOfDevices }
     // Inputs of more bytes than the limit aren't read.
     ensures within { OnOk result (IsWithin (M.remaining map.old) TEXT_LIMIT × IsWithin (S.remaining scen.old) TEXT_LIMIT) }
     // On a limit nothing is asked of the certificate's sink.
