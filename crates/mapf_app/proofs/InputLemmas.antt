@@ -1,6 +1,5 @@
 -- What is known of bytes that a source tells.
-use Rattle.std.proofs.Common.{◌≡◌, ◌≢◌, ◌⊎◌, inl, inr, List, ℕ, None, Some, Option, Result, Ok, Err, IfSome, sym, subst}
-use Rattle.std.specs.Option.{IsSome}
+use Rattle.std.proofs.Common.{◌≡◌, ◌≢◌, ◌⊎◌, inl, inr, List, ℕ, None, Some, Option, Result, Ok, Err, IfSome, subst}
 use Rattle.mapf_app.specs.Faults.{IsReadingMap, IsReadingAgents, fault_of_map, fault_of_scenario}
 use Rattle.mapf_app.specs.Problems.{IsMapDefect, IsAgentsDefect}
 use Rattle.mapf_model.specs.Grid.{GridMap}
@@ -17,11 +16,6 @@ use Rattle.mapf_text.specs.declared.scenario_fault.ScenFault.TheVariants as scen
 pub told : (P : List ℕ → Type 0) (known : Option (List ℕ)) (text : List ℕ) → IfSome known (λ bytes. text ≡ bytes) → P text → IfSome known P
 told P None text same is = tt
 told P (Some bytes) text same is = subst P same is
-
--- and the other way round, where it told some
-pub of_told : (P : List ℕ → Type 0) (known : Option (List ℕ)) (text : List ℕ) → IfSome known (λ bytes. text ≡ bytes) → IsSome known → IfSome known P → P text
-of_told P None text same some is = absurd cc
-of_told P (Some bytes) text same some is = subst P (sym same) is
 
 -- bytes that are faulted spell nothing
 no_other : {A E : Type 0} (fault memory : E) (x : A) → fault ≢ memory → ◌≡◌ {A = Result A E} (Err fault) (Ok x) ⊎ ◌≡◌ {A = Result A E} (Err fault) (Err memory) → ⊥

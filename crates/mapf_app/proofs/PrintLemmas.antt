@@ -11,13 +11,9 @@ use Rattle.mapf_model.specs.declared.item.Claim.{Claim}
 use Rattle.mapf_model.specs.declared.item.Claim.TheVariants.{Cost, Impossible}
 use Rattle.mapf_model.specs.declared.item.Item.{Item}
 use Rattle.mapf_model.specs.Laws.{SumsAreOne}
-use Rattle.mapf_model.specs.Plan.{Instance, IsValid, IsSumOfCosts, SomePathEndsElsewhere}
+use Rattle.mapf_model.specs.Plan.{Instance, IsSumOfCosts}
 use Rattle.mapf_model.specs.Printed.{IsClaimInRange}
 use Rattle.mapf_model.specs.Tree.{ConstraintTree, node_of}
-
--- each path of a valid plan ends at its agent's goal
-pub valid_ends : (problem : Instance) (plan : List (List ℕ)) → IsValid problem plan → SomePathEndsElsewhere problem.agents plan → ⊥
-valid_ends problem plan valid (i, agent, path, is_agent, is_path, elsewhere) = elsewhere (valid.lawful i agent path is_agent is_path).goal
 
 -- the bytes of a certificate that can be printed spell it
 spells_cert : (problem : Instance) (claim : Claim) (items : List Item) (tree : ConstraintTree) (limit : ℕ) → IsTreeOf problem limit items tree → IsAgentCount (length problem.agents) → IsClaimInRange claim → (bytes : List ℕ) →

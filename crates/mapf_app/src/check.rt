@@ -1,9 +1,9 @@
-ghost use Rattle.std.specs.Prelude.{◌≡◌, ◌≤◌, false, IfOk, IfErr, IsErrOf, IsSome, MatchResult};
+ghost use Rattle.std.specs.Prelude.{◌≡◌, ◌≤◌, false, IfOk, IfErr, OnOk, IsErrOf, IsSome, MatchResult};
 ghost use Rattle.mapf_app.specs.Checked.{HasGoodPlan};
 ghost use Rattle.mapf_app.specs.Faults.{IsChecking, IsOfInput, IsOfMap, IsOfProblem};
 ghost use Rattle.mapf_app.specs.Headline.{JudgesTruly, IsDueVerdict};
 ghost use Rattle.mapf_app.specs.Problems.{SpellsProblem};
-ghost use Rattle.mapf_app.specs.Unreadable.{IsUnreadable};
+ghost use Rattle.mapf_app.specs.Unreadable.{IsUnreadable, IsWithin};
 ghost use Rattle.mapf_checker.specs.declared.fault.Verdict.{Verdict};
 ghost use Rattle.mapf_model.specs.Plan.{Instance};
 
@@ -35,6 +35,9 @@ pub fn run_check<M: Source, S: Source, P: Source, C: Source>(
     // What is to be accepted is accepted, unless a device or memory prevents it.
     ensures accepted { (verdict : Verdict) → IsDueVerdict (M.remaining map.old) (S.remaining scen.old) (P.remaining plan.old) (C.remaining cert.old) k verdict →
         MatchResult result (λ given. given ≡ verdict) IsOfInput }
+    // Inputs of more bytes than the limit aren't read.
+    ensures within { OnOk result (IsWithin (M.remaining map.old) TEXT_LIMIT × IsWithin (S.remaining scen.old) TEXT_LIMIT
+        × IsWithin (P.remaining plan.old) TEXT_LIMIT) }
     // A fault stands where it says.
     ensures fault { IfErr result (IsChecking (M.remaining map.old) (S.remaining scen.old) (P.remaining plan.old) (C.remaining cert.old) k) }
     ensures map { IsErrOf result (Fault.F4 Input.Map) →

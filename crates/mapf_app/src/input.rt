@@ -1,8 +1,8 @@
-ghost use Rattle.std.specs.Prelude.{◌≡◌, ◌≤◌, ◌⊎◌, false, Ok, IfOk, IfErr, IfSome, IsSome, IsErrOf};
+ghost use Rattle.std.specs.Prelude.{◌≡◌, ◌≤◌, ◌⊎◌, false, Ok, IfOk, IfErr, OnOk, IfSome, IsSome, IsErrOf};
 ghost use Rattle.std.specs.Result.{IsErrAnd};
 ghost use Rattle.mapf_app.specs.Faults.{IsOfInput, IsOfMap, IsReadingMap, IsReadingAgents, IsReading, fault_of_map, fault_of_scenario};
 ghost use Rattle.mapf_app.specs.Problems.{IsPosed, SpellsGrid, SpellsAgents, SpellsProblem};
-ghost use Rattle.mapf_app.specs.Unreadable.{IsUnreadable};
+ghost use Rattle.mapf_app.specs.Unreadable.{IsUnreadable, IsWithin};
 ghost use Rattle.mapf_model.specs.Grid.{GridMap};
 ghost use Rattle.mapf_model.specs.Plan.{Instance};
 
@@ -21,6 +21,7 @@ pub const CERT_LIMIT: u64 = 1_099_511_627_776;
 pub fn read_text<S: Source>(alloc: Global, source: &mut S, input: Input) -> Result<Vec<u8>, Fault>
     requires { S.has_failed source.old ≡ false }
     ensures whole { IfOk result (λ text. IfSome (S.remaining source.old) (λ bytes. text.items ≡ bytes)) }
+    ensures within { OnOk result (IsWithin (S.remaining source.old) TEXT_LIMIT) }
     ensures fault { IfErr result (λ fault. (fault ≡ Fault.F4 input) ⊎ (fault ≡ Fault.F6)) }
     ensures unreadable { IsErrOf result (Fault.F4 input) →
         IsUnreadable (S.has_failed source.new) (S.remaining source.old) (S.remaining source.new) TEXT_LIMIT }
@@ -56,6 +57,7 @@ fn fault_of_scenario(fault: ScenFault) -> Fault
 fn read_grid<M: Source>(alloc: Global, map: &mut M) -> Result<Grid, Fault>
     requires { M.has_failed map.old ≡ false }
     ensures found { IfOk result (SpellsGrid (M.remaining map.old)) }
+    ensures within { OnOk result (IsWithin (M.remaining map.old) TEXT_LIMIT) }
     ensures only { (grid : GridMap) → IsSome (M.remaining map.old) → SpellsGrid (M.remaining map.old) grid →
         (result ≡ Ok grid) ⊎ IsErrAnd result IsOfInput }
     ensures fault { IfErr result (IsReadingMap (M.remaining map.old)) }
@@ -76,6 +78,7 @@ fn read_agents<S: Source>(alloc: Global, scen: &mut S, grid: Grid, k: u32) -> Re
     requires few { k ≤ 200 }
     ensures found { IfOk result (SpellsAgents (S.remaining scen.old) grid k) }
     ensures posed { IfOk result (IsPosed k) }
+    ensures within { OnOk result (IsWithin (S.remaining scen.old) TEXT_LIMIT) }
     ensures on_grid { IfOk result (λ problem. problem.grid ≡ grid) }
     ensures only { (problem : Instance) → IsSome (S.remaining scen.old) → SpellsAgents (S.remaining scen.old) grid k problem →
         (result ≡ Ok problem) ⊎ IsErrAnd result IsOfInput }
@@ -114,6 +117,8 @@ pub fn read_problem<M: Source, S: Source>(
         IsUnreadable (M.has_failed map.new) (M.remaining map.old) (M.remaining map.new) TEXT_LIMIT }
     ensures scen { IsErrOf result (Fault.F4 Input.Scen) →
         IsUnreadable (S.has_failed scen.new) (S.remaining scen.old) (S.remaining scen.new) TEXT_LIMIT }
+    // What has more bytes than the limit isn't read.
+    ensures within { OnOk result (IsWithin (M.remaining map.old) TEXT_LIMIT × IsWithin (S.remaining scen.old) TEXT_LIMIT) }
     // The scenario is pulled only after the map was read.
     ensures unpulled { IfErr result (λ fault. IsOfMap fault → scen.new ≡ scen.old) }
 {

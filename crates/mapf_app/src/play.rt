@@ -3,7 +3,7 @@ ghost use Rattle.std.specs.Io.KnownBytes.{Appends};
 ghost use Rattle.mapf_app.specs.Faults.{IsBeforeWriting, IsOfDevices, IsOfMap, IsOfProblem, IsPlaying, IsReadingPlan, fault_of_plan_text};
 ghost use Rattle.mapf_app.specs.Played.{IsDuePlay, PlaysTruly, SpellsValidPlan};
 ghost use Rattle.mapf_app.specs.Problems.{SpellsProblem};
-ghost use Rattle.mapf_app.specs.Unreadable.{IsUnreadable};
+ghost use Rattle.mapf_app.specs.Unreadable.{IsUnreadable, IsWithin};
 ghost use Rattle.mapf_model.specs.Plan.{Instance};
 
 use crate::fault::{Fault, Input, Output, PlayFault};
@@ -67,6 +67,9 @@ pub fn run_play<M: Source, S: Source, P: Source, K: Sink>(
         × Appends (K.contents sink.old) (K.contents sink.new) text) }
     // What is to be played is played, unless a device or memory prevents it.
     ensures due { IsDuePlay (M.remaining map.old) (S.remaining scen.old) (P.remaining plan.old) k → IfErr result IsOfDevices }
+    // Inputs of more bytes than the limit aren't read.
+    ensures within { OnOk result (IsWithin (M.remaining map.old) TEXT_LIMIT × IsWithin (S.remaining scen.old) TEXT_LIMIT
+        × IsWithin (P.remaining plan.old) TEXT_LIMIT) }
     // A fault stands where it says.
     ensures fault { IfErr result (IsPlaying (M.remaining map.old) (S.remaining scen.old) (P.remaining plan.old) k) }
     ensures map { IsErrOf result (Fault.F4 Input.Map) →

@@ -1,10 +1,10 @@
-ghost use Rattle.std.specs.Prelude.{◌≡◌, ◌≤◌, ℕ, List, false, true, take, IfOk, IfErr, IsErrOf, IsSome, MatchResult};
+ghost use Rattle.std.specs.Prelude.{◌≡◌, ◌≤◌, ℕ, List, false, true, take, IfOk, IfErr, OnOk, IsErrOf, IsSome, MatchResult};
 ghost use Rattle.std.specs.Io.KnownBytes.{Appends};
 ghost use Rattle.mapf_app.specs.Faults.{IsBeforeWriting, IsOfDevices, IsOfMap, IsSolving};
 ghost use Rattle.mapf_app.specs.Headline.{PrintsTruly};
 ghost use Rattle.mapf_app.specs.Problems.{SpellsProblem};
 ghost use Rattle.mapf_app.specs.Solved.{IsLimit, Prints};
-ghost use Rattle.mapf_app.specs.Unreadable.{IsUnreadable};
+ghost use Rattle.mapf_app.specs.Unreadable.{IsUnreadable, IsWithin};
 ghost use Rattle.mapf_model.specs.Plan.{Instance};
 
 use crate::fault::{Fault, Input, Output};
@@ -46,6 +46,8 @@ pub fn run_solve<M: Source, S: Source, P: Sink, C: Sink>(
         × Prints problem limit kind plan_text cert_text
         × Appends (P.contents plan_sink.old) (P.contents plan_sink.new) plan_text
         × Appends (C.contents cert_sink.old) (C.contents cert_sink.new) cert_text) IsOfDevices }
+    // Inputs of more bytes than the limit aren't read.
+    ensures within { OnOk result (IsWithin (M.remaining map.old) TEXT_LIMIT × IsWithin (S.remaining scen.old) TEXT_LIMIT) }
     // On a limit nothing is asked of the certificate's sink.
     ensures limit { IfOk result (λ kind. IsLimit kind → cert_sink.new ≡ cert_sink.old) }
     // A fault stands where it says, and the scenario is pulled only after the map was read.

@@ -12,14 +12,6 @@ from_take a b t n w = record { front = take n t; rest = drop n t; same = sym (ta
 pub holds : (a : Option (List ℕ)) (held text : List ℕ) → Passes a a held (held ++ text) text
 holds a held text = record { gone = []; same = refl; wrote = Appends-nil a }
 
--- no text
-pub passes_none : (a : Option (List ℕ)) (held : List ℕ) → Passes a a held held []
-passes_none a held = record { gone = []; same = append-nil held; wrote = Appends-nil a }
-
--- what was held went out
-pub passes_held : (a b : Option (List ℕ)) (held text : List ℕ) → Appends a b held → Passes a b held text text
-passes_held a b held text w = record { gone = held; same = refl; wrote = w }
-
 -- what was held went out, and then the text
 pub passes_all : (a b c : Option (List ℕ)) (held text : List ℕ) → Appends a b held → Appends b c text → Passes a c held [] text
 passes_all a b c held text w v = record { gone = held ++ text; same = sym (append-nil (held ++ text)); wrote = Appends-trans a b c held text w v }

@@ -1,5 +1,8 @@
--- The ranges of what a command line asks for. (Own)
-use Rattle.std.specs.Prelude.{◌≤◌, ⊤}
+-- What a command line asks for.
+use Rattle.std.specs.Prelude.{◌≡◌, ◌≤◌, ⊤, ℕ, List, [], unwrap_or, codes}
+use Rattle.std.specs.String.{string_bytes}
+use Rattle.clap.specs.Matches.{first_value}
+use Rattle.clap.specs.declared.parser.matches.Found.{Found}
 use Rattle.mapf_words.specs.declared.job.Job.{Job}
 use Rattle.mapf_words.specs.declared.job.Job.TheVariants.{Demo, Solve, Check, Play}
 
@@ -9,3 +12,20 @@ IsInRange Demo = ⊤
 IsInRange (Solve map scen k limit plan cert) = (1 ≤ k) × (k ≤ 200) × (limit ≤ 100000)
 IsInRange (Check map scen k plan cert) = (1 ≤ k) × (k ≤ 200)
 IsInRange (Play map scen k plan) = (1 ≤ k) × (k ≤ 200)
+
+-- the text that was found under a name
+abbrev pub named : Found → List ℕ → List ℕ
+named found name = unwrap_or (first_value found name) []
+
+-- the job of this command, whose files are those that were found under their names
+abbrev pub IsJobOf : List ℕ → Found → Job → Type 0
+IsJobOf command found Demo = ⊥
+IsJobOf command found (Solve map scen k limit plan cert) =
+    (command ≡ codes "solve") × (string_bytes map ≡ named found (codes "MAP")) × (string_bytes scen ≡ named found (codes "SCEN"))
+    × (string_bytes plan ≡ named found (codes "PLAN")) × (string_bytes cert ≡ named found (codes "CERT"))
+IsJobOf command found (Check map scen k plan cert) =
+    (command ≡ codes "check") × (string_bytes map ≡ named found (codes "MAP")) × (string_bytes scen ≡ named found (codes "SCEN"))
+    × (string_bytes plan ≡ named found (codes "PLAN")) × (string_bytes cert ≡ named found (codes "CERT"))
+IsJobOf command found (Play map scen k plan) =
+    (command ≡ codes "play") × (string_bytes map ≡ named found (codes "MAP")) × (string_bytes scen ≡ named found (codes "SCEN"))
+    × (string_bytes plan ≡ named found (codes "PLAN"))

@@ -1,5 +1,7 @@
-ghost use Rattle.std.specs.Prelude.{◌≡◌, ◌≤◌, ◌<◌, ◌↔◌, IfOk, vec_len, ◌≢◌};
-ghost use Rattle.mapf_words.specs.Jobs.{IsInRange};
+ghost use Rattle.std.specs.Prelude.{◌≡◌, ◌≤◌, ◌<◌, ◌↔◌, IfOk, Ok, codes, vec_len};
+ghost use Rattle.std.specs.String.{string_bytes};
+ghost use Rattle.clap.specs.Matches.{found_of};
+ghost use Rattle.mapf_words.specs.Jobs.{IsInRange, IsJobOf, named};
 
 use crate::command::{MOST_AGENTS, MOST_SPLITS, mapf};
 use crate::job::Job;
@@ -9,7 +11,9 @@ use clap::error::ErrorKind;
 use std::alloc::{AllocError, Global};
 
 // The text of the argument of that name.
-fn text_of(alloc: Global, given: &ArgMatches<'_>, name: &str) -> Result<String, AllocError> {
+fn text_of(alloc: Global, given: &ArgMatches<'_>, name: &str) -> Result<String, AllocError>
+    ensures { IfOk result (λ text. string_bytes text ≡ named (found_of given.now) name.now) }
+{
     String::from_str(alloc, given.get_str(name).unwrap_or(""))
 }
 
@@ -34,7 +38,7 @@ fn number_of(
 
 fn solve_of(alloc: Global, given: &ArgMatches<'_>) -> Result<Job, WordsFault>
     ensures range { IfOk result IsInRange }
-    ensures command { result ≢ Ok Job.Demo }
+    ensures named { IfOk result (IsJobOf (codes "solve") (found_of given.now)) }
 {
     Ok(Job::Solve {
         map: text_of(alloc, given, "MAP")?,
@@ -48,7 +52,7 @@ fn solve_of(alloc: Global, given: &ArgMatches<'_>) -> Result<Job, WordsFault>
 
 fn check_of(alloc: Global, given: &ArgMatches<'_>) -> Result<Job, WordsFault>
     ensures range { IfOk result IsInRange }
-    ensures command { result ≢ Ok Job.Demo }
+    ensures named { IfOk result (IsJobOf (codes "check") (found_of given.now)) }
 {
     Ok(Job::Check {
         map: text_of(alloc, given, "MAP")?,
@@ -61,7 +65,7 @@ fn check_of(alloc: Global, given: &ArgMatches<'_>) -> Result<Job, WordsFault>
 
 fn play_of(alloc: Global, given: &ArgMatches<'_>) -> Result<Job, WordsFault>
     ensures range { IfOk result IsInRange }
-    ensures command { result ≢ Ok Job.Demo }
+    ensures named { IfOk result (IsJobOf (codes "play") (found_of given.now)) }
 {
     Ok(Job::Play {
         map: text_of(alloc, given, "MAP")?,
@@ -69,6 +73,19 @@ fn play_of(alloc: Global, given: &ArgMatches<'_>) -> Result<Job, WordsFault>
         k: number_of(alloc, given, "K", 1, MOST_AGENTS)?,
         plan: text_of(alloc, given, "PLAN")?,
     })
+}
+
+// The job of a command, by what was found under its names.
+fn job_in(alloc: Global, command: &str, given: &ArgMatches<'_>) -> Result<Job, WordsFault>
+    ensures range { IfOk result IsInRange }
+    ensures named { IfOk result (IsJobOf command.now (found_of given.now)) }
+{
+    match command {
+        "solve" => solve_of(alloc, given),
+        "check" => check_of(alloc, given),
+        "play" => play_of(alloc, given),
+        _ => Err(WordsFault::Bad(String::from_str(alloc, "error: no such command\n")?)),
+    }
 }
 
 fn fault_of(alloc: Global, error: &clap::Error) -> WordsFault {
@@ -96,9 +113,7 @@ pub fn job_of(alloc: Global, words: Vec<String>) -> Result<Job, WordsFault>
         Err(error) => return Err(fault_of(alloc, &error)),
     };
     match matches.subcommand() {
-        Some(("solve", given)) => solve_of(alloc, given),
-        Some(("check", given)) => check_of(alloc, given),
-        Some(("play", given)) => play_of(alloc, given),
-        _ => Err(WordsFault::Bad(String::from_str(alloc, "error: no such command\n")?)),
+        Some((command, given)) => job_in(alloc, command, given),
+        None => Err(WordsFault::Bad(String::from_str(alloc, "error: no command\n")?)),
     }
 }
