@@ -31,6 +31,7 @@ numbers (n ∷ rest) = (32 ∷ decimal n) ++ numbers rest
 abbrev pub memory_line : List ℕ
 memory_line = codes "F6" ++ numbers []
 
+-- the line of a map's fault
 abbrev pub map_fault_line : MapFault → List ℕ
 map_fault_line maps.M1 = codes "F1 M1" ++ numbers []
 map_fault_line maps.M2 = codes "F1 M2" ++ numbers []
@@ -43,6 +44,7 @@ map_fault_line (maps.M8 rows) = codes "F1 M8" ++ numbers (rows ∷ [])
 map_fault_line (maps.M9 line) = codes "F1 M9" ++ numbers (line ∷ [])
 map_fault_line maps.Memory = memory_line
 
+-- the line of a scenario's fault
 abbrev pub scenario_fault_line : ScenFault → List ℕ
 scenario_fault_line scenarios.S1 = codes "F2 S1" ++ numbers []
 scenario_fault_line (scenarios.S2 row) = codes "F2 S2" ++ numbers (row ∷ [])
@@ -61,6 +63,7 @@ plan_text_fault_line words (plans.P3 line) = words ++ (codes " P3" ++ numbers (l
 plan_text_fault_line words (plans.P4 line) = words ++ (codes " P4" ++ numbers (line ∷ []))
 plan_text_fault_line words plans.Memory = memory_line
 
+-- the line of a certificate's fault
 abbrev pub cert_fault_line : CertFault → List ℕ
 cert_fault_line (certs.K1 line) = codes "refused C2 K1" ++ numbers (line ∷ [])
 cert_fault_line (certs.K2 line) = codes "refused C2 K2" ++ numbers (line ∷ [])
@@ -76,6 +79,7 @@ plan_fault_line words (V3 agent) = words ++ (codes " V3" ++ numbers (agent ∷ [
 plan_fault_line words (V4 i j tick) = words ++ (codes " V4" ++ numbers (i ∷ j ∷ tick ∷ []))
 plan_fault_line words (V5 i j tick) = words ++ (codes " V5" ++ numbers (i ∷ j ∷ tick ∷ []))
 
+-- the line of a refusal
 abbrev pub refusal_line : CheckFault → List ℕ
 refusal_line (checks.C1 fault) = plan_text_fault_line (codes "refused C1") fault
 refusal_line (checks.C2 fault) = cert_fault_line fault
@@ -88,23 +92,27 @@ refusal_line (checks.C8 line) = codes "refused C8" ++ numbers (line ∷ [])
 refusal_line (checks.C9 line) = codes "refused C9" ++ numbers (line ∷ [])
 refusal_line checks.Memory = memory_line
 
+-- the line of a plan that can't be played
 abbrev pub play_fault_line : PlayFault → List ℕ
 play_fault_line (Text fault) = plan_text_fault_line (codes "F3") fault
 play_fault_line NoPlan = codes "F3 none" ++ numbers []
 play_fault_line OtherCount = codes "F3 count" ++ numbers []
 play_fault_line (Invalid fault) = plan_fault_line (codes "F3") fault
 
+-- the line of an input that couldn't be read
 abbrev pub input_line : Input → List ℕ
 input_line Map = codes "F4 map" ++ numbers []
 input_line Scen = codes "F4 scen" ++ numbers []
 input_line Plan = codes "F4 plan" ++ numbers []
 input_line Cert = codes "F4 cert" ++ numbers []
 
+-- the line of an output that couldn't be written
 abbrev pub output_line : Output → List ℕ
 output_line PlanText = codes "F5 plan" ++ numbers []
 output_line CertText = codes "F5 cert" ++ numbers []
 output_line Out = codes "F5 out" ++ numbers []
 
+-- the line of a fault
 abbrev pub fault_line : Fault → List ℕ
 fault_line (F1 fault) = map_fault_line fault
 fault_line (F2 fault) = scenario_fault_line fault

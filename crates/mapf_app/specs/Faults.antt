@@ -153,10 +153,12 @@ abbrev pub fault_of_map : MapFault → Fault
 fault_of_map map_faults.Memory = F6
 fault_of_map fault = F1 fault
 
+-- a scenario's fault by its name among those of a run
 abbrev pub fault_of_scenario : ScenFault → Fault
 fault_of_scenario scenario_faults.Memory = F6
 fault_of_scenario fault = F2 fault
 
+-- a plan text's fault by its name among those of a run that plays it
 abbrev pub fault_of_plan_text : PlanTextFault → Fault
 fault_of_plan_text plan_faults.Memory = F6
 fault_of_plan_text fault = F3 (Text fault)

@@ -51,14 +51,17 @@ abbrev pub left_agent : Conflict → ℕ
 left_agent (Vertex i j cell tick) = i
 left_agent (Swap i j from to tick) = i
 
+-- the agent whom the right child bars
 abbrev pub right_agent : Conflict → ℕ
 right_agent (Vertex i j cell tick) = j
 right_agent (Swap i j from to tick) = j
 
+-- what the left child bars its agent from
 abbrev pub left_bar : Conflict → Bar
 left_bar (Vertex i j cell tick) = Cell cell tick
 left_bar (Swap i j from to tick) = Move from to tick
 
+-- what the right child bars its agent from
 abbrev pub right_bar : Conflict → Bar
 right_bar (Vertex i j cell tick) = Cell cell tick
 right_bar (Swap i j from to tick) = Move to from tick
@@ -67,6 +70,7 @@ right_bar (Swap i j from to tick) = Move to from tick
 abbrev pub dead_child : View → ℕ → Bar → List Entry → View
 dead_child view i bar entries = record { constraints = record { bars = with_bar view.constraints.bars i bar }; paths = view.paths; costs = view.costs; entries = λ k. if k == i then entries else view.entries k }
 
+-- the child of a node under a new bar of agent i, with that agent's new path, cost and labels
 abbrev pub live_child : View → ℕ → Bar → List ℕ → ℕ → List Entry → View
 live_child view i bar path cost entries = record { constraints = record { bars = with_bar view.constraints.bars i bar }; paths = slice_set view.paths i path; costs = slice_set view.costs i cost; entries = λ k. if k == i then entries else view.entries k }
 

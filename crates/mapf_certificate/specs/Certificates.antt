@@ -17,15 +17,19 @@ use Rattle.mapf_certificate.specs.Lines.{words, IsAgentCount}
 abbrev pub line_text : ℕ → Line → List ℕ
 line_text width line = words width line ++ (10 ∷ [])
 
+-- the line of an entry
 abbrev pub entry_text : ℕ → Entry → List ℕ
 entry_text width entry = line_text width (lines.At entry)
 
+-- the lines of entries
 abbrev pub entries_text : ℕ → List Entry → List ℕ
 entries_text width entries = flat_map (entry_text width) entries
 
+-- the lines of a block: its agent and count, then its entries
 abbrev pub block_text : ℕ → LabelBlock → List ℕ
 block_text width block = line_text width (lines.Agent block.agent (length block.entries)) ++ entries_text width block.entries
 
+-- the lines of blocks
 abbrev pub blocks_text : ℕ → List LabelBlock → List ℕ
 blocks_text width blocks = flat_map (block_text width) blocks
 
@@ -36,9 +40,11 @@ node_text width (SplitNode (conflicts.Swap i j from to tick)) = line_text width 
 node_text width (LeafNode blocks) = line_text width (lines.Leaf (length blocks)) ++ blocks_text width blocks
 node_text width (ClashNode i j) = line_text width (lines.Clash i j)
 
+-- the lines of an item
 abbrev pub item_text : ℕ → Item → List ℕ
 item_text width item = node_text width (node_of item)
 
+-- the first three lines
 abbrev pub header_text : ℕ → ℕ → Claim → List ℕ
 header_text width agents claim = line_text width lines.Title ++ (line_text width (lines.Agents agents) ++ line_text width (lines.Claim claim))
 
@@ -46,6 +52,7 @@ header_text width agents claim = line_text width lines.Title ++ (line_text width
 abbrev pub rest_text : ℕ → List Node → List ℕ
 rest_text width nodes = flat_map (node_text width) nodes ++ line_text width lines.End
 
+-- the whole text: the header, the nodes in pre-order, and the end
 abbrev pub cert_text : ℕ → ℕ → Claim → List Node → List ℕ
 cert_text width agents claim nodes = header_text width agents claim ++ rest_text width nodes
 

@@ -16,23 +16,29 @@ use Rattle.mapf_certificate.specs.declared.tree_line.LabelWord.{LabelWord}
 use Rattle.mapf_certificate.specs.declared.tree_line.LabelWord.TheVariants as label_words
 use Rattle.mapf_certificate.specs.Numbers.{◌>>=◌, strip, read_field, read_last, read_pair, in_range, below, read_cell}
 
+-- the title
 unfoldable pub read_title : List ℕ → Result Line LineFault
 read_title bs = if bytes_eq bs (codes "mapf-cert 1") then Ok lines.Title else Err Shape
 
+-- a number of agents
 unfoldable pub read_count : List ℕ → Result ℕ LineFault
 read_count bs = read_last 32 bs >>= in_range 1 200
 
+-- a sum of costs
 unfoldable pub read_cost : List ℕ → Result ℕ LineFault
 read_cost bs = read_last 32 bs >>= in_range 0 1999999800
 
+-- the line of the number of agents
 unfoldable pub read_agents : List ℕ → Result Line LineFault
 read_agents bs = option_map_or (λ rest. read_count rest >>= λ n. Ok (lines.Agents n)) (strip (codes "agents") bs) (Err Shape)
 
+-- the line of the claim
 unfoldable pub read_claim : List ℕ → Result Line LineFault
 read_claim bs =
     if bytes_eq bs (codes "claim impossible") then Ok (lines.Claim claims.Impossible) else
     option_map_or (λ rest. read_cost rest >>= λ n. Ok (lines.Claim (claims.Cost n))) (strip (codes "claim cost") bs) (Err Shape)
 
+-- a split on a vertex conflict
 unfoldable pub read_vertex : Sizes → List ℕ → Result Line LineFault
 read_vertex sizes bs = do
   i ← read_field 32 bs
@@ -45,6 +51,7 @@ read_vertex sizes bs = do
   ticks ← in_range 0 999999 tick
   Ok (lines.Vertex first second cell ticks)
 
+-- a split on a swapping conflict
 unfoldable pub read_swap : Sizes → List ℕ → Result Line LineFault
 read_swap sizes bs = do
   i ← read_field 32 bs
@@ -59,12 +66,14 @@ read_swap sizes bs = do
   ticks ← in_range 0 999999 tick
   Ok (lines.Swap first second from to ticks)
 
+-- a leaf
 unfoldable pub read_leaf : Sizes → List ℕ → Result Line LineFault
 read_leaf sizes bs = do
   blocks ← read_last 32 bs
   count ← in_range 0 sizes.agents blocks
   Ok (lines.Leaf count)
 
+-- a clash
 unfoldable pub read_clash : Sizes → List ℕ → Result Line LineFault
 read_clash sizes bs = do
   i ← read_field 32 bs
@@ -73,6 +82,7 @@ read_clash sizes bs = do
   second ← below sizes.agents j
   Ok (lines.Clash first second)
 
+-- the first line of a block
 unfoldable pub read_agent : Sizes → List ℕ → Result Line LineFault
 read_agent sizes bs = do
   i ← read_field 32 bs
@@ -81,13 +91,16 @@ read_agent sizes bs = do
   count ← in_range 1 (2 ^ 64 - 1) entries
   Ok (lines.Agent agent count)
 
+-- the last word of an entry
 unfoldable pub read_label_word : List ℕ → Result LabelWord LineFault
 read_label_word bs = if bytes_eq bs (codes " inf") then Ok label_words.Never else (read_last 32 bs >>= λ n. Ok (label_words.Ticks n))
 
+-- the label that such a word spells
 abbrev pub label_in_range : LabelWord → Result Label LineFault
 label_in_range label_words.Never = Ok labels.Never
 label_in_range (label_words.Ticks ticks) = in_range 1 9999999 ticks >>= λ n. Ok (labels.Ticks n)
 
+-- an entry
 unfoldable pub read_entry : Sizes → List ℕ → Result Line LineFault
 read_entry sizes bs = do
   at ← read_pair bs
@@ -98,6 +111,7 @@ read_entry sizes bs = do
   label ← label_in_range word
   Ok (lines.At (record { cell = cell; tick = ticks; label = label }))
 
+-- a line of the tree, by its first word
 unfoldable pub read_tree_line : Sizes → List ℕ → Result Line LineFault
 read_tree_line sizes bs =
     option_map_or (read_entry sizes) (strip (codes "at") bs)
@@ -108,6 +122,7 @@ read_tree_line sizes bs =
     (option_map_or (read_clash sizes) (strip (codes "clash") bs)
     (if bytes_eq bs (codes "end") then Ok lines.End else Err Shape))))))
 
+-- the line that is due
 abbrev pub read_line : Due → List ℕ → Result Line LineFault
 read_line dues.Title bs = read_title bs
 read_line dues.Agents bs = read_agents bs

@@ -13,6 +13,7 @@ use Rattle.mapf_certificate.specs.declared.tree_line.Due.{Due}
 use Rattle.mapf_certificate.specs.declared.tree_line.Due.TheVariants as dues
 use Rattle.mapf_certificate.specs.Numbers.{field, pair}
 
+-- a blank and the label
 abbrev pub label_words : Label → List ℕ
 label_words (labels.Ticks ticks) = field 32 ticks
 label_words labels.Never = codes " inf"
@@ -31,6 +32,7 @@ words width (lines.Agent agent entries) = codes "agent" ++ (field 32 agent ++ fi
 words width (lines.At entry) = codes "at" ++ (pair width entry.cell ++ (field 32 entry.tick ++ label_words entry.label))
 words width lines.End = codes "end"
 
+-- 1 to 200 agents
 abbrev pub IsAgentCount : ℕ → Type 0
 IsAgentCount agents = (1 ≤ agents) × (agents ≤ 200)
 
@@ -51,10 +53,12 @@ IsTreeLine grid agents (lines.Agent agent entries) = (agent < agents) × (1 ≤ 
 IsTreeLine grid agents (lines.At entry) = IsEntryInRange grid entry
 IsTreeLine grid agents lines.End = ⊤
 
+-- a claim in range
 abbrev pub IsClaimLine : Line → Type 0
 IsClaimLine (lines.Claim claim) = IsClaimInRange claim
 IsClaimLine _ = ⊥
 
+-- a number of agents in range
 abbrev pub IsAgentsLine : Line → Type 0
 IsAgentsLine (lines.Agents agents) = IsAgentCount agents
 IsAgentsLine _ = ⊥
@@ -66,6 +70,7 @@ IsLine dues.Agents line = IsAgentsLine line
 IsLine dues.Claim line = IsClaimLine line
 IsLine (dues.Tree sizes) line = IsTreeLine (grid_of sizes.width sizes.height) sizes.agents line
 
+-- the width by which a line's pairs are told; lines without pairs need none
 abbrev pub width_of : Due → ℕ
 width_of (dues.Tree sizes) = sizes.width
 width_of _ = 1

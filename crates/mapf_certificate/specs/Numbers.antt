@@ -15,6 +15,7 @@ abbrev pub pair : ℕ → ℕ → List ℕ
 pair width cell = field 32 (cell % width) ++ field 44 (cell / width)
 
 infixl 10 ◌>>=◌
+-- what follows a part that was good; else its fault
 abbrev pub ◌>>=◌ : {A B E : Type 0} → Result A E → (A → Result B E) → Result B E
 (Ok x) >>= f = f x
 (Err e) >>= f = Err e
@@ -40,15 +41,19 @@ begins_well (c ∷ cs) = not (c == 48)
 unfoldable pub small_value : List ℕ → Option ℕ
 small_value ds = if nat_lt (digits_value 10 ds) (2 ^ 64) then Some (digits_value 10 ds) else None
 
+-- the digits at the front
 abbrev pub front_digits : List ℕ → List ℕ
 front_digits bs = take_while is_ascii_digit bs
 
+-- what follows the digits at the front
 abbrev pub after_digits : List ℕ → List ℕ
 after_digits bs = drop (length (front_digits bs)) bs
 
+-- a number, None where it is greater than any that is printed, and what follows it
 unfoldable pub read_number : List ℕ → Result (Option ℕ × List ℕ) LineFault
 read_number bs = if begins_well (front_digits bs) then Ok (small_value (front_digits bs), after_digits bs) else Err Shape
 
+-- a number after this byte
 unfoldable pub read_field : ℕ → List ℕ → Result (Option ℕ × List ℕ) LineFault
 read_field mark [] = Err Shape
 read_field mark (b ∷ bs) = if b == mark then read_number bs else Err Shape
@@ -61,6 +66,7 @@ read_last mark bs = read_field mark bs >>= at_end
     at_end (number, []) = Ok number
     at_end (number, b ∷ bs) = Err Shape
 
+-- a blank and a pair
 unfoldable pub read_pair : List ℕ → Result (Option ℕ × Option ℕ × List ℕ) LineFault
 read_pair bs = do
   x ← read_field 32 bs
@@ -72,10 +78,12 @@ abbrev pub in_range : ℕ → ℕ → Option ℕ → Result ℕ LineFault
 in_range least most (Some n) = if nat_le least n && nat_le n most then Ok n else Err Range
 in_range least most None = Err Range
 
+-- a number below the bound
 abbrev pub below : ℕ → Option ℕ → Result ℕ LineFault
 below bound (Some n) = if nat_lt n bound then Ok n else Err Range
 below bound None = Err Range
 
+-- the cell of a pair
 unfoldable pub read_cell : ℕ → ℕ → Option ℕ → Option ℕ → Result ℕ LineFault
 read_cell width height x y = do
   column ← below width x

@@ -17,9 +17,11 @@ use Rattle.mapf_certificate.specs.declared.plan_lines.AnswerLine.TheVariants as 
 use Rattle.mapf_certificate.specs.Numbers.{◌>>=◌, strip, field, read_field, read_last, read_pair, read_cell, in_range}
 use Rattle.mapf_certificate.specs.LineReading.{read_count, read_cost}
 
+-- the words of the number of agents
 abbrev pub agents_words : ℕ → List ℕ
 agents_words agents = codes "agents" ++ field 32 agents
 
+-- the words of an answer's first line
 abbrev pub answer_words : AnswerLine → List ℕ
 answer_words (answers.Cost cost) = codes "cost" ++ field 32 cost
 answer_words answers.Impossible = codes "impossible"
@@ -33,20 +35,24 @@ IsAnswerLine answers.Impossible = Unit {0}
 IsAnswerLine (answers.Limit (Splits count)) = count ≤ 100000
 IsAnswerLine (answers.Limit Ticks) = Unit {0}
 
+-- the line of the number of agents
 unfoldable pub read_agents_line : List ℕ → Result ℕ LineFault
 read_agents_line bs = option_map_or read_count (strip (codes "agents") bs) (Err Shape)
 
+-- what follows the word `limit`
 unfoldable pub read_limit : List ℕ → Result AnswerLine LineFault
 read_limit bs =
     if bytes_eq bs (codes " ticks") then Ok (answers.Limit Ticks) else
     (read_last 32 bs >>= λ v. in_range 0 100000 v >>= λ n. Ok (answers.Limit (Splits n)))
 
+-- an answer's first line
 unfoldable pub read_answer_line : List ℕ → Result AnswerLine LineFault
 read_answer_line bs =
     if bytes_eq bs (codes "impossible") then Ok answers.Impossible else
     option_map_or (λ rest. read_cost rest >>= λ n. Ok (answers.Cost n)) (strip (codes "cost") bs)
     (option_map_or read_limit (strip (codes "limit") bs) (Err Shape))
 
+-- a value that has to be followed by something
 abbrev pub something : {A : Type 0} → A → List ℕ → Result A LineFault
 something x [] = Err Shape
 something x (b ∷ bs) = Ok x
@@ -60,27 +66,34 @@ abbrev pub cut : List ℕ → Option (List ℕ × List ℕ)
 cut [] = None
 cut (c ∷ cs) = if c == 10 then Some ([], cs) else option_map (λ p. (c ∷ p.0, p.1)) (cut cs)
 
+-- the next line and what follows it; P2 where the text ends before
 unfoldable pub next_line : ℕ → List ℕ → Result (List ℕ × List ℕ) PlanTextFault
 next_line n bs = option_map_or (λ p. Ok p) (cut bs) (Err (P2 n))
 
+-- a line's fault by its number
 abbrev pub fault_at : {A : Type 0} → ℕ → Result A LineFault → Result A PlanTextFault
 fault_at n (Ok x) = Ok x
 fault_at n (Err Shape) = Err (P1 n)
 fault_at n (Err Range) = Err (P3 n)
 
+-- what follows a line of just these words
 unfoldable pub next_words : ℕ → List ℕ → List ℕ → Result (List ℕ) PlanTextFault
 next_words n words bs = next_line n bs >>= λ p. if bytes_eq p.0 words then Ok p.1 else Err (P1 n)
 
+-- the number of agents and what follows
 unfoldable pub next_agents : List ℕ → Result (ℕ × List ℕ) PlanTextFault
 next_agents bs = next_line 2 bs >>= λ p. fault_at 2 (read_agents_line p.0) >>= λ k. Ok (k, p.1)
 
+-- the answer's first line and what follows
 unfoldable pub next_answer : List ℕ → Result (AnswerLine × List ℕ) PlanTextFault
 next_answer bs = next_line 3 bs >>= λ p. fault_at 3 (read_answer_line p.0) >>= λ answer. Ok (answer, p.1)
 
+-- the text ends here
 abbrev pub nothing_after : ℕ → List ℕ → Result (Unit {0}) PlanTextFault
 nothing_after n [] = Ok tt
 nothing_after n (b ∷ bs) = Err (P4 (n + 1))
 
+-- the last line and nothing after it
 unfoldable pub read_end : ℕ → List ℕ → Result (Unit {0}) PlanTextFault
 read_end n bs = next_words n (codes "end") bs >>= nothing_after n
 
@@ -102,6 +115,7 @@ line_of (texts.Found plan) = answers.Cost (cost_of plan)
 line_of texts.Impossible = answers.Impossible
 line_of (texts.Limit cause) = answers.Limit cause
 
+-- what follows an answer's first line
 abbrev pub rest_of : ℕ → PlanAnswer → List ℕ
 rest_of width (texts.Found plan) = paths_text width 0 plan ++ codes "end\n"
 rest_of width texts.Impossible = codes "end\n"

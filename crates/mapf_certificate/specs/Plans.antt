@@ -15,12 +15,15 @@ use Rattle.mapf_certificate.specs.Lines.{IsAgentCount}
 abbrev pub ticks_of : List ℕ → ℕ
 ticks_of path = length path - 1
 
+-- the pairs of a path's cells
 abbrev pub cells_text : ℕ → List ℕ → List ℕ
 cells_text width path = flat_map (pair width) path
 
+-- the words of a path's line
 abbrev pub path_words : ℕ → ℕ → List ℕ → List ℕ
 path_words width agent path = codes "path" ++ (field 32 agent ++ (field 32 (ticks_of path) ++ cells_text width path))
 
+-- a path's line
 abbrev pub path_text : ℕ → ℕ → List ℕ → List ℕ
 path_text width agent path = path_words width agent path ++ (10 ∷ [])
 
@@ -29,15 +32,18 @@ abbrev pub paths_text : ℕ → ℕ → List (List ℕ) → List ℕ
 paths_text width agent [] = []
 paths_text width agent (path ∷ paths) = path_text width agent path ++ paths_text width (agent + 1) paths
 
+-- the sum of these numbers, over a plan
 abbrev pub cost_of : List (List ℕ) → ℕ
 cost_of plan = sum_by ticks_of plan
 
+-- the lines of an answer
 abbrev pub answer_text : ℕ → PlanAnswer → List ℕ
 answer_text width (Found plan) = (codes "cost" ++ (field 32 (cost_of plan) ++ (10 ∷ []))) ++ paths_text width 0 plan
 answer_text width Impossible = codes "impossible\n"
 answer_text width (Limit (Splits count)) = codes "limit" ++ (field 32 count ++ (10 ∷ []))
 answer_text width (Limit Ticks) = codes "limit ticks\n"
 
+-- the whole text: the title, the number of agents, the answer and the end
 abbrev pub plan_text : ℕ → PlanText → List ℕ
 plan_text width p = codes "mapf-plan 1\n" ++ ((codes "agents" ++ (field 32 p.agents ++ (10 ∷ []))) ++ (answer_text width p.answer ++ codes "end\n"))
 
@@ -57,6 +63,7 @@ IsFew _ = Unit {0}
 abbrev pub IsPlanText : GridMap → PlanText → Type 0
 IsPlanText grid p = IsAgentCount p.agents × IsAnswer grid p.agents p.answer
 
+-- what an answer says
 abbrev pub says : PlanAnswer → PlanSays
 says (Found plan) = SaysPlan plan
 says Impossible = SaysImpossible

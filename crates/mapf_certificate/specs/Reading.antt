@@ -6,6 +6,7 @@ use Rattle.mapf_certificate.specs.declared.cert.LinesFault.{LinesFault}
 use Rattle.mapf_certificate.specs.Lines.{IsAgentCount, grid_of}
 use Rattle.mapf_certificate.specs.Buffered.{Buffered, spare}
 
+-- how far a certificate was read: the grid's sizes, what is left in the buffer, and what the header said
 pub record Reading : Type 0 where
   pub width : ℕ
   pub height : ℕ
@@ -31,5 +32,6 @@ abbrev pub agents_in : Option (ℕ × Claim) → ℕ
 agents_in (Some (agents, claim)) = agents
 agents_in None = 0
 
+-- the number of agents that the header said
 abbrev pub agents_at : Reading → ℕ
 agents_at r = agents_in r.header

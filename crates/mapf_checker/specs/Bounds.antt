@@ -22,5 +22,6 @@ abbrev pub barred_by : ℕ → Bar → Option (AgentCell × ℕ)
 barred_by agent (Cell cell tick) = Some (record { agent = agent; cell = cell }, tick)
 barred_by agent (Move from to tick) = None
 
+-- the cell from which the bar keeps its agent, and the tick
 abbrev pub barred_cell : AgentBar → Option (AgentCell × ℕ)
 barred_cell bound = barred_by bound.agent bound.bar

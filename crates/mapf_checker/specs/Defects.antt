@@ -38,6 +38,7 @@ path_fault_of agent WrongStart = V1 agent
 path_fault_of agent (BadStep tick) = V2 agent tick
 path_fault_of agent WrongGoal = V3 agent
 
+-- a conflict of two paths by its fault
 abbrev pub meeting_fault_of : ℕ → ℕ → ℕ → Kind → PlanFault
 meeting_fault_of i j tick InOneCell = V4 i j tick
 meeting_fault_of i j tick Swapping = V5 i j tick

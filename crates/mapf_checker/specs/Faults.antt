@@ -12,10 +12,12 @@ use Rattle.mapf_checker.specs.declared.fault.CheckFault.TheVariants.{C1, C2}
 use Rattle.mapf_checker.specs.declared.fault.FromFault.{FromFault}
 use Rattle.mapf_checker.specs.declared.fault.FromFault.TheVariants.{Refused, Device, TooLong, Memory}
 
+-- a plan text's fault by its name among those of a check
 abbrev pub of_plan : PlanTextFault → FromFault
 of_plan plans.Memory = Memory
 of_plan fault = Refused (C1 fault)
 
+-- a certificate's fault by its name among those of a check
 abbrev pub of_cert : LinesFault → FromFault
 of_cert (lines.Text certs.Memory) = Memory
 of_cert (lines.Text fault) = Refused (C2 fault)

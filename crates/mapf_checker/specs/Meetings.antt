@@ -12,6 +12,7 @@ abbrev pub MeetAs : List ℕ → List ℕ → ℕ → Kind → Type 0
 MeetAs p q tick InOneCell = at p tick ≡ at q tick
 MeetAs p q tick Swapping = (at p tick ≡ at q (tick + 1)) × (at p (tick + 1) ≡ at q tick) × (at p tick ≢ at q tick)
 
+-- the two paths have this conflict
 abbrev pub Meet : List ℕ → List ℕ → Meeting → Type 0
 Meet p q meeting = MeetAs p q meeting.tick meeting.kind
 

@@ -22,6 +22,7 @@ abbrev pub owed_at : Bool → Place → List NodeConstraints
 owed_at true place = []
 owed_at false place = place.here ∷ place.owed
 
+-- the constraints of the trees that are still owed
 abbrev pub owed_by : Progress → List NodeConstraints
 owed_by progress = owed_at progress.is_over (place_of progress.way)
 

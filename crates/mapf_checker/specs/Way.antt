@@ -25,6 +25,7 @@ with_owed here (Some other) owed = bound_by here other ∷ owed
 abbrev pub turned : Place → AgentBar → Option AgentBar → Place
 turned place bound other = record { here = bound_by place.here bound; owed = with_owed place.here other place.owed }
 
+-- where the turns lead from the root
 abbrev pub place_of : List Turn → Place
 place_of turns = fold (λ place turn. turned place turn.bound turn.owed) (record { here = root; owed = [] }) turns
 

@@ -7,9 +7,11 @@ use Rattle.mapf_constraints.specs.BarSets.{IsHorizon, IsLastOn}
 use Rattle.mapf_constraints.specs.declared.barred.BarredCell.{BarredCell}
 use Rattle.mapf_constraints.specs.declared.barred.BarredMove.{BarredMove}
 
+-- the bar of a cell at a tick
 abbrev pub cell_bar : BarredCell → Bar
 cell_bar barred = Cell barred.cell barred.tick
 
+-- the bar of a move at a tick
 abbrev pub move_bar : BarredMove → Bar
 move_bar barred = Move barred.from barred.to barred.tick
 

@@ -11,6 +11,7 @@ entry_of table cell = slice_index_or table cell BLOCKED
 abbrev pub is_open : ℕ → Bool
 is_open entry = nat_lt entry BLOCKED
 
+-- whether the entry is that of a cell that wasn't reached
 abbrev pub is_unreached : ℕ → Bool
 is_unreached entry = nat_eq entry UNREACHED
 

@@ -20,12 +20,15 @@ open_square = record { width = 3; height = 3; free = true ∷ true ∷ true ∷ 
 abbrev pub two_cells : GridMap
 two_cells = record { width = 2; height = 1; free = true ∷ true ∷ [] }
 
+-- three free cells in a row
 abbrev pub three_cells : GridMap
 three_cells = record { width = 3; height = 1; free = true ∷ true ∷ true ∷ [] }
 
+-- an entry by its parts
 abbrev pub entry : ℕ → ℕ → Label → Entry
 entry cell tick label = record { cell = cell; tick = tick; label = label }
 
+-- an agent by its parts
 abbrev pub agent : ℕ → ℕ → Agent
 agent start goal = record { start = start; goal = goal }
 
@@ -42,6 +45,7 @@ NoLabelIsRaisedAtAFreeGoal = AreSound open_square 7 (Cell 4 1 ∷ []) (entries_o
 abbrev pub one_goal : Instance
 one_goal = record { grid = three_cells; agents = agent 0 1 ∷ agent 2 1 ∷ [] }
 
+-- a clash of two agents with one goal shows that no plan is valid
 abbrev pub AClashShowsImpossibility : Type 0
 AClashShowsImpossibility = Shows one_goal Impossible (Clash 0 1)
 
@@ -49,6 +53,7 @@ AClashShowsImpossibility = Shows one_goal Impossible (Clash 0 1)
 abbrev pub one_start : Instance
 one_start = record { grid = three_cells; agents = agent 0 1 ∷ agent 0 2 ∷ [] }
 
+-- two agents with one start have no valid plan
 abbrev pub OneStartIsNoPlan : Type 0
 OneStartIsNoPlan = (plan : List (List ℕ)) → IsValid one_start plan → ⊥
 
@@ -56,6 +61,7 @@ OneStartIsNoPlan = (plan : List (List ℕ)) → IsValid one_start plan → ⊥
 abbrev pub neighbours : Instance
 neighbours = record { grid = two_cells; agents = agent 0 1 ∷ agent 1 0 ∷ [] }
 
+-- neighbours that exchange their cells at once are no valid plan
 abbrev pub SwappingIsNoPlan : Type 0
 SwappingIsNoPlan = IsValid neighbours ((0 ∷ 1 ∷ []) ∷ (1 ∷ 0 ∷ []) ∷ []) → ⊥
 

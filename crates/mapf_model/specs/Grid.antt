@@ -15,6 +15,7 @@ IsGridMap grid = (1 ≤ grid.width) × (grid.width ≤ 2048) × (1 ≤ grid.heig
 abbrev pub column : GridMap → ℕ → ℕ
 column grid cell = cell % grid.width
 
+-- the row of a cell, from 0 at the top
 abbrev pub row : GridMap → ℕ → ℕ
 row grid cell = cell / grid.width
 

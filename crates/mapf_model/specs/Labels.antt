@@ -26,6 +26,7 @@ label_plus (Ticks m) (Ticks n) = Ticks (m + n)
 label_plus (Ticks m) Never = Never
 label_plus Never other = Never
 
+-- the sum of labels, infinite where one is
 abbrev pub label_sum : List Label → Label
 label_sum [] = Ticks 0
 label_sum (label ∷ labels) = label_plus label (label_sum labels)

@@ -59,6 +59,7 @@ pub record NodesShowByFront (problem : Instance) (claim : Claim) : Type 0 where
   pub at_clash : (constraints : NodeConstraints) (owed : List NodeConstraints) (i j : ℕ) (items : List Node) →
       NodesShow problem claim (constraints ∷ owed) (ClashNode i j ∷ items) ↔ (ShareGoal problem i j × NodesShow problem claim owed items)
 
+-- a list of items is judged from its front
 abbrev pub FrontDecides : Type 0
 FrontDecides = (problem : Instance) (claim : Claim) → NodesShowByFront problem claim
 
@@ -84,6 +85,7 @@ pub record IsPathByNeighbours (grid : GridMap) (path : List ℕ) : Type 0 where
   pub first : IsFree grid (slice_index path 0)
   pub neighbours : (k : ℕ) → k + 1 < length path → Step grid (slice_index path k) (slice_index path (k + 1))
 
+-- a path is known by the neighbours of its cells
 abbrev pub NeighboursMakePaths : Type 0
 NeighboursMakePaths = (grid : GridMap) (path : List ℕ) → IsPath grid path ↔ IsPathByNeighbours grid path
 
@@ -96,6 +98,7 @@ pub record ValidPlansHaveOneSum (problem : Instance) (plan : List (List ℕ)) : 
   pub some : (total : ℕ) × IsSumOfCosts problem.agents plan total
   pub one : (a b : ℕ) → IsSumOfCosts problem.agents plan a → IsSumOfCosts problem.agents plan b → a ≡ b
 
+-- a valid plan has exactly one sum of costs
 abbrev pub SumsAreOne : Type 0
 SumsAreOne = (problem : Instance) (plan : List (List ℕ)) → IsValid problem plan → ValidPlansHaveOneSum problem plan
 
@@ -108,6 +111,7 @@ pub record BarsAreASet (xs ys : List Bar) : Type 0 where
   pub obeys : (path : List ℕ) → Satisfies xs path → Satisfies ys path
   pub sound : (grid : GridMap) (goal : ℕ) (entries : Entries) → AreSound grid goal xs entries → AreSound grid goal ys entries
 
+-- of two lists of the same bars, what is so under the one is so under the other
 abbrev pub OnlyMembershipCounts : Type 0
 OnlyMembershipCounts = (xs ys : List Bar) → AreSameBars xs ys → BarsAreASet xs ys
 

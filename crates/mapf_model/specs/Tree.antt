@@ -70,9 +70,11 @@ abbrev pub right_bars : (ℕ → List Bar) → Conflict → ℕ → List Bar
 right_bars bars (Vertex i j cell tick) = with_bar bars j (Cell cell tick)
 right_bars bars (Swap i j from to tick) = with_bar bars j (Move to from tick)
 
+-- the constraints at the left child
 abbrev pub left_child_constraints : NodeConstraints → Conflict → NodeConstraints
 left_child_constraints constraints conflict = record { bars = left_bars constraints.bars conflict }
 
+-- the constraints at the right child
 abbrev pub right_child_constraints : NodeConstraints → Conflict → NodeConstraints
 right_child_constraints constraints conflict = record { bars = right_bars constraints.bars conflict }
 

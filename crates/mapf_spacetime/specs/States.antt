@@ -19,12 +19,15 @@ pub record States : Type 0 where
 abbrev pub first_states : State → ℕ → States
 first_states start cost = record { reached = []; open_states = start ∷ []; waiting = []; cost = cost; below = 0 }
 
+-- one more state is reached
 abbrev pub with_reached : States → State → States
 with_reached states state = record states { reached = states.reached ++ state ∷ [] }
 
+-- one more state is open
 abbrev pub with_open : States → State → States
 with_open states state = record states { open_states = states.open_states ++ state ∷ [] }
 
+-- one more state waits
 abbrev pub with_waiting : States → State → States
 with_waiting states state = record states { waiting = states.waiting ++ state ∷ [] }
 
@@ -48,6 +51,7 @@ IsEntered task reached state = (from : State) × Contains reached from × Goes t
 abbrev pub IsTaken : Task → States → State → ℕ → Type 0
 IsTaken task states from to = MayGo task.grid task.bars from.cell to from.tick → IsKnown states (state_at to (from.tick + 1)) ⊎ IsUnreachable task.grid task.goal to
 
+-- each step from the state was taken
 abbrev pub IsClosed : Task → States → State → Type 0
 IsClosed task states from = (to : ℕ) → IsTaken task states from to
 

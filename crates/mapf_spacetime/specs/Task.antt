@@ -15,15 +15,19 @@ pub record Task : Type 0 where
   pub goal : ℕ
   pub bars : List Bar
 
+-- the task of an agent under these bars
 abbrev pub task_of : GridMap → Agent → List Bar → Task
 task_of grid agent bars = record { grid = grid; start = agent.start; goal = agent.goal; bars = bars }
 
+-- whose task it is
 abbrev pub agent_of : Task → Agent
 agent_of task = record { start = task.start; goal = task.goal }
 
+-- the cell at the tick
 abbrev pub state_at : ℕ → ℕ → State
 state_at cell tick = record { tick = tick; cell = cell }
 
+-- the start at tick 0
 abbrev pub start_of : Task → State
 start_of task = state_at task.start 0
 

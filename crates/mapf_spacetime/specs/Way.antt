@@ -8,9 +8,11 @@ pub record Walked : Type 0 where
   pub cells : List ℕ
   pub failed : List State
 
+-- a walk that is at its start
 abbrev pub first_way : ℕ → Walked
 first_way start = record { cells = start ∷ []; failed = [] }
 
+-- the walk with one more step
 abbrev pub with_step : Walked → ℕ → Walked
 with_step way to = record { cells = way.cells ++ to ∷ []; failed = way.failed }
 
@@ -23,6 +25,7 @@ abbrev pub CanArriveIn : Task → ℕ → ℕ → State → Type 0
 CanArriveIn task cost zero state = state ≡ state_at task.goal cost
 CanArriveIn task cost (suc n) state = (next : State) × Goes task state next × IsWithin task cost next × CanArriveIn task cost n next
 
+-- from the state the agent can arrive at this cost
 abbrev pub CanArrive : Task → ℕ → State → Type 0
 CanArrive task cost state = (n : ℕ) × CanArriveIn task cost n state
 

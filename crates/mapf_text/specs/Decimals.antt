@@ -3,6 +3,7 @@ use Rattle.std.specs.Prelude.{◌≡◌, ◌⊎◌, ℕ, ◌==◌, ◌||◌, Lis
 use Rattle.std.specs.Char.{is_ascii_digit}
 use Rattle.mapf_text.specs.Numbers.{AreDigits}
 
+-- no sign, or one
 abbrev pub IsSign : List ℕ → Type 0
 IsSign sign = (sign ≡ []) ⊎ (sign ≡ codes "+") ⊎ (sign ≡ codes "-")
 
@@ -15,6 +16,7 @@ abbrev pub IsExponent : List ℕ → Type 0
 IsExponent part =
     (part ≡ []) ⊎ ((sign digits : List ℕ) × ((part ≡ codes "e" ++ (sign ++ digits)) ⊎ (part ≡ codes "E" ++ (sign ++ digits))) × IsSign sign × AreDigits digits)
 
+-- an optional sign, digits, an optional fraction, an optional exponent
 pub record IsDecimal (text : List ℕ) : Type 0 where
   pub sign : List ℕ
   pub digits : List ℕ
