@@ -7,8 +7,8 @@ ghost use Rattle.std.specs.Io.KnownBytes.{ReadConsumes, WriteAppends};
 ghost use Rattle.mapf_model.specs.Devices.{moved, call_more};
 
 use crate::memory::OutOfMemory;
-use crate::sink::Sink;
-use crate::source::{Failed, Source};
+use crate::sink::{BytesSink, Sink};
+use crate::source::{BytesSource, Failed, Source};
 use std::alloc::Global;
 use std::marker::Model;
 
@@ -24,7 +24,9 @@ pub enum Pace {
 impl Pace {
     // How many of so many bytes are moved.
     fn moved(self, bytes: usize) -> usize
-        ensures { result ≡ moved self bytes }
+        ensures value { result ≡ moved self bytes }
+        ensures within { result ≤ bytes }
+        ensures some { 0 < bytes → 0 < result }
     {
         match self {
             Pace::ByteByByte => bytes.min(1),
@@ -59,7 +61,7 @@ impl Fuse {
 /// Bytes in memory as a source that fails at a call that is chosen.
 #[derive(Drop)]
 pub struct FuseSource<'a> {
-    bytes: &'a [u8],
+    source: BytesSource<'a>,
     pace: Pace,
     fuse: Fuse,
     is_failed: bool,
@@ -70,7 +72,7 @@ impl<'a> Model for FuseSource<'a> {
 
     ghost Value = { FuseReads };
 
-    ghost view = { λ s. record { remaining = s.bytes.now; pace = s.pace; calls = s.fuse.calls; has_failed = s.is_failed } };
+    ghost view = { λ s. record { remaining = s.source.bytes.now; pace = s.pace; calls = s.fuse.calls; has_failed = s.is_failed } };
 }
 
 impl<'a> FuseSource<'a> {
@@ -79,7 +81,7 @@ impl<'a> FuseSource<'a> {
         ensures { result ≡ record { remaining = bytes.entry.now; pace = pace; calls = calls; has_failed = false } }
     {
         FuseSource {
-            bytes,
+            source: BytesSource::of(bytes),
             pace,
             fuse: Fuse { calls },
             is_failed: false,
@@ -100,7 +102,7 @@ impl<'a> Source for FuseSource<'a> {
         ensures bytes { ReadConsumes (Some self.old.remaining) (Some self.new.remaining) result buf.new }
         ensures failed { self.new.has_failed ≡ is_err result }
         ensures fails { IsErr result ↔ (self.old.calls ≡ Some 0) }
-        ensures taken { IfOk result (λ n. n ≡ moved self.old.pace (min (length self.old.remaining) (length buf.old))) }
+        ensures taken { IfOk result (λ n. n ≡ min (length self.old.remaining) (moved self.old.pace (length buf.old))) }
         ensures count { self.new.calls ≡ call_more self.old.calls }
         ensures pace { self.new.pace ≡ self.old.pace }
     {
@@ -108,11 +110,8 @@ impl<'a> Source for FuseSource<'a> {
             self.is_failed = true;
             return Err(Failed);
         }
-        let n = self.pace.moved(self.bytes.len().min(buf.len()));
-        let (front, rest) = self.bytes.split_at(n);
-        buf[..n].copy_from_slice(front);
-        self.bytes = rest;
-        Ok(n)
+        let room = self.pace.moved(buf.len());
+        self.source.pull(&mut buf[..room])
     }
 
     fn failed(&self) -> bool {
@@ -166,22 +165,21 @@ impl Source for EndlessSource {
 /// Bytes in memory as a sink that fails at a call that is chosen, and where it is full.
 #[derive(Drop)]
 pub struct FuseSink {
-    bytes: Vec<u8>,
-    room: usize,
+    sink: BytesSink,
     pace: Pace,
     fuse: Fuse,
     is_failed: bool,
 }
 
 impl Model for FuseSink {
-    ghost use Rattle.std.specs.Prelude.{◌≤◌, ◌+◌, vec_len, vec_capacity};
+    ghost use Rattle.std.specs.Prelude.{◌≡◌, false};
     ghost use Rattle.mapf_model.specs.Devices.{FuseWrites};
 
     ghost Value = { FuseWrites };
 
-    ghost view = { λ s. record { contents = s.bytes.items; room = s.room; pace = s.pace; calls = s.fuse.calls; has_failed = s.is_failed } };
+    ghost view = { λ s. record { contents = s.sink.0; room = s.sink.1; pace = s.pace; calls = s.fuse.calls; has_failed = s.is_failed } };
 
-    ghost invariant = { λ s. vec_len s.bytes + s.room ≤ vec_capacity s.bytes };
+    ghost invariant = { λ s. s.is_failed ≡ false → s.sink.2 ≡ false };
 }
 
 impl FuseSink {
@@ -196,8 +194,7 @@ impl FuseSink {
         ensures { IfOk result (λ s. s ≡ record { contents = []; room = room; pace = pace; calls = calls; has_failed = false }) }
     {
         Ok(FuseSink {
-            bytes: Vec::with_capacity(alloc, room)?,
-            room,
+            sink: BytesSink::with_room(alloc, room)?,
             pace,
             fuse: Fuse { calls },
             is_failed: false,
@@ -209,7 +206,7 @@ impl FuseSink {
         ensures value { result.now ≡ self.now.contents }
         ensures contents { ⟦<FuseSink as Sink>⟧.contents self.now ≡ Some result.now }
     {
-        self.bytes.as_slice()
+        self.sink.bytes()
     }
 }
 
@@ -227,19 +224,19 @@ impl Sink for FuseSink {
         ensures failed { self.new.has_failed ≡ is_err result }
         ensures progress { IfOk result (λ n. 0 < n) }
         ensures fails { IsErr result ↔ ((self.old.calls ≡ Some 0) ⊎ (self.old.room ≡ 0)) }
-        ensures taken { IfOk result (λ n. n ≡ moved self.old.pace (min self.old.room (length bytes.now))) }
+        ensures taken { IfOk result (λ n. n ≡ min self.old.room (moved self.old.pace (length bytes.now))) }
         ensures room { self.new.room + length self.new.contents ≡ self.old.room + length self.old.contents }
         ensures count { self.new.calls ≡ call_more self.old.calls }
         ensures pace { self.new.pace ≡ self.old.pace }
     {
-        let n = self.pace.moved(self.room.min(bytes.len()));
-        if !self.fuse.stands() || n == 0 {
-            self.is_failed = true;
-            return Err(Failed);
-        }
-        self.bytes.extend_from_slice(&bytes[..n]).unwrap();
-        self.room -= n;
-        Ok(n)
+        let front = &bytes[..self.pace.moved(bytes.len())];
+        let answer = if self.fuse.stands() {
+            self.sink.push(front)
+        } else {
+            Err(Failed)
+        };
+        self.is_failed = answer.is_err();
+        answer
     }
 
     fn failed(&self) -> bool {

@@ -1,4 +1,4 @@
-ghost use Rattle.std.specs.Prelude.{◌≡◌, ◌<◌, ◌≤◌, ◌↔◌, List, ℕ, Bool, true, false, Some, Option, length, IfOk, OnOk, IfSome, IsErrOf, vec_len};
+ghost use Rattle.std.specs.Prelude.{◌≡◌, ◌<◌, ◌≤◌, ◌↔◌, List, ℕ, Bool, true, false, Some, Option, length, min, IfOk, OnOk, IfSome, IsErrOf, vec_len};
 ghost use Rattle.std.specs.Result.{is_err};
 ghost use Rattle.std.specs.Io.KnownBytes.{Consumes, IsAtEnd, ReadConsumes};
 
@@ -86,7 +86,14 @@ impl<'a> Source for BytesSource<'a> {
 
     ghost has_failed = { λ _. false };
 
-    fn pull(&mut self, buf: &mut [u8]) -> Result<usize, Failed> {
+    /// Gives as many as there are and the buffer has room for.
+    fn pull(&mut self, buf: &mut [u8]) -> Result<usize, Failed>
+        requires { 0 < length buf.old }
+        ensures bound { IfOk result (λ n. n ≤ length buf.new) }
+        ensures bytes { ReadConsumes (Some self.old.bytes.now) (Some self.new.bytes.now) result buf.new }
+        ensures failed { is_err result ≡ false }
+        ensures taken { IfOk result (λ n. n ≡ min (length self.old.bytes.now) (length buf.old)) }
+    {
         let n = self.bytes.len().min(buf.len());
         let (front, rest) = self.bytes.split_at(n);
         buf[..n].copy_from_slice(front);
