@@ -15,7 +15,8 @@ use Rattle.mapf_checker.specs.declared.fault.FromFault.TheVariants.{Refused}
 use Rattle.mapf_checker.specs.declared.fault.Verdict.{Verdict}
 use Rattle.mapf_model.specs.Plan.{Instance}
 
-for_told : {X : Type 0} (P : X → Type 0) (known : Option X) → ((x : X) → known ≡ Some x → P x) → IfSome known P
+-- what is so of each value that may be told is so of the one that is
+pub for_told : {X : Type 0} (P : X → Type 0) (known : Option X) → ((x : X) → known ≡ Some x → P x) → IfSome known P
 for_told P None each = tt
 for_told P (Some x) each = each x refl
 
@@ -23,6 +24,10 @@ for_told P (Some x) each = each x refl
 text_is : (known : Option (List ℕ)) (text bytes : List ℕ) → IfSome known (λ b. text ≡ b) → known ≡ Some bytes → text ≡ bytes
 text_is None text bytes same is = absurd cc
 text_is (Some b) text bytes same is = cc
+
+-- a slice of the text that was read is what the source told
+pub read_as : (known : Option (List ℕ)) {text slice : List ℕ} → slice ≡ text → IfSome known (λ bytes. text ≡ bytes) → IfSome known (λ bytes. slice ≡ bytes)
+read_as known is same = subst (λ t. IfSome known (λ bytes. t ≡ bytes)) (sym is) same
 
 -- a refusal is one
 pub is_refusal : (fault : FromFault) (refusal : CheckFault) → fault ≡ Refused refusal → IsNoRefusal fault → ⊥

@@ -37,7 +37,7 @@ pub fn run_check<M: Source, S: Source, P: Source, C: Source>(
         MatchResult result (λ given. given ≡ verdict) IsOfInput }
     // Inputs of more bytes than the limit aren't read.
     ensures within { OnOk result (IsWithin (M.remaining map.old) TEXT_LIMIT × IsWithin (S.remaining scen.old) TEXT_LIMIT
-        × IsWithin (P.remaining plan.old) TEXT_LIMIT) }
+        × IsWithin (P.remaining plan.old) TEXT_LIMIT × IsWithin (C.remaining cert.old) CERT_LIMIT) }
     // A fault stands where it says.
     ensures fault { IfErr result (IsChecking (M.remaining map.old) (S.remaining scen.old) (P.remaining plan.old) (C.remaining cert.old) k) }
     ensures map { IsErrOf result (Fault.F4 Input.Map) →

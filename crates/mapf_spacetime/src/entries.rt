@@ -46,7 +46,7 @@ pub fn entries_of(
 {
     let mut sorted = Vec::from_slice(alloc, states)?;
     sorted.sort_unstable();
-    let mut entries = Vec::new(alloc);
+    let mut entries = Vec::with_capacity(alloc, sorted.len())?;
     for state in sorted.as_slice() {
         if !ends_at(entries.as_slice(), state) {
             entries.push(entry_of(state, cost))?;

@@ -1,49 +1,54 @@
-use Rattle.std.proofs.Common.{◌≡◌, ⊎_elim, IfSome, sym, subst}
-use Rattle.mapf_app.proofs.CheckLemmas.{judges, due_here, refusal_of, none_good, is_refusal, refusal_says}
+use Rattle.std.proofs.Common.{◌≤◌, ⊎_elim, length}
+use Rattle.mapf_app.proofs.CheckLemmas.{read_as, for_told, judges, due_here, refusal_of, none_good, is_refusal, refusal_says}
 use Rattle.mapf_checker.specs.Refusals.{HasRefusal}
 use Rattle.mapf_app.proofs.check.run_check.Goals as goal
 
 pub returns-in-Ok-clause-verdict : goal.returns-in-Ok-clause-verdict
 returns-in-Ok-clause-verdict g c =
-    let same : IfSome (g.P.Source.remaining c.args.plan.now) (λ bytes. c.as_slice.result.now ≡ bytes) = subst (λ text. IfSome (g.P.Source.remaining c.args.plan.now) (λ bytes. text ≡ bytes)) (sym c.as_slice.ensures.value) c.in_ok-plan_text.ensures.whole in
+    let same = read_as (g.P.Source.remaining c.args.plan.now) c.as_slice.ensures.value c.in_ok-plan_text.ensures.whole in
     judges (g.M.Source.remaining c.args.map.now) (g.S.Source.remaining c.args.scen.now) (g.P.Source.remaining c.args.plan.now) (g.C.Source.remaining c.args.cert.now) c.args.k c.in_ok-problem.problem c.in_ok-problem.ensures.found c.as_slice.result.now same c.in_ok-problem.ensures.posed c.in-Ok.verdict c.in-Ok.ensures.truth c.in-Ok.ensures.accepted
 
 pub returns-in-Ok-clause-accepted : goal.returns-in-Ok-clause-accepted
 returns-in-Ok-clause-accepted g c =
-    let same : IfSome (g.P.Source.remaining c.args.plan.now) (λ bytes. c.as_slice.result.now ≡ bytes) = subst (λ text. IfSome (g.P.Source.remaining c.args.plan.now) (λ bytes. text ≡ bytes)) (sym c.as_slice.ensures.value) c.in_ok-plan_text.ensures.whole in
+    let same = read_as (g.P.Source.remaining c.args.plan.now) c.as_slice.ensures.value c.in_ok-plan_text.ensures.whole in
     λ verdict due. c.in-Ok.ensures.only due.cert_text verdict due.cert_told (due_here (g.M.Source.remaining c.args.map.now) (g.S.Source.remaining c.args.scen.now) (g.P.Source.remaining c.args.plan.now) (g.C.Source.remaining c.args.cert.now) c.args.k c.in_ok-problem.problem c.in_ok-problem.ensures.found c.as_slice.result.now same (λ other map_told scen_told read. ⊎_elim (λ e. cc) (λ no. absurd no) (c.in_ok-problem.ensures.only other map_told scen_told read)) verdict due)
+
+pub returns-in-Ok-clause-within : goal.returns-in-Ok-clause-within
+returns-in-Ok-clause-within g c =
+    let problem = c.in_ok-problem.ensures.within in
+    (problem.0, problem.1, c.in_ok-plan_text.ensures.within, for_told (λ bytes. length bytes ≤ 1099511627776) (g.C.Source.remaining c.args.cert.now) c.in-Ok.ensures.within)
 
 pub returns-in-Ok-clause-unpulled : goal.returns-in-Ok-clause-unpulled
 returns-in-Ok-clause-unpulled g c =
-    let same : IfSome (g.P.Source.remaining c.args.plan.now) (λ bytes. c.as_slice.result.now ≡ bytes) = subst (λ text. IfSome (g.P.Source.remaining c.args.plan.now) (λ bytes. text ≡ bytes)) (sym c.as_slice.ensures.value) c.in_ok-plan_text.ensures.whole in
+    let same = read_as (g.P.Source.remaining c.args.plan.now) c.as_slice.ensures.value c.in_ok-plan_text.ensures.whole in
     λ none. c.check_from.ensures.unpulled (none_good (g.M.Source.remaining c.args.map.now) (g.S.Source.remaining c.args.scen.now) (g.P.Source.remaining c.args.plan.now) (g.C.Source.remaining c.args.cert.now) c.args.k c.in_ok-problem.problem c.in_ok-problem.ensures.found c.as_slice.result.now same none)
 
 pub returns-in-Err-Refused-clause-accepted : goal.returns-in-Err-Refused-clause-accepted
 returns-in-Err-Refused-clause-accepted g c =
-    let same : IfSome (g.P.Source.remaining c.args.plan.now) (λ bytes. c.as_slice.result.now ≡ bytes) = subst (λ text. IfSome (g.P.Source.remaining c.args.plan.now) (λ bytes. text ≡ bytes)) (sym c.as_slice.ensures.value) c.in_ok-plan_text.ensures.whole in
+    let same = read_as (g.P.Source.remaining c.args.plan.now) c.as_slice.ensures.value c.in_ok-plan_text.ensures.whole in
     λ verdict due. is_refusal c.in-Err-Refused.field-0 c.in-Err-Refused.refusal c.in-Err-Refused.field-0-is (c.in-Err-Refused.ensures.only due.cert_text verdict due.cert_told (due_here (g.M.Source.remaining c.args.map.now) (g.S.Source.remaining c.args.scen.now) (g.P.Source.remaining c.args.plan.now) (g.C.Source.remaining c.args.cert.now) c.args.k c.in_ok-problem.problem c.in_ok-problem.ensures.found c.as_slice.result.now same (λ other map_told scen_told read. ⊎_elim (λ e. cc) (λ no. absurd no) (c.in_ok-problem.ensures.only other map_told scen_told read)) verdict due))
 
 pub returns-in-Err-Refused-clause-fault : goal.returns-in-Err-Refused-clause-fault
 returns-in-Err-Refused-clause-fault g c =
-    let same : IfSome (g.P.Source.remaining c.args.plan.now) (λ bytes. c.as_slice.result.now ≡ bytes) = subst (λ text. IfSome (g.P.Source.remaining c.args.plan.now) (λ bytes. text ≡ bytes)) (sym c.as_slice.ensures.value) c.in_ok-plan_text.ensures.whole in
+    let same = read_as (g.P.Source.remaining c.args.plan.now) c.as_slice.ensures.value c.in_ok-plan_text.ensures.whole in
     refusal_of (g.M.Source.remaining c.args.map.now) (g.S.Source.remaining c.args.scen.now) (g.P.Source.remaining c.args.plan.now) (g.C.Source.remaining c.args.cert.now) c.args.k c.in_ok-problem.problem c.in_ok-problem.ensures.found c.as_slice.result.now same c.in-Err-Refused.refusal (refusal_says (HasRefusal c.in_ok-problem.problem c.as_slice.result.now (g.C.Source.remaining c.args.cert.now)) c.in-Err-Refused.field-0 c.in-Err-Refused.refusal c.in-Err-Refused.field-0-is c.in-Err-Refused.ensures.refused)
 
 pub returns-in-Err-Refused-clause-unpulled : goal.returns-in-Err-Refused-clause-unpulled
 returns-in-Err-Refused-clause-unpulled g c =
-    let same : IfSome (g.P.Source.remaining c.args.plan.now) (λ bytes. c.as_slice.result.now ≡ bytes) = subst (λ text. IfSome (g.P.Source.remaining c.args.plan.now) (λ bytes. text ≡ bytes)) (sym c.as_slice.ensures.value) c.in_ok-plan_text.ensures.whole in
+    let same = read_as (g.P.Source.remaining c.args.plan.now) c.as_slice.ensures.value c.in_ok-plan_text.ensures.whole in
     λ none. c.check_from.ensures.unpulled (none_good (g.M.Source.remaining c.args.map.now) (g.S.Source.remaining c.args.scen.now) (g.P.Source.remaining c.args.plan.now) (g.C.Source.remaining c.args.cert.now) c.args.k c.in_ok-problem.problem c.in_ok-problem.ensures.found c.as_slice.result.now same none)
 
 pub returns-in-Err-Device-clause-unpulled : goal.returns-in-Err-Device-clause-unpulled
 returns-in-Err-Device-clause-unpulled g c =
-    let same : IfSome (g.P.Source.remaining c.args.plan.now) (λ bytes. c.as_slice.result.now ≡ bytes) = subst (λ text. IfSome (g.P.Source.remaining c.args.plan.now) (λ bytes. text ≡ bytes)) (sym c.as_slice.ensures.value) c.in_ok-plan_text.ensures.whole in
+    let same = read_as (g.P.Source.remaining c.args.plan.now) c.as_slice.ensures.value c.in_ok-plan_text.ensures.whole in
     λ none. c.check_from.ensures.unpulled (none_good (g.M.Source.remaining c.args.map.now) (g.S.Source.remaining c.args.scen.now) (g.P.Source.remaining c.args.plan.now) (g.C.Source.remaining c.args.cert.now) c.args.k c.in_ok-problem.problem c.in_ok-problem.ensures.found c.as_slice.result.now same none)
 
 pub returns-in-Err-TooLong-clause-unpulled : goal.returns-in-Err-TooLong-clause-unpulled
 returns-in-Err-TooLong-clause-unpulled g c =
-    let same : IfSome (g.P.Source.remaining c.args.plan.now) (λ bytes. c.as_slice.result.now ≡ bytes) = subst (λ text. IfSome (g.P.Source.remaining c.args.plan.now) (λ bytes. text ≡ bytes)) (sym c.as_slice.ensures.value) c.in_ok-plan_text.ensures.whole in
+    let same = read_as (g.P.Source.remaining c.args.plan.now) c.as_slice.ensures.value c.in_ok-plan_text.ensures.whole in
     λ none. c.check_from.ensures.unpulled (none_good (g.M.Source.remaining c.args.map.now) (g.S.Source.remaining c.args.scen.now) (g.P.Source.remaining c.args.plan.now) (g.C.Source.remaining c.args.cert.now) c.args.k c.in_ok-problem.problem c.in_ok-problem.ensures.found c.as_slice.result.now same none)
 
 pub returns-clause-unpulled : goal.returns-clause-unpulled
 returns-clause-unpulled g c =
-    let same : IfSome (g.P.Source.remaining c.args.plan.now) (λ bytes. c.as_slice.result.now ≡ bytes) = subst (λ text. IfSome (g.P.Source.remaining c.args.plan.now) (λ bytes. text ≡ bytes)) (sym c.as_slice.ensures.value) c.in_ok-plan_text.ensures.whole in
+    let same = read_as (g.P.Source.remaining c.args.plan.now) c.as_slice.ensures.value c.in_ok-plan_text.ensures.whole in
     λ none. c.check_from.ensures.unpulled (none_good (g.M.Source.remaining c.args.map.now) (g.S.Source.remaining c.args.scen.now) (g.P.Source.remaining c.args.plan.now) (g.C.Source.remaining c.args.cert.now) c.args.k c.in_ok-problem.problem c.in_ok-problem.ensures.found c.as_slice.result.now same none)
