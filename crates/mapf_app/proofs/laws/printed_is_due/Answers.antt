@@ -1,5 +1,5 @@
-use Rattle.std.proofs.Common.{◌≡◌, ℕ, List, Some, refl, sym, subst}
-use Rattle.mapf_app.specs.Headline.{PrintsTruly, IsDueVerdict, IsVerdictOn}
+use Rattle.std.proofs.Common.{ℕ, List, refl, sym, subst}
+use Rattle.mapf_app.specs.Headline.{IsVerdictOn}
 use Rattle.mapf_app.specs.Solved.{Prints}
 use Rattle.mapf_app.specs.declared.kind.Kind.{Kind}
 use Rattle.mapf_app.specs.declared.kind.Kind.TheVariants.{Found, Impossible, Limit}
