@@ -2,7 +2,7 @@ ghost use Rattle.std.specs.Prelude.{◌≡◌, ◌≤◌, ℕ, List, IfOk, lengt
 ghost use Rattle.mapf_app.specs.Solved.{SpellsAnswer, Prints};
 ghost use Rattle.mapf_certificate.specs.Certificates.{cert_text};
 ghost use Rattle.mapf_cbs.specs.Answer.{IsTreeOf, IsShownOptimal, IsShownImpossible, MayStop};
-ghost use Rattle.mapf_certificate.specs.Plans.{IsAnswer as IsPlanAnswer};
+ghost use Rattle.mapf_certificate.specs.Plans.{IsAnswerInRange};
 ghost use Rattle.mapf_model.specs.Plan.{IsValid, IsSumOfCosts};
 ghost use Rattle.mapf_model.specs.Tree.{ConstraintTree, node_of};
 
@@ -21,7 +21,7 @@ pub struct Texts {
 }
 
 fn plan_bytes(alloc: Global, problem: &Problem, answer: PlanAnswer) -> Result<Vec<u8>, OutOfMemory>
-    requires { IsPlanAnswer problem.now.grid (length problem.now.agents) answer }
+    requires { IsAnswerInRange problem.now.grid (length problem.now.agents) answer }
     ensures { IfOk result (λ bytes. SpellsAnswer problem.now answer bytes.items) }
 {
     let text = PlanText {
@@ -88,7 +88,7 @@ fn impossible(alloc: Global, problem: &Problem, tree: Vec<Item>) -> Result<Texts
 }
 
 fn limited(alloc: Global, problem: &Problem, cause: Cause) -> Result<Texts, OutOfMemory>
-    requires { IsPlanAnswer problem.now.grid (length problem.now.agents) (PlanAnswer.Limit cause) }
+    requires { IsAnswerInRange problem.now.grid (length problem.now.agents) (PlanAnswer.Limit cause) }
     ensures { IfOk result (λ texts. (limit : ℕ) (items : List Item) (tree : ConstraintTree) → IsTreeOf problem.now limit items tree → MayStop problem.now limit cause tree →
         Prints problem.now limit texts.kind texts.plan.items texts.cert.items) }
 {

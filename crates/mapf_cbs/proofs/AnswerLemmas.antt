@@ -24,7 +24,7 @@ use Rattle.mapf_cbs.specs.Nodes.{IsRootView, IsNodeView, IsNodeFor, AreNodesFor,
 use Rattle.mapf_model.specs.declared.cause.Cause.{Cause}
 use Rattle.mapf_model.specs.declared.cause.Cause.TheVariants.{Splits, Ticks}
 use Rattle.mapf_cbs.specs.declared.answer.Answer.TheVariants.{Limit as LimitAnswer}
-use Rattle.mapf_cbs.specs.Answer.{IsTreeOf, IsShownOptimal, IsShownImpossible, IsAnswer}
+use Rattle.mapf_cbs.specs.Answer.{IsTreeOf, IsShownOptimal, IsShownImpossible, IsSearchAnswer}
 use Rattle.mapf_cbs.specs.State.{IsOpenSet, IsState, IsPopped, IsCauseToStop, IsLeastKey}
 use Rattle.mapf_cbs.proofs.ViewLemmas.{live_sum, live_cheapest}
 use Rattle.mapf_cbs.proofs.ChildLemmas.{conflict_early}
@@ -205,7 +205,7 @@ module _ (problem : Instance) (shape : IsGridMap problem.grid) (nodes : List Nod
 
     -- the answer of a search that stops
     pub answer_limit : ((i j : ℕ) → ShareGoal problem i j → ⊥) → (conflict : Conflict) → HasConflict view.paths conflict → AreConflictFreeBefore view.paths (tick_of conflict) → (cause : Cause) → IsCauseToStop conflict count limit cause →
-        (listed : Vec Item Global) → listed.items ≡ items → IsAnswer problem limit (LimitAnswer cause listed)
+        (listed : Vec Item Global) → listed.items ≡ items → IsSearchAnswer problem limit (LimitAnswer cause listed)
     answer_limit goals conflict meet apart Ticks late listed same =
         let a = answer_ticks goals conflict meet apart late in
         (a.0, subst (λ its. IsTreeOf problem limit its a.0) (sym same) a.1, (a.2, a.3))

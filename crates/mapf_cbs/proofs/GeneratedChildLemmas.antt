@@ -11,7 +11,7 @@ use Rattle.mapf_model.proofs.DecidedLemmas.{cost_unique}
 use Rattle.mapf_model.proofs.SplitLemmas.{Contains-cons_cases}
 use Rattle.mapf_spacetime.specs.declared.found.Found.{Found}
 use Rattle.mapf_spacetime.specs.declared.found.Found.TheVariants.{Arrives, Dead}
-use Rattle.mapf_spacetime.specs.Answer.{IsAnswer}
+use Rattle.mapf_spacetime.specs.Answer.{IsPathAnswer}
 use Rattle.mapf_spacetime.specs.Task.{task_of}
 use Rattle.mapf_cbs.specs.Search.{View, IsLive, live_child, dead_child}
 use Rattle.mapf_cbs.specs.GeneratedChild.{EndsAt, IsTotal, IsGeneratedChild}
@@ -24,7 +24,7 @@ part_within [] i x is = absurd cc
 part_within (y ∷ xs) zero x is = let e : y ≡ x = same_Some y x is in rw sum_by-cons (omega arith)
 part_within (y ∷ xs) (suc i) x is = let h = part_within xs i x is in rw sum_by-cons (omega arith)
 
-pub found_ends : (problem : Instance) (agent : Agent) (bars : List Bar) (found : Found) → IsAnswer (task_of problem.grid agent bars) found → EndsAt found agent.goal
+pub found_ends : (problem : Instance) (agent : Agent) (bars : List Bar) (found : Found) → IsPathAnswer (task_of problem.grid agent bars) found → EndsAt found agent.goal
 found_ends problem agent bars (Arrives path labels) is = is.lawful.goal
 found_ends problem agent bars (Dead labels) is = tt
 
@@ -61,7 +61,7 @@ module _ (problem : Instance) (view : View) (live : IsLive problem view) (i : �
 module _ (problem : Instance) (view : View) (live : IsLive problem view) (i : ℕ) (agent : Agent) (known : slice_get problem.agents i ≡ Some agent) (bar : Bar) (bars : List Bar) (same : AreSameBars bars (bar ∷ view.constraints.bars i))
     (old : ℕ) (path : List ℕ) (path_is : slice_get view.paths i ≡ Some path) (old_is : IsCost agent.goal path old)
   where
-    pub generated : (found : Found) → IsAnswer (task_of problem.grid agent bars) found → (total : Option ℕ) → old ≤ sum view.costs → IsTotal found agent.goal (sum view.costs - old) total → IsGeneratedChild problem view i bar found total
+    pub generated : (found : Found) → IsPathAnswer (task_of problem.grid agent bars) found → (total : Option ℕ) → old ≤ sum view.costs → IsTotal found agent.goal (sum view.costs - old) total → IsGeneratedChild problem view i bar found total
     generated (Arrives new labels) arrival total less (cost', is', fits, total_is) =
         let cost = arrival.cost in
         let agent_path = cheapest_of problem.grid agent bars new labels arrival in

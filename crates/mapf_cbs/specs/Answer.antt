@@ -42,7 +42,7 @@ MayStop problem limit (Splits n) tree = IsStopped problem tree × (n ≡ limit) 
 MayStop problem limit Ticks tree = IsStoppedFrom 1000000 problem tree × (1000000 < (split_count tree + 1) * free_cell_count problem.grid)
 
 -- a plan or impossibility with a tree that shows it, or a limit that was met
-abbrev pub IsAnswer : Instance → ℕ → Answer → Type 0
-IsAnswer problem limit (FoundAnswer plan items) = (tree : ConstraintTree) × IsTreeOf problem limit items.items tree × IsShownOptimal problem plan tree
-IsAnswer problem limit (ImpossibleAnswer items) = (tree : ConstraintTree) × IsTreeOf problem limit items.items tree × IsShownImpossible problem tree
-IsAnswer problem limit (LimitAnswer cause items) = (tree : ConstraintTree) × IsTreeOf problem limit items.items tree × MayStop problem limit cause tree
+abbrev pub IsSearchAnswer : Instance → ℕ → Answer → Type 0
+IsSearchAnswer problem limit (FoundAnswer plan items) = (tree : ConstraintTree) × IsTreeOf problem limit items.items tree × IsShownOptimal problem plan tree
+IsSearchAnswer problem limit (ImpossibleAnswer items) = (tree : ConstraintTree) × IsTreeOf problem limit items.items tree × IsShownImpossible problem tree
+IsSearchAnswer problem limit (LimitAnswer cause items) = (tree : ConstraintTree) × IsTreeOf problem limit items.items tree × MayStop problem limit cause tree

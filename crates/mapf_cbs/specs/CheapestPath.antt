@@ -34,8 +34,3 @@ pub record HasNoPath (grid : GridMap) (agent : Agent) (bars : List Bar) (entries
   pub none : (path : List ℕ) → IsLawful grid agent path → Satisfies bars path → ⊥
   pub labels : AreGoodLabels (task_of grid agent bars) entries
   pub start : IsLabel grid agent.goal (entries_of entries) agent.start 0 Never
-
--- one table for each agent, of the distances to its goal
-pub record AreTables (problem : Instance) (tables : List GoalMap) : Type 0 where
-  pub count : length tables ≡ length problem.agents
-  pub each : (i : ℕ) (agent : Agent) (table : GoalMap) → slice_get problem.agents i ≡ Some agent → slice_get tables i ≡ Some table → (table.grid ≡ problem.grid) × (table.goal ≡ agent.goal)

@@ -10,7 +10,7 @@ use Rattle.mapf_model.specs.Tree.{ConstraintTree, ShareGoal}
 use Rattle.mapf_cbs.specs.declared.start.Beginning.{Beginning}
 use Rattle.mapf_cbs.specs.declared.start.Beginning.TheVariants.{Impossible as ImpossibleBeginning, Root as RootBeginning}
 use Rattle.mapf_cbs.specs.Answer.{IsTreeOf, IsShownImpossible}
-use Rattle.mapf_cbs.specs.CheapestPath.{AreTables}
+use Rattle.mapf_distance.specs.Tables.{AreTables}
 
 -- these agents have one goal
 abbrev pub HaveGoal : List Agent → ℕ → ℕ → Type 0

@@ -3,9 +3,10 @@ ghost use Rattle.mapf_model.specs.Laws.{AreSameBars};
 ghost use Rattle.mapf_model.specs.Path.{at, IsCost};
 ghost use Rattle.mapf_model.specs.declared.bar.Bar.{Bar};
 ghost use Rattle.mapf_model.specs.declared.problem.Agent.{Agent};
-ghost use Rattle.mapf_spacetime.specs.Answer.{IsAnswer};
+ghost use Rattle.mapf_spacetime.specs.Answer.{IsPathAnswer};
 ghost use Rattle.mapf_spacetime.specs.Task.{task_of};
-ghost use Rattle.mapf_cbs.specs.CheapestPath.{IsTableBar, AreTables};
+ghost use Rattle.mapf_cbs.specs.CheapestPath.{IsTableBar};
+ghost use Rattle.mapf_distance.specs.Tables.{AreTables};
 ghost use Rattle.mapf_cbs.specs.Search.{View, IsLive};
 ghost use Rattle.mapf_cbs.specs.Nodes.{AreNodesFor, HaveTableBars, AreViews};
 ghost use Rattle.mapf_cbs.specs.GeneratedChild.{IsGeneratedChild, EndsAt, IsTotal};
@@ -69,7 +70,7 @@ fn search_with<B: BarTable>(
     requires inside { k < length nodes.now }
     requires known { agent < length problem.now.agents }
     requires bar { IsTableBar bar }
-    ensures { IfOk result (λ found. (who : Agent) (views : List View) (view : View) → slice_get problem.now.agents agent ≡ Some who → AreViews nodes.now views → slice_get views k ≡ Some view → (bars : List Bar) × AreSameBars bars (bar ∷ view.constraints.bars agent) × IsAnswer (task_of problem.now.grid who bars) found) }
+    ensures { IfOk result (λ found. (who : Agent) (views : List View) (view : View) → slice_get problem.now.agents agent ≡ Some who → AreViews nodes.now views → slice_get views k ≡ Some view → (bars : List Bar) × AreSameBars bars (bar ∷ view.constraints.bars agent) × IsPathAnswer (task_of problem.now.grid who bars) found) }
 {
     let who = problem.agents()[agent as usize];
     let mut table: B = bars_at(alloc, nodes, k, agent)?;

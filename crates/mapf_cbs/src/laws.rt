@@ -4,8 +4,9 @@ ghost use Rattle.std.specs.Prelude.{◌≡◌, ◌+◌, ◌^◌, ◌<◌, ◌≤
 ghost use Rattle.mapf_model.specs.Earned.{HasConflict, AreConflictFreeBefore, tick_of};
 ghost use Rattle.mapf_model.specs.Laws.{AreSameBars};
 ghost use Rattle.mapf_model.specs.Tree.{ShareGoal};
-ghost use Rattle.mapf_cbs.specs.Answer.{IsAnswer};
-ghost use Rattle.mapf_cbs.specs.CheapestPath.{AreTables, IsTableBar};
+ghost use Rattle.mapf_cbs.specs.Answer.{IsSearchAnswer};
+ghost use Rattle.mapf_cbs.specs.CheapestPath.{IsTableBar};
+ghost use Rattle.mapf_distance.specs.Tables.{AreTables};
 ghost use Rattle.mapf_cbs.specs.Search.{View, IsLive};
 ghost use Rattle.mapf_cbs.specs.Start.{IsRootStart};
 ghost use Rattle.mapf_cbs.specs.Whole.{IsWhole, IsWholeChild, IsWholePopped, IsWholeState};
@@ -29,7 +30,7 @@ use std::alloc::Global;
 /// Answers what `solve` answers, by the plainest means.
 pub fn solve_plain(alloc: Global, problem: &Problem, limit: u32) -> Result<Answer, OutOfMemory>
     requires { limit ≤ 100000 }
-    ensures { IfOk result (IsAnswer problem.now limit) }
+    ensures { IfOk result (IsSearchAnswer problem.now limit) }
 {
     match begin(alloc, problem)? {
         Beginning::Impossible { tree } => Ok(Answer::Impossible { tree }),
@@ -48,7 +49,7 @@ fn search_plain(
 ) -> Result<Answer, OutOfMemory>
     requires limit { limit ≤ 100000 }
     requires root { IsRootStart problem.now tables.now paths.items }
-    ensures { IfOk result (IsAnswer problem.now limit) }
+    ensures { IfOk result (IsSearchAnswer problem.now limit) }
 {
     let agents = problem.agents().len() as u32;
     let root = WholeNode::root(alloc, &paths)?;

@@ -1,9 +1,9 @@
 ghost use Rattle.std.specs.Prelude.{◌≡◌, ◌≢◌, ◌+◌, ◌<◌, ◌≤◌, ◌∷◌, [], ℕ, List, Some, length, slice_get, IfOk, IfSome, IfNone, OnOk};
 ghost use Rattle.mapf_model.specs.Earned.{HasConflict, AreConflictFreeBefore, tick_of};
 ghost use Rattle.mapf_model.specs.Tree.{ShareGoal};
-ghost use Rattle.mapf_cbs.specs.Answer.{IsAnswer};
+ghost use Rattle.mapf_cbs.specs.Answer.{IsSearchAnswer};
 ghost use Rattle.mapf_cbs.specs.Nodes.{AreViews};
-ghost use Rattle.mapf_cbs.specs.CheapestPath.{AreTables};
+ghost use Rattle.mapf_distance.specs.Tables.{AreTables};
 ghost use Rattle.mapf_cbs.specs.Search.{View, IsLive};
 ghost use Rattle.mapf_cbs.specs.Start.{IsRootStart};
 ghost use Rattle.mapf_cbs.specs.State.{IsPopped, IsState, IsCauseToStop};
@@ -30,7 +30,7 @@ const TICK_LIMIT: u32 = 1_000_000;
 /// Answers `OutOfMemory` where a request for memory was refused.
 pub fn solve(alloc: Global, problem: &Problem, limit: u32) -> Result<Answer, OutOfMemory>
     requires { limit ≤ 100000 }
-    ensures { IfOk result (IsAnswer problem.now limit) }
+    ensures { IfOk result (IsSearchAnswer problem.now limit) }
 {
     solve_with::<TickBars>(alloc, problem, limit)
 }
@@ -42,7 +42,7 @@ pub fn solve_with<B: BarTable>(
     limit: u32,
 ) -> Result<Answer, OutOfMemory>
     requires { limit ≤ 100000 }
-    ensures { IfOk result (IsAnswer problem.now limit) }
+    ensures { IfOk result (IsSearchAnswer problem.now limit) }
 {
     match begin(alloc, problem)? {
         Beginning::Impossible { tree } => Ok(Answer::Impossible { tree }),
@@ -63,7 +63,7 @@ fn search_from<B: BarTable>(
 ) -> Result<Answer, OutOfMemory>
     requires limit { limit ≤ 100000 }
     requires root { IsRootStart problem.now tables.now paths.items }
-    ensures { IfOk result (IsAnswer problem.now limit) }
+    ensures { IfOk result (IsSearchAnswer problem.now limit) }
 {
     let agents = problem.agents().len() as u32;
     let total = total_of(&paths);

@@ -1,10 +1,10 @@
 ghost use Rattle.std.specs.Prelude.{◌≡◌, ◌*◌, ◌^◌, ◌≤◌, ◌-◌, ◌∷◌, [], length, sum_by, IfOk, IfSome, IfNone, MatchOption};
 ghost use Rattle.mapf_model.specs.Distance.{IsUnreachable};
-ghost use Rattle.mapf_cbs.specs.CheapestPath.{AreTables};
+ghost use Rattle.mapf_distance.specs.Tables.{AreTables};
 ghost use Rattle.mapf_cbs.specs.Start.{IsBeginning, IsShortest, AreShortest, SomeGoalIsUnreachable};
 
 use crate::clash::sharing_pair;
-use mapf_distance::Distances;
+use mapf_distance::{Distances, goal_tables};
 use mapf_model::{Agent, Grid, Item, OutOfMemory, Path, Problem};
 use std::alloc::Global;
 
@@ -54,17 +54,6 @@ fn one_item(alloc: Global, item: Item) -> Result<Vec<Item>, OutOfMemory>
     let mut tree = Vec::new(alloc);
     tree.push(item)?;
     Ok(tree)
-}
-
-// The distances to each agent's goal.
-fn goal_tables(alloc: Global, problem: &Problem) -> Result<Vec<Distances>, OutOfMemory>
-    ensures { IfOk result (λ tables. AreTables problem.now tables.items) }
-{
-    let mut tables = Vec::new(alloc);
-    for agent in problem.agents() {
-        tables.push(Distances::of(alloc, problem.grid(), agent.goal)?)?;
-    }
-    Ok(tables)
 }
 
 // A shortest path of each agent. None where some goal can't be reached.

@@ -13,7 +13,7 @@ use Rattle.mapf_certificate.specs.declared.plan_lines.AnswerLine.{AnswerLine}
 use Rattle.mapf_certificate.specs.declared.plan_lines.AnswerLine.TheVariants as answers
 use Rattle.mapf_certificate.specs.Numbers.{field}
 use Rattle.mapf_certificate.specs.Lines.{IsAgentCount}
-use Rattle.mapf_certificate.specs.Plans.{paths_text, cost_of, ticks_of, answer_text, plan_text, IsAnswer, IsPlanText}
+use Rattle.mapf_certificate.specs.Plans.{paths_text, cost_of, ticks_of, answer_text, plan_text, IsAnswerInRange, IsPlanText}
 use Rattle.mapf_certificate.specs.PlanReading.{next_words, next_agents, next_answer, agents_words, answer_words, IsAnswerLine, read_header, line_of, rest_of}
 use Rattle.mapf_certificate.proofs.Fields.{through, same_ok}
 use Rattle.mapf_certificate.proofs.LineLaws.{then_ok}
@@ -66,7 +66,7 @@ cost_small grid (path ∷ plan) all =
     let more = cost_small grid plan (All-tail (IsPathInRange grid) path plan all) in
     omega (arith, sum_by-append ticks_of (path ∷ []) plan, first.short, more)
 
-pub line_in_range : (grid : GridMap) (agents : ℕ) (answer : PlanAnswer) → agents ≤ 200 → IsAnswer grid agents answer → IsAnswerLine (line_of answer)
+pub line_in_range : (grid : GridMap) (agents : ℕ) (answer : PlanAnswer) → agents ≤ 200 → IsAnswerInRange grid agents answer → IsAnswerLine (line_of answer)
 line_in_range grid agents (texts.Found plan) few is = omega (arith, cost_small grid plan is.1, is.0)
 line_in_range grid agents texts.Impossible few is = tt
 line_in_range grid agents (texts.Limit (Splits count)) few is = is
@@ -81,7 +81,7 @@ path_moved g h path w t is = record {
   tight = is.tight;
 }
 
-pub answer_moved : (g h : GridMap) (a b : ℕ) (answer : PlanAnswer) → g.width ≡ h.width → g.height ≡ h.height → a ≡ b → IsAnswer g a answer → IsAnswer h b answer
+pub answer_moved : (g h : GridMap) (a b : ℕ) (answer : PlanAnswer) → g.width ≡ h.width → g.height ≡ h.height → a ≡ b → IsAnswerInRange g a answer → IsAnswerInRange h b answer
 answer_moved g h a b (texts.Found plan) w t same is = (is.0 ∙ same, All-weaker (IsPathInRange g) (IsPathInRange h) (λ path. path_moved g h path w t) plan is.1)
 answer_moved g h a b texts.Impossible w t same is = tt
 answer_moved g h a b (texts.Limit (Splits count)) w t same is = is
@@ -93,7 +93,7 @@ end_of width line (texts.Found plan) other same = absurd (other (cost_of plan) s
 end_of width line texts.Impossible other same = refl
 end_of width line (texts.Limit cause) other same = refl
 
-pub limit_in_range : (grid : GridMap) (agents : ℕ) (cause : Cause) → IsAnswerLine (answers.Limit cause) → IsAnswer grid agents (texts.Limit cause)
+pub limit_in_range : (grid : GridMap) (agents : ℕ) (cause : Cause) → IsAnswerLine (answers.Limit cause) → IsAnswerInRange grid agents (texts.Limit cause)
 limit_in_range grid agents (Splits count) is = is
 limit_in_range grid agents Ticks is = tt
 

@@ -48,11 +48,11 @@ abbrev pub plan_text : ℕ → PlanText → List ℕ
 plan_text width p = codes "mapf-plan 1\n" ++ ((codes "agents" ++ (field 32 p.agents ++ (10 ∷ []))) ++ (answer_text width p.answer ++ codes "end\n"))
 
 -- an answer with its numbers in their ranges
-abbrev pub IsAnswer : GridMap → ℕ → PlanAnswer → Type 0
-IsAnswer grid agents (Found plan) = (length plan ≡ agents) × All (IsPathInRange grid) plan
-IsAnswer grid agents Impossible = Unit {0}
-IsAnswer grid agents (Limit (Splits count)) = count ≤ 100000
-IsAnswer grid agents (Limit Ticks) = Unit {0}
+abbrev pub IsAnswerInRange : GridMap → ℕ → PlanAnswer → Type 0
+IsAnswerInRange grid agents (Found plan) = (length plan ≡ agents) × All (IsPathInRange grid) plan
+IsAnswerInRange grid agents Impossible = Unit {0}
+IsAnswerInRange grid agents (Limit (Splits count)) = count ≤ 100000
+IsAnswerInRange grid agents (Limit Ticks) = Unit {0}
 
 -- a plan for at most 200 agents
 abbrev pub IsFew : PlanAnswer → Type 0
@@ -61,7 +61,7 @@ IsFew _ = Unit {0}
 
 -- a value that has a spelling
 abbrev pub IsPlanText : GridMap → PlanText → Type 0
-IsPlanText grid p = IsAgentCount p.agents × IsAnswer grid p.agents p.answer
+IsPlanText grid p = IsAgentCount p.agents × IsAnswerInRange grid p.agents p.answer
 
 -- what an answer says
 abbrev pub says : PlanAnswer → PlanSays

@@ -3,7 +3,7 @@ ghost use Rattle.mapf_model.specs.Printed.{IsOnGrid, IsPathInRange};
 ghost use Rattle.mapf_model.specs.Path.{IsTight};
 ghost use Rattle.mapf_certificate.specs.Numbers.{Gives};
 ghost use Rattle.mapf_certificate.specs.Lines.{grid_of, IsAgentCount};
-ghost use Rattle.mapf_certificate.specs.Plans.{ArePaths, cells_text, path_words, paths_text, cost_of, plan_text, IsAnswer, IsPlanText, IsPathOf};
+ghost use Rattle.mapf_certificate.specs.Plans.{ArePaths, cells_text, path_words, paths_text, cost_of, plan_text, IsAnswerInRange, IsPlanText, IsPathOf};
 ghost use Rattle.mapf_certificate.specs.PlanReading.{cut, next_line, next_words, next_agents, next_answer, read_end, read_header, line_of, rest_of, IsAnswerLine, read_pair_cell, fault_at, OrMemory};
 
 use crate::ends;
@@ -254,8 +254,8 @@ fn answer_of(
     sizes: &Sizes,
 ) -> Result<PlanAnswer, PlanTextFault>
     requires { IsAnswerLine line.now }
-    ensures found { IfOk result (λ answer. IsAnswer (grid_of sizes.now.width sizes.now.height) sizes.now.agents answer × (line.now ≡ line_of answer) × (rest.now ≡ rest_of sizes.now.width answer)) }
-    ensures only { (answer : PlanAnswer) → IsAnswer (grid_of sizes.now.width sizes.now.height) sizes.now.agents answer → line.now ≡ line_of answer → rest.now ≡ rest_of sizes.now.width answer → OrMemory result (result ≡ Ok answer) }
+    ensures found { IfOk result (λ answer. IsAnswerInRange (grid_of sizes.now.width sizes.now.height) sizes.now.agents answer × (line.now ≡ line_of answer) × (rest.now ≡ rest_of sizes.now.width answer)) }
+    ensures only { (answer : PlanAnswer) → IsAnswerInRange (grid_of sizes.now.width sizes.now.height) sizes.now.agents answer → line.now ≡ line_of answer → rest.now ≡ rest_of sizes.now.width answer → OrMemory result (result ≡ Ok answer) }
 {
     match *line {
         AnswerLine::Cost(cost) => {

@@ -14,7 +14,8 @@ use Rattle.mapf_model.specs.declared.item.Claim.{Claim}
 use Rattle.mapf_model.specs.declared.item.Claim.TheVariants.{Cost, Impossible}
 use Rattle.mapf_model.specs.Laws.{StartLabelsDecide, StartLabelsDecideImpossible}
 use Rattle.mapf_model.specs.Tree.{StartsShow, block_of, with_blocks, no_entries}
-use Rattle.mapf_checker.specs.Leaf.{AreTables, IsCut, IsStartLabel, IsStartOf, IsStartTotal, IsEnough, label_of, TakesBlock, LeavesBlock}
+use Rattle.mapf_distance.specs.Tables.{AreTables}
+use Rattle.mapf_checker.specs.Leaf.{IsCut, IsStartLabel, IsStartOf, IsStartTotal, IsEnough, label_of, TakesBlock, LeavesBlock}
 use Rattle.mapf_distance.specs.Distances.{GoalMap}
 
 -- labels of the first starts

@@ -11,11 +11,6 @@ use Rattle.mapf_model.specs.Plan.{Instance}
 use Rattle.mapf_model.specs.Tree.{NodeConstraints, AreStartLabels, block_of, with_blocks, no_entries}
 use Rattle.mapf_distance.specs.Distances.{GoalMap}
 
--- a table of the distances to each agent's goal
-pub record AreTables (problem : Instance) (tables : List GoalMap) : Type 0 where
-  pub count : length tables ≡ length problem.agents
-  pub each : (i : ℕ) (agent : Agent) (table : GoalMap) → slice_get problem.agents i ≡ Some agent → slice_get tables i ≡ Some table → (table.grid ≡ problem.grid) × (table.goal ≡ agent.goal)
-
 -- the goal of the agent of this number
 abbrev pub IsGoalOf : Instance → ℕ → ℕ → Type 0
 IsGoalOf problem i goal = (agent : Agent) × (slice_get problem.agents i ≡ Some agent) × (agent.goal ≡ goal)

@@ -3,7 +3,7 @@ use Rattle.std.specs.Prelude.{◌≡◌, Bool, true, false, List, [], ◌∷◌,
 use Rattle.mapf_model.specs.Plan.{Instance}
 use Rattle.mapf_model.specs.Tree.{Node, SplitNode, LeafNode, ClashNode, NodeConstraints, left_child_constraints, right_child_constraints}
 use Rattle.mapf_checker.specs.declared.tree.Progress.{Progress}
-use Rattle.mapf_checker.specs.Leaf.{AreTables}
+use Rattle.mapf_distance.specs.Tables.{AreTables}
 use Rattle.mapf_checker.specs.Way.{Place, place_of}
 
 -- the constraints of the trees that are still to come, in pre-order, after this node

@@ -5,7 +5,8 @@ ghost use Rattle.mapf_model.specs.Labels.{entries_of, AreSound, label_plus};
 ghost use Rattle.mapf_model.specs.Printed.{IsBefore, IsBlockInRange, AreBlocksInRange};
 ghost use Rattle.mapf_model.specs.Tree.{ShowsFrom, Leaf, LeafNode};
 ghost use Rattle.mapf_checker.specs.AgentProblem.{HasGoalDistances, bars_on};
-ghost use Rattle.mapf_checker.specs.Leaf.{AreTables, IsGoodBlock, IsStartTotal, IsEnough, IsGoalOf, IsStartOf, IsStartLabel, IsCut, TakesBlock, LeavesBlock, label_of};
+ghost use Rattle.mapf_distance.specs.Tables.{AreTables};
+ghost use Rattle.mapf_checker.specs.Leaf.{IsGoodBlock, IsStartTotal, IsEnough, IsGoalOf, IsStartOf, IsStartLabel, IsCut, TakesBlock, LeavesBlock, label_of};
 ghost use Rattle.mapf_checker.specs.NodeDefects.{HasNodeDefect, HasUnsoundBlock, HasUnsoundEntry, IsUnsoundAt};
 ghost use Rattle.mapf_checker.specs.Way.{place_of};
 
@@ -16,17 +17,6 @@ use crate::way::Way;
 use mapf_distance::Distances;
 use mapf_model::{Block, Cell, Claim, Entry, Label, OutOfMemory, Problem, laws};
 use std::alloc::Global;
-
-/// The distances to each agent's goal.
-pub fn tables_of(alloc: Global, problem: &Problem) -> Result<Vec<Distances>, OutOfMemory>
-    ensures { IfOk result (λ tables. AreTables problem.now tables.items) }
-{
-    let mut tables = Vec::new(alloc);
-    for agent in problem.agents() {
-        tables.push(Distances::of(alloc, problem.grid(), agent.goal)?)?;
-    }
-    Ok(tables)
-}
 
 /// Whether the leaf shows the claim: each entry of its blocks is sound, and the labels of the starts
 /// are enough. `line` is that of the leaf.

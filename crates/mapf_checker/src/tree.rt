@@ -5,15 +5,15 @@ ghost use Rattle.mapf_model.specs.Plan.{Instance};
 ghost use Rattle.mapf_model.specs.Printed.{AreBlocksInRange};
 ghost use Rattle.mapf_model.specs.Tree.{SplitNode, LeafNode, ClashNode, IsProperSplit, AreTwoAgents, ShareGoal, node_of, root};
 ghost use Rattle.mapf_checker.specs.Faults.{IsOfJudging};
-ghost use Rattle.mapf_checker.specs.Leaf.{AreTables};
+ghost use Rattle.mapf_distance.specs.Tables.{AreTables};
 ghost use Rattle.mapf_checker.specs.NodeDefects.{HasNodeDefect, IsGoodNode};
 ghost use Rattle.mapf_checker.specs.Way.{place_of};
 
 use crate::fault::{CheckFault, FromFault};
-use crate::leaf::{judge_leaf, tables_of};
+use crate::leaf::judge_leaf;
 use crate::step::are_adjacent;
 use crate::way::Way;
-use mapf_distance::Distances;
+use mapf_distance::{Distances, goal_tables};
 use mapf_model::{Block, Claim, Conflict, Item, OutOfMemory, Problem};
 use std::alloc::Global;
 
@@ -148,7 +148,7 @@ impl Progress {
         if !self.tables.is_empty() {
             return Ok(());
         }
-        let Ok(tables) = tables_of(alloc, problem) else {
+        let Ok(tables) = goal_tables(alloc, problem) else {
             return Err(FromFault::Memory);
         };
         self.tables = tables;

@@ -3,6 +3,8 @@
 
 mod beside;
 mod distances;
+mod tables;
 mod wave;
 
 pub use distances::Distances;
+pub use tables::goal_tables;

@@ -7,7 +7,7 @@ ghost use Rattle.mapf_spacetime.specs.declared.state.State.{State};
 ghost use Rattle.mapf_spacetime.specs.Task.{task_of, IsOpen, IsValue, IsWithin, start_of};
 ghost use Rattle.mapf_spacetime.specs.Listed.{AreEntriesOf};
 ghost use Rattle.mapf_spacetime.specs.States.{HasArrived, IsBelowLimit};
-ghost use Rattle.mapf_spacetime.specs.Answer.{IsAnswer, ShowNone};
+ghost use Rattle.mapf_spacetime.specs.Answer.{IsPathAnswer, ShowNone};
 
 use crate::entries::entries_of;
 use crate::found::Found;
@@ -33,7 +33,7 @@ pub fn search<'a, B: BarTable>(
 ) -> Result<Found, OutOfMemory>
     requires grid { distances.now.grid ≡ grid.now }
     requires goal { distances.now.goal ≡ agent.goal }
-    ensures { IfOk result (IsAnswer (task_of grid.now agent (B.bars bars.now))) }
+    ensures { IfOk result (IsPathAnswer (task_of grid.now agent (B.bars bars.now))) }
 {
     // The width tells the shape of the grid.
     let _width = grid.width();
@@ -64,7 +64,7 @@ fn by_cost<B: BarTable>(alloc: Global, ground: &Ground<B>, first: u32) -> Result
     requires shape { IsGridMap ground.now.grid }
     requires start { IsOpen ground.now (start_of ground.now) }
     requires first { IsValue ground.now (start_of ground.now) first }
-    ensures { IfOk result (IsAnswer ground.now) }
+    ensures { IfOk result (IsPathAnswer ground.now) }
 {
     let start = State {
         tick: 0,
@@ -116,7 +116,7 @@ fn arrive<B: BarTable>(
     requires limit { IsBelowLimit ground.now frontier.now.cost }
     requires start { IsOpen ground.now (start_of ground.now) }
     requires arrived { HasArrived ground.now frontier.now }
-    ensures { IfOk result (IsAnswer ground.now) }
+    ensures { IfOk result (IsPathAnswer ground.now) }
 {
     mapf_model::laws::definitions_are_decided();
     // The horizon tells that move bars have two cells.
@@ -139,7 +139,7 @@ fn dead<B: BarTable>(
     requires shape { IsGridMap ground.now.grid }
     requires few { (s : State) → Contains states.now s → IsWithin ground.now 9999999 s }
     requires none { (entries : List Entry) → AreEntriesOf states.now None entries → ShowNone ground.now entries }
-    ensures { IfOk result (IsAnswer ground.now) }
+    ensures { IfOk result (IsPathAnswer ground.now) }
 {
     let entries = entries_of(alloc, states, None)?;
     Ok(Found::Dead {

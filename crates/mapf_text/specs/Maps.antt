@@ -127,3 +127,7 @@ SizeIn name line (Err OutOfRange) = (size : ℕ) × IsSizeLine name line size ×
 abbrev pub HasNoSize : List ℕ → List (List ℕ) → NotSize → Type 0
 HasNoSize name lines Absent = (size : ℕ) (rest : List (List ℕ)) → AfterSize name lines size rest → ⊥
 HasNoSize name lines OutOfRange = (size : ℕ) × (rest : List (List ℕ)) × AfterSize name lines size rest × (IsSize size → ⊥)
+
+-- bytes spell one grid at most
+abbrev pub SpellsOneMap : Type 0
+SpellsOneMap = (bytes : List ℕ) (grid other : GridMap) → SpellsMap bytes grid → SpellsMap bytes other → grid ≡ other

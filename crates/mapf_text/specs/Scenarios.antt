@@ -55,3 +55,7 @@ HasRowsFault grid rows k fault =
 abbrev pub HasScenarioFault : GridMap → List (List ℕ) → ℕ → ScenFault → Type 0
 HasScenarioFault grid lines k S1 = (rows : List (List ℕ)) → AfterVersion lines rows → ⊥
 HasScenarioFault grid lines k fault = (rows : List (List ℕ)) × AfterVersion lines rows × HasRowsFault grid rows k fault
+
+-- on a grid, bytes spell one problem of so many agents at most
+abbrev pub SpellsOneScenario : Type 0
+SpellsOneScenario = (bytes : List ℕ) (grid : GridMap) (k : ℕ) (problem other : Instance) → SpellsScenario bytes grid k problem → SpellsScenario bytes grid k other → problem ≡ other

@@ -4,6 +4,7 @@
 mod agent_row;
 mod decimal;
 mod header;
+pub mod laws;
 mod line;
 mod map;
 mod map_fault;

@@ -3,7 +3,7 @@ use Rattle.std.proofs.lemmas.Option.{slice_get_read, same_Some}
 use Rattle.std.proofs.lemmas.Result.{IfOk-weaker}
 use Rattle.mapf_model.specs.declared.problem.Agent.{Agent}
 use Rattle.mapf_model.specs.Grid.{GridMap}
-use Rattle.mapf_spacetime.specs.Answer.{IsAnswer}
+use Rattle.mapf_spacetime.specs.Answer.{IsPathAnswer}
 use Rattle.mapf_spacetime.specs.Task.{task_of}
 use Rattle.mapf_cbs.proofs.GeneratedChildLemmas.{bars_with}
 use Rattle.mapf_cbs.proofs.child.search_with.Goals as goal
@@ -35,7 +35,7 @@ returns g c = IfOk-weaker c.search.result _ _ (λ found is who views view known 
     let same : c.index-agents-agent.result ≡ who = same_Some c.index-agents-agent.result who (sym (rw agents at read) ∙ known) in (
       g.B.BarTable.bars c.add.new.self,
       bars_with (view.constraints.bars c.args.agent) (g.B.BarTable.bars c.in_ok-table.table) (g.B.BarTable.bars c.add.new.self) c.args.bar (c.in_ok-table.ensures views view are view_is) c.in_ok-add.ensures.added,
-      subst (λ (a : Agent). IsAnswer (task_of c.args.problem.now.grid a (g.B.BarTable.bars c.add.new.self)) found) same
-          (subst (λ (m : GridMap). IsAnswer (task_of m c.index-agents-agent.result (g.B.BarTable.bars c.add.new.self)) found) c.grid.ensures is),
+      subst (λ (a : Agent). IsPathAnswer (task_of c.args.problem.now.grid a (g.B.BarTable.bars c.add.new.self)) found) same
+          (subst (λ (m : GridMap). IsPathAnswer (task_of m c.index-agents-agent.result (g.B.BarTable.bars c.add.new.self)) found) c.grid.ensures is),
     ))
     c.search.ensures

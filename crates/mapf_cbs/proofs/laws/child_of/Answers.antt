@@ -1,7 +1,7 @@
 use Rattle.std.proofs.Common.{◌≡◌, ◌-◌, ◌<◌, length, slice_set, sum, refl, ◌∙◌, subst, arith}
 use Rattle.std.proofs.lemmas.Option.{slice_get_read}
 use Rattle.mapf_model.specs.Grid.{GridMap}
-use Rattle.mapf_spacetime.specs.Answer.{IsAnswer}
+use Rattle.mapf_spacetime.specs.Answer.{IsPathAnswer}
 use Rattle.mapf_spacetime.specs.Task.{task_of}
 use Rattle.mapf_cbs.specs.GeneratedChild.{IsTotal}
 use Rattle.mapf_cbs.specs.Whole.{AreCopies}
@@ -39,7 +39,7 @@ returns-clause-generated c view whole live =
     let path = (whole.each c.args.agent c.index-2.result.now (slice_get_read agent_paths (length agent_paths) c.args.agent c.index-2.result.now refl inside c.index-2.ensures)).path in
     let third = slice_get_read agent_paths (length agent_paths) c.args.agent c.index-3.result.now refl inside c.index-3.ensures in
     let same = bars_with (view.constraints.bars c.args.agent) c.index.result.now.bars c.in_ok-bars.bars c.args.bar first.bars c.in_ok-bars.ensures in
-    let answer = subst (λ (m : GridMap). IsAnswer (task_of m c.index-agents-agent.result c.in_ok-bars.bars) c.in_ok-found.found) c.grid.ensures c.in_ok-found.ensures in
+    let answer = subst (λ (m : GridMap). IsPathAnswer (task_of m c.index-agents-agent.result c.in_ok-bars.bars) c.in_ok-found.found) c.grid.ensures c.in_ok-found.ensures in
     let old = c.cost_of-old.result in
     let less = old_within c.args.problem.now view live c.args.agent c.index-agents-agent.result known c.index-2.result.now.path path old c.cost_of-old.ensures in
     let rest : c.args.node.now.total - c.from.result ≡ sum view.costs - old = (let e = c.from.ensures in rw e (rw whole.total refl)) in

@@ -1,7 +1,7 @@
 use Rattle.std.proofs.Common.{◌≡◌, ℕ, Some, length, slice_get}
 use Rattle.mapf_model.specs.declared.problem.Agent.{Agent}
 use Rattle.mapf_distance.specs.Distances.{GoalMap}
-use Rattle.mapf_cbs.proofs.start.goal_tables.Given as goal
+use Rattle.mapf_distance.proofs.tables.goal_tables.Given as goal
 
 abbrev pub invariant-loop-agent : goal.invariant-loop-agent
 invariant-loop-agent l = record {

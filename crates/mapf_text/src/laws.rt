@@ -1,0 +1,8 @@
+ghost use Rattle.mapf_text.specs.Maps.{SpellsOneMap};
+ghost use Rattle.mapf_text.specs.Scenarios.{SpellsOneScenario};
+
+/// No text spells two maps, nor two problems on one grid.
+pub fn inputs_are_spelled_apart()
+    ensures map { SpellsOneMap }
+    ensures scen { SpellsOneScenario }
+{}
