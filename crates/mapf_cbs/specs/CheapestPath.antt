@@ -1,5 +1,5 @@
 -- Cheapest paths of agents under their bars.
-use Rattle.std.specs.Prelude.{◌≡◌, ℕ, ◌+◌, ◌<◌, ◌≤◌, List, Some, length, slice_get}
+use Rattle.std.specs.Prelude.{ℕ, ◌+◌, ◌<◌, ◌≤◌, List}
 use Rattle.mapf_model.specs.declared.bar.Bar.{Bar}
 use Rattle.mapf_model.specs.declared.label.Entry.{Entry}
 use Rattle.mapf_model.specs.declared.label.Label.TheVariants.{Ticks, Never}
@@ -8,9 +8,7 @@ use Rattle.mapf_model.specs.Bars.{Satisfies, IsBar}
 use Rattle.mapf_model.specs.Grid.{GridMap, free_cell_count}
 use Rattle.mapf_model.specs.Labels.{entries_of, IsLabel}
 use Rattle.mapf_model.specs.Path.{IsLawful, IsCost, IsTight}
-use Rattle.mapf_model.specs.Plan.{Instance}
 use Rattle.mapf_constraints.specs.BarSets.{tick_of, AreBefore}
-use Rattle.mapf_distance.specs.Distances.{GoalMap}
 use Rattle.mapf_spacetime.specs.Answer.{AreGoodLabels}
 use Rattle.mapf_spacetime.specs.Task.{task_of}
 

@@ -9,7 +9,6 @@ use Rattle.mapf_model.specs.Blocks.{LabelBlock}
 use Rattle.mapf_model.specs.Labels.{entries_of, AreSound, IsLabel, label_sum}
 use Rattle.mapf_model.specs.Plan.{Instance}
 use Rattle.mapf_model.specs.Tree.{NodeConstraints, AreStartLabels, block_of, with_blocks, no_entries}
-use Rattle.mapf_distance.specs.Distances.{GoalMap}
 
 -- the goal of the agent of this number
 abbrev pub IsGoalOf : Instance → ℕ → ℕ → Type 0
