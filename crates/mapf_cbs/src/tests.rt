@@ -3,7 +3,7 @@ ghost use Rattle.std.specs.Prelude.{◌≤◌};
 use crate::laws::solve_plain;
 use crate::{Answer, Cause, solve, solve_with};
 use mapf_constraints::{BarTable, ListBars, TickBars};
-use mapf_model::{Agent, Block, Cell, Grid, Item, Label, Path, Plan, Problem};
+use mapf_model::{Agent, Block, Cell, Entry, Grid, Item, Label, Path, Plan, Problem};
 use std::alloc::{AllocError, Global};
 use std::process::Abort;
 use std::test::Fail;
@@ -173,6 +173,65 @@ fn lets_an_agent_pass(rt: HostRuntime) -> Result<(), Fail> {
     let text = common_text(&rt, rt.alloc(), &problem, 4)?;
     assert!(rt; text.starts_with("limit 4 / vertex 0 1 1 1 / "));
     Ok(())
+}
+
+/// The label of an agent's start at a leaf: its block's entry at tick 0, else its distance.
+fn start_label(blocks: &[Block], agent: u32, distance: u32) -> u32 {
+    for block in blocks {
+        if block.agent == agent
+            && let Some(
+                Entry {
+                    tick: 0,
+                    label: Label::Ticks(ticks),
+                    ..
+                },
+            ) = block.entries.first()
+        {
+            return *ticks;
+        }
+    }
+    distance
+}
+
+/// The sums of costs of the leaves, for the agent that goes two cells and the one that is at its goal.
+fn leaf_sums(alloc: Global, tree: &[Item]) -> Result<String, AllocError> {
+    let mut text = String::new(alloc);
+    for item in tree {
+        if let Item::Leaf(blocks) = item {
+            let passing = u64::from(start_label(blocks.as_slice(), 0, 2));
+            let waiting = u64::from(start_label(blocks.as_slice(), 1, 0));
+            text.push_str(&format!(in alloc; " {}", passing + waiting)?)?;
+        }
+    }
+    Ok(text)
+}
+
+fn has_sums(
+    rt: &impl Abort,
+    alloc: Global,
+    problem: &Problem,
+    limit: u32,
+    expected: &str,
+) -> Result<(), Fail>
+    requires { limit ≤ 100000 }
+{
+    let answer = solve(alloc, problem, limit)?;
+    let (Answer::Found { tree, .. } | Answer::Impossible { tree } | Answer::Limit { tree, .. }) =
+        &answer;
+    assert_eq!(rt; leaf_sums(alloc, tree)?.as_str(), expected);
+    Ok(())
+}
+
+// Each node is an end before it is split, so that the sum of each is seen with some limit.
+#[test]
+fn finds_the_sum_of_each_node(rt: HostRuntime) -> Result<(), Fail> {
+    let problem = problem_of(rt.alloc(), "... @.@", [(0, 2), (1, 1)].as_slice())?;
+    has_sums(&rt, rt.alloc(), &problem, 0, " 2")?;
+    has_sums(&rt, rt.alloc(), &problem, 1, " 3 4")?;
+    has_sums(&rt, rt.alloc(), &problem, 2, " 4 6 4")?;
+    has_sums(&rt, rt.alloc(), &problem, 3, " 4 6 5 4")?;
+    has_sums(&rt, rt.alloc(), &problem, 4, " 5 8 6 5 4")?;
+    has_sums(&rt, rt.alloc(), &problem, 5, " 5 8 6 5 5 4")
 }
 
 #[test]
