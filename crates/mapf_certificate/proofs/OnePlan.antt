@@ -55,7 +55,7 @@ paths_same sizes due (p ∷ ps) (q ∷ qs) s t whole many all_p all_q e =
     let is_q = All-head In q qs all_q in
     let less : due < sizes.agents = omega arith in
     let (words, rest) = same_front (path_words width due p) (path_words width due q) (paths_text width (due + 1) ps ++ s) (paths_text width (due + 1) qs ++ t) (path_lacks sizes due p less is_p) (path_lacks sizes due q less is_q)
-        (sym (cut p ps s) ∙ e ∙ cut q qs t) in
+    (sym (cut p ps s) ∙ e ∙ cut q qs t) in
     let head : p ≡ q = path_same sizes due p q less is_p is_q words in
     let tail : ps ≡ qs = paths_same sizes (due + 1) ps qs s t (omega arith) (omega arith) (All-tail In p ps all_p) (All-tail In q qs all_q) rest in
     cc
