@@ -1,8 +1,8 @@
 -- Windows one after another, and what refuses a part of a text.
-use Rattle.std.proofs.Common.{◌≡◌, ◌≢◌, ◌↔◌, ℕ, ◌+◌, ◌⊎◌, inl, inr, Bool, true, false, List, [], ◌++◌, length, Option, Some, None, Result, Ok, Err, IfErr, IsErrOf, refl, sym, ap, subst, ◌∙◌, arith, append_assoc, length-append}
+use Rattle.std.proofs.Common.{◌≡◌, ◌≢◌, ◌↔◌, ℕ, ◌+◌, ◌⊎◌, inl, inr, Bool, true, false, List, ◌++◌, length, Option, Some, None, Result, Ok, Err, IfErr, IsErrOf, refl, sym, ap, subst, ◌∙◌, arith, append_assoc, length-append}
 use Rattle.std.proofs.lemmas.List.{append-nil}
 use Rattle.std.specs.Io.KnownBytes.{Consumes, IsAtEnd}
-use Rattle.std.proofs.KnownBytes.{Consumes-nil, Consumes-trans}
+use Rattle.std.proofs.KnownBytes.{Consumes-trans}
 use Rattle.mapf_certificate.specs.declared.cert.CertFault.TheVariants as texts
 use Rattle.mapf_certificate.specs.declared.cert.LinesFault.{LinesFault}
 use Rattle.mapf_certificate.specs.declared.cert.LinesFault.TheVariants.{Text, Device, TooLong, Memory}
@@ -169,9 +169,6 @@ pulls_if_fails a b failed x Is Memory fails = pulls_within a b x Memory (λ e. c
 -- a window is no such answer
 pub pulls_in_window : {A : Type 0} (a b : Option (List ℕ)) (x y : Buffered) (t : List ℕ) (answer : A) → Window a b x y t → Pulls a b x.left (IsErrOf {T = A} (Ok answer) TooLong)
 pulls_in_window a b x y t answer window = record { came = window.pulled; source = window.source; few = omega (arith, window.within); beyond = (λ e. cc, λ h. absurd (omega (arith, window.within))) }
-
-pub pulls_nothing : {A : Type 0} (a : Option (List ℕ)) (most : ℕ) (answer : A) → Pulls a a most (IsErrOf {T = A} (Ok answer) TooLong)
-pulls_nothing a most answer = record { came = []; source = Consumes-nil a; few = omega arith; beyond = (λ e. cc, λ h. absurd (omega arith)) }
 
 pub no_inner_memory : (a b : Option (List ℕ)) (failed : Bool) (x : Buffered) (Is : List ℕ → Type 0) (fault : LinesFault) → Fails a b failed x Is fault → HasNoInnerMemory fault
 no_inner_memory a b failed x Is fault fails = λ e. subst (Fails a b failed x Is) e fails
