@@ -12,6 +12,7 @@ pub mod PlanTexts
 pub mod OnePlan
 pub mod Windows
 pub mod LineWindows
+pub mod TakenThere
 pub mod Sequences
 pub mod Blocks
 pub mod Nodes

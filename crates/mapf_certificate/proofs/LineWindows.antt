@@ -26,7 +26,7 @@ has_end [] rest e = cc
 has_end (c ∷ cs) rest e = has_end cs rest (both (not (c == 10)) (lacks_end (cs ++ (10 ∷ rest))) e).1
 
 -- also in its first bytes, where the line is short
-has_end_soon : (front rest : List ℕ) (n : ℕ) → length front < n → lacks_end (take n (front ++ (10 ∷ rest))) ≡ true → ⊥
+pub has_end_soon : (front rest : List ℕ) (n : ℕ) → length front < n → lacks_end (take n (front ++ (10 ∷ rest))) ≡ true → ⊥
 has_end_soon front rest zero h e = absurd (omega arith)
 has_end_soon [] rest (suc n) h e = cc
 has_end_soon (c ∷ cs) rest (suc n) h e = has_end_soon cs rest n (omega arith) (both (not (c == 10)) (lacks_end (take n (cs ++ (10 ∷ rest)))) e).1

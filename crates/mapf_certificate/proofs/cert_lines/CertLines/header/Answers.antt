@@ -5,6 +5,7 @@ use Rattle.mapf_certificate.specs.Reading.{Reading}
 use Rattle.mapf_certificate.specs.CertReading.{HasHeader, Awaits, AwaitsCert, TakesHeader}
 use Rattle.mapf_certificate.specs.declared.cert.LinesFault.TheVariants.{TooLong}
 use Rattle.mapf_certificate.specs.Certificates.{header_text}
+use Rattle.mapf_certificate.specs.Untouched.{TakesThere}
 use Rattle.mapf_certificate.specs.Window.{Fails, Pulls, IsNoTextFault}
 use Rattle.mapf_certificate.proofs.Windows.{device_if_fails, no_inner_memory, pulls_if_fails, pulls_in_window}
 use Rattle.mapf_certificate.proofs.Headers.{header_joins, header_same, header_awaited}
@@ -116,3 +117,10 @@ returns-in-Err-clause-inner g c =
     let left = s.remaining c.read_header-read.new.source in
     let failed = s.has_failed c.read_header-read.new.source in
     no_inner_memory had left failed i.lines.buffer (HasHeader i.width) c.in-Err.fault (c.in-Err.ensures.fails i.width)
+
+pub returns-in-Ok-clause-there : goal.returns-in-Ok-clause-there
+returns-in-Ok-clause-there g c =
+    let i = c.self.inside in
+    let h = c.in-Ok.header in
+    let P : Reading → Type 0 = λ r. r.fault ≡ None → r.header ≡ None → TakesThere c.args.source.now c.read_header-read.new.source r.buffer c.read_header-read.new.lines.buffer (header_text r.width h.0 h.1) in
+    subst P c.self.view_is (λ p q. c.in-Ok.ensures.there i.width)
