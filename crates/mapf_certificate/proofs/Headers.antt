@@ -14,8 +14,10 @@ use Rattle.mapf_certificate.specs.Lines.{IsLine, IsAgentCount}
 use Rattle.mapf_certificate.specs.Certificates.{line_text, header_text, IsRest}
 use Rattle.mapf_certificate.specs.Reading.{Reading, grid_at, agents_at}
 use Rattle.mapf_certificate.specs.CertReading.{HasHeader, Awaits, AwaitsCert}
+use Rattle.mapf_certificate.specs.Untouched.{TakesThere}
 use Rattle.mapf_certificate.specs.Window.{Window, Fails, IsNoTextFault}
 use Rattle.mapf_certificate.proofs.PlainLines.{same_line}
+use Rattle.mapf_certificate.proofs.TakenThere.{there-trans}
 use Rattle.mapf_certificate.proofs.Windows.{Window-trans, Window-known, Fails-after, Fails-weaker, Fails-not}
 use Rattle.mapf_certificate.proofs.LineWindows.{IsNext}
 
@@ -76,13 +78,22 @@ fails_in_claim width had one mid left failed x y z first second fault is_first i
     Fails-after had one left failed x y (line_text 1 first) (HasHeader width) Counted fault window (λ t has. after_title width first t is_first has)
     (Fails-after one mid left failed y z (line_text 1 second) Counted (IsNext dues.Claim) fault more (λ t counted. after_agents second t is_second counted) fails)
 
+three_lines : (width : ℕ) (first second third : Line) (agents : ℕ) (claim : Claim) → IsLine dues.Title first → second ≡ lines.Agents agents → third ≡ lines.Claim claim → line_text 1 first ++ (line_text 1 second ++ line_text 1 third) ≡ header_text width agents claim
+three_lines width first second third agents claim is_first is_second is_third =
+    let last : line_text 1 third ≡ line_text width (lines.Claim claim) = ap (line_text 1) is_third ∙ sym (claim_words width claim) in
+    ap (λ l. line_text 1 first ++ (line_text 1 second ++ l)) last ∙ ap (λ l. line_text 1 first ++ (line_text 1 l ++ line_text width (lines.Claim claim))) is_second ∙ ap (λ l. line_text 1 l ++ (line_text 1 (lines.Agents agents) ++ line_text width (lines.Claim claim))) is_first
+
+-- a header whose lines were all in the buffer
+pub header_there : {S : Type 0} (width : ℕ) (s0 s1 s2 s3 : S) (x y z w : Buffered) (first second third : Line) (agents : ℕ) (claim : Claim) → TakesThere s0 s1 x y (line_text 1 first) → TakesThere s1 s2 y z (line_text 1 second) → TakesThere s2 s3 z w (line_text 1 third)
+    → IsLine dues.Title first → second ≡ lines.Agents agents → third ≡ lines.Claim claim → TakesThere s0 s3 x w (header_text width agents claim)
+header_there width s0 s1 s2 s3 x y z w first second third agents claim p q r is_first is_second is_third =
+    subst (TakesThere s0 s3 x w) (three_lines width first second third agents claim is_first is_second is_third)
+    (there-trans s0 s1 s3 x y w (line_text 1 first) (line_text 1 second ++ line_text 1 third) p (there-trans s1 s2 s3 y z w (line_text 1 second) (line_text 1 third) q r))
+
 pub header_window : (width : ℕ) (had one mid left : Option (List ℕ)) (x y z w : Buffered) (first second third : Line) (agents : ℕ) (claim : Claim) → Window had one x y (line_text 1 first) → Window one mid y z (line_text 1 second) → Window mid left z w (line_text 1 third)
     → IsLine dues.Title first → second ≡ lines.Agents agents → third ≡ lines.Claim claim → Window had left x w (header_text width agents claim)
 header_window width had one mid left x y z w first second third agents claim p q r is_first is_second is_third =
-    let last : line_text 1 third ≡ line_text width (lines.Claim claim) = ap (line_text 1) is_third ∙ sym (claim_words width claim) in
-    let all : line_text 1 first ++ (line_text 1 second ++ line_text 1 third) ≡ header_text width agents claim =
-    ap (λ l. line_text 1 first ++ (line_text 1 second ++ l)) last ∙ ap (λ l. line_text 1 first ++ (line_text 1 l ++ line_text width (lines.Claim claim))) is_second ∙ ap (λ l. line_text 1 l ++ (line_text 1 (lines.Agents agents) ++ line_text width (lines.Claim claim))) is_first in
-    subst (Window had left x w) all (Window-trans had one left x y w (line_text 1 first) (line_text 1 second ++ line_text 1 third) p (Window-trans one mid left y z w (line_text 1 second) (line_text 1 third) q r))
+    subst (Window had left x w) (three_lines width first second third agents claim is_first is_second is_third) (Window-trans had one left x y w (line_text 1 first) (line_text 1 second ++ line_text 1 third) p (Window-trans one mid left y z w (line_text 1 second) (line_text 1 third) q r))
 
 agents_same : (a b : ℕ) → lines.Agents a ≡ lines.Agents b → a ≡ b
 agents_same a b e = cc

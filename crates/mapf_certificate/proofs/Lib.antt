@@ -9,8 +9,10 @@ pub mod PlanParts
 pub mod PathLaws
 pub mod PathsLaws
 pub mod PlanTexts
+pub mod OnePlan
 pub mod Windows
 pub mod LineWindows
+pub mod TakenThere
 pub mod Sequences
 pub mod Blocks
 pub mod Nodes

@@ -1,6 +1,7 @@
 ghost use Rattle.std.specs.Io.KnownBytes.{IsAtEnd};
 ghost use Rattle.mapf_certificate.specs.Buffered.{spare};
 ghost use Rattle.mapf_certificate.specs.Lines.{IsCut, lacks_end};
+ghost use Rattle.mapf_certificate.specs.Untouched.{HasLine, IsUntouched};
 ghost use Rattle.mapf_certificate.specs.Window.{Window, LacksLine, LacksBytes};
 ghost use Rattle.std.specs.Prelude.{[], ◌++◌, take, ◌≡◌, ◌<◌, ◌≤◌, ◌+◌, ◌==◌, List, ℕ, length, drop, IfOk, IfErr, IfSome, IfNone, OnOk, OnErr, vec_len, vec_capacity, false, true};
 
@@ -137,6 +138,8 @@ impl LineBuffer {
         ensures window { OnOk result (Window (S.remaining source.old) (S.remaining source.new) self.old self.new []) }
         ensures line { IfOk result (λ n. (n < length self.new.bytes) × IsCut self.new.bytes (take n self.new.bytes) (drop (n + 1) self.new.bytes)) }
         ensures stopped { IfErr result (LacksLine (S.remaining source.old) (S.remaining source.new) (S.has_failed source.new) self.old self.new) }
+        // Nothing is pulled where a line is there, or too long.
+        ensures there { HasLine self.old → IsUntouched self.old self.new source.old source.new }
         ensures works { OnOk result (S.has_failed source.new ≡ false) }
         ensures spare { spare self.new ≡ spare self.old }
     {

@@ -3,14 +3,14 @@ ghost use Rattle.mapf_certificate.specs.CertReading.{HasHeader, IsRestAt, Awaits
 ghost use Rattle.mapf_certificate.specs.Certificates.{IsNode, line_text, node_text, header_text};
 ghost use Rattle.mapf_certificate.specs.Lines.{IsAgentCount, IsTreeLine, grid_of};
 ghost use Rattle.mapf_certificate.specs.Reading.{Reading};
-ghost use Rattle.mapf_certificate.specs.Untouched.{IsUntouched};
-ghost use Rattle.mapf_certificate.specs.Window.{Window, BeginsWith, Fails, IsNoTextFault};
+ghost use Rattle.mapf_certificate.specs.Untouched.{IsUntouched, TakesThere};
+ghost use Rattle.mapf_certificate.specs.Window.{Window, BeginsWith, Fails, Pulls, HasNoInnerMemory, IsNoTextFault};
 ghost use Rattle.mapf_certificate.specs.declared.line.Line.TheVariants.{End};
 ghost use Rattle.mapf_model.specs.declared.item.Claim.{Claim};
 ghost use Rattle.mapf_model.specs.Printed.{IsClaimInRange};
 ghost use Rattle.mapf_model.specs.Tree.{Node, node_of};
 ghost use Rattle.std.specs.Io.KnownBytes.{IsAtEnd};
-ghost use Rattle.std.specs.Prelude.{[], ◌∷◌, ◌++◌, ℕ, List, Some, true, IfErr, ◌^◌, ◌≡◌, ◌<◌, ◌≤◌, ◌+◌, IfOk, IfSome, IsSome, IsSomeAnd, OnOk, None, false, MatchOption, MatchResult};
+ghost use Rattle.std.specs.Prelude.{[], ◌∷◌, ◌++◌, ℕ, List, Some, true, IfErr, IsErrOf, ◌^◌, ◌≡◌, ◌↔◌, ◌<◌, ◌≤◌, ◌+◌, IfOk, IfSome, IsSome, IsSomeAnd, OnOk, None, false, MatchOption, MatchResult};
 
 use crate::cert::LinesFault;
 use crate::line::Line;
@@ -121,6 +121,15 @@ impl CertLines {
         ensures only { (agents : ℕ) (claim : Claim) (nodes : List Node) → self.old.fault ≡ None → self.old.header ≡ None → AwaitsCert (S.remaining source.old) self.old agents claim nodes
             → MatchResult result (λ h. (h.0 ≡ agents) × (h.1 ≡ claim) × Awaits (S.remaining source.new) self.new nodes) IsNoTextFault }
 
+        // Where the header's lines were all in the buffer, the source is as it was.
+        ensures there { self.old.fault ≡ None → self.old.header ≡ None → IfOk result (λ h.
+            TakesThere source.old source.new self.old.buffer self.new.buffer (header_text self.old.width h.0 h.1)) }
+        // Whether the source failed, and how many bytes came of it; a fault of the text is never want of memory.
+        ensures device { self.old.fault ≡ None → (IsErrOf result LinesFault.Device ↔ (S.has_failed source.new ≡ true)) }
+        ensures pulls { self.old.fault ≡ None
+            → Pulls (S.remaining source.old) (S.remaining source.new) self.old.buffer.left (IsErrOf result LinesFault.TooLong) }
+        ensures inner { IfErr result HasNoInnerMemory }
+
         ensures grid { (self.new.width ≡ self.old.width) × (self.new.height ≡ self.old.height) }
         ensures owed { self.new.owed ≡ self.old.owed }
         ensures part { self.new.is_whole ≡ self.old.is_whole }
@@ -159,6 +168,15 @@ impl CertLines {
             → MatchResult result (λ o. IsSomeAnd o (λ item. (node_of item ≡ node) × Awaits (S.remaining source.new) self.new nodes)) IsNoTextFault }
         ensures only_end { self.old.fault ≡ None → self.old.is_whole ≡ false → Awaits (S.remaining source.old) self.old [] → MatchResult result (λ o. o ≡ None) IsNoTextFault }
 
+        // Where the item's lines were all in the buffer, the source is as it was.
+        ensures there { self.old.fault ≡ None → IfOk result (λ o. IfSome o (λ item.
+            TakesThere source.old source.new self.old.buffer self.new.buffer (node_text self.old.width (node_of item)))) }
+        // Whether the source failed, and how many bytes came of it; a fault of the text is never want of memory.
+        ensures device { self.old.fault ≡ None → (IsErrOf result LinesFault.Device ↔ (S.has_failed source.new ≡ true)) }
+        ensures pulls { self.old.fault ≡ None
+            → Pulls (S.remaining source.old) (S.remaining source.new) self.old.buffer.left (IsErrOf result LinesFault.TooLong) }
+        ensures inner { IfErr result HasNoInnerMemory }
+
         ensures grid { (self.new.width ≡ self.old.width) × (self.new.height ≡ self.old.height) }
         ensures part { IfOk result (λ o. IsSome o → self.new.is_whole ≡ false) }
         ensures known { self.new.header ≡ self.old.header }
@@ -194,6 +212,8 @@ impl CertLines {
         ensures grid { (self.new.width ≡ self.old.width) × (self.new.height ≡ self.old.height) }
         ensures item { IfOk result (λ o. IfSome o (λ item. TakesNode (S.remaining source.old) (S.remaining source.new) self.old self.new (node_of item))) }
         ensures end { IfOk result (λ o. o ≡ None → ReadsEnd (S.remaining source.old) (S.remaining source.new) self.old self.new) }
+        ensures there { IfOk result (λ o. IfSome o (λ item.
+            TakesThere source.old source.new self.old.buffer self.new.buffer (node_text self.old.width (node_of item)))) }
         ensures fails { IfErr result (Fails (S.remaining source.old) (S.remaining source.new) (S.has_failed source.new) self.old.buffer (IsRestAt self.old)) }
         ensures same { (node : Node) (nodes : List Node) → Awaits (S.remaining source.old) self.old (node ∷ nodes)
             → IfOk result (λ o. IfSome o (λ item. (node_of item ≡ node) × Awaits (S.remaining source.new) self.new nodes)) }
@@ -261,6 +281,9 @@ fn item_of<S: Source>(
     ensures works { OnOk result (S.has_failed source.new ≡ false) }
     ensures spare { spare lines.new.buffer ≤ spare lines.old.buffer }
     ensures item { IfOk result (λ item. CompletesNode (grid_of sizes.now.width sizes.now.height) sizes.now.agents (S.remaining source.old) (S.remaining source.new) lines.old.buffer lines.new.buffer line.now (node_of item)) }
+    ensures there { IfOk result (λ item. (taken : List ℕ)
+        → line_text sizes.now.width line.now ++ taken ≡ node_text sizes.now.width (node_of item)
+        → TakesThere source.old source.new lines.old.buffer lines.new.buffer taken) }
     ensures fails { IfErr result (Fails (S.remaining source.old) (S.remaining source.new) (S.has_failed source.new) lines.old.buffer (λ text. BeginsWith Node (IsNode (grid_of sizes.now.width sizes.now.height) sizes.now.agents) (node_text sizes.now.width) (line_text sizes.now.width line.now ++ text))) }
 {
     match *line {
@@ -288,6 +311,8 @@ fn read_header<S: Source>(lines: &mut Lines, source: &mut S) -> Result<(u32, Cla
     requires { S.has_failed source.old ≡ false }
     ensures agents { IfOk result (λ h. IsAgentCount h.0) }
     ensures claim { IfOk result (λ h. IsClaimInRange h.1) }
+    ensures there { (width : ℕ) → IfOk result (λ h.
+        TakesThere source.old source.new lines.old.buffer lines.new.buffer (header_text width h.0 h.1)) }
     ensures works { OnOk result (S.has_failed source.new ≡ false) }
     ensures spare { spare lines.new.buffer ≤ spare lines.old.buffer }
     ensures taken { (width : ℕ) → IfOk result (λ h. Window (S.remaining source.old) (S.remaining source.new) lines.old.buffer lines.new.buffer (header_text width h.0 h.1)) }

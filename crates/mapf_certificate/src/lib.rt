@@ -28,4 +28,6 @@ pub use plan_text::{PlanAnswer, PlanText, PlanTextFault};
 pub use plan_writer::write_plan;
 
 #[cfg(test)]
+mod stream_tests;
+#[cfg(test)]
 mod tests;

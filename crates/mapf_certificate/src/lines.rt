@@ -2,6 +2,7 @@ ghost use Rattle.mapf_certificate.specs.Buffered.{spare};
 ghost use Rattle.mapf_certificate.specs.CertReading.{AreInOrder, MayFollow};
 ghost use Rattle.mapf_certificate.specs.Certificates.{line_text, entry_text, entries_text, block_text, blocks_text};
 ghost use Rattle.mapf_certificate.specs.Lines.{IsLine, width_of, grid_of};
+ghost use Rattle.mapf_certificate.specs.Untouched.{TakesThere};
 ghost use Rattle.mapf_certificate.specs.Window.{Window, BeginsWith, Fails, IsTextFault, Tells};
 ghost use Rattle.mapf_certificate.specs.declared.line.Line.{Line};
 ghost use Rattle.mapf_model.specs.declared.label.Entry.{Entry};
@@ -104,6 +105,8 @@ impl Lines {
         ensures nearer { OnOk result (spare self.new.buffer + 2 ≤ spare self.old.buffer) }
         ensures spare { spare self.new.buffer ≤ spare self.old.buffer }
         ensures line { IfOk result (λ line. IsLine due.now line) }
+        ensures there { IfOk result (λ line. TakesThere source.old source.new self.old.buffer self.new.buffer
+            (line_text (width_of due.now) line)) }
         ensures taken { IfOk result (λ line. Window (S.remaining source.old) (S.remaining source.new) self.old.buffer self.new.buffer (line_text (width_of due.now) line)) }
         ensures fails { IfErr result (Fails (S.remaining source.old) (S.remaining source.new) (S.has_failed source.new) self.old.buffer (BeginsWith Line (IsLine due.now) (line_text (width_of due.now)))) }
     {
@@ -154,6 +157,8 @@ impl Lines {
         ensures works { OnOk result (S.has_failed source.new ≡ false) }
         ensures spare { spare self.new.buffer ≤ spare self.old.buffer }
         ensures entries { IfOk result (λ entries. AreInOrder Entry (IsEntryInRange (grid_of sizes.now.width sizes.now.height)) IsBefore count entries.items) }
+        ensures there { IfOk result (λ entries. TakesThere source.old source.new self.old.buffer self.new.buffer
+            (entries_text sizes.now.width entries.items)) }
         ensures taken { IfOk result (λ entries. Window (S.remaining source.old) (S.remaining source.new) self.old.buffer self.new.buffer (entries_text sizes.now.width entries.items)) }
         ensures fails { IfErr result (Fails (S.remaining source.old) (S.remaining source.new) (S.has_failed source.new) self.old.buffer (BeginsWith (List Entry) (AreInOrder Entry (IsEntryInRange (grid_of sizes.now.width sizes.now.height)) IsBefore count) (entries_text sizes.now.width))) }
     {
@@ -179,6 +184,8 @@ impl Lines {
         ensures works { OnOk result (S.has_failed source.new ≡ false) }
         ensures spare { spare self.new.buffer ≤ spare self.old.buffer }
         ensures entry { IfOk result (λ entry. MayFollow Entry (IsEntryInRange (grid_of sizes.now.width sizes.now.height)) IsBefore before.now entry) }
+        ensures there { IfOk result (λ entry. TakesThere source.old source.new self.old.buffer self.new.buffer
+            (entry_text sizes.now.width entry)) }
         ensures taken { IfOk result (λ entry. Window (S.remaining source.old) (S.remaining source.new) self.old.buffer self.new.buffer (entry_text sizes.now.width entry)) }
         ensures fails { IfErr result (Fails (S.remaining source.old) (S.remaining source.new) (S.has_failed source.new) self.old.buffer (BeginsWith Entry (MayFollow Entry (IsEntryInRange (grid_of sizes.now.width sizes.now.height)) IsBefore before.now) (entry_text sizes.now.width))) }
     {
@@ -204,6 +211,8 @@ impl Lines {
         ensures works { OnOk result (S.has_failed source.new ≡ false) }
         ensures spare { spare self.new.buffer ≤ spare self.old.buffer }
         ensures block { IfOk result (λ block. MayFollow LabelBlock (IsBlockInRange (grid_of sizes.now.width sizes.now.height) sizes.now.agents) (λ a b. a.agent < b.agent) before.now block) }
+        ensures there { IfOk result (λ block. TakesThere source.old source.new self.old.buffer self.new.buffer
+            (block_text sizes.now.width block)) }
         ensures taken { IfOk result (λ block. Window (S.remaining source.old) (S.remaining source.new) self.old.buffer self.new.buffer (block_text sizes.now.width block)) }
         ensures fails { IfErr result (Fails (S.remaining source.old) (S.remaining source.new) (S.has_failed source.new) self.old.buffer (BeginsWith LabelBlock (MayFollow LabelBlock (IsBlockInRange (grid_of sizes.now.width sizes.now.height) sizes.now.agents) (λ a b. a.agent < b.agent) before.now) (block_text sizes.now.width))) }
     {
@@ -229,6 +238,8 @@ impl Lines {
         ensures works { OnOk result (S.has_failed source.new ≡ false) }
         ensures spare { spare self.new.buffer ≤ spare self.old.buffer }
         ensures blocks { IfOk result (λ blocks. AreInOrder LabelBlock (IsBlockInRange (grid_of sizes.now.width sizes.now.height) sizes.now.agents) (λ a b. a.agent < b.agent) count blocks.items) }
+        ensures there { IfOk result (λ blocks. TakesThere source.old source.new self.old.buffer self.new.buffer
+            (blocks_text sizes.now.width blocks.items)) }
         ensures taken { IfOk result (λ blocks. Window (S.remaining source.old) (S.remaining source.new) self.old.buffer self.new.buffer (blocks_text sizes.now.width blocks.items)) }
         ensures fails { IfErr result (Fails (S.remaining source.old) (S.remaining source.new) (S.has_failed source.new) self.old.buffer (BeginsWith (List LabelBlock) (AreInOrder LabelBlock (IsBlockInRange (grid_of sizes.now.width sizes.now.height) sizes.now.agents) (λ a b. a.agent < b.agent) count) (blocks_text sizes.now.width))) }
     {

@@ -1,13 +1,9 @@
-ghost use Rattle.std.specs.Prelude.{◌≡◌, false};
-
-use crate::{
-    CertFault, CertLines, LinesFault, PlanTextFault, read_cert, read_plan, write_cert, write_plan,
-};
-use mapf_model::{Failed, Grid, OutOfMemory, Source};
+use crate::{CertFault, PlanTextFault, read_cert, read_plan, write_cert, write_plan};
+use mapf_model::Grid;
 use std::alloc::Global;
 use std::test::Fail;
 
-const CROSSING: &str =
+pub const CROSSING: &str =
     "mapf-cert 1\nagents 2\nclaim cost 5\nvertex 0 1 1,1 1\nleaf 1\nagent 0 1\nat 0,1 0 3\nleaf 1\nagent 1 1\nat 1,0 0 3\nend\n";
 
 const CROSSING_PLAN: &str =
@@ -48,113 +44,6 @@ fn with_lines(
         }
     }
     Ok(changed)
-}
-
-/// Gives bytes in two pieces, of which the first has a given length, or one by one. It fails at a
-/// pull that is too many.
-#[derive(Drop)]
-struct Pieces<'a> {
-    bytes: &'a [u8],
-    first: usize,
-    one_by_one: bool,
-    pulls: u64,
-    is_failed: bool,
-}
-
-impl<'a> Pieces<'a> {
-    fn of(bytes: &'a [u8], first: usize, one_by_one: bool, pulls: u64) -> Pieces<'a>
-        ensures { result.is_failed ≡ false }
-    {
-        Pieces {
-            bytes,
-            first,
-            one_by_one,
-            pulls,
-            is_failed: false,
-        }
-    }
-}
-
-impl<'a> Source for Pieces<'a> {
-    ghost use Rattle.std.specs.Prelude.{Some};
-
-    ghost remaining = { λ s. Some s.bytes.now };
-
-    ghost has_failed = { λ s. s.is_failed };
-
-    fn pull(&mut self, buf: &mut [u8]) -> Result<usize, Failed> {
-        if self.pulls == 0 {
-            self.is_failed = true;
-            return Err(Failed);
-        }
-        self.pulls -= 1;
-        let most = if self.first > 0 {
-            self.first
-        } else if self.one_by_one {
-            1
-        } else {
-            buf.len()
-        };
-        let n = self.bytes.len().min(buf.len()).min(most);
-        let (front, rest) = self.bytes.split_at(n);
-        buf[..n].copy_from_slice(front);
-        self.bytes = rest;
-        self.first = 0;
-        Ok(n)
-    }
-
-    fn failed(&self) -> bool {
-        self.is_failed
-    }
-}
-
-/// Gives one text for ever, first a header.
-#[derive(Drop)]
-struct Endless<'a> {
-    front: &'a [u8],
-    line: &'a [u8],
-}
-
-impl<'a> Source for Endless<'a> {
-    ghost use Rattle.std.specs.Prelude.{None, false};
-
-    ghost remaining = { λ s. None };
-
-    ghost has_failed = { λ s. false };
-
-    fn pull(&mut self, buf: &mut [u8]) -> Result<usize, Failed> {
-        let n = self.front.len().min(buf.len());
-        buf[..n].copy_from_slice(&self.front[..n]);
-        self.front = self.line;
-        Ok(n)
-    }
-
-    fn failed(&self) -> bool {
-        false
-    }
-}
-
-/// How many items came, the line of the last, and the fault that ended them.
-fn run<S: Source>(
-    alloc: Global,
-    source: &mut S,
-    limit: u64,
-) -> Result<(u64, u64, Option<LinesFault>), OutOfMemory>
-    requires { S.has_failed source.old ≡ false }
-{
-    let mut lines = CertLines::open(alloc, 3, 3, limit)?;
-    if let Err(fault) = lines.header(source) {
-        return Ok((0, 0, Some(fault)));
-    }
-    let mut count = 0u64;
-    for _ in 0..1000 {
-        match lines.next_item(source) {
-            Ok(Some(_)) => count = count.saturating_add(1),
-            Ok(None) => break,
-            Err(fault) => return Ok((count, lines.line(), Some(fault))),
-        }
-    }
-    Ok((count, lines.line(), None))
 }
 
 fn cert_fault(
@@ -383,60 +272,5 @@ fn each_front_ended_early(rt: HostRuntime) -> Result<(), Fail> {
         assert_eq!(rt; fault, Some(PlanTextFault::P2(line)));
         line = line.saturating_add((*byte == b'\n') as u64);
     }
-    Ok(())
-}
-
-#[test]
-fn pieces_and_limits(rt: HostRuntime) -> Result<(), Fail> {
-    let bytes = CROSSING.as_bytes();
-    for first in 1..bytes.len() {
-        let mut source = Pieces::of(bytes, first, false, 1000);
-        assert_eq!(rt; run(rt.alloc(), &mut source, 111)?, (3, 8, None));
-    }
-    let mut source = Pieces::of(bytes, 0, true, 1000);
-    assert_eq!(rt; run(rt.alloc(), &mut source, 111)?, (3, 8, None));
-    let mut source = Pieces::of(bytes, 0, true, 1000);
-    assert_eq!(rt;
-        run(rt.alloc(), &mut source, 110)?,
-        (3, 8, Some(LinesFault::TooLong))
-    );
-    let mut longer = bytes.to_vec(rt.alloc())?;
-    longer.push(b'x')?;
-    let mut source = Pieces::of(&longer, 0, false, 1000);
-    assert_eq!(rt;
-        run(rt.alloc(), &mut source, 111)?,
-        (3, 8, Some(LinesFault::TooLong))
-    );
-    let mut source = Pieces::of(&longer, 0, false, 1000);
-    let more = Some(LinesFault::Text(CertFault::K4(12)));
-    assert_eq!(rt; run(rt.alloc(), &mut source, 112)?, (3, 8, more));
-    Ok(())
-}
-
-#[test]
-fn sources_that_fail_or_never_end(rt: HostRuntime) -> Result<(), Fail> {
-    let bytes = CROSSING.as_bytes();
-    for pulls in 0..112 {
-        let mut source = Pieces::of(bytes, 0, true, pulls);
-        assert!(rt;
-            matches!(
-                run(rt.alloc(), &mut source, 111)?,
-                (_, _, Some(LinesFault::Device))
-            )
-        );
-    }
-    let mut source = Endless {
-        front: b"x",
-        line: b"x",
-    };
-    let fault = Some(LinesFault::Text(CertFault::K1(1)));
-    assert_eq!(rt; run(rt.alloc(), &mut source, u64::MAX)?, (0, 0, fault));
-    let mut source = Endless {
-        front: b"mapf-cert 1\nagents 2\nclaim cost 0\n",
-        line: b"vertex 0 1 0,0 0\n",
-    };
-    let (items, line, fault) = run(rt.alloc(), &mut source, 10_000)?;
-    assert_eq!(rt; (items, line), (586, 589));
-    assert_eq!(rt; fault, Some(LinesFault::TooLong));
     Ok(())
 }

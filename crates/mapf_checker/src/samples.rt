@@ -20,6 +20,22 @@ pub fn crossing(alloc: Global) -> Result<Problem, Fail> {
     Ok(Problem::of(grid, agents).ok_or("no problem")?)
 }
 
+/// Two agents with one goal, on two cells side by side.
+pub fn shared_goal(alloc: Global) -> Result<Problem, Fail> {
+    let mut free = Vec::new(alloc);
+    free.push(true)?;
+    free.push(true)?;
+    let grid = Grid::of(2, 1, free).ok_or("no grid")?;
+    let mut agents = Vec::new(alloc);
+    for start in [0, 1] {
+        agents.push(Agent {
+            start: Cell(start),
+            goal: Cell(1),
+        })?;
+    }
+    Ok(Problem::of(grid, agents).ok_or("no problem")?)
+}
+
 /// The first agent waits for a tick.
 pub fn crossing_plan(alloc: Global) -> Result<Plan, Fail> {
     let mut paths = Vec::new(alloc);
@@ -41,3 +57,39 @@ pub const CROSSING_PLAN: &str =
 
 pub const CROSSING_CERT: &str =
     "mapf-cert 1\nagents 2\nclaim cost 5\nvertex 0 1 1,1 1\nleaf 1\nagent 0 1\nat 0,1 0 3\nleaf 1\nagent 1 1\nat 1,0 0 3\nend\n";
+
+/// The text with its lines from the first to the last of these replaced, counted from 1.
+pub fn with_lines(
+    alloc: Global,
+    text: &str,
+    first: usize,
+    last: usize,
+    lines: &str,
+) -> Result<String, Fail> {
+    let mut changed = String::new(alloc);
+    let mut number = 0usize;
+    for line in text.lines() {
+        number = number.saturating_add(1);
+        if number == first {
+            changed.push_str(lines)?;
+        }
+        if number < first || last < number {
+            changed.push_str(line)?;
+            changed.push('\n')?;
+        }
+    }
+    Ok(changed)
+}
+
+/// How many bytes the first lines of a text have, with the LF of the last.
+pub fn length_of_lines(text: &str, count: usize) -> u64 {
+    let mut bytes = 0u64;
+    let mut lines = 0usize;
+    for byte in text.as_bytes() {
+        if lines < count {
+            bytes = bytes.saturating_add(1);
+        }
+        lines = lines.saturating_add((*byte == b'\n') as usize);
+    }
+    bytes
+}

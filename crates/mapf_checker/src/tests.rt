@@ -1,7 +1,10 @@
-use crate::samples::{CROSSING_CERT, CROSSING_PLAN, crossing};
-use crate::{CheckFault, FromFault, Verdict, check, check_from};
-use mapf_certificate::CertFault;
-use mapf_model::{BytesSource, Failed, Source};
+use crate::samples::{
+    CROSSING_CERT, CROSSING_PLAN, crossing, length_of_lines, shared_goal, with_lines,
+};
+use crate::{CheckFault, FromFault, PlanFault, Verdict, check, check_from};
+use mapf_certificate::{CertFault, PlanTextFault};
+use mapf_model::devices::{FuseSource, Pace};
+use mapf_model::{BytesSource, Source};
 use std::test::Fail;
 
 #[test]
@@ -42,34 +45,12 @@ fn keeps_the_limit(rt: HostRuntime) -> Result<(), Fail> {
     Ok(())
 }
 
-// A source that fails in the place of its first pull.
-#[derive(Drop)]
-struct Broken {
-    is_failed: bool,
-}
-
-impl Source for Broken {
-    ghost use Rattle.std.specs.Prelude.{None};
-
-    ghost remaining = { λ s. None };
-
-    ghost has_failed = { λ s. s.is_failed };
-
-    fn pull(&mut self, _buf: &mut [u8]) -> Result<usize, Failed> {
-        self.is_failed = true;
-        Err(Failed)
-    }
-
-    fn failed(&self) -> bool {
-        self.is_failed
-    }
-}
-
 #[test]
 fn pulls_only_after_a_good_plan(rt: HostRuntime) -> Result<(), Fail> {
     let alloc = rt.alloc();
     let crossing = crossing(alloc)?;
-    let mut source = Broken { is_failed: false };
+    let cert = CROSSING_CERT.as_bytes();
+    let mut source = FuseSource::of(cert, Pace::AllAtOnce, Some(0));
     let limit = b"mapf-plan 1\nagents 2\nlimit 3\nend\n";
     assert_eq!(rt;
         check_from(alloc, &crossing, limit, &mut source, 999),
@@ -80,5 +61,166 @@ fn pulls_only_after_a_good_plan(rt: HostRuntime) -> Result<(), Fail> {
         check_from(alloc, &crossing, CROSSING_PLAN.as_bytes(), &mut source, 999),
         Err(FromFault::Device)
     );
+    Ok(())
+}
+
+#[test]
+fn fails_at_each_pull(rt: HostRuntime) -> Result<(), Fail> {
+    let alloc = rt.alloc();
+    let crossing = crossing(alloc)?;
+    let plan = CROSSING_PLAN.as_bytes();
+    let cert = CROSSING_CERT.as_bytes();
+    // The bytes come in so many calls, and one more tells that they have ended.
+    for (pace, calls) in [(Pace::ByteByByte, 112u64), (Pace::AllAtOnce, 2)] {
+        for stood in 0..calls {
+            let mut source = FuseSource::of(cert, pace, Some(stood));
+            let answer = check_from(alloc, &crossing, plan, &mut source, 111);
+            assert_eq!(rt; answer, Err(FromFault::Device), "{stood}");
+            assert!(rt; source.failed());
+        }
+        let mut source = FuseSource::of(cert, pace, Some(calls));
+        let answer = check_from(alloc, &crossing, plan, &mut source, 111);
+        assert_eq!(rt; answer, Ok(Verdict::Optimal(5)));
+        assert!(rt; !source.failed());
+    }
+    Ok(())
+}
+
+// Which lines of the crossing's certificate are replaced by which text, the line with which the refusal
+// is known, and the refusal.
+const REFUSED: [(usize, usize, &str, usize, CheckFault); 12] = [
+    (2, 2, "agents 3\n", 3, CheckFault::C3),
+    (3, 3, "claim cost 4\n", 3, CheckFault::C4),
+    (3, 3, "claim impossible\n", 3, CheckFault::C4),
+    (
+        4,
+        4,
+        "vertex 0 1 1,1 01\n",
+        4,
+        CheckFault::C2(CertFault::K1(4)),
+    ),
+    (
+        4,
+        4,
+        "vertex 0 1 1,1 1000000\n",
+        4,
+        CheckFault::C2(CertFault::K3(4)),
+    ),
+    (4, 4, "vertex 0 0 1,1 1\n", 4, CheckFault::C6(4)),
+    (7, 7, "at 0,1 0 4\n", 7, CheckFault::C7(7)),
+    (10, 10, "at 1,0 0 4\n", 10, CheckFault::C7(10)),
+    (5, 7, "leaf 0\n", 5, CheckFault::C8(5)),
+    (8, 10, "leaf 0\n", 8, CheckFault::C8(8)),
+    (4, 10, "clash 0 1\n", 4, CheckFault::C9(4)),
+    (8, 10, "clash 0 1\n", 8, CheckFault::C9(8)),
+];
+
+#[test]
+fn pulls_nothing_after_a_refusal(rt: HostRuntime) -> Result<(), Fail> {
+    let alloc = rt.alloc();
+    let crossing = crossing(alloc)?;
+    let plan = CROSSING_PLAN.as_bytes();
+    for (first, last, lines, known, refusal) in REFUSED {
+        let cert = with_lines(alloc, CROSSING_CERT, first, last, lines)?;
+        let needed = length_of_lines(&cert, known);
+        // The source fails right behind the line with which the refusal is known, or before its LF.
+        for (stood, answer) in [
+            (needed, FromFault::Refused(refusal)),
+            (needed.saturating_sub(1), FromFault::Device),
+        ] {
+            let mut source = FuseSource::of(cert.as_bytes(), Pace::ByteByByte, Some(stood));
+            let given = check_from(alloc, &crossing, plan, &mut source, 999);
+            assert_eq!(rt; given, Err(answer), "{lines}");
+        }
+        let mut source = FuseSource::of(cert.as_bytes(), Pace::AllAtOnce, Some(1));
+        let given = check_from(alloc, &crossing, plan, &mut source, 999);
+        assert_eq!(rt; given, Err(FromFault::Refused(refusal)), "{lines}");
+    }
+    Ok(())
+}
+
+#[test]
+fn refuses_certificates_that_end_wrongly(rt: HostRuntime) -> Result<(), Fail> {
+    let alloc = rt.alloc();
+    let crossing = crossing(alloc)?;
+    let plan = CROSSING_PLAN.as_bytes();
+    for (lines, fault) in [("", CertFault::K2(11)), ("end\nx", CertFault::K4(12))] {
+        let cert = with_lines(alloc, CROSSING_CERT, 11, 11, lines)?;
+        let given = check(alloc, &crossing, plan, cert.as_bytes());
+        assert_eq!(rt; given, Err(CheckFault::C2(fault)));
+    }
+    Ok(())
+}
+
+// Which lines of the crossing's plan text are replaced by which text, and the refusal.
+const REFUSED_PLANS: [(usize, usize, &str, CheckFault); 10] = [
+    (3, 3, "cost 4\n", CheckFault::C1(PlanTextFault::P1(3))),
+    (6, 6, "", CheckFault::C1(PlanTextFault::P2(6))),
+    (2, 2, "agents 201\n", CheckFault::C1(PlanTextFault::P3(2))),
+    (6, 6, "end\nx", CheckFault::C1(PlanTextFault::P4(7))),
+    (3, 5, "limit ticks\n", CheckFault::C4),
+    (
+        3,
+        4,
+        "cost 3\npath 0 1 1,1 2,1\n",
+        CheckFault::C5(PlanFault::V1 { agent: 0 }),
+    ),
+    (
+        3,
+        4,
+        "cost 3\npath 0 1 0,1 2,1\n",
+        CheckFault::C5(PlanFault::V2 { agent: 0, tick: 0 }),
+    ),
+    (
+        3,
+        4,
+        "cost 3\npath 0 1 0,1 1,1\n",
+        CheckFault::C5(PlanFault::V3 { agent: 0 }),
+    ),
+    (
+        3,
+        4,
+        "cost 4\npath 0 2 0,1 1,1 2,1\n",
+        CheckFault::C5(PlanFault::V4 {
+            i: 0,
+            j: 1,
+            tick: 1,
+        }),
+    ),
+    (
+        3,
+        5,
+        "cost 7\npath 0 4 0,1 1,1 1,0 2,0 2,1\npath 1 3 1,0 1,0 1,1 1,2\n",
+        CheckFault::C5(PlanFault::V5 {
+            i: 0,
+            j: 1,
+            tick: 1,
+        }),
+    ),
+];
+
+#[test]
+fn refuses_plans(rt: HostRuntime) -> Result<(), Fail> {
+    let alloc = rt.alloc();
+    let crossing = crossing(alloc)?;
+    let cert = CROSSING_CERT.as_bytes();
+    for (first, last, lines, refusal) in REFUSED_PLANS {
+        let plan = with_lines(alloc, CROSSING_PLAN, first, last, lines)?;
+        let given = check(alloc, &crossing, plan.as_bytes(), cert);
+        assert_eq!(rt; given, Err(refusal), "{lines}");
+    }
+    let other = "mapf-plan 1\nagents 1\nimpossible\nend\n";
+    let given = check(alloc, &crossing, other.as_bytes(), cert);
+    assert_eq!(rt; given, Err(CheckFault::C3));
+    Ok(())
+}
+
+#[test]
+fn accepts_that_none_is_possible(rt: HostRuntime) -> Result<(), Fail> {
+    let alloc = rt.alloc();
+    let problem = shared_goal(alloc)?;
+    let plan = b"mapf-plan 1\nagents 2\nimpossible\nend\n";
+    let cert = b"mapf-cert 1\nagents 2\nclaim impossible\nclash 0 1\nend\n";
+    assert_eq!(rt; check(alloc, &problem, plan, cert), Ok(Verdict::Impossible));
     Ok(())
 }

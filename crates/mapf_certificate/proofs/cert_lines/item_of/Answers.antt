@@ -1,11 +1,15 @@
-use Rattle.std.proofs.Common.{◌++◌, refl, subst, le_refl}
+use Rattle.std.proofs.Common.{◌++◌, ◌∙◌, ap, length, refl, subst, sym, le_refl}
 use Rattle.std.proofs.lemmas.Result.{err_from_is_err_and}
 use Rattle.mapf_model.specs.declared.conflict.Conflict.TheVariants as conflicts
 use Rattle.mapf_model.specs.Tree.{SplitNode}
 use Rattle.mapf_certificate.specs.declared.tree_line.Due.TheVariants as dues
 use Rattle.mapf_certificate.specs.Lines.{IsLine}
-use Rattle.mapf_certificate.specs.Certificates.{line_text}
+use Rattle.mapf_certificate.specs.Certificates.{blocks_text, line_text}
+use Rattle.mapf_certificate.specs.Untouched.{TakesThere}
+use Rattle.mapf_certificate.specs.declared.line.Line.{Line}
+use Rattle.mapf_certificate.specs.declared.line.Line.TheVariants as lines
 use Rattle.mapf_certificate.specs.Window.{Fails}
+use Rattle.mapf_certificate.proofs.PlainLines.{same_line}
 use Rattle.mapf_certificate.proofs.Windows.{err_passed}
 use Rattle.mapf_certificate.proofs.Nodes.{NextNode, one_line, fails_in_blocks, begins_no_node, first_kinds}
 use Rattle.mapf_certificate.proofs.cert_lines.item_of.Goals as goal
@@ -36,5 +40,15 @@ returns-in_default g c =
       works = tt;
       spare = le_refl _;
       item = tt;
-      fails = begins_no_node c.args.sizes.now (g.S.Source.remaining c.args.source.now) (g.S.Source.has_failed c.args.source.now) c.args.lines.now.buffer c.args.line.now c.misfit.result c.misfit.ensures c.requires.line (first_kinds c.args.line.now c.in_default.not-Vertex c.in_default.not-Swap c.in_default.not-Leaf c.in_default.not-Clash);
+      there = tt;
+      fails = begins_no_node c.args.sizes.now (g.S.Source.remaining c.args.source.now) (g.S.Source.has_failed c.args.source.now) c.args.lines.now.buffer c.args.line.now c.misfit.result c.misfit.ensures c.requires.works c.requires.line (first_kinds c.args.line.now c.in_default.not-Vertex c.in_default.not-Swap c.in_default.not-Leaf c.in_default.not-Clash);
     }
+
+pub returns-in_ok-blocks-in-Leaf-clause-there : goal.returns-in_ok-blocks-in-Leaf-clause-there
+returns-in_ok-blocks-in-Leaf-clause-there g c = λ taken e.
+    let sizes = c.args.sizes.now in
+    let blocks = c.in_ok-blocks-in-Leaf.field-0.items in
+    let is : IsLine (dues.Tree sizes) (lines.Leaf c.in-Leaf.count) = subst (IsLine (dues.Tree sizes)) c.in-Leaf.is c.requires.line in
+    let is' : IsLine (dues.Tree sizes) (lines.Leaf (length blocks)) = subst (λ n. IsLine (dues.Tree sizes) (lines.Leaf n)) (sym c.in_ok-blocks-in-Leaf.ensures.blocks.many) is in
+    let (same, rest) = same_line (dues.Tree sizes) (lines.Leaf c.in-Leaf.count) (lines.Leaf (length blocks)) taken (blocks_text sizes.width blocks) is is' (ap (λ (l : Line). line_text sizes.width l ++ taken) (sym c.in-Leaf.is) ∙ e) in
+    subst (TakesThere c.args.source.now c.blocks-in-Leaf.new.source c.args.lines.now.buffer c.blocks-in-Leaf.new.self.buffer) (sym rest) c.in_ok-blocks-in-Leaf.ensures.there

@@ -2,7 +2,7 @@ use Rattle.std.proofs.lemmas.Result.{err_from_is_err_and}
 use Rattle.mapf_certificate.specs.CertReading.{HasHeader}
 use Rattle.mapf_certificate.specs.Window.{Fails}
 use Rattle.mapf_certificate.proofs.Windows.{err_passed}
-use Rattle.mapf_certificate.proofs.Headers.{fails_in_title, fails_in_agents, fails_in_claim, header_window}
+use Rattle.mapf_certificate.proofs.Headers.{fails_in_title, fails_in_agents, fails_in_claim, header_there, header_window}
 use Rattle.mapf_certificate.proofs.cert_lines.read_header.Goals as goal
 
 pub returns-in_err-next-clause-fails : goal.returns-in_err-next-clause-fails
@@ -40,3 +40,8 @@ returns-clause-taken g c = λ width.
     let s = g.S.Source in
     header_window width (s.remaining c.args.source.now) (s.remaining c.next.new.source) (s.remaining c.next-2.new.source) (s.remaining c.next-3.new.source) c.args.lines.now.buffer c.next.new.self.buffer c.next-2.new.self.buffer c.next-3.new.self.buffer
     c.in_ok-next.field-0 c.in_ok-agents.field-0 c.in_ok-claim.field-0 c.in-Agents.agents c.in-Claim.claim c.in_ok-next.ensures.taken c.in_ok-agents.ensures.taken c.in_ok-claim.ensures.taken c.in_ok-next.ensures.line c.in-Agents.is c.in-Claim.is
+
+pub returns-clause-there : goal.returns-clause-there
+returns-clause-there g c = λ width.
+    header_there width c.args.source.now c.next.new.source c.next-2.new.source c.next-3.new.source c.args.lines.now.buffer c.next.new.self.buffer c.next-2.new.self.buffer c.next-3.new.self.buffer
+    c.in_ok-next.field-0 c.in_ok-agents.field-0 c.in_ok-claim.field-0 c.in-Agents.agents c.in-Claim.claim c.in_ok-next.ensures.there c.in_ok-agents.ensures.there c.in_ok-claim.ensures.there c.in_ok-next.ensures.line c.in-Agents.is c.in-Claim.is

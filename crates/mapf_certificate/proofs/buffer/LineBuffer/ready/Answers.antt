@@ -4,6 +4,7 @@ use Rattle.std.proofs.lemmas.Result.{err_from_is_err_and}
 use Rattle.mapf_certificate.specs.Window.{LacksLine}
 use Rattle.mapf_certificate.proofs.Windows.{err_passed, Window-trans}
 use Rattle.mapf_certificate.proofs.LineWindows.{stopped, early}
+use Rattle.mapf_certificate.proofs.TakenThere.{no_line_there}
 use Rattle.mapf_certificate.proofs.buffer.LineBuffer.ready.Goals as goal
 
 pub returns-in_err-fill-clause-stopped : goal.returns-in_err-fill-clause-stopped
@@ -20,7 +21,7 @@ returns-then-not-branch-clause-stopped g c =
     let s = g.S.Source in
     let front : c.front.result.now ≡ c.loop-n.self.bytes = c.front.ensures ∙ take_all c.len.result c.loop-n.self.bytes (omega arith) in
     let (ended, same) = c.in_ok-fill.ensures.end c.if-not-branch.true in
-    early (s.remaining c.args.source.now) (s.remaining c.loop-n.source) (s.remaining c.fill.new.source) c.args.self.now c.loop-n.self c.fill.new.self c.loop-n.invariant.window c.in_ok-fill.ensures.window ended same (omega arith) c.front.result.now front c.in_default.ensures.none
+    (c.in_ok-fill.ensures.works, early (s.remaining c.args.source.now) (s.remaining c.loop-n.source) (s.remaining c.fill.new.source) c.args.self.now c.loop-n.self c.fill.new.self c.loop-n.invariant.window c.in_ok-fill.ensures.window ended same (omega arith) c.front.result.now front c.in_default.ensures.none)
 
 pub loop-n-preserved : goal.loop-n-preserved
 loop-n-preserved g c =
@@ -29,4 +30,13 @@ loop-n-preserved g c =
       works = c.in_ok-fill.ensures.works;
       window = Window-trans (s.remaining c.args.source.now) (s.remaining c.loop-n.source) (s.remaining c.fill.new.source) c.args.self.now c.loop-n.self c.fill.new.self [] [] c.loop-n.invariant.window c.in_ok-fill.ensures.window;
       spare = omega arith;
+      there = λ has. absurd (no_line_there c.args.self.now c.loop-n.self c.front.result.now c.len.result c.front.ensures (omega arith) (omega arith) c.in_default.ensures.none (c.loop-n.invariant.there has).0 has);
     }
+
+pub returns-in_err-fill-clause-there : goal.returns-in_err-fill-clause-there
+returns-in_err-fill-clause-there g c = λ has.
+    absurd (no_line_there c.args.self.now c.loop-n.self c.front.result.now c.len.result c.front.ensures (omega arith) (omega arith) c.in_default.ensures.none (c.loop-n.invariant.there has).0 has)
+
+pub returns-then-not-branch-clause-there : goal.returns-then-not-branch-clause-there
+returns-then-not-branch-clause-there g c = λ has.
+    absurd (no_line_there c.args.self.now c.loop-n.self c.front.result.now c.len.result c.front.ensures (omega arith) (omega arith) c.in_default.ensures.none (c.loop-n.invariant.there has).0 has)

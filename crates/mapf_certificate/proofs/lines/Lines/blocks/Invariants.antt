@@ -2,6 +2,7 @@ use Rattle.std.proofs.Common.{◌≡◌, ◌≤◌, false, length}
 use Rattle.mapf_model.specs.Blocks.{LabelBlock}
 use Rattle.mapf_certificate.specs.Buffered.{spare}
 use Rattle.mapf_certificate.specs.Certificates.{blocks_text}
+use Rattle.mapf_certificate.specs.Untouched.{TakesThere}
 use Rattle.mapf_certificate.specs.Window.{Window}
 use Rattle.mapf_certificate.proofs.Sequences.{Taken}
 use Rattle.mapf_certificate.proofs.Blocks.{BlockInRange, Rises}
@@ -16,4 +17,5 @@ invariant-loop-taken g l =
       many : length l.blocks.items ≡ l._taken;
       taken : Taken LabelBlock (BlockInRange l.sizes) Rises l.blocks.items;
       window : Window (source.remaining l.fn.source) (source.remaining l.source) l.fn.self.buffer l.self.buffer (blocks_text l.sizes.width l.blocks.items);
+      there : TakesThere l.fn.source l.source l.fn.self.buffer l.self.buffer (blocks_text l.sizes.width l.blocks.items);
     }

@@ -1,12 +1,14 @@
-use Rattle.std.proofs.Common.{◌≡◌, ◌<◌, List, arith, ap, subst, length, length-append, [], ◌∷◌, ◌++◌}
+use Rattle.std.proofs.Common.{◌≡◌, ◌<◌, List, arith, ap, sym, subst, length, length-append, [], ◌∷◌, ◌++◌}
 use Rattle.std.proofs.lemmas.Result.{err_from_is_err_and}
 use Rattle.mapf_model.specs.declared.label.Entry.{Entry}
 use Rattle.mapf_model.specs.Printed.{IsBefore}
 use Rattle.mapf_certificate.specs.Certificates.{entry_text, entries_text}
 use Rattle.mapf_certificate.specs.CertReading.{MayFollow}
+use Rattle.mapf_certificate.specs.Untouched.{TakesThere}
 use Rattle.mapf_certificate.specs.Window.{Fails}
 use Rattle.mapf_certificate.proofs.PathLaws.{pushed}
-use Rattle.mapf_certificate.proofs.Windows.{err_passed, Fails-after}
+use Rattle.mapf_certificate.proofs.TakenThere.{there-more}
+use Rattle.mapf_certificate.proofs.Windows.{err_passed, ComesWithin-after, Fails-after, Window-within}
 use Rattle.mapf_certificate.proofs.Sequences.{goes_on, taken_more, window_more}
 use Rattle.mapf_certificate.proofs.Blocks.{InRange, NextEntry, NextEntries, entries_apart}
 use Rattle.mapf_certificate.proofs.lines.Lines.entries.Goals as goal
@@ -50,4 +52,14 @@ loop-taken-preserved g c =
       many = omega (arith, c.loop-taken.invariant.many, ap length grown, length-append values (value ∷ []));
       taken = taken_more Entry (InRange sizes) IsBefore values c.push.new.self.items value c.loop-taken.invariant.taken follows grown;
       window = window_more (entry_text sizes.width) (s.remaining c.args.source.now) (s.remaining c.loop-taken.source) (s.remaining c.entry.new.source) c.args.self.now.buffer c.loop-taken.self.buffer c.entry.new.self.buffer values c.push.new.self.items value c.loop-taken.invariant.window c.in_ok-entry.ensures.taken grown;
+      there = subst (λ (v : List Entry). TakesThere c.args.source.now c.entry.new.source c.args.self.now.buffer c.entry.new.self.buffer (entries_text sizes.width v)) (sym grown)
+          (there-more (entry_text sizes.width) c.args.source.now c.loop-taken.source c.entry.new.source c.args.self.now.buffer c.loop-taken.self.buffer c.entry.new.self.buffer values value c.loop-taken.invariant.there c.in_ok-entry.ensures.there);
     }
+
+pub returns-then-is_err-clause-fails : goal.returns-then-is_err-clause-fails
+returns-then-is_err-clause-fails g c =
+    let s = g.S.Source in (
+      c.in_ok-entry.ensures.works,
+      ComesWithin-after (s.remaining c.args.source.now) (s.remaining c.loop-taken.source) (s.remaining c.entry.new.source) c.args.self.now.buffer c.loop-taken.self.buffer (entries_text c.args.sizes.now.width c.loop-taken.entries.items) c.loop-taken.invariant.window
+          (Window-within (s.remaining c.loop-taken.source) (s.remaining c.entry.new.source) c.loop-taken.self.buffer c.entry.new.self.buffer (entry_text c.args.sizes.now.width c.in_ok-entry.entry) c.in_ok-entry.ensures.taken),
+    )

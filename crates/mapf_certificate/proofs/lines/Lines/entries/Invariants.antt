@@ -3,6 +3,7 @@ use Rattle.mapf_model.specs.declared.label.Entry.{Entry}
 use Rattle.mapf_model.specs.Printed.{IsBefore}
 use Rattle.mapf_certificate.specs.Buffered.{spare}
 use Rattle.mapf_certificate.specs.Certificates.{entries_text}
+use Rattle.mapf_certificate.specs.Untouched.{TakesThere}
 use Rattle.mapf_certificate.specs.Window.{Window}
 use Rattle.mapf_certificate.proofs.Sequences.{Taken}
 use Rattle.mapf_certificate.proofs.Blocks.{InRange}
@@ -17,4 +18,5 @@ invariant-loop-taken g l =
       many : length l.entries.items ≡ l._taken;
       taken : Taken Entry (InRange l.sizes) IsBefore l.entries.items;
       window : Window (source.remaining l.fn.source) (source.remaining l.source) l.fn.self.buffer l.self.buffer (entries_text l.sizes.width l.entries.items);
+      there : TakesThere l.fn.source l.source l.fn.self.buffer l.self.buffer (entries_text l.sizes.width l.entries.items);
     }

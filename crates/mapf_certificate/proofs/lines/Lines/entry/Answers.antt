@@ -1,6 +1,9 @@
-use Rattle.std.proofs.Common.{sym, ◌∙◌, IsTrue}
+use Rattle.std.proofs.Common.{subst, sym, ◌∙◌, IsTrue}
 use Rattle.std.proofs.lemmas.Bool.{false≢true}
 use Rattle.std.proofs.lemmas.Result.{err_from_is_err_and}
+use Rattle.mapf_certificate.specs.Untouched.{TakesThere}
+use Rattle.mapf_certificate.specs.Certificates.{line_text}
+use Rattle.mapf_certificate.specs.declared.line.Line.{Line}
 use Rattle.mapf_certificate.specs.Window.{Fails}
 use Rattle.mapf_certificate.specs.declared.tree_line.Due.TheVariants as dues
 use Rattle.mapf_certificate.proofs.Windows.{err_passed, Fails-weaker}
@@ -24,6 +27,12 @@ pub returns-then-not-follows_entries-clause-fails : goal.returns-then-not-follow
 returns-then-not-follows_entries-clause-fails g c =
     let s = g.S.Source in
     misfit_entry c.args.sizes.now c.args.before.now (s.remaining c.args.source.now) (s.remaining c.next.new.source) (s.has_failed c.next.new.source) c.args.self.now.buffer c.next.new.self.buffer c.in_ok-entry.field-0 c.in-At.entry
-    c.misfit-then-not-follows_entries.result c.misfit-then-not-follows_entries.ensures c.in_ok-entry.ensures.line c.in_ok-entry.ensures.taken c.in-At.is (λ all.
+    c.misfit-then-not-follows_entries.result c.misfit-then-not-follows_entries.ensures c.in_ok-entry.ensures.works c.in_ok-entry.ensures.line c.in_ok-entry.ensures.taken c.in-At.is (λ all.
     let wrong : IsTrue c.follows_entries.result = c.follows_entries.ensures.1 all in
     false≢true (sym c.if-not-follows_entries.true ∙ wrong))
+
+pub returns-clause-there : goal.returns-clause-there
+returns-clause-there g c =
+    let s = g.S.Source in
+    let buffer = c.next.new.self.buffer in
+    subst (λ (l : Line). TakesThere c.args.source.now c.next.new.source c.args.self.now.buffer buffer (line_text c.args.sizes.now.width l)) c.in-At.is c.in_ok-entry.ensures.there
