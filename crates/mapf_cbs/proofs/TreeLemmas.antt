@@ -13,6 +13,7 @@ use Rattle.mapf_model.specs.Tree.{ConstraintTree, Split, Leaf, Clash, NodeConstr
 use Rattle.mapf_model.specs.Earned.{AreCheapest, AreDue, HaveSomeConflict, IsEarnedNode, IsEarned, IsStoppedWhere}
 use Rattle.mapf_cbs.specs.declared.node.Fate.{Fate}
 use Rattle.mapf_cbs.specs.declared.node.Fate.TheVariants.{Open, Dead, Expanded}
+use Rattle.mapf_cbs.specs.FirstConflicts.{IsOnFirstConflict, AreOnFirstConflicts}
 use Rattle.mapf_cbs.specs.Search.{View, IsLive, IsDead, IsCheapestOf, IsEndFate, Shape, Node, End, splits, occurrences, IsShape, IsSearched, AreBlocksOf, IsTreeAt}
 use Rattle.mapf_cbs.proofs.SumLemmas.{slice_get-set_same, slice_get-set_other, length-slice_set, length-ticks, label_sum-never, label_sum-ticks}
 use Rattle.mapf_cbs.proofs.ViewLemmas.{agent_path_of, live_cheapest, live_sum, live_least, dead_none}
@@ -208,7 +209,7 @@ module _ (problem : Instance) (views : List View) (fates : List Fate) (count : �
     earned_node : (k : ℕ) (view : View) (node : ConstraintTree) → slice_get views k ≡ Some view → IsTreeAt (length problem.agents) views fates k node → IsEarnedNode problem tree view.constraints node
     earned_node k view (Split c left right) is (a, b, expanded, on_left, on_right) =
         let at_expanded = searched.each k view (Expanded c a b) is expanded in
-        (view.paths, sum view.costs, due view at_expanded.live (λ m other other_is is_open. searched.least k m view other (Expanded c a b) is other_is expanded tt is_open), at_expanded.meet, at_expanded.apart)
+        (view.paths, sum view.costs, due view at_expanded.live (λ m other other_is is_open. searched.least k m view other (Expanded c a b) is other_is expanded tt is_open), at_expanded.on_first.has, at_expanded.on_first.earliest)
     earned_node k view (Leaf blocks) is at_leaf = tt
     earned_node k view (Clash i j) is none = tt
 
@@ -217,6 +218,16 @@ module _ (problem : Instance) (views : List View) (fates : List Fate) (count : �
       proper = is_proper;
       splits = subst (λ constraints. AtEachNode (IsEarnedNode problem tree) constraints tree) searched.first.2 (each_node (IsEarnedNode problem tree) earned_node tree 0 searched.first.0 searched.first.1 on_tree);
     }
+
+    first_node : (k : ℕ) (view : View) (node : ConstraintTree) → slice_get views k ≡ Some view → IsTreeAt (length problem.agents) views fates k node → IsOnFirstConflict problem tree view.constraints node
+    first_node k view (Split c left right) is (a, b, expanded, on_left, on_right) =
+        let at_expanded = searched.each k view (Expanded c a b) is expanded in
+        (view.paths, sum view.costs, due view at_expanded.live (λ m other other_is is_open. searched.least k m view other (Expanded c a b) is other_is expanded tt is_open), at_expanded.on_first)
+    first_node k view (Leaf blocks) is at_leaf = tt
+    first_node k view (Clash i j) is none = tt
+
+    pub is_on_first : AreOnFirstConflicts problem tree
+    is_on_first = subst (λ constraints. AtEachNode (IsOnFirstConflict problem tree) constraints tree) searched.first.2 (each_node (IsOnFirstConflict problem tree) first_node tree 0 searched.first.0 searched.first.1 on_tree)
 
     cost_node : (cost : ℕ) → ((m : ℕ) (other : View) → slice_get views m ≡ Some other → slice_get fates m ≡ Some Open → cost ≤ sum other.costs) →
         (k : ℕ) (view : View) (node : ConstraintTree) → slice_get views k ≡ Some view → IsTreeAt (length problem.agents) views fates k node → NodeShows problem (Cost cost) view.constraints node
