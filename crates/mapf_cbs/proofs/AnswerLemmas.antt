@@ -12,7 +12,7 @@ use Rattle.mapf_model.specs.declared.item.Item.{Item}
 use Rattle.mapf_model.specs.declared.problem.Agent.{Agent}
 use Rattle.mapf_model.specs.Plan.{Instance, IsValid}
 use Rattle.mapf_model.specs.Tree.{ConstraintTree, Spell, Shows, Holds, ShareGoal, split_count, root}
-use Rattle.mapf_model.specs.Earned.{HasConflict, AreConflictFreeBefore, HaveConflictBefore, HaveSomeConflict, IsStoppedBefore, IsStoppedFrom, tick_of}
+use Rattle.mapf_model.specs.Earned.{HasConflict, AreConflictFreeBefore, HaveConflictBefore, HaveSomeConflict, tick_of}
 use Rattle.mapf_cbs.specs.declared.node.Node.{Node}
 use Rattle.mapf_cbs.specs.declared.node.Node.TheVariants.{Root}
 use Rattle.mapf_cbs.specs.declared.node.Fate.{Fate}
@@ -23,12 +23,13 @@ use Rattle.mapf_cbs.specs.Nodes.{IsRootView, IsNodeView, IsNodeFor, AreNodesFor,
 use Rattle.mapf_model.specs.declared.cause.Cause.{Cause}
 use Rattle.mapf_model.specs.declared.cause.Cause.TheVariants.{Splits, Ticks}
 use Rattle.mapf_cbs.specs.declared.answer.Answer.TheVariants.{Limit as LimitAnswer}
-use Rattle.mapf_cbs.specs.Answer.{IsTreeOf, IsShownOptimal, IsShownImpossible, IsSearchAnswer}
+use Rattle.mapf_cbs.specs.Answer.{IsTreeOf, IsStoppedAtFirst, IsShownOptimal, IsShownImpossible, IsSearchAnswer}
+use Rattle.mapf_cbs.specs.FirstConflicts.{AreFirstPaths}
 use Rattle.mapf_cbs.specs.Goals.{NamesFirstDefect}
 use Rattle.mapf_cbs.specs.State.{IsOpenSet, IsState, IsPopped, IsCauseToStop, IsLeastKey}
-use Rattle.mapf_cbs.proofs.ViewLemmas.{live_sum, live_cheapest}
+use Rattle.mapf_cbs.proofs.ViewLemmas.{live_sum, live_cheapest, live_first}
 use Rattle.mapf_cbs.proofs.ChildLemmas.{conflict_early}
-use Rattle.mapf_cbs.proofs.TreeLemmas.{is_earned, is_on_first, shows_cost, shows_impossible, has_splits, is_stopped}
+use Rattle.mapf_cbs.proofs.TreeLemmas.{is_earned, is_on_first, shows_cost, shows_impossible, has_splits, is_stopped, at_leaf}
 use Rattle.mapf_cbs.proofs.GrowLemmas.{searched_first}
 use Rattle.mapf_cbs.proofs.RangeLemmas.{tree_in_range, plan_in_range, sum_in_range}
 use Rattle.mapf_cbs.proofs.OpenLemmas.{first_open, Contains-first}
@@ -181,27 +182,28 @@ module _ (problem : Instance) (shape : IsGridMap problem.grid) (names : (tree : 
         total = sum view.costs;
         optimal = record { valid = valid_of none; sum = live_sum problem view live; least = shown_holds problem (Cost (sum view.costs)) found.0 shown_cost };
         shows = shown_cost;
+        of_a_leaf = at_leaf problem popped.views fates count popped.searched found.0 found.2 k view is is_open;
         plan_in_range = plan_in_range problem shape view live short few some;
         claim_in_range = sum_in_range problem shape view live short few;
       },
     )
 
-    answer_splits : (conflict : Conflict) → HasConflict view.paths conflict → tick_of conflict < 1000000 → (tree : ConstraintTree) × IsTreeOf problem limit items tree × IsStoppedBefore 1000000 problem tree × (split_count tree ≡ count)
+    answer_splits : (conflict : Conflict) → HasConflict view.paths conflict → tick_of conflict < 1000000 → (tree : ConstraintTree) × IsTreeOf problem limit items tree × IsStoppedAtFirst (λ paths. HaveConflictBefore paths 1000000) problem tree × (split_count tree ≡ count)
     answer_splits conflict meet early = (
       found.0,
       tree_is,
-      is_stopped problem popped.views fates count popped.searched found.0 found.2 (λ paths. HaveConflictBefore paths 1000000) k view is is_open least (not_apart view.paths conflict meet) (conflict, meet, early),
+      is_stopped problem popped.views fates count popped.searched found.0 found.2 (λ constraints paths. AreFirstPaths problem constraints paths × HaveConflictBefore paths 1000000) k view is is_open least (not_apart view.paths conflict meet) (live_first problem view live, (conflict, meet, early)),
       has_splits problem popped.views fates count popped.searched found.0 found.2,
     )
 
     answer_ticks : ((i j : ℕ) → ShareGoal problem i j → ⊥) → (conflict : Conflict) → HasConflict view.paths conflict → AreConflictFreeBefore view.paths (tick_of conflict) → 1000000 ≤ tick_of conflict →
-        (tree : ConstraintTree) × IsTreeOf problem limit items tree × IsStoppedFrom 1000000 problem tree × (1000000 < (split_count tree + 1) * free_cell_count problem.grid)
+        (tree : ConstraintTree) × IsTreeOf problem limit items tree × IsStoppedAtFirst (λ paths. AreConflictFreeBefore paths 1000000) problem tree × (1000000 < (split_count tree + 1) * free_cell_count problem.grid)
     answer_ticks goals conflict meet apart late =
         let early = conflict_early problem view live goals (count * free_cell_count problem.grid) (λ i. popped.searched.low k view i is) conflict meet in
         let size = has_splits problem popped.views fates count popped.searched found.0 found.2 in (
           found.0,
           tree_is,
-          is_stopped problem popped.views fates count popped.searched found.0 found.2 (λ paths. AreConflictFreeBefore paths 1000000) k view is is_open least (not_apart view.paths conflict meet) (λ i j tick p q before. apart i j tick p q (omega arith)),
+          is_stopped problem popped.views fates count popped.searched found.0 found.2 (λ constraints paths. AreFirstPaths problem constraints paths × AreConflictFreeBefore paths 1000000) k view is is_open least (not_apart view.paths conflict meet) (live_first problem view live, λ i j tick p q before. apart i j tick p q (omega arith)),
           rw size (omega arith),
         )
 

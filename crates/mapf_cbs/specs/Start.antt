@@ -2,7 +2,7 @@
 use Rattle.std.specs.Prelude.{◌≡◌, ◌-◌, ◌≤◌, ℕ, List, Some, length, slice_get}
 use Rattle.mapf_model.specs.declared.problem.Agent.{Agent}
 use Rattle.mapf_model.specs.Distance.{IsDistance}
-use Rattle.mapf_distance.specs.Distances.{GoalMap}
+use Rattle.mapf_distance.specs.Distances.{GoalMap, IsLeastDescent}
 use Rattle.mapf_model.specs.Grid.{GridMap, IsGridMap, free_cell_count}
 use Rattle.mapf_model.specs.Path.{IsLawful, IsTight}
 use Rattle.mapf_model.specs.Plan.{Instance}
@@ -17,12 +17,13 @@ use Rattle.mapf_distance.specs.Tables.{AreTables}
 abbrev pub HaveGoal : List Agent → ℕ → ℕ → Type 0
 HaveGoal agents i j = (a : Agent) × (b : Agent) × (slice_get agents i ≡ Some a) × (slice_get agents j ≡ Some b) × (a.goal ≡ b.goal)
 
--- the agent's path is lawful, ends as it arrives and has no more steps than it must
+-- the agent's path is lawful, ends as it arrives, has no more steps than it must and goes to the least cell at each step
 pub record IsShortest (grid : GridMap) (agent : Agent) (path : List ℕ) : Type 0 where
   pub lawful : IsLawful grid agent path
   pub tight : IsTight path
   pub few : length path ≤ free_cell_count grid
   pub short : IsDistance grid agent.goal agent.start (length path - 1)
+  pub least : IsLeastDescent grid agent.goal path
 
 -- so it is with the paths of the agents in front
 pub record AreShortest (problem : Instance) (paths : List (List ℕ)) : Type 0 where

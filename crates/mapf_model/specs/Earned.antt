@@ -61,14 +61,6 @@ pub record IsEarned (problem : Instance) (tree : ConstraintTree) : Type 0 where
   pub splits : AtEachNode (IsEarnedNode problem tree) root tree
 
 -- an earned tree with a leaf at which some due paths conflict and the fact holds of them
-pub record IsStoppedWhere (Fact : List (List ℕ) → Type 0) (problem : Instance) (tree : ConstraintTree) : Type 0 where
+pub record IsStoppedWhere (Fact : NodeConstraints → List (List ℕ) → Type 0) (problem : Instance) (tree : ConstraintTree) : Type 0 where
   pub earned : IsEarned problem tree
-  pub leaf : AtSomeLeaf (λ constraints. (paths : List (List ℕ)) × (total : ℕ) × AreDue problem tree constraints paths total × HaveSomeConflict paths × Fact paths) root tree
-
--- an earned tree with a leaf at which some due paths have a conflict before this tick
-abbrev pub IsStoppedBefore : ℕ → Instance → ConstraintTree → Type 0
-IsStoppedBefore tick problem tree = IsStoppedWhere (λ paths. HaveConflictBefore paths tick) problem tree
-
--- an earned tree with a leaf at which some due paths conflict, and have no conflict before this tick
-abbrev pub IsStoppedFrom : ℕ → Instance → ConstraintTree → Type 0
-IsStoppedFrom tick problem tree = IsStoppedWhere (λ paths. AreConflictFreeBefore paths tick) problem tree
+  pub leaf : AtSomeLeaf (λ constraints. (paths : List (List ℕ)) × (total : ℕ) × AreDue problem tree constraints paths total × HaveSomeConflict paths × Fact constraints paths) root tree
