@@ -1,7 +1,6 @@
 -- What the state of a search says of its answers.
 use Rattle.std.proofs.Common.{◌≡◌, All, ℕ, zero, suc, ◌+◌, ◌*◌, ◌^◌, ◌<◌, ◌≤◌, List, [], ◌∷◌, Some, Vec, Contains, length, sum, slice_get, refl, sym, ◌∙◌, ap, subst, inl, inr, arith}
 use Rattle.std.specs.declared.alloc.Global.{Global}
-use Rattle.std.specs.Bool.{⊤}
 use Rattle.mapf_model.proofs.ClaimLemmas.{slice_get_inside, holds_of_plans, shown_of_plan}
 use Rattle.mapf_model.proofs.SplitLemmas.{AllSatisfy-root}
 use Rattle.std.proofs.lemmas.Option.{slice_get_within, same_Some}
@@ -13,7 +12,7 @@ use Rattle.mapf_model.specs.declared.item.Item.{Item}
 use Rattle.mapf_model.specs.declared.problem.Agent.{Agent}
 use Rattle.mapf_model.specs.Plan.{Instance, IsValid}
 use Rattle.mapf_model.specs.Tree.{ConstraintTree, Spell, Shows, Holds, ShareGoal, split_count, root}
-use Rattle.mapf_model.specs.Earned.{HasConflict, AreConflictFreeBefore, HaveSomeConflict, IsStopped, IsStoppedFrom, tick_of}
+use Rattle.mapf_model.specs.Earned.{HasConflict, AreConflictFreeBefore, HaveConflictBefore, HaveSomeConflict, tick_of}
 use Rattle.mapf_cbs.specs.declared.node.Node.{Node}
 use Rattle.mapf_cbs.specs.declared.node.Node.TheVariants.{Root}
 use Rattle.mapf_cbs.specs.declared.node.Fate.{Fate}
@@ -24,11 +23,13 @@ use Rattle.mapf_cbs.specs.Nodes.{IsRootView, IsNodeView, IsNodeFor, AreNodesFor,
 use Rattle.mapf_model.specs.declared.cause.Cause.{Cause}
 use Rattle.mapf_model.specs.declared.cause.Cause.TheVariants.{Splits, Ticks}
 use Rattle.mapf_cbs.specs.declared.answer.Answer.TheVariants.{Limit as LimitAnswer}
-use Rattle.mapf_cbs.specs.Answer.{IsTreeOf, IsShownOptimal, IsShownImpossible, IsSearchAnswer}
+use Rattle.mapf_cbs.specs.Answer.{IsTreeOf, IsStoppedAtFirst, IsShownOptimal, IsShownImpossible, IsSearchAnswer}
+use Rattle.mapf_cbs.specs.FirstConflicts.{AreFirstPaths}
+use Rattle.mapf_cbs.specs.Goals.{NamesFirstDefect}
 use Rattle.mapf_cbs.specs.State.{IsOpenSet, IsState, IsPopped, IsCauseToStop, IsLeastKey}
-use Rattle.mapf_cbs.proofs.ViewLemmas.{live_sum, live_cheapest}
+use Rattle.mapf_cbs.proofs.ViewLemmas.{live_sum, live_cheapest, live_first}
 use Rattle.mapf_cbs.proofs.ChildLemmas.{conflict_early}
-use Rattle.mapf_cbs.proofs.TreeLemmas.{is_earned, shows_cost, shows_impossible, has_splits, is_stopped}
+use Rattle.mapf_cbs.proofs.TreeLemmas.{is_earned, is_on_first, shows_cost, shows_impossible, has_splits, is_stopped, at_leaf}
 use Rattle.mapf_cbs.proofs.GrowLemmas.{searched_first}
 use Rattle.mapf_cbs.proofs.RangeLemmas.{tree_in_range, plan_in_range, sum_in_range}
 use Rattle.mapf_cbs.proofs.OpenLemmas.{first_open, Contains-first}
@@ -122,11 +123,13 @@ not_apart paths (Vertex i j cell tick) (differ, p, q, ip, jq, here, there) = (i,
 not_apart paths (Swap i j from to tick) (differ, moved, p, q, ip, jq, here, there) = (i, j, tick, p, q, differ, ip, jq, inr (here.0 ∙ sym there.1, here.1 ∙ sym there.0))
 
 -- a tree of the search can be printed, and its splits are earned
-is_tree_of : (problem : Instance) → IsGridMap problem.grid → (views : List View) (fates : List Fate) (count limit : ℕ) → count ≤ limit → IsSearched problem views fates count → (items : List Item) (tree : ConstraintTree) → Spell items tree → IsTreeAt (length problem.agents) views fates 0 tree → IsTreeOf problem limit items tree
-is_tree_of problem shape views fates count limit within searched items tree spelled on_tree = record {
+is_tree_of : (problem : Instance) → IsGridMap problem.grid → ((tree : ConstraintTree) → NamesFirstDefect problem tree) → (views : List View) (fates : List Fate) (count limit : ℕ) → count ≤ limit → IsSearched problem views fates count → (items : List Item) (tree : ConstraintTree) → Spell items tree → IsTreeAt (length problem.agents) views fates 0 tree → IsTreeOf problem limit items tree
+is_tree_of problem shape names views fates count limit within searched items tree spelled on_tree = record {
   spelled = spelled;
   few = (let size = has_splits problem views fates count searched tree on_tree in omega (arith, size, within));
   earned = is_earned problem views fates count searched tree on_tree;
+  first_conflicts = is_on_first problem views fates count searched tree on_tree;
+  first_defect = names tree;
   in_range = tree_in_range problem shape views fates count searched tree 0 on_tree;
 }
 
@@ -138,11 +141,11 @@ pub is_shown_impossible : (problem : Instance) (tree : ConstraintTree) → Shows
 is_shown_impossible problem tree shows = record { shows = shows; impossible = shown_holds problem Impossible tree shows }
 
 -- no open node is left
-pub answer_impossible : (problem : Instance) → IsGridMap problem.grid → (nodes : List Node) (fates : List Fate) (count limit : ℕ) → count ≤ limit → (state : IsState problem nodes fates [] count) (items : List Item) → (tree : ConstraintTree) × Spell items tree × IsTreeAt (length problem.agents) state.views fates 0 tree →
+pub answer_impossible : (problem : Instance) → IsGridMap problem.grid → ((tree : ConstraintTree) → NamesFirstDefect problem tree) → (nodes : List Node) (fates : List Fate) (count limit : ℕ) → count ≤ limit → (state : IsState problem nodes fates [] count) (items : List Item) → (tree : ConstraintTree) × Spell items tree × IsTreeAt (length problem.agents) state.views fates 0 tree →
     (tree : ConstraintTree) × IsTreeOf problem limit items tree × IsShownImpossible problem tree
-answer_impossible problem shape nodes fates count limit within state items (tree, spell, on_tree) = (
+answer_impossible problem shape names nodes fates count limit within state items (tree, spell, on_tree) = (
   tree,
-  is_tree_of problem shape state.views fates count limit within state.searched items tree spell on_tree,
+  is_tree_of problem shape names state.views fates count limit within state.searched items tree spell on_tree,
   is_shown_impossible problem tree (shows_impossible problem state.views fates count state.searched tree on_tree (λ m m_open.
       let size = state.searched.lengths in
       let inside = slice_get_within fates m Open m_open in
@@ -150,9 +153,9 @@ answer_impossible problem shape nodes fates count limit within state items (tree
       none_left (sum view.0.costs, m) (state.opens.each m view.0 view.1 m_open))),
 )
 
-module _ (problem : Instance) (shape : IsGridMap problem.grid) (nodes : List Node) (fates : List Fate) (rest : List (ℕ × ℕ)) (count total k : ℕ) (popped : IsPopped problem nodes fates rest count total k) (limit : ℕ) (within : count ≤ limit) (items : List Item) (found : (tree : ConstraintTree) × Spell items tree × IsTreeAt (length problem.agents) popped.views fates 0 tree) where
+module _ (problem : Instance) (shape : IsGridMap problem.grid) (names : (tree : ConstraintTree) → NamesFirstDefect problem tree) (nodes : List Node) (fates : List Fate) (rest : List (ℕ × ℕ)) (count total k : ℕ) (popped : IsPopped problem nodes fates rest count total k) (limit : ℕ) (within : count ≤ limit) (items : List Item) (found : (tree : ConstraintTree) × Spell items tree × IsTreeAt (length problem.agents) popped.views fates 0 tree) where
   tree_is : IsTreeOf problem limit items found.0
-  tree_is = is_tree_of problem shape popped.views fates count limit within popped.searched items found.0 found.1 found.2
+  tree_is = is_tree_of problem shape names popped.views fates count limit within popped.searched items found.0 found.1 found.2
 
   module _ (view : View) (is : slice_get popped.views k ≡ Some view) (is_open : slice_get fates k ≡ Some Open) (live : IsLive problem view) where
     least : (m : ℕ) (other : View) → slice_get popped.views m ≡ Some other → slice_get fates m ≡ Some Open → sum view.costs ≤ sum other.costs
@@ -179,27 +182,28 @@ module _ (problem : Instance) (shape : IsGridMap problem.grid) (nodes : List Nod
         total = sum view.costs;
         optimal = record { valid = valid_of none; sum = live_sum problem view live; least = shown_holds problem (Cost (sum view.costs)) found.0 shown_cost };
         shows = shown_cost;
+        of_a_leaf = at_leaf problem popped.views fates count popped.searched found.0 found.2 k view is is_open;
         plan_in_range = plan_in_range problem shape view live short few some;
         claim_in_range = sum_in_range problem shape view live short few;
       },
     )
 
-    answer_splits : (conflict : Conflict) → HasConflict view.paths conflict → (tree : ConstraintTree) × IsTreeOf problem limit items tree × IsStopped problem tree × (split_count tree ≡ count)
-    answer_splits conflict meet = (
+    answer_splits : (conflict : Conflict) → HasConflict view.paths conflict → tick_of conflict < 1000000 → (tree : ConstraintTree) × IsTreeOf problem limit items tree × IsStoppedAtFirst (λ paths. HaveConflictBefore paths 1000000) problem tree × (split_count tree ≡ count)
+    answer_splits conflict meet early = (
       found.0,
       tree_is,
-      is_stopped problem popped.views fates count popped.searched found.0 found.2 (λ paths. ⊤) k view is is_open least (not_apart view.paths conflict meet) tt,
+      is_stopped problem popped.views fates count popped.searched found.0 found.2 (λ constraints paths. AreFirstPaths problem constraints paths × HaveConflictBefore paths 1000000) k view is is_open least (not_apart view.paths conflict meet) (live_first problem view live, (conflict, meet, early)),
       has_splits problem popped.views fates count popped.searched found.0 found.2,
     )
 
     answer_ticks : ((i j : ℕ) → ShareGoal problem i j → ⊥) → (conflict : Conflict) → HasConflict view.paths conflict → AreConflictFreeBefore view.paths (tick_of conflict) → 1000000 ≤ tick_of conflict →
-        (tree : ConstraintTree) × IsTreeOf problem limit items tree × IsStoppedFrom 1000000 problem tree × (1000000 < (split_count tree + 1) * free_cell_count problem.grid)
+        (tree : ConstraintTree) × IsTreeOf problem limit items tree × IsStoppedAtFirst (λ paths. AreConflictFreeBefore paths 1000000) problem tree × (1000000 < (split_count tree + 1) * free_cell_count problem.grid)
     answer_ticks goals conflict meet apart late =
         let early = conflict_early problem view live goals (count * free_cell_count problem.grid) (λ i. popped.searched.low k view i is) conflict meet in
         let size = has_splits problem popped.views fates count popped.searched found.0 found.2 in (
           found.0,
           tree_is,
-          is_stopped problem popped.views fates count popped.searched found.0 found.2 (λ paths. AreConflictFreeBefore paths 1000000) k view is is_open least (not_apart view.paths conflict meet) (λ i j tick p q before. apart i j tick p q (omega arith)),
+          is_stopped problem popped.views fates count popped.searched found.0 found.2 (λ constraints paths. AreFirstPaths problem constraints paths × AreConflictFreeBefore paths 1000000) k view is is_open least (not_apart view.paths conflict meet) (live_first problem view live, λ i j tick p q before. apart i j tick p q (omega arith)),
           rw size (omega arith),
         )
 
@@ -209,6 +213,6 @@ module _ (problem : Instance) (shape : IsGridMap problem.grid) (nodes : List Nod
     answer_limit goals conflict meet apart Ticks late listed same =
         let a = answer_ticks goals conflict meet apart late in
         (a.0, subst (λ its. IsTreeOf problem limit its a.0) (sym same) a.1, (a.2, a.3))
-    answer_limit goals conflict meet apart (Splits n) (is_limit, all) listed same =
-        let a = answer_splits conflict meet in
+    answer_limit goals conflict meet apart (Splits n) (early, is_limit, all) listed same =
+        let a = answer_splits conflict meet early in
         (a.0, subst (λ its. IsTreeOf problem limit its a.0) (sym same) a.1, (a.2, is_limit, a.3 ∙ all))

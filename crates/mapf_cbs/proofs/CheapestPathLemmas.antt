@@ -10,6 +10,7 @@ use Rattle.mapf_model.proofs.LabelLemmas.{lawful_bound, lawful_rests}
 use Rattle.mapf_model.proofs.PathLemmas.{IsCost-tight}
 use Rattle.mapf_spacetime.specs.Answer.{AreGoodLabels, IsArrival, IsDeath}
 use Rattle.mapf_spacetime.specs.Task.{task_of}
+use Rattle.mapf_spacetime.proofs.WayLemmas.{descent_first}
 use Rattle.mapf_cbs.specs.CheapestPath.{IsCheapestPath, HasNoPath}
 use Rattle.mapf_cbs.specs.Start.{IsShortest}
 
@@ -21,6 +22,7 @@ module _ (grid : GridMap) (agent : Agent) (bars : List Bar) where
     tight = arrival.tight;
     is_cost = arrival.is_cost;
     least = λ other other_cost lawful satisfies is. lawful_bound grid agent bars (entries_of entries) other other_cost arrival.labels.sound lawful satisfies is.rests (Ticks arrival.cost) arrival.start;
+    first = arrival.first;
     labels = arrival.labels;
     start = arrival.start;
     below = arrival.limit;
@@ -47,6 +49,7 @@ cheapest_of_shortest grid agent path short some = record {
   tight = short.tight;
   is_cost = IsCost-tight grid agent path short.lawful short.tight;
   least = λ other other_cost lawful satisfies is. lawful_bound grid agent [] (entries_of []) other other_cost (none_sound grid agent.goal []) lawful satisfies is.rests (Ticks (length path - 1)) short.short;
+  first = descent_first (task_of grid agent []) path short.lawful.start short.short (IsCost-tight grid agent path short.lawful short.tight) short.least;
   labels = none_good grid agent [];
   start = short.short;
   below = λ horizon before. let few = short.few in omega arith;

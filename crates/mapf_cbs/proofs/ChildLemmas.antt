@@ -38,6 +38,7 @@ IsCheapestPath-same grid agent xs ys path cost entries same agent_path = record 
   tight = agent_path.tight;
   is_cost = agent_path.is_cost;
   least = λ other other_cost lawful satisfies is. agent_path.least other other_cost lawful (λ bar in_xs. satisfies bar ((same bar).0 in_xs)) is;
+  first = λ other tick lawful satisfies is agree. agent_path.first other tick lawful (λ bar in_xs. satisfies bar ((same bar).0 in_xs)) is agree;
   labels = good_same grid agent xs ys entries same agent_path.labels;
   start = agent_path.start;
   below = λ horizon below. agent_path.below horizon (λ bar in_xs. below bar ((same bar).0 in_xs));

@@ -7,11 +7,12 @@ use Rattle.mapf_model.specs.declared.conflict.Conflict.{Conflict}
 use Rattle.mapf_model.specs.declared.conflict.Conflict.TheVariants.{Vertex, Swap}
 use Rattle.mapf_model.specs.Plan.{Instance}
 use Rattle.mapf_model.specs.Tree.{NodeConstraints, root, left_child_constraints, right_child_constraints, ShareGoal}
-use Rattle.mapf_model.specs.Earned.{HasConflict, AreConflictFreeBefore, tick_of}
+use Rattle.mapf_model.specs.Earned.{tick_of}
 use Rattle.mapf_cbs.specs.declared.node.Fate.{Fate}
 use Rattle.mapf_cbs.specs.declared.node.Fate.TheVariants.{Open, Dead, Expanded}
 use Rattle.mapf_model.specs.Grid.{free_cell_count}
 use Rattle.mapf_constraints.specs.BarSets.{AreBefore}
+use Rattle.mapf_cbs.specs.FirstConflicts.{IsFirstConflict}
 use Rattle.mapf_cbs.specs.Search.{View, IsLive, IsDead, IsFate, IsExpandedAt, IsExpandedFate, IsEndFate, End, occurrences, IsSearched}
 use Rattle.mapf_cbs.proofs.SumLemmas.{slice_get-front, slice_get-here, slice_get-second, length-two_more}
 use Rattle.mapf_cbs.proofs.ChildLemmas.{AreBefore-with_bar, conflict_proper, conflict_early}
@@ -56,7 +57,7 @@ module _ (problem : Instance) (goals : (i j : ℕ) → ShareGoal problem i j →
     (views : List View) (fates : List Fate) (count : ℕ) (searched : IsSearched problem views fates count)
     (j : ℕ) (view : View) (is : slice_get views j ≡ Some view) (was_open : slice_get fates j ≡ Some Open)
     (least : (m : ℕ) (other : View) → slice_get views m ≡ Some other → slice_get fates m ≡ Some Open → sum view.costs ≤ sum other.costs)
-    (conflict : Conflict) (meet : HasConflict view.paths conflict) (apart : AreConflictFreeBefore view.paths (tick_of conflict)) (in_time : tick_of conflict < 1000000)
+    (conflict : Conflict) (on_first : IsFirstConflict view.paths conflict) (in_time : tick_of conflict < 1000000)
     (x y : View) (x_constraints : x.constraints ≡ left_child_constraints view.constraints conflict) (y_constraints : y.constraints ≡ right_child_constraints view.constraints conflict)
     (left right : Fate) (x_is : IsChildFate problem view x left) (y_is : IsChildFate problem view y right)
     (after : List Fate) (grown : IsGrown fates after j conflict left right)
@@ -114,8 +115,7 @@ module _ (problem : Instance) (goals : (i j : ℕ) → ShareGoal problem i j →
       live = h.live;
       proper = h.proper;
       early = h.early;
-      meet = h.meet;
-      apart = h.apart;
+      on_first = h.on_first;
       to_left = (h.to_left.0, old_view a h.to_left.0 h.to_left.1, h.to_left.2);
       to_right = (h.to_right.0, old_view b h.to_right.0 h.to_right.1, h.to_right.2);
       left_later = h.left_later;
@@ -132,10 +132,9 @@ module _ (problem : Instance) (goals : (i j : ℕ) → ShareGoal problem i j →
         let inside : j < length fates = slice_get_within fates j Open was_open in
         record {
           live = searched.each j view Open is was_open;
-          proper = conflict_proper problem view (searched.each j view Open is was_open) conflict meet;
+          proper = conflict_proper problem view (searched.each j view Open is was_open) conflict on_first.has;
           early = in_time;
-          meet = meet;
-          apart = apart;
+          on_first = on_first;
           to_left = (x, x_at, x_constraints);
           to_right = (y, y_at, y_constraints);
           left_later = inside;
@@ -183,7 +182,7 @@ module _ (problem : Instance) (goals : (i j : ℕ) → ShareGoal problem i j →
     least_at k m v other fate (Second second v_is fate_is) at expanded = absurd (child_not_expanded y right y_is (subst IsExpandedFate fate_is expanded))
 
     early : tick_of conflict < count * free_cell_count problem.grid + free_cell_count problem.grid
-    early = conflict_early problem view (searched.each j view Open is was_open) goals (count * free_cell_count problem.grid) (λ i. searched.low j view i is) conflict meet
+    early = conflict_early problem view (searched.each j view Open is was_open) goals (count * free_cell_count problem.grid) (λ i. searched.low j view i is) conflict on_first.has
 
     low_left : (c : Conflict) → tick_of c < (count + 1) * free_cell_count problem.grid → (i : ℕ) → AreBefore ((count + 1) * free_cell_count problem.grid) ((left_child_constraints view.constraints c).bars i)
     low_left (Vertex a b cell tick) before = AreBefore-with_bar view.constraints.bars a (Cell cell tick) (count * free_cell_count problem.grid) ((count + 1) * free_cell_count problem.grid) (omega arith) before (λ i. searched.low j view i is)

@@ -1,5 +1,5 @@
 -- The root of a search, and the trees of one node.
-use Rattle.std.proofs.Common.{◌≡◌, ◌≢◌, ℕ, ◌-◌, ◌<◌, ◌≤◌, ◌++◌, List, [], ◌∷◌, Some, Vec, map, length, length-append, sum, sum_by, slice_get, get_or, refl, sym, ◌∙◌, subst, ⊎_elim, arith}
+use Rattle.std.proofs.Common.{◌≡◌, ◌≢◌, ℕ, ◌-◌, ◌<◌, ◌≤◌, ◌++◌, List, [], ◌∷◌, Some, Vec, map, length, length-append, sum, sum_by, slice_get, get_or, refl, sym, ◌∙◌, ap, subst, inl, inr, ⊎_elim, arith}
 use Rattle.std.specs.declared.alloc.Global.{Global}
 use Rattle.std.proofs.lemmas.Bool.{cases_lt}
 use Rattle.std.proofs.lemmas.Option.{slice_get_read, slice_get_within, same_Some, slice_get-map}
@@ -12,13 +12,16 @@ use Rattle.mapf_model.specs.Blocks.{LabelBlock}
 use Rattle.mapf_model.specs.Grid.{GridMap}
 use Rattle.mapf_model.specs.Plan.{Instance}
 use Rattle.mapf_model.specs.Tree.{ConstraintTree, Leaf, Clash, ShareGoal, root}
+use Rattle.mapf_model.proofs.ClaimLemmas.{slice_get_inside}
 use Rattle.mapf_model.proofs.SumLemmas.{snoc_get}
 use Rattle.mapf_cbs.specs.Answer.{IsTreeOf, IsShownImpossible}
+use Rattle.mapf_cbs.specs.Goals.{HaveDifferentGoals, IsFirstSharingPair, SomeGoalIsUnreachable, NamesFirstDefect}
 use Rattle.mapf_cbs.specs.Nodes.{IsRootView}
 use Rattle.mapf_cbs.specs.Search.{View, IsLive}
-use Rattle.mapf_cbs.specs.Start.{HaveGoal, IsShortest, AreShortest, SomeGoalIsUnreachable}
+use Rattle.mapf_cbs.specs.Start.{HaveGoal, IsShortest, AreShortest, IsRootStart}
 use Rattle.mapf_cbs.proofs.AnswerLemmas.{is_shown_impossible}
 use Rattle.mapf_cbs.proofs.CheapestPathLemmas.{cheapest_of_shortest}
+use Rattle.mapf_distance.specs.Distances.{GoalMap}
 
 -- an element of a list that is known by another name
 pub read_through : {X : Type 0} (xs ys : List X) (i : ℕ) (x : X) → xs ≡ ys → i < length xs → x ≡ get_or xs i x → slice_get ys i ≡ Some x
@@ -65,29 +68,60 @@ root_of problem paths count shortest = record {
 }
 
 -- a leaf without blocks, where a goal can't be reached
-pub leaf_answer : (problem : Instance) (limit : ℕ) → SomeGoalIsUnreachable problem → (items : List Item) (blocks : Vec LabelBlock Global) → items ≡ LeafItem blocks ∷ [] → blocks.items ≡ [] → (tree : ConstraintTree) × IsTreeOf problem limit items tree × IsShownImpossible problem tree
-leaf_answer problem limit (i, agent, is, unreachable) items blocks items_are none = (
+pub leaf_answer : (problem : Instance) (limit : ℕ) → HaveDifferentGoals problem → SomeGoalIsUnreachable problem → (items : List Item) (blocks : Vec LabelBlock Global) → items ≡ LeafItem blocks ∷ [] → blocks.items ≡ [] → (tree : ConstraintTree) × IsTreeOf problem limit items tree × IsShownImpossible problem tree
+leaf_answer problem limit goals (i, agent, is, unreachable) items blocks items_are none = (
   Leaf [],
   record {
     spelled = rw items_are (rw none refl);
     few = omega arith;
     earned = record { proper = (λ a b d lt within. absurd (omega arith), λ k d within. absurd (omega arith)); splits = tt };
+    first_conflicts = tt;
+    first_defect = record { clash = λ a b pair. absurd (goals a b pair.shared); leaf = λ h u. refl };
     in_range = record { each = λ k d within. absurd (omega arith); rising = λ a b d lt within. absurd (omega arith) };
   },
   is_shown_impossible problem (Leaf []) (record { proper = (λ a b d lt within. absurd (omega arith), λ k d within. absurd (omega arith)); nodes = (λ j other block this found. cc, (i, agent, is, unreachable)) }),
 )
 
+-- no two agents with one goal come before these two
+abbrev pub AreNoneBefore : List Agent → ℕ → ℕ → Type 0
+AreNoneBefore agents i j = ((a b : ℕ) → a < i → a < b → b < length agents → HaveGoal agents a b → ⊥) × ((b : ℕ) → i < b → b < j → HaveGoal agents i b → ⊥)
+
 share_goal : (problem : Instance) (i j : ℕ) → i ≢ j → HaveGoal problem.agents i j → ShareGoal problem i j
 share_goal problem i j differ (a, b, ia, jb, same) = (differ, a, b, ia, jb, same)
 
--- a clash of two agents that have one goal
-pub clash_answer : (problem : Instance) (limit i j : ℕ) → i < j → j < length problem.agents → HaveGoal problem.agents i j → (items : List Item) → items ≡ ClashItem i j ∷ [] → (tree : ConstraintTree) × IsTreeOf problem limit items tree × IsShownImpossible problem tree
-clash_answer problem limit i j less within shared items items_are = (
+-- a pair of agents with one goal before which no pair comes is the first one
+first_pair : (problem : Instance) (i j : ℕ) → i < j → HaveGoal problem.agents i j → AreNoneBefore problem.agents i j → (a b : ℕ) → IsFirstSharingPair problem a b → (i ≡ a) × (j ≡ b)
+first_pair problem i j less shared none a b pair =
+    let (differ, p, q, ap_is, bq_is, same) = pair.shared in
+    let a_first : a ≡ i = ⊎_elim
+    (λ (h : a < i). absurd (none.0 a b h pair.order (slice_get_within problem.agents b q bq_is) (p, q, ap_is, bq_is, same)))
+    (λ (h : i ≤ a). ⊎_elim
+    (λ (before : i < a). absurd (pair.first i j less (share_goal problem i j (λ e. omega arith) shared) (inl before)))
+    (λ (not_before : a ≤ i). omega arith)
+    (cases_lt i a))
+    (cases_lt a i) in
+    let b_first : b ≡ j = ⊎_elim
+    (λ (h : b < j). let order = pair.order in absurd (none.1 b (omega (arith, order, a_first)) h (subst (λ n. HaveGoal problem.agents n b) a_first (p, q, ap_is, bq_is, same))))
+    (λ (h : j ≤ b). ⊎_elim
+    (λ (before : j < b). absurd (pair.first i j less (share_goal problem i j (λ e. omega arith) shared) (inr (sym a_first, before))))
+    (λ (not_before : b ≤ j). omega arith)
+    (cases_lt j b))
+    (cases_lt b j) in
+    (sym a_first, sym b_first)
+
+-- a clash of the first two agents that have one goal
+pub clash_answer : (problem : Instance) (limit i j : ℕ) → i < j → j < length problem.agents → HaveGoal problem.agents i j → AreNoneBefore problem.agents i j → (items : List Item) → items ≡ ClashItem i j ∷ [] → (tree : ConstraintTree) × IsTreeOf problem limit items tree × IsShownImpossible problem tree
+clash_answer problem limit i j less within shared none items items_are = (
   Clash i j,
   record {
     spelled = rw items_are refl;
     few = omega arith;
     earned = record { proper = tt; splits = tt };
+    first_conflicts = tt;
+    first_defect = record {
+      clash = λ a b pair. let e = first_pair problem i j less shared none a b pair in ap (λ n. Clash n j) e.0 ∙ ap (λ n. Clash a n) e.1;
+      leaf = λ goals u. absurd (goals i j (share_goal problem i j (λ e. omega arith) shared));
+    };
     in_range = (omega arith, within);
   },
   is_shown_impossible problem (Clash i j) (record { proper = tt; nodes = share_goal problem i j (λ e. omega arith) shared }),
@@ -99,3 +133,14 @@ none_share problem none i j (differ, a, b, ia, jb, same) = ⊎_elim
     (λ (less : i < j). none i j less (slice_get_within problem.agents j b jb) (a, b, ia, jb, same))
     (λ (more : j ≤ i). none j i (omega arith) (slice_get_within problem.agents i a ia) (b, a, jb, ia, sym same))
     (cases_lt i j)
+
+-- at the root of a search the goals differ, and each can be reached
+pub root_names : (problem : Instance) (tables : List GoalMap) (paths : List (List ℕ)) → IsRootStart problem tables paths → (tree : ConstraintTree) → NamesFirstDefect problem tree
+root_names problem tables paths root_start tree = record {
+  clash = λ i j pair. absurd (root_start.goals i j pair.shared);
+  leaf = λ goals (i, agent, is, unreachable).
+      let count = root_start.count in
+      let inside : i < length problem.agents = slice_get_within problem.agents i agent is in
+      let path : (path : List ℕ) × (slice_get paths i ≡ Some path) = slice_get_inside paths i (omega arith) in
+      absurd (unreachable (length path.0 - 1) (root_start.shortest.each i agent path.0 is path.1).short.walk);
+}

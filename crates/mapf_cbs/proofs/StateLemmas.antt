@@ -8,13 +8,14 @@ use Rattle.mapf_model.specs.declared.conflict.Conflict.TheVariants.{Vertex, Swap
 use Rattle.mapf_model.specs.Bars.{IsBar}
 use Rattle.mapf_model.specs.Plan.{Instance}
 use Rattle.mapf_model.specs.Tree.{NodeConstraints, with_bar, left_child_constraints, right_child_constraints, ShareGoal}
-use Rattle.mapf_model.specs.Earned.{HasConflict, AreConflictFreeBefore, tick_of}
+use Rattle.mapf_model.specs.Earned.{HasConflict, tick_of}
 use Rattle.mapf_model.proofs.SplitLemmas.{Contains-cons_cases}
 use Rattle.mapf_spacetime.specs.declared.found.Found.{Found}
 use Rattle.mapf_cbs.specs.declared.node.Node.{Node}
 use Rattle.mapf_cbs.specs.declared.node.Node.TheVariants.{Root, Child}
 use Rattle.mapf_cbs.specs.declared.node.Fate.{Fate}
 use Rattle.mapf_cbs.specs.declared.node.Fate.TheVariants.{Open, Expanded}
+use Rattle.mapf_cbs.specs.FirstConflicts.{IsFirstConflict}
 use Rattle.mapf_cbs.specs.Search.{View, IsLive, IsEndFate, IsSearched, left_agent, right_agent, left_bar, right_bar}
 use Rattle.mapf_cbs.specs.Nodes.{AreViews, IsNodeView, IsChildView, IsNodeFor, HasTableBar}
 use Rattle.mapf_constraints.specs.BarSets.{tick_of as bar_tick}
@@ -143,7 +144,7 @@ with_key_new keys (Some t) n s e = let same : t ≡ s = same_Some t s e in subst
 
 module _ (problem : Instance) (nodes : List Node) (fates : List Fate) (rest : List (ℕ × ℕ)) (count total k : ℕ) (popped : IsPopped problem nodes fates rest count total k)
     (goals : (i j : ℕ) → ShareGoal problem i j → ⊥) (view : View) (is : slice_get popped.views k ≡ Some view) (is_open : slice_get fates k ≡ Some Open) (total_is : total ≡ sum view.costs)
-    (conflict : Conflict) (meet : HasConflict view.paths conflict) (apart : AreConflictFreeBefore view.paths (tick_of conflict)) (early : tick_of conflict < 1000000)
+    (conflict : Conflict) (on_first : IsFirstConflict view.paths conflict) (early : tick_of conflict < 1000000)
     (f g : Found) (s t : Option ℕ) (left : IsGeneratedChild problem view (left_agent conflict) (left_bar conflict) f s) (right : IsGeneratedChild problem view (right_agent conflict) (right_bar conflict) g t)
   where
     same_length : length popped.views ≡ length nodes
@@ -248,7 +249,7 @@ module _ (problem : Instance) (nodes : List Node) (fates : List Fate) (rest : Li
           subst (λ (w : View). sum w.costs ≤ sum other.costs) same (first.4 m other m_is m_open)
 
       pub searched_after : IsSearched problem (popped.views ++ left.child ∷ right.child ∷ []) after (count + 1)
-      searched_after = searched_grown problem goals popped.views fates count popped.searched k view is is_open least_first conflict meet apart early left.child right.child
+      searched_after = searched_grown problem goals popped.views fates count popped.searched k view is is_open least_first conflict on_first early left.child right.child
           (left.constraints ∙ sym (left_constraints_are view.constraints conflict)) (right.constraints ∙ sym (right_constraints_are view.constraints conflict))
           (fate_of s) (fate_of t) (generated_fate problem view left.child s left.state) (generated_fate problem view right.child t right.state) after grown
 

@@ -9,13 +9,14 @@ use Rattle.mapf_model.specs.declared.item.Claim.TheVariants.{Cost, Impossible}
 use Rattle.mapf_model.specs.Blocks.{LabelBlock}
 use Rattle.mapf_model.specs.Labels.{entries_of, AreSound, IsLabel, IsAtMost, label_sum}
 use Rattle.mapf_model.specs.Plan.{Instance, IsSumOfCosts}
-use Rattle.mapf_model.specs.Tree.{ConstraintTree, Split, Leaf, Clash, NodeConstraints, AtEachNode, AtEachEnd, AtSomeLeaf, split_count, IsProper, IsProperNode, block_of, entries_or, with_blocks, no_entries, AreBlocksSound, AreStartLabels, NodeShows, Shows}
+use Rattle.mapf_model.specs.Tree.{ConstraintTree, Split, Leaf, Clash, NodeConstraints, AtEachNode, AtEachEnd, AtSomeLeaf, root, split_count, IsProper, IsProperNode, block_of, entries_or, with_blocks, no_entries, AreBlocksSound, AreStartLabels, NodeShows, Shows}
 use Rattle.mapf_model.specs.Earned.{AreCheapest, AreDue, HaveSomeConflict, IsEarnedNode, IsEarned, IsStoppedWhere}
 use Rattle.mapf_cbs.specs.declared.node.Fate.{Fate}
 use Rattle.mapf_cbs.specs.declared.node.Fate.TheVariants.{Open, Dead, Expanded}
+use Rattle.mapf_cbs.specs.FirstConflicts.{AreFirstPaths, IsOnFirstConflict, AreOnFirstConflicts}
 use Rattle.mapf_cbs.specs.Search.{View, IsLive, IsDead, IsCheapestOf, IsEndFate, Shape, Node, End, splits, occurrences, IsShape, IsSearched, AreBlocksOf, IsTreeAt}
 use Rattle.mapf_cbs.proofs.SumLemmas.{slice_get-set_same, slice_get-set_other, length-slice_set, length-ticks, label_sum-never, label_sum-ticks}
-use Rattle.mapf_cbs.proofs.ViewLemmas.{agent_path_of, live_cheapest, live_sum, live_least, dead_none}
+use Rattle.mapf_cbs.proofs.ViewLemmas.{agent_path_of, live_cheapest, live_first, live_sum, live_least, dead_none}
 
 -- sound entries for each agent, and the labels of the starts
 pub record AreLabelled (problem : Instance) (view : View) (labels : List Label) : Type 0 where
@@ -208,7 +209,7 @@ module _ (problem : Instance) (views : List View) (fates : List Fate) (count : �
     earned_node : (k : ℕ) (view : View) (node : ConstraintTree) → slice_get views k ≡ Some view → IsTreeAt (length problem.agents) views fates k node → IsEarnedNode problem tree view.constraints node
     earned_node k view (Split c left right) is (a, b, expanded, on_left, on_right) =
         let at_expanded = searched.each k view (Expanded c a b) is expanded in
-        (view.paths, sum view.costs, due view at_expanded.live (λ m other other_is is_open. searched.least k m view other (Expanded c a b) is other_is expanded tt is_open), at_expanded.meet, at_expanded.apart)
+        (view.paths, sum view.costs, due view at_expanded.live (λ m other other_is is_open. searched.least k m view other (Expanded c a b) is other_is expanded tt is_open), at_expanded.on_first.has, at_expanded.on_first.earliest)
     earned_node k view (Leaf blocks) is at_leaf = tt
     earned_node k view (Clash i j) is none = tt
 
@@ -217,6 +218,16 @@ module _ (problem : Instance) (views : List View) (fates : List Fate) (count : �
       proper = is_proper;
       splits = subst (λ constraints. AtEachNode (IsEarnedNode problem tree) constraints tree) searched.first.2 (each_node (IsEarnedNode problem tree) earned_node tree 0 searched.first.0 searched.first.1 on_tree);
     }
+
+    first_node : (k : ℕ) (view : View) (node : ConstraintTree) → slice_get views k ≡ Some view → IsTreeAt (length problem.agents) views fates k node → IsOnFirstConflict problem tree view.constraints node
+    first_node k view (Split c left right) is (a, b, expanded, on_left, on_right) =
+        let at_expanded = searched.each k view (Expanded c a b) is expanded in
+        (view.paths, sum view.costs, due view at_expanded.live (λ m other other_is is_open. searched.least k m view other (Expanded c a b) is other_is expanded tt is_open), live_first problem view at_expanded.live, at_expanded.on_first)
+    first_node k view (Leaf blocks) is at_leaf = tt
+    first_node k view (Clash i j) is none = tt
+
+    pub is_on_first : AreOnFirstConflicts problem tree
+    is_on_first = subst (λ constraints. AtEachNode (IsOnFirstConflict problem tree) constraints tree) searched.first.2 (each_node (IsOnFirstConflict problem tree) first_node tree 0 searched.first.0 searched.first.1 on_tree)
 
     cost_node : (cost : ℕ) → ((m : ℕ) (other : View) → slice_get views m ≡ Some other → slice_get fates m ≡ Some Open → cost ≤ sum other.costs) →
         (k : ℕ) (view : View) (node : ConstraintTree) → slice_get views k ≡ Some view → IsTreeAt (length problem.agents) views fates k node → NodeShows problem (Cost cost) view.constraints node
@@ -257,14 +268,23 @@ module _ (problem : Instance) (views : List View) (fates : List Fate) (count : �
     has_splits = split_count_is tree searched.tree.shape 0 searched.tree.is_shape on_tree ∙ searched.tree.exact
 
     -- an open node of least sum whose list has a conflict stops the tree
-    pub is_stopped : (Fact : List (List ℕ) → Type 0) (j : ℕ) (view : View) → slice_get views j ≡ Some view → slice_get fates j ≡ Some Open →
-        ((m : ℕ) (other : View) → slice_get views m ≡ Some other → slice_get fates m ≡ Some Open → sum view.costs ≤ sum other.costs) → HaveSomeConflict view.paths → Fact view.paths → IsStoppedWhere Fact problem tree
+    pub is_stopped : (Fact : NodeConstraints → List (List ℕ) → Type 0) (j : ℕ) (view : View) → slice_get views j ≡ Some view → slice_get fates j ≡ Some Open →
+        ((m : ℕ) (other : View) → slice_get views m ≡ Some other → slice_get fates m ≡ Some Open → sum view.costs ≤ sum other.costs) → HaveSomeConflict view.paths → Fact view.constraints view.paths → IsStoppedWhere Fact problem tree
     is_stopped Fact j view is is_open least meet fact = record {
       earned = is_earned;
       leaf =
-          let P : NodeConstraints → Type 0 = λ constraints. (paths : List (List ℕ)) × (total : ℕ) × AreDue problem tree constraints paths total × HaveSomeConflict paths × Fact paths in
+          let P : NodeConstraints → Type 0 = λ constraints. (paths : List (List ℕ)) × (total : ℕ) × AreDue problem tree constraints paths total × HaveSomeConflict paths × Fact constraints paths in
           let once = searched.tree.once j Open is_open tt in
           subst (λ constraints. AtSomeLeaf P constraints tree) searched.first.2
           (some_leaf P j view is (view.paths, sum view.costs, due view (searched.each j view Open is is_open) least, meet, fact)
           tree searched.tree.shape 0 searched.first.0 searched.first.1 searched.tree.is_shape on_tree (omega arith));
     }
+
+    -- the paths of an open node are those of a leaf
+    pub at_leaf : (j : ℕ) (view : View) → slice_get views j ≡ Some view → slice_get fates j ≡ Some Open → AtSomeLeaf (λ constraints. AreCheapest problem constraints view.paths × AreFirstPaths problem constraints view.paths) root tree
+    at_leaf j view is is_open =
+        let P : NodeConstraints → Type 0 = λ constraints. AreCheapest problem constraints view.paths × AreFirstPaths problem constraints view.paths in
+        let live = searched.each j view Open is is_open in
+        let once = searched.tree.once j Open is_open tt in
+        subst (λ constraints. AtSomeLeaf P constraints tree) searched.first.2
+        (some_leaf P j view is (live_cheapest problem view live, live_first problem view live) tree searched.tree.shape 0 searched.first.0 searched.first.1 searched.tree.is_shape on_tree (omega arith))

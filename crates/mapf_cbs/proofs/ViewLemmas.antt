@@ -1,10 +1,13 @@
 -- What follows of a node whose agents have cheapest paths.
-use Rattle.std.proofs.Common.{◌≡◌, ℕ, ◌<◌, ◌≤◌, List, Some, length, sum, slice_get, refl, arith}
+use Rattle.std.proofs.Common.{◌≡◌, ℕ, ◌<◌, ◌≤◌, List, Some, length, sum, slice_get, refl, subst, arith}
 use Rattle.std.proofs.lemmas.Option.{slice_get_within}
 use Rattle.mapf_model.specs.declared.problem.Agent.{Agent}
 use Rattle.mapf_model.specs.Plan.{Instance, IsSumOfCosts, AreCosts}
 use Rattle.mapf_model.specs.Earned.{AreCheapest}
 use Rattle.mapf_model.proofs.ClaimLemmas.{slice_get_inside}
+use Rattle.mapf_spacetime.specs.Answer.{IsFirstOfCost}
+use Rattle.mapf_spacetime.specs.Task.{task_of}
+use Rattle.mapf_cbs.specs.FirstConflicts.{AreFirstPaths}
 use Rattle.mapf_cbs.specs.Search.{View, AreCounted, IsLive, IsDead}
 use Rattle.mapf_cbs.proofs.SumLemmas.{sum-le}
 
@@ -38,6 +41,16 @@ module _ (problem : Instance) (view : View) where
         let high = agent_path.least other other_cost open_to.0 open_to.1 other_is in
         omega arith;
   }
+
+  -- and these are the first of their cost
+  pub live_first : IsLive problem view → AreFirstPaths problem view.constraints view.paths
+  live_first live i agent path cost a p is =
+      let c = cost_of_path live.counted i path p in
+      let agent_path = live.each i agent path c.0 a p c.1 in
+      let low = is.least c.0 agent_path.is_cost.rests in
+      let high = agent_path.is_cost.least cost is.rests in
+      let same : c.0 ≡ cost = omega arith in
+      subst (λ n. IsFirstOfCost (task_of problem.grid agent (view.constraints.bars i)) n path) same agent_path.first
 
   pub live_costs : IsLive problem view → AreCosts problem.agents view.paths view.costs
   live_costs live = record {

@@ -9,20 +9,21 @@ use Rattle.mapf_model.specs.Grid.{GridMap, free_cell_count}
 use Rattle.mapf_model.specs.Labels.{entries_of, IsLabel}
 use Rattle.mapf_model.specs.Path.{IsLawful, IsCost, IsTight}
 use Rattle.mapf_constraints.specs.BarSets.{tick_of, AreBefore}
-use Rattle.mapf_spacetime.specs.Answer.{AreGoodLabels}
+use Rattle.mapf_spacetime.specs.Answer.{AreGoodLabels, IsFirstOfCost}
 use Rattle.mapf_spacetime.specs.Task.{task_of}
 
 -- a bar that a table takes
 abbrev pub IsTableBar : Bar → Type 0
 IsTableBar bar = (tick_of bar < 1000000) × IsBar bar
 
--- a cheapest path of an agent under its bars, with its cost and the entries that show it
+-- a cheapest path of an agent under its bars, the first of them by cell numbers, with its cost and the entries that show it
 pub record IsCheapestPath (grid : GridMap) (agent : Agent) (bars : List Bar) (path : List ℕ) (cost : ℕ) (entries : List Entry) : Type 0 where
   pub lawful : IsLawful grid agent path
   pub satisfies : Satisfies bars path
   pub tight : IsTight path
   pub is_cost : IsCost agent.goal path cost
   pub least : (other : List ℕ) (other_cost : ℕ) → IsLawful grid agent other → Satisfies bars other → IsCost agent.goal other other_cost → cost ≤ other_cost
+  pub first : IsFirstOfCost (task_of grid agent bars) cost path
   pub labels : AreGoodLabels (task_of grid agent bars) entries
   pub start : IsLabel grid agent.goal (entries_of entries) agent.start 0 (Ticks cost)
   pub below : (horizon : ℕ) → AreBefore horizon bars → cost < horizon + free_cell_count grid

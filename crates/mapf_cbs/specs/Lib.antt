@@ -1,4 +1,6 @@
 pub mod CheapestPath
+pub mod FirstConflicts
+pub mod Goals
 pub mod Search
 pub mod Nodes
 pub mod GeneratedChild

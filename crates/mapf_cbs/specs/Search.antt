@@ -9,10 +9,11 @@ use Rattle.mapf_model.specs.declared.conflict.Conflict.{Conflict}
 use Rattle.mapf_model.specs.declared.conflict.Conflict.TheVariants.{Vertex, Swap}
 use Rattle.mapf_model.specs.Plan.{Instance}
 use Rattle.mapf_model.specs.Tree.{ConstraintTree, Split, Leaf, Clash, NodeConstraints, root, with_bar, left_child_constraints, right_child_constraints, IsProperSplit, AreOfDifferentAgents, block_of}
-use Rattle.mapf_model.specs.Earned.{HasConflict, AreConflictFreeBefore, tick_of}
+use Rattle.mapf_model.specs.Earned.{tick_of}
 use Rattle.mapf_model.specs.Grid.{free_cell_count}
 use Rattle.mapf_constraints.specs.BarSets.{AreBefore}
 use Rattle.mapf_cbs.specs.CheapestPath.{IsCheapestPath, HasNoPath}
+use Rattle.mapf_cbs.specs.FirstConflicts.{IsFirstConflict}
 use Rattle.mapf_cbs.specs.declared.node.Fate.{Fate}
 use Rattle.mapf_cbs.specs.declared.node.Fate.TheVariants.{Open, Dead, Expanded}
 
@@ -79,8 +80,7 @@ pub record IsExpandedAt (problem : Instance) (views : List View) (fates : List F
   pub live : IsLive problem view
   pub proper : IsProperSplit problem conflict
   pub early : tick_of conflict < 1000000
-  pub meet : HasConflict view.paths conflict
-  pub apart : AreConflictFreeBefore view.paths (tick_of conflict)
+  pub on_first : IsFirstConflict view.paths conflict
   pub to_left : (child : View) × (slice_get views left ≡ Some child) × (child.constraints ≡ left_child_constraints view.constraints conflict)
   pub to_right : (child : View) × (slice_get views right ≡ Some child) × (child.constraints ≡ right_child_constraints view.constraints conflict)
   pub left_later : k < left

@@ -1,42 +1,40 @@
 -- How a search starts: goals, and the agents' shortest paths.
 use Rattle.std.specs.Prelude.{◌≡◌, ◌-◌, ◌≤◌, ℕ, List, Some, length, slice_get}
 use Rattle.mapf_model.specs.declared.problem.Agent.{Agent}
-use Rattle.mapf_model.specs.Distance.{IsDistance, IsUnreachable}
-use Rattle.mapf_distance.specs.Distances.{GoalMap}
+use Rattle.mapf_model.specs.Distance.{IsDistance}
+use Rattle.mapf_distance.specs.Distances.{GoalMap, IsLeastDescent}
 use Rattle.mapf_model.specs.Grid.{GridMap, IsGridMap, free_cell_count}
 use Rattle.mapf_model.specs.Path.{IsLawful, IsTight}
 use Rattle.mapf_model.specs.Plan.{Instance}
-use Rattle.mapf_model.specs.Tree.{ConstraintTree, ShareGoal}
+use Rattle.mapf_model.specs.Tree.{ConstraintTree}
 use Rattle.mapf_cbs.specs.declared.start.Beginning.{Beginning}
 use Rattle.mapf_cbs.specs.declared.start.Beginning.TheVariants.{Impossible as ImpossibleBeginning, Root as RootBeginning}
 use Rattle.mapf_cbs.specs.Answer.{IsTreeOf, IsShownImpossible}
+use Rattle.mapf_cbs.specs.Goals.{HaveDifferentGoals}
 use Rattle.mapf_distance.specs.Tables.{AreTables}
 
 -- these agents have one goal
 abbrev pub HaveGoal : List Agent → ℕ → ℕ → Type 0
 HaveGoal agents i j = (a : Agent) × (b : Agent) × (slice_get agents i ≡ Some a) × (slice_get agents j ≡ Some b) × (a.goal ≡ b.goal)
 
--- the agent's path is lawful, ends as it arrives and has no more steps than it must
+-- the agent's path is lawful, ends as it arrives, has no more steps than it must and goes to the least cell at each step
 pub record IsShortest (grid : GridMap) (agent : Agent) (path : List ℕ) : Type 0 where
   pub lawful : IsLawful grid agent path
   pub tight : IsTight path
   pub few : length path ≤ free_cell_count grid
   pub short : IsDistance grid agent.goal agent.start (length path - 1)
+  pub least : IsLeastDescent grid agent.goal path
 
 -- so it is with the paths of the agents in front
 pub record AreShortest (problem : Instance) (paths : List (List ℕ)) : Type 0 where
   pub within : length paths ≤ length problem.agents
   pub each : (i : ℕ) (agent : Agent) (path : List ℕ) → slice_get problem.agents i ≡ Some agent → slice_get paths i ≡ Some path → IsShortest problem.grid agent path
 
--- some agent can't reach its goal
-abbrev pub SomeGoalIsUnreachable : Instance → Type 0
-SomeGoalIsUnreachable problem = (i : ℕ) × (agent : Agent) × (slice_get problem.agents i ≡ Some agent) × IsUnreachable problem.grid agent.goal agent.start
-
 -- the tables and paths with which a search begins at the root: no two agents have one goal, and each has a shortest path
 pub record IsRootStart (problem : Instance) (tables : List GoalMap) (paths : List (List ℕ)) : Type 0 where
   pub shape : IsGridMap problem.grid
   pub agents : (1 ≤ length problem.agents) × (length problem.agents ≤ 200)
-  pub goals : (i j : ℕ) → ShareGoal problem i j → ⊥
+  pub goals : HaveDifferentGoals problem
   pub tables_are : AreTables problem tables
   pub count : length paths ≡ length problem.agents
   pub shortest : AreShortest problem paths

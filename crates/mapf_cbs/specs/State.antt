@@ -50,10 +50,10 @@ pub record IsState (problem : Instance) (nodes : List Node) (fates : List Fate) 
   pub size : length nodes ≡ 2 * count + 1
   pub small : (key : ℕ × ℕ) → Contains keys key → key.0 ≤ (count + 201) * 2 ^ 32
 
--- the conflict is too late, or as many splits were made as are allowed
+-- the conflict is too late; or it is not, and as many splits were made as are allowed
 abbrev pub IsCauseToStop : Conflict → ℕ → ℕ → Cause → Type 0
 IsCauseToStop conflict splits limit Ticks = 1000000 ≤ tick_of conflict
-IsCauseToStop conflict splits limit (Splits n) = (n ≡ limit) × (splits ≡ limit)
+IsCauseToStop conflict splits limit (Splits n) = (tick_of conflict < 1000000) × (n ≡ limit) × (splits ≡ limit)
 
 -- the state while its first open node is in hand
 pub record IsPopped (problem : Instance) (nodes : List Node) (fates : List Fate) (rest : List (ℕ × ℕ)) (count total k : ℕ) : Type 0 where

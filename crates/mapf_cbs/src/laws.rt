@@ -1,11 +1,12 @@
 //! A plain search beside the fast one: the same order of work and the same ties, with nodes kept
 //! whole and the next node found by a scan.
 ghost use Rattle.std.specs.Prelude.{◌≡◌, ◌+◌, ◌^◌, ◌<◌, ◌≤◌, ◌∷◌, ℕ, Some, length, slice_get, IfOk, OnOk};
-ghost use Rattle.mapf_model.specs.Earned.{HasConflict, AreConflictFreeBefore, tick_of};
+ghost use Rattle.mapf_model.specs.Earned.{tick_of};
 ghost use Rattle.mapf_model.specs.Laws.{AreSameBars};
-ghost use Rattle.mapf_model.specs.Tree.{ShareGoal};
 ghost use Rattle.mapf_cbs.specs.Answer.{IsSearchAnswer};
 ghost use Rattle.mapf_cbs.specs.CheapestPath.{IsTableBar};
+ghost use Rattle.mapf_cbs.specs.FirstConflicts.{IsFirstConflict};
+ghost use Rattle.mapf_cbs.specs.Goals.{HaveDifferentGoals};
 ghost use Rattle.mapf_distance.specs.Tables.{AreTables};
 ghost use Rattle.mapf_cbs.specs.Search.{View, IsLive};
 ghost use Rattle.mapf_cbs.specs.Start.{IsRootStart};
@@ -83,8 +84,8 @@ fn split_whole(
 ) -> Result<(), OutOfMemory>
     requires tables { AreTables problem.now tables.now }
     requires popped { (total : ℕ) × IsWholePopped problem.now tree.old.nodes.items tree.old.fates.items tree.old.splits total k }
-    requires goals { (i j : ℕ) → ShareGoal problem.now i j → ⊥ }
-    requires meet { (node : WholeNode) (view : View) → slice_get tree.old.nodes.items k ≡ Some node → IsWhole node view → HasConflict view.paths conflict.now × AreConflictFreeBefore view.paths (tick_of conflict.now) }
+    requires goals { HaveDifferentGoals problem.now }
+    requires meet { (node : WholeNode) (view : View) → slice_get tree.old.nodes.items k ≡ Some node → IsWhole node view → IsFirstConflict view.paths conflict.now }
     requires early { tick_of conflict.now < 1000000 }
     requires few { tree.old.splits < 100000 }
     ensures state { OnOk result (IsWholeState problem.now tree.new.nodes.items tree.new.fates.items (tree.old.splits + 1)) }

@@ -1,7 +1,8 @@
 ghost use Rattle.std.specs.Prelude.{◌≡◌, ◌≢◌, ◌+◌, ◌<◌, ◌≤◌, ◌∷◌, [], ℕ, List, Some, length, slice_get, IfOk, IfSome, IfNone, OnOk};
-ghost use Rattle.mapf_model.specs.Earned.{HasConflict, AreConflictFreeBefore, tick_of};
-ghost use Rattle.mapf_model.specs.Tree.{ShareGoal};
+ghost use Rattle.mapf_model.specs.Earned.{tick_of};
 ghost use Rattle.mapf_cbs.specs.Answer.{IsSearchAnswer};
+ghost use Rattle.mapf_cbs.specs.FirstConflicts.{IsFirstConflict};
+ghost use Rattle.mapf_cbs.specs.Goals.{HaveDifferentGoals};
 ghost use Rattle.mapf_cbs.specs.Nodes.{AreViews};
 ghost use Rattle.mapf_distance.specs.Tables.{AreTables};
 ghost use Rattle.mapf_cbs.specs.Search.{View, IsLive};
@@ -113,8 +114,8 @@ fn split<B: BarTable>(
 ) -> Result<(), OutOfMemory>
     requires tables { AreTables problem.now tables.now }
     requires popped { IsPopped problem.now search.old.nodes.items search.old.fates.items search.old.waiting.keys search.old.splits total k }
-    requires goals { (i j : ℕ) → ShareGoal problem.now i j → ⊥ }
-    requires meet { (views : List View) (view : View) → AreViews search.old.nodes.items views → slice_get views k ≡ Some view → IsLive problem.now view → HasConflict view.paths conflict.now × AreConflictFreeBefore view.paths (tick_of conflict.now) }
+    requires goals { HaveDifferentGoals problem.now }
+    requires meet { (views : List View) (view : View) → AreViews search.old.nodes.items views → slice_get views k ≡ Some view → IsLive problem.now view → IsFirstConflict view.paths conflict.now }
     requires early { tick_of conflict.now < 1000000 }
     requires few { search.old.splits < 100000 }
     ensures state { OnOk result (IsState problem.now search.new.nodes.items search.new.fates.items search.new.waiting.keys (search.old.splits + 1)) }

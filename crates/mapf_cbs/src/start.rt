@@ -1,7 +1,8 @@
 ghost use Rattle.std.specs.Prelude.{◌≡◌, ◌*◌, ◌^◌, ◌≤◌, ◌-◌, ◌∷◌, [], length, sum_by, IfOk, IfSome, IfNone, MatchOption};
 ghost use Rattle.mapf_model.specs.Distance.{IsUnreachable};
 ghost use Rattle.mapf_distance.specs.Tables.{AreTables};
-ghost use Rattle.mapf_cbs.specs.Start.{IsBeginning, IsShortest, AreShortest, SomeGoalIsUnreachable};
+ghost use Rattle.mapf_cbs.specs.Goals.{SomeGoalIsUnreachable};
+ghost use Rattle.mapf_cbs.specs.Start.{IsBeginning, IsShortest, AreShortest};
 
 use crate::clash::sharing_pair;
 use mapf_distance::{Distances, goal_tables};

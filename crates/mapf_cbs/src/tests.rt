@@ -2,7 +2,9 @@ ghost use Rattle.std.specs.Prelude.{◌≤◌};
 
 use crate::laws::solve_plain;
 use crate::{Answer, Cause, solve, solve_with};
+use mapf_conflicts::{Conflict, first_conflict};
 use mapf_constraints::{BarTable, ListBars, TickBars};
+use mapf_distance::Distances;
 use mapf_model::{Agent, Block, Cell, Entry, Grid, Item, Label, Path, Plan, Problem};
 use std::alloc::{AllocError, Global};
 use std::process::Abort;
@@ -112,7 +114,8 @@ fn answer_text(alloc: Global, answer: &Answer) -> Result<String, AllocError> {
     Ok(text)
 }
 
-/// The answer to which both tables of bars lead, and the plain search too.
+/// The answer that all searches give: with either table of bars, as it is called without naming one,
+/// and the plain one.
 fn common_text(
     rt: &impl Abort,
     alloc: Global,
@@ -125,6 +128,8 @@ fn common_text(
     let text = answer_text(alloc, &by_tick)?;
     let by_list = solve_with::<ListBars>(alloc, problem, limit)?;
     assert_eq!(rt; answer_text(alloc, &by_list)?.as_str(), text.as_str());
+    let unnamed = solve(alloc, problem, limit)?;
+    assert_eq!(rt; answer_text(alloc, &unnamed)?.as_str(), text.as_str());
     let plain = solve_plain(alloc, problem, limit)?;
     assert_eq!(rt; answer_text(alloc, &plain)?.as_str(), text.as_str());
     Ok(text)
@@ -145,6 +150,14 @@ fn solves(
     let text = common_text(rt, alloc, &problem, limit)?;
     assert_eq!(rt; text.as_str(), expected);
     Ok(())
+}
+
+#[test]
+fn lets_one_agent_go_its_way(rt: HostRuntime) -> Result<(), Fail> {
+    let stays = [(0, 0)].as_slice();
+    solves(&rt, rt.alloc(), ".", stays, 0, "found: 0 / leaf")?;
+    let goes = [(0, 2)].as_slice();
+    solves(&rt, rt.alloc(), "...", goes, 0, "found: 0 1 2 / leaf")
 }
 
 #[test]
@@ -270,13 +283,33 @@ fn shows_that_no_plan_is_valid(rt: HostRuntime) -> Result<(), Fail> {
     solves(&rt, rt.alloc(), ".@.", walled, 0, "impossible / leaf")
 }
 
+// Agent 0 can't reach its goal, and agents 1 and 2 have one goal.
+#[test]
+fn names_a_shared_goal_before_an_unreachable_one(rt: HostRuntime) -> Result<(), Fail> {
+    let both = [(0, 3), (0, 1), (1, 1)].as_slice();
+    solves(&rt, rt.alloc(), "..@.", both, 0, "impossible / clash 1 2")
+}
+
+// Of an agent's cheapest paths the one of least cell numbers is taken, also where it conflicts and
+// another one doesn't.
+#[test]
+fn takes_the_least_of_the_cheapest_paths(rt: HostRuntime) -> Result<(), Fail> {
+    let past = [(0, 3), (2, 2)].as_slice();
+    solves(&rt, rt.alloc(), ".. ..", past, 0, "found: 0 1 3: 2 / leaf")?;
+    let against = [(0, 3), (1, 1)].as_slice();
+    solves(&rt, rt.alloc(), ".. ..", against, 0, "limit 0 / leaf")?;
+    let expected = "found: 0 2 3: 1 / vertex 0 1 1 1 / leaf / leaf 1: 1@0=2";
+    solves(&rt, rt.alloc(), ".. ..", against, 1, expected)
+}
+
 #[test]
 fn lets_four_agents_rotate(rt: HostRuntime) -> Result<(), Fail> {
     let ends = [(0, 1), (1, 3), (3, 2), (2, 0)].as_slice();
     let expected = "found: 0 1: 1 3: 3 2: 2 0 / leaf";
     solves(&rt, rt.alloc(), ".. ..", ends, 0, expected)
 }
-/// A corridor of 2,098,175 cells that winds through 2,047 rows.
+
+/// A corridor that winds through 2,047 rows.
 fn corridor(alloc: Global) -> Result<Grid, Fail> {
     let mut free = Vec::new(alloc);
     for row in 0u32..2047 {
@@ -288,7 +321,7 @@ fn corridor(alloc: Global) -> Result<Grid, Fail> {
     Ok(Grid::of(2048, 2047, free).ok_or("no grid")?)
 }
 
-/// Two agents that meet in the middle of the corridor, at tick 1,049,087.
+/// Two agents that meet in the middle of the corridor.
 fn late_meeting(alloc: Global) -> Result<Problem, Fail> {
     let last = 2046 * 2048;
     let mut agents = Vec::new(alloc);
@@ -301,11 +334,52 @@ fn late_meeting(alloc: Global) -> Result<Problem, Fail> {
     Ok(Problem::of(corridor(alloc)?, agents).ok_or("no problem")?)
 }
 
+/// How many cells of the grid are free.
+fn free_cells(grid: &Grid) -> u32 {
+    let mut count = 0u32;
+    for cell in 0..2048 * 2047 {
+        if grid.is_free(Cell(cell)) {
+            count = count.saturating_add(1);
+        }
+    }
+    count
+}
+
+#[test]
+fn the_corridor_has_its_cells_and_its_agents_meet_late(rt: HostRuntime) -> Result<(), Fail> {
+    let problem = late_meeting(rt.alloc())?;
+    assert_eq!(rt; free_cells(problem.grid()), 2_098_175);
+    let mut paths = Vec::new(rt.alloc());
+    for agent in problem.agents() {
+        let distances = Distances::of(rt.alloc(), problem.grid(), agent.goal)?;
+        assert!(rt; distances.get(agent.start).is_some());
+        paths.push(distances.descend(rt.alloc(), agent.start)?)?;
+    }
+    let plan = Plan::of(paths).ok_or("no plan")?;
+    let middle = Conflict::Vertex {
+        i: 0,
+        j: 1,
+        cell: Cell(1023 * 2048),
+        tick: 1_049_087,
+    };
+    assert_eq!(rt; first_conflict(&plan), Some(middle));
+    Ok(())
+}
+
 // One test for each search, since the paths are long.
 #[test]
 fn stops_at_a_conflict_that_is_too_late(rt: HostRuntime) -> Result<(), Fail> {
     let problem = late_meeting(rt.alloc())?;
     let answer = solve(rt.alloc(), &problem, 0)?;
+    let text = answer_text(rt.alloc(), &answer)?;
+    assert_eq!(rt; text.as_str(), "limit ticks / leaf");
+    Ok(())
+}
+
+#[test]
+fn stops_there_with_bars_by_tick(rt: HostRuntime) -> Result<(), Fail> {
+    let problem = late_meeting(rt.alloc())?;
+    let answer = solve_with::<TickBars>(rt.alloc(), &problem, 0)?;
     let text = answer_text(rt.alloc(), &answer)?;
     assert_eq!(rt; text.as_str(), "limit ticks / leaf");
     Ok(())

@@ -1,6 +1,6 @@
 -- Trees whose splits stand on earliest conflicts of cheapest paths, at nodes no dearer than any end: what
 -- best-first expansion makes. (Sharon et al. 2015: least sum first; the terms are own)
-use Rattle.std.specs.Prelude.{◌≡◌, ◌≢◌, ℕ, ◌<◌, ◌≤◌, ⊤, List, Some, length, slice_get}
+use Rattle.std.specs.Prelude.{◌≡◌, ◌≢◌, ℕ, ◌<◌, ◌≤◌, List, Some, length, slice_get}
 use Rattle.mapf_model.specs.declared.bar.Bar.TheVariants.{Cell, Move}
 use Rattle.mapf_model.specs.declared.problem.Agent.{Agent}
 use Rattle.mapf_model.specs.declared.conflict.Conflict.{Conflict}
@@ -45,6 +45,10 @@ AreConflictFreeBefore paths end = (i j tick : ℕ) (p q : List ℕ) → tick < e
 abbrev pub HaveSomeConflict : List (List ℕ) → Type 0
 HaveSomeConflict paths = (i : ℕ) × (j : ℕ) × (tick : ℕ) × (p : List ℕ) × (q : List ℕ) × (i ≢ j) × (slice_get paths i ≡ Some p) × (slice_get paths j ≡ Some q) × ConflictAt p q tick
 
+-- the paths have a conflict before this tick
+abbrev pub HaveConflictBefore : List (List ℕ) → ℕ → Type 0
+HaveConflictBefore paths end = (conflict : Conflict) × HasConflict paths conflict × (tick_of conflict < end)
+
 -- a split stands on the earliest conflict of paths that are due there
 abbrev pub IsEarnedNode : Instance → ConstraintTree → NodeConstraints → ConstraintTree → Type 0
 IsEarnedNode problem tree constraints (Split conflict left right) = (paths : List (List ℕ)) × (total : ℕ) × AreDue problem tree constraints paths total × HasConflict paths conflict × AreConflictFreeBefore paths (tick_of conflict)
@@ -57,14 +61,6 @@ pub record IsEarned (problem : Instance) (tree : ConstraintTree) : Type 0 where
   pub splits : AtEachNode (IsEarnedNode problem tree) root tree
 
 -- an earned tree with a leaf at which some due paths conflict and the fact holds of them
-pub record IsStoppedWhere (Fact : List (List ℕ) → Type 0) (problem : Instance) (tree : ConstraintTree) : Type 0 where
+pub record IsStoppedWhere (Fact : NodeConstraints → List (List ℕ) → Type 0) (problem : Instance) (tree : ConstraintTree) : Type 0 where
   pub earned : IsEarned problem tree
-  pub leaf : AtSomeLeaf (λ constraints. (paths : List (List ℕ)) × (total : ℕ) × AreDue problem tree constraints paths total × HaveSomeConflict paths × Fact paths) root tree
-
--- an earned tree with a leaf at which some due paths conflict
-abbrev pub IsStopped : Instance → ConstraintTree → Type 0
-IsStopped problem tree = IsStoppedWhere (λ paths. ⊤) problem tree
-
--- the same, and these paths have no conflict before this tick
-abbrev pub IsStoppedFrom : ℕ → Instance → ConstraintTree → Type 0
-IsStoppedFrom tick problem tree = IsStoppedWhere (λ paths. AreConflictFreeBefore paths tick) problem tree
+  pub leaf : AtSomeLeaf (λ constraints. (paths : List (List ℕ)) × (total : ℕ) × AreDue problem tree constraints paths total × HaveSomeConflict paths × Fact constraints paths) root tree

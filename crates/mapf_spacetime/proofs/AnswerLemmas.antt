@@ -3,6 +3,7 @@ use Rattle.std.proofs.Common.{◌≡◌, inl, inr, ⊎_elim, ℕ, ◌-◌, ◌<�
 use Rattle.std.proofs.lemmas.Bool.{cases_lt, false≢true}
 use Rattle.std.proofs.lemmas.List.{get_or_past}
 use Rattle.std.proofs.lemmas.List.Elements.{Contains-push, Contains-get_or}
+use Rattle.mapf_distance.specs.Distances.{IsLeastDescent}
 use Rattle.mapf_model.specs.declared.bar.Bar.TheVariants.{Cell}
 use Rattle.mapf_model.specs.declared.label.Entry.{Entry}
 use Rattle.mapf_model.specs.declared.label.Label.TheVariants.{Never}
@@ -20,6 +21,7 @@ use Rattle.mapf_spacetime.specs.Answer.{AreGoodLabels, IsArrival, ShowNone}
 use Rattle.mapf_spacetime.proofs.ValueLemmas.{value_free}
 use Rattle.mapf_spacetime.proofs.FrontierLemmas.{none_held, one_held, reached_within}
 use Rattle.mapf_spacetime.proofs.LabelLemmas.{entry_is, entry_none, entry_there, listed_label, never_label, sound_spent, start_spent}
+use Rattle.mapf_spacetime.proofs.WayLemmas.{descent_first}
 
 pub first_frontier : (task : Task) (first : ℕ) → IsValue task (start_of task) first → IsFrontier task [] (first_states (start_of task) first)
 first_frontier task first is = record {
@@ -105,8 +107,8 @@ low_ticks task states h s least held e = let same : states.cost ≡ least = cc i
 
 -- a shortest path that satisfies the bars is a cheapest one, and needs no labels
 pub shortest_arrives : (task : Task) (first : ℕ) (path : List ℕ) → IsValue task (start_of task) first → IsPath task.grid path → at path 0 ≡ task.start → at path (length path - 1) ≡ task.goal →
-    IsDistance task.grid task.goal task.start (length path - 1) → IsCost task.goal path (length path - 1) → IsTight path → Satisfies task.bars path → IsArrival task path []
-shortest_arrives task first path value is_path starts ends shortest is_cost tight satisfies =
+    IsDistance task.grid task.goal task.start (length path - 1) → IsCost task.goal path (length path - 1) → IsTight path → IsLeastDescent task.grid task.goal path → Satisfies task.bars path → IsArrival task path []
+shortest_arrives task first path value is_path starts ends shortest is_cost tight least satisfies =
     let short = value.is.least (length path - 1) shortest.walk in
     let long = shortest.least value.distance value.is.walk in
     let sum = value.sum in
@@ -118,6 +120,7 @@ shortest_arrives task first path value is_path starts ends shortest is_cost tigh
       is_cost = is_cost;
       tight = tight;
       limit = subst (IsBelowLimit task) same (first_limit task first value);
+      first = descent_first task path starts shortest is_cost least;
       labels = no_labels task;
       start = shortest;
     }

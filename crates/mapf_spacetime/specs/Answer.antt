@@ -1,10 +1,10 @@
 -- What an answer of the search means.
-use Rattle.std.specs.Prelude.{ℕ, List, All, AllPairs}
+use Rattle.std.specs.Prelude.{◌≡◌, ℕ, ◌<◌, ◌≤◌, List, All, AllPairs}
 use Rattle.mapf_model.specs.declared.label.Entry.{Entry}
 use Rattle.mapf_model.specs.declared.label.Label.TheVariants.{Ticks, Never}
 use Rattle.mapf_model.specs.Bars.{Satisfies}
 use Rattle.mapf_model.specs.Labels.{AreSound, IsLabel, entries_of}
-use Rattle.mapf_model.specs.Path.{IsLawful, IsCost, IsTight}
+use Rattle.mapf_model.specs.Path.{at, IsLawful, IsCost, IsTight}
 use Rattle.mapf_model.specs.Printed.{IsBefore, IsEntryInRange}
 use Rattle.mapf_spacetime.specs.declared.found.Found.{Found}
 use Rattle.mapf_spacetime.specs.declared.found.Found.TheVariants.{Arrives, Dead}
@@ -17,7 +17,17 @@ pub record AreGoodLabels (task : Task) (entries : List Entry) : Type 0 where
   pub rising : AllPairs IsBefore entries
   pub ranges : All (IsEntryInRange task.grid) entries
 
--- a lawful, tight path that satisfies the bars, whose cost the labels show to be the least
+-- the paths are in the same cells before the tick
+abbrev pub AgreeBefore : ℕ → List ℕ → List ℕ → Type 0
+AgreeBefore tick path other = (earlier : ℕ) → earlier < tick → at path earlier ≡ at other earlier
+
+-- no lawful path of this cost that satisfies the bars comes before this one, in the order of their cells' numbers from tick 0 on
+abbrev pub IsFirstOfCost : Task → ℕ → List ℕ → Type 0
+IsFirstOfCost task cost path = (other : List ℕ) (tick : ℕ) → IsLawful task.grid (agent_of task) other → Satisfies task.bars other →
+    IsCost task.goal other cost → AgreeBefore tick path other → at path tick ≤ at other tick
+
+-- a lawful, tight path that satisfies the bars, whose cost the labels show to be the least, and before which no path of
+-- that cost comes
 pub record IsArrival (task : Task) (path : List ℕ) (entries : List Entry) : Type 0 where
   pub cost : ℕ
   pub lawful : IsLawful task.grid (agent_of task) path
@@ -25,6 +35,7 @@ pub record IsArrival (task : Task) (path : List ℕ) (entries : List Entry) : Ty
   pub is_cost : IsCost task.goal path cost
   pub tight : IsTight path
   pub limit : IsBelowLimit task cost
+  pub first : IsFirstOfCost task cost path
   pub labels : AreGoodLabels task entries
   pub start : IsLabel task.grid task.goal (entries_of entries) task.start 0 (Ticks cost)
 

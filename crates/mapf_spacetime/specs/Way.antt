@@ -1,5 +1,6 @@
 -- Walks of one agent to its goal, at a cost.
 use Rattle.std.specs.Prelude.{◌≡◌, ℕ, zero, suc, ◌+◌, ◌-◌, ◌*◌, ◌^◌, ◌<◌, ◌≤◌, List, [], ◌∷◌, ◌++◌, length, take, slice_index, Contains}
+use Rattle.mapf_model.specs.Labels.{MayGo}
 use Rattle.mapf_spacetime.specs.declared.state.State.{State}
 use Rattle.mapf_spacetime.specs.Task.{Task, Goes, IsWithin, state_at}
 
@@ -20,14 +21,19 @@ with_step way to = record { cells = way.cells ++ to ∷ []; failed = way.failed 
 abbrev pub with_failure : Walked → State → Walked
 with_failure way state = record { cells = take (length way.cells - 1) way.cells; failed = way.failed ++ state ∷ [] }
 
--- so many steps lead to the goal at the cost, through states of at most that value
+-- so many steps that the bars let the agent take lead to the goal at this tick
 abbrev pub CanArriveIn : Task → ℕ → ℕ → State → Type 0
 CanArriveIn task cost zero state = state ≡ state_at task.goal cost
-CanArriveIn task cost (suc n) state = (next : State) × Goes task state next × IsWithin task cost next × CanArriveIn task cost n next
+CanArriveIn task cost (suc n) state = (next : State) × Goes task state next × CanArriveIn task cost n next
 
--- from the state the agent can arrive at this cost
+-- from the state the agent can be at the goal at this tick
 abbrev pub CanArrive : Task → ℕ → State → Type 0
 CanArrive task cost state = (n : ℕ) × CanArriveIn task cost n state
+
+-- if the agent may go from the state to the cell and can arrive from there, then this is one of the states that failed
+abbrev pub IsNoWayOn : Task → ℕ → List State → State → ℕ → Type 0
+IsNoWayOn task cost failed from to = MayGo task.grid task.bars from.cell to from.tick → CanArrive task cost (state_at to (from.tick + 1)) →
+    Contains failed (state_at to (from.tick + 1))
 
 -- the state of the walk at the tick
 abbrev pub state_of : List ℕ → ℕ → State
@@ -40,10 +46,16 @@ pub record IsWayFrom (task : Task) (cost : ℕ) (cells : List ℕ) : Type 0 wher
   pub within : (k : ℕ) → k < length cells → IsWithin task cost (state_of cells k)
   pub goes : (k : ℕ) → k + 1 < length cells → Goes task (state_of cells k) (state_of cells (k + 1))
 
--- and it goes on to the cost
+-- from no lesser cell than that to which the walk goes can the agent arrive, at each of its steps
+abbrev pub IsLeastWay : Task → ℕ → List ℕ → Type 0
+IsLeastWay task cost cells = (k to : ℕ) → k + 1 < length cells → to < slice_index cells (k + 1) →
+    MayGo task.grid task.bars (slice_index cells k) to k → CanArrive task cost (state_at to (k + 1)) → ⊥
+
+-- the cells are the least walk, and it goes on to the cost
 pub record IsWholeWay (task : Task) (cost : ℕ) (cells : List ℕ) : Type 0 where
   pub way : IsWayFrom task cost cells
   pub count : length cells ≡ cost + 1
+  pub least : IsLeastWay task cost cells
 
 -- a walk that has turned back only from states from which the agent can't arrive
 pub record IsSearching (task : Task) (cost : ℕ) (way : Walked) : Type 0 where
@@ -51,6 +63,7 @@ pub record IsSearching (task : Task) (cost : ℕ) (way : Walked) : Type 0 where
   pub short : length way.cells ≤ cost + 1
   pub fresh : (k : ℕ) → k < length way.cells → Contains way.failed (state_of way.cells k) → ⊥
   pub stuck : (s : State) → Contains way.failed s → CanArrive task cost s → ⊥
+  pub least : IsLeastWay task cost way.cells
 
 -- no walk has more steps and turns than this: each state fails once at most
 abbrev pub turns_left : Walked → ℕ

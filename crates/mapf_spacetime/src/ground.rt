@@ -1,4 +1,5 @@
 ghost use Rattle.std.specs.Prelude.{◌≡◌, ◌≤◌, ◌↔◌, ℕ, IfSome, IfNone, IsTrue, Contains, false};
+ghost use Rattle.std.specs.List.Sorted.{IsStrictlyIncreasing};
 ghost use Rattle.mapf_model.specs.declared.bar.Bar.{Bar};
 ghost use Rattle.mapf_model.specs.Bars.{AreBars};
 ghost use Rattle.mapf_constraints.specs.BarSets.{AreBefore};
@@ -65,6 +66,7 @@ impl<'a, B: BarTable> Ground<'a, B> {
     pub fn steps(&self, alloc: Global, cell: Cell) -> SmallVec<Cell, 5>
         requires { IsFree self.now.grid cell }
         ensures exact { (to : ℕ) → Contains result.items to ↔ Step self.now.grid cell to }
+        ensures rising { IsStrictlyIncreasing result.items }
     {
         self.grid.steps(alloc, cell)
     }

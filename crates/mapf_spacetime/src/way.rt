@@ -1,8 +1,9 @@
 ghost use Rattle.std.specs.Prelude.{◌≡◌, ◌↔◌, ◌+◌, ◌-◌, ◌<◌, ◌≤◌, ◌^◌, [], ◌∷◌, ◌++◌, ℕ, length, slice_index, false, IfOk, IfSome, IfNone, OnOk, IsTrue, Contains};
-ghost use Rattle.mapf_model.specs.Grid.{Step};
+ghost use Rattle.std.specs.List.Sorted.{IsStrictlyIncreasing};
+ghost use Rattle.mapf_model.specs.Grid.{IsFree, Step};
 ghost use Rattle.mapf_model.specs.Labels.{MayGo};
 ghost use Rattle.mapf_spacetime.specs.Task.{IsWithin, state_at, start_of};
-ghost use Rattle.mapf_spacetime.specs.Way.{CanArrive, IsSearching, IsWholeWay, turns_left, first_way, with_step, with_failure};
+ghost use Rattle.mapf_spacetime.specs.Way.{CanArrive, IsNoWayOn, IsSearching, IsWholeWay, turns_left, first_way, with_step, with_failure};
 
 use crate::ground::Ground;
 use crate::state::State;
@@ -83,16 +84,19 @@ impl Way {
         ensures may { IsTrue result → MayGo ground.now.grid ground.now.bars from.now.cell to from.now.tick }
         ensures within { IsTrue result → IsWithin ground.now cost (state_at to (from.now.tick + 1)) }
         ensures fresh { IsTrue result → Contains self.now.failed (state_at to (from.now.tick + 1)) → ⊥ }
-        ensures no { result ≡ false → MayGo ground.now.grid ground.now.bars from.now.cell to from.now.tick → IsWithin ground.now cost (state_at to (from.now.tick + 1)) → Contains self.now.failed (state_at to (from.now.tick + 1)) }
+        ensures no { result ≡ false → MayGo ground.now.grid ground.now.bars from.now.cell to from.now.tick → CanArrive ground.now cost (state_at to (from.now.tick + 1)) → Contains self.now.failed (state_at to (from.now.tick + 1)) }
     {
         let next = State {
             tick: from.tick + 1,
             cell: to,
         };
-        match ground.value(&next) {
-            Some(value) if value <= cost && ground.lets(from, to) => !self.failed.has(&next),
-            _ => false,
+        if !is_within(ground, &next, cost) {
+            return false;
         }
+        if !ground.lets(from, to) {
+            return false;
+        }
+        !self.failed.has(&next)
     }
 
     /// The first of the cells from which the agent may still arrive.
@@ -105,10 +109,12 @@ impl Way {
     ) -> Option<Cell>
         requires small { from.now.tick < 10000000 }
         requires steps { (to : ℕ) → Contains steps.now to ↔ Step ground.now.grid from.now.cell to }
+        requires rising { IsStrictlyIncreasing steps.now }
         ensures may { IfSome result (λ to. MayGo ground.now.grid ground.now.bars from.now.cell to from.now.tick) }
         ensures within { IfSome result (λ to. IsWithin ground.now cost (state_at to (from.now.tick + 1))) }
         ensures fresh { IfSome result (λ to. Contains self.now.failed (state_at to (from.now.tick + 1)) → ⊥) }
-        ensures none { IfNone result ((to : ℕ) → MayGo ground.now.grid ground.now.bars from.now.cell to from.now.tick → IsWithin ground.now cost (state_at to (from.now.tick + 1)) → Contains self.now.failed (state_at to (from.now.tick + 1))) }
+        ensures least { IfSome result (λ to. (other : ℕ) → other < to → IsNoWayOn ground.now cost self.now.failed from.now other) }
+        ensures none { IfNone result ((to : ℕ) → IsNoWayOn ground.now cost self.now.failed from.now to) }
     {
         for to in steps {
             if self.leads(ground, from, *to, cost) {
@@ -148,6 +154,19 @@ impl Way {
     {
         let Way { cells, failed: _ } = self;
         cells
+    }
+}
+
+/// Whether the tick and the distance of the cell together are at most the cost.
+fn is_within<B: BarTable>(ground: &Ground<B>, state: &State, cost: u32) -> bool
+    requires small { state.now.tick ≤ 10000000 }
+    requires free { IsFree ground.now.grid state.now.cell }
+    ensures within { IsTrue result → IsWithin ground.now cost state.now }
+    ensures no { result ≡ false → CanArrive ground.now cost state.now → ⊥ }
+{
+    match ground.value(state) {
+        Some(value) => value <= cost,
+        None => false,
     }
 }
 

@@ -4,12 +4,13 @@ use Rattle.mapf_model.specs.Earned.{HasConflict, AreConflictFreeBefore, HaveSome
 use Rattle.mapf_model.specs.Tree.{ConstraintTree}
 use Rattle.mapf_cbs.specs.declared.whole_node.WholeNode.{WholeNode}
 use Rattle.mapf_cbs.specs.Answer.{IsTreeOf, IsShownOptimal}
+use Rattle.mapf_cbs.specs.FirstConflicts.{IsFirstConflict}
 use Rattle.mapf_cbs.specs.Nodes.{IsRootView}
 use Rattle.mapf_cbs.specs.Search.{AreChildrenLater}
 use Rattle.mapf_cbs.specs.Whole.{IsWhole, IsLeastOpen}
 use Rattle.mapf_cbs.proofs.AnswerLemmas.{tree_of, children_later, answer_found, answer_limit}
 use Rattle.mapf_cbs.proofs.PlainLemmas.{least_at, whole_first, whole_popped, whole_impossible, whole_hand, hand_whole}
-use Rattle.mapf_cbs.proofs.StartLemmas.{root_of}
+use Rattle.mapf_cbs.proofs.StartLemmas.{root_of, root_names}
 use Rattle.mapf_cbs.proofs.laws.search_plain.Goals as goal
 
 pub loop-k-init : goal.loop-k-init
@@ -44,7 +45,7 @@ returns-in_default c =
     let t = c.loop-k.tree in let problem = c.args.problem.now in
     let s = c.loop-k.invariant.state in
     let found = tree_of c.agents.result.now problem.agents c.deref-in_default.result.now t.fates.items s.state.views c.in_ok-items.items.items c.agents.ensures.value c.deref-in_default.ensures.value (c.in_ok-items.ensures s.state.views s.whole (s.state.searched.lengths ∙ ap length (sym c.deref-in_default.ensures.value))) in
-    whole_impossible problem t.nodes.items t.fates.items t.splits s c.requires.root.shape c.args.limit c.loop-k.invariant.within
+    whole_impossible problem t.nodes.items t.fates.items t.splits s c.requires.root.shape (root_names problem c.args.tables.now c.args.paths.items c.requires.root) c.args.limit c.loop-k.invariant.within
     (least_at c.deref-in-loop-k.result.now t.nodes.items c.deref-in-loop-k-2.result.now t.fates.items None c.deref-in-loop-k.ensures.value c.deref-in-loop-k-2.ensures.value c.in_default.ensures)
     c.in_ok-items.items.items found
 
@@ -70,7 +71,7 @@ returns-in_default-first_conflict c =
     let plan : c.in_ok-plan.plan ≡ h.view.paths = c.in_ok-plan.ensures.paths h.view whole in
     let found = tree_of c.agents.result.now problem.agents c.deref-in_default-first_conflict.result.now t.fates.items p.popped.views c.in_ok-items-2.items.items c.agents.ensures.value c.deref-in_default-first_conflict.ensures.value (c.in_ok-items-2.ensures p.popped.views p.whole (p.popped.searched.lengths ∙ ap length (sym c.deref-in_default-first_conflict.ensures.value))) in
     subst (λ ps. (tree : ConstraintTree) × IsTreeOf problem c.args.limit c.in_ok-items-2.items.items tree × IsShownOptimal problem ps tree) (sym plan)
-    (answer_found problem c.requires.root.shape p.changes t.fates.items p.rest t.splits least.node.total c.in-Some.k p.popped c.args.limit c.loop-k.invariant.within c.in_ok-items-2.items.items found h.view h.is h.is_open h.live c.requires.root.agents.0 c.requires.root.agents.1
+    (answer_found problem c.requires.root.shape (root_names problem c.args.tables.now c.args.paths.items c.requires.root) p.changes t.fates.items p.rest t.splits least.node.total c.in-Some.k p.popped c.args.limit c.loop-k.invariant.within c.in_ok-items-2.items.items found h.view h.is h.is_open h.live c.requires.root.agents.0 c.requires.root.agents.1
     (subst (λ ps. All (λ path. length path ≤ 10000000) ps) plan c.in_ok-plan.ensures.short) (subst (λ ps. HaveSomeConflict ps → ⊥) plan c.in_default-first_conflict.ensures.none))
 
 pub returns-in-Some-cause_to_stop : goal.returns-in-Some-cause_to_stop
@@ -86,7 +87,7 @@ returns-in-Some-cause_to_stop c =
     let found = tree_of c.agents.result.now problem.agents c.deref-in-Some-cause_to_stop.result.now t.fates.items p.popped.views c.in_ok-items-3.items.items c.agents.ensures.value c.deref-in-Some-cause_to_stop.ensures.value (c.in_ok-items-3.ensures p.popped.views p.whole (p.popped.searched.lengths ∙ ap length (sym c.deref-in-Some-cause_to_stop.ensures.value))) in
     let conflict = c.in-Some-first_conflict.conflict in
     let meet = subst (λ ps. HasConflict ps conflict × AreConflictFreeBefore ps (tick_of conflict)) plan (c.in-Some-first_conflict.ensures.some, c.in-Some-first_conflict.ensures.first) in
-    answer_limit problem c.requires.root.shape p.changes t.fates.items p.rest t.splits least.node.total c.in-Some.k p.popped c.args.limit c.loop-k.invariant.within c.in_ok-items-3.items.items found h.view h.is h.is_open h.live c.requires.root.goals conflict meet.0 meet.1 c.in-Some-cause_to_stop.cause c.in-Some-cause_to_stop.ensures.some c.in_ok-items-3.items refl
+    answer_limit problem c.requires.root.shape (root_names problem c.args.tables.now c.args.paths.items c.requires.root) p.changes t.fates.items p.rest t.splits least.node.total c.in-Some.k p.popped c.args.limit c.loop-k.invariant.within c.in_ok-items-3.items.items found h.view h.is h.is_open h.live c.requires.root.goals conflict meet.0 meet.1 c.in-Some-cause_to_stop.cause c.in-Some-cause_to_stop.ensures.some c.in_ok-items-3.items refl
 
 pub split_whole-requires-clause-popped : goal.split_whole-requires-clause-popped
 split_whole-requires-clause-popped c =
@@ -104,4 +105,5 @@ split_whole-requires-clause-meet c node view node_is whole =
     let same : node ≡ c.index.result.now = same_Some node c.index.result.now (sym node_is ∙ here) in
     let plan : c.in_ok-plan.plan ≡ view.paths = c.in_ok-plan.ensures.paths view (subst (λ (n : WholeNode). IsWhole n view) same whole) in
     let conflict = c.in-Some-first_conflict.conflict in
-    subst (λ ps. HasConflict ps conflict × AreConflictFreeBefore ps (tick_of conflict)) plan (c.in-Some-first_conflict.ensures.some, c.in-Some-first_conflict.ensures.first)
+    let first = c.in-Some-first_conflict.ensures in
+    subst (λ ps. IsFirstConflict ps conflict) plan (record { has = first.some; earliest = first.first; ordered = first.ordered; least = first.least })

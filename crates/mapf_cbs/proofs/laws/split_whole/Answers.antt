@@ -26,7 +26,7 @@ child_of-requires-clause-known c =
     let here = slice_get_read t.nodes.items (length t.nodes.items) c.args.k c.index.result.now refl inside c.index.ensures in
     let h = whole_hand c.args.problem.now t.nodes.items t.fates.items t.splits p.0 c.args.k p.1 in
     let whole = hand_whole c.args.problem.now t.nodes.items t.fates.items t.splits p.0 c.args.k p.1 c.index.result.now here in
-    let known = left_known h.view.paths c.args.conflict.now (c.requires.meet c.index.result.now h.view here whole).0 in
+    let known = left_known h.view.paths c.args.conflict.now (c.requires.meet c.index.result.now h.view here whole).has in
     let size = h.live.counted.paths in let agent = c.left_agent.ensures in
     omega (arith, known, size, agent)
 
@@ -43,7 +43,7 @@ child_of-requires-clause-bar c =
     let here = slice_get_read t.nodes.items (length t.nodes.items) c.args.k c.index.result.now refl inside c.index.ensures in
     let h = whole_hand c.args.problem.now t.nodes.items t.fates.items t.splits p.0 c.args.k p.1 in
     let whole = hand_whole c.args.problem.now t.nodes.items t.fates.items t.splits p.0 c.args.k p.1 c.index.result.now here in
-    subst IsTableBar (sym c.left_bar.ensures) (left_table_bar h.view.paths c.args.conflict.now (c.requires.meet c.index.result.now h.view here whole).0 c.requires.early)
+    subst IsTableBar (sym c.left_bar.ensures) (left_table_bar h.view.paths c.args.conflict.now (c.requires.meet c.index.result.now h.view here whole).has c.requires.early)
 
 pub child_of-requires-clause-small : goal.child_of-requires-clause-small
 child_of-requires-clause-small c =
@@ -73,7 +73,7 @@ child_of-requires-2-clause-known c =
     let here = slice_get_read t.nodes.items (length t.nodes.items) c.args.k c.index-2.result.now refl inside c.index-2.ensures in
     let h = whole_hand c.args.problem.now t.nodes.items t.fates.items t.splits p.0 c.args.k p.1 in
     let whole = hand_whole c.args.problem.now t.nodes.items t.fates.items t.splits p.0 c.args.k p.1 c.index-2.result.now here in
-    let known = right_known h.view.paths c.args.conflict.now (c.requires.meet c.index-2.result.now h.view here whole).0 in
+    let known = right_known h.view.paths c.args.conflict.now (c.requires.meet c.index-2.result.now h.view here whole).has in
     let size = h.live.counted.paths in let agent = c.right_agent.ensures in
     omega (arith, known, size, agent)
 
@@ -90,7 +90,7 @@ child_of-requires-2-clause-bar c =
     let here = slice_get_read t.nodes.items (length t.nodes.items) c.args.k c.index-2.result.now refl inside c.index-2.ensures in
     let h = whole_hand c.args.problem.now t.nodes.items t.fates.items t.splits p.0 c.args.k p.1 in
     let whole = hand_whole c.args.problem.now t.nodes.items t.fates.items t.splits p.0 c.args.k p.1 c.index-2.result.now here in
-    subst IsTableBar (sym c.right_bar.ensures) (right_table_bar h.view.paths c.args.conflict.now (c.requires.meet c.index-2.result.now h.view here whole).0 c.requires.early)
+    subst IsTableBar (sym c.right_bar.ensures) (right_table_bar h.view.paths c.args.conflict.now (c.requires.meet c.index-2.result.now h.view here whole).has c.requires.early)
 
 pub child_of-requires-2-clause-small : goal.child_of-requires-2-clause-small
 child_of-requires-2-clause-small c =
@@ -132,7 +132,7 @@ returns-clause-state c =
     subst (λ i. IsWholeChild problem h.view i (right_bar conflict) c.in_ok-right.right.node c.in_ok-right.right.total) c.right_agent.ensures
     (subst (λ (b : Bar). IsWholeChild problem h.view c.right_agent.result b c.in_ok-right.right.node c.in_ok-right.right.total) c.right_bar.ensures
     (c.in_ok-right.ensures.generated h.view whole-2 h.live)) in
-    let state = whole_grown problem t.nodes.items t.fates.items t.splits p.0 c.args.k p.1 c.requires.goals conflict met.0 met.1 c.requires.early
+    let state = whole_grown problem t.nodes.items t.fates.items t.splits p.0 c.args.k p.1 c.requires.goals conflict met c.requires.early
     c.in_ok-left.left.node c.in_ok-right.right.node c.in_ok-left.left.total c.in_ok-right.right.total left right
     (c.in_ok-left.ensures.count ∙ p.1.agent_paths c.args.k c.index.result.now here) (c.in_ok-right.ensures.count ∙ p.1.agent_paths c.args.k c.index-2.result.now here-2) in
     on_ok_two c.grow.result (λ ns fs.

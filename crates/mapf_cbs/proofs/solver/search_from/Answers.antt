@@ -7,7 +7,7 @@ use Rattle.mapf_cbs.specs.Search.{AreChildrenLater}
 use Rattle.mapf_cbs.specs.State.{IsState}
 use Rattle.mapf_cbs.proofs.AnswerLemmas.{tree_of, state_first, children_later, popped_of, answer_impossible, answer_found, answer_limit}
 use Rattle.mapf_cbs.proofs.NodeLemmas.{view_in}
-use Rattle.mapf_cbs.proofs.StartLemmas.{root_of}
+use Rattle.mapf_cbs.proofs.StartLemmas.{root_of, root_names}
 use Rattle.mapf_cbs.proofs.StateLemmas.{in_hand}
 use Rattle.mapf_cbs.proofs.solver.search_from.Goals as goal
 
@@ -35,7 +35,7 @@ returns-in_default g c =
     let s = c.loop-total.invariant.state in
     let none : c.loop-total.search.waiting.keys ≡ [] = c.in_default.ensures.none in
     let state = subst (λ ks. IsState c.args.problem.now c.loop-total.search.nodes.items c.loop-total.search.fates.items ks c.loop-total.search.splits) none s in
-    answer_impossible c.args.problem.now c.requires.root.shape c.loop-total.search.nodes.items c.loop-total.search.fates.items c.loop-total.search.splits c.args.limit c.loop-total.invariant.within state c.in_ok-tree.tree.items
+    answer_impossible c.args.problem.now c.requires.root.shape (root_names c.args.problem.now c.args.tables.now c.args.paths.items c.requires.root) c.loop-total.search.nodes.items c.loop-total.search.fates.items c.loop-total.search.splits c.args.limit c.loop-total.invariant.within state c.in_ok-tree.tree.items
     (tree_of c.agents.result.now c.args.problem.now.agents c.deref-in_default.result.now c.loop-total.search.fates.items state.views c.in_ok-tree.tree.items c.agents.ensures.value c.deref-in_default.ensures.value (c.in_ok-tree.ensures state.views state.are (state.searched.lengths ∙ ap length (sym c.deref-in_default.ensures.value))))
 
 pub plan_at-requires-clause-inside : goal.plan_at-requires-clause-inside
@@ -62,7 +62,7 @@ returns-in_default-first_conflict g c =
     let h = in_hand c.args.problem.now c.loop-total.search.nodes.items c.loop-total.search.fates.items c.take_least.new.waiting.keys c.loop-total.search.splits c.in-Some.total c.in-Some.k p in
     let plan : c.in_ok-plan.plan ≡ h.view.paths = c.in_ok-plan.ensures.paths p.views h.view (subst (λ ns. AreViews ns p.views) (sym c.deref-in-loop-total.ensures.value) p.are) h.is (h.live.counted.paths ∙ (let e = c.agents.ensures.value in ap length (sym e))) in
     let found = tree_of c.agents.result.now c.args.problem.now.agents c.deref-in_default-first_conflict.result.now c.loop-total.search.fates.items p.views c.in_ok-tree-2.tree.items c.agents.ensures.value c.deref-in_default-first_conflict.ensures.value (c.in_ok-tree-2.ensures p.views p.are (p.searched.lengths ∙ ap length (sym c.deref-in_default-first_conflict.ensures.value))) in
-    subst (λ ps. (tree : ConstraintTree) × IsTreeOf c.args.problem.now c.args.limit c.in_ok-tree-2.tree.items tree × IsShownOptimal c.args.problem.now ps tree) (sym plan) (answer_found c.args.problem.now c.requires.root.shape c.loop-total.search.nodes.items c.loop-total.search.fates.items c.take_least.new.waiting.keys c.loop-total.search.splits c.in-Some.total c.in-Some.k p c.args.limit c.loop-total.invariant.within c.in_ok-tree-2.tree.items found h.view h.is h.is_open h.live c.requires.root.agents.0 c.requires.root.agents.1 (subst (λ ps. All (λ path. length path ≤ 10000000) ps) plan c.in_ok-plan.ensures.short) (subst (λ ps. HaveSomeConflict ps → ⊥) plan c.in_default-first_conflict.ensures.none))
+    subst (λ ps. (tree : ConstraintTree) × IsTreeOf c.args.problem.now c.args.limit c.in_ok-tree-2.tree.items tree × IsShownOptimal c.args.problem.now ps tree) (sym plan) (answer_found c.args.problem.now c.requires.root.shape (root_names c.args.problem.now c.args.tables.now c.args.paths.items c.requires.root) c.loop-total.search.nodes.items c.loop-total.search.fates.items c.take_least.new.waiting.keys c.loop-total.search.splits c.in-Some.total c.in-Some.k p c.args.limit c.loop-total.invariant.within c.in_ok-tree-2.tree.items found h.view h.is h.is_open h.live c.requires.root.agents.0 c.requires.root.agents.1 (subst (λ ps. All (λ path. length path ≤ 10000000) ps) plan c.in_ok-plan.ensures.short) (subst (λ ps. HaveSomeConflict ps → ⊥) plan c.in_default-first_conflict.ensures.none))
 
 pub returns-in-Some-cause_to_stop : goal.returns-in-Some-cause_to_stop
 returns-in-Some-cause_to_stop g c =
@@ -71,8 +71,9 @@ returns-in-Some-cause_to_stop g c =
     let h = in_hand c.args.problem.now c.loop-total.search.nodes.items c.loop-total.search.fates.items c.take_least.new.waiting.keys c.loop-total.search.splits c.in-Some.total c.in-Some.k p in
     let plan : c.in_ok-plan.plan ≡ h.view.paths = c.in_ok-plan.ensures.paths p.views h.view (subst (λ ns. AreViews ns p.views) (sym c.deref-in-loop-total.ensures.value) p.are) h.is (h.live.counted.paths ∙ (let e = c.agents.ensures.value in ap length (sym e))) in
     let found = tree_of c.agents.result.now c.args.problem.now.agents c.deref-in-Some-cause_to_stop.result.now c.loop-total.search.fates.items p.views c.in_ok-tree-3.tree.items c.agents.ensures.value c.deref-in-Some-cause_to_stop.ensures.value (c.in_ok-tree-3.ensures p.views p.are (p.searched.lengths ∙ ap length (sym c.deref-in-Some-cause_to_stop.ensures.value))) in
-    let meet = subst (λ ps. HasConflict ps c.in-Some-first_conflict.conflict × AreConflictFreeBefore ps (tick_of c.in-Some-first_conflict.conflict)) plan (c.in-Some-first_conflict.ensures.some, c.in-Some-first_conflict.ensures.first) in
-    answer_limit c.args.problem.now c.requires.root.shape c.loop-total.search.nodes.items c.loop-total.search.fates.items c.take_least.new.waiting.keys c.loop-total.search.splits c.in-Some.total c.in-Some.k p c.args.limit c.loop-total.invariant.within c.in_ok-tree-3.tree.items found h.view h.is h.is_open h.live c.requires.root.goals c.in-Some-first_conflict.conflict meet.0 meet.1 c.in-Some-cause_to_stop.cause c.in-Some-cause_to_stop.ensures.some c.in_ok-tree-3.tree refl
+    let found_first = c.in-Some-first_conflict.ensures in
+    let meet = subst (λ ps. HasConflict ps c.in-Some-first_conflict.conflict × AreConflictFreeBefore ps (tick_of c.in-Some-first_conflict.conflict)) plan (found_first.some, found_first.first) in
+    answer_limit c.args.problem.now c.requires.root.shape (root_names c.args.problem.now c.args.tables.now c.args.paths.items c.requires.root) c.loop-total.search.nodes.items c.loop-total.search.fates.items c.take_least.new.waiting.keys c.loop-total.search.splits c.in-Some.total c.in-Some.k p c.args.limit c.loop-total.invariant.within c.in_ok-tree-3.tree.items found h.view h.is h.is_open h.live c.requires.root.goals c.in-Some-first_conflict.conflict meet.0 meet.1 c.in-Some-cause_to_stop.cause c.in-Some-cause_to_stop.ensures.some c.in_ok-tree-3.tree refl
 
 pub split-requires-clause-popped : goal.split-requires-clause-popped
 split-requires-clause-popped g c =

@@ -22,7 +22,7 @@ child-requires-clause-nodes g c =
     let p = c.requires.popped in
     let h = in_hand c.args.problem.now c.args.search.now.nodes.items c.args.search.now.fates.items c.args.search.now.waiting.keys c.args.search.now.splits c.args.total c.args.k p in
     let size = h.live.counted.paths in
-    let known = left_known h.view.paths c.args.conflict.now (c.requires.meet p.views h.view p.are h.is h.live).0 in
+    let known = left_known h.view.paths c.args.conflict.now (c.requires.meet p.views h.view p.are h.is h.live).has in
     let agent = c.left_agent.ensures in
     subst (λ ns. AreNodesFor c.left_agent.result ns) (sym c.deref.ensures.value) (p.nodes_for c.left_agent.result (omega (arith, known, size, agent)))
 
@@ -37,7 +37,7 @@ child-requires-clause-known g c =
     let p = c.requires.popped in
     let h = in_hand c.args.problem.now c.args.search.now.nodes.items c.args.search.now.fates.items c.args.search.now.waiting.keys c.args.search.now.splits c.args.total c.args.k p in
     let size = h.live.counted.paths in
-    let known = left_known h.view.paths c.args.conflict.now (c.requires.meet p.views h.view p.are h.is h.live).0 in
+    let known = left_known h.view.paths c.args.conflict.now (c.requires.meet p.views h.view p.are h.is h.live).has in
     let agent = c.left_agent.ensures in
     omega (arith, known, size, agent)
 
@@ -58,7 +58,7 @@ child-requires-2-clause-nodes g c =
     let p = c.requires.popped in
     let h = in_hand c.args.problem.now c.args.search.now.nodes.items c.args.search.now.fates.items c.args.search.now.waiting.keys c.args.search.now.splits c.args.total c.args.k p in
     let size = h.live.counted.paths in
-    let known = right_known h.view.paths c.args.conflict.now (c.requires.meet p.views h.view p.are h.is h.live).0 in
+    let known = right_known h.view.paths c.args.conflict.now (c.requires.meet p.views h.view p.are h.is h.live).has in
     let agent = c.right_agent.ensures in
     subst (λ ns. AreNodesFor c.right_agent.result ns) (sym c.deref-2.ensures.value) (p.nodes_for c.right_agent.result (omega (arith, known, size, agent)))
 
@@ -73,7 +73,7 @@ child-requires-2-clause-known g c =
     let p = c.requires.popped in
     let h = in_hand c.args.problem.now c.args.search.now.nodes.items c.args.search.now.fates.items c.args.search.now.waiting.keys c.args.search.now.splits c.args.total c.args.k p in
     let size = h.live.counted.paths in
-    let known = right_known h.view.paths c.args.conflict.now (c.requires.meet p.views h.view p.are h.is h.live).0 in
+    let known = right_known h.view.paths c.args.conflict.now (c.requires.meet p.views h.view p.are h.is h.live).has in
     let agent = c.right_agent.ensures in
     omega (arith, known, size, agent)
 
@@ -93,13 +93,13 @@ pub child-requires-clause-bar : goal.child-requires-clause-bar
 child-requires-clause-bar g c =
     let p = c.requires.popped in
     let h = in_hand c.args.problem.now c.args.search.now.nodes.items c.args.search.now.fates.items c.args.search.now.waiting.keys c.args.search.now.splits c.args.total c.args.k p in
-    subst IsTableBar (sym c.left_bar.ensures) (left_table_bar h.view.paths c.args.conflict.now (c.requires.meet p.views h.view p.are h.is h.live).0 c.requires.early)
+    subst IsTableBar (sym c.left_bar.ensures) (left_table_bar h.view.paths c.args.conflict.now (c.requires.meet p.views h.view p.are h.is h.live).has c.requires.early)
 
 pub child-requires-2-clause-bar : goal.child-requires-2-clause-bar
 child-requires-2-clause-bar g c =
     let p = c.requires.popped in
     let h = in_hand c.args.problem.now c.args.search.now.nodes.items c.args.search.now.fates.items c.args.search.now.waiting.keys c.args.search.now.splits c.args.total c.args.k p in
-    subst IsTableBar (sym c.right_bar.ensures) (right_table_bar h.view.paths c.args.conflict.now (c.requires.meet p.views h.view p.are h.is h.live).0 c.requires.early)
+    subst IsTableBar (sym c.right_bar.ensures) (right_table_bar h.view.paths c.args.conflict.now (c.requires.meet p.views h.view p.are h.is h.live).has c.requires.early)
 
 pub grow-requires-clause-inside : goal.grow-requires-clause-inside
 grow-requires-clause-inside g c =
@@ -129,11 +129,11 @@ returns-clause-state g c =
     let inside = slice_get_within c.args.search.now.fates.items c.args.k Open h.is_open in
     let grown = grown_fates c.args.search.now.fates.items c.args.k c.args.conflict.now (fate_of c.in_ok-left.left.total) (fate_of c.in_ok-right.right.total) inside (end_of_total c.in_ok-left.left.total) (end_of_total c.in_ok-right.right.total) in
     let early = c.requires.early in
-    let state = state_grown c.args.problem.now c.args.search.now.nodes.items c.args.search.now.fates.items c.args.search.now.waiting.keys c.args.search.now.splits c.args.total c.args.k p c.requires.goals h.view h.is h.is_open h.total_is c.args.conflict.now met.0 met.1 early
+    let state = state_grown c.args.problem.now c.args.search.now.nodes.items c.args.search.now.fates.items c.args.search.now.waiting.keys c.args.search.now.splits c.args.total c.args.k p c.requires.goals h.view h.is h.is_open h.total_is c.args.conflict.now met early
     c.in_ok-left.left.found c.in_ok-right.right.found c.in_ok-left.left.total c.in_ok-right.right.total left right
     (slice_set (c.args.search.now.fates.items ++ fate_of c.in_ok-left.left.total ∷ fate_of c.in_ok-right.right.total ∷ []) c.args.k (Expanded c.args.conflict.now (length c.args.search.now.fates.items) (length c.args.search.now.fates.items + 1)))
-    grown (left_known h.view.paths c.args.conflict.now met.0) (right_known h.view.paths c.args.conflict.now met.0)
-    (left_table_bar h.view.paths c.args.conflict.now met.0 early) (right_table_bar h.view.paths c.args.conflict.now met.0 early) in
+    grown (left_known h.view.paths c.args.conflict.now met.has) (right_known h.view.paths c.args.conflict.now met.has)
+    (left_table_bar h.view.paths c.args.conflict.now met.has early) (right_table_bar h.view.paths c.args.conflict.now met.has early) in
     on_ok_three c.grow.result (λ ns fs ks.
     subst (λ xs. IsState c.args.problem.now xs c.grow.new.self.fates.items c.grow.new.self.waiting.keys (c.args.search.now.splits + 1)) (sym ns)
     (subst (λ xs. IsState c.args.problem.now ((c.args.search.now.nodes.items ++ Child c.args.k (left_agent c.args.conflict.now) (left_bar c.args.conflict.now) c.in_ok-left.left.found ∷ []) ++ Child c.args.k (right_agent c.args.conflict.now) (right_bar c.args.conflict.now) c.in_ok-right.right.found ∷ []) xs c.grow.new.self.waiting.keys (c.args.search.now.splits + 1)) (sym (fs ∙ fates_is))

@@ -4,7 +4,7 @@ use Rattle.mapf_spacetime.specs.States.{low_states}
 use Rattle.mapf_spacetime.specs.Way.{CanArrive, IsWholeWay}
 use Rattle.mapf_spacetime.specs.Listed.{AreEntriesOf}
 use Rattle.mapf_spacetime.specs.Answer.{IsArrival}
-use Rattle.mapf_spacetime.proofs.WayLemmas.{start_leads, start_within}
+use Rattle.mapf_spacetime.proofs.WayLemmas.{start_leads, start_within, way_first}
 use Rattle.mapf_spacetime.proofs.PathLemmas.{walk_lawful, walk_satisfies, walk_cost, walk_tight}
 use Rattle.mapf_spacetime.proofs.LabelLemmas.{sound_arrives, start_arrives}
 use Rattle.mapf_spacetime.proofs.AnswerLemmas.{ranges_some, low_ticks}
@@ -39,6 +39,7 @@ returns g c =
       is_cost = walk_cost task states cells h way c.requires.start proper;
       tight = walk_tight task states cells h way c.requires.start proper;
       limit = c.requires.limit;
+      first = way_first task states.cost cells way (walk_cost task states cells h way c.requires.start proper);
       labels = record { sound = sound_arrives task states h listed a; rising = c.in_ok-entries.ensures.rising; ranges = ranges_some task c.requires.shape (low_states states) listed states.cost c.requires.small h.frontier.low a };
       start = start_arrives task states h listed a;
     }))

@@ -2,6 +2,7 @@ use Rattle.std.proofs.Common.{◌≡◌, ◌∷◌, ◌-◌, [], None, refl, sym
 use Rattle.mapf_model.specs.Bars.{Satisfies}
 use Rattle.mapf_model.specs.Distance.{IsDistance, IsUnreachable}
 use Rattle.mapf_model.specs.Path.{IsPath, IsCost}
+use Rattle.mapf_distance.specs.Distances.{IsLeastDescent}
 use Rattle.mapf_spacetime.specs.Task.{task_of, IsValue, state_at}
 use Rattle.mapf_spacetime.specs.Listed.{AreEntriesOf}
 use Rattle.mapf_spacetime.specs.Answer.{IsArrival}
@@ -37,4 +38,6 @@ returns-then-lets_path g c =
     (c.in_ok-path.ensures.goal ∙ c.requires.goal)
     distance
     (subst (λ goal. IsCost goal path (length path - 1)) c.requires.goal c.in_ok-path.ensures.cost)
-    c.in_ok-path.ensures.tight satisfies)
+    c.in_ok-path.ensures.tight
+    (subst (λ goal. IsLeastDescent task.grid goal path) c.requires.goal (subst (λ grid. IsLeastDescent grid c.args.distances.now.goal path) c.requires.grid c.in_ok-path.ensures.least))
+    satisfies)

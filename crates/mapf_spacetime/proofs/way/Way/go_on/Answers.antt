@@ -3,7 +3,7 @@ use Rattle.mapf_model.specs.Grid.{IsFree}
 use Rattle.mapf_model.specs.Labels.{MayGo}
 use Rattle.mapf_spacetime.specs.declared.state.State.{State}
 use Rattle.mapf_spacetime.specs.Task.{Goes, IsWithin, state_at}
-use Rattle.mapf_spacetime.specs.Way.{IsSearching, with_failure, state_of}
+use Rattle.mapf_spacetime.specs.Way.{CanArrive, IsSearching, with_failure, state_of}
 use Rattle.mapf_spacetime.proofs.ValueLemmas.{value_free}
 use Rattle.mapf_spacetime.proofs.WayLemmas.{step_searching, back_searching}
 use Rattle.mapf_spacetime.proofs.way.Way.go_on.Goals as goal
@@ -29,7 +29,12 @@ returns-in-Some-clause-searching g c =
     subst (IsSearching task c.args.cost) (sym c.in_ok-step.ensures)
     (step_searching task c.args.cost way c.requires.searching to c.requires.unfinished goes
     (subst (λ n. IsWithin task c.args.cost (state_at to n)) next c.in-Some.ensures.within)
-    (subst (λ n. Contains way.failed (state_at to n) → ⊥) next c.in-Some.ensures.fresh))
+    (subst (λ n. Contains way.failed (state_at to n) → ⊥) next c.in-Some.ensures.fresh)
+    (λ other less may arrives.
+    let back : length way.cells ≡ (length way.cells - 1) + 1 = omega arith in
+    let least = rw c.last-here.ensures at c.in-Some.ensures.least in
+    let still = subst (λ n. CanArrive task c.args.cost (state_at other n)) back arrives in
+    c.requires.searching.stuck (state_at other ((length way.cells - 1) + 1)) (least other less may still) still))
 
 pub turn_back-requires : goal.turn_back-requires
 turn_back-requires g c =

@@ -1,0 +1,35 @@
+-- Trees whose splits stand on the first conflict of first paths, also where conflicts have one tick and paths one cost.
+use Rattle.std.specs.Prelude.{◌≡◌, ℕ, List, Some, slice_get}
+use Rattle.mapf_conflicts.specs.Pairs.{IsOrdered, IsFirstOfItsTick}
+use Rattle.mapf_model.specs.declared.conflict.Conflict.{Conflict}
+use Rattle.mapf_model.specs.Earned.{AreDue, HasConflict, AreConflictFreeBefore, tick_of}
+use Rattle.mapf_model.specs.declared.problem.Agent.{Agent}
+use Rattle.mapf_model.specs.Path.{IsCost}
+use Rattle.mapf_model.specs.Plan.{Instance}
+use Rattle.mapf_model.specs.Tree.{ConstraintTree, Split, Leaf, Clash, NodeConstraints, AtEachNode, root}
+use Rattle.mapf_spacetime.specs.Answer.{IsFirstOfCost}
+use Rattle.mapf_spacetime.specs.Task.{task_of}
+
+-- the first conflict of the paths: of the least tick, then a vertex conflict before a swapping one, then by the agents'
+-- numbers, of which the first is the smaller
+pub record IsFirstConflict (paths : List (List ℕ)) (conflict : Conflict) : Type 0 where
+  pub has : HasConflict paths conflict
+  pub earliest : AreConflictFreeBefore paths (tick_of conflict)
+  pub ordered : IsOrdered conflict
+  pub least : IsFirstOfItsTick paths conflict
+
+-- at the node each agent's path is the first of its cost, by cell numbers, of those that satisfy its bars
+abbrev pub AreFirstPaths : Instance → NodeConstraints → List (List ℕ) → Type 0
+AreFirstPaths problem constraints paths = (i : ℕ) (agent : Agent) (path : List ℕ) (cost : ℕ) → slice_get problem.agents i ≡ Some agent →
+    slice_get paths i ≡ Some path → IsCost agent.goal path cost → IsFirstOfCost (task_of problem.grid agent (constraints.bars i)) cost path
+
+-- a split stands on the first conflict of paths that are due there, each the first of its cost
+abbrev pub IsOnFirstConflict : Instance → ConstraintTree → NodeConstraints → ConstraintTree → Type 0
+IsOnFirstConflict problem tree constraints (Split conflict left right) = (paths : List (List ℕ)) × (total : ℕ)
+    × AreDue problem tree constraints paths total × AreFirstPaths problem constraints paths × IsFirstConflict paths conflict
+IsOnFirstConflict problem tree constraints (Leaf blocks) = Unit {0}
+IsOnFirstConflict problem tree constraints (Clash i j) = Unit {0}
+
+-- so it is with each split of the tree
+abbrev pub AreOnFirstConflicts : Instance → ConstraintTree → Type 0
+AreOnFirstConflicts problem tree = AtEachNode (IsOnFirstConflict problem tree) root tree
