@@ -1,5 +1,5 @@
 -- Entries and blocks in a certificate's text.
-use Rattle.std.proofs.Common.{◌≡◌, ℕ, ◌<◌, List, ◌++◌, length, All, Option, Bool, refl, sym, ap, subst, ◌∙◌, arith, append_assoc, inl, inr}
+use Rattle.std.proofs.Common.{◌≡◌, ℕ, ◌<◌, List, ◌++◌, length, All, Option, Bool, false, refl, sym, ap, subst, ◌∙◌, arith, append_assoc, inl, inr}
 use Rattle.mapf_model.specs.declared.label.Entry.{Entry}
 use Rattle.mapf_model.specs.Blocks.{LabelBlock}
 use Rattle.mapf_model.specs.Grid.{GridMap}
@@ -126,19 +126,19 @@ before_trans a b c (inr (p, o)) (inl q) = inl (omega arith)
 before_trans a b c (inr (p, o)) (inr (q, r)) = inr (omega arith, omega arith)
 
 -- an entry that may not follow
-pub misfit_entry : (sizes : Sizes) (before : List Entry) (a b : Option (List ℕ)) (failed : Bool) (x y : Buffered) (line : Line) (entry : Entry) (fault : LinesFault) → IsTextFault fault → IsLine (dues.Tree sizes) line
+pub misfit_entry : (sizes : Sizes) (before : List Entry) (a b : Option (List ℕ)) (failed : Bool) (x y : Buffered) (line : Line) (entry : Entry) (fault : LinesFault) → IsTextFault fault → failed ≡ false → IsLine (dues.Tree sizes) line
     → Window a b x y (line_text sizes.width line) → line ≡ lines.At entry → (All (λ e. IsBefore e entry) before → ⊥) → Fails a b failed x (NextEntry sizes before) fault
-misfit_entry sizes before a b failed x y line entry fault is ranged window same never =
-    Fails-text a b failed x (NextEntry sizes before) fault is (Refuses-taken a b x y (line_text sizes.width line) (NextEntry sizes before) window (λ more begins.
+misfit_entry sizes before a b failed x y line entry fault is works ranged window same never =
+    Fails-text a b failed x (NextEntry sizes before) fault is works (Refuses-taken a b x y (line_text sizes.width line) (NextEntry sizes before) window (λ more begins.
     let (e, fits, follows) = entry_fits sizes before line more ranged begins in
     let one : e ≡ entry = at_same e entry (sym fits ∙ same) in
     never (subst (λ (v : Entry). All (λ d. IsBefore d v) before) one follows.1)))
 
 -- a block of an agent that may not follow
-pub misfit_block : (sizes : Sizes) (before : List LabelBlock) (a b : Option (List ℕ)) (failed : Bool) (x y : Buffered) (line : Line) (agent count : ℕ) (fault : LinesFault) → IsTextFault fault → IsLine (dues.Tree sizes) line
+pub misfit_block : (sizes : Sizes) (before : List LabelBlock) (a b : Option (List ℕ)) (failed : Bool) (x y : Buffered) (line : Line) (agent count : ℕ) (fault : LinesFault) → IsTextFault fault → failed ≡ false → IsLine (dues.Tree sizes) line
     → Window a b x y (line_text sizes.width line) → line ≡ lines.Agent agent count → (All (λ d. d.agent < agent) before → ⊥) → Fails a b failed x (NextBlock sizes before) fault
-misfit_block sizes before a b failed x y line agent count fault is ranged window same never =
-    Fails-text a b failed x (NextBlock sizes before) fault is (Refuses-taken a b x y (line_text sizes.width line) (NextBlock sizes before) window (λ more begins.
+misfit_block sizes before a b failed x y line agent count fault is works ranged window same never =
+    Fails-text a b failed x (NextBlock sizes before) fault is works (Refuses-taken a b x y (line_text sizes.width line) (NextBlock sizes before) window (λ more begins.
     let (block, fits, follows, next) = block_fits sizes before line more ranged begins in
     let one : block.agent ≡ agent = (agent_same block.agent agent (length block.entries) count (sym fits ∙ same)).0 in
     never (subst (λ (n : ℕ). All (λ d. d.agent < n) before) one follows.1)))

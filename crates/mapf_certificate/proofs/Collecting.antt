@@ -78,14 +78,14 @@ collected_stops start mid opened r agents claim seen fault before items ends cou
 
 pub stops_at : (a b : Option (List ℕ)) (failed : Bool) (x : Buffered) (Is : List ℕ → Type 0) (fault : LinesFault) → Fails a b failed x Is fault → Stops a b failed x fault
 stops_at a b failed x Is (Text fault) fails = tt
-stops_at a b failed x Is Device fails = fails
-stops_at a b failed x Is TooLong fails = fails
+stops_at a b failed x Is Device fails = fails.0
+stops_at a b failed x Is TooLong fails = fails.1
 stops_at a b failed x Is Memory fails = tt
 
 pub stops_after : (a b c : Option (List ℕ)) (failed : Bool) (x y : Buffered) (t : List ℕ) (Is : List ℕ → Type 0) (fault : LinesFault) → Window a b x y t → Fails b c failed y Is fault → Stops a c failed x fault
 stops_after a b c failed x y t Is (Text fault) window fails = tt
-stops_after a b c failed x y t Is Device window fails = fails
-stops_after a b c failed x y t Is TooLong window fails = Exceeds-after a b c x y t window fails
+stops_after a b c failed x y t Is Device window fails = fails.0
+stops_after a b c failed x y t Is TooLong window fails = Exceeds-after a b c x y t window fails.1
 stops_after a b c failed x y t Is Memory window fails = tt
 
 -- an error that is passed on

@@ -1,5 +1,5 @@
 -- The end of a source.
-use Rattle.std.proofs.Common.{◌≡◌, ℕ, List, [], ◌∷◌, ◌++◌, Option, Bool, refl, sym, subst, inl}
+use Rattle.std.proofs.Common.{◌≡◌, ℕ, List, [], ◌∷◌, ◌++◌, Option, Bool, refl, sym, subst, inl, arith}
 use Rattle.std.proofs.KnownBytes.{Consumes-nil}
 use Rattle.mapf_certificate.specs.declared.buffer.NoLine.{NoLine}
 use Rattle.mapf_certificate.specs.declared.buffer.NoLine.TheVariants as stops
@@ -12,6 +12,7 @@ pub more_there : (had : Option (List ℕ)) (x : Buffered) → (x.bytes ≡ [] �
 more_there had x some = record {
   pulled = [];
   source = Consumes-nil had;
+  within = omega arith;
   wrong = inl (λ more none. some (by x.bytes more none));
 }
   where

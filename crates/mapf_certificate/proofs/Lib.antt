@@ -9,6 +9,7 @@ pub mod PlanParts
 pub mod PathLaws
 pub mod PathsLaws
 pub mod PlanTexts
+pub mod OnePlan
 pub mod Windows
 pub mod LineWindows
 pub mod Sequences

@@ -15,7 +15,7 @@ use Rattle.mapf_certificate.specs.Certificates.{line_text}
 use Rattle.mapf_certificate.specs.Window.{Window, Refuses, Fails, BeginsWith, EndsEarly, IsOverlong, LacksLine, LacksBytes, Tells}
 use Rattle.mapf_certificate.proofs.Fields.{both}
 use Rattle.mapf_certificate.proofs.PlainLines.{plain_line, same_front}
-use Rattle.mapf_certificate.proofs.Windows.{Fails-text, Window-trans, Exceeds-after}
+use Rattle.mapf_certificate.proofs.Windows.{Fails-text, Window-trans, ComesWithin-after, Exceeds-after}
 
 abbrev pub IsNext : Due → List ℕ → Type 0
 IsNext due bytes = BeginsWith Line (IsLine due) (line_text (width_of due)) bytes
@@ -35,6 +35,7 @@ pub refused_early : (due : Due) (a b : Option (List ℕ)) (x y : Buffered) → E
 refused_early due a b x y early = record {
   pulled = early.window.pulled;
   source = early.window.source;
+  within = omega (arith, early.window.within);
   wrong = inr (
     early.ended,
     λ is.
@@ -47,6 +48,7 @@ pub refused_overlong : (due : Due) (a b : Option (List ℕ)) (x y : Buffered) �
 refused_overlong due a b x y long = record {
   pulled = long.window.pulled;
   source = long.window.source;
+  within = omega (arith, long.window.within);
   wrong = inl (λ more is.
       let word = words (width_of due) is.value in
       let all : y.bytes ++ more ≡ word ++ (10 ∷ is.rest) = ap (λ l. l ++ more) (sym long.window.same) ∙ is.spelled ∙ append_assoc word (10 ∷ []) is.rest in
@@ -60,6 +62,7 @@ pub refused_line : (due : Due) (a b : Option (List ℕ)) (x y : Buffered) (line 
 refused_line due a b x y line rest window found never = record {
   pulled = window.pulled;
   source = window.source;
+  within = omega (arith, window.within);
   wrong = inl (λ more is.
       let front : line ++ (10 ∷ (rest ++ more)) ≡ words (width_of due) is.value ++ (10 ∷ is.rest) = sym (append_assoc line (10 ∷ rest) more) ∙ ap (λ l. l ++ more) (sym found.same) ∙ ap (λ l. l ++ more) (sym window.same) ∙ is.spelled ∙ append_assoc (words (width_of due) is.value) (10 ∷ []) is.rest in
       never is.value is.is (same_front line (words (width_of due) is.value) (rest ++ more) is.rest found.whole (plain_line due is.value is.is).ends front).0);
@@ -90,13 +93,13 @@ early a b c x y z first second ended same short front is lacks = record {
 pub stopped : (a b c : Option (List ℕ)) (failed : Bool) (x y z : Buffered) (why : NoLine) → Window a b x y [] → LacksBytes b c failed y why → LacksLine a c failed x z why
 stopped a b c failed x y z stops.Ended first lacks = absurd lacks
 stopped a b c failed x y z stops.Overlong first lacks = absurd lacks
-stopped a b c failed x y z stops.Device first lacks = lacks
-stopped a b c failed x y z stops.PastLimit first lacks = Exceeds-after a b c x y [] first lacks
+stopped a b c failed x y z stops.Device first lacks = (lacks.0, ComesWithin-after a b c x y [] first lacks.1)
+stopped a b c failed x y z stops.PastLimit first lacks = (lacks.0, Exceeds-after a b c x y [] first lacks.1)
 
 -- why no line is there is why none that is due is there
 pub lacking : (due : Due) (a b : Option (List ℕ)) (failed : Bool) (x y : Buffered) (why : NoLine) (fault : LinesFault) → LacksLine a b failed x y why → Tells why fault → Fails a b failed x (IsNext due) fault
-lacking due a b failed x y stops.Ended fault early is = Fails-text a b failed x (IsNext due) fault is (refused_early due a b x y early)
-lacking due a b failed x y stops.Overlong fault long is = Fails-text a b failed x (IsNext due) fault is (refused_overlong due a b x y long)
+lacking due a b failed x y stops.Ended fault early is = Fails-text a b failed x (IsNext due) fault is early.0 (refused_early due a b x y early.1)
+lacking due a b failed x y stops.Overlong fault long is = Fails-text a b failed x (IsNext due) fault is long.0 (refused_overlong due a b x y long.1)
 lacking due a b failed x y stops.Device fault device is = subst (Fails a b failed x (IsNext due)) (sym is) device
 lacking due a b failed x y stops.PastLimit fault more is = subst (Fails a b failed x (IsNext due)) (sym is) more
 

@@ -1,5 +1,5 @@
 -- Nodes in a certificate's text.
-use Rattle.std.proofs.Common.{◌≡◌, ℕ, ◌<◌, ◌≤◌, List, [], ◌∷◌, ◌++◌, length, get_or, AllPairs, Option, Bool, suc, zero, refl, sym, ap, subst, ◌∙◌, arith, append_assoc, inl}
+use Rattle.std.proofs.Common.{◌≡◌, ℕ, ◌<◌, ◌≤◌, List, [], ◌∷◌, ◌++◌, length, get_or, AllPairs, Option, Bool, false, suc, zero, refl, sym, ap, subst, ◌∙◌, arith, append_assoc, inl}
 use Rattle.std.proofs.lemmas.List.{append-nil}
 use Rattle.std.proofs.KnownBytes.{Consumes-nil}
 use Rattle.mapf_model.specs.declared.conflict.Conflict.TheVariants as conflicts
@@ -143,11 +143,12 @@ fails_in_blocks sizes had left failed x line count fault is same fails =
     (λ t begins. blocks_due sizes count t few (subst (λ (l : Line). NextNode sizes (line_text sizes.width l ++ t)) same begins)) fails
 
 -- a line that begins no node
-pub begins_no_node : (sizes : Sizes) (had : Option (List ℕ)) (failed : Bool) (x : Buffered) (line : Line) (fault : LinesFault) → IsTextFault fault → IsLine (dues.Tree sizes) line → ((node : Node) → line ≡ first_line node → ⊥)
+pub begins_no_node : (sizes : Sizes) (had : Option (List ℕ)) (failed : Bool) (x : Buffered) (line : Line) (fault : LinesFault) → IsTextFault fault → failed ≡ false → IsLine (dues.Tree sizes) line → ((node : Node) → line ≡ first_line node → ⊥)
     → Fails had had failed x (λ t. NextNode sizes (line_text sizes.width line ++ t)) fault
-begins_no_node sizes had failed x line fault is ranged never = Fails-text had had failed x (λ t. NextNode sizes (line_text sizes.width line ++ t)) fault is (record {
+begins_no_node sizes had failed x line fault is works ranged never = Fails-text had had failed x (λ t. NextNode sizes (line_text sizes.width line ++ t)) fault is works (record {
   pulled = [];
   source = Consumes-nil had;
+  within = omega arith;
   wrong = inl (λ more begins. let (node, same, in_range, rest, text) = node_fits sizes line ((x.bytes ++ []) ++ more) ranged begins in never node same);
 })
 

@@ -22,7 +22,7 @@ pub All-one : {X : Type 0} (P : X → Type 0) (y : X) → P y → All P (y ∷ [
 All-one P y h zero d less = h
 All-one P y h (suc k) d less = absurd (omega arith)
 
-cells_past : (width : ℕ) (cells : List ℕ) → IsPastDigits (cells_text width cells)
+pub cells_past : (width : ℕ) (cells : List ℕ) → IsPastDigits (cells_text width cells)
 cells_past width [] = tt
 cells_past width (c ∷ cells) = refl
 

@@ -23,7 +23,7 @@ cells_lack sizes (c ∷ cells) all =
     lacks-append (pair sizes.width c) (cells_text sizes.width cells) (plain-pair sizes.width sizes.height c sizes.narrow.0 sizes.narrow.1 sizes.low.1 inside).ends
     (cells_lack sizes cells (All-tail (IsOnGrid (grid_of sizes.width sizes.height)) c cells all))
 
-path_lacks : (sizes : Sizes) (due : ℕ) (path : List ℕ) → due < sizes.agents → IsPathInRange (grid_of sizes.width sizes.height) path → lacks_end (path_words sizes.width due path) ≡ true
+pub path_lacks : (sizes : Sizes) (due : ℕ) (path : List ℕ) → due < sizes.agents → IsPathInRange (grid_of sizes.width sizes.height) path → lacks_end (path_words sizes.width due path) ≡ true
 path_lacks sizes due path less is =
     lacks-append (codes "path") (field 32 due ++ (field 32 (ticks_of path) ++ cells_text sizes.width path)) refl
     (lacks-append (field 32 due) (field 32 (ticks_of path) ++ cells_text sizes.width path) (plain-field 32 3 due refl (omega arith) (omega (arith, sizes.few.1)) (omega (arith, sizes.few.1))).ends

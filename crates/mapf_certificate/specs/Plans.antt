@@ -3,7 +3,7 @@ use Rattle.std.specs.Prelude.{◌≡◌, ◌≤◌, ◌<◌, ℕ, ◌+◌, ◌-�
 use Rattle.std.specs.List.{flat_map}
 use Rattle.mapf_model.specs.declared.cause.Cause.TheVariants.{Splits, Ticks}
 use Rattle.mapf_model.specs.Accepted.{PlanSays, SaysPlan, SaysImpossible, SaysLimit}
-use Rattle.mapf_model.specs.Grid.{GridMap}
+use Rattle.mapf_model.specs.Grid.{GridMap, IsGridMap}
 use Rattle.mapf_model.specs.Printed.{IsOnGrid, IsPathInRange}
 use Rattle.mapf_certificate.specs.declared.plan_text.PlanText.{PlanText}
 use Rattle.mapf_certificate.specs.declared.plan_text.PlanAnswer.{PlanAnswer}
@@ -76,6 +76,11 @@ pub record SpellsPlan (grid : GridMap) (bytes : List ℕ) (agents : ℕ) (said :
   pub spelled : bytes ≡ plan_text grid.width text
   pub for_agents : text.agents ≡ agents
   pub same : says text.answer ≡ said
+
+-- no bytes spell two plan texts: they tell the number of agents and what is said
+abbrev pub SpellsOnePlan : Type 0
+SpellsOnePlan = (grid : GridMap) (bytes : List ℕ) (agents agents' : ℕ) (said said' : PlanSays) → IsGridMap grid
+    → SpellsPlan grid bytes agents said → SpellsPlan grid bytes agents' said' → (agents ≡ agents') × (said ≡ said')
 
 -- these paths, one for each agent, stand at the front of the bytes, and this is left
 pub record ArePaths (grid : GridMap) (agents : ℕ) (bytes : List ℕ) (paths : List (List ℕ)) (sum : ℕ) (rest : List ℕ) : Type 0 where

@@ -5,6 +5,7 @@ use Rattle.mapf_model.specs.Grid.{GridMap}
 use Rattle.mapf_certificate.specs.declared.cert.LinesFault.{LinesFault}
 use Rattle.mapf_certificate.specs.Lines.{IsAgentCount, grid_of}
 use Rattle.mapf_certificate.specs.Buffered.{Buffered, spare}
+use Rattle.mapf_certificate.specs.Window.{HasNoInnerMemory}
 
 -- how far a certificate was read: the grid's sizes, what is left in the buffer, and what the header said
 pub record Reading : Type 0 where
@@ -22,6 +23,7 @@ pub record IsReading (r : Reading) : Type 0 where
   pub rows : (1 ≤ r.height) × (r.height ≤ 2048)
   pub agents : IfSome r.header (λ h. IsAgentCount h.0)
   pub bounded : r.owed + spare r.buffer ≤ 2 ^ 64
+  pub faults : IfSome r.fault HasNoInnerMemory
 
 -- the size of the grid; which cells are free plays no part
 abbrev pub grid_at : Reading → GridMap

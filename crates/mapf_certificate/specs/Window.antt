@@ -1,5 +1,5 @@
 -- What a call takes from a buffer and the source behind it, and why it takes nothing.
-use Rattle.std.specs.Prelude.{◌≡◌, ◌⊎◌, ◌+◌, ◌<◌, ℕ, Bool, true, List, [], ◌++◌, length, take, Option}
+use Rattle.std.specs.Prelude.{◌≡◌, ◌≢◌, ◌↔◌, ◌⊎◌, ◌+◌, ◌<◌, ◌≤◌, ℕ, Bool, true, false, List, [], ◌++◌, length, take, Option}
 use Rattle.std.specs.Io.KnownBytes.{Consumes, IsAtEnd}
 use Rattle.mapf_certificate.specs.declared.buffer.NoLine.{NoLine}
 use Rattle.mapf_certificate.specs.declared.buffer.NoLine.TheVariants as stops
@@ -16,28 +16,48 @@ pub record Window (had left : Option (List ℕ)) (old new : Buffered) (taken : L
   pub same : old.bytes ++ pulled ≡ taken ++ new.bytes
   pub within : old.left ≡ new.left + length pulled
 
--- more bytes came than were left of the limit
+-- no more bytes came than were left of the limit
+pub record ComesWithin (had left : Option (List ℕ)) (buffer : Buffered) : Type 0 where
+  pub pulled : List ℕ
+  pub source : Consumes had left pulled
+  pub within : length pulled ≤ buffer.left
+
+-- more bytes came than were left of the limit, by one
 pub record Exceeds (had left : Option (List ℕ)) (buffer : Buffered) : Type 0 where
   pub pulled : List ℕ
   pub source : Consumes had left pulled
   pub beyond : buffer.left < length pulled
+  pub few : length pulled ≤ buffer.left + 1
+
+-- at most one byte more came than so many, and more than these came just where this is so
+pub record Pulls (had left : Option (List ℕ)) (most : ℕ) (TooMany : Type 0) : Type 0 where
+  pub came : List ℕ
+  pub source : Consumes had left came
+  pub few : length came ≤ most + 1
+  pub beyond : TooMany ↔ (most < length came)
 
 -- no text of this kind begins with what was in the buffer and then came; or nothing more comes, and that is none
 pub record Refuses (had left : Option (List ℕ)) (buffer : Buffered) (IsText : List ℕ → Type 0) : Type 0 where
   pub pulled : List ℕ
   pub source : Consumes had left pulled
+  pub within : length pulled ≤ buffer.left
   pub wrong : ((more : List ℕ) → IsText ((buffer.bytes ++ pulled) ++ more) → ⊥) ⊎ (IsAtEnd left × (IsText (buffer.bytes ++ pulled) → ⊥))
 
--- why a text of this kind isn't read: it isn't one, or the source failed, or too many bytes came, or memory was refused
+-- why a text of this kind isn't read: it isn't one, or the source failed, or too many bytes came, or memory was refused.
+-- The source has failed in the second case alone
 abbrev pub Fails : Option (List ℕ) → Option (List ℕ) → Bool → Buffered → (List ℕ → Type 0) → LinesFault → Type 0
-Fails had left failed buffer IsText (Text (texts.K1 line)) = Refuses had left buffer IsText
-Fails had left failed buffer IsText (Text (texts.K2 line)) = Refuses had left buffer IsText
-Fails had left failed buffer IsText (Text (texts.K3 line)) = Refuses had left buffer IsText
-Fails had left failed buffer IsText (Text (texts.K4 line)) = Refuses had left buffer IsText
+Fails had left failed buffer IsText (Text (texts.K1 line)) = (failed ≡ false) × Refuses had left buffer IsText
+Fails had left failed buffer IsText (Text (texts.K2 line)) = (failed ≡ false) × Refuses had left buffer IsText
+Fails had left failed buffer IsText (Text (texts.K3 line)) = (failed ≡ false) × Refuses had left buffer IsText
+Fails had left failed buffer IsText (Text (texts.K4 line)) = (failed ≡ false) × Refuses had left buffer IsText
 Fails had left failed buffer IsText (Text texts.Memory) = ⊥
-Fails had left failed buffer IsText Device = failed ≡ true
-Fails had left failed buffer IsText TooLong = Exceeds had left buffer
-Fails had left failed buffer IsText Memory = Unit {0}
+Fails had left failed buffer IsText Device = (failed ≡ true) × ComesWithin had left buffer
+Fails had left failed buffer IsText TooLong = (failed ≡ false) × Exceeds had left buffer
+Fails had left failed buffer IsText Memory = (failed ≡ false) × ComesWithin had left buffer
+
+-- want of memory is no fault of a text
+abbrev pub HasNoInnerMemory : LinesFault → Type 0
+HasNoInnerMemory fault = fault ≢ Text texts.Memory
 
 -- the fault isn't one of the text
 abbrev pub IsNoTextFault : LinesFault → Type 0
@@ -92,14 +112,14 @@ pub record IsOverlong (had left : Option (List ℕ)) (old new : Buffered) : Type
 
 -- why no line is there
 abbrev pub LacksLine : Option (List ℕ) → Option (List ℕ) → Bool → Buffered → Buffered → NoLine → Type 0
-LacksLine had left failed old new stops.Ended = EndsEarly had left old new
-LacksLine had left failed old new stops.Overlong = IsOverlong had left old new
-LacksLine had left failed old new stops.Device = failed ≡ true
-LacksLine had left failed old new stops.PastLimit = Exceeds had left old
+LacksLine had left failed old new stops.Ended = (failed ≡ false) × EndsEarly had left old new
+LacksLine had left failed old new stops.Overlong = (failed ≡ false) × IsOverlong had left old new
+LacksLine had left failed old new stops.Device = (failed ≡ true) × ComesWithin had left old
+LacksLine had left failed old new stops.PastLimit = (failed ≡ false) × Exceeds had left old
 
 -- why no bytes came
 abbrev pub LacksBytes : Option (List ℕ) → Option (List ℕ) → Bool → Buffered → NoLine → Type 0
 LacksBytes had left failed buffer stops.Ended = ⊥
 LacksBytes had left failed buffer stops.Overlong = ⊥
-LacksBytes had left failed buffer stops.Device = failed ≡ true
-LacksBytes had left failed buffer stops.PastLimit = Exceeds had left buffer
+LacksBytes had left failed buffer stops.Device = (failed ≡ true) × ComesWithin had left buffer
+LacksBytes had left failed buffer stops.PastLimit = (failed ≡ false) × Exceeds had left buffer

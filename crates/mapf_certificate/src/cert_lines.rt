@@ -4,13 +4,13 @@ ghost use Rattle.mapf_certificate.specs.Certificates.{IsNode, line_text, node_te
 ghost use Rattle.mapf_certificate.specs.Lines.{IsAgentCount, IsTreeLine, grid_of};
 ghost use Rattle.mapf_certificate.specs.Reading.{Reading};
 ghost use Rattle.mapf_certificate.specs.Untouched.{IsUntouched};
-ghost use Rattle.mapf_certificate.specs.Window.{Window, BeginsWith, Fails, IsNoTextFault};
+ghost use Rattle.mapf_certificate.specs.Window.{Window, BeginsWith, Fails, Pulls, HasNoInnerMemory, IsNoTextFault};
 ghost use Rattle.mapf_certificate.specs.declared.line.Line.TheVariants.{End};
 ghost use Rattle.mapf_model.specs.declared.item.Claim.{Claim};
 ghost use Rattle.mapf_model.specs.Printed.{IsClaimInRange};
 ghost use Rattle.mapf_model.specs.Tree.{Node, node_of};
 ghost use Rattle.std.specs.Io.KnownBytes.{IsAtEnd};
-ghost use Rattle.std.specs.Prelude.{[], ◌∷◌, ◌++◌, ℕ, List, Some, true, IfErr, ◌^◌, ◌≡◌, ◌<◌, ◌≤◌, ◌+◌, IfOk, IfSome, IsSome, IsSomeAnd, OnOk, None, false, MatchOption, MatchResult};
+ghost use Rattle.std.specs.Prelude.{[], ◌∷◌, ◌++◌, ℕ, List, Some, true, IfErr, IsErrOf, ◌^◌, ◌≡◌, ◌↔◌, ◌<◌, ◌≤◌, ◌+◌, IfOk, IfSome, IsSome, IsSomeAnd, OnOk, None, false, MatchOption, MatchResult};
 
 use crate::cert::LinesFault;
 use crate::line::Line;
@@ -121,6 +121,12 @@ impl CertLines {
         ensures only { (agents : ℕ) (claim : Claim) (nodes : List Node) → self.old.fault ≡ None → self.old.header ≡ None → AwaitsCert (S.remaining source.old) self.old agents claim nodes
             → MatchResult result (λ h. (h.0 ≡ agents) × (h.1 ≡ claim) × Awaits (S.remaining source.new) self.new nodes) IsNoTextFault }
 
+        // Whether the source failed, and how many bytes came of it; a fault of the text is never want of memory.
+        ensures device { self.old.fault ≡ None → (IsErrOf result LinesFault.Device ↔ (S.has_failed source.new ≡ true)) }
+        ensures pulls { self.old.fault ≡ None
+            → Pulls (S.remaining source.old) (S.remaining source.new) self.old.buffer.left (IsErrOf result LinesFault.TooLong) }
+        ensures inner { IfErr result HasNoInnerMemory }
+
         ensures grid { (self.new.width ≡ self.old.width) × (self.new.height ≡ self.old.height) }
         ensures owed { self.new.owed ≡ self.old.owed }
         ensures part { self.new.is_whole ≡ self.old.is_whole }
@@ -158,6 +164,12 @@ impl CertLines {
         ensures only_item { (node : Node) (nodes : List Node) → self.old.fault ≡ None → self.old.is_whole ≡ false → Awaits (S.remaining source.old) self.old (node ∷ nodes)
             → MatchResult result (λ o. IsSomeAnd o (λ item. (node_of item ≡ node) × Awaits (S.remaining source.new) self.new nodes)) IsNoTextFault }
         ensures only_end { self.old.fault ≡ None → self.old.is_whole ≡ false → Awaits (S.remaining source.old) self.old [] → MatchResult result (λ o. o ≡ None) IsNoTextFault }
+
+        // Whether the source failed, and how many bytes came of it; a fault of the text is never want of memory.
+        ensures device { self.old.fault ≡ None → (IsErrOf result LinesFault.Device ↔ (S.has_failed source.new ≡ true)) }
+        ensures pulls { self.old.fault ≡ None
+            → Pulls (S.remaining source.old) (S.remaining source.new) self.old.buffer.left (IsErrOf result LinesFault.TooLong) }
+        ensures inner { IfErr result HasNoInnerMemory }
 
         ensures grid { (self.new.width ≡ self.old.width) × (self.new.height ≡ self.old.height) }
         ensures part { IfOk result (λ o. IsSome o → self.new.is_whole ≡ false) }

@@ -12,9 +12,9 @@ use Rattle.mapf_certificate.specs.Buffered.{Buffered}
 use Rattle.mapf_certificate.specs.CertReading.{Awaits, AwaitsCert, IsCertText, TakesHeader}
 use Rattle.mapf_certificate.specs.Certificates.{SpellsCert, header_text}
 use Rattle.mapf_certificate.specs.Reading.{Reading, grid_at}
-use Rattle.mapf_certificate.specs.Window.{Window, Fails, Exceeds, IsNoTextFault}
+use Rattle.mapf_certificate.specs.Window.{Window, Fails, ComesWithin, Exceeds, IsNoTextFault}
 use Rattle.mapf_certificate.proofs.CertTexts.{AreSized, spells_from_text, text_from_spells}
-use Rattle.mapf_certificate.proofs.Windows.{Window-known, Exceeds-after}
+use Rattle.mapf_certificate.proofs.Windows.{Window-known, ComesWithin-after, Exceeds-after, refuses_within}
 use Rattle.mapf_checker.specs.declared.fault.CheckFault.{CheckFault}
 use Rattle.mapf_checker.specs.declared.fault.CheckFault.TheVariants.{C1, C2, C3, C4, C5, C6, C7, C8, C9}
 use Rattle.mapf_checker.specs.declared.fault.CheckFault.TheVariants as refusals
@@ -52,19 +52,19 @@ module _ (problem : Instance) (claim : Claim) (had : Option (List ℕ)) (start :
   pub begins : (left : Option (List ℕ)) (new : Reading) (agents : ℕ) (claimed : Claim) → TakesHeader had left start new agents claimed → BeginsWithHeader problem bytes agents claimed
   begins left new agents claimed takes =
       let (after, known_left, same, count) = Window-known had left start.buffer new.buffer (header_text start.width agents claimed) bytes takes.window known in
-      record { rest = new.buffer.bytes ++ after; spelled = sym same_bytes ∙ subst (λ w. start.buffer.bytes ++ bytes ≡ header_text w agents claimed ++ (new.buffer.bytes ++ after)) opened.width same }
+      record { agents_in_range = takes.agents_in_range; claim_in_range = takes.claim_in_range; rest = new.buffer.bytes ++ after; spelled = sym same_bytes ∙ subst (λ w. start.buffer.bytes ++ bytes ≡ header_text w agents claimed ++ (new.buffer.bytes ++ after)) opened.width same }
 
 -- why reading a header stopped
 pub stops_heading : (problem : Instance) (claim : Claim) (had left : Option (List ℕ)) (failed : Bool) (start : Reading) (IsText : List ℕ → Type 0) (fault : LinesFault) → Fails had left failed start.buffer IsText fault →
     ((agents : ℕ) (claimed : Claim) (nodes : List Node) → AwaitsCert had start agents claimed nodes → IsNoTextFault fault) → Stops had left failed start.buffer (HasHeaderRefusal problem claim had start) (of_cert fault)
 stops_heading problem claim had left failed start IsText (Text texts.Memory) fails none = absurd fails
-stops_heading problem claim had left failed start IsText (Text (texts.K1 line)) fails none = (λ e. cc, none)
-stops_heading problem claim had left failed start IsText (Text (texts.K2 line)) fails none = (λ e. cc, none)
-stops_heading problem claim had left failed start IsText (Text (texts.K3 line)) fails none = (λ e. cc, none)
-stops_heading problem claim had left failed start IsText (Text (texts.K4 line)) fails none = (λ e. cc, none)
+stops_heading problem claim had left failed start IsText (Text (texts.K1 line)) fails none = (fails.0, refuses_within had left start.buffer IsText fails.1, (λ e. cc, none))
+stops_heading problem claim had left failed start IsText (Text (texts.K2 line)) fails none = (fails.0, refuses_within had left start.buffer IsText fails.1, (λ e. cc, none))
+stops_heading problem claim had left failed start IsText (Text (texts.K3 line)) fails none = (fails.0, refuses_within had left start.buffer IsText fails.1, (λ e. cc, none))
+stops_heading problem claim had left failed start IsText (Text (texts.K4 line)) fails none = (fails.0, refuses_within had left start.buffer IsText fails.1, (λ e. cc, none))
 stops_heading problem claim had left failed start IsText Device fails none = fails
 stops_heading problem claim had left failed start IsText TooLong fails none = fails
-stops_heading problem claim had left failed start IsText Memory fails none = tt
+stops_heading problem claim had left failed start IsText Memory fails none = fails
 
 -- what is so of known bytes
 if_known : {X : Type 0} (o : Option X) (P : X → Type 0) → ((x : X) → o ≡ Some x → P x) → IfSome o P
@@ -73,18 +73,18 @@ if_known (Some x) P f = f x refl
 
 -- the same reason, said otherwise
 pub stops_as : {P Q : CheckFault → Type 0} (had left : Option (List ℕ)) (failed : Bool) (old new : Buffered) (fault : FromFault) → old ≡ new → ((refusal : CheckFault) → P refusal → Q refusal) → Stops had left failed old P fault → Stops had left failed new Q fault
-stops_as had left failed old new (from.Refused refusal) same f stops = f refusal stops
-stops_as had left failed old new from.Device same f stops = stops
-stops_as had left failed old new from.TooLong same f stops = subst (λ b. Exceeds had left b) same stops
-stops_as had left failed old new from.Memory same f stops = tt
+stops_as had left failed old new (from.Refused refusal) same f stops = (stops.0, subst (λ b. ComesWithin had left b) same stops.1, f refusal stops.2)
+stops_as had left failed old new from.Device same f stops = (stops.0, subst (λ b. ComesWithin had left b) same stops.1)
+stops_as had left failed old new from.TooLong same f stops = (stops.0, subst (λ b. Exceeds had left b) same stops.1)
+stops_as had left failed old new from.Memory same f stops = (stops.0, subst (λ b. ComesWithin had left b) same stops.1)
 
 -- after a part was taken
 pub stops_after : {P Q : CheckFault → Type 0} (had mid left : Option (List ℕ)) (failed : Bool) (old now new : Buffered) (taken : List ℕ) (fault : FromFault) → old ≡ new → Window had mid old now taken → ((refusal : CheckFault) → P refusal → Q refusal) →
     Stops mid left failed now P fault → Stops had left failed new Q fault
-stops_after had mid left failed old now new taken (from.Refused refusal) same window f stops = f refusal stops
-stops_after had mid left failed old now new taken from.Device same window f stops = stops
-stops_after had mid left failed old now new taken from.TooLong same window f stops = subst (λ b. Exceeds had left b) same (Exceeds-after had mid left old now taken window stops)
-stops_after had mid left failed old now new taken from.Memory same window f stops = tt
+stops_after had mid left failed old now new taken (from.Refused refusal) same window f stops = (stops.0, subst (λ b. ComesWithin had left b) same (ComesWithin-after had mid left old now taken window stops.1), f refusal stops.2)
+stops_after had mid left failed old now new taken from.Device same window f stops = (stops.0, subst (λ b. ComesWithin had left b) same (ComesWithin-after had mid left old now taken window stops.1))
+stops_after had mid left failed old now new taken from.TooLong same window f stops = (stops.0, subst (λ b. Exceeds had left b) same (Exceeds-after had mid left old now taken window stops.1))
+stops_after had mid left failed old now new taken from.Memory same window f stops = (stops.0, subst (λ b. ComesWithin had left b) same (ComesWithin-after had mid left old now taken window stops.1))
 
 module _ (problem : Instance) (claim : Claim) (had : Option (List ℕ)) (start : Reading) (opened : IsOpened problem start) where
   -- a refusal of the header is one of the certificate

@@ -9,4 +9,5 @@ pub mod TreeLemmas
 pub mod VerdictLemmas
 pub mod PlanLemmas
 pub mod ReadLemmas
+pub mod StopLemmas
 pub mod CertLemmas

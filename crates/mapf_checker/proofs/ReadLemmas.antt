@@ -19,9 +19,9 @@ use Rattle.mapf_certificate.specs.CertReading.{Awaits, TakesNode, TakesEnd}
 use Rattle.mapf_certificate.specs.declared.line.Line.TheVariants as lines
 use Rattle.mapf_certificate.specs.Certificates.{IsNode, line_text, node_text}
 use Rattle.mapf_certificate.specs.Reading.{Reading, grid_at, agents_at}
-use Rattle.mapf_certificate.specs.Window.{Window, Fails, IsNoTextFault}
+use Rattle.mapf_certificate.specs.Window.{Window, ComesWithin, Fails, IsNoTextFault}
 use Rattle.mapf_certificate.proofs.CertTexts.{AreSized, tree_moved}
-use Rattle.mapf_certificate.proofs.Windows.{Window-trans, Window-known, Exceeds-after}
+use Rattle.mapf_certificate.proofs.Windows.{Window-trans, Window-known, Window-within, ComesWithin-after, Exceeds-after, refuses_within}
 use Rattle.mapf_checker.specs.declared.fault.CheckFault.{CheckFault}
 use Rattle.mapf_checker.specs.declared.fault.FromFault.{FromFault}
 use Rattle.mapf_checker.specs.declared.fault.FromFault.TheVariants as from
@@ -109,6 +109,9 @@ module _ (problem : Instance) (claim : Claim) (had mid left : Option (List ℕ))
     constraints_after_push owed [] x = refl
     constraints_after_push owed (y ∷ xs) x = constraints_after_push (constraints_after owed y) xs x
 
+  pub came_with_node : ComesWithin had left start.buffer
+  came_with_node = Window-within had left start.buffer new.buffer (flat_map (node_text start.width) so_far.given ++ node_text start.width node) taken
+
   -- it has a defect
   pub bad_node : (fault : CheckFault) → HasNodeDefect problem claim (here_of progress) node fault → (bytes : List ℕ) → had ≡ Some bytes → HasBadNode problem claim fault (start.buffer.bytes ++ bytes)
   bad_node fault defect bytes known =
@@ -155,6 +158,11 @@ read_all law problem claim had mid left start now new owed count so_far takes = 
   none [] e = refl
   none (o ∷ os) e = absurd (omega (arith, e))
 
+-- what came up to the end was left of the limit
+pub came_to_end : (problem : Instance) (claim : Claim) (had mid left : Option (List ℕ)) (start now new : Reading) (owed : List NodeConstraints) → IsReadTo problem claim had mid start now owed → TakesEnd mid left now new → ComesWithin had left start.buffer
+came_to_end problem claim had mid left start now new owed so_far takes =
+    ComesWithin-after had mid left start.buffer now.buffer (flat_map (node_text start.width) so_far.given) so_far.window (Window-within mid left now.buffer new.buffer (line_text now.width lines.End) takes.read.window)
+
 -- no nodes were to come where reading found a fault of the text
 pub none_awaited : (problem : Instance) (claim : Claim) (had mid : Option (List ℕ)) (start now : Reading) (owed : List NodeConstraints) (fault : LinesFault) → IsReadTo problem claim had mid start now owed →
     ((other : Node) (nodes : List Node) → Awaits mid now (other ∷ nodes) → IsNoTextFault fault) → (Awaits mid now [] → IsNoTextFault fault) → (nodes : List Node) → Awaits had start nodes → IsNoTextFault fault
@@ -178,13 +186,13 @@ module _ (problem : Instance) (claim : Claim) (had left : Option (List ℕ)) (fa
   pub stops_reading : (mid : Option (List ℕ)) (now : Reading) (taken : List ℕ) (IsText : List ℕ → Type 0) (fault : LinesFault) → Window had mid start.buffer now.buffer taken → Fails mid left failed now.buffer IsText fault →
       ((nodes : List Node) → Awaits had start nodes → IsNoTextFault fault) → Stops had left failed start.buffer (HasTreeRefusal problem claim had start) (of_cert fault)
   stops_reading mid now taken IsText (Text texts.Memory) window fails none = absurd fails
-  stops_reading mid now taken IsText (Text (texts.K1 line)) window fails none = (λ e. cc, none)
-  stops_reading mid now taken IsText (Text (texts.K2 line)) window fails none = (λ e. cc, none)
-  stops_reading mid now taken IsText (Text (texts.K3 line)) window fails none = (λ e. cc, none)
-  stops_reading mid now taken IsText (Text (texts.K4 line)) window fails none = (λ e. cc, none)
-  stops_reading mid now taken IsText Device window fails none = fails
-  stops_reading mid now taken IsText TooLong window fails none = Exceeds-after had mid left start.buffer now.buffer taken window fails
-  stops_reading mid now taken IsText Memory window fails none = tt
+  stops_reading mid now taken IsText (Text (texts.K1 line)) window fails none = (fails.0, ComesWithin-after had mid left start.buffer now.buffer taken window (refuses_within mid left now.buffer IsText fails.1), (λ e. cc, none))
+  stops_reading mid now taken IsText (Text (texts.K2 line)) window fails none = (fails.0, ComesWithin-after had mid left start.buffer now.buffer taken window (refuses_within mid left now.buffer IsText fails.1), (λ e. cc, none))
+  stops_reading mid now taken IsText (Text (texts.K3 line)) window fails none = (fails.0, ComesWithin-after had mid left start.buffer now.buffer taken window (refuses_within mid left now.buffer IsText fails.1), (λ e. cc, none))
+  stops_reading mid now taken IsText (Text (texts.K4 line)) window fails none = (fails.0, ComesWithin-after had mid left start.buffer now.buffer taken window (refuses_within mid left now.buffer IsText fails.1), (λ e. cc, none))
+  stops_reading mid now taken IsText Device window fails none = (fails.0, ComesWithin-after had mid left start.buffer now.buffer taken window fails.1)
+  stops_reading mid now taken IsText TooLong window fails none = (fails.0, Exceeds-after had mid left start.buffer now.buffer taken window fails.1)
+  stops_reading mid now taken IsText Memory window fails none = (fails.0, ComesWithin-after had mid left start.buffer now.buffer taken window fails.1)
 
   tree_refusal : (here : NodeConstraints) (node : Node) (fault : CheckFault) → HasNodeDefect problem claim here node fault → ((bytes : List ℕ) → had ≡ Some bytes → HasBadNode problem claim fault (start.buffer.bytes ++ bytes)) → HasTreeRefusal problem claim had start fault
   tree_refusal here (SplitNode conflict) fault (line, is, defect) bad = rw is (rw is at bad)
@@ -193,12 +201,12 @@ module _ (problem : Instance) (claim : Claim) (had left : Option (List ℕ)) (fa
   tree_refusal here (ClashNode i j) fault (line, is, defect) bad = rw is (rw is at bad)
 
   -- why judging stopped
-  pub stops_judging : (here : NodeConstraints) (node : Node) (fault : FromFault) → IsOfJudging (HasNodeDefect problem claim here node) fault →
+  pub stops_judging : (here : NodeConstraints) (node : Node) (fault : FromFault) → failed ≡ false → ComesWithin had left start.buffer → IsOfJudging (HasNodeDefect problem claim here node) fault →
       ((refusal : CheckFault) → HasNodeDefect problem claim here node refusal → (bytes : List ℕ) → had ≡ Some bytes → HasBadNode problem claim refusal (start.buffer.bytes ++ bytes)) → Stops had left failed start.buffer (HasTreeRefusal problem claim had start) fault
-  stops_judging here node (from.Refused refusal) is bad = tree_refusal here node refusal is (bad refusal is)
-  stops_judging here node from.Device is bad = absurd is
-  stops_judging here node from.TooLong is bad = absurd is
-  stops_judging here node from.Memory is bad = tt
+  stops_judging here node (from.Refused refusal) works comes is bad = (works, comes, tree_refusal here node refusal is (bad refusal is))
+  stops_judging here node from.Device works comes is bad = absurd is
+  stops_judging here node from.TooLong works comes is bad = absurd is
+  stops_judging here node from.Memory works comes is bad = (works, comes)
 
 pub no_refusal_judging : (P : CheckFault → Type 0) (fault : FromFault) → IsOfJudging P fault → ((refusal : CheckFault) → P refusal → ⊥) → IsNoRefusal fault
 no_refusal_judging P (from.Refused refusal) is none = none refusal is

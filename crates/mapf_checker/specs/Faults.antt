@@ -1,14 +1,15 @@
 -- Which fault of a check a fault of reading is, and what faults say.
-use Rattle.std.specs.Prelude.{◌≡◌, ⊤, ℕ, Bool, true, List, Option}
+use Rattle.std.specs.Prelude.{◌≡◌, ◌≢◌, ⊤, ℕ, Bool, true, false, List, Option}
 use Rattle.mapf_certificate.specs.declared.cert.LinesFault.{LinesFault}
 use Rattle.mapf_certificate.specs.declared.cert.LinesFault.TheVariants as lines
 use Rattle.mapf_certificate.specs.declared.cert.CertFault.TheVariants as certs
 use Rattle.mapf_certificate.specs.declared.plan_text.PlanTextFault.{PlanTextFault}
 use Rattle.mapf_certificate.specs.declared.plan_text.PlanTextFault.TheVariants as plans
 use Rattle.mapf_certificate.specs.Buffered.{Buffered}
-use Rattle.mapf_certificate.specs.Window.{Exceeds}
+use Rattle.mapf_certificate.specs.Window.{ComesWithin, Exceeds}
 use Rattle.mapf_checker.specs.declared.fault.CheckFault.{CheckFault}
-use Rattle.mapf_checker.specs.declared.fault.CheckFault.TheVariants.{C1, C2}
+use Rattle.mapf_checker.specs.declared.fault.CheckFault.TheVariants.{C1, C2, C3, C4, C5, C6, C7, C8, C9}
+use Rattle.mapf_checker.specs.declared.fault.CheckFault.TheVariants as refusals
 use Rattle.mapf_checker.specs.declared.fault.FromFault.{FromFault}
 use Rattle.mapf_checker.specs.declared.fault.FromFault.TheVariants.{Refused, Device, TooLong, Memory}
 
@@ -33,12 +34,12 @@ IsOfJudging Says TooLong = ⊥
 IsOfJudging Says Memory = ⊤
 
 -- a fault that comes of reading and judging: a refusal that says this, or the source failed, or it gave more than was
--- allowed, or want of memory
+-- allowed, or want of memory. The source has failed in the second case alone
 abbrev pub Stops : Option (List ℕ) → Option (List ℕ) → Bool → Buffered → (CheckFault → Type 0) → FromFault → Type 0
-Stops had left failed buffer Says (Refused fault) = Says fault
-Stops had left failed buffer Says Device = failed ≡ true
-Stops had left failed buffer Says TooLong = Exceeds had left buffer
-Stops had left failed buffer Says Memory = ⊤
+Stops had left failed buffer Says (Refused fault) = (failed ≡ false) × ComesWithin had left buffer × Says fault
+Stops had left failed buffer Says Device = (failed ≡ true) × ComesWithin had left buffer
+Stops had left failed buffer Says TooLong = (failed ≡ false) × Exceeds had left buffer
+Stops had left failed buffer Says Memory = (failed ≡ false) × ComesWithin had left buffer
 
 -- what a refusal says
 abbrev pub IfRefused : (CheckFault → Type 0) → FromFault → Type 0
@@ -53,3 +54,23 @@ IsNoRefusal (Refused fault) = ⊥
 IsNoRefusal Device = ⊤
 IsNoRefusal TooLong = ⊤
 IsNoRefusal Memory = ⊤
+
+-- want of memory is no fault of a text
+abbrev pub HasNoTextMemory : CheckFault → Type 0
+HasNoTextMemory (C1 fault) = fault ≢ plans.Memory
+HasNoTextMemory (C2 fault) = fault ≢ certs.Memory
+HasNoTextMemory C3 = ⊤
+HasNoTextMemory C4 = ⊤
+HasNoTextMemory (C5 fault) = ⊤
+HasNoTextMemory (C6 line) = ⊤
+HasNoTextMemory (C7 line) = ⊤
+HasNoTextMemory (C8 line) = ⊤
+HasNoTextMemory (C9 line) = ⊤
+HasNoTextMemory refusals.Memory = ⊤
+
+-- nor is it a refusal
+abbrev pub HasNoInnerMemory : FromFault → Type 0
+HasNoInnerMemory (Refused fault) = (fault ≢ refusals.Memory) × HasNoTextMemory fault
+HasNoInnerMemory Device = ⊤
+HasNoInnerMemory TooLong = ⊤
+HasNoInnerMemory Memory = ⊤

@@ -4,11 +4,13 @@ use Rattle.std.specs.List.{flat_map}
 use Rattle.mapf_model.specs.declared.item.Claim.{Claim}
 use Rattle.mapf_model.specs.Accepted.{SaysPlan, SaysLimit}
 use Rattle.mapf_model.specs.Plan.{Instance}
+use Rattle.mapf_model.specs.Printed.{IsClaimInRange}
 use Rattle.mapf_model.specs.Tree.{ConstraintTree, Node, NodeConstraints, root}
 use Rattle.mapf_certificate.specs.declared.cert.CertFault.TheVariants as certs
 use Rattle.mapf_certificate.specs.declared.plan_text.PlanText.{PlanText}
 use Rattle.mapf_certificate.specs.declared.plan_text.PlanTextFault.TheVariants as plans
 use Rattle.mapf_certificate.specs.Certificates.{SpellsCert, header_text, node_text}
+use Rattle.mapf_certificate.specs.Lines.{IsAgentCount}
 use Rattle.mapf_certificate.specs.Plans.{IsPlanText, plan_text, says}
 use Rattle.mapf_checker.specs.declared.fault.CheckFault.{CheckFault}
 use Rattle.mapf_checker.specs.declared.fault.CheckFault.TheVariants.{C1, C2, C3, C4, C5, C6, C7, C8, C9}
@@ -32,8 +34,10 @@ HasPlanRefusal problem bytes C4 = (text : PlanText) × SpellsText problem bytes 
 HasPlanRefusal problem bytes (C5 fault) = (text : PlanText) × (plan : List (List ℕ)) × SpellsText problem bytes text × (says text.answer ≡ SaysPlan plan) × HasDefect problem plan fault
 HasPlanRefusal problem bytes fault = ⊥
 
--- the bytes begin with a header
+-- the bytes begin with a header whose numbers are in their ranges
 pub record BeginsWithHeader (problem : Instance) (bytes : List ℕ) (agents : ℕ) (claim : Claim) : Type 0 where
+  pub agents_in_range : IsAgentCount agents
+  pub claim_in_range : IsClaimInRange claim
   pub rest : List ℕ
   pub spelled : bytes ≡ header_text problem.grid.width agents claim ++ rest
 

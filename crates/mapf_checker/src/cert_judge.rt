@@ -2,6 +2,7 @@ ghost use Rattle.std.specs.Prelude.{◌≡◌, ◌↔◌, ◌∷◌, ◌<◌, �
 ghost use Rattle.mapf_certificate.specs.Buffered.{spare};
 ghost use Rattle.mapf_certificate.specs.CertReading.{Awaits, AwaitsCert, TakesHeader};
 ghost use Rattle.mapf_certificate.specs.Reading.{Reading};
+ghost use Rattle.mapf_certificate.specs.Window.{ComesWithin};
 ghost use Rattle.mapf_model.specs.declared.item.Claim.{Claim};
 ghost use Rattle.mapf_model.specs.Tree.{Node, NodesShow, root};
 ghost use Rattle.mapf_checker.specs.CertJudging.{IsOpened, IsHeaded, HasHeaderRefusal, HasTreeRefusal, IsBetweenItems, IsJudgedTree, IsReadTo};
@@ -25,6 +26,8 @@ pub fn judge_cert<S: Source>(
     limit: u64,
 ) -> Result<(), FromFault>
     requires { S.has_failed source.old ≡ false }
+    ensures works { OnOk result (S.has_failed source.new ≡ false) }
+    ensures came { OnOk result (ComesWithin (S.remaining source.old) (S.remaining source.new) (record { bytes = []; left = limit })) }
     ensures shown { OnOk result (IsShown problem.now claim.now) }
     ensures good { (bytes : List ℕ) → S.remaining source.old ≡ Some bytes → OnOk result (IsGoodCert problem.now claim.now bytes) }
     ensures within { (bytes : List ℕ) → S.remaining source.old ≡ Some bytes → OnOk result (length bytes ≤ limit) }
@@ -87,6 +90,8 @@ fn judge_tree<S: Source>(
 ) -> Result<(), FromFault>
     requires works { S.has_failed source.old ≡ false }
     requires headed { IsHeaded problem.now claim.now lines.old }
+    ensures works { OnOk result (S.has_failed source.new ≡ false) }
+    ensures came { OnOk result (ComesWithin (S.remaining source.old) (S.remaining source.new) lines.old.buffer) }
     ensures judged { OnOk result (IsJudgedTree problem.now claim.now (S.remaining source.old) lines.old) }
     ensures only { (nodes : List Node) → Awaits (S.remaining source.old) lines.old nodes → NodesShow problem.now claim.now (root ∷ []) nodes → IfErr result IsNoRefusal }
     ensures stops { IfErr result (Stops (S.remaining source.old) (S.remaining source.new) (S.has_failed source.new) lines.old.buffer
@@ -116,6 +121,9 @@ fn judge_next<S: Source>(
         → IfOk result (λ came. MatchBool came (IsReadTo problem.now claim.now had (S.remaining source.new) start lines.new (owed_by progress.new)) (IsJudgedTree problem.now claim.now had start)) }
     ensures only { (had : Option (List ℕ)) (start : Reading) (nodes : List Node) → IsReadTo problem.now claim.now had (S.remaining source.old) start lines.old (owed_by progress.old)
         → Awaits had start nodes → NodesShow problem.now claim.now (root ∷ []) nodes → IfErr result IsNoRefusal }
+    ensures came { (had : Option (List ℕ)) (start : Reading)
+        → IsReadTo problem.now claim.now had (S.remaining source.old) start lines.old (owed_by progress.old)
+        → OnOk result (ComesWithin had (S.remaining source.new) start.buffer) }
     ensures stops { (had : Option (List ℕ)) (start : Reading) → IsReadTo problem.now claim.now had (S.remaining source.old) start lines.old (owed_by progress.old)
         → IfErr result (Stops had (S.remaining source.new) (S.has_failed source.new) start.buffer (HasTreeRefusal problem.now claim.now had start)) }
 {

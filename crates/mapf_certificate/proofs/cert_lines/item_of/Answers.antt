@@ -36,5 +36,5 @@ returns-in_default g c =
       works = tt;
       spare = le_refl _;
       item = tt;
-      fails = begins_no_node c.args.sizes.now (g.S.Source.remaining c.args.source.now) (g.S.Source.has_failed c.args.source.now) c.args.lines.now.buffer c.args.line.now c.misfit.result c.misfit.ensures c.requires.line (first_kinds c.args.line.now c.in_default.not-Vertex c.in_default.not-Swap c.in_default.not-Leaf c.in_default.not-Clash);
+      fails = begins_no_node c.args.sizes.now (g.S.Source.remaining c.args.source.now) (g.S.Source.has_failed c.args.source.now) c.args.lines.now.buffer c.args.line.now c.misfit.result c.misfit.ensures c.requires.works c.requires.line (first_kinds c.args.line.now c.in_default.not-Vertex c.in_default.not-Swap c.in_default.not-Leaf c.in_default.not-Clash);
     }

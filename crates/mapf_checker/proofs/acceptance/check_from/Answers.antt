@@ -1,7 +1,14 @@
-use Rattle.std.proofs.Common.{◌≡◌, sym, ◌∙◌, ap, subst}
+use Rattle.std.proofs.Common.{◌≡◌, [], Result, IsErrOf, sym, ◌∙◌, ap, subst}
+use Rattle.mapf_certificate.specs.Buffered.{Buffered}
+use Rattle.mapf_certificate.specs.Window.{Pulls}
+use Rattle.mapf_checker.specs.declared.fault.FromFault.{FromFault}
+use Rattle.mapf_checker.specs.declared.fault.FromFault.TheVariants.{TooLong}
+use Rattle.mapf_checker.specs.declared.fault.Verdict.{Verdict}
 use Rattle.mapf_checker.specs.Faults.{IsNoRefusal}
+use Rattle.mapf_checker.specs.Refusals.{HasCertRefusal}
 use Rattle.mapf_checker.specs.Verdict.{IsGoodCert, claim_of}
 use Rattle.mapf_checker.proofs.ReadLemmas.{err_matched}
+use Rattle.mapf_checker.proofs.StopLemmas.{passed, pulls_if_stops}
 use Rattle.mapf_checker.proofs.VerdictLemmas.{accepted_if_good, good_if_accepted, true_text}
 use Rattle.mapf_checker.proofs.acceptance.check_from.Goals as goal
 
@@ -23,3 +30,13 @@ returns-clause-accepted g c bytes known =
 
 pub returns-clause-only : goal.returns-clause-only
 returns-clause-only g c bytes verdict known accepted = c.in_ok-verdict.ensures.only verdict (good_if_accepted c.args.problem.now c.args.plan_text.now bytes verdict accepted).0
+
+pub returns-in_err-judge_cert-clause-pulls : goal.returns-in_err-judge_cert-clause-pulls
+returns-in_err-judge_cert-clause-pulls g c =
+    let had = (g.S.Source).remaining c.args.source.now in
+    let left = (g.S.Source).remaining c.judge_cert.new.source in
+    let none : Buffered = record { bytes = []; left = c.args.limit } in
+    let fault = c.in_err-judge_cert.field-0.0 in
+    let P : Result Verdict FromFault → Type 0 = λ r. Pulls had left c.args.limit (IsErrOf r TooLong) in
+    subst P (sym (passed c.from_residual-in_err-judge_cert.result fault c.from_residual-in_err-judge_cert.ensures.1))
+    (pulls_if_stops {A = Verdict} had left ((g.S.Source).has_failed c.judge_cert.new.source) none (HasCertRefusal c.args.problem.now c.claimed_by.result had) fault c.in_err-judge_cert.ensures.stops)

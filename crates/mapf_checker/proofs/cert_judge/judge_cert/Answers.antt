@@ -1,7 +1,9 @@
-use Rattle.std.proofs.Common.{◌≡◌, [], length, refl, rules}
+use Rattle.std.proofs.Common.{◌≡◌, [], length, refl, rules, subst}
 use Rattle.mapf_model.specs.Tree.{nodes_of}
 use Rattle.mapf_certificate.specs.Buffered.{Buffered}
 use Rattle.mapf_certificate.specs.Certificates.{header_text}
+use Rattle.mapf_certificate.specs.Window.{ComesWithin}
+use Rattle.mapf_certificate.proofs.Windows.{ComesWithin-after}
 use Rattle.mapf_checker.specs.CertJudging.{IsOpened}
 use Rattle.mapf_checker.specs.Faults.{IsNoRefusal, Stops}
 use Rattle.mapf_checker.specs.Refusals.{HasCertRefusal}
@@ -82,3 +84,17 @@ returns-clause-stops g c =
     err_made c.judge_tree.result
     (λ fault. stops_after had mid left failed start.buffer headed.buffer none (header_text start.width (length problem.agents) claim) fault same takes.window (refusal_of_tree problem claim had start opened mid headed takes c.in_ok-judge_header.ensures.ahead))
     c.judge_tree.ensures.stops
+
+pub returns-clause-came : goal.returns-clause-came
+returns-clause-came g c =
+    let problem = c.args.problem.now in
+    let had = (g.S.Source).remaining c.args.source.now in
+    let mid = (g.S.Source).remaining c.judge_header.new.source in
+    let left = (g.S.Source).remaining c.judge_tree.new.source in
+    let start = c.in_ok-lines.lines in
+    let headed = c.judge_header.new.lines in
+    let none : Buffered = record { bytes = []; left = c.args.limit } in
+    let same : start.buffer ≡ none = rw c.in_ok-lines.ensures refl in
+    on_ok c.judge_tree.result
+    (λ came. subst (λ b. ComesWithin had left b) same (ComesWithin-after had mid left start.buffer headed.buffer (header_text start.width (length problem.agents) c.args.claim.now) c.in_ok-judge_header.ensures.taken.window came))
+    c.judge_tree.ensures.came

@@ -1,6 +1,8 @@
 use Rattle.std.proofs.Common.{length, sym, ◌∙◌, ap}
 use Rattle.std.proofs.lemmas.Bool.{iff_false}
 use Rattle.mapf_certificate.specs.CertReading.{HasHeader}
+use Rattle.mapf_certificate.specs.Certificates.{header_text}
+use Rattle.mapf_certificate.proofs.Windows.{Window-within}
 use Rattle.mapf_checker.specs.CertJudging.{HasHeaderRefusal}
 use Rattle.mapf_checker.specs.Faults.{of_cert, IsNoRefusal, Stops}
 use Rattle.mapf_checker.proofs.CertLemmas.{begins, stops_heading}
@@ -32,12 +34,17 @@ returns-then-agents-clause-only g c nodes awaits =
     c.if-agents.true (same.0 ∙ ap length (sym c.agents.ensures.value))
 
 pub returns-then-agents-clause-stops : goal.returns-then-agents-clause-stops
-returns-then-agents-clause-stops g c bytes known =
-    let takes = c.in_ok-agents.ensures.header c.requires.opened.fault c.requires.opened.header in (
-      c.in_ok-agents.agents,
-      c.in_ok-agents.claimed,
-      begins c.args.problem.now c.args.claim.now ((g.S.Source).remaining c.args.source.now) c.args.lines.now c.requires.opened bytes known ((g.S.Source).remaining c.header.new.source) c.header.new.self c.in_ok-agents.agents c.in_ok-agents.claimed takes,
-      λ same. c.if-agents.true (same ∙ ap length (sym c.agents.ensures.value)),
+returns-then-agents-clause-stops g c =
+    let takes = c.in_ok-agents.ensures.header c.requires.opened.fault c.requires.opened.header in
+    let start = c.args.lines.now in (
+      c.in_ok-agents.ensures.works,
+      Window-within ((g.S.Source).remaining c.args.source.now) ((g.S.Source).remaining c.header.new.source) start.buffer c.header.new.self.buffer (header_text start.width c.in_ok-agents.agents c.in_ok-agents.claimed) takes.window,
+      λ bytes known. (
+        c.in_ok-agents.agents,
+        c.in_ok-agents.claimed,
+        begins c.args.problem.now c.args.claim.now ((g.S.Source).remaining c.args.source.now) c.args.lines.now c.requires.opened bytes known ((g.S.Source).remaining c.header.new.source) c.header.new.self c.in_ok-agents.agents c.in_ok-agents.claimed takes,
+        λ same. c.if-agents.true (same ∙ ap length (sym c.agents.ensures.value)),
+      ),
     )
 
 pub returns-then-not-are_one_claim-clause-only : goal.returns-then-not-are_one_claim-clause-only
@@ -46,12 +53,17 @@ returns-then-not-are_one_claim-clause-only g c nodes awaits =
     iff_false c.are_one_claim.ensures c.if-not-are_one_claim.true same.1
 
 pub returns-then-not-are_one_claim-clause-stops : goal.returns-then-not-are_one_claim-clause-stops
-returns-then-not-are_one_claim-clause-stops g c bytes known =
-    let takes = c.in_ok-agents.ensures.header c.requires.opened.fault c.requires.opened.header in (
-      c.in_ok-agents.agents,
-      c.in_ok-agents.claimed,
-      begins c.args.problem.now c.args.claim.now ((g.S.Source).remaining c.args.source.now) c.args.lines.now c.requires.opened bytes known ((g.S.Source).remaining c.header.new.source) c.header.new.self c.in_ok-agents.agents c.in_ok-agents.claimed takes,
-      iff_false c.are_one_claim.ensures c.if-not-are_one_claim.true,
+returns-then-not-are_one_claim-clause-stops g c =
+    let takes = c.in_ok-agents.ensures.header c.requires.opened.fault c.requires.opened.header in
+    let start = c.args.lines.now in (
+      c.in_ok-agents.ensures.works,
+      Window-within ((g.S.Source).remaining c.args.source.now) ((g.S.Source).remaining c.header.new.source) start.buffer c.header.new.self.buffer (header_text start.width c.in_ok-agents.agents c.in_ok-agents.claimed) takes.window,
+      λ bytes known. (
+        c.in_ok-agents.agents,
+        c.in_ok-agents.claimed,
+        begins c.args.problem.now c.args.claim.now ((g.S.Source).remaining c.args.source.now) c.args.lines.now c.requires.opened bytes known ((g.S.Source).remaining c.header.new.source) c.header.new.self c.in_ok-agents.agents c.in_ok-agents.claimed takes,
+        iff_false c.are_one_claim.ensures c.if-not-are_one_claim.true,
+      ),
     )
 
 pub returns-clause-ahead : goal.returns-clause-ahead

@@ -20,7 +20,7 @@ returns-then-not-branch-clause-stopped g c =
     let s = g.S.Source in
     let front : c.front.result.now ≡ c.loop-n.self.bytes = c.front.ensures ∙ take_all c.len.result c.loop-n.self.bytes (omega arith) in
     let (ended, same) = c.in_ok-fill.ensures.end c.if-not-branch.true in
-    early (s.remaining c.args.source.now) (s.remaining c.loop-n.source) (s.remaining c.fill.new.source) c.args.self.now c.loop-n.self c.fill.new.self c.loop-n.invariant.window c.in_ok-fill.ensures.window ended same (omega arith) c.front.result.now front c.in_default.ensures.none
+    (c.in_ok-fill.ensures.works, early (s.remaining c.args.source.now) (s.remaining c.loop-n.source) (s.remaining c.fill.new.source) c.args.self.now c.loop-n.self c.fill.new.self c.loop-n.invariant.window c.in_ok-fill.ensures.window ended same (omega arith) c.front.result.now front c.in_default.ensures.none)
 
 pub loop-n-preserved : goal.loop-n-preserved
 loop-n-preserved g c =

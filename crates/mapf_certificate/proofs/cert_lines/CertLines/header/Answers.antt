@@ -1,9 +1,12 @@
-use Rattle.std.proofs.Common.{◌≡◌, ℕ, List, Some, None, subst, refl}
+use Rattle.std.proofs.Common.{◌≡◌, ℕ, List, Some, None, Ok, Err, IsErrOf, subst, refl, arith}
 use Rattle.mapf_model.specs.declared.item.Claim.{Claim}
 use Rattle.mapf_model.specs.Tree.{Node}
 use Rattle.mapf_certificate.specs.Reading.{Reading}
 use Rattle.mapf_certificate.specs.CertReading.{HasHeader, Awaits, AwaitsCert, TakesHeader}
-use Rattle.mapf_certificate.specs.Window.{Fails, IsNoTextFault}
+use Rattle.mapf_certificate.specs.declared.cert.LinesFault.TheVariants.{TooLong}
+use Rattle.mapf_certificate.specs.Certificates.{header_text}
+use Rattle.mapf_certificate.specs.Window.{Fails, Pulls, IsNoTextFault}
+use Rattle.mapf_certificate.proofs.Windows.{device_if_fails, no_inner_memory, pulls_if_fails, pulls_in_window}
 use Rattle.mapf_certificate.proofs.Headers.{header_joins, header_same, header_awaited}
 use Rattle.mapf_certificate.proofs.cert_lines.CertLines.header.Goals as goal
 
@@ -59,3 +62,57 @@ returns-in-Err-clause-only g c =
     let old : Reading = record { width = i.width; height = i.height; buffer = i.lines.buffer; header = i.header; fault = i.fault; is_whole = i.is_whole; owed = i.owed } in
     let P : Reading → Type 0 = λ r. (agents : ℕ) (claim : Claim) (nodes : List Node) → r.fault ≡ None → r.header ≡ None → AwaitsCert had r agents claim nodes → IsNoTextFault c.in-Err.fault in
     subst P c.self.view_is (λ agents claim nodes p q awaits. header_awaited had left failed old agents claim nodes c.in-Err.fault awaits (c.in-Err.ensures.fails i.width))
+
+pub invariant_of-self-in-Err : goal.invariant_of-self-in-Err
+invariant_of-self-in-Err g c =
+    let s = g.S.Source in
+    let i = c.self.inside in
+    let had = s.remaining c.args.source.now in
+    let left = s.remaining c.read_header-read.new.source in
+    let failed = s.has_failed c.read_header-read.new.source in
+    let is = c.self.invariant in
+    record {
+      columns = is.columns;
+      rows = is.rows;
+      agents = is.agents;
+      bounded = omega (arith, is.bounded, c.read_header-read.ensures.spare);
+      faults = no_inner_memory had left failed i.lines.buffer (HasHeader i.width) c.in-Err.fault (c.in-Err.ensures.fails i.width);
+    }
+
+pub returns-in-Ok-clause-pulls : goal.returns-in-Ok-clause-pulls
+returns-in-Ok-clause-pulls g c =
+    let s = g.S.Source in
+    let i = c.self.inside in
+    let had = s.remaining c.args.source.now in
+    let left = s.remaining c.read_header-read.new.source in
+    let h = c.in-Ok.header in
+    let P : Reading → Type 0 = λ r. r.fault ≡ None → Pulls had left r.buffer.left (IsErrOf {T = ℕ × Claim} (Ok h) TooLong) in
+    subst P c.self.view_is (λ p. pulls_in_window had left i.lines.buffer c.read_header-read.new.lines.buffer (header_text i.width h.0 h.1) h (c.in-Ok.ensures.taken i.width))
+
+pub returns-in-Err-clause-device : goal.returns-in-Err-clause-device
+returns-in-Err-clause-device g c = λ p.
+    let s = g.S.Source in
+    let i = c.self.inside in
+    let had = s.remaining c.args.source.now in
+    let left = s.remaining c.read_header-read.new.source in
+    let failed = s.has_failed c.read_header-read.new.source in
+    device_if_fails {A = ℕ × Claim} had left failed i.lines.buffer (HasHeader i.width) c.in-Err.fault (c.in-Err.ensures.fails i.width)
+
+pub returns-in-Err-clause-pulls : goal.returns-in-Err-clause-pulls
+returns-in-Err-clause-pulls g c =
+    let s = g.S.Source in
+    let i = c.self.inside in
+    let had = s.remaining c.args.source.now in
+    let left = s.remaining c.read_header-read.new.source in
+    let failed = s.has_failed c.read_header-read.new.source in
+    let P : Reading → Type 0 = λ r. r.fault ≡ None → Pulls had left r.buffer.left (IsErrOf {T = ℕ × Claim} (Err c.in-Err.fault) TooLong) in
+    subst P c.self.view_is (λ p. pulls_if_fails {A = ℕ × Claim} had left failed i.lines.buffer (HasHeader i.width) c.in-Err.fault (c.in-Err.ensures.fails i.width))
+
+pub returns-in-Err-clause-inner : goal.returns-in-Err-clause-inner
+returns-in-Err-clause-inner g c =
+    let s = g.S.Source in
+    let i = c.self.inside in
+    let had = s.remaining c.args.source.now in
+    let left = s.remaining c.read_header-read.new.source in
+    let failed = s.has_failed c.read_header-read.new.source in
+    no_inner_memory had left failed i.lines.buffer (HasHeader i.width) c.in-Err.fault (c.in-Err.ensures.fails i.width)

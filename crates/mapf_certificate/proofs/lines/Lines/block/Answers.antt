@@ -24,7 +24,7 @@ pub returns-then-not-follows_blocks-clause-fails : goal.returns-then-not-follows
 returns-then-not-follows_blocks-clause-fails g c =
     let s = g.S.Source in
     misfit_block c.args.sizes.now c.args.before.now (s.remaining c.args.source.now) (s.remaining c.next.new.source) (s.has_failed c.next.new.source) c.args.self.now.buffer c.next.new.self.buffer c.in_ok-agent.field-0 c.in-Agent.agent c.in-Agent.entries
-    c.misfit-then-not-follows_blocks.result c.misfit-then-not-follows_blocks.ensures c.in_ok-agent.ensures.line c.in_ok-agent.ensures.taken c.in-Agent.is (λ all.
+    c.misfit-then-not-follows_blocks.result c.misfit-then-not-follows_blocks.ensures c.in_ok-agent.ensures.works c.in_ok-agent.ensures.line c.in_ok-agent.ensures.taken c.in-Agent.is (λ all.
     let wrong : IsTrue c.follows_blocks.result = c.follows_blocks.ensures.1 all in
     false≢true (sym c.if-not-follows_blocks.true ∙ wrong))
 

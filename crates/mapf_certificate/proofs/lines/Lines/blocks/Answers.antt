@@ -5,7 +5,7 @@ use Rattle.mapf_certificate.specs.Certificates.{block_text, blocks_text}
 use Rattle.mapf_certificate.specs.CertReading.{MayFollow}
 use Rattle.mapf_certificate.specs.Window.{Fails}
 use Rattle.mapf_certificate.proofs.PathLaws.{pushed}
-use Rattle.mapf_certificate.proofs.Windows.{err_passed, Fails-after}
+use Rattle.mapf_certificate.proofs.Windows.{err_passed, ComesWithin-after, Fails-after, Window-within}
 use Rattle.mapf_certificate.proofs.Sequences.{goes_on, taken_more, window_more}
 use Rattle.mapf_certificate.proofs.Blocks.{BlockInRange, Rises, NextBlock, NextBlocks, blocks_apart}
 use Rattle.mapf_certificate.proofs.lines.Lines.blocks.Goals as goal
@@ -50,3 +50,11 @@ loop-taken-preserved g c =
       taken = taken_more LabelBlock (BlockInRange sizes) Rises values c.push.new.self.items value c.loop-taken.invariant.taken follows grown;
       window = window_more (block_text sizes.width) (s.remaining c.args.source.now) (s.remaining c.loop-taken.source) (s.remaining c.block.new.source) c.args.self.now.buffer c.loop-taken.self.buffer c.block.new.self.buffer values c.push.new.self.items value c.loop-taken.invariant.window c.in_ok-block.ensures.taken grown;
     }
+
+pub returns-then-is_err-clause-fails : goal.returns-then-is_err-clause-fails
+returns-then-is_err-clause-fails g c =
+    let s = g.S.Source in (
+      c.in_ok-block.ensures.works,
+      ComesWithin-after (s.remaining c.args.source.now) (s.remaining c.loop-taken.source) (s.remaining c.block.new.source) c.args.self.now.buffer c.loop-taken.self.buffer (blocks_text c.args.sizes.now.width c.loop-taken.blocks.items) c.loop-taken.invariant.window
+          (Window-within (s.remaining c.loop-taken.source) (s.remaining c.block.new.source) c.loop-taken.self.buffer c.block.new.self.buffer (block_text c.args.sizes.now.width c.in_ok-block.block) c.in_ok-block.ensures.taken),
+    )

@@ -4,7 +4,7 @@ use Rattle.mapf_certificate.proofs.EndWindows.{more_there, lacks_fails}
 use Rattle.mapf_certificate.proofs.lines.Lines.end.Goals as goal
 
 pub returns-then-not-is_empty-clause-fails : goal.returns-then-not-is_empty-clause-fails
-returns-then-not-is_empty-clause-fails g c = more_there (g.S.Source.remaining c.args.source.now) c.args.self.now.buffer (not_empty c.args.self.now.buffer.bytes c.is_empty.result c.is_empty.ensures c.if-not-is_empty.true)
+returns-then-not-is_empty-clause-fails g c = (c.requires, more_there (g.S.Source.remaining c.args.source.now) c.args.self.now.buffer (not_empty c.args.self.now.buffer.bytes c.is_empty.result c.is_empty.ensures c.if-not-is_empty.true))
 
 pub returns-in-Ok-false-clause-empty : goal.returns-in-Ok-false-clause-empty
 returns-in-Ok-false-clause-empty g c =

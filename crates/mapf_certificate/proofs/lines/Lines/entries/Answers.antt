@@ -6,7 +6,7 @@ use Rattle.mapf_certificate.specs.Certificates.{entry_text, entries_text}
 use Rattle.mapf_certificate.specs.CertReading.{MayFollow}
 use Rattle.mapf_certificate.specs.Window.{Fails}
 use Rattle.mapf_certificate.proofs.PathLaws.{pushed}
-use Rattle.mapf_certificate.proofs.Windows.{err_passed, Fails-after}
+use Rattle.mapf_certificate.proofs.Windows.{err_passed, ComesWithin-after, Fails-after, Window-within}
 use Rattle.mapf_certificate.proofs.Sequences.{goes_on, taken_more, window_more}
 use Rattle.mapf_certificate.proofs.Blocks.{InRange, NextEntry, NextEntries, entries_apart}
 use Rattle.mapf_certificate.proofs.lines.Lines.entries.Goals as goal
@@ -51,3 +51,11 @@ loop-taken-preserved g c =
       taken = taken_more Entry (InRange sizes) IsBefore values c.push.new.self.items value c.loop-taken.invariant.taken follows grown;
       window = window_more (entry_text sizes.width) (s.remaining c.args.source.now) (s.remaining c.loop-taken.source) (s.remaining c.entry.new.source) c.args.self.now.buffer c.loop-taken.self.buffer c.entry.new.self.buffer values c.push.new.self.items value c.loop-taken.invariant.window c.in_ok-entry.ensures.taken grown;
     }
+
+pub returns-then-is_err-clause-fails : goal.returns-then-is_err-clause-fails
+returns-then-is_err-clause-fails g c =
+    let s = g.S.Source in (
+      c.in_ok-entry.ensures.works,
+      ComesWithin-after (s.remaining c.args.source.now) (s.remaining c.loop-taken.source) (s.remaining c.entry.new.source) c.args.self.now.buffer c.loop-taken.self.buffer (entries_text c.args.sizes.now.width c.loop-taken.entries.items) c.loop-taken.invariant.window
+          (Window-within (s.remaining c.loop-taken.source) (s.remaining c.entry.new.source) c.loop-taken.self.buffer c.entry.new.self.buffer (entry_text c.args.sizes.now.width c.in_ok-entry.entry) c.in_ok-entry.ensures.taken),
+    )

@@ -24,6 +24,6 @@ pub returns-then-not-follows_entries-clause-fails : goal.returns-then-not-follow
 returns-then-not-follows_entries-clause-fails g c =
     let s = g.S.Source in
     misfit_entry c.args.sizes.now c.args.before.now (s.remaining c.args.source.now) (s.remaining c.next.new.source) (s.has_failed c.next.new.source) c.args.self.now.buffer c.next.new.self.buffer c.in_ok-entry.field-0 c.in-At.entry
-    c.misfit-then-not-follows_entries.result c.misfit-then-not-follows_entries.ensures c.in_ok-entry.ensures.line c.in_ok-entry.ensures.taken c.in-At.is (λ all.
+    c.misfit-then-not-follows_entries.result c.misfit-then-not-follows_entries.ensures c.in_ok-entry.ensures.works c.in_ok-entry.ensures.line c.in_ok-entry.ensures.taken c.in-At.is (λ all.
     let wrong : IsTrue c.follows_entries.result = c.follows_entries.ensures.1 all in
     false≢true (sym c.if-not-follows_entries.true ∙ wrong))

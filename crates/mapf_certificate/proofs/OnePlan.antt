@@ -1,0 +1,93 @@
+-- Plan texts are spelled apart.
+use Rattle.std.proofs.Common.{◌≡◌, ℕ, ◌<◌, ◌+◌, List, [], ◌∷◌, ◌++◌, length, All, Some, refl, sym, ap, ◌∙◌, arith, append_assoc}
+use Rattle.std.proofs.lemmas.List.Elements.{All-head, All-tail}
+use Rattle.mapf_model.specs.declared.cause.Cause.{Cause}
+use Rattle.mapf_model.specs.Printed.{IsOnGrid, IsPathInRange}
+use Rattle.mapf_certificate.specs.declared.line.LineFault.{LineFault}
+use Rattle.mapf_certificate.specs.declared.plan_text.PlanAnswer.{PlanAnswer}
+use Rattle.mapf_certificate.specs.declared.plan_text.PlanAnswer.TheVariants as texts
+use Rattle.mapf_certificate.specs.declared.plan_text.PlanTextFault.{PlanTextFault}
+use Rattle.mapf_certificate.specs.declared.plan_lines.AnswerLine.TheVariants as answers
+use Rattle.mapf_certificate.specs.declared.sizes.Sizes.{Sizes}
+use Rattle.mapf_certificate.specs.Plans.{SpellsOnePlan, IsAnswerInRange, cells_text, path_words, paths_text, ticks_of, says}
+use Rattle.mapf_certificate.specs.PlanReading.{read_pair_cell, read_path_front, line_of, rest_of}
+use Rattle.mapf_certificate.proofs.Blocks.{grid_for}
+use Rattle.mapf_certificate.proofs.Fields.{ok_pair_parts}
+use Rattle.mapf_certificate.proofs.PathLaws.{cells_past, front_read, ok_triple_parts}
+use Rattle.mapf_certificate.proofs.PathsLaws.{path_lacks}
+use Rattle.mapf_certificate.proofs.PlainLines.{same_front}
+use Rattle.mapf_certificate.proofs.PlanParts.{pair_cell_is_read}
+use Rattle.mapf_certificate.proofs.PlanTexts.{answer_moved, header_of}
+
+-- cells that are spelled alike
+cells_same : (sizes : Sizes) (xs ys : List ℕ) → All (IsOnGrid (grid_for sizes)) xs → All (IsOnGrid (grid_for sizes)) ys → cells_text sizes.width xs ≡ cells_text sizes.width ys → xs ≡ ys
+cells_same sizes [] [] p q e = refl
+cells_same sizes [] (y ∷ ys) p q e = cc
+cells_same sizes (x ∷ xs) [] p q e = cc
+cells_same sizes (x ∷ xs) (y ∷ ys) p q e =
+    let width = sizes.width in
+    let On = IsOnGrid (grid_for sizes) in
+    let first = pair_cell_is_read sizes x (cells_text width xs) (All-head On x xs p) (cells_past width xs) in
+    let second = pair_cell_is_read sizes y (cells_text width ys) (All-head On y ys q) (cells_past width ys) in
+    let (one, rest) = ok_pair_parts {E = LineFault} (Some x) (Some y) (cells_text width xs) (cells_text width ys) (sym first ∙ ap (read_pair_cell sizes) e ∙ second) in
+    let more : xs ≡ ys = cells_same sizes xs ys (All-tail On x xs p) (All-tail On y ys q) rest in
+    cc
+
+-- a path whose line is spelled alike
+path_same : (sizes : Sizes) (due : ℕ) (p q : List ℕ) → due < sizes.agents → IsPathInRange (grid_for sizes) p → IsPathInRange (grid_for sizes) q → path_words sizes.width due p ≡ path_words sizes.width due q → p ≡ q
+path_same sizes due p q less is_p is_q e =
+    let width = sizes.width in
+    let first = front_read width due p is_p.some is_p.short (omega (arith, sizes.few.1)) in
+    let second = front_read width due q is_q.some is_q.short (omega (arith, sizes.few.1)) in
+    let (agent, cost, cells) = ok_triple_parts {E = LineFault} (Some due) (Some due) (Some (ticks_of p)) (Some (ticks_of q)) (cells_text width p) (cells_text width q) (sym first ∙ ap read_path_front e ∙ second) in
+    cells_same sizes p q is_p.on_grid is_q.on_grid cells
+
+-- paths that are spelled alike
+paths_same : (sizes : Sizes) (due : ℕ) (ps qs : List (List ℕ)) (s t : List ℕ) → due + length ps ≡ sizes.agents → length ps ≡ length qs → All (IsPathInRange (grid_for sizes)) ps → All (IsPathInRange (grid_for sizes)) qs
+    → paths_text sizes.width due ps ++ s ≡ paths_text sizes.width due qs ++ t → ps ≡ qs
+paths_same sizes due [] [] s t whole many all_p all_q e = refl
+paths_same sizes due [] (q ∷ qs) s t whole many all_p all_q e = absurd (omega arith)
+paths_same sizes due (p ∷ ps) [] s t whole many all_p all_q e = absurd (omega arith)
+paths_same sizes due (p ∷ ps) (q ∷ qs) s t whole many all_p all_q e =
+    let width = sizes.width in
+    let In = IsPathInRange (grid_for sizes) in
+    let is_p = All-head In p ps all_p in
+    let is_q = All-head In q qs all_q in
+    let less : due < sizes.agents = omega arith in
+    let (words, rest) = same_front (path_words width due p) (path_words width due q) (paths_text width (due + 1) ps ++ s) (paths_text width (due + 1) qs ++ t) (path_lacks sizes due p less is_p) (path_lacks sizes due q less is_q)
+    (sym (cut p ps s) ∙ e ∙ cut q qs t) in
+    let head : p ≡ q = path_same sizes due p q less is_p is_q words in
+    let tail : ps ≡ qs = paths_same sizes (due + 1) ps qs s t (omega arith) (omega arith) (All-tail In p ps all_p) (All-tail In q qs all_q) rest in
+    cc
+  where
+    cut : (x : List ℕ) (xs : List (List ℕ)) (u : List ℕ) → paths_text sizes.width due (x ∷ xs) ++ u ≡ path_words sizes.width due x ++ (10 ∷ (paths_text sizes.width (due + 1) xs ++ u))
+    cut x xs u =
+        append_assoc (path_words sizes.width due x ++ (10 ∷ [])) (paths_text sizes.width (due + 1) xs) u ∙ append_assoc (path_words sizes.width due x) (10 ∷ []) (paths_text sizes.width (due + 1) xs ++ u)
+
+causes_same : (a b : Cause) → answers.Limit a ≡ answers.Limit b → a ≡ b
+causes_same a b e = cc
+
+-- answers whose lines are spelled alike
+answers_same : (sizes : Sizes) (a b : PlanAnswer) → IsAnswerInRange (grid_for sizes) sizes.agents a → IsAnswerInRange (grid_for sizes) sizes.agents b → line_of a ≡ line_of b → rest_of sizes.width a ≡ rest_of sizes.width b → a ≡ b
+answers_same sizes (texts.Found p) (texts.Found q) is_a is_b line rest = ap texts.Found (paths_same sizes 0 p q _ _ (omega (arith, is_a.0)) (omega (arith, is_a.0, is_b.0)) is_a.1 is_b.1 rest)
+answers_same sizes (texts.Found p) texts.Impossible is_a is_b line rest = cc
+answers_same sizes (texts.Found p) (texts.Limit cause) is_a is_b line rest = cc
+answers_same sizes texts.Impossible (texts.Found q) is_a is_b line rest = cc
+answers_same sizes texts.Impossible texts.Impossible is_a is_b line rest = refl
+answers_same sizes texts.Impossible (texts.Limit cause) is_a is_b line rest = cc
+answers_same sizes (texts.Limit cause) (texts.Found q) is_a is_b line rest = cc
+answers_same sizes (texts.Limit cause) texts.Impossible is_a is_b line rest = cc
+answers_same sizes (texts.Limit cause) (texts.Limit other) is_a is_b line rest = ap texts.Limit (causes_same cause other line)
+
+-- no bytes spell two plan texts
+pub one_plan : SpellsOnePlan
+one_plan grid bytes agents agents' said said' is p q =
+    let (narrow, narrow', low, low', free) = is in
+    let sizes : Sizes = record { width = grid.width; height = grid.height; agents = p.text.agents; narrow = (narrow, narrow'); low = (low, low'); few = p.in_range.0 } in
+    let first = header_of grid p.text bytes p.in_range p.spelled in
+    let second = header_of grid q.text bytes q.in_range q.spelled in
+    let (counts, line, rest) = ok_triple_parts {E = PlanTextFault} p.text.agents q.text.agents (line_of p.text.answer) (line_of q.text.answer) (rest_of grid.width p.text.answer) (rest_of grid.width q.text.answer) (sym first ∙ second) in
+    let is_p = answer_moved grid (grid_for sizes) p.text.agents sizes.agents p.text.answer refl refl refl p.in_range.1 in
+    let is_q = answer_moved grid (grid_for sizes) q.text.agents sizes.agents q.text.answer refl refl (sym counts) q.in_range.1 in
+    let same = answers_same sizes p.text.answer q.text.answer is_p is_q line rest in
+    (sym p.for_agents ∙ counts ∙ q.for_agents, sym p.same ∙ ap says same ∙ q.same)
