@@ -1,31 +1,21 @@
-ghost use Rattle.std.specs.Prelude.{◌≡◌, ◌≤◌, false, IfOk};
-ghost use Rattle.mapf_app.specs.Unreadable.{IsUnreadable};
+ghost use Rattle.std.specs.Prelude.{◌≡◌, ◌≤◌, false};
 
+use crate::outputs::{Outputs, Place, Unsolved, identity_of, store};
+use crate::{outputs, words};
 use mapf_app::{
     Fault, Input, Kind, Output, Verdict, run_check, run_demo, run_play, run_solve, tell_check,
     tell_run, tell_solve,
 };
-use mapf_model::{ReadSource, Sink, Source, WriteSink};
+use mapf_model::{ReadSource, Sink, WriteSink};
 use std::fs;
 use std::fs::File;
 use std::process::ExitCode;
 use std::rt::Files;
 
-fn open(rt: &HostRuntime, path: &str, input: Input) -> Result<ReadSource<File>, Fault>
-    ensures { IfOk result (λ source. ⟦<ReadSource<File> as Source>⟧.has_failed source ≡ false) }
-{
+fn open(rt: &HostRuntime, path: &str, input: Input) -> Result<File, Fault> {
     match fs::open(rt, path) {
-        Ok(file) => Ok(ReadSource::of(file)),
+        Ok(file) => Ok(file),
         Err(_) => Err(Fault::F4(input)),
-    }
-}
-
-fn create(rt: &HostRuntime, path: &str, output: Output) -> Result<WriteSink<File>, Fault>
-    ensures { IfOk result (λ sink. ⟦<WriteSink<File> as Sink>⟧.has_failed sink ≡ false) }
-{
-    match fs::create(rt, path) {
-        Ok(file) => Ok(WriteSink::of(file)),
-        Err(_) => Err(Fault::F5(output)),
     }
 }
 
@@ -38,41 +28,79 @@ pub struct Named<'a> {
     pub plan: &'a str,
 }
 
-fn solved(rt: &HostRuntime, named: &Named<'_>, limit: u32, cert: &str) -> Result<Kind, Fault>
+// An input that is open, as a file that the words name.
+fn placed<'a>(argument: &'a str, path: &'a str, file: &File) -> Place<'a> {
+    Place {
+        argument,
+        path,
+        file: identity_of(file),
+    }
+}
+
+// Solves the problem of two open files, and has both texts stored.
+fn written(
+    rt: &HostRuntime,
+    map: &File,
+    scen: &File,
+    k: u32,
+    limit: u32,
+    outputs: &Outputs,
+) -> Result<Kind, Fault>
+    requires some { 1 ≤ k }
+    requires few { k ≤ 200 }
+    requires limit { limit ≤ 100000 }
+{
+    let kind = run_solve(
+        rt.alloc(),
+        &mut ReadSource::of(map),
+        &mut ReadSource::of(scen),
+        k,
+        limit,
+        &mut WriteSink::of(&outputs.plan),
+        &mut WriteSink::of(&outputs.cert),
+    )?;
+    store(&outputs.plan, Output::Plan)?;
+    store(&outputs.cert, Output::Cert)?;
+    Ok(kind)
+}
+
+fn solved<'a>(
+    rt: &HostRuntime,
+    named: &Named<'a>,
+    limit: u32,
+    cert: &'a str,
+) -> Result<Kind, Unsolved<'a>>
     requires some { 1 ≤ named.now.k }
     requires few { named.now.k ≤ 200 }
     requires limit { limit ≤ 100000 }
 {
-    let mut map = open(rt, named.map, Input::Map)?;
-    let mut scen = open(rt, named.scen, Input::Scen)?;
-    let mut plan = create(rt, named.plan, Output::Plan)?;
-    let mut cert = create(rt, cert, Output::Cert)?;
-    run_solve(
-        rt.alloc(),
-        &mut map,
-        &mut scen,
-        named.k,
-        limit,
-        &mut plan,
-        &mut cert,
-    )
+    let map = open(rt, named.map, Input::Map)?;
+    let scen = open(rt, named.scen, Input::Scen)?;
+    let outputs = outputs::open(
+        rt,
+        placed("MAP", named.map, &map),
+        placed("SCEN", named.scen, &scen),
+        named.plan,
+        cert,
+    )?;
+    Ok(written(rt, &map, &scen, named.k, limit, &outputs)?)
 }
 
 fn checked(rt: &HostRuntime, named: &Named<'_>, cert: &str) -> Result<Verdict, Fault>
     requires some { 1 ≤ named.now.k }
     requires few { named.now.k ≤ 200 }
 {
-    let mut map = open(rt, named.map, Input::Map)?;
-    let mut scen = open(rt, named.scen, Input::Scen)?;
-    let mut plan = open(rt, named.plan, Input::Plan)?;
-    let mut cert = open(rt, cert, Input::Cert)?;
+    let map = open(rt, named.map, Input::Map)?;
+    let scen = open(rt, named.scen, Input::Scen)?;
+    let plan = open(rt, named.plan, Input::Plan)?;
+    let cert = open(rt, cert, Input::Cert)?;
     run_check(
         rt.alloc(),
-        &mut map,
-        &mut scen,
+        &mut ReadSource::of(map),
+        &mut ReadSource::of(scen),
         named.k,
-        &mut plan,
-        &mut cert,
+        &mut ReadSource::of(plan),
+        &mut ReadSource::of(cert),
     )
 }
 
@@ -81,10 +109,17 @@ fn played<K: Sink>(rt: &HostRuntime, named: &Named<'_>, out: &mut K) -> Result<(
     requires some { 1 ≤ named.now.k }
     requires few { named.now.k ≤ 200 }
 {
-    let mut map = open(rt, named.map, Input::Map)?;
-    let mut scen = open(rt, named.scen, Input::Scen)?;
-    let mut plan = open(rt, named.plan, Input::Plan)?;
-    run_play(rt.alloc(), &mut map, &mut scen, named.k, &mut plan, out)
+    let map = open(rt, named.map, Input::Map)?;
+    let scen = open(rt, named.scen, Input::Scen)?;
+    let plan = open(rt, named.plan, Input::Plan)?;
+    run_play(
+        rt.alloc(),
+        &mut ReadSource::of(map),
+        &mut ReadSource::of(scen),
+        named.k,
+        &mut ReadSource::of(plan),
+        out,
+    )
 }
 
 /// Solves the problem of two files and writes the plan text and the certificate to two others.
@@ -93,7 +128,11 @@ pub fn solve(rt: &HostRuntime, named: &Named<'_>, limit: u32, cert: &str) -> Exi
     requires few { named.now.k ≤ 200 }
     requires limit { limit ≤ 100000 }
 {
-    let result = solved(rt, named, limit, cert);
+    let result = match solved(rt, named, limit, cert) {
+        Ok(kind) => Ok(kind),
+        Err(Unsolved::Fault(fault)) => Err(fault),
+        Err(Unsolved::OneFile(one)) => return words::one_file(rt, &one),
+    };
     let mut out = WriteSink::of(rt.stdout());
     let mut err = WriteSink::of(rt.stderr());
     ExitCode::from(tell_solve(&result, &mut out, &mut err))

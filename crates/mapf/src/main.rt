@@ -5,6 +5,7 @@ ghost use Rattle.std.specs.Prelude.{◌≡◌};
 ghost use Rattle.mapf_words.specs.Jobs.{IsInRange};
 
 mod files;
+mod outputs;
 mod words;
 
 use files::Named;

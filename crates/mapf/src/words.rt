@@ -1,3 +1,4 @@
+use crate::outputs::OneFile;
 use mapf_app::{Fault, tell_run};
 use mapf_model::{WriteSink, write_all};
 use std::process::ExitCode;
@@ -27,6 +28,19 @@ pub fn refused(rt: &HostRuntime, text: &str) -> ExitCode {
     let mut err = WriteSink::of(rt.stderr());
     let _ = write_all(&mut err, text.as_bytes());
     ExitCode::from(2)
+}
+
+/// Tells of two names of one file, of which one is an output.
+pub fn one_file(rt: &HostRuntime, one: &OneFile<'_>) -> ExitCode {
+    let (first, second) = (one.first, one.second);
+    let text = format!(in rt.alloc();
+        "error: {} and {} are one file: {:?} and {:?}\n",
+        first.argument, second.argument, first.path, second.path
+    );
+    match text {
+        Ok(text) => refused(rt, text.as_str()),
+        Err(_) => no_memory(rt),
+    }
 }
 
 /// Tells why the words couldn't be had: there is no memory, or one is no text.

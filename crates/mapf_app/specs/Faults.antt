@@ -1,5 +1,5 @@
 -- What each fault of a run says of its inputs.
-use Rattle.std.specs.Prelude.{◌≡◌, ℕ, List, Option, ⊤}
+use Rattle.std.specs.Prelude.{◌≡◌, ◌≢◌, ℕ, List, Option, ⊤}
 use Rattle.mapf_model.specs.Grid.{GridMap}
 use Rattle.mapf_model.specs.Plan.{Instance}
 use Rattle.mapf_app.specs.Checked.{IsRefusalOf}
@@ -8,14 +8,16 @@ use Rattle.mapf_app.specs.Problems.{IsMapDefect, IsAgentsDefect, IsScenarioDefec
 use Rattle.mapf_app.specs.declared.fault.Fault.{Fault}
 use Rattle.mapf_app.specs.declared.fault.Fault.TheVariants.{F1, F2, F3, F4, F5, F6, Refused}
 use Rattle.mapf_app.specs.declared.fault.PlayFault.{PlayFault}
-use Rattle.mapf_app.specs.declared.fault.PlayFault.TheVariants.{Text}
+use Rattle.mapf_app.specs.declared.fault.PlayFault.TheVariants.{Text, NoPlan, OtherCount, Invalid}
 use Rattle.mapf_app.specs.declared.fault.Input.{Input}
 use Rattle.mapf_app.specs.declared.fault.Input.TheVariants.{Map, Scen, Plan, Cert}
 use Rattle.mapf_app.specs.declared.fault.Output.{Output}
 use Rattle.mapf_app.specs.declared.fault.Output.TheVariants.{Plan as PlanText, Cert as CertText, Out}
 use Rattle.mapf_certificate.specs.declared.plan_text.PlanTextFault.{PlanTextFault}
 use Rattle.mapf_certificate.specs.declared.plan_text.PlanTextFault.TheVariants as plan_faults
+use Rattle.mapf_checker.specs.Faults.{HasNoTextMemory}
 use Rattle.mapf_checker.specs.declared.fault.CheckFault.{CheckFault}
+use Rattle.mapf_checker.specs.declared.fault.CheckFault.TheVariants as refusals
 use Rattle.mapf_text.specs.declared.map_fault.MapFault.{MapFault}
 use Rattle.mapf_text.specs.declared.map_fault.MapFault.TheVariants as map_faults
 use Rattle.mapf_text.specs.declared.scenario_fault.ScenFault.{ScenFault}
@@ -147,6 +149,23 @@ IsOfInput (F4 input) = ⊤
 IsOfInput (F5 output) = ⊥
 IsOfInput F6 = ⊤
 IsOfInput (Refused refusal) = ⊥
+
+-- want of memory is no fault of a plan text
+abbrev pub HasNoPlayMemory : PlayFault → Type 0
+HasNoPlayMemory (Text fault) = fault ≢ plan_faults.Memory
+HasNoPlayMemory NoPlan = ⊤
+HasNoPlayMemory OtherCount = ⊤
+HasNoPlayMemory (Invalid fault) = ⊤
+
+-- want of memory is told by F6 alone, and inside no other fault
+abbrev pub HasNoInnerMemory : Fault → Type 0
+HasNoInnerMemory (F1 fault) = fault ≢ map_faults.Memory
+HasNoInnerMemory (F2 fault) = fault ≢ scenario_faults.Memory
+HasNoInnerMemory (F3 fault) = HasNoPlayMemory fault
+HasNoInnerMemory (F4 input) = ⊤
+HasNoInnerMemory (F5 output) = ⊤
+HasNoInnerMemory F6 = ⊤
+HasNoInnerMemory (Refused refusal) = (refusal ≢ refusals.Memory) × HasNoTextMemory refusal
 
 -- the fault that a reader's fault becomes
 abbrev pub fault_of_map : MapFault → Fault

@@ -1,5 +1,6 @@
 -- What a run that plays a plan writes, and why a plan text can't be played.
 use Rattle.std.specs.Prelude.{◌≡◌, ◌≢◌, ⊤, ℕ, List, Option, Some, IfSome, IsSome, length}
+use Rattle.std.specs.Io.KnownBytes.{Appends}
 use Rattle.mapf_app.specs.Problems.{SpellsProblem}
 use Rattle.mapf_app.specs.declared.fault.PlayFault.{PlayFault}
 use Rattle.mapf_app.specs.declared.fault.PlayFault.TheVariants.{Text, NoPlan, OtherCount, Invalid}
@@ -24,16 +25,18 @@ pub record PlaysTruly (map scen plan : Option (List ℕ)) (count : ℕ) (text : 
   pub valid : IsValid problem paths
   pub played : IsPlayText problem paths text
 
--- all inputs are told, and the plan text spells a valid plan for the problem that the map and the scenario spell
-pub record IsDuePlay (map scen plan : Option (List ℕ)) (count : ℕ) : Type 0 where
+-- all inputs are told, the map and the scenario spell the problem, and the plan text spells the valid plan for it
+pub record IsDuePlay (map scen plan : Option (List ℕ)) (count : ℕ) (problem : Instance) (paths : List (List ℕ)) : Type 0 where
   pub map_told : IsSome map
   pub scen_told : IsSome scen
-  pub problem : Instance
   pub read : SpellsProblem map scen count problem
   pub plan_text : List ℕ
   pub plan_told : plan ≡ Some plan_text
-  pub paths : List (List ℕ)
   pub spelled : SpellsValidPlan problem plan_text paths
+
+-- a text that shows the plan, tick by tick, was written
+abbrev pub ShowsPlan : Instance → List (List ℕ) → Option (List ℕ) → Option (List ℕ) → Type 0
+ShowsPlan problem paths old new = (text : List ℕ) × IsPlayText problem paths text × Appends old new text
 
 -- a plan text says something else than a plan
 abbrev pub SaysNoPlan : PlanSays → Type 0

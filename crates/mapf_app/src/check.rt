@@ -1,14 +1,16 @@
-ghost use Rattle.std.specs.Prelude.{◌≡◌, ◌≤◌, false, IfOk, IfErr, OnOk, IsErrOf, IsSome, MatchResult};
+ghost use Rattle.std.specs.Prelude.{◌≡◌, ◌≤◌, false, true, IfOk, IfErr, OnOk, IsErrOf, IsSome, MatchResult};
 ghost use Rattle.mapf_app.specs.Checked.{HasGoodPlan};
-ghost use Rattle.mapf_app.specs.Faults.{IsChecking, IsOfInput, IsOfMap, IsOfProblem};
+ghost use Rattle.mapf_app.specs.Faults.{HasNoInnerMemory, IsChecking, IsOfInput, IsOfMap, IsOfProblem};
 ghost use Rattle.mapf_app.specs.Headline.{JudgesTruly, IsDueVerdict};
+ghost use Rattle.mapf_app.specs.Limits.{cert_bytes, text_bytes};
+ghost use Rattle.mapf_app.specs.Order.{HasReadGrid, HasReadProblem, IsReadWhole};
 ghost use Rattle.mapf_app.specs.Problems.{SpellsProblem};
 ghost use Rattle.mapf_app.specs.Unreadable.{IsUnreadable, IsWithin};
 ghost use Rattle.mapf_checker.specs.declared.fault.Verdict.{Verdict};
 ghost use Rattle.mapf_model.specs.Plan.{Instance};
 
 use crate::fault::{Fault, Input};
-use crate::input::{CERT_LIMIT, TEXT_LIMIT, read_problem, read_text};
+use crate::input::{CERT_LIMIT, read_problem, read_text};
 use mapf_checker::{FromFault, Verdict, check_from};
 use mapf_model::Source;
 use std::alloc::Global;
@@ -36,23 +38,36 @@ pub fn run_check<M: Source, S: Source, P: Source, C: Source>(
     ensures accepted { (verdict : Verdict) → IsDueVerdict (M.remaining map.old) (S.remaining scen.old) (P.remaining plan.old) (C.remaining cert.old) k verdict →
         MatchResult result (λ given. given ≡ verdict) IsOfInput }
     // Inputs of more bytes than the limit aren't read.
-    ensures within { OnOk result (IsWithin (M.remaining map.old) TEXT_LIMIT × IsWithin (S.remaining scen.old) TEXT_LIMIT
-        × IsWithin (P.remaining plan.old) TEXT_LIMIT × IsWithin (C.remaining cert.old) CERT_LIMIT) }
+    ensures within { OnOk result (IsWithin (M.remaining map.old) text_bytes × IsWithin (S.remaining scen.old) text_bytes
+        × IsWithin (P.remaining plan.old) text_bytes × IsWithin (C.remaining cert.old) cert_bytes) }
     // A fault stands where it says.
     ensures fault { IfErr result (IsChecking (M.remaining map.old) (S.remaining scen.old) (P.remaining plan.old) (C.remaining cert.old) k) }
+    ensures inner { IfErr result HasNoInnerMemory }
+    // A source's fault is told only where it has failed or gave too much, and wherever it has failed.
     ensures map { IsErrOf result (Fault.F4 Input.Map) →
-        IsUnreadable (M.has_failed map.new) (M.remaining map.old) (M.remaining map.new) TEXT_LIMIT }
+        IsUnreadable (M.has_failed map.new) (M.remaining map.old) (M.remaining map.new) text_bytes }
+    ensures map_failed { M.has_failed map.new ≡ true → IsErrOf result (Fault.F4 Input.Map) }
     ensures scen { IsErrOf result (Fault.F4 Input.Scen) →
-        IsUnreadable (S.has_failed scen.new) (S.remaining scen.old) (S.remaining scen.new) TEXT_LIMIT }
+        IsUnreadable (S.has_failed scen.new) (S.remaining scen.old) (S.remaining scen.new) text_bytes }
+    ensures scen_failed { S.has_failed scen.new ≡ true → IsErrOf result (Fault.F4 Input.Scen) }
     ensures plan { IsErrOf result (Fault.F4 Input.Plan) →
-        IsUnreadable (P.has_failed plan.new) (P.remaining plan.old) (P.remaining plan.new) TEXT_LIMIT }
+        IsUnreadable (P.has_failed plan.new) (P.remaining plan.old) (P.remaining plan.new) text_bytes }
+    ensures plan_failed { P.has_failed plan.new ≡ true → IsErrOf result (Fault.F4 Input.Plan) }
     ensures cert { IsErrOf result (Fault.F4 Input.Cert) →
-        IsUnreadable (C.has_failed cert.new) (C.remaining cert.old) (C.remaining cert.new) CERT_LIMIT }
-    // Each input is pulled only after those before it were read, the certificate only after the plan text was found good.
+        IsUnreadable (C.has_failed cert.new) (C.remaining cert.old) (C.remaining cert.new) cert_bytes }
+    ensures cert_failed { C.has_failed cert.new ≡ true → IsErrOf result (Fault.F4 Input.Cert) }
+    // Each input is pulled only after those before it were read whole and spelled what they must, the certificate only
+    // after the plan text was found good.
     ensures scen_unpulled { IfErr result (λ fault. IsOfMap fault → scen.new ≡ scen.old) }
+    ensures scen_order { (HasReadGrid (M.has_failed map.new) (M.remaining map.old) (M.remaining map.new) → ⊥) →
+        scen.new ≡ scen.old }
     ensures plan_unpulled { IfErr result (λ fault. IsOfProblem fault → plan.new ≡ plan.old) }
-    ensures unpulled { (HasGoodPlan (M.remaining map.old) (S.remaining scen.old) (P.remaining plan.old) k → ⊥) →
-        cert.new ≡ cert.old }
+    ensures plan_order { (HasReadProblem (M.has_failed map.new) (M.remaining map.old) (M.remaining map.new)
+        (S.has_failed scen.new) (S.remaining scen.old) (S.remaining scen.new) k → ⊥) → plan.new ≡ plan.old }
+    ensures unpulled { (HasReadProblem (M.has_failed map.new) (M.remaining map.old) (M.remaining map.new)
+        (S.has_failed scen.new) (S.remaining scen.old) (S.remaining scen.new) k
+        × IsReadWhole (P.has_failed plan.new) (P.remaining plan.old) (P.remaining plan.new)
+        × HasGoodPlan (M.remaining map.old) (S.remaining scen.old) (P.remaining plan.old) k → ⊥) → cert.new ≡ cert.old }
 {
     let problem = read_problem(alloc, map, scen, k)?;
     let plan_text = read_text(alloc, plan, Input::Plan)?;

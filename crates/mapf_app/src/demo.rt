@@ -1,7 +1,7 @@
-ghost use Rattle.std.specs.Prelude.{◌≡◌, ◌++◌, ℕ, List, false, true, Some, IfOk, IfErr, OnOk, IsErrOf};
+ghost use Rattle.std.specs.Prelude.{◌≡◌, ◌⊎◌, ◌++◌, ℕ, List, false, true, Some, IfOk, IfErr, OnOk, IsErrOf};
 ghost use Rattle.std.specs.Result.{is_err};
 ghost use Rattle.std.specs.Io.KnownBytes.{Appends};
-ghost use Rattle.mapf_app.specs.Faults.{IsBeforeWriting};
+ghost use Rattle.mapf_app.specs.Faults.{HasNoInnerMemory, IsBeforeWriting};
 ghost use Rattle.mapf_app.specs.Headline.{JudgesTruly};
 ghost use Rattle.mapf_app.specs.Told.{verdict_line};
 ghost use Rattle.mapf_checker.specs.declared.fault.Verdict.{Verdict};
@@ -36,8 +36,11 @@ pub fn run_demo<K: Sink>(alloc: Global, sink: &mut K) -> Result<(), Fault>
     ensures text { OnOk result ((plan_text : List ℕ) × (cert_text : List ℕ) × (verdict : Verdict)
         × JudgesTruly (Some MAP.now) (Some SCEN.now) (Some plan_text) (Some cert_text) AGENTS verdict
         × Appends (K.contents sink.old) (K.contents sink.new) (plan_text ++ (cert_text ++ verdict_line verdict))) }
+    ensures inner { IfErr result HasNoInnerMemory }
+    // The fault of the sink is told only where it has failed, and wherever it has; any other fault leaves it as it was.
     ensures sink { IsErrOf result (Fault.F5 Output.Out) → K.has_failed sink.new ≡ true }
-    ensures unwritten { IfErr result (λ fault. IsBeforeWriting fault → sink.new ≡ sink.old) }
+    ensures sink_failed { K.has_failed sink.new ≡ true → IsErrOf result (Fault.F5 Output.Out) }
+    ensures unwritten { IfErr result (λ fault. (fault ≡ Fault.F5 Output.Out) ⊎ (sink.new ≡ sink.old)) }
 {
     let mut plan = sink_with_room(alloc)?;
     let mut cert = sink_with_room(alloc)?;
@@ -65,6 +68,7 @@ fn sink_with_room(alloc: Global) -> Result<BytesSink, Fault>
 fn checked(alloc: Global, plan: &[u8], cert: &[u8]) -> Result<Verdict, Fault>
     ensures verdict { IfOk result (JudgesTruly (Some MAP.now) (Some SCEN.now) (Some plan.now) (Some cert.now) AGENTS) }
     ensures fault { IfErr result IsBeforeWriting }
+    ensures inner { IfErr result HasNoInnerMemory }
 {
     let mut map = BytesSource::of(MAP);
     let mut scen = BytesSource::of(SCEN);

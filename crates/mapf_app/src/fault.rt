@@ -34,7 +34,7 @@ pub enum PlayFault {
     Invalid(PlanFault),
 }
 
-/// Why a run has no answer.
+/// Why a run has no answer. Want of memory is `F6`, and inside no other fault.
 #[derive(Clone, Copy, Debug, PartialEq, Eq, Error)]
 pub enum Fault {
     /// The map's bytes have the defect.

@@ -1,8 +1,10 @@
-ghost use Rattle.std.specs.Prelude.{◌≡◌, ◌≤◌, ◌⊎◌, false, Ok, IfOk, IfErr, OnOk, IfSome, IsSome, IsErrOf};
+ghost use Rattle.std.specs.Prelude.{◌≡◌, ◌≤◌, ◌⊎◌, false, true, Ok, IfOk, IfErr, OnOk, IfSome, IsSome, IsErrOf};
 ghost use Rattle.std.specs.Result.{IsErrAnd};
-ghost use Rattle.mapf_app.specs.Faults.{IsOfInput, IsOfMap, IsReadingMap, IsReadingAgents, IsReading, fault_of_map, fault_of_scenario};
+ghost use Rattle.mapf_app.specs.Faults.{HasNoInnerMemory, IsOfInput, IsOfMap, IsReadingMap, IsReadingAgents, IsReading, fault_of_map, fault_of_scenario};
+ghost use Rattle.mapf_app.specs.Limits.{text_bytes};
+ghost use Rattle.mapf_app.specs.Order.{HasReadGrid, HasReadProblem, IsReadWhole};
 ghost use Rattle.mapf_app.specs.Problems.{IsPosed, SpellsGrid, SpellsAgents, SpellsProblem};
-ghost use Rattle.mapf_app.specs.Unreadable.{IsUnreadable, IsWithin};
+ghost use Rattle.mapf_app.specs.Unreadable.{IsUnreadable};
 ghost use Rattle.mapf_model.specs.Grid.{GridMap};
 ghost use Rattle.mapf_model.specs.Plan.{Instance};
 
@@ -21,10 +23,11 @@ pub const CERT_LIMIT: u64 = 1_099_511_627_776;
 pub fn read_text<S: Source>(alloc: Global, source: &mut S, input: Input) -> Result<Vec<u8>, Fault>
     requires { S.has_failed source.old ≡ false }
     ensures whole { IfOk result (λ text. IfSome (S.remaining source.old) (λ bytes. text.items ≡ bytes)) }
-    ensures within { OnOk result (IsWithin (S.remaining source.old) TEXT_LIMIT) }
+    ensures read { OnOk result (IsReadWhole (S.has_failed source.new) (S.remaining source.old) (S.remaining source.new)) }
     ensures fault { IfErr result (λ fault. (fault ≡ Fault.F4 input) ⊎ (fault ≡ Fault.F6)) }
+    ensures failed { S.has_failed source.new ≡ true → IsErrOf result (Fault.F4 input) }
     ensures unreadable { IsErrOf result (Fault.F4 input) →
-        IsUnreadable (S.has_failed source.new) (S.remaining source.old) (S.remaining source.new) TEXT_LIMIT }
+        IsUnreadable (S.has_failed source.new) (S.remaining source.old) (S.remaining source.new) text_bytes }
 {
     match read_all(alloc, source, TEXT_LIMIT) {
         Ok(text) => Ok(text),
@@ -57,12 +60,13 @@ fn fault_of_scenario(fault: ScenFault) -> Fault
 fn read_grid<M: Source>(alloc: Global, map: &mut M) -> Result<Grid, Fault>
     requires { M.has_failed map.old ≡ false }
     ensures found { IfOk result (SpellsGrid (M.remaining map.old)) }
-    ensures within { OnOk result (IsWithin (M.remaining map.old) TEXT_LIMIT) }
+    ensures read { OnOk result (HasReadGrid (M.has_failed map.new) (M.remaining map.old) (M.remaining map.new)) }
     ensures only { (grid : GridMap) → IsSome (M.remaining map.old) → SpellsGrid (M.remaining map.old) grid →
         (result ≡ Ok grid) ⊎ IsErrAnd result IsOfInput }
     ensures fault { IfErr result (IsReadingMap (M.remaining map.old)) }
+    ensures failed { M.has_failed map.new ≡ true → IsErrOf result (Fault.F4 Input.Map) }
     ensures unreadable { IsErrOf result (Fault.F4 Input.Map) →
-        IsUnreadable (M.has_failed map.new) (M.remaining map.old) (M.remaining map.new) TEXT_LIMIT }
+        IsUnreadable (M.has_failed map.new) (M.remaining map.old) (M.remaining map.new) text_bytes }
 {
     let text = read_text(alloc, map, Input::Map)?;
     match read_map(alloc, text.as_slice()) {
@@ -78,13 +82,14 @@ fn read_agents<S: Source>(alloc: Global, scen: &mut S, grid: Grid, k: u32) -> Re
     requires few { k ≤ 200 }
     ensures found { IfOk result (SpellsAgents (S.remaining scen.old) grid k) }
     ensures posed { IfOk result (IsPosed k) }
-    ensures within { OnOk result (IsWithin (S.remaining scen.old) TEXT_LIMIT) }
+    ensures read { OnOk result (IsReadWhole (S.has_failed scen.new) (S.remaining scen.old) (S.remaining scen.new)) }
     ensures on_grid { IfOk result (λ problem. problem.grid ≡ grid) }
     ensures only { (problem : Instance) → IsSome (S.remaining scen.old) → SpellsAgents (S.remaining scen.old) grid k problem →
         (result ≡ Ok problem) ⊎ IsErrAnd result IsOfInput }
     ensures fault { IfErr result (IsReadingAgents (S.remaining scen.old) grid k) }
+    ensures failed { S.has_failed scen.new ≡ true → IsErrOf result (Fault.F4 Input.Scen) }
     ensures unreadable { IsErrOf result (Fault.F4 Input.Scen) →
-        IsUnreadable (S.has_failed scen.new) (S.remaining scen.old) (S.remaining scen.new) TEXT_LIMIT }
+        IsUnreadable (S.has_failed scen.new) (S.remaining scen.old) (S.remaining scen.new) text_bytes }
 {
     let text = read_text(alloc, scen, Input::Scen)?;
     match read_scen(alloc, text.as_slice(), grid, k) {
@@ -113,14 +118,21 @@ pub fn read_problem<M: Source, S: Source>(
         (result ≡ Ok problem) ⊎ IsErrAnd result IsOfInput }
     // A defect stands where the fault says.
     ensures fault { IfErr result (IsReading (M.remaining map.old) (S.remaining scen.old) k) }
+    ensures inner { IfErr result HasNoInnerMemory }
+    // A source's fault is told where it has failed or gave too much, and wherever it has failed.
     ensures map { IsErrOf result (Fault.F4 Input.Map) →
-        IsUnreadable (M.has_failed map.new) (M.remaining map.old) (M.remaining map.new) TEXT_LIMIT }
+        IsUnreadable (M.has_failed map.new) (M.remaining map.old) (M.remaining map.new) text_bytes }
+    ensures map_failed { M.has_failed map.new ≡ true → IsErrOf result (Fault.F4 Input.Map) }
     ensures scen { IsErrOf result (Fault.F4 Input.Scen) →
-        IsUnreadable (S.has_failed scen.new) (S.remaining scen.old) (S.remaining scen.new) TEXT_LIMIT }
-    // What has more bytes than the limit isn't read.
-    ensures within { OnOk result (IsWithin (M.remaining map.old) TEXT_LIMIT × IsWithin (S.remaining scen.old) TEXT_LIMIT) }
-    // The scenario is pulled only after the map was read.
+        IsUnreadable (S.has_failed scen.new) (S.remaining scen.old) (S.remaining scen.new) text_bytes }
+    ensures scen_failed { S.has_failed scen.new ≡ true → IsErrOf result (Fault.F4 Input.Scen) }
+    // Both are read whole, and neither has more bytes than the limit.
+    ensures whole { OnOk result (HasReadProblem (M.has_failed map.new) (M.remaining map.old) (M.remaining map.new)
+        (S.has_failed scen.new) (S.remaining scen.old) (S.remaining scen.new) k) }
+    // The scenario is pulled only after the map was read whole and spelled a grid.
     ensures unpulled { IfErr result (λ fault. IsOfMap fault → scen.new ≡ scen.old) }
+    ensures order { (HasReadGrid (M.has_failed map.new) (M.remaining map.old) (M.remaining map.new) → ⊥) →
+        scen.new ≡ scen.old }
 {
     let grid = read_grid(alloc, map)?;
     read_agents(alloc, scen, grid, k)

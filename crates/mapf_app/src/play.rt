@@ -1,13 +1,15 @@
-ghost use Rattle.std.specs.Prelude.{◌≡◌, ◌≤◌, ◌⊎◌, ℕ, List, Ok, Err, false, true, take, IfOk, IfErr, OnOk, IsErrOf, IsSome};
+ghost use Rattle.std.specs.Prelude.{◌≡◌, ◌≤◌, ◌⊎◌, ℕ, List, Ok, Err, false, true, take, IfOk, IfErr, OnOk, IsErrOf, IsSome, MatchResult};
 ghost use Rattle.std.specs.Io.KnownBytes.{Appends};
-ghost use Rattle.mapf_app.specs.Faults.{IsBeforeWriting, IsOfDevices, IsOfMap, IsOfProblem, IsPlaying, IsReadingPlan, fault_of_plan_text};
-ghost use Rattle.mapf_app.specs.Played.{IsDuePlay, PlaysTruly, SpellsValidPlan};
+ghost use Rattle.mapf_app.specs.Faults.{HasNoInnerMemory, IsBeforeWriting, IsOfDevices, IsOfMap, IsOfProblem, IsPlaying, IsReadingPlan, fault_of_plan_text};
+ghost use Rattle.mapf_app.specs.Limits.{text_bytes};
+ghost use Rattle.mapf_app.specs.Order.{HasReadGrid, HasReadProblem};
+ghost use Rattle.mapf_app.specs.Played.{IsDuePlay, PlaysTruly, ShowsPlan, SpellsValidPlan};
 ghost use Rattle.mapf_app.specs.Problems.{SpellsProblem};
 ghost use Rattle.mapf_app.specs.Unreadable.{IsUnreadable, IsWithin};
 ghost use Rattle.mapf_model.specs.Plan.{Instance};
 
 use crate::fault::{Fault, Input, Output, PlayFault};
-use crate::input::{TEXT_LIMIT, read_problem, read_text};
+use crate::input::{read_problem, read_text};
 use mapf_certificate::{PlanAnswer, PlanText, PlanTextFault, read_plan};
 use mapf_checker::check_plan;
 use mapf_model::{Failed, Plan, Problem, Sink, Source};
@@ -29,6 +31,7 @@ fn valid_plan(alloc: Global, problem: &Problem, bytes: &[u8]) -> Result<Plan, Fa
     ensures found { IfOk result (SpellsValidPlan problem.now bytes.now) }
     ensures only { (plan : List (List ℕ)) → SpellsValidPlan problem.now bytes.now plan → (result ≡ Ok plan) ⊎ (result ≡ Err Fault.F6) }
     ensures fault { IfErr result (IsReadingPlan problem.now bytes.now) }
+    ensures inner { IfErr result HasNoInnerMemory }
 {
     let PlanText { agents, answer } = match read_plan(alloc, bytes, problem.grid()) {
         Ok(text) => text,
@@ -65,23 +68,35 @@ pub fn run_play<M: Source, S: Source, P: Source, K: Sink>(
     // What is written plays the valid plan that was read, for the problem that was read.
     ensures text { OnOk result ((text : List ℕ) × PlaysTruly (M.remaining map.old) (S.remaining scen.old) (P.remaining plan.old) k text
         × Appends (K.contents sink.old) (K.contents sink.new) text) }
-    // What is to be played is played, unless a device or memory prevents it.
-    ensures due { IsDuePlay (M.remaining map.old) (S.remaining scen.old) (P.remaining plan.old) k → IfErr result IsOfDevices }
+    // A valid plan that is spelled is the one that is played, unless a device or memory prevents it.
+    ensures due { (problem : Instance) (paths : List (List ℕ)) →
+        IsDuePlay (M.remaining map.old) (S.remaining scen.old) (P.remaining plan.old) k problem paths →
+        MatchResult result (λ _. ShowsPlan problem paths (K.contents sink.old) (K.contents sink.new)) IsOfDevices }
     // Inputs of more bytes than the limit aren't read.
-    ensures within { OnOk result (IsWithin (M.remaining map.old) TEXT_LIMIT × IsWithin (S.remaining scen.old) TEXT_LIMIT
-        × IsWithin (P.remaining plan.old) TEXT_LIMIT) }
+    ensures within { OnOk result (IsWithin (M.remaining map.old) text_bytes × IsWithin (S.remaining scen.old) text_bytes
+        × IsWithin (P.remaining plan.old) text_bytes) }
     // A fault stands where it says.
     ensures fault { IfErr result (IsPlaying (M.remaining map.old) (S.remaining scen.old) (P.remaining plan.old) k) }
+    ensures inner { IfErr result HasNoInnerMemory }
+    // A device's fault is told only where it has failed, or a source gave too much, and wherever it has failed.
     ensures map { IsErrOf result (Fault.F4 Input.Map) →
-        IsUnreadable (M.has_failed map.new) (M.remaining map.old) (M.remaining map.new) TEXT_LIMIT }
+        IsUnreadable (M.has_failed map.new) (M.remaining map.old) (M.remaining map.new) text_bytes }
+    ensures map_failed { M.has_failed map.new ≡ true → IsErrOf result (Fault.F4 Input.Map) }
     ensures scen { IsErrOf result (Fault.F4 Input.Scen) →
-        IsUnreadable (S.has_failed scen.new) (S.remaining scen.old) (S.remaining scen.new) TEXT_LIMIT }
+        IsUnreadable (S.has_failed scen.new) (S.remaining scen.old) (S.remaining scen.new) text_bytes }
+    ensures scen_failed { S.has_failed scen.new ≡ true → IsErrOf result (Fault.F4 Input.Scen) }
     ensures plan { IsErrOf result (Fault.F4 Input.Plan) →
-        IsUnreadable (P.has_failed plan.new) (P.remaining plan.old) (P.remaining plan.new) TEXT_LIMIT }
-    // Each input is pulled only after those before it were read.
-    ensures scen_unpulled { IfErr result (λ fault. IsOfMap fault → scen.new ≡ scen.old) }
-    ensures plan_unpulled { IfErr result (λ fault. IsOfProblem fault → plan.new ≡ plan.old) }
+        IsUnreadable (P.has_failed plan.new) (P.remaining plan.old) (P.remaining plan.new) text_bytes }
+    ensures plan_failed { P.has_failed plan.new ≡ true → IsErrOf result (Fault.F4 Input.Plan) }
     ensures sink { IsErrOf result (Fault.F5 Output.Out) → K.has_failed sink.new ≡ true }
+    ensures sink_failed { K.has_failed sink.new ≡ true → IsErrOf result (Fault.F5 Output.Out) }
+    // Each input is pulled only after those before it were read whole and spelled what they must.
+    ensures scen_unpulled { IfErr result (λ fault. IsOfMap fault → scen.new ≡ scen.old) }
+    ensures scen_order { (HasReadGrid (M.has_failed map.new) (M.remaining map.old) (M.remaining map.new) → ⊥) →
+        scen.new ≡ scen.old }
+    ensures plan_unpulled { IfErr result (λ fault. IsOfProblem fault → plan.new ≡ plan.old) }
+    ensures plan_order { (HasReadProblem (M.has_failed map.new) (M.remaining map.old) (M.remaining map.new)
+        (S.has_failed scen.new) (S.remaining scen.old) (S.remaining scen.new) k → ⊥) → plan.new ≡ plan.old }
     // What a sink that failed got is a front of such a text, and any other fault leaves it as it was.
     ensures front { IsErrOf result (Fault.F5 Output.Out) → (text : List ℕ) × (n : ℕ)
         × PlaysTruly (M.remaining map.old) (S.remaining scen.old) (P.remaining plan.old) k text

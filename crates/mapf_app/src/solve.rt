@@ -1,14 +1,16 @@
 ghost use Rattle.std.specs.Prelude.{◌≡◌, ◌≤◌, ℕ, List, false, true, take, IfOk, IfErr, OnOk, IsErrOf, IsSome, MatchResult};
 ghost use Rattle.std.specs.Io.KnownBytes.{Appends};
-ghost use Rattle.mapf_app.specs.Faults.{IsBeforeWriting, IsOfDevices, IsOfMap, IsSolving};
+ghost use Rattle.mapf_app.specs.Faults.{HasNoInnerMemory, IsBeforeWriting, IsOfDevices, IsOfMap, IsSolving};
 ghost use Rattle.mapf_app.specs.Headline.{PrintsTruly};
+ghost use Rattle.mapf_app.specs.Limits.{text_bytes};
+ghost use Rattle.mapf_app.specs.Order.{HasReadGrid};
 ghost use Rattle.mapf_app.specs.Problems.{SpellsProblem};
 ghost use Rattle.mapf_app.specs.Solved.{IsLimit, Prints};
 ghost use Rattle.mapf_app.specs.Unreadable.{IsUnreadable, IsWithin};
 ghost use Rattle.mapf_model.specs.Plan.{Instance};
 
 use crate::fault::{Fault, Input, Output};
-use crate::input::{TEXT_LIMIT, read_problem};
+use crate::input::read_problem;
 use crate::kind::Kind;
 use crate::texts::texts_of;
 use mapf_model::{Sink, Source, write_all};
@@ -47,19 +49,28 @@ pub fn run_solve<M: Source, S: Source, P: Sink, C: Sink>(
         × Appends (P.contents plan_sink.old) (P.contents plan_sink.new) plan_text
         × Appends (C.contents cert_sink.old) (C.contents cert_sink.new) cert_text) IsOfDevices }
     // Inputs of more bytes than the limit aren't read.
-    ensures within { OnOk result (IsWithin (M.remaining map.old) TEXT_LIMIT × IsWithin (S.remaining scen.old) TEXT_LIMIT) }
+    ensures within { OnOk result (IsWithin (M.remaining map.old) text_bytes × IsWithin (S.remaining scen.old) text_bytes) }
     // On a limit nothing is asked of the certificate's sink.
     ensures limit { IfOk result (λ kind. IsLimit kind → cert_sink.new ≡ cert_sink.old) }
-    // A fault stands where it says, and the scenario is pulled only after the map was read.
+    // A fault stands where it says.
     ensures fault { IfErr result (IsSolving (M.remaining map.old) (S.remaining scen.old) k) }
-    ensures unpulled { IfErr result (λ fault. IsOfMap fault → scen.new ≡ scen.old) }
+    ensures inner { IfErr result HasNoInnerMemory }
+    // A device's fault is told only where it has failed, or a source gave too much, and wherever it has failed.
     ensures map { IsErrOf result (Fault.F4 Input.Map) →
-        IsUnreadable (M.has_failed map.new) (M.remaining map.old) (M.remaining map.new) TEXT_LIMIT }
+        IsUnreadable (M.has_failed map.new) (M.remaining map.old) (M.remaining map.new) text_bytes }
+    ensures map_failed { M.has_failed map.new ≡ true → IsErrOf result (Fault.F4 Input.Map) }
     ensures scen { IsErrOf result (Fault.F4 Input.Scen) →
-        IsUnreadable (S.has_failed scen.new) (S.remaining scen.old) (S.remaining scen.new) TEXT_LIMIT }
+        IsUnreadable (S.has_failed scen.new) (S.remaining scen.old) (S.remaining scen.new) text_bytes }
+    ensures scen_failed { S.has_failed scen.new ≡ true → IsErrOf result (Fault.F4 Input.Scen) }
     ensures plan { IsErrOf result (Fault.F5 Output.Plan) →
         (P.has_failed plan_sink.new ≡ true) × (cert_sink.new ≡ cert_sink.old) }
+    ensures plan_failed { P.has_failed plan_sink.new ≡ true → IsErrOf result (Fault.F5 Output.Plan) }
     ensures cert { IsErrOf result (Fault.F5 Output.Cert) → C.has_failed cert_sink.new ≡ true }
+    ensures cert_failed { C.has_failed cert_sink.new ≡ true → IsErrOf result (Fault.F5 Output.Cert) }
+    // The scenario is pulled only after the map was read whole and spelled a grid.
+    ensures unpulled { IfErr result (λ fault. IsOfMap fault → scen.new ≡ scen.old) }
+    ensures order { (HasReadGrid (M.has_failed map.new) (M.remaining map.old) (M.remaining map.new) → ⊥) →
+        scen.new ≡ scen.old }
     // What a sink that failed got is a front of such texts.
     ensures plan_front { IsErrOf result (Fault.F5 Output.Plan) → (kind : Kind) × (plan_text : List ℕ) × (cert_text : List ℕ) × (n : ℕ)
         × PrintsTruly (M.remaining map.old) (S.remaining scen.old) k limit kind plan_text cert_text

@@ -13,6 +13,20 @@ IsInRange (Solve map scen k limit plan cert) = (1 ≤ k) × (k ≤ 200) × (limi
 IsInRange (Check map scen k plan cert) = (1 ≤ k) × (k ≤ 200)
 IsInRange (Play map scen k plan) = (1 ≤ k) × (k ≤ 200)
 
+-- two names of files differ, or both are the null device's, where what is written is kept nowhere
+abbrev pub AreApart : List ℕ → List ℕ → Type 0
+AreApart name other = name ≡ other → name ≡ codes "/dev/null"
+
+-- no output has the name of an input or of another output, the null device aside
+abbrev pub HasOwnOutputs : Job → Type 0
+HasOwnOutputs Demo = ⊤
+HasOwnOutputs (Solve map scen k limit plan cert) =
+    AreApart (string_bytes plan) (string_bytes map) × AreApart (string_bytes plan) (string_bytes scen)
+    × AreApart (string_bytes cert) (string_bytes map) × AreApart (string_bytes cert) (string_bytes scen)
+    × AreApart (string_bytes cert) (string_bytes plan)
+HasOwnOutputs (Check map scen k plan cert) = ⊤
+HasOwnOutputs (Play map scen k plan) = ⊤
+
 -- the text that was found under a name
 abbrev pub named : Found → List ℕ → List ℕ
 named found name = unwrap_or (first_value found name) []

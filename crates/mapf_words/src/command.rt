@@ -37,7 +37,8 @@ const SOLVE_ABOUT: &str =
     "Finds a cheapest plan for the first K agents, and writes it with its certificate";
 
 const SOLVE_OUTPUT: &str =
-    "PLAN and CERT are two files of their own, made or emptied before MAP and SCEN are read.
+    "PLAN and CERT are two files of their own, neither of them MAP or SCEN, else nothing is written.
+They are made or emptied before MAP and SCEN are read.
 
 Standard output has one line:
   cost C       the sum of the agents' costs, in ticks

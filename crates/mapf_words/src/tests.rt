@@ -57,6 +57,9 @@ fn refuses_words(rt: HostRuntime) -> Result<(), Fail> {
         "mapf play m s 201 p",
         "mapf dispatch m s 2 p e",
         "mapf --",
+        "mapf solve m s 2 10 m c",
+        "mapf solve m s 2 10 p s",
+        "mapf solve m s 2 10 p p",
     ] {
         match asked(rt.alloc(), text)? {
             Err(WordsFault::Bad(message)) => {

@@ -1,7 +1,7 @@
-ghost use Rattle.std.specs.Prelude.{◌≡◌, ◌≤◌, ◌<◌, ◌↔◌, IfOk, Ok, codes, vec_len};
+ghost use Rattle.std.specs.Prelude.{◌≡◌, ◌≤◌, ◌<◌, ◌↔◌, IfOk, OnOk, Ok, codes, vec_len};
 ghost use Rattle.std.specs.String.{string_bytes};
 ghost use Rattle.clap.specs.Matches.{found_of};
-ghost use Rattle.mapf_words.specs.Jobs.{IsInRange, IsJobOf, named};
+ghost use Rattle.mapf_words.specs.Jobs.{AreApart, HasOwnOutputs, IsInRange, IsJobOf, named};
 
 use crate::command::{MOST_AGENTS, MOST_SPLITS, mapf};
 use crate::job::Job;
@@ -36,23 +36,91 @@ fn number_of(
     }
 }
 
+// A file as the words name it: the name of the argument, and the text that was found under it.
+#[derive(Clone, Copy)]
+struct Named<'a> {
+    argument: &'a str,
+    text: &'a str,
+}
+
+// Refuses an output under the name of another file. What is written to the null device is kept nowhere, so
+// there nothing can be lost.
+fn apart(alloc: Global, output: Named<'_>, other: Named<'_>) -> Result<(), WordsFault>
+    ensures { OnOk result (AreApart output.entry.text.now other.entry.text.now) }
+{
+    if output.text != other.text || output.text == "/dev/null" {
+        return Ok(());
+    }
+    let (first, second, text) = (other.argument, output.argument, output.text);
+    Err(WordsFault::Bad(format!(in alloc; "error: {first} and {second} are one file: {text:?}\n")?))
+}
+
+// Refuses the words of `solve` where an input would be written over, or one output over the other.
+fn own_outputs(
+    alloc: Global,
+    map: &str,
+    scen: &str,
+    plan: &str,
+    cert: &str,
+) -> Result<(), WordsFault>
+    ensures { OnOk result (AreApart plan.now map.now × AreApart plan.now scen.now
+        × AreApart cert.now map.now × AreApart cert.now scen.now × AreApart cert.now plan.now) }
+{
+    let map = Named {
+        argument: "MAP",
+        text: map,
+    };
+    let scen = Named {
+        argument: "SCEN",
+        text: scen,
+    };
+    let plan = Named {
+        argument: "PLAN",
+        text: plan,
+    };
+    let cert = Named {
+        argument: "CERT",
+        text: cert,
+    };
+    apart(alloc, plan, map)?;
+    apart(alloc, plan, scen)?;
+    apart(alloc, cert, map)?;
+    apart(alloc, cert, scen)?;
+    apart(alloc, cert, plan)
+}
+
 fn solve_of(alloc: Global, given: &ArgMatches<'_>) -> Result<Job, WordsFault>
     ensures range { IfOk result IsInRange }
     ensures named { IfOk result (IsJobOf (codes "solve") (found_of given.now)) }
+    ensures own { IfOk result HasOwnOutputs }
 {
+    let map = text_of(alloc, given, "MAP")?;
+    let scen = text_of(alloc, given, "SCEN")?;
+    let k = number_of(alloc, given, "K", 1, MOST_AGENTS)?;
+    let limit = number_of(alloc, given, "LIMIT", 0, MOST_SPLITS)?;
+    let plan = text_of(alloc, given, "PLAN")?;
+    let cert = text_of(alloc, given, "CERT")?;
+    own_outputs(
+        alloc,
+        map.as_str(),
+        scen.as_str(),
+        plan.as_str(),
+        cert.as_str(),
+    )?;
     Ok(Job::Solve {
-        map: text_of(alloc, given, "MAP")?,
-        scen: text_of(alloc, given, "SCEN")?,
-        k: number_of(alloc, given, "K", 1, MOST_AGENTS)?,
-        limit: number_of(alloc, given, "LIMIT", 0, MOST_SPLITS)?,
-        plan: text_of(alloc, given, "PLAN")?,
-        cert: text_of(alloc, given, "CERT")?,
+        map,
+        scen,
+        k,
+        limit,
+        plan,
+        cert,
     })
 }
 
 fn check_of(alloc: Global, given: &ArgMatches<'_>) -> Result<Job, WordsFault>
     ensures range { IfOk result IsInRange }
     ensures named { IfOk result (IsJobOf (codes "check") (found_of given.now)) }
+    ensures own { IfOk result HasOwnOutputs }
 {
     Ok(Job::Check {
         map: text_of(alloc, given, "MAP")?,
@@ -66,6 +134,7 @@ fn check_of(alloc: Global, given: &ArgMatches<'_>) -> Result<Job, WordsFault>
 fn play_of(alloc: Global, given: &ArgMatches<'_>) -> Result<Job, WordsFault>
     ensures range { IfOk result IsInRange }
     ensures named { IfOk result (IsJobOf (codes "play") (found_of given.now)) }
+    ensures own { IfOk result HasOwnOutputs }
 {
     Ok(Job::Play {
         map: text_of(alloc, given, "MAP")?,
@@ -79,6 +148,7 @@ fn play_of(alloc: Global, given: &ArgMatches<'_>) -> Result<Job, WordsFault>
 fn job_in(alloc: Global, command: &str, given: &ArgMatches<'_>) -> Result<Job, WordsFault>
     ensures range { IfOk result IsInRange }
     ensures named { IfOk result (IsJobOf command.now (found_of given.now)) }
+    ensures own { IfOk result HasOwnOutputs }
 {
     match command {
         "solve" => solve_of(alloc, given),
@@ -100,9 +170,11 @@ fn fault_of(alloc: Global, error: &clap::Error) -> WordsFault {
 }
 
 /// What the words ask for, of which the first is the program's name. No further word, and no word at
-/// all, is the demo.
+/// all, is the demo. A job that would write over a file that it reads, or write two texts to one file, is
+/// refused as wrong words.
 pub fn job_of(alloc: Global, words: Vec<String>) -> Result<Job, WordsFault>
     ensures range { IfOk result IsInRange }
+    ensures own { IfOk result HasOwnOutputs }
     ensures demo { (result ≡ Ok Job.Demo) ↔ (vec_len words < 2) }
 {
     if words.len() < 2 {

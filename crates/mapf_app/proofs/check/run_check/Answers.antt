@@ -15,13 +15,13 @@ returns-in-Ok-clause-accepted g c =
 
 pub returns-in-Ok-clause-within : goal.returns-in-Ok-clause-within
 returns-in-Ok-clause-within g c =
-    let problem = c.in_ok-problem.ensures.within in
-    (problem.0, problem.1, c.in_ok-plan_text.ensures.within, for_told (λ bytes. length bytes ≤ 1099511627776) (g.C.Source.remaining c.args.cert.now) c.in-Ok.ensures.within)
+    let read = c.in_ok-problem.ensures.whole in
+    (read.map_whole.within, read.scen_whole.within, c.in_ok-plan_text.ensures.read.within, for_told (λ bytes. length bytes ≤ 1099511627776) (g.C.Source.remaining c.args.cert.now) c.in-Ok.ensures.within)
 
 pub returns-in-Ok-clause-unpulled : goal.returns-in-Ok-clause-unpulled
 returns-in-Ok-clause-unpulled g c =
     let same = read_as (g.P.Source.remaining c.args.plan.now) c.as_slice.ensures.value c.in_ok-plan_text.ensures.whole in
-    λ none. c.check_from.ensures.unpulled (none_good (g.M.Source.remaining c.args.map.now) (g.S.Source.remaining c.args.scen.now) (g.P.Source.remaining c.args.plan.now) (g.C.Source.remaining c.args.cert.now) c.args.k c.in_ok-problem.problem c.in_ok-problem.ensures.found c.as_slice.result.now same none)
+    λ none. c.check_from.ensures.unpulled (none_good (g.M.Source.remaining c.args.map.now) (g.S.Source.remaining c.args.scen.now) (g.P.Source.remaining c.args.plan.now) (g.C.Source.remaining c.args.cert.now) c.args.k c.in_ok-problem.problem c.in_ok-problem.ensures.found c.as_slice.result.now same (λ good. none (c.in_ok-problem.ensures.whole, c.in_ok-plan_text.ensures.read, good)))
 
 pub returns-in-Err-Refused-clause-accepted : goal.returns-in-Err-Refused-clause-accepted
 returns-in-Err-Refused-clause-accepted g c =
@@ -36,19 +36,19 @@ returns-in-Err-Refused-clause-fault g c =
 pub returns-in-Err-Refused-clause-unpulled : goal.returns-in-Err-Refused-clause-unpulled
 returns-in-Err-Refused-clause-unpulled g c =
     let same = read_as (g.P.Source.remaining c.args.plan.now) c.as_slice.ensures.value c.in_ok-plan_text.ensures.whole in
-    λ none. c.check_from.ensures.unpulled (none_good (g.M.Source.remaining c.args.map.now) (g.S.Source.remaining c.args.scen.now) (g.P.Source.remaining c.args.plan.now) (g.C.Source.remaining c.args.cert.now) c.args.k c.in_ok-problem.problem c.in_ok-problem.ensures.found c.as_slice.result.now same none)
+    λ none. c.check_from.ensures.unpulled (none_good (g.M.Source.remaining c.args.map.now) (g.S.Source.remaining c.args.scen.now) (g.P.Source.remaining c.args.plan.now) (g.C.Source.remaining c.args.cert.now) c.args.k c.in_ok-problem.problem c.in_ok-problem.ensures.found c.as_slice.result.now same (λ good. none (c.in_ok-problem.ensures.whole, c.in_ok-plan_text.ensures.read, good)))
 
 pub returns-in-Err-Device-clause-unpulled : goal.returns-in-Err-Device-clause-unpulled
 returns-in-Err-Device-clause-unpulled g c =
     let same = read_as (g.P.Source.remaining c.args.plan.now) c.as_slice.ensures.value c.in_ok-plan_text.ensures.whole in
-    λ none. c.check_from.ensures.unpulled (none_good (g.M.Source.remaining c.args.map.now) (g.S.Source.remaining c.args.scen.now) (g.P.Source.remaining c.args.plan.now) (g.C.Source.remaining c.args.cert.now) c.args.k c.in_ok-problem.problem c.in_ok-problem.ensures.found c.as_slice.result.now same none)
+    λ none. c.check_from.ensures.unpulled (none_good (g.M.Source.remaining c.args.map.now) (g.S.Source.remaining c.args.scen.now) (g.P.Source.remaining c.args.plan.now) (g.C.Source.remaining c.args.cert.now) c.args.k c.in_ok-problem.problem c.in_ok-problem.ensures.found c.as_slice.result.now same (λ good. none (c.in_ok-problem.ensures.whole, c.in_ok-plan_text.ensures.read, good)))
 
 pub returns-in-Err-TooLong-clause-unpulled : goal.returns-in-Err-TooLong-clause-unpulled
 returns-in-Err-TooLong-clause-unpulled g c =
     let same = read_as (g.P.Source.remaining c.args.plan.now) c.as_slice.ensures.value c.in_ok-plan_text.ensures.whole in
-    λ none. c.check_from.ensures.unpulled (none_good (g.M.Source.remaining c.args.map.now) (g.S.Source.remaining c.args.scen.now) (g.P.Source.remaining c.args.plan.now) (g.C.Source.remaining c.args.cert.now) c.args.k c.in_ok-problem.problem c.in_ok-problem.ensures.found c.as_slice.result.now same none)
+    λ none. c.check_from.ensures.unpulled (none_good (g.M.Source.remaining c.args.map.now) (g.S.Source.remaining c.args.scen.now) (g.P.Source.remaining c.args.plan.now) (g.C.Source.remaining c.args.cert.now) c.args.k c.in_ok-problem.problem c.in_ok-problem.ensures.found c.as_slice.result.now same (λ good. none (c.in_ok-problem.ensures.whole, c.in_ok-plan_text.ensures.read, good)))
 
 pub returns-clause-unpulled : goal.returns-clause-unpulled
 returns-clause-unpulled g c =
     let same = read_as (g.P.Source.remaining c.args.plan.now) c.as_slice.ensures.value c.in_ok-plan_text.ensures.whole in
-    λ none. c.check_from.ensures.unpulled (none_good (g.M.Source.remaining c.args.map.now) (g.S.Source.remaining c.args.scen.now) (g.P.Source.remaining c.args.plan.now) (g.C.Source.remaining c.args.cert.now) c.args.k c.in_ok-problem.problem c.in_ok-problem.ensures.found c.as_slice.result.now same none)
+    λ none. c.check_from.ensures.unpulled (none_good (g.M.Source.remaining c.args.map.now) (g.S.Source.remaining c.args.scen.now) (g.P.Source.remaining c.args.plan.now) (g.C.Source.remaining c.args.cert.now) c.args.k c.in_ok-problem.problem c.in_ok-problem.ensures.found c.as_slice.result.now same (λ good. none (c.in_ok-problem.ensures.whole, c.in_ok-plan_text.ensures.read, good)))

@@ -12,6 +12,7 @@ returns-in_default c =
       found = tt;
       only = λ plan spells. absurd (c.in_default.not-Found plan (one_plan problem c.args.bytes.now text (rw c.grid.ensures at c.in-Ok.ensures.only) (length problem.agents) plan spells.spelled).1);
       fault = (text.agents, says text.answer, spells_text problem c.args.bytes.now text (rw c.grid.ensures at c.in-Ok.ensures.found), says_none text.answer c.in_default.not-Found);
+      inner = tt;
     }
 
 pub returns-then-agents-clause-only : goal.returns-then-agents-clause-only

@@ -1,0 +1,196 @@
+//! The two files that `solve` writes, opened so that nothing of a user's is lost by a slip: where PLAN or
+//! CERT is one regular file with MAP, SCEN or each other, under whatever paths, nothing is solved and every
+//! file stays as it was. Devices and pipes are no regular files, and are never refused.
+//!
+//! 1. MAP and SCEN are open.
+//! 2. What stands under the paths of PLAN and CERT is compared with MAP, SCEN and each other. Nothing has
+//!    been opened for writing by then.
+//! 3. PLAN is opened, and made where nothing stood, but not emptied; and then CERT.
+//! 4. The two open files are compared: where nothing stood under either path, both may lead to one new
+//!    file. It is removed again.
+//! 5. PLAN is emptied, and then CERT. Where CERT couldn't be opened, PLAN is emptied all the same.
+
+ghost use Rattle.std.specs.Prelude.{◌≡◌, OnOk};
+ghost use Rattle.mapf.specs.Files.{AreApart};
+
+use mapf_app::{Fault, Output};
+use std::fs::{File, Metadata, OpenOptions};
+use std::os::unix::fs::MetadataExt;
+use std::rt::Files;
+use std::{fs, io};
+
+/// A regular file, whatever leads to it: the number of its device, and its own there.
+#[derive(Clone, Copy, Debug, PartialEq, Eq)]
+pub struct Identity {
+    device: u64,
+    number: u64,
+}
+
+/// A file that the words name: the name of the argument, the path, and the regular file that it leads to.
+#[derive(Clone, Copy)]
+pub struct Place<'a> {
+    pub argument: &'a str,
+    pub path: &'a str,
+    pub file: Option<Identity>,
+}
+
+/// Two paths of one regular file, of which one is an output.
+#[derive(Clone, Copy)]
+pub struct OneFile<'a> {
+    pub first: Place<'a>,
+    pub second: Place<'a>,
+}
+
+/// Why nothing was solved.
+#[derive(Clone, Copy)]
+pub enum Unsolved<'a> {
+    Fault(Fault),
+    /// An output is an input, or both outputs are one file.
+    OneFile(OneFile<'a>),
+}
+
+impl<'a> From<Fault> for Unsolved<'a> {
+    fn from(fault: Fault) -> Unsolved<'a> {
+        Unsolved::Fault(fault)
+    }
+}
+
+impl<'a> From<OneFile<'a>> for Unsolved<'a> {
+    fn from(one: OneFile<'a>) -> Unsolved<'a> {
+        Unsolved::OneFile(one)
+    }
+}
+
+/// The two files, open and empty.
+#[derive(Drop)]
+pub struct Outputs {
+    pub plan: File,
+    pub cert: File,
+}
+
+/// The regular file that is open.
+pub fn identity_of(file: &File) -> Option<Identity> {
+    regular(file.metadata())
+}
+
+fn regular(found: io::Result<Metadata>) -> Option<Identity> {
+    match found {
+        Ok(metadata) if metadata.is_file() => Some(Identity {
+            device: metadata.dev(),
+            number: metadata.ino(),
+        }),
+        _ => None,
+    }
+}
+
+// Refuses an output that is the other file too.
+fn apart<'a>(output: Place<'a>, other: Place<'a>) -> Result<(), OneFile<'a>>
+    ensures { OnOk result (AreApart output.entry.file other.entry.file) }
+{
+    match (output.file, other.file) {
+        (Some(written), Some(another)) if written == another => Err(OneFile {
+            first: other,
+            second: output,
+        }),
+        _ => Ok(()),
+    }
+}
+
+// Refuses an output that is an input, and two outputs that are one file.
+fn all_apart<'a>(
+    map: Place<'a>,
+    scen: Place<'a>,
+    plan: Place<'a>,
+    cert: Place<'a>,
+) -> Result<(), OneFile<'a>>
+    ensures { OnOk result (AreApart plan.entry.file map.entry.file × AreApart plan.entry.file scen.entry.file
+        × AreApart cert.entry.file map.entry.file × AreApart cert.entry.file scen.entry.file
+        × AreApart cert.entry.file plan.entry.file) }
+{
+    apart(plan, map)?;
+    apart(plan, scen)?;
+    apart(cert, map)?;
+    apart(cert, scen)?;
+    apart(cert, plan)
+}
+
+// What stands under the path of an output.
+fn standing<'a>(rt: &HostRuntime, argument: &'a str, path: &'a str) -> Place<'a> {
+    Place {
+        argument,
+        path,
+        file: regular(fs::metadata(rt, path)),
+    }
+}
+
+// The same place, by the file that was opened there.
+fn opened<'a>(place: Place<'a>, file: &File) -> Place<'a> {
+    Place {
+        file: identity_of(file),
+        ..place
+    }
+}
+
+// Opens a file for writing, and makes it where there is none, but leaves what it holds.
+fn open_as_it_is(rt: &HostRuntime, path: &str) -> io::Result<File> {
+    OpenOptions::new().write(true).create(true).open(rt, path)
+}
+
+fn empty(file: &File) -> io::Result<()> {
+    match identity_of(file) {
+        Some(_) => file.set_len(0),
+        None => Ok(()),
+    }
+}
+
+// Removes a file that was made here. Its path may lead over a link.
+fn remove_made(rt: &HostRuntime, path: &str) {
+    if let Ok(place) = fs::canonicalize(rt, path) {
+        let _ = fs::remove_file(rt, place);
+    }
+}
+
+/// Opens the two outputs beside the inputs that are open, each empty.
+pub fn open<'a>(
+    rt: &HostRuntime,
+    map: Place<'a>,
+    scen: Place<'a>,
+    plan: &'a str,
+    cert: &'a str,
+) -> Result<Outputs, Unsolved<'a>> {
+    let plan = standing(rt, "PLAN", plan);
+    let cert = standing(rt, "CERT", cert);
+    all_apart(map, scen, plan, cert)?;
+    let Ok(plan_file) = open_as_it_is(rt, plan.path) else {
+        return Err(Unsolved::Fault(Fault::F5(Output::Plan)));
+    };
+    let cert_file = open_as_it_is(rt, cert.path);
+    if let Ok(file) = &cert_file {
+        if let Err(one) = apart(opened(cert, file), opened(plan, &plan_file)) {
+            remove_made(rt, plan.path);
+            return Err(Unsolved::OneFile(one));
+        }
+    }
+    if empty(&plan_file).is_err() {
+        return Err(Unsolved::Fault(Fault::F5(Output::Plan)));
+    }
+    match cert_file {
+        Ok(file) if empty(&file).is_ok() => Ok(Outputs {
+            plan: plan_file,
+            cert: file,
+        }),
+        _ => Err(Unsolved::Fault(Fault::F5(Output::Cert))),
+    }
+}
+
+/// Has the system store a file that was written: what a disk refuses last is told only then.
+pub fn store(file: &File, output: Output) -> Result<(), Fault> {
+    let stored = match identity_of(file) {
+        Some(_) => file.sync_all(),
+        None => Ok(()),
+    };
+    match stored {
+        Ok(()) => Ok(()),
+        Err(_) => Err(Fault::F5(output)),
+    }
+}
