@@ -18,6 +18,9 @@ BYTES = 4_000_000_000
 # Each of these words stands for a file of the case in a folder of its own.
 FILES = {"MAP": "map", "SCEN": "scen", "PLAN": "plan", "CERT": "cert"}
 
+# What `outcome` puts into each output before a run.
+OLD = b"what stood here before\n"
+
 
 @dataclass(frozen=True)
 class Ended:
@@ -28,18 +31,33 @@ class Ended:
     stderr: bytes
 
 
-def bound():
-    resource.setrlimit(resource.RLIMIT_AS, (BYTES, BYTES))
+@dataclass(frozen=True)
+class Outcome:
+    """What a run of a case gave, with the bytes of its outputs and inputs afterwards, by their names."""
+
+    ended: Ended
+    outputs: dict[str, bytes | None]
+    inputs: dict[str, bytes | None]
+
+    def told(self):
+        ended = self.ended
+        outputs = ", ".join(f"{name} {shown(bytes_)}" for name, bytes_ in self.outputs.items())
+        return f"status {ended.status}, {shown(ended.stdout)}, {shown(ended.stderr)}, {outputs or 'no output'}"
 
 
-def run(words, stdout=None, stderr=None, environment=None):
+def bound(most_bytes=BYTES):
+    resource.setrlimit(resource.RLIMIT_AS, (most_bytes, most_bytes))
+
+
+def run(words, stdout=None, stderr=None, environment=None, most_bytes=BYTES):
     """Runs the program. A stream goes to the file of that name, else it is caught."""
     with tempfile.TemporaryFile() as out, tempfile.TemporaryFile() as err:
         with open(stdout, "wb") if stdout else out as out_to, open(stderr, "wb") if stderr else err as err_to:
             try:
                 status = subprocess.run(
                     [str(PROGRAM), *words], stdin=subprocess.DEVNULL, stdout=out_to, stderr=err_to,
-                    env={**os.environ, **(environment or {})}, timeout=SECONDS, preexec_fn=bound).returncode
+                    env={**os.environ, **(environment or {})}, timeout=SECONDS,
+                    preexec_fn=lambda: bound(most_bytes)).returncode
             except subprocess.TimeoutExpired:
                 status = f"none after {SECONDS} seconds"
             return Ended(status, b"" if stdout else caught(out_to), b"" if stderr else caught(err_to))
@@ -108,8 +126,18 @@ class Case:
         places["BESIDE"] = str(folder / "none" / "file")
         return [places.get(word, word) for word in self.words]
 
-    def run(self, folder, environment=None):
-        return run(self.prepare(folder), self.places.get("stdout"), self.places.get("stderr"), environment)
+    def run(self, folder, environment=None, most_bytes=BYTES):
+        words = self.prepare(folder)
+        return run(words, self.places.get("stdout"), self.places.get("stderr"), environment, most_bytes)
+
+    def outcome(self, folder, environment):
+        """What a run gave, and what is in its outputs, which held OLD before, and its inputs afterwards."""
+        for name, _ in self.outputs():
+            (folder / name).write_bytes(OLD)
+        ended = self.run(folder, environment)
+        outputs = {name: content(folder / name) for name, _ in self.outputs()}
+        inputs = {name: content(folder / name) for name, _ in self.inputs()}
+        return Outcome(ended, outputs, inputs)
 
     def faults(self, ended, folder):
         """How a run differs from what is wanted, a text for each difference."""
@@ -132,17 +160,18 @@ class Case:
         return [] if got == wanted else [f"{stream} is {shown(got)}, wanted {shown(wanted)}"]
 
 
-def refuser(folder):
-    """Builds refuse_memory.c into this folder, to be preloaded."""
-    library = Path(folder) / "refuse_memory.so"
-    source = TESTS / "refuse_memory.c"
-    subprocess.run(["gcc", "-O2", "-Wall", "-shared", "-fPIC", "-o", str(library), str(source)], check=True)
+def built(name, folder):
+    """Builds the C source of that name into this folder, to be preloaded."""
+    library = Path(folder) / f"{name}.so"
+    source = TESTS / f"{name}.c"
+    subprocess.run(["gcc", "-O2", "-Wall", "-Wextra", "-shared", "-fPIC", "-o", str(library), str(source)], check=True)
     return library
 
 
-def refusing(library, number, told):
-    """The environment in which the request of this number is refused, and told of by making the file."""
-    return {"LD_PRELOAD": str(library), "REFUSE_MEMORY_AT": str(number), "REFUSE_MEMORY_TOLD": str(told)}
+def refusing(library, told, **which):
+    """The environment in which requests are refused, as refuse_memory.c says, and told of by making the file."""
+    chosen = {f"REFUSE_MEMORY_{word.upper()}": str(number) for word, number in which.items()}
+    return {"LD_PRELOAD": str(library), "REFUSE_MEMORY_TOLD": str(told), **chosen}
 
 
 def cases_of(folder):
