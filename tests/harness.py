@@ -15,8 +15,15 @@ PROGRAM = TESTS.parent / "crates" / "mapf" / "out" / "mapf"
 SECONDS = 300
 BYTES = 4_000_000_000
 
+# A small share of addresses, in which small cases still run.
+SMALL_MEMORY = 64 << 20
+
 # Each of these words stands for a file of the case in a folder of its own.
 FILES = {"MAP": "map", "SCEN": "scen", "PLAN": "plan", "CERT": "cert"}
+
+# The standard streams in the order of their numbers. A case puts one elsewhere: CLOSED is no place at all,
+# and UNREAD a pipe that nobody reads.
+STREAMS = ("stdin", "stdout", "stderr")
 
 # What `outcome` puts into each output before a run.
 OLD = b"what stood here before\n"
@@ -49,21 +56,40 @@ def bound(most_bytes=BYTES):
     resource.setrlimit(resource.RLIMIT_AS, (most_bytes, most_bytes))
 
 
-def run(words, stdout=None, stderr=None, environment=None, most_bytes=BYTES):
-    """Runs the program. A stream goes to the file of that name, else it is caught."""
-    with tempfile.TemporaryFile() as out, tempfile.TemporaryFile() as err:
-        with open(stdout, "wb") if stdout else out as out_to, open(stderr, "wb") if stderr else err as err_to:
-            try:
-                status = subprocess.run(
-                    [str(PROGRAM), *words], stdin=subprocess.DEVNULL, stdout=out_to, stderr=err_to,
-                    env={**os.environ, **(environment or {})}, timeout=SECONDS,
-                    preexec_fn=lambda: bound(most_bytes)).returncode
-            except subprocess.TimeoutExpired:
-                status = f"none after {SECONDS} seconds"
-            return Ended(status, b"" if stdout else caught(out_to), b"" if stderr else caught(err_to))
+def run(words, places=None, environment=None, most_bytes=BYTES):
+    """Runs the program. A standard stream that has a place goes there, and an output that has none is caught."""
+    places = places or {}
+    closed = [number for number, name in enumerate(STREAMS) if places.get(name) == "CLOSED"]
+
+    def prepare():
+        bound(most_bytes)
+        for number in closed:
+            os.close(number)
+
+    with opened(places.get("stdout")) as out, opened(places.get("stderr")) as err:
+        try:
+            status = subprocess.run(
+                [str(PROGRAM), *words], stdin=subprocess.DEVNULL, stdout=out, stderr=err,
+                env={**os.environ, **(environment or {})}, timeout=SECONDS, preexec_fn=prepare).returncode
+        except subprocess.TimeoutExpired:
+            status = f"none after {SECONDS} seconds"
+        return Ended(status, caught(out, places.get("stdout")), caught(err, places.get("stderr")))
 
 
-def caught(stream):
+def opened(place):
+    """What a standard stream is given for its place."""
+    if place is None:
+        return tempfile.TemporaryFile()
+    if place == "UNREAD":
+        reader, writer = os.pipe()
+        os.close(reader)
+        return open(writer, "wb")
+    return open(os.devnull if place == "CLOSED" else place, "wb")
+
+
+def caught(stream, place):
+    if place is not None:
+        return b""
     stream.seek(0)
     return stream.read()
 
@@ -89,7 +115,7 @@ class Case:
         line = (folder / "words").read_bytes().decode(errors="surrogateescape")
         self.words = shlex.split(line)
         self.places = {}
-        for sign, stream in ((">", "stdout"), ("2>", "stderr")):
+        for sign, stream in zip(("<", ">", "2>"), STREAMS):
             if sign in self.words:
                 at = self.words.index(sign)
                 self.places[stream] = self.words[at + 1]
@@ -127,8 +153,7 @@ class Case:
         return [places.get(word, word) for word in self.words]
 
     def run(self, folder, environment=None, most_bytes=BYTES):
-        words = self.prepare(folder)
-        return run(words, self.places.get("stdout"), self.places.get("stderr"), environment, most_bytes)
+        return run(self.prepare(folder), self.places, environment, most_bytes)
 
     def outcome(self, folder, environment):
         """What a run gave, and what is in its outputs, which held OLD before, and its inputs afterwards."""
@@ -155,7 +180,8 @@ class Case:
     def stream_faults(self, stream, got):
         parts = self.wanted(stream + "-has")
         if parts is not None:
-            return [f"{stream} has no {shown(part)}" for part in parts.split(b"\n") if part not in got]
+            missing = [f"{stream} has no {shown(part)}" for part in parts.split(b"\n") if part not in got]
+            return missing if parts.strip() else [f"{stream}-has asks for nothing"]
         wanted = self.wanted(stream) or b""
         return [] if got == wanted else [f"{stream} is {shown(got)}, wanted {shown(wanted)}"]
 
