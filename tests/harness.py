@@ -21,6 +21,9 @@ SMALL_MEMORY = 64 << 20
 # Each of these words stands for a file of the case in a folder of its own.
 FILES = {"MAP": "map", "SCEN": "scen", "PLAN": "plan", "CERT": "cert"}
 
+# How many runs a script that makes thousands of them has side by side.
+SIDE_BY_SIDE = 4
+
 # The standard streams in the order of their numbers. A case puts one elsewhere: CLOSED is no place at all,
 # and UNREAD a pipe that nobody reads.
 STREAMS = ("stdin", "stdout", "stderr")
