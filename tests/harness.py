@@ -15,8 +15,21 @@ PROGRAM = TESTS.parent / "crates" / "mapf" / "out" / "mapf"
 SECONDS = 300
 BYTES = 4_000_000_000
 
+# A small share of addresses, in which small cases still run.
+SMALL_MEMORY = 64 << 20
+
 # Each of these words stands for a file of the case in a folder of its own.
 FILES = {"MAP": "map", "SCEN": "scen", "PLAN": "plan", "CERT": "cert"}
+
+# How many runs a script that makes thousands of them has side by side.
+SIDE_BY_SIDE = 4
+
+# The standard streams in the order of their numbers. A case puts one elsewhere: CLOSED is no place at all,
+# and UNREAD a pipe that nobody reads.
+STREAMS = ("stdin", "stdout", "stderr")
+
+# What `outcome` puts into each output before a run.
+OLD = b"what stood here before\n"
 
 
 @dataclass(frozen=True)
@@ -28,24 +41,58 @@ class Ended:
     stderr: bytes
 
 
-def bound():
-    resource.setrlimit(resource.RLIMIT_AS, (BYTES, BYTES))
+@dataclass(frozen=True)
+class Outcome:
+    """What a run of a case gave, with the bytes of its outputs and inputs afterwards, by their names."""
+
+    ended: Ended
+    outputs: dict[str, bytes | None]
+    inputs: dict[str, bytes | None]
+
+    def told(self):
+        ended = self.ended
+        outputs = ", ".join(f"{name} {shown(bytes_)}" for name, bytes_ in self.outputs.items())
+        return f"status {ended.status}, {shown(ended.stdout)}, {shown(ended.stderr)}, {outputs or 'no output'}"
 
 
-def run(words, stdout=None, stderr=None, environment=None):
-    """Runs the program. A stream goes to the file of that name, else it is caught."""
-    with tempfile.TemporaryFile() as out, tempfile.TemporaryFile() as err:
-        with open(stdout, "wb") if stdout else out as out_to, open(stderr, "wb") if stderr else err as err_to:
-            try:
-                status = subprocess.run(
-                    [str(PROGRAM), *words], stdin=subprocess.DEVNULL, stdout=out_to, stderr=err_to,
-                    env={**os.environ, **(environment or {})}, timeout=SECONDS, preexec_fn=bound).returncode
-            except subprocess.TimeoutExpired:
-                status = f"none after {SECONDS} seconds"
-            return Ended(status, b"" if stdout else caught(out_to), b"" if stderr else caught(err_to))
+def bound(most_bytes=BYTES):
+    resource.setrlimit(resource.RLIMIT_AS, (most_bytes, most_bytes))
 
 
-def caught(stream):
+def run(words, places=None, environment=None, most_bytes=BYTES):
+    """Runs the program. A standard stream that has a place goes there, and an output that has none is caught."""
+    places = places or {}
+    closed = [number for number, name in enumerate(STREAMS) if places.get(name) == "CLOSED"]
+
+    def prepare():
+        bound(most_bytes)
+        for number in closed:
+            os.close(number)
+
+    with opened(places.get("stdout")) as out, opened(places.get("stderr")) as err:
+        try:
+            status = subprocess.run(
+                [str(PROGRAM), *words], stdin=subprocess.DEVNULL, stdout=out, stderr=err,
+                env={**os.environ, **(environment or {})}, timeout=SECONDS, preexec_fn=prepare).returncode
+        except subprocess.TimeoutExpired:
+            status = f"none after {SECONDS} seconds"
+        return Ended(status, caught(out, places.get("stdout")), caught(err, places.get("stderr")))
+
+
+def opened(place):
+    """What a standard stream is given for its place."""
+    if place is None:
+        return tempfile.TemporaryFile()
+    if place == "UNREAD":
+        reader, writer = os.pipe()
+        os.close(reader)
+        return open(writer, "wb")
+    return open(os.devnull if place == "CLOSED" else place, "wb")
+
+
+def caught(stream, place):
+    if place is not None:
+        return b""
     stream.seek(0)
     return stream.read()
 
@@ -71,7 +118,7 @@ class Case:
         line = (folder / "words").read_bytes().decode(errors="surrogateescape")
         self.words = shlex.split(line)
         self.places = {}
-        for sign, stream in ((">", "stdout"), ("2>", "stderr")):
+        for sign, stream in zip(("<", ">", "2>"), STREAMS):
             if sign in self.words:
                 at = self.words.index(sign)
                 self.places[stream] = self.words[at + 1]
@@ -108,8 +155,17 @@ class Case:
         places["BESIDE"] = str(folder / "none" / "file")
         return [places.get(word, word) for word in self.words]
 
-    def run(self, folder, environment=None):
-        return run(self.prepare(folder), self.places.get("stdout"), self.places.get("stderr"), environment)
+    def run(self, folder, environment=None, most_bytes=BYTES):
+        return run(self.prepare(folder), self.places, environment, most_bytes)
+
+    def outcome(self, folder, environment):
+        """What a run gave, and what is in its outputs, which held OLD before, and its inputs afterwards."""
+        for name, _ in self.outputs():
+            (folder / name).write_bytes(OLD)
+        ended = self.run(folder, environment)
+        outputs = {name: content(folder / name) for name, _ in self.outputs()}
+        inputs = {name: content(folder / name) for name, _ in self.inputs()}
+        return Outcome(ended, outputs, inputs)
 
     def faults(self, ended, folder):
         """How a run differs from what is wanted, a text for each difference."""
@@ -127,22 +183,24 @@ class Case:
     def stream_faults(self, stream, got):
         parts = self.wanted(stream + "-has")
         if parts is not None:
-            return [f"{stream} has no {shown(part)}" for part in parts.split(b"\n") if part not in got]
+            missing = [f"{stream} has no {shown(part)}" for part in parts.split(b"\n") if part not in got]
+            return missing if parts.strip() else [f"{stream}-has asks for nothing"]
         wanted = self.wanted(stream) or b""
         return [] if got == wanted else [f"{stream} is {shown(got)}, wanted {shown(wanted)}"]
 
 
-def refuser(folder):
-    """Builds refuse_memory.c into this folder, to be preloaded."""
-    library = Path(folder) / "refuse_memory.so"
-    source = TESTS / "refuse_memory.c"
-    subprocess.run(["gcc", "-O2", "-Wall", "-shared", "-fPIC", "-o", str(library), str(source)], check=True)
+def built(name, folder):
+    """Builds the C source of that name into this folder, to be preloaded."""
+    library = Path(folder) / f"{name}.so"
+    source = TESTS / f"{name}.c"
+    subprocess.run(["gcc", "-O2", "-Wall", "-Wextra", "-shared", "-fPIC", "-o", str(library), str(source)], check=True)
     return library
 
 
-def refusing(library, number, told):
-    """The environment in which the request of this number is refused, and told of by making the file."""
-    return {"LD_PRELOAD": str(library), "REFUSE_MEMORY_AT": str(number), "REFUSE_MEMORY_TOLD": str(told)}
+def refusing(library, told, **which):
+    """The environment in which requests are refused, as refuse_memory.c says, and told of by making the file."""
+    chosen = {f"REFUSE_MEMORY_{word.upper()}": str(number) for word, number in which.items()}
+    return {"LD_PRELOAD": str(library), "REFUSE_MEMORY_TOLD": str(told), **chosen}
 
 
 def cases_of(folder):

@@ -1,10 +1,16 @@
-// Preloaded, this refuses one request for memory: the one whose number, counted from 1 from the start of
-// the program on, stands in REFUSE_MEMORY_AT. That it did so it tells by making the file that
-// REFUSE_MEMORY_TOLD names.
+// Preloaded, this refuses requests for memory, which are counted from 1 from the start of the program on.
+// That it refused one it tells by making the file that REFUSE_MEMORY_TOLD names.
+//
+//   REFUSE_MEMORY_AT          the number of the one request that is refused
+//   REFUSE_MEMORY_FROM        the number of a request: it is refused, and each later one
+//   REFUSE_MEMORY_AFTER_ENDS  a count: once so many reads have found the end of a file, each request is
+//                             refused
 #include <errno.h>
 #include <fcntl.h>
 #include <stddef.h>
 #include <stdlib.h>
+#include <sys/syscall.h>
+#include <sys/types.h>
 #include <unistd.h>
 
 extern void *__libc_malloc(size_t size);
@@ -12,13 +18,24 @@ extern void *__libc_calloc(size_t count, size_t size);
 extern void *__libc_realloc(void *old, size_t size);
 extern void *__libc_memalign(size_t alignment, size_t size);
 
+// Each is 0 where it isn't set.
 static unsigned long refused_number;
+static unsigned long first_refused;
+static unsigned long ends_before;
+
 static unsigned long requests;
+static unsigned long ends;
+
+static unsigned long setting(const char *name) {
+    const char *number = getenv(name);
+    return number ? strtoul(number, NULL, 10) : 0;
+}
 
 // Runs after the C library is set up, so what the library takes for itself before isn't counted.
 __attribute__((constructor)) static void begin(void) {
-    const char *number = getenv("REFUSE_MEMORY_AT");
-    refused_number = number ? strtoul(number, NULL, 10) : 0;
+    refused_number = setting("REFUSE_MEMORY_AT");
+    first_refused = setting("REFUSE_MEMORY_FROM");
+    ends_before = setting("REFUSE_MEMORY_AFTER_ENDS");
     requests = 0;
 }
 
@@ -30,14 +47,25 @@ static void tell(void) {
     }
 }
 
+static int is_chosen(void) {
+    return (refused_number != 0 && requests == refused_number) || (first_refused != 0 && requests >= first_refused) ||
+        (ends_before != 0 && ends >= ends_before);
+}
+
 static int is_refused(void) {
     requests++;
-    if (refused_number == 0 || requests != refused_number) {
+    if (!is_chosen()) {
         return 0;
     }
     tell();
     errno = ENOMEM;
     return 1;
+}
+
+ssize_t read(int file, void *bytes, size_t size) {
+    ssize_t moved = syscall(SYS_read, file, bytes, size);
+    ends += moved == 0 && size > 0;
+    return moved;
 }
 
 void *malloc(size_t size) {

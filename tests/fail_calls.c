@@ -1,0 +1,168 @@
+// Preloaded, this fails one call of the program on its files, or lets a read or a write move less than it
+// was asked for. Calls are counted from 1 from the start of the program on; what the loader does before
+// isn't counted. FAIL_CALLS_LOG names a file that gets a line for each call: its kind, the last part of the
+// file's name, how many bytes were asked for, and what was answered.
+//
+//   FAIL_CALLS_AT    the number of the call, 0 for none
+//   FAIL_CALLS_HOW   a number: the call does nothing and answers this error; a close does close
+//                    short: it moves one byte
+//                    nothing: it moves no byte and answers 0
+//                    full: it moves one byte, and each later write to that file answers ENOSPC
+//   FAIL_CALLS_SLOW  where it is set, each read and each write moves one byte at most
+#define _GNU_SOURCE
+#include <errno.h>
+#include <fcntl.h>
+#include <stdarg.h>
+#include <stdio.h>
+#include <stdlib.h>
+#include <string.h>
+#include <sys/syscall.h>
+#include <sys/types.h>
+#include <unistd.h>
+
+enum how { NEVER, FAILS, SHORT, NOTHING, FULL };
+
+enum { FILES = 64, NAME = 32, LOG_FROM = 500 };
+
+static enum how how;
+static int error;
+static unsigned long chosen;
+static unsigned long calls;
+static int is_slow;
+static int full_file = -1;
+static int log_file = -1;
+static char names[FILES][NAME] = {"in", "out", "err"};
+
+// The log has a number far from those that the program's files get.
+static int open_log(const char *name) {
+    int low = name ? syscall(SYS_openat, AT_FDCWD, name, O_WRONLY | O_CREAT | O_APPEND, 0600) : -1;
+    int high = low < 0 ? -1 : fcntl(low, F_DUPFD_CLOEXEC, LOG_FROM);
+    if (low >= 0) {
+        syscall(SYS_close, low);
+    }
+    return high;
+}
+
+static enum how how_of(const char *word) {
+    if (strcmp(word, "short") == 0) {
+        return SHORT;
+    }
+    if (strcmp(word, "nothing") == 0) {
+        return NOTHING;
+    }
+    return strcmp(word, "full") == 0 ? FULL : FAILS;
+}
+
+__attribute__((constructor)) static void begin(void) {
+    const char *number = getenv("FAIL_CALLS_AT");
+    const char *word = getenv("FAIL_CALLS_HOW");
+    chosen = number ? strtoul(number, NULL, 10) : 0;
+    how = word ? how_of(word) : NEVER;
+    error = how == FAILS ? atoi(word) : 0;
+    is_slow = getenv("FAIL_CALLS_SLOW") != NULL;
+    log_file = open_log(getenv("FAIL_CALLS_LOG"));
+}
+
+static const char *name_of(int file) {
+    return file >= 0 && file < FILES && names[file][0] ? names[file] : "other";
+}
+
+static void set_name(int file, const char *path) {
+    const char *slash = strrchr(path, '/');
+    if (file >= 0 && file < FILES) {
+        snprintf(names[file], NAME, "%s", slash ? slash + 1 : path);
+    }
+}
+
+// Writes a line of the log, and answers what the call answers.
+static long told(const char *call, const char *name, size_t asked, long answer) {
+    char line[128];
+    int kept = errno;
+    int length = snprintf(line, sizeof line, "%s %s %zu %ld\n", call, name, asked, answer);
+    if (log_file >= 0) {
+        syscall(SYS_write, log_file, line, length);
+    }
+    errno = kept;
+    return answer;
+}
+
+static long failed(int number) {
+    errno = number;
+    return -1;
+}
+
+// Counts a call, and answers how it is to go.
+static enum how counted(void) {
+    calls++;
+    return calls == chosen ? how : NEVER;
+}
+
+static size_t allowed(size_t size, enum how now) {
+    return size > 1 && (is_slow || now == SHORT || now == FULL) ? 1 : size;
+}
+
+static int open_any(const char *path, int flags, mode_t mode) {
+    enum how now = counted();
+    const char *slash = strrchr(path, '/');
+    int file = now == FAILS ? failed(error) : syscall(SYS_openat, AT_FDCWD, path, flags, mode);
+    set_name(file, path);
+    return told("open", slash ? slash + 1 : path, 0, file < 0 ? -1 : 0) < 0 ? -1 : file;
+}
+
+int open(const char *path, int flags, ...) {
+    va_list rest;
+    va_start(rest, flags);
+    mode_t mode = flags & (O_CREAT | O_TMPFILE) ? va_arg(rest, mode_t) : 0;
+    va_end(rest);
+    return open_any(path, flags, mode);
+}
+
+int open64(const char *path, int flags, ...) {
+    va_list rest;
+    va_start(rest, flags);
+    mode_t mode = flags & (O_CREAT | O_TMPFILE) ? va_arg(rest, mode_t) : 0;
+    va_end(rest);
+    return open_any(path, flags | O_LARGEFILE, mode);
+}
+
+ssize_t read(int file, void *bytes, size_t size) {
+    enum how now = counted();
+    if (now == FAILS) {
+        return told("read", name_of(file), size, failed(error));
+    }
+    return told("read", name_of(file), size, syscall(SYS_read, file, bytes, allowed(size, now)));
+}
+
+ssize_t write(int file, const void *bytes, size_t size) {
+    enum how now = counted();
+    if (now == FAILS || file == full_file) {
+        return told("write", name_of(file), size, failed(now == FAILS ? error : ENOSPC));
+    }
+    if (now == FULL) {
+        full_file = file;
+    }
+    long moved = now == NOTHING ? 0 : syscall(SYS_write, file, bytes, allowed(size, now));
+    return told("write", name_of(file), size, moved);
+}
+
+ssize_t __write(int file, const void *bytes, size_t size) {
+    return write(file, bytes, size);
+}
+
+// A file is closed also where its close fails.
+int close(int file) {
+    enum how now = counted();
+    int answer = syscall(SYS_close, file);
+    full_file = file == full_file ? -1 : full_file;
+    return told("close", name_of(file), 0, now == FAILS ? failed(error) : answer);
+}
+
+int fsync(int file) {
+    enum how now = counted();
+    return told("sync", name_of(file), 0, now == FAILS ? failed(error) : syscall(SYS_fsync, file));
+}
+
+int fdatasync(int file) {
+    enum how now = counted();
+    return told("sync", name_of(file), 0, now == FAILS ? failed(error) : syscall(SYS_fdatasync, file));
+}
