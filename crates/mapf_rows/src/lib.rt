@@ -5,8 +5,14 @@
 mod checking;
 #[cfg(test)]
 mod faults;
+#[cfg(test)]
+mod hostile;
+#[cfg(test)]
+mod problems;
 pub mod runs;
 #[cfg(test)]
 mod solving;
 #[cfg(test)]
 mod streams;
+#[cfg(test)]
+mod texts;
