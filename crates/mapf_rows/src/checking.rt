@@ -5,7 +5,7 @@ ghost use Rattle.std.specs.Prelude.{◌≤◌};
 use crate::problems::{
     AT_REST, AT_REST_PLAN, CROSSING, CROSSING_CERT, CROSSING_PLAN, DEARER, EXCHANGE, MEETING,
     NICHE, NICHE_CERT, NICHE_PLAN, ROTATION, ROTATION_PLAN, SHARED_GOAL, SHARED_GOAL_CERT,
-    SHARED_GOAL_PLAN, SHARED_START, SHARED_START_CERT, SHARED_START_PLAN,
+    SHARED_GOAL_PLAN, SHARED_START, SHARED_START_CERT, SHARED_START_PLAN, SWAPPING,
 };
 use crate::runs::{Given, check, problem_of};
 use crate::texts::with_lines;
@@ -63,9 +63,6 @@ pub fn assert_changes(
     }
     Ok(())
 }
-
-// A plan in which two agents exchange their places.
-const SWAPPING: &str = "mapf-plan 1\nagents 2\ncost 2\npath 0 1 0,0 1,0\npath 1 1 1,0 0,0\nend\n";
 
 // A problem, its two texts, and what the check answers to them.
 #[derive(Clone, Copy)]
@@ -159,7 +156,7 @@ fn judges_given_texts(rt: HostRuntime) -> Result<(), Fail> {
 }
 
 // Plan texts of the crossing, each beside its certificate, and why they are refused.
-const PLANS: [(&str, CheckFault); 8] = [
+const PLANS: [(&str, CheckFault); 9] = [
     // Another sum than that of the paths.
     (
         "mapf-plan 1\nagents 2\ncost 4\npath 0 3 0,1 0,1 1,1 2,1\npath 1 2 1,0 1,1 1,2\nend\n",
@@ -180,6 +177,8 @@ const PLANS: [(&str, CheckFault); 8] = [
     ("mapf-plan 1\nagents 1\nimpossible\nend\n", CheckFault::C3),
     ("mapf-plan 1\nagents 2\nimpossible\nend\n", CheckFault::C4),
     ("mapf-plan 1\nagents 2\nlimit ticks\nend\n", CheckFault::C4),
+    // Its number of agents is looked at before its answer.
+    ("mapf-plan 1\nagents 1\nlimit ticks\nend\n", CheckFault::C3),
     (
         MEETING,
         CheckFault::C5(PlanFault::V4 {
@@ -191,7 +190,7 @@ const PLANS: [(&str, CheckFault); 8] = [
 ];
 
 // The same, of plans in which one agent is at fault alone.
-const PATHS: [(&str, PlanFault); 5] = [
+const PATHS: [(&str, PlanFault); 7] = [
     (
         "mapf-plan 1\nagents 2\ncost 3\npath 0 1 1,1 2,1\npath 1 2 1,0 1,1 1,2\nend\n",
         PlanFault::V1 { agent: 0 },
@@ -213,6 +212,24 @@ const PATHS: [(&str, PlanFault); 5] = [
     (
         "mapf-plan 1\nagents 2\ncost 3\npath 0 1 0,0 2,2\npath 1 2 1,0 1,1 1,2\nend\n",
         PlanFault::V1 { agent: 0 },
+    ),
+    // They meet at ticks 1 and 2.
+    (
+        "mapf-plan 1\nagents 2\ncost 6\npath 0 3 0,1 1,1 1,1 2,1\npath 1 3 1,0 1,1 1,1 1,2\nend\n",
+        PlanFault::V4 {
+            i: 0,
+            j: 1,
+            tick: 1,
+        },
+    ),
+    // They exchange their places after tick 1, and meet at tick 3.
+    (
+        "mapf-plan 1\nagents 2\ncost 8\npath 0 4 0,1 1,1 1,0 1,1 2,1\npath 1 4 1,0 1,0 1,1 1,1 1,2\nend\n",
+        PlanFault::V5 {
+            i: 0,
+            j: 1,
+            tick: 1,
+        },
     ),
 ];
 
@@ -272,6 +289,44 @@ const CROSSING_CHANGES: [Change; 14] = [
     ),
 ];
 
+// Certificates with two faults, of which the first in the order of judging is answered.
+const ORDER_CHANGES: [Change; 10] = [
+    // The first three lines come before what they say.
+    (
+        2,
+        3,
+        "agents 1\nclaim bound 5\n",
+        Err(CheckFault::C2(CertFault::K1(3))),
+    ),
+    (2, 3, "agents 1\nclaim cost 4\n", Err(CheckFault::C3)),
+    (
+        3,
+        4,
+        "claim cost 4\nvertex 0 0 1,1 1\n",
+        Err(CheckFault::C4),
+    ),
+    // What a line says comes after its own shape and ranges, and before the lines after it.
+    (
+        4,
+        4,
+        "vertex 0 0 1,1 1000000\n",
+        Err(CheckFault::C2(CertFault::K3(4))),
+    ),
+    (4, 5, "vertex 0 0 1,1 1\nleaf x\n", Err(CheckFault::C6(4))),
+    (4, 11, "clash 0 1\n", Err(CheckFault::C9(4))),
+    // A leaf is judged after its last line.
+    (
+        6,
+        7,
+        "agent 0 2\nat 0,1 0 4\nat 1,1 1 x\n",
+        Err(CheckFault::C2(CertFault::K1(8))),
+    ),
+    (7, 10, "at 0,1 0 4\n", Err(CheckFault::C7(7))),
+    // Its entries come before what it adds up to, and that before the lines after it.
+    (7, 7, "at 0,0 0 9\n", Err(CheckFault::C7(7))),
+    (5, 10, "leaf 0\n", Err(CheckFault::C8(5))),
+];
+
 // The split of the first is on a blocked cell.
 const NICHE_CHANGES: [Change; 1] = [(4, 4, "vertex 0 1 0,1 1\n", Err(CheckFault::C6(4)))];
 
@@ -279,6 +334,7 @@ const NICHE_CHANGES: [Change; 1] = [(4, 4, "vertex 0 1 0,1 1\n", Err(CheckFault:
 fn judges_changed_certificates(rt: HostRuntime) -> Result<(), Fail> {
     let crossing = (CROSSING_PLAN, CROSSING_CERT);
     assert_changes(&rt, rt.alloc(), &CROSSING, crossing, &CROSSING_CHANGES)?;
+    assert_changes(&rt, rt.alloc(), &CROSSING, crossing, &ORDER_CHANGES)?;
     let niche = (NICHE_PLAN, NICHE_CERT);
     assert_changes(&rt, rt.alloc(), &NICHE, niche, &NICHE_CHANGES)
 }

@@ -4,9 +4,13 @@
 #[cfg(test)]
 mod checking;
 #[cfg(test)]
+mod failing;
+#[cfg(test)]
 mod faults;
 #[cfg(test)]
 mod hostile;
+#[cfg(test)]
+mod playing;
 #[cfg(test)]
 mod problems;
 pub mod runs;
@@ -15,4 +19,8 @@ mod solving;
 #[cfg(test)]
 mod streams;
 #[cfg(test)]
+mod telling;
+#[cfg(test)]
 mod texts;
+#[cfg(test)]
+mod values;

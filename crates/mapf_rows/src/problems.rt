@@ -50,7 +50,7 @@ pub const MEETING: &str =
 pub const DEARER: &str =
     "mapf-plan 1\nagents 2\ncost 6\npath 0 4 0,1 0,1 0,1 1,1 2,1\npath 1 2 1,0 1,1 1,2\nend\n";
 
-// An agent that is at its goal, in the way of another, and steps aside into a niche.
+// An agent at its goal is in the way of another, and steps aside into a niche.
 pub const NICHE: Given = Given {
     map: "type octile\nheight 2\nwidth 3\nmap\n...\n@.@\n",
     scen: "version 1\n0\tniche.map\t3\t2\t0\t0\t2\t0\t2\n0\tniche.map\t3\t2\t1\t0\t1\t0\t0\n",
@@ -69,6 +69,10 @@ pub const EXCHANGE: Given = Given {
     scen: "version 1\n0\ta.map\t2\t1\t0\t0\t1\t0\t1\n0\ta.map\t2\t1\t1\t0\t0\t0\t1\n",
     k: 2,
 };
+
+// A plan in which they exchange them.
+pub const SWAPPING: &str =
+    "mapf-plan 1\nagents 2\ncost 2\npath 0 1 0,0 1,0\npath 1 1 1,0 0,0\nend\n";
 
 // Two agents with one start.
 pub const SHARED_START: Given = Given {
