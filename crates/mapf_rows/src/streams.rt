@@ -111,6 +111,26 @@ fn breaks_off_where_the_source_fails(rt: HostRuntime) {
     }
 }
 
+#[test]
+fn ends_where_the_source_fails_at_any_call(rt: HostRuntime) {
+    let failed = Err(Fault::F4(Input::Cert));
+    for pace in [Pace::AllAtOnce, Pace::ByteByByte] {
+        for calls in 0..113 {
+            let mut source = FuseSource::of(CROSSING_CERT.as_bytes(), pace, Some(calls));
+            let plan = CROSSING_PLAN.as_bytes();
+            let verdict = check_pulled(rt.alloc(), &CROSSING, plan, &mut source);
+            let wanted = if source.failed() {
+                failed
+            } else {
+                Ok(Verdict::Optimal(5))
+            };
+            assert_eq!(rt; verdict, wanted, "after {calls} calls");
+            assert!(rt; calls > 0 || source.failed());
+            assert!(rt; calls < 112 || !source.failed(), "after {calls} calls");
+        }
+    }
+}
+
 // One line for ever, after a header.
 #[derive(Drop)]
 struct Endless {

@@ -1,5 +1,10 @@
 //! What is told of each answer and of each kind of fault, where, and by which exit status.
 
+use crate::problems::{
+    CROSSING, CROSSING_CERT, CROSSING_MAP, CROSSING_PLAN, CROSSING_SCEN, EXCHANGE, SHARED_START,
+};
+use crate::runs::{Given, check, solve};
+use crate::texts::with_lines;
 use mapf_app::{
     CertFault, CheckFault, Fault, Input, Kind, MapFault, Output, PlanFault, PlanTextFault,
     PlayFault, ScenFault, Verdict, tell_check, tell_run, tell_solve,
@@ -269,5 +274,50 @@ fn ends_with_a_fault_where_nothing_can_be_told(rt: HostRuntime) -> Result<(), Fa
         let mut err = FuseSink::with_room(alloc, ROOM, Pace::ByteByByte, fuse)?;
         assert_eq!(rt; tell_run(&Err(Fault::F6), &mut err), 2, "after {calls}");
     }
+    Ok(())
+}
+
+// A problem, the number of splits that are allowed, and the line and the status that are due.
+const SOLVED: [(Given, u32, &str, u8); 3] = [
+    (CROSSING, 10, "cost 5\n", 0),
+    (SHARED_START, 1, "impossible\n", 3),
+    (EXCHANGE, 3, "limit 3\n", 4),
+];
+
+#[test]
+fn ends_solved_runs(rt: HostRuntime) -> Result<(), Fail> {
+    for (given, limit, line, status) in SOLVED {
+        assert!(rt; 1 <= given.k && given.k <= 200 && limit <= 100_000);
+        let mut out = BytesSink::with_room(rt.alloc(), ROOM)?;
+        let mut err = BytesSink::with_room(rt.alloc(), ROOM)?;
+        let solved = solve(rt.alloc(), &given, limit)?;
+        let told = tell_solve(&solved.answer, &mut out, &mut err);
+        assert_eq!(rt; told, status, "of {line}");
+        assert_eq!(rt; out.bytes(), line.as_bytes());
+        assert_eq!(rt; err.bytes(), b"".as_slice());
+    }
+    Ok(())
+}
+
+#[test]
+fn ends_refused_and_faulty_runs(rt: HostRuntime) -> Result<(), Fail> {
+    let alloc = rt.alloc();
+    let mut out = BytesSink::with_room(alloc, ROOM)?;
+    let mut err = BytesSink::with_room(alloc, ROOM)?;
+    let cert = with_lines(alloc, CROSSING_CERT, 7, 7, "at 0,1 0 4\n")?;
+    let verdict = check(alloc, &CROSSING, CROSSING_PLAN.as_bytes(), cert.as_bytes());
+    assert_eq!(rt; tell_check(&verdict, &mut out, &mut err), 1);
+    assert_eq!(rt; out.bytes(), b"refused C7 7\n".as_slice());
+    assert_eq!(rt; err.bytes(), b"".as_slice());
+    let mut out = BytesSink::with_room(alloc, ROOM)?;
+    let of_two_rows = Given {
+        map: CROSSING_MAP,
+        scen: CROSSING_SCEN,
+        k: 3,
+    };
+    let solved = solve(alloc, &of_two_rows, 10)?;
+    assert_eq!(rt; tell_solve(&solved.answer, &mut out, &mut err), 2);
+    assert_eq!(rt; out.bytes(), b"".as_slice());
+    assert_eq!(rt; err.bytes(), b"F2 S7 2\n".as_slice());
     Ok(())
 }
