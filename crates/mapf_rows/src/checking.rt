@@ -5,7 +5,8 @@ ghost use Rattle.std.specs.Prelude.{◌≤◌};
 use crate::problems::{
     AT_REST, AT_REST_PLAN, CROSSING, CROSSING_CERT, CROSSING_PLAN, DEARER, EXCHANGE, MEETING,
     NICHE, NICHE_CERT, NICHE_PLAN, ROTATION, ROTATION_PLAN, SHARED_GOAL, SHARED_GOAL_CERT,
-    SHARED_GOAL_PLAN, SHARED_START, SHARED_START_CERT, SHARED_START_PLAN, SWAPPING,
+    SHARED_GOAL_PLAN, SHARED_START, SHARED_START_CERT, SHARED_START_PLAN, SWAPPING, WALL,
+    WALL_CERT, WALL_PLAN,
 };
 use crate::runs::{Given, check, problem_of};
 use crate::texts::with_lines;
@@ -247,7 +248,7 @@ fn refuses_plans(rt: HostRuntime) -> Result<(), Fail> {
     Ok(())
 }
 
-const CROSSING_CHANGES: [Change; 14] = [
+const CROSSING_CHANGES: [Change; 15] = [
     // A split that nothing asks for, and below it the tree twice.
     (
         4,
@@ -270,6 +271,8 @@ const CROSSING_CHANGES: [Change; 14] = [
     (4, 4, "clash 1 1\n", Err(CheckFault::C9(4))),
     // Waiting leads to a label of 2.
     (7, 7, "at 0,1 0 4\n", Err(CheckFault::C7(7))),
+    // A label that is no more than the distance.
+    (7, 7, "at 0,1 0 2\n", Err(CheckFault::C7(7))),
     // A raised label at a goal that no bar touches.
     (
         9,
@@ -327,8 +330,24 @@ const ORDER_CHANGES: [Change; 10] = [
     (5, 10, "leaf 0\n", Err(CheckFault::C8(5))),
 ];
 
-// The split of the first is on a blocked cell.
-const NICHE_CHANGES: [Change; 1] = [(4, 4, "vertex 0 1 0,1 1\n", Err(CheckFault::C6(4)))];
+// Splits on a blocked cell and of one agent, and a label of a blocked cell.
+const NICHE_CHANGES: [Change; 4] = [
+    (4, 4, "vertex 0 1 0,1 1\n", Err(CheckFault::C6(4))),
+    (4, 4, "swap 0 1 0,0 0,1 1\n", Err(CheckFault::C6(4))),
+    (4, 4, "swap 1 1 0,0 1,0 1\n", Err(CheckFault::C6(4))),
+    (9, 9, "at 0,1 0 5\n", Err(CheckFault::C7(9))),
+];
+
+// A leaf at which both agents may arrive.
+const SHARED_START_CHANGES: [Change; 1] = [(5, 7, "leaf 0\n", Err(CheckFault::C8(5)))];
+
+// A label of a cell from which no steps lead to the goal.
+const WALL_CHANGES: [Change; 1] = [(
+    4,
+    4,
+    "leaf 1\nagent 0 1\nat 0,0 0 inf\n",
+    Err(CheckFault::C7(6)),
+)];
 
 #[test]
 fn judges_changed_certificates(rt: HostRuntime) -> Result<(), Fail> {
@@ -336,5 +355,15 @@ fn judges_changed_certificates(rt: HostRuntime) -> Result<(), Fail> {
     assert_changes(&rt, rt.alloc(), &CROSSING, crossing, &CROSSING_CHANGES)?;
     assert_changes(&rt, rt.alloc(), &CROSSING, crossing, &ORDER_CHANGES)?;
     let niche = (NICHE_PLAN, NICHE_CERT);
-    assert_changes(&rt, rt.alloc(), &NICHE, niche, &NICHE_CHANGES)
+    assert_changes(&rt, rt.alloc(), &NICHE, niche, &NICHE_CHANGES)?;
+    let shared = (SHARED_START_PLAN, SHARED_START_CERT);
+    assert_changes(
+        &rt,
+        rt.alloc(),
+        &SHARED_START,
+        shared,
+        &SHARED_START_CHANGES,
+    )?;
+    let wall = (WALL_PLAN, WALL_CERT);
+    assert_changes(&rt, rt.alloc(), &WALL, wall, &WALL_CHANGES)
 }

@@ -89,13 +89,13 @@ fn keeps_its_limit(rt: HostRuntime) -> Result<(), Fail> {
     Ok(())
 }
 
-// The certificate up to its first leaf.
-const FIRST_LEAF: u64 = 58;
+// How many bytes the crossing's certificate has up to the end of its first line `leaf 1`.
+const FIRST_LEAF: usize = 58;
 
 #[test]
 fn breaks_off_where_the_source_fails(rt: HostRuntime) {
     let cert = CROSSING_CERT.as_bytes();
-    assert!(rt; cert[..58].ends_with(b"\nleaf 1\n"));
+    assert!(rt; cert[..FIRST_LEAF].ends_with(b"\nleaf 1\n"));
     let meet = PlanFault::V4 {
         i: 0,
         j: 1,
@@ -105,7 +105,7 @@ fn breaks_off_where_the_source_fails(rt: HostRuntime) {
         (CROSSING_PLAN, Fault::F4(Input::Cert)),
         (MEETING, Fault::Refused(CheckFault::C5(meet))),
     ] {
-        let mut source = FuseSource::of(cert, Pace::ByteByByte, Some(FIRST_LEAF));
+        let mut source = FuseSource::of(cert, Pace::ByteByByte, Some(FIRST_LEAF as u64));
         let verdict = check_pulled(rt.alloc(), &CROSSING, plan.as_bytes(), &mut source);
         assert_eq!(rt; verdict, Err(fault), "of {plan}");
     }
