@@ -2,7 +2,8 @@ ghost use Rattle.std.specs.Prelude.{◌≡◌, ◌∷◌, [], true, IfOk};
 
 use crate::play;
 use crate::player::write_text;
-use mapf_model::{Agent, BytesSink, Cell, Failed, Grid, Path, Plan, Problem, Sink, Tick};
+use mapf_model::devices::{FuseSink, Pace};
+use mapf_model::{Agent, BytesSink, Cell, Grid, Path, Plan, Problem, Tick};
 use std::alloc::Global;
 use std::test::Fail;
 
@@ -128,55 +129,53 @@ fn shows_a_grid_that_no_page_holds(rt: HostRuntime) -> Result<(), Fail> {
     Ok(())
 }
 
-// Takes one byte a push, and fails after so many.
-#[derive(Drop)]
-struct Drip {
-    bytes: Vec<u8>,
-    left: usize,
-    is_failed: bool,
-}
-
-impl Sink for Drip {
-    ghost use Rattle.std.specs.Prelude.{Some};
-
-    ghost contents = { λ s. Some s.bytes.items };
-
-    ghost has_failed = { λ s. s.is_failed };
-
-    fn push(&mut self, bytes: &[u8]) -> Result<usize, Failed> {
-        if self.left == 0 {
-            self.is_failed = true;
-            return Err(Failed);
-        }
-        self.left -= 1;
-        match self.bytes.push(bytes[0]) {
-            Ok(()) => Ok(1),
-            Err(_) => {
-                self.is_failed = true;
-                Err(Failed)
-            }
-        }
+#[test]
+fn shows_the_same_byte_by_byte(rt: HostRuntime) -> Result<(), Fail> {
+    let open = grid(rt.alloc(), 3, 3, &[])?;
+    let paths = paths(rt.alloc(), CROSSING)?;
+    for pace in [Pace::AllAtOnce, Pace::ByteByByte] {
+        let mut sink = FuseSink::with_room(rt.alloc(), 200, pace, None)?;
+        write_text(&mut sink, &open, &paths, 3)?;
+        assert_eq!(rt; sink.bytes(), CROSSING_TEXT.as_bytes());
     }
-
-    fn failed(&self) -> bool {
-        self.is_failed
-    }
+    Ok(())
 }
 
 #[test]
-fn leaves_a_front_in_a_sink_that_fails(rt: HostRuntime) -> Result<(), Fail> {
+fn leaves_a_prefix_in_a_sink_that_fails(rt: HostRuntime) -> Result<(), Fail> {
     let open = grid(rt.alloc(), 3, 3, &[])?;
     let paths = paths(rt.alloc(), CROSSING)?;
     let whole = CROSSING_TEXT.as_bytes();
-    for left in 0..=whole.len() {
-        let mut sink = Drip {
-            bytes: Vec::new(rt.alloc()),
-            left,
-            is_failed: false,
-        };
-        let answer = write_text(&mut sink, &open, &paths, 3);
-        assert_eq!(rt; answer.is_ok(), left == whole.len());
-        assert_eq!(rt; sink.bytes.as_slice(), &whole[..left]);
+    for taken in 0..=whole.len() {
+        let fuse = Some(taken as u64);
+        let mut slow = FuseSink::with_room(rt.alloc(), 200, Pace::ByteByByte, fuse)?;
+        let answer = write_text(&mut slow, &open, &paths, 3);
+        assert_eq!(rt; answer.is_ok(), taken == whole.len());
+        assert_eq!(rt; slow.bytes(), &whole[..taken]);
+        let mut full = FuseSink::with_room(rt.alloc(), taken, Pace::AllAtOnce, None)?;
+        let answer = write_text(&mut full, &open, &paths, 3);
+        assert_eq!(rt; answer.is_ok(), taken == whole.len());
+        assert_eq!(rt; full.bytes(), &whole[..taken]);
+    }
+    Ok(())
+}
+
+#[test]
+fn leaves_a_prefix_of_more_than_a_page(rt: HostRuntime) -> Result<(), Fail> {
+    let large = grid(rt.alloc(), 100, 90, &[])?;
+    let paths = paths(rt.alloc(), &[&[0]])?;
+    let whole = text(rt.alloc(), &large, &paths, 0)?;
+    for calls in 0..4 {
+        let mut sink = FuseSink::with_room(rt.alloc(), 20000, Pace::AllAtOnce, Some(calls))?;
+        let answer = write_text(&mut sink, &large, &paths, 0);
+        let is_whole = sink.bytes().len() == whole.bytes().len();
+        assert_eq!(rt; answer.is_ok(), is_whole, "after {calls} calls");
+        assert!(rt;
+            whole.bytes().starts_with(sink.bytes()),
+            "after {calls} calls"
+        );
+        assert!(rt; 0 < calls || sink.bytes().is_empty());
+        assert!(rt; is_whole || calls < 3);
     }
     Ok(())
 }

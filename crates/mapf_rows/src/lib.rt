@@ -6,9 +6,23 @@ mod adapters;
 #[cfg(test)]
 mod checking;
 #[cfg(test)]
+mod failing;
+#[cfg(test)]
 mod faults;
+#[cfg(test)]
+mod hostile;
+#[cfg(test)]
+mod playing;
+#[cfg(test)]
+mod problems;
 pub mod runs;
 #[cfg(test)]
 mod solving;
 #[cfg(test)]
 mod streams;
+#[cfg(test)]
+mod telling;
+#[cfg(test)]
+mod texts;
+#[cfg(test)]
+mod values;

@@ -2,8 +2,9 @@
 
 ghost use Rattle.std.specs.Prelude.{◌≡◌, ◌≤◌, false};
 
-use mapf_app::{Fault, Kind, Verdict, run_check, run_solve};
-use mapf_model::{BytesSink, BytesSource, OutOfMemory, Source};
+use mapf_app::{Fault, Kind, Verdict, run_check, run_play, run_solve};
+use mapf_model::{BytesSink, BytesSource, OutOfMemory, Problem, Sink, Source};
+use mapf_text::{read_map, read_scen};
 use std::alloc::Global;
 
 /// A problem's texts and its number of agents.
@@ -61,9 +62,23 @@ pub fn check_pulled<S: Source>(
     run_check(alloc, &mut map, &mut scen, given.k, &mut plan, cert)
 }
 
-/// Two agents that cross on an open square of nine cells.
-pub const CROSSING: Given = Given {
-    map: "type octile\nheight 3\nwidth 3\nmap\n...\n...\n...\n",
-    scen: "version 1\n0\topen3.map\t3\t3\t0\t1\t2\t1\t2\n0\topen3.map\t3\t3\t1\t0\t1\t2\t2\n",
-    k: 2,
-};
+/// Plays a plan text into this sink.
+pub fn play<K: Sink>(alloc: Global, given: &Given, plan: &[u8], sink: &mut K) -> Result<(), Fault>
+    requires works { K.has_failed sink.old ≡ false }
+    requires some { 1 ≤ given.now.k }
+    requires few { given.now.k ≤ 200 }
+{
+    let mut map = BytesSource::of(given.map.as_bytes());
+    let mut scen = BytesSource::of(given.scen.as_bytes());
+    let mut plan = BytesSource::of(plan);
+    run_play(alloc, &mut map, &mut scen, given.k, &mut plan, sink)
+}
+
+/// The problem that the texts spell, if they spell one.
+pub fn problem_of(alloc: Global, given: &Given) -> Option<Problem>
+    requires some { 1 ≤ given.now.k }
+    requires few { given.now.k ≤ 200 }
+{
+    let grid = read_map(alloc, given.map.as_bytes()).ok()?;
+    read_scen(alloc, given.scen.as_bytes(), grid, given.k).ok()
+}

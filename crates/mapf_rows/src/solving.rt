@@ -1,67 +1,84 @@
 //! What is written for problems of each kind of answer.
 
-use crate::checking::{CERT, PLAN};
-use crate::runs::{CROSSING, Given, check, solve};
+use crate::problems::{
+    AT_REST, AT_REST_CERT, AT_REST_PLAN, CORRIDOR, CORRIDOR_CERT, CORRIDOR_PLAN, CROSSING,
+    CROSSING_CERT, CROSSING_PLAN, EXCHANGE, NICHE, NICHE_CERT, NICHE_PLAN, ROTATION, ROTATION_CERT,
+    ROTATION_PLAN, SHARED_GOAL, SHARED_GOAL_CERT, SHARED_GOAL_PLAN, SHARED_START,
+    SHARED_START_CERT, SHARED_START_PLAN, WALL, WALL_CERT, WALL_PLAN,
+};
+use crate::runs::{Given, check, solve};
 use mapf_app::{Kind, Verdict};
 use mapf_model::Cause;
 use std::test::Fail;
 
-// A problem, and the answer, the plan text and the certificate that are due.
+// A problem, the number of splits that are allowed, and the answer and the texts that are due.
 #[derive(Clone, Copy)]
 struct Row {
     given: Given,
+    limit: u32,
     kind: Kind,
     plan: &'static str,
     cert: &'static str,
 }
 
-// One agent that is at its goal.
-const AT_REST: Row = Row {
-    given: Given {
-        map: "type octile\nheight 1\nwidth 1\nmap\n.\n",
-        scen: "version 1\n0\ta.map\t1\t1\t0\t0\t0\t0\t0\n",
-        k: 1,
+const ROWS: [Row; 8] = [
+    Row {
+        given: AT_REST,
+        limit: 0,
+        kind: Kind::Found(0),
+        plan: AT_REST_PLAN,
+        cert: AT_REST_CERT,
     },
-    kind: Kind::Found(0),
-    plan: "mapf-plan 1\nagents 1\ncost 0\npath 0 0 0,0\nend\n",
-    cert: "mapf-cert 1\nagents 1\nclaim cost 0\nleaf 0\nend\n",
-};
-
-// One agent in a corridor; lines that end with CR LF, and a last line without an end.
-const CORRIDOR: Row = Row {
-    given: Given {
-        map: "type octile\r\nheight 1\r\nwidth 3\r\nmap\r\n...",
-        scen: "version 1.0\r\n0 a.map 3 1 0 0 2 0 2",
-        k: 1,
+    Row {
+        given: CORRIDOR,
+        limit: 0,
+        kind: Kind::Found(2),
+        plan: CORRIDOR_PLAN,
+        cert: CORRIDOR_CERT,
     },
-    kind: Kind::Found(2),
-    plan: "mapf-plan 1\nagents 1\ncost 2\npath 0 2 0,0 1,0 2,0\nend\n",
-    cert: "mapf-cert 1\nagents 1\nclaim cost 2\nleaf 0\nend\n",
-};
-
-// A wall between start and goal.
-const WALL: Row = Row {
-    given: Given {
-        map: "type octile\nheight 1\nwidth 3\nmap\n.@.\n",
-        scen: "version 1\n0\ta.map\t3\t1\t0\t0\t2\t0\t2\n",
-        k: 1,
+    Row {
+        given: CROSSING,
+        limit: 10,
+        kind: Kind::Found(5),
+        plan: CROSSING_PLAN,
+        cert: CROSSING_CERT,
     },
-    kind: Kind::Impossible,
-    plan: "mapf-plan 1\nagents 1\nimpossible\nend\n",
-    cert: "mapf-cert 1\nagents 1\nclaim impossible\nleaf 0\nend\n",
-};
-
-// Four agents that rotate on an open square.
-const ROTATION: Row = Row {
-    given: Given {
-        map: "type octile\nheight 2\nwidth 2\nmap\n..\n..\n",
-        scen: "version 1\n0\ta.map\t2\t2\t0\t0\t1\t0\t1\n0\ta.map\t2\t2\t1\t0\t1\t1\t1\n0\ta.map\t2\t2\t1\t1\t0\t1\t1\n0\ta.map\t2\t2\t0\t1\t0\t0\t1\n",
-        k: 4,
+    Row {
+        given: NICHE,
+        limit: 5,
+        kind: Kind::Found(4),
+        plan: NICHE_PLAN,
+        cert: NICHE_CERT,
     },
-    kind: Kind::Found(4),
-    plan: "mapf-plan 1\nagents 4\ncost 4\npath 0 1 0,0 1,0\npath 1 1 1,0 1,1\npath 2 1 1,1 0,1\npath 3 1 0,1 0,0\nend\n",
-    cert: "mapf-cert 1\nagents 4\nclaim cost 4\nleaf 0\nend\n",
-};
+    Row {
+        given: SHARED_START,
+        limit: 1,
+        kind: Kind::Impossible,
+        plan: SHARED_START_PLAN,
+        cert: SHARED_START_CERT,
+    },
+    Row {
+        given: SHARED_GOAL,
+        limit: 0,
+        kind: Kind::Impossible,
+        plan: SHARED_GOAL_PLAN,
+        cert: SHARED_GOAL_CERT,
+    },
+    Row {
+        given: WALL,
+        limit: 0,
+        kind: Kind::Impossible,
+        plan: WALL_PLAN,
+        cert: WALL_CERT,
+    },
+    Row {
+        given: ROTATION,
+        limit: 0,
+        kind: Kind::Found(4),
+        plan: ROTATION_PLAN,
+        cert: ROTATION_CERT,
+    },
+];
 
 fn verdict_of(kind: Kind) -> Option<Verdict> {
     match kind {
@@ -73,9 +90,9 @@ fn verdict_of(kind: Kind) -> Option<Verdict> {
 
 #[test]
 fn writes_plan_and_certificate(rt: HostRuntime) -> Result<(), Fail> {
-    for row in [AT_REST, CORRIDOR, WALL, ROTATION] {
-        assert!(rt; 1 <= row.given.k && row.given.k <= 200);
-        let solved = solve(rt.alloc(), &row.given, 0)?;
+    for row in ROWS {
+        assert!(rt; 1 <= row.given.k && row.given.k <= 200 && row.limit <= 100_000);
+        let solved = solve(rt.alloc(), &row.given, row.limit)?;
         assert_eq!(rt; solved.answer, Ok(row.kind));
         assert_eq!(rt; solved.plan.bytes(), row.plan.as_bytes());
         assert_eq!(rt; solved.cert.bytes(), row.cert.as_bytes());
@@ -91,22 +108,30 @@ fn writes_plan_and_certificate(rt: HostRuntime) -> Result<(), Fail> {
 }
 
 #[test]
-fn splits_where_shortest_paths_meet(rt: HostRuntime) -> Result<(), Fail> {
+fn needs_no_more_splits_than_it_makes(rt: HostRuntime) -> Result<(), Fail> {
     let solved = solve(rt.alloc(), &CROSSING, 1)?;
     assert_eq!(rt; solved.answer, Ok(Kind::Found(5)));
-    assert_eq!(rt; solved.plan.bytes(), PLAN.as_bytes());
-    assert_eq!(rt; solved.cert.bytes(), CERT.as_bytes());
+    assert_eq!(rt; solved.plan.bytes(), CROSSING_PLAN.as_bytes());
+    assert_eq!(rt; solved.cert.bytes(), CROSSING_CERT.as_bytes());
     Ok(())
 }
 
+// Problems that need more splits than are allowed, how many these are, and the plan text that is due.
+const LIMITED: [(Given, u32, &str); 4] = [
+    (CROSSING, 0, "mapf-plan 1\nagents 2\nlimit 0\nend\n"),
+    (NICHE, 4, "mapf-plan 1\nagents 2\nlimit 4\nend\n"),
+    (SHARED_START, 0, "mapf-plan 1\nagents 2\nlimit 0\nend\n"),
+    (EXCHANGE, 3, "mapf-plan 1\nagents 2\nlimit 3\nend\n"),
+];
+
 #[test]
 fn stops_at_its_limit(rt: HostRuntime) -> Result<(), Fail> {
-    let solved = solve(rt.alloc(), &CROSSING, 0)?;
-    assert_eq!(rt; solved.answer, Ok(Kind::Limit(Cause::Splits(0))));
-    assert_eq!(rt;
-        solved.plan.bytes(),
-        b"mapf-plan 1\nagents 2\nlimit 0\nend\n".as_slice()
-    );
-    assert_eq!(rt; solved.cert.bytes(), b"".as_slice());
+    for (given, limit, plan) in LIMITED {
+        assert!(rt; 1 <= given.k && given.k <= 200 && limit <= 100_000);
+        let solved = solve(rt.alloc(), &given, limit)?;
+        assert_eq!(rt; solved.answer, Ok(Kind::Limit(Cause::Splits(limit))));
+        assert_eq!(rt; solved.plan.bytes(), plan.as_bytes());
+        assert_eq!(rt; solved.cert.bytes(), b"".as_slice());
+    }
     Ok(())
 }

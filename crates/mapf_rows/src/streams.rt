@@ -1,9 +1,13 @@
-//! Certificates that come in pieces, or are made as they are pulled.
+//! Certificates that come in pieces, that are too long or never end, that break off, or that are made as
+//! they are pulled.
 
-use crate::checking::{CERT, PLAN};
-use crate::runs::{CROSSING, Given, check_pulled};
-use mapf_app::Verdict;
+use crate::problems::{CROSSING, CROSSING_CERT, CROSSING_PLAN, MEETING, RESTING, RESTING_PLAN};
+use crate::runs::{check, check_pulled, problem_of};
+use mapf_app::{CertFault, CheckFault, Fault, Input, PlanFault, Verdict};
+use mapf_checker::{FromFault, check_from};
+use mapf_model::devices::{FuseSource, Pace};
 use mapf_model::{Failed, Source};
+use std::alloc::Global;
 use std::test::Fail;
 
 // Bytes that come in pieces: the first of this length, and the others of at most this one.
@@ -35,19 +39,160 @@ impl<'a> Source for Pieces<'a> {
     }
 }
 
+// The answer to the crossing's certificate in such pieces.
+fn check_pieces(alloc: Global, first: usize, others: usize) -> Result<Verdict, Fault> {
+    let bytes = CROSSING_CERT.as_bytes();
+    let mut source = Pieces {
+        bytes,
+        first,
+        others,
+    };
+    check_pulled(alloc, &CROSSING, CROSSING_PLAN.as_bytes(), &mut source)
+}
+
 #[test]
-fn reads_pieces(rt: HostRuntime) -> Result<(), Fail> {
-    let bytes = CERT.as_bytes();
-    for first in 1..112usize {
-        let others = if first == 1 { 1 } else { 128 };
-        let mut source = Pieces {
-            bytes,
-            first,
-            others,
-        };
-        let answer = check_pulled(rt.alloc(), &CROSSING, PLAN.as_bytes(), &mut source);
-        assert_eq!(rt; answer, Ok(Verdict::Optimal(5)), "{first}");
+fn reads_pieces(rt: HostRuntime) {
+    for first in 1..111 {
+        let answer = check_pieces(rt.alloc(), first, 111);
+        assert_eq!(rt; answer, Ok(Verdict::Optimal(5)), "{first} and the others");
     }
+    for others in [1, 2] {
+        let answer = check_pieces(rt.alloc(), 1, others);
+        assert_eq!(rt; answer, Ok(Verdict::Optimal(5)), "1 and then {others} each");
+    }
+}
+
+// How many bytes may come, how many come after the certificate of 111 bytes, and the answer.
+const LENGTHS: [(u64, &str, Result<Verdict, FromFault>); 4] = [
+    (111, "", Ok(Verdict::Optimal(5))),
+    (110, "", Err(FromFault::TooLong)),
+    (111, "x", Err(FromFault::TooLong)),
+    (
+        112,
+        "x",
+        Err(FromFault::Refused(CheckFault::C2(CertFault::K4(12)))),
+    ),
+];
+
+#[test]
+fn keeps_its_limit(rt: HostRuntime) -> Result<(), Fail> {
+    let problem = problem_of(rt.alloc(), &CROSSING).ok_or("no problem")?;
+    let plan = CROSSING_PLAN.as_bytes();
+    for (limit, more, answer) in LENGTHS {
+        let cert = format!(in rt.alloc(); "{}{more}", CROSSING_CERT)?;
+        for pace in [Pace::AllAtOnce, Pace::ByteByByte] {
+            let mut source = FuseSource::of(cert.as_bytes(), pace, None);
+            let verdict = check_from(rt.alloc(), &problem, plan, &mut source, limit);
+            assert_eq!(rt; verdict, answer, "{more} within {limit}");
+        }
+    }
+    Ok(())
+}
+
+// How many bytes the crossing's certificate has up to the end of its first line `leaf 1`.
+const FIRST_LEAF: usize = 58;
+
+#[test]
+fn breaks_off_where_the_source_fails(rt: HostRuntime) {
+    let cert = CROSSING_CERT.as_bytes();
+    assert!(rt; cert[..FIRST_LEAF].ends_with(b"\nleaf 1\n"));
+    let meet = PlanFault::V4 {
+        i: 0,
+        j: 1,
+        tick: 1,
+    };
+    for (plan, fault) in [
+        (CROSSING_PLAN, Fault::F4(Input::Cert)),
+        (MEETING, Fault::Refused(CheckFault::C5(meet))),
+    ] {
+        let mut source = FuseSource::of(cert, Pace::ByteByByte, Some(FIRST_LEAF as u64));
+        let verdict = check_pulled(rt.alloc(), &CROSSING, plan.as_bytes(), &mut source);
+        assert_eq!(rt; verdict, Err(fault), "of {plan}");
+    }
+}
+
+#[test]
+fn ends_where_the_source_fails_at_any_call(rt: HostRuntime) {
+    let failed = Err(Fault::F4(Input::Cert));
+    for pace in [Pace::AllAtOnce, Pace::ByteByByte] {
+        for calls in 0..113 {
+            let mut source = FuseSource::of(CROSSING_CERT.as_bytes(), pace, Some(calls));
+            let plan = CROSSING_PLAN.as_bytes();
+            let verdict = check_pulled(rt.alloc(), &CROSSING, plan, &mut source);
+            let wanted = if source.failed() {
+                failed
+            } else {
+                Ok(Verdict::Optimal(5))
+            };
+            assert_eq!(rt; verdict, wanted, "after {calls} calls");
+            assert!(rt; calls > 0 || source.failed());
+            assert!(rt; calls < 112 || !source.failed(), "after {calls} calls");
+        }
+    }
+}
+
+// One line for ever, after a header.
+#[derive(Drop)]
+struct Endless {
+    front: &'static [u8],
+    line: &'static [u8],
+}
+
+impl Source for Endless {
+    ghost use Rattle.std.specs.Prelude.{None, false};
+
+    ghost remaining = { λ s. None };
+
+    ghost has_failed = { λ s. false };
+
+    fn pull(&mut self, buf: &mut [u8]) -> Result<usize, Failed> {
+        let n = self.front.len().min(buf.len());
+        buf[..n].copy_from_slice(&self.front[..n]);
+        self.front = self.line;
+        Ok(n)
+    }
+
+    fn failed(&self) -> bool {
+        false
+    }
+}
+
+#[test]
+fn gives_up_on_a_tree_that_never_ends(rt: HostRuntime) -> Result<(), Fail> {
+    let problem = problem_of(rt.alloc(), &RESTING).ok_or("no problem")?;
+    let mut source = Endless {
+        front: b"mapf-cert 1\nagents 2\nclaim cost 0\n",
+        line: b"vertex 0 1 0,0 0\n",
+    };
+    let plan = RESTING_PLAN.as_bytes();
+    let verdict = check_from(rt.alloc(), &problem, plan, &mut source, 10_000);
+    assert_eq!(rt; verdict, Err(FromFault::TooLong));
+    Ok(())
+}
+
+// A tree as deep as it has splits, without its last line.
+fn deep_tree(alloc: Global) -> Result<Vec<u8>, Fail> {
+    let mut cert = Vec::from_slice(alloc, b"mapf-cert 1\nagents 2\nclaim cost 0\n")?;
+    for tick in 0..20_000u32 {
+        let split = format!(in alloc; "vertex 0 1 0,0 {tick}\n")?;
+        cert.extend_from_slice(split.as_bytes())?;
+    }
+    for _ in 0..20_001 {
+        cert.extend_from_slice(b"leaf 0\n")?;
+    }
+    Ok(cert)
+}
+
+#[test]
+fn judges_deep_trees(rt: HostRuntime) -> Result<(), Fail> {
+    let plan = RESTING_PLAN.as_bytes();
+    let mut cert = deep_tree(rt.alloc())?;
+    let verdict = check(rt.alloc(), &RESTING, plan, &cert);
+    let refusal = CheckFault::C2(CertFault::K2(40_005));
+    assert_eq!(rt; verdict, Err(Fault::Refused(refusal)));
+    cert.extend_from_slice(b"end\n")?;
+    let verdict = check(rt.alloc(), &RESTING, plan, &cert);
+    assert_eq!(rt; verdict, Ok(Verdict::Optimal(0)));
     Ok(())
 }
 
@@ -138,18 +283,12 @@ fn split_at(depth: u32) -> &'static [u8] {
 
 #[test]
 fn judges_wide_trees(rt: HostRuntime) -> Result<(), Fail> {
-    let rest = Given {
-        map: "type octile\nheight 1\nwidth 2\nmap\n..\n",
-        scen: "version 1\n0 rest.map 2 1 0 0 0 0 0\n0 rest.map 2 1 1 0 1 0 0\n",
-        k: 2,
-    };
-    let plan = b"mapf-plan 1\nagents 2\ncost 0\npath 0 0 0,0\npath 1 0 1,0\nend\n";
     let mut source = WholeTree {
         header: false,
         depth: 0,
         rights: 0,
     };
-    let answer = check_pulled(rt.alloc(), &rest, plan, &mut source);
+    let answer = check_pulled(rt.alloc(), &RESTING, RESTING_PLAN.as_bytes(), &mut source);
     assert_eq!(rt; answer, Ok(Verdict::Optimal(0)));
     Ok(())
 }

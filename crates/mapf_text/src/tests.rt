@@ -45,7 +45,7 @@ fn prefixes_of_a_map(rt: HostRuntime) {
 
 #[test]
 fn maps(rt: HostRuntime) {
-    let table: [(&[u8], Option<MapFault>); 26] = [
+    let table: [(&[u8], Option<MapFault>); 29] = [
         (b"type octile\r\nheight 1\r\nwidth 3\r\nmap\r\n...", None),
         (
             b"\ttype  octile \r\nheight\t01\nwidth 0003 \n map\t\r\n...\r",
@@ -128,6 +128,19 @@ fn maps(rt: HostRuntime) {
             b"type octile\nheight 1\nwidth 2\nmap\n .\n",
             Some(MapFault::M7 { x: 0, y: 0 }),
         ),
+        // A row's length comes before its bytes, and both before what follows the row.
+        (
+            b"type octile\nheight 2\nwidth 2\nmap\n.x.\n",
+            Some(MapFault::M6 { row: 0 }),
+        ),
+        (
+            b"type octile\nheight 2\nwidth 2\nmap\nxy\n",
+            Some(MapFault::M7 { x: 0, y: 0 }),
+        ),
+        (
+            b"type octile\nheight 1\nwidth 2\nmap\n.y\nx\n",
+            Some(MapFault::M7 { x: 1, y: 0 }),
+        ),
     ];
     for (bytes, want) in table {
         assert_eq!(rt; map_fault(rt.alloc(), bytes), want);
@@ -166,21 +179,27 @@ fn scenario_fault(alloc: Global, map: &[u8], bytes: &[u8], k: u32) -> Option<Sce
 const TWO_AGENTS: &[u8] =
     b"version 1\n0\topen3.map\t3\t3\t0\t1\t2\t1\t2\n0\topen3.map\t3\t3\t1\t0\t1\t2\t2\n";
 
+// The fault of each proper prefix of that scenario, by its length.
+fn scenario_prefix_fault(length: usize) -> Option<ScenFault> {
+    match length {
+        0..=8 => Some(ScenFault::S1),
+        9..=10 => Some(ScenFault::S7 { rows: 0 }),
+        11..=34 => Some(ScenFault::S2 { row: 0 }),
+        35..=36 => Some(ScenFault::S7 { rows: 1 }),
+        37..=60 => Some(ScenFault::S2 { row: 1 }),
+        _ => None,
+    }
+}
+
 #[test]
 fn prefixes_of_a_scenario(rt: HostRuntime) {
-    for length in 0..TWO_AGENTS.len() {
-        let fault = scenario_fault(rt.alloc(), OPEN_MAP, &TWO_AGENTS[..length], 2);
-        if length + 1 == TWO_AGENTS.len() {
-            assert_eq!(rt; fault, None);
-        } else {
-            assert!(rt;
-                matches!(
-                    fault,
-                    Some(ScenFault::S1 | ScenFault::S2 { .. } | ScenFault::S7 { .. })
-                ),
-                "at {length}"
-            );
-        }
+    assert_eq!(rt; TWO_AGENTS.len(), 62);
+    for length in 0..=62 {
+        assert_eq!(rt;
+            scenario_fault(rt.alloc(), OPEN_MAP, &TWO_AGENTS[..length], 2),
+            scenario_prefix_fault(length),
+            "at {length}"
+        );
     }
 }
 
@@ -212,7 +231,7 @@ const BLOCKED_MAP: &[u8] = b"type octile\nheight 2\nwidth 3\nmap\n..T\n...\n";
 
 #[test]
 fn scenarios(rt: HostRuntime) {
-    let table: [(&[u8], u32, Option<ScenFault>); 30] = [
+    let table: [(&[u8], u32, Option<ScenFault>); 33] = [
         (
             b"version 1\n0 m 3 2 0 0 0 1 1\n0 m 3 2 0 0 0 1 1\n",
             3,
@@ -258,10 +277,27 @@ fn scenarios(rt: HostRuntime) {
             2,
             Some(ScenFault::S2 { row: 1 }),
         ),
+        // A row's words are counted before they are read, and its fields come in their order.
+        (
+            b"version 1\nx m x 9 9 9 9 x\n",
+            1,
+            Some(ScenFault::S2 { row: 0 }),
+        ),
         (
             b"version 1\nx m x 2 0 0 0 1 x\n",
             1,
             Some(ScenFault::S3 { row: 0, field: 1 }),
+        ),
+        (
+            b"version 1\n0 m 9 2 0 0 0 x 1\n",
+            1,
+            Some(ScenFault::S3 { row: 0, field: 8 }),
+        ),
+        // The rows come one after the other.
+        (
+            b"version 1\n0 m 3 2 0 0 0 1 x\n0 m\n",
+            2,
+            Some(ScenFault::S6 { row: 0 }),
         ),
         (
             b"version 1\n0 m +3 2 0 0 0 1 1\n",

@@ -1,0 +1,149 @@
+//! Runs whose map, scenario or plan text can't be read, and sinks that are slow, full or broken.
+
+ghost use Rattle.std.specs.Prelude.{◌≡◌, false};
+
+use crate::problems::{CROSSING_CERT, CROSSING_MAP, CROSSING_PLAN, CROSSING_SCEN};
+use mapf_app::{Fault, Input, Kind, Output, Verdict, run_check, run_play, run_solve};
+use mapf_model::devices::{EndlessSource, FuseSink, FuseSource, Pace};
+use mapf_model::{BytesSink, BytesSource, Sink};
+use std::alloc::Global;
+use std::test::Fail;
+
+const ROOM: usize = 200;
+
+// How many calls the sources of the map and of the scenario stand, and how many bytes they give in each.
+#[derive(Clone, Copy)]
+struct Fuses {
+    pace: Pace,
+    map: Option<u64>,
+    scen: Option<u64>,
+}
+
+fn check_over(alloc: Global, fuses: Fuses) -> Result<Verdict, Fault> {
+    let mut map = FuseSource::of(CROSSING_MAP.as_bytes(), fuses.pace, fuses.map);
+    let mut scen = FuseSource::of(CROSSING_SCEN.as_bytes(), fuses.pace, fuses.scen);
+    let mut plan = BytesSource::of(CROSSING_PLAN.as_bytes());
+    let mut cert = BytesSource::of(CROSSING_CERT.as_bytes());
+    run_check(alloc, &mut map, &mut scen, 2, &mut plan, &mut cert)
+}
+
+fn play_over<K: Sink>(alloc: Global, fuses: Fuses, sink: &mut K) -> Result<(), Fault>
+    requires { K.has_failed sink.old ≡ false }
+{
+    let mut map = FuseSource::of(CROSSING_MAP.as_bytes(), fuses.pace, fuses.map);
+    let mut scen = FuseSource::of(CROSSING_SCEN.as_bytes(), fuses.pace, fuses.scen);
+    let mut plan = BytesSource::of(CROSSING_PLAN.as_bytes());
+    run_play(alloc, &mut map, &mut scen, 2, &mut plan, sink)
+}
+
+// A pace, and at most how many calls of the map's and of the scenario's source a failure follows.
+const PACES: [(Pace, u64, u64); 2] = [(Pace::ByteByByte, 45, 62), (Pace::AllAtOnce, 1, 1)];
+
+#[test]
+fn names_the_map_that_failed(rt: HostRuntime) -> Result<(), Fail> {
+    let mut sink = BytesSink::with_room(rt.alloc(), ROOM)?;
+    for (pace, most, _) in PACES {
+        for calls in 0..=most {
+            let fuses = Fuses {
+                pace,
+                map: Some(calls),
+                scen: None,
+            };
+            let verdict = check_over(rt.alloc(), fuses);
+            assert_eq!(rt; verdict, Err(Fault::F4(Input::Map)), "after {calls} calls");
+            assert!(rt; !sink.failed());
+            let shown = play_over(rt.alloc(), fuses, &mut sink);
+            assert_eq!(rt; shown, Err(Fault::F4(Input::Map)), "after {calls} calls");
+        }
+    }
+    assert_eq!(rt; sink.bytes(), b"".as_slice());
+    Ok(())
+}
+
+#[test]
+fn names_the_scenario_that_failed(rt: HostRuntime) -> Result<(), Fail> {
+    let mut sink = BytesSink::with_room(rt.alloc(), ROOM)?;
+    for (pace, _, most) in PACES {
+        for calls in 0..=most {
+            let fuses = Fuses {
+                pace,
+                map: None,
+                scen: Some(calls),
+            };
+            let verdict = check_over(rt.alloc(), fuses);
+            assert_eq!(rt; verdict, Err(Fault::F4(Input::Scen)), "after {calls} calls");
+            assert!(rt; !sink.failed());
+            let shown = play_over(rt.alloc(), fuses, &mut sink);
+            assert_eq!(rt; shown, Err(Fault::F4(Input::Scen)), "after {calls} calls");
+        }
+    }
+    assert_eq!(rt; sink.bytes(), b"".as_slice());
+    Ok(())
+}
+
+#[test]
+fn gives_up_on_a_scenario_that_never_ends(rt: HostRuntime) -> Result<(), Fail> {
+    let mut plan = BytesSink::with_room(rt.alloc(), ROOM)?;
+    let mut cert = BytesSink::with_room(rt.alloc(), ROOM)?;
+    let mut map = BytesSource::of(CROSSING_MAP.as_bytes());
+    let mut scen = EndlessSource::of(b'\n');
+    let answer = run_solve(rt.alloc(), &mut map, &mut scen, 2, 10, &mut plan, &mut cert);
+    assert_eq!(rt; answer, Err(Fault::F4(Input::Scen)));
+    assert_eq!(rt; plan.bytes(), b"".as_slice());
+    Ok(())
+}
+
+#[test]
+fn gives_up_on_a_plan_that_never_ends(rt: HostRuntime) {
+    let mut map = BytesSource::of(CROSSING_MAP.as_bytes());
+    let mut scen = BytesSource::of(CROSSING_SCEN.as_bytes());
+    let mut plan = EndlessSource::of(b'0');
+    let mut cert = BytesSource::of(CROSSING_CERT.as_bytes());
+    let verdict = run_check(rt.alloc(), &mut map, &mut scen, 2, &mut plan, &mut cert);
+    assert_eq!(rt; verdict, Err(Fault::F4(Input::Plan)));
+}
+
+fn solve_into<P: Sink, C: Sink>(alloc: Global, plan: &mut P, cert: &mut C) -> Result<Kind, Fault>
+    requires plan_works { P.has_failed plan.old ≡ false }
+    requires cert_works { C.has_failed cert.old ≡ false }
+{
+    let mut map = BytesSource::of(CROSSING_MAP.as_bytes());
+    let mut scen = BytesSource::of(CROSSING_SCEN.as_bytes());
+    run_solve(alloc, &mut map, &mut scen, 2, 10, plan, cert)
+}
+
+#[test]
+fn writes_the_same_into_slow_sinks(rt: HostRuntime) -> Result<(), Fail> {
+    for pace in [Pace::AllAtOnce, Pace::ByteByByte] {
+        let mut plan = FuseSink::with_room(rt.alloc(), ROOM, pace, None)?;
+        let mut cert = FuseSink::with_room(rt.alloc(), ROOM, pace, None)?;
+        let answer = solve_into(rt.alloc(), &mut plan, &mut cert);
+        assert_eq!(rt; answer, Ok(Kind::Found(5)));
+        assert_eq!(rt; plan.bytes(), CROSSING_PLAN.as_bytes());
+        assert_eq!(rt; cert.bytes(), CROSSING_CERT.as_bytes());
+    }
+    Ok(())
+}
+
+#[test]
+fn names_the_sink_that_is_full(rt: HostRuntime) -> Result<(), Fail> {
+    let plan_text = CROSSING_PLAN.as_bytes();
+    let cert_text = CROSSING_CERT.as_bytes();
+    for room in 0..plan_text.len() {
+        let mut plan = BytesSink::with_room(rt.alloc(), room)?;
+        let mut cert = BytesSink::with_room(rt.alloc(), ROOM)?;
+        let answer = solve_into(rt.alloc(), &mut plan, &mut cert);
+        assert_eq!(rt; answer, Err(Fault::F5(Output::Plan)), "at {room}");
+        assert_eq!(rt; plan.bytes(), &plan_text[..room]);
+        assert_eq!(rt; cert.bytes(), b"".as_slice());
+    }
+    for room in 0..cert_text.len() {
+        let mut plan = BytesSink::with_room(rt.alloc(), ROOM)?;
+        let mut cert = BytesSink::with_room(rt.alloc(), room)?;
+        let answer = solve_into(rt.alloc(), &mut plan, &mut cert);
+        assert_eq!(rt; answer, Err(Fault::F5(Output::Cert)), "at {room}");
+        assert_eq!(rt; plan.bytes(), plan_text);
+        assert_eq!(rt; cert.bytes(), &cert_text[..room]);
+    }
+    Ok(())
+}

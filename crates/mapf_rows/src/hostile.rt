@@ -1,0 +1,148 @@
+//! Texts that are cut short, that are changed in a byte, or whose numbers are too great.
+
+use crate::checking::{Change, assert_changes, assert_judged};
+use crate::problems::{CROSSING, CROSSING_CERT, CROSSING_MAP, CROSSING_PLAN, CROSSING_SCEN};
+use crate::runs::{Given, check, problem_of, solve};
+use crate::texts::{line_cut, with_lines};
+use mapf_app::{CertFault, CheckFault, Fault, MapFault, PlanTextFault, ScenFault};
+use mapf_checker as checker;
+use std::test::Fail;
+
+#[test]
+fn refuses_texts_that_are_cut_short(rt: HostRuntime) -> Result<(), Fail> {
+    let alloc = rt.alloc();
+    let problem = problem_of(alloc, &CROSSING).ok_or("no problem")?;
+    let plan = CROSSING_PLAN.as_bytes();
+    let cert = CROSSING_CERT.as_bytes();
+    assert_eq!(rt; cert.len(), 111);
+    for length in 0..cert.len() {
+        let answer = checker::check(alloc, &problem, plan, &cert[..length]);
+        let fault = CertFault::K2(line_cut(&cert[..length]));
+        assert_eq!(rt; answer, Err(CheckFault::C2(fault)), "at {length}");
+    }
+    for length in 0..plan.len() {
+        let answer = checker::check(alloc, &problem, &plan[..length], cert);
+        let fault = PlanTextFault::P2(line_cut(&plan[..length]));
+        assert_eq!(rt; answer, Err(CheckFault::C1(fault)), "at {length}");
+    }
+    Ok(())
+}
+
+#[test]
+fn accepts_no_change_of_a_byte(rt: HostRuntime) -> Result<(), Fail> {
+    let cert = CROSSING_CERT.as_bytes();
+    let mut changed = Vec::from_slice(rt.alloc(), cert)?;
+    for i in 0..cert.len() {
+        for byte in 0..=255u8 {
+            changed.clear();
+            changed.extend_from_slice(&cert[..i])?;
+            changed.push(byte)?;
+            changed.extend_from_slice(&cert[i + 1..])?;
+            let answer = check(rt.alloc(), &CROSSING, CROSSING_PLAN.as_bytes(), &changed);
+            let is_refused = matches!(answer, Err(Fault::Refused(_)));
+            assert_eq!(rt; is_refused, byte != cert[i], "{i}: {byte}");
+        }
+    }
+    Ok(())
+}
+
+// Numbers of the crossing's certificate at the ends of their ranges, and past them.
+const NUMBERS: [Change; 8] = [
+    (
+        4,
+        4,
+        "vertex 0 1 1,1 1000000\n",
+        Err(CheckFault::C2(CertFault::K3(4))),
+    ),
+    (4, 4, "vertex 0 1 1,1 999999\n", Err(CheckFault::C7(7))),
+    (5, 5, "leaf 3\n", Err(CheckFault::C2(CertFault::K3(5)))),
+    (
+        6,
+        6,
+        "agent 0 18446744073709551615\n",
+        Err(CheckFault::C2(CertFault::K1(8))),
+    ),
+    (
+        6,
+        6,
+        "agent 0 18446744073709551616\n",
+        Err(CheckFault::C2(CertFault::K3(6))),
+    ),
+    (6, 6, "agent 0 0\n", Err(CheckFault::C2(CertFault::K3(6)))),
+    (
+        7,
+        7,
+        "at 0,1 0 10000000\n",
+        Err(CheckFault::C2(CertFault::K3(7))),
+    ),
+    (
+        7,
+        7,
+        "at 0,1 10000000 3\n",
+        Err(CheckFault::C2(CertFault::K3(7))),
+    ),
+];
+
+#[test]
+fn judges_numbers_of_any_size(rt: HostRuntime) -> Result<(), Fail> {
+    let texts = (CROSSING_PLAN, CROSSING_CERT);
+    assert_changes(&rt, rt.alloc(), &CROSSING, texts, &NUMBERS)
+}
+
+// Second lines of a plan text.
+const COUNTS: [&str; 3] = [
+    "agents 201\n",
+    "agents 0\n",
+    "agents 1111111111111111111111111111111111111111111111111111111111111111111111111111111111111111111111111111\n",
+];
+
+#[test]
+fn refuses_plans_of_too_many_agents(rt: HostRuntime) -> Result<(), Fail> {
+    let refusal = Err(CheckFault::C1(PlanTextFault::P3(2)));
+    for line in COUNTS {
+        let plan = with_lines(rt.alloc(), CROSSING_PLAN, 2, 2, line)?;
+        let texts = (plan.as_str(), CROSSING_CERT);
+        assert_judged(&rt, rt.alloc(), &CROSSING, texts, refusal)?;
+    }
+    Ok(())
+}
+
+// Changes of the crossing's map and scenario, and the faults that come of them.
+const FARTHER: Given = Given {
+    scen: "version 1\n0\topen3.map\t3\t3\t4294967296\t1\t2\t1\t2\n0\topen3.map\t3\t3\t1\t0\t1\t2\t2\n",
+    map: CROSSING_MAP,
+    k: 2,
+};
+
+const FAR: Given = Given {
+    scen: "version 1\n0\topen3.map\t3\t3\t4294967295\t1\t2\t1\t2\n0\topen3.map\t3\t3\t1\t0\t1\t2\t2\n",
+    map: CROSSING_MAP,
+    k: 2,
+};
+
+const HIGH: Given = Given {
+    map: "type octile\nheight 9999999999999999999999999999999999999999999999999999999999999999999999999999999999999999999999999999\nwidth 3\nmap\n...\n...\n...\n",
+    scen: CROSSING_SCEN,
+    k: 2,
+};
+
+#[test]
+fn faults_inputs_with_numbers_of_any_size(rt: HostRuntime) -> Result<(), Fail> {
+    for (given, fault) in [
+        (FARTHER, Fault::F2(ScenFault::S3 { row: 0, field: 5 })),
+        (FAR, Fault::F2(ScenFault::S5 { row: 0 })),
+        (HIGH, Fault::F1(MapFault::M4 { line: 2 })),
+    ] {
+        assert!(rt; 1 <= given.k && given.k <= 200);
+        let solved = solve(rt.alloc(), &given, 10)?;
+        assert_eq!(rt;
+            solved.answer,
+            Err(fault),
+            "of {} and {}",
+            given.map,
+            given.scen
+        );
+        assert_eq!(rt; solved.plan.bytes(), b"".as_slice());
+    }
+    Ok(())
+}

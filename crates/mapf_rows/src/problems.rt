@@ -1,0 +1,130 @@
+//! Worked problems, with the texts that are due.
+
+use crate::runs::Given;
+
+// One agent that is at its goal.
+pub const AT_REST: Given = Given {
+    map: "type octile\nheight 1\nwidth 1\nmap\n.\n",
+    scen: "version 1\n0\ta.map\t1\t1\t0\t0\t0\t0\t0\n",
+    k: 1,
+};
+
+pub const AT_REST_PLAN: &str = "mapf-plan 1\nagents 1\ncost 0\npath 0 0 0,0\nend\n";
+
+pub const AT_REST_CERT: &str = "mapf-cert 1\nagents 1\nclaim cost 0\nleaf 0\nend\n";
+
+// One agent in a corridor; lines that end with CR LF, and a last line without an end.
+pub const CORRIDOR: Given = Given {
+    map: "type octile\r\nheight 1\r\nwidth 3\r\nmap\r\n...",
+    scen: "version 1.0\r\n0 a.map 3 1 0 0 2 0 2",
+    k: 1,
+};
+
+pub const CORRIDOR_PLAN: &str = "mapf-plan 1\nagents 1\ncost 2\npath 0 2 0,0 1,0 2,0\nend\n";
+
+pub const CORRIDOR_CERT: &str = "mapf-cert 1\nagents 1\nclaim cost 2\nleaf 0\nend\n";
+
+// Two agents that cross on an open square of nine cells.
+pub const CROSSING_MAP: &str = "type octile\nheight 3\nwidth 3\nmap\n...\n...\n...\n";
+
+pub const CROSSING_SCEN: &str =
+    "version 1\n0\topen3.map\t3\t3\t0\t1\t2\t1\t2\n0\topen3.map\t3\t3\t1\t0\t1\t2\t2\n";
+
+pub const CROSSING: Given = Given {
+    map: CROSSING_MAP,
+    scen: CROSSING_SCEN,
+    k: 2,
+};
+
+pub const CROSSING_PLAN: &str =
+    "mapf-plan 1\nagents 2\ncost 5\npath 0 3 0,1 0,1 1,1 2,1\npath 1 2 1,0 1,1 1,2\nend\n";
+
+pub const CROSSING_CERT: &str =
+    "mapf-cert 1\nagents 2\nclaim cost 5\nvertex 0 1 1,1 1\nleaf 1\nagent 0 1\nat 0,1 0 3\nleaf 1\nagent 1 1\nat 1,0 0 3\nend\n";
+
+// A plan of the crossing in which both agents are in the middle at tick 1.
+pub const MEETING: &str =
+    "mapf-plan 1\nagents 2\ncost 4\npath 0 2 0,1 1,1 2,1\npath 1 2 1,0 1,1 1,2\nend\n";
+
+// A valid plan of the crossing that is dearer than need be.
+pub const DEARER: &str =
+    "mapf-plan 1\nagents 2\ncost 6\npath 0 4 0,1 0,1 0,1 1,1 2,1\npath 1 2 1,0 1,1 1,2\nend\n";
+
+// An agent at its goal is in the way of another, and steps aside into a niche.
+pub const NICHE: Given = Given {
+    map: "type octile\nheight 2\nwidth 3\nmap\n...\n@.@\n",
+    scen: "version 1\n0\tniche.map\t3\t2\t0\t0\t2\t0\t2\n0\tniche.map\t3\t2\t1\t0\t1\t0\t0\n",
+    k: 2,
+};
+
+pub const NICHE_PLAN: &str =
+    "mapf-plan 1\nagents 2\ncost 4\npath 0 2 0,0 1,0 2,0\npath 1 2 1,0 1,1 1,0\nend\n";
+
+pub const NICHE_CERT: &str =
+    "mapf-cert 1\nagents 2\nclaim cost 4\nvertex 0 1 1,0 1\nvertex 0 1 1,0 2\nvertex 0 1 1,0 3\nleaf 1\nagent 0 3\nat 0,0 0 5\nat 0,0 1 4\nat 0,0 2 3\nleaf 2\nagent 0 2\nat 0,0 0 4\nat 0,0 1 3\nagent 1 9\nat 1,0 0 4\nat 0,0 1 3\nat 1,0 1 3\nat 2,0 1 3\nat 1,1 1 3\nat 0,0 2 2\nat 1,0 2 2\nat 2,0 2 2\nat 1,1 2 2\nleaf 2\nagent 0 1\nat 0,0 0 3\nagent 1 5\nat 1,0 0 3\nat 0,0 1 2\nat 1,0 1 2\nat 2,0 1 2\nat 1,1 1 2\nswap 0 1 0,0 1,0 0\nleaf 2\nagent 0 1\nat 0,0 0 3\nagent 1 1\nat 1,0 0 2\nswap 0 1 1,0 2,0 1\nleaf 2\nagent 0 2\nat 0,0 0 3\nat 1,0 1 2\nagent 1 1\nat 1,0 0 2\nleaf 1\nagent 1 1\nat 1,0 0 2\nend\n";
+
+// Two agents that must exchange their places on two cells.
+pub const EXCHANGE: Given = Given {
+    map: "type octile\nheight 1\nwidth 2\nmap\n..\n",
+    scen: "version 1\n0\ta.map\t2\t1\t0\t0\t1\t0\t1\n0\ta.map\t2\t1\t1\t0\t0\t0\t1\n",
+    k: 2,
+};
+
+// A plan in which they exchange them.
+pub const SWAPPING: &str =
+    "mapf-plan 1\nagents 2\ncost 2\npath 0 1 0,0 1,0\npath 1 1 1,0 0,0\nend\n";
+
+// Two agents with one start.
+pub const SHARED_START: Given = Given {
+    map: "type octile\nheight 1\nwidth 3\nmap\n...\n",
+    scen: "version 1\n0\ta.map\t3\t1\t0\t0\t1\t0\t1\n0\ta.map\t3\t1\t0\t0\t2\t0\t2\n",
+    k: 2,
+};
+
+pub const SHARED_START_PLAN: &str = "mapf-plan 1\nagents 2\nimpossible\nend\n";
+
+pub const SHARED_START_CERT: &str =
+    "mapf-cert 1\nagents 2\nclaim impossible\nvertex 0 1 0,0 0\nleaf 1\nagent 0 1\nat 0,0 0 inf\nleaf 1\nagent 1 1\nat 0,0 0 inf\nend\n";
+
+// Two agents with one goal.
+pub const SHARED_GOAL: Given = Given {
+    map: "type octile\nheight 1\nwidth 3\nmap\n...\n",
+    scen: "version 1\n0\ta.map\t3\t1\t0\t0\t1\t0\t1\n0\ta.map\t3\t1\t2\t0\t1\t0\t1\n",
+    k: 2,
+};
+
+pub const SHARED_GOAL_PLAN: &str = "mapf-plan 1\nagents 2\nimpossible\nend\n";
+
+pub const SHARED_GOAL_CERT: &str = "mapf-cert 1\nagents 2\nclaim impossible\nclash 0 1\nend\n";
+
+// A wall between start and goal.
+pub const WALL: Given = Given {
+    map: "type octile\nheight 1\nwidth 3\nmap\n.@.\n",
+    scen: "version 1\n0\ta.map\t3\t1\t0\t0\t2\t0\t2\n",
+    k: 1,
+};
+
+pub const WALL_PLAN: &str = "mapf-plan 1\nagents 1\nimpossible\nend\n";
+
+pub const WALL_CERT: &str = "mapf-cert 1\nagents 1\nclaim impossible\nleaf 0\nend\n";
+
+// Four agents that rotate on an open square.
+pub const ROTATION: Given = Given {
+    map: "type octile\nheight 2\nwidth 2\nmap\n..\n..\n",
+    scen: "version 1\n0\ta.map\t2\t2\t0\t0\t1\t0\t1\n0\ta.map\t2\t2\t1\t0\t1\t1\t1\n0\ta.map\t2\t2\t1\t1\t0\t1\t1\n0\ta.map\t2\t2\t0\t1\t0\t0\t1\n",
+    k: 4,
+};
+
+pub const ROTATION_PLAN: &str =
+    "mapf-plan 1\nagents 4\ncost 4\npath 0 1 0,0 1,0\npath 1 1 1,0 1,1\npath 2 1 1,1 0,1\npath 3 1 0,1 0,0\nend\n";
+
+pub const ROTATION_CERT: &str = "mapf-cert 1\nagents 4\nclaim cost 4\nleaf 0\nend\n";
+
+// Two agents that are at their goals, side by side.
+pub const RESTING: Given = Given {
+    map: "type octile\nheight 1\nwidth 2\nmap\n..\n",
+    scen: "version 1\n0 rest.map 2 1 0 0 0 0 0\n0 rest.map 2 1 1 0 1 0 0\n",
+    k: 2,
+};
+
+pub const RESTING_PLAN: &str = "mapf-plan 1\nagents 2\ncost 0\npath 0 0 0,0\npath 1 0 1,0\nend\n";

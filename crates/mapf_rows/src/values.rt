@@ -1,0 +1,186 @@
+//! What the calls that take memory answer where they have it: one value of each that no other test names.
+
+use crate::problems::{
+    AT_REST, CROSSING, CROSSING_CERT, CROSSING_PLAN, ROTATION_CERT, ROTATION_PLAN,
+};
+use crate::runs::problem_of;
+use mapf_app::run_demo;
+use mapf_certificate::{
+    Cert, CertLines, PlanAnswer, PlanText, read_cert, read_plan, write_cert, write_plan,
+};
+use mapf_model::devices::{FuseSource, Pace};
+use mapf_model::{
+    BytesSink, BytesSource, Cell, Claim, Entry, Item, Label, ReadEnd, Tick, read_all, write_all,
+};
+use std::alloc::Global;
+use std::process::Abort;
+use std::test::Fail;
+
+#[test]
+fn reads_all_that_a_source_gives(rt: HostRuntime) -> Result<(), Fail> {
+    let bytes = CROSSING_CERT.as_bytes();
+    for pace in [Pace::AllAtOnce, Pace::ByteByByte] {
+        let mut source = FuseSource::of(bytes, pace, None);
+        let all = read_all(rt.alloc(), &mut source, 111)
+            .ok()
+            .ok_or("nothing")?;
+        assert_eq!(rt; all.as_slice(), bytes);
+        let mut source = FuseSource::of(bytes, pace, None);
+        let end = read_all(rt.alloc(), &mut source, 110).err();
+        assert_eq!(rt; end, Some(ReadEnd::TooLong));
+        let mut source = FuseSource::of(bytes, pace, Some(1));
+        let end = read_all(rt.alloc(), &mut source, 111).err();
+        assert_eq!(rt; end, Some(ReadEnd::Device));
+    }
+    Ok(())
+}
+
+#[test]
+fn reads_more_than_a_buffer_holds(rt: HostRuntime) -> Result<(), Fail> {
+    let mut bytes = Vec::new(rt.alloc());
+    for number in 0..10_000u32 {
+        bytes.push((number % 251) as u8)?;
+    }
+    let mut source = FuseSource::of(&bytes, Pace::AllAtOnce, None);
+    let all = read_all(rt.alloc(), &mut source, 10_000)
+        .ok()
+        .ok_or("nothing")?;
+    assert_eq!(rt; all.as_slice(), bytes.as_slice());
+    Ok(())
+}
+
+#[test]
+fn takes_as_much_as_there_is_room_for(rt: HostRuntime) -> Result<(), Fail> {
+    let mut sink = BytesSink::with_room(rt.alloc(), 3)?;
+    assert!(rt; write_all(&mut sink, b"four").is_err());
+    assert_eq!(rt; sink.bytes(), b"fou".as_slice());
+    Ok(())
+}
+
+// A split on a cell: its agents, the cell and the tick.
+fn split(item: &Item) -> Option<(u32, u32, Cell, Tick)> {
+    match item {
+        Item::Vertex { i, j, cell, tick } => Some((*i, *j, *cell, *tick)),
+        _ => None,
+    }
+}
+
+// A leaf with one entry: its agent and the entry.
+fn raised(item: &Item) -> Option<(u32, Entry)> {
+    let Item::Leaf(blocks) = item else {
+        return None;
+    };
+    match blocks.as_slice() {
+        [block] if block.entries.len() == 1 => Some((block.agent, block.entries[0])),
+        _ => None,
+    }
+}
+
+// These are the items of the crossing's certificate.
+fn assert_crossing(rt: &impl Abort, items: &[Item]) {
+    assert_eq!(rt; items.len(), 3);
+    assert_eq!(rt; split(&items[0]), Some((0, 1, Cell(4), 1)));
+    let first = Entry {
+        cell: Cell(3),
+        tick: 0,
+        label: Label::Ticks(3),
+    };
+    assert_eq!(rt; raised(&items[1]), Some((0, first)));
+    let second = Entry {
+        cell: Cell(1),
+        tick: 0,
+        label: Label::Ticks(3),
+    };
+    assert_eq!(rt; raised(&items[2]), Some((1, second)));
+}
+
+#[test]
+fn reads_the_value_of_a_certificate(rt: HostRuntime) -> Result<(), Fail> {
+    let problem = problem_of(rt.alloc(), &CROSSING).ok_or("no problem")?;
+    let bytes = CROSSING_CERT.as_bytes();
+    let cert = read_cert(rt.alloc(), bytes, problem.grid())
+        .ok()
+        .ok_or("no certificate")?;
+    assert_eq!(rt; cert.agents, 2);
+    assert_eq!(rt; cert.claim, Claim::Cost(5));
+    assert_crossing(&rt, cert.tree.as_slice());
+    Ok(())
+}
+
+#[test]
+fn reads_a_certificate_item_by_item(rt: HostRuntime) -> Result<(), Fail> {
+    let mut source = BytesSource::of(CROSSING_CERT.as_bytes());
+    let mut lines = CertLines::open(rt.alloc(), 3, 3, 111)?;
+    let header = lines.header(&mut source).ok().ok_or("no header")?;
+    assert_eq!(rt; header, (2, Claim::Cost(5)));
+    let mut items = Vec::new(rt.alloc());
+    let split = lines.next_item(&mut source).ok().ok_or("a fault")?;
+    items.push(split.ok_or("no item")?)?;
+    assert_eq!(rt; lines.line(), 4);
+    let left = lines.next_item(&mut source).ok().ok_or("a fault")?;
+    items.push(left.ok_or("no item")?)?;
+    assert_eq!(rt; lines.line(), 5);
+    let right = lines.next_item(&mut source).ok().ok_or("a fault")?;
+    items.push(right.ok_or("no item")?)?;
+    assert_eq!(rt; lines.line(), 8);
+    assert_crossing(&rt, items.as_slice());
+    let end = lines.next_item(&mut source).ok().ok_or("a fault")?;
+    assert!(rt; end.is_none());
+    Ok(())
+}
+
+#[test]
+fn reads_the_value_of_a_plan(rt: HostRuntime) -> Result<(), Fail> {
+    let problem = problem_of(rt.alloc(), &CROSSING).ok_or("no problem")?;
+    let text = read_plan(rt.alloc(), CROSSING_PLAN.as_bytes(), problem.grid());
+    let text = text.ok().ok_or("no plan text")?;
+    assert_eq!(rt; text.agents, 2);
+    let found = match text.answer {
+        PlanAnswer::Found(plan) => Some(plan),
+        _ => None,
+    };
+    let plan = found.ok_or("no plan")?;
+    let paths = plan.paths();
+    assert_eq!(rt; paths.len(), 2);
+    let first = [Cell(3), Cell(3), Cell(4), Cell(5)];
+    assert_eq!(rt; paths[0].cells(), first.as_slice());
+    let second = [Cell(1), Cell(4), Cell(7)];
+    assert_eq!(rt; paths[1].cells(), second.as_slice());
+    Ok(())
+}
+
+#[test]
+fn writes_values_made_by_hand(rt: HostRuntime) -> Result<(), Fail> {
+    let problem = problem_of(rt.alloc(), &AT_REST).ok_or("no problem")?;
+    let text = PlanText {
+        agents: 200,
+        answer: PlanAnswer::Impossible,
+    };
+    let bytes = write_plan(rt.alloc(), &text, problem.grid())?;
+    assert_eq!(rt;
+        bytes.as_slice(),
+        b"mapf-plan 1\nagents 200\nimpossible\nend\n".as_slice()
+    );
+    let mut tree = Vec::new(rt.alloc());
+    tree.push(Item::Clash { i: 0, j: 199 })?;
+    let cert = Cert {
+        agents: 200,
+        claim: Claim::Impossible,
+        tree,
+    };
+    let bytes = write_cert(rt.alloc(), &cert, problem.grid())?;
+    assert_eq!(rt;
+        bytes.as_slice(),
+        b"mapf-cert 1\nagents 200\nclaim impossible\nclash 0 199\nend\n".as_slice()
+    );
+    Ok(())
+}
+
+#[test]
+fn writes_the_demo(rt: HostRuntime) -> Result<(), Fail> {
+    let mut out = BytesSink::with_room(rt.alloc(), 4096)?;
+    assert_eq!(rt; run_demo(rt.alloc(), &mut out), Ok(()));
+    let text = format!(in rt.alloc(); "{ROTATION_PLAN}{ROTATION_CERT}optimal 4\n")?;
+    assert_eq!(rt; out.bytes(), text.as_bytes());
+    Ok(())
+}
