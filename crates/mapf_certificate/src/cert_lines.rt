@@ -2,10 +2,11 @@ ghost use Rattle.mapf_certificate.specs.Buffered.{spare};
 ghost use Rattle.mapf_certificate.specs.CertReading.{HasHeader, IsRestAt, Awaits, AwaitsCert, TakesHeader, TakesNode, TakesEnd, ReadsEnd, CompletesNode, trees_owed_after};
 ghost use Rattle.mapf_certificate.specs.Certificates.{IsNode, line_text, node_text, header_text};
 ghost use Rattle.mapf_certificate.specs.Lines.{IsAgentCount, IsTreeLine, grid_of};
-ghost use Rattle.mapf_certificate.specs.Reading.{Reading};
-ghost use Rattle.mapf_certificate.specs.Untouched.{IsUntouched, TakesThere};
+ghost use Rattle.mapf_certificate.specs.Reading.{Reading, grid_at, agents_at};
+ghost use Rattle.mapf_certificate.specs.Untouched.{IsUntouched, RefusesThere, TakesThere};
 ghost use Rattle.mapf_certificate.specs.Window.{Window, BeginsWith, Fails, Pulls, HasNoInnerMemory, IsNoTextFault};
-ghost use Rattle.mapf_certificate.specs.declared.line.Line.TheVariants.{End};
+ghost use Rattle.mapf_certificate.specs.declared.line.Line.{Line};
+ghost use Rattle.mapf_certificate.specs.declared.line.Line.TheVariants.{End, Title};
 ghost use Rattle.mapf_model.specs.declared.item.Claim.{Claim};
 ghost use Rattle.mapf_model.specs.Printed.{IsClaimInRange};
 ghost use Rattle.mapf_model.specs.Tree.{Node, node_of};
@@ -124,6 +125,9 @@ impl CertLines {
         // Where the header's lines were all in the buffer, the source is as it was.
         ensures there { self.old.fault ≡ None → self.old.header ≡ None → IfOk result (λ h.
             TakesThere source.old source.new self.old.buffer self.new.buffer (header_text self.old.width h.0 h.1)) }
+        // Nor is it touched where a line is in the buffer that isn't the first of a certificate.
+        ensures refused { self.old.fault ≡ None
+            → RefusesThere source.old source.new self.old.buffer (BeginsWith Line (λ line. line ≡ Title) (line_text 1)) }
         // Whether the source failed, and how many bytes came of it; a fault of the text is never want of memory.
         ensures device { self.old.fault ≡ None → (IsErrOf result LinesFault.Device ↔ (S.has_failed source.new ≡ true)) }
         ensures pulls { self.old.fault ≡ None
@@ -171,6 +175,9 @@ impl CertLines {
         // Where the item's lines were all in the buffer, the source is as it was.
         ensures there { self.old.fault ≡ None → IfOk result (λ o. IfSome o (λ item.
             TakesThere source.old source.new self.old.buffer self.new.buffer (node_text self.old.width (node_of item)))) }
+        // Nor is it touched where a line is in the buffer that is none of a tree, nor `end`.
+        ensures refused { self.old.fault ≡ None → RefusesThere source.old source.new self.old.buffer
+            (BeginsWith Line (IsTreeLine (grid_at self.old) (agents_at self.old)) (line_text self.old.width)) }
         // Whether the source failed, and how many bytes came of it; a fault of the text is never want of memory.
         ensures device { self.old.fault ≡ None → (IsErrOf result LinesFault.Device ↔ (S.has_failed source.new ≡ true)) }
         ensures pulls { self.old.fault ≡ None
@@ -212,6 +219,8 @@ impl CertLines {
         ensures grid { (self.new.width ≡ self.old.width) × (self.new.height ≡ self.old.height) }
         ensures item { IfOk result (λ o. IfSome o (λ item. TakesNode (S.remaining source.old) (S.remaining source.new) self.old self.new (node_of item))) }
         ensures end { IfOk result (λ o. o ≡ None → ReadsEnd (S.remaining source.old) (S.remaining source.new) self.old self.new) }
+        ensures refused { RefusesThere source.old source.new self.old.buffer
+            (BeginsWith Line (IsTreeLine (grid_at self.old) (agents_at self.old)) (line_text self.old.width)) }
         ensures there { IfOk result (λ o. IfSome o (λ item.
             TakesThere source.old source.new self.old.buffer self.new.buffer (node_text self.old.width (node_of item)))) }
         ensures fails { IfErr result (Fails (S.remaining source.old) (S.remaining source.new) (S.has_failed source.new) self.old.buffer (IsRestAt self.old)) }
@@ -311,6 +320,7 @@ fn read_header<S: Source>(lines: &mut Lines, source: &mut S) -> Result<(u32, Cla
     requires { S.has_failed source.old ≡ false }
     ensures agents { IfOk result (λ h. IsAgentCount h.0) }
     ensures claim { IfOk result (λ h. IsClaimInRange h.1) }
+    ensures refused { RefusesThere source.old source.new lines.old.buffer (BeginsWith Line (λ line. line ≡ Title) (line_text 1)) }
     ensures there { (width : ℕ) → IfOk result (λ h.
         TakesThere source.old source.new lines.old.buffer lines.new.buffer (header_text width h.0 h.1)) }
     ensures works { OnOk result (S.has_failed source.new ≡ false) }

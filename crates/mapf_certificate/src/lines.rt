@@ -2,7 +2,7 @@ ghost use Rattle.mapf_certificate.specs.Buffered.{spare};
 ghost use Rattle.mapf_certificate.specs.CertReading.{AreInOrder, MayFollow};
 ghost use Rattle.mapf_certificate.specs.Certificates.{line_text, entry_text, entries_text, block_text, blocks_text};
 ghost use Rattle.mapf_certificate.specs.Lines.{IsLine, width_of, grid_of};
-ghost use Rattle.mapf_certificate.specs.Untouched.{TakesThere};
+ghost use Rattle.mapf_certificate.specs.Untouched.{HasLine, TakesThere};
 ghost use Rattle.mapf_certificate.specs.Window.{Window, BeginsWith, Fails, IsTextFault, Tells};
 ghost use Rattle.mapf_certificate.specs.declared.line.Line.{Line};
 ghost use Rattle.mapf_model.specs.declared.label.Entry.{Entry};
@@ -107,6 +107,9 @@ impl Lines {
         ensures line { IfOk result (λ line. IsLine due.now line) }
         ensures there { IfOk result (λ line. TakesThere source.old source.new self.old.buffer self.new.buffer
             (line_text (width_of due.now) line)) }
+        ensures untouched { HasLine self.old.buffer → source.new ≡ source.old }
+        ensures due { IfOk result (λ _. HasLine self.old.buffer
+            → BeginsWith Line (IsLine due.now) (line_text (width_of due.now)) self.old.buffer.bytes) }
         ensures taken { IfOk result (λ line. Window (S.remaining source.old) (S.remaining source.new) self.old.buffer self.new.buffer (line_text (width_of due.now) line)) }
         ensures fails { IfErr result (Fails (S.remaining source.old) (S.remaining source.new) (S.has_failed source.new) self.old.buffer (BeginsWith Line (IsLine due.now) (line_text (width_of due.now)))) }
     {

@@ -1,4 +1,5 @@
-use Rattle.std.proofs.Common.{ap, ◌∙◌, take, drop, ◌+◌}
+use Rattle.std.proofs.Common.{◌≡◌, ◌∷◌, ◌++◌, [], ap, sym, append_assoc, ◌∙◌, take, drop, ◌+◌}
+use Rattle.mapf_certificate.specs.Lines.{width_of, words}
 use Rattle.mapf_certificate.proofs.Windows.{Fails-text}
 use Rattle.mapf_certificate.specs.Buffered.{Buffered}
 use Rattle.mapf_certificate.proofs.TakenThere.{line_there, rest_there}
@@ -31,3 +32,18 @@ returns-in-Ok-line-clause-there g c = λ rest e.
       untouched,
       c.take.ensures ∙ ap (λ l. let b : Buffered = record { bytes = l; left = c.ready.new.self.left } in b) after ∙ ap (λ r. let b : Buffered = record { bytes = rest; left = r.left } in b) same,
     )
+
+pub returns-in-Ok-line-clause-due : goal.returns-in-Ok-line-clause-due
+returns-in-Ok-line-clause-due g c = λ has.
+    let line = c.in-Ok-line.line in
+    let word = words (width_of c.args.due.now) line in
+    let bytes = c.ready.new.self.bytes in
+    let rest = drop (c.in-Ok.n + 1) bytes in
+    let same : c.ready.new.self ≡ c.args.self.now.buffer = (c.in-Ok.ensures.there has).0 in
+    let front : take c.in-Ok.n bytes ≡ word = sym c.front.ensures ∙ c.in-Ok-line.ensures.found.1 in
+    record {
+      value = line;
+      is = c.in-Ok-line.ensures.found.0;
+      rest = rest;
+      spelled = ap (λ b. b.bytes) (sym same) ∙ c.in-Ok.ensures.line.1.same ∙ ap (λ l. l ++ (10 ∷ rest)) front ∙ sym (append_assoc word (10 ∷ []) rest);
+    }
