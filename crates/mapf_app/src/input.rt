@@ -23,7 +23,8 @@ pub const CERT_LIMIT: u64 = 1_099_511_627_776;
 pub fn read_text<S: Source>(alloc: Global, source: &mut S, input: Input) -> Result<Vec<u8>, Fault>
     requires { S.has_failed source.old ≡ false }
     ensures whole { IfOk result (λ text. IfSome (S.remaining source.old) (λ bytes. text.items ≡ bytes)) }
-    ensures read { OnOk result (IsReadWhole (S.has_failed source.new) (S.remaining source.old) (S.remaining source.new)) }
+    ensures read { OnOk result
+        (IsReadWhole (S.has_failed source.new) (S.remaining source.old) (S.remaining source.new)) }
     ensures fault { IfErr result (λ fault. (fault ≡ Fault.F4 input) ⊎ (fault ≡ Fault.F6)) }
     ensures failed { S.has_failed source.new ≡ true → IsErrOf result (Fault.F4 input) }
     ensures unreadable { IsErrOf result (Fault.F4 input) →

@@ -49,7 +49,8 @@ pub fn run_solve<M: Source, S: Source, P: Sink, C: Sink>(
         × Appends (P.contents plan_sink.old) (P.contents plan_sink.new) plan_text
         × Appends (C.contents cert_sink.old) (C.contents cert_sink.new) cert_text) IsOfDevices }
     // Inputs of more bytes than the limit aren't read.
-    ensures within { OnOk result (IsWithin (M.remaining map.old) text_bytes × IsWithin (S.remaining scen.old) text_bytes) }
+    ensures within { OnOk result
+        (IsWithin (M.remaining map.old) text_bytes × IsWithin (S.remaining scen.old) text_bytes) }
     // On a limit nothing is asked of the certificate's sink.
     ensures limit { IfOk result (λ kind. IsLimit kind → cert_sink.new ≡ cert_sink.old) }
     // A fault stands where it says.
