@@ -1,7 +1,8 @@
 // Preloaded, this fails one call of the program on its files, or lets a read or a write move less than it
 // was asked for. Calls are counted from 1 from the start of the program on; what the loader does before
 // isn't counted. FAIL_CALLS_LOG names a file that gets a line for each call: its kind, the last part of the
-// file's name, how many bytes were asked for, and what was answered.
+// file's name, how many bytes were asked for, and what was answered. Kinds have the names of their calls, but
+// an open that empties the file is `make`, ftruncate is `empty`, and fsync and fdatasync are `sync`.
 //
 //   FAIL_CALLS_AT    the number of the call, 0 for none
 //   FAIL_CALLS_HOW   a number: the call does nothing and answers this error; a close does close
@@ -16,6 +17,7 @@
 #include <stdio.h>
 #include <stdlib.h>
 #include <string.h>
+#include <sys/stat.h>
 #include <sys/syscall.h>
 #include <sys/types.h>
 #include <unistd.h>
@@ -63,14 +65,18 @@ __attribute__((constructor)) static void begin(void) {
     log_file = open_log(getenv("FAIL_CALLS_LOG"));
 }
 
+static const char *last_part(const char *path) {
+    const char *slash = strrchr(path, '/');
+    return slash ? slash + 1 : path;
+}
+
 static const char *name_of(int file) {
     return file >= 0 && file < FILES && names[file][0] ? names[file] : "other";
 }
 
 static void set_name(int file, const char *path) {
-    const char *slash = strrchr(path, '/');
     if (file >= 0 && file < FILES) {
-        snprintf(names[file], NAME, "%s", slash ? slash + 1 : path);
+        snprintf(names[file], NAME, "%s", last_part(path));
     }
 }
 
@@ -103,10 +109,10 @@ static size_t allowed(size_t size, enum how now) {
 
 static int open_any(const char *path, int flags, mode_t mode) {
     enum how now = counted();
-    const char *slash = strrchr(path, '/');
     int file = now == FAILS ? failed(error) : syscall(SYS_openat, AT_FDCWD, path, flags, mode);
     set_name(file, path);
-    return told("open", slash ? slash + 1 : path, 0, file < 0 ? -1 : 0) < 0 ? -1 : file;
+    told(flags & O_TRUNC ? "make" : "open", last_part(path), 0, file < 0 ? -1 : 0);
+    return file;
 }
 
 int open(const char *path, int flags, ...) {
@@ -157,12 +163,41 @@ int close(int file) {
     return told("close", name_of(file), 0, now == FAILS ? failed(error) : answer);
 }
 
+// A call that moves no bytes: it fails, or is what it is without this.
+#define PASSED_ON(kind, name, call)                                                                                    \
+    do {                                                                                                               \
+        enum how now = counted();                                                                                      \
+        return told(kind, name, 0, now == FAILS ? failed(error) : (call));                                             \
+    } while (0)
+
+int ftruncate(int file, off_t length) {
+    PASSED_ON("empty", name_of(file), syscall(SYS_ftruncate, file, length));
+}
+
+int ftruncate64(int file, off64_t length) {
+    PASSED_ON("empty", name_of(file), syscall(SYS_ftruncate, file, length));
+}
+
 int fsync(int file) {
-    enum how now = counted();
-    return told("sync", name_of(file), 0, now == FAILS ? failed(error) : syscall(SYS_fsync, file));
+    PASSED_ON("sync", name_of(file), syscall(SYS_fsync, file));
 }
 
 int fdatasync(int file) {
-    enum how now = counted();
-    return told("sync", name_of(file), 0, now == FAILS ? failed(error) : syscall(SYS_fdatasync, file));
+    PASSED_ON("sync", name_of(file), syscall(SYS_fdatasync, file));
+}
+
+int statx(int folder, const char *path, int flags, unsigned mask, struct statx *found) {
+    PASSED_ON("stat", *path ? last_part(path) : name_of(folder), syscall(SYS_statx, folder, path, flags, mask, found));
+}
+
+int unlink(const char *path) {
+    PASSED_ON("unlink", last_part(path), syscall(SYS_unlink, path));
+}
+
+int fchmod(int file, mode_t mode) {
+    PASSED_ON("fchmod", name_of(file), syscall(SYS_fchmod, file, mode));
+}
+
+int flock(int file, int how_to_lock) {
+    PASSED_ON("flock", name_of(file), syscall(SYS_flock, file, how_to_lock));
 }

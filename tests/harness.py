@@ -28,8 +28,8 @@ SIDE_BY_SIDE = 4
 # and UNREAD a pipe that nobody reads.
 STREAMS = ("stdin", "stdout", "stderr")
 
-# What `outcome` puts into each output before a run.
-OLD = b"what stood here before\n"
+# What `outcome` puts into each output before a run. It is longer than any text that is written then.
+OLD = b"what stood here before\n" * 200
 
 
 @dataclass(frozen=True)
