@@ -137,10 +137,10 @@ fn open_as_it_is(rt: &HostRuntime, path: &str) -> io::Result<File> {
 }
 
 fn empty(file: &File) -> io::Result<()> {
-    match identity_of(file) {
-        Some(_) => file.set_len(0),
-        None => Ok(()),
+    if file.metadata()?.is_file() {
+        file.set_len(0)?;
     }
+    Ok(())
 }
 
 // Removes a file that was made here. Its path may lead over a link.
@@ -185,12 +185,16 @@ pub fn open<'a>(
 
 /// Has the system store a file that was written: what a disk refuses last is told only then.
 pub fn store(file: &File, output: Output) -> Result<(), Fault> {
-    let stored = match identity_of(file) {
-        Some(_) => file.sync_all(),
-        None => Ok(()),
-    };
-    match stored {
+    match stored(file) {
         Ok(()) => Ok(()),
         Err(_) => Err(Fault::F5(output)),
     }
+}
+
+// Devices and pipes have nothing to store.
+fn stored(file: &File) -> io::Result<()> {
+    if file.metadata()?.is_file() {
+        file.sync_all()?;
+    }
+    Ok(())
 }
