@@ -9,7 +9,8 @@ IsUntouched old new source_old source_new = (new ≡ old) × (source_new ≡ sou
 
 -- where the text that was taken was all in the buffer, the source is as it was, and what followed the text is left
 abbrev pub TakesThere : {S : Type 0} → S → S → Buffered → Buffered → List ℕ → Type 0
-TakesThere source_old source_new old new taken = (rest : List ℕ) → old.bytes ≡ taken ++ rest → (source_new ≡ source_old) × (new ≡ record { bytes = rest; left = old.left })
+TakesThere source_old source_new old new taken = (rest : List ℕ) → old.bytes ≡ taken ++ rest
+    → (source_new ≡ source_old) × (new ≡ record { bytes = rest; left = old.left })
 
 -- a whole line is in the buffer, or more than a line can hold
 abbrev pub HasLine : Buffered → Type 0

@@ -43,8 +43,8 @@ pub record Refuses (had left : Option (List ℕ)) (buffer : Buffered) (IsText : 
   pub within : length pulled ≤ buffer.left
   pub wrong : ((more : List ℕ) → IsText ((buffer.bytes ++ pulled) ++ more) → ⊥) ⊎ (IsAtEnd left × (IsText (buffer.bytes ++ pulled) → ⊥))
 
--- why a text of this kind isn't read: it isn't one, or the source failed, or too many bytes came, or memory was refused.
--- The source has failed in the second case alone
+-- why a text of this kind isn't read: it isn't one, or the source failed, or too many bytes came, or memory was
+-- refused. The source has failed in the second case alone
 abbrev pub Fails : Option (List ℕ) → Option (List ℕ) → Bool → Buffered → (List ℕ → Type 0) → LinesFault → Type 0
 Fails had left failed buffer IsText (Text (texts.K1 line)) = (failed ≡ false) × Refuses had left buffer IsText
 Fails had left failed buffer IsText (Text (texts.K2 line)) = (failed ≡ false) × Refuses had left buffer IsText

@@ -127,11 +127,13 @@ impl CertLines {
             TakesThere source.old source.new self.old.buffer self.new.buffer (header_text self.old.width h.0 h.1)) }
         // Nor is it touched where a line is in the buffer that isn't the first of a certificate.
         ensures refused { self.old.fault ≡ None
-            → RefusesThere source.old source.new self.old.buffer (BeginsWith Line (λ line. line ≡ Title) (line_text 1)) }
+            → RefusesThere source.old source.new self.old.buffer
+            (BeginsWith Line (λ line. line ≡ Title) (line_text 1)) }
         // Whether the source failed, and how many bytes came of it; a fault of the text is never want of memory.
         ensures device { self.old.fault ≡ None → (IsErrOf result LinesFault.Device ↔ (S.has_failed source.new ≡ true)) }
         ensures pulls { self.old.fault ≡ None
-            → Pulls (S.remaining source.old) (S.remaining source.new) self.old.buffer.left (IsErrOf result LinesFault.TooLong) }
+            → Pulls (S.remaining source.old) (S.remaining source.new) self.old.buffer.left
+            (IsErrOf result LinesFault.TooLong) }
         ensures inner { IfErr result HasNoInnerMemory }
 
         ensures grid { (self.new.width ≡ self.old.width) × (self.new.height ≡ self.old.height) }
@@ -174,14 +176,16 @@ impl CertLines {
 
         // Where the item's lines were all in the buffer, the source is as it was.
         ensures there { self.old.fault ≡ None → IfOk result (λ o. IfSome o (λ item.
-            TakesThere source.old source.new self.old.buffer self.new.buffer (node_text self.old.width (node_of item)))) }
+            TakesThere source.old source.new self.old.buffer self.new.buffer
+            (node_text self.old.width (node_of item)))) }
         // Nor is it touched where a line is in the buffer that is none of a tree, nor `end`.
         ensures refused { self.old.fault ≡ None → RefusesThere source.old source.new self.old.buffer
             (BeginsWith Line (IsTreeLine (grid_at self.old) (agents_at self.old)) (line_text self.old.width)) }
         // Whether the source failed, and how many bytes came of it; a fault of the text is never want of memory.
         ensures device { self.old.fault ≡ None → (IsErrOf result LinesFault.Device ↔ (S.has_failed source.new ≡ true)) }
         ensures pulls { self.old.fault ≡ None
-            → Pulls (S.remaining source.old) (S.remaining source.new) self.old.buffer.left (IsErrOf result LinesFault.TooLong) }
+            → Pulls (S.remaining source.old) (S.remaining source.new) self.old.buffer.left
+            (IsErrOf result LinesFault.TooLong) }
         ensures inner { IfErr result HasNoInnerMemory }
 
         ensures grid { (self.new.width ≡ self.old.width) × (self.new.height ≡ self.old.height) }
@@ -222,7 +226,8 @@ impl CertLines {
         ensures refused { RefusesThere source.old source.new self.old.buffer
             (BeginsWith Line (IsTreeLine (grid_at self.old) (agents_at self.old)) (line_text self.old.width)) }
         ensures there { IfOk result (λ o. IfSome o (λ item.
-            TakesThere source.old source.new self.old.buffer self.new.buffer (node_text self.old.width (node_of item)))) }
+            TakesThere source.old source.new self.old.buffer self.new.buffer
+            (node_text self.old.width (node_of item)))) }
         ensures fails { IfErr result (Fails (S.remaining source.old) (S.remaining source.new) (S.has_failed source.new) self.old.buffer (IsRestAt self.old)) }
         ensures same { (node : Node) (nodes : List Node) → Awaits (S.remaining source.old) self.old (node ∷ nodes)
             → IfOk result (λ o. IfSome o (λ item. (node_of item ≡ node) × Awaits (S.remaining source.new) self.new nodes)) }
@@ -320,7 +325,8 @@ fn read_header<S: Source>(lines: &mut Lines, source: &mut S) -> Result<(u32, Cla
     requires { S.has_failed source.old ≡ false }
     ensures agents { IfOk result (λ h. IsAgentCount h.0) }
     ensures claim { IfOk result (λ h. IsClaimInRange h.1) }
-    ensures refused { RefusesThere source.old source.new lines.old.buffer (BeginsWith Line (λ line. line ≡ Title) (line_text 1)) }
+    ensures refused { RefusesThere source.old source.new lines.old.buffer
+        (BeginsWith Line (λ line. line ≡ Title) (line_text 1)) }
     ensures there { (width : ℕ) → IfOk result (λ h.
         TakesThere source.old source.new lines.old.buffer lines.new.buffer (header_text width h.0 h.1)) }
     ensures works { OnOk result (S.has_failed source.new ≡ false) }

@@ -27,7 +27,8 @@ pub fn judge_cert<S: Source>(
 ) -> Result<(), FromFault>
     requires { S.has_failed source.old ≡ false }
     ensures works { OnOk result (S.has_failed source.new ≡ false) }
-    ensures came { OnOk result (ComesWithin (S.remaining source.old) (S.remaining source.new) (record { bytes = []; left = limit })) }
+    ensures came { OnOk result (ComesWithin (S.remaining source.old) (S.remaining source.new)
+        (record { bytes = []; left = limit })) }
     ensures shown { OnOk result (IsShown problem.now claim.now) }
     ensures good { (bytes : List ℕ) → S.remaining source.old ≡ Some bytes → OnOk result (IsGoodCert problem.now claim.now bytes) }
     ensures within { (bytes : List ℕ) → S.remaining source.old ≡ Some bytes → OnOk result (length bytes ≤ limit) }
