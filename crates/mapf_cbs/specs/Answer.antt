@@ -8,14 +8,15 @@ use Rattle.mapf_model.specs.Earned.{AreCheapest, AreConflictFreeBefore, HaveConf
 use Rattle.mapf_model.specs.Grid.{free_cell_count}
 use Rattle.mapf_model.specs.Plan.{Instance, IsOptimal, IsImpossible}
 use Rattle.mapf_model.specs.Printed.{IsTreeInRange, IsPlanInRange, IsClaimInRange}
-use Rattle.mapf_model.specs.Tree.{ConstraintTree, Spell, Shows, AtSomeLeaf, root, split_count}
+use Rattle.mapf_model.specs.Tree.{ConstraintTree, NodeConstraints, Spell, Shows, AtSomeLeaf, root, split_count}
 use Rattle.mapf_cbs.specs.FirstConflicts.{AreFirstPaths, AreOnFirstConflicts}
 use Rattle.mapf_cbs.specs.Goals.{NamesFirstDefect}
 use Rattle.mapf_cbs.specs.declared.answer.Answer.{Answer}
 use Rattle.mapf_cbs.specs.declared.answer.Answer.TheVariants.{Found as FoundAnswer, Impossible as ImpossibleAnswer, Limit as LimitAnswer}
 
--- the items spell this tree; it has at most so many splits, each of which stands on the first conflict of cheapest paths,
--- at a node no dearer than any end; where goals alone show that no plan is valid it is one node; and it can be printed
+-- the items spell this tree; it has at most so many splits, each of which stands on the first conflict of cheapest
+-- paths, at a node no dearer than any end; where goals alone show that no plan is valid it is one node; and it can be
+-- printed
 pub record IsTreeOf (problem : Instance) (limit : ℕ) (items : List Item) (tree : ConstraintTree) : Type 0 where
   pub spelled : Spell items tree
   pub few : split_count tree ≤ limit
@@ -24,13 +25,18 @@ pub record IsTreeOf (problem : Instance) (limit : ℕ) (items : List Item) (tree
   pub first_defect : NamesFirstDefect problem tree
   pub in_range : IsTreeInRange problem.grid (length problem.agents) tree
 
--- the plan is valid, the tree shows that no valid plan is cheaper, and so none is; at a leaf of the tree its paths are the
--- first of the cheapest ones; they are tight, and the plan and its sum can be printed
+-- at a node with these constraints the paths are cheapest, and each is the first of its cost
+abbrev pub AreFirstCheapest : Instance → List (List ℕ) → NodeConstraints → Type 0
+AreFirstCheapest problem paths constraints =
+    AreCheapest problem constraints paths × AreFirstPaths problem constraints paths
+
+-- the plan is valid, the tree shows that no valid plan is cheaper, and so none is; at a leaf of the tree its paths are
+-- the first of the cheapest ones; they are tight, and the plan and its sum can be printed
 pub record IsShownOptimal (problem : Instance) (plan : List (List ℕ)) (tree : ConstraintTree) : Type 0 where
   pub total : ℕ
   pub optimal : IsOptimal problem plan total
   pub shows : Shows problem (Cost total) tree
-  pub of_a_leaf : AtSomeLeaf (λ constraints. AreCheapest problem constraints plan × AreFirstPaths problem constraints plan) root tree
+  pub of_a_leaf : AtSomeLeaf (AreFirstCheapest problem plan) root tree
   pub plan_in_range : IsPlanInRange problem.grid plan
   pub claim_in_range : IsClaimInRange (Cost total)
 
@@ -39,16 +45,19 @@ pub record IsShownImpossible (problem : Instance) (tree : ConstraintTree) : Type
   pub shows : Shows problem Impossible tree
   pub impossible : IsImpossible problem
 
--- an earned tree with a leaf at which due paths, each the first of its cost, conflict, and of these paths the fact holds
+-- an earned tree with a leaf at which due paths, each the first of its cost, conflict, and of which the fact holds
 abbrev pub IsStoppedAtFirst : (List (List ℕ) → Type 0) → Instance → ConstraintTree → Type 0
-IsStoppedAtFirst Fact problem tree = IsStoppedWhere (λ constraints paths. AreFirstPaths problem constraints paths × Fact paths) problem tree
+IsStoppedAtFirst Fact problem tree =
+    IsStoppedWhere (λ constraints paths. AreFirstPaths problem constraints paths × Fact paths) problem tree
 
--- a search with so many splits at most may stop for this cause, with this tree: at a leaf of it the first due paths have a
--- conflict before tick 1,000,000, and the tree has exactly the limit's splits; or they conflict but have no conflict before
--- tick 1,000,000, and one more than the splits, times the free cells, exceeds 1,000,000
+-- a search with so many splits at most may stop for this cause, with this tree: at a leaf of it the first due paths
+-- have a conflict before tick 1,000,000, and the tree has exactly the limit's splits; or they conflict but have no
+-- conflict before tick 1,000,000, and one more than the splits, times the free cells, exceeds 1,000,000
 abbrev pub MayStop : Instance → ℕ → Cause → ConstraintTree → Type 0
-MayStop problem limit (Splits n) tree = IsStoppedAtFirst (λ paths. HaveConflictBefore paths 1000000) problem tree × (n ≡ limit) × (split_count tree ≡ limit)
-MayStop problem limit Ticks tree = IsStoppedAtFirst (λ paths. AreConflictFreeBefore paths 1000000) problem tree × (1000000 < (split_count tree + 1) * free_cell_count problem.grid)
+MayStop problem limit (Splits n) tree = IsStoppedAtFirst (λ paths. HaveConflictBefore paths 1000000) problem tree
+    × (n ≡ limit) × (split_count tree ≡ limit)
+MayStop problem limit Ticks tree = IsStoppedAtFirst (λ paths. AreConflictFreeBefore paths 1000000) problem tree
+    × (1000000 < (split_count tree + 1) * free_cell_count problem.grid)
 
 -- a plan or impossibility with a tree that shows it, or a limit that was met
 abbrev pub IsSearchAnswer : Instance → ℕ → Answer → Type 0

@@ -16,7 +16,8 @@ use Rattle.mapf_spacetime.specs.Task.{task_of}
 abbrev pub IsTableBar : Bar → Type 0
 IsTableBar bar = (tick_of bar < 1000000) × IsBar bar
 
--- a cheapest path of an agent under its bars, the first of them by cell numbers, with its cost and the entries that show it
+-- a cheapest path of an agent under its bars, the first of them by cell numbers, with its cost and the entries that
+-- show it
 pub record IsCheapestPath (grid : GridMap) (agent : Agent) (bars : List Bar) (path : List ℕ) (cost : ℕ) (entries : List Entry) : Type 0 where
   pub lawful : IsLawful grid agent path
   pub satisfies : Satisfies bars path

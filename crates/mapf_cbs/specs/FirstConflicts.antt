@@ -20,13 +20,15 @@ pub record IsFirstConflict (paths : List (List ℕ)) (conflict : Conflict) : Typ
 
 -- at the node each agent's path is the first of its cost, by cell numbers, of those that satisfy its bars
 abbrev pub AreFirstPaths : Instance → NodeConstraints → List (List ℕ) → Type 0
-AreFirstPaths problem constraints paths = (i : ℕ) (agent : Agent) (path : List ℕ) (cost : ℕ) → slice_get problem.agents i ≡ Some agent →
-    slice_get paths i ≡ Some path → IsCost agent.goal path cost → IsFirstOfCost (task_of problem.grid agent (constraints.bars i)) cost path
+AreFirstPaths problem constraints paths = (i : ℕ) (agent : Agent) (path : List ℕ) (cost : ℕ) →
+    slice_get problem.agents i ≡ Some agent → slice_get paths i ≡ Some path → IsCost agent.goal path cost →
+    IsFirstOfCost (task_of problem.grid agent (constraints.bars i)) cost path
 
 -- a split stands on the first conflict of paths that are due there, each the first of its cost
 abbrev pub IsOnFirstConflict : Instance → ConstraintTree → NodeConstraints → ConstraintTree → Type 0
 IsOnFirstConflict problem tree constraints (Split conflict left right) = (paths : List (List ℕ)) × (total : ℕ)
-    × AreDue problem tree constraints paths total × AreFirstPaths problem constraints paths × IsFirstConflict paths conflict
+    × AreDue problem tree constraints paths total × AreFirstPaths problem constraints paths
+    × IsFirstConflict paths conflict
 IsOnFirstConflict problem tree constraints (Leaf blocks) = Unit {0}
 IsOnFirstConflict problem tree constraints (Clash i j) = Unit {0}
 

@@ -18,7 +18,8 @@ pub record IsFirstSharingPair (problem : Instance) (i j : ℕ) : Type 0 where
 
 -- some agent can't reach its goal
 abbrev pub SomeGoalIsUnreachable : Instance → Type 0
-SomeGoalIsUnreachable problem = (i : ℕ) × (agent : Agent) × (slice_get problem.agents i ≡ Some agent) × IsUnreachable problem.grid agent.goal agent.start
+SomeGoalIsUnreachable problem = (i : ℕ) × (agent : Agent) × (slice_get problem.agents i ≡ Some agent)
+    × IsUnreachable problem.grid agent.goal agent.start
 
 -- where two agents have one goal the tree is one clash, of the first two such agents; else, where some goal can't be
 -- reached, it is one leaf without blocks

@@ -7,7 +7,10 @@ use Rattle.mapf_spacetime.specs.declared.found.Found.TheVariants.{Arrives, Dead}
 use Rattle.mapf_cbs.specs.declared.node.Node.{Node}
 use Rattle.mapf_cbs.specs.declared.node.Node.TheVariants.{Root, Child}
 use Rattle.mapf_cbs.specs.CheapestPath.{IsTableBar}
-use Rattle.mapf_cbs.specs.Search.{View, live_child, dead_child}
+use Rattle.mapf_model.specs.declared.conflict.Conflict.{Conflict}
+use Rattle.mapf_model.specs.Plan.{Instance}
+use Rattle.mapf_cbs.specs.FirstConflicts.{IsFirstConflict}
+use Rattle.mapf_cbs.specs.Search.{View, IsLive, live_child, dead_child}
 
 -- parents come before their children, and the root, which comes first, has a path of the agent
 abbrev pub IsNodeFor : ℕ → ℕ → Node → Type 0
@@ -47,6 +50,11 @@ IsNodeView views k (Child parent agent bar found) view = (parent < k) × (before
 pub record AreViews (nodes : List Node) (views : List View) : Type 0 where
   pub lengths : length views ≡ length nodes
   pub each : (k : ℕ) (node : Node) (view : View) → slice_get nodes k ≡ Some node → slice_get views k ≡ Some view → IsNodeView views k node view
+
+-- the conflict is the first of the node's paths
+abbrev pub IsFirstAt : Instance → List Node → ℕ → Conflict → Type 0
+IsFirstAt problem nodes k conflict = (views : List View) (view : View) → AreViews nodes views →
+    slice_get views k ≡ Some view → IsLive problem view → IsFirstConflict view.paths conflict
 
 -- the bars of one list are those of two others
 pub record AreJoined (all front rest : List Bar) : Type 0 where

@@ -17,7 +17,8 @@ use Rattle.mapf_distance.specs.Tables.{AreTables}
 abbrev pub HaveGoal : List Agent → ℕ → ℕ → Type 0
 HaveGoal agents i j = (a : Agent) × (b : Agent) × (slice_get agents i ≡ Some a) × (slice_get agents j ≡ Some b) × (a.goal ≡ b.goal)
 
--- the agent's path is lawful, ends as it arrives, has no more steps than it must and goes to the least cell at each step
+-- the agent's path is lawful, ends as it arrives, has no more steps than it must and goes to the least cell at each
+-- step
 pub record IsShortest (grid : GridMap) (agent : Agent) (path : List ℕ) : Type 0 where
   pub lawful : IsLawful grid agent path
   pub tight : IsTight path

@@ -10,6 +10,8 @@ use Rattle.mapf_cbs.specs.declared.node.Fate.{Fate}
 use Rattle.mapf_cbs.specs.declared.node.Fate.TheVariants.{Open}
 use Rattle.mapf_cbs.specs.declared.whole_node.AgentPath.{AgentPath}
 use Rattle.mapf_cbs.specs.declared.whole_node.WholeNode.{WholeNode}
+use Rattle.mapf_model.specs.declared.conflict.Conflict.{Conflict}
+use Rattle.mapf_cbs.specs.FirstConflicts.{IsFirstConflict}
 use Rattle.mapf_cbs.specs.GeneratedChild.{IsGeneratedChild}
 use Rattle.mapf_cbs.specs.Search.{View}
 use Rattle.mapf_cbs.specs.State.{IsState, IsPopped}
@@ -30,6 +32,11 @@ pub record IsWhole (node : WholeNode) (view : View) : Type 0 where
 pub record AreWhole (nodes : List WholeNode) (views : List View) : Type 0 where
   pub lengths : length views ≡ length nodes
   pub each : (k : ℕ) (node : WholeNode) (view : View) → slice_get nodes k ≡ Some node → slice_get views k ≡ Some view → IsWhole node view
+
+-- the conflict is the first of the node's paths
+abbrev pub IsFirstAtWhole : List WholeNode → ℕ → Conflict → Type 0
+IsFirstAtWhole nodes k conflict = (node : WholeNode) (view : View) → slice_get nodes k ≡ Some node → IsWhole node view →
+    IsFirstConflict view.paths conflict
 
 -- each node has a path of each agent
 abbrev pub HaveAgentPaths : List WholeNode → ℕ → Type 0

@@ -1,16 +1,15 @@
 //! A plain search beside the fast one: the same order of work and the same ties, with nodes kept
 //! whole and the next node found by a scan.
-ghost use Rattle.std.specs.Prelude.{◌≡◌, ◌+◌, ◌^◌, ◌<◌, ◌≤◌, ◌∷◌, ℕ, Some, length, slice_get, IfOk, OnOk};
+ghost use Rattle.std.specs.Prelude.{◌≡◌, ◌+◌, ◌^◌, ◌<◌, ◌≤◌, ◌∷◌, ℕ, length, IfOk, OnOk};
 ghost use Rattle.mapf_model.specs.Earned.{tick_of};
 ghost use Rattle.mapf_model.specs.Laws.{AreSameBars};
 ghost use Rattle.mapf_cbs.specs.Answer.{IsSearchAnswer};
 ghost use Rattle.mapf_cbs.specs.CheapestPath.{IsTableBar};
-ghost use Rattle.mapf_cbs.specs.FirstConflicts.{IsFirstConflict};
 ghost use Rattle.mapf_cbs.specs.Goals.{HaveDifferentGoals};
 ghost use Rattle.mapf_distance.specs.Tables.{AreTables};
 ghost use Rattle.mapf_cbs.specs.Search.{View, IsLive};
 ghost use Rattle.mapf_cbs.specs.Start.{IsRootStart};
-ghost use Rattle.mapf_cbs.specs.Whole.{IsWhole, IsWholeChild, IsWholePopped, IsWholeState};
+ghost use Rattle.mapf_cbs.specs.Whole.{IsFirstAtWhole, IsWhole, IsWholeChild, IsWholePopped, IsWholeState};
 ghost use Rattle.mapf_cbs.specs.declared.whole_node.WholeNode.{WholeNode};
 
 use crate::answer::Answer;
@@ -85,7 +84,7 @@ fn split_whole(
     requires tables { AreTables problem.now tables.now }
     requires popped { (total : ℕ) × IsWholePopped problem.now tree.old.nodes.items tree.old.fates.items tree.old.splits total k }
     requires goals { HaveDifferentGoals problem.now }
-    requires meet { (node : WholeNode) (view : View) → slice_get tree.old.nodes.items k ≡ Some node → IsWhole node view → IsFirstConflict view.paths conflict.now }
+    requires meet { IsFirstAtWhole tree.old.nodes.items k conflict.now }
     requires early { tick_of conflict.now < 1000000 }
     requires few { tree.old.splits < 100000 }
     ensures state { OnOk result (IsWholeState problem.now tree.new.nodes.items tree.new.fates.items (tree.old.splits + 1)) }

@@ -1,11 +1,9 @@
-ghost use Rattle.std.specs.Prelude.{◌≡◌, ◌≢◌, ◌+◌, ◌<◌, ◌≤◌, ◌∷◌, [], ℕ, List, Some, length, slice_get, IfOk, IfSome, IfNone, OnOk};
+ghost use Rattle.std.specs.Prelude.{◌≡◌, ◌≢◌, ◌+◌, ◌<◌, ◌≤◌, IfOk, IfSome, IfNone, OnOk};
 ghost use Rattle.mapf_model.specs.Earned.{tick_of};
 ghost use Rattle.mapf_cbs.specs.Answer.{IsSearchAnswer};
-ghost use Rattle.mapf_cbs.specs.FirstConflicts.{IsFirstConflict};
 ghost use Rattle.mapf_cbs.specs.Goals.{HaveDifferentGoals};
-ghost use Rattle.mapf_cbs.specs.Nodes.{AreViews};
+ghost use Rattle.mapf_cbs.specs.Nodes.{IsFirstAt};
 ghost use Rattle.mapf_distance.specs.Tables.{AreTables};
-ghost use Rattle.mapf_cbs.specs.Search.{View, IsLive};
 ghost use Rattle.mapf_cbs.specs.Start.{IsRootStart};
 ghost use Rattle.mapf_cbs.specs.State.{IsPopped, IsState, IsCauseToStop};
 
@@ -115,7 +113,7 @@ fn split<B: BarTable>(
     requires tables { AreTables problem.now tables.now }
     requires popped { IsPopped problem.now search.old.nodes.items search.old.fates.items search.old.waiting.keys search.old.splits total k }
     requires goals { HaveDifferentGoals problem.now }
-    requires meet { (views : List View) (view : View) → AreViews search.old.nodes.items views → slice_get views k ≡ Some view → IsLive problem.now view → IsFirstConflict view.paths conflict.now }
+    requires meet { IsFirstAt problem.now search.old.nodes.items k conflict.now }
     requires early { tick_of conflict.now < 1000000 }
     requires few { search.old.splits < 100000 }
     ensures state { OnOk result (IsState problem.now search.new.nodes.items search.new.fates.items search.new.waiting.keys (search.old.splits + 1)) }

@@ -63,4 +63,5 @@ pub record IsEarned (problem : Instance) (tree : ConstraintTree) : Type 0 where
 -- an earned tree with a leaf at which some due paths conflict and the fact holds of them
 pub record IsStoppedWhere (Fact : NodeConstraints → List (List ℕ) → Type 0) (problem : Instance) (tree : ConstraintTree) : Type 0 where
   pub earned : IsEarned problem tree
-  pub leaf : AtSomeLeaf (λ constraints. (paths : List (List ℕ)) × (total : ℕ) × AreDue problem tree constraints paths total × HaveSomeConflict paths × Fact constraints paths) root tree
+  pub leaf : AtSomeLeaf (λ constraints. (paths : List (List ℕ)) × (total : ℕ)
+      × AreDue problem tree constraints paths total × HaveSomeConflict paths × Fact constraints paths) root tree

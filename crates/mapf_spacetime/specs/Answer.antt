@@ -21,10 +21,11 @@ pub record AreGoodLabels (task : Task) (entries : List Entry) : Type 0 where
 abbrev pub AgreeBefore : ℕ → List ℕ → List ℕ → Type 0
 AgreeBefore tick path other = (earlier : ℕ) → earlier < tick → at path earlier ≡ at other earlier
 
--- no lawful path of this cost that satisfies the bars comes before this one, in the order of their cells' numbers from tick 0 on
+-- no lawful path of this cost that satisfies the bars comes before this one, in the order of their cells' numbers from
+-- tick 0 on
 abbrev pub IsFirstOfCost : Task → ℕ → List ℕ → Type 0
-IsFirstOfCost task cost path = (other : List ℕ) (tick : ℕ) → IsLawful task.grid (agent_of task) other → Satisfies task.bars other →
-    IsCost task.goal other cost → AgreeBefore tick path other → at path tick ≤ at other tick
+IsFirstOfCost task cost path = (other : List ℕ) (tick : ℕ) → IsLawful task.grid (agent_of task) other →
+    Satisfies task.bars other → IsCost task.goal other cost → AgreeBefore tick path other → at path tick ≤ at other tick
 
 -- a lawful, tight path that satisfies the bars, whose cost the labels show to be the least, and before which no path of
 -- that cost comes

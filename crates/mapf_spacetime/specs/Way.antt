@@ -32,8 +32,12 @@ CanArrive task cost state = (n : ℕ) × CanArriveIn task cost n state
 
 -- if the agent may go from the state to the cell and can arrive from there, then this is one of the states that failed
 abbrev pub IsNoWayOn : Task → ℕ → List State → State → ℕ → Type 0
-IsNoWayOn task cost failed from to = MayGo task.grid task.bars from.cell to from.tick → CanArrive task cost (state_at to (from.tick + 1)) →
-    Contains failed (state_at to (from.tick + 1))
+IsNoWayOn task cost failed from to = MayGo task.grid task.bars from.cell to from.tick →
+    CanArrive task cost (state_at to (from.tick + 1)) → Contains failed (state_at to (from.tick + 1))
+
+-- so it is with each lesser cell
+abbrev pub AreNoWaysBelow : Task → ℕ → List State → State → ℕ → Type 0
+AreNoWaysBelow task cost failed from to = (other : ℕ) → other < to → IsNoWayOn task cost failed from other
 
 -- the state of the walk at the tick
 abbrev pub state_of : List ℕ → ℕ → State

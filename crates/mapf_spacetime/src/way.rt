@@ -3,7 +3,7 @@ ghost use Rattle.std.specs.List.Sorted.{IsStrictlyIncreasing};
 ghost use Rattle.mapf_model.specs.Grid.{IsFree, Step};
 ghost use Rattle.mapf_model.specs.Labels.{MayGo};
 ghost use Rattle.mapf_spacetime.specs.Task.{IsWithin, state_at, start_of};
-ghost use Rattle.mapf_spacetime.specs.Way.{CanArrive, IsNoWayOn, IsSearching, IsWholeWay, turns_left, first_way, with_step, with_failure};
+ghost use Rattle.mapf_spacetime.specs.Way.{AreNoWaysBelow, CanArrive, IsNoWayOn, IsSearching, IsWholeWay, turns_left, first_way, with_step, with_failure};
 
 use crate::ground::Ground;
 use crate::state::State;
@@ -84,7 +84,7 @@ impl Way {
         ensures may { IsTrue result → MayGo ground.now.grid ground.now.bars from.now.cell to from.now.tick }
         ensures within { IsTrue result → IsWithin ground.now cost (state_at to (from.now.tick + 1)) }
         ensures fresh { IsTrue result → Contains self.now.failed (state_at to (from.now.tick + 1)) → ⊥ }
-        ensures no { result ≡ false → MayGo ground.now.grid ground.now.bars from.now.cell to from.now.tick → CanArrive ground.now cost (state_at to (from.now.tick + 1)) → Contains self.now.failed (state_at to (from.now.tick + 1)) }
+        ensures no { result ≡ false → IsNoWayOn ground.now cost self.now.failed from.now to }
     {
         let next = State {
             tick: from.tick + 1,
@@ -113,7 +113,7 @@ impl Way {
         ensures may { IfSome result (λ to. MayGo ground.now.grid ground.now.bars from.now.cell to from.now.tick) }
         ensures within { IfSome result (λ to. IsWithin ground.now cost (state_at to (from.now.tick + 1))) }
         ensures fresh { IfSome result (λ to. Contains self.now.failed (state_at to (from.now.tick + 1)) → ⊥) }
-        ensures least { IfSome result (λ to. (other : ℕ) → other < to → IsNoWayOn ground.now cost self.now.failed from.now other) }
+        ensures least { IfSome result (AreNoWaysBelow ground.now cost self.now.failed from.now) }
         ensures none { IfNone result ((to : ℕ) → IsNoWayOn ground.now cost self.now.failed from.now to) }
     {
         for to in steps {
