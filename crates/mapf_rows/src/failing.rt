@@ -7,6 +7,7 @@ use mapf_app::{Fault, Input, Kind, Output, Verdict, run_check, run_play, run_sol
 use mapf_model::devices::{EndlessSource, FuseSink, FuseSource, Pace};
 use mapf_model::{BytesSink, BytesSource, Sink};
 use std::alloc::Global;
+use std::process::Abort;
 use std::test::Fail;
 
 const ROOM: usize = 200;
@@ -39,9 +40,18 @@ fn play_over<K: Sink>(alloc: Global, fuses: Fuses, sink: &mut K) -> Result<(), F
 // A pace, and at most how many calls of the map's and of the scenario's source a failure follows.
 const PACES: [(Pace, u64, u64); 2] = [(Pace::ByteByByte, 45, 62), (Pace::AllAtOnce, 1, 1)];
 
+// Both runs end with a failure of this input, and nothing is shown.
+fn assert_unread(rt: &impl Abort, alloc: Global, fuses: Fuses, input: Input) -> Result<(), Fail> {
+    assert_eq!(rt; check_over(alloc, fuses), Err(Fault::F4(input)));
+    let mut sink = BytesSink::with_room(alloc, ROOM)?;
+    let shown = play_over(alloc, fuses, &mut sink);
+    assert_eq!(rt; shown, Err(Fault::F4(input)));
+    assert!(rt; sink.bytes().is_empty());
+    Ok(())
+}
+
 #[test]
 fn names_the_map_that_failed(rt: HostRuntime) -> Result<(), Fail> {
-    let mut sink = BytesSink::with_room(rt.alloc(), ROOM)?;
     for (pace, most, _) in PACES {
         for calls in 0..=most {
             let fuses = Fuses {
@@ -49,20 +59,14 @@ fn names_the_map_that_failed(rt: HostRuntime) -> Result<(), Fail> {
                 map: Some(calls),
                 scen: None,
             };
-            let verdict = check_over(rt.alloc(), fuses);
-            assert_eq!(rt; verdict, Err(Fault::F4(Input::Map)), "after {calls} calls");
-            assert!(rt; !sink.failed());
-            let shown = play_over(rt.alloc(), fuses, &mut sink);
-            assert_eq!(rt; shown, Err(Fault::F4(Input::Map)), "after {calls} calls");
+            assert_unread(&rt, rt.alloc(), fuses, Input::Map)?;
         }
     }
-    assert_eq!(rt; sink.bytes(), b"".as_slice());
     Ok(())
 }
 
 #[test]
 fn names_the_scenario_that_failed(rt: HostRuntime) -> Result<(), Fail> {
-    let mut sink = BytesSink::with_room(rt.alloc(), ROOM)?;
     for (pace, _, most) in PACES {
         for calls in 0..=most {
             let fuses = Fuses {
@@ -70,14 +74,9 @@ fn names_the_scenario_that_failed(rt: HostRuntime) -> Result<(), Fail> {
                 map: None,
                 scen: Some(calls),
             };
-            let verdict = check_over(rt.alloc(), fuses);
-            assert_eq!(rt; verdict, Err(Fault::F4(Input::Scen)), "after {calls} calls");
-            assert!(rt; !sink.failed());
-            let shown = play_over(rt.alloc(), fuses, &mut sink);
-            assert_eq!(rt; shown, Err(Fault::F4(Input::Scen)), "after {calls} calls");
+            assert_unread(&rt, rt.alloc(), fuses, Input::Scen)?;
         }
     }
-    assert_eq!(rt; sink.bytes(), b"".as_slice());
     Ok(())
 }
 
@@ -126,24 +125,29 @@ fn writes_the_same_into_slow_sinks(rt: HostRuntime) -> Result<(), Fail> {
 }
 
 #[test]
-fn names_the_sink_that_is_full(rt: HostRuntime) -> Result<(), Fail> {
-    let plan_text = CROSSING_PLAN.as_bytes();
-    let cert_text = CROSSING_CERT.as_bytes();
-    for room in 0..plan_text.len() {
+fn names_the_plan_sink_that_is_full(rt: HostRuntime) -> Result<(), Fail> {
+    let text = CROSSING_PLAN.as_bytes();
+    for room in 0..text.len() {
         let mut plan = BytesSink::with_room(rt.alloc(), room)?;
         let mut cert = BytesSink::with_room(rt.alloc(), ROOM)?;
         let answer = solve_into(rt.alloc(), &mut plan, &mut cert);
         assert_eq!(rt; answer, Err(Fault::F5(Output::Plan)), "at {room}");
-        assert_eq!(rt; plan.bytes(), &plan_text[..room]);
-        assert_eq!(rt; cert.bytes(), b"".as_slice());
+        assert_eq!(rt; plan.bytes(), &text[..room]);
+        assert!(rt; cert.bytes().is_empty());
     }
-    for room in 0..cert_text.len() {
+    Ok(())
+}
+
+#[test]
+fn names_the_certificate_sink_that_is_full(rt: HostRuntime) -> Result<(), Fail> {
+    let text = CROSSING_CERT.as_bytes();
+    for room in 0..text.len() {
         let mut plan = BytesSink::with_room(rt.alloc(), ROOM)?;
         let mut cert = BytesSink::with_room(rt.alloc(), room)?;
         let answer = solve_into(rt.alloc(), &mut plan, &mut cert);
         assert_eq!(rt; answer, Err(Fault::F5(Output::Cert)), "at {room}");
-        assert_eq!(rt; plan.bytes(), plan_text);
-        assert_eq!(rt; cert.bytes(), &cert_text[..room]);
+        assert!(rt; plan.bytes() == CROSSING_PLAN.as_bytes());
+        assert_eq!(rt; cert.bytes(), &text[..room]);
     }
     Ok(())
 }

@@ -3,6 +3,7 @@
 ghost use Rattle.std.specs.Prelude.{◌≤◌};
 
 use crate::runs::{Given, check, play, solve};
+use crate::solving::assert_written;
 use mapf_app::{Fault, Kind, MapFault, ScenFault};
 use mapf_model::BytesSink;
 use std::alloc::Global;
@@ -15,14 +16,7 @@ fn assert_fault(rt: &impl Abort, alloc: Global, given: &Given, fault: Fault) -> 
     requires few { given.now.k ≤ 200 }
 {
     let solved = solve(alloc, given, 0)?;
-    assert_eq!(rt;
-        solved.answer,
-        Err(fault),
-        "of {} and {}",
-        given.map,
-        given.scen
-    );
-    assert_eq!(rt; solved.plan.bytes(), b"".as_slice());
+    assert_written(rt, &solved, Err(fault), ("", ""));
     let verdict = check(alloc, given, b"", b"");
     assert_eq!(rt; verdict, Err(fault), "of {} and {}", given.map, given.scen);
     let mut sink = BytesSink::with_room(alloc, 80)?;

@@ -142,7 +142,6 @@ fn faults_inputs_with_numbers_of_any_size(rt: HostRuntime) -> Result<(), Fail> {
             given.map,
             given.scen
         );
-        assert_eq!(rt; solved.plan.bytes(), b"".as_slice());
     }
     Ok(())
 }

@@ -6,9 +6,10 @@ use crate::problems::{
     ROTATION_PLAN, SHARED_GOAL, SHARED_GOAL_CERT, SHARED_GOAL_PLAN, SHARED_START,
     SHARED_START_CERT, SHARED_START_PLAN, WALL, WALL_CERT, WALL_PLAN,
 };
-use crate::runs::{Given, check, solve};
-use mapf_app::{Kind, Verdict};
+use crate::runs::{Given, Solved, check, solve};
+use mapf_app::{Fault, Kind, Verdict};
 use mapf_model::Cause;
+use std::process::Abort;
 use std::test::Fail;
 
 // A problem, the number of splits that are allowed, and the answer and the texts that are due.
@@ -80,6 +81,18 @@ const ROWS: [Row; 8] = [
     },
 ];
 
+// The run gave this answer, and wrote these texts.
+pub fn assert_written(
+    rt: &impl Abort,
+    solved: &Solved,
+    answer: Result<Kind, Fault>,
+    texts: (&str, &str),
+) {
+    assert_eq!(rt; solved.answer, answer);
+    assert_eq!(rt; solved.plan.bytes(), texts.0.as_bytes());
+    assert_eq!(rt; solved.cert.bytes(), texts.1.as_bytes());
+}
+
 fn verdict_of(kind: Kind) -> Option<Verdict> {
     match kind {
         Kind::Found(cost) => Some(Verdict::Optimal(cost)),
@@ -93,9 +106,7 @@ fn writes_plan_and_certificate(rt: HostRuntime) -> Result<(), Fail> {
     for row in ROWS {
         assert!(rt; 1 <= row.given.k && row.given.k <= 200 && row.limit <= 100_000);
         let solved = solve(rt.alloc(), &row.given, row.limit)?;
-        assert_eq!(rt; solved.answer, Ok(row.kind));
-        assert_eq!(rt; solved.plan.bytes(), row.plan.as_bytes());
-        assert_eq!(rt; solved.cert.bytes(), row.cert.as_bytes());
+        assert_written(&rt, &solved, Ok(row.kind), (row.plan, row.cert));
         let verdict = check(
             rt.alloc(),
             &row.given,
@@ -110,9 +121,8 @@ fn writes_plan_and_certificate(rt: HostRuntime) -> Result<(), Fail> {
 #[test]
 fn needs_no_more_splits_than_it_makes(rt: HostRuntime) -> Result<(), Fail> {
     let solved = solve(rt.alloc(), &CROSSING, 1)?;
-    assert_eq!(rt; solved.answer, Ok(Kind::Found(5)));
-    assert_eq!(rt; solved.plan.bytes(), CROSSING_PLAN.as_bytes());
-    assert_eq!(rt; solved.cert.bytes(), CROSSING_CERT.as_bytes());
+    let texts = (CROSSING_PLAN, CROSSING_CERT);
+    assert_written(&rt, &solved, Ok(Kind::Found(5)), texts);
     Ok(())
 }
 
@@ -129,9 +139,8 @@ fn stops_at_its_limit(rt: HostRuntime) -> Result<(), Fail> {
     for (given, limit, plan) in LIMITED {
         assert!(rt; 1 <= given.k && given.k <= 200 && limit <= 100_000);
         let solved = solve(rt.alloc(), &given, limit)?;
-        assert_eq!(rt; solved.answer, Ok(Kind::Limit(Cause::Splits(limit))));
-        assert_eq!(rt; solved.plan.bytes(), plan.as_bytes());
-        assert_eq!(rt; solved.cert.bytes(), b"".as_slice());
+        let answer = Ok(Kind::Limit(Cause::Splits(limit)));
+        assert_written(&rt, &solved, answer, (plan, ""));
     }
     Ok(())
 }

@@ -17,6 +17,20 @@ use std::test::Fail;
 
 const ROOM: usize = 80;
 
+// The status, and what the sinks of answers and of faults got.
+fn assert_told(
+    rt: &impl Abort,
+    told: u8,
+    out: &BytesSink,
+    err: &BytesSink,
+    wanted: (u8, &'static str, &'static str),
+) {
+    let (status, answer, fault) = wanted;
+    assert_eq!(rt; told, status, "of {answer}{fault}");
+    assert_eq!(rt; out.bytes(), answer.as_bytes());
+    assert_eq!(rt; err.bytes(), fault.as_bytes());
+}
+
 const KINDS: [(Kind, &str, u8); 5] = [
     (Kind::Found(0), "cost 0\n", 0),
     (Kind::Found(1_999_999_800), "cost 1999999800\n", 0),
@@ -31,9 +45,7 @@ fn tells_how_a_search_ended(rt: HostRuntime) -> Result<(), Fail> {
         let mut out = BytesSink::with_room(rt.alloc(), ROOM)?;
         let mut err = BytesSink::with_room(rt.alloc(), ROOM)?;
         let told = tell_solve(&Ok(kind), &mut out, &mut err);
-        assert_eq!(rt; told, status, "of {line}");
-        assert_eq!(rt; out.bytes(), line.as_bytes());
-        assert_eq!(rt; err.bytes(), b"".as_slice());
+        assert_told(&rt, told, &out, &err, (status, line, ""));
     }
     Ok(())
 }
@@ -49,9 +61,7 @@ fn tells_verdicts(rt: HostRuntime) -> Result<(), Fail> {
         let mut out = BytesSink::with_room(rt.alloc(), ROOM)?;
         let mut err = BytesSink::with_room(rt.alloc(), ROOM)?;
         let told = tell_check(&Ok(verdict), &mut out, &mut err);
-        assert_eq!(rt; told, 0, "of {line}");
-        assert_eq!(rt; out.bytes(), line.as_bytes());
-        assert_eq!(rt; err.bytes(), b"".as_slice());
+        assert_told(&rt, told, &out, &err, (0, line, ""));
     }
     Ok(())
 }
@@ -116,9 +126,7 @@ fn tells_refusals_as_answers(rt: HostRuntime) -> Result<(), Fail> {
         let mut out = BytesSink::with_room(rt.alloc(), ROOM)?;
         let mut err = BytesSink::with_room(rt.alloc(), ROOM)?;
         let told = tell_check(&Err(Fault::Refused(refusal)), &mut out, &mut err);
-        assert_eq!(rt; told, 1, "of {line}");
-        assert_eq!(rt; out.bytes(), line.as_bytes());
-        assert_eq!(rt; err.bytes(), b"".as_slice());
+        assert_told(&rt, told, &out, &err, (1, line, ""));
     }
     Ok(())
 }
@@ -205,41 +213,48 @@ const FAULTS_OF_RUNS: [(Fault, &str); 8] = [
     (Fault::F6, "F6\n"),
 ];
 
-// Every call tells these faults on standard error alone.
-fn assert_told(
+// Every call tells the fault on standard error alone.
+fn assert_faulty(
     rt: &impl Abort,
     alloc: Global,
-    faults: &[(Fault, &'static str)],
+    fault: Fault,
+    line: &'static str,
 ) -> Result<(), Fail> {
-    for (fault, line) in faults {
-        let mut out = BytesSink::with_room(alloc, ROOM)?;
-        let mut err = BytesSink::with_room(alloc, ROOM)?;
-        assert_eq!(rt;
-            tell_solve(&Err(*fault), &mut out, &mut err),
-            2,
-            "of {line}"
-        );
-        assert_eq!(rt; err.bytes(), line.as_bytes());
-        let mut err = BytesSink::with_room(alloc, ROOM)?;
-        assert_eq!(rt;
-            tell_check(&Err(*fault), &mut out, &mut err),
-            2,
-            "of {line}"
-        );
-        assert_eq!(rt; err.bytes(), line.as_bytes());
-        let mut err = BytesSink::with_room(alloc, ROOM)?;
-        assert_eq!(rt; tell_run(&Err(*fault), &mut err), 2, "of {line}");
-        assert_eq!(rt; err.bytes(), line.as_bytes());
-        assert_eq!(rt; out.bytes(), b"".as_slice());
+    let mut out = BytesSink::with_room(alloc, ROOM)?;
+    let mut err = BytesSink::with_room(alloc, ROOM)?;
+    let told = tell_solve(&Err(fault), &mut out, &mut err);
+    assert_told(rt, told, &out, &err, (2, "", line));
+    let mut err = BytesSink::with_room(alloc, ROOM)?;
+    let told = tell_check(&Err(fault), &mut out, &mut err);
+    assert_told(rt, told, &out, &err, (2, "", line));
+    let mut err = BytesSink::with_room(alloc, ROOM)?;
+    let told = tell_run(&Err(fault), &mut err);
+    assert_told(rt, told, &out, &err, (2, "", line));
+    Ok(())
+}
+
+#[test]
+fn tells_faults_of_inputs(rt: HostRuntime) -> Result<(), Fail> {
+    for (fault, line) in FAULTS_OF_INPUTS {
+        assert_faulty(&rt, rt.alloc(), fault, line)?;
     }
     Ok(())
 }
 
 #[test]
-fn tells_faults_beside_the_answers(rt: HostRuntime) -> Result<(), Fail> {
-    assert_told(&rt, rt.alloc(), &FAULTS_OF_INPUTS)?;
-    assert_told(&rt, rt.alloc(), &FAULTS_OF_PLANS)?;
-    assert_told(&rt, rt.alloc(), &FAULTS_OF_RUNS)
+fn tells_faults_of_plans(rt: HostRuntime) -> Result<(), Fail> {
+    for (fault, line) in FAULTS_OF_PLANS {
+        assert_faulty(&rt, rt.alloc(), fault, line)?;
+    }
+    Ok(())
+}
+
+#[test]
+fn tells_faults_of_runs(rt: HostRuntime) -> Result<(), Fail> {
+    for (fault, line) in FAULTS_OF_RUNS {
+        assert_faulty(&rt, rt.alloc(), fault, line)?;
+    }
+    Ok(())
 }
 
 #[test]
@@ -250,29 +265,31 @@ fn tells_nothing_of_a_run_that_went_well(rt: HostRuntime) -> Result<(), Fail> {
     Ok(())
 }
 
-// The status of an answer, or of a fault where the line of the answer couldn't be written whole.
-fn status_of(line: &str, calls: usize, status: u8) -> u8 {
-    if calls < line.len() { 2 } else { status }
+// The status of a line that is told into a sink which stands so many calls of a byte each, or that of a
+// fault where it isn't written whole.
+fn assert_status(rt: &impl Abort, told: u8, line: &str, calls: u64, status: u8) {
+    let wanted = if calls < line.len() as u64 { 2 } else { status };
+    assert_eq!(rt; told, wanted, "of {line} after {calls} calls");
 }
 
 #[test]
 fn ends_with_a_fault_where_nothing_can_be_told(rt: HostRuntime) -> Result<(), Fail> {
     let alloc = rt.alloc();
-    for calls in 0..8usize {
-        let fuse = Some(calls as u64);
+    for calls in 0..12 {
         let mut err = BytesSink::with_room(alloc, ROOM)?;
-        let mut out = FuseSink::with_room(alloc, ROOM, Pace::ByteByByte, fuse)?;
+        let mut out = FuseSink::with_room(alloc, ROOM, Pace::ByteByByte, Some(calls))?;
         let told = tell_solve(&Ok(Kind::Found(5)), &mut out, &mut err);
-        assert_eq!(rt; told, status_of("cost 5\n", calls, 0), "after {calls}");
-        let mut out = FuseSink::with_room(alloc, ROOM, Pace::ByteByByte, fuse)?;
+        assert_status(&rt, told, "cost 5\n", calls, 0);
+        let mut out = FuseSink::with_room(alloc, ROOM, Pace::ByteByByte, Some(calls))?;
         let told = tell_check(&Ok(Verdict::Optimal(5)), &mut out, &mut err);
-        assert_eq!(rt; told, status_of("optimal 5\n", calls, 0), "after {calls}");
-        let mut out = FuseSink::with_room(alloc, ROOM, Pace::ByteByByte, fuse)?;
+        assert_status(&rt, told, "optimal 5\n", calls, 0);
+        let mut out = FuseSink::with_room(alloc, ROOM, Pace::ByteByByte, Some(calls))?;
         let told = tell_check(&Err(Fault::Refused(CheckFault::C3)), &mut out, &mut err);
-        assert_eq!(rt; told, status_of("refused C3\n", calls, 1), "after {calls}");
-        assert_eq!(rt; err.bytes(), b"".as_slice());
-        let mut err = FuseSink::with_room(alloc, ROOM, Pace::ByteByByte, fuse)?;
-        assert_eq!(rt; tell_run(&Err(Fault::F6), &mut err), 2, "after {calls}");
+        assert_status(&rt, told, "refused C3\n", calls, 1);
+        let mut out = FuseSink::with_room(alloc, ROOM, Pace::ByteByByte, Some(calls))?;
+        let told = tell_run(&Err(Fault::F6), &mut out);
+        assert_status(&rt, told, "F6\n", calls, 2);
+        assert!(rt; err.bytes().is_empty());
     }
     Ok(())
 }
@@ -292,32 +309,40 @@ fn ends_solved_runs(rt: HostRuntime) -> Result<(), Fail> {
         let mut err = BytesSink::with_room(rt.alloc(), ROOM)?;
         let solved = solve(rt.alloc(), &given, limit)?;
         let told = tell_solve(&solved.answer, &mut out, &mut err);
-        assert_eq!(rt; told, status, "of {line}");
-        assert_eq!(rt; out.bytes(), line.as_bytes());
-        assert_eq!(rt; err.bytes(), b"".as_slice());
+        assert_told(&rt, told, &out, &err, (status, line, ""));
     }
     Ok(())
 }
 
 #[test]
-fn ends_refused_and_faulty_runs(rt: HostRuntime) -> Result<(), Fail> {
-    let alloc = rt.alloc();
-    let mut out = BytesSink::with_room(alloc, ROOM)?;
-    let mut err = BytesSink::with_room(alloc, ROOM)?;
-    let cert = with_lines(alloc, CROSSING_CERT, 7, 7, "at 0,1 0 4\n")?;
-    let verdict = check(alloc, &CROSSING, CROSSING_PLAN.as_bytes(), cert.as_bytes());
-    assert_eq!(rt; tell_check(&verdict, &mut out, &mut err), 1);
-    assert_eq!(rt; out.bytes(), b"refused C7 7\n".as_slice());
-    assert_eq!(rt; err.bytes(), b"".as_slice());
-    let mut out = BytesSink::with_room(alloc, ROOM)?;
-    let of_two_rows = Given {
-        map: CROSSING_MAP,
-        scen: CROSSING_SCEN,
-        k: 3,
-    };
-    let solved = solve(alloc, &of_two_rows, 10)?;
-    assert_eq!(rt; tell_solve(&solved.answer, &mut out, &mut err), 2);
-    assert_eq!(rt; out.bytes(), b"".as_slice());
-    assert_eq!(rt; err.bytes(), b"F2 S7 2\n".as_slice());
+fn ends_refused_runs(rt: HostRuntime) -> Result<(), Fail> {
+    let mut out = BytesSink::with_room(rt.alloc(), ROOM)?;
+    let mut err = BytesSink::with_room(rt.alloc(), ROOM)?;
+    let cert = with_lines(rt.alloc(), CROSSING_CERT, 7, 7, "at 0,1 0 4\n")?;
+    let verdict = check(
+        rt.alloc(),
+        &CROSSING,
+        CROSSING_PLAN.as_bytes(),
+        cert.as_bytes(),
+    );
+    let told = tell_check(&verdict, &mut out, &mut err);
+    assert_told(&rt, told, &out, &err, (1, "refused C7 7\n", ""));
+    Ok(())
+}
+
+// A scenario of two rows for three agents.
+const TOO_FEW_ROWS: Given = Given {
+    map: CROSSING_MAP,
+    scen: CROSSING_SCEN,
+    k: 3,
+};
+
+#[test]
+fn ends_faulty_runs(rt: HostRuntime) -> Result<(), Fail> {
+    let mut out = BytesSink::with_room(rt.alloc(), ROOM)?;
+    let mut err = BytesSink::with_room(rt.alloc(), ROOM)?;
+    let solved = solve(rt.alloc(), &TOO_FEW_ROWS, 10)?;
+    let told = tell_solve(&solved.answer, &mut out, &mut err);
+    assert_told(&rt, told, &out, &err, (2, "", "F2 S7 2\n"));
     Ok(())
 }

@@ -1,5 +1,7 @@
 //! What the calls that take memory answer where they have it: one value of each that no other test names.
 
+ghost use Rattle.std.specs.Prelude.{◌≡◌, None, false, IsSome, OnSome};
+
 use crate::problems::{
     AT_REST, CROSSING, CROSSING_CERT, CROSSING_PLAN, ROTATION_CERT, ROTATION_PLAN,
 };
@@ -10,7 +12,8 @@ use mapf_certificate::{
 };
 use mapf_model::devices::{FuseSource, Pace};
 use mapf_model::{
-    BytesSink, BytesSource, Cell, Claim, Entry, Item, Label, ReadEnd, Tick, read_all, write_all,
+    BytesSink, BytesSource, Cell, Claim, Entry, Item, Label, ReadEnd, Source, Tick, read_all,
+    write_all,
 };
 use std::alloc::Global;
 use std::process::Abort;
@@ -107,25 +110,33 @@ fn reads_the_value_of_a_certificate(rt: HostRuntime) -> Result<(), Fail> {
     Ok(())
 }
 
+// The next item and its line.
+fn next_of<S: Source>(lines: &mut CertLines, source: &mut S) -> Option<(Item, u64)>
+    requires works { S.has_failed source.old ≡ false }
+    requires unfaulted { lines.old.fault ≡ None }
+    requires header { IsSome lines.old.header }
+    ensures works { OnSome result (S.has_failed source.new ≡ false) }
+    ensures unfaulted { OnSome result (lines.new.fault ≡ None) }
+    ensures header { lines.new.header ≡ lines.old.header }
+{
+    match lines.next_item(source) {
+        Ok(Some(item)) => Some((item, lines.line())),
+        _ => None,
+    }
+}
+
 #[test]
 fn reads_a_certificate_item_by_item(rt: HostRuntime) -> Result<(), Fail> {
     let mut source = BytesSource::of(CROSSING_CERT.as_bytes());
     let mut lines = CertLines::open(rt.alloc(), 3, 3, 111)?;
     let header = lines.header(&mut source).ok().ok_or("no header")?;
     assert_eq!(rt; header, (2, Claim::Cost(5)));
-    let mut items = Vec::new(rt.alloc());
-    let split = lines.next_item(&mut source).ok().ok_or("a fault")?;
-    items.push(split.ok_or("no item")?)?;
-    assert_eq!(rt; lines.line(), 4);
-    let left = lines.next_item(&mut source).ok().ok_or("a fault")?;
-    items.push(left.ok_or("no item")?)?;
-    assert_eq!(rt; lines.line(), 5);
-    let right = lines.next_item(&mut source).ok().ok_or("a fault")?;
-    items.push(right.ok_or("no item")?)?;
-    assert_eq!(rt; lines.line(), 8);
-    assert_crossing(&rt, items.as_slice());
-    let end = lines.next_item(&mut source).ok().ok_or("a fault")?;
-    assert!(rt; end.is_none());
+    let (split, first) = next_of(&mut lines, &mut source).ok_or("no split")?;
+    let (left, second) = next_of(&mut lines, &mut source).ok_or("no leaf")?;
+    let (right, third) = next_of(&mut lines, &mut source).ok_or("no leaf")?;
+    assert_eq!(rt; [first, second, third], [4, 5, 8]);
+    assert_crossing(&rt, &[split, left, right]);
+    assert!(rt; matches!(lines.next_item(&mut source), Ok(None)));
     Ok(())
 }
 
