@@ -12,11 +12,9 @@ use mapf_certificate::{
 };
 use mapf_model::devices::{FuseSource, Pace};
 use mapf_model::{
-    BytesSink, BytesSource, Cell, Claim, Entry, Item, Label, ReadEnd, Source, Tick, read_all,
-    write_all,
+    Block, BytesSink, BytesSource, Cell, Claim, Entry, Item, Label, ReadEnd, Source, Tick,
+    read_all, write_all,
 };
-use std::alloc::Global;
-use std::process::Abort;
 use std::test::Fail;
 
 #[test]
@@ -60,42 +58,40 @@ fn takes_as_much_as_there_is_room_for(rt: HostRuntime) -> Result<(), Fail> {
     Ok(())
 }
 
-// A split on a cell: its agents, the cell and the tick.
-fn split(item: &Item) -> Option<(u32, u32, Cell, Tick)> {
+// An item of a tree as far as it is looked at.
+#[derive(Clone, Copy, Debug, PartialEq, Eq)]
+enum Seen {
+    // A split on a cell: its agents, the cell and the tick.
+    Split(u32, u32, Cell, Tick),
+    // A leaf with one entry: its agent, and the entry's cell, tick and label.
+    Raised(u32, Cell, Tick, Label),
+    Other,
+}
+
+fn look_at(item: &Item) -> Seen {
     match item {
-        Item::Vertex { i, j, cell, tick } => Some((*i, *j, *cell, *tick)),
-        _ => None,
+        Item::Vertex { i, j, cell, tick } => Seen::Split(*i, *j, *cell, *tick),
+        Item::Leaf(blocks) => look_at_leaf(blocks.as_slice()),
+        _ => Seen::Other,
     }
 }
 
-// A leaf with one entry: its agent and the entry.
-fn raised(item: &Item) -> Option<(u32, Entry)> {
-    let Item::Leaf(blocks) = item else {
-        return None;
-    };
-    match blocks.as_slice() {
-        [block] if block.entries.len() == 1 => Some((block.agent, block.entries[0])),
-        _ => None,
+fn look_at_leaf(blocks: &[Block]) -> Seen {
+    match blocks {
+        [block] if block.entries.len() == 1 => {
+            let Entry { cell, tick, label } = block.entries[0];
+            Seen::Raised(block.agent, cell, tick, label)
+        }
+        _ => Seen::Other,
     }
 }
 
-// These are the items of the crossing's certificate.
-fn assert_crossing(rt: &impl Abort, items: &[Item]) {
-    assert_eq!(rt; items.len(), 3);
-    assert_eq!(rt; split(&items[0]), Some((0, 1, Cell(4), 1)));
-    let first = Entry {
-        cell: Cell(3),
-        tick: 0,
-        label: Label::Ticks(3),
-    };
-    assert_eq!(rt; raised(&items[1]), Some((0, first)));
-    let second = Entry {
-        cell: Cell(1),
-        tick: 0,
-        label: Label::Ticks(3),
-    };
-    assert_eq!(rt; raised(&items[2]), Some((1, second)));
-}
+// The items of the crossing's certificate, each with its line.
+const CROSSING_ITEMS: [(u64, Seen); 3] = [
+    (4, Seen::Split(0, 1, Cell(4), 1)),
+    (5, Seen::Raised(0, Cell(3), 0, Label::Ticks(3))),
+    (8, Seen::Raised(1, Cell(1), 0, Label::Ticks(3))),
+];
 
 #[test]
 fn reads_the_value_of_a_certificate(rt: HostRuntime) -> Result<(), Fail> {
@@ -104,14 +100,16 @@ fn reads_the_value_of_a_certificate(rt: HostRuntime) -> Result<(), Fail> {
     let cert = read_cert(rt.alloc(), bytes, problem.grid())
         .ok()
         .ok_or("no certificate")?;
-    assert_eq!(rt; cert.agents, 2);
-    assert_eq!(rt; cert.claim, Claim::Cost(5));
-    assert_crossing(&rt, cert.tree.as_slice());
+    assert_eq!(rt; (cert.agents, cert.claim), (2, Claim::Cost(5)));
+    assert_eq!(rt; cert.tree.len(), 3);
+    for (item, (_, wanted)) in cert.tree.iter().zip(CROSSING_ITEMS) {
+        assert_eq!(rt; look_at(item), wanted);
+    }
     Ok(())
 }
 
-// The next item and its line.
-fn next_of<S: Source>(lines: &mut CertLines, source: &mut S) -> Option<(Item, u64)>
+// The next item, with its line.
+fn next_of<S: Source>(lines: &mut CertLines, source: &mut S) -> Option<(u64, Seen)>
     requires works { S.has_failed source.old ≡ false }
     requires unfaulted { lines.old.fault ≡ None }
     requires header { IsSome lines.old.header }
@@ -120,9 +118,17 @@ fn next_of<S: Source>(lines: &mut CertLines, source: &mut S) -> Option<(Item, u6
     ensures header { lines.new.header ≡ lines.old.header }
 {
     match lines.next_item(source) {
-        Ok(Some(item)) => Some((item, lines.line())),
+        Ok(Some(item)) => Some((lines.line(), look_at(&item))),
         _ => None,
     }
+}
+
+fn ends<S: Source>(lines: &mut CertLines, source: &mut S) -> bool
+    requires works { S.has_failed source.old ≡ false }
+    requires unfaulted { lines.old.fault ≡ None }
+    requires header { IsSome lines.old.header }
+{
+    matches!(lines.next_item(source), Ok(None))
 }
 
 #[test]
@@ -131,12 +137,12 @@ fn reads_a_certificate_item_by_item(rt: HostRuntime) -> Result<(), Fail> {
     let mut lines = CertLines::open(rt.alloc(), 3, 3, 111)?;
     let header = lines.header(&mut source).ok().ok_or("no header")?;
     assert_eq!(rt; header, (2, Claim::Cost(5)));
-    let (split, first) = next_of(&mut lines, &mut source).ok_or("no split")?;
-    let (left, second) = next_of(&mut lines, &mut source).ok_or("no leaf")?;
-    let (right, third) = next_of(&mut lines, &mut source).ok_or("no leaf")?;
-    assert_eq!(rt; [first, second, third], [4, 5, 8]);
-    assert_crossing(&rt, &[split, left, right]);
-    assert!(rt; matches!(lines.next_item(&mut source), Ok(None)));
+    let split = next_of(&mut lines, &mut source).ok_or("no split")?;
+    let left = next_of(&mut lines, &mut source).ok_or("no leaf")?;
+    let right = next_of(&mut lines, &mut source).ok_or("no leaf")?;
+    let is_whole = ends(&mut lines, &mut source);
+    assert_eq!(rt; [split, left, right], CROSSING_ITEMS);
+    assert!(rt; is_whole);
     Ok(())
 }
 
