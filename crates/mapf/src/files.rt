@@ -29,11 +29,19 @@ pub struct Named<'a> {
 }
 
 // An input that is open, as a file that the words name.
-fn placed<'a>(argument: &'a str, path: &'a str, file: &File) -> Place<'a> {
-    Place {
-        argument,
-        path,
-        file: identity_of(file),
+fn placed<'a>(
+    argument: &'a str,
+    path: &'a str,
+    file: &File,
+    input: Input,
+) -> Result<Place<'a>, Fault> {
+    match identity_of(file) {
+        Ok(file) => Ok(Place {
+            argument,
+            path,
+            file,
+        }),
+        Err(_) => Err(Fault::F4(input)),
     }
 }
 
@@ -78,8 +86,8 @@ fn solved<'a>(
     let scen = open(rt, named.scen, Input::Scen)?;
     let outputs = outputs::open(
         rt,
-        placed("MAP", named.map, &map),
-        placed("SCEN", named.scen, &scen),
+        placed("MAP", named.map, &map, Input::Map)?,
+        placed("SCEN", named.scen, &scen, Input::Scen)?,
         named.plan,
         cert,
     )?;

@@ -6,8 +6,8 @@
 //! 2. What stands under the paths of PLAN and CERT is compared with MAP, SCEN and each other. Nothing has
 //!    been opened for writing by then.
 //! 3. PLAN is opened, and made where nothing stood, but not emptied; and then CERT.
-//! 4. The two open files are compared: where nothing stood under either path, both may lead to one new
-//!    file. It is removed again.
+//! 4. The open files are compared in the same way: what stood under a path may not have been told, and
+//!    where nothing stood under either path, both may lead to one new file. What was made is removed again.
 //! 5. PLAN is emptied, and then CERT. Where CERT couldn't be opened, PLAN is emptied all the same.
 
 ghost use Rattle.std.specs.Prelude.{◌≡◌, OnOk};
@@ -69,18 +69,18 @@ pub struct Outputs {
 }
 
 /// The regular file that is open.
-pub fn identity_of(file: &File) -> Option<Identity> {
-    regular(file.metadata())
+pub fn identity_of(file: &File) -> io::Result<Option<Identity>> {
+    Ok(regular(&file.metadata()?))
 }
 
-fn regular(found: io::Result<Metadata>) -> Option<Identity> {
-    match found {
-        Ok(metadata) if metadata.is_file() => Some(Identity {
-            device: metadata.dev(),
-            number: metadata.ino(),
-        }),
-        _ => None,
+fn regular(found: &Metadata) -> Option<Identity> {
+    if !found.is_file() {
+        return None;
     }
+    Some(Identity {
+        device: found.dev(),
+        number: found.ino(),
+    })
 }
 
 // Refuses an output that is the other file too.
@@ -114,26 +114,34 @@ fn all_apart<'a>(
     apart(cert, plan)
 }
 
-// What stands under the path of an output.
-fn standing<'a>(rt: &HostRuntime, argument: &'a str, path: &'a str) -> Place<'a> {
-    Place {
+// The place of an output before it is opened, and whether nothing stands there. Where that isn't told, the
+// file is compared once it is open.
+fn standing<'a>(rt: &HostRuntime, argument: &'a str, path: &'a str) -> (Place<'a>, bool) {
+    let (file, is_missing) = match fs::metadata(rt, path) {
+        Ok(found) => (regular(&found), false),
+        Err(error) => (None, error.kind() == io::ErrorKind::NotFound),
+    };
+    let place = Place {
         argument,
         path,
-        file: regular(fs::metadata(rt, path)),
-    }
+        file,
+    };
+    (place, is_missing)
 }
 
-// The same place, by the file that was opened there.
-fn opened<'a>(place: Place<'a>, file: &File) -> Place<'a> {
-    Place {
-        file: identity_of(file),
+// Opens an output, and makes it where there is none, but leaves what it holds. Answers the same place, by
+// the file that was opened there.
+fn open_as_it_is<'a>(rt: &HostRuntime, place: Place<'a>) -> io::Result<(File, Place<'a>)> {
+    let file = OpenOptions::new()
+        .write(true)
+        .create(true)
+        .open(rt, place.path)?;
+    let identity = identity_of(&file)?;
+    let opened = Place {
+        file: identity,
         ..place
-    }
-}
-
-// Opens a file for writing, and makes it where there is none, but leaves what it holds.
-fn open_as_it_is(rt: &HostRuntime, path: &str) -> io::Result<File> {
-    OpenOptions::new().write(true).create(true).open(rt, path)
+    };
+    Ok((file, opened))
 }
 
 fn empty(file: &File) -> io::Result<()> {
@@ -144,7 +152,10 @@ fn empty(file: &File) -> io::Result<()> {
 }
 
 // Removes a file that was made here. Its path may lead over a link.
-fn remove_made(rt: &HostRuntime, path: &str) {
+fn remove_made(rt: &HostRuntime, path: &str, was_missing: bool) {
+    if !was_missing {
+        return;
+    }
     if let Ok(place) = fs::canonicalize(rt, path) {
         let _ = fs::remove_file(rt, place);
     }
@@ -158,24 +169,27 @@ pub fn open<'a>(
     plan: &'a str,
     cert: &'a str,
 ) -> Result<Outputs, Unsolved<'a>> {
-    let plan = standing(rt, "PLAN", plan);
-    let cert = standing(rt, "CERT", cert);
+    let (plan, plan_missing) = standing(rt, "PLAN", plan);
+    let (cert, cert_missing) = standing(rt, "CERT", cert);
     all_apart(map, scen, plan, cert)?;
-    let Ok(plan_file) = open_as_it_is(rt, plan.path) else {
+    let Ok((plan_file, plan)) = open_as_it_is(rt, plan) else {
         return Err(Unsolved::Fault(Fault::F5(Output::Plan)));
     };
-    let cert_file = open_as_it_is(rt, cert.path);
-    if let Ok(file) = &cert_file {
-        if let Err(one) = apart(opened(cert, file), opened(plan, &plan_file)) {
-            remove_made(rt, plan.path);
-            return Err(Unsolved::OneFile(one));
-        }
+    let opened = open_as_it_is(rt, cert);
+    let cert = match &opened {
+        Ok((_, place)) => *place,
+        Err(_) => cert,
+    };
+    if let Err(one) = all_apart(map, scen, plan, cert) {
+        remove_made(rt, plan.path, plan_missing);
+        remove_made(rt, cert.path, cert_missing);
+        return Err(Unsolved::OneFile(one));
     }
     if empty(&plan_file).is_err() {
         return Err(Unsolved::Fault(Fault::F5(Output::Plan)));
     }
-    match cert_file {
-        Ok(file) if empty(&file).is_ok() => Ok(Outputs {
+    match opened {
+        Ok((file, _)) if empty(&file).is_ok() => Ok(Outputs {
             plan: plan_file,
             cert: file,
         }),

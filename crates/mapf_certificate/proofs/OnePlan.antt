@@ -9,7 +9,7 @@ use Rattle.mapf_certificate.specs.declared.plan_text.PlanAnswer.TheVariants as t
 use Rattle.mapf_certificate.specs.declared.plan_text.PlanTextFault.{PlanTextFault}
 use Rattle.mapf_certificate.specs.declared.plan_lines.AnswerLine.TheVariants as answers
 use Rattle.mapf_certificate.specs.declared.sizes.Sizes.{Sizes}
-use Rattle.mapf_certificate.specs.Plans.{SpellsOnePlan, IsAnswerInRange, cells_text, path_words, paths_text, ticks_of, says}
+use Rattle.mapf_certificate.specs.Plans.{SpellsOnePlan, IsAnswerInRange, cells_text, path_words, paths_text, ticks_of}
 use Rattle.mapf_certificate.specs.PlanReading.{read_pair_cell, read_path_front, line_of, rest_of}
 use Rattle.mapf_certificate.proofs.Blocks.{grid_for}
 use Rattle.mapf_certificate.proofs.Fields.{ok_pair_parts}
@@ -79,15 +79,15 @@ answers_same sizes (texts.Limit cause) (texts.Found q) is_a is_b line rest = cc
 answers_same sizes (texts.Limit cause) texts.Impossible is_a is_b line rest = cc
 answers_same sizes (texts.Limit cause) (texts.Limit other) is_a is_b line rest = ap texts.Limit (causes_same cause other line)
 
--- no bytes spell two plan texts
+-- on one grid no bytes spell two plan texts
 pub one_plan : SpellsOnePlan
-one_plan grid bytes agents agents' said said' is p q =
+one_plan grid bytes text other is fits fits' spelled spelled' =
     let (narrow, narrow', low, low', free) = is in
-    let sizes : Sizes = record { width = grid.width; height = grid.height; agents = p.text.agents; narrow = (narrow, narrow'); low = (low, low'); few = p.in_range.0 } in
-    let first = header_of grid p.text bytes p.in_range p.spelled in
-    let second = header_of grid q.text bytes q.in_range q.spelled in
-    let (counts, line, rest) = ok_triple_parts {E = PlanTextFault} p.text.agents q.text.agents (line_of p.text.answer) (line_of q.text.answer) (rest_of grid.width p.text.answer) (rest_of grid.width q.text.answer) (sym first ∙ second) in
-    let is_p = answer_moved grid (grid_for sizes) p.text.agents sizes.agents p.text.answer refl refl refl p.in_range.1 in
-    let is_q = answer_moved grid (grid_for sizes) q.text.agents sizes.agents q.text.answer refl refl (sym counts) q.in_range.1 in
-    let same = answers_same sizes p.text.answer q.text.answer is_p is_q line rest in
-    (sym p.for_agents ∙ counts ∙ q.for_agents, sym p.same ∙ ap says same ∙ q.same)
+    let sizes : Sizes = record { width = grid.width; height = grid.height; agents = text.agents; narrow = (narrow, narrow'); low = (low, low'); few = fits.0 } in
+    let first = header_of grid text bytes fits spelled in
+    let second = header_of grid other bytes fits' spelled' in
+    let (counts, line, rest) = ok_triple_parts {E = PlanTextFault} text.agents other.agents (line_of text.answer) (line_of other.answer) (rest_of grid.width text.answer) (rest_of grid.width other.answer) (sym first ∙ second) in
+    let is_text = answer_moved grid (grid_for sizes) text.agents sizes.agents text.answer refl refl refl fits.1 in
+    let is_other = answer_moved grid (grid_for sizes) other.agents sizes.agents other.answer refl refl (sym counts) fits'.1 in
+    let same : text.answer ≡ other.answer = answers_same sizes text.answer other.answer is_text is_other line rest in
+    λ k. record { agents = counts k; answer = same k }

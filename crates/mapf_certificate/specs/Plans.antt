@@ -77,10 +77,10 @@ pub record SpellsPlan (grid : GridMap) (bytes : List ℕ) (agents : ℕ) (said :
   pub for_agents : text.agents ≡ agents
   pub same : says text.answer ≡ said
 
--- no bytes spell two plan texts: they tell the number of agents and what is said
+-- on one grid no bytes spell two plan texts
 abbrev pub SpellsOnePlan : Type 0
-SpellsOnePlan = (grid : GridMap) (bytes : List ℕ) (agents agents' : ℕ) (said said' : PlanSays) → IsGridMap grid
-    → SpellsPlan grid bytes agents said → SpellsPlan grid bytes agents' said' → (agents ≡ agents') × (said ≡ said')
+SpellsOnePlan = (grid : GridMap) (bytes : List ℕ) (text other : PlanText) → IsGridMap grid → IsPlanText grid text → IsPlanText grid other
+    → bytes ≡ plan_text grid.width text → bytes ≡ plan_text grid.width other → text ≡ other
 
 -- these paths, one for each agent, stand at the front of the bytes, and this is left
 pub record ArePaths (grid : GridMap) (agents : ℕ) (bytes : List ℕ) (paths : List (List ℕ)) (sum : ℕ) (rest : List ℕ) : Type 0 where

@@ -1,12 +1,12 @@
 ghost use Rattle.mapf_certificate.specs.Certificates.{SpellsOneCert};
 ghost use Rattle.mapf_certificate.specs.Plans.{SpellsOnePlan};
 
-/// No text spells two certificates.
+/// On one grid no text spells two certificates.
 pub fn certificates_are_spelled_apart()
     ensures { SpellsOneCert }
 {}
 
-/// No text spells two plan texts: neither for two numbers of agents nor with two answers.
+/// On one grid no text spells two plan texts: neither for two numbers of agents nor with two answers.
 pub fn plans_are_spelled_apart()
     ensures { SpellsOnePlan }
 {}
