@@ -13,7 +13,7 @@ use Rattle.mapf_model.specs.Bars.{Satisfies}
 use Rattle.mapf_model.specs.declared.bar.Bar.{Bar}
 use Rattle.mapf_model.specs.Blocks.{LabelBlock}
 use Rattle.mapf_model.specs.Plan.{Instance, IsValid, IsSumOfCosts}
-use Rattle.mapf_model.specs.Tree.{ConstraintTree, Split, Leaf, Clash, NodeConstraints, left_bars, right_bars, left_child_constraints, right_child_constraints, AllSatisfy, AtEachNode, IsProperNode, Holds, block_of, entries_or, with_blocks, no_entries, AreBlocksSound, StartsShow, ShareGoal, NodeShows}
+use Rattle.mapf_model.specs.Tree.{ConstraintTree, Split, Leaf, Clash, NodeConstraints, with_constraint, left_constraint, right_constraint, left_child_constraints, right_child_constraints, AllSatisfy, AtEachNode, IsProperNode, Holds, block_of, entries_or, with_blocks, no_entries, AreBlocksSound, StartsShow, ShareGoal, NodeShows}
 use Rattle.mapf_model.proofs.LabelLemmas.{lawful_bound, lawful_rests}
 use Rattle.mapf_model.proofs.SplitLemmas.{split}
 
@@ -113,8 +113,8 @@ module _ (problem : Instance) (plan : List (List ℕ)) (valid : IsValid problem 
 
   pub shown_of_plan : (claim : Claim) (tree : ConstraintTree) (constraints : NodeConstraints) → AtEachNode (λ to node. IsProperNode problem node) constraints tree → AtEachNode (NodeShows problem claim) constraints tree → AllSatisfy plan constraints.bars → Bounds problem claim plan
   shown_of_plan claim (Split conflict left right) constraints proper shows obey = ⊎_elim
-      (λ (on_left : AllSatisfy plan (left_bars constraints.bars conflict)). shown_of_plan claim left (left_child_constraints constraints conflict) proper.1 shows.1 on_left)
-      (λ (on_right : AllSatisfy plan (right_bars constraints.bars conflict)). shown_of_plan claim right (right_child_constraints constraints conflict) proper.2 shows.2 on_right)
+      (λ (on_left : AllSatisfy plan (with_constraint constraints.bars (left_constraint conflict))). shown_of_plan claim left (left_child_constraints constraints conflict) proper.1 shows.1 on_left)
+      (λ (on_right : AllSatisfy plan (with_constraint constraints.bars (right_constraint conflict))). shown_of_plan claim right (right_child_constraints constraints conflict) proper.2 shows.2 on_right)
       (split problem plan constraints.bars conflict proper.0 valid obey)
   shown_of_plan claim (Leaf blocks) constraints proper shows obey =
       starts_hold claim (with_blocks blocks no_entries) (AreBounds-with_blocks constraints blocks no_entries shows.0 obey AreBounds-no_entries) shows.1

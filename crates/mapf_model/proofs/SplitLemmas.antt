@@ -9,7 +9,7 @@ use Rattle.mapf_model.specs.declared.conflict.Conflict.TheVariants.{Vertex, Swap
 use Rattle.mapf_model.specs.Path.{at}
 use Rattle.mapf_model.specs.Bars.{Violates, Satisfies}
 use Rattle.mapf_model.specs.Plan.{Instance, IsValid}
-use Rattle.mapf_model.specs.Tree.{ConstraintTree, Split, Leaf, Clash, NodeConstraints, root, with_bar, left_bars, right_bars, left_child_constraints, right_child_constraints, AtEachNode, AtSomeEnd, IsProperSplit, IsProperNode, AllSatisfy}
+use Rattle.mapf_model.specs.Tree.{ConstraintTree, Split, Leaf, Clash, NodeConstraints, root, with_bar, with_constraint, left_constraint, right_constraint, left_child_constraints, right_child_constraints, AtEachNode, AtSomeEnd, IsProperSplit, IsProperNode, AllSatisfy}
 
 pub Contains-cons_cases : {X : Type 0} (x y : X) (xs : List X) → Contains (x ∷ xs) y → (x ≡ y) ⊎ Contains xs y
 Contains-cons_cases x y xs (zero, within, is) = inl is
@@ -47,7 +47,7 @@ choose plan bars i j left right obey apart = by_path (slice_get plan i) refl
         (decide_meets left p)
 
 pub split : (problem : Instance) (plan : List (List ℕ)) (bars : ℕ → List Bar) (conflict : Conflict) → IsProperSplit problem conflict → IsValid problem plan → AllSatisfy plan bars →
-    AllSatisfy plan (left_bars bars conflict) ⊎ AllSatisfy plan (right_bars bars conflict)
+    AllSatisfy plan (with_constraint bars (left_constraint conflict)) ⊎ AllSatisfy plan (with_constraint bars (right_constraint conflict))
 split problem plan bars (Vertex i j cell tick) proper valid obey =
     choose plan bars i j (Cell cell tick) (Cell cell tick) obey
     (λ p q first second here there. valid.apart i j tick p q proper.0.0 first second (inl (here ∙ sym there)))
@@ -57,8 +57,8 @@ split problem plan bars (Swap i j from to tick) proper valid obey =
 
 pub some_end_obeyed : (problem : Instance) (plan : List (List ℕ)) → IsValid problem plan → (tree : ConstraintTree) (constraints : NodeConstraints) → AtEachNode (λ to node. IsProperNode problem node) constraints tree → AllSatisfy plan constraints.bars → AtSomeEnd (λ to. AllSatisfy plan to.bars) constraints tree
 some_end_obeyed problem plan valid (Split conflict left right) constraints proper obey = ⊎_elim
-    (λ (on_left : AllSatisfy plan (left_bars constraints.bars conflict)). inl (some_end_obeyed problem plan valid left (left_child_constraints constraints conflict) proper.1 on_left))
-    (λ (on_right : AllSatisfy plan (right_bars constraints.bars conflict)). inr (some_end_obeyed problem plan valid right (right_child_constraints constraints conflict) proper.2 on_right))
+    (λ (on_left : AllSatisfy plan (with_constraint constraints.bars (left_constraint conflict))). inl (some_end_obeyed problem plan valid left (left_child_constraints constraints conflict) proper.1 on_left))
+    (λ (on_right : AllSatisfy plan (with_constraint constraints.bars (right_constraint conflict))). inr (some_end_obeyed problem plan valid right (right_child_constraints constraints conflict) proper.2 on_right))
     (split problem plan constraints.bars conflict proper.0 valid obey)
 some_end_obeyed problem plan valid (Leaf blocks) constraints proper obey = obey
 some_end_obeyed problem plan valid (Clash i j) constraints proper obey = obey

@@ -1,5 +1,6 @@
 -- The cells of a grid and the steps between them. (Stern et al. 2019: a four-connected grid)
 use Rattle.std.specs.Prelude.{◌≡◌, ◌⊎◌, ℕ, ◌+◌, ◌*◌, ◌≤◌, ◌/◌, ◌%◌, Bool, true, false, List, length, slice_index_or, count_by}
+use Rattle.mapf_model.specs.Limits.{greatest_side}
 
 -- a rectangle of cells, row after row, and which of them are free
 pub record GridMap : Type 0 where
@@ -9,7 +10,7 @@ pub record GridMap : Type 0 where
 
 -- 1 to 2,048 cells wide and high, with a flag for each cell
 abbrev pub IsGridMap : GridMap → Type 0
-IsGridMap grid = (1 ≤ grid.width) × (grid.width ≤ 2048) × (1 ≤ grid.height) × (grid.height ≤ 2048) × (length grid.free ≡ grid.width * grid.height)
+IsGridMap grid = (1 ≤ grid.width) × (grid.width ≤ greatest_side) × (1 ≤ grid.height) × (grid.height ≤ greatest_side) × (length grid.free ≡ grid.width * grid.height)
 
 -- a cell has the number row * width + column
 abbrev pub column : GridMap → ℕ → ℕ

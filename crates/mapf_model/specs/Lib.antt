@@ -1,3 +1,4 @@
+pub mod Limits
 pub mod Grid
 pub mod Path
 pub mod Distance

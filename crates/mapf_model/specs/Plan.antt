@@ -1,5 +1,6 @@
 -- Plans: a path for each agent. (Stern et al. 2019)
 use Rattle.std.specs.Prelude.{◌≡◌, ◌≢◌, ◌⊎◌, ℕ, ◌+◌, ◌-◌, ◌≤◌, All, List, Some, length, sum, slice_get}
+use Rattle.mapf_model.specs.Limits.{most_agents}
 use Rattle.mapf_model.specs.declared.problem.Agent.{Agent}
 use Rattle.mapf_model.specs.Grid.{GridMap, IsGridMap, IsFree}
 use Rattle.mapf_model.specs.Path.{at, IsLawful, IsCost}
@@ -11,7 +12,7 @@ pub record Instance : Type 0 where
 
 -- 1 to 200 agents whose starts and goals are free cells
 abbrev pub AreAgentsOn : GridMap → List Agent → Type 0
-AreAgentsOn grid agents = (1 ≤ length agents) × (length agents ≤ 200) × All (λ agent. IsFree grid agent.start × IsFree grid agent.goal) agents
+AreAgentsOn grid agents = (1 ≤ length agents) × (length agents ≤ most_agents) × All (λ agent. IsFree grid agent.start × IsFree grid agent.goal) agents
 
 -- a problem of the benchmark's kind: a grid and agents on it
 pub record IsInstance (problem : Instance) : Type 0 where

@@ -7,6 +7,7 @@ use Rattle.mapf_model.specs.declared.conflict.Conflict.TheVariants.{Vertex, Swap
 use Rattle.mapf_model.specs.declared.label.Entry.{Entry}
 use Rattle.mapf_model.specs.declared.label.Label.{Label}
 use Rattle.mapf_model.specs.declared.label.Label.TheVariants.{Ticks, Never}
+use Rattle.mapf_model.specs.Limits.{most_agents, most_path_cells, greatest_cost, greatest_sum, last_split_tick}
 use Rattle.mapf_model.specs.Blocks.{LabelBlock}
 use Rattle.mapf_model.specs.Grid.{GridMap}
 use Rattle.mapf_model.specs.Path.{IsTight}
@@ -22,12 +23,12 @@ IsBefore a b = (a.tick < b.tick) ⊎ ((a.tick ≡ b.tick) × (a.cell < b.cell))
 
 -- 1 to 9,999,999, or never
 abbrev pub IsLabelInRange : Label → Type 0
-IsLabelInRange (Ticks n) = (1 ≤ n) × (n ≤ 9999999)
+IsLabelInRange (Ticks n) = (1 ≤ n) × (n ≤ greatest_cost)
 IsLabelInRange Never = ⊤
 
 -- ticks up to 9,999,999
 abbrev pub IsEntryInRange : GridMap → Entry → Type 0
-IsEntryInRange grid entry = IsOnGrid grid entry.cell × (entry.tick ≤ 9999999) × IsLabelInRange entry.label
+IsEntryInRange grid entry = IsOnGrid grid entry.cell × (entry.tick ≤ greatest_cost) × IsLabelInRange entry.label
 
 -- the entries of one agent: at least one, rising strictly
 pub record IsBlockInRange (grid : GridMap) (agents : ℕ) (block : LabelBlock) : Type 0 where
@@ -44,8 +45,8 @@ pub record AreBlocksInRange (grid : GridMap) (agents : ℕ) (blocks : List Label
 
 -- ticks up to 999,999
 abbrev pub IsConflictInRange : GridMap → ℕ → Conflict → Type 0
-IsConflictInRange grid agents (Vertex i j cell tick) = (i < agents) × (j < agents) × IsOnGrid grid cell × (tick ≤ 999999)
-IsConflictInRange grid agents (Swap i j from to tick) = (i < agents) × (j < agents) × IsOnGrid grid from × IsOnGrid grid to × (tick ≤ 999999)
+IsConflictInRange grid agents (Vertex i j cell tick) = (i < agents) × (j < agents) × IsOnGrid grid cell × (tick ≤ last_split_tick)
+IsConflictInRange grid agents (Swap i j from to tick) = (i < agents) × (j < agents) × IsOnGrid grid from × IsOnGrid grid to × (tick ≤ last_split_tick)
 
 -- each node of the tree is in range
 abbrev pub IsTreeInRange : GridMap → ℕ → ConstraintTree → Type 0
@@ -55,18 +56,18 @@ IsTreeInRange grid agents (Clash i j) = (i < agents) × (j < agents)
 
 -- costs up to 1,999,999,800
 abbrev pub IsClaimInRange : Claim → Type 0
-IsClaimInRange (Cost cost) = cost ≤ 1999999800
+IsClaimInRange (Cost cost) = cost ≤ greatest_sum
 IsClaimInRange Impossible = ⊤
 
 -- 1 to 10,000,000 cells, and no waiting at the end
 pub record IsPathInRange (grid : GridMap) (path : List ℕ) : Type 0 where
   pub some : 1 ≤ length path
-  pub short : length path ≤ 10000000
+  pub short : length path ≤ most_path_cells
   pub on_grid : All (IsOnGrid grid) path
   pub tight : IsTight path
 
 -- 1 to 200 such paths. The steps of all of them are then at most 1,999,999,800
 pub record IsPlanInRange (grid : GridMap) (plan : List (List ℕ)) : Type 0 where
   pub some : 1 ≤ length plan
-  pub few : length plan ≤ 200
+  pub few : length plan ≤ most_agents
   pub paths : All (IsPathInRange grid) plan

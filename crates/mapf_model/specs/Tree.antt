@@ -9,6 +9,7 @@ use Rattle.mapf_model.specs.declared.label.Label.TheVariants.{Ticks, Never}
 use Rattle.mapf_model.specs.Blocks.{LabelBlock}
 use Rattle.mapf_model.specs.declared.conflict.Conflict.{Conflict}
 use Rattle.mapf_model.specs.declared.conflict.Conflict.TheVariants.{Vertex, Swap}
+use Rattle.mapf_model.specs.declared.constraint.Constraint.{Constraint}
 use Rattle.mapf_model.specs.declared.item.Claim.{Claim}
 use Rattle.mapf_model.specs.declared.item.Claim.TheVariants.{Cost, Impossible}
 use Rattle.mapf_model.specs.declared.item.Item.{Item}
@@ -30,6 +31,12 @@ pub data Node : Type 0 where
   SplitNode : (conflict : Conflict) → Node
   LeafNode : (blocks : List LabelBlock) → Node
   ClashNode : (i j : ℕ) → Node
+
+-- the node is an end of its tree
+abbrev pub IsEndNode : Node → Type 0
+IsEndNode (SplitNode conflict) = ⊥
+IsEndNode (LeafNode blocks) = Unit {0}
+IsEndNode (ClashNode i j) = Unit {0}
 
 -- the node that an item gives
 abbrev pub node_of : Item → Node
@@ -60,23 +67,27 @@ root = record { bars = λ agent. [] }
 abbrev pub with_bar : (ℕ → List Bar) → ℕ → Bar → ℕ → List Bar
 with_bar bars i bar agent = if agent == i then bar ∷ bars agent else bars agent
 
--- the left child bars the first agent from its part of the conflict
-abbrev pub left_bars : (ℕ → List Bar) → Conflict → ℕ → List Bar
-left_bars bars (Vertex i j cell tick) = with_bar bars i (Cell cell tick)
-left_bars bars (Swap i j from to tick) = with_bar bars i (Move from to tick)
+-- the bars with one constraint more
+abbrev pub with_constraint : (ℕ → List Bar) → Constraint → ℕ → List Bar
+with_constraint bars constraint = with_bar bars constraint.agent constraint.bar
 
--- the right child bars the second agent from its part
-abbrev pub right_bars : (ℕ → List Bar) → Conflict → ℕ → List Bar
-right_bars bars (Vertex i j cell tick) = with_bar bars j (Cell cell tick)
-right_bars bars (Swap i j from to tick) = with_bar bars j (Move to from tick)
+-- the constraint of a split's left child: the first agent's part of the conflict
+abbrev pub left_constraint : Conflict → Constraint
+left_constraint (Vertex i j cell tick) = record { agent = i; bar = Cell cell tick }
+left_constraint (Swap i j from to tick) = record { agent = i; bar = Move from to tick }
+
+-- the constraint of its right child: the second agent's part
+abbrev pub right_constraint : Conflict → Constraint
+right_constraint (Vertex i j cell tick) = record { agent = j; bar = Cell cell tick }
+right_constraint (Swap i j from to tick) = record { agent = j; bar = Move to from tick }
 
 -- the constraints at the left child
 abbrev pub left_child_constraints : NodeConstraints → Conflict → NodeConstraints
-left_child_constraints constraints conflict = record { bars = left_bars constraints.bars conflict }
+left_child_constraints constraints conflict = record { bars = with_constraint constraints.bars (left_constraint conflict) }
 
 -- the constraints at the right child
 abbrev pub right_child_constraints : NodeConstraints → Conflict → NodeConstraints
-right_child_constraints constraints conflict = record { bars = right_bars constraints.bars conflict }
+right_child_constraints constraints conflict = record { bars = with_constraint constraints.bars (right_constraint conflict) }
 
 -- a fact holds at each node of a tree, with its constraints
 abbrev pub AtEachNode : (NodeConstraints → ConstraintTree → Type 0) → NodeConstraints → ConstraintTree → Type 0

@@ -1,4 +1,10 @@
+ghost use Rattle.std.specs.Prelude.{◌≡◌};
+ghost use Rattle.mapf_model.specs.Earned.{tick_of};
+ghost use Rattle.mapf_model.specs.Tree.{left_constraint, right_constraint};
+
+use crate::bar::Bar;
 use crate::cell::{Cell, Tick};
+use crate::constraint::Constraint;
 
 /// What two agents do that they may not do both (Stern et al. 2019).
 #[derive(Clone, Copy, Debug, PartialEq, Eq)]
@@ -19,4 +25,64 @@ pub enum Conflict {
         to: Cell,
         tick: Tick,
     },
+}
+
+impl Conflict {
+    /// The tick of a vertex conflict, or the tick at which the two moves of a swapping conflict begin.
+    pub fn tick(&self) -> Tick
+        ensures { result ≡ tick_of self.now }
+    {
+        match *self {
+            Conflict::Vertex { tick, .. } => tick,
+            Conflict::Swap { tick, .. } => tick,
+        }
+    }
+
+    /// The constraint of the left child where a node is split on the conflict: agent `i`'s part of it.
+    pub fn left(&self) -> Constraint
+        ensures { result ≡ left_constraint self.now }
+    {
+        match *self {
+            Conflict::Vertex { i, cell, tick, .. } => Constraint {
+                agent: i,
+                bar: Bar::Cell { cell, tick },
+            },
+            Conflict::Swap {
+                i,
+                from,
+                to,
+                tick,
+                ..
+            } => Constraint {
+                agent: i,
+                bar: Bar::Move { from, to, tick },
+            },
+        }
+    }
+
+    /// The constraint of the right child: agent `j`'s part of the conflict.
+    pub fn right(&self) -> Constraint
+        ensures { result ≡ right_constraint self.now }
+    {
+        match *self {
+            Conflict::Vertex { j, cell, tick, .. } => Constraint {
+                agent: j,
+                bar: Bar::Cell { cell, tick },
+            },
+            Conflict::Swap {
+                j,
+                from,
+                to,
+                tick,
+                ..
+            } => Constraint {
+                agent: j,
+                bar: Bar::Move {
+                    from: to,
+                    to: from,
+                    tick,
+                },
+            },
+        }
+    }
 }

@@ -1,10 +1,12 @@
 ghost use Rattle.std.specs.Prelude.{◌≡◌, ◌+◌, ◌*◌, ◌<◌, ◌≤◌, ◌++◌, ◌^◌, ℕ, length, IfSome, IsSome, IsTrue, ◌↔◌, Contains};
 ghost use Rattle.std.specs.List.Sorted.{IsStrictlyIncreasing};
 ghost use Rattle.smallvec.specs.SmallVec.{HasRoomFor, small_vec_len};
+ghost use Rattle.mapf_model.specs.Limits.{greatest_side};
 ghost use Rattle.mapf_model.specs.Grid.{GridMap, IsFree, Step, IsGridMap, column, row};
 ghost use Rattle.mapf_model.specs.Neighbours.{above_of, left_of, right_of, kept};
 
 use crate::cell::Cell;
+use crate::limits::GREATEST_SIDE;
 use smallvec::SmallVec;
 use std::alloc::Global;
 use std::marker::Model;
@@ -22,7 +24,7 @@ impl Model for Grid {
 
     ghost view = { λ g. record { width = g.width; height = g.height; free = g.free.items } };
 
-    ghost invariant = { λ g. (1 ≤ g.width) × (g.width ≤ 2048) × (1 ≤ g.height) × (g.height ≤ 2048) × (length g.free.items ≡ g.width * g.height) };
+    ghost invariant = { λ g. (1 ≤ g.width) × (g.width ≤ greatest_side) × (1 ≤ g.height) × (g.height ≤ greatest_side) × (length g.free.items ≡ g.width * g.height) };
 }
 
 impl Grid {
@@ -32,7 +34,7 @@ impl Grid {
         ensures good { IsSome result ↔ IsGridMap (record { width = width; height = height; free = free.items }) }
         ensures value { IfSome result (λ grid. grid ≡ record { width = width; height = height; free = free.items }) }
     {
-        if width < 1 || width > 2048 || height < 1 || height > 2048 {
+        if width < 1 || width > GREATEST_SIDE || height < 1 || height > GREATEST_SIDE {
             return None;
         }
         if free.len() != (width * height) as usize {
@@ -49,7 +51,7 @@ impl Grid {
     pub fn width(&self) -> u32
         ensures width { result ≡ self.now.width }
         ensures positive { 0 < result }
-        ensures at_most { result ≤ 2048 }
+        ensures at_most { result ≤ greatest_side }
         ensures shape { IsGridMap self.now }
     {
         self.width
@@ -59,7 +61,7 @@ impl Grid {
     pub fn height(&self) -> u32
         ensures height { result ≡ self.now.height }
         ensures positive { 0 < result }
-        ensures at_most { result ≤ 2048 }
+        ensures at_most { result ≤ greatest_side }
     {
         self.height
     }

@@ -1,4 +1,8 @@
+ghost use Rattle.std.specs.Prelude.{◌≡◌, IfSome, IfNone};
+ghost use Rattle.mapf_model.specs.Tree.{SplitNode, node_of, IsEndNode};
+
 use crate::cell::{Cell, Tick};
+use crate::conflict::Conflict;
 use crate::label::Block;
 
 /// A node of a constraint tree (Sharon et al. 2015). A list of items in pre-order spells the tree: a
@@ -28,6 +32,54 @@ pub enum Item {
         i: u32,
         j: u32,
     },
+}
+
+impl Item {
+    /// The node that is split on the conflict.
+    pub fn split(conflict: Conflict) -> Item
+        ensures { node_of result ≡ SplitNode conflict }
+    {
+        match conflict {
+            Conflict::Vertex { i, j, cell, tick } => Item::Vertex { i, j, cell, tick },
+            Conflict::Swap {
+                i,
+                j,
+                from,
+                to,
+                tick,
+            } => Item::Swap {
+                i,
+                j,
+                from,
+                to,
+                tick,
+            },
+        }
+    }
+
+    /// The conflict on which the node is split, None where it is an end of the tree.
+    pub fn conflict(&self) -> Option<Conflict>
+        ensures split { IfSome result (λ conflict. node_of self.now ≡ SplitNode conflict) }
+        ensures end { IfNone result (IsEndNode (node_of self.now)) }
+    {
+        match *self {
+            Item::Vertex { i, j, cell, tick } => Some(Conflict::Vertex { i, j, cell, tick }),
+            Item::Swap {
+                i,
+                j,
+                from,
+                to,
+                tick,
+            } => Some(Conflict::Swap {
+                i,
+                j,
+                from,
+                to,
+                tick,
+            }),
+            _ => None,
+        }
+    }
 }
 
 /// What a certificate shows.

@@ -1,7 +1,9 @@
 ghost use Rattle.std.specs.Prelude.{◌≡◌, ◌≢◌, ◌⊎◌, ◌<◌, ◌≤◌, ◌-◌, ◌↔◌, ℕ, List, length, IfSome, IfNone, IsSome, IsTrue, slice_index};
+ghost use Rattle.mapf_model.specs.Limits.{most_path_cells};
 ghost use Rattle.mapf_model.specs.Path.{at, IsCost, IsTight};
 
 use crate::cell::{Cell, Tick};
+use crate::limits::MOST_PATH_CELLS;
 use std::marker::Model;
 
 /// 1 to 10,000,000 cells, one for each tick from 0 on. After its end the agent stays at the last.
@@ -16,16 +18,16 @@ impl Model for Path {
 
     ghost view = { λ p. p.cells.items };
 
-    ghost invariant = { λ p. (1 ≤ length p.cells.items) × (length p.cells.items ≤ 10000000) };
+    ghost invariant = { λ p. (1 ≤ length p.cells.items) × (length p.cells.items ≤ most_path_cells) };
 }
 
 impl Path {
     /// None for no cell or more than 10,000,000.
     pub fn of(cells: Vec<Cell>) -> Option<Path>
-        ensures size { IsSome result ↔ ((1 ≤ length cells.items) × (length cells.items ≤ 10000000)) }
+        ensures size { IsSome result ↔ ((1 ≤ length cells.items) × (length cells.items ≤ most_path_cells)) }
         ensures value { IfSome result (λ path. path ≡ cells.items) }
     {
-        if cells.len() < 1 || cells.len() > 10000000 {
+        if cells.len() < 1 || cells.len() > MOST_PATH_CELLS {
             return None;
         }
         Some(Path { cells })
@@ -35,7 +37,7 @@ impl Path {
     pub fn cells(&self) -> &[Cell]
         ensures value { result.now ≡ self.now }
         ensures some { 1 ≤ length result.now }
-        ensures few { length result.now ≤ 10000000 }
+        ensures few { length result.now ≤ most_path_cells }
     {
         &self.cells
     }

@@ -1,6 +1,8 @@
 ghost use Rattle.std.specs.Prelude.{◌≡◌, ◌≤◌, ◌↔◌, ℕ, List, length, IfSome, IfNone, IsSome};
+ghost use Rattle.mapf_model.specs.Limits.{most_agents};
 ghost use Rattle.mapf_model.specs.Plan.{IsSumOfCosts, SomePathEndsElsewhere};
 
+use crate::limits::MOST_AGENTS;
 use crate::path::Path;
 use crate::problem::Problem;
 use std::marker::Model;
@@ -16,16 +18,16 @@ impl Model for Plan {
 
     ghost view = { λ p. p.paths.items };
 
-    ghost invariant = { λ p. (1 ≤ length p.paths.items) × (length p.paths.items ≤ 200) };
+    ghost invariant = { λ p. (1 ≤ length p.paths.items) × (length p.paths.items ≤ most_agents) };
 }
 
 impl Plan {
     /// None where there aren't 1 to 200 paths.
     pub fn of(paths: Vec<Path>) -> Option<Plan>
-        ensures size { IsSome result ↔ ((1 ≤ length paths.items) × (length paths.items ≤ 200)) }
+        ensures size { IsSome result ↔ ((1 ≤ length paths.items) × (length paths.items ≤ most_agents)) }
         ensures value { IfSome result (λ plan. plan ≡ paths.items) }
     {
-        if paths.len() < 1 || paths.len() > 200 {
+        if paths.len() < 1 || paths.len() > MOST_AGENTS as usize {
             return None;
         }
         Some(Plan { paths })
@@ -35,7 +37,7 @@ impl Plan {
     pub fn paths(&self) -> &[Path]
         ensures value { result.now ≡ self.now }
         ensures some { 1 ≤ length result.now }
-        ensures few { length result.now ≤ 200 }
+        ensures few { length result.now ≤ most_agents }
     {
         &self.paths
     }

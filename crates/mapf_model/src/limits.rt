@@ -1,0 +1,46 @@
+ghost use Rattle.std.specs.Prelude.{◌≡◌};
+ghost use Rattle.mapf_model.specs.Limits.{most_agents, greatest_side, most_path_cells, greatest_cost, greatest_sum, most_splits, last_split_tick, split_ticks, most_text_bytes, most_cert_bytes};
+
+/// The most agents of a problem.
+pub const MOST_AGENTS: u32 = 200;
+
+/// The most columns of a grid, and the most rows.
+pub const GREATEST_SIDE: u32 = 2048;
+
+/// The most cells of a path.
+pub const MOST_PATH_CELLS: usize = 10_000_000;
+
+/// The greatest cost of one path, the greatest label, and the greatest tick of an entry, in ticks.
+pub const GREATEST_COST: u32 = 9_999_999;
+
+/// The greatest sum of costs, in ticks.
+pub const GREATEST_SUM: u64 = 1_999_999_800;
+
+/// The most splits that a search may be allowed.
+pub const MOST_SPLITS: u32 = 100_000;
+
+/// The last tick of a conflict that may be split.
+pub const LAST_SPLIT_TICK: u32 = 999_999;
+
+/// How many ticks, from 0 on, a conflict that may be split can have.
+pub const SPLIT_TICKS: u32 = 1_000_000;
+
+/// The most bytes of a map, a scenario or a plan text.
+pub const MOST_TEXT_BYTES: u64 = 67_108_864;
+
+/// The most bytes of a certificate.
+pub const MOST_CERT_BYTES: u64 = 1_099_511_627_776;
+
+/// The constants are the numbers of the definitions.
+pub fn limits_are_defined()
+    ensures agents { MOST_AGENTS ≡ most_agents }
+    ensures side { GREATEST_SIDE ≡ greatest_side }
+    ensures path_cells { MOST_PATH_CELLS ≡ most_path_cells }
+    ensures cost { GREATEST_COST ≡ greatest_cost }
+    ensures sum { GREATEST_SUM ≡ greatest_sum }
+    ensures splits { MOST_SPLITS ≡ most_splits }
+    ensures last_tick { LAST_SPLIT_TICK ≡ last_split_tick }
+    ensures ticks { SPLIT_TICKS ≡ split_ticks }
+    ensures text_bytes { MOST_TEXT_BYTES ≡ most_text_bytes }
+    ensures cert_bytes { MOST_CERT_BYTES ≡ most_cert_bytes }
+{}
