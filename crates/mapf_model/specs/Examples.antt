@@ -10,7 +10,7 @@ use Rattle.mapf_model.specs.declared.problem.Agent.{Agent}
 use Rattle.mapf_model.specs.Grid.{GridMap}
 use Rattle.mapf_model.specs.Labels.{entries_of, AreSound}
 use Rattle.mapf_model.specs.Plan.{Instance, IsValid}
-use Rattle.mapf_model.specs.Tree.{Clash, root, left_child_constraints, right_child_constraints, Shows}
+use Rattle.mapf_model.specs.Tree.{Clash, root, left_child, right_child, Shows}
 
 -- three by three free cells
 abbrev pub open_square : GridMap
@@ -68,5 +68,5 @@ SwappingIsNoPlan = IsValid neighbours ((0 ∷ 1 ∷ []) ∷ (1 ∷ 0 ∷ []) ∷
 -- the children of a split on a swap: the first agent is barred from its move, the second from its own
 abbrev pub EachChildBarsItsAgent : Type 0
 EachChildBarsItsAgent =
-    ((left_child_constraints root (Swap 0 1 3 4 5)).bars 0 ≡ Move 3 4 5 ∷ []) × ((left_child_constraints root (Swap 0 1 3 4 5)).bars 1 ≡ []) ×
-    ((right_child_constraints root (Swap 0 1 3 4 5)).bars 0 ≡ []) × ((right_child_constraints root (Swap 0 1 3 4 5)).bars 1 ≡ Move 4 3 5 ∷ [])
+    ((left_child root (Swap 0 1 3 4 5) []).bars 0 ≡ Move 3 4 5 ∷ []) × ((left_child root (Swap 0 1 3 4 5) []).bars 1 ≡ []) ×
+    ((right_child root (Swap 0 1 3 4 5) []).bars 0 ≡ []) × ((right_child root (Swap 0 1 3 4 5) []).bars 1 ≡ Move 4 3 5 ∷ [])

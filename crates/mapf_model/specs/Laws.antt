@@ -16,7 +16,7 @@ use Rattle.mapf_model.specs.Accepted.{PlanSays, Outcome, GoTogether, IsTrueOf}
 use Rattle.mapf_model.specs.Bars.{Satisfies}
 use Rattle.mapf_model.specs.Labels.{Entries, entries_of, AreSound, IsLabel, IsAtMost, label_sum}
 use Rattle.mapf_model.specs.Plan.{Instance, IsValid, IsSumOfCosts}
-use Rattle.mapf_model.specs.Tree.{ConstraintTree, Leaf, NodeConstraints, IsProper, IsProperSplit, AtSomeEnd, AllSatisfy, root, left_child_constraints, right_child_constraints, Node, SplitNode, LeafNode, ClashNode, nodes_of, AreStartLabels, StartsShow, ShareGoal, ShowsFrom, NodesShow, Shows, Holds}
+use Rattle.mapf_model.specs.Tree.{ConstraintTree, Leaf, NodeContext, IsProper, IsGoodSplit, AtSomeEnd, AllSatisfy, root, left_child, right_child, Node, SplitNode, LeafNode, ClashNode, nodes_of, AreStartLabels, StartsShow, ShareGoal, ShowsFrom, NodesShow, Shows, Holds}
 
 -- under sound labels each lawful path that obeys the bars costs at least the label of the start
 abbrev pub LabelBound : Type 0
@@ -40,24 +40,24 @@ abbrev pub SplitsLoseNoPlan : Type 0
 SplitsLoseNoPlan =
     (problem : Instance) (tree : ConstraintTree) (plan : List (List ℕ)) →
     IsProper problem tree → IsValid problem plan →
-    AtSomeEnd (λ constraints. AllSatisfy plan constraints.bars) root tree
+    AtSomeEnd (λ context. AllSatisfy plan context.bars) root tree
 
 -- what a tree shows is so
 abbrev pub ShownClaimsHold : Type 0
 ShownClaimsHold = (problem : Instance) (claim : Claim) (tree : ConstraintTree) → Shows problem claim tree → Holds problem claim
 
--- how a reader of nodes, with a stack of the constraints of the trees that are owed, judges the node in front
+-- how a reader of nodes, with a stack of the contexts of the trees that are owed, judges the node in front
 pub record NodesShowByFront (problem : Instance) (claim : Claim) : Type 0 where
   pub whole : (items : List Node) → NodesShow problem claim (root ∷ []) items ↔ ((tree : ConstraintTree) × (items ≡ nodes_of tree) × ShowsFrom problem claim root tree)
   pub over : NodesShow problem claim [] []
-  pub missing : (constraints : NodeConstraints) (owed : List NodeConstraints) → NodesShow problem claim (constraints ∷ owed) [] → ⊥
+  pub missing : (context : NodeContext) (owed : List NodeContext) → NodesShow problem claim (context ∷ owed) [] → ⊥
   pub unowed : (item : Node) (items : List Node) → NodesShow problem claim [] (item ∷ items) → ⊥
-  pub at_split : (constraints : NodeConstraints) (owed : List NodeConstraints) (conflict : Conflict) (items : List Node) →
-      NodesShow problem claim (constraints ∷ owed) (SplitNode conflict ∷ items) ↔ (IsProperSplit problem conflict × NodesShow problem claim (left_child_constraints constraints conflict ∷ right_child_constraints constraints conflict ∷ owed) items)
-  pub at_leaf : (constraints : NodeConstraints) (owed : List NodeConstraints) (blocks : List LabelBlock) (items : List Node) →
-      NodesShow problem claim (constraints ∷ owed) (LeafNode blocks ∷ items) ↔ (ShowsFrom problem claim constraints (Leaf blocks) × NodesShow problem claim owed items)
-  pub at_clash : (constraints : NodeConstraints) (owed : List NodeConstraints) (i j : ℕ) (items : List Node) →
-      NodesShow problem claim (constraints ∷ owed) (ClashNode i j ∷ items) ↔ (ShareGoal problem i j × NodesShow problem claim owed items)
+  pub at_split : (context : NodeContext) (owed : List NodeContext) (conflict : Conflict) (blocks : List LabelBlock) (items : List Node) →
+      NodesShow problem claim (context ∷ owed) (SplitNode conflict blocks ∷ items) ↔ (IsGoodSplit problem context conflict blocks × NodesShow problem claim (left_child context conflict blocks ∷ right_child context conflict blocks ∷ owed) items)
+  pub at_leaf : (context : NodeContext) (owed : List NodeContext) (blocks : List LabelBlock) (items : List Node) →
+      NodesShow problem claim (context ∷ owed) (LeafNode blocks ∷ items) ↔ (ShowsFrom problem claim context (Leaf blocks) × NodesShow problem claim owed items)
+  pub at_clash : (context : NodeContext) (owed : List NodeContext) (i j : ℕ) (items : List Node) →
+      NodesShow problem claim (context ∷ owed) (ClashNode i j ∷ items) ↔ (ShareGoal problem i j × NodesShow problem claim owed items)
 
 -- a list of items is judged from its front
 abbrev pub FrontDecides : Type 0

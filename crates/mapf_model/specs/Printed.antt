@@ -50,7 +50,7 @@ IsConflictInRange grid agents (Swap i j from to tick) = (i < agents) × (j < age
 
 -- each node of the tree is in range
 abbrev pub IsTreeInRange : GridMap → ℕ → ConstraintTree → Type 0
-IsTreeInRange grid agents (Split conflict left right) = IsConflictInRange grid agents conflict × IsTreeInRange grid agents left × IsTreeInRange grid agents right
+IsTreeInRange grid agents (Split conflict blocks left right) = IsConflictInRange grid agents conflict × IsTreeInRange grid agents left × IsTreeInRange grid agents right
 IsTreeInRange grid agents (Leaf blocks) = AreBlocksInRange grid agents blocks
 IsTreeInRange grid agents (Clash i j) = (i < agents) × (j < agents)
 
