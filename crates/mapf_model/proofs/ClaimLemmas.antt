@@ -13,7 +13,7 @@ use Rattle.mapf_model.specs.Bars.{Satisfies}
 use Rattle.mapf_model.specs.declared.bar.Bar.{Bar}
 use Rattle.mapf_model.specs.Blocks.{LabelBlock}
 use Rattle.mapf_model.specs.Plan.{Instance, IsValid, IsSumOfCosts}
-use Rattle.mapf_model.specs.Tree.{ConstraintTree, Split, Leaf, Clash, NodeContext, root, Shows, with_constraint, left_constraint, right_constraint, left_child, right_child, AllSatisfy, AtEachNode, IsProperNode, Holds, block_of, entries_or, with_blocks, no_entries, AreBlocksSound, StartsShow, ShareGoal, NodeShows}
+use Rattle.mapf_model.specs.Tree.{ConstraintTree, Split, Leaf, Clash, NodeContext, root, Shows, with_constraint, left_constraint, right_constraint, left_child_context, right_child_context, AllSatisfy, AtEachNode, IsProperNode, Holds, block_of, entries_or, with_blocks, no_entries, AreBlocksSound, StartsShow, ShareGoal, NodeShows}
 use Rattle.mapf_model.proofs.LabelLemmas.{lawful_bound, lawful_rests}
 use Rattle.mapf_model.proofs.SplitLemmas.{split, AllSatisfy-root}
 
@@ -115,8 +115,8 @@ module _ (problem : Instance) (plan : List (List ℕ)) (valid : IsValid problem 
   shown_of_plan claim (Split conflict blocks left right) context proper shows obey bounds =
       let below = AreBounds-with_blocks context blocks context.entries shows.0 obey bounds in
       ⊎_elim
-      (λ (on_left : AllSatisfy plan (with_constraint context.bars (left_constraint conflict))). shown_of_plan claim left (left_child context conflict blocks) proper.1 shows.1 on_left below)
-      (λ (on_right : AllSatisfy plan (with_constraint context.bars (right_constraint conflict))). shown_of_plan claim right (right_child context conflict blocks) proper.2 shows.2 on_right below)
+      (λ (on_left : AllSatisfy plan (with_constraint context.bars (left_constraint conflict))). shown_of_plan claim left (left_child_context context conflict blocks) proper.1 shows.1 on_left below)
+      (λ (on_right : AllSatisfy plan (with_constraint context.bars (right_constraint conflict))). shown_of_plan claim right (right_child_context context conflict blocks) proper.2 shows.2 on_right below)
       (split problem plan context.bars conflict proper.0.0 valid obey)
   shown_of_plan claim (Leaf blocks) context proper shows obey bounds =
       starts_hold claim (with_blocks blocks context.entries) (AreBounds-with_blocks context blocks context.entries shows.0 obey bounds) shows.1

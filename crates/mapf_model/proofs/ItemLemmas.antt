@@ -5,7 +5,7 @@ use Rattle.mapf_model.specs.Blocks.{LabelBlock}
 use Rattle.mapf_model.specs.declared.item.Claim.{Claim}
 use Rattle.mapf_model.specs.declared.conflict.Conflict.{Conflict}
 use Rattle.mapf_model.specs.Plan.{Instance}
-use Rattle.mapf_model.specs.Tree.{ConstraintTree, Split, Leaf, Clash, NodeContext, root, left_child, right_child, Node, SplitNode, LeafNode, ClashNode, nodes_of, nodes_of_all, IsGoodSplit, ShareGoal, ShowsFrom, NodesShow}
+use Rattle.mapf_model.specs.Tree.{ConstraintTree, Split, Leaf, Clash, NodeContext, root, left_child_context, right_child_context, Node, SplitNode, LeafNode, ClashNode, nodes_of, nodes_of_all, SplitShows, ShareGoal, ShowsFrom, NodesShow}
 
 SplitNode-injective : (a b : Conflict) (ls ms : List LabelBlock) → SplitNode a ls ≡ SplitNode b ms → (a ≡ b) × (ls ≡ ms)
 SplitNode-injective a b ls ms e = (cc, cc)
@@ -38,7 +38,7 @@ cut (Clash i j) (Clash i' j') xs ys e = (cc, cc)
 
 module _ (problem : Instance) (claim : Claim) (context : NodeContext) (owed : List NodeContext) where
   pub from_split : (conflict : Conflict) (blocks : List LabelBlock) (items : List Node) → NodesShow problem claim (context ∷ owed) (SplitNode conflict blocks ∷ items) →
-      IsGoodSplit problem context conflict blocks × NodesShow problem claim (left_child context conflict blocks ∷ right_child context conflict blocks ∷ owed) items
+      SplitShows problem context conflict blocks × NodesShow problem claim (left_child_context context conflict blocks ∷ right_child_context context conflict blocks ∷ owed) items
   from_split conflict blocks items ([], e, zip) = absurd zip
   from_split conflict blocks items (Split b ms left right ∷ trees, e, zip) =
       let head : SplitNode b ms ≡ SplitNode conflict blocks = cc in
@@ -49,7 +49,7 @@ module _ (problem : Instance) (claim : Claim) (context : NodeContext) (owed : Li
   from_split conflict blocks items (Leaf own ∷ trees, e, zip) = absurd (split_not_leaf conflict blocks own cc)
   from_split conflict blocks items (Clash i j ∷ trees, e, zip) = absurd (split_not_clash conflict blocks i j cc)
 
-  pub to_split : (conflict : Conflict) (blocks : List LabelBlock) (items : List Node) → IsGoodSplit problem context conflict blocks × NodesShow problem claim (left_child context conflict blocks ∷ right_child context conflict blocks ∷ owed) items →
+  pub to_split : (conflict : Conflict) (blocks : List LabelBlock) (items : List Node) → SplitShows problem context conflict blocks × NodesShow problem claim (left_child_context context conflict blocks ∷ right_child_context context conflict blocks ∷ owed) items →
       NodesShow problem claim (context ∷ owed) (SplitNode conflict blocks ∷ items)
   to_split conflict blocks items (good, ([], e, zip)) = absurd zip
   to_split conflict blocks items (good, (left ∷ [], e, zip)) = absurd zip.1

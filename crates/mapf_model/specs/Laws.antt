@@ -16,7 +16,7 @@ use Rattle.mapf_model.specs.Accepted.{PlanSays, Outcome, GoTogether, IsTrueOf}
 use Rattle.mapf_model.specs.Bars.{Satisfies}
 use Rattle.mapf_model.specs.Labels.{Entries, entries_of, AreSound, IsLabel, IsAtMost, label_sum}
 use Rattle.mapf_model.specs.Plan.{Instance, IsValid, IsSumOfCosts}
-use Rattle.mapf_model.specs.Tree.{ConstraintTree, Leaf, NodeContext, IsProper, IsGoodSplit, AtSomeEnd, AllSatisfy, root, left_child, right_child, Node, SplitNode, LeafNode, ClashNode, nodes_of, AreStartLabels, StartsShow, ShareGoal, ShowsFrom, NodesShow, Shows, Holds}
+use Rattle.mapf_model.specs.Tree.{ConstraintTree, Leaf, NodeContext, IsProper, SplitShows, AtSomeEnd, AllSatisfy, root, left_child_context, right_child_context, Node, SplitNode, LeafNode, ClashNode, nodes_of, AreStartLabels, StartsShow, ShareGoal, ShowsFrom, NodesShow, Shows, Holds}
 
 -- under sound labels each lawful path that obeys the bars costs at least the label of the start
 abbrev pub LabelBound : Type 0
@@ -53,7 +53,7 @@ pub record NodesShowByFront (problem : Instance) (claim : Claim) : Type 0 where
   pub missing : (context : NodeContext) (owed : List NodeContext) → NodesShow problem claim (context ∷ owed) [] → ⊥
   pub unowed : (item : Node) (items : List Node) → NodesShow problem claim [] (item ∷ items) → ⊥
   pub at_split : (context : NodeContext) (owed : List NodeContext) (conflict : Conflict) (blocks : List LabelBlock) (items : List Node) →
-      NodesShow problem claim (context ∷ owed) (SplitNode conflict blocks ∷ items) ↔ (IsGoodSplit problem context conflict blocks × NodesShow problem claim (left_child context conflict blocks ∷ right_child context conflict blocks ∷ owed) items)
+      NodesShow problem claim (context ∷ owed) (SplitNode conflict blocks ∷ items) ↔ (SplitShows problem context conflict blocks × NodesShow problem claim (left_child_context context conflict blocks ∷ right_child_context context conflict blocks ∷ owed) items)
   pub at_leaf : (context : NodeContext) (owed : List NodeContext) (blocks : List LabelBlock) (items : List Node) →
       NodesShow problem claim (context ∷ owed) (LeafNode blocks ∷ items) ↔ (ShowsFrom problem claim context (Leaf blocks) × NodesShow problem claim owed items)
   pub at_clash : (context : NodeContext) (owed : List NodeContext) (i j : ℕ) (items : List Node) →

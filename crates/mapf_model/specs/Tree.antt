@@ -19,8 +19,8 @@ use Rattle.mapf_model.specs.Bars.{Satisfies}
 use Rattle.mapf_model.specs.Labels.{Entries, entries_of, AreSound, IsLabel, IsAtMost, label_sum}
 use Rattle.mapf_model.specs.Plan.{Instance, IsLowerBound, IsImpossible}
 
--- a split on a conflict with blocks of labels and two children, a leaf with blocks of labels, or an end at
--- which two agents have one goal
+-- a split on a conflict with blocks of labels and two children, a leaf with blocks of labels, or an end that
+-- claims that two agents have one goal
 pub data ConstraintTree : Type 0 where
   Split : (conflict : Conflict) → (blocks : List LabelBlock) → (left right : ConstraintTree) → ConstraintTree
   Leaf : (blocks : List LabelBlock) → ConstraintTree
@@ -32,15 +32,15 @@ pub data Node : Type 0 where
   LeafNode : (blocks : List LabelBlock) → Node
   ClashNode : (i j : ℕ) → Node
 
--- the blocks of a node
+-- the blocks of a node; a clash has none
 abbrev pub blocks_of : Node → List LabelBlock
 blocks_of (SplitNode conflict blocks) = blocks
 blocks_of (LeafNode blocks) = blocks
 blocks_of (ClashNode i j) = []
 
--- the node is split on the conflict
-abbrev pub IsSplitOn : Conflict → Node → Type 0
-IsSplitOn conflict node = node ≡ SplitNode conflict (blocks_of node)
+-- the node is split on the conflict, whatever its blocks
+abbrev pub IsSplitOn : Node → Conflict → Type 0
+IsSplitOn node conflict = node ≡ SplitNode conflict (blocks_of node)
 
 -- the node is an end of its tree
 abbrev pub IsEndNode : Node → Type 0
@@ -69,12 +69,12 @@ Spell items tree = map node_of items ≡ nodes_of tree
 abbrev pub block_of : List LabelBlock → ℕ → Option LabelBlock
 block_of blocks agent = find (λ block. block.agent == agent) blocks
 
--- the entries of the block if there is one, else those from before
+-- the entries of the block if there is one, else those inherited
 abbrev pub entries_or : Option LabelBlock → Entries → Entries
 entries_or (Some block) before = entries_of block.entries
 entries_or None before = before
 
--- the entries of each agent, where these blocks come after others
+-- each agent's entries at a node with these blocks: those of its block here, else those inherited
 abbrev pub with_blocks : List LabelBlock → (ℕ → Entries) → ℕ → Entries
 with_blocks blocks before agent = entries_or (block_of blocks agent) (before agent)
 
@@ -82,13 +82,13 @@ with_blocks blocks before agent = entries_or (block_of blocks agent) (before age
 abbrev pub no_entries : ℕ → Entries
 no_entries agent cell tick = None
 
--- what was gathered on the way from the root to a node, the node itself left out: the constraints of each
--- agent, and the entries of each agent's nearest block
+-- what a node inherits: each agent's constraints, the one with which this node was made included, and the
+-- entries of each agent's nearest block above it, none where there is no block
 pub record NodeContext : Type 0 where
   pub bars : ℕ → List Bar
   pub entries : ℕ → Entries
 
--- the root has neither
+-- the root inherits nothing
 abbrev pub root : NodeContext
 root = record { bars = λ agent. []; entries = no_entries }
 
@@ -110,37 +110,44 @@ abbrev pub right_constraint : Conflict → Constraint
 right_constraint (Vertex i j cell tick) = record { agent = j; bar = Cell cell tick }
 right_constraint (Swap i j from to tick) = record { agent = j; bar = Move to from tick }
 
--- the context at the left child of a split: the left constraint of the conflict and the split's blocks are added
-abbrev pub left_child : NodeContext → Conflict → List LabelBlock → NodeContext
-left_child context conflict blocks = record { bars = with_constraint context.bars (left_constraint conflict); entries = with_blocks blocks context.entries }
+-- what the left child of a split inherits: one constraint more, and the split's blocks in place of those above
+-- of the same agents
+abbrev pub left_child_context : NodeContext → Conflict → List LabelBlock → NodeContext
+left_child_context context conflict blocks = record { bars = with_constraint context.bars (left_constraint conflict); entries = with_blocks blocks context.entries }
 
--- the context at its right child: the right constraint and the same blocks
-abbrev pub right_child : NodeContext → Conflict → List LabelBlock → NodeContext
-right_child context conflict blocks = record { bars = with_constraint context.bars (right_constraint conflict); entries = with_blocks blocks context.entries }
+-- what the right child inherits
+abbrev pub right_child_context : NodeContext → Conflict → List LabelBlock → NodeContext
+right_child_context context conflict blocks = record { bars = with_constraint context.bars (right_constraint conflict); entries = with_blocks blocks context.entries }
 
 -- a fact holds at each node of a tree, with the node's context
 abbrev pub AtEachNode : (NodeContext → ConstraintTree → Type 0) → NodeContext → ConstraintTree → Type 0
-AtEachNode P context (Split conflict blocks left right) = P context (Split conflict blocks left right) × AtEachNode P (left_child context conflict blocks) left × AtEachNode P (right_child context conflict blocks) right
+AtEachNode P context (Split conflict blocks left right) = P context (Split conflict blocks left right) × AtEachNode P (left_child_context context conflict blocks) left × AtEachNode P (right_child_context context conflict blocks) right
 AtEachNode P context (Leaf blocks) = P context (Leaf blocks)
 AtEachNode P context (Clash i j) = P context (Clash i j)
 
 -- a fact holds of the context of each end: each leaf and each clash
 abbrev pub AtEachEnd : (NodeContext → Type 0) → NodeContext → ConstraintTree → Type 0
-AtEachEnd P context (Split conflict blocks left right) = AtEachEnd P (left_child context conflict blocks) left × AtEachEnd P (right_child context conflict blocks) right
+AtEachEnd P context (Split conflict blocks left right) = AtEachEnd P (left_child_context context conflict blocks) left × AtEachEnd P (right_child_context context conflict blocks) right
 AtEachEnd P context (Leaf blocks) = P context
 AtEachEnd P context (Clash i j) = P context
 
 -- a fact holds of the context of some end
 abbrev pub AtSomeEnd : (NodeContext → Type 0) → NodeContext → ConstraintTree → Type 0
-AtSomeEnd P context (Split conflict blocks left right) = AtSomeEnd P (left_child context conflict blocks) left ⊎ AtSomeEnd P (right_child context conflict blocks) right
+AtSomeEnd P context (Split conflict blocks left right) = AtSomeEnd P (left_child_context context conflict blocks) left ⊎ AtSomeEnd P (right_child_context context conflict blocks) right
 AtSomeEnd P context (Leaf blocks) = P context
 AtSomeEnd P context (Clash i j) = P context
 
 -- a fact holds of the context of some leaf
 abbrev pub AtSomeLeaf : (NodeContext → Type 0) → NodeContext → ConstraintTree → Type 0
-AtSomeLeaf P context (Split conflict blocks left right) = AtSomeLeaf P (left_child context conflict blocks) left ⊎ AtSomeLeaf P (right_child context conflict blocks) right
+AtSomeLeaf P context (Split conflict blocks left right) = AtSomeLeaf P (left_child_context context conflict blocks) left ⊎ AtSomeLeaf P (right_child_context context conflict blocks) right
 AtSomeLeaf P context (Leaf blocks) = P context
 AtSomeLeaf P context (Clash i j) = ⊥
+
+-- no split has a block: a tree of version 1 of the certificate
+abbrev pub HasLabelsAtLeavesAlone : ConstraintTree → Type 0
+HasLabelsAtLeavesAlone (Split conflict blocks left right) = (blocks ≡ []) × HasLabelsAtLeavesAlone left × HasLabelsAtLeavesAlone right
+HasLabelsAtLeavesAlone (Leaf blocks) = Unit {0}
+HasLabelsAtLeavesAlone (Clash i j) = Unit {0}
 
 -- how many splits the tree has
 abbrev pub split_count : ConstraintTree → ℕ
@@ -169,7 +176,7 @@ AreOfAgents problem blocks = All (λ block. block.agent < length problem.agents)
 abbrev pub AreProperBlocks : Instance → List LabelBlock → Type 0
 AreProperBlocks problem blocks = AreOfDifferentAgents blocks × AreOfAgents problem blocks
 
--- a split stands on a proper conflict, and the blocks of a split or a leaf are proper
+-- a split stands on a proper conflict, and the blocks of a split or a leaf are proper; a clash always is
 abbrev pub IsProperNode : Instance → ConstraintTree → Type 0
 IsProperNode problem (Split conflict blocks left right) = IsProperSplit problem conflict × AreProperBlocks problem blocks
 IsProperNode problem (Leaf blocks) = AreProperBlocks problem blocks
@@ -179,7 +186,7 @@ IsProperNode problem (Clash i j) = Unit {0}
 abbrev pub IsProper : Instance → ConstraintTree → Type 0
 IsProper problem tree = AtEachNode (λ context node. IsProperNode problem node) root tree
 
--- each block is sound under its agent's bars
+-- of each agent of the problem, the block, the first if there are several, is sound under the agent's bars
 abbrev pub AreBlocksSound : Instance → NodeContext → List LabelBlock → Type 0
 AreBlocksSound problem context blocks = (i : ℕ) (agent : Agent) (block : LabelBlock) → slice_get problem.agents i ≡ Some agent → block_of blocks i ≡ Some block → AreSound problem.grid agent.goal (context.bars i) (entries_of block.entries)
 
@@ -197,16 +204,17 @@ StartsShow problem Impossible entries = (i : ℕ) × (agent : Agent) × (slice_g
 abbrev pub ShareGoal : Instance → ℕ → ℕ → Type 0
 ShareGoal problem i j = (i ≢ j) × (a : Agent) × (b : Agent) × (slice_get problem.agents i ≡ Some a) × (slice_get problem.agents j ≡ Some b) × (a.goal ≡ b.goal)
 
--- the blocks of a split or a leaf are sound under the constraints of the node itself; at a leaf the labels of
--- the starts show the claim, each agent's by its nearest block; the agents of a clash share their goal
+-- the blocks of a split or a leaf are sound under the node's own constraints, without those that its children
+-- add; at a leaf the labels of the starts show the claim, each by the agent's nearest block, the leaf's
+-- included; the agents of a clash share their goal
 abbrev pub NodeShows : Instance → Claim → NodeContext → ConstraintTree → Type 0
 NodeShows problem claim context (Split conflict blocks left right) = AreBlocksSound problem context blocks
 NodeShows problem claim context (Leaf blocks) = AreBlocksSound problem context blocks × StartsShow problem claim (with_blocks blocks context.entries)
 NodeShows problem claim context (Clash i j) = ShareGoal problem i j
 
--- what a split shows beside its children: its conflict and its blocks are proper, and the blocks are sound
-abbrev pub IsGoodSplit : Instance → NodeContext → Conflict → List LabelBlock → Type 0
-IsGoodSplit problem context conflict blocks = (IsProperSplit problem conflict × AreProperBlocks problem blocks) × AreBlocksSound problem context blocks
+-- what is asked of a split, its children aside: its conflict and its blocks are proper, and the blocks are sound
+abbrev pub SplitShows : Instance → NodeContext → Conflict → List LabelBlock → Type 0
+SplitShows problem context conflict blocks = (IsProperSplit problem conflict × AreProperBlocks problem blocks) × AreBlocksSound problem context blocks
 
 -- the tree shows the claim where its root has this context
 pub record ShowsFrom (problem : Instance) (claim : Claim) (context : NodeContext) (tree : ConstraintTree) : Type 0 where

@@ -1,4 +1,4 @@
-ghost use Rattle.mapf_model.specs.Examples.{WaitingBoundsALabel, NoLabelIsRaisedAtAFreeGoal, AClashShowsImpossibility, OneStartIsNoPlan, SwappingIsNoPlan, EachChildBarsItsAgent};
+ghost use Rattle.mapf_model.specs.Examples.{WaitingBoundsALabel, NoLabelIsRaisedAtAFreeGoal, AClashShowsImpossibility, OneStartIsNoPlan, SwappingIsNoPlan, EachChildBarsItsAgent, ChildrenInheritLabels};
 
 /// What the definitions of labels say on small problems.
 pub fn labels_by_example()
@@ -16,4 +16,5 @@ pub fn plans_by_example()
 pub fn trees_by_example()
     ensures clash { AClashShowsImpossibility }
     ensures children { EachChildBarsItsAgent }
+    ensures labels { ChildrenInheritLabels }
 {}

@@ -8,8 +8,9 @@ use crate::label::Block;
 /// A node of a constraint tree (Sharon et al. 2015). A list of items in pre-order spells the tree: a
 /// split is followed by the items of its left child, then by those of its right child.
 ///
-/// A split and a leaf have labels for some agents, each of which has at most one block there. A block
-/// holds at its node and below it, up to the next block of its agent.
+/// Splits and leaves carry blocks of labels; a proper tree has at most one for each agent at a node. A
+/// block gives its agent's labels at its node and everywhere below, until a block of the same agent
+/// replaces it.
 #[derive(Debug, Drop)]
 pub enum Item {
     /// The left child bars agent `i` from the cell at the tick, the right child bars agent `j` from it.
@@ -30,7 +31,7 @@ pub enum Item {
         tick: Tick,
         blocks: Vec<Block>,
     },
-    /// An end of the tree.
+    /// An end of the tree, with blocks of labels.
     Leaf(Vec<Block>),
     /// An end of the tree: the two agents have one goal.
     Clash {
@@ -71,7 +72,7 @@ impl Item {
 
     /// The conflict on which the node is split, None where it is an end of the tree.
     pub fn conflict(&self) -> Option<Conflict>
-        ensures split { IfSome result (λ conflict. IsSplitOn conflict (node_of self.now)) }
+        ensures split { IfSome result (λ conflict. IsSplitOn (node_of self.now) conflict) }
         ensures end { IfNone result (IsEndNode (node_of self.now)) }
     {
         match *self {
