@@ -52,9 +52,11 @@ pub fn write_text<K: Sink>(
     last: Tick,
 ) -> Result<(), Failed>
     requires { K.has_failed sink.old ≡ false }
-    ensures text { OnOk result (Appends (K.contents sink.old) (K.contents sink.new) (play_text grid.now paths.now last)) }
+    ensures text { OnOk result (Appends (K.contents sink.old) (K.contents sink.new)
+        (play_text grid.now paths.now last)) }
     ensures failed { K.has_failed sink.new ≡ is_err result }
-    ensures front { OnErr result (WritesFront (K.contents sink.old) (K.contents sink.new) (play_text grid.now paths.now last)) }
+    ensures front { OnErr result (WritesFront (K.contents sink.old) (K.contents sink.new)
+        (play_text grid.now paths.now last)) }
 {
     let mut page = Page::empty();
     put_frames(&mut page, sink, grid, paths, last)?;
@@ -66,7 +68,7 @@ pub fn write_text<K: Sink>(
 /// for good: a line `tick t`, and a line for each row of the grid. Last comes a line `end m` with the
 /// makespan in ticks. A free cell is `.`, a blocked one `@`. The agents are `0` to `9`, `a` to `z`, `A` to
 /// `Z`, and from the 63rd on `*`. After its path ended an agent stays where it is. It takes no memory.
-/// `Failed` is answered only where the sink failed, and then it got a front of that text.
+/// `Failed` is answered only where the sink failed, and then it got a prefix of that text.
 pub fn play<K: Sink>(problem: &Problem, plan: &Plan, sink: &mut K) -> Result<(), Failed>
     requires works { K.has_failed sink.old ≡ false }
     requires valid { IsValid problem.now plan.now }
