@@ -28,7 +28,7 @@ returns g c =
     let cells = c.in_ok-cells.cells.items in
     let listed = c.in_ok-entries.entries.items in
     let way = subst (λ n. IsWholeWalk task n cells) c.cost-cost.ensures c.in_ok-cells.ensures in
-    let low = rw c.low.ensures at c.in_ok-entries.ensures.entries in
+    let low = rw c.low.ensures at c.in_ok-entries.ensures in
     let a = subst (λ n. AreEntriesOf (low_states states) (Some n) listed) c.cost-cost.ensures low in
     let proper = c.horizon-horizon.ensures.bars in
     let path_is = rw c.unwrap.ensures at c.of.ensures.value in
@@ -40,6 +40,6 @@ returns g c =
       tight = walk_tight task states cells h way c.requires.start proper;
       limit = c.requires.limit;
       first = walk_first task states.cost cells way (walk_cost task states cells h way c.requires.start proper);
-      labels = record { sound = sound_arrives task states h listed a; rising = c.in_ok-entries.ensures.rising; ranges = ranges_some task c.requires.shape (low_states states) listed states.cost c.requires.small h.frontier.low a };
+      labels = record { sound = sound_arrives task states h listed a; rising = a.rising; ranges = ranges_some task c.requires.shape (low_states states) listed states.cost c.requires.small h.frontier.low a };
       start = start_arrives task states h listed a;
     }))
