@@ -12,7 +12,7 @@ use Rattle.mapf_model.specs.Path.{at, IsPath, IsLawful, IsCost, IsTight}
 use Rattle.mapf_model.proofs.PathLemmas.{IsCost-from_end}
 use Rattle.mapf_spacetime.specs.Task.{Task, Goes, IsValue, IsOpen, IsBarredLater, MayRestFrom, agent_of, state_at, start_of}
 use Rattle.mapf_spacetime.specs.States.{States, HasArrived}
-use Rattle.mapf_spacetime.specs.Way.{state_of, IsWholeWay}
+use Rattle.mapf_spacetime.specs.PathSearch.{state_of, IsWholeWalk}
 use Rattle.mapf_spacetime.proofs.ValueLemmas.{value_free, value_unique, value_none, no_lower}
 use Rattle.mapf_spacetime.proofs.FrontierLemmas.{none_held}
 
@@ -51,12 +51,12 @@ module _ (task : Task) (cells : List ℕ) (some : 1 ≤ length cells) (start : s
       let next : suc k ≡ k + 1 = omega arith in
       (goes k (omega arith)).may.arrival (subst (λ n. Contains task.bars (Cell (slice_index cells n) n)) next barred)
 
-  pub way_satisfies : Satisfies task.bars cells
-  way_satisfies (Cell cell tick) barred meets = ⊎_elim
+  pub goes_satisfy : Satisfies task.bars cells
+  goes_satisfy (Cell cell tick) barred meets = ⊎_elim
       (λ (during : tick < length cells). is_open tick during (subst (λ c. Contains task.bars (Cell c tick)) (sym meets ∙ at_is cells tick during) barred))
       (λ (after : length cells ≤ tick). rest tick (omega arith) (subst (λ c. Contains task.bars (Cell c tick)) (sym meets ∙ at_past cells tick (omega arith) ∙ ends) barred))
       (cases_lt tick (length cells))
-  way_satisfies (Move from to tick) barred meets = ⊎_elim
+  goes_satisfy (Move from to tick) barred meets = ⊎_elim
       (λ (during : tick + 1 < length cells).
       (goes tick during).may.move
       (subst (λ c. Contains task.bars (Move c (slice_index cells (tick + 1)) tick)) (sym meets.0 ∙ at_is cells tick (omega arith))
@@ -66,7 +66,7 @@ module _ (task : Task) (cells : List ℕ) (some : 1 ≤ length cells) (start : s
       (cases_lt (tick + 1) (length cells))
 
 -- a walk of the least cost
-module _ (task : Task) (states : States) (cells : List ℕ) (h : HasArrived task states) (w : IsWholeWay task states.cost cells) (start_open : IsOpen task (start_of task)) (proper : AreBars task.bars) where
+module _ (task : Task) (states : States) (cells : List ℕ) (h : HasArrived task states) (w : IsWholeWalk task states.cost cells) (start_open : IsOpen task (start_of task)) (proper : AreBars task.bars) where
   pub ends : slice_index cells (length cells - 1) ≡ task.goal
   ends =
       let count = w.count in
@@ -129,7 +129,7 @@ module _ (task : Task) (states : States) (cells : List ℕ) (h : HasArrived task
       (cases_lt later states.cost)
 
   pub walk_satisfies : Satisfies task.bars cells
-  walk_satisfies = way_satisfies task cells w.way.some w.way.start start_open w.way.goes ends (let count = w.count in let last : length cells - 1 ≡ states.cost = omega arith in subst (MayRestFrom task) (sym last) h.rest) proper
+  walk_satisfies = goes_satisfy task cells w.way.some w.way.start start_open w.way.goes ends (let count = w.count in let last : length cells - 1 ≡ states.cost = omega arith in subst (MayRestFrom task) (sym last) h.rest) proper
 
   pub walk_cost : IsCost task.goal cells states.cost
   walk_cost = let count = w.count in

@@ -1,5 +1,6 @@
 ghost use Rattle.std.specs.Prelude.{◌≡◌, ◌-◌, ◌<◌, ◌≤◌, [], ◌∷◌, List, None, length, false, IfOk, IsTrue, Contains};
 ghost use Rattle.mapf_model.specs.Bars.{Satisfies};
+ghost use Rattle.mapf_model.specs.Limits.{greatest_cost, most_path_cells};
 ghost use Rattle.mapf_model.specs.Path.{IsPath, at};
 ghost use Rattle.mapf_model.specs.Grid.{IsGridMap};
 ghost use Rattle.mapf_model.specs.declared.label.Entry.{Entry};
@@ -15,7 +16,7 @@ use crate::frontier::Frontier;
 use crate::ground::Ground;
 use crate::labels::Labels;
 use crate::state::State;
-use crate::way::least_way;
+use crate::path_search::least_walk;
 use mapf_constraints::BarTable;
 use mapf_distance::Distances;
 use mapf_model::{Agent, Cell, Grid, OutOfMemory, Path, Tick};
@@ -81,7 +82,7 @@ fn by_cost<B: BarTable>(alloc: Global, ground: &Ground<B>, first: u32) -> Result
 /// Whether the bars let the agent take the path and stay at its end.
 fn lets_path<B: BarTable>(ground: &Ground<B>, cells: &[Cell]) -> bool
     requires some { 1 ≤ length cells.now }
-    requires short { length cells.now ≤ 10000000 }
+    requires short { length cells.now ≤ most_path_cells }
     requires path { IsPath ground.now.grid cells.now }
     requires start { at cells.now 0 ≡ ground.now.start }
     requires goal { at cells.now (length cells.now - 1) ≡ ground.now.goal }
@@ -122,7 +123,7 @@ fn arrive<B: BarTable>(
     // The horizon tells that move bars have two cells.
     let _horizon = ground.horizon();
     let cost = frontier.cost();
-    let cells = least_way(alloc, ground, cost)?;
+    let cells = least_walk(alloc, ground, cost)?;
     let entries = entries_of(alloc, frontier.low(), Some(cost))?;
     Ok(Found::Arrives {
         path: Path::of(cells).unwrap(),
@@ -137,7 +138,7 @@ fn dead<B: BarTable>(
     states: &[State],
 ) -> Result<Found, OutOfMemory>
     requires shape { IsGridMap ground.now.grid }
-    requires few { (s : State) → Contains states.now s → IsWithin ground.now 9999999 s }
+    requires few { (s : State) → Contains states.now s → IsWithin ground.now greatest_cost s }
     requires none { (entries : List Entry) → AreEntriesOf states.now None entries → ShowNone ground.now entries }
     ensures { IfOk result (IsPathAnswer ground.now) }
 {

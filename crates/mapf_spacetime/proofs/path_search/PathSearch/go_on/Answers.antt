@@ -3,10 +3,10 @@ use Rattle.mapf_model.specs.Grid.{IsFree}
 use Rattle.mapf_model.specs.Labels.{MayGo}
 use Rattle.mapf_spacetime.specs.declared.state.State.{State}
 use Rattle.mapf_spacetime.specs.Task.{Goes, IsWithin, state_at}
-use Rattle.mapf_spacetime.specs.Way.{CanArrive, IsSearching, with_failure, state_of}
+use Rattle.mapf_spacetime.specs.PathSearch.{CanArrive, IsSearching, with_failure, state_of}
 use Rattle.mapf_spacetime.proofs.ValueLemmas.{value_free}
 use Rattle.mapf_spacetime.proofs.WayLemmas.{step_searching, back_searching}
-use Rattle.mapf_spacetime.proofs.way.Way.go_on.Goals as goal
+use Rattle.mapf_spacetime.proofs.path_search.PathSearch.go_on.Goals as goal
 
 pub steps-steps-requires : goal.steps-steps-requires
 steps-steps-requires g c =

@@ -10,8 +10,8 @@ pub record Walked : Type 0 where
   pub failed : List State
 
 -- a walk that is at its start
-abbrev pub first_way : ℕ → Walked
-first_way start = record { cells = start ∷ []; failed = [] }
+abbrev pub first_walk : ℕ → Walked
+first_walk start = record { cells = start ∷ []; failed = [] }
 
 -- the walk with one more step
 abbrev pub with_step : Walked → ℕ → Walked
@@ -44,30 +44,30 @@ abbrev pub state_of : List ℕ → ℕ → State
 state_of cells tick = state_at (slice_index cells tick) tick
 
 -- the cells are a walk from the start, through states of at most this value
-pub record IsWayFrom (task : Task) (cost : ℕ) (cells : List ℕ) : Type 0 where
+pub record IsWalkFrom (task : Task) (cost : ℕ) (cells : List ℕ) : Type 0 where
   pub some : 1 ≤ length cells
   pub start : slice_index cells 0 ≡ task.start
   pub within : (k : ℕ) → k < length cells → IsWithin task cost (state_of cells k)
   pub goes : (k : ℕ) → k + 1 < length cells → Goes task (state_of cells k) (state_of cells (k + 1))
 
 -- from no lesser cell than that to which the walk goes can the agent arrive, at each of its steps
-abbrev pub IsLeastWay : Task → ℕ → List ℕ → Type 0
-IsLeastWay task cost cells = (k to : ℕ) → k + 1 < length cells → to < slice_index cells (k + 1) →
+abbrev pub IsLeastWalk : Task → ℕ → List ℕ → Type 0
+IsLeastWalk task cost cells = (k to : ℕ) → k + 1 < length cells → to < slice_index cells (k + 1) →
     MayGo task.grid task.bars (slice_index cells k) to k → CanArrive task cost (state_at to (k + 1)) → ⊥
 
 -- the cells are the least walk, and it goes on to the cost
-pub record IsWholeWay (task : Task) (cost : ℕ) (cells : List ℕ) : Type 0 where
-  pub way : IsWayFrom task cost cells
+pub record IsWholeWalk (task : Task) (cost : ℕ) (cells : List ℕ) : Type 0 where
+  pub way : IsWalkFrom task cost cells
   pub count : length cells ≡ cost + 1
-  pub least : IsLeastWay task cost cells
+  pub least : IsLeastWalk task cost cells
 
 -- a walk that has turned back only from states from which the agent can't arrive
 pub record IsSearching (task : Task) (cost : ℕ) (way : Walked) : Type 0 where
-  pub from : IsWayFrom task cost way.cells
+  pub from : IsWalkFrom task cost way.cells
   pub short : length way.cells ≤ cost + 1
   pub fresh : (k : ℕ) → k < length way.cells → Contains way.failed (state_of way.cells k) → ⊥
   pub stuck : (s : State) → Contains way.failed s → CanArrive task cost s → ⊥
-  pub least : IsLeastWay task cost way.cells
+  pub least : IsLeastWalk task cost way.cells
 
 -- no walk has more steps and turns than this: each state fails once at most
 abbrev pub turns_left : Walked → ℕ

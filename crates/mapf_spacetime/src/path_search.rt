@@ -1,9 +1,12 @@
-ghost use Rattle.std.specs.Prelude.{◌≡◌, ◌↔◌, ◌+◌, ◌-◌, ◌<◌, ◌≤◌, ◌^◌, [], ◌∷◌, ◌++◌, ℕ, length, slice_index, false, IfOk, IfSome, IfNone, OnOk, IsTrue, Contains};
+ghost use Rattle.std.specs.Prelude.{◌≡◌, ◌↔◌, ◌+◌, ◌-◌, ◌<◌, ◌≤◌, ◌^◌, [], ◌∷◌, ◌++◌, ℕ, length, slice_index};
+ghost use Rattle.std.specs.Prelude.{false, IfOk, IfSome, IfNone, OnOk, IsTrue, Contains};
 ghost use Rattle.std.specs.List.Sorted.{IsStrictlyIncreasing};
 ghost use Rattle.mapf_model.specs.Grid.{IsFree, Step};
 ghost use Rattle.mapf_model.specs.Labels.{MayGo};
+ghost use Rattle.mapf_model.specs.Limits.{most_path_cells};
 ghost use Rattle.mapf_spacetime.specs.Task.{IsWithin, state_at, start_of};
-ghost use Rattle.mapf_spacetime.specs.Way.{AreNoWaysBelow, CanArrive, IsNoWayOn, IsSearching, IsWholeWay, turns_left, first_way, with_step, with_failure};
+ghost use Rattle.mapf_spacetime.specs.PathSearch.{AreNoWaysBelow, CanArrive, IsNoWayOn, IsSearching, IsWholeWalk};
+ghost use Rattle.mapf_spacetime.specs.PathSearch.{turns_left, first_walk, with_step, with_failure};
 
 use crate::ground::Ground;
 use crate::state::State;
@@ -15,26 +18,26 @@ use std::marker::Model;
 
 /// A walk from the start, one cell for each tick, and the states from which it had to turn back.
 #[derive(Drop)]
-pub struct Way {
+pub struct PathSearch {
     cells: Vec<Cell>,
     failed: StateSet,
 }
 
-impl Model for Way {
-    ghost use Rattle.mapf_spacetime.specs.Way.{Walked};
+impl Model for PathSearch {
+    ghost use Rattle.mapf_spacetime.specs.PathSearch.{Walked};
 
     ghost Value = { Walked };
 
-    ghost view = { λ way. record { cells = way.cells.items; failed = way.failed } };
+    ghost view = { λ walk. record { cells = walk.cells.items; failed = walk.failed } };
 }
 
-impl Way {
-    fn of(alloc: Global, start: Cell) -> Result<Way, OutOfMemory>
-        ensures { IfOk result (λ way. way ≡ first_way start) }
+impl PathSearch {
+    fn of(alloc: Global, start: Cell) -> Result<PathSearch, OutOfMemory>
+        ensures { IfOk result (λ walk. walk ≡ first_walk start) }
     {
         let mut cells = Vec::new(alloc);
         cells.push(start)?;
-        Ok(Way {
+        Ok(PathSearch {
             cells,
             failed: StateSet::new(alloc),
         })
@@ -49,8 +52,8 @@ impl Way {
     /// Where the walk has come.
     fn last(&self) -> State
         requires some { 1 ≤ length self.now.cells }
-        requires short { length self.now.cells ≤ 10000000 }
-        ensures { result ≡ state_at (slice_index self.now.cells (length self.now.cells - 1)) (length self.now.cells - 1) }
+        requires short { length self.now.cells ≤ most_path_cells }
+        ensures { let tick = length self.now.cells - 1 in result ≡ state_at (slice_index self.now.cells tick) tick }
     {
         let tick = self.cells.len() - 1;
         State {
@@ -79,7 +82,7 @@ impl Way {
 
     /// Whether the bars let the agent go to the cell, and it may still arrive at the cost from there.
     fn leads<B: BarTable>(&self, ground: &Ground<B>, from: &State, to: Cell, cost: u32) -> bool
-        requires small { from.now.tick < 10000000 }
+        requires small { from.now.tick < most_path_cells }
         requires step { Step ground.now.grid from.now.cell to }
         ensures may { IsTrue result → MayGo ground.now.grid ground.now.bars from.now.cell to from.now.tick }
         ensures within { IsTrue result → IsWithin ground.now cost (state_at to (from.now.tick + 1)) }
@@ -107,7 +110,7 @@ impl Way {
         from: &State,
         cost: u32,
     ) -> Option<Cell>
-        requires small { from.now.tick < 10000000 }
+        requires small { from.now.tick < most_path_cells }
         requires steps { (to : ℕ) → Contains steps.now to ↔ Step ground.now.grid from.now.cell to }
         requires rising { IsStrictlyIncreasing steps.now }
         ensures may { IfSome result (λ to. MayGo ground.now.grid ground.now.bars from.now.cell to from.now.tick) }
@@ -152,14 +155,14 @@ impl Way {
     fn into_cells(self) -> Vec<Cell>
         ensures { result.items ≡ self.cells }
     {
-        let Way { cells, failed: _ } = self;
+        let PathSearch { cells, failed: _ } = self;
         cells
     }
 }
 
 /// Whether the tick and the distance of the cell together are at most the cost.
 fn is_within<B: BarTable>(ground: &Ground<B>, state: &State, cost: u32) -> bool
-    requires small { state.now.tick ≤ 10000000 }
+    requires small { state.now.tick ≤ most_path_cells }
     requires free { IsFree ground.now.grid state.now.cell }
     ensures within { IsTrue result → IsWithin ground.now cost state.now }
     ensures no { result ≡ false → CanArrive ground.now cost state.now → ⊥ }
@@ -172,7 +175,7 @@ fn is_within<B: BarTable>(ground: &Ground<B>, state: &State, cost: u32) -> bool
 
 /// The walk of the cost from the start to the goal whose cell numbers are least, compared from the
 /// first on.
-pub fn least_way<B: BarTable>(
+pub fn least_walk<B: BarTable>(
     alloc: Global,
     ground: &Ground<B>,
     cost: u32,
@@ -180,11 +183,11 @@ pub fn least_way<B: BarTable>(
     requires small { cost < 9000000 }
     requires arrives { CanArrive ground.now cost (start_of ground.now) }
     requires within { IsWithin ground.now cost (start_of ground.now) }
-    ensures { IfOk result (λ cells. IsWholeWay ground.now cost cells.items) }
+    ensures { IfOk result (λ cells. IsWholeWalk ground.now cost cells.items) }
 {
-    let mut way = Way::of(alloc, ground.start())?;
-    while way.len() <= cost as usize {
-        way.go_on(alloc, ground, cost)?;
+    let mut walk = PathSearch::of(alloc, ground.start())?;
+    while walk.len() <= cost as usize {
+        walk.go_on(alloc, ground, cost)?;
     }
-    Ok(way.into_cells())
+    Ok(walk.into_cells())
 }

@@ -2,8 +2,8 @@ use Rattle.std.proofs.Common.{◌≡◌, ◌<◌, ◌≤◌, ◌∙◌, ⊎_elim
 use Rattle.std.proofs.lemmas.Bool.{cases_lt}
 use Rattle.std.proofs.lemmas.List.{get_or_default}
 use Rattle.std.proofs.lemmas.List.Kept.{AllPairs-from_increasing}
-use Rattle.mapf_spacetime.specs.Way.{IsNoWayOn}
-use Rattle.mapf_spacetime.proofs.way.Way.next.Goals as goal
+use Rattle.mapf_spacetime.specs.PathSearch.{IsNoWayOn}
+use Rattle.mapf_spacetime.proofs.path_search.PathSearch.next.Goals as goal
 
 pub loop-to-preserved : goal.loop-to-preserved
 loop-to-preserved g c =
