@@ -2,6 +2,7 @@
 use Rattle.std.specs.Prelude.{ℕ, ◌^◌, ◌-◌, List, codes, Result, Ok, Err, if◌then◌else◌}
 use Rattle.std.specs.Str.{bytes_eq}
 use Rattle.std.specs.Option.{option_map_or}
+use Rattle.mapf_model.specs.Limits.{most_agents, greatest_cost, greatest_sum, last_split_tick}
 use Rattle.mapf_model.specs.declared.item.Claim.TheVariants as claims
 use Rattle.mapf_model.specs.declared.label.Label.{Label}
 use Rattle.mapf_model.specs.declared.label.Label.TheVariants as labels
@@ -22,11 +23,11 @@ read_title bs = if bytes_eq bs (codes "mapf-cert 1") then Ok lines.Title else Er
 
 -- a number of agents
 unfoldable pub read_count : List ℕ → Result ℕ LineFault
-read_count bs = read_last 32 bs >>= in_range 1 200
+read_count bs = read_last 32 bs >>= in_range 1 most_agents
 
 -- a sum of costs
 unfoldable pub read_cost : List ℕ → Result ℕ LineFault
-read_cost bs = read_last 32 bs >>= in_range 0 1999999800
+read_cost bs = read_last 32 bs >>= in_range 0 greatest_sum
 
 -- the line of the number of agents
 unfoldable pub read_agents : List ℕ → Result Line LineFault
@@ -48,7 +49,7 @@ read_vertex sizes bs = do
   first ← below sizes.agents i.0
   second ← below sizes.agents j.0
   cell ← read_cell sizes.width sizes.height at.0 at.1
-  ticks ← in_range 0 999999 tick
+  ticks ← in_range 0 last_split_tick tick
   Ok (lines.Vertex first second cell ticks)
 
 -- a split on a swapping conflict
@@ -63,7 +64,7 @@ read_swap sizes bs = do
   second ← below sizes.agents j.0
   from ← read_cell sizes.width sizes.height here.0 here.1
   to ← read_cell sizes.width sizes.height there.0 there.1
-  ticks ← in_range 0 999999 tick
+  ticks ← in_range 0 last_split_tick tick
   Ok (lines.Swap first second from to ticks)
 
 -- a leaf
@@ -98,7 +99,7 @@ read_label_word bs = if bytes_eq bs (codes " inf") then Ok label_words.Never els
 -- the label that such a word spells
 abbrev pub label_in_range : LabelWord → Result Label LineFault
 label_in_range label_words.Never = Ok labels.Never
-label_in_range (label_words.Ticks ticks) = in_range 1 9999999 ticks >>= λ n. Ok (labels.Ticks n)
+label_in_range (label_words.Ticks ticks) = in_range 1 greatest_cost ticks >>= λ n. Ok (labels.Ticks n)
 
 -- an entry
 unfoldable pub read_entry : Sizes → List ℕ → Result Line LineFault
@@ -107,7 +108,7 @@ read_entry sizes bs = do
   tick ← read_field 32 at.2
   word ← read_label_word tick.1
   cell ← read_cell sizes.width sizes.height at.0 at.1
-  ticks ← in_range 0 9999999 tick.0
+  ticks ← in_range 0 greatest_cost tick.0
   label ← label_in_range word
   Ok (lines.At (record { cell = cell; tick = ticks; label = label }))
 

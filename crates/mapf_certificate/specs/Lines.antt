@@ -5,6 +5,7 @@ use Rattle.mapf_model.specs.declared.item.Claim.TheVariants as claims
 use Rattle.mapf_model.specs.declared.conflict.Conflict.TheVariants as conflicts
 use Rattle.mapf_model.specs.declared.label.Label.{Label}
 use Rattle.mapf_model.specs.declared.label.Label.TheVariants as labels
+use Rattle.mapf_model.specs.Limits.{most_agents}
 use Rattle.mapf_model.specs.Grid.{GridMap}
 use Rattle.mapf_model.specs.Printed.{IsEntryInRange, IsConflictInRange, IsClaimInRange}
 use Rattle.mapf_certificate.specs.declared.line.Line.{Line}
@@ -34,7 +35,7 @@ words width lines.End = codes "end"
 
 -- 1 to 200 agents
 abbrev pub IsAgentCount : ℕ → Type 0
-IsAgentCount agents = (1 ≤ agents) × (agents ≤ 200)
+IsAgentCount agents = (1 ≤ agents) × (agents ≤ most_agents)
 
 -- a grid of a size, with no say on which cells are free
 abbrev pub grid_of : ℕ → ℕ → GridMap

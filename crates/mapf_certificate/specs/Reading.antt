@@ -1,6 +1,7 @@
 -- How far a certificate was read from its source.
 use Rattle.std.specs.Prelude.{◌+◌, ◌≤◌, ◌^◌, ℕ, Bool, Option, Some, None, IfSome}
 use Rattle.mapf_model.specs.declared.item.Claim.{Claim}
+use Rattle.mapf_model.specs.Limits.{greatest_side}
 use Rattle.mapf_model.specs.Grid.{GridMap}
 use Rattle.mapf_certificate.specs.declared.cert.LinesFault.{LinesFault}
 use Rattle.mapf_certificate.specs.Lines.{IsAgentCount, grid_of}
@@ -19,8 +20,8 @@ pub record Reading : Type 0 where
 
 -- what is so at any time
 pub record IsReading (r : Reading) : Type 0 where
-  pub columns : (1 ≤ r.width) × (r.width ≤ 2048)
-  pub rows : (1 ≤ r.height) × (r.height ≤ 2048)
+  pub columns : (1 ≤ r.width) × (r.width ≤ greatest_side)
+  pub rows : (1 ≤ r.height) × (r.height ≤ greatest_side)
   pub agents : IfSome r.header (λ h. IsAgentCount h.0)
   pub bounded : r.owed + spare r.buffer ≤ 2 ^ 64
   pub faults : IfSome r.fault HasNoInnerMemory

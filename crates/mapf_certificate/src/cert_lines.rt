@@ -7,6 +7,7 @@ ghost use Rattle.mapf_certificate.specs.Untouched.{IsUntouched, RefusesThere, Ta
 ghost use Rattle.mapf_certificate.specs.Window.{Window, BeginsWith, Fails, Pulls, HasNoInnerMemory, IsNoTextFault};
 ghost use Rattle.mapf_certificate.specs.declared.line.Line.{Line};
 ghost use Rattle.mapf_certificate.specs.declared.line.Line.TheVariants.{End, Title};
+ghost use Rattle.mapf_model.specs.Limits.{greatest_side};
 ghost use Rattle.mapf_model.specs.declared.item.Claim.{Claim};
 ghost use Rattle.mapf_model.specs.Printed.{IsClaimInRange};
 ghost use Rattle.mapf_model.specs.Tree.{Node, node_of};
@@ -76,9 +77,9 @@ impl CertLines {
         limit: u64,
     ) -> Result<CertLines, OutOfMemory>
         requires some_columns { 1 ≤ width }
-        requires few_columns { width ≤ 2048 }
+        requires few_columns { width ≤ greatest_side }
         requires some_rows { 1 ≤ height }
-        requires few_rows { height ≤ 2048 }
+        requires few_rows { height ≤ greatest_side }
         ensures { IfOk result (λ l. l ≡ record {
           width = width;
           height = height;

@@ -1,5 +1,6 @@
 ghost use Rattle.std.specs.Prelude.{◌≡◌, ◌⊎◌, ◌<◌, ◌≤◌, ◌+◌, ◌++◌, ◌∷◌, ℕ, List, All, Ok, Err, true, codes, length, vec_len, option_map, ◌↔◌, IsOk, IsSome, IfSome, IfOk, IsOkAnd, OnOk};
 ghost use Rattle.mapf_model.specs.Printed.{IsOnGrid, IsPathInRange};
+ghost use Rattle.mapf_model.specs.Limits.{most_path_cells};
 ghost use Rattle.mapf_model.specs.Path.{IsTight};
 ghost use Rattle.mapf_certificate.specs.Numbers.{Gives};
 ghost use Rattle.mapf_certificate.specs.Lines.{grid_of, IsAgentCount};
@@ -12,6 +13,7 @@ use crate::line::LineFault;
 use crate::plan_lines::{AnswerLine, agents_line, answer_line, path_front};
 use crate::plan_text::{PlanAnswer, PlanText, PlanTextFault};
 use crate::sizes::{Sizes, below, up_to};
+use mapf_model::limits::GREATEST_COST;
 use mapf_model::{Cell, Grid, Path, Plan};
 use std::alloc::Global;
 
@@ -165,7 +167,7 @@ fn path_of(
 
 /// The path of these cells, None where the last two are one.
 fn tight(cells: Vec<Cell>) -> Option<Path>
-    ensures tight { IsSome result ↔ ((1 ≤ length cells.items) × (length cells.items ≤ 10000000) × IsTight cells.items) }
+    ensures tight { IsSome result ↔ ((1 ≤ length cells.items) × (length cells.items ≤ most_path_cells) × IsTight cells.items) }
     ensures value { IfSome result (λ path. path ≡ cells.items) }
 {
     match Path::of(cells) {
@@ -186,7 +188,7 @@ fn judge_path(
     ensures { IsOk result ↔ IsPathOf sizes.now.agents agent cost due pairs.now.are_cells (length pairs.now.cells.items) }
 {
     let agent = below(sizes.agents, agent)?;
-    let cost = up_to(9_999_999, cost)?;
+    let cost = up_to(GREATEST_COST, cost)?;
     if !pairs.are_cells {
         return Err(LineFault::Range);
     }

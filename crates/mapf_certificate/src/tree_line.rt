@@ -5,6 +5,7 @@ ghost use Rattle.mapf_certificate.specs.LineReading.{read_title, read_count, rea
 use crate::field::{field, last, pair, strip};
 use crate::line::{Line, LineFault};
 use crate::sizes::{Sizes, below, from_one_to, up_to, within};
+use mapf_model::limits::{GREATEST_COST, GREATEST_SUM, LAST_SPLIT_TICK, MOST_AGENTS};
 use mapf_model::{Claim, Entry, Label};
 
 /// Which line of a certificate is due.
@@ -33,7 +34,7 @@ fn title_line(bytes: &[u8]) -> Result<Line, LineFault>
 pub fn agent_count(rest: &[u8]) -> Result<u32, LineFault>
     ensures { result ≡ read_count rest.now }
 {
-    from_one_to(200, last(b' ', rest)?)
+    from_one_to(MOST_AGENTS, last(b' ', rest)?)
 }
 
 /// The cost of a plan, after `cost`.
@@ -41,7 +42,7 @@ pub fn agent_count(rest: &[u8]) -> Result<u32, LineFault>
 pub fn cost(rest: &[u8]) -> Result<u64, LineFault>
     ensures { result ≡ read_cost rest.now }
 {
-    within(0, 1_999_999_800, last(b' ', rest)?)
+    within(0, GREATEST_SUM, last(b' ', rest)?)
 }
 
 #[tactic(auto, unfolding(crate::specs::LineReading::read_agents))]
@@ -79,7 +80,7 @@ fn vertex(rest: &[u8], sizes: &Sizes) -> Result<Line, LineFault>
         i: below(sizes.agents, i)?,
         j: below(sizes.agents, j)?,
         cell: sizes.cell(x, y)?,
-        tick: up_to(999_999, tick)?,
+        tick: up_to(LAST_SPLIT_TICK, tick)?,
     })
 }
 
@@ -97,7 +98,7 @@ fn swap(rest: &[u8], sizes: &Sizes) -> Result<Line, LineFault>
         j: below(sizes.agents, j)?,
         from: sizes.cell(from_x, from_y)?,
         to: sizes.cell(to_x, to_y)?,
-        tick: up_to(999_999, tick)?,
+        tick: up_to(LAST_SPLIT_TICK, tick)?,
     })
 }
 
@@ -155,7 +156,7 @@ fn label(word: &LabelWord) -> Result<Label, LineFault>
 {
     match *word {
         LabelWord::Never => Ok(Label::Never),
-        LabelWord::Ticks(ticks) => Ok(Label::Ticks(from_one_to(9_999_999, ticks)?)),
+        LabelWord::Ticks(ticks) => Ok(Label::Ticks(from_one_to(GREATEST_COST, ticks)?)),
     }
 }
 
@@ -168,7 +169,7 @@ fn entry(rest: &[u8], sizes: &Sizes) -> Result<Line, LineFault>
     let word = label_word(rest)?;
     Ok(Line::At(Entry {
         cell: sizes.cell(x, y)?,
-        tick: up_to(9_999_999, tick)?,
+        tick: up_to(GREATEST_COST, tick)?,
         label: label(&word)?,
     }))
 }
