@@ -6,6 +6,7 @@ use Rattle.std.proofs.lemmas.Fmt.{decimal_is_IsNumeral}
 use Rattle.std.specs.Option.{option_map_or}
 use Rattle.std.specs.Str.{bytes_eq}
 use Rattle.std.proofs.lemmas.Slice.Eq.{bytes_eq-Decides}
+use Rattle.mapf_model.specs.declared.conflict.Conflict.TheVariants as conflicts
 use Rattle.mapf_model.specs.declared.item.Claim.{Claim}
 use Rattle.mapf_model.specs.declared.item.Claim.TheVariants as claims
 use Rattle.mapf_model.specs.declared.label.Label.{Label}
@@ -252,8 +253,8 @@ cell_sizes_again sizes cell inside = cell_again sizes.width sizes.height cell (o
 agent_fits : (sizes : Sizes) (i : ℕ) → i < sizes.agents → i < 2 ^ 64
 agent_fits sizes i h = omega (arith, sizes.few.1)
 
-vertex_again : (sizes : Sizes) (i j cell tick : ℕ) → IsTreeLine (grid_of sizes.width sizes.height) sizes.agents (lines.Vertex i j cell tick)
-    → read_vertex sizes (field 32 i ++ (field 32 j ++ (pair sizes.width cell ++ field 32 tick))) ≡ Ok (lines.Vertex i j cell tick)
+vertex_again : (sizes : Sizes) (i j cell tick : ℕ) → IsTreeLine (grid_of sizes.width sizes.height) sizes.agents (lines.Split (conflicts.Vertex i j cell tick))
+    → read_vertex sizes (field 32 i ++ (field 32 j ++ (pair sizes.width cell ++ field 32 tick))) ≡ Ok (lines.Split (conflicts.Vertex i j cell tick))
 unfolding read_vertex
 vertex_again sizes i j cell tick (first, second, inside, early) =
     let end = field 32 tick in
@@ -266,8 +267,8 @@ vertex_again sizes i j cell tick (first, second, inside, early) =
     (then_ok _ _ _ _ (cell_sizes_again sizes cell inside)
     (then_ok _ _ _ _ (range_again 0 999999 tick (omega arith) early) refl)))))))
 
-swap_again : (sizes : Sizes) (i j from to tick : ℕ) → IsTreeLine (grid_of sizes.width sizes.height) sizes.agents (lines.Swap i j from to tick)
-    → read_swap sizes (field 32 i ++ (field 32 j ++ (pair sizes.width from ++ (pair sizes.width to ++ field 32 tick)))) ≡ Ok (lines.Swap i j from to tick)
+swap_again : (sizes : Sizes) (i j from to tick : ℕ) → IsTreeLine (grid_of sizes.width sizes.height) sizes.agents (lines.Split (conflicts.Swap i j from to tick))
+    → read_swap sizes (field 32 i ++ (field 32 j ++ (pair sizes.width from ++ (pair sizes.width to ++ field 32 tick)))) ≡ Ok (lines.Split (conflicts.Swap i j from to tick))
 unfolding read_swap
 swap_again sizes i j from to tick (first, second, here, there, early) =
     let end = field 32 tick in
@@ -347,8 +348,8 @@ unfolding read_tree_line
 tree_line_again sizes lines.Title is = absurd is
 tree_line_again sizes (lines.Agents agents) is = absurd is
 tree_line_again sizes (lines.Claim claim) is = absurd is
-tree_line_again sizes (lines.Vertex i j cell tick) is = vertex_again sizes i j cell tick is
-tree_line_again sizes (lines.Swap i j from to tick) is = swap_again sizes i j from to tick is
+tree_line_again sizes (lines.Split (conflicts.Vertex i j cell tick)) is = vertex_again sizes i j cell tick is
+tree_line_again sizes (lines.Split (conflicts.Swap i j from to tick)) is = swap_again sizes i j from to tick is
 tree_line_again sizes (lines.Leaf blocks) is = leaf_again sizes blocks is
 tree_line_again sizes (lines.Clash i j) is = clash_again sizes i j is.0 is.1
 tree_line_again sizes (lines.Agent agent entries) is = agent_again sizes agent entries is.0 is.1 is.2
@@ -382,8 +383,7 @@ line_again dues.Title line is = ap (λ l. read_title (words 1 l)) is ∙ title_a
 line_again dues.Agents (lines.Agents n) is = agents_again n is
 line_again dues.Agents lines.Title is = absurd is
 line_again dues.Agents (lines.Claim claim) is = absurd is
-line_again dues.Agents (lines.Vertex i j cell tick) is = absurd is
-line_again dues.Agents (lines.Swap i j from to tick) is = absurd is
+line_again dues.Agents (lines.Split conflict) is = absurd is
 line_again dues.Agents (lines.Leaf blocks) is = absurd is
 line_again dues.Agents (lines.Clash i j) is = absurd is
 line_again dues.Agents (lines.Agent agent entries) is = absurd is
@@ -392,8 +392,7 @@ line_again dues.Agents lines.End is = absurd is
 line_again dues.Claim (lines.Claim claim) is = claim_again claim is
 line_again dues.Claim lines.Title is = absurd is
 line_again dues.Claim (lines.Agents n) is = absurd is
-line_again dues.Claim (lines.Vertex i j cell tick) is = absurd is
-line_again dues.Claim (lines.Swap i j from to tick) is = absurd is
+line_again dues.Claim (lines.Split conflict) is = absurd is
 line_again dues.Claim (lines.Leaf blocks) is = absurd is
 line_again dues.Claim (lines.Clash i j) is = absurd is
 line_again dues.Claim (lines.Agent agent entries) is = absurd is

@@ -1,8 +1,8 @@
 -- Nodes in a certificate's text.
-use Rattle.std.proofs.Common.{◌≡◌, ℕ, ◌<◌, ◌≤◌, List, [], ◌∷◌, ◌++◌, length, get_or, AllPairs, Option, Bool, false, suc, zero, refl, sym, ap, subst, ◌∙◌, arith, append_assoc, inl}
+use Rattle.std.proofs.Common.{◌≡◌, ℕ, ◌<◌, ◌≤◌, List, [], ◌∷◌, ◌++◌, length, get_or, AllPairs, Option, Bool, false, suc, zero, sym, ap, subst, ◌∙◌, arith, append_assoc, inl}
 use Rattle.std.proofs.lemmas.List.{append-nil}
 use Rattle.std.proofs.KnownBytes.{Consumes-nil}
-use Rattle.mapf_model.specs.declared.conflict.Conflict.TheVariants as conflicts
+use Rattle.mapf_model.specs.declared.conflict.Conflict.{Conflict}
 use Rattle.mapf_model.specs.Blocks.{LabelBlock}
 use Rattle.mapf_model.specs.Printed.{AreBlocksInRange}
 use Rattle.mapf_model.specs.Tree.{Node, SplitNode, LeafNode, ClashNode}
@@ -13,7 +13,7 @@ use Rattle.mapf_certificate.specs.declared.sizes.Sizes.{Sizes}
 use Rattle.mapf_certificate.specs.declared.tree_line.Due.TheVariants as dues
 use Rattle.mapf_certificate.specs.Buffered.{Buffered}
 use Rattle.mapf_certificate.specs.Lines.{IsLine}
-use Rattle.mapf_certificate.specs.Certificates.{line_text, blocks_text, block_text, node_text, IsNode}
+use Rattle.mapf_certificate.specs.Certificates.{line_text, blocks_text, block_text, first_line, blocks_of, node_text, IsNode}
 use Rattle.mapf_certificate.specs.CertReading.{CompletesNode}
 use Rattle.mapf_certificate.specs.Window.{BeginsWith, Fails, IsTextFault}
 use Rattle.mapf_certificate.proofs.PlainLines.{same_line}
@@ -22,18 +22,9 @@ use Rattle.mapf_certificate.proofs.LineWindows.{IsNext}
 use Rattle.mapf_certificate.proofs.Sequences.{AreApart, same_list}
 use Rattle.mapf_certificate.proofs.Blocks.{grid_for, BlockInRange, Rises, NextBlocks, blocks_apart}
 
--- the first line of a node, and the lines after it
-abbrev pub first_line : Node → Line
-first_line (SplitNode (conflicts.Vertex i j cell tick)) = lines.Vertex i j cell tick
-first_line (SplitNode (conflicts.Swap i j from to tick)) = lines.Swap i j from to tick
-first_line (LeafNode blocks) = lines.Leaf (length blocks)
-first_line (ClashNode i j) = lines.Clash i j
-
+-- the lines after the first of a node
 abbrev pub after_first : ℕ → Node → List ℕ
-after_first width (SplitNode (conflicts.Vertex i j cell tick)) = []
-after_first width (SplitNode (conflicts.Swap i j from to tick)) = []
-after_first width (LeafNode blocks) = blocks_text width blocks
-after_first width (ClashNode i j) = []
+after_first width node = blocks_text width (blocks_of node)
 
 abbrev pub NodeInRange : Sizes → Node → Type 0
 NodeInRange sizes = IsNode (grid_for sizes) sizes.agents
@@ -42,10 +33,7 @@ abbrev pub NextNode : Sizes → List ℕ → Type 0
 NextNode sizes = BeginsWith Node (NodeInRange sizes) (node_text sizes.width)
 
 pub node_cut : (width : ℕ) (node : Node) (s : List ℕ) → node_text width node ++ s ≡ line_text width (first_line node) ++ (after_first width node ++ s)
-node_cut width (SplitNode (conflicts.Vertex i j cell tick)) s = refl
-node_cut width (SplitNode (conflicts.Swap i j from to tick)) s = refl
-node_cut width (LeafNode blocks) s = append_assoc (line_text width (lines.Leaf (length blocks))) (blocks_text width blocks) s
-node_cut width (ClashNode i j) s = refl
+node_cut width node s = append_assoc (line_text width (first_line node)) (after_first width node) s
 
 -- agents that rise are no fewer than their places
 climbs : (blocks : List LabelBlock) → AllPairs Rises blocks → (k : ℕ) (d : LabelBlock) → k < length blocks → k ≤ (get_or blocks k d).agent
@@ -64,8 +52,7 @@ few_blocks sizes (block ∷ blocks) are =
     omega arith
 
 pub node_line : (sizes : Sizes) (node : Node) → NodeInRange sizes node → IsLine (dues.Tree sizes) (first_line node)
-node_line sizes (SplitNode (conflicts.Vertex i j cell tick)) is = is
-node_line sizes (SplitNode (conflicts.Swap i j from to tick)) is = is
+node_line sizes (SplitNode conflict) is = is
 node_line sizes (LeafNode blocks) is = few_blocks sizes blocks is
 node_line sizes (ClashNode i j) is = is
 
@@ -95,22 +82,15 @@ nodes_apart sizes = record {
 }
   where
     by : (a b : Node) (s t : List ℕ) → NodeInRange sizes a → NodeInRange sizes b → first_line a ≡ first_line b → after_first sizes.width a ++ s ≡ after_first sizes.width b ++ t → (a ≡ b) × (s ≡ t)
-    by (SplitNode (conflicts.Vertex i j cell tick)) (SplitNode (conflicts.Vertex i' j' cell' tick')) s t p q e rest = (cc, rest)
-    by (SplitNode (conflicts.Vertex i j cell tick)) (SplitNode (conflicts.Swap i' j' from to tick')) s t p q e rest = cc
-    by (SplitNode (conflicts.Vertex i j cell tick)) (LeafNode blocks) s t p q e rest = cc
-    by (SplitNode (conflicts.Vertex i j cell tick)) (ClashNode i' j') s t p q e rest = cc
-    by (SplitNode (conflicts.Swap i j from to tick)) (SplitNode (conflicts.Vertex i' j' cell' tick')) s t p q e rest = cc
-    by (SplitNode (conflicts.Swap i j from to tick)) (SplitNode (conflicts.Swap i' j' from' to' tick')) s t p q e rest = (cc, rest)
-    by (SplitNode (conflicts.Swap i j from to tick)) (LeafNode blocks) s t p q e rest = cc
-    by (SplitNode (conflicts.Swap i j from to tick)) (ClashNode i' j') s t p q e rest = cc
-    by (LeafNode blocks) (SplitNode (conflicts.Vertex i' j' cell' tick')) s t p q e rest = cc
-    by (LeafNode blocks) (SplitNode (conflicts.Swap i' j' from' to' tick')) s t p q e rest = cc
+    by (SplitNode conflict) (SplitNode conflict') s t p q e rest = (cc, rest)
+    by (SplitNode conflict) (LeafNode blocks) s t p q e rest = cc
+    by (SplitNode conflict) (ClashNode i j) s t p q e rest = cc
+    by (LeafNode blocks) (SplitNode conflict) s t p q e rest = cc
     by (LeafNode blocks) (LeafNode blocks') s t p q e rest =
         let (same, more) = same_list (BlockInRange sizes) (block_text sizes.width) (blocks_apart sizes) blocks blocks' s t p.each q.each (let many : length blocks ≡ length blocks' = cc in many) rest in
         (ap LeafNode same, more)
     by (LeafNode blocks) (ClashNode i' j') s t p q e rest = cc
-    by (ClashNode i j) (SplitNode (conflicts.Vertex i' j' cell' tick')) s t p q e rest = cc
-    by (ClashNode i j) (SplitNode (conflicts.Swap i' j' from' to' tick')) s t p q e rest = cc
+    by (ClashNode i j) (SplitNode conflict) s t p q e rest = cc
     by (ClashNode i j) (LeafNode blocks) s t p q e rest = cc
     by (ClashNode i j) (ClashNode i' j') s t p q e rest = (cc, rest)
 
@@ -119,8 +99,7 @@ pub blocks_due : (sizes : Sizes) (count : ℕ) (t : List ℕ) → count ≤ size
 blocks_due sizes count t few begins = by (node_fits sizes (lines.Leaf count) t few begins)
   where
     by : (node : Node) × (lines.Leaf count ≡ first_line node) × NodeInRange sizes node × (rest : List ℕ) × (t ≡ after_first sizes.width node ++ rest) → NextBlocks sizes count t
-    by (SplitNode (conflicts.Vertex i j cell tick), same, is, rest, text) = cc
-    by (SplitNode (conflicts.Swap i j from to tick), same, is, rest, text) = cc
+    by (SplitNode conflict, same, is, rest, text) = cc
     by (LeafNode blocks, same, is, rest, text) =
         let many : length blocks ≡ count = cc in
         record { value = blocks; is = record { many = many; each = is.each; rising = is.rising }; rest = rest; spelled = text }
@@ -131,7 +110,7 @@ pub one_line : (sizes : Sizes) (had : Option (List ℕ)) (x : Buffered) (line : 
 one_line sizes had x line node same none is = record {
   in_range = is;
   taken = [];
-  spelled = ap (λ l. line_text sizes.width l ++ []) same ∙ sym (ap (λ l. line_text sizes.width (first_line node) ++ l) (ap (λ l. l ++ []) none)) ∙ sym (node_cut sizes.width node []) ∙ append-nil (node_text sizes.width node);
+  spelled = ap (λ l. line_text sizes.width l ++ []) same ∙ ap (λ l. line_text sizes.width (first_line node) ++ l) (sym none);
   window = record { pulled = []; source = Consumes-nil had; same = append-nil x.bytes; within = omega arith };
 }
 
@@ -152,10 +131,8 @@ begins_no_node sizes had failed x line fault is works ranged never = Fails-text 
   wrong = inl (λ more begins. let (node, same, in_range, rest, text) = node_fits sizes line ((x.bytes ++ []) ++ more) ranged begins in never node same);
 })
 
--- the first line of a node is one of four kinds
-pub first_kinds : (line : Line) → ((i j cell tick : ℕ) → line ≡ lines.Vertex i j cell tick → ⊥) → ((i j from to tick : ℕ) → line ≡ lines.Swap i j from to tick → ⊥) → ((count : ℕ) → line ≡ lines.Leaf count → ⊥) → ((i j : ℕ) → line ≡ lines.Clash i j → ⊥)
-    → (node : Node) → line ≡ first_line node → ⊥
-first_kinds line vertex swap leaf clash (SplitNode (conflicts.Vertex i j cell tick)) e = vertex i j cell tick e
-first_kinds line vertex swap leaf clash (SplitNode (conflicts.Swap i j from to tick)) e = swap i j from to tick e
-first_kinds line vertex swap leaf clash (LeafNode blocks) e = leaf (length blocks) e
-first_kinds line vertex swap leaf clash (ClashNode i j) e = clash i j e
+-- the first line of a node is one of three kinds
+pub first_kinds : (line : Line) → ((conflict : Conflict) → line ≡ lines.Split conflict → ⊥) → ((count : ℕ) → line ≡ lines.Leaf count → ⊥) → ((i j : ℕ) → line ≡ lines.Clash i j → ⊥) → (node : Node) → line ≡ first_line node → ⊥
+first_kinds line split leaf clash (SplitNode conflict) e = split conflict e
+first_kinds line split leaf clash (LeafNode blocks) e = leaf (length blocks) e
+first_kinds line split leaf clash (ClashNode i j) e = clash i j e

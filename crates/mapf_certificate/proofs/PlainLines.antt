@@ -6,6 +6,7 @@ use Rattle.std.proofs.lemmas.Str.Parse.{digit_from_value}
 use Rattle.std.proofs.lemmas.Fmt.{decimal_is_IsNumeral, length-decimal-le}
 use Rattle.std.proofs.lemmas.List.Folds.{list_all-append}
 use Rattle.std.proofs.lemmas.Bool.Decides.{nat_tests}
+use Rattle.mapf_model.specs.declared.conflict.Conflict.TheVariants as conflicts
 use Rattle.mapf_model.specs.declared.item.Claim.TheVariants as claims
 use Rattle.mapf_model.specs.declared.label.Label.{Label}
 use Rattle.mapf_model.specs.declared.label.Label.TheVariants as labels
@@ -67,14 +68,14 @@ plain_tree : (sizes : Sizes) (line : Line) → IsTreeLine (grid_of sizes.width s
 plain_tree sizes lines.Title is = absurd is
 plain_tree sizes (lines.Agents agents) is = absurd is
 plain_tree sizes (lines.Claim claim) is = absurd is
-plain_tree sizes (lines.Vertex i j cell tick) (first, second, inside, early) =
+plain_tree sizes (lines.Split (conflicts.Vertex i j cell tick)) (first, second, inside, early) =
     plain-more 31 64 _ (omega arith)
     (plain-append 6 25 _ _ (plain-word (codes "vertex") 6 refl refl)
     (plain-append 4 21 _ _ (plain-field 32 3 i refl (omega arith) (omega (arith, sizes.few.1)) (omega (arith, sizes.few.1)))
     (plain-append 4 17 _ _ (plain-field 32 3 j refl (omega arith) (omega (arith, sizes.few.1)) (omega (arith, sizes.few.1)))
     (plain-append 10 7 _ _ (plain-pair sizes.width sizes.height cell sizes.narrow.0 sizes.narrow.1 sizes.low.1 inside)
     (plain-field 32 6 tick refl (omega arith) (omega arith) (omega arith))))))
-plain_tree sizes (lines.Swap i j from to tick) (first, second, here, there, early) =
+plain_tree sizes (lines.Split (conflicts.Swap i j from to tick)) (first, second, here, there, early) =
     plain-more 39 64 _ (omega arith)
     (plain-append 4 35 _ _ (plain-word (codes "swap") 4 refl refl)
     (plain-append 4 31 _ _ (plain-field 32 3 i refl (omega arith) (omega (arith, sizes.few.1)) (omega (arith, sizes.few.1)))
@@ -106,8 +107,7 @@ plain_agents (lines.Agents n) (low, high) =
     plain-more 10 64 _ (omega arith) (plain-append 6 4 _ _ (plain-word (codes "agents") 6 refl refl) (plain-field 32 3 n refl (omega arith) (omega arith) (omega arith)))
 plain_agents lines.Title is = absurd is
 plain_agents (lines.Claim claim) is = absurd is
-plain_agents (lines.Vertex i j cell tick) is = absurd is
-plain_agents (lines.Swap i j from to tick) is = absurd is
+plain_agents (lines.Split conflict) is = absurd is
 plain_agents (lines.Leaf blocks) is = absurd is
 plain_agents (lines.Clash i j) is = absurd is
 plain_agents (lines.Agent agent entries) is = absurd is
@@ -120,8 +120,7 @@ plain_claim (lines.Claim (claims.Cost cost)) is =
     plain-more 21 64 _ (omega arith) (plain-append 10 11 _ _ (plain-word (codes "claim cost") 10 refl refl) (plain-field 32 10 cost refl (omega arith) (omega arith) (omega arith)))
 plain_claim lines.Title is = absurd is
 plain_claim (lines.Agents n) is = absurd is
-plain_claim (lines.Vertex i j cell tick) is = absurd is
-plain_claim (lines.Swap i j from to tick) is = absurd is
+plain_claim (lines.Split conflict) is = absurd is
 plain_claim (lines.Leaf blocks) is = absurd is
 plain_claim (lines.Clash i j) is = absurd is
 plain_claim (lines.Agent agent entries) is = absurd is
@@ -170,8 +169,8 @@ words_some width lines.Title = omega arith
 words_some width (lines.Agents agents) = some_of (codes "agents") (field 32 agents) (omega arith)
 words_some width (lines.Claim (claims.Cost cost)) = some_of (codes "claim cost") (field 32 cost) (omega arith)
 words_some width (lines.Claim claims.Impossible) = omega arith
-words_some width (lines.Vertex i j cell tick) = some_of (codes "vertex") (field 32 i ++ (field 32 j ++ (pair width cell ++ field 32 tick))) (omega arith)
-words_some width (lines.Swap i j from to tick) = some_of (codes "swap") (field 32 i ++ (field 32 j ++ (pair width from ++ (pair width to ++ field 32 tick)))) (omega arith)
+words_some width (lines.Split (conflicts.Vertex i j cell tick)) = some_of (codes "vertex") (field 32 i ++ (field 32 j ++ (pair width cell ++ field 32 tick))) (omega arith)
+words_some width (lines.Split (conflicts.Swap i j from to tick)) = some_of (codes "swap") (field 32 i ++ (field 32 j ++ (pair width from ++ (pair width to ++ field 32 tick)))) (omega arith)
 words_some width (lines.Leaf blocks) = some_of (codes "leaf") (field 32 blocks) (omega arith)
 words_some width (lines.Clash i j) = some_of (codes "clash") (field 32 i ++ field 32 j) (omega arith)
 words_some width (lines.Agent agent entries) = some_of (codes "agent") (field 32 agent ++ field 32 entries) (omega arith)

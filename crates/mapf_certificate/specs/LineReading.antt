@@ -3,6 +3,7 @@ use Rattle.std.specs.Prelude.{ℕ, ◌^◌, ◌-◌, List, codes, Result, Ok, Er
 use Rattle.std.specs.Str.{bytes_eq}
 use Rattle.std.specs.Option.{option_map_or}
 use Rattle.mapf_model.specs.Limits.{most_agents, greatest_cost, greatest_sum, last_split_tick}
+use Rattle.mapf_model.specs.declared.conflict.Conflict.TheVariants as conflicts
 use Rattle.mapf_model.specs.declared.item.Claim.TheVariants as claims
 use Rattle.mapf_model.specs.declared.label.Label.{Label}
 use Rattle.mapf_model.specs.declared.label.Label.TheVariants as labels
@@ -50,7 +51,7 @@ read_vertex sizes bs = do
   second ← below sizes.agents j.0
   cell ← read_cell sizes.width sizes.height at.0 at.1
   ticks ← in_range 0 last_split_tick tick
-  Ok (lines.Vertex first second cell ticks)
+  Ok (lines.Split (conflicts.Vertex first second cell ticks))
 
 -- a split on a swapping conflict
 unfoldable pub read_swap : Sizes → List ℕ → Result Line LineFault
@@ -65,7 +66,7 @@ read_swap sizes bs = do
   from ← read_cell sizes.width sizes.height here.0 here.1
   to ← read_cell sizes.width sizes.height there.0 there.1
   ticks ← in_range 0 last_split_tick tick
-  Ok (lines.Swap first second from to ticks)
+  Ok (lines.Split (conflicts.Swap first second from to ticks))
 
 -- a leaf
 unfoldable pub read_leaf : Sizes → List ℕ → Result Line LineFault

@@ -2,6 +2,7 @@
 use Rattle.std.specs.Prelude.{◌≡◌, ◌≤◌, ◌<◌, ◌==◌, Bool, true, not, ℕ, ◌^◌, List, [], ◌∷◌, ◌++◌, codes, ⊤}
 use Rattle.std.specs.List.{list_all}
 use Rattle.mapf_model.specs.declared.item.Claim.TheVariants as claims
+use Rattle.mapf_model.specs.declared.conflict.Conflict.{Conflict}
 use Rattle.mapf_model.specs.declared.conflict.Conflict.TheVariants as conflicts
 use Rattle.mapf_model.specs.declared.label.Label.{Label}
 use Rattle.mapf_model.specs.declared.label.Label.TheVariants as labels
@@ -19,14 +20,18 @@ abbrev pub label_words : Label → List ℕ
 label_words (labels.Ticks ticks) = field 32 ticks
 label_words labels.Never = codes " inf"
 
+-- the line of a split, without its LF
+abbrev pub conflict_words : ℕ → Conflict → List ℕ
+conflict_words width (conflicts.Vertex i j cell tick) = codes "vertex" ++ (field 32 i ++ (field 32 j ++ (pair width cell ++ field 32 tick)))
+conflict_words width (conflicts.Swap i j from to tick) = codes "swap" ++ (field 32 i ++ (field 32 j ++ (pair width from ++ (pair width to ++ field 32 tick))))
+
 -- a line without its LF, on a grid of this width
 abbrev pub words : ℕ → Line → List ℕ
 words width lines.Title = codes "mapf-cert 1"
 words width (lines.Agents agents) = codes "agents" ++ field 32 agents
 words width (lines.Claim (claims.Cost cost)) = codes "claim cost" ++ field 32 cost
 words width (lines.Claim claims.Impossible) = codes "claim impossible"
-words width (lines.Vertex i j cell tick) = codes "vertex" ++ (field 32 i ++ (field 32 j ++ (pair width cell ++ field 32 tick)))
-words width (lines.Swap i j from to tick) = codes "swap" ++ (field 32 i ++ (field 32 j ++ (pair width from ++ (pair width to ++ field 32 tick))))
+words width (lines.Split conflict) = conflict_words width conflict
 words width (lines.Leaf blocks) = codes "leaf" ++ field 32 blocks
 words width (lines.Clash i j) = codes "clash" ++ (field 32 i ++ field 32 j)
 words width (lines.Agent agent entries) = codes "agent" ++ (field 32 agent ++ field 32 entries)
@@ -46,8 +51,7 @@ abbrev pub IsTreeLine : GridMap → ℕ → Line → Type 0
 IsTreeLine grid agents lines.Title = ⊥
 IsTreeLine grid agents (lines.Agents count) = ⊥
 IsTreeLine grid agents (lines.Claim claim) = ⊥
-IsTreeLine grid agents (lines.Vertex i j cell tick) = IsConflictInRange grid agents (conflicts.Vertex i j cell tick)
-IsTreeLine grid agents (lines.Swap i j from to tick) = IsConflictInRange grid agents (conflicts.Swap i j from to tick)
+IsTreeLine grid agents (lines.Split conflict) = IsConflictInRange grid agents conflict
 IsTreeLine grid agents (lines.Leaf blocks) = blocks ≤ agents
 IsTreeLine grid agents (lines.Clash i j) = (i < agents) × (j < agents)
 IsTreeLine grid agents (lines.Agent agent entries) = (agent < agents) × (1 ≤ entries) × (entries < 2 ^ 64)

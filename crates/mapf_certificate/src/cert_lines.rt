@@ -302,20 +302,7 @@ fn item_of<S: Source>(
     ensures fails { IfErr result (Fails (S.remaining source.old) (S.remaining source.new) (S.has_failed source.new) lines.old.buffer (λ text. BeginsWith Node (IsNode (grid_of sizes.now.width sizes.now.height) sizes.now.agents) (node_text sizes.now.width) (line_text sizes.now.width line.now ++ text))) }
 {
     match *line {
-        Line::Vertex { i, j, cell, tick } => Ok(Item::Vertex { i, j, cell, tick }),
-        Line::Swap {
-            i,
-            j,
-            from,
-            to,
-            tick,
-        } => Ok(Item::Swap {
-            i,
-            j,
-            from,
-            to,
-            tick,
-        }),
+        Line::Split(conflict) => Ok(Item::split(conflict)),
         Line::Leaf(count) => Ok(Item::Leaf(lines.blocks(alloc, source, sizes, count)?)),
         Line::Clash { i, j } => Ok(Item::Clash { i, j }),
         _ => Err(lines.misfit()),

@@ -1,7 +1,7 @@
 ghost use Rattle.std.specs.Prelude.{◌≡◌, ◌<◌, ◌++◌, OnOk, IfOk, map};
 ghost use Rattle.std.specs.List.{flat_map};
 ghost use Rattle.mapf_model.specs.Tree.{node_of};
-ghost use Rattle.mapf_certificate.specs.Certificates.{entries_text, blocks_text, item_text, header_text, cert_text};
+ghost use Rattle.mapf_certificate.specs.Certificates.{entries_text, blocks_text, first_line, blocks_of, item_text, header_text, cert_text};
 
 use crate::cert::Cert;
 use crate::line::Line;
@@ -34,42 +34,31 @@ fn push_blocks(out: &mut Vec<u8>, blocks: &[Block], width: u32) -> Result<(), Al
     Ok(())
 }
 
+fn first_line(item: &Item) -> Line
+    ensures { result ≡ first_line (node_of item.now) }
+{
+    match item {
+        Item::Vertex { .. } | Item::Swap { .. } => Line::Split(item.conflict().unwrap()),
+        Item::Leaf(blocks) => Line::Leaf(blocks.len() as u64),
+        Item::Clash { i, j } => Line::Clash { i: *i, j: *j },
+    }
+}
+
+fn blocks_of(item: &Item) -> &[Block]
+    ensures { result.now ≡ blocks_of (node_of item.now) }
+{
+    match item {
+        Item::Leaf(blocks) => blocks,
+        _ => &[],
+    }
+}
+
 fn push_item(out: &mut Vec<u8>, item: &Item, width: u32) -> Result<(), AllocError>
     requires { 0 < width }
     ensures { OnOk result (out.new.items ≡ out.old.items ++ item_text width item.now) }
 {
-    match item {
-        Item::Vertex { i, j, cell, tick } => {
-            let line = Line::Vertex {
-                i: *i,
-                j: *j,
-                cell: *cell,
-                tick: *tick,
-            };
-            push_line(out, &line, width)
-        }
-        Item::Swap {
-            i,
-            j,
-            from,
-            to,
-            tick,
-        } => {
-            let line = Line::Swap {
-                i: *i,
-                j: *j,
-                from: *from,
-                to: *to,
-                tick: *tick,
-            };
-            push_line(out, &line, width)
-        }
-        Item::Leaf(blocks) => {
-            push_line(out, &Line::Leaf(blocks.len() as u64), width)?;
-            push_blocks(out, blocks, width)
-        }
-        Item::Clash { i, j } => push_line(out, &Line::Clash { i: *i, j: *j }, width),
-    }
+    push_line(out, &first_line(item), width)?;
+    push_blocks(out, blocks_of(item), width)
 }
 
 fn push_items(out: &mut Vec<u8>, items: &[Item], width: u32) -> Result<(), AllocError>

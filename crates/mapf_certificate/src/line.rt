@@ -1,4 +1,4 @@
-use mapf_model::{Cell, Claim, Entry, Tick};
+use mapf_model::{Claim, Conflict, Entry};
 
 /// A line of a certificate.
 #[derive(Clone, Copy)]
@@ -6,28 +6,10 @@ pub enum Line {
     Title,
     Agents(u32),
     Claim(Claim),
-    Vertex {
-        i: u32,
-        j: u32,
-        cell: Cell,
-        tick: Tick,
-    },
-    Swap {
-        i: u32,
-        j: u32,
-        from: Cell,
-        to: Cell,
-        tick: Tick,
-    },
+    Split(Conflict),
     Leaf(u64),
-    Clash {
-        i: u32,
-        j: u32,
-    },
-    Agent {
-        agent: u32,
-        entries: u64,
-    },
+    Clash { i: u32, j: u32 },
+    Agent { agent: u32, entries: u64 },
     At(Entry),
     End,
 }

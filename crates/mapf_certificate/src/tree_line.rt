@@ -6,7 +6,7 @@ use crate::field::{field, last, pair, strip};
 use crate::line::{Line, LineFault};
 use crate::sizes::{Sizes, below, from_one_to, up_to, within};
 use mapf_model::limits::{GREATEST_COST, GREATEST_SUM, LAST_SPLIT_TICK, MOST_AGENTS};
-use mapf_model::{Claim, Entry, Label};
+use mapf_model::{Claim, Conflict, Entry, Label};
 
 /// Which line of a certificate is due.
 #[derive(Clone, Copy)]
@@ -76,12 +76,12 @@ fn vertex(rest: &[u8], sizes: &Sizes) -> Result<Line, LineFault>
     let (j, rest) = field(b' ', rest)?;
     let (x, y, rest) = pair(rest)?;
     let tick = last(b' ', rest)?;
-    Ok(Line::Vertex {
+    Ok(Line::Split(Conflict::Vertex {
         i: below(sizes.agents, i)?,
         j: below(sizes.agents, j)?,
         cell: sizes.cell(x, y)?,
         tick: up_to(LAST_SPLIT_TICK, tick)?,
-    })
+    }))
 }
 
 #[tactic(auto, unfolding(crate::specs::LineReading::read_swap))]
@@ -93,13 +93,13 @@ fn swap(rest: &[u8], sizes: &Sizes) -> Result<Line, LineFault>
     let (from_x, from_y, rest) = pair(rest)?;
     let (to_x, to_y, rest) = pair(rest)?;
     let tick = last(b' ', rest)?;
-    Ok(Line::Swap {
+    Ok(Line::Split(Conflict::Swap {
         i: below(sizes.agents, i)?,
         j: below(sizes.agents, j)?,
         from: sizes.cell(from_x, from_y)?,
         to: sizes.cell(to_x, to_y)?,
         tick: up_to(LAST_SPLIT_TICK, tick)?,
-    })
+    }))
 }
 
 #[tactic(auto, unfolding(crate::specs::LineReading::read_leaf))]
