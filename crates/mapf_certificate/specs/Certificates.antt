@@ -8,12 +8,12 @@ use Rattle.mapf_model.specs.Blocks.{LabelBlock}
 use Rattle.mapf_model.specs.Grid.{GridMap, IsGridMap}
 use Rattle.mapf_model.specs.Printed.{IsConflictInRange, AreBlocksInRange, IsClaimInRange, IsTreeInRange}
 use Rattle.mapf_model.specs.Tree.{ConstraintTree, Node, SplitNode, LeafNode, ClashNode, node_of, nodes_of, nodes_of_all}
-use Rattle.mapf_certificate.specs.declared.line.Line.{Line}
-use Rattle.mapf_certificate.specs.declared.line.Line.TheVariants as lines
+use Rattle.mapf_certificate.specs.declared.line.CertLine.{CertLine}
+use Rattle.mapf_certificate.specs.declared.line.CertLine.TheVariants as lines
 use Rattle.mapf_certificate.specs.Lines.{words, IsAgentCount}
 
 -- a line with its LF
-abbrev pub line_text : ℕ → Line → List ℕ
+abbrev pub line_text : ℕ → CertLine → List ℕ
 line_text width line = words width line ++ (10 ∷ [])
 
 -- the line of an entry
@@ -33,7 +33,7 @@ abbrev pub blocks_text : ℕ → List LabelBlock → List ℕ
 blocks_text width blocks = flat_map (block_text width) blocks
 
 -- the first line of a node
-abbrev pub first_line : Node → Line
+abbrev pub first_line : Node → CertLine
 first_line (SplitNode conflict) = lines.Split conflict
 first_line (LeafNode blocks) = lines.Leaf (length blocks)
 first_line (ClashNode i j) = lines.Clash i j

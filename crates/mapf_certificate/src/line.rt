@@ -2,7 +2,7 @@ use mapf_model::{Claim, Conflict, Entry};
 
 /// A line of a certificate.
 #[derive(Clone, Copy)]
-pub enum Line {
+pub enum CertLine {
     Title,
     Agents(u32),
     Claim(Claim),

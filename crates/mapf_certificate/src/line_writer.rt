@@ -3,7 +3,7 @@ ghost use Rattle.mapf_certificate.specs.Numbers.{field, pair};
 ghost use Rattle.mapf_certificate.specs.Lines.{words, conflict_words, label_words};
 ghost use Rattle.mapf_certificate.specs.Certificates.{line_text};
 
-use crate::line::Line;
+use crate::line::CertLine;
 use itoa::Buffer;
 use mapf_model::{Cell, Claim, Conflict, Entry, Label};
 use std::alloc::AllocError;
@@ -53,7 +53,7 @@ fn push_label(out: &mut Vec<u8>, label: Label) -> Result<(), AllocError>
 
 fn push_entry(out: &mut Vec<u8>, entry: &Entry, width: u32) -> Result<(), AllocError>
     requires { 0 < width }
-    ensures { OnOk result (out.new.items ≡ out.old.items ++ words width (Line.At entry.now)) }
+    ensures { OnOk result (out.new.items ≡ out.old.items ++ words width (CertLine.At entry.now)) }
 {
     out.extend_from_slice(b"at")?;
     push_cell(out, entry.cell, width)?;
@@ -86,26 +86,26 @@ fn push_conflict(out: &mut Vec<u8>, conflict: &Conflict, width: u32) -> Result<(
     }
 }
 
-fn push_words(out: &mut Vec<u8>, line: &Line, width: u32) -> Result<(), AllocError>
+fn push_words(out: &mut Vec<u8>, line: &CertLine, width: u32) -> Result<(), AllocError>
     requires { 0 < width }
     ensures { OnOk result (out.new.items ≡ out.old.items ++ words width line.now) }
 {
     match *line {
-        Line::Title => out.extend_from_slice(b"mapf-cert 1"),
-        Line::Agents(agents) => push_one(out, b"agents", agents as u64),
-        Line::Claim(Claim::Cost(cost)) => push_one(out, b"claim cost", cost),
-        Line::Claim(Claim::Impossible) => out.extend_from_slice(b"claim impossible"),
-        Line::Split(conflict) => push_conflict(out, &conflict, width),
-        Line::Leaf(blocks) => push_one(out, b"leaf", blocks),
-        Line::Clash { i, j } => push_two(out, b"clash", i as u64, j as u64),
-        Line::Agent { agent, entries } => push_two(out, b"agent", agent as u64, entries),
-        Line::At(entry) => push_entry(out, &entry, width),
-        Line::End => out.extend_from_slice(b"end"),
+        CertLine::Title => out.extend_from_slice(b"mapf-cert 1"),
+        CertLine::Agents(agents) => push_one(out, b"agents", agents as u64),
+        CertLine::Claim(Claim::Cost(cost)) => push_one(out, b"claim cost", cost),
+        CertLine::Claim(Claim::Impossible) => out.extend_from_slice(b"claim impossible"),
+        CertLine::Split(conflict) => push_conflict(out, &conflict, width),
+        CertLine::Leaf(blocks) => push_one(out, b"leaf", blocks),
+        CertLine::Clash { i, j } => push_two(out, b"clash", i as u64, j as u64),
+        CertLine::Agent { agent, entries } => push_two(out, b"agent", agent as u64, entries),
+        CertLine::At(entry) => push_entry(out, &entry, width),
+        CertLine::End => out.extend_from_slice(b"end"),
     }
 }
 
 /// Writes a line with its LF.
-pub fn push_line(out: &mut Vec<u8>, line: &Line, width: u32) -> Result<(), AllocError>
+pub fn push_line(out: &mut Vec<u8>, line: &CertLine, width: u32) -> Result<(), AllocError>
     requires { 0 < width }
     ensures { OnOk result (out.new.items ≡ out.old.items ++ line_text width line.now) }
 {

@@ -2,17 +2,17 @@ use Rattle.std.proofs.Common.{◌++◌, ◌∙◌, ap, length, refl, subst, sym,
 use Rattle.std.proofs.lemmas.Result.{err_from_is_err_and}
 use Rattle.mapf_model.specs.Tree.{SplitNode}
 use Rattle.mapf_certificate.specs.declared.tree_line.Due.TheVariants as dues
-use Rattle.mapf_certificate.specs.Lines.{IsLine}
+use Rattle.mapf_certificate.specs.Lines.{IsLine, grid_for}
 use Rattle.mapf_certificate.specs.Certificates.{blocks_text, line_text}
 use Rattle.mapf_certificate.specs.CertReading.{CompletesNode}
 use Rattle.mapf_certificate.specs.Untouched.{TakesThere}
-use Rattle.mapf_certificate.specs.declared.line.Line.{Line}
-use Rattle.mapf_certificate.specs.declared.line.Line.TheVariants as lines
+use Rattle.mapf_certificate.specs.declared.line.CertLine.{CertLine}
+use Rattle.mapf_certificate.specs.declared.line.CertLine.TheVariants as lines
 use Rattle.mapf_certificate.specs.Window.{Fails}
+use Rattle.mapf_certificate.specs.Bounded.{BeginsWithNode}
 use Rattle.mapf_certificate.proofs.PlainLines.{same_line}
 use Rattle.mapf_certificate.proofs.Windows.{err_passed}
-use Rattle.mapf_certificate.proofs.Blocks.{grid_for}
-use Rattle.mapf_certificate.proofs.Nodes.{NextNode, one_line, fails_in_blocks, begins_no_node, first_kinds}
+use Rattle.mapf_certificate.proofs.Nodes.{one_line, fails_in_blocks, begins_no_node, first_kinds}
 use Rattle.mapf_certificate.proofs.cert_lines.item_of.Goals as goal
 
 pub returns-in_err-blocks-in-Leaf-clause-fails : goal.returns-in_err-blocks-in-Leaf-clause-fails
@@ -24,7 +24,7 @@ returns-in_err-blocks-in-Leaf-clause-fails g c =
     let sizes = c.args.sizes.now in
     let line = c.args.line.now in
     let fault = c.in_err-blocks-in-Leaf.field-0.0 in
-    err_passed c.from_residual.result (Fails had left failed c.args.lines.now.buffer (λ t. NextNode sizes (line_text sizes.width line ++ t))) fault (err_from_is_err_and c.from_residual.result c.from_residual.ensures.1)
+    err_passed c.from_residual.result (Fails had left failed c.args.lines.now.buffer (λ t. BeginsWithNode sizes (line_text sizes.width line ++ t))) fault (err_from_is_err_and c.from_residual.result c.from_residual.ensures.1)
     (fails_in_blocks sizes had left failed c.args.lines.now.buffer line c.in-Leaf.count fault c.requires.line c.in-Leaf.is c.in_err-blocks-in-Leaf.ensures.fails)
 
 pub returns-in-Split-clause-item : goal.returns-in-Split-clause-item
@@ -52,5 +52,5 @@ returns-in_ok-blocks-in-Leaf-clause-there g c = λ taken e.
     let blocks = c.in_ok-blocks-in-Leaf.field-0.items in
     let is : IsLine (dues.Tree sizes) (lines.Leaf c.in-Leaf.count) = subst (IsLine (dues.Tree sizes)) c.in-Leaf.is c.requires.line in
     let is' : IsLine (dues.Tree sizes) (lines.Leaf (length blocks)) = subst (λ n. IsLine (dues.Tree sizes) (lines.Leaf n)) (sym c.in_ok-blocks-in-Leaf.ensures.blocks.many) is in
-    let (same, rest) = same_line (dues.Tree sizes) (lines.Leaf c.in-Leaf.count) (lines.Leaf (length blocks)) taken (blocks_text sizes.width blocks) is is' (ap (λ (l : Line). line_text sizes.width l ++ taken) (sym c.in-Leaf.is) ∙ e) in
+    let (same, rest) = same_line (dues.Tree sizes) (lines.Leaf c.in-Leaf.count) (lines.Leaf (length blocks)) taken (blocks_text sizes.width blocks) is is' (ap (λ (l : CertLine). line_text sizes.width l ++ taken) (sym c.in-Leaf.is) ∙ e) in
     subst (TakesThere c.args.source.now c.blocks-in-Leaf.new.source c.args.lines.now.buffer c.blocks-in-Leaf.new.self.buffer) (sym rest) c.in_ok-blocks-in-Leaf.ensures.there
