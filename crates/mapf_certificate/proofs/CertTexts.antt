@@ -12,11 +12,10 @@ use Rattle.mapf_model.specs.Printed.{IsConflictInRange, IsBlockInRange, AreBlock
 use Rattle.mapf_model.specs.Tree.{ConstraintTree, Split, Leaf, Clash, Node, nodes_of, nodes_of_all}
 use Rattle.mapf_model.proofs.ItemLemmas.{cut}
 use Rattle.mapf_certificate.specs.declared.sizes.Sizes.{Sizes}
-use Rattle.mapf_certificate.specs.Lines.{grid_of}
+use Rattle.mapf_certificate.specs.Lines.{grid_of, grid_for}
 use Rattle.mapf_certificate.specs.Certificates.{header_text, rest_text, cert_text, IsRest, SpellsCert, SpellsOneCert}
 use Rattle.mapf_certificate.specs.Reading.{Reading}
 use Rattle.mapf_certificate.specs.CertReading.{IsCertText, AwaitsCert, trees_owed_after}
-use Rattle.mapf_certificate.proofs.Blocks.{grid_for}
 use Rattle.mapf_certificate.proofs.Nodes.{nodes_apart}
 use Rattle.mapf_certificate.proofs.Rests.{rest_starts, rest_ends}
 use Rattle.mapf_certificate.proofs.Headers.{same_header}

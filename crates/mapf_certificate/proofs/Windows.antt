@@ -7,7 +7,7 @@ use Rattle.mapf_certificate.specs.declared.cert.CertFault.TheVariants as texts
 use Rattle.mapf_certificate.specs.declared.cert.LinesFault.{LinesFault}
 use Rattle.mapf_certificate.specs.declared.cert.LinesFault.TheVariants.{Text, Device, TooLong, Memory}
 use Rattle.mapf_certificate.specs.Buffered.{Buffered}
-use Rattle.mapf_certificate.specs.Window.{Window, ComesWithin, Exceeds, Pulls, HasNoInnerMemory, Refuses, Fails, IsTextFault, IsNoTextFault}
+use Rattle.mapf_certificate.specs.Window.{Window, ComesWithin, Exceeds, Pulls, IsNotTextMemory, Refuses, Fails, IsTextFault, IsNoTextFault}
 
 -- what comes after two windows
 after_both : (x p q t y : List ℕ) → x ++ p ≡ t ++ y → x ++ (p ++ q) ≡ t ++ (y ++ q)
@@ -170,5 +170,5 @@ pulls_if_fails a b failed x Is Memory fails = pulls_within a b x Memory (λ e. c
 pub pulls_in_window : {A : Type 0} (a b : Option (List ℕ)) (x y : Buffered) (t : List ℕ) (answer : A) → Window a b x y t → Pulls a b x.left (IsErrOf {T = A} (Ok answer) TooLong)
 pulls_in_window a b x y t answer window = record { came = window.pulled; source = window.source; few = omega (arith, window.within); beyond = (λ e. cc, λ h. absurd (omega (arith, window.within))) }
 
-pub no_inner_memory : (a b : Option (List ℕ)) (failed : Bool) (x : Buffered) (Is : List ℕ → Type 0) (fault : LinesFault) → Fails a b failed x Is fault → HasNoInnerMemory fault
+pub no_inner_memory : (a b : Option (List ℕ)) (failed : Bool) (x : Buffered) (Is : List ℕ → Type 0) (fault : LinesFault) → Fails a b failed x Is fault → IsNotTextMemory fault
 no_inner_memory a b failed x Is fault fails = λ e. subst (Fails a b failed x Is) e fails

@@ -2,6 +2,7 @@
 use Rattle.std.specs.Prelude.{◌≡◌, ◌≤◌, ◌<◌, ℕ, ◌+◌, ◌-◌, Bool, true, Option, Some, List, [], ◌∷◌, ◌++◌, codes, length, All, sum_by}
 use Rattle.std.specs.List.{flat_map}
 use Rattle.mapf_model.specs.declared.cause.Cause.TheVariants.{Splits, Ticks}
+use Rattle.mapf_model.specs.Limits.{most_agents, most_path_cells, most_splits}
 use Rattle.mapf_model.specs.Accepted.{PlanSays, SaysPlan, SaysImpossible, SaysLimit}
 use Rattle.mapf_model.specs.Grid.{GridMap, IsGridMap}
 use Rattle.mapf_model.specs.Printed.{IsOnGrid, IsPathInRange}
@@ -51,12 +52,12 @@ plan_text width p = codes "mapf-plan 1\n" ++ ((codes "agents" ++ (field 32 p.age
 abbrev pub IsAnswerInRange : GridMap → ℕ → PlanAnswer → Type 0
 IsAnswerInRange grid agents (Found plan) = (length plan ≡ agents) × All (IsPathInRange grid) plan
 IsAnswerInRange grid agents Impossible = Unit {0}
-IsAnswerInRange grid agents (Limit (Splits count)) = count ≤ 100000
+IsAnswerInRange grid agents (Limit (Splits count)) = count ≤ most_splits
 IsAnswerInRange grid agents (Limit Ticks) = Unit {0}
 
 -- a plan for at most 200 agents
 abbrev pub IsFew : PlanAnswer → Type 0
-IsFew (Found plan) = length plan ≤ 200
+IsFew (Found plan) = length plan ≤ most_agents
 IsFew _ = Unit {0}
 
 -- a value that has a spelling
@@ -112,5 +113,5 @@ pub record IsPathOf (agents : ℕ) (agent cost : Option ℕ) (due : ℕ) (are_ce
   pub agent_in_range : due < agents
   pub cells : are_cells ≡ true
   pub some : 1 ≤ count
-  pub few : count ≤ 10000000
+  pub few : count ≤ most_path_cells
   pub cost_is : cost ≡ Some (count - 1)

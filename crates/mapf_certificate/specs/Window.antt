@@ -56,8 +56,8 @@ Fails had left failed buffer IsText TooLong = (failed ≡ false) × Exceeds had 
 Fails had left failed buffer IsText Memory = (failed ≡ false) × ComesWithin had left buffer
 
 -- want of memory is no fault of a text
-abbrev pub HasNoInnerMemory : LinesFault → Type 0
-HasNoInnerMemory fault = fault ≢ Text texts.Memory
+abbrev pub IsNotTextMemory : LinesFault → Type 0
+IsNotTextMemory fault = fault ≢ Text texts.Memory
 
 -- the fault isn't one of the text
 abbrev pub IsNoTextFault : LinesFault → Type 0
@@ -67,11 +67,11 @@ IsNoTextFault TooLong = Unit {0}
 IsNoTextFault Memory = Unit {0}
 
 -- what stops a reader other than the text: the source failed, or too many bytes came, or memory was refused
-abbrev pub Stops : Option (List ℕ) → Option (List ℕ) → Bool → Buffered → LinesFault → Type 0
-Stops had left failed buffer (Text fault) = Unit {0}
-Stops had left failed buffer Device = failed ≡ true
-Stops had left failed buffer TooLong = Exceeds had left buffer
-Stops had left failed buffer Memory = Unit {0}
+abbrev pub StopsReader : Option (List ℕ) → Option (List ℕ) → Bool → Buffered → LinesFault → Type 0
+StopsReader had left failed buffer (Text fault) = Unit {0}
+StopsReader had left failed buffer Device = failed ≡ true
+StopsReader had left failed buffer TooLong = Exceeds had left buffer
+StopsReader had left failed buffer Memory = Unit {0}
 
 -- the fault is one of the text
 abbrev pub IsTextFault : LinesFault → Type 0

@@ -4,7 +4,7 @@ use Rattle.std.proofs.lemmas.List.{map-append}
 use Rattle.mapf_model.specs.declared.item.Item.{Item}
 use Rattle.mapf_model.specs.Tree.{node_of}
 use Rattle.mapf_certificate.specs.CertReading.{HasHeader, IsRestAt, Awaits, TakesNode}
-use Rattle.mapf_certificate.specs.Window.{Stops, IsNoTextFault}
+use Rattle.mapf_certificate.specs.Window.{StopsReader, IsNoTextFault}
 use Rattle.mapf_certificate.proofs.PathLaws.{pushed}
 use Rattle.mapf_certificate.proofs.Windows.{err_passed}
 use Rattle.mapf_certificate.proofs.Collecting.{collected_none, collected_more, collected_all, collected_only, collected_stops, stops_at, stops_after, err_matches}
@@ -18,7 +18,7 @@ returns-in_err-agents-clause-stops g c =
     let failed = s.has_failed c.header.new.source in
     let opened = c.args.lines.now in
     let fault = c.in_err-agents.field-0.0 in
-    err_passed c.from_residual.result (Stops had left failed opened.buffer) fault (err_from_is_err_and c.from_residual.result c.from_residual.ensures.1)
+    err_passed c.from_residual.result (StopsReader had left failed opened.buffer) fault (err_from_is_err_and c.from_residual.result c.from_residual.ensures.1)
     (stops_at had left failed opened.buffer (HasHeader opened.width) fault (c.in_err-agents.ensures.fails c.requires.unfaulted))
 
 pub returns-in_err-agents-clause-only : goal.returns-in_err-agents-clause-only
@@ -49,7 +49,7 @@ returns-in_err-item-clause-stops g c =
     let opened = c.args.lines.now in
     let before = c.loop-tree.invariant.collected in
     let fault = c.in_err-item.field-0.0 in
-    err_passed c.from_residual-in_err-item.result (Stops start left failed opened.buffer) fault (err_from_is_err_and c.from_residual-in_err-item.result c.from_residual-in_err-item.ensures.1)
+    err_passed c.from_residual-in_err-item.result (StopsReader start left failed opened.buffer) fault (err_from_is_err_and c.from_residual-in_err-item.result c.from_residual-in_err-item.ensures.1)
     (stops_after start mid left failed opened.buffer c.loop-tree.lines.buffer before.text (IsRestAt c.loop-tree.lines) fault before.window (c.in_err-item.ensures.fails c.loop-tree.invariant.unfaulted))
 
 pub returns-in_err-item-clause-only : goal.returns-in_err-item-clause-only
