@@ -2,20 +2,19 @@
 use Rattle.std.proofs.Common.{◌≡◌, ◌≢◌, ◌⊎◌, ℕ, zero, suc, ◌+◌, ◌*◌, ◌<◌, ◌≤◌, List, [], ◌∷◌, ◌++◌, Some, length, sum, slice_get, refl, sym, ◌∙◌, ap, subst, inl, inr, ⊎_elim, arith}
 use Rattle.std.proofs.lemmas.Bool.{cases_eq, cases_lt}
 use Rattle.std.proofs.lemmas.Option.{slice_get_within, same_Some}
-use Rattle.mapf_model.specs.declared.bar.Bar.TheVariants.{Cell, Move}
+use Rattle.mapf_model.specs.declared.constraint.Constraint.{Constraint}
 use Rattle.mapf_model.specs.declared.conflict.Conflict.{Conflict}
-use Rattle.mapf_model.specs.declared.conflict.Conflict.TheVariants.{Vertex, Swap}
 use Rattle.mapf_model.specs.Plan.{Instance}
-use Rattle.mapf_model.specs.Tree.{NodeConstraints, root, left_child_constraints, right_child_constraints, ShareGoal}
+use Rattle.mapf_model.specs.Tree.{NodeConstraints, root, with_constraint, left_constraint, right_constraint, left_child_constraints, right_child_constraints, ShareGoal}
 use Rattle.mapf_model.specs.Earned.{tick_of}
 use Rattle.mapf_cbs.specs.declared.node.Fate.{Fate}
 use Rattle.mapf_cbs.specs.declared.node.Fate.TheVariants.{Open, Dead, Expanded}
 use Rattle.mapf_model.specs.Grid.{free_cell_count}
-use Rattle.mapf_constraints.specs.BarSets.{AreBefore}
+use Rattle.mapf_constraints.specs.BarSets.{tick_of as bar_tick, AreBefore}
 use Rattle.mapf_cbs.specs.FirstConflicts.{IsFirstConflict}
 use Rattle.mapf_cbs.specs.Search.{View, IsLive, IsDead, IsFate, IsExpandedAt, IsExpandedFate, IsEndFate, End, occurrences, IsSearched}
 use Rattle.mapf_cbs.proofs.SumLemmas.{slice_get-front, slice_get-here, slice_get-second, length-two_more}
-use Rattle.mapf_cbs.proofs.ChildLemmas.{AreBefore-with_bar, conflict_proper, conflict_early}
+use Rattle.mapf_cbs.proofs.ChildLemmas.{AreBefore-with_constraint, left_tick, right_tick, conflict_proper, conflict_early}
 use Rattle.mapf_cbs.proofs.ShapeLemmas.{IsGrown, IsOneTree-grown}
 
 -- what is so of a new child by its fate
@@ -184,31 +183,25 @@ module _ (problem : Instance) (goals : (i j : ℕ) → ShareGoal problem i j →
     early : tick_of conflict < count * free_cell_count problem.grid + free_cell_count problem.grid
     early = conflict_early problem view (searched.each j view Open is was_open) goals (count * free_cell_count problem.grid) (λ i. searched.low j view i is) conflict on_first.has
 
-    low_left : (c : Conflict) → tick_of c < (count + 1) * free_cell_count problem.grid → (i : ℕ) → AreBefore ((count + 1) * free_cell_count problem.grid) ((left_child_constraints view.constraints c).bars i)
-    low_left (Vertex a b cell tick) before = AreBefore-with_bar view.constraints.bars a (Cell cell tick) (count * free_cell_count problem.grid) ((count + 1) * free_cell_count problem.grid) (omega arith) before (λ i. searched.low j view i is)
-    low_left (Swap a b from to tick) before = AreBefore-with_bar view.constraints.bars a (Move from to tick) (count * free_cell_count problem.grid) ((count + 1) * free_cell_count problem.grid) (omega arith) before (λ i. searched.low j view i is)
-
-    low_right : (c : Conflict) → tick_of c < (count + 1) * free_cell_count problem.grid → (i : ℕ) → AreBefore ((count + 1) * free_cell_count problem.grid) ((right_child_constraints view.constraints c).bars i)
-    low_right (Vertex a b cell tick) before = AreBefore-with_bar view.constraints.bars b (Cell cell tick) (count * free_cell_count problem.grid) ((count + 1) * free_cell_count problem.grid) (omega arith) before (λ i. searched.low j view i is)
-    low_right (Swap a b from to tick) before = AreBefore-with_bar view.constraints.bars b (Move to from tick) (count * free_cell_count problem.grid) ((count + 1) * free_cell_count problem.grid) (omega arith) before (λ i. searched.low j view i is)
+    low_with : (constraint : Constraint) → bar_tick constraint.bar ≡ tick_of conflict → (i : ℕ) → AreBefore ((count + 1) * free_cell_count problem.grid) (with_constraint view.constraints.bars constraint i)
+    low_with constraint at_tick = AreBefore-with_constraint view.constraints.bars constraint (count * free_cell_count problem.grid) ((count + 1) * free_cell_count problem.grid) (omega arith) (let e = early in omega (arith, e, at_tick)) (λ i. searched.low j view i is)
 
     low_at : (k : ℕ) (v : View) → slice_get (views ++ x ∷ y ∷ []) k ≡ Some v → (i : ℕ) → AreBefore ((count + 1) * free_cell_count problem.grid) (v.constraints.bars i)
     low_at k v v_is i =
         let size = searched.lengths in
         let two = length-two_more views x y in
         let within : k < length (views ++ x ∷ y ∷ []) = slice_get_within (views ++ x ∷ y ∷ []) k v v_is in
-        let before : tick_of conflict < (count + 1) * free_cell_count problem.grid = (let e = early in omega arith) in
         ⊎_elim
         (λ (old : k < length fates).
         λ bar in_it. let b = searched.low k v i (sym (slice_get-front views (x ∷ y ∷ []) k (omega arith)) ∙ v_is) bar in_it in omega arith)
         (λ (new : length fates ≤ k). ⊎_elim
         (λ (first : k ≡ length fates).
         let e : x ≡ v = same_Some x v (sym x_at ∙ subst (λ n. slice_get (views ++ x ∷ y ∷ []) n ≡ Some v) first v_is) in
-        subst (λ (w : View). AreBefore ((count + 1) * free_cell_count problem.grid) (w.constraints.bars i)) e (subst (λ (w : NodeConstraints). AreBefore ((count + 1) * free_cell_count problem.grid) (w.bars i)) (sym x_constraints) (low_left conflict before i)))
+        subst (λ (w : View). AreBefore ((count + 1) * free_cell_count problem.grid) (w.constraints.bars i)) e (subst (λ (w : NodeConstraints). AreBefore ((count + 1) * free_cell_count problem.grid) (w.bars i)) (sym x_constraints) (low_with (left_constraint conflict) (left_tick conflict) i)))
         (λ (not_first : k ≢ length fates).
         let second : k ≡ length fates + 1 = omega arith in
         let e : y ≡ v = same_Some y v (sym y_at ∙ subst (λ n. slice_get (views ++ x ∷ y ∷ []) n ≡ Some v) second v_is) in
-        subst (λ (w : View). AreBefore ((count + 1) * free_cell_count problem.grid) (w.constraints.bars i)) e (subst (λ (w : NodeConstraints). AreBefore ((count + 1) * free_cell_count problem.grid) (w.bars i)) (sym y_constraints) (low_right conflict before i)))
+        subst (λ (w : View). AreBefore ((count + 1) * free_cell_count problem.grid) (w.constraints.bars i)) e (subst (λ (w : NodeConstraints). AreBefore ((count + 1) * free_cell_count problem.grid) (w.bars i)) (sym y_constraints) (low_with (right_constraint conflict) (right_tick conflict) i)))
         (cases_eq k (length fates)))
         (cases_lt k (length fates))
 

@@ -7,7 +7,7 @@ use Rattle.mapf_model.specs.declared.conflict.Conflict.{Conflict}
 use Rattle.mapf_model.specs.declared.item.Item.{Item}
 use Rattle.mapf_model.specs.Grid.{IsGridMap}
 use Rattle.mapf_model.specs.Plan.{Instance}
-use Rattle.mapf_model.specs.Tree.{ConstraintTree, Spell, ShareGoal}
+use Rattle.mapf_model.specs.Tree.{ConstraintTree, Spell, ShareGoal, left_constraint, right_constraint}
 use Rattle.mapf_model.specs.Earned.{tick_of}
 use Rattle.mapf_model.proofs.ClaimLemmas.{slice_get_inside}
 use Rattle.mapf_model.proofs.SplitLemmas.{Contains-cons_cases}
@@ -21,14 +21,14 @@ use Rattle.mapf_cbs.specs.FirstConflicts.{IsFirstConflict}
 use Rattle.mapf_cbs.specs.Goals.{NamesFirstDefect}
 use Rattle.mapf_cbs.specs.Nodes.{IsRootView}
 use Rattle.mapf_cbs.specs.Answer.{IsTreeOf, IsShownImpossible}
-use Rattle.mapf_cbs.specs.Search.{View, IsLive, IsTreeAt, left_agent, right_agent, left_bar, right_bar}
+use Rattle.mapf_cbs.specs.Search.{View, IsLive, IsTreeAt}
 use Rattle.mapf_cbs.specs.State.{IsOpenSet, key_cmp, fate_of, with_key}
 use Rattle.mapf_cbs.specs.Whole.{IsWhole, AreWhole, HaveAgentPaths, IsWholeChild, IsLeastOpen, IsLeastBelow, IsWholeState, IsWholePopped}
 use Rattle.mapf_cbs.proofs.AnswerLemmas.{answer_impossible, state_root, root_views}
 use Rattle.mapf_cbs.proofs.ChildLemmas.{Contains-later}
 use Rattle.mapf_cbs.proofs.OpenLemmas.{Contains-first}
 use Rattle.mapf_cbs.proofs.SumLemmas.{slice_get-front, slice_get-here}
-use Rattle.mapf_cbs.proofs.StateLemmas.{IsInHand, in_hand, left_known, right_known, left_table_bar, right_table_bar, grown_fates, two_pushed, end_of_total, state_grown, grown_views}
+use Rattle.mapf_cbs.proofs.StateLemmas.{IsInHand, in_hand, grown_fates, two_pushed, end_of_total, state_grown, grown_views}
 use Rattle.mapf_cbs.proofs.WholeLemmas.{less_key, each_more}
 
 -- the keys but that of one node
@@ -205,7 +205,7 @@ module _ (problem : Instance) (nodes : List WholeNode) (fates : List Fate) (coun
 
   -- the node is split
   pub whole_grown : ((i j : ℕ) → ShareGoal problem i j → ⊥) → (conflict : Conflict) → IsFirstConflict whole_hand.view.paths conflict → tick_of conflict < 1000000 →
-      (l r : WholeNode) (a b : Option ℕ) → IsWholeChild problem whole_hand.view (left_agent conflict) (left_bar conflict) l a → IsWholeChild problem whole_hand.view (right_agent conflict) (right_bar conflict) r b →
+      (l r : WholeNode) (a b : Option ℕ) → IsWholeChild problem whole_hand.view (left_constraint conflict) l a → IsWholeChild problem whole_hand.view (right_constraint conflict) r b →
       length l.agent_paths.items ≡ length problem.agents → length r.agent_paths.items ≡ length problem.agents →
       IsWholeState problem ((nodes ++ l ∷ []) ++ r ∷ []) (slice_set ((fates ++ fate_of a ∷ []) ++ fate_of b ∷ []) k (Expanded conflict (length nodes) (length nodes + 1))) (count + 1)
   whole_grown goals conflict on_first early l r a b left right l_size r_size =
@@ -216,16 +216,12 @@ module _ (problem : Instance) (nodes : List WholeNode) (fates : List Fate) (coun
       ap (λ n. slice_set (fates ++ fate_of a ∷ fate_of b ∷ []) k (Expanded conflict n (n + 1))) same
       ∙ ap (λ fs. slice_set fs k (Expanded conflict (length nodes) (length nodes + 1))) (sym (two_pushed fates (fate_of a) (fate_of b))) in
       let grown = grown_fates fates k conflict (fate_of a) (fate_of b) (slice_get_within fates k Open whole_hand.is_open) (end_of_total a) (end_of_total b) in
-      let left_in = left_known whole_hand.view.paths conflict on_first.has in
-      let right_in = right_known whole_hand.view.paths conflict on_first.has in
-      let left_low = left_table_bar whole_hand.view.paths conflict on_first.has early in
-      let right_low = right_table_bar whole_hand.view.paths conflict on_first.has early in
       subst (λ fs. IsWholeState problem ((nodes ++ l ∷ []) ++ r ∷ []) fs (count + 1)) fates_are (record {
-        changes = (p.changes ++ Child k (left_agent conflict) (left_bar conflict) left.found ∷ []) ++ Child k (right_agent conflict) (right_bar conflict) right.found ∷ [];
+        changes = (p.changes ++ Child k (left_constraint conflict) left.found ∷ []) ++ Child k (right_constraint conflict) right.found ∷ [];
         keys = with_key (with_key p.rest a (length p.changes)) b (length p.changes + 1);
-        state = state_grown problem p.changes fates p.rest count total k p.popped goals whole_hand.view whole_hand.is whole_hand.is_open whole_hand.total_is conflict on_first early left.found right.found a b left.generated right.generated after grown left_in right_in left_low right_low;
+        state = state_grown problem p.changes fates p.rest count total k p.popped goals whole_hand.view whole_hand.is whole_hand.is_open whole_hand.total_is conflict on_first early left.found right.found a b left.generated right.generated after grown;
         whole = subst (λ vs. AreWhole ((nodes ++ l ∷ []) ++ r ∷ []) vs)
-            (two_pushed p.popped.views left.generated.child right.generated.child ∙ sym (grown_views problem p.changes fates p.rest count total k p.popped goals whole_hand.view whole_hand.is whole_hand.is_open whole_hand.total_is conflict on_first early left.found right.found a b left.generated right.generated after grown left_in right_in left_low right_low))
+            (two_pushed p.popped.views left.generated.child right.generated.child ∙ sym (grown_views problem p.changes fates p.rest count total k p.popped goals whole_hand.view whole_hand.is whole_hand.is_open whole_hand.total_is conflict on_first early left.found right.found a b left.generated right.generated after grown))
             (whole_more (nodes ++ l ∷ []) (p.popped.views ++ left.generated.child ∷ []) (whole_more nodes p.popped.views p.whole l left.generated.child left.whole) r right.generated.child right.whole);
         agent_paths = each_more (λ i n. length n.agent_paths.items ≡ length problem.agents) (nodes ++ l ∷ []) r (length (nodes ++ l ∷ [])) refl
             (each_more (λ i n. length n.agent_paths.items ≡ length problem.agents) nodes l (length nodes) refl p.agent_paths l_size) r_size;

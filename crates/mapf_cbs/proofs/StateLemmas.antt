@@ -2,13 +2,11 @@
 use Rattle.std.proofs.Common.{◌≡◌, ◌≢◌, ◌⊎◌, ℕ, ◌+◌, ◌*◌, ◌^◌, ◌<◌, ◌≤◌, List, [], ◌∷◌, ◌++◌, Option, None, Some, Contains, length, sum, slice_get, slice_set, refl, sym, ◌∙◌, ap, subst, inl, inr, ⊎_elim, arith, append_assoc}
 use Rattle.std.proofs.lemmas.Bool.{cases_eq, cases_lt}
 use Rattle.std.proofs.lemmas.Option.{slice_get_within, same_Some}
-use Rattle.mapf_model.specs.declared.bar.Bar.{Bar}
+use Rattle.mapf_model.specs.declared.constraint.Constraint.{Constraint}
 use Rattle.mapf_model.specs.declared.conflict.Conflict.{Conflict}
-use Rattle.mapf_model.specs.declared.conflict.Conflict.TheVariants.{Vertex, Swap}
-use Rattle.mapf_model.specs.Bars.{IsBar}
 use Rattle.mapf_model.specs.Plan.{Instance}
-use Rattle.mapf_model.specs.Tree.{NodeConstraints, with_bar, left_child_constraints, right_child_constraints, ShareGoal}
-use Rattle.mapf_model.specs.Earned.{HasConflict, tick_of}
+use Rattle.mapf_model.specs.Tree.{left_constraint, right_constraint, ShareGoal}
+use Rattle.mapf_model.specs.Earned.{tick_of}
 use Rattle.mapf_model.proofs.SplitLemmas.{Contains-cons_cases}
 use Rattle.mapf_spacetime.specs.declared.found.Found.{Found}
 use Rattle.mapf_cbs.specs.declared.node.Node.{Node}
@@ -16,25 +14,15 @@ use Rattle.mapf_cbs.specs.declared.node.Node.TheVariants.{Root, Child}
 use Rattle.mapf_cbs.specs.declared.node.Fate.{Fate}
 use Rattle.mapf_cbs.specs.declared.node.Fate.TheVariants.{Open, Expanded}
 use Rattle.mapf_cbs.specs.FirstConflicts.{IsFirstConflict}
-use Rattle.mapf_cbs.specs.Search.{View, IsLive, IsEndFate, IsSearched, left_agent, right_agent, left_bar, right_bar}
+use Rattle.mapf_cbs.specs.Search.{View, IsLive, IsEndFate, IsSearched}
 use Rattle.mapf_cbs.specs.Nodes.{AreViews, IsNodeView, IsChildView, IsNodeFor, HasTableBar}
-use Rattle.mapf_constraints.specs.BarSets.{tick_of as bar_tick}
-use Rattle.mapf_cbs.specs.CheapestPath.{IsTableBar}
 use Rattle.mapf_cbs.specs.GeneratedChild.{IsGeneratedChild, IsGeneratedState}
 use Rattle.mapf_cbs.specs.State.{IsOpenSet, IsState, IsPopped, fate_of, with_key}
 use Rattle.mapf_cbs.proofs.SumLemmas.{slice_get-set_same, slice_get-set_other, length-slice_set, slice_get-front, slice_get-here, slice_get-second, length-two_more}
 use Rattle.mapf_cbs.proofs.ShapeLemmas.{IsGrown}
 use Rattle.mapf_cbs.proofs.GrowLemmas.{IsChildFate, searched_grown}
 use Rattle.mapf_cbs.proofs.OpenLemmas.{less_apart, inserted_only, inserted_old, inserted_new, Contains-first, first_open}
-use Rattle.mapf_cbs.proofs.ChildLemmas.{Contains-later}
-
-pub left_constraints_are : (constraints : NodeConstraints) (conflict : Conflict) → left_child_constraints constraints conflict ≡ record { bars = with_bar constraints.bars (left_agent conflict) (left_bar conflict) }
-left_constraints_are constraints (Vertex i j cell tick) = refl
-left_constraints_are constraints (Swap i j from to tick) = refl
-
-pub right_constraints_are : (constraints : NodeConstraints) (conflict : Conflict) → right_child_constraints constraints conflict ≡ record { bars = with_bar constraints.bars (right_agent conflict) (right_bar conflict) }
-right_constraints_are constraints (Vertex i j cell tick) = refl
-right_constraints_are constraints (Swap i j from to tick) = refl
+use Rattle.mapf_cbs.proofs.ChildLemmas.{Contains-later, of_paths}
 
 pub two_pushed : {X : Type 0} (xs : List X) (x y : X) → (xs ++ x ∷ []) ++ y ∷ [] ≡ xs ++ x ∷ y ∷ []
 two_pushed xs x y = append_assoc xs (x ∷ []) (y ∷ [])
@@ -81,16 +69,16 @@ grown_fates fates k conflict left right inside left_end right_end =
 
 -- the nodes after a split mean the views after it
 module _ (nodes : List Node) (views : List View) (are : AreViews nodes views) (k : ℕ) (view : View) (is : slice_get views k ≡ Some view)
-    (a b : ℕ) (a_in : a < length view.paths) (b_in : b < length view.paths) (p q : Bar) (f g : Found) (x y : View) (x_is : IsChildView view a p f x) (y_is : IsChildView view b q g y) where
+    (p q : Constraint) (p_in : p.agent < length view.paths) (q_in : q.agent < length view.paths) (f g : Found) (x y : View) (x_is : IsChildView view p f x) (y_is : IsChildView view q g y) where
   lift_view : (m : ℕ) (node : Node) (v : View) → IsNodeView views m node v → IsNodeView (views ++ x ∷ y ∷ []) m node v
   lift_view m (Root paths) v h = h
-  lift_view m (Child parent bound bar found) v h = (h.0, h.1, slice_get-front views (x ∷ y ∷ []) parent (slice_get_within views parent h.1 h.2) ∙ h.2, h.3, h.4)
+  lift_view m (Child parent constraint found) v h = (h.0, h.1, slice_get-front views (x ∷ y ∷ []) parent (slice_get_within views parent h.1 h.2) ∙ h.2, h.3, h.4)
 
-  views_grown : AreViews (nodes ++ Child k a p f ∷ Child k b q g ∷ []) (views ++ x ∷ y ∷ [])
+  views_grown : AreViews (nodes ++ Child k p f ∷ Child k q g ∷ []) (views ++ x ∷ y ∷ [])
   views_grown =
       let e = are.lengths in
       let one = length-two_more views x y in
-      let two = length-two_more nodes (Child k a p f) (Child k b q g) in
+      let two = length-two_more nodes (Child k p f) (Child k q g) in
       let within : k < length views = slice_get_within views k view is in
       let here : slice_get (views ++ x ∷ y ∷ []) k ≡ Some view = slice_get-front views (x ∷ y ∷ []) k within ∙ is in
       record {
@@ -99,32 +87,32 @@ module _ (nodes : List Node) (views : List View) (are : AreViews nodes views) (k
             (λ (old : slice_get nodes m ≡ Some node).
             let inside : m < length nodes = slice_get_within nodes m node old in
             lift_view m node v (are.each m node v old (sym (slice_get-front views (x ∷ y ∷ []) m (omega arith)) ∙ v_is)))
-            (λ (new : ((m ≡ length nodes) × (Child k a p f ≡ node)) ⊎ ((m ≡ length nodes + 1) × (Child k b q g ≡ node))). ⊎_elim
-            (λ (first : (m ≡ length nodes) × (Child k a p f ≡ node)).
+            (λ (new : ((m ≡ length nodes) × (Child k p f ≡ node)) ⊎ ((m ≡ length nodes + 1) × (Child k q g ≡ node))). ⊎_elim
+            (λ (first : (m ≡ length nodes) × (Child k p f ≡ node)).
             let at : m ≡ length views = (let h = first.0 in omega arith) in
             let same : x ≡ v = same_Some x v (sym (slice_get-here views (y ∷ []) x) ∙ subst (λ n. slice_get (views ++ x ∷ y ∷ []) n ≡ Some v) at v_is) in
-            subst (λ n. IsNodeView (views ++ x ∷ y ∷ []) m n v) first.1 (omega arith, view, here, a_in, subst (λ w. IsChildView view a p f w) same x_is))
-            (λ (second : (m ≡ length nodes + 1) × (Child k b q g ≡ node)).
+            subst (λ n. IsNodeView (views ++ x ∷ y ∷ []) m n v) first.1 (omega arith, view, here, p_in, subst (λ w. IsChildView view p f w) same x_is))
+            (λ (second : (m ≡ length nodes + 1) × (Child k q g ≡ node)).
             let at : m ≡ length views + 1 = (let h = second.0 in omega arith) in
             let same : y ≡ v = same_Some y v (sym (slice_get-second views x y) ∙ subst (λ n. slice_get (views ++ x ∷ y ∷ []) n ≡ Some v) at v_is) in
-            subst (λ n. IsNodeView (views ++ x ∷ y ∷ []) m n v) second.1 (omega arith, view, here, b_in, subst (λ w. IsChildView view b q g w) same y_is))
+            subst (λ n. IsNodeView (views ++ x ∷ y ∷ []) m n v) second.1 (omega arith, view, here, q_in, subst (λ w. IsChildView view q g w) same y_is))
             new)
-            (two_more_at nodes (Child k a p f) (Child k b q g) node m node_is);
+            (two_more_at nodes (Child k p f) (Child k q g) node m node_is);
       }
 
-  pub views_pushed : AreViews ((nodes ++ Child k a p f ∷ []) ++ Child k b q g ∷ []) (views ++ x ∷ y ∷ [])
-  views_pushed = subst (λ ns. AreViews ns (views ++ x ∷ y ∷ [])) (sym (two_pushed nodes (Child k a p f) (Child k b q g))) views_grown
+  pub views_pushed : AreViews ((nodes ++ Child k p f ∷ []) ++ Child k q g ∷ []) (views ++ x ∷ y ∷ [])
+  views_pushed = subst (λ ns. AreViews ns (views ++ x ∷ y ∷ [])) (sym (two_pushed nodes (Child k p f) (Child k q g))) views_grown
 
   -- what is so of each node is so of each after a split
-  pub each_pushed : (P : ℕ → Node → Type 0) → ((m : ℕ) (node : Node) → slice_get nodes m ≡ Some node → P m node) → P (length nodes) (Child k a p f) → P (length nodes + 1) (Child k b q g) →
-      (m : ℕ) (node : Node) → slice_get ((nodes ++ Child k a p f ∷ []) ++ Child k b q g ∷ []) m ≡ Some node → P m node
+  pub each_pushed : (P : ℕ → Node → Type 0) → ((m : ℕ) (node : Node) → slice_get nodes m ≡ Some node → P m node) → P (length nodes) (Child k p f) → P (length nodes + 1) (Child k q g) →
+      (m : ℕ) (node : Node) → slice_get ((nodes ++ Child k p f ∷ []) ++ Child k q g ∷ []) m ≡ Some node → P m node
   each_pushed P each first second m node node_is = ⊎_elim
       (λ (old : slice_get nodes m ≡ Some node). each m node old)
-      (λ (new : ((m ≡ length nodes) × (Child k a p f ≡ node)) ⊎ ((m ≡ length nodes + 1) × (Child k b q g ≡ node))). ⊎_elim
-      (λ (h : (m ≡ length nodes) × (Child k a p f ≡ node)). subst (λ n. P m n) h.1 (subst (λ n. P n (Child k a p f)) (sym h.0) first))
-      (λ (h : (m ≡ length nodes + 1) × (Child k b q g ≡ node)). subst (λ n. P m n) h.1 (subst (λ n. P n (Child k b q g)) (sym h.0) second))
+      (λ (new : ((m ≡ length nodes) × (Child k p f ≡ node)) ⊎ ((m ≡ length nodes + 1) × (Child k q g ≡ node))). ⊎_elim
+      (λ (h : (m ≡ length nodes) × (Child k p f ≡ node)). subst (λ n. P m n) h.1 (subst (λ n. P n (Child k p f)) (sym h.0) first))
+      (λ (h : (m ≡ length nodes + 1) × (Child k q g ≡ node)). subst (λ n. P m n) h.1 (subst (λ n. P n (Child k q g)) (sym h.0) second))
       new)
-      (two_more_at nodes (Child k a p f) (Child k b q g) node m (subst (λ ns. slice_get ns m ≡ Some node) (two_pushed nodes (Child k a p f) (Child k b q g)) node_is))
+      (two_more_at nodes (Child k p f) (Child k q g) node m (subst (λ ns. slice_get ns m ≡ Some node) (two_pushed nodes (Child k p f) (Child k q g)) node_is))
 
 with_key_only : (keys : List (ℕ × ℕ)) (total : Option ℕ) (n : ℕ) (x : ℕ × ℕ) → Contains (with_key keys total n) x → Contains keys x ⊎ ((s : ℕ) × (total ≡ Some s) × (x ≡ (s, n)))
 with_key_only keys None n x h = inl h
@@ -145,7 +133,7 @@ with_key_new keys (Some t) n s e = let same : t ≡ s = same_Some t s e in subst
 module _ (problem : Instance) (nodes : List Node) (fates : List Fate) (rest : List (ℕ × ℕ)) (count total k : ℕ) (popped : IsPopped problem nodes fates rest count total k)
     (goals : (i j : ℕ) → ShareGoal problem i j → ⊥) (view : View) (is : slice_get popped.views k ≡ Some view) (is_open : slice_get fates k ≡ Some Open) (total_is : total ≡ sum view.costs)
     (conflict : Conflict) (on_first : IsFirstConflict view.paths conflict) (early : tick_of conflict < 1000000)
-    (f g : Found) (s t : Option ℕ) (left : IsGeneratedChild problem view (left_agent conflict) (left_bar conflict) f s) (right : IsGeneratedChild problem view (right_agent conflict) (right_bar conflict) g t)
+    (f g : Found) (s t : Option ℕ) (left : IsGeneratedChild problem view (left_constraint conflict) f s) (right : IsGeneratedChild problem view (right_constraint conflict) g t)
   where
     same_length : length popped.views ≡ length nodes
     same_length = popped.are.lengths
@@ -250,34 +238,34 @@ module _ (problem : Instance) (nodes : List Node) (fates : List Fate) (rest : Li
 
       pub searched_after : IsSearched problem (popped.views ++ left.child ∷ right.child ∷ []) after (count + 1)
       searched_after = searched_grown problem goals popped.views fates count popped.searched k view is is_open least_first conflict on_first early left.child right.child
-          (left.constraints ∙ sym (left_constraints_are view.constraints conflict)) (right.constraints ∙ sym (right_constraints_are view.constraints conflict))
+          left.constraints right.constraints
           (fate_of s) (fate_of t) (generated_fate problem view left.child s left.state) (generated_fate problem view right.child t right.state) after grown
 
-      pub state_grown : left_agent conflict < length view.paths → right_agent conflict < length view.paths → IsTableBar (left_bar conflict) → IsTableBar (right_bar conflict) →
-          IsState problem ((nodes ++ Child k (left_agent conflict) (left_bar conflict) f ∷ []) ++ Child k (right_agent conflict) (right_bar conflict) g ∷ []) after (with_key (with_key rest s (length nodes)) t (length nodes + 1)) (count + 1)
-      state_grown a_in b_in p_low q_low =
+      pub state_grown : IsState problem ((nodes ++ Child k (left_constraint conflict) f ∷ []) ++ Child k (right_constraint conflict) g ∷ []) after (with_key (with_key rest s (length nodes)) t (length nodes + 1)) (count + 1)
+      state_grown =
+          let fit = of_paths view.paths conflict on_first.has early in
           let size = same_length in
           let inside : k < length popped.views = slice_get_within popped.views k view is in
           record {
             views = popped.views ++ left.child ∷ right.child ∷ [];
-            are = views_pushed nodes popped.views popped.are k view is (left_agent conflict) (right_agent conflict) a_in b_in (left_bar conflict) (right_bar conflict) f g left.child right.child left.is_child right.is_child;
+            are = views_pushed nodes popped.views popped.are k view is (left_constraint conflict) (right_constraint conflict) fit.0.0 fit.1.0 f g left.child right.child left.is_child right.is_child;
             searched = searched_after;
             opens = opens_grown;
             nodes_for = λ agent known.
-                each_pushed nodes popped.views popped.are k view is (left_agent conflict) (right_agent conflict) a_in b_in (left_bar conflict) (right_bar conflict) f g left.child right.child left.is_child right.is_child
+                each_pushed nodes popped.views popped.are k view is (left_constraint conflict) (right_constraint conflict) fit.0.0 fit.1.0 f g left.child right.child left.is_child right.is_child
                 (IsNodeFor agent) (popped.nodes_for agent known) (omega arith) (omega arith);
-            bars = each_pushed nodes popped.views popped.are k view is (left_agent conflict) (right_agent conflict) a_in b_in (left_bar conflict) (right_bar conflict) f g left.child right.child left.is_child right.is_child
-                (λ m node. HasTableBar node) popped.bars p_low q_low;
+            bars = each_pushed nodes popped.views popped.are k view is (left_constraint conflict) (right_constraint conflict) fit.0.0 fit.1.0 f g left.child right.child left.is_child right.is_child
+                (λ m node. HasTableBar node) popped.bars fit.0.1 fit.1.1;
             size =
                 let was = popped.size in
-                let more = length-two_more nodes (Child k (left_agent conflict) (left_bar conflict) f) (Child k (right_agent conflict) (right_bar conflict) g) in
-                ap length (two_pushed nodes (Child k (left_agent conflict) (left_bar conflict) f) (Child k (right_agent conflict) (right_bar conflict) g)) ∙ omega (arith, was, more);
+                let more = length-two_more nodes (Child k (left_constraint conflict) f) (Child k (right_constraint conflict) g) in
+                ap length (two_pushed nodes (Child k (left_constraint conflict) f) (Child k (right_constraint conflict) g)) ∙ omega (arith, was, more);
             small = small_grown;
           }
 
-      pub grown_views : (a_in : left_agent conflict < length view.paths) (b_in : right_agent conflict < length view.paths) (p_low : IsTableBar (left_bar conflict)) (q_low : IsTableBar (right_bar conflict)) → (state_grown a_in b_in p_low q_low).views ≡ popped.views ++ left.child ∷ right.child ∷ []
+      pub grown_views : state_grown.views ≡ popped.views ++ left.child ∷ right.child ∷ []
       unfolding state_grown
-      grown_views a_in b_in p_low q_low = refl
+      grown_views = refl
 
 -- the node in hand
 pub record IsInHand (problem : Instance) (fates : List Fate) (k total : ℕ) (views : List View) : Type 0 where
@@ -291,34 +279,3 @@ pub in_hand : (problem : Instance) (nodes : List Node) (fates : List Fate) (rest
 in_hand problem nodes fates rest count total k popped =
     let first = popped.opens.only (total, k) (Contains-first (total, k) rest) in
     record { view = first.0; is = first.1; is_open = first.2; total_is = first.3; live = popped.searched.each k first.0 Open first.1 first.2 }
-
-left_tick : (conflict : Conflict) → bar_tick (left_bar conflict) ≡ tick_of conflict
-left_tick (Vertex i j cell tick) = refl
-left_tick (Swap i j from to tick) = refl
-
-right_tick : (conflict : Conflict) → bar_tick (right_bar conflict) ≡ tick_of conflict
-right_tick (Vertex i j cell tick) = refl
-right_tick (Swap i j from to tick) = refl
-
-left_moves : (paths : List (List ℕ)) (conflict : Conflict) → HasConflict paths conflict → IsBar (left_bar conflict)
-left_moves paths (Vertex i j cell tick) meet = tt
-left_moves paths (Swap i j from to tick) meet = meet.1
-
-right_moves : (paths : List (List ℕ)) (conflict : Conflict) → HasConflict paths conflict → IsBar (right_bar conflict)
-right_moves paths (Vertex i j cell tick) meet = tt
-right_moves paths (Swap i j from to tick) meet = λ e. meet.1 (sym e)
-
--- the bars of a conflict's children are such as a table takes
-pub left_table_bar : (paths : List (List ℕ)) (conflict : Conflict) → HasConflict paths conflict → tick_of conflict < 1000000 → IsTableBar (left_bar conflict)
-left_table_bar paths conflict meet early = (let e = left_tick conflict in omega (arith, e, early), left_moves paths conflict meet)
-
-pub right_table_bar : (paths : List (List ℕ)) (conflict : Conflict) → HasConflict paths conflict → tick_of conflict < 1000000 → IsTableBar (right_bar conflict)
-right_table_bar paths conflict meet early = (let e = right_tick conflict in omega (arith, e, early), right_moves paths conflict meet)
-
-pub left_known : (paths : List (List ℕ)) (conflict : Conflict) → HasConflict paths conflict → left_agent conflict < length paths
-left_known paths (Vertex i j cell tick) (differ, p, q, ip, jq, here, there) = slice_get_within paths i p ip
-left_known paths (Swap i j from to tick) (differ, moved, p, q, ip, jq, here, there) = slice_get_within paths i p ip
-
-pub right_known : (paths : List (List ℕ)) (conflict : Conflict) → HasConflict paths conflict → right_agent conflict < length paths
-right_known paths (Vertex i j cell tick) (differ, p, q, ip, jq, here, there) = slice_get_within paths j q jq
-right_known paths (Swap i j from to tick) (differ, moved, p, q, ip, jq, here, there) = slice_get_within paths j q jq

@@ -1,14 +1,12 @@
 -- What a conflict-based search knows of its nodes.
 use Rattle.std.specs.Prelude.{◌≡◌, ◌≢◌, ℕ, ◌+◌, ◌*◌, ◌<◌, ◌≤◌, ◌^◌, ◌==◌, if◌then◌else◌, List, [], None, Some, length, slice_get, slice_set, sum, All, AllPairs}
-use Rattle.mapf_model.specs.declared.bar.Bar.{Bar}
-use Rattle.mapf_model.specs.declared.bar.Bar.TheVariants.{Cell, Move}
+use Rattle.mapf_model.specs.declared.constraint.Constraint.{Constraint}
 use Rattle.mapf_model.specs.declared.problem.Agent.{Agent}
 use Rattle.mapf_model.specs.Blocks.{LabelBlock}
 use Rattle.mapf_model.specs.declared.label.Entry.{Entry}
 use Rattle.mapf_model.specs.declared.conflict.Conflict.{Conflict}
-use Rattle.mapf_model.specs.declared.conflict.Conflict.TheVariants.{Vertex, Swap}
 use Rattle.mapf_model.specs.Plan.{Instance}
-use Rattle.mapf_model.specs.Tree.{ConstraintTree, Split, Leaf, Clash, NodeConstraints, root, with_bar, left_child_constraints, right_child_constraints, IsProperSplit, AreOfDifferentAgents, block_of}
+use Rattle.mapf_model.specs.Tree.{ConstraintTree, Split, Leaf, Clash, NodeConstraints, root, with_constraint, left_child_constraints, right_child_constraints, IsProperSplit, AreOfDifferentAgents, block_of}
 use Rattle.mapf_model.specs.Earned.{tick_of}
 use Rattle.mapf_model.specs.Grid.{free_cell_count}
 use Rattle.mapf_constraints.specs.BarSets.{AreBefore}
@@ -47,33 +45,17 @@ pub record IsDead (problem : Instance) (view : View) : Type 0 where
   pub blocked : HasNoPath problem.grid agent (view.constraints.bars who) (view.entries who)
   pub each : (i : ℕ) (other : Agent) (path : List ℕ) (cost : ℕ) → i ≢ who → slice_get problem.agents i ≡ Some other → slice_get view.paths i ≡ Some path → slice_get view.costs i ≡ Some cost → IsCheapestOf problem view i other path cost
 
--- the agent and the bar of the left child, and of the right
-abbrev pub left_agent : Conflict → ℕ
-left_agent (Vertex i j cell tick) = i
-left_agent (Swap i j from to tick) = i
+-- the constraints of a node with one more
+abbrev pub child_constraints : View → Constraint → NodeConstraints
+child_constraints view constraint = record { bars = with_constraint view.constraints.bars constraint }
 
--- the agent whom the right child bars
-abbrev pub right_agent : Conflict → ℕ
-right_agent (Vertex i j cell tick) = j
-right_agent (Swap i j from to tick) = j
+-- the child under one more constraint whose agent has no path: only that agent's entries change
+abbrev pub dead_child : View → Constraint → List Entry → View
+dead_child view constraint entries = record { constraints = child_constraints view constraint; paths = view.paths; costs = view.costs; entries = λ k. if k == constraint.agent then entries else view.entries k }
 
--- what the left child bars its agent from
-abbrev pub left_bar : Conflict → Bar
-left_bar (Vertex i j cell tick) = Cell cell tick
-left_bar (Swap i j from to tick) = Move from to tick
-
--- what the right child bars its agent from
-abbrev pub right_bar : Conflict → Bar
-right_bar (Vertex i j cell tick) = Cell cell tick
-right_bar (Swap i j from to tick) = Move to from tick
-
--- an agent is bound by one more bar: its entries change, and its path and cost where it still arrives
-abbrev pub dead_child : View → ℕ → Bar → List Entry → View
-dead_child view i bar entries = record { constraints = record { bars = with_bar view.constraints.bars i bar }; paths = view.paths; costs = view.costs; entries = λ k. if k == i then entries else view.entries k }
-
--- the child of a node under a new bar of agent i, with that agent's new path, cost and labels
-abbrev pub live_child : View → ℕ → Bar → List ℕ → ℕ → List Entry → View
-live_child view i bar path cost entries = record { constraints = record { bars = with_bar view.constraints.bars i bar }; paths = slice_set view.paths i path; costs = slice_set view.costs i cost; entries = λ k. if k == i then entries else view.entries k }
+-- the child under one more constraint, with its agent's new path, cost and entries
+abbrev pub live_child : View → Constraint → List ℕ → ℕ → List Entry → View
+live_child view constraint path cost entries = record { constraints = child_constraints view constraint; paths = slice_set view.paths constraint.agent path; costs = slice_set view.costs constraint.agent cost; entries = λ k. if k == constraint.agent then entries else view.entries k }
 
 -- a node that was split: its list has the conflict first, and its children are later nodes
 pub record IsExpandedAt (problem : Instance) (views : List View) (fates : List Fate) (k : ℕ) (view : View) (conflict : Conflict) (left right : ℕ) : Type 0 where

@@ -24,8 +24,13 @@ pub fn finders_at(
 {
     let mut finders = none_of(alloc, agents)?;
     let mut at = k;
-    while let Node::Child { parent, agent, .. } = &nodes[at as usize] {
-        note(&mut finders, *agent, at);
+    while let Node::Child {
+        parent,
+        constraint,
+        ..
+    } = &nodes[at as usize]
+    {
+        note(&mut finders, constraint.agent, at);
         at = *parent;
     }
     Ok(finders)

@@ -1,4 +1,4 @@
-use mapf_model::{Bar, Conflict, Path};
+use mapf_model::{Conflict, Constraint, Path};
 use mapf_spacetime::Found;
 
 /// A node of the constraint tree by its change: all else is found at its ancestors.
@@ -8,11 +8,10 @@ pub enum Node {
     Root {
         paths: Vec<Path>,
     },
-    /// The agent has one bar more than at the parent, and this is what its search found.
+    /// The node has one constraint more than the parent, and this is what the search for its agent found.
     Child {
         parent: u32,
-        agent: u32,
-        bar: Bar,
+        constraint: Constraint,
         found: Found,
     },
 }

@@ -1,10 +1,9 @@
 ghost use Rattle.std.specs.Prelude.{◌≡◌, ◌+◌, ◌^◌, ◌<◌, ◌∷◌, [], ◌++◌, length, slice_set, IfOk, IfSome, IfNone, OnOk};
-ghost use Rattle.mapf_cbs.specs.Search.{left_agent, right_agent, left_bar, right_bar};
+ghost use Rattle.mapf_model.specs.Tree.{left_constraint, right_constraint};
 ghost use Rattle.mapf_cbs.specs.State.{fate_of, with_key, IsLeastKey};
 
 use crate::child::GeneratedChild;
 use crate::node::{Fate, Node};
-use crate::sides::{left_agent, left_bar, right_agent, right_bar};
 use mapf_model::{Conflict, OutOfMemory, Path};
 use std::alloc::Global;
 use std::collections::BTreeSet;
@@ -69,7 +68,7 @@ impl SearchTree {
         requires few { length self.old.nodes.items < 2 ^ 31 }
         requires inside { k < length self.old.fates.items }
         requires splits { self.old.splits < 2 ^ 31 }
-        ensures nodes { OnOk result (self.new.nodes.items ≡ (self.old.nodes.items ++ Node.Child k (left_agent conflict.now) (left_bar conflict.now) left.found ∷ []) ++ Node.Child k (right_agent conflict.now) (right_bar conflict.now) right.found ∷ []) }
+        ensures nodes { OnOk result (self.new.nodes.items ≡ (self.old.nodes.items ++ Node.Child k (left_constraint conflict.now) left.found ∷ []) ++ Node.Child k (right_constraint conflict.now) right.found ∷ []) }
         ensures fates { OnOk result (self.new.fates.items ≡ slice_set ((self.old.fates.items ++ fate_of left.total ∷ []) ++ fate_of right.total ∷ []) k (Fate.Expanded conflict.now (length self.old.nodes.items) (length self.old.nodes.items + 1))) }
         ensures waiting { OnOk result (self.new.waiting.keys ≡ with_key (with_key self.old.waiting.keys left.total (length self.old.nodes.items)) right.total (length self.old.nodes.items + 1)) }
         ensures splits { OnOk result (self.new.splits ≡ self.old.splits + 1) }
@@ -79,14 +78,12 @@ impl SearchTree {
         self.add_open(right.total, number + 1)?;
         self.nodes.push(Node::Child {
             parent: k,
-            agent: left_agent(conflict),
-            bar: left_bar(conflict),
+            constraint: conflict.left(),
             found: left.found,
         })?;
         self.nodes.push(Node::Child {
             parent: k,
-            agent: right_agent(conflict),
-            bar: right_bar(conflict),
+            constraint: conflict.right(),
             found: right.found,
         })?;
         self.splits += 1;

@@ -10,7 +10,6 @@ ghost use Rattle.mapf_cbs.specs.State.{IsPopped, IsState, IsCauseToStop};
 use crate::answer::Answer;
 use crate::child::child;
 use crate::search_tree::{SearchTree, take_least};
-use crate::sides::{left_agent, left_bar, right_agent, right_bar, tick_of};
 use crate::start::{Beginning, begin, total_of};
 use crate::walks::plan_at;
 use crate::written::tree_items;
@@ -91,7 +90,7 @@ pub fn cause_to_stop(conflict: &Conflict, splits: u32, limit: u32) -> Option<Cau
     ensures early { IfNone result (tick_of conflict.now < 1000000) }
     ensures allowed { IfNone result (splits ≢ limit) }
 {
-    if tick_of(conflict) >= TICK_LIMIT {
+    if conflict.tick() >= TICK_LIMIT {
         return Some(Cause::Ticks);
     }
     if splits == limit {
@@ -126,8 +125,7 @@ fn split<B: BarTable>(
         &search.nodes,
         k,
         total,
-        left_agent(conflict),
-        left_bar(conflict),
+        conflict.left(),
     )?;
     let right = child::<B>(
         alloc,
@@ -136,8 +134,7 @@ fn split<B: BarTable>(
         &search.nodes,
         k,
         total,
-        right_agent(conflict),
-        right_bar(conflict),
+        conflict.right(),
     )?;
     search.grow(k, conflict, left, right)
 }

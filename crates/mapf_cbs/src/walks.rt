@@ -22,11 +22,10 @@ pub fn path_at(nodes: &[Node], k: u32, agent: u32) -> &Path
             Node::Root { paths } => return &paths[agent as usize],
             Node::Child {
                 parent,
-                agent: bound,
+                constraint,
                 found,
-                ..
             } => {
-                if *bound == agent {
+                if constraint.agent == agent {
                     match found {
                         Found::Arrives { path, .. } => return path,
                         Found::Dead { .. } => {}
@@ -52,11 +51,10 @@ pub fn labels_at(nodes: &[Node], k: u32, agent: u32) -> Option<&Labels>
             Node::Root { .. } => return None,
             Node::Child {
                 parent,
-                agent: bound,
+                constraint,
                 found,
-                ..
             } => {
-                if *bound == agent {
+                if constraint.agent == agent {
                     match found {
                         Found::Arrives { labels, .. } => return Some(labels),
                         Found::Dead { labels } => return Some(labels),
@@ -84,13 +82,12 @@ pub fn bars_at<B: BarTable>(
     let mut at = k;
     while let Node::Child {
         parent,
-        agent: bound,
-        bar,
+        constraint,
         ..
     } = &nodes[at as usize]
     {
-        if *bound == agent {
-            table.add(*bar)?;
+        if constraint.agent == agent {
+            table.add(constraint.bar)?;
         }
         at = *parent;
     }

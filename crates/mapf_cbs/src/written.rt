@@ -6,7 +6,6 @@ ghost use Rattle.mapf_cbs.specs.Nodes.{AreNodesFor, AreViews};
 use crate::finders::finders_at;
 use crate::leaves::Leaves;
 use crate::node::{Fate, Node};
-use crate::sides::split_item;
 use crate::walks::labels_at;
 use mapf_model::{Block, Entry, Item, OutOfMemory};
 use std::alloc::Global;
@@ -35,7 +34,7 @@ pub fn tree_items<L: Leaves>(
                 left,
                 right,
             } => {
-                items.push(split_item(conflict))?;
+                items.push(Item::split(conflict))?;
                 owed.push(right)?;
                 owed.push(left)?;
             }

@@ -31,7 +31,7 @@ loop-k-preserved-in-Continue-branch-4 g c =
       leads = λ views are size.
           let before : Leads c.args.agents views c.args.fates.now c.loop-k.items.items (c.in-Some.k ∷ reverse c.pop.new.self.items) =
           subst (λ xs. Leads c.args.agents views c.args.fates.now c.loop-k.items.items xs) (ap reverse c.in-Some.ensures.items ∙ reverse_push c.pop.new.self.items c.in-Some.k) (c.loop-k.invariant.leads views are size) in
-          let after = leads_split c.args.agents views c.args.fates.now c.loop-k.items.items c.in-Some.k (reverse c.pop.new.self.items) before c.split_item.result c.in-Expanded.conflict c.in-Expanded.left c.in-Expanded.right expanded c.split_item.ensures in
+          let after = leads_split c.args.agents views c.args.fates.now c.loop-k.items.items c.in-Some.k (reverse c.pop.new.self.items) before c.split.result c.in-Expanded.conflict c.in-Expanded.left c.in-Expanded.right expanded c.split.ensures in
           subst (λ xs. Leads c.args.agents views c.args.fates.now c.push-in-Expanded.new.self.items xs)
           (sym (ap reverse owed ∙ reverse_push (c.pop.new.self.items ++ c.in-Expanded.right ∷ []) c.in-Expanded.left ∙ ap (λ xs. c.in-Expanded.left ∷ xs) (reverse_push c.pop.new.self.items c.in-Expanded.right)))
           (subst (λ its. Leads c.args.agents views c.args.fates.now its (c.in-Expanded.left ∷ c.in-Expanded.right ∷ reverse c.pop.new.self.items)) (sym c.in_ok-push-in-Expanded.ensures.items) after);
