@@ -52,10 +52,13 @@ pub record AreViews (nodes : List Node) (views : List View) : Type 0 where
   pub lengths : length views ≡ length nodes
   pub each : (k : ℕ) (node : Node) (view : View) → slice_get nodes k ≡ Some node → slice_get views k ≡ Some view → IsNodeView views k node view
 
+-- a fact holds of what the node means
+abbrev pub HoldsOfNode : List Node → ℕ → (View → Type 0) → Type 0
+HoldsOfNode nodes k Fact = (views : List View) (view : View) → AreViews nodes views → slice_get views k ≡ Some view → Fact view
+
 -- the conflict is the first of the node's paths
 abbrev pub IsFirstAt : Instance → List Node → ℕ → Conflict → Type 0
-IsFirstAt problem nodes k conflict = (views : List View) (view : View) → AreViews nodes views →
-    slice_get views k ≡ Some view → IsLive problem view → IsFirstConflict view.paths conflict
+IsFirstAt problem nodes k conflict = HoldsOfNode nodes k (λ view. IsLive problem view → IsFirstConflict view.paths conflict)
 
 -- the bars of one list are those of two others
 pub record AreJoined (all front rest : List Bar) : Type 0 where

@@ -92,5 +92,5 @@ pub record IsWholePopped (problem : Instance) (nodes : List WholeNode) (fates : 
   pub changes : List Node
   pub rest : List (ℕ × ℕ)
   pub popped : IsPopped problem changes fates rest count total k
-  pub whole : AreWhole nodes popped.views
+  pub whole : AreWhole nodes popped.state.views
   pub agent_paths : HaveAgentPaths nodes (length problem.agents)

@@ -8,7 +8,7 @@ ghost use Rattle.mapf_spacetime.specs.Task.{task_of};
 ghost use Rattle.mapf_cbs.specs.CheapestPath.{IsTableBar};
 ghost use Rattle.mapf_distance.specs.Tables.{AreTables};
 ghost use Rattle.mapf_cbs.specs.Search.{View, IsLive};
-ghost use Rattle.mapf_cbs.specs.Nodes.{AreNodesFor, HaveTableBars, AreViews};
+ghost use Rattle.mapf_cbs.specs.Nodes.{AreNodesFor, HaveTableBars, AreViews, HoldsOfNode};
 ghost use Rattle.mapf_cbs.specs.GeneratedChild.{IsGeneratedChild, EndsAt, IsTotal};
 
 use crate::node::Node;
@@ -43,8 +43,11 @@ pub fn child<B: BarTable>(
     requires known { constraint.agent < length problem.now.agents }
     requires bar { IsTableBar constraint.bar }
     requires small { total + 2 ^ 32 < 2 ^ 64 }
-    requires live { (views : List View) × (view : View) × AreViews nodes.now views × (slice_get views k ≡ Some view) × IsLive problem.now view × (total ≡ sum view.costs) }
-    ensures { IfOk result (λ generated. (views : List View) (view : View) → AreViews nodes.now views → slice_get views k ≡ Some view → IsLive problem.now view → total ≡ sum view.costs → IsGeneratedChild problem.now view constraint generated.found generated.total) }
+    requires live { (views : List View) × (view : View) × AreViews nodes.now views × (slice_get views k ≡ Some view)
+        × IsLive problem.now view × (total ≡ sum view.costs) }
+    ensures { IfOk result (λ generated.
+        HoldsOfNode nodes.now k (λ view. IsLive problem.now view → total ≡ sum view.costs →
+        IsGeneratedChild problem.now view constraint generated.found generated.total)) }
 {
     let agent = constraint.agent;
     let who = problem.agents()[agent as usize];
@@ -69,7 +72,11 @@ fn search_with<B: BarTable>(
     requires inside { k < length nodes.now }
     requires known { constraint.agent < length problem.now.agents }
     requires bar { IsTableBar constraint.bar }
-    ensures { IfOk result (λ found. (who : Agent) (views : List View) (view : View) → slice_get problem.now.agents constraint.agent ≡ Some who → AreViews nodes.now views → slice_get views k ≡ Some view → (bars : List Bar) × AreSameBars bars (constraint.bar ∷ view.constraints.bars constraint.agent) × IsPathAnswer (task_of problem.now.grid who bars) found) }
+    ensures { IfOk result (λ found.
+        (who : Agent) → slice_get problem.now.agents constraint.agent ≡ Some who →
+        HoldsOfNode nodes.now k (λ view. (bars : List Bar)
+        × AreSameBars bars (constraint.bar ∷ view.constraints.bars constraint.agent)
+        × IsPathAnswer (task_of problem.now.grid who bars) found)) }
 {
     let who = problem.agents()[constraint.agent as usize];
     let mut table: B = bars_at(alloc, nodes, k, constraint.agent)?;

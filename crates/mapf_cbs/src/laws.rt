@@ -3,6 +3,7 @@
 ghost use Rattle.std.specs.Prelude.{◌≡◌, ◌+◌, ◌^◌, ◌<◌, ◌≤◌, ◌∷◌, ℕ, length, IfOk, OnOk};
 ghost use Rattle.mapf_model.specs.Earned.{tick_of};
 ghost use Rattle.mapf_model.specs.Laws.{AreSameBars};
+ghost use Rattle.mapf_model.specs.Limits.{most_splits, split_ticks};
 ghost use Rattle.mapf_cbs.specs.Answer.{IsSearchAnswer};
 ghost use Rattle.mapf_cbs.specs.CheapestPath.{IsTableBar};
 ghost use Rattle.mapf_cbs.specs.Goals.{HaveDifferentGoals};
@@ -28,7 +29,7 @@ use std::alloc::Global;
 
 /// Answers what `solve` answers, by the plainest means.
 pub fn solve_plain(alloc: Global, problem: &Problem, limit: u32) -> Result<Answer, OutOfMemory>
-    requires { limit ≤ 100000 }
+    requires { limit ≤ most_splits }
     ensures { IfOk result (IsSearchAnswer problem.now limit) }
 {
     match begin(alloc, problem)? {
@@ -46,7 +47,7 @@ fn search_plain(
     paths: Vec<Path>,
     limit: u32,
 ) -> Result<Answer, OutOfMemory>
-    requires limit { limit ≤ 100000 }
+    requires limit { limit ≤ most_splits }
     requires root { IsRootStart problem.now tables.now paths.items }
     ensures { IfOk result (IsSearchAnswer problem.now limit) }
 {
@@ -81,12 +82,14 @@ fn split_whole(
     conflict: &Conflict,
 ) -> Result<(), OutOfMemory>
     requires tables { AreTables problem.now tables.now }
-    requires popped { (total : ℕ) × IsWholePopped problem.now tree.old.nodes.items tree.old.fates.items tree.old.splits total k }
+    requires popped { (total : ℕ)
+        × IsWholePopped problem.now tree.old.nodes.items tree.old.fates.items tree.old.splits total k }
     requires goals { HaveDifferentGoals problem.now }
     requires meet { IsFirstAtWhole tree.old.nodes.items k conflict.now }
-    requires early { tick_of conflict.now < 1000000 }
-    requires few { tree.old.splits < 100000 }
-    ensures state { OnOk result (IsWholeState problem.now tree.new.nodes.items tree.new.fates.items (tree.old.splits + 1)) }
+    requires early { tick_of conflict.now < split_ticks }
+    requires few { tree.old.splits < most_splits }
+    ensures state { OnOk result
+        (IsWholeState problem.now tree.new.nodes.items tree.new.fates.items (tree.old.splits + 1)) }
     ensures splits { OnOk result (tree.new.splits ≡ tree.old.splits + 1) }
 {
     let left = child_of(
@@ -120,8 +123,11 @@ fn child_of(
     requires bar { IsTableBar constraint.bar }
     requires small { node.now.total + 2 ^ 32 < 2 ^ 64 }
     requires live { (view : View) × IsWhole node.now view × IsLive problem.now view }
-    ensures count { IfOk result (λ generated. length generated.node.agent_paths.items ≡ length node.now.agent_paths.items) }
-    ensures generated { IfOk result (λ generated. (view : View) → IsWhole node.now view → IsLive problem.now view → IsWholeChild problem.now view constraint generated.node generated.total) }
+    ensures count { IfOk result (λ generated.
+        length generated.node.agent_paths.items ≡ length node.now.agent_paths.items) }
+    ensures generated { IfOk result (λ generated.
+        (view : View) → IsWhole node.now view → IsLive problem.now view →
+        IsWholeChild problem.now view constraint generated.node generated.total) }
 {
     let who = problem.agents()[constraint.agent as usize];
     let goal = who.goal;

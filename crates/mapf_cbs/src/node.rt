@@ -23,10 +23,6 @@ pub enum Fate {
     Open,
     /// Some agent can't arrive.
     Dead,
-    /// The node was split on the conflict.
-    Expanded {
-        conflict: Conflict,
-        left: u32,
-        right: u32,
-    },
+    /// The node was split on the conflict: this is the number of its left child, and the right one is next.
+    Expanded { conflict: Conflict, left: u32 },
 }

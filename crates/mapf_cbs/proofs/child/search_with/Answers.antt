@@ -29,7 +29,7 @@ search-requires-clause-goal g c =
     (c.requires.tables.each c.args.constraint.agent c.index-agents-constraint.result c.index-tables-constraint.result known table).1
 
 pub returns : goal.returns
-returns g c = IfOk-weaker c.search.result _ _ (λ found is who views view known are view_is.
+returns g c = IfOk-weaker c.search.result _ _ (λ found is who known views view are view_is.
     let agents = c.agents.ensures.value in
     let read = slice_get_read c.agents.result.now (length c.agents.result.now) c.args.constraint.agent c.index-agents-constraint.result refl (rw agents c.requires.known) c.index-agents-constraint.is in
     let same : c.index-agents-constraint.result ≡ who = same_Some c.index-agents-constraint.result who (sym (rw agents at read) ∙ known) in (

@@ -1,10 +1,10 @@
-use Rattle.std.proofs.Common.{◌∷◌, [], ◌++◌, ◌+◌, Result, Ok, Err, OnOk, length, refl, sym, ◌∙◌, ap, subst, arith}
+use Rattle.std.proofs.Common.{Result, Ok, Err, OnOk, length, refl, sym, ◌∙◌, ap, subst, arith}
 use Rattle.std.proofs.lemmas.Option.{slice_get_read, slice_get_within}
 use Rattle.mapf_model.specs.declared.constraint.Constraint.{Constraint}
 use Rattle.mapf_cbs.specs.declared.node.Fate.TheVariants.{Open}
 use Rattle.mapf_cbs.specs.CheapestPath.{IsTableBar}
 use Rattle.mapf_model.specs.Tree.{left_constraint, right_constraint}
-use Rattle.mapf_cbs.specs.Whole.{IsWholeChild, IsWholeState}
+use Rattle.mapf_cbs.specs.Whole.{IsWholeChild}
 use Rattle.mapf_cbs.proofs.ChildLemmas.{of_paths}
 use Rattle.mapf_cbs.proofs.PlainLemmas.{whole_hand, hand_inside, hand_whole, hand_small, whole_grown}
 use Rattle.mapf_cbs.proofs.laws.split_whole.Goals as goal
@@ -131,7 +131,4 @@ returns-clause-state c =
     let state = whole_grown problem t.nodes.items t.fates.items t.splits p.0 c.args.k p.1 c.requires.goals conflict met c.requires.early
     c.in_ok-left.left.node c.in_ok-right.right.node c.in_ok-left.left.total c.in_ok-right.right.total left right
     (c.in_ok-left.ensures.count ∙ p.1.agent_paths c.args.k c.index.result.now here) (c.in_ok-right.ensures.count ∙ p.1.agent_paths c.args.k c.index-2.result.now here-2) in
-    on_ok_two c.grow.result (λ ns fs.
-    subst (λ xs. IsWholeState problem xs c.grow.new.self.fates.items (t.splits + 1)) (sym ns)
-    (subst (λ xs. IsWholeState problem ((t.nodes.items ++ c.in_ok-left.left.node ∷ []) ++ c.in_ok-right.right.node ∷ []) xs (t.splits + 1)) (sym fs) state))
-    c.grow.ensures.nodes c.grow.ensures.fates
+    on_ok_two c.grow.result (λ ns fs. rw ns (rw fs state)) c.grow.ensures.nodes c.grow.ensures.fates
