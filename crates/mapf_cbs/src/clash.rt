@@ -8,7 +8,8 @@ pub fn sharing_pair(agents: &[Agent]) -> Option<(usize, usize)>
     ensures order { IfSome result (λ pair. pair.0 < pair.1) }
     ensures inside { IfSome result (λ pair. pair.1 < length agents.now) }
     ensures some { IfSome result (λ pair. HaveGoal agents.now pair.0 pair.1) }
-    ensures least { IfSome result (λ pair. (i j : ℕ) → i < pair.0 → i < j → j < length agents.now → HaveGoal agents.now i j → ⊥) }
+    ensures least { IfSome result (λ pair.
+        (i j : ℕ) → i < pair.0 → i < j → j < length agents.now → HaveGoal agents.now i j → ⊥) }
     ensures nearest { IfSome result (λ pair. (j : ℕ) → pair.0 < j → j < pair.1 → HaveGoal agents.now pair.0 j → ⊥) }
     ensures none { IfNone result ((i j : ℕ) → i < j → j < length agents.now → HaveGoal agents.now i j → ⊥) }
 {
