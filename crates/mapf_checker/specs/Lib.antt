@@ -1,7 +1,7 @@
 pub mod PathDefects
 pub mod Meetings
 pub mod Defects
-pub mod Bounds
+pub mod BarredCells
 pub mod Keys
 pub mod Index
 pub mod Way

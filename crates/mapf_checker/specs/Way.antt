@@ -1,8 +1,8 @@
 -- The way to the node of a tree that is read next.
 use Rattle.std.specs.Prelude.{◌≡◌, Bool, List, [], ◌∷◌, Option, Some, None, fold, MatchBool}
 use Rattle.mapf_model.specs.declared.conflict.Conflict.{Conflict}
-use Rattle.mapf_model.specs.Tree.{NodeConstraints, root, with_bar, left_child_constraints, right_child_constraints}
-use Rattle.mapf_checker.specs.declared.bound.AgentBar.{AgentBar}
+use Rattle.mapf_model.specs.Tree.{NodeConstraints, root, with_constraint, left_child_constraints, right_child_constraints}
+use Rattle.mapf_model.specs.declared.constraint.Constraint.{Constraint}
 use Rattle.mapf_checker.specs.declared.way.Turn.{Turn}
 use Rattle.mapf_checker.specs.declared.index.BarIndex.{BarIndex}
 use Rattle.mapf_checker.specs.Index.{Indexes, CanUndo}
@@ -12,27 +12,27 @@ pub record Place : Type 0 where
   pub here : NodeConstraints
   pub owed : List NodeConstraints
 
--- one bar more
-abbrev pub bound_by : NodeConstraints → AgentBar → NodeConstraints
-bound_by here bound = record { bars = with_bar here.bars bound.agent bound.bar }
+-- one constraint more: those of a child
+abbrev pub child_constraints : NodeConstraints → Constraint → NodeConstraints
+child_constraints here constraint = record { bars = with_constraint here.bars constraint }
 
 -- a sibling, if it is still to come
-abbrev pub with_owed : NodeConstraints → Option AgentBar → List NodeConstraints → List NodeConstraints
+abbrev pub with_owed : NodeConstraints → Option Constraint → List NodeConstraints → List NodeConstraints
 with_owed here None owed = owed
-with_owed here (Some other) owed = bound_by here other ∷ owed
+with_owed here (Some other) owed = child_constraints here other ∷ owed
 
 -- into a child that bars this, where its sibling bars that and is owed
-abbrev pub turned : Place → AgentBar → Option AgentBar → Place
-turned place bound other = record { here = bound_by place.here bound; owed = with_owed place.here other place.owed }
+abbrev pub turned : Place → Constraint → Option Constraint → Place
+turned place constraint other = record { here = child_constraints place.here constraint; owed = with_owed place.here other place.owed }
 
 -- where the turns lead from the root
 abbrev pub place_of : List Turn → Place
-place_of turns = fold (λ place turn. turned place turn.bound turn.owed) (record { here = root; owed = [] }) turns
+place_of turns = fold (λ place turn. turned place turn.constraint turn.owed) (record { here = root; owed = [] }) turns
 
 -- each turn can be undone
 abbrev pub CanUndoAll : NodeConstraints → List Turn → Type 0
 CanUndoAll here [] = Unit {0}
-CanUndoAll here (turn ∷ turns) = CanUndo here.bars turn.bound turn.undo × CanUndoAll (bound_by here turn.bound) turns
+CanUndoAll here (turn ∷ turns) = CanUndo here.bars turn.constraint turn.undo × CanUndoAll (child_constraints here turn.constraint) turns
 
 -- the index has the bars where these turns lead, and they can be undone
 pub record IsIndexedWay (turns : List Turn) (index : BarIndex) : Type 0 where

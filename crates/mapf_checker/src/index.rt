@@ -1,11 +1,11 @@
 ghost use Rattle.std.specs.Prelude.{◌≡◌, ◌≢◌, ◌↔◌, ◌≤◌, ◌<◌, ℕ, [], List, Some, None, Contains, IfOk, OnOk, OnErr, IsOk, IsTrue, MatchBool, MatchOption, IsSome, max, unwrap_or};
 ghost use Rattle.std.specs.HashMap.{get, spare};
 ghost use Rattle.mapf_model.specs.declared.bar.Bar.{Bar};
-ghost use Rattle.mapf_model.specs.Tree.{with_bar};
-ghost use Rattle.mapf_checker.specs.Keys.{same_bar, same_cell};
+ghost use Rattle.mapf_model.specs.Tree.{with_constraint};
+ghost use Rattle.mapf_checker.specs.Keys.{same_constraint, same_cell};
 
-use crate::bound::{AgentBar, AgentCell, cell_of};
-use mapf_model::{Bar, Cell, OutOfMemory, Tick};
+use crate::agent_cell::{AgentCell, cell_of};
+use mapf_model::{Bar, Cell, Constraint, OutOfMemory, Tick};
 use std::alloc::Global;
 use std::collections::HashMap;
 
@@ -22,7 +22,7 @@ pub struct Undo {
 /// that was added.
 #[derive(Drop)]
 pub struct BarIndex {
-    bars: HashMap<AgentBar, ()>,
+    bars: HashMap<Constraint, ()>,
     // The last tick at which a cell is barred.
     last: HashMap<AgentCell, Tick>,
 }
@@ -40,10 +40,10 @@ impl BarIndex {
         }
     }
 
-    pub fn has(&self, bound: &AgentBar) -> bool
-        ensures { (bars : ℕ → List Bar) → Indexes bars self.now → IsTrue result ↔ Contains (bars bound.now.agent) bound.now.bar }
+    pub fn has(&self, constraint: &Constraint) -> bool
+        ensures { (bars : ℕ → List Bar) → Indexes bars self.now → IsTrue result ↔ Contains (bars constraint.now.agent) constraint.now.bar }
     {
-        self.bars.contains_key(bound)
+        self.bars.contains_key(constraint)
     }
 
     /// Whether the cell is barred to the agent at this tick or later.
@@ -57,14 +57,14 @@ impl BarIndex {
     }
 
     /// Adds a bar.
-    pub fn add(&mut self, bound: &AgentBar) -> Result<Undo, OutOfMemory>
-        ensures added { OnOk result ((bars : ℕ → List Bar) → Indexes bars self.old → Indexes (with_bar bars bound.now.agent bound.now.bar) self.new) }
-        ensures undo { IfOk result (λ undo. (bars : ℕ → List Bar) → Indexes bars self.old → CanUndo bars bound.now undo) }
+    pub fn add(&mut self, constraint: &Constraint) -> Result<Undo, OutOfMemory>
+        ensures added { OnOk result ((bars : ℕ → List Bar) → Indexes bars self.old → Indexes (with_constraint bars constraint.now) self.new) }
+        ensures undo { IfOk result (λ undo. (bars : ℕ → List Bar) → Indexes bars self.old → CanUndo bars constraint.now undo) }
         ensures unchanged { OnErr result ((bars : ℕ → List Bar) → Indexes bars self.old → Indexes bars self.new) }
     {
         self.last.reserve(1)?;
-        let is_new = insert_bar(&mut self.bars, bound)?;
-        let last = match cell_of(bound) {
+        let is_new = insert_bar(&mut self.bars, constraint)?;
+        let last = match cell_of(constraint) {
             Some((seen, tick)) => raise_last(&mut self.last, seen, tick),
             None => None,
         };
@@ -72,38 +72,42 @@ impl BarIndex {
     }
 
     /// Takes the bar away that was added last.
-    pub fn undo(&mut self, bound: &AgentBar, undo: &Undo)
-        ensures { (bars : ℕ → List Bar) → Indexes (with_bar bars bound.now.agent bound.now.bar) self.old → CanUndo bars bound.now undo.now → Indexes bars self.new }
+    pub fn undo(&mut self, constraint: &Constraint, undo: &Undo)
+        ensures { (bars : ℕ → List Bar) → Indexes (with_constraint bars constraint.now) self.old → CanUndo bars constraint.now undo.now → Indexes bars self.new }
     {
-        remove_if_new(&mut self.bars, bound, undo.is_new);
-        if let Some((seen, _)) = cell_of(bound) {
+        remove_if_new(&mut self.bars, constraint, undo.is_new);
+        if let Some((seen, _)) = cell_of(constraint) {
             restore_last(&mut self.last, seen, undo.last);
         }
     }
 }
 
 // Adds a bar, and answers whether it is new.
-fn insert_bar(bars: &mut HashMap<AgentBar, ()>, bound: &AgentBar) -> Result<bool, OutOfMemory>
-    ensures is_new { IfOk result (λ is_new. MatchBool is_new (get same_bar bars.old bound.now ≡ None) (IsSome (get same_bar bars.old bound.now))) }
-    ensures here { OnOk result (IsSome (get same_bar bars.new bound.now)) }
-    ensures others { OnOk result ((other : AgentBar) → other ≢ bound.now → get same_bar bars.new other ≡ get same_bar bars.old other) }
-    ensures unchanged { OnErr result ((other : AgentBar) → get same_bar bars.new other ≡ get same_bar bars.old other) }
+fn insert_bar(
+    bars: &mut HashMap<Constraint, ()>,
+    constraint: &Constraint,
+) -> Result<bool, OutOfMemory>
+    ensures is_new { IfOk result (λ is_new. MatchBool is_new (get same_constraint bars.old constraint.now ≡ None) (IsSome (get same_constraint bars.old constraint.now))) }
+    ensures here { OnOk result (IsSome (get same_constraint bars.new constraint.now)) }
+    ensures others { OnOk result ((other : Constraint) → other ≢ constraint.now → get same_constraint bars.new other ≡ get same_constraint bars.old other) }
+    ensures unchanged { OnErr result ((other : Constraint) → get same_constraint bars.new other ≡ get same_constraint bars.old other) }
 {
-    let bar: Bar = bound.bar;
-    let key = AgentBar {
-        agent: bound.agent,
+    // The prover has to meet the type of the bar here.
+    let bar: Bar = constraint.bar;
+    let key = Constraint {
+        agent: constraint.agent,
         bar,
     };
     Ok(bars.insert(key, ())?.is_none())
 }
 
 // Takes a bar away, if it was new.
-fn remove_if_new(bars: &mut HashMap<AgentBar, ()>, bound: &AgentBar, is_new: bool)
-    ensures here { MatchBool is_new (get same_bar bars.new bound.now ≡ None) (get same_bar bars.new bound.now ≡ get same_bar bars.old bound.now) }
-    ensures others { (other : AgentBar) → other ≢ bound.now → get same_bar bars.new other ≡ get same_bar bars.old other }
+fn remove_if_new(bars: &mut HashMap<Constraint, ()>, constraint: &Constraint, is_new: bool)
+    ensures here { MatchBool is_new (get same_constraint bars.new constraint.now ≡ None) (get same_constraint bars.new constraint.now ≡ get same_constraint bars.old constraint.now) }
+    ensures others { (other : Constraint) → other ≢ constraint.now → get same_constraint bars.new other ≡ get same_constraint bars.old other }
 {
     if is_new {
-        bars.remove(bound);
+        bars.remove(constraint);
     }
 }
 

@@ -2,7 +2,7 @@
 #![tactic(auto)]
 
 mod acceptance;
-mod bound;
+mod agent_cell;
 mod cert_judge;
 mod fault;
 mod index;

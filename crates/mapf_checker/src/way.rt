@@ -1,8 +1,7 @@
 ghost use Rattle.std.specs.Prelude.{◌≡◌, ◌↔◌, ◌≤◌, ◌∷◌, [], ℕ, Contains, IfOk, OnOk, IsTrue};
 
-use crate::bound::{AgentBar, left_of, right_of};
 use crate::index::{BarIndex, Undo};
-use mapf_model::{Bar, Cell, Conflict, OutOfMemory, Tick};
+use mapf_model::{Bar, Cell, Conflict, Constraint, OutOfMemory, Tick};
 use std::alloc::Global;
 use std::marker::Model;
 
@@ -10,9 +9,9 @@ use std::marker::Model;
 #[derive(Clone, Copy)]
 pub struct Turn {
     /// What the child bars, and to whom.
-    pub bound: AgentBar,
+    pub constraint: Constraint,
     /// What the other child bars, where that child is still to come.
-    pub owed: Option<AgentBar>,
+    pub owed: Option<Constraint>,
     /// What to undo on the way back.
     pub undo: Undo,
 }
@@ -55,7 +54,7 @@ impl Way {
     pub fn has(&self, agent: u32, bar: Bar) -> bool
         ensures { IsTrue result ↔ Contains ((place_of self.now).here.bars agent) bar }
     {
-        self.index.has(&AgentBar { agent, bar })
+        self.index.has(&Constraint { agent, bar })
     }
 
     /// Whether the cell is barred to the agent at this tick or later.
@@ -69,7 +68,7 @@ impl Way {
     pub fn split(&mut self, conflict: &Conflict) -> Result<(), OutOfMemory>
         ensures { OnOk result (IsSplit (place_of self.old) conflict.now (place_of self.new)) }
     {
-        self.turn(left_of(conflict), Some(right_of(conflict)))
+        self.turn(conflict.left(), Some(conflict.right()))
     }
 
     /// Goes on from an end of the tree to the node that is owed next, if one is.
@@ -77,7 +76,7 @@ impl Way {
         ensures { IfOk result (NextOf (place_of self.old) (place_of self.new)) }
     {
         while let Some(turn) = self.turns.pop() {
-            self.index.undo(&turn.bound, &turn.undo);
+            self.index.undo(&turn.constraint, &turn.undo);
             if let Some(other) = turn.owed {
                 self.turn(other, None)?;
                 return Ok(true);
@@ -86,12 +85,16 @@ impl Way {
         Ok(false)
     }
 
-    fn turn(&mut self, bound: AgentBar, owed: Option<AgentBar>) -> Result<(), OutOfMemory>
-        ensures { OnOk result (place_of self.new ≡ turned (place_of self.old) bound owed) }
+    fn turn(&mut self, constraint: Constraint, owed: Option<Constraint>) -> Result<(), OutOfMemory>
+        ensures { OnOk result (place_of self.new ≡ turned (place_of self.old) constraint owed) }
     {
         self.turns.reserve(1)?;
-        let undo = self.index.add(&bound)?;
-        let turn = Turn { bound, owed, undo };
+        let undo = self.index.add(&constraint)?;
+        let turn = Turn {
+            constraint,
+            owed,
+            undo,
+        };
         self.turns.push_reserved(turn);
         Ok(())
     }

@@ -7,5 +7,5 @@ invariant_of-self-2 c =
     let turns = c.self.inside.turns.items in
     let bars = (place_of turns).here.bars in
     rw (c.push_reserved.ensures.items, c.reserve.ensures.items)
-    (IsIndexedWay-push turns (record { bound = c.args.bound; owed = c.args.owed; undo = c.in_ok-undo.undo }) c.self.inside.index c.add.new.self c.self.invariant
+    (IsIndexedWay-push turns (record { constraint = c.args.constraint; owed = c.args.owed; undo = c.in_ok-undo.undo }) c.self.inside.index c.add.new.self c.self.invariant
     (c.in_ok-undo.ensures.added bars c.self.invariant.indexed) (c.in_ok-undo.ensures.undo bars c.self.invariant.indexed))
