@@ -8,8 +8,9 @@ ghost use Rattle.mapf_checker.specs.Verdict.{AreAccepted, IsGoodPlan, IsTrueText
 
 use crate::cert_judge::judge_cert;
 use crate::fault::{CheckFault, FromFault, Verdict};
+use crate::laws::accepted_is_true;
 use crate::plan_judge::judge_plan;
-use mapf_model::{BytesSource, Claim, Problem, Source, laws};
+use mapf_model::{BytesSource, Claim, Problem, Source};
 use std::alloc::Global;
 
 /// The verdict of two texts that are accepted for the problem. The plan text is judged first, then
@@ -67,7 +68,7 @@ pub fn check_from<S: Source>(
     ensures pulls { Pulls (S.remaining source.old) (S.remaining source.new) limit (IsErrOf result FromFault.TooLong) }
     ensures too_long { IsErrOf result FromFault.TooLong → (came : List ℕ) × Consumes (S.remaining source.old) (S.remaining source.new) came × (limit < length came) }
 {
-    laws::shown_claims_hold();
+    accepted_is_true();
     let verdict = judge_plan(alloc, problem, plan_text)?;
     judge_cert(alloc, problem, &claimed_by(verdict), source, limit)?;
     Ok(verdict)

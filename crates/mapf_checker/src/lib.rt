@@ -9,6 +9,7 @@ mod index;
 mod judge;
 mod labels;
 mod lawful;
+pub mod laws;
 mod leaf;
 mod meeting;
 mod plan_fault;

@@ -10,7 +10,6 @@ pub mod Tree
 pub mod Earned
 pub mod Neighbours
 pub mod Blocks
-pub mod Accepted
 pub mod Printed
 pub mod Examples
 pub mod Devices
