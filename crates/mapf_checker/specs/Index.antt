@@ -1,5 +1,5 @@
 -- Bars, found by agent and bar.
-use Rattle.std.specs.Prelude.{◌≡◌, ◌↔◌, ⊤, ℕ, List, [], ◌∷◌, Option, Some, None, ◌==◌, if◌then◌else◌, max, unwrap_or, Contains, IsSome, MatchBool}
+use Rattle.std.specs.Prelude.{◌≡◌, ◌≢◌, ◌↔◌, ◌≤◌, ⊤, ℕ, List, [], ◌∷◌, Option, Some, None, ◌==◌, if◌then◌else◌, max, unwrap_or, Contains, IsSome, MatchBool}
 use Rattle.std.specs.HashMap.{get}
 use Rattle.mapf_model.specs.declared.bar.Bar.{Bar}
 use Rattle.mapf_model.specs.declared.bar.Bar.TheVariants.{Cell, Move}
@@ -8,6 +8,14 @@ use Rattle.mapf_checker.specs.declared.agent_cell.AgentCell.{AgentCell}
 use Rattle.mapf_checker.specs.declared.index.BarIndex.{BarIndex}
 use Rattle.mapf_checker.specs.declared.index.Undo.{Undo}
 use Rattle.mapf_checker.specs.Keys.{same_constraint, same_cell}
+
+-- the cell is barred at this tick or later
+abbrev pub IsBarredFrom : List Bar → ℕ → ℕ → Type 0
+IsBarredFrom bars cell tick = (later : ℕ) × (tick ≤ later) × Contains bars (Cell cell later)
+
+-- all but this key are found as before
+abbrev pub AreOthersKept : {K V : Type 0} → K → (K → Option V) → (K → Option V) → Type 0
+AreOthersKept {K = K} key old new = (other : K) → other ≢ key → new other ≡ old other
 
 -- the last tick at which the cell is barred
 abbrev pub last_on : List Bar → ℕ → Option ℕ

@@ -4,7 +4,7 @@ pub mod Defects
 pub mod BarredCells
 pub mod Keys
 pub mod Index
-pub mod Way
+pub mod Branch
 pub mod Order
 pub mod AgentProblem
 pub mod Leaf

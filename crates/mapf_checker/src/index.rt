@@ -1,7 +1,9 @@
-ghost use Rattle.std.specs.Prelude.{◌≡◌, ◌≢◌, ◌↔◌, ◌≤◌, ◌<◌, ℕ, [], List, Some, None, Contains, IfOk, OnOk, OnErr, IsOk, IsTrue, MatchBool, MatchOption, IsSome, max, unwrap_or};
+ghost use Rattle.std.specs.Prelude.{◌≡◌, ◌↔◌, ◌<◌, ℕ, [], List, Some, None, Contains, IsSome, IsTrue, max, unwrap_or};
+ghost use Rattle.std.specs.Prelude.{IfOk, OnOk, OnErr, MatchBool};
 ghost use Rattle.std.specs.HashMap.{get, spare};
 ghost use Rattle.mapf_model.specs.declared.bar.Bar.{Bar};
 ghost use Rattle.mapf_model.specs.Tree.{with_constraint};
+ghost use Rattle.mapf_checker.specs.Index.{AreOthersKept};
 ghost use Rattle.mapf_checker.specs.Keys.{same_constraint, same_cell};
 
 use crate::agent_cell::{AgentCell, cell_of};
@@ -28,7 +30,7 @@ pub struct BarIndex {
 }
 
 impl BarIndex {
-    ghost use Rattle.mapf_checker.specs.Index.{Indexes, CanUndo};
+    ghost use Rattle.mapf_checker.specs.Index.{Indexes, CanUndo, IsBarredFrom};
 
     /// No bars.
     pub fn new(alloc: Global) -> BarIndex
@@ -41,14 +43,15 @@ impl BarIndex {
     }
 
     pub fn has(&self, constraint: &Constraint) -> bool
-        ensures { (bars : ℕ → List Bar) → Indexes bars self.now → IsTrue result ↔ Contains (bars constraint.now.agent) constraint.now.bar }
+        ensures { (bars : ℕ → List Bar) → Indexes bars self.now
+            → IsTrue result ↔ Contains (bars constraint.now.agent) constraint.now.bar }
     {
         self.bars.contains_key(constraint)
     }
 
     /// Whether the cell is barred to the agent at this tick or later.
     pub fn has_from(&self, agent: u32, cell: Cell, tick: Tick) -> bool
-        ensures { (bars : ℕ → List Bar) → Indexes bars self.now → IsTrue result ↔ ((later : ℕ) × (tick ≤ later) × Contains (bars agent) (Bar.Cell cell later)) }
+        ensures { (bars : ℕ → List Bar) → Indexes bars self.now → IsTrue result ↔ IsBarredFrom (bars agent) cell tick }
     {
         match self.last.get(&AgentCell { agent, cell }) {
             Some(last) => tick <= *last,
@@ -58,8 +61,10 @@ impl BarIndex {
 
     /// Adds a bar.
     pub fn add(&mut self, constraint: &Constraint) -> Result<Undo, OutOfMemory>
-        ensures added { OnOk result ((bars : ℕ → List Bar) → Indexes bars self.old → Indexes (with_constraint bars constraint.now) self.new) }
-        ensures undo { IfOk result (λ undo. (bars : ℕ → List Bar) → Indexes bars self.old → CanUndo bars constraint.now undo) }
+        ensures added { OnOk result ((bars : ℕ → List Bar) → Indexes bars self.old
+            → Indexes (with_constraint bars constraint.now) self.new) }
+        ensures undo { IfOk result (λ undo. (bars : ℕ → List Bar) → Indexes bars self.old
+            → CanUndo bars constraint.now undo) }
         ensures unchanged { OnErr result ((bars : ℕ → List Bar) → Indexes bars self.old → Indexes bars self.new) }
     {
         self.last.reserve(1)?;
@@ -73,7 +78,8 @@ impl BarIndex {
 
     /// Takes the bar away that was added last.
     pub fn undo(&mut self, constraint: &Constraint, undo: &Undo)
-        ensures { (bars : ℕ → List Bar) → Indexes (with_constraint bars constraint.now) self.old → CanUndo bars constraint.now undo.now → Indexes bars self.new }
+        ensures { (bars : ℕ → List Bar) → Indexes (with_constraint bars constraint.now) self.old
+            → CanUndo bars constraint.now undo.now → Indexes bars self.new }
     {
         remove_if_new(&mut self.bars, constraint, undo.is_new);
         if let Some((seen, _)) = cell_of(constraint) {
@@ -87,10 +93,13 @@ fn insert_bar(
     bars: &mut HashMap<Constraint, ()>,
     constraint: &Constraint,
 ) -> Result<bool, OutOfMemory>
-    ensures is_new { IfOk result (λ is_new. MatchBool is_new (get same_constraint bars.old constraint.now ≡ None) (IsSome (get same_constraint bars.old constraint.now))) }
+    ensures is_new { IfOk result (λ is_new. MatchBool is_new (get same_constraint bars.old constraint.now ≡ None)
+        (IsSome (get same_constraint bars.old constraint.now))) }
     ensures here { OnOk result (IsSome (get same_constraint bars.new constraint.now)) }
-    ensures others { OnOk result ((other : Constraint) → other ≢ constraint.now → get same_constraint bars.new other ≡ get same_constraint bars.old other) }
-    ensures unchanged { OnErr result ((other : Constraint) → get same_constraint bars.new other ≡ get same_constraint bars.old other) }
+    ensures others { OnOk result (AreOthersKept constraint.now (get same_constraint bars.old)
+        (get same_constraint bars.new)) }
+    ensures unchanged { OnErr result ((other : Constraint)
+        → get same_constraint bars.new other ≡ get same_constraint bars.old other) }
 {
     // The prover has to meet the type of the bar here.
     let bar: Bar = constraint.bar;
@@ -103,8 +112,9 @@ fn insert_bar(
 
 // Takes a bar away, if it was new.
 fn remove_if_new(bars: &mut HashMap<Constraint, ()>, constraint: &Constraint, is_new: bool)
-    ensures here { MatchBool is_new (get same_constraint bars.new constraint.now ≡ None) (get same_constraint bars.new constraint.now ≡ get same_constraint bars.old constraint.now) }
-    ensures others { (other : Constraint) → other ≢ constraint.now → get same_constraint bars.new other ≡ get same_constraint bars.old other }
+    ensures here { MatchBool is_new (get same_constraint bars.new constraint.now ≡ None)
+        (get same_constraint bars.new constraint.now ≡ get same_constraint bars.old constraint.now) }
+    ensures others { AreOthersKept constraint.now (get same_constraint bars.old) (get same_constraint bars.new) }
 {
     if is_new {
         bars.remove(constraint);
@@ -116,7 +126,7 @@ fn raise_last(lasts: &mut HashMap<AgentCell, Tick>, seen: AgentCell, tick: Tick)
     requires { 0 < spare lasts.old }
     ensures before { result ≡ get same_cell lasts.old seen }
     ensures here { get same_cell lasts.new seen ≡ Some (max (unwrap_or result 0) tick) }
-    ensures others { (other : AgentCell) → other ≢ seen → get same_cell lasts.new other ≡ get same_cell lasts.old other }
+    ensures others { AreOthersKept seen (get same_cell lasts.old) (get same_cell lasts.new) }
 {
     let before = lasts.get(&seen).copied();
     let last = before.unwrap_or(0).max(tick);
@@ -128,7 +138,7 @@ fn raise_last(lasts: &mut HashMap<AgentCell, Tick>, seen: AgentCell, tick: Tick)
 // The last tick of a cell is again what it was.
 fn restore_last(lasts: &mut HashMap<AgentCell, Tick>, seen: AgentCell, before: Option<Tick>)
     ensures here { IsSome (get same_cell lasts.old seen) → get same_cell lasts.new seen ≡ before }
-    ensures others { (other : AgentCell) → other ≢ seen → get same_cell lasts.new other ≡ get same_cell lasts.old other }
+    ensures others { AreOthersKept seen (get same_cell lasts.old) (get same_cell lasts.new) }
 {
     match before {
         None => {

@@ -3,6 +3,7 @@
 
 mod acceptance;
 mod agent_cell;
+mod branch;
 mod cert_judge;
 mod fault;
 mod index;
@@ -21,7 +22,6 @@ mod step;
 mod tests;
 mod tree;
 mod validity;
-mod way;
 
 pub use acceptance::{check, check_from};
 pub use fault::{CheckFault, FromFault, Verdict};
