@@ -9,6 +9,7 @@ pub mod Laws
 pub mod Tree
 pub mod Earned
 pub mod Neighbours
+pub mod Pairs
 pub mod Blocks
 pub mod Printed
 pub mod Examples
