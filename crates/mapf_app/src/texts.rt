@@ -1,8 +1,8 @@
 ghost use Rattle.std.specs.Prelude.{◌≡◌, ◌≤◌, ℕ, List, IfOk, length, map};
-ghost use Rattle.mapf_app.specs.Solved.{SpellsAnswer, Prints};
+ghost use Rattle.mapf_app.specs.Solved.{Prints};
 ghost use Rattle.mapf_certificate.specs.Certificates.{cert_text};
 ghost use Rattle.mapf_cbs.specs.Answer.{IsTreeOf, IsShownOptimal, IsShownImpossible, MayStop};
-ghost use Rattle.mapf_certificate.specs.Plans.{IsAnswerInRange};
+ghost use Rattle.mapf_certificate.specs.Plans.{IsAnswerInRange, SpellsPlan};
 ghost use Rattle.mapf_model.specs.Limits.{most_splits};
 ghost use Rattle.mapf_model.specs.Plan.{IsValid, IsSumOfCosts};
 ghost use Rattle.mapf_model.specs.Tree.{ConstraintTree, node_of};
@@ -23,7 +23,7 @@ pub struct Texts {
 
 fn plan_bytes(alloc: Global, problem: &Problem, answer: PlanAnswer) -> Result<Vec<u8>, OutOfMemory>
     requires { IsAnswerInRange problem.now.grid (length problem.now.agents) answer }
-    ensures { IfOk result (λ bytes. SpellsAnswer problem.now answer bytes.items) }
+    ensures { IfOk result (λ bytes. SpellsPlan problem.now.grid bytes.items (length problem.now.agents) answer) }
 {
     let text = PlanText {
         agents: problem.agents().len() as u32,

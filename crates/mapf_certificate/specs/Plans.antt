@@ -3,7 +3,6 @@ use Rattle.std.specs.Prelude.{◌≡◌, ◌≤◌, ◌<◌, ℕ, ◌+◌, ◌-�
 use Rattle.std.specs.List.{flat_map}
 use Rattle.mapf_model.specs.declared.cause.Cause.TheVariants.{Splits, Ticks}
 use Rattle.mapf_model.specs.Limits.{most_agents, most_path_cells, most_splits}
-use Rattle.mapf_model.specs.Accepted.{PlanSays, SaysPlan, SaysImpossible, SaysLimit}
 use Rattle.mapf_model.specs.Grid.{GridMap, IsGridMap}
 use Rattle.mapf_model.specs.Printed.{IsOnGrid, IsPathInRange}
 use Rattle.mapf_certificate.specs.declared.plan_text.PlanText.{PlanText}
@@ -64,19 +63,10 @@ IsFew _ = Unit {0}
 abbrev pub IsPlanText : GridMap → PlanText → Type 0
 IsPlanText grid p = IsAgentCount p.agents × IsAnswerInRange grid p.agents p.answer
 
--- what an answer says
-abbrev pub says : PlanAnswer → PlanSays
-says (Found plan) = SaysPlan plan
-says Impossible = SaysImpossible
-says (Limit cause) = SaysLimit
-
--- these bytes spell a plan text for so many agents that says this
-pub record SpellsPlan (grid : GridMap) (bytes : List ℕ) (agents : ℕ) (said : PlanSays) : Type 0 where
-  pub text : PlanText
-  pub in_range : IsPlanText grid text
-  pub spelled : bytes ≡ plan_text grid.width text
-  pub for_agents : text.agents ≡ agents
-  pub same : says text.answer ≡ said
+-- these bytes spell a plan text for so many agents with this answer
+pub record SpellsPlan (grid : GridMap) (bytes : List ℕ) (agents : ℕ) (answer : PlanAnswer) : Type 0 where
+  pub in_range : IsPlanText grid (record { agents = agents; answer = answer })
+  pub spelled : bytes ≡ plan_text grid.width (record { agents = agents; answer = answer })
 
 -- on one grid no bytes spell two plan texts
 abbrev pub SpellsOnePlan : Type 0

@@ -11,7 +11,7 @@ use Rattle.mapf_checker.specs.declared.lawful.PathFault.TheVariants.{WrongStart,
 use Rattle.mapf_checker.specs.declared.plan_fault.PlanFault.{PlanFault}
 use Rattle.mapf_checker.specs.declared.plan_fault.PlanFault.TheVariants.{V1, V2, V3, V4, V5}
 use Rattle.mapf_checker.specs.PathDefects.{HasPathDefect}
-use Rattle.mapf_checker.specs.Meetings.{AreApart}
+use Rattle.mapf_checker.specs.Meetings.{HaveNoConflict}
 use Rattle.mapf_checker.specs.Defects.{HasDefect, AreLawful, path_fault_of}
 use Rattle.mapf_checker.proofs.MeetingLemmas.{ConflictAt-sym}
 
@@ -39,7 +39,7 @@ module _ (problem : Instance) (plan : List (List ℕ)) where
       (subst (λ a. IsLawful problem.grid a path) (same_Some agent agent' (sym is_agent ∙ subst (λ k. slice_get problem.agents k ≡ Some agent') same is_agent')) lawful))
       (cases_lt i count)
 
-  pub valid_of : length plan ≡ length problem.agents → AreLawful problem plan (length plan) → ((i j : ℕ) → i < j → AreApart plan i j) → IsValid problem plan
+  pub valid_of : length plan ≡ length problem.agents → AreLawful problem plan (length plan) → ((i j : ℕ) → i < j → HaveNoConflict plan i j) → IsValid problem plan
   valid_of count lawful apart = record {
     count = count;
     lawful = λ i agent path is_agent is_path. let within = slice_get_within plan i path is_path in lawful i agent path within is_agent is_path;

@@ -4,7 +4,7 @@ use Rattle.std.proofs.lemmas.Bool.{cases_lt}
 use Rattle.std.proofs.lemmas.Option.{same_Some, slice_get_within}
 use Rattle.mapf_model.specs.Path.{at}
 use Rattle.mapf_model.specs.Plan.{ConflictAt}
-use Rattle.mapf_checker.specs.Meetings.{AreApart}
+use Rattle.mapf_checker.specs.Meetings.{HaveNoConflict}
 
 pub ConflictAt-sym : (p q : List ℕ) (tick : ℕ) → ConflictAt p q tick → ConflictAt q p tick
 ConflictAt-sym p q tick (inl same) = inl (sym same)
@@ -41,12 +41,12 @@ apart_from_front p q end some in_p in_q front k = ⊎_elim
 
 -- two agents are apart if their paths are
 pub apart_from_these : (paths : List (List ℕ)) (i j : ℕ) (p q : List ℕ) → slice_get paths i ≡ Some p → slice_get paths j ≡ Some q →
-    ((k : ℕ) → ConflictAt p q k → ⊥) → AreApart paths i j
+    ((k : ℕ) → ConflictAt p q k → ⊥) → HaveNoConflict paths i j
 apart_from_these paths i j p q is_p is_q apart tick p' q' is_p' is_q' =
     let same_p : p ≡ p' = same_Some p p' (sym is_p ∙ is_p') in
     let same_q : q ≡ q' = same_Some q q' (sym is_q ∙ is_q') in
     λ meet. apart tick (subst (λ x. ConflictAt x q tick) (sym same_p) (subst (λ y. ConflictAt p' y tick) (sym same_q) meet))
 
 -- an agent that has no path is apart from all
-pub apart_from_nobody : (paths : List (List ℕ)) (i j : ℕ) → length paths ≤ j → AreApart paths i j
+pub apart_from_nobody : (paths : List (List ℕ)) (i j : ℕ) → length paths ≤ j → HaveNoConflict paths i j
 apart_from_nobody paths i j past tick p q is_p is_q = absurd (let within = slice_get_within paths j q is_q in omega (arith, within))

@@ -2,13 +2,15 @@
 #![tactic(auto)]
 
 mod acceptance;
-mod bound;
+mod agent_cell;
+mod branch;
 mod cert_judge;
 mod fault;
 mod index;
 mod judge;
 mod labels;
 mod lawful;
+pub mod laws;
 mod leaf;
 mod meeting;
 mod plan_fault;
@@ -20,7 +22,6 @@ mod step;
 mod tests;
 mod tree;
 mod validity;
-mod way;
 
 pub use acceptance::{check, check_from};
 pub use fault::{CheckFault, FromFault, Verdict};

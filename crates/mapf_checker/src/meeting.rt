@@ -1,12 +1,13 @@
 ghost use Rattle.std.specs.Prelude.{◌≡◌, ◌+◌, ◌<◌, ◌≤◌, ℕ, length, IfNone, IfSome};
+ghost use Rattle.mapf_model.specs.Limits.{most_agents, most_path_cells};
 ghost use Rattle.mapf_model.specs.Plan.{ConflictAt};
-ghost use Rattle.mapf_checker.specs.Meetings.{Meet, IsEncounter, AreApart};
+ghost use Rattle.mapf_checker.specs.Meetings.{HaveConflict, IsEncounter, HaveNoConflict};
 
 use mapf_model::{Path, Tick};
 
 /// How two agents are in conflict, the kind that is named first before the other.
 #[derive(Clone, Copy, PartialEq, Eq, PartialOrd, Ord)]
-pub enum Kind {
+pub enum ConflictKind {
     /// They are in one cell.
     InOneCell,
     /// They exchange their cells.
@@ -17,7 +18,7 @@ pub enum Kind {
 #[derive(Clone, Copy, PartialEq, Eq, PartialOrd, Ord)]
 pub struct Meeting {
     pub tick: Tick,
-    pub kind: Kind,
+    pub kind: ConflictKind,
 }
 
 /// A conflict of agents `i` and `j`.
@@ -31,9 +32,9 @@ pub struct Encounter {
 /// The first conflict of paths: the least tick, vertex conflicts before swapping ones, then the least
 /// agents.
 pub fn first_encounter(paths: &[Path]) -> Option<Encounter>
-    requires { length paths.now ≤ 200 }
+    requires { length paths.now ≤ most_agents }
     ensures some { IfSome result (IsEncounter paths.now) }
-    ensures none { IfNone result ((i j : ℕ) → i < j → AreApart paths.now i j) }
+    ensures none { IfNone result ((i j : ℕ) → i < j → HaveNoConflict paths.now i j) }
 {
     let mut best = None;
     for i in 0..paths.len() {
@@ -45,11 +46,11 @@ pub fn first_encounter(paths: &[Path]) -> Option<Encounter>
 // The first of a conflict that was found and those of agent `i` with the agents after it.
 fn first_with(paths: &[Path], i: usize, found: Option<Encounter>) -> Option<Encounter>
     requires within { i < length paths.now }
-    requires few { length paths.now ≤ 200 }
+    requires few { length paths.now ≤ most_agents }
     requires found { IfSome found (IsEncounter paths.now) }
     ensures some { IfSome result (IsEncounter paths.now) }
     ensures before { IfNone result (found ≡ None) }
-    ensures none { IfNone result ((j : ℕ) → i < j → AreApart paths.now i j) }
+    ensures none { IfNone result ((j : ℕ) → i < j → HaveNoConflict paths.now i j) }
 {
     let mut best = found;
     for j in i + 1..paths.len() {
@@ -62,11 +63,11 @@ fn first_with(paths: &[Path], i: usize, found: Option<Encounter>) -> Option<Enco
 fn first_of(paths: &[Path], i: usize, j: usize, found: Option<Encounter>) -> Option<Encounter>
     requires order { i < j }
     requires within { j < length paths.now }
-    requires few { length paths.now ≤ 200 }
+    requires few { length paths.now ≤ most_agents }
     requires found { IfSome found (IsEncounter paths.now) }
     ensures some { IfSome result (IsEncounter paths.now) }
     ensures before { IfNone result (found ≡ None) }
-    ensures none { IfNone result (AreApart paths.now i j) }
+    ensures none { IfNone result (HaveNoConflict paths.now i j) }
 {
     let (p, q) = (&paths[i], &paths[j]);
     let Some(meeting) = first_meeting(p, q, end_of_search(p, q, found)) else {
@@ -84,8 +85,8 @@ fn first_of(paths: &[Path], i: usize, j: usize, found: Option<Encounter>) -> Opt
 
 // The tick from which on a conflict is no news: past one that was found, or where both paths have ended.
 fn end_of_search(p: &Path, q: &Path, found: Option<Encounter>) -> Tick
-    requires { IfSome found (λ encounter. encounter.meeting.tick < 10000000) }
-    ensures few { result ≤ 10000000 }
+    requires { IfSome found (λ encounter. encounter.meeting.tick < most_path_cells) }
+    ensures few { result ≤ most_path_cells }
     ensures whole { IfNone found ((0 < result) × (length p.now ≤ result) × (length q.now ≤ result)) }
 {
     match found {
@@ -96,8 +97,8 @@ fn end_of_search(p: &Path, q: &Path, found: Option<Encounter>) -> Tick
 
 // The first conflict of two paths before the tick `end`.
 fn first_meeting(p: &Path, q: &Path, end: Tick) -> Option<Meeting>
-    requires { end ≤ 10000000 }
-    ensures some { IfSome result (Meet p.now q.now) }
+    requires { end ≤ most_path_cells }
+    ensures some { IfSome result (HaveConflict p.now q.now) }
     ensures early { IfSome result (λ meeting. meeting.tick < end) }
     ensures none { IfNone result ((tick : ℕ) → tick < end → ConflictAt p.now q.now tick → ⊥) }
 {
@@ -107,13 +108,13 @@ fn first_meeting(p: &Path, q: &Path, end: Tick) -> Option<Meeting>
         if p_here == q_here {
             return Some(Meeting {
                 tick,
-                kind: Kind::InOneCell,
+                kind: ConflictKind::InOneCell,
             });
         }
         if p_here == q_next && p_next == q_here {
             return Some(Meeting {
                 tick,
-                kind: Kind::Swapping,
+                kind: ConflictKind::Swapping,
             });
         }
         p_here = p_next;

@@ -3,7 +3,7 @@ ghost use Rattle.mapf_model.specs.Plan.{IsValid, IsSumOfCosts};
 ghost use Rattle.mapf_checker.specs.Defects.{HasDefect, AreLawful, path_fault_of, meeting_fault_of};
 
 use crate::lawful::{PathFault, check_path};
-use crate::meeting::{Encounter, Kind, first_encounter};
+use crate::meeting::{ConflictKind, Encounter, first_encounter};
 use crate::plan_fault::PlanFault;
 use mapf_model::{Path, Plan, Problem};
 
@@ -56,12 +56,12 @@ fn fault_of(encounter: Encounter) -> PlanFault
 {
     let Encounter { meeting, i, j } = encounter;
     match meeting.kind {
-        Kind::InOneCell => PlanFault::V4 {
+        ConflictKind::InOneCell => PlanFault::V4 {
             i,
             j,
             tick: meeting.tick,
         },
-        Kind::Swapping => PlanFault::V5 {
+        ConflictKind::Swapping => PlanFault::V5 {
             i,
             j,
             tick: meeting.tick,

@@ -11,7 +11,6 @@ pub mod Earned
 pub mod Neighbours
 pub mod Pairs
 pub mod Blocks
-pub mod Accepted
 pub mod Printed
 pub mod Examples
 pub mod Devices

@@ -1,7 +1,6 @@
 use Rattle.std.proofs.Common.{length, sym, ◌∙◌, ap, subst, inl, Ok}
 use Rattle.mapf_model.specs.Plan.{IsValid}
-use Rattle.mapf_certificate.specs.Plans.{says}
-use Rattle.mapf_app.proofs.PlayLemmas.{one_plan, same_plan, says_none, spells_text}
+use Rattle.mapf_app.proofs.PlayLemmas.{one_plan, same_plan, is_no_plan, spells_text}
 use Rattle.mapf_app.proofs.play.valid_plan.Goals as goal
 
 pub returns-in_default : goal.returns-in_default
@@ -11,7 +10,7 @@ returns-in_default c =
     record {
       found = tt;
       only = λ plan spells. absurd (c.in_default.not-Found plan (one_plan problem c.args.bytes.now text (rw c.grid.ensures at c.in-Ok.ensures.only) (length problem.agents) plan spells.spelled).1);
-      fault = (text.agents, says text.answer, spells_text problem c.args.bytes.now text (rw c.grid.ensures at c.in-Ok.ensures.found), says_none text.answer c.in_default.not-Found);
+      fault = (text.agents, text.answer, spells_text problem c.args.bytes.now text (rw c.grid.ensures at c.in-Ok.ensures.found), is_no_plan text.answer c.in_default.not-Found);
       inner = tt;
     }
 

@@ -2,7 +2,7 @@ use Rattle.std.proofs.Common.{◌<◌, ◌≤◌, ℕ, length, List, Option, Non
 use Rattle.std.proofs.lemmas.Option.{slice_get_read}
 use Rattle.mapf_checker.specs.declared.meeting.Encounter.{Encounter}
 use Rattle.mapf_model.specs.Plan.{ConflictAt}
-use Rattle.mapf_checker.specs.Meetings.{AreApart}
+use Rattle.mapf_checker.specs.Meetings.{HaveNoConflict}
 use Rattle.mapf_checker.proofs.MeetingLemmas.{apart_from_front, apart_from_these}
 use Rattle.mapf_checker.proofs.meeting.first_of.Goals as goal
 
@@ -17,7 +17,7 @@ returns-in_default-clause-none c =
     let paths = c.args.paths.now in
     let is_i = slice_get_read paths _ c.args.i c.index-paths-i.result refl (omega (arith, c.requires.within, c.requires.order)) c.index-paths-i.is in
     let is_j = slice_get_read paths _ c.args.j c.index-paths-j.result refl c.requires.within c.index-paths-j.is in
-    searched c.args.found c.index-paths-i.result c.index-paths-j.result c.end_of_search.result (AreApart paths c.args.i c.args.j)
+    searched c.args.found c.index-paths-i.result c.index-paths-j.result c.end_of_search.result (HaveNoConflict paths c.args.i c.args.j)
     (apart_from_these paths c.args.i c.args.j c.index-paths-i.result c.index-paths-j.result is_i is_j)
     c.end_of_search.ensures.whole c.in_default.ensures.none
 

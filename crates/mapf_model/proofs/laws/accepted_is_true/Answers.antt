@@ -1,8 +1,0 @@
-use Rattle.mapf_model.specs.Tree.{root}
-use Rattle.mapf_model.proofs.SplitLemmas.{AllSatisfy-root}
-use Rattle.mapf_model.proofs.ClaimLemmas.{holds_of_plans, shown_of_plan}
-use Rattle.mapf_model.proofs.AcceptedLemmas.{accepted_is_true}
-use Rattle.mapf_model.proofs.laws.accepted_is_true.Goals as goal
-
-pub returns : goal.returns
-returns c = accepted_is_true (λ problem claim tree shows. holds_of_plans problem claim (λ plan valid. shown_of_plan problem plan valid claim tree root shows.proper shows.nodes (AllSatisfy-root plan)))
