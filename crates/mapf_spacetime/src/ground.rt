@@ -64,12 +64,6 @@ impl<'a, B: BarTable> Ground<'a, B> {
         self.agent.start
     }
 
-    pub fn goal(&self) -> Cell
-        ensures { result ≡ self.now.goal }
-    {
-        self.agent.goal
-    }
-
     /// Where the agent may be one tick after it is in the cell, bars aside.
     pub fn steps(&self, alloc: Global, cell: Cell) -> SmallVec<Cell, 5>
         requires { IsFree self.now.grid cell }
