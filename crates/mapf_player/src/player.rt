@@ -50,7 +50,8 @@ pub fn write_text<K: Sink>(
     last: Tick,
 ) -> Result<(), Failed>
     requires { K.has_failed sink.old ≡ false }
-    ensures text { WritesOrFails (K.contents sink.old) (K.contents sink.new) (play_text grid.now paths.now last) result }
+    ensures text { WritesOrFails (K.contents sink.old) (K.contents sink.new)
+        (play_text grid.now paths.now last) result }
     ensures failed { K.has_failed sink.new ≡ is_err result }
 {
     let mut page = Page::empty();

@@ -15,8 +15,8 @@ use crate::found::Found;
 use crate::frontier::Frontier;
 use crate::ground::Ground;
 use crate::labels::Labels;
-use crate::state::State;
 use crate::path_search::least_walk;
+use crate::state::State;
 use mapf_constraints::BarTable;
 use mapf_distance::Distances;
 use mapf_model::{Agent, Cell, Grid, OutOfMemory, Path, Tick};
@@ -92,8 +92,6 @@ fn lets_path<B: BarTable>(ground: &Ground<B>, cells: &[Cell]) -> bool
     if !ground.lets_start() || !ground.may_rest_from(cells.len() as Tick - 1) {
         return false;
     }
-    // The horizon tells that move bars have two cells.
-    let _horizon = ground.horizon();
     for tick in 0..cells.len() - 1 {
         let from = State {
             tick: tick as Tick,
@@ -120,8 +118,6 @@ fn arrive<B: BarTable>(
     ensures { IfOk result (IsPathAnswer ground.now) }
 {
     mapf_model::laws::definitions_are_decided();
-    // The horizon tells that move bars have two cells.
-    let _horizon = ground.horizon();
     let cost = frontier.cost();
     let cells = least_walk(alloc, ground, cost)?;
     let entries = entries_of(alloc, frontier.low(), Some(cost))?;

@@ -32,8 +32,13 @@ impl Model for Frontier {
 
     ghost Value = { States };
 
-    ghost view = { λ f. record { reached = f.reached; open_states = f.open_states.items; waiting = f.waiting.items;
-        cost = f.cost; below = f.below } };
+    ghost view = { λ f. record {
+      reached = f.reached;
+      open_states = f.open_states.items;
+      waiting = f.waiting.items;
+      cost = f.cost;
+      below = f.below;
+    } };
 }
 
 impl Frontier {

@@ -1,7 +1,6 @@
 ghost use Rattle.std.specs.Prelude.{◌≡◌, ◌≤◌, ◌↔◌, ℕ, IfSome, IfNone, IsTrue, Contains, false};
 ghost use Rattle.std.specs.List.Sorted.{IsStrictlyIncreasing};
 ghost use Rattle.mapf_model.specs.declared.bar.Bar.{Bar};
-ghost use Rattle.mapf_model.specs.Bars.{AreBars};
 ghost use Rattle.mapf_constraints.specs.BarSets.{AreBefore};
 ghost use Rattle.mapf_model.specs.Distance.{IsUnreachable};
 ghost use Rattle.mapf_model.specs.Grid.{IsFree, Step};
@@ -24,10 +23,15 @@ pub struct Ground<'a, B: BarTable> {
     distances: &'a Distances,
     bars: &'a B,
     agent: Agent,
+    // A tick from which on no bar stands.
+    horizon: Tick,
 }
 
 impl<'a, B: BarTable> Model for Ground<'a, B> {
-    ghost use Rattle.std.specs.Prelude.{◌≡◌};
+    ghost use Rattle.std.specs.Prelude.{◌≡◌, ◌≤◌};
+    ghost use Rattle.mapf_model.specs.Bars.{AreBars};
+    ghost use Rattle.mapf_model.specs.Limits.{split_ticks};
+    ghost use Rattle.mapf_constraints.specs.BarSets.{AreBefore};
     ghost use Rattle.mapf_spacetime.specs.Task.{Task, task_of};
 
     ghost Value = { Task };
@@ -35,7 +39,8 @@ impl<'a, B: BarTable> Model for Ground<'a, B> {
     ghost view = { λ ground. task_of ground.grid.now ground.agent (B.bars ground.bars.now) };
 
     ghost invariant = { λ ground. (ground.distances.now.grid ≡ ground.grid.now)
-        × (ground.distances.now.goal ≡ ground.agent.goal) };
+        × (ground.distances.now.goal ≡ ground.agent.goal) × AreBars (B.bars ground.bars.now)
+        × AreBefore ground.horizon (B.bars ground.bars.now) × (ground.horizon ≤ split_ticks) };
 }
 
 impl<'a, B: BarTable> Ground<'a, B> {
@@ -49,6 +54,7 @@ impl<'a, B: BarTable> Ground<'a, B> {
             distances,
             bars,
             agent,
+            horizon: bars.horizon(),
         }
     }
 
@@ -56,12 +62,6 @@ impl<'a, B: BarTable> Ground<'a, B> {
         ensures { result ≡ self.now.start }
     {
         self.agent.start
-    }
-
-    pub fn goal(&self) -> Cell
-        ensures { result ≡ self.now.goal }
-    {
-        self.agent.goal
     }
 
     /// Where the agent may be one tick after it is in the cell, bars aside.
@@ -133,8 +133,7 @@ impl<'a, B: BarTable> Ground<'a, B> {
     pub fn horizon(&self) -> Tick
         ensures above { AreBefore result self.now.bars }
         ensures early { result ≤ split_ticks }
-        ensures bars { AreBars self.now.bars }
     {
-        self.bars.horizon()
+        self.horizon
     }
 }

@@ -95,7 +95,7 @@ fn fields_of(line: &[u8]) -> Option<Fields<'_>>
 fn numbers_of(fields: &Fields) -> Result<Numbers, u32>
     ensures { let f = fields.now in
         let words = f.bucket.now ∷ f.map_name.now ∷ f.width.now ∷ f.height.now ∷ f.start_x.now ∷ f.start_y.now
-            ∷ f.goal_x.now ∷ f.goal_y.now ∷ f.length.now ∷ [] in
+        ∷ f.goal_x.now ∷ f.goal_y.now ∷ f.length.now ∷ [] in
         MatchResult result (HasNumbers words) (IsFirstNoNumber (numbered words)) }
 {
     number_in(fields.bucket, 1)?;

@@ -56,12 +56,8 @@ fn type_line(text: &[u8]) -> Option<&[u8]>
     ensures { MatchOption result ((rest : List (List ℕ)) → AfterType (lines_of text.now) rest → ⊥)
         (λ rest. AfterType (lines_of text.now) (lines_of rest.now)) }
 {
-    let Some((line, rest)) = next_line(text) else {
-        return None;
-    };
-    let Some((first, second)) = two_words(line) else {
-        return None;
-    };
+    let (line, rest) = next_line(text)?;
+    let (first, second) = two_words(line)?;
     if first == b"type".as_slice() && second == b"octile".as_slice() {
         Some(rest)
     } else {
@@ -106,12 +102,8 @@ fn map_line(text: &[u8]) -> Option<&[u8]>
         (λ rest. AfterMap (lines_of text.now) (lines_of rest.now)) }
     ensures small { IfSome result (λ rest. length rest.now < 2 ^ 63) }
 {
-    let Some((line, rest)) = next_line(text) else {
-        return None;
-    };
-    let Some(word) = one_word(line) else {
-        return None;
-    };
+    let (line, rest) = next_line(text)?;
+    let word = one_word(line)?;
     if word == b"map".as_slice() {
         Some(rest)
     } else {

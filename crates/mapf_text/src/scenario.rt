@@ -50,9 +50,7 @@ fn after_version(text: &[u8]) -> Option<&[u8]>
     ensures { MatchOption result ((rows : List (List ℕ)) → AfterVersion (filled_lines text.now) rows → ⊥)
         (λ rows. AfterVersion (filled_lines text.now) (filled_lines rows.now)) }
 {
-    let Some((line, rest)) = next_filled_line(text) else {
-        return None;
-    };
+    let (line, rest) = next_filled_line(text)?;
     if is_version_line(line) {
         Some(rest)
     } else {

@@ -30,16 +30,15 @@ returns g c =
     let way = subst (λ n. IsWholeWalk task n cells) c.cost-cost.ensures c.in_ok-cells.ensures in
     let low = rw c.low.ensures at c.in_ok-entries.ensures in
     let a = subst (λ n. AreEntriesOf (low_states states) (Some n) listed) c.cost-cost.ensures low in
-    let proper = c.horizon-horizon.ensures.bars in
     let path_is = rw c.unwrap.ensures at c.of.ensures.value in
     subst (λ path. IsArrival task path c.of-2.result) (sym path_is) (subst (IsArrival task cells) (sym c.of-2.ensures) (record {
       cost = states.cost;
-      lawful = walk_lawful task states cells h way c.requires.start proper c.definitions_are_decided.ensures.path;
-      satisfies = walk_satisfies task states cells h way c.requires.start proper;
-      is_cost = walk_cost task states cells h way c.requires.start proper;
-      tight = walk_tight task states cells h way c.requires.start proper;
+      lawful = walk_lawful task states cells h way c.requires.start c.definitions_are_decided.ensures.path;
+      satisfies = walk_satisfies task states cells h way c.requires.start;
+      is_cost = walk_cost task states cells h way c.requires.start;
+      tight = walk_tight task states cells h way c.requires.start;
       limit = c.requires.limit;
-      first = walk_first task states.cost cells way (walk_cost task states cells h way c.requires.start proper);
+      first = walk_first task states.cost cells way (walk_cost task states cells h way c.requires.start);
       labels = record { sound = sound_arrives task states h listed a; rising = a.rising; ranges = ranges_some task c.requires.shape (low_states states) listed states.cost c.requires.small h.frontier.low a };
       start = start_arrives task states h listed a;
     }))

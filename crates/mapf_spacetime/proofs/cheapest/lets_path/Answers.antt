@@ -32,7 +32,7 @@ returns-clause-yes g c =
     let cells = c.args.cells.now in
     λ yes. goes_satisfy task cells c.requires.some (sym (at_is cells 0 (omega arith)) ∙ c.requires.start) (c.if-not-lets_start.ensures.yes refl)
     (λ k lt. c.loop-tick.invariant k (omega arith))
-    (sym (at_is cells (length cells - 1) (omega arith)) ∙ c.requires.goal) (c.if-not-may_rest_from.ensures.yes refl) c.horizon-horizon.ensures.bars
+    (sym (at_is cells (length cells - 1) (omega arith)) ∙ c.requires.goal) (c.if-not-may_rest_from.ensures.yes refl)
 
 pub returns-then-not-lets_start-clause-no : goal.returns-then-not-lets_start-clause-no
 returns-then-not-lets_start-clause-no g c _ satisfies =
