@@ -8,6 +8,7 @@ use Rattle.mapf_certificate.specs.declared.cert.LinesFault.{LinesFault}
 use Rattle.mapf_certificate.specs.declared.cert.LinesFault.TheVariants.{Text, Device, TooLong, Memory}
 use Rattle.mapf_certificate.specs.Buffered.{Buffered}
 use Rattle.mapf_certificate.specs.Window.{Window, ComesWithin, Exceeds, Pulls, IsNotTextMemory, Refuses, Fails, IsTextFault, IsNoTextFault}
+use Rattle.mapf_certificate.proofs.Fields.{same_err}
 
 -- what comes after two windows
 after_both : (x p q t y : List ℕ) → x ++ p ≡ t ++ y → x ++ (p ++ q) ≡ t ++ (y ++ q)
@@ -146,11 +147,8 @@ device_if_fails a b failed x Is Device fails = (λ e. fails.0, λ e. refl)
 device_if_fails a b failed x Is TooLong fails = (λ e. cc, λ e. cc (fails.0))
 device_if_fails a b failed x Is Memory fails = (λ e. cc, λ e. cc (fails.0))
 
-same_fault : {A E : Type 0} (x y : E) → ◌≡◌ {A = Result A E} (Err x) (Err y) → x ≡ y
-same_fault x y e = cc
-
 pulls_within : {A : Type 0} (a b : Option (List ℕ)) (x : Buffered) (fault : LinesFault) → fault ≢ TooLong → ComesWithin a b x → Pulls a b x.left (IsErrOf {T = A} (Err fault) TooLong)
-pulls_within a b x fault other comes = record { came = comes.pulled; source = comes.source; few = omega (arith, comes.within); beyond = (λ e. absurd (other (same_fault fault TooLong e)), λ h. absurd (omega (arith, comes.within))) }
+pulls_within a b x fault other comes = record { came = comes.pulled; source = comes.source; few = omega (arith, comes.within); beyond = (λ e. absurd (other (same_err fault TooLong e)), λ h. absurd (omega (arith, comes.within))) }
 
 pub refuses_within : (a b : Option (List ℕ)) (x : Buffered) (Is : List ℕ → Type 0) → Refuses a b x Is → ComesWithin a b x
 refuses_within a b x Is refused = record { pulled = refused.pulled; source = refused.source; within = refused.within }

@@ -264,7 +264,7 @@ impl CertLines {
             agents,
         };
         let line = self.lines.next(source, &Due::Tree(sizes))?;
-        let number = self.lines.number();
+        let number = self.lines.count;
         if self.owed == 0 {
             take_end(&mut self.lines, source, &line)?;
             return Ok(None);

@@ -1,56 +1,40 @@
-use Rattle.std.proofs.Common.{◌≡◌, ◌≤◌, IfErr, List, ◌∷◌, ap, subst, refl, arith}
+use Rattle.std.proofs.Common.{◌≡◌, ◌≤◌, List, ◌∷◌, ap, subst, refl, arith}
 use Rattle.std.proofs.lemmas.Result.{err_from_is_err_and}
 use Rattle.mapf_model.specs.Tree.{Node, node_of}
 use Rattle.mapf_certificate.specs.Reading.{Reading, agents_in}
-use Rattle.mapf_certificate.specs.CertReading.{IsRestAt, Awaits, ReadsNode, TakesNode}
+use Rattle.mapf_certificate.specs.CertReading.{Awaits, ReadsNode, TakesNode}
 use Rattle.mapf_certificate.specs.Untouched.{TakesThere}
 use Rattle.mapf_certificate.specs.Certificates.{line_text, node_text}
-use Rattle.mapf_certificate.specs.Window.{Fails}
 use Rattle.mapf_certificate.proofs.TakenThere.{there-trans}
 use Rattle.mapf_certificate.proofs.Windows.{err_passed}
-use Rattle.mapf_certificate.proofs.Readings.{Bounds, Continues, sizes_at, fails_first, fails_in_item, fails_in_end, reads_node, node_joins, node_same}
+use Rattle.mapf_certificate.proofs.Readings.{Bounds, Continues, sizes_at, fails_at, fails_first, fails_in_item, fails_in_end, reads_node, node_joins, node_same}
 use Rattle.mapf_certificate.proofs.cert_lines.CertLines.read_item.Goals as goal
 
 pub returns-in_err-line-clause-fails : goal.returns-in_err-line-clause-fails
 returns-in_err-line-clause-fails g c =
-    let s = g.S.Source in
     let i = c.self.inside in
-    let had = s.remaining c.args.source.now in
     let sizes = sizes_at i.width i.height i.header c.unwrap-agents.result c.self.invariant.columns c.self.invariant.rows c.self.invariant.agents c.unwrap-agents.ensures in
     let old : Reading = record { width = i.width; height = i.height; buffer = i.lines.buffer; header = i.header; fault = i.fault; is_whole = i.is_whole; owed = i.owed } in
     let bounds : Bounds sizes old = record { grid = refl; agents = ap agents_in c.unwrap-agents.ensures } in
-    let left = s.remaining c.next.new.source in
-    let failed = s.has_failed c.next.new.source in
-    let P : Reading → Type 0 = λ r. IfErr c.from_residual.result (Fails had left failed r.buffer (IsRestAt r)) in
-    subst P c.self.view_is (err_passed _ _ _ (err_from_is_err_and _ c.from_residual.ensures.1)
+    fails_at _ _ _ _ _ _ c.self.view_is (err_passed _ _ _ (err_from_is_err_and _ c.from_residual.ensures.1)
     (fails_first sizes old _ _ _ _ _ bounds c.in_err-line.ensures.fails))
 
 pub returns-in_err-take_end-clause-fails : goal.returns-in_err-take_end-clause-fails
 returns-in_err-take_end-clause-fails g c =
-    let s = g.S.Source in
     let i = c.self.inside in
-    let had = s.remaining c.args.source.now in
     let sizes = sizes_at i.width i.height i.header c.unwrap-agents.result c.self.invariant.columns c.self.invariant.rows c.self.invariant.agents c.unwrap-agents.ensures in
     let old : Reading = record { width = i.width; height = i.height; buffer = i.lines.buffer; header = i.header; fault = i.fault; is_whole = i.is_whole; owed = i.owed } in
     let bounds : Bounds sizes old = record { grid = refl; agents = ap agents_in c.unwrap-agents.ensures } in
-    let left = s.remaining c.take_end.new.source in
-    let failed = s.has_failed c.take_end.new.source in
-    let P : Reading → Type 0 = λ r. IfErr c.from_residual-in_err-take_end.result (Fails had left failed r.buffer (IsRestAt r)) in
-    subst P c.self.view_is (err_passed _ _ _ (err_from_is_err_and _ c.from_residual-in_err-take_end.ensures.1)
+    fails_at _ _ _ _ _ _ c.self.view_is (err_passed _ _ _ (err_from_is_err_and _ c.from_residual-in_err-take_end.ensures.1)
     (fails_in_end sizes old _ _ _ _ _ _ _ c.in_err-take_end.field-0.0 bounds c.if-self-eq0.true c.in_ok-line.ensures.line c.in_ok-line.ensures.taken c.in_err-take_end.ensures.fails))
 
 pub returns-in_err-item-clause-fails : goal.returns-in_err-item-clause-fails
 returns-in_err-item-clause-fails g c =
-    let s = g.S.Source in
     let i = c.self.inside in
-    let had = s.remaining c.args.source.now in
     let sizes = sizes_at i.width i.height i.header c.unwrap-agents.result c.self.invariant.columns c.self.invariant.rows c.self.invariant.agents c.unwrap-agents.ensures in
     let old : Reading = record { width = i.width; height = i.height; buffer = i.lines.buffer; header = i.header; fault = i.fault; is_whole = i.is_whole; owed = i.owed } in
     let bounds : Bounds sizes old = record { grid = refl; agents = ap agents_in c.unwrap-agents.ensures } in
-    let left = s.remaining c.item_of.new.source in
-    let failed = s.has_failed c.item_of.new.source in
-    let P : Reading → Type 0 = λ r. IfErr c.from_residual-in_err-item.result (Fails had left failed r.buffer (IsRestAt r)) in
-    subst P c.self.view_is (err_passed _ _ _ (err_from_is_err_and _ c.from_residual-in_err-item.ensures.1)
+    fails_at _ _ _ _ _ _ c.self.view_is (err_passed _ _ _ (err_from_is_err_and _ c.from_residual-in_err-item.ensures.1)
     (fails_in_item sizes old _ _ _ _ _ _ _ c.in_err-item.field-0.0 bounds (omega (arith, c.if-self-eq0.false)) c.in_ok-line.ensures.taken c.in_err-item.ensures.fails))
 
 pub returns-clause-item : goal.returns-clause-item
