@@ -340,9 +340,6 @@ entry_again sizes entry (inside, early, labelled) =
 
 tree_line_again : (sizes : Sizes) (line : CertLine) → IsTreeLine (grid_for sizes) sizes.agents line → read_tree_line sizes (words sizes.width line) ≡ Ok line
 unfolding read_tree_line
-tree_line_again sizes lines.Title is = absurd is
-tree_line_again sizes (lines.Agents agents) is = absurd is
-tree_line_again sizes (lines.Claim claim) is = absurd is
 tree_line_again sizes (lines.Split (conflicts.Vertex i j cell tick)) is = vertex_again sizes i j cell tick is
 tree_line_again sizes (lines.Split (conflicts.Swap i j from to tick)) is = swap_again sizes i j from to tick is
 tree_line_again sizes (lines.Leaf blocks) is = leaf_again sizes blocks is
@@ -350,6 +347,7 @@ tree_line_again sizes (lines.Clash i j) is = clash_again sizes i j is.0 is.1
 tree_line_again sizes (lines.Agent agent entries) is = agent_again sizes agent entries is.0 is.1 is.2
 tree_line_again sizes (lines.At entry) is = entry_again sizes entry is
 tree_line_again sizes lines.End is = refl
+tree_line_again sizes _ is = absurd is
 
 pub count_again : (n : ℕ) → IsAgentCount n → read_count (field 32 n) ≡ Ok n
 unfolding read_count

@@ -65,9 +65,6 @@ plain-label labels.Never is = plain-more 4 8 _ (omega arith) (plain-word (codes 
 plain-label (labels.Ticks n) is = plain-field 32 7 n refl (omega arith) (omega arith) (omega arith)
 
 plain_tree : (sizes : Sizes) (line : CertLine) → IsTreeLine (grid_for sizes) sizes.agents line → IsPlain 64 (words sizes.width line)
-plain_tree sizes lines.Title is = absurd is
-plain_tree sizes (lines.Agents agents) is = absurd is
-plain_tree sizes (lines.Claim claim) is = absurd is
 plain_tree sizes (lines.Split (conflicts.Vertex i j cell tick)) (first, second, inside, early) =
     plain-more 31 64 _ (omega arith)
     (plain-append 6 25 _ _ (plain-word (codes "vertex") 6 refl refl)
@@ -101,6 +98,7 @@ plain_tree sizes (lines.At entry) (inside, early, labelled) =
     (plain-append 10 16 _ _ (plain-pair sizes.width sizes.height entry.cell sizes.narrow.0 sizes.narrow.1 sizes.low.1 inside)
     (plain-append 8 8 _ _ (plain-field 32 7 entry.tick refl (omega arith) (omega arith) (omega arith)) (plain-label entry.label labelled))))
 plain_tree sizes lines.End is = plain-more 3 64 _ (omega arith) (plain-word (codes "end") 3 refl refl)
+plain_tree sizes _ is = absurd is
 
 plain_agents : (line : CertLine) → IsLine dues.Agents line → IsPlain 64 (words 1 line)
 plain_agents (lines.Agents n) (low, high) =

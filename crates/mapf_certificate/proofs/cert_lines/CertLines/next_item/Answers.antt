@@ -1,4 +1,4 @@
-use Rattle.std.proofs.Common.{◌≡◌, [], Option, IfSome, true, subst, sym, refl}
+use Rattle.std.proofs.Common.{◌≡◌, Option, IfSome, true, subst, sym, refl}
 use Rattle.mapf_model.specs.declared.item.Item.{Item}
 use Rattle.mapf_model.specs.Tree.{node_of}
 use Rattle.mapf_certificate.specs.Reading.{Reading}
