@@ -52,7 +52,7 @@ Fails had left failed buffer IsText Device = (failed ≡ true) × ComesWithin ha
 Fails had left failed buffer IsText TooLong = (failed ≡ false) × Exceeds had left buffer
 Fails had left failed buffer IsText Memory = (failed ≡ false) × ComesWithin had left buffer
 
--- want of memory is no fault of a text
+-- an allocation that was refused is no fault of a text
 abbrev pub IsNotTextMemory : LinesFault → Type 0
 IsNotTextMemory fault = fault ≢ Text texts.Memory
 
