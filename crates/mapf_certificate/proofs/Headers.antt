@@ -17,6 +17,7 @@ use Rattle.mapf_certificate.specs.CertReading.{HasHeader, Awaits, AwaitsCert}
 use Rattle.mapf_certificate.specs.Untouched.{TakesThere}
 use Rattle.mapf_certificate.specs.Window.{Window, Fails, IsNoTextFault}
 use Rattle.mapf_certificate.specs.Bounded.{BeginsWithLine}
+use Rattle.mapf_certificate.proofs.Fields.{same_some}
 use Rattle.mapf_certificate.proofs.PlainLines.{same_line}
 use Rattle.mapf_certificate.proofs.TakenThere.{there-trans}
 use Rattle.mapf_certificate.proofs.Windows.{Window-trans, Window-known, Fails-after, Fails-weaker, Fails-not}
@@ -117,7 +118,7 @@ pub header_joins : (had left : Option (List ℕ)) (old new : Reading) (agents : 
     → (bytes : List ℕ) → had ≡ Some bytes → (nodes : List Node) → Awaits left new nodes → AwaitsCert had old agents claim nodes
 header_joins had left old new agents claim few ranged window grid count owed bytes known nodes awaits =
     let (rest, kept, same, many) = Window-known had left old.buffer new.buffer (header_text old.width agents claim) bytes window known in
-    let one : awaits.bytes ≡ rest = some_same awaits.bytes rest (sym awaits.known ∙ kept) in
+    let one : awaits.bytes ≡ rest = same_some awaits.bytes rest (sym awaits.known ∙ kept) in
     let moved = subst (λ (k : ℕ). IsRest (grid_at old) agents k nodes (new.buffer.bytes ++ awaits.bytes)) owed (subst (λ (n : ℕ). IsRest (grid_at old) n new.owed nodes (new.buffer.bytes ++ awaits.bytes)) count (subst (λ (g : GridMap). IsRest g (agents_at new) new.owed nodes (new.buffer.bytes ++ awaits.bytes)) grid awaits.rest)) in
     record {
       bytes = bytes;
@@ -130,9 +131,6 @@ header_joins had left old new agents claim few ranged window grid count owed byt
         rest = moved;
       };
     }
-  where
-    some_same : (xs ys : List ℕ) → ◌≡◌ {A = Option (List ℕ)} (Some xs) (Some ys) → xs ≡ ys
-    some_same xs ys e = cc
 
 -- the header that was read is the one that came
 pub header_same : (had left : Option (List ℕ)) (old new : Reading) (agents due : ℕ) (claim says : Claim) (nodes : List Node) → IsAgentCount agents → IsClaimInRange claim → Window had left old.buffer new.buffer (header_text old.width agents claim) → grid_at new ≡ grid_at old → agents_at new ≡ agents → new.owed ≡ old.owed

@@ -1,6 +1,5 @@
 -- Lines of a certificate: what is read is spelled so, and what is spelled so is read.
 use Rattle.std.proofs.Common.{◌≡◌, ℕ, ◌<◌, ◌≤◌, ◌^◌, ◌-◌, ◌/◌, ◌%◌, ◌*◌, Bool, true, false, cond, List, ◌++◌, codes, drop, Option, Some, None, Result, Ok, Err, refl, sym, ap, subst, ◌∙◌, arith, inl, inr, ◌⊎◌}
-use Rattle.std.specs.Fmt.{decimal}
 use Rattle.std.specs.Str.Parse.{AllDigits}
 use Rattle.std.proofs.lemmas.Fmt.{decimal_is_IsNumeral}
 use Rattle.std.specs.Option.{option_map_or}
@@ -305,24 +304,20 @@ agent_again sizes agent entries first some fits =
     (then_ok _ _ _ _ (below_again sizes.agents agent first)
     (then_ok _ _ _ _ (range_again 1 (2 ^ 64 - 1) entries some (omega arith)) refl)))
 
--- a number isn't `inf`
-not_inf : (n : ℕ) → n < 2 ^ 64 → bytes_eq (field 32 n) (codes " inf") ≡ false
-not_inf n fits = by (bytes_eq (field 32 n) (codes " inf")) refl
+-- a number isn't a word of letters
+pub not_word : (word : List ℕ) (n : ℕ) → n < 2 ^ 64 → (AllDigits 10 (drop 1 word) → ⊥) → bytes_eq (field 32 n) word ≡ false
+not_word word n fits letters = by (bytes_eq (field 32 n) word) refl
   where
-    by : (b : Bool) → bytes_eq (field 32 n) (codes " inf") ≡ b → bytes_eq (field 32 n) (codes " inf") ≡ false
+    by : (b : Bool) → bytes_eq (field 32 n) word ≡ b → bytes_eq (field 32 n) word ≡ false
     by false e = e
-    by true e =
-        let same : decimal n ≡ codes "inf" = ap (drop 1) ((bytes_eq-Decides (field 32 n) (codes " inf")).0 e) in
-        let digits : AllDigits 10 (codes "inf") = subst (AllDigits 10) same (decimal_is_IsNumeral n fits).0.1 in
-        let first : 18 < 10 = digits.0 in
-        absurd (omega arith)
+    by true e = absurd (letters (subst (AllDigits 10) (ap (drop 1) ((bytes_eq-Decides (field 32 n) word).0 e)) (decimal_is_IsNumeral n fits).0.1))
 
 label_again : (label : Label) → IsLabelInRange label → (w : LabelWord) × (read_label_word (label_words label) ≡ Ok w) × (label_in_range w ≡ Ok label)
 unfolding read_label_word
 label_again labels.Never is = (word.Never, refl, refl)
 label_again (labels.Ticks n) (above, under) =
     let fits : n < 2 ^ 64 = omega arith in
-    let number = not_inf n fits in
+    let number = not_word (codes " inf") n fits (λ digits. let first : 18 < 10 = digits.0 in omega arith) in
     let read : (read_last 32 (field 32 n) >>= λ v. Ok (word.Ticks v)) ≡ Ok (word.Ticks (Some n)) = then_ok _ _ _ _ (last_again 32 n fits) refl in
     let ranged : (in_range 1 9999999 (Some n) >>= λ v. Ok (labels.Ticks v)) ≡ Ok (labels.Ticks n) = then_ok _ _ _ _ (range_again 1 9999999 n above under) refl in
     (word.Ticks (Some n), ap (λ b. cond b (Ok word.Never) (read_last 32 (field 32 n) >>= λ v. Ok (word.Ticks v))) number ∙ read, ranged)
@@ -345,9 +340,6 @@ entry_again sizes entry (inside, early, labelled) =
 
 tree_line_again : (sizes : Sizes) (line : CertLine) → IsTreeLine (grid_for sizes) sizes.agents line → read_tree_line sizes (words sizes.width line) ≡ Ok line
 unfolding read_tree_line
-tree_line_again sizes lines.Title is = absurd is
-tree_line_again sizes (lines.Agents agents) is = absurd is
-tree_line_again sizes (lines.Claim claim) is = absurd is
 tree_line_again sizes (lines.Split (conflicts.Vertex i j cell tick)) is = vertex_again sizes i j cell tick is
 tree_line_again sizes (lines.Split (conflicts.Swap i j from to tick)) is = swap_again sizes i j from to tick is
 tree_line_again sizes (lines.Leaf blocks) is = leaf_again sizes blocks is
@@ -355,6 +347,7 @@ tree_line_again sizes (lines.Clash i j) is = clash_again sizes i j is.0 is.1
 tree_line_again sizes (lines.Agent agent entries) is = agent_again sizes agent entries is.0 is.1 is.2
 tree_line_again sizes (lines.At entry) is = entry_again sizes entry is
 tree_line_again sizes lines.End is = refl
+tree_line_again sizes _ is = absurd is
 
 pub count_again : (n : ℕ) → IsAgentCount n → read_count (field 32 n) ≡ Ok n
 unfolding read_count
@@ -381,21 +374,7 @@ title_again = refl
 pub line_again : (due : Due) (line : CertLine) → IsLine due line → read_line due (words (width_of due) line) ≡ Ok line
 line_again dues.Title line is = ap (λ l. read_title (words 1 l)) is ∙ title_again ∙ ap Ok (sym is)
 line_again dues.Agents (lines.Agents n) is = agents_again n is
-line_again dues.Agents lines.Title is = absurd is
-line_again dues.Agents (lines.Claim claim) is = absurd is
-line_again dues.Agents (lines.Split conflict) is = absurd is
-line_again dues.Agents (lines.Leaf blocks) is = absurd is
-line_again dues.Agents (lines.Clash i j) is = absurd is
-line_again dues.Agents (lines.Agent agent entries) is = absurd is
-line_again dues.Agents (lines.At entry) is = absurd is
-line_again dues.Agents lines.End is = absurd is
+line_again dues.Agents _ is = absurd is
 line_again dues.Claim (lines.Claim claim) is = claim_again claim is
-line_again dues.Claim lines.Title is = absurd is
-line_again dues.Claim (lines.Agents n) is = absurd is
-line_again dues.Claim (lines.Split conflict) is = absurd is
-line_again dues.Claim (lines.Leaf blocks) is = absurd is
-line_again dues.Claim (lines.Clash i j) is = absurd is
-line_again dues.Claim (lines.Agent agent entries) is = absurd is
-line_again dues.Claim (lines.At entry) is = absurd is
-line_again dues.Claim lines.End is = absurd is
+line_again dues.Claim _ is = absurd is
 line_again (dues.Tree sizes) line is = tree_line_again sizes line is

@@ -77,16 +77,11 @@ nodes_apart sizes = record {
   where
     by : (a b : Node) (s t : List ℕ) → IsNodeFor sizes a → IsNodeFor sizes b → first_line a ≡ first_line b → after_first sizes.width a ++ s ≡ after_first sizes.width b ++ t → (a ≡ b) × (s ≡ t)
     by (SplitNode conflict) (SplitNode conflict') s t p q e rest = (cc, rest)
-    by (SplitNode conflict) (LeafNode blocks) s t p q e rest = cc
-    by (SplitNode conflict) (ClashNode i j) s t p q e rest = cc
-    by (LeafNode blocks) (SplitNode conflict) s t p q e rest = cc
     by (LeafNode blocks) (LeafNode blocks') s t p q e rest =
         let (same, more) = same_list (IsBlockFor sizes) (block_text sizes.width) (blocks_apart sizes) blocks blocks' s t p.each q.each (let many : length blocks ≡ length blocks' = cc in many) rest in
         (ap LeafNode same, more)
-    by (LeafNode blocks) (ClashNode i' j') s t p q e rest = cc
-    by (ClashNode i j) (SplitNode conflict) s t p q e rest = cc
-    by (ClashNode i j) (LeafNode blocks) s t p q e rest = cc
     by (ClashNode i j) (ClashNode i' j') s t p q e rest = (cc, rest)
+    by _ _ s t p q e rest = cc
 
 -- after the line of a leaf its blocks come
 pub blocks_due : (sizes : Sizes) (count : ℕ) (t : List ℕ) → count ≤ sizes.agents → BeginsWithNode sizes (line_text sizes.width (lines.Leaf count) ++ t) → BeginsWithBlocks sizes count t

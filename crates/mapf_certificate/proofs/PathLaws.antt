@@ -105,10 +105,6 @@ front_read width due (c ∷ cells) some few fits =
 pub ok_triple_parts : {A B C E : Type 0} (a x : A) (b y : B) (c z : C) → ◌≡◌ {A = Result (A × B × C) E} (Ok (a, b, c)) (Ok (x, y, z)) → (a ≡ x) × (b ≡ y) × (c ≡ z)
 ok_triple_parts a x b y c z e = let same = same_ok (a, b, c) (x, y, z) e in (ap (λ p. p.0) same, ap (λ p. p.1) same, ap (λ p. p.2) same)
 
--- the error of another type's result is one
-pub same_err : {A E : Type 0} (x y : E) → ◌≡◌ {A = Result A E} (Err x) (Err y) → x ≡ y
-same_err x y e = cc
-
 -- an error that a `?` passed on
 pub passed_on : {A E : Type 0} (r : Result A E) (e m : E) → (y : E) × (r ≡ Err y) × (y ≡ e) → e ≡ m → r ≡ Err m
 passed_on r e m p is = p.1 ∙ ap Err (p.2 ∙ is)

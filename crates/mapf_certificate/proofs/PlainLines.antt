@@ -65,9 +65,6 @@ plain-label labels.Never is = plain-more 4 8 _ (omega arith) (plain-word (codes 
 plain-label (labels.Ticks n) is = plain-field 32 7 n refl (omega arith) (omega arith) (omega arith)
 
 plain_tree : (sizes : Sizes) (line : CertLine) → IsTreeLine (grid_for sizes) sizes.agents line → IsPlain 64 (words sizes.width line)
-plain_tree sizes lines.Title is = absurd is
-plain_tree sizes (lines.Agents agents) is = absurd is
-plain_tree sizes (lines.Claim claim) is = absurd is
 plain_tree sizes (lines.Split (conflicts.Vertex i j cell tick)) (first, second, inside, early) =
     plain-more 31 64 _ (omega arith)
     (plain-append 6 25 _ _ (plain-word (codes "vertex") 6 refl refl)
@@ -101,31 +98,18 @@ plain_tree sizes (lines.At entry) (inside, early, labelled) =
     (plain-append 10 16 _ _ (plain-pair sizes.width sizes.height entry.cell sizes.narrow.0 sizes.narrow.1 sizes.low.1 inside)
     (plain-append 8 8 _ _ (plain-field 32 7 entry.tick refl (omega arith) (omega arith) (omega arith)) (plain-label entry.label labelled))))
 plain_tree sizes lines.End is = plain-more 3 64 _ (omega arith) (plain-word (codes "end") 3 refl refl)
+plain_tree sizes _ is = absurd is
 
 plain_agents : (line : CertLine) → IsLine dues.Agents line → IsPlain 64 (words 1 line)
 plain_agents (lines.Agents n) (low, high) =
     plain-more 10 64 _ (omega arith) (plain-append 6 4 _ _ (plain-word (codes "agents") 6 refl refl) (plain-field 32 3 n refl (omega arith) (omega arith) (omega arith)))
-plain_agents lines.Title is = absurd is
-plain_agents (lines.Claim claim) is = absurd is
-plain_agents (lines.Split conflict) is = absurd is
-plain_agents (lines.Leaf blocks) is = absurd is
-plain_agents (lines.Clash i j) is = absurd is
-plain_agents (lines.Agent agent entries) is = absurd is
-plain_agents (lines.At entry) is = absurd is
-plain_agents lines.End is = absurd is
+plain_agents _ is = absurd is
 
 plain_claim : (line : CertLine) → IsLine dues.Claim line → IsPlain 64 (words 1 line)
 plain_claim (lines.Claim claims.Impossible) is = plain-more 16 64 _ (omega arith) (plain-word (codes "claim impossible") 16 refl refl)
 plain_claim (lines.Claim (claims.Cost cost)) is =
     plain-more 21 64 _ (omega arith) (plain-append 10 11 _ _ (plain-word (codes "claim cost") 10 refl refl) (plain-field 32 10 cost refl (omega arith) (omega arith) (omega arith)))
-plain_claim lines.Title is = absurd is
-plain_claim (lines.Agents n) is = absurd is
-plain_claim (lines.Split conflict) is = absurd is
-plain_claim (lines.Leaf blocks) is = absurd is
-plain_claim (lines.Clash i j) is = absurd is
-plain_claim (lines.Agent agent entries) is = absurd is
-plain_claim (lines.At entry) is = absurd is
-plain_claim lines.End is = absurd is
+plain_claim _ is = absurd is
 
 -- a line that is due has no LF in it, and at most 64 bytes
 pub plain_line : (due : Due) (line : CertLine) → IsLine due line → IsPlain 64 (words (width_of due) line)

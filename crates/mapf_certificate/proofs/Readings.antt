@@ -1,5 +1,5 @@
 -- What the answers of a reader of certificates say of the bytes that its source gave.
-use Rattle.std.proofs.Common.{◌≡◌, ℕ, ◌≤◌, inl, inr, Bool, List, [], ◌∷◌, ◌++◌, Option, Some, IfSome, sym, ap, subst, ◌∙◌, arith}
+use Rattle.std.proofs.Common.{◌≡◌, ℕ, ◌≤◌, inl, inr, Bool, List, [], ◌∷◌, ◌++◌, Option, Some, IfSome, Result, IfErr, sym, ap, subst, ◌∙◌, arith}
 use Rattle.std.proofs.lemmas.List.{append-nil}
 use Rattle.std.proofs.lemmas.Bool.{cases_lt}
 use Rattle.std.specs.Io.KnownBytes.{IsAtEnd}
@@ -18,6 +18,7 @@ use Rattle.mapf_certificate.specs.Reading.{Reading, grid_at, agents_at}
 use Rattle.mapf_certificate.specs.CertReading.{IsRestAt, Awaits, CompletesNode, ReadsNode, ReadsEnd, trees_owed_after}
 use Rattle.mapf_certificate.specs.Window.{Window, Fails, IsNoTextFault}
 use Rattle.mapf_certificate.specs.Bounded.{BeginsWithLine, BeginsWithNode}
+use Rattle.mapf_certificate.proofs.Fields.{same_some}
 use Rattle.mapf_certificate.proofs.PlainLines.{same_line}
 use Rattle.mapf_certificate.proofs.Windows.{Window-trans, Window-known, Fails-after, Fails-weaker, Fails-not}
 use Rattle.mapf_certificate.proofs.Nodes.{node_is_line, nodes_apart}
@@ -67,6 +68,10 @@ line_next sizes r t bounds rest = elim (cases_lt 0 r.owed) [
   | inr none ↦ record { value = lines.End; is = tt; rest = []; spelled = end_next sizes r t bounds (omega arith) rest ∙ sym (append-nil (line_text sizes.width lines.End)) }
 ]
 
+-- what is refused of a reading is refused of the same reading
+pub fails_at : {A : Type 0} (a b : Option (List ℕ)) (failed : Bool) (r s : Reading) (answer : Result A LinesFault) → r ≡ s → IfErr answer (Fails a b failed r.buffer (IsRestAt r)) → IfErr answer (Fails a b failed s.buffer (IsRestAt s))
+fails_at a b failed r s answer same fails = let P : Reading → Type 0 = λ q. IfErr answer (Fails a b failed q.buffer (IsRestAt q)) in subst P same fails
+
 pub fails_first : (sizes : Sizes) (r : Reading) (had left : Option (List ℕ)) (failed : Bool) (x : Buffered) (fault : LinesFault) → Bounds sizes r → Fails had left failed x (BeginsWithLine (dues.Tree sizes)) fault → Fails had left failed x (IsRestAt r) fault
 fails_first sizes r had left failed x fault bounds fails = Fails-weaker had left failed x (IsRestAt r) (BeginsWithLine (dues.Tree sizes)) fault (λ t. line_next sizes r t bounds) fails
 
@@ -95,7 +100,7 @@ reads_node sizes had mid left old new y line node bounds wide first completes so
 pub node_joins : (had left : Option (List ℕ)) (old new : Reading) (node : Node) → Continues old new → ReadsNode had left old new node → (bytes : List ℕ) → had ≡ Some bytes → (nodes : List Node) → Awaits left new nodes → Awaits had old (node ∷ nodes)
 node_joins had left old new node on reads bytes known nodes awaits =
     let (rest, kept, same, many) = Window-known had left old.buffer new.buffer (node_text old.width node) bytes reads.window known in
-    let one : awaits.bytes ≡ rest = some_same awaits.bytes rest (sym awaits.known ∙ kept) in
+    let one : awaits.bytes ≡ rest = same_some awaits.bytes rest (sym awaits.known ∙ kept) in
     let moved = rest_moved (grid_at new) (grid_at old) (agents_at new) (agents_at old) new.owed nodes (new.buffer.bytes ++ awaits.bytes) on.grid on.agents awaits.rest in
     let after = subst (λ (n : ℕ). IsRest (grid_at old) (agents_at old) n nodes (new.buffer.bytes ++ awaits.bytes)) reads.owed moved in
     let joined = rest_joins (grid_at old) (agents_at old) old.owed node nodes (new.buffer.bytes ++ awaits.bytes) reads.in_range reads.was_owed after in
@@ -104,9 +109,6 @@ node_joins had left old new node on reads bytes known nodes awaits =
       known = known;
       rest = subst (IsRest (grid_at old) (agents_at old) old.owed (node ∷ nodes)) (ap (λ l. node_text old.width node ++ (new.buffer.bytes ++ l)) one ∙ sym same) joined;
     }
-  where
-    some_same : (xs ys : List ℕ) → ◌≡◌ {A = Option (List ℕ)} (Some xs) (Some ys) → xs ≡ ys
-    some_same xs ys e = cc
 
 -- the node that was read is the one that came
 pub node_same : (sizes : Sizes) (had left : Option (List ℕ)) (old new : Reading) (node due : Node) (nodes : List Node) → Bounds sizes old → old.width ≡ sizes.width → Continues old new → ReadsNode had left old new node → Awaits had old (due ∷ nodes)

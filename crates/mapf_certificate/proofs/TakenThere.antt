@@ -47,10 +47,6 @@ there-trans s0 s1 s2 x y z t u first second = λ rest e.
     let (two, last) = second rest (ap (λ b. b.bytes) mid) in
     (two ∙ one, last ∙ ap (λ b. let r : Buffered = record { bytes = rest; left = b.left } in r) mid)
 
--- nothing is taken
-pub there-nil : {S : Type 0} (s : S) (x : Buffered) → TakesThere s s x x []
-there-nil s x = λ rest e. (refl, ap (λ l. let r : Buffered = record { bytes = l; left = x.left } in r) e)
-
 -- one more value's text
 pub there-more : {S A : Type 0} (text : A → List ℕ) (s0 s1 s2 : S) (x y z : Buffered) (values : List A) (value : A) → TakesThere s0 s1 x y (flat_map text values) → TakesThere s1 s2 y z (text value) → TakesThere s0 s2 x z (flat_map text (values ++ (value ∷ [])))
 there-more text s0 s1 s2 x y z values value first second =

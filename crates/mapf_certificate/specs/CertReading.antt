@@ -14,7 +14,7 @@ use Rattle.mapf_certificate.specs.Window.{Window, BeginsWith}
 use Rattle.mapf_certificate.specs.Reading.{Reading, grid_at, agents_at}
 use Rattle.mapf_certificate.specs.Certificates.{line_text, node_text, header_text, IsNode, IsRest, SpellsCert}
 
--- how many trees are owed after a node
+-- how many subtrees are pending after a node
 abbrev pub trees_owed_after : ℕ → Node → ℕ
 trees_owed_after owed (SplitNode conflict) = owed + 1
 trees_owed_after owed (LeafNode blocks) = owed - 1

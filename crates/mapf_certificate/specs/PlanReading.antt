@@ -102,7 +102,7 @@ read_end n bs = next_words n (codes "end") bs >>= nothing_after n
 unfoldable pub read_pair_cell : Sizes → List ℕ → Result (Option ℕ × List ℕ) LineFault
 read_pair_cell sizes bs = read_pair bs >>= λ p. Ok (result_ok (read_cell sizes.width sizes.height p.0 p.1), p.2)
 
--- a value, or want of memory
+-- a value, or a refused allocation
 abbrev pub OrMemory : {A : Type 0} → Result A PlanTextFault → Type 0 → Type 0
 OrMemory result P = P ⊎ (result ≡ Err Memory)
 

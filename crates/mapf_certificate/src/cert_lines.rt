@@ -72,7 +72,7 @@ impl Model for CertLines {
 }
 
 impl CertLines {
-    /// Takes all the memory but that of leaves. At most `limit` bytes may come from the source.
+    /// Allocates the buffer; later only leaves allocate. At most `limit` bytes may come from the source.
     pub fn open(
         alloc: Global,
         width: u32,
@@ -139,7 +139,7 @@ impl CertLines {
         // Nor is it touched where a line is in the buffer that isn't the first of a certificate.
         ensures refused { IfUnfaulted self.old (RefusesThere source.old source.new self.old.buffer
             (BeginsWith CertLine (λ line. line ≡ Title) (line_text 1))) }
-        // Whether the source failed, and how many bytes came of it; a fault of the text is never want of memory.
+        // Whether the source failed, and how many bytes came of it; a fault of the text is never out of memory.
         ensures device { IfUnfaulted self.old
             (IsErrOf result LinesFault.Device ↔ (S.has_failed source.new ≡ true)) }
         ensures pulls { IfUnfaulted self.old (Pulls (S.remaining source.old) (S.remaining source.new)
@@ -200,7 +200,7 @@ impl CertLines {
         // Nor is it touched where a line is in the buffer that is none of a tree, nor `end`.
         ensures refused { IfUnfaulted self.old (RefusesThere source.old source.new self.old.buffer
             (BeginsWith CertLine (IsTreeLine (grid_at self.old) (agents_at self.old)) (line_text self.old.width))) }
-        // Whether the source failed, and how many bytes came of it; a fault of the text is never want of memory.
+        // Whether the source failed, and how many bytes came of it; a fault of the text is never out of memory.
         ensures device { IfUnfaulted self.old
             (IsErrOf result LinesFault.Device ↔ (S.has_failed source.new ≡ true)) }
         ensures pulls { IfUnfaulted self.old (Pulls (S.remaining source.old) (S.remaining source.new)
@@ -264,7 +264,7 @@ impl CertLines {
             agents,
         };
         let line = self.lines.next(source, &Due::Tree(sizes))?;
-        let number = self.lines.number();
+        let number = self.lines.count;
         if self.owed == 0 {
             take_end(&mut self.lines, source, &line)?;
             return Ok(None);
@@ -276,7 +276,7 @@ impl CertLines {
     }
 }
 
-/// The number of trees that are owed after an item, of this number before it.
+/// How many subtrees are pending after this item.
 fn trees_owed_after(owed: u64, item: &Item) -> u64
     requires some { 1 ≤ owed }
     requires few { owed + 1 < 2 ^ 64 }

@@ -47,7 +47,7 @@ fn collect<S: Source>(
 pub fn read_cert(alloc: Global, bytes: &[u8], grid: &Grid) -> Result<Cert, CertFault>
     // What is read is spelled so, in range.
     ensures found { IfOk result (IsSpelled grid.now bytes.now) }
-    // What is spelled so is read, want of memory aside.
+    // What is spelled so is read, unless memory runs out.
     ensures only { (agents : ℕ) (claim : Claim) (tree : ConstraintTree)
         → SpellsCert grid.now bytes.now agents claim tree
         → MatchResult result (IsCertOf agents claim tree) (λ fault. fault ≡ CertFault.Memory) }

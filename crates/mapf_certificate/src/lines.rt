@@ -23,8 +23,8 @@ use std::alloc::Global;
 #[derive(Drop)]
 pub struct Lines {
     buffer: LineBuffer,
-    // How many were taken.
-    count: u64,
+    // How many were taken: the number of the line that was taken last, counted from 1.
+    pub count: u64,
 }
 
 /// Whether the second entry may follow the first in a block.
@@ -84,11 +84,6 @@ impl Lines {
             buffer: LineBuffer::open(alloc, limit)?,
             count: 0,
         })
-    }
-
-    /// The number of the line that was taken last, counted from 1.
-    pub fn number(&self) -> u64 {
-        self.count
     }
 
     /// The line that was taken last doesn't fit where it stands.

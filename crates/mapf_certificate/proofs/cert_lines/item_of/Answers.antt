@@ -8,8 +8,6 @@ use Rattle.mapf_certificate.specs.CertReading.{CompletesNode}
 use Rattle.mapf_certificate.specs.Untouched.{TakesThere}
 use Rattle.mapf_certificate.specs.declared.line.CertLine.{CertLine}
 use Rattle.mapf_certificate.specs.declared.line.CertLine.TheVariants as lines
-use Rattle.mapf_certificate.specs.Window.{Fails}
-use Rattle.mapf_certificate.specs.Bounded.{BeginsWithNode}
 use Rattle.mapf_certificate.proofs.PlainLines.{same_line}
 use Rattle.mapf_certificate.proofs.Windows.{err_passed}
 use Rattle.mapf_certificate.proofs.Nodes.{one_line, fails_in_blocks, begins_no_node, first_kinds}
@@ -17,15 +15,9 @@ use Rattle.mapf_certificate.proofs.cert_lines.item_of.Goals as goal
 
 pub returns-in_err-blocks-in-Leaf-clause-fails : goal.returns-in_err-blocks-in-Leaf-clause-fails
 returns-in_err-blocks-in-Leaf-clause-fails g c =
-    let s = g.S.Source in
-    let had = s.remaining c.args.source.now in
-    let left = s.remaining c.blocks-in-Leaf.new.source in
-    let failed = s.has_failed c.blocks-in-Leaf.new.source in
     let sizes = c.args.sizes.now in
-    let line = c.args.line.now in
-    let fault = c.in_err-blocks-in-Leaf.field-0.0 in
-    err_passed c.from_residual.result (Fails had left failed c.args.lines.now.buffer (λ t. BeginsWithNode sizes (line_text sizes.width line ++ t))) fault (err_from_is_err_and c.from_residual.result c.from_residual.ensures.1)
-    (fails_in_blocks sizes had left failed c.args.lines.now.buffer line c.in-Leaf.count fault c.requires.line c.in-Leaf.is c.in_err-blocks-in-Leaf.ensures.fails)
+    err_passed _ _ _ (err_from_is_err_and _ c.from_residual.ensures.1)
+    (fails_in_blocks sizes _ _ _ _ _ _ _ c.requires.line c.in-Leaf.is c.in_err-blocks-in-Leaf.ensures.fails)
 
 pub returns-in-Split-clause-item : goal.returns-in-Split-clause-item
 returns-in-Split-clause-item g c =
@@ -43,7 +35,7 @@ returns-in_default g c =
       spare = le_refl _;
       item = tt;
       there = tt;
-      fails = begins_no_node c.args.sizes.now (g.S.Source.remaining c.args.source.now) (g.S.Source.has_failed c.args.source.now) c.args.lines.now.buffer c.args.line.now c.misfit.result c.misfit.ensures c.requires.works c.requires.line (first_kinds c.args.line.now c.in_default.not-Split c.in_default.not-Leaf c.in_default.not-Clash);
+      fails = begins_no_node c.args.sizes.now _ _ _ _ _ c.misfit.ensures c.requires.works c.requires.line (first_kinds c.args.line.now c.in_default.not-Split c.in_default.not-Leaf c.in_default.not-Clash);
     }
 
 pub returns-in_ok-blocks-in-Leaf-clause-there : goal.returns-in_ok-blocks-in-Leaf-clause-there

@@ -6,7 +6,7 @@ use Rattle.mapf_certificate.specs.declared.sizes.Sizes.{Sizes}
 use Rattle.mapf_certificate.specs.Lines.{grid_for}
 use Rattle.mapf_certificate.specs.Plans.{GoesOn, HasCells}
 use Rattle.mapf_certificate.specs.PlanReading.{read_pair_cell}
-use Rattle.mapf_certificate.proofs.Fields.{ok_pair_parts}
+use Rattle.mapf_certificate.proofs.Fields.{ok_pair_parts, same_some}
 use Rattle.mapf_certificate.proofs.PathLaws.{goes_on_step, goes_on_end, has_cells_step, pair_cell_shorter, not_empty, is_empty, pushed}
 use Rattle.mapf_certificate.proofs.plan_reader.pairs_of.Goals as goal
 
@@ -37,14 +37,11 @@ loop-rest-smaller-else-are_cells c = pair_cell_shorter c.args.sizes.now c.loop-r
 pub loop-rest-smaller : goal.loop-rest-smaller
 loop-rest-smaller c = pair_cell_shorter c.args.sizes.now c.loop-rest.rest.now c.in-Ok.parts.1.now c.in-Ok.parts.0 c.in-Ok.ensures
 
-some_same : (a b : ℕ) → ◌≡◌ {A = Option ℕ} (Some a) (Some b) → a ≡ b
-some_same a b e = cc
-
 keeps_on : (sizes : Sizes) (path cells rest after new : List ℕ) (v : Option ℕ) (cell : ℕ) → All (IsOnGrid (grid_for sizes)) path → GoesOn sizes.width path cells rest → rest ≢ [] → read_pair_cell sizes rest ≡ Ok (v, after)
     → v ≡ Some cell → new ≡ cells ++ (cell ∷ []) → GoesOn sizes.width path new after
 keeps_on sizes path cells rest after new v cell all on some e is grown =
     let step = read_on sizes path cells rest after v all on some e in
-    let same = some_same step.0 cell (sym step.1 ∙ is) in
+    let same = same_some step.0 cell (sym step.1 ∙ is) in
     subst (λ (l : List ℕ). GoesOn sizes.width path l after) (ap (λ n. cells ++ (n ∷ [])) same ∙ sym grown) step.2
 
 pub loop-rest-preserved-else-is_err : goal.loop-rest-preserved-else-is_err

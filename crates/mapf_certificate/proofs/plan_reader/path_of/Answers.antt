@@ -9,7 +9,8 @@ use Rattle.mapf_certificate.specs.Numbers.{field}
 use Rattle.mapf_certificate.specs.Lines.{grid_for}
 use Rattle.mapf_certificate.specs.Plans.{path_words, cells_text, ticks_of, IsPathOf}
 use Rattle.mapf_certificate.specs.PlanReading.{read_path_front}
-use Rattle.mapf_certificate.proofs.PathLaws.{front_read, ok_triple_parts, same_err, passed_on}
+use Rattle.mapf_certificate.proofs.Fields.{same_err}
+use Rattle.mapf_certificate.proofs.PathLaws.{front_read, ok_triple_parts, passed_on}
 use Rattle.mapf_certificate.proofs.PlanParts.{path_front_takes}
 use Rattle.mapf_certificate.proofs.plan_reader.path_of.Goals as goal
 

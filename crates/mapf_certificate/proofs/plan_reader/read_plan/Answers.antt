@@ -10,8 +10,8 @@ use Rattle.mapf_certificate.specs.declared.sizes.Sizes.{Sizes}
 use Rattle.mapf_certificate.specs.Lines.{grid_for}
 use Rattle.mapf_certificate.specs.Plans.{plan_text, IsPlanText, IsAnswerInRange}
 use Rattle.mapf_certificate.specs.PlanReading.{read_header, line_of, rest_of}
-use Rattle.mapf_certificate.proofs.PathLaws.{same_err, passed_on, ok_triple_parts}
-use Rattle.mapf_certificate.proofs.Fields.{same_ok}
+use Rattle.mapf_certificate.proofs.PathLaws.{passed_on, ok_triple_parts}
+use Rattle.mapf_certificate.proofs.Fields.{same_ok, same_err}
 use Rattle.mapf_certificate.proofs.PlanTexts.{headed, header_takes, header_of, answer_moved, text_is}
 use Rattle.mapf_certificate.proofs.plan_reader.read_plan.Goals as goal
 
