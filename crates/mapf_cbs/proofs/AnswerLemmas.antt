@@ -29,14 +29,12 @@ use Rattle.mapf_cbs.specs.FirstConflicts.{AreFirstPaths}
 use Rattle.mapf_cbs.specs.Goals.{NamesFirstDefect}
 use Rattle.mapf_cbs.specs.State.{IsState, IsPopped, IsCauseToStop, IsLeastKey}
 use Rattle.mapf_cbs.proofs.ViewLemmas.{live_sum, live_cheapest, live_first}
-use Rattle.mapf_cbs.proofs.ChildLemmas.{conflict_early}
+use Rattle.mapf_cbs.proofs.ChildLemmas.{conflict_early, Contains-none}
 use Rattle.mapf_cbs.proofs.TreeLemmas.{is_earned, is_on_first, shows_cost, shows_impossible, has_splits, is_stopped, at_leaf}
 use Rattle.mapf_cbs.proofs.GrowLemmas.{searched_first}
 use Rattle.mapf_cbs.proofs.RangeLemmas.{tree_in_range, plan_in_range, sum_in_range}
-use Rattle.mapf_cbs.proofs.OpenLemmas.{first_open, Contains-first}
-
-none_left : {X : Type 0} (x : X) → Contains [] x → ⊥
-none_left x (k, within, is) = omega arith
+use Rattle.mapf_cbs.proofs.OpenLemmas.{Contains-first}
+use Rattle.mapf_cbs.proofs.StateLemmas.{least_popped}
 
 -- the state as it begins
 pub state_root : (problem : Instance) (paths : Vec (List ℕ) Global) (total : ℕ) (view : View) → IsRootView paths.items view → IsLive problem view → total ≡ sum view.costs → total ≤ 200 * 2 ^ 32 → IsState problem (Root paths ∷ []) (Open ∷ []) ((total, 0) ∷ []) 0
@@ -140,7 +138,7 @@ answer_impossible problem shape names nodes fates count limit within state items
       let size = state.searched.lengths in
       let inside = slice_get_within fates m Open m_open in
       let view : (view : View) × (slice_get state.views m ≡ Some view) = slice_get_inside state.views m (omega arith) in
-      none_left (sum view.0.costs, m) (state.opens.each m view.0 view.1 m_open))),
+      Contains-none (sum view.0.costs, m) (state.opens.each m view.0 view.1 m_open))),
 )
 
 module _ (problem : Instance) (shape : IsGridMap problem.grid) (names : (tree : ConstraintTree) → NamesFirstDefect problem tree) (nodes : List Node) (fates : List Fate) (rest : List (ℕ × ℕ)) (count total k : ℕ) (popped : IsPopped problem nodes fates rest count total k) (limit : ℕ) (within : count ≤ limit) (items : List Item) (found : (tree : ConstraintTree) × Spell items tree × IsTreeAt (length problem.agents) popped.state.views fates 0 tree) where
@@ -149,10 +147,7 @@ module _ (problem : Instance) (shape : IsGridMap problem.grid) (names : (tree : 
 
   module _ (view : View) (is : slice_get popped.state.views k ≡ Some view) (is_open : slice_get fates k ≡ Some Open) (live : IsLive problem view) where
     least : (m : ℕ) (other : View) → slice_get popped.state.views m ≡ Some other → slice_get fates m ≡ Some Open → sum view.costs ≤ sum other.costs
-    least m other m_is m_open =
-        let first = first_open ((total, k) ∷ rest) rest (total, k) popped.state.views fates refl popped.above popped.state.opens in
-        let same : first.0 ≡ view = same_Some first.0 view (sym first.1 ∙ is) in
-        subst (λ (w : View). sum w.costs ≤ sum other.costs) same (first.4 m other m_is m_open)
+    least = least_popped problem nodes fates rest count total k popped view is
 
     valid_of : (HaveSomeConflict view.paths → ⊥) → IsValid problem view.paths
     valid_of none = record {

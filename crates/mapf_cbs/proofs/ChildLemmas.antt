@@ -1,5 +1,5 @@
 -- Children of a node: more bars, no cheaper path, conflicts before a bound.
-use Rattle.std.proofs.Common.{◌≡◌, ◌≢◌, ◌⊎◌, ℕ, zero, suc, ◌+◌, ◌<◌, ◌≤◌, Bool, true, false, List, [], ◌∷◌, Some, Contains, length, sum, slice_get, slice_set, refl, sym, ◌∙◌, subst, inl, inr, ⊎_elim, arith, nat_eq, cond, eq-eqb}
+use Rattle.std.proofs.Common.{◌≡◌, ◌≢◌, ◌⊎◌, ℕ, suc, ◌+◌, ◌<◌, ◌≤◌, Bool, true, false, List, [], ◌∷◌, Some, Contains, length, sum, slice_get, slice_set, refl, sym, ◌∙◌, subst, inl, inr, ⊎_elim, arith, nat_eq, cond, eq-eqb}
 use Rattle.std.proofs.lemmas.Bool.{cases_eq, cases_lt, cond_both, eqb-true}
 use Rattle.std.proofs.lemmas.Option.{slice_get_within, same_Some}
 use Rattle.mapf_model.specs.declared.bar.Bar.{Bar}
@@ -16,6 +16,7 @@ use Rattle.mapf_model.specs.Tree.{with_constraint, left_constraint, right_constr
 use Rattle.mapf_model.specs.Earned.{HasConflict, tick_of}
 use Rattle.mapf_model.specs.Laws.{AreSameBars}
 use Rattle.mapf_model.proofs.BarLemmas.{Satisfies-same, AreSound-same}
+use Rattle.mapf_model.proofs.ClaimLemmas.{slice_get_inside}
 use Rattle.mapf_model.proofs.SplitLemmas.{Contains-cons_cases}
 use Rattle.mapf_constraints.specs.BarSets.{tick_of as bar_tick, AreBefore}
 use Rattle.mapf_spacetime.specs.Answer.{AreGoodLabels}
@@ -24,6 +25,9 @@ use Rattle.mapf_cbs.specs.CheapestPath.{IsCheapestPath, HasNoPath, IsTableBar}
 use Rattle.mapf_cbs.specs.Search.{View, IsCheapestOf, IsLive, IsDead, live_child, dead_child}
 use Rattle.mapf_cbs.proofs.SumLemmas.{slice_get-set_same, slice_get-set_other, length-slice_set, sum-set}
 use Rattle.mapf_cbs.proofs.ViewLemmas.{agent_path_of}
+
+pub Contains-none : {X : Type 0} (x : X) → Contains [] x → ⊥
+Contains-none x (k, within, is) = omega arith
 
 pub Contains-later : {X : Type 0} (x y : X) (xs : List X) → Contains xs y → Contains (x ∷ xs) y
 Contains-later x y xs (k, within, is) = (suc k, omega arith, is)
@@ -139,14 +143,9 @@ module _ (problem : Instance) (view : View) (live : IsLive problem view) where
   agent_of i path is =
       let one = live.counted.paths in
       let inside : i < length view.paths = slice_get_within view.paths i path is in
-      let agent : (agent : Agent) × (slice_get problem.agents i ≡ Some agent) = slice_inside problem.agents i (omega arith) in
+      let agent : (agent : Agent) × (slice_get problem.agents i ≡ Some agent) = slice_get_inside problem.agents i (omega arith) in
       let r = agent_path_of problem view live.counted i agent.0 agent.1 in
       (agent.0, r.1, agent.1, live.each i agent.0 path r.1 agent.1 is r.3)
-    where
-      slice_inside : {X : Type 0} (xs : List X) (i : ℕ) → i < length xs → (x : X) × (slice_get xs i ≡ Some x)
-      slice_inside [] i within = absurd (omega arith)
-      slice_inside (x ∷ xs) zero within = (x, refl)
-      slice_inside (x ∷ xs) (suc i) within = slice_inside xs i (omega arith)
 
   -- a conflict of the paths is proper
   pub conflict_proper : (conflict : Conflict) → HasConflict view.paths conflict → IsProperSplit problem conflict

@@ -4,7 +4,7 @@ use Rattle.std.proofs.lemmas.Bool.{cond_both, eqb-true}
 use Rattle.mapf_model.specs.Tree.{NodeConstraints, with_constraint}
 use Rattle.mapf_model.specs.Laws.{AreSameBars}
 use Rattle.mapf_model.proofs.SplitLemmas.{Contains-cons_cases}
-use Rattle.mapf_cbs.proofs.ChildLemmas.{Contains-later}
+use Rattle.mapf_cbs.proofs.ChildLemmas.{Contains-later, Contains-none}
 use Rattle.std.proofs.lemmas.Option.{slice_get_within, same_Some}
 use Rattle.std.specs.declared.alloc.Global.{Global}
 use Rattle.mapf_model.specs.declared.bar.Bar.{Bar}
@@ -103,13 +103,10 @@ module _ (nodes : List Node) (views : List View) (are : AreViews nodes views) (k
 pub view_at : (nodes : List Node) (views : List View) → AreViews nodes views → (k : ℕ) → k < length nodes → (view : View) × (slice_get views k ≡ Some view)
 view_at nodes views are k within = let e = are.lengths in slice_get_inside views k (omega arith)
 
-none_within : {X : Type 0} (x : X) → Contains [] x → ⊥
-none_within x (k, within, is) = omega arith
-
 pub joined_first : (all : List Bar) (front : List Bar) → front ≡ [] → AreJoined all front all
 joined_first all front e = record {
   apart = λ bar in_all. inr in_all;
-  from_front = λ bar in_front. absurd (none_within bar (subst (λ bs. Contains bs bar) e in_front));
+  from_front = λ bar in_front. absurd (Contains-none bar (subst (λ bs. Contains bs bar) e in_front));
   from_rest = λ bar in_rest. in_rest;
 }
 
@@ -134,6 +131,6 @@ joined_more all front rest more bar joined same = record {
 
 pub joined_done : (all front rest : List Bar) → rest ≡ [] → AreJoined all front rest → AreSameBars all front
 joined_done all front rest e joined bar = (
-  λ in_all. ⊎_elim (λ (h : Contains front bar). h) (λ (h : Contains rest bar). absurd (none_within bar (subst (λ bs. Contains bs bar) e h))) (joined.apart bar in_all),
+  λ in_all. ⊎_elim (λ (h : Contains front bar). h) (λ (h : Contains rest bar). absurd (Contains-none bar (subst (λ bs. Contains bs bar) e h))) (joined.apart bar in_all),
   λ in_front. joined.from_front bar in_front,
 )

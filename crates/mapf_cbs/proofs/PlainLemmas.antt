@@ -25,7 +25,7 @@ use Rattle.mapf_cbs.specs.Search.{View, IsLive, IsTreeAt}
 use Rattle.mapf_cbs.specs.State.{IsOpenSet, key_cmp, with_children, split_fates, with_keys}
 use Rattle.mapf_cbs.specs.Whole.{IsWhole, AreWhole, HaveAgentPaths, IsWholeChild, IsLeastOpen, IsLeastBelow, IsWholeState, IsWholePopped}
 use Rattle.mapf_cbs.proofs.AnswerLemmas.{answer_impossible, state_root, root_views}
-use Rattle.mapf_cbs.proofs.ChildLemmas.{Contains-later}
+use Rattle.mapf_cbs.proofs.ChildLemmas.{Contains-later, Contains-none}
 use Rattle.mapf_cbs.proofs.OpenLemmas.{Contains-first}
 use Rattle.mapf_cbs.proofs.SumLemmas.{slice_get-front, slice_get-here}
 use Rattle.mapf_cbs.proofs.StateLemmas.{IsInHand, in_hand, two_pushed, state_grown, grown_views}
@@ -36,11 +36,8 @@ abbrev others : List (ℕ × ℕ) → ℕ → List (ℕ × ℕ)
 others [] k = []
 others (x ∷ keys) k = cond (nat_eq x.1 k) (others keys k) (x ∷ others keys k)
 
-nothing_in : (x : ℕ × ℕ) → Contains {X = ℕ × ℕ} [] x → ⊥
-nothing_in x (n, within, is) = omega arith
-
 others_only : (keys : List (ℕ × ℕ)) (k : ℕ) (x : ℕ × ℕ) → Contains (others keys k) x → Contains keys x × (x.1 ≢ k)
-others_only [] k x in_it = absurd (nothing_in x in_it)
+others_only [] k x in_it = absurd (Contains-none x in_it)
 others_only (y ∷ keys) k x in_it = cond_both (nat_eq y.1 k) (others keys k) (y ∷ others keys k) (λ zs. Contains zs x → Contains (y ∷ keys) x × (x.1 ≢ k))
     (λ same h. let r = others_only keys k x h in (Contains-later y x keys r.0, r.1))
     (λ differ h. ⊎_elim
@@ -50,7 +47,7 @@ others_only (y ∷ keys) k x in_it = cond_both (nat_eq y.1 k) (others keys k) (y
     in_it
 
 others_old : (keys : List (ℕ × ℕ)) (k : ℕ) (x : ℕ × ℕ) → Contains keys x → x.1 ≢ k → Contains (others keys k) x
-others_old [] k x in_it other = absurd (nothing_in x in_it)
+others_old [] k x in_it other = absurd (Contains-none x in_it)
 others_old (y ∷ keys) k x in_it other = cond_both (nat_eq y.1 k) (others keys k) (y ∷ others keys k) (λ zs. Contains zs x)
     (λ same. ⊎_elim
     (λ (e : y ≡ x). absurd (other (sym (ap (λ (z : ℕ × ℕ). z.1) e) ∙ eqb-true y.1 k same)))
@@ -142,13 +139,13 @@ module _ (problem : Instance) (nodes : List WholeNode) (fates : List Fate) (coun
     are = s.state.are;
     searched = s.state.searched;
     opens = record {
-      only = λ key in_it. absurd (nothing_in key in_it);
+      only = λ key in_it. absurd (Contains-none key in_it);
       each = λ m view view_is m_open. absurd (none m (slice_get_within fates m Open m_open) m_open);
     };
     nodes_for = s.state.nodes_for;
     bars = s.state.bars;
     size = s.state.size;
-    small = λ key in_it. absurd (nothing_in key in_it);
+    small = λ key in_it. absurd (Contains-none key in_it);
   }) items found
 
 pub least_at : (nodes others : List WholeNode) (fates more : List Fate) (found : Option ℕ) → nodes ≡ others → fates ≡ more → IsLeastBelow nodes fates (length fates) found → IsLeastBelow others more (length more) found

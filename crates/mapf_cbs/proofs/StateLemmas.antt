@@ -129,6 +129,14 @@ with_key_new : (keys : List (ℕ × ℕ)) (n : ℕ) (total : Option ℕ) (s : �
 with_key_new keys n None s e = absurd cc
 with_key_new keys n (Some t) s e = let same : t ≡ s = same_Some t s e in subst (λ z. Contains (with_key keys n (Some t)) (z, n)) same (inserted_new keys (t, n))
 
+-- no open node is cheaper than the one in hand
+pub least_popped : (problem : Instance) (nodes : List Node) (fates : List Fate) (rest : List (ℕ × ℕ)) (count total k : ℕ) (popped : IsPopped problem nodes fates rest count total k) (view : View) → slice_get popped.state.views k ≡ Some view →
+    (m : ℕ) (other : View) → slice_get popped.state.views m ≡ Some other → slice_get fates m ≡ Some Open → sum view.costs ≤ sum other.costs
+least_popped problem nodes fates rest count total k popped view is m other m_is m_open =
+    let first = first_open ((total, k) ∷ rest) rest (total, k) popped.state.views fates refl popped.above popped.state.opens in
+    let same : first.0 ≡ view = same_Some first.0 view (sym first.1 ∙ is) in
+    subst (λ (w : View). sum w.costs ≤ sum other.costs) same (first.4 m other m_is m_open)
+
 module _ (problem : Instance) (nodes : List Node) (fates : List Fate) (rest : List (ℕ × ℕ)) (count total k : ℕ) (popped : IsPopped problem nodes fates rest count total k)
     (goals : (i j : ℕ) → ShareGoal problem i j → ⊥) (view : View) (is : slice_get popped.state.views k ≡ Some view) (is_open : slice_get fates k ≡ Some Open) (total_is : total ≡ sum view.costs)
     (conflict : Conflict) (on_first : IsFirstConflict view.paths conflict) (early : tick_of conflict < 1000000)
@@ -231,14 +239,8 @@ module _ (problem : Instance) (nodes : List Node) (fates : List Fate) (rest : Li
         (λ (new : (z : ℕ) × (t ≡ Some z) × (x ≡ (z, length nodes + 1))). let b = generated_small right.child t new.0 new.1 right.state in let e = ap (λ (y : ℕ × ℕ). y.0) new.2 in omega (arith, b, e, top, total_is))
         (with_key_only (with_key rest (length nodes) s) (length nodes + 1) t x in_it)
 
-    least_first : (m : ℕ) (other : View) → slice_get popped.state.views m ≡ Some other → slice_get fates m ≡ Some Open → sum view.costs ≤ sum other.costs
-    least_first m other m_is m_open =
-        let first = first_open ((total, k) ∷ rest) rest (total, k) popped.state.views fates refl popped.above popped.state.opens in
-        let same : first.0 ≡ view = same_Some first.0 view (sym first.1 ∙ is) in
-        subst (λ (w : View). sum w.costs ≤ sum other.costs) same (first.4 m other m_is m_open)
-
     pub searched_after : IsSearched problem (popped.state.views ++ left.child ∷ right.child ∷ []) (split_fates fates k conflict s t) (count + 1)
-    searched_after = searched_grown problem goals popped.state.views fates count popped.state.searched k view is is_open least_first conflict on_first early left.child right.child
+    searched_after = searched_grown problem goals popped.state.views fates count popped.state.searched k view is is_open (least_popped problem nodes fates rest count total k popped view is) conflict on_first early left.child right.child
         left.constraints right.constraints
         (fate_of s) (fate_of t) (generated_fate problem view left.child s left.state) (generated_fate problem view right.child t right.state) (split_fates fates k conflict s t) grown
 

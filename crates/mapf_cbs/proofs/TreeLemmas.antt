@@ -196,36 +196,28 @@ module _ (problem : Instance) (views : List View) (fates : List Fate) (count : �
           (at_least (sum view.costs) least) tree 0 searched.first.0 searched.first.1 on_tree);
     }
 
-    proper_node : (k : ℕ) (view : View) (node : ConstraintTree) → slice_get views k ≡ Some view → IsTreeAt (length problem.agents) views fates k node → IsProperNode problem node
-    proper_node k view (Split c left right) is (a, expanded, on_left, on_right) = (searched.each k view (Expanded c a) is expanded).proper
-    proper_node k view (Leaf blocks) is (other, fate, other_is, fate_is, end, are) = (are.different, are.of_agents)
-    proper_node k view (Clash i j) is none = absurd none
+    -- what is so of each node of the search is so of each node of the tree, from the root on
+    from_root : (P : NodeConstraints → ConstraintTree → Type 0) → ((k : ℕ) (view : View) (node : ConstraintTree) → slice_get views k ≡ Some view → IsTreeAt (length problem.agents) views fates k node → P view.constraints node) → AtEachNode P root tree
+    from_root P f = subst (λ constraints. AtEachNode P constraints tree) searched.first.2 (each_node P f tree 0 searched.first.0 searched.first.1 on_tree)
+
+    -- each node is proper, and a split stands on the first conflict of due paths
+    node_facts : (k : ℕ) (view : View) (node : ConstraintTree) → slice_get views k ≡ Some view → IsTreeAt (length problem.agents) views fates k node → IsProperNode problem node × IsEarnedNode problem tree view.constraints node × IsOnFirstConflict problem tree view.constraints node
+    node_facts k view (Split c left right) is (a, expanded, on_left, on_right) =
+        let at_expanded = searched.each k view (Expanded c a) is expanded in
+        let first = at_expanded.on_first in
+        let is_due = due view at_expanded.live (λ m other other_is is_open. searched.least k m view other (Expanded c a) is other_is expanded tt is_open) in
+        (at_expanded.proper, (view.paths, sum view.costs, is_due, first.has, first.earliest), (view.paths, sum view.costs, is_due, live_first problem view at_expanded.live, first))
+    node_facts k view (Leaf blocks) is (other, fate, other_is, fate_is, end, are) = ((are.different, are.of_agents), tt, tt)
+    node_facts k view (Clash i j) is none = absurd none
 
     pub is_proper : IsProper problem tree
-    is_proper = subst (λ constraints. AtEachNode (λ to node. IsProperNode problem node) constraints tree) searched.first.2 (each_node (λ to node. IsProperNode problem node) proper_node tree 0 searched.first.0 searched.first.1 on_tree)
-
-    earned_node : (k : ℕ) (view : View) (node : ConstraintTree) → slice_get views k ≡ Some view → IsTreeAt (length problem.agents) views fates k node → IsEarnedNode problem tree view.constraints node
-    earned_node k view (Split c left right) is (a, expanded, on_left, on_right) =
-        let at_expanded = searched.each k view (Expanded c a) is expanded in
-        (view.paths, sum view.costs, due view at_expanded.live (λ m other other_is is_open. searched.least k m view other (Expanded c a) is other_is expanded tt is_open), at_expanded.on_first.has, at_expanded.on_first.earliest)
-    earned_node k view (Leaf blocks) is at_leaf = tt
-    earned_node k view (Clash i j) is none = tt
+    is_proper = from_root (λ to node. IsProperNode problem node) (λ k view node is at. (node_facts k view node is at).0)
 
     pub is_earned : IsEarned problem tree
-    is_earned = record {
-      proper = is_proper;
-      splits = subst (λ constraints. AtEachNode (IsEarnedNode problem tree) constraints tree) searched.first.2 (each_node (IsEarnedNode problem tree) earned_node tree 0 searched.first.0 searched.first.1 on_tree);
-    }
-
-    first_node : (k : ℕ) (view : View) (node : ConstraintTree) → slice_get views k ≡ Some view → IsTreeAt (length problem.agents) views fates k node → IsOnFirstConflict problem tree view.constraints node
-    first_node k view (Split c left right) is (a, expanded, on_left, on_right) =
-        let at_expanded = searched.each k view (Expanded c a) is expanded in
-        (view.paths, sum view.costs, due view at_expanded.live (λ m other other_is is_open. searched.least k m view other (Expanded c a) is other_is expanded tt is_open), live_first problem view at_expanded.live, at_expanded.on_first)
-    first_node k view (Leaf blocks) is at_leaf = tt
-    first_node k view (Clash i j) is none = tt
+    is_earned = record { proper = is_proper; splits = from_root (IsEarnedNode problem tree) (λ k view node is at. (node_facts k view node is at).1) }
 
     pub is_on_first : AreOnFirstConflicts problem tree
-    is_on_first = subst (λ constraints. AtEachNode (IsOnFirstConflict problem tree) constraints tree) searched.first.2 (each_node (IsOnFirstConflict problem tree) first_node tree 0 searched.first.0 searched.first.1 on_tree)
+    is_on_first = from_root (IsOnFirstConflict problem tree) (λ k view node is at. (node_facts k view node is at).2)
 
     cost_node : (cost : ℕ) → ((m : ℕ) (other : View) → slice_get views m ≡ Some other → slice_get fates m ≡ Some Open → cost ≤ sum other.costs) →
         (k : ℕ) (view : View) (node : ConstraintTree) → slice_get views k ≡ Some view → IsTreeAt (length problem.agents) views fates k node → NodeShows problem (Cost cost) view.constraints node
@@ -243,7 +235,7 @@ module _ (problem : Instance) (views : List View) (fates : List Fate) (count : �
     pub shows_cost : (cost : ℕ) → ((m : ℕ) (other : View) → slice_get views m ≡ Some other → slice_get fates m ≡ Some Open → cost ≤ sum other.costs) → Shows problem (Cost cost) tree
     shows_cost cost least = record {
       proper = is_proper;
-      nodes = subst (λ constraints. AtEachNode (NodeShows problem (Cost cost)) constraints tree) searched.first.2 (each_node (NodeShows problem (Cost cost)) (cost_node cost least) tree 0 searched.first.0 searched.first.1 on_tree);
+      nodes = from_root (NodeShows problem (Cost cost)) (cost_node cost least);
     }
 
     impossible_node : ((m : ℕ) → slice_get fates m ≡ Some Open → ⊥) →
@@ -259,7 +251,7 @@ module _ (problem : Instance) (views : List View) (fates : List Fate) (count : �
     pub shows_impossible : ((m : ℕ) → slice_get fates m ≡ Some Open → ⊥) → Shows problem Impossible tree
     shows_impossible none_open = record {
       proper = is_proper;
-      nodes = subst (λ constraints. AtEachNode (NodeShows problem Impossible) constraints tree) searched.first.2 (each_node (NodeShows problem Impossible) (impossible_node none_open) tree 0 searched.first.0 searched.first.1 on_tree);
+      nodes = from_root (NodeShows problem Impossible) (impossible_node none_open);
     }
 
     pub has_splits : split_count tree ≡ count
