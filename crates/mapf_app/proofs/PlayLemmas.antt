@@ -1,7 +1,7 @@
 -- From the plan text that is read to what is played.
 use Rattle.std.proofs.Common.{◌≡◌, ℕ, List, Option, Result, Ok, Err, IfErr, IfSome, refl, sym, ◌∙◌, ap, subst, inl, inr}
 use Rattle.mapf_app.proofs.InputLemmas.{told}
-use Rattle.mapf_app.specs.Faults.{IsPlaying, IsReadingPlan}
+use Rattle.mapf_app.specs.Faults.{IsPlaying, IsReadingPlan, fault_of_plan_text}
 use Rattle.mapf_app.specs.Played.{HasPlayFault, IsNoPlan}
 use Rattle.mapf_app.specs.Problems.{SpellsProblem}
 use Rattle.mapf_app.specs.declared.fault.Fault.{Fault}
@@ -12,6 +12,7 @@ use Rattle.mapf_certificate.specs.declared.plan_text.PlanAnswer.{PlanAnswer}
 use Rattle.mapf_certificate.specs.declared.plan_text.PlanAnswer.TheVariants.{Found, Impossible, Limit}
 use Rattle.mapf_certificate.specs.declared.plan_text.PlanText.{PlanText}
 use Rattle.mapf_certificate.specs.declared.plan_text.PlanTextFault.{PlanTextFault}
+use Rattle.mapf_certificate.specs.declared.plan_text.PlanTextFault.TheVariants.{P1, P2, P3, P4, Memory}
 use Rattle.mapf_checker.proofs.PlanLemmas.{same_text}
 use Rattle.mapf_model.specs.Plan.{Instance}
 
@@ -35,6 +36,14 @@ module _ (problem : Instance) (bytes : List ℕ) (text : PlanText) where
       let other : PlanText = record { agents = agents; answer = Found plan } in
       let same : text ≡ other = same_text text other (only other spells.in_range spells.spelled) in
       (ap (λ (t : PlanText). t.agents) same, ap (λ (t : PlanText). t.answer) same)
+
+-- bytes that can't be read have this fault
+pub unread : (problem : Instance) (bytes : List ℕ) (fault : PlanTextFault) → ((agents : ℕ) (answer : PlanAnswer) → SpellsPlan problem.grid bytes agents answer → fault ≡ Memory) → IsReadingPlan problem bytes (fault_of_plan_text fault)
+unread problem bytes Memory none = tt
+unread problem bytes (P1 line) none = (λ e. cc, λ agents answer spells. let memory = none agents answer spells in cc)
+unread problem bytes (P2 line) none = (λ e. cc, λ agents answer spells. let memory = none agents answer spells in cc)
+unread problem bytes (P3 line) none = (λ e. cc, λ agents answer spells. let memory = none agents answer spells in cc)
+unread problem bytes (P4 line) none = (λ e. cc, λ agents answer spells. let memory = none agents answer spells in cc)
 
 -- a fault of the plan text that was read stands in what its source told
 pub play_fault_told : (map scen plan : Option (List ℕ)) (count : ℕ) (problem : Instance) → SpellsProblem map scen count problem → (text : List ℕ) → IfSome plan (λ bytes. text ≡ bytes) → (fault : Fault) → IsReadingPlan problem text fault →

@@ -1,4 +1,4 @@
-pub mod MeetingLemmas
+pub mod ConflictLemmas
 pub mod DefectLemmas
 pub mod IndexLemmas
 pub mod BranchLemmas

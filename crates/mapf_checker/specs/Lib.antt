@@ -1,5 +1,5 @@
 pub mod PathDefects
-pub mod Meetings
+pub mod Conflicts
 pub mod Defects
 pub mod BarredCells
 pub mod Keys

@@ -5,6 +5,7 @@ mod acceptance;
 mod agent_cell;
 mod branch;
 mod cert_judge;
+mod conflicts;
 mod fault;
 mod index;
 mod judge;
@@ -12,7 +13,6 @@ mod labels;
 mod lawful;
 pub mod laws;
 mod leaf;
-mod meeting;
 mod plan_fault;
 mod plan_judge;
 #[cfg(test)]
