@@ -23,8 +23,8 @@ abbrev pub HoldsOfSomePair : (ℕ → ℕ → Type 0) → ℕ → Type 0
 HoldsOfSomePair Fact count = (i : ℕ) × (j : ℕ) × (i < j) × (j < count) × Fact i j
 
 -- two agents share a cell or exchange their cells
-abbrev pub Meet : List ℕ → List ℕ → ℕ → ℕ → Type 0
-Meet here next i j = ShareCell here i j ⊎ ExchangeCells here next i j
+abbrev pub ShareOrExchangeCells : List ℕ → List ℕ → ℕ → ℕ → Type 0
+ShareOrExchangeCells here next i j = ShareCell here i j ⊎ ExchangeCells here next i j
 
 -- the conflict is one of agents that are in these cells at the tick, and in those at the next
 abbrev pub IsConflictOf : List ℕ → List ℕ → ℕ → Conflict → Type 0

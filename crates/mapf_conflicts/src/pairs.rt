@@ -1,6 +1,6 @@
 ghost use Rattle.std.specs.Prelude.{◌≡◌, ◌⊎◌, ◌<◌, ℕ, false, true, length, IfNone, IfSome, IsTrue, ◌↔◌};
 ghost use Rattle.mapf_model.specs.Pairs.{IsFirstPair, HoldsOfNoPair};
-ghost use Rattle.mapf_conflicts.specs.Pairs.{ShareCell, ExchangeCells, HoldsOfSomePair, Meet};
+ghost use Rattle.mapf_conflicts.specs.Pairs.{ShareCell, ExchangeCells, HoldsOfSomePair, ShareOrExchangeCells};
 
 use mapf_model::{Cell, first_pair};
 
@@ -39,7 +39,7 @@ pub fn may_conflict(here: &[Cell], next: &[Cell]) -> bool
     requires { length next.now ≡ length here.now }
     ensures share { result ≡ false → HoldsOfNoPair (ShareCell here.now) (length here.now) }
     ensures exchange { result ≡ false → HoldsOfNoPair (ExchangeCells here.now next.now) (length here.now) }
-    ensures some { result ≡ true → HoldsOfSomePair (Meet here.now next.now) (length here.now) }
+    ensures some { result ≡ true → HoldsOfSomePair (ShareOrExchangeCells here.now next.now) (length here.now) }
 {
     for i in 0..here.len() {
         if may_conflict_after(here, next, i) {
@@ -57,7 +57,8 @@ fn may_conflict_after(here: &[Cell], next: &[Cell], i: usize) -> bool
     ensures share { result ≡ false → (j : ℕ) → i < j → j < length here.now → ShareCell here.now i j → ⊥ }
     ensures exchange { result ≡ false
         → (j : ℕ) → i < j → j < length here.now → ExchangeCells here.now next.now i j → ⊥ }
-    ensures some { result ≡ true → (j : ℕ) × (i < j) × (j < length here.now) × Meet here.now next.now i j }
+    ensures some { result ≡ true
+        → (j : ℕ) × (i < j) × (j < length here.now) × ShareOrExchangeCells here.now next.now i j }
 {
     let (from, to) = (here[i], next[i]);
     let mut found = false;

@@ -1,5 +1,7 @@
 ghost use Rattle.std.specs.Prelude.{◌≡◌};
-ghost use Rattle.mapf_model.specs.Limits.{most_agents, greatest_side, most_path_cells, greatest_cost, greatest_sum, most_splits, last_split_tick, split_ticks, most_text_bytes, most_cert_bytes};
+ghost use Rattle.mapf_model.specs.Limits.{most_agents, greatest_side, most_path_cells, greatest_cost, greatest_sum};
+ghost use Rattle.mapf_model.specs.Limits.{most_splits, last_split_tick, split_ticks, most_text_bytes};
+ghost use Rattle.mapf_model.specs.Limits.{most_cert_bytes};
 
 /// The most agents of a problem.
 pub const MOST_AGENTS: u32 = 200;
