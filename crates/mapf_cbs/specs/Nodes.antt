@@ -52,7 +52,7 @@ pub record AreViews (nodes : List Node) (views : List View) : Type 0 where
   pub lengths : length views ≡ length nodes
   pub each : (k : ℕ) (node : Node) (view : View) → slice_get nodes k ≡ Some node → slice_get views k ≡ Some view → IsNodeView views k node view
 
--- a fact holds of what the node means
+-- the fact holds of the node's constraints, paths, costs and entries, as the changes from the root on give them
 abbrev pub HoldsOfNode : List Node → ℕ → (View → Type 0) → Type 0
 HoldsOfNode nodes k Fact = (views : List View) (view : View) → AreViews nodes views → slice_get views k ≡ Some view → Fact view
 

@@ -6,7 +6,7 @@ use Rattle.mapf_model.specs.Blocks.{LabelBlock}
 use Rattle.mapf_model.specs.declared.label.Entry.{Entry}
 use Rattle.mapf_model.specs.declared.conflict.Conflict.{Conflict}
 use Rattle.mapf_model.specs.Plan.{Instance}
-use Rattle.mapf_model.specs.Tree.{ConstraintTree, Split, Leaf, Clash, NodeConstraints, root, with_constraint, left_child_constraints, right_child_constraints, IsProperSplit, AreOfDifferentAgents, block_of}
+use Rattle.mapf_model.specs.Tree.{ConstraintTree, Split, Leaf, Clash, NodeConstraints, root, child_constraints, left_child_constraints, right_child_constraints, IsProperSplit, AreOfDifferentAgents, block_of}
 use Rattle.mapf_model.specs.Earned.{tick_of}
 use Rattle.mapf_model.specs.Grid.{free_cell_count}
 use Rattle.mapf_model.specs.Limits.{split_ticks}
@@ -46,17 +46,13 @@ pub record IsDead (problem : Instance) (view : View) : Type 0 where
   pub blocked : HasNoPath problem.grid agent (view.constraints.bars who) (view.entries who)
   pub each : (i : ℕ) (other : Agent) (path : List ℕ) (cost : ℕ) → i ≢ who → slice_get problem.agents i ≡ Some other → slice_get view.paths i ≡ Some path → slice_get view.costs i ≡ Some cost → IsCheapestOf problem view i other path cost
 
--- the constraints of a node with one more
-abbrev pub child_constraints : View → Constraint → NodeConstraints
-child_constraints view constraint = record { bars = with_constraint view.constraints.bars constraint }
-
 -- the child under one more constraint whose agent has no path: only that agent's entries change
 abbrev pub dead_child : View → Constraint → List Entry → View
-dead_child view constraint entries = record { constraints = child_constraints view constraint; paths = view.paths; costs = view.costs; entries = λ k. if k == constraint.agent then entries else view.entries k }
+dead_child view constraint entries = record { constraints = child_constraints view.constraints constraint; paths = view.paths; costs = view.costs; entries = λ k. if k == constraint.agent then entries else view.entries k }
 
 -- the child under one more constraint, with its agent's new path, cost and entries
 abbrev pub live_child : View → Constraint → List ℕ → ℕ → List Entry → View
-live_child view constraint path cost entries = record { constraints = child_constraints view constraint; paths = slice_set view.paths constraint.agent path; costs = slice_set view.costs constraint.agent cost; entries = λ k. if k == constraint.agent then entries else view.entries k }
+live_child view constraint path cost entries = record { constraints = child_constraints view.constraints constraint; paths = slice_set view.paths constraint.agent path; costs = slice_set view.costs constraint.agent cost; entries = λ k. if k == constraint.agent then entries else view.entries k }
 
 -- a node that was split: the conflict is the first of its paths, and its children are later nodes, the right one next
 -- to the left one
@@ -139,6 +135,6 @@ IsTreeAt agents views fates k (Split conflict left right) = (a : ℕ) × (slice_
 IsTreeAt agents views fates k (Leaf blocks) = (view : View) × (fate : Fate) × (slice_get views k ≡ Some view) × (slice_get fates k ≡ Some fate) × IsEndFate fate × AreBlocksOf agents view.entries blocks
 IsTreeAt agents views fates k (Clash i j) = ⊥
 
--- children come after their parents, and their numbers fit in 32 bits
+-- the two children of a node that was split are later nodes of the list, and their numbers fit in 32 bits
 abbrev pub AreChildrenLater : List Fate → Type 0
 AreChildrenLater fates = (k : ℕ) (conflict : Conflict) (left : ℕ) → slice_get fates k ≡ Some (Expanded conflict left) → (k < left) × (left + 1 < length fates) × (left + 1 < 2 ^ 32)

@@ -28,7 +28,7 @@ fate_of (Some total) = Open
 abbrev pub with_children : List Node → ℕ → Conflict → Found → Found → List Node
 with_children nodes k conflict left right = (nodes ++ Child k (left_constraint conflict) left ∷ []) ++ Child k (right_constraint conflict) right ∷ []
 
--- the fates with those of the two children
+-- the fates after a node is split: it names its left child, and the fates of the two children come last
 abbrev pub split_fates : List Fate → ℕ → Conflict → Option ℕ → Option ℕ → List Fate
 split_fates fates k conflict left right = slice_set ((fates ++ fate_of left ∷ []) ++ fate_of right ∷ []) k (Expanded conflict (length fates))
 
@@ -55,8 +55,8 @@ pub record IsOpenSet (keys : List (ℕ × ℕ)) (views : List View) (fates : Lis
   pub only : (key : ℕ × ℕ) → Contains keys key → (view : View) × (slice_get views key.1 ≡ Some view) × (slice_get fates key.1 ≡ Some Open) × (key.0 ≡ sum view.costs)
   pub each : (m : ℕ) (view : View) → slice_get views m ≡ Some view → slice_get fates m ≡ Some Open → Contains keys (sum view.costs, m)
 
--- the nodes, their fates and the open ones' keys after so many splits: a sum is at most 2^32 for each agent that a
--- problem may have, and for each split
+-- the nodes, their fates and the open ones' keys after so many splits; the sum of each open node is at most 2^32 times
+-- the splits and the agents that a problem may have, so that no sum overflows
 pub record IsState (problem : Instance) (nodes : List Node) (fates : List Fate) (keys : List (ℕ × ℕ)) (count : ℕ) : Type 0 where
   pub views : List View
   pub are : AreViews nodes views

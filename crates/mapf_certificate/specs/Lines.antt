@@ -43,7 +43,7 @@ words width lines.End = codes "end"
 abbrev pub IsAgentCount : ℕ → Type 0
 IsAgentCount agents = (1 ≤ agents) × (agents ≤ most_agents)
 
--- a grid of these dimensions, its free cells unspecified
+-- a grid of these dimensions, only to bound cells by: its list of free cells is empty
 abbrev pub grid_of : ℕ → ℕ → GridMap
 grid_of width height = record { width = width; height = height; free = [] }
 

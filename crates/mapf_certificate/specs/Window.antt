@@ -52,7 +52,7 @@ Fails had left failed buffer IsText Device = (failed ≡ true) × ComesWithin ha
 Fails had left failed buffer IsText TooLong = (failed ≡ false) × Exceeds had left buffer
 Fails had left failed buffer IsText Memory = (failed ≡ false) × ComesWithin had left buffer
 
--- an allocation that was refused is no fault of a text
+-- the fault isn't a fault of the text which only says that memory was refused
 abbrev pub IsNotTextMemory : LinesFault → Type 0
 IsNotTextMemory fault = fault ≢ Text texts.Memory
 

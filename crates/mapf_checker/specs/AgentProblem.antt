@@ -23,6 +23,6 @@ IsSoundAmong own entries entry = IsSoundEntry own.grid.now own.goal (bars_on own
 abbrev pub IsConsistentStep : AgentProblem → List Entry → Entry → ℕ → Type 0
 IsConsistentStep own entries entry next = MayGo own.grid.now (bars_on own) entry.cell next entry.tick → IsWithinOne own.grid.now own.goal (entries_of entries) entry.label next (entry.tick + 1)
 
--- so it is of each step
+-- so it is of each cell that may be next
 abbrev pub IsConsistent : AgentProblem → List Entry → Entry → Type 0
 IsConsistent own entries entry = (next : ℕ) → IsConsistentStep own entries entry next

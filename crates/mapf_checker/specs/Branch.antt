@@ -1,7 +1,7 @@
 -- The branch of a constraint tree from its root to the node that is read next.
 use Rattle.std.specs.Prelude.{◌≡◌, Bool, List, [], ◌∷◌, Option, Some, None, fold, MatchBool}
 use Rattle.mapf_model.specs.declared.conflict.Conflict.{Conflict}
-use Rattle.mapf_model.specs.Tree.{NodeConstraints, root, with_constraint, left_child_constraints, right_child_constraints}
+use Rattle.mapf_model.specs.Tree.{NodeConstraints, root, child_constraints, left_child_constraints, right_child_constraints}
 use Rattle.mapf_model.specs.declared.constraint.Constraint.{Constraint}
 use Rattle.mapf_checker.specs.declared.branch.Edge.{Edge}
 use Rattle.mapf_checker.specs.declared.index.BarIndex.{BarIndex}
@@ -12,11 +12,7 @@ pub record Place : Type 0 where
   pub here : NodeConstraints
   pub owed : List NodeConstraints
 
--- one constraint more: those of a child
-abbrev pub child_constraints : NodeConstraints → Constraint → NodeConstraints
-child_constraints here constraint = record { bars = with_constraint here.bars constraint }
-
--- a sibling, if it is still to come
+-- what is owed: the sibling, if it is still to come, then the rest
 abbrev pub with_owed : NodeConstraints → Option Constraint → List NodeConstraints → List NodeConstraints
 with_owed here None owed = owed
 with_owed here (Some other) owed = child_constraints here other ∷ owed

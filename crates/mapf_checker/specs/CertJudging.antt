@@ -80,8 +80,8 @@ pub record IsReadTo (problem : Instance) (claim : Claim) (had left : Option (Lis
   pub place : owed ≡ constraints_after_all (root ∷ []) given
   pub shows : (rest : List Node) → NodesShow problem claim (root ∷ []) (given ++ rest) ↔ NodesShow problem claim owed rest
 
--- after one item more: where the tree went on it was read and judged so far, where its end came all of it was; no refusal
--- is answered where the nodes to come show the claim; and what a fault says
+-- what one more call says: `true`, one item more was read and judged; `false`, the whole tree was; no more bytes came than
+-- are allowed; nothing is refused where the text from its start on spells nodes that show the claim; and what a fault says
 pub record IsReadOn (problem : Instance) (claim : Claim) (had left : Option (List ℕ)) (failed : Bool) (start reading : Reading) (owed : List NodeConstraints) (result : Result Bool FromFault) : Type 0 where
   pub read : IfOk result (λ more. MatchBool more (IsReadTo problem claim had left start reading owed) (IsJudgedTree problem claim had start))
   pub came : OnOk result (ComesWithin had left start.buffer)

@@ -55,7 +55,7 @@ IsNoRefusal Device = ⊤
 IsNoRefusal TooLong = ⊤
 IsNoRefusal Memory = ⊤
 
--- want of memory is no fault of a text
+-- the refusal isn't a fault of one of the texts which only says that memory was refused
 abbrev pub HasNoTextMemory : CheckFault → Type 0
 HasNoTextMemory (C1 fault) = fault ≢ plans.Memory
 HasNoTextMemory (C2 fault) = fault ≢ certs.Memory
@@ -68,7 +68,7 @@ HasNoTextMemory (C8 line) = ⊤
 HasNoTextMemory (C9 line) = ⊤
 HasNoTextMemory refusals.Memory = ⊤
 
--- nor is it a refusal
+-- the fault isn't a refusal which only says that memory was refused
 abbrev pub IsNoMemoryRefusal : FromFault → Type 0
 IsNoMemoryRefusal (Refused fault) = (fault ≢ refusals.Memory) × HasNoTextMemory fault
 IsNoMemoryRefusal Device = ⊤

@@ -11,8 +11,8 @@ use Rattle.mapf_certificate.specs.declared.plan_text.PlanAnswer.TheVariants as a
 use Rattle.mapf_checker.specs.declared.fault.Verdict.{Verdict}
 use Rattle.mapf_checker.specs.declared.fault.Verdict.TheVariants.{Optimal, Impossible}
 
--- what a verdict says of the problem and the answer of a plan text: its plan is optimal with that sum, or it says that
--- no plan is valid, and none is
+-- what a verdict says of the problem and the answer of a plan text: the answer is a plan that is optimal with the
+-- verdict's sum, or the answer and the verdict are `impossible` and no plan is valid
 abbrev pub IsTrueOf : Instance → PlanAnswer → Verdict → Type 0
 IsTrueOf problem (answers.Found plan) (Optimal sum) = IsOptimal problem plan sum
 IsTrueOf problem (answers.Found plan) Impossible = ⊥
@@ -26,7 +26,8 @@ pub record IsTrueText (problem : Instance) (bytes : List ℕ) (verdict : Verdict
   pub spelled : SpellsPlan problem.grid bytes (length problem.agents) says
   pub is_true : IsTrueOf problem says verdict
 
--- the answer of a plan text is good for the verdict: a valid plan with that sum, or that no plan is valid
+-- the answer of a plan text fits the verdict: a valid plan with its sum, or `impossible`, which only a certificate shows,
+-- for `impossible`
 abbrev pub IsGoodFor : Instance → PlanAnswer → Verdict → Type 0
 IsGoodFor problem (answers.Found plan) (Optimal sum) = IsValid problem plan × IsSumOfCosts problem.agents plan sum
 IsGoodFor problem (answers.Found plan) Impossible = ⊥
@@ -40,7 +41,7 @@ pub record IsGoodPlan (problem : Instance) (bytes : List ℕ) (verdict : Verdict
   pub spelled : SpellsPlan problem.grid bytes (length problem.agents) says
   pub good : IsGoodFor problem says verdict
 
--- what has to be claimed
+-- the claim that a certificate has to make for the verdict
 abbrev pub claim_of : Verdict → Claim
 claim_of (Optimal sum) = claim.Cost sum
 claim_of Impossible = claim.Impossible

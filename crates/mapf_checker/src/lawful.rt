@@ -4,7 +4,6 @@ ghost use Rattle.mapf_model.specs.Limits.{most_path_cells};
 ghost use Rattle.mapf_model.specs.Path.{IsLawful};
 ghost use Rattle.mapf_checker.specs.PathDefects.{HasPathDefect};
 
-use crate::step::is_step;
 use mapf_model::{Agent, Cell, Grid, Path, Tick, laws};
 
 /// What is wrong with one agent's path.
@@ -44,7 +43,7 @@ fn first_bad_step(grid: &Grid, cells: &[Cell]) -> Option<Tick>
         → Step grid.now (slice_index cells.now k) (slice_index cells.now (k + 1))) }
 {
     for k in 1..cells.len() {
-        if !is_step(grid, cells[k - 1], cells[k]) {
+        if !grid.is_step(cells[k - 1], cells[k]) {
             return Some((k - 1) as u32);
         }
     }

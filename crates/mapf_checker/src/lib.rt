@@ -17,7 +17,6 @@ mod plan_fault;
 mod plan_judge;
 #[cfg(test)]
 mod samples;
-mod step;
 #[cfg(test)]
 mod tests;
 mod tree;

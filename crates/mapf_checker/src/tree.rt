@@ -13,7 +13,6 @@ ghost use Rattle.mapf_checker.specs.Branch.{place_of};
 use crate::branch::Branch;
 use crate::fault::{CheckFault, FromFault};
 use crate::leaf::judge_leaf;
-use crate::step::are_adjacent;
 use mapf_distance::{Distances, goal_tables};
 use mapf_model::{Block, Claim, Conflict, Item, OutOfMemory, Problem};
 use std::alloc::Global;
@@ -194,7 +193,7 @@ fn is_proper_split(problem: &Problem, conflict: &Conflict) -> bool
     match *conflict {
         Conflict::Vertex { i, j, cell, .. } => are_two_agents(problem, i, j) && grid.is_free(cell),
         Conflict::Swap { i, j, from, to, .. } => are_two_agents(problem, i, j)
-            && are_adjacent(grid, from, to),
+            && grid.are_adjacent(from, to),
     }
 }
 

@@ -32,7 +32,7 @@ pub data Node : Type 0 where
   LeafNode : (blocks : List LabelBlock) → Node
   ClashNode : (i j : ℕ) → Node
 
--- the node is an end of its tree
+-- the node is an end of its tree: a leaf or a clash
 abbrev pub IsEndNode : Node → Type 0
 IsEndNode (SplitNode conflict) = ⊥
 IsEndNode (LeafNode blocks) = Unit {0}
@@ -81,13 +81,17 @@ abbrev pub right_constraint : Conflict → Constraint
 right_constraint (Vertex i j cell tick) = record { agent = j; bar = Cell cell tick }
 right_constraint (Swap i j from to tick) = record { agent = j; bar = Move to from tick }
 
+-- the constraints at a child, which has this one more
+abbrev pub child_constraints : NodeConstraints → Constraint → NodeConstraints
+child_constraints constraints constraint = record { bars = with_constraint constraints.bars constraint }
+
 -- the constraints at the left child
 abbrev pub left_child_constraints : NodeConstraints → Conflict → NodeConstraints
-left_child_constraints constraints conflict = record { bars = with_constraint constraints.bars (left_constraint conflict) }
+left_child_constraints constraints conflict = child_constraints constraints (left_constraint conflict)
 
 -- the constraints at the right child
 abbrev pub right_child_constraints : NodeConstraints → Conflict → NodeConstraints
-right_child_constraints constraints conflict = record { bars = with_constraint constraints.bars (right_constraint conflict) }
+right_child_constraints constraints conflict = child_constraints constraints (right_constraint conflict)
 
 -- a fact holds at each node of a tree, with its constraints
 abbrev pub AtEachNode : (NodeConstraints → ConstraintTree → Type 0) → NodeConstraints → ConstraintTree → Type 0

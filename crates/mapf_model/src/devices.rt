@@ -74,7 +74,11 @@ impl<'a> Model for FuseSource<'a> {
     ghost Value = { FuseReads };
 
     ghost view = { λ s. record {
-        remaining = s.source.bytes.now; pace = s.pace; calls = s.fuse.calls; has_failed = s.is_failed } };
+      remaining = s.source.bytes.now;
+      pace = s.pace;
+      calls = s.fuse.calls;
+      has_failed = s.is_failed;
+    } };
 }
 
 impl<'a> FuseSource<'a> {
@@ -180,7 +184,12 @@ impl Model for FuseSink {
     ghost Value = { FuseWrites };
 
     ghost view = { λ s. record {
-        contents = s.sink.0; room = s.sink.1; pace = s.pace; calls = s.fuse.calls; has_failed = s.is_failed } };
+      contents = s.sink.0;
+      room = s.sink.1;
+      pace = s.pace;
+      calls = s.fuse.calls;
+      has_failed = s.is_failed;
+    } };
 
     ghost invariant = { λ s. s.is_failed ≡ false → s.sink.2 ≡ false };
 }

@@ -24,7 +24,7 @@ pub const MOST_SPLITS: u32 = 100_000;
 /// The last tick of a conflict that may be split.
 pub const LAST_SPLIT_TICK: u32 = 999_999;
 
-/// How many ticks, from 0 on, a conflict that may be split can have.
+/// The first tick at which a conflict isn't split any more.
 pub const SPLIT_TICKS: u32 = 1_000_000;
 
 /// The most bytes of a map, a scenario or a plan text.

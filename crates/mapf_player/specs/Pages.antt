@@ -20,7 +20,8 @@ abbrev pub WritesOrFails : {T E : Type 0} → Option (List ℕ) → Option (List
 WritesOrFails old new text (Ok done) = Appends old new text
 WritesOrFails old new text (Err failed) = WritesPrefix old new text
 
--- the text passes, or the sink failed, and a prefix of the bytes held and the text was written
+-- the bytes held, followed by the text, were written in part and the rest is held; or the sink failed, and a prefix of
+-- them was written
 abbrev pub PassesOrFails : {T E : Type 0} → Option (List ℕ) → Option (List ℕ) → List ℕ → List ℕ → List ℕ → Result T E → Type 0
 PassesOrFails old new held left text (Ok done) = Passes old new held left text
 PassesOrFails old new held left text (Err failed) = WritesPrefix old new (held ++ text)
