@@ -1,15 +1,12 @@
-ghost use Rattle.std.specs.Prelude.{◌≡◌, ◌≤◌, false};
+ghost use Rattle.std.specs.Prelude.{◌≤◌};
+ghost use Rattle.mapf_model.specs.Limits.{most_agents, most_splits};
 
-use crate::outputs::{Outputs, Place, Unsolved, identity_of, store};
-use crate::{outputs, words};
-use mapf_app::{
-    Fault, Input, Kind, Output, Verdict, run_check, run_demo, run_play, run_solve, tell_check,
-    tell_run, tell_solve,
-};
-use mapf_model::{ReadSource, Sink, WriteSink};
+use crate::outputs;
+use crate::outputs::{Place, Unsolved, identity_of, store};
+use mapf_app::{Fault, Input, Kind, Output, Verdict, run_check, run_play, run_solve};
+use mapf_model::{ReadSource, WriteSink};
 use std::fs;
 use std::fs::File;
-use std::process::ExitCode;
 use std::rt::Files;
 
 fn open(rt: &HostRuntime, path: &str, input: Input) -> Result<File, Fault> {
@@ -17,15 +14,6 @@ fn open(rt: &HostRuntime, path: &str, input: Input) -> Result<File, Fault> {
         Ok(file) => Ok(file),
         Err(_) => Err(Fault::F4(input)),
     }
-}
-
-/// The files of a problem and of its plan text, as the words name them, and how many agents count.
-#[derive(Clone, Copy)]
-pub struct Named<'a> {
-    pub map: &'a str,
-    pub scen: &'a str,
-    pub k: u32,
-    pub plan: &'a str,
 }
 
 // An input that is open, as a file that the words name.
@@ -45,23 +33,33 @@ fn placed<'a>(
     }
 }
 
-// Solves the problem of two open files, and has both texts stored.
-fn written(
+/// Solves the problem of two files and writes the plan text and the certificate to two others.
+pub fn solve<'a>(
     rt: &HostRuntime,
-    map: &File,
-    scen: &File,
+    map: &'a str,
+    scen: &'a str,
     k: u32,
     limit: u32,
-    outputs: &Outputs,
-) -> Result<Kind, Fault>
+    plan: &'a str,
+    cert: &'a str,
+) -> Result<Kind, Unsolved<'a>>
     requires some { 1 ≤ k }
-    requires few { k ≤ 200 }
-    requires limit { limit ≤ 100000 }
+    requires few { k ≤ most_agents }
+    requires limit { limit ≤ most_splits }
 {
+    let map_file = open(rt, map, Input::Map)?;
+    let scen_file = open(rt, scen, Input::Scen)?;
+    let outputs = outputs::open(
+        rt,
+        placed("MAP", map, &map_file, Input::Map)?,
+        placed("SCEN", scen, &scen_file, Input::Scen)?,
+        plan,
+        cert,
+    )?;
     let kind = run_solve(
         rt.alloc(),
-        &mut ReadSource::of(map),
-        &mut ReadSource::of(scen),
+        &mut ReadSource::of(&map_file),
+        &mut ReadSource::of(&scen_file),
         k,
         limit,
         &mut WriteSink::of(&outputs.plan),
@@ -72,106 +70,46 @@ fn written(
     Ok(kind)
 }
 
-fn solved<'a>(
+/// Checks the plan text and the certificate of two files for the problem of two others.
+pub fn check(
     rt: &HostRuntime,
-    named: &Named<'a>,
-    limit: u32,
-    cert: &'a str,
-) -> Result<Kind, Unsolved<'a>>
-    requires some { 1 ≤ named.now.k }
-    requires few { named.now.k ≤ 200 }
-    requires limit { limit ≤ 100000 }
+    map: &str,
+    scen: &str,
+    k: u32,
+    plan: &str,
+    cert: &str,
+) -> Result<Verdict, Fault>
+    requires some { 1 ≤ k }
+    requires few { k ≤ most_agents }
 {
-    let map = open(rt, named.map, Input::Map)?;
-    let scen = open(rt, named.scen, Input::Scen)?;
-    let outputs = outputs::open(
-        rt,
-        placed("MAP", named.map, &map, Input::Map)?,
-        placed("SCEN", named.scen, &scen, Input::Scen)?,
-        named.plan,
-        cert,
-    )?;
-    Ok(written(rt, &map, &scen, named.k, limit, &outputs)?)
-}
-
-fn checked(rt: &HostRuntime, named: &Named<'_>, cert: &str) -> Result<Verdict, Fault>
-    requires some { 1 ≤ named.now.k }
-    requires few { named.now.k ≤ 200 }
-{
-    let map = open(rt, named.map, Input::Map)?;
-    let scen = open(rt, named.scen, Input::Scen)?;
-    let plan = open(rt, named.plan, Input::Plan)?;
+    let map = open(rt, map, Input::Map)?;
+    let scen = open(rt, scen, Input::Scen)?;
+    let plan = open(rt, plan, Input::Plan)?;
     let cert = open(rt, cert, Input::Cert)?;
     run_check(
         rt.alloc(),
         &mut ReadSource::of(map),
         &mut ReadSource::of(scen),
-        named.k,
+        k,
         &mut ReadSource::of(plan),
         &mut ReadSource::of(cert),
     )
 }
 
-fn played<K: Sink>(rt: &HostRuntime, named: &Named<'_>, out: &mut K) -> Result<(), Fault>
-    requires works { K.has_failed out.old ≡ false }
-    requires some { 1 ≤ named.now.k }
-    requires few { named.now.k ≤ 200 }
+/// Shows the plan of a plan text for the problem of two other files on standard output.
+pub fn play(rt: &HostRuntime, map: &str, scen: &str, k: u32, plan: &str) -> Result<(), Fault>
+    requires some { 1 ≤ k }
+    requires few { k ≤ most_agents }
 {
-    let map = open(rt, named.map, Input::Map)?;
-    let scen = open(rt, named.scen, Input::Scen)?;
-    let plan = open(rt, named.plan, Input::Plan)?;
+    let map = open(rt, map, Input::Map)?;
+    let scen = open(rt, scen, Input::Scen)?;
+    let plan = open(rt, plan, Input::Plan)?;
     run_play(
         rt.alloc(),
         &mut ReadSource::of(map),
         &mut ReadSource::of(scen),
-        named.k,
+        k,
         &mut ReadSource::of(plan),
-        out,
+        &mut WriteSink::of(rt.stdout()),
     )
-}
-
-/// Solves the problem of two files and writes the plan text and the certificate to two others.
-pub fn solve(rt: &HostRuntime, named: &Named<'_>, limit: u32, cert: &str) -> ExitCode
-    requires some { 1 ≤ named.now.k }
-    requires few { named.now.k ≤ 200 }
-    requires limit { limit ≤ 100000 }
-{
-    let result = match solved(rt, named, limit, cert) {
-        Ok(kind) => Ok(kind),
-        Err(Unsolved::Fault(fault)) => Err(fault),
-        Err(Unsolved::OneFile(one)) => return words::one_file(rt, &one),
-    };
-    let mut out = WriteSink::of(rt.stdout());
-    let mut err = WriteSink::of(rt.stderr());
-    ExitCode::from(tell_solve(&result, &mut out, &mut err))
-}
-
-/// Checks the plan text and the certificate of two files for the problem of two others.
-pub fn check(rt: &HostRuntime, named: &Named<'_>, cert: &str) -> ExitCode
-    requires some { 1 ≤ named.now.k }
-    requires few { named.now.k ≤ 200 }
-{
-    let result = checked(rt, named, cert);
-    let mut out = WriteSink::of(rt.stdout());
-    let mut err = WriteSink::of(rt.stderr());
-    ExitCode::from(tell_check(&result, &mut out, &mut err))
-}
-
-/// Shows the plan of a plan text for the problem of two other files.
-pub fn play(rt: &HostRuntime, named: &Named<'_>) -> ExitCode
-    requires some { 1 ≤ named.now.k }
-    requires few { named.now.k ≤ 200 }
-{
-    let mut out = WriteSink::of(rt.stdout());
-    let result = played(rt, named, &mut out);
-    let mut err = WriteSink::of(rt.stderr());
-    ExitCode::from(tell_run(&result, &mut err))
-}
-
-/// Solves and checks the small built-in problem.
-pub fn demo(rt: &HostRuntime) -> ExitCode {
-    let mut out = WriteSink::of(rt.stdout());
-    let result = run_demo(rt.alloc(), &mut out);
-    let mut err = WriteSink::of(rt.stderr());
-    ExitCode::from(tell_run(&result, &mut err))
 }

@@ -1,15 +1,14 @@
 //! The program: it plans for many agents on a grid, and checks and shows such plans.
 #![tactic(auto)]
 
-ghost use Rattle.std.specs.Prelude.{◌≡◌};
 ghost use Rattle.mapf_words.specs.Jobs.{IsInRange};
 
 mod files;
 mod outputs;
 mod words;
 
-use files::Named;
-use mapf_app::{Job, WordsFault, job_of};
+use mapf_app::{Job, WordsFault, job_of, run_demo};
+use mapf_model::WriteSink;
 use std::process::ExitCode;
 
 fn main(rt: HostRuntime) -> ExitCode {
@@ -29,7 +28,7 @@ fn run(rt: &HostRuntime, job: &Job) -> ExitCode
     requires { IsInRange job.now }
 {
     match job {
-        Job::Demo => files::demo(rt),
+        Job::Demo => words::told(rt, &run_demo(rt.alloc(), &mut WriteSink::of(rt.stdout()))),
         Job::Solve {
             map,
             scen,
@@ -37,26 +36,14 @@ fn run(rt: &HostRuntime, job: &Job) -> ExitCode
             limit,
             plan,
             cert,
-        } => files::solve(rt, &named(map, scen, *k, plan), *limit, cert.as_str()),
+        } => words::solved(rt, files::solve(rt, map, scen, *k, *limit, plan, cert)),
         Job::Check {
             map,
             scen,
             k,
             plan,
             cert,
-        } => files::check(rt, &named(map, scen, *k, plan), cert.as_str()),
-        Job::Play { map, scen, k, plan } => files::play(rt, &named(map, scen, *k, plan)),
-    }
-}
-
-// The files that every command has.
-fn named<'a>(map: &'a String, scen: &'a String, k: u32, plan: &'a String) -> Named<'a>
-    ensures { result.k ≡ k }
-{
-    Named {
-        map: map.as_str(),
-        scen: scen.as_str(),
-        k,
-        plan: plan.as_str(),
+        } => words::checked(rt, &files::check(rt, map, scen, *k, plan, cert)),
+        Job::Play { map, scen, k, plan } => words::told(rt, &files::play(rt, map, scen, *k, plan)),
     }
 }

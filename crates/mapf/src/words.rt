@@ -1,5 +1,5 @@
-use crate::outputs::OneFile;
-use mapf_app::{Fault, tell_run};
+use crate::outputs::{OneFile, Unsolved};
+use mapf_app::{Fault, Kind, Verdict, tell_check, tell_run, tell_solve};
 use mapf_model::{WriteSink, write_all};
 use std::process::ExitCode;
 use std::rt::Env;
@@ -53,6 +53,30 @@ pub fn unread(rt: &HostRuntime, error: &io::Error) -> ExitCode {
 
 /// Tells that a request for memory was refused.
 pub fn no_memory(rt: &HostRuntime) -> ExitCode {
+    told(rt, &Err(Fault::F6))
+}
+
+/// Tells how a run ended that writes its own output.
+pub fn told(rt: &HostRuntime, answer: &Result<(), Fault>) -> ExitCode {
     let mut err = WriteSink::of(rt.stderr());
-    ExitCode::from(tell_run(&Err(Fault::F6), &mut err))
+    ExitCode::from(tell_run(answer, &mut err))
+}
+
+/// Tells the verdict, or why there is none.
+pub fn checked(rt: &HostRuntime, answer: &Result<Verdict, Fault>) -> ExitCode {
+    let mut out = WriteSink::of(rt.stdout());
+    let mut err = WriteSink::of(rt.stderr());
+    ExitCode::from(tell_check(answer, &mut out, &mut err))
+}
+
+/// Tells what was found, or why nothing was.
+pub fn solved(rt: &HostRuntime, answer: Result<Kind, Unsolved<'_>>) -> ExitCode {
+    let answer = match answer {
+        Ok(kind) => Ok(kind),
+        Err(Unsolved::Fault(fault)) => Err(fault),
+        Err(Unsolved::OneFile(one)) => return one_file(rt, &one),
+    };
+    let mut out = WriteSink::of(rt.stdout());
+    let mut err = WriteSink::of(rt.stderr());
+    ExitCode::from(tell_solve(&answer, &mut out, &mut err))
 }

@@ -1,12 +1,11 @@
 -- What the two texts of a right answer are.
 use Rattle.std.proofs.Common.{◌≡◌, ℕ, List, length, map, refl, subst}
-use Rattle.mapf_app.specs.Solved.{SpellsAnswer, SpellsTree, PrintsOptimal, PrintsImpossible, text_of}
+use Rattle.mapf_app.specs.Solved.{PrintsOptimal, PrintsImpossible}
 use Rattle.mapf_cbs.specs.Answer.{IsTreeOf, IsShownOptimal, IsShownImpossible}
 use Rattle.mapf_certificate.specs.Certificates.{SpellsCert, cert_text}
 use Rattle.mapf_certificate.specs.Plans.{SpellsPlan}
 use Rattle.mapf_certificate.specs.Lines.{IsAgentCount}
 use Rattle.mapf_certificate.specs.declared.plan_text.PlanAnswer.TheVariants as answers
-use Rattle.mapf_model.specs.Accepted.{GoTogether, SaysPlan, SaysImpossible, OptimalOutcome, ImpossibleOutcome}
 use Rattle.mapf_model.specs.declared.item.Claim.{Claim}
 use Rattle.mapf_model.specs.declared.item.Claim.TheVariants.{Cost, Impossible}
 use Rattle.mapf_model.specs.declared.item.Item.{Item}
@@ -25,57 +24,42 @@ spells_cert problem claim items tree limit of count in_range bytes written = rec
   spelled = subst (λ nodes. bytes ≡ cert_text problem.grid.width (length problem.agents) claim nodes) of.spelled written;
 }
 
--- with a tree of the search
-spells_tree : (problem : Instance) (claim : Claim) (items : List Item) (tree : ConstraintTree) (limit : ℕ) → IsTreeOf problem limit items tree → IsAgentCount (length problem.agents) → IsClaimInRange claim → (bytes : List ℕ) →
-    bytes ≡ cert_text problem.grid.width (length problem.agents) claim (map node_of items) → SpellsTree problem limit claim bytes
-spells_tree problem claim items tree limit of count in_range bytes written = record { items = items; tree = tree; searched = of; spelled = spells_cert problem claim items tree limit of count in_range bytes written }
-
 -- with the sum of the tree's claim
 prints_total : (problem : Instance) (plan : List (List ℕ)) (items : List Item) (tree : ConstraintTree) (limit : ℕ) → IsTreeOf problem limit items tree → (shown : IsShownOptimal problem plan tree) →
-    (plan_bytes cert_bytes : List ℕ) → SpellsAnswer problem (answers.Found plan) plan_bytes →
+    (plan_bytes cert_bytes : List ℕ) → SpellsPlan problem.grid plan_bytes (length problem.agents) (answers.Found plan) →
     cert_bytes ≡ cert_text problem.grid.width (length problem.agents) (Cost shown.total) (map node_of items) → PrintsOptimal problem limit shown.total plan_bytes cert_bytes
 prints_total problem plan items tree limit of shown plan_bytes cert_bytes spells written =
-    let spelled : SpellsPlan problem.grid plan_bytes (length problem.agents) (SaysPlan plan) = record { text = text_of problem (answers.Found plan); in_range = spells.in_range; spelled = spells.spelled; for_agents = refl; same = refl } in
-    let together : GoTogether problem (SaysPlan plan) (Cost shown.total) tree (OptimalOutcome shown.total) = (shown.optimal.valid, shown.optimal.sum, refl, shown.shows) in
+    let cert : SpellsCert problem.grid cert_bytes (length problem.agents) (Cost shown.total) tree = spells_cert problem (Cost shown.total) items tree limit of spells.in_range.0 shown.claim_in_range cert_bytes written in
     record {
       plan = plan;
-      spelled = spelled;
+      spelled = spells;
       optimal = shown.optimal;
       accepted = record {
-        says = SaysPlan plan;
-        claim = Cost shown.total;
-        tree = tree;
-        plan_spelled = spelled;
-        cert_spelled = spells_cert problem (Cost shown.total) items tree limit of spells.in_range.0 shown.claim_in_range cert_bytes written;
-        together = together;
+        plan = record { says = answers.Found plan; spelled = spells; good = (shown.optimal.valid, shown.optimal.sum) };
+        cert = record { tree = tree; spelled = cert; shows = shown.shows };
       };
-      searched = spells_tree problem (Cost shown.total) items tree limit of spells.in_range.0 shown.claim_in_range cert_bytes written;
+      searched = record { items = items; tree = tree; searched = of; spelled = cert };
     }
 
 -- with the sum of the plan
 pub prints_optimal : (problem : Instance) (plan : List (List ℕ)) (items : List Item) (tree : ConstraintTree) (limit : ℕ) → IsTreeOf problem limit items tree → IsShownOptimal problem plan tree →
-    SumsAreOne → (sum : ℕ) → IsSumOfCosts problem.agents plan sum → (plan_bytes cert_bytes : List ℕ) → SpellsAnswer problem (answers.Found plan) plan_bytes →
+    SumsAreOne → (sum : ℕ) → IsSumOfCosts problem.agents plan sum → (plan_bytes cert_bytes : List ℕ) → SpellsPlan problem.grid plan_bytes (length problem.agents) (answers.Found plan) →
     cert_bytes ≡ cert_text problem.grid.width (length problem.agents) (Cost sum) (map node_of items) → PrintsOptimal problem limit sum plan_bytes cert_bytes
 prints_optimal problem plan items tree limit of shown law sum adds_up plan_bytes cert_bytes spells written =
     let same : shown.total ≡ sum = (law problem plan shown.optimal.valid).one shown.total sum shown.optimal.sum adds_up in
     subst (λ total. cert_bytes ≡ cert_text problem.grid.width (length problem.agents) (Cost total) (map node_of items) → PrintsOptimal problem limit total plan_bytes cert_bytes) same
     (prints_total problem plan items tree limit of shown plan_bytes cert_bytes spells) written
 
-pub prints_impossible : (problem : Instance) (items : List Item) (tree : ConstraintTree) (limit : ℕ) → IsTreeOf problem limit items tree → IsShownImpossible problem tree → (plan_bytes cert_bytes : List ℕ) → SpellsAnswer problem answers.Impossible plan_bytes →
+pub prints_impossible : (problem : Instance) (items : List Item) (tree : ConstraintTree) (limit : ℕ) → IsTreeOf problem limit items tree → IsShownImpossible problem tree → (plan_bytes cert_bytes : List ℕ) → SpellsPlan problem.grid plan_bytes (length problem.agents) answers.Impossible →
     cert_bytes ≡ cert_text problem.grid.width (length problem.agents) Impossible (map node_of items) → PrintsImpossible problem limit plan_bytes cert_bytes
 prints_impossible problem items tree limit of shown plan_bytes cert_bytes spells written =
-    let spelled : SpellsPlan problem.grid plan_bytes (length problem.agents) SaysImpossible = record { text = text_of problem answers.Impossible; in_range = spells.in_range; spelled = spells.spelled; for_agents = refl; same = refl } in
-    let together : GoTogether problem SaysImpossible Impossible tree ImpossibleOutcome = (refl, shown.shows) in
+    let cert : SpellsCert problem.grid cert_bytes (length problem.agents) Impossible tree = spells_cert problem Impossible items tree limit of spells.in_range.0 tt cert_bytes written in
     record {
-      spelled = spelled;
+      spelled = spells;
       impossible = shown.impossible;
       accepted = record {
-        says = SaysImpossible;
-        claim = Impossible;
-        tree = tree;
-        plan_spelled = spelled;
-        cert_spelled = spells_cert problem Impossible items tree limit of spells.in_range.0 tt cert_bytes written;
-        together = together;
+        plan = record { says = answers.Impossible; spelled = spells; good = tt };
+        cert = record { tree = tree; spelled = cert; shows = shown.shows };
       };
-      searched = spells_tree problem Impossible items tree limit of spells.in_range.0 tt cert_bytes written;
+      searched = record { items = items; tree = tree; searched = of; spelled = cert };
     }

@@ -9,10 +9,10 @@ use Rattle.mapf_app.specs.declared.kind.Kind.TheVariants.{Found, Impossible, Lim
 use Rattle.mapf_app.specs.Problems.{IsPosed, SpellsProblem}
 use Rattle.mapf_app.specs.Solved.{Prints}
 use Rattle.mapf_certificate.specs.Plans.{SpellsPlan}
-use Rattle.mapf_checker.specs.Verdict.{AreAccepted, outcome_of}
+use Rattle.mapf_certificate.specs.declared.plan_text.PlanAnswer.{PlanAnswer}
+use Rattle.mapf_checker.specs.Verdict.{AreAccepted, IsTrueOf}
 use Rattle.mapf_checker.specs.declared.fault.Verdict.{Verdict}
 use Rattle.mapf_checker.specs.declared.fault.Verdict.TheVariants as verdicts
-use Rattle.mapf_model.specs.Accepted.{PlanSays, IsTrueOf}
 use Rattle.mapf_model.specs.Plan.{Instance}
 
 -- what is printed for the problem that the map and the scenario spell: a plan that is valid and than which no valid plan has a
@@ -31,9 +31,9 @@ pub record JudgesTruly (map scen plan cert : Option (List ℕ)) (count : ℕ) (v
   pub problem : Instance
   pub posed : IsPosed count problem
   pub read : SpellsProblem map scen count problem
-  pub says : PlanSays
+  pub says : PlanAnswer
   pub spelled : IfSome plan (λ plan_text. SpellsPlan problem.grid plan_text (length problem.agents) says)
-  pub is_true : IsTrueOf problem says (outcome_of verdict)
+  pub is_true : IsTrueOf problem says verdict
   pub accepted : IfSome plan (λ plan_text. IfSome cert (λ cert_text. AreAccepted problem plan_text cert_text verdict))
 
 -- what has to be answered, of printed texts as of any: all inputs are told, and the texts are accepted with the verdict for

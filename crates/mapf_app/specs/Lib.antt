@@ -2,7 +2,6 @@ pub mod Checked
 pub mod FaultLines
 pub mod Faults
 pub mod Headline
-pub mod Limits
 pub mod Order
 pub mod Played
 pub mod Problems

@@ -1,17 +1,17 @@
 -- What was read before an input is pulled: those before it, each whole, and they spell what they must.
 use Rattle.std.specs.Prelude.{◌≡◌, ℕ, Bool, false, List, Option}
 use Rattle.std.specs.Io.KnownBytes.{IsAtEnd}
-use Rattle.mapf_app.specs.Limits.{text_bytes}
 use Rattle.mapf_app.specs.Problems.{SpellsGrid, SpellsProblem}
 use Rattle.mapf_app.specs.Unreadable.{IsWithin}
 use Rattle.mapf_model.specs.Grid.{GridMap}
+use Rattle.mapf_model.specs.Limits.{most_text_bytes}
 use Rattle.mapf_model.specs.Plan.{Instance}
 
 -- a source gave a text whole: it hasn't failed, it has nothing left, and it had no more bytes than are allowed
 pub record IsReadWhole (failed : Bool) (had left : Option (List ℕ)) : Type 0 where
   pub works : failed ≡ false
   pub end : IsAtEnd left
-  pub within : IsWithin had text_bytes
+  pub within : IsWithin had most_text_bytes
 
 -- a map was read whole, and it spells a grid
 pub record HasReadGrid (failed : Bool) (had left : Option (List ℕ)) : Type 0 where

@@ -4,29 +4,17 @@ use Rattle.mapf_app.specs.declared.kind.Kind.{Kind}
 use Rattle.mapf_app.specs.declared.kind.Kind.TheVariants.{Found, Impossible, Limit}
 use Rattle.mapf_cbs.specs.Answer.{IsTreeOf, MayStop}
 use Rattle.mapf_certificate.specs.Certificates.{SpellsCert}
-use Rattle.mapf_certificate.specs.Plans.{SpellsPlan, IsPlanText, plan_text}
-use Rattle.mapf_certificate.specs.declared.plan_text.PlanAnswer.{PlanAnswer}
+use Rattle.mapf_certificate.specs.Plans.{SpellsPlan}
 use Rattle.mapf_certificate.specs.declared.plan_text.PlanAnswer.TheVariants as answers
-use Rattle.mapf_certificate.specs.declared.plan_text.PlanText.{PlanText}
 use Rattle.mapf_checker.specs.Verdict.{AreAccepted}
 use Rattle.mapf_checker.specs.declared.fault.Verdict.TheVariants.{Optimal}
 use Rattle.mapf_checker.specs.declared.fault.Verdict.TheVariants as verdicts
-use Rattle.mapf_model.specs.Accepted.{SaysPlan, SaysImpossible}
 use Rattle.mapf_model.specs.declared.cause.Cause.{Cause}
 use Rattle.mapf_model.specs.declared.item.Claim.{Claim}
 use Rattle.mapf_model.specs.declared.item.Claim.TheVariants as claims
 use Rattle.mapf_model.specs.declared.item.Item.{Item}
 use Rattle.mapf_model.specs.Plan.{Instance, IsOptimal, IsImpossible}
 use Rattle.mapf_model.specs.Tree.{ConstraintTree}
-
--- the plan text of the problem's agents with this answer
-abbrev pub text_of : Instance → PlanAnswer → PlanText
-text_of problem answer = record { agents = length problem.agents; answer = answer }
-
--- the bytes spell it
-pub record SpellsAnswer (problem : Instance) (answer : PlanAnswer) (bytes : List ℕ) : Type 0 where
-  pub in_range : IsPlanText problem.grid (text_of problem answer)
-  pub spelled : bytes ≡ plan_text problem.grid.width (text_of problem answer)
 
 -- the bytes spell a certificate of the claim, with a tree of at most so many splits that the search earned
 pub record SpellsTree (problem : Instance) (limit : ℕ) (claim : Claim) (cert_bytes : List ℕ) : Type 0 where
@@ -39,21 +27,21 @@ pub record SpellsTree (problem : Instance) (limit : ℕ) (claim : Claim) (cert_b
 -- second has a tree of the search
 pub record PrintsOptimal (problem : Instance) (limit cost : ℕ) (plan_bytes cert_bytes : List ℕ) : Type 0 where
   pub plan : List (List ℕ)
-  pub spelled : SpellsPlan problem.grid plan_bytes (length problem.agents) (SaysPlan plan)
+  pub spelled : SpellsPlan problem.grid plan_bytes (length problem.agents) (answers.Found plan)
   pub optimal : IsOptimal problem plan cost
   pub accepted : AreAccepted problem plan_bytes cert_bytes (Optimal cost)
   pub searched : SpellsTree problem limit (claims.Cost cost) cert_bytes
 
 -- the first text spells that no plan is valid, none is, both texts are accepted, and the second has a tree of the search
 pub record PrintsImpossible (problem : Instance) (limit : ℕ) (plan_bytes cert_bytes : List ℕ) : Type 0 where
-  pub spelled : SpellsPlan problem.grid plan_bytes (length problem.agents) SaysImpossible
+  pub spelled : SpellsPlan problem.grid plan_bytes (length problem.agents) answers.Impossible
   pub impossible : IsImpossible problem
   pub accepted : AreAccepted problem plan_bytes cert_bytes verdicts.Impossible
   pub searched : SpellsTree problem limit claims.Impossible cert_bytes
 
 -- the first text spells the limit that was met, and there is no second; with some tree the search may stop for this cause
 pub record PrintsLimit (problem : Instance) (limit : ℕ) (cause : Cause) (plan_bytes cert_bytes : List ℕ) : Type 0 where
-  pub spelled : SpellsAnswer problem (answers.Limit cause) plan_bytes
+  pub spelled : SpellsPlan problem.grid plan_bytes (length problem.agents) (answers.Limit cause)
   pub nothing : cert_bytes ≡ []
   pub items : List Item
   pub tree : ConstraintTree

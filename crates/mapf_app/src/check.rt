@@ -2,17 +2,18 @@ ghost use Rattle.std.specs.Prelude.{◌≡◌, ◌≤◌, false, true, IfOk, IfE
 ghost use Rattle.mapf_app.specs.Checked.{HasGoodPlan};
 ghost use Rattle.mapf_app.specs.Faults.{HasNoInnerMemory, IsChecking, IsOfInput, IsOfMap, IsOfProblem};
 ghost use Rattle.mapf_app.specs.Headline.{JudgesTruly, IsDueVerdict};
-ghost use Rattle.mapf_app.specs.Limits.{cert_bytes, text_bytes};
 ghost use Rattle.mapf_app.specs.Order.{HasReadGrid, HasReadProblem, IsReadWhole};
 ghost use Rattle.mapf_app.specs.Problems.{SpellsProblem};
 ghost use Rattle.mapf_app.specs.Unreadable.{IsUnreadable, IsWithin};
 ghost use Rattle.mapf_checker.specs.declared.fault.Verdict.{Verdict};
+ghost use Rattle.mapf_model.specs.Limits.{most_agents, most_cert_bytes, most_text_bytes};
 ghost use Rattle.mapf_model.specs.Plan.{Instance};
 
 use crate::fault::{Fault, Input};
-use crate::input::{CERT_LIMIT, read_problem, read_text};
+use crate::input::{read_problem, read_text};
 use mapf_checker::{FromFault, Verdict, check_from};
 use mapf_model::Source;
+use mapf_model::limits::MOST_CERT_BYTES;
 use std::alloc::Global;
 
 /// Reads a map, a scenario of which the first `k` agents count, a plan text and a certificate, and
@@ -31,30 +32,34 @@ pub fn run_check<M: Source, S: Source, P: Source, C: Source>(
     requires plan_works { P.has_failed plan.old ≡ false }
     requires cert_works { C.has_failed cert.old ≡ false }
     requires some { 1 ≤ k }
-    requires few { k ≤ 200 }
+    requires few { k ≤ most_agents }
     // The verdict is true of the problem that was read, and both texts are accepted for it.
-    ensures verdict { IfOk result (JudgesTruly (M.remaining map.old) (S.remaining scen.old) (P.remaining plan.old) (C.remaining cert.old) k) }
+    ensures verdict { IfOk result
+        (JudgesTruly (M.remaining map.old) (S.remaining scen.old) (P.remaining plan.old) (C.remaining cert.old) k) }
     // What is to be accepted is accepted, unless a device or memory prevents it.
-    ensures accepted { (verdict : Verdict) → IsDueVerdict (M.remaining map.old) (S.remaining scen.old) (P.remaining plan.old) (C.remaining cert.old) k verdict →
+    ensures accepted { (verdict : Verdict) → IsDueVerdict
+        (M.remaining map.old) (S.remaining scen.old) (P.remaining plan.old) (C.remaining cert.old) k verdict →
         MatchResult result (λ given. given ≡ verdict) IsOfInput }
     // Inputs of more bytes than the limit aren't read.
-    ensures within { OnOk result (IsWithin (M.remaining map.old) text_bytes × IsWithin (S.remaining scen.old) text_bytes
-        × IsWithin (P.remaining plan.old) text_bytes × IsWithin (C.remaining cert.old) cert_bytes) }
+    ensures within { OnOk result
+        (IsWithin (M.remaining map.old) most_text_bytes × IsWithin (S.remaining scen.old) most_text_bytes
+        × IsWithin (P.remaining plan.old) most_text_bytes × IsWithin (C.remaining cert.old) most_cert_bytes) }
     // A fault stands where it says.
-    ensures fault { IfErr result (IsChecking (M.remaining map.old) (S.remaining scen.old) (P.remaining plan.old) (C.remaining cert.old) k) }
+    ensures fault { IfErr result
+        (IsChecking (M.remaining map.old) (S.remaining scen.old) (P.remaining plan.old) (C.remaining cert.old) k) }
     ensures inner { IfErr result HasNoInnerMemory }
     // A source's fault is told only where it has failed or gave too much, and wherever it has failed.
     ensures map { IsErrOf result (Fault.F4 Input.Map) →
-        IsUnreadable (M.has_failed map.new) (M.remaining map.old) (M.remaining map.new) text_bytes }
+        IsUnreadable (M.has_failed map.new) (M.remaining map.old) (M.remaining map.new) most_text_bytes }
     ensures map_failed { M.has_failed map.new ≡ true → IsErrOf result (Fault.F4 Input.Map) }
     ensures scen { IsErrOf result (Fault.F4 Input.Scen) →
-        IsUnreadable (S.has_failed scen.new) (S.remaining scen.old) (S.remaining scen.new) text_bytes }
+        IsUnreadable (S.has_failed scen.new) (S.remaining scen.old) (S.remaining scen.new) most_text_bytes }
     ensures scen_failed { S.has_failed scen.new ≡ true → IsErrOf result (Fault.F4 Input.Scen) }
     ensures plan { IsErrOf result (Fault.F4 Input.Plan) →
-        IsUnreadable (P.has_failed plan.new) (P.remaining plan.old) (P.remaining plan.new) text_bytes }
+        IsUnreadable (P.has_failed plan.new) (P.remaining plan.old) (P.remaining plan.new) most_text_bytes }
     ensures plan_failed { P.has_failed plan.new ≡ true → IsErrOf result (Fault.F4 Input.Plan) }
     ensures cert { IsErrOf result (Fault.F4 Input.Cert) →
-        IsUnreadable (C.has_failed cert.new) (C.remaining cert.old) (C.remaining cert.new) cert_bytes }
+        IsUnreadable (C.has_failed cert.new) (C.remaining cert.old) (C.remaining cert.new) most_cert_bytes }
     ensures cert_failed { C.has_failed cert.new ≡ true → IsErrOf result (Fault.F4 Input.Cert) }
     // Each input is pulled only after those before it were read whole and spelled what they must, the certificate only
     // after the plan text was found good.
@@ -71,7 +76,7 @@ pub fn run_check<M: Source, S: Source, P: Source, C: Source>(
 {
     let problem = read_problem(alloc, map, scen, k)?;
     let plan_text = read_text(alloc, plan, Input::Plan)?;
-    match check_from(alloc, &problem, plan_text.as_slice(), cert, CERT_LIMIT) {
+    match check_from(alloc, &problem, plan_text.as_slice(), cert, MOST_CERT_BYTES) {
         Ok(verdict) => Ok(verdict),
         Err(FromFault::Refused(refusal)) => Err(Fault::Refused(refusal)),
         Err(FromFault::Device) => Err(Fault::F4(Input::Cert)),

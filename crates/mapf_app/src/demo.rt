@@ -32,7 +32,8 @@ const ROOM: usize = 4096;
 /// verdict: four agents that rotate on an open square of four cells.
 pub fn run_demo<K: Sink>(alloc: Global, sink: &mut K) -> Result<(), Fault>
     requires { K.has_failed sink.old ≡ false }
-    // What is written is a plan text, a certificate and the verdict, by which both texts are accepted for the built-in problem.
+    // What is written is a plan text, a certificate and the verdict, by which both texts are accepted for the
+    // built-in problem.
     ensures text { OnOk result ((plan_text : List ℕ) × (cert_text : List ℕ) × (verdict : Verdict)
         × JudgesTruly (Some MAP.now) (Some SCEN.now) (Some plan_text) (Some cert_text) AGENTS verdict
         × Appends (K.contents sink.old) (K.contents sink.new) (plan_text ++ (cert_text ++ verdict_line verdict))) }
@@ -79,7 +80,8 @@ fn checked(alloc: Global, plan: &[u8], cert: &[u8]) -> Result<Verdict, Fault>
 
 fn tell<K: Sink>(sink: &mut K, plan: &[u8], cert: &[u8], verdict: Verdict) -> Result<(), Failed>
     requires { K.has_failed sink.old ≡ false }
-    ensures text { OnOk result (Appends (K.contents sink.old) (K.contents sink.new) (plan.now ++ (cert.now ++ verdict_line verdict))) }
+    ensures text { OnOk result
+        (Appends (K.contents sink.old) (K.contents sink.new) (plan.now ++ (cert.now ++ verdict_line verdict))) }
     ensures failed { K.has_failed sink.new ≡ is_err result }
 {
     write_all(sink, plan)?;

@@ -46,8 +46,8 @@ pub enum Fault {
     /// The plan text can't be played.
     #[error("plan: {0:?}")]
     F3(PlayFault),
-    /// The input couldn't be read: its source failed, or gave more than 67,108,864 bytes, of a
-    /// certificate more than 1,099,511,627,776.
+    /// The input couldn't be read: its source failed, or gave more than `MOST_TEXT_BYTES`
+    /// bytes, of a certificate more than `MOST_CERT_BYTES`.
     #[error("read of {0:?}")]
     F4(Input),
     /// The output couldn't be written: its sink failed.

@@ -1,23 +1,19 @@
 ghost use Rattle.std.specs.Prelude.{◌≡◌, ◌≤◌, ◌⊎◌, false, true, Ok, IfOk, IfErr, OnOk, IfSome, IsSome, IsErrOf};
 ghost use Rattle.std.specs.Result.{IsErrAnd};
-ghost use Rattle.mapf_app.specs.Faults.{HasNoInnerMemory, IsOfInput, IsOfMap, IsReadingMap, IsReadingAgents, IsReading, fault_of_map, fault_of_scenario};
-ghost use Rattle.mapf_app.specs.Limits.{text_bytes};
+ghost use Rattle.mapf_app.specs.Faults.{HasNoInnerMemory, IsOfInput, IsOfMap, IsReadingMap, IsReadingAgents, IsReading};
+ghost use Rattle.mapf_app.specs.Faults.{fault_of_map, fault_of_scenario};
 ghost use Rattle.mapf_app.specs.Order.{HasReadGrid, HasReadProblem, IsReadWhole};
 ghost use Rattle.mapf_app.specs.Problems.{IsPosed, SpellsGrid, SpellsAgents, SpellsProblem};
 ghost use Rattle.mapf_app.specs.Unreadable.{IsUnreadable};
 ghost use Rattle.mapf_model.specs.Grid.{GridMap};
+ghost use Rattle.mapf_model.specs.Limits.{most_agents, most_text_bytes};
 ghost use Rattle.mapf_model.specs.Plan.{Instance};
 
 use crate::fault::{Fault, Input};
+use mapf_model::limits::MOST_TEXT_BYTES;
 use mapf_model::{Grid, Problem, ReadEnd, Source, read_all};
 use mapf_text::{MapFault, ScenFault, read_map, read_scen};
 use std::alloc::Global;
-
-/// How many bytes a map, a scenario or a plan text may have.
-pub const TEXT_LIMIT: u64 = 67_108_864;
-
-/// How many bytes a certificate may have.
-pub const CERT_LIMIT: u64 = 1_099_511_627_776;
 
 /// All that the source of a text gives.
 pub fn read_text<S: Source>(alloc: Global, source: &mut S, input: Input) -> Result<Vec<u8>, Fault>
@@ -28,9 +24,9 @@ pub fn read_text<S: Source>(alloc: Global, source: &mut S, input: Input) -> Resu
     ensures fault { IfErr result (λ fault. (fault ≡ Fault.F4 input) ⊎ (fault ≡ Fault.F6)) }
     ensures failed { S.has_failed source.new ≡ true → IsErrOf result (Fault.F4 input) }
     ensures unreadable { IsErrOf result (Fault.F4 input) →
-        IsUnreadable (S.has_failed source.new) (S.remaining source.old) (S.remaining source.new) text_bytes }
+        IsUnreadable (S.has_failed source.new) (S.remaining source.old) (S.remaining source.new) most_text_bytes }
 {
-    match read_all(alloc, source, TEXT_LIMIT) {
+    match read_all(alloc, source, MOST_TEXT_BYTES) {
         Ok(text) => Ok(text),
         Err(ReadEnd::Memory) => Err(Fault::F6),
         Err(_) => Err(Fault::F4(input)),
@@ -67,7 +63,7 @@ fn read_grid<M: Source>(alloc: Global, map: &mut M) -> Result<Grid, Fault>
     ensures fault { IfErr result (IsReadingMap (M.remaining map.old)) }
     ensures failed { M.has_failed map.new ≡ true → IsErrOf result (Fault.F4 Input.Map) }
     ensures unreadable { IsErrOf result (Fault.F4 Input.Map) →
-        IsUnreadable (M.has_failed map.new) (M.remaining map.old) (M.remaining map.new) text_bytes }
+        IsUnreadable (M.has_failed map.new) (M.remaining map.old) (M.remaining map.new) most_text_bytes }
 {
     let text = read_text(alloc, map, Input::Map)?;
     match read_map(alloc, text.as_slice()) {
@@ -80,17 +76,18 @@ fn read_grid<M: Source>(alloc: Global, map: &mut M) -> Result<Grid, Fault>
 fn read_agents<S: Source>(alloc: Global, scen: &mut S, grid: Grid, k: u32) -> Result<Problem, Fault>
     requires works { S.has_failed scen.old ≡ false }
     requires some { 1 ≤ k }
-    requires few { k ≤ 200 }
+    requires few { k ≤ most_agents }
     ensures found { IfOk result (SpellsAgents (S.remaining scen.old) grid k) }
     ensures posed { IfOk result (IsPosed k) }
     ensures read { OnOk result (IsReadWhole (S.has_failed scen.new) (S.remaining scen.old) (S.remaining scen.new)) }
     ensures on_grid { IfOk result (λ problem. problem.grid ≡ grid) }
-    ensures only { (problem : Instance) → IsSome (S.remaining scen.old) → SpellsAgents (S.remaining scen.old) grid k problem →
+    ensures only { (problem : Instance) → IsSome (S.remaining scen.old) →
+        SpellsAgents (S.remaining scen.old) grid k problem →
         (result ≡ Ok problem) ⊎ IsErrAnd result IsOfInput }
     ensures fault { IfErr result (IsReadingAgents (S.remaining scen.old) grid k) }
     ensures failed { S.has_failed scen.new ≡ true → IsErrOf result (Fault.F4 Input.Scen) }
     ensures unreadable { IsErrOf result (Fault.F4 Input.Scen) →
-        IsUnreadable (S.has_failed scen.new) (S.remaining scen.old) (S.remaining scen.new) text_bytes }
+        IsUnreadable (S.has_failed scen.new) (S.remaining scen.old) (S.remaining scen.new) most_text_bytes }
 {
     let text = read_text(alloc, scen, Input::Scen)?;
     match read_scen(alloc, text.as_slice(), grid, k) {
@@ -109,7 +106,7 @@ pub fn read_problem<M: Source, S: Source>(
     requires map_works { M.has_failed map.old ≡ false }
     requires scen_works { S.has_failed scen.old ≡ false }
     requires some { 1 ≤ k }
-    requires few { k ≤ 200 }
+    requires few { k ≤ most_agents }
     // What is read is spelled so.
     ensures found { IfOk result (SpellsProblem (M.remaining map.old) (S.remaining scen.old) k) }
     ensures posed { IfOk result (IsPosed k) }
@@ -122,10 +119,10 @@ pub fn read_problem<M: Source, S: Source>(
     ensures inner { IfErr result HasNoInnerMemory }
     // A source's fault is told where it has failed or gave too much, and wherever it has failed.
     ensures map { IsErrOf result (Fault.F4 Input.Map) →
-        IsUnreadable (M.has_failed map.new) (M.remaining map.old) (M.remaining map.new) text_bytes }
+        IsUnreadable (M.has_failed map.new) (M.remaining map.old) (M.remaining map.new) most_text_bytes }
     ensures map_failed { M.has_failed map.new ≡ true → IsErrOf result (Fault.F4 Input.Map) }
     ensures scen { IsErrOf result (Fault.F4 Input.Scen) →
-        IsUnreadable (S.has_failed scen.new) (S.remaining scen.old) (S.remaining scen.new) text_bytes }
+        IsUnreadable (S.has_failed scen.new) (S.remaining scen.old) (S.remaining scen.new) most_text_bytes }
     ensures scen_failed { S.has_failed scen.new ≡ true → IsErrOf result (Fault.F4 Input.Scen) }
     // Both are read whole, and neither has more bytes than the limit.
     ensures whole { OnOk result (HasReadProblem (M.has_failed map.new) (M.remaining map.old) (M.remaining map.new)

@@ -24,6 +24,3 @@ pub use mapf_words::{Job, WordsFault, job_of};
 pub use play::run_play;
 pub use solve::run_solve;
 pub use tell::{tell_check, tell_run, tell_solve};
-
-#[cfg(test)]
-mod tests;

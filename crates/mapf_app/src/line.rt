@@ -1,7 +1,8 @@
 ghost use Rattle.std.specs.Prelude.{◌≡◌, false, Some, None, OnOk};
 ghost use Rattle.std.specs.Result.{is_err};
 ghost use Rattle.std.specs.Io.KnownBytes.{Appends};
-ghost use Rattle.mapf_app.specs.FaultLines.{cert_fault_line, fault_line, map_fault_line, plan_fault_line, plan_text_fault_line, play_fault_line, refusal_line, scenario_fault_line};
+ghost use Rattle.mapf_app.specs.FaultLines.{cert_fault_line, fault_line, map_fault_line, plan_fault_line};
+ghost use Rattle.mapf_app.specs.FaultLines.{plan_text_fault_line, play_fault_line, refusal_line, scenario_fault_line};
 ghost use Rattle.mapf_app.specs.Told.{defect_text, line_text, number_text, verdict_line};
 
 use crate::fault::{Fault, Input, Output, PlayFault};

@@ -1,11 +1,13 @@
-ghost use Rattle.std.specs.Prelude.{◌≡◌, ◌≤◌, ◌⊎◌, ℕ, List, Ok, Err, false, true, take, IfOk, IfErr, OnOk, IsErrOf, IsSome, MatchResult};
+ghost use Rattle.std.specs.Prelude.{◌≡◌, ◌≤◌, ◌⊎◌, ℕ, List, Ok, Err, false, true, take};
+ghost use Rattle.std.specs.Prelude.{IfOk, IfErr, OnOk, IsErrOf, IsSome, MatchResult};
 ghost use Rattle.std.specs.Io.KnownBytes.{Appends};
-ghost use Rattle.mapf_app.specs.Faults.{HasNoInnerMemory, IsBeforeWriting, IsOfDevices, IsOfMap, IsOfProblem, IsPlaying, IsReadingPlan, fault_of_plan_text};
-ghost use Rattle.mapf_app.specs.Limits.{text_bytes};
+ghost use Rattle.mapf_app.specs.Faults.{HasNoInnerMemory, IsBeforeWriting, IsOfDevices, IsOfMap, IsOfProblem};
+ghost use Rattle.mapf_app.specs.Faults.{IsPlaying, IsReadingPlan, fault_of_plan_text};
 ghost use Rattle.mapf_app.specs.Order.{HasReadGrid, HasReadProblem};
 ghost use Rattle.mapf_app.specs.Played.{IsDuePlay, PlaysTruly, ShowsPlan, SpellsValidPlan};
 ghost use Rattle.mapf_app.specs.Problems.{SpellsProblem};
 ghost use Rattle.mapf_app.specs.Unreadable.{IsUnreadable, IsWithin};
+ghost use Rattle.mapf_model.specs.Limits.{most_agents, most_text_bytes};
 ghost use Rattle.mapf_model.specs.Plan.{Instance};
 
 use crate::fault::{Fault, Input, Output, PlayFault};
@@ -29,7 +31,8 @@ fn fault_of_plan_text(fault: PlanTextFault) -> Fault
 // The valid plan that a plan text spells for the problem.
 fn valid_plan(alloc: Global, problem: &Problem, bytes: &[u8]) -> Result<Plan, Fault>
     ensures found { IfOk result (SpellsValidPlan problem.now bytes.now) }
-    ensures only { (plan : List (List ℕ)) → SpellsValidPlan problem.now bytes.now plan → (result ≡ Ok plan) ⊎ (result ≡ Err Fault.F6) }
+    ensures only { (plan : List (List ℕ)) → SpellsValidPlan problem.now bytes.now plan →
+        (result ≡ Ok plan) ⊎ (result ≡ Err Fault.F6) }
     ensures fault { IfErr result (IsReadingPlan problem.now bytes.now) }
     ensures inner { IfErr result HasNoInnerMemory }
 {
@@ -64,29 +67,31 @@ pub fn run_play<M: Source, S: Source, P: Source, K: Sink>(
     requires plan_works { P.has_failed plan.old ≡ false }
     requires sink_works { K.has_failed sink.old ≡ false }
     requires some { 1 ≤ k }
-    requires few { k ≤ 200 }
+    requires few { k ≤ most_agents }
     // What is written plays the valid plan that was read, for the problem that was read.
-    ensures text { OnOk result ((text : List ℕ) × PlaysTruly (M.remaining map.old) (S.remaining scen.old) (P.remaining plan.old) k text
+    ensures text { OnOk result ((text : List ℕ)
+        × PlaysTruly (M.remaining map.old) (S.remaining scen.old) (P.remaining plan.old) k text
         × Appends (K.contents sink.old) (K.contents sink.new) text) }
     // A valid plan that is spelled is the one that is played, unless a device or memory prevents it.
     ensures due { (problem : Instance) (paths : List (List ℕ)) →
         IsDuePlay (M.remaining map.old) (S.remaining scen.old) (P.remaining plan.old) k problem paths →
         MatchResult result (λ _. ShowsPlan problem paths (K.contents sink.old) (K.contents sink.new)) IsOfDevices }
     // Inputs of more bytes than the limit aren't read.
-    ensures within { OnOk result (IsWithin (M.remaining map.old) text_bytes × IsWithin (S.remaining scen.old) text_bytes
-        × IsWithin (P.remaining plan.old) text_bytes) }
+    ensures within { OnOk result
+        (IsWithin (M.remaining map.old) most_text_bytes × IsWithin (S.remaining scen.old) most_text_bytes
+        × IsWithin (P.remaining plan.old) most_text_bytes) }
     // A fault stands where it says.
     ensures fault { IfErr result (IsPlaying (M.remaining map.old) (S.remaining scen.old) (P.remaining plan.old) k) }
     ensures inner { IfErr result HasNoInnerMemory }
     // A device's fault is told only where it has failed, or a source gave too much, and wherever it has failed.
     ensures map { IsErrOf result (Fault.F4 Input.Map) →
-        IsUnreadable (M.has_failed map.new) (M.remaining map.old) (M.remaining map.new) text_bytes }
+        IsUnreadable (M.has_failed map.new) (M.remaining map.old) (M.remaining map.new) most_text_bytes }
     ensures map_failed { M.has_failed map.new ≡ true → IsErrOf result (Fault.F4 Input.Map) }
     ensures scen { IsErrOf result (Fault.F4 Input.Scen) →
-        IsUnreadable (S.has_failed scen.new) (S.remaining scen.old) (S.remaining scen.new) text_bytes }
+        IsUnreadable (S.has_failed scen.new) (S.remaining scen.old) (S.remaining scen.new) most_text_bytes }
     ensures scen_failed { S.has_failed scen.new ≡ true → IsErrOf result (Fault.F4 Input.Scen) }
     ensures plan { IsErrOf result (Fault.F4 Input.Plan) →
-        IsUnreadable (P.has_failed plan.new) (P.remaining plan.old) (P.remaining plan.new) text_bytes }
+        IsUnreadable (P.has_failed plan.new) (P.remaining plan.old) (P.remaining plan.new) most_text_bytes }
     ensures plan_failed { P.has_failed plan.new ≡ true → IsErrOf result (Fault.F4 Input.Plan) }
     ensures sink { IsErrOf result (Fault.F5 Output.Out) → K.has_failed sink.new ≡ true }
     ensures sink_failed { K.has_failed sink.new ≡ true → IsErrOf result (Fault.F5 Output.Out) }

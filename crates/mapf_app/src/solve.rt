@@ -1,12 +1,13 @@
-ghost use Rattle.std.specs.Prelude.{◌≡◌, ◌≤◌, ℕ, List, false, true, take, IfOk, IfErr, OnOk, IsErrOf, IsSome, MatchResult};
+ghost use Rattle.std.specs.Prelude.{◌≡◌, ◌≤◌, ℕ, List, false, true, take};
+ghost use Rattle.std.specs.Prelude.{IfOk, IfErr, OnOk, IsErrOf, IsSome, MatchResult};
 ghost use Rattle.std.specs.Io.KnownBytes.{Appends};
 ghost use Rattle.mapf_app.specs.Faults.{HasNoInnerMemory, IsBeforeWriting, IsOfDevices, IsOfMap, IsSolving};
 ghost use Rattle.mapf_app.specs.Headline.{PrintsTruly};
-ghost use Rattle.mapf_app.specs.Limits.{text_bytes};
 ghost use Rattle.mapf_app.specs.Order.{HasReadGrid};
 ghost use Rattle.mapf_app.specs.Problems.{SpellsProblem};
 ghost use Rattle.mapf_app.specs.Solved.{IsLimit, Prints};
 ghost use Rattle.mapf_app.specs.Unreadable.{IsUnreadable, IsWithin};
+ghost use Rattle.mapf_model.specs.Limits.{most_agents, most_splits, most_text_bytes};
 ghost use Rattle.mapf_model.specs.Plan.{Instance};
 
 use crate::fault::{Fault, Input, Output};
@@ -33,8 +34,8 @@ pub fn run_solve<M: Source, S: Source, P: Sink, C: Sink>(
     requires plan_works { P.has_failed plan_sink.old ≡ false }
     requires cert_works { C.has_failed cert_sink.old ≡ false }
     requires some { 1 ≤ k }
-    requires few { k ≤ 200 }
-    requires limit { limit ≤ 100000 }
+    requires few { k ≤ most_agents }
+    requires limit { limit ≤ most_splits }
     // A plan that is printed is cheapest, 'impossible' is printed only where no plan is valid, and both
     // texts are accepted for the problem that was read.
     ensures printed { IfOk result (λ kind. (plan_text : List ℕ) × (cert_text : List ℕ)
@@ -50,7 +51,7 @@ pub fn run_solve<M: Source, S: Source, P: Sink, C: Sink>(
         × Appends (C.contents cert_sink.old) (C.contents cert_sink.new) cert_text) IsOfDevices }
     // Inputs of more bytes than the limit aren't read.
     ensures within { OnOk result
-        (IsWithin (M.remaining map.old) text_bytes × IsWithin (S.remaining scen.old) text_bytes) }
+        (IsWithin (M.remaining map.old) most_text_bytes × IsWithin (S.remaining scen.old) most_text_bytes) }
     // On a limit nothing is asked of the certificate's sink.
     ensures limit { IfOk result (λ kind. IsLimit kind → cert_sink.new ≡ cert_sink.old) }
     // A fault stands where it says.
@@ -58,10 +59,10 @@ pub fn run_solve<M: Source, S: Source, P: Sink, C: Sink>(
     ensures inner { IfErr result HasNoInnerMemory }
     // A device's fault is told only where it has failed, or a source gave too much, and wherever it has failed.
     ensures map { IsErrOf result (Fault.F4 Input.Map) →
-        IsUnreadable (M.has_failed map.new) (M.remaining map.old) (M.remaining map.new) text_bytes }
+        IsUnreadable (M.has_failed map.new) (M.remaining map.old) (M.remaining map.new) most_text_bytes }
     ensures map_failed { M.has_failed map.new ≡ true → IsErrOf result (Fault.F4 Input.Map) }
     ensures scen { IsErrOf result (Fault.F4 Input.Scen) →
-        IsUnreadable (S.has_failed scen.new) (S.remaining scen.old) (S.remaining scen.new) text_bytes }
+        IsUnreadable (S.has_failed scen.new) (S.remaining scen.old) (S.remaining scen.new) most_text_bytes }
     ensures scen_failed { S.has_failed scen.new ≡ true → IsErrOf result (Fault.F4 Input.Scen) }
     ensures plan { IsErrOf result (Fault.F5 Output.Plan) →
         (P.has_failed plan_sink.new ≡ true) × (cert_sink.new ≡ cert_sink.old) }
@@ -73,10 +74,12 @@ pub fn run_solve<M: Source, S: Source, P: Sink, C: Sink>(
     ensures order { (HasReadGrid (M.has_failed map.new) (M.remaining map.old) (M.remaining map.new) → ⊥) →
         scen.new ≡ scen.old }
     // What a sink that failed got is a front of such texts.
-    ensures plan_front { IsErrOf result (Fault.F5 Output.Plan) → (kind : Kind) × (plan_text : List ℕ) × (cert_text : List ℕ) × (n : ℕ)
+    ensures plan_front { IsErrOf result (Fault.F5 Output.Plan) →
+        (kind : Kind) × (plan_text : List ℕ) × (cert_text : List ℕ) × (n : ℕ)
         × PrintsTruly (M.remaining map.old) (S.remaining scen.old) k limit kind plan_text cert_text
         × Appends (P.contents plan_sink.old) (P.contents plan_sink.new) (take n plan_text) }
-    ensures cert_front { IsErrOf result (Fault.F5 Output.Cert) → (kind : Kind) × (plan_text : List ℕ) × (cert_text : List ℕ) × (n : ℕ)
+    ensures cert_front { IsErrOf result (Fault.F5 Output.Cert) →
+        (kind : Kind) × (plan_text : List ℕ) × (cert_text : List ℕ) × (n : ℕ)
         × PrintsTruly (M.remaining map.old) (S.remaining scen.old) k limit kind plan_text cert_text
         × Appends (P.contents plan_sink.old) (P.contents plan_sink.new) plan_text
         × Appends (C.contents cert_sink.old) (C.contents cert_sink.new) (take n cert_text) }

@@ -48,8 +48,8 @@ pub fn tell_solve<O: Sink, E: Sink>(answer: &Result<Kind, Fault>, out: &mut O, e
     requires out_works { O.has_failed out.old ≡ false }
     requires err_works { E.has_failed err.old ≡ false }
     // Nothing is asked of the other sink.
-    ensures answer { IfOk answer.now (λ kind. (err.new ≡ err.old)
-        × Tells (O.has_failed out.new) (O.contents out.old) (O.contents out.new) (kind_line kind) (kind_status kind) result) }
+    ensures answer { IfOk answer.now (λ kind. (err.new ≡ err.old) × Tells
+        (O.has_failed out.new) (O.contents out.old) (O.contents out.new) (kind_line kind) (kind_status kind) result) }
     ensures fault { IfErr answer.now (λ fault. (out.new ≡ out.old)
         × Tells (E.has_failed err.new) (E.contents err.old) (E.contents err.new) (fault_line fault) 2 result) }
 {
@@ -72,8 +72,10 @@ pub fn tell_check<O: Sink, E: Sink>(answer: &Result<Verdict, Fault>, out: &mut O
     ensures verdict { IfOk answer.now (λ verdict. (err.new ≡ err.old)
         × Tells (O.has_failed out.new) (O.contents out.old) (O.contents out.new) (verdict_line verdict) 0 result) }
     ensures fault { IfErr answer.now (λ fault. MatchBool (is_refusal fault)
-        ((err.new ≡ err.old) × Tells (O.has_failed out.new) (O.contents out.old) (O.contents out.new) (fault_line fault) 1 result)
-        ((out.new ≡ out.old) × Tells (E.has_failed err.new) (E.contents err.old) (E.contents err.new) (fault_line fault) 2 result)) }
+        ((err.new ≡ err.old)
+        × Tells (O.has_failed out.new) (O.contents out.old) (O.contents out.new) (fault_line fault) 1 result)
+        ((out.new ≡ out.old)
+        × Tells (E.has_failed err.new) (E.contents err.old) (E.contents err.new) (fault_line fault) 2 result)) }
 {
     match answer {
         Ok(verdict) => told(write_line(out, &Line::of_verdict(*verdict)), DONE),
@@ -92,7 +94,8 @@ pub fn tell_check<O: Sink, E: Sink>(answer: &Result<Verdict, Fault>, out: &mut O
 pub fn tell_run<E: Sink>(answer: &Result<(), Fault>, err: &mut E) -> u8
     requires { E.has_failed err.old ≡ false }
     ensures well { OnOk answer.now ((result ≡ 0) × (err.new ≡ err.old)) }
-    ensures fault { IfErr answer.now (λ fault. Tells (E.has_failed err.new) (E.contents err.old) (E.contents err.new) (fault_line fault) 2 result) }
+    ensures fault { IfErr answer.now (λ fault.
+        Tells (E.has_failed err.new) (E.contents err.old) (E.contents err.new) (fault_line fault) 2 result) }
 {
     match answer {
         Ok(()) => DONE,

@@ -1,8 +1,9 @@
 ghost use Rattle.std.specs.Prelude.{◌≡◌, ◌≤◌, ℕ, List, IfOk, length, map};
-ghost use Rattle.mapf_app.specs.Solved.{SpellsAnswer, Prints};
+ghost use Rattle.mapf_app.specs.Solved.{Prints};
 ghost use Rattle.mapf_certificate.specs.Certificates.{cert_text};
 ghost use Rattle.mapf_cbs.specs.Answer.{IsTreeOf, IsShownOptimal, IsShownImpossible, MayStop};
-ghost use Rattle.mapf_certificate.specs.Plans.{IsAnswerInRange};
+ghost use Rattle.mapf_certificate.specs.Plans.{IsAnswerInRange, SpellsPlan};
+ghost use Rattle.mapf_model.specs.Limits.{most_splits};
 ghost use Rattle.mapf_model.specs.Plan.{IsValid, IsSumOfCosts};
 ghost use Rattle.mapf_model.specs.Tree.{ConstraintTree, node_of};
 
@@ -22,7 +23,7 @@ pub struct Texts {
 
 fn plan_bytes(alloc: Global, problem: &Problem, answer: PlanAnswer) -> Result<Vec<u8>, OutOfMemory>
     requires { IsAnswerInRange problem.now.grid (length problem.now.agents) answer }
-    ensures { IfOk result (λ bytes. SpellsAnswer problem.now answer bytes.items) }
+    ensures { IfOk result (λ bytes. SpellsPlan problem.now.grid bytes.items (length problem.now.agents) answer) }
 {
     let text = PlanText {
         agents: problem.agents().len() as u32,
@@ -62,8 +63,10 @@ fn found(
     plan: Plan,
     tree: Vec<Item>,
 ) -> Result<Texts, OutOfMemory>
-    requires { (limit : ℕ) × (shown : ConstraintTree) × IsTreeOf problem.now limit tree.items shown × IsShownOptimal problem.now plan shown }
-    ensures { IfOk result (λ texts. (limit : ℕ) (shown : ConstraintTree) → IsTreeOf problem.now limit tree.items shown → IsShownOptimal problem.now plan shown →
+    requires { (limit : ℕ) × (shown : ConstraintTree)
+        × IsTreeOf problem.now limit tree.items shown × IsShownOptimal problem.now plan shown }
+    ensures { IfOk result (λ texts. (limit : ℕ) (shown : ConstraintTree) →
+        IsTreeOf problem.now limit tree.items shown → IsShownOptimal problem.now plan shown →
         Prints problem.now limit texts.kind texts.plan.items texts.cert.items) }
 {
     laws::sums_are_one();
@@ -76,8 +79,10 @@ fn found(
 }
 
 fn impossible(alloc: Global, problem: &Problem, tree: Vec<Item>) -> Result<Texts, OutOfMemory>
-    requires { (limit : ℕ) × (shown : ConstraintTree) × IsTreeOf problem.now limit tree.items shown × IsShownImpossible problem.now shown }
-    ensures { IfOk result (λ texts. (limit : ℕ) (shown : ConstraintTree) → IsTreeOf problem.now limit tree.items shown → IsShownImpossible problem.now shown →
+    requires { (limit : ℕ) × (shown : ConstraintTree)
+        × IsTreeOf problem.now limit tree.items shown × IsShownImpossible problem.now shown }
+    ensures { IfOk result (λ texts. (limit : ℕ) (shown : ConstraintTree) →
+        IsTreeOf problem.now limit tree.items shown → IsShownImpossible problem.now shown →
         Prints problem.now limit texts.kind texts.plan.items texts.cert.items) }
 {
     Ok(Texts {
@@ -89,7 +94,8 @@ fn impossible(alloc: Global, problem: &Problem, tree: Vec<Item>) -> Result<Texts
 
 fn limited(alloc: Global, problem: &Problem, cause: Cause) -> Result<Texts, OutOfMemory>
     requires { IsAnswerInRange problem.now.grid (length problem.now.agents) (PlanAnswer.Limit cause) }
-    ensures { IfOk result (λ texts. (limit : ℕ) (items : List Item) (tree : ConstraintTree) → IsTreeOf problem.now limit items tree → MayStop problem.now limit cause tree →
+    ensures { IfOk result (λ texts. (limit : ℕ) (items : List Item) (tree : ConstraintTree) →
+        IsTreeOf problem.now limit items tree → MayStop problem.now limit cause tree →
         Prints problem.now limit texts.kind texts.plan.items texts.cert.items) }
 {
     Ok(Texts {
@@ -101,7 +107,7 @@ fn limited(alloc: Global, problem: &Problem, cause: Cause) -> Result<Texts, OutO
 
 /// Solves the problem with at most `limit` splits and makes both texts.
 pub fn texts_of(alloc: Global, problem: &Problem, limit: u32) -> Result<Texts, OutOfMemory>
-    requires { limit ≤ 100000 }
+    requires { limit ≤ most_splits }
     ensures { IfOk result (λ texts. Prints problem.now limit texts.kind texts.plan.items texts.cert.items) }
 {
     match solve(alloc, problem, limit)? {

@@ -17,6 +17,7 @@ use Rattle.mapf_cbs.specs.declared.node.Node.{Node}
 use Rattle.mapf_cbs.specs.declared.node.Node.TheVariants.{Root}
 use Rattle.mapf_cbs.specs.declared.node.Fate.{Fate}
 use Rattle.mapf_cbs.specs.declared.node.Fate.TheVariants.{Open, Expanded}
+use Rattle.mapf_model.specs.Limits.{most_splits}
 use Rattle.mapf_model.specs.Grid.{IsGridMap, free_cell_count}
 use Rattle.mapf_cbs.specs.Search.{View, IsLive, IsSearched, AreChildrenLater, IsTreeAt}
 use Rattle.mapf_cbs.specs.Nodes.{IsRootView, IsNodeView, IsNodeFor, AreNodesFor, HasTableBar, HaveTableBars}
@@ -26,16 +27,14 @@ use Rattle.mapf_cbs.specs.declared.answer.Answer.TheVariants.{Limit as LimitAnsw
 use Rattle.mapf_cbs.specs.Answer.{IsTreeOf, IsStoppedAtFirst, IsShownOptimal, IsShownImpossible, IsSearchAnswer}
 use Rattle.mapf_cbs.specs.FirstConflicts.{AreFirstPaths}
 use Rattle.mapf_cbs.specs.Goals.{NamesFirstDefect}
-use Rattle.mapf_cbs.specs.State.{IsOpenSet, IsState, IsPopped, IsCauseToStop, IsLeastKey}
+use Rattle.mapf_cbs.specs.State.{IsState, IsPopped, IsCauseToStop, IsLeastKey}
 use Rattle.mapf_cbs.proofs.ViewLemmas.{live_sum, live_cheapest, live_first}
-use Rattle.mapf_cbs.proofs.ChildLemmas.{conflict_early}
+use Rattle.mapf_cbs.proofs.ChildLemmas.{conflict_early, Contains-none}
 use Rattle.mapf_cbs.proofs.TreeLemmas.{is_earned, is_on_first, shows_cost, shows_impossible, has_splits, is_stopped, at_leaf}
 use Rattle.mapf_cbs.proofs.GrowLemmas.{searched_first}
 use Rattle.mapf_cbs.proofs.RangeLemmas.{tree_in_range, plan_in_range, sum_in_range}
-use Rattle.mapf_cbs.proofs.OpenLemmas.{first_open, Contains-first}
-
-none_left : {X : Type 0} (x : X) → Contains [] x → ⊥
-none_left x (k, within, is) = omega arith
+use Rattle.mapf_cbs.proofs.OpenLemmas.{Contains-first}
+use Rattle.mapf_cbs.proofs.StateLemmas.{least_popped}
 
 -- the state as it begins
 pub state_root : (problem : Instance) (paths : Vec (List ℕ) Global) (total : ℕ) (view : View) → IsRootView paths.items view → IsLive problem view → total ≡ sum view.costs → total ≤ 200 * 2 ^ 32 → IsState problem (Root paths ∷ []) (Open ∷ []) ((total, 0) ∷ []) 0
@@ -79,7 +78,7 @@ state_root problem paths total view root_view live total_is small = record {
     each_low zero node node_is = subst HasTableBar (same_Some (Root paths) node node_is) tt
     each_low (suc k) node node_is = absurd cc
 
-    small_key : (key : ℕ × ℕ) → Contains {X = ℕ × ℕ} ((total, 0) ∷ []) key → key.0 ≤ (0 + 201) * 2 ^ 32
+    small_key : (key : ℕ × ℕ) → Contains {X = ℕ × ℕ} ((total, 0) ∷ []) key → key.0 ≤ (0 + 200) * 2 ^ 32
     small_key key in_it = let e : total ≡ key.0 = ap (λ (x : ℕ × ℕ). x.0) (first_key key in_it) in omega arith
 
 pub root_views : (problem : Instance) (paths : Vec (List ℕ) Global) (total : ℕ) (view : View) (root_view : IsRootView paths.items view) (live : IsLive problem view) (total_is : total ≡ sum view.costs) (small : total ≤ 200 * 2 ^ 32) → (state_root problem paths total view root_view live total_is small).views ≡ view ∷ []
@@ -91,32 +90,21 @@ pub state_first : (problem : Instance) (paths : Vec (List ℕ) Global) (total : 
 state_first problem paths total view root_view live total_is small nodes nodes_is = subst (λ ns. IsState problem ns (Open ∷ []) ((total, 0) ∷ []) 0) (sym nodes_is) (state_root problem paths total view root_view live total_is small)
 
 -- children come later
-pub children_later : (problem : Instance) (views : List View) (fates : List Fate) (count : ℕ) → IsSearched problem views fates count → AreChildrenLater fates
-children_later problem views fates count searched k conflict a b is =
-    let size = searched.lengths in
-    let inside : k < length fates = slice_get_within fates k (Expanded conflict a b) is in
-    let view : (view : View) × (slice_get views k ≡ Some view) = slice_get_inside views k (omega arith) in
-    let expanded = searched.each k view.0 (Expanded conflict a b) view.1 is in
-    let in_a = slice_get_within views a expanded.to_left.0 expanded.to_left.1 in
-    let in_b = slice_get_within views b expanded.to_right.0 expanded.to_right.1 in
-    (expanded.left_later, expanded.right_later, omega arith, omega arith)
+pub children_later : (problem : Instance) (nodes : List Node) (fates : List Fate) (keys : List (ℕ × ℕ)) (count : ℕ) → IsState problem nodes fates keys count → count ≤ most_splits → AreChildrenLater fates
+children_later problem nodes fates keys count state few k conflict a is =
+    let size = state.searched.lengths in let sizes = state.are.lengths in let all = state.size in
+    let inside : k < length fates = slice_get_within fates k (Expanded conflict a) is in
+    let view : (view : View) × (slice_get state.views k ≡ Some view) = slice_get_inside state.views k (omega arith) in
+    let expanded = state.searched.each k view.0 (Expanded conflict a) view.1 is in
+    let in_b = slice_get_within state.views (a + 1) expanded.to_right.0 expanded.to_right.1 in
+    (expanded.later, omega arith, omega arith)
 
 -- a tree of lists that are known by other names
 pub tree_of : (agents others : List Agent) (fates more : List Fate) (views : List View) (items : List Item) → agents ≡ others → fates ≡ more → (tree : ConstraintTree) × Spell items tree × IsTreeAt (length agents) views fates 0 tree → (tree : ConstraintTree) × Spell items tree × IsTreeAt (length others) views more 0 tree
 tree_of agents others fates more views items same fates_same (tree, spell, is) = (tree, spell, subst (λ fs. IsTreeAt (length others) views fs 0 tree) fates_same (subst (λ xs. IsTreeAt (length xs) views fates 0 tree) same is))
 
 pub popped_of : (problem : Instance) (nodes : List Node) (fates : List Fate) (keys rest : List (ℕ × ℕ)) (count total k : ℕ) → IsState problem nodes fates keys count → IsLeastKey (total, k) keys rest → IsPopped problem nodes fates rest count total k
-popped_of problem nodes fates keys rest count total k state least = record {
-  views = state.views;
-  are = state.are;
-  searched = state.searched;
-  opens = subst (λ ks. IsOpenSet ks state.views fates) least.removal state.opens;
-  above = least.above;
-  nodes_for = state.nodes_for;
-  bars = state.bars;
-  size = state.size;
-  small = subst (λ ks. (key : ℕ × ℕ) → Contains ks key → key.0 ≤ (count + 201) * 2 ^ 32) least.removal state.small;
-}
+popped_of problem nodes fates keys rest count total k state least = record { state = subst (λ ks. IsState problem nodes fates ks count) least.removal state; above = least.above }
 
 pub not_apart : (paths : List (List ℕ)) (conflict : Conflict) → HasConflict paths conflict → HaveSomeConflict paths
 not_apart paths (Vertex i j cell tick) (differ, p, q, ip, jq, here, there) = (i, j, tick, p, q, differ, ip, jq, inl (here ∙ sym there))
@@ -150,19 +138,16 @@ answer_impossible problem shape names nodes fates count limit within state items
       let size = state.searched.lengths in
       let inside = slice_get_within fates m Open m_open in
       let view : (view : View) × (slice_get state.views m ≡ Some view) = slice_get_inside state.views m (omega arith) in
-      none_left (sum view.0.costs, m) (state.opens.each m view.0 view.1 m_open))),
+      Contains-none (sum view.0.costs, m) (state.opens.each m view.0 view.1 m_open))),
 )
 
-module _ (problem : Instance) (shape : IsGridMap problem.grid) (names : (tree : ConstraintTree) → NamesFirstDefect problem tree) (nodes : List Node) (fates : List Fate) (rest : List (ℕ × ℕ)) (count total k : ℕ) (popped : IsPopped problem nodes fates rest count total k) (limit : ℕ) (within : count ≤ limit) (items : List Item) (found : (tree : ConstraintTree) × Spell items tree × IsTreeAt (length problem.agents) popped.views fates 0 tree) where
+module _ (problem : Instance) (shape : IsGridMap problem.grid) (names : (tree : ConstraintTree) → NamesFirstDefect problem tree) (nodes : List Node) (fates : List Fate) (rest : List (ℕ × ℕ)) (count total k : ℕ) (popped : IsPopped problem nodes fates rest count total k) (limit : ℕ) (within : count ≤ limit) (items : List Item) (found : (tree : ConstraintTree) × Spell items tree × IsTreeAt (length problem.agents) popped.state.views fates 0 tree) where
   tree_is : IsTreeOf problem limit items found.0
-  tree_is = is_tree_of problem shape names popped.views fates count limit within popped.searched items found.0 found.1 found.2
+  tree_is = is_tree_of problem shape names popped.state.views fates count limit within popped.state.searched items found.0 found.1 found.2
 
-  module _ (view : View) (is : slice_get popped.views k ≡ Some view) (is_open : slice_get fates k ≡ Some Open) (live : IsLive problem view) where
-    least : (m : ℕ) (other : View) → slice_get popped.views m ≡ Some other → slice_get fates m ≡ Some Open → sum view.costs ≤ sum other.costs
-    least m other m_is m_open =
-        let first = first_open ((total, k) ∷ rest) rest (total, k) popped.views fates refl popped.above popped.opens in
-        let same : first.0 ≡ view = same_Some first.0 view (sym first.1 ∙ is) in
-        subst (λ (w : View). sum w.costs ≤ sum other.costs) same (first.4 m other m_is m_open)
+  module _ (view : View) (is : slice_get popped.state.views k ≡ Some view) (is_open : slice_get fates k ≡ Some Open) (live : IsLive problem view) where
+    least : (m : ℕ) (other : View) → slice_get popped.state.views m ≡ Some other → slice_get fates m ≡ Some Open → sum view.costs ≤ sum other.costs
+    least = least_popped problem nodes fates rest count total k popped view is
 
     valid_of : (HaveSomeConflict view.paths → ⊥) → IsValid problem view.paths
     valid_of none = record {
@@ -172,7 +157,7 @@ module _ (problem : Instance) (shape : IsGridMap problem.grid) (names : (tree : 
     }
 
     shown_cost : Shows problem (Cost (sum view.costs)) found.0
-    shown_cost = shows_cost problem popped.views fates count popped.searched found.0 found.2 (sum view.costs) least
+    shown_cost = shows_cost problem popped.state.views fates count popped.state.searched found.0 found.2 (sum view.costs) least
 
     pub answer_found : 1 ≤ length problem.agents → length problem.agents ≤ 200 → All (λ path. length path ≤ 10000000) view.paths → (HaveSomeConflict view.paths → ⊥) → (tree : ConstraintTree) × IsTreeOf problem limit items tree × IsShownOptimal problem view.paths tree
     answer_found some few short none = (
@@ -182,7 +167,7 @@ module _ (problem : Instance) (shape : IsGridMap problem.grid) (names : (tree : 
         total = sum view.costs;
         optimal = record { valid = valid_of none; sum = live_sum problem view live; least = shown_holds problem (Cost (sum view.costs)) found.0 shown_cost };
         shows = shown_cost;
-        of_a_leaf = at_leaf problem popped.views fates count popped.searched found.0 found.2 k view is is_open;
+        of_a_leaf = at_leaf problem popped.state.views fates count popped.state.searched found.0 found.2 k view is is_open;
         plan_in_range = plan_in_range problem shape view live short few some;
         claim_in_range = sum_in_range problem shape view live short few;
       },
@@ -192,18 +177,18 @@ module _ (problem : Instance) (shape : IsGridMap problem.grid) (names : (tree : 
     answer_splits conflict meet early = (
       found.0,
       tree_is,
-      is_stopped problem popped.views fates count popped.searched found.0 found.2 (λ constraints paths. AreFirstPaths problem constraints paths × HaveConflictBefore paths 1000000) k view is is_open least (not_apart view.paths conflict meet) (live_first problem view live, (conflict, meet, early)),
-      has_splits problem popped.views fates count popped.searched found.0 found.2,
+      is_stopped problem popped.state.views fates count popped.state.searched found.0 found.2 (λ constraints paths. AreFirstPaths problem constraints paths × HaveConflictBefore paths 1000000) k view is is_open least (not_apart view.paths conflict meet) (live_first problem view live, (conflict, meet, early)),
+      has_splits problem popped.state.views fates count popped.state.searched found.0 found.2,
     )
 
     answer_ticks : ((i j : ℕ) → ShareGoal problem i j → ⊥) → (conflict : Conflict) → HasConflict view.paths conflict → AreConflictFreeBefore view.paths (tick_of conflict) → 1000000 ≤ tick_of conflict →
         (tree : ConstraintTree) × IsTreeOf problem limit items tree × IsStoppedAtFirst (λ paths. AreConflictFreeBefore paths 1000000) problem tree × (1000000 < (split_count tree + 1) * free_cell_count problem.grid)
     answer_ticks goals conflict meet apart late =
-        let early = conflict_early problem view live goals (count * free_cell_count problem.grid) (λ i. popped.searched.low k view i is) conflict meet in
-        let size = has_splits problem popped.views fates count popped.searched found.0 found.2 in (
+        let early = conflict_early problem view live goals (count * free_cell_count problem.grid) (λ i. popped.state.searched.low k view i is) conflict meet in
+        let size = has_splits problem popped.state.views fates count popped.state.searched found.0 found.2 in (
           found.0,
           tree_is,
-          is_stopped problem popped.views fates count popped.searched found.0 found.2 (λ constraints paths. AreFirstPaths problem constraints paths × AreConflictFreeBefore paths 1000000) k view is is_open least (not_apart view.paths conflict meet) (live_first problem view live, λ i j tick p q before. apart i j tick p q (omega arith)),
+          is_stopped problem popped.state.views fates count popped.state.searched found.0 found.2 (λ constraints paths. AreFirstPaths problem constraints paths × AreConflictFreeBefore paths 1000000) k view is is_open least (not_apart view.paths conflict meet) (live_first problem view live, λ i j tick p q before. apart i j tick p q (omega arith)),
           rw size (omega arith),
         )
 

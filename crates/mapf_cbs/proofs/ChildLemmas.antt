@@ -1,8 +1,9 @@
 -- Children of a node: more bars, no cheaper path, conflicts before a bound.
-use Rattle.std.proofs.Common.{◌≡◌, ◌≢◌, ◌⊎◌, ℕ, zero, suc, ◌+◌, ◌<◌, ◌≤◌, Bool, true, false, List, [], ◌∷◌, Some, Contains, length, sum, slice_get, slice_set, refl, sym, ◌∙◌, subst, inl, inr, ⊎_elim, arith, nat_eq, cond, eq-eqb}
+use Rattle.std.proofs.Common.{◌≡◌, ◌≢◌, ◌⊎◌, ℕ, suc, ◌+◌, ◌<◌, ◌≤◌, Bool, true, false, List, [], ◌∷◌, Some, Contains, length, sum, slice_get, slice_set, refl, sym, ◌∙◌, subst, inl, inr, ⊎_elim, arith, nat_eq, cond, eq-eqb}
 use Rattle.std.proofs.lemmas.Bool.{cases_eq, cases_lt, cond_both, eqb-true}
 use Rattle.std.proofs.lemmas.Option.{slice_get_within, same_Some}
 use Rattle.mapf_model.specs.declared.bar.Bar.{Bar}
+use Rattle.mapf_model.specs.declared.constraint.Constraint.{Constraint}
 use Rattle.mapf_model.specs.declared.problem.Agent.{Agent}
 use Rattle.mapf_model.specs.declared.label.Entry.{Entry}
 use Rattle.mapf_model.specs.declared.conflict.Conflict.{Conflict}
@@ -11,18 +12,22 @@ use Rattle.mapf_model.specs.Grid.{GridMap, Step, IsFree, free_cell_count}
 use Rattle.mapf_model.specs.Path.{at}
 use Rattle.mapf_model.specs.Labels.{entries_of}
 use Rattle.mapf_model.specs.Plan.{Instance}
-use Rattle.mapf_model.specs.Tree.{with_bar, IsProperSplit, ShareGoal}
+use Rattle.mapf_model.specs.Tree.{with_constraint, left_constraint, right_constraint, IsProperSplit, ShareGoal}
 use Rattle.mapf_model.specs.Earned.{HasConflict, tick_of}
 use Rattle.mapf_model.specs.Laws.{AreSameBars}
 use Rattle.mapf_model.proofs.BarLemmas.{Satisfies-same, AreSound-same}
+use Rattle.mapf_model.proofs.ClaimLemmas.{slice_get_inside}
 use Rattle.mapf_model.proofs.SplitLemmas.{Contains-cons_cases}
 use Rattle.mapf_constraints.specs.BarSets.{tick_of as bar_tick, AreBefore}
 use Rattle.mapf_spacetime.specs.Answer.{AreGoodLabels}
 use Rattle.mapf_spacetime.specs.Task.{task_of}
-use Rattle.mapf_cbs.specs.CheapestPath.{IsCheapestPath, HasNoPath}
+use Rattle.mapf_cbs.specs.CheapestPath.{IsCheapestPath, HasNoPath, IsTableBar}
 use Rattle.mapf_cbs.specs.Search.{View, IsCheapestOf, IsLive, IsDead, live_child, dead_child}
 use Rattle.mapf_cbs.proofs.SumLemmas.{slice_get-set_same, slice_get-set_other, length-slice_set, sum-set}
 use Rattle.mapf_cbs.proofs.ViewLemmas.{agent_path_of}
+
+pub Contains-none : {X : Type 0} (x : X) → Contains [] x → ⊥
+Contains-none x (k, within, is) = omega arith
 
 pub Contains-later : {X : Type 0} (x y : X) (xs : List X) → Contains xs y → Contains (x ∷ xs) y
 Contains-later x y xs (k, within, is) = (suc k, omega arith, is)
@@ -51,65 +56,83 @@ HasNoPath-same grid agent xs ys entries same blocked = record {
   start = blocked.start;
 }
 
-module _ (problem : Instance) (view : View) (live : IsLive problem view) (i : ℕ) (agent : Agent) (known : slice_get problem.agents i ≡ Some agent) (bar : Bar) (es : List Entry) where
+module _ (problem : Instance) (view : View) (live : IsLive problem view) (constraint : Constraint) (agent : Agent) (known : slice_get problem.agents constraint.agent ≡ Some agent) (es : List Entry) where
   -- an agent that isn't bound keeps its path
-  kept : (k : ℕ) (other : Agent) (path : List ℕ) (cost : ℕ) → k ≢ i → slice_get problem.agents k ≡ Some other → slice_get view.paths k ≡ Some path → slice_get view.costs k ≡ Some cost →
-      (b : Bool) → nat_eq k i ≡ b → IsCheapestPath problem.grid other (cond b (bar ∷ view.constraints.bars k) (view.constraints.bars k)) path cost (cond b es (view.entries k))
-  kept k other path cost differ a p c true is = absurd (differ (eqb-true k i is))
+  kept : (k : ℕ) (other : Agent) (path : List ℕ) (cost : ℕ) → k ≢ constraint.agent → slice_get problem.agents k ≡ Some other → slice_get view.paths k ≡ Some path → slice_get view.costs k ≡ Some cost →
+      (b : Bool) → nat_eq k constraint.agent ≡ b → IsCheapestPath problem.grid other (cond b (constraint.bar ∷ view.constraints.bars k) (view.constraints.bars k)) path cost (cond b es (view.entries k))
+  kept k other path cost differ a p c true is = absurd (differ (eqb-true k constraint.agent is))
   kept k other path cost differ a p c false is = live.each k other path cost a p c
 
-  pub dead_child_dead : HasNoPath problem.grid agent (bar ∷ view.constraints.bars i) es → IsDead problem (dead_child view i bar es)
+  pub dead_child_dead : HasNoPath problem.grid agent (constraint.bar ∷ view.constraints.bars constraint.agent) es → IsDead problem (dead_child view constraint es)
   dead_child_dead blocked = record {
     counted = record { paths = live.counted.paths; costs = live.counted.costs };
-    who = i;
+    who = constraint.agent;
     agent = agent;
     known = known;
-    blocked = let here : nat_eq i i ≡ true = eq-eqb i i refl in rw here blocked;
-    each = λ k other path cost differ a p c. kept k other path cost differ a p c (nat_eq k i) refl;
+    blocked = let here : nat_eq constraint.agent constraint.agent ≡ true = eq-eqb constraint.agent constraint.agent refl in rw here blocked;
+    each = λ k other path cost differ a p c. kept k other path cost differ a p c (nat_eq k constraint.agent) refl;
   }
 
-  module _ (path' : List ℕ) (cost' : ℕ) (agent_path : IsCheapestPath problem.grid agent (bar ∷ view.constraints.bars i) path' cost' es) where
-    within : i < length problem.agents
-    within = slice_get_within problem.agents i agent known
+  module _ (path' : List ℕ) (cost' : ℕ) (agent_path : IsCheapestPath problem.grid agent (constraint.bar ∷ view.constraints.bars constraint.agent) path' cost' es) where
+    within : constraint.agent < length problem.agents
+    within = slice_get_within problem.agents constraint.agent agent known
 
-    by_agent : (k : ℕ) (other : Agent) (path : List ℕ) (cost : ℕ) → slice_get problem.agents k ≡ Some other → slice_get (slice_set view.paths i path') k ≡ Some path → slice_get (slice_set view.costs i cost') k ≡ Some cost →
-        (k ≡ i) ⊎ (k ≢ i) → IsCheapestOf problem (live_child view i bar path' cost' es) k other path cost
+    by_agent : (k : ℕ) (other : Agent) (path : List ℕ) (cost : ℕ) → slice_get problem.agents k ≡ Some other → slice_get (slice_set view.paths constraint.agent path') k ≡ Some path → slice_get (slice_set view.costs constraint.agent cost') k ≡ Some cost →
+        (k ≡ constraint.agent) ⊎ (k ≢ constraint.agent) → IsCheapestOf problem (live_child view constraint path' cost' es) k other path cost
     by_agent k other path cost a p c (inl same) =
         let one = live.counted.paths in let two = live.counted.costs in let three = within in
-        let here : nat_eq k i ≡ true = eq-eqb k i same in
-        let this_path : path' ≡ path = same_Some path' path (sym (slice_get-set_same view.paths i path' (omega arith)) ∙ subst (λ n. slice_get (slice_set view.paths i path') n ≡ Some path) same p) in
-        let this_cost : cost' ≡ cost = same_Some cost' cost (sym (slice_get-set_same view.costs i cost' (omega arith)) ∙ subst (λ n. slice_get (slice_set view.costs i cost') n ≡ Some cost) same c) in
+        let here : nat_eq k constraint.agent ≡ true = eq-eqb k constraint.agent same in
+        let this_path : path' ≡ path = same_Some path' path (sym (slice_get-set_same view.paths constraint.agent path' (omega arith)) ∙ subst (λ n. slice_get (slice_set view.paths constraint.agent path') n ≡ Some path) same p) in
+        let this_cost : cost' ≡ cost = same_Some cost' cost (sym (slice_get-set_same view.costs constraint.agent cost' (omega arith)) ∙ subst (λ n. slice_get (slice_set view.costs constraint.agent cost') n ≡ Some cost) same c) in
         let this_agent : agent ≡ other = same_Some agent other (sym known ∙ subst (λ n. slice_get problem.agents n ≡ Some other) same a) in
-        let moved : IsCheapestPath problem.grid other (bar ∷ view.constraints.bars i) path cost es =
-        subst (λ x. IsCheapestPath problem.grid x (bar ∷ view.constraints.bars i) path cost es) this_agent
-        (subst (λ x. IsCheapestPath problem.grid agent (bar ∷ view.constraints.bars i) x cost es) this_path
-        (subst (λ x. IsCheapestPath problem.grid agent (bar ∷ view.constraints.bars i) path' x es) this_cost agent_path)) in
-        rw here (subst (λ n. IsCheapestPath problem.grid other (bar ∷ view.constraints.bars n) path cost es) (sym same) moved)
+        let moved : IsCheapestPath problem.grid other (constraint.bar ∷ view.constraints.bars constraint.agent) path cost es =
+        subst (λ x. IsCheapestPath problem.grid x (constraint.bar ∷ view.constraints.bars constraint.agent) path cost es) this_agent
+        (subst (λ x. IsCheapestPath problem.grid agent (constraint.bar ∷ view.constraints.bars constraint.agent) x cost es) this_path
+        (subst (λ x. IsCheapestPath problem.grid agent (constraint.bar ∷ view.constraints.bars constraint.agent) path' x es) this_cost agent_path)) in
+        rw here (subst (λ n. IsCheapestPath problem.grid other (constraint.bar ∷ view.constraints.bars n) path cost es) (sym same) moved)
     by_agent k other path cost a p c (inr differ) =
-        kept k other path cost differ a (sym (slice_get-set_other view.paths i k path' differ) ∙ p) (sym (slice_get-set_other view.costs i k cost' differ) ∙ c) (nat_eq k i) refl
+        kept k other path cost differ a (sym (slice_get-set_other view.paths constraint.agent k path' differ) ∙ p) (sym (slice_get-set_other view.costs constraint.agent k cost' differ) ∙ c) (nat_eq k constraint.agent) refl
 
-    pub live_child_live : IsLive problem (live_child view i bar path' cost' es)
+    pub live_child_live : IsLive problem (live_child view constraint path' cost' es)
     live_child_live = record {
-      counted = record { paths = length-slice_set view.paths i path' ∙ live.counted.paths; costs = length-slice_set view.costs i cost' ∙ live.counted.costs };
-      each = λ k other path cost a p c. by_agent k other path cost a p c (cases_eq k i);
+      counted = record { paths = length-slice_set view.paths constraint.agent path' ∙ live.counted.paths; costs = length-slice_set view.costs constraint.agent cost' ∙ live.counted.costs };
+      each = λ k other path cost a p c. by_agent k other path cost a p c (cases_eq k constraint.agent);
     }
 
     -- a child is no cheaper
-    pub live_child_sum : (cost : ℕ) → slice_get view.costs i ≡ Some cost → (sum (slice_set view.costs i cost') + cost ≡ sum view.costs + cost') × (cost ≤ cost')
+    pub live_child_sum : (cost : ℕ) → slice_get view.costs constraint.agent ≡ Some cost → (sum (slice_set view.costs constraint.agent cost') + cost ≡ sum view.costs + cost') × (cost ≤ cost')
     live_child_sum cost is =
-        let r = agent_path_of problem view live.counted i agent known in
-        let old = live.each i agent r.0 cost known r.2 is in
-        (sum-set view.costs i cost cost' is, old.least path' cost' agent_path.lawful (λ b in_it. agent_path.satisfies b (Contains-later bar b (view.constraints.bars i) in_it)) agent_path.is_cost)
+        let r = agent_path_of problem view live.counted constraint.agent agent known in
+        let old = live.each constraint.agent agent r.0 cost known r.2 is in
+        (sum-set view.costs constraint.agent cost cost' is, old.least path' cost' agent_path.lawful (λ b in_it. agent_path.satisfies b (Contains-later constraint.bar b (view.constraints.bars constraint.agent) in_it)) agent_path.is_cost)
 
 -- the bars of a child, one of which is new, are below a later bound
-pub AreBefore-with_bar : (bars : ℕ → List Bar) (i : ℕ) (bar : Bar) (horizon later : ℕ) → horizon ≤ later → bar_tick bar < later → ((k : ℕ) → AreBefore horizon (bars k)) → (k : ℕ) → AreBefore later (with_bar bars i bar k)
-AreBefore-with_bar bars i bar horizon later more this each k =
-    cond_both (nat_eq k i) (bar ∷ bars k) (bars k) (λ bs. AreBefore later bs)
+pub AreBefore-with_constraint : (bars : ℕ → List Bar) (constraint : Constraint) (horizon later : ℕ) → horizon ≤ later → bar_tick constraint.bar < later → ((k : ℕ) → AreBefore horizon (bars k)) → (k : ℕ) → AreBefore later (with_constraint bars constraint k)
+AreBefore-with_constraint bars constraint horizon later more this each k =
+    cond_both (nat_eq k constraint.agent) (constraint.bar ∷ bars k) (bars k) (λ bs. AreBefore later bs)
     (λ same b in_it. ⊎_elim
-    (λ (e : bar ≡ b). subst (λ x. bar_tick x < later) e this)
+    (λ (e : constraint.bar ≡ b). subst (λ x. bar_tick x < later) e this)
     (λ (rest : Contains (bars k) b). let low = each k b rest in omega arith)
-    (Contains-cons_cases bar b (bars k) in_it))
+    (Contains-cons_cases constraint.bar b (bars k) in_it))
     (λ other b in_it. let low = each k b in_it in omega arith)
+
+-- the bars of both constraints of a conflict are at its tick
+pub left_tick : (conflict : Conflict) → bar_tick (left_constraint conflict).bar ≡ tick_of conflict
+left_tick (Vertex i j cell tick) = refl
+left_tick (Swap i j from to tick) = refl
+
+pub right_tick : (conflict : Conflict) → bar_tick (right_constraint conflict).bar ≡ tick_of conflict
+right_tick (Vertex i j cell tick) = refl
+right_tick (Swap i j from to tick) = refl
+
+-- a constraint of an agent that has a path, with a bar that a table takes
+abbrev pub IsOfPaths : List (List ℕ) → Constraint → Type 0
+IsOfPaths paths constraint = (constraint.agent < length paths) × IsTableBar constraint.bar
+
+-- so are both constraints of a conflict
+pub of_paths : (paths : List (List ℕ)) (conflict : Conflict) → HasConflict paths conflict → tick_of conflict < 1000000 → IsOfPaths paths (left_constraint conflict) × IsOfPaths paths (right_constraint conflict)
+of_paths paths (Vertex i j cell tick) (differ, p, q, ip, jq, here, there) early = ((slice_get_within paths i p ip, (early, tt)), (slice_get_within paths j q jq, (early, tt)))
+of_paths paths (Swap i j from to tick) (differ, moved, p, q, ip, jq, here, there) early = ((slice_get_within paths i p ip, (early, moved)), (slice_get_within paths j q jq, (early, λ e. moved (sym e))))
 
 pub step_free : (grid : GridMap) (u v : ℕ) → Step grid u v → IsFree grid u
 step_free grid u v (inl wait) = wait.0
@@ -120,14 +143,9 @@ module _ (problem : Instance) (view : View) (live : IsLive problem view) where
   agent_of i path is =
       let one = live.counted.paths in
       let inside : i < length view.paths = slice_get_within view.paths i path is in
-      let agent : (agent : Agent) × (slice_get problem.agents i ≡ Some agent) = slice_inside problem.agents i (omega arith) in
+      let agent : (agent : Agent) × (slice_get problem.agents i ≡ Some agent) = slice_get_inside problem.agents i (omega arith) in
       let r = agent_path_of problem view live.counted i agent.0 agent.1 in
       (agent.0, r.1, agent.1, live.each i agent.0 path r.1 agent.1 is r.3)
-    where
-      slice_inside : {X : Type 0} (xs : List X) (i : ℕ) → i < length xs → (x : X) × (slice_get xs i ≡ Some x)
-      slice_inside [] i within = absurd (omega arith)
-      slice_inside (x ∷ xs) zero within = (x, refl)
-      slice_inside (x ∷ xs) (suc i) within = slice_inside xs i (omega arith)
 
   -- a conflict of the paths is proper
   pub conflict_proper : (conflict : Conflict) → HasConflict view.paths conflict → IsProperSplit problem conflict

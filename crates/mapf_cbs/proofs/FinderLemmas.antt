@@ -2,7 +2,7 @@
 use Rattle.std.proofs.Common.{◌≡◌, ◌≢◌, ℕ, ◌<◌, List, Option, None, Some, length, slice_get, refl, sym, ◌∙◌, subst, inl, ⊎_elim, arith}
 use Rattle.std.proofs.lemmas.Bool.{cases_eq}
 use Rattle.std.proofs.lemmas.Option.{slice_get_within, same_Some}
-use Rattle.mapf_model.specs.declared.bar.Bar.{Bar}
+use Rattle.mapf_model.specs.declared.constraint.Constraint.{Constraint}
 use Rattle.mapf_model.proofs.ClaimLemmas.{slice_get_inside}
 use Rattle.mapf_spacetime.specs.declared.found.Found.{Found}
 use Rattle.mapf_cbs.specs.declared.node.Node.{Node}
@@ -55,12 +55,12 @@ module _ (old new : List (Option ℕ)) (agent node : ℕ) (size : length new ≡
   noted_inside nodes in_it inside i finder is = inside_by nodes in_it inside i finder (was i finder is)
 
   module _ (nodes : List Node) (views : List View) (are : AreViews nodes views) (view here : View) (here_is : slice_get views node ≡ Some here)
-      (parent : ℕ) (bar : Bar) (found : Found) (at : slice_get nodes node ≡ Some (Child parent agent bar found)) (before : View) (before_is : slice_get views parent ≡ Some before)
+      (parent : ℕ) (constraint : Constraint) (bound : constraint.agent ≡ agent) (found : Found) (at : slice_get nodes node ≡ Some (Child parent constraint found)) (before : View) (before_is : slice_get views parent ≡ Some before)
     where
       go_up : (i : ℕ) (finder : Option ℕ) → i ≢ agent → IsFoundSoFar views view here i finder → IsFoundSoFar views view before i finder
       go_up i None other same = (
-        same.0 ∙ paths_up nodes views are node here here_is parent agent bar found at i (inl other) before before_is,
-        same.1 ∙ entries_up nodes views are node here here_is parent agent bar found at i other before before_is,
+        same.0 ∙ paths_up nodes views are node here here_is parent constraint found at i (inl (λ e. other (e ∙ bound))) before before_is,
+        same.1 ∙ entries_up nodes views are node here here_is parent constraint found at i (λ e. other (e ∙ bound)) before before_is,
       )
       go_up i (Some k) other same = same
 

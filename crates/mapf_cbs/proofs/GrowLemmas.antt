@@ -2,27 +2,26 @@
 use Rattle.std.proofs.Common.{◌≡◌, ◌≢◌, ◌⊎◌, ℕ, zero, suc, ◌+◌, ◌*◌, ◌<◌, ◌≤◌, List, [], ◌∷◌, ◌++◌, Some, length, sum, slice_get, refl, sym, ◌∙◌, ap, subst, inl, inr, ⊎_elim, arith}
 use Rattle.std.proofs.lemmas.Bool.{cases_eq, cases_lt}
 use Rattle.std.proofs.lemmas.Option.{slice_get_within, same_Some}
-use Rattle.mapf_model.specs.declared.bar.Bar.TheVariants.{Cell, Move}
+use Rattle.mapf_model.specs.declared.constraint.Constraint.{Constraint}
 use Rattle.mapf_model.specs.declared.conflict.Conflict.{Conflict}
-use Rattle.mapf_model.specs.declared.conflict.Conflict.TheVariants.{Vertex, Swap}
 use Rattle.mapf_model.specs.Plan.{Instance}
-use Rattle.mapf_model.specs.Tree.{NodeConstraints, root, left_child_constraints, right_child_constraints, ShareGoal}
+use Rattle.mapf_model.specs.Tree.{NodeConstraints, root, with_constraint, left_constraint, right_constraint, left_child_constraints, right_child_constraints, ShareGoal}
 use Rattle.mapf_model.specs.Earned.{tick_of}
 use Rattle.mapf_cbs.specs.declared.node.Fate.{Fate}
 use Rattle.mapf_cbs.specs.declared.node.Fate.TheVariants.{Open, Dead, Expanded}
 use Rattle.mapf_model.specs.Grid.{free_cell_count}
-use Rattle.mapf_constraints.specs.BarSets.{AreBefore}
+use Rattle.mapf_constraints.specs.BarSets.{tick_of as bar_tick, AreBefore}
 use Rattle.mapf_cbs.specs.FirstConflicts.{IsFirstConflict}
 use Rattle.mapf_cbs.specs.Search.{View, IsLive, IsDead, IsFate, IsExpandedAt, IsExpandedFate, IsEndFate, End, occurrences, IsSearched}
 use Rattle.mapf_cbs.proofs.SumLemmas.{slice_get-front, slice_get-here, slice_get-second, length-two_more}
-use Rattle.mapf_cbs.proofs.ChildLemmas.{AreBefore-with_bar, conflict_proper, conflict_early}
+use Rattle.mapf_cbs.proofs.ChildLemmas.{AreBefore-with_constraint, left_tick, right_tick, conflict_proper, conflict_early}
 use Rattle.mapf_cbs.proofs.ShapeLemmas.{IsGrown, IsOneTree-grown}
 
 -- what is so of a new child by its fate
 abbrev pub IsChildFate : Instance → View → View → Fate → Type 0
 IsChildFate problem view child Open = IsLive problem child × (sum view.costs ≤ sum child.costs)
 IsChildFate problem view child Dead = IsDead problem child
-IsChildFate problem view child (Expanded conflict left right) = ⊥
+IsChildFate problem view child (Expanded conflict left) = ⊥
 
 pub searched_first : (problem : Instance) (view : View) → view.constraints ≡ root → IsLive problem view → IsSearched problem (view ∷ []) (Open ∷ []) 0
 searched_first problem view at_root live = record {
@@ -34,8 +33,8 @@ searched_first problem view at_root live = record {
   low = low;
 }
   where
-    each : (k : ℕ) (v : View) (fate : Fate) → slice_get (view ∷ []) k ≡ Some v → slice_get (Open ∷ []) k ≡ Some fate → IsFate problem (view ∷ []) (Open ∷ []) k v fate
-    each zero v fate is open_is = subst (λ f. IsFate problem (view ∷ []) (Open ∷ []) 0 v f) (same_Some Open fate open_is) (subst (λ x. IsLive problem x) (same_Some view v is) live)
+    each : (k : ℕ) (v : View) (fate : Fate) → slice_get (view ∷ []) k ≡ Some v → slice_get (Open ∷ []) k ≡ Some fate → IsFate problem (view ∷ []) k v fate
+    each zero v fate is open_is = subst (λ f. IsFate problem (view ∷ []) 0 v f) (same_Some Open fate open_is) (subst (λ x. IsLive problem x) (same_Some view v is) live)
     each (suc k) v fate is open_is = absurd cc
 
     least : (k m : ℕ) (v other : View) (fate : Fate) → slice_get (view ∷ []) k ≡ Some v → slice_get (view ∷ []) m ≡ Some other → slice_get (Open ∷ []) k ≡ Some fate → IsExpandedFate fate → slice_get (Open ∷ []) m ≡ Some Open → sum v.costs ≤ sum other.costs
@@ -71,7 +70,7 @@ module _ (problem : Instance) (goals : (i j : ℕ) → ShareGoal problem i j →
     -- a place of the longer list
     data Place (k : ℕ) (v : View) (fate : Fate) : Type 0 where
       Old : k < length fates → k ≢ j → slice_get views k ≡ Some v → slice_get fates k ≡ Some fate → Place k v fate
-      This : k ≡ j → v ≡ view → fate ≡ Expanded conflict (length fates) (length fates + 1) → Place k v fate
+      This : k ≡ j → v ≡ view → fate ≡ Expanded conflict (length fates) → Place k v fate
       First : k ≡ length fates → v ≡ x → fate ≡ left → Place k v fate
       Second : k ≡ length fates + 1 → v ≡ y → fate ≡ right → Place k v fate
 
@@ -92,7 +91,7 @@ module _ (problem : Instance) (goals : (i j : ℕ) → ShareGoal problem i j →
         ⊎_elim
         (λ (this : k ≡ j). This this
         (same_Some v view (sym v_is ∙ subst (λ n. slice_get (views ++ x ∷ y ∷ []) n ≡ Some view) (sym this) (old_view j view is)))
-        (same_Some fate (Expanded conflict (length fates) (length fates + 1)) (sym fate_is ∙ subst (λ n. slice_get after n ≡ Some (Expanded conflict (length fates) (length fates + 1))) (sym this) grown.split)))
+        (same_Some fate (Expanded conflict (length fates)) (sym fate_is ∙ subst (λ n. slice_get after n ≡ Some (Expanded conflict (length fates))) (sym this) grown.split)))
         (λ (other : k ≢ j). ⊎_elim
         (λ (old : k < length fates). Old old other (sym (slice_get-front views (x ∷ y ∷ []) k (omega arith)) ∙ v_is) (sym (grown.others k old other) ∙ fate_is))
         (λ (new : length fates ≤ k). ⊎_elim
@@ -108,26 +107,25 @@ module _ (problem : Instance) (goals : (i j : ℕ) → ShareGoal problem i j →
         (cases_lt k (length fates)))
         (cases_eq k j)
 
-    lift_fate : (k : ℕ) (v : View) (fate : Fate) → IsFate problem views fates k v fate → IsFate problem (views ++ x ∷ y ∷ []) after k v fate
+    lift_fate : (k : ℕ) (v : View) (fate : Fate) → IsFate problem views k v fate → IsFate problem (views ++ x ∷ y ∷ []) k v fate
     lift_fate k v Open h = h
     lift_fate k v Dead h = h
-    lift_fate k v (Expanded c a b) h = record {
+    lift_fate k v (Expanded c a) h = record {
       live = h.live;
       proper = h.proper;
       early = h.early;
       on_first = h.on_first;
       to_left = (h.to_left.0, old_view a h.to_left.0 h.to_left.1, h.to_left.2);
-      to_right = (h.to_right.0, old_view b h.to_right.0 h.to_right.1, h.to_right.2);
-      left_later = h.left_later;
-      right_later = h.right_later;
+      to_right = (h.to_right.0, old_view (a + 1) h.to_right.0 h.to_right.1, h.to_right.2);
+      later = h.later;
     }
 
-    child_fate : (k : ℕ) (child : View) (fate : Fate) → IsChildFate problem view child fate → IsFate problem (views ++ x ∷ y ∷ []) after k child fate
+    child_fate : (k : ℕ) (child : View) (fate : Fate) → IsChildFate problem view child fate → IsFate problem (views ++ x ∷ y ∷ []) k child fate
     child_fate k child Open h = h.0
     child_fate k child Dead h = h
-    child_fate k child (Expanded c a b) h = absurd h
+    child_fate k child (Expanded c a) h = absurd h
 
-    this_expanded : IsExpandedAt problem (views ++ x ∷ y ∷ []) after j view conflict (length fates) (length fates + 1)
+    this_expanded : IsExpandedAt problem (views ++ x ∷ y ∷ []) j view conflict (length fates)
     this_expanded =
         let inside : j < length fates = slice_get_within fates j Open was_open in
         record {
@@ -137,25 +135,24 @@ module _ (problem : Instance) (goals : (i j : ℕ) → ShareGoal problem i j →
           on_first = on_first;
           to_left = (x, x_at, x_constraints);
           to_right = (y, y_at, y_constraints);
-          left_later = inside;
-          right_later = omega arith;
+          later = inside;
         }
 
-    each_at : (k : ℕ) (v : View) (fate : Fate) → Place k v fate → IsFate problem (views ++ x ∷ y ∷ []) after k v fate
+    each_at : (k : ℕ) (v : View) (fate : Fate) → Place k v fate → IsFate problem (views ++ x ∷ y ∷ []) k v fate
     each_at k v fate (Old old other v_is fate_is) = lift_fate k v fate (searched.each k v fate v_is fate_is)
     each_at k v fate (This this v_is fate_is) =
-        subst (λ f. IsFate problem (views ++ x ∷ y ∷ []) after k v f) (sym fate_is)
-        (subst (λ w. IsExpandedAt problem (views ++ x ∷ y ∷ []) after k w conflict (length fates) (length fates + 1)) (sym v_is)
-        (subst (λ n. IsExpandedAt problem (views ++ x ∷ y ∷ []) after n view conflict (length fates) (length fates + 1)) (sym this) this_expanded))
+        subst (λ f. IsFate problem (views ++ x ∷ y ∷ []) k v f) (sym fate_is)
+        (subst (λ w. IsExpandedAt problem (views ++ x ∷ y ∷ []) k w conflict (length fates)) (sym v_is)
+        (subst (λ n. IsExpandedAt problem (views ++ x ∷ y ∷ []) n view conflict (length fates)) (sym this) this_expanded))
     each_at k v fate (First first v_is fate_is) =
-        subst (λ f. IsFate problem (views ++ x ∷ y ∷ []) after k v f) (sym fate_is) (child_fate k v left (subst (λ w. IsChildFate problem view w left) (sym v_is) x_is))
+        subst (λ f. IsFate problem (views ++ x ∷ y ∷ []) k v f) (sym fate_is) (child_fate k v left (subst (λ w. IsChildFate problem view w left) (sym v_is) x_is))
     each_at k v fate (Second second v_is fate_is) =
-        subst (λ f. IsFate problem (views ++ x ∷ y ∷ []) after k v f) (sym fate_is) (child_fate k v right (subst (λ w. IsChildFate problem view w right) (sym v_is) y_is))
+        subst (λ f. IsFate problem (views ++ x ∷ y ∷ []) k v f) (sym fate_is) (child_fate k v right (subst (λ w. IsChildFate problem view w right) (sym v_is) y_is))
 
     child_least : (child : View) (fate : Fate) → IsChildFate problem view child fate → fate ≡ Open → sum view.costs ≤ sum child.costs
     child_least child Open h is_open = h.1
     child_least child Dead h is_open = absurd cc
-    child_least child (Expanded c a b) h is_open = absurd h
+    child_least child (Expanded c a) h is_open = absurd h
 
     -- an open node is an old one, or no cheaper than the node that was split
     open_at : (m : ℕ) (v : View) → Place m v Open → ((slice_get views m ≡ Some v) × (slice_get fates m ≡ Some Open)) ⊎ (sum view.costs ≤ sum v.costs)
@@ -167,7 +164,7 @@ module _ (problem : Instance) (goals : (i j : ℕ) → ShareGoal problem i j →
     child_not_expanded : (child : View) (fate : Fate) → IsChildFate problem view child fate → IsExpandedFate fate → ⊥
     child_not_expanded child Open h expanded = expanded
     child_not_expanded child Dead h expanded = expanded
-    child_not_expanded child (Expanded c a b) h expanded = h
+    child_not_expanded child (Expanded c a) h expanded = h
 
     least_at : (k m : ℕ) (v other : View) (fate : Fate) → Place k v fate → Place m other Open → IsExpandedFate fate → sum v.costs ≤ sum other.costs
     least_at k m v other fate (Old old differ v_is fate_is) at expanded = ⊎_elim
@@ -184,31 +181,25 @@ module _ (problem : Instance) (goals : (i j : ℕ) → ShareGoal problem i j →
     early : tick_of conflict < count * free_cell_count problem.grid + free_cell_count problem.grid
     early = conflict_early problem view (searched.each j view Open is was_open) goals (count * free_cell_count problem.grid) (λ i. searched.low j view i is) conflict on_first.has
 
-    low_left : (c : Conflict) → tick_of c < (count + 1) * free_cell_count problem.grid → (i : ℕ) → AreBefore ((count + 1) * free_cell_count problem.grid) ((left_child_constraints view.constraints c).bars i)
-    low_left (Vertex a b cell tick) before = AreBefore-with_bar view.constraints.bars a (Cell cell tick) (count * free_cell_count problem.grid) ((count + 1) * free_cell_count problem.grid) (omega arith) before (λ i. searched.low j view i is)
-    low_left (Swap a b from to tick) before = AreBefore-with_bar view.constraints.bars a (Move from to tick) (count * free_cell_count problem.grid) ((count + 1) * free_cell_count problem.grid) (omega arith) before (λ i. searched.low j view i is)
-
-    low_right : (c : Conflict) → tick_of c < (count + 1) * free_cell_count problem.grid → (i : ℕ) → AreBefore ((count + 1) * free_cell_count problem.grid) ((right_child_constraints view.constraints c).bars i)
-    low_right (Vertex a b cell tick) before = AreBefore-with_bar view.constraints.bars b (Cell cell tick) (count * free_cell_count problem.grid) ((count + 1) * free_cell_count problem.grid) (omega arith) before (λ i. searched.low j view i is)
-    low_right (Swap a b from to tick) before = AreBefore-with_bar view.constraints.bars b (Move to from tick) (count * free_cell_count problem.grid) ((count + 1) * free_cell_count problem.grid) (omega arith) before (λ i. searched.low j view i is)
+    low_with : (constraint : Constraint) → bar_tick constraint.bar ≡ tick_of conflict → (i : ℕ) → AreBefore ((count + 1) * free_cell_count problem.grid) (with_constraint view.constraints.bars constraint i)
+    low_with constraint at_tick = AreBefore-with_constraint view.constraints.bars constraint (count * free_cell_count problem.grid) ((count + 1) * free_cell_count problem.grid) (omega arith) (let e = early in omega (arith, e, at_tick)) (λ i. searched.low j view i is)
 
     low_at : (k : ℕ) (v : View) → slice_get (views ++ x ∷ y ∷ []) k ≡ Some v → (i : ℕ) → AreBefore ((count + 1) * free_cell_count problem.grid) (v.constraints.bars i)
     low_at k v v_is i =
         let size = searched.lengths in
         let two = length-two_more views x y in
         let within : k < length (views ++ x ∷ y ∷ []) = slice_get_within (views ++ x ∷ y ∷ []) k v v_is in
-        let before : tick_of conflict < (count + 1) * free_cell_count problem.grid = (let e = early in omega arith) in
         ⊎_elim
         (λ (old : k < length fates).
         λ bar in_it. let b = searched.low k v i (sym (slice_get-front views (x ∷ y ∷ []) k (omega arith)) ∙ v_is) bar in_it in omega arith)
         (λ (new : length fates ≤ k). ⊎_elim
         (λ (first : k ≡ length fates).
         let e : x ≡ v = same_Some x v (sym x_at ∙ subst (λ n. slice_get (views ++ x ∷ y ∷ []) n ≡ Some v) first v_is) in
-        subst (λ (w : View). AreBefore ((count + 1) * free_cell_count problem.grid) (w.constraints.bars i)) e (subst (λ (w : NodeConstraints). AreBefore ((count + 1) * free_cell_count problem.grid) (w.bars i)) (sym x_constraints) (low_left conflict before i)))
+        subst (λ (w : View). AreBefore ((count + 1) * free_cell_count problem.grid) (w.constraints.bars i)) e (subst (λ (w : NodeConstraints). AreBefore ((count + 1) * free_cell_count problem.grid) (w.bars i)) (sym x_constraints) (low_with (left_constraint conflict) (left_tick conflict) i)))
         (λ (not_first : k ≢ length fates).
         let second : k ≡ length fates + 1 = omega arith in
         let e : y ≡ v = same_Some y v (sym y_at ∙ subst (λ n. slice_get (views ++ x ∷ y ∷ []) n ≡ Some v) second v_is) in
-        subst (λ (w : View). AreBefore ((count + 1) * free_cell_count problem.grid) (w.constraints.bars i)) e (subst (λ (w : NodeConstraints). AreBefore ((count + 1) * free_cell_count problem.grid) (w.bars i)) (sym y_constraints) (low_right conflict before i)))
+        subst (λ (w : View). AreBefore ((count + 1) * free_cell_count problem.grid) (w.constraints.bars i)) e (subst (λ (w : NodeConstraints). AreBefore ((count + 1) * free_cell_count problem.grid) (w.bars i)) (sym y_constraints) (low_with (right_constraint conflict) (right_tick conflict) i)))
         (cases_eq k (length fates)))
         (cases_lt k (length fates))
 

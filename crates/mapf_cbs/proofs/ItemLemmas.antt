@@ -20,16 +20,16 @@ reverse_push xs x = reverse-append xs (x ∷ [])
 
 module _ (agents : ℕ) (views : List View) (fates : List Fate) where
   module _ (items : List Item) (k : ℕ) (owed : List ℕ) (before : Leads agents views fates items (k ∷ owed)) (item : Item) where
-    after_split : (conflict : Conflict) (a b : ℕ) → slice_get fates k ≡ Some (Expanded conflict a b) → node_of item ≡ SplitNode conflict →
-        (trees : List ConstraintTree) → AllZip (IsTreeAt agents views fates) (a ∷ b ∷ owed) trees → (tree : ConstraintTree) × (map node_of (items ++ item ∷ []) ++ nodes_of_all trees ≡ nodes_of tree) × IsTreeAt agents views fates 0 tree
-    after_split conflict a b is e [] zip = absurd zip
-    after_split conflict a b is e (left ∷ []) zip = absurd zip.1
-    after_split conflict a b is e (left ∷ right ∷ trees) zip =
-        let whole = before.leads (Split conflict left right ∷ trees) ((a, b, is, zip.0, zip.1.0), zip.1.1) in
+    after_split : (conflict : Conflict) (a : ℕ) → slice_get fates k ≡ Some (Expanded conflict a) → node_of item ≡ SplitNode conflict →
+        (trees : List ConstraintTree) → AllZip (IsTreeAt agents views fates) (a ∷ (a + 1) ∷ owed) trees → (tree : ConstraintTree) × (map node_of (items ++ item ∷ []) ++ nodes_of_all trees ≡ nodes_of tree) × IsTreeAt agents views fates 0 tree
+    after_split conflict a is e [] zip = absurd zip
+    after_split conflict a is e (left ∷ []) zip = absurd zip.1
+    after_split conflict a is e (left ∷ right ∷ trees) zip =
+        let whole = before.leads (Split conflict left right ∷ trees) ((a, is, zip.0, zip.1.0), zip.1.1) in
         (whole.0, (let f = map_push node_of items item in rw f (rw e (simp append_assoc (simp append_assoc at whole.1)))), whole.2)
 
-    pub leads_split : (conflict : Conflict) (a b : ℕ) → slice_get fates k ≡ Some (Expanded conflict a b) → node_of item ≡ SplitNode conflict → Leads agents views fates (items ++ item ∷ []) (a ∷ b ∷ owed)
-    leads_split conflict a b is e = record { leads = after_split conflict a b is e }
+    pub leads_split : (conflict : Conflict) (a : ℕ) → slice_get fates k ≡ Some (Expanded conflict a) → node_of item ≡ SplitNode conflict → Leads agents views fates (items ++ item ∷ []) (a ∷ (a + 1) ∷ owed)
+    leads_split conflict a is e = record { leads = after_split conflict a is e }
 
     pub leads_leaf : (blocks : List LabelBlock) → IsTreeAt agents views fates k (Leaf blocks) → node_of item ≡ LeafNode blocks → Leads agents views fates (items ++ item ∷ []) owed
     leads_leaf blocks is e = record {
@@ -89,7 +89,7 @@ pub no_items : {X : Type 0} (xs : List X) → length xs ≡ 0 → xs ≡ []
 no_items [] e = refl
 no_items (x ∷ xs) e = absurd (omega arith)
 
-pub end_of : (fate : Fate) → ((conflict : Conflict) (a b : ℕ) → fate ≡ Expanded conflict a b → ⊥) → IsEndFate fate
+pub end_of : (fate : Fate) → ((conflict : Conflict) (a : ℕ) → fate ≡ Expanded conflict a → ⊥) → IsEndFate fate
 end_of Open not_expanded = tt
 end_of Dead not_expanded = tt
-end_of (Expanded conflict a b) not_expanded = not_expanded conflict a b refl
+end_of (Expanded conflict a) not_expanded = not_expanded conflict a refl

@@ -1,13 +1,14 @@
 -- What a node means follows from what its parent means.
 use Rattle.std.proofs.Common.{◌≡◌, ◌≢◌, ◌⊎◌, ℕ, ◌<◌, List, Some, length, slice_get, refl, sym, ◌∙◌, ap, subst, inl, inr, ⊎_elim, arith, Vec, ◌∷◌, cond, nat_eq, true, eq-eqb, Contains, []}
 use Rattle.std.proofs.lemmas.Bool.{cond_both, eqb-true}
-use Rattle.mapf_model.specs.Tree.{NodeConstraints, with_bar}
+use Rattle.mapf_model.specs.Tree.{NodeConstraints, with_constraint}
 use Rattle.mapf_model.specs.Laws.{AreSameBars}
 use Rattle.mapf_model.proofs.SplitLemmas.{Contains-cons_cases}
-use Rattle.mapf_cbs.proofs.ChildLemmas.{Contains-later}
+use Rattle.mapf_cbs.proofs.ChildLemmas.{Contains-later, Contains-none}
 use Rattle.std.proofs.lemmas.Option.{slice_get_within, same_Some}
 use Rattle.std.specs.declared.alloc.Global.{Global}
 use Rattle.mapf_model.specs.declared.bar.Bar.{Bar}
+use Rattle.mapf_model.specs.declared.constraint.Constraint.{Constraint}
 use Rattle.mapf_model.specs.declared.label.Entry.{Entry}
 use Rattle.mapf_model.proofs.ClaimLemmas.{slice_get_inside}
 use Rattle.mapf_spacetime.specs.declared.found.Found.{Found}
@@ -19,10 +20,10 @@ use Rattle.mapf_cbs.specs.Nodes.{AreViews, IsChildView, AreJoined}
 use Rattle.mapf_cbs.proofs.SumLemmas.{slice_get-set_same, slice_get-set_other}
 
 -- a path that this node didn't find is the parent's
-pub paths_kept : (before : View) (agent bound : ℕ) (bar : Bar) (found : Found) (view : View) → (agent ≢ bound) ⊎ ((labels : List Entry) × (found ≡ Dead labels)) → IsChildView before bound bar found view → slice_get view.paths agent ≡ slice_get before.paths agent
-paths_kept before agent bound bar (Arrives path labels) view (inl other) (cost, e) = ap (λ (v : View). slice_get v.paths agent) e ∙ slice_get-set_other before.paths bound agent path other
-paths_kept before agent bound bar (Arrives path labels) view (inr (ls, dead)) is = absurd cc
-paths_kept before agent bound bar (Dead labels) view why e = ap (λ (v : View). slice_get v.paths agent) e
+pub paths_kept : (before : View) (agent : ℕ) (constraint : Constraint) (found : Found) (view : View) → (agent ≢ constraint.agent) ⊎ ((labels : List Entry) × (found ≡ Dead labels)) → IsChildView before constraint found view → slice_get view.paths agent ≡ slice_get before.paths agent
+paths_kept before agent constraint (Arrives path labels) view (inl other) (cost, e) = ap (λ (v : View). slice_get v.paths agent) e ∙ slice_get-set_other before.paths constraint.agent agent path other
+paths_kept before agent constraint (Arrives path labels) view (inr (ls, dead)) is = absurd cc
+paths_kept before agent constraint (Dead labels) view why e = ap (λ (v : View). slice_get v.paths agent) e
 
 cond_not : {X : Type 0} (k i : ℕ) (x y : X) → k ≢ i → cond (nat_eq k i) x y ≡ y
 cond_not k i x y other = cond_both (nat_eq k i) x y (λ z. z ≡ y) (λ same. absurd (other (eqb-true k i same))) (λ differ. refl)
@@ -34,24 +35,24 @@ abbrev pub found_labels : Found → List Entry
 found_labels (Arrives path labels) = labels
 found_labels (Dead labels) = labels
 
-pub entries_kept : (before : View) (agent bound : ℕ) (bar : Bar) (found : Found) (view : View) → agent ≢ bound → IsChildView before bound bar found view → view.entries agent ≡ before.entries agent
-entries_kept before agent bound bar (Arrives path labels) view other (cost, e) = ap (λ (v : View). v.entries agent) e ∙ cond_not agent bound labels (before.entries agent) other
-entries_kept before agent bound bar (Dead labels) view other e = ap (λ (v : View). v.entries agent) e ∙ cond_not agent bound labels (before.entries agent) other
+pub entries_kept : (before : View) (agent : ℕ) (constraint : Constraint) (found : Found) (view : View) → agent ≢ constraint.agent → IsChildView before constraint found view → view.entries agent ≡ before.entries agent
+entries_kept before agent constraint (Arrives path labels) view other (cost, e) = ap (λ (v : View). v.entries agent) e ∙ cond_not agent constraint.agent labels (before.entries agent) other
+entries_kept before agent constraint (Dead labels) view other e = ap (λ (v : View). v.entries agent) e ∙ cond_not agent constraint.agent labels (before.entries agent) other
 
-pub entries_new : (before : View) (bound : ℕ) (bar : Bar) (found : Found) (view : View) → IsChildView before bound bar found view → view.entries bound ≡ found_labels found
-entries_new before bound bar (Arrives path labels) view (cost, e) = ap (λ (v : View). v.entries bound) e ∙ cond_same bound labels (before.entries bound)
-entries_new before bound bar (Dead labels) view e = ap (λ (v : View). v.entries bound) e ∙ cond_same bound labels (before.entries bound)
+pub entries_new : (before : View) (constraint : Constraint) (found : Found) (view : View) → IsChildView before constraint found view → view.entries constraint.agent ≡ found_labels found
+entries_new before constraint (Arrives path labels) view (cost, e) = ap (λ (v : View). v.entries constraint.agent) e ∙ cond_same constraint.agent labels (before.entries constraint.agent)
+entries_new before constraint (Dead labels) view e = ap (λ (v : View). v.entries constraint.agent) e ∙ cond_same constraint.agent labels (before.entries constraint.agent)
 
-constraints_are : (before : View) (bound : ℕ) (bar : Bar) (found : Found) (view : View) → IsChildView before bound bar found view → view.constraints.bars ≡ with_bar before.constraints.bars bound bar
-constraints_are before bound bar (Arrives path labels) view (cost, e) = ap (λ (v : View). v.constraints.bars) e
-constraints_are before bound bar (Dead labels) view e = ap (λ (v : View). v.constraints.bars) e
+constraints_are : (before : View) (constraint : Constraint) (found : Found) (view : View) → IsChildView before constraint found view → view.constraints.bars ≡ with_constraint before.constraints.bars constraint
+constraints_are before constraint (Arrives path labels) view (cost, e) = ap (λ (v : View). v.constraints.bars) e
+constraints_are before constraint (Dead labels) view e = ap (λ (v : View). v.constraints.bars) e
 
--- the bars at a node are the parent's, with one more for the agent that is bound
-pub bars_other : (before : View) (agent bound : ℕ) (bar : Bar) (found : Found) (view : View) → agent ≢ bound → IsChildView before bound bar found view → view.constraints.bars agent ≡ before.constraints.bars agent
-bars_other before agent bound bar found view other is = ap (λ (bars : ℕ → List Bar). bars agent) (constraints_are before bound bar found view is) ∙ cond_not agent bound (bar ∷ before.constraints.bars agent) (before.constraints.bars agent) other
+-- the bars at a node are the parent's, with one more for the agent that is constraint.agent
+pub bars_other : (before : View) (agent : ℕ) (constraint : Constraint) (found : Found) (view : View) → agent ≢ constraint.agent → IsChildView before constraint found view → view.constraints.bars agent ≡ before.constraints.bars agent
+bars_other before agent constraint found view other is = ap (λ (bars : ℕ → List Bar). bars agent) (constraints_are before constraint found view is) ∙ cond_not agent constraint.agent (constraint.bar ∷ before.constraints.bars agent) (before.constraints.bars agent) other
 
-pub bars_bound : (before : View) (bound : ℕ) (bar : Bar) (found : Found) (view : View) → IsChildView before bound bar found view → view.constraints.bars bound ≡ bar ∷ before.constraints.bars bound
-bars_bound before bound bar found view is = ap (λ (bars : ℕ → List Bar). bars bound) (constraints_are before bound bar found view is) ∙ cond_same bound (bar ∷ before.constraints.bars bound) (before.constraints.bars bound)
+pub bars_bound : (before : View) (constraint : Constraint) (found : Found) (view : View) → IsChildView before constraint found view → view.constraints.bars constraint.agent ≡ constraint.bar ∷ before.constraints.bars constraint.agent
+bars_bound before constraint found view is = ap (λ (bars : ℕ → List Bar). bars constraint.agent) (constraints_are before constraint found view is) ∙ cond_same constraint.agent (constraint.bar ∷ before.constraints.bars constraint.agent) (before.constraints.bars constraint.agent)
 
 module _ (nodes : List Node) (views : List View) (are : AreViews nodes views) (k : ℕ) (view : View) (is : slice_get views k ≡ Some view) where
   pub view_in : k < length nodes
@@ -60,33 +61,33 @@ module _ (nodes : List Node) (views : List View) (are : AreViews nodes views) (k
   pub root_path : (paths : Vec (List ℕ) Global) (agent : ℕ) → slice_get nodes k ≡ Some (Root paths) → slice_get view.paths agent ≡ slice_get paths.items agent
   root_path paths agent at = ap (λ ps. slice_get ps agent) (are.each k (Root paths) view at is).same_paths
 
-  module _ (parent bound : ℕ) (bar : Bar) (found : Found) (at : slice_get nodes k ≡ Some (Child parent bound bar found)) where
-    pub paths_up : (agent : ℕ) → (agent ≢ bound) ⊎ ((labels : List Entry) × (found ≡ Dead labels)) → (before : View) → slice_get views parent ≡ Some before → slice_get view.paths agent ≡ slice_get before.paths agent
+  module _ (parent : ℕ) (constraint : Constraint) (found : Found) (at : slice_get nodes k ≡ Some (Child parent constraint found)) where
+    pub paths_up : (agent : ℕ) → (agent ≢ constraint.agent) ⊎ ((labels : List Entry) × (found ≡ Dead labels)) → (before : View) → slice_get views parent ≡ Some before → slice_get view.paths agent ≡ slice_get before.paths agent
     paths_up agent why before before_is =
-        let h = are.each k (Child parent bound bar found) view at is in
+        let h = are.each k (Child parent constraint found) view at is in
         let same : h.1 ≡ before = same_Some h.1 before (sym h.2 ∙ before_is) in
-        subst (λ (v : View). slice_get view.paths agent ≡ slice_get v.paths agent) same (paths_kept h.1 agent bound bar found view why h.4)
+        subst (λ (v : View). slice_get view.paths agent ≡ slice_get v.paths agent) same (paths_kept h.1 agent constraint found view why h.4)
 
-    pub entries_up : (agent : ℕ) → agent ≢ bound → (before : View) → slice_get views parent ≡ Some before → view.entries agent ≡ before.entries agent
+    pub entries_up : (agent : ℕ) → agent ≢ constraint.agent → (before : View) → slice_get views parent ≡ Some before → view.entries agent ≡ before.entries agent
     entries_up agent other before before_is =
-        let h = are.each k (Child parent bound bar found) view at is in
+        let h = are.each k (Child parent constraint found) view at is in
         let same : h.1 ≡ before = same_Some h.1 before (sym h.2 ∙ before_is) in
-        subst (λ (v : View). view.entries agent ≡ v.entries agent) same (entries_kept h.1 agent bound bar found view other h.4)
+        subst (λ (v : View). view.entries agent ≡ v.entries agent) same (entries_kept h.1 agent constraint found view other h.4)
 
-    pub found_entries : view.entries bound ≡ found_labels found
-    found_entries = let h = are.each k (Child parent bound bar found) view at is in entries_new h.1 bound bar found view h.4
+    pub found_entries : view.entries constraint.agent ≡ found_labels found
+    found_entries = let h = are.each k (Child parent constraint found) view at is in entries_new h.1 constraint found view h.4
 
-    pub bars_up : (agent : ℕ) → agent ≢ bound → (before : View) → slice_get views parent ≡ Some before → view.constraints.bars agent ≡ before.constraints.bars agent
+    pub bars_up : (agent : ℕ) → agent ≢ constraint.agent → (before : View) → slice_get views parent ≡ Some before → view.constraints.bars agent ≡ before.constraints.bars agent
     bars_up agent other before before_is =
-        let h = are.each k (Child parent bound bar found) view at is in
+        let h = are.each k (Child parent constraint found) view at is in
         let same : h.1 ≡ before = same_Some h.1 before (sym h.2 ∙ before_is) in
-        subst (λ (v : View). view.constraints.bars agent ≡ v.constraints.bars agent) same (bars_other h.1 agent bound bar found view other h.4)
+        subst (λ (v : View). view.constraints.bars agent ≡ v.constraints.bars agent) same (bars_other h.1 agent constraint found view other h.4)
 
-    pub bars_more : (before : View) → slice_get views parent ≡ Some before → view.constraints.bars bound ≡ bar ∷ before.constraints.bars bound
+    pub bars_more : (before : View) → slice_get views parent ≡ Some before → view.constraints.bars constraint.agent ≡ constraint.bar ∷ before.constraints.bars constraint.agent
     bars_more before before_is =
-        let h = are.each k (Child parent bound bar found) view at is in
+        let h = are.each k (Child parent constraint found) view at is in
         let same : h.1 ≡ before = same_Some h.1 before (sym h.2 ∙ before_is) in
-        subst (λ (v : View). view.constraints.bars bound ≡ bar ∷ v.constraints.bars bound) same (bars_bound h.1 bound bar found view h.4)
+        subst (λ (v : View). view.constraints.bars constraint.agent ≡ constraint.bar ∷ v.constraints.bars constraint.agent) same (bars_bound h.1 constraint found view h.4)
 
   pub root_bars : (paths : Vec (List ℕ) Global) (agent : ℕ) → slice_get nodes k ≡ Some (Root paths) → view.constraints.bars agent ≡ []
   root_bars paths agent at = ap (λ (w : NodeConstraints). w.bars agent) (are.each k (Root paths) view at is).constraints
@@ -94,21 +95,18 @@ module _ (nodes : List Node) (views : List View) (are : AreViews nodes views) (k
   pub root_entries : (paths : Vec (List ℕ) Global) (agent : ℕ) → slice_get nodes k ≡ Some (Root paths) → view.entries agent ≡ []
   root_entries paths agent at = (are.each k (Root paths) view at is).entries agent
 
-  pub found_path : (parent bound : ℕ) (bar : Bar) (path : List ℕ) (labels : List Entry) → slice_get nodes k ≡ Some (Child parent bound bar (Arrives path labels)) → slice_get view.paths bound ≡ Some path
-  found_path parent bound bar path labels at =
-      let h = are.each k (Child parent bound bar (Arrives path labels)) view at is in
-      ap (λ (v : View). slice_get v.paths bound) h.4.1 ∙ slice_get-set_same h.1.paths bound path h.3
+  pub found_path : (parent : ℕ) (constraint : Constraint) (path : List ℕ) (labels : List Entry) → slice_get nodes k ≡ Some (Child parent constraint (Arrives path labels)) → slice_get view.paths constraint.agent ≡ Some path
+  found_path parent constraint path labels at =
+      let h = are.each k (Child parent constraint (Arrives path labels)) view at is in
+      ap (λ (v : View). slice_get v.paths constraint.agent) h.4.1 ∙ slice_get-set_same h.1.paths constraint.agent path h.3
 
 pub view_at : (nodes : List Node) (views : List View) → AreViews nodes views → (k : ℕ) → k < length nodes → (view : View) × (slice_get views k ≡ Some view)
 view_at nodes views are k within = let e = are.lengths in slice_get_inside views k (omega arith)
 
-none_within : {X : Type 0} (x : X) → Contains [] x → ⊥
-none_within x (k, within, is) = omega arith
-
 pub joined_first : (all : List Bar) (front : List Bar) → front ≡ [] → AreJoined all front all
 joined_first all front e = record {
   apart = λ bar in_all. inr in_all;
-  from_front = λ bar in_front. absurd (none_within bar (subst (λ bs. Contains bs bar) e in_front));
+  from_front = λ bar in_front. absurd (Contains-none bar (subst (λ bs. Contains bs bar) e in_front));
   from_rest = λ bar in_rest. in_rest;
 }
 
@@ -133,6 +131,6 @@ joined_more all front rest more bar joined same = record {
 
 pub joined_done : (all front rest : List Bar) → rest ≡ [] → AreJoined all front rest → AreSameBars all front
 joined_done all front rest e joined bar = (
-  λ in_all. ⊎_elim (λ (h : Contains front bar). h) (λ (h : Contains rest bar). absurd (none_within bar (subst (λ bs. Contains bs bar) e h))) (joined.apart bar in_all),
+  λ in_all. ⊎_elim (λ (h : Contains front bar). h) (λ (h : Contains rest bar). absurd (Contains-none bar (subst (λ bs. Contains bs bar) e h))) (joined.apart bar in_all),
   λ in_front. joined.from_front bar in_front,
 )

@@ -1,5 +1,5 @@
 -- The state of a search whose nodes hold all that is found at them.
-use Rattle.std.proofs.Common.{◌≡◌, ◌≢◌, ℕ, ◌+◌, ◌*◌, ◌^◌, ◌<◌, ◌≤◌, List, [], ◌∷◌, ◌++◌, Option, Some, Contains, length, length-append, sum, slice_get, slice_set, refl, sym, ◌∙◌, ap, subst, ⊎_elim, arith, cond, nat_eq, zero, suc, Vec}
+use Rattle.std.proofs.Common.{◌≡◌, ◌≢◌, ℕ, ◌+◌, ◌*◌, ◌^◌, ◌<◌, ◌≤◌, List, [], ◌∷◌, ◌++◌, Option, Some, Contains, length, length-append, sum, slice_get, refl, sym, ◌∙◌, ap, subst, ⊎_elim, arith, cond, nat_eq, zero, suc, Vec}
 use Rattle.std.specs.declared.cmp.Ordering.TheVariants.{Less}
 use Rattle.std.proofs.lemmas.Bool.{cases_eq, cases_lt, cond_both, eqb-true, eqb-false}
 use Rattle.std.proofs.lemmas.Option.{slice_get_within, same_Some}
@@ -7,28 +7,28 @@ use Rattle.mapf_model.specs.declared.conflict.Conflict.{Conflict}
 use Rattle.mapf_model.specs.declared.item.Item.{Item}
 use Rattle.mapf_model.specs.Grid.{IsGridMap}
 use Rattle.mapf_model.specs.Plan.{Instance}
-use Rattle.mapf_model.specs.Tree.{ConstraintTree, Spell, ShareGoal}
+use Rattle.mapf_model.specs.Tree.{ConstraintTree, Spell, ShareGoal, left_constraint, right_constraint}
 use Rattle.mapf_model.specs.Earned.{tick_of}
 use Rattle.mapf_model.proofs.ClaimLemmas.{slice_get_inside}
 use Rattle.mapf_model.proofs.SplitLemmas.{Contains-cons_cases}
 use Rattle.mapf_model.proofs.SumLemmas.{snoc_get}
 use Rattle.mapf_cbs.specs.declared.node.Fate.{Fate}
-use Rattle.mapf_cbs.specs.declared.node.Fate.TheVariants.{Open, Expanded}
-use Rattle.mapf_cbs.specs.declared.node.Node.TheVariants.{Root, Child}
+use Rattle.mapf_cbs.specs.declared.node.Fate.TheVariants.{Open}
+use Rattle.mapf_cbs.specs.declared.node.Node.TheVariants.{Root}
 use Rattle.mapf_cbs.specs.declared.whole_node.WholeNode.{WholeNode}
 use Rattle.std.specs.declared.alloc.Global.{Global}
 use Rattle.mapf_cbs.specs.FirstConflicts.{IsFirstConflict}
 use Rattle.mapf_cbs.specs.Goals.{NamesFirstDefect}
 use Rattle.mapf_cbs.specs.Nodes.{IsRootView}
 use Rattle.mapf_cbs.specs.Answer.{IsTreeOf, IsShownImpossible}
-use Rattle.mapf_cbs.specs.Search.{View, IsLive, IsTreeAt, left_agent, right_agent, left_bar, right_bar}
-use Rattle.mapf_cbs.specs.State.{IsOpenSet, key_cmp, fate_of, with_key}
+use Rattle.mapf_cbs.specs.Search.{View, IsLive, IsTreeAt}
+use Rattle.mapf_cbs.specs.State.{IsOpenSet, key_cmp, with_children, split_fates, with_keys}
 use Rattle.mapf_cbs.specs.Whole.{IsWhole, AreWhole, HaveAgentPaths, IsWholeChild, IsLeastOpen, IsLeastBelow, IsWholeState, IsWholePopped}
 use Rattle.mapf_cbs.proofs.AnswerLemmas.{answer_impossible, state_root, root_views}
-use Rattle.mapf_cbs.proofs.ChildLemmas.{Contains-later}
+use Rattle.mapf_cbs.proofs.ChildLemmas.{Contains-later, Contains-none}
 use Rattle.mapf_cbs.proofs.OpenLemmas.{Contains-first}
 use Rattle.mapf_cbs.proofs.SumLemmas.{slice_get-front, slice_get-here}
-use Rattle.mapf_cbs.proofs.StateLemmas.{IsInHand, in_hand, left_known, right_known, left_table_bar, right_table_bar, grown_fates, two_pushed, end_of_total, state_grown, grown_views}
+use Rattle.mapf_cbs.proofs.StateLemmas.{IsInHand, in_hand, two_pushed, state_grown, grown_views}
 use Rattle.mapf_cbs.proofs.WholeLemmas.{less_key, each_more}
 
 -- the keys but that of one node
@@ -36,11 +36,8 @@ abbrev others : List (ℕ × ℕ) → ℕ → List (ℕ × ℕ)
 others [] k = []
 others (x ∷ keys) k = cond (nat_eq x.1 k) (others keys k) (x ∷ others keys k)
 
-nothing_in : (x : ℕ × ℕ) → Contains {X = ℕ × ℕ} [] x → ⊥
-nothing_in x (n, within, is) = omega arith
-
 others_only : (keys : List (ℕ × ℕ)) (k : ℕ) (x : ℕ × ℕ) → Contains (others keys k) x → Contains keys x × (x.1 ≢ k)
-others_only [] k x in_it = absurd (nothing_in x in_it)
+others_only [] k x in_it = absurd (Contains-none x in_it)
 others_only (y ∷ keys) k x in_it = cond_both (nat_eq y.1 k) (others keys k) (y ∷ others keys k) (λ zs. Contains zs x → Contains (y ∷ keys) x × (x.1 ≢ k))
     (λ same h. let r = others_only keys k x h in (Contains-later y x keys r.0, r.1))
     (λ differ h. ⊎_elim
@@ -50,7 +47,7 @@ others_only (y ∷ keys) k x in_it = cond_both (nat_eq y.1 k) (others keys k) (y
     in_it
 
 others_old : (keys : List (ℕ × ℕ)) (k : ℕ) (x : ℕ × ℕ) → Contains keys x → x.1 ≢ k → Contains (others keys k) x
-others_old [] k x in_it other = absurd (nothing_in x in_it)
+others_old [] k x in_it other = absurd (Contains-none x in_it)
 others_old (y ∷ keys) k x in_it other = cond_both (nat_eq y.1 k) (others keys k) (y ∷ others keys k) (λ zs. Contains zs x)
     (λ same. ⊎_elim
     (λ (e : y ≡ x). absurd (other (sym (ap (λ (z : ℕ × ℕ). z.1) e) ∙ eqb-true y.1 k same)))
@@ -104,7 +101,7 @@ module _ (problem : Instance) (nodes : List WholeNode) (fates : List Fate) (coun
         (λ (h : k ≤ key.1). let differ = from.1 in omega (arith, h, differ))
         (cases_lt key.1 k))
 
-    small : (key : ℕ × ℕ) → Contains ((least.node.total, k) ∷ others s.keys k) key → key.0 ≤ (count + 201) * 2 ^ 32
+    small : (key : ℕ × ℕ) → Contains ((least.node.total, k) ∷ others s.keys k) key → key.0 ≤ (count + 200) * 2 ^ 32
     small key in_it = ⊎_elim
         (λ (e : (least.node.total, k) ≡ key).
         let h = s.state.small (sum view_of.0.costs, k) (s.state.opens.each k view_of.0 view_of.1 least.is_open) in
@@ -118,15 +115,17 @@ module _ (problem : Instance) (nodes : List WholeNode) (fates : List Fate) (coun
       changes = s.changes;
       rest = others s.keys k;
       popped = record {
-        views = s.state.views;
-        are = s.state.are;
-        searched = s.state.searched;
-        opens = opens;
+        state = record {
+          views = s.state.views;
+          are = s.state.are;
+          searched = s.state.searched;
+          opens = opens;
+          nodes_for = s.state.nodes_for;
+          bars = s.state.bars;
+          size = s.state.size;
+          small = small;
+        };
         above = above;
-        nodes_for = s.state.nodes_for;
-        bars = s.state.bars;
-        size = s.state.size;
-        small = small;
       };
       whole = s.whole;
       agent_paths = s.agent_paths;
@@ -140,13 +139,13 @@ module _ (problem : Instance) (nodes : List WholeNode) (fates : List Fate) (coun
     are = s.state.are;
     searched = s.state.searched;
     opens = record {
-      only = λ key in_it. absurd (nothing_in key in_it);
+      only = λ key in_it. absurd (Contains-none key in_it);
       each = λ m view view_is m_open. absurd (none m (slice_get_within fates m Open m_open) m_open);
     };
     nodes_for = s.state.nodes_for;
     bars = s.state.bars;
     size = s.state.size;
-    small = λ key in_it. absurd (nothing_in key in_it);
+    small = λ key in_it. absurd (Contains-none key in_it);
   }) items found
 
 pub least_at : (nodes others : List WholeNode) (fates more : List Fate) (found : Option ℕ) → nodes ≡ others → fates ≡ more → IsLeastBelow nodes fates (length fates) found → IsLeastBelow others more (length more) found
@@ -187,11 +186,11 @@ whole_more nodes views whole node view is =
     }
 
 module _ (problem : Instance) (nodes : List WholeNode) (fates : List Fate) (count total k : ℕ) (p : IsWholePopped problem nodes fates count total k) where
-  pub whole_hand : IsInHand problem fates k total p.popped.views
+  pub whole_hand : IsInHand problem fates k total p.popped.state.views
   whole_hand = in_hand problem p.changes fates p.rest count total k p.popped
 
   pub hand_inside : k < length nodes
-  hand_inside = let h = slice_get_within p.popped.views k whole_hand.view whole_hand.is in let e = p.whole.lengths in omega (arith, h, e)
+  hand_inside = let h = slice_get_within p.popped.state.views k whole_hand.view whole_hand.is in let e = p.whole.lengths in omega (arith, h, e)
 
   module _ (node : WholeNode) (here : slice_get nodes k ≡ Some node) where
     pub hand_whole : IsWhole node whole_hand.view
@@ -199,34 +198,22 @@ module _ (problem : Instance) (nodes : List WholeNode) (fates : List Fate) (coun
 
     pub hand_small : count < 100000 → node.total + 2 ^ 32 < 2 ^ 64
     hand_small few =
-        let h = p.popped.small (total, k) (Contains-first (total, k) p.rest) in
+        let h = p.popped.state.small (total, k) (Contains-first (total, k) p.rest) in
         let t = hand_whole.total in let e = whole_hand.total_is in
         omega (arith, h, t, e, few)
 
   -- the node is split
   pub whole_grown : ((i j : ℕ) → ShareGoal problem i j → ⊥) → (conflict : Conflict) → IsFirstConflict whole_hand.view.paths conflict → tick_of conflict < 1000000 →
-      (l r : WholeNode) (a b : Option ℕ) → IsWholeChild problem whole_hand.view (left_agent conflict) (left_bar conflict) l a → IsWholeChild problem whole_hand.view (right_agent conflict) (right_bar conflict) r b →
+      (l r : WholeNode) (a b : Option ℕ) → IsWholeChild problem whole_hand.view (left_constraint conflict) l a → IsWholeChild problem whole_hand.view (right_constraint conflict) r b →
       length l.agent_paths.items ≡ length problem.agents → length r.agent_paths.items ≡ length problem.agents →
-      IsWholeState problem ((nodes ++ l ∷ []) ++ r ∷ []) (slice_set ((fates ++ fate_of a ∷ []) ++ fate_of b ∷ []) k (Expanded conflict (length nodes) (length nodes + 1))) (count + 1)
-  whole_grown goals conflict on_first early l r a b left right l_size r_size =
-      let size = p.whole.lengths in let sizes = p.popped.searched.lengths in
-      let same : length fates ≡ length nodes = omega (arith, size, sizes) in
-      let after = slice_set (fates ++ fate_of a ∷ fate_of b ∷ []) k (Expanded conflict (length fates) (length fates + 1)) in
-      let fates_are : slice_set (fates ++ fate_of a ∷ fate_of b ∷ []) k (Expanded conflict (length fates) (length fates + 1)) ≡ slice_set ((fates ++ fate_of a ∷ []) ++ fate_of b ∷ []) k (Expanded conflict (length nodes) (length nodes + 1)) =
-      ap (λ n. slice_set (fates ++ fate_of a ∷ fate_of b ∷ []) k (Expanded conflict n (n + 1))) same
-      ∙ ap (λ fs. slice_set fs k (Expanded conflict (length nodes) (length nodes + 1))) (sym (two_pushed fates (fate_of a) (fate_of b))) in
-      let grown = grown_fates fates k conflict (fate_of a) (fate_of b) (slice_get_within fates k Open whole_hand.is_open) (end_of_total a) (end_of_total b) in
-      let left_in = left_known whole_hand.view.paths conflict on_first.has in
-      let right_in = right_known whole_hand.view.paths conflict on_first.has in
-      let left_low = left_table_bar whole_hand.view.paths conflict on_first.has early in
-      let right_low = right_table_bar whole_hand.view.paths conflict on_first.has early in
-      subst (λ fs. IsWholeState problem ((nodes ++ l ∷ []) ++ r ∷ []) fs (count + 1)) fates_are (record {
-        changes = (p.changes ++ Child k (left_agent conflict) (left_bar conflict) left.found ∷ []) ++ Child k (right_agent conflict) (right_bar conflict) right.found ∷ [];
-        keys = with_key (with_key p.rest a (length p.changes)) b (length p.changes + 1);
-        state = state_grown problem p.changes fates p.rest count total k p.popped goals whole_hand.view whole_hand.is whole_hand.is_open whole_hand.total_is conflict on_first early left.found right.found a b left.generated right.generated after grown left_in right_in left_low right_low;
-        whole = subst (λ vs. AreWhole ((nodes ++ l ∷ []) ++ r ∷ []) vs)
-            (two_pushed p.popped.views left.generated.child right.generated.child ∙ sym (grown_views problem p.changes fates p.rest count total k p.popped goals whole_hand.view whole_hand.is whole_hand.is_open whole_hand.total_is conflict on_first early left.found right.found a b left.generated right.generated after grown left_in right_in left_low right_low))
-            (whole_more (nodes ++ l ∷ []) (p.popped.views ++ left.generated.child ∷ []) (whole_more nodes p.popped.views p.whole l left.generated.child left.whole) r right.generated.child right.whole);
-        agent_paths = each_more (λ i n. length n.agent_paths.items ≡ length problem.agents) (nodes ++ l ∷ []) r (length (nodes ++ l ∷ [])) refl
-            (each_more (λ i n. length n.agent_paths.items ≡ length problem.agents) nodes l (length nodes) refl p.agent_paths l_size) r_size;
-      })
+      IsWholeState problem ((nodes ++ l ∷ []) ++ r ∷ []) (split_fates fates k conflict a b) (count + 1)
+  whole_grown goals conflict on_first early l r a b left right l_size r_size = record {
+    changes = with_children p.changes k conflict left.found right.found;
+    keys = with_keys p.rest (length p.changes) a b;
+    state = state_grown problem p.changes fates p.rest count total k p.popped goals whole_hand.view whole_hand.is whole_hand.is_open whole_hand.total_is conflict on_first early left.found right.found a b left.generated right.generated;
+    whole = subst (λ vs. AreWhole ((nodes ++ l ∷ []) ++ r ∷ []) vs)
+        (two_pushed p.popped.state.views left.generated.child right.generated.child ∙ sym (grown_views problem p.changes fates p.rest count total k p.popped goals whole_hand.view whole_hand.is whole_hand.is_open whole_hand.total_is conflict on_first early left.found right.found a b left.generated right.generated))
+        (whole_more (nodes ++ l ∷ []) (p.popped.state.views ++ left.generated.child ∷ []) (whole_more nodes p.popped.state.views p.whole l left.generated.child left.whole) r right.generated.child right.whole);
+    agent_paths = each_more (λ i n. length n.agent_paths.items ≡ length problem.agents) (nodes ++ l ∷ []) r (length (nodes ++ l ∷ [])) refl
+        (each_more (λ i n. length n.agent_paths.items ≡ length problem.agents) nodes l (length nodes) refl p.agent_paths l_size) r_size;
+  }

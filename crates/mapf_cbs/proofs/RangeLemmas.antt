@@ -95,15 +95,15 @@ module _ (problem : Instance) (shape : IsGridMap problem.grid) where
   }
 
   pub tree_in_range : (views : List View) (fates : List Fate) (count : ℕ) → IsSearched problem views fates count → (tree : ConstraintTree) (k : ℕ) → IsTreeAt (length problem.agents) views fates k tree → IsTreeInRange problem.grid (length problem.agents) tree
-  tree_in_range views fates count searched (Split conflict left right) k (a, b, expanded, on_left, on_right) =
+  tree_in_range views fates count searched (Split conflict left right) k (a, expanded, on_left, on_right) =
       let size = searched.lengths in
-      let inside : k < length fates = slice_get_within fates k (Expanded conflict a b) expanded in
+      let inside : k < length fates = slice_get_within fates k (Expanded conflict a) expanded in
       let view = slice_get_inside views k (omega arith) in
-      let at_expanded = searched.each k view.0 (Expanded conflict a b) view.1 expanded in
-      (conflict_in_range conflict at_expanded.proper at_expanded.early, tree_in_range views fates count searched left a on_left, tree_in_range views fates count searched right b on_right)
+      let at_expanded = searched.each k view.0 (Expanded conflict a) view.1 expanded in
+      (conflict_in_range conflict at_expanded.proper at_expanded.early, tree_in_range views fates count searched left a on_left, tree_in_range views fates count searched right (a + 1) on_right)
   tree_in_range views fates count searched (Leaf blocks) k (view, Open, view_is, fate_is, end, are) = leaf_in_range view blocks are (live_entries view (searched.each k view Open view_is fate_is))
   tree_in_range views fates count searched (Leaf blocks) k (view, Dead, view_is, fate_is, end, are) = leaf_in_range view blocks are (dead_entries view (searched.each k view Dead view_is fate_is))
-  tree_in_range views fates count searched (Leaf blocks) k (view, Expanded c a b, view_is, fate_is, end, are) = absurd end
+  tree_in_range views fates count searched (Leaf blocks) k (view, Expanded c a, view_is, fate_is, end, are) = absurd end
   tree_in_range views fates count searched (Clash i j) k none = absurd none
 
   module _ (view : View) (live : IsLive problem view) (short : All (λ path. length path ≤ 10000000) view.paths) (few : length problem.agents ≤ 200) where

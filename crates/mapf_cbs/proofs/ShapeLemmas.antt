@@ -57,8 +57,8 @@ occurrences-graft_right j a b differ (End k) fresh = ⊎_elim
 
 -- a number past the list is no end
 pub occurrences-past : (fates : List Fate) (k m : ℕ) (shape : Shape) → IsShape fates k shape → length fates ≤ m → occurrences m shape ≡ 0
-occurrences-past fates k m (Node left right) (conflict, a, b, is, on_left, on_right) past =
-    let l = occurrences-past fates a m left on_left past in let r = occurrences-past fates b m right on_right past in omega arith
+occurrences-past fates k m (Node left right) (conflict, a, is, on_left, on_right) past =
+    let l = occurrences-past fates a m left on_left past in let r = occurrences-past fates (a + 1) m right on_right past in omega arith
 occurrences-past fates k m (End n) (same, fate, is, end) past =
     let within : k < length fates = slice_get_within fates k fate is in
     occurs_not m n (λ e. let n_is : n ≡ m = sym e in omega arith)
@@ -66,7 +66,7 @@ occurrences-past fates k m (End n) (same, fate, is, end) past =
 -- where one end is split and two nodes are added
 pub record IsGrown (before after : List Fate) (j : ℕ) (conflict : Conflict) (left right : Fate) : Type 0 where
   pub size : length after ≡ length before + 2
-  pub split : slice_get after j ≡ Some (Expanded conflict (length before) (length before + 1))
+  pub split : slice_get after j ≡ Some (Expanded conflict (length before))
   pub first : slice_get after (length before) ≡ Some left
   pub second : slice_get after (length before + 1) ≡ Some right
   pub others : (k : ℕ) → k < length before → k ≢ j → slice_get after k ≡ slice_get before k
@@ -75,13 +75,13 @@ pub record IsGrown (before after : List Fate) (j : ℕ) (conflict : Conflict) (l
 
 module _ (before after : List Fate) (j : ℕ) (conflict : Conflict) (left right fate : Fate) (grown : IsGrown before after j conflict left right) (was : slice_get before j ≡ Some fate) (was_end : IsEndFate fate) where
   IsShape-graft : (k : ℕ) (shape : Shape) → IsShape before k shape → IsShape after k (graft j (length before) (length before + 1) shape)
-  IsShape-graft k (Node l r) (c, x, y, is, on_left, on_right) =
-      let within : k < length before = slice_get_within before k (Expanded c x y) is in
-      let other : k ≢ j = λ e. subst IsEndFate (same_Some fate (Expanded c x y) (sym was ∙ subst (λ n. slice_get before n ≡ Some (Expanded c x y)) e is)) was_end in
-      (c, x, y, grown.others k within other ∙ is, IsShape-graft x l on_left, IsShape-graft y r on_right)
+  IsShape-graft k (Node l r) (c, x, is, on_left, on_right) =
+      let within : k < length before = slice_get_within before k (Expanded c x) is in
+      let other : k ≢ j = λ e. subst IsEndFate (same_Some fate (Expanded c x) (sym was ∙ subst (λ n. slice_get before n ≡ Some (Expanded c x)) e is)) was_end in
+      (c, x, grown.others k within other ∙ is, IsShape-graft x l on_left, IsShape-graft (x + 1) r on_right)
   IsShape-graft k (End m) (same, f, is, end) = ⊎_elim
       (λ (e : j ≡ m). subst (λ s. IsShape after k s) (sym (graft_here j (length before) (length before + 1) m e))
-      (conflict, length before, length before + 1, subst (λ n. slice_get after n ≡ Some (Expanded conflict (length before) (length before + 1))) (e ∙ sym same) grown.split, (refl, left, grown.first, grown.left_end), (refl, right, grown.second, grown.right_end)))
+      (conflict, length before, subst (λ n. slice_get after n ≡ Some (Expanded conflict (length before))) (e ∙ sym same) grown.split, (refl, left, grown.first, grown.left_end), (refl, right, grown.second, grown.right_end)))
       (λ (e : j ≢ m).
       let within : k < length before = slice_get_within before k f is in
       subst (λ s. IsShape after k s) (sym (graft_not j (length before) (length before + 1) m e))
@@ -107,7 +107,7 @@ module _ (before after : List Fate) (j : ℕ) (conflict : Conflict) (left right 
             (λ (not_second : k ≢ length before + 1).
             let within : k < length after = slice_get_within after k f is in
             let old : k < length before = omega arith in
-            let other : k ≢ j = λ e. subst IsEndFate (same_Some f (Expanded conflict (length before) (length before + 1)) (sym is ∙ subst (λ n. slice_get after n ≡ Some (Expanded conflict (length before) (length before + 1))) (sym e) grown.split)) end in
+            let other : k ≢ j = λ e. subst IsEndFate (same_Some f (Expanded conflict (length before)) (sym is ∙ subst (λ n. slice_get after n ≡ Some (Expanded conflict (length before))) (sym e) grown.split)) end in
             occurrences-graft_other j (length before) (length before + 1) k other not_first not_second tree.shape ∙ tree.once k f (sym (grown.others k old other) ∙ is) end)
             (cases_eq k (length before + 1)))
             (cases_eq k (length before));

@@ -10,6 +10,7 @@ use Rattle.mapf_model.specs.declared.item.Item.TheVariants.{Leaf as LeafItem, Cl
 use Rattle.mapf_model.specs.declared.problem.Agent.{Agent}
 use Rattle.mapf_model.specs.Blocks.{LabelBlock}
 use Rattle.mapf_model.specs.Grid.{GridMap}
+use Rattle.mapf_model.specs.Pairs.{IsFirstPair, HoldsOfNoPair}
 use Rattle.mapf_model.specs.Plan.{Instance}
 use Rattle.mapf_model.specs.Tree.{ConstraintTree, Leaf, Clash, ShareGoal, root}
 use Rattle.mapf_model.proofs.ClaimLemmas.{slice_get_inside}
@@ -82,16 +83,13 @@ leaf_answer problem limit goals (i, agent, is, unreachable) items blocks items_a
   is_shown_impossible problem (Leaf []) (record { proper = (λ a b d lt within. absurd (omega arith), λ k d within. absurd (omega arith)); nodes = (λ j other block this found. cc, (i, agent, is, unreachable)) }),
 )
 
--- no two agents with one goal come before these two
-abbrev pub AreNoneBefore : List Agent → ℕ → ℕ → Type 0
-AreNoneBefore agents i j = ((a b : ℕ) → a < i → a < b → b < length agents → HaveGoal agents a b → ⊥) × ((b : ℕ) → i < b → b < j → HaveGoal agents i b → ⊥)
-
 share_goal : (problem : Instance) (i j : ℕ) → i ≢ j → HaveGoal problem.agents i j → ShareGoal problem i j
 share_goal problem i j differ (a, b, ia, jb, same) = (differ, a, b, ia, jb, same)
 
 -- a pair of agents with one goal before which no pair comes is the first one
-first_pair : (problem : Instance) (i j : ℕ) → i < j → HaveGoal problem.agents i j → AreNoneBefore problem.agents i j → (a b : ℕ) → IsFirstSharingPair problem a b → (i ≡ a) × (j ≡ b)
-first_pair problem i j less shared none a b pair =
+first_pair : (problem : Instance) (i j : ℕ) → IsFirstPair (HaveGoal problem.agents) (length problem.agents) (i, j) → (a b : ℕ) → IsFirstSharingPair problem a b → (i ≡ a) × (j ≡ b)
+first_pair problem i j is a b pair =
+    let less = is.order in let shared = is.holds in let none = is.first in
     let (differ, p, q, ap_is, bq_is, same) = pair.shared in
     let a_first : a ≡ i = ⊎_elim
     (λ (h : a < i). absurd (none.0 a b h pair.order (slice_get_within problem.agents b q bq_is) (p, q, ap_is, bq_is, same)))
@@ -110,8 +108,8 @@ first_pair problem i j less shared none a b pair =
     (sym a_first, sym b_first)
 
 -- a clash of the first two agents that have one goal
-pub clash_answer : (problem : Instance) (limit i j : ℕ) → i < j → j < length problem.agents → HaveGoal problem.agents i j → AreNoneBefore problem.agents i j → (items : List Item) → items ≡ ClashItem i j ∷ [] → (tree : ConstraintTree) × IsTreeOf problem limit items tree × IsShownImpossible problem tree
-clash_answer problem limit i j less within shared none items items_are = (
+pub clash_answer : (problem : Instance) (limit i j : ℕ) → IsFirstPair (HaveGoal problem.agents) (length problem.agents) (i, j) → (items : List Item) → items ≡ ClashItem i j ∷ [] → (tree : ConstraintTree) × IsTreeOf problem limit items tree × IsShownImpossible problem tree
+clash_answer problem limit i j is items items_are = (
   Clash i j,
   record {
     spelled = rw items_are refl;
@@ -119,16 +117,16 @@ clash_answer problem limit i j less within shared none items items_are = (
     earned = record { proper = tt; splits = tt };
     first_conflicts = tt;
     first_defect = record {
-      clash = λ a b pair. let e = first_pair problem i j less shared none a b pair in ap (λ n. Clash n j) e.0 ∙ ap (λ n. Clash a n) e.1;
-      leaf = λ goals u. absurd (goals i j (share_goal problem i j (λ e. omega arith) shared));
+      clash = λ a b pair. let e = first_pair problem i j is a b pair in ap (λ n. Clash n j) e.0 ∙ ap (λ n. Clash a n) e.1;
+      leaf = λ goals u. absurd (goals i j (share_goal problem i j (λ e. let less = is.order in omega (arith, e, less)) is.holds));
     };
-    in_range = (omega arith, within);
+    in_range = (let less = is.order in let within = is.within in omega (arith, less, within), is.within);
   },
-  is_shown_impossible problem (Clash i j) (record { proper = tt; nodes = share_goal problem i j (λ e. omega arith) shared }),
+  is_shown_impossible problem (Clash i j) (record { proper = tt; nodes = share_goal problem i j (λ e. let less = is.order in omega (arith, e, less)) is.holds }),
 )
 
 -- where no agent and a later one have one goal, no two have
-pub none_share : (problem : Instance) → ((i j : ℕ) → i < j → j < length problem.agents → HaveGoal problem.agents i j → ⊥) → (i j : ℕ) → ShareGoal problem i j → ⊥
+pub none_share : (problem : Instance) → HoldsOfNoPair (HaveGoal problem.agents) (length problem.agents) → (i j : ℕ) → ShareGoal problem i j → ⊥
 none_share problem none i j (differ, a, b, ia, jb, same) = ⊎_elim
     (λ (less : i < j). none i j less (slice_get_within problem.agents j b jb) (a, b, ia, jb, same))
     (λ (more : j ≤ i). none j i (omega arith) (slice_get_within problem.agents i a ia) (b, a, jb, ia, sym same))

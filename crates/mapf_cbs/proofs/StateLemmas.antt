@@ -2,13 +2,11 @@
 use Rattle.std.proofs.Common.{◌≡◌, ◌≢◌, ◌⊎◌, ℕ, ◌+◌, ◌*◌, ◌^◌, ◌<◌, ◌≤◌, List, [], ◌∷◌, ◌++◌, Option, None, Some, Contains, length, sum, slice_get, slice_set, refl, sym, ◌∙◌, ap, subst, inl, inr, ⊎_elim, arith, append_assoc}
 use Rattle.std.proofs.lemmas.Bool.{cases_eq, cases_lt}
 use Rattle.std.proofs.lemmas.Option.{slice_get_within, same_Some}
-use Rattle.mapf_model.specs.declared.bar.Bar.{Bar}
+use Rattle.mapf_model.specs.declared.constraint.Constraint.{Constraint}
 use Rattle.mapf_model.specs.declared.conflict.Conflict.{Conflict}
-use Rattle.mapf_model.specs.declared.conflict.Conflict.TheVariants.{Vertex, Swap}
-use Rattle.mapf_model.specs.Bars.{IsBar}
 use Rattle.mapf_model.specs.Plan.{Instance}
-use Rattle.mapf_model.specs.Tree.{NodeConstraints, with_bar, left_child_constraints, right_child_constraints, ShareGoal}
-use Rattle.mapf_model.specs.Earned.{HasConflict, tick_of}
+use Rattle.mapf_model.specs.Tree.{left_constraint, right_constraint, ShareGoal}
+use Rattle.mapf_model.specs.Earned.{tick_of}
 use Rattle.mapf_model.proofs.SplitLemmas.{Contains-cons_cases}
 use Rattle.mapf_spacetime.specs.declared.found.Found.{Found}
 use Rattle.mapf_cbs.specs.declared.node.Node.{Node}
@@ -16,25 +14,15 @@ use Rattle.mapf_cbs.specs.declared.node.Node.TheVariants.{Root, Child}
 use Rattle.mapf_cbs.specs.declared.node.Fate.{Fate}
 use Rattle.mapf_cbs.specs.declared.node.Fate.TheVariants.{Open, Expanded}
 use Rattle.mapf_cbs.specs.FirstConflicts.{IsFirstConflict}
-use Rattle.mapf_cbs.specs.Search.{View, IsLive, IsEndFate, IsSearched, left_agent, right_agent, left_bar, right_bar}
+use Rattle.mapf_cbs.specs.Search.{View, IsLive, IsEndFate, IsSearched}
 use Rattle.mapf_cbs.specs.Nodes.{AreViews, IsNodeView, IsChildView, IsNodeFor, HasTableBar}
-use Rattle.mapf_constraints.specs.BarSets.{tick_of as bar_tick}
-use Rattle.mapf_cbs.specs.CheapestPath.{IsTableBar}
 use Rattle.mapf_cbs.specs.GeneratedChild.{IsGeneratedChild, IsGeneratedState}
-use Rattle.mapf_cbs.specs.State.{IsOpenSet, IsState, IsPopped, fate_of, with_key}
+use Rattle.mapf_cbs.specs.State.{IsOpenSet, IsState, IsPopped, fate_of, with_children, split_fates, with_key, with_keys}
 use Rattle.mapf_cbs.proofs.SumLemmas.{slice_get-set_same, slice_get-set_other, length-slice_set, slice_get-front, slice_get-here, slice_get-second, length-two_more}
 use Rattle.mapf_cbs.proofs.ShapeLemmas.{IsGrown}
 use Rattle.mapf_cbs.proofs.GrowLemmas.{IsChildFate, searched_grown}
 use Rattle.mapf_cbs.proofs.OpenLemmas.{less_apart, inserted_only, inserted_old, inserted_new, Contains-first, first_open}
-use Rattle.mapf_cbs.proofs.ChildLemmas.{Contains-later}
-
-pub left_constraints_are : (constraints : NodeConstraints) (conflict : Conflict) → left_child_constraints constraints conflict ≡ record { bars = with_bar constraints.bars (left_agent conflict) (left_bar conflict) }
-left_constraints_are constraints (Vertex i j cell tick) = refl
-left_constraints_are constraints (Swap i j from to tick) = refl
-
-pub right_constraints_are : (constraints : NodeConstraints) (conflict : Conflict) → right_child_constraints constraints conflict ≡ record { bars = with_bar constraints.bars (right_agent conflict) (right_bar conflict) }
-right_constraints_are constraints (Vertex i j cell tick) = refl
-right_constraints_are constraints (Swap i j from to tick) = refl
+use Rattle.mapf_cbs.proofs.ChildLemmas.{Contains-later, of_paths}
 
 pub two_pushed : {X : Type 0} (xs : List X) (x y : X) → (xs ++ x ∷ []) ++ y ∷ [] ≡ xs ++ x ∷ y ∷ []
 two_pushed xs x y = append_assoc xs (x ∷ []) (y ∷ [])
@@ -63,34 +51,33 @@ two_more_at xs x y z k is =
     (cases_lt k (length xs))
 
 -- the fates after a split
-pub grown_fates : (fates : List Fate) (k : ℕ) (conflict : Conflict) (left right : Fate) → k < length fates → IsEndFate left → IsEndFate right →
-    IsGrown fates (slice_set (fates ++ left ∷ right ∷ []) k (Expanded conflict (length fates) (length fates + 1))) k conflict left right
-grown_fates fates k conflict left right inside left_end right_end =
-    let size = length-two_more fates left right in
-    let expanded = Expanded conflict (length fates) (length fates + 1) in
-    let more = fates ++ left ∷ right ∷ [] in
-    record {
+pub grown_fates : (fates : List Fate) (k : ℕ) (conflict : Conflict) (left right : Option ℕ) → k < length fates → IsGrown fates (split_fates fates k conflict left right) k conflict (fate_of left) (fate_of right)
+grown_fates fates k conflict left right inside =
+    let size = length-two_more fates (fate_of left) (fate_of right) in
+    let expanded = Expanded conflict (length fates) in
+    let more = fates ++ fate_of left ∷ fate_of right ∷ [] in
+    subst (λ fs. IsGrown fates (slice_set fs k expanded) k conflict (fate_of left) (fate_of right)) (sym (two_pushed fates (fate_of left) (fate_of right))) (record {
       size = length-slice_set more k expanded ∙ size;
       split = slice_get-set_same more k expanded (omega arith);
-      first = slice_get-set_other more k (length fates) expanded (λ e. omega arith) ∙ slice_get-here fates (right ∷ []) left;
-      second = slice_get-set_other more k (length fates + 1) expanded (λ e. omega arith) ∙ slice_get-second fates left right;
-      others = λ m within other. slice_get-set_other more k m expanded other ∙ slice_get-front fates (left ∷ right ∷ []) m within;
-      left_end = left_end;
-      right_end = right_end;
-    }
+      first = slice_get-set_other more k (length fates) expanded (λ e. omega arith) ∙ slice_get-here fates (fate_of right ∷ []) (fate_of left);
+      second = slice_get-set_other more k (length fates + 1) expanded (λ e. omega arith) ∙ slice_get-second fates (fate_of left) (fate_of right);
+      others = λ m within other. slice_get-set_other more k m expanded other ∙ slice_get-front fates (fate_of left ∷ fate_of right ∷ []) m within;
+      left_end = end_of_total left;
+      right_end = end_of_total right;
+    })
 
 -- the nodes after a split mean the views after it
 module _ (nodes : List Node) (views : List View) (are : AreViews nodes views) (k : ℕ) (view : View) (is : slice_get views k ≡ Some view)
-    (a b : ℕ) (a_in : a < length view.paths) (b_in : b < length view.paths) (p q : Bar) (f g : Found) (x y : View) (x_is : IsChildView view a p f x) (y_is : IsChildView view b q g y) where
+    (p q : Constraint) (p_in : p.agent < length view.paths) (q_in : q.agent < length view.paths) (f g : Found) (x y : View) (x_is : IsChildView view p f x) (y_is : IsChildView view q g y) where
   lift_view : (m : ℕ) (node : Node) (v : View) → IsNodeView views m node v → IsNodeView (views ++ x ∷ y ∷ []) m node v
   lift_view m (Root paths) v h = h
-  lift_view m (Child parent bound bar found) v h = (h.0, h.1, slice_get-front views (x ∷ y ∷ []) parent (slice_get_within views parent h.1 h.2) ∙ h.2, h.3, h.4)
+  lift_view m (Child parent constraint found) v h = (h.0, h.1, slice_get-front views (x ∷ y ∷ []) parent (slice_get_within views parent h.1 h.2) ∙ h.2, h.3, h.4)
 
-  views_grown : AreViews (nodes ++ Child k a p f ∷ Child k b q g ∷ []) (views ++ x ∷ y ∷ [])
+  views_grown : AreViews (nodes ++ Child k p f ∷ Child k q g ∷ []) (views ++ x ∷ y ∷ [])
   views_grown =
       let e = are.lengths in
       let one = length-two_more views x y in
-      let two = length-two_more nodes (Child k a p f) (Child k b q g) in
+      let two = length-two_more nodes (Child k p f) (Child k q g) in
       let within : k < length views = slice_get_within views k view is in
       let here : slice_get (views ++ x ∷ y ∷ []) k ≡ Some view = slice_get-front views (x ∷ y ∷ []) k within ∙ is in
       record {
@@ -99,185 +86,189 @@ module _ (nodes : List Node) (views : List View) (are : AreViews nodes views) (k
             (λ (old : slice_get nodes m ≡ Some node).
             let inside : m < length nodes = slice_get_within nodes m node old in
             lift_view m node v (are.each m node v old (sym (slice_get-front views (x ∷ y ∷ []) m (omega arith)) ∙ v_is)))
-            (λ (new : ((m ≡ length nodes) × (Child k a p f ≡ node)) ⊎ ((m ≡ length nodes + 1) × (Child k b q g ≡ node))). ⊎_elim
-            (λ (first : (m ≡ length nodes) × (Child k a p f ≡ node)).
+            (λ (new : ((m ≡ length nodes) × (Child k p f ≡ node)) ⊎ ((m ≡ length nodes + 1) × (Child k q g ≡ node))). ⊎_elim
+            (λ (first : (m ≡ length nodes) × (Child k p f ≡ node)).
             let at : m ≡ length views = (let h = first.0 in omega arith) in
             let same : x ≡ v = same_Some x v (sym (slice_get-here views (y ∷ []) x) ∙ subst (λ n. slice_get (views ++ x ∷ y ∷ []) n ≡ Some v) at v_is) in
-            subst (λ n. IsNodeView (views ++ x ∷ y ∷ []) m n v) first.1 (omega arith, view, here, a_in, subst (λ w. IsChildView view a p f w) same x_is))
-            (λ (second : (m ≡ length nodes + 1) × (Child k b q g ≡ node)).
+            subst (λ n. IsNodeView (views ++ x ∷ y ∷ []) m n v) first.1 (omega arith, view, here, p_in, subst (λ w. IsChildView view p f w) same x_is))
+            (λ (second : (m ≡ length nodes + 1) × (Child k q g ≡ node)).
             let at : m ≡ length views + 1 = (let h = second.0 in omega arith) in
             let same : y ≡ v = same_Some y v (sym (slice_get-second views x y) ∙ subst (λ n. slice_get (views ++ x ∷ y ∷ []) n ≡ Some v) at v_is) in
-            subst (λ n. IsNodeView (views ++ x ∷ y ∷ []) m n v) second.1 (omega arith, view, here, b_in, subst (λ w. IsChildView view b q g w) same y_is))
+            subst (λ n. IsNodeView (views ++ x ∷ y ∷ []) m n v) second.1 (omega arith, view, here, q_in, subst (λ w. IsChildView view q g w) same y_is))
             new)
-            (two_more_at nodes (Child k a p f) (Child k b q g) node m node_is);
+            (two_more_at nodes (Child k p f) (Child k q g) node m node_is);
       }
 
-  pub views_pushed : AreViews ((nodes ++ Child k a p f ∷ []) ++ Child k b q g ∷ []) (views ++ x ∷ y ∷ [])
-  views_pushed = subst (λ ns. AreViews ns (views ++ x ∷ y ∷ [])) (sym (two_pushed nodes (Child k a p f) (Child k b q g))) views_grown
+  pub views_pushed : AreViews ((nodes ++ Child k p f ∷ []) ++ Child k q g ∷ []) (views ++ x ∷ y ∷ [])
+  views_pushed = subst (λ ns. AreViews ns (views ++ x ∷ y ∷ [])) (sym (two_pushed nodes (Child k p f) (Child k q g))) views_grown
 
   -- what is so of each node is so of each after a split
-  pub each_pushed : (P : ℕ → Node → Type 0) → ((m : ℕ) (node : Node) → slice_get nodes m ≡ Some node → P m node) → P (length nodes) (Child k a p f) → P (length nodes + 1) (Child k b q g) →
-      (m : ℕ) (node : Node) → slice_get ((nodes ++ Child k a p f ∷ []) ++ Child k b q g ∷ []) m ≡ Some node → P m node
+  pub each_pushed : (P : ℕ → Node → Type 0) → ((m : ℕ) (node : Node) → slice_get nodes m ≡ Some node → P m node) → P (length nodes) (Child k p f) → P (length nodes + 1) (Child k q g) →
+      (m : ℕ) (node : Node) → slice_get ((nodes ++ Child k p f ∷ []) ++ Child k q g ∷ []) m ≡ Some node → P m node
   each_pushed P each first second m node node_is = ⊎_elim
       (λ (old : slice_get nodes m ≡ Some node). each m node old)
-      (λ (new : ((m ≡ length nodes) × (Child k a p f ≡ node)) ⊎ ((m ≡ length nodes + 1) × (Child k b q g ≡ node))). ⊎_elim
-      (λ (h : (m ≡ length nodes) × (Child k a p f ≡ node)). subst (λ n. P m n) h.1 (subst (λ n. P n (Child k a p f)) (sym h.0) first))
-      (λ (h : (m ≡ length nodes + 1) × (Child k b q g ≡ node)). subst (λ n. P m n) h.1 (subst (λ n. P n (Child k b q g)) (sym h.0) second))
+      (λ (new : ((m ≡ length nodes) × (Child k p f ≡ node)) ⊎ ((m ≡ length nodes + 1) × (Child k q g ≡ node))). ⊎_elim
+      (λ (h : (m ≡ length nodes) × (Child k p f ≡ node)). subst (λ n. P m n) h.1 (subst (λ n. P n (Child k p f)) (sym h.0) first))
+      (λ (h : (m ≡ length nodes + 1) × (Child k q g ≡ node)). subst (λ n. P m n) h.1 (subst (λ n. P n (Child k q g)) (sym h.0) second))
       new)
-      (two_more_at nodes (Child k a p f) (Child k b q g) node m (subst (λ ns. slice_get ns m ≡ Some node) (two_pushed nodes (Child k a p f) (Child k b q g)) node_is))
+      (two_more_at nodes (Child k p f) (Child k q g) node m (subst (λ ns. slice_get ns m ≡ Some node) (two_pushed nodes (Child k p f) (Child k q g)) node_is))
 
-with_key_only : (keys : List (ℕ × ℕ)) (total : Option ℕ) (n : ℕ) (x : ℕ × ℕ) → Contains (with_key keys total n) x → Contains keys x ⊎ ((s : ℕ) × (total ≡ Some s) × (x ≡ (s, n)))
-with_key_only keys None n x h = inl h
-with_key_only keys (Some s) n x h = ⊎_elim (λ (e : x ≡ (s, n)). inr (s, refl, e)) (λ (old : Contains keys x). inl old) (inserted_only keys (s, n) x h)
+with_key_only : (keys : List (ℕ × ℕ)) (n : ℕ) (total : Option ℕ) (x : ℕ × ℕ) → Contains (with_key keys n total) x → Contains keys x ⊎ ((s : ℕ) × (total ≡ Some s) × (x ≡ (s, n)))
+with_key_only keys n None x h = inl h
+with_key_only keys n (Some s) x h = ⊎_elim (λ (e : x ≡ (s, n)). inr (s, refl, e)) (λ (old : Contains keys x). inl old) (inserted_only keys (s, n) x h)
 
-with_key_old : (keys : List (ℕ × ℕ)) (total : Option ℕ) (n : ℕ) (x : ℕ × ℕ) → Contains keys x → Contains (with_key keys total n) x
-with_key_old keys None n x h = h
-with_key_old keys (Some s) n x h = inserted_old keys (s, n) x h
+with_key_old : (keys : List (ℕ × ℕ)) (n : ℕ) (total : Option ℕ) (x : ℕ × ℕ) → Contains keys x → Contains (with_key keys n total) x
+with_key_old keys n None x h = h
+with_key_old keys n (Some s) x h = inserted_old keys (s, n) x h
 
 open_total : (total : Option ℕ) → fate_of total ≡ Open → (s : ℕ) × (total ≡ Some s)
 open_total None e = absurd cc
 open_total (Some s) e = (s, refl)
 
-with_key_new : (keys : List (ℕ × ℕ)) (total : Option ℕ) (n s : ℕ) → total ≡ Some s → Contains (with_key keys total n) (s, n)
-with_key_new keys None n s e = absurd cc
-with_key_new keys (Some t) n s e = let same : t ≡ s = same_Some t s e in subst (λ z. Contains (with_key keys (Some t) n) (z, n)) same (inserted_new keys (t, n))
+with_key_new : (keys : List (ℕ × ℕ)) (n : ℕ) (total : Option ℕ) (s : ℕ) → total ≡ Some s → Contains (with_key keys n total) (s, n)
+with_key_new keys n None s e = absurd cc
+with_key_new keys n (Some t) s e = let same : t ≡ s = same_Some t s e in subst (λ z. Contains (with_key keys n (Some t)) (z, n)) same (inserted_new keys (t, n))
+
+-- no open node is cheaper than the one in hand
+pub least_popped : (problem : Instance) (nodes : List Node) (fates : List Fate) (rest : List (ℕ × ℕ)) (count total k : ℕ) (popped : IsPopped problem nodes fates rest count total k) (view : View) → slice_get popped.state.views k ≡ Some view →
+    (m : ℕ) (other : View) → slice_get popped.state.views m ≡ Some other → slice_get fates m ≡ Some Open → sum view.costs ≤ sum other.costs
+least_popped problem nodes fates rest count total k popped view is m other m_is m_open =
+    let first = first_open ((total, k) ∷ rest) rest (total, k) popped.state.views fates refl popped.above popped.state.opens in
+    let same : first.0 ≡ view = same_Some first.0 view (sym first.1 ∙ is) in
+    subst (λ (w : View). sum w.costs ≤ sum other.costs) same (first.4 m other m_is m_open)
 
 module _ (problem : Instance) (nodes : List Node) (fates : List Fate) (rest : List (ℕ × ℕ)) (count total k : ℕ) (popped : IsPopped problem nodes fates rest count total k)
-    (goals : (i j : ℕ) → ShareGoal problem i j → ⊥) (view : View) (is : slice_get popped.views k ≡ Some view) (is_open : slice_get fates k ≡ Some Open) (total_is : total ≡ sum view.costs)
+    (goals : (i j : ℕ) → ShareGoal problem i j → ⊥) (view : View) (is : slice_get popped.state.views k ≡ Some view) (is_open : slice_get fates k ≡ Some Open) (total_is : total ≡ sum view.costs)
     (conflict : Conflict) (on_first : IsFirstConflict view.paths conflict) (early : tick_of conflict < 1000000)
-    (f g : Found) (s t : Option ℕ) (left : IsGeneratedChild problem view (left_agent conflict) (left_bar conflict) f s) (right : IsGeneratedChild problem view (right_agent conflict) (right_bar conflict) g t)
+    (f g : Found) (s t : Option ℕ) (left : IsGeneratedChild problem view (left_constraint conflict) f s) (right : IsGeneratedChild problem view (right_constraint conflict) g t)
   where
-    same_length : length popped.views ≡ length nodes
-    same_length = popped.are.lengths
+    same_length : length popped.state.views ≡ length nodes
+    same_length = popped.state.are.lengths
 
-    same_fates : length popped.views ≡ length fates
-    same_fates = popped.searched.lengths
+    same_fates : length popped.state.views ≡ length fates
+    same_fates = popped.state.searched.lengths
 
-    module _ (after : List Fate) (grown : IsGrown fates after k conflict (fate_of s) (fate_of t)) where
-      first_fate : slice_get after (length nodes) ≡ Some (fate_of s)
-      first_fate = let a = same_length in let b = same_fates in let e : length fates ≡ length nodes = omega arith in subst (λ n. slice_get after n ≡ Some (fate_of s)) e grown.first
+    grown : IsGrown fates (split_fates fates k conflict s t) k conflict (fate_of s) (fate_of t)
+    grown = grown_fates fates k conflict s t (slice_get_within fates k Open is_open)
 
-      second_fate : slice_get after (length nodes + 1) ≡ Some (fate_of t)
-      second_fate = let a = same_length in let b = same_fates in let e : length fates + 1 ≡ length nodes + 1 = omega arith in subst (λ n. slice_get after n ≡ Some (fate_of t)) e grown.second
+    first_fate : slice_get (split_fates fates k conflict s t) (length nodes) ≡ Some (fate_of s)
+    first_fate = let a = same_length in let b = same_fates in let e : length fates ≡ length nodes = omega arith in subst (λ n. slice_get (split_fates fates k conflict s t) n ≡ Some (fate_of s)) e grown.first
 
-      first_view : slice_get (popped.views ++ left.child ∷ right.child ∷ []) (length nodes) ≡ Some left.child
-      first_view = subst (λ n. slice_get (popped.views ++ left.child ∷ right.child ∷ []) n ≡ Some left.child) same_length (slice_get-here popped.views (right.child ∷ []) left.child)
+    second_fate : slice_get (split_fates fates k conflict s t) (length nodes + 1) ≡ Some (fate_of t)
+    second_fate = let a = same_length in let b = same_fates in let e : length fates + 1 ≡ length nodes + 1 = omega arith in subst (λ n. slice_get (split_fates fates k conflict s t) n ≡ Some (fate_of t)) e grown.second
 
-      second_view : slice_get (popped.views ++ left.child ∷ right.child ∷ []) (length nodes + 1) ≡ Some right.child
-      second_view = subst (λ n. slice_get (popped.views ++ left.child ∷ right.child ∷ []) (n + 1) ≡ Some right.child) same_length (slice_get-second popped.views left.child right.child)
+    first_view : slice_get (popped.state.views ++ left.child ∷ right.child ∷ []) (length nodes) ≡ Some left.child
+    first_view = subst (λ n. slice_get (popped.state.views ++ left.child ∷ right.child ∷ []) n ≡ Some left.child) same_length (slice_get-here popped.state.views (right.child ∷ []) left.child)
 
-      generated_sum : (child : View) (state : Option ℕ) (n : ℕ) → state ≡ Some n → IsGeneratedState problem view child state → n ≡ sum child.costs
-      generated_sum child None n e st = absurd cc
-      generated_sum child (Some m) n e st = sym (same_Some m n e) ∙ st.1
+    second_view : slice_get (popped.state.views ++ left.child ∷ right.child ∷ []) (length nodes + 1) ≡ Some right.child
+    second_view = subst (λ n. slice_get (popped.state.views ++ left.child ∷ right.child ∷ []) (n + 1) ≡ Some right.child) same_length (slice_get-second popped.state.views left.child right.child)
 
-      generated_small : (child : View) (state : Option ℕ) (n : ℕ) → state ≡ Some n → IsGeneratedState problem view child state → n ≤ sum view.costs + 2 ^ 32
-      generated_small child None n e st = absurd cc
-      generated_small child (Some m) n e st = subst (λ z. z ≤ sum view.costs + 2 ^ 32) (same_Some m n e) st.3
+    generated_sum : (child : View) (state : Option ℕ) (n : ℕ) → state ≡ Some n → IsGeneratedState problem view child state → n ≡ sum child.costs
+    generated_sum child None n e st = absurd cc
+    generated_sum child (Some m) n e st = sym (same_Some m n e) ∙ st.1
 
-      old_key : (x : ℕ × ℕ) → Contains rest x → (v : View) × (slice_get (popped.views ++ left.child ∷ right.child ∷ []) x.1 ≡ Some v) × (slice_get after x.1 ≡ Some Open) × (x.0 ≡ sum v.costs)
-      old_key x in_rest =
-          let was = popped.opens.only x (Contains-later (total, k) x rest in_rest) in
-          let inside : x.1 < length fates = slice_get_within fates x.1 Open was.2 in
-          let other : x.1 ≢ k = λ e.
-          let v_is : was.0 ≡ view = same_Some was.0 view (sym was.1 ∙ subst (λ n. slice_get popped.views n ≡ Some view) (sym e) is) in
-          let sum_is : x.0 ≡ total = was.3 ∙ ap (λ (v : View). sum v.costs) v_is ∙ sym total_is in
-          less_apart (total, k) x (popped.above x in_rest) (ap (λ n. (n, k)) (sym sum_is) ∙ ap (λ n. (x.0, n)) (sym e)) in
-          (was.0, slice_get-front popped.views (left.child ∷ right.child ∷ []) x.1 (slice_get_within popped.views x.1 was.0 was.1) ∙ was.1, grown.others x.1 inside other ∙ was.2, was.3)
+    generated_small : (child : View) (state : Option ℕ) (n : ℕ) → state ≡ Some n → IsGeneratedState problem view child state → n ≤ sum view.costs + 2 ^ 32
+    generated_small child None n e st = absurd cc
+    generated_small child (Some m) n e st = subst (λ z. z ≤ sum view.costs + 2 ^ 32) (same_Some m n e) st.3
 
-      new_key : (n : ℕ) (child : View) (state : Option ℕ) (x : ℕ × ℕ) → slice_get (popped.views ++ left.child ∷ right.child ∷ []) n ≡ Some child → slice_get after n ≡ Some (fate_of state) → IsGeneratedState problem view child state →
-          (z : ℕ) → state ≡ Some z → x ≡ (z, n) → (v : View) × (slice_get (popped.views ++ left.child ∷ right.child ∷ []) x.1 ≡ Some v) × (slice_get after x.1 ≡ Some Open) × (x.0 ≡ sum v.costs)
-      new_key n child state x v_is f_is st z e x_is =
-          let number : x.1 ≡ n = ap (λ (y : ℕ × ℕ). y.1) x_is in
-          let value : x.0 ≡ z = ap (λ (y : ℕ × ℕ). y.0) x_is in
-          let f_open : slice_get after n ≡ Some Open = f_is ∙ ap (λ o. Some (fate_of o)) e in
-          (child, subst (λ m. slice_get (popped.views ++ left.child ∷ right.child ∷ []) m ≡ Some child) (sym number) v_is, subst (λ m. slice_get after m ≡ Some Open) (sym number) f_open, value ∙ generated_sum child state z e st)
+    old_key : (x : ℕ × ℕ) → Contains rest x → (v : View) × (slice_get (popped.state.views ++ left.child ∷ right.child ∷ []) x.1 ≡ Some v) × (slice_get (split_fates fates k conflict s t) x.1 ≡ Some Open) × (x.0 ≡ sum v.costs)
+    old_key x in_rest =
+        let was = popped.state.opens.only x (Contains-later (total, k) x rest in_rest) in
+        let inside : x.1 < length fates = slice_get_within fates x.1 Open was.2 in
+        let other : x.1 ≢ k = λ e.
+        let v_is : was.0 ≡ view = same_Some was.0 view (sym was.1 ∙ subst (λ n. slice_get popped.state.views n ≡ Some view) (sym e) is) in
+        let sum_is : x.0 ≡ total = was.3 ∙ ap (λ (v : View). sum v.costs) v_is ∙ sym total_is in
+        less_apart (total, k) x (popped.above x in_rest) (ap (λ n. (n, k)) (sym sum_is) ∙ ap (λ n. (x.0, n)) (sym e)) in
+        (was.0, slice_get-front popped.state.views (left.child ∷ right.child ∷ []) x.1 (slice_get_within popped.state.views x.1 was.0 was.1) ∙ was.1, grown.others x.1 inside other ∙ was.2, was.3)
 
-      opens_grown : IsOpenSet (with_key (with_key rest s (length nodes)) t (length nodes + 1)) (popped.views ++ left.child ∷ right.child ∷ []) after
-      opens_grown = record {
-        only = λ x in_it. ⊎_elim
-            (λ (h : Contains (with_key rest s (length nodes)) x). ⊎_elim
-            (λ (old : Contains rest x). old_key x old)
-            (λ (new : (z : ℕ) × (s ≡ Some z) × (x ≡ (z, length nodes))). new_key (length nodes) left.child s x first_view first_fate left.state new.0 new.1 new.2)
-            (with_key_only rest s (length nodes) x h))
-            (λ (new : (z : ℕ) × (t ≡ Some z) × (x ≡ (z, length nodes + 1))). new_key (length nodes + 1) right.child t x second_view second_fate right.state new.0 new.1 new.2)
-            (with_key_only (with_key rest s (length nodes)) t (length nodes + 1) x in_it);
-        each = λ m v v_is f_is.
-            let size = same_length in let sizes = same_fates in
-            ⊎_elim
-            (λ (old : slice_get popped.views m ≡ Some v).
-            let inside : m < length popped.views = slice_get_within popped.views m v old in
-            let other : m ≢ k = λ e. let expanded : Open ≡ Expanded conflict (length fates) (length fates + 1) = same_Some Open (Expanded conflict (length fates) (length fates + 1)) (sym f_is ∙ subst (λ n. slice_get after n ≡ Some (Expanded conflict (length fates) (length fates + 1))) (sym e) grown.split) in cc in
-            let at = popped.opens.each m v old (sym (grown.others m (omega arith) other) ∙ f_is) in
-            ⊎_elim
-            (λ (same : (total, k) ≡ (sum v.costs, m)). absurd (other (sym (ap (λ (y : ℕ × ℕ). y.1) same))))
-            (λ (in_rest : Contains rest (sum v.costs, m)). with_key_old (with_key rest s (length nodes)) t (length nodes + 1) (sum v.costs, m) (with_key_old rest s (length nodes) (sum v.costs, m) in_rest))
-            (Contains-cons_cases (total, k) (sum v.costs, m) rest at))
-            (λ (new : ((m ≡ length popped.views) × (left.child ≡ v)) ⊎ ((m ≡ length popped.views + 1) × (right.child ≡ v))). ⊎_elim
-            (λ (h : (m ≡ length popped.views) × (left.child ≡ v)).
-            let at : m ≡ length nodes = h.0 ∙ size in
-            let is_some = open_total s (same_Some (fate_of s) Open (sym first_fate ∙ subst (λ n. slice_get after n ≡ Some Open) at f_is)) in
-            let value : is_some.0 ≡ sum v.costs = generated_sum left.child s is_some.0 is_some.1 left.state ∙ ap (λ (w : View). sum w.costs) h.1 in
-            subst (λ n. Contains (with_key (with_key rest s (length nodes)) t (length nodes + 1)) (sum v.costs, n)) (sym at)
-            (subst (λ z. Contains (with_key (with_key rest s (length nodes)) t (length nodes + 1)) (z, length nodes)) value
-            (with_key_old (with_key rest s (length nodes)) t (length nodes + 1) (is_some.0, length nodes) (with_key_new rest s (length nodes) is_some.0 is_some.1))))
-            (λ (h : (m ≡ length popped.views + 1) × (right.child ≡ v)).
-            let at : m ≡ length nodes + 1 = h.0 ∙ ap (λ n. n + 1) size in
-            let is_some = open_total t (same_Some (fate_of t) Open (sym second_fate ∙ subst (λ n. slice_get after n ≡ Some Open) at f_is)) in
-            let value : is_some.0 ≡ sum v.costs = generated_sum right.child t is_some.0 is_some.1 right.state ∙ ap (λ (w : View). sum w.costs) h.1 in
-            subst (λ n. Contains (with_key (with_key rest s (length nodes)) t (length nodes + 1)) (sum v.costs, n)) (sym at)
-            (subst (λ z. Contains (with_key (with_key rest s (length nodes)) t (length nodes + 1)) (z, length nodes + 1)) value
-            (with_key_new (with_key rest s (length nodes)) t (length nodes + 1) is_some.0 is_some.1)))
-            new)
-            (two_more_at popped.views left.child right.child v m v_is);
-      }
+    new_key : (n : ℕ) (child : View) (state : Option ℕ) (x : ℕ × ℕ) → slice_get (popped.state.views ++ left.child ∷ right.child ∷ []) n ≡ Some child → slice_get (split_fates fates k conflict s t) n ≡ Some (fate_of state) → IsGeneratedState problem view child state →
+        (z : ℕ) → state ≡ Some z → x ≡ (z, n) → (v : View) × (slice_get (popped.state.views ++ left.child ∷ right.child ∷ []) x.1 ≡ Some v) × (slice_get (split_fates fates k conflict s t) x.1 ≡ Some Open) × (x.0 ≡ sum v.costs)
+    new_key n child state x v_is f_is st z e x_is =
+        let number : x.1 ≡ n = ap (λ (y : ℕ × ℕ). y.1) x_is in
+        let value : x.0 ≡ z = ap (λ (y : ℕ × ℕ). y.0) x_is in
+        let f_open : slice_get (split_fates fates k conflict s t) n ≡ Some Open = f_is ∙ ap (λ o. Some (fate_of o)) e in
+        (child, subst (λ m. slice_get (popped.state.views ++ left.child ∷ right.child ∷ []) m ≡ Some child) (sym number) v_is, subst (λ m. slice_get (split_fates fates k conflict s t) m ≡ Some Open) (sym number) f_open, value ∙ generated_sum child state z e st)
 
-      small_grown : (x : ℕ × ℕ) → Contains (with_key (with_key rest s (length nodes)) t (length nodes + 1)) x → x.0 ≤ ((count + 1) + 201) * 2 ^ 32
-      small_grown x in_it =
-          let top = popped.small (total, k) (Contains-first (total, k) rest) in
+    opens_grown : IsOpenSet (with_keys rest (length nodes) s t) (popped.state.views ++ left.child ∷ right.child ∷ []) (split_fates fates k conflict s t)
+    opens_grown = record {
+      only = λ x in_it. ⊎_elim
+          (λ (h : Contains (with_key rest (length nodes) s) x). ⊎_elim
+          (λ (old : Contains rest x). old_key x old)
+          (λ (new : (z : ℕ) × (s ≡ Some z) × (x ≡ (z, length nodes))). new_key (length nodes) left.child s x first_view first_fate left.state new.0 new.1 new.2)
+          (with_key_only rest (length nodes) s x h))
+          (λ (new : (z : ℕ) × (t ≡ Some z) × (x ≡ (z, length nodes + 1))). new_key (length nodes + 1) right.child t x second_view second_fate right.state new.0 new.1 new.2)
+          (with_key_only (with_key rest (length nodes) s) (length nodes + 1) t x in_it);
+      each = λ m v v_is f_is.
+          let size = same_length in let sizes = same_fates in
           ⊎_elim
-          (λ (h : Contains (with_key rest s (length nodes)) x). ⊎_elim
-          (λ (old : Contains rest x). let b = popped.small x (Contains-later (total, k) x rest old) in omega (arith, b))
-          (λ (new : (z : ℕ) × (s ≡ Some z) × (x ≡ (z, length nodes))). let b = generated_small left.child s new.0 new.1 left.state in let e = ap (λ (y : ℕ × ℕ). y.0) new.2 in omega (arith, b, e, top, total_is))
-          (with_key_only rest s (length nodes) x h))
-          (λ (new : (z : ℕ) × (t ≡ Some z) × (x ≡ (z, length nodes + 1))). let b = generated_small right.child t new.0 new.1 right.state in let e = ap (λ (y : ℕ × ℕ). y.0) new.2 in omega (arith, b, e, top, total_is))
-          (with_key_only (with_key rest s (length nodes)) t (length nodes + 1) x in_it)
+          (λ (old : slice_get popped.state.views m ≡ Some v).
+          let inside : m < length popped.state.views = slice_get_within popped.state.views m v old in
+          let other : m ≢ k = λ e. let expanded : Open ≡ Expanded conflict (length fates) = same_Some Open (Expanded conflict (length fates)) (sym f_is ∙ subst (λ n. slice_get (split_fates fates k conflict s t) n ≡ Some (Expanded conflict (length fates))) (sym e) grown.split) in cc in
+          let at = popped.state.opens.each m v old (sym (grown.others m (omega arith) other) ∙ f_is) in
+          ⊎_elim
+          (λ (same : (total, k) ≡ (sum v.costs, m)). absurd (other (sym (ap (λ (y : ℕ × ℕ). y.1) same))))
+          (λ (in_rest : Contains rest (sum v.costs, m)). with_key_old (with_key rest (length nodes) s) (length nodes + 1) t (sum v.costs, m) (with_key_old rest (length nodes) s (sum v.costs, m) in_rest))
+          (Contains-cons_cases (total, k) (sum v.costs, m) rest at))
+          (λ (new : ((m ≡ length popped.state.views) × (left.child ≡ v)) ⊎ ((m ≡ length popped.state.views + 1) × (right.child ≡ v))). ⊎_elim
+          (λ (h : (m ≡ length popped.state.views) × (left.child ≡ v)).
+          let at : m ≡ length nodes = h.0 ∙ size in
+          let is_some = open_total s (same_Some (fate_of s) Open (sym first_fate ∙ subst (λ n. slice_get (split_fates fates k conflict s t) n ≡ Some Open) at f_is)) in
+          let value : is_some.0 ≡ sum v.costs = generated_sum left.child s is_some.0 is_some.1 left.state ∙ ap (λ (w : View). sum w.costs) h.1 in
+          subst (λ n. Contains (with_keys rest (length nodes) s t) (sum v.costs, n)) (sym at)
+          (subst (λ z. Contains (with_keys rest (length nodes) s t) (z, length nodes)) value
+          (with_key_old (with_key rest (length nodes) s) (length nodes + 1) t (is_some.0, length nodes) (with_key_new rest (length nodes) s is_some.0 is_some.1))))
+          (λ (h : (m ≡ length popped.state.views + 1) × (right.child ≡ v)).
+          let at : m ≡ length nodes + 1 = h.0 ∙ ap (λ n. n + 1) size in
+          let is_some = open_total t (same_Some (fate_of t) Open (sym second_fate ∙ subst (λ n. slice_get (split_fates fates k conflict s t) n ≡ Some Open) at f_is)) in
+          let value : is_some.0 ≡ sum v.costs = generated_sum right.child t is_some.0 is_some.1 right.state ∙ ap (λ (w : View). sum w.costs) h.1 in
+          subst (λ n. Contains (with_keys rest (length nodes) s t) (sum v.costs, n)) (sym at)
+          (subst (λ z. Contains (with_keys rest (length nodes) s t) (z, length nodes + 1)) value
+          (with_key_new (with_key rest (length nodes) s) (length nodes + 1) t is_some.0 is_some.1)))
+          new)
+          (two_more_at popped.state.views left.child right.child v m v_is);
+    }
 
-      least_first : (m : ℕ) (other : View) → slice_get popped.views m ≡ Some other → slice_get fates m ≡ Some Open → sum view.costs ≤ sum other.costs
-      least_first m other m_is m_open =
-          let first = first_open ((total, k) ∷ rest) rest (total, k) popped.views fates refl popped.above popped.opens in
-          let same : first.0 ≡ view = same_Some first.0 view (sym first.1 ∙ is) in
-          subst (λ (w : View). sum w.costs ≤ sum other.costs) same (first.4 m other m_is m_open)
+    small_grown : (x : ℕ × ℕ) → Contains (with_keys rest (length nodes) s t) x → x.0 ≤ ((count + 1) + 200) * 2 ^ 32
+    small_grown x in_it =
+        let top = popped.state.small (total, k) (Contains-first (total, k) rest) in
+        ⊎_elim
+        (λ (h : Contains (with_key rest (length nodes) s) x). ⊎_elim
+        (λ (old : Contains rest x). let b = popped.state.small x (Contains-later (total, k) x rest old) in omega (arith, b))
+        (λ (new : (z : ℕ) × (s ≡ Some z) × (x ≡ (z, length nodes))). let b = generated_small left.child s new.0 new.1 left.state in let e = ap (λ (y : ℕ × ℕ). y.0) new.2 in omega (arith, b, e, top, total_is))
+        (with_key_only rest (length nodes) s x h))
+        (λ (new : (z : ℕ) × (t ≡ Some z) × (x ≡ (z, length nodes + 1))). let b = generated_small right.child t new.0 new.1 right.state in let e = ap (λ (y : ℕ × ℕ). y.0) new.2 in omega (arith, b, e, top, total_is))
+        (with_key_only (with_key rest (length nodes) s) (length nodes + 1) t x in_it)
 
-      pub searched_after : IsSearched problem (popped.views ++ left.child ∷ right.child ∷ []) after (count + 1)
-      searched_after = searched_grown problem goals popped.views fates count popped.searched k view is is_open least_first conflict on_first early left.child right.child
-          (left.constraints ∙ sym (left_constraints_are view.constraints conflict)) (right.constraints ∙ sym (right_constraints_are view.constraints conflict))
-          (fate_of s) (fate_of t) (generated_fate problem view left.child s left.state) (generated_fate problem view right.child t right.state) after grown
+    pub searched_after : IsSearched problem (popped.state.views ++ left.child ∷ right.child ∷ []) (split_fates fates k conflict s t) (count + 1)
+    searched_after = searched_grown problem goals popped.state.views fates count popped.state.searched k view is is_open (least_popped problem nodes fates rest count total k popped view is) conflict on_first early left.child right.child
+        left.constraints right.constraints
+        (fate_of s) (fate_of t) (generated_fate problem view left.child s left.state) (generated_fate problem view right.child t right.state) (split_fates fates k conflict s t) grown
 
-      pub state_grown : left_agent conflict < length view.paths → right_agent conflict < length view.paths → IsTableBar (left_bar conflict) → IsTableBar (right_bar conflict) →
-          IsState problem ((nodes ++ Child k (left_agent conflict) (left_bar conflict) f ∷ []) ++ Child k (right_agent conflict) (right_bar conflict) g ∷ []) after (with_key (with_key rest s (length nodes)) t (length nodes + 1)) (count + 1)
-      state_grown a_in b_in p_low q_low =
-          let size = same_length in
-          let inside : k < length popped.views = slice_get_within popped.views k view is in
-          record {
-            views = popped.views ++ left.child ∷ right.child ∷ [];
-            are = views_pushed nodes popped.views popped.are k view is (left_agent conflict) (right_agent conflict) a_in b_in (left_bar conflict) (right_bar conflict) f g left.child right.child left.is_child right.is_child;
-            searched = searched_after;
-            opens = opens_grown;
-            nodes_for = λ agent known.
-                each_pushed nodes popped.views popped.are k view is (left_agent conflict) (right_agent conflict) a_in b_in (left_bar conflict) (right_bar conflict) f g left.child right.child left.is_child right.is_child
-                (IsNodeFor agent) (popped.nodes_for agent known) (omega arith) (omega arith);
-            bars = each_pushed nodes popped.views popped.are k view is (left_agent conflict) (right_agent conflict) a_in b_in (left_bar conflict) (right_bar conflict) f g left.child right.child left.is_child right.is_child
-                (λ m node. HasTableBar node) popped.bars p_low q_low;
-            size =
-                let was = popped.size in
-                let more = length-two_more nodes (Child k (left_agent conflict) (left_bar conflict) f) (Child k (right_agent conflict) (right_bar conflict) g) in
-                ap length (two_pushed nodes (Child k (left_agent conflict) (left_bar conflict) f) (Child k (right_agent conflict) (right_bar conflict) g)) ∙ omega (arith, was, more);
-            small = small_grown;
-          }
+    pub state_grown : IsState problem (with_children nodes k conflict f g) (split_fates fates k conflict s t) (with_keys rest (length nodes) s t) (count + 1)
+    state_grown =
+        let fit = of_paths view.paths conflict on_first.has early in
+        let size = same_length in
+        let inside : k < length popped.state.views = slice_get_within popped.state.views k view is in
+        record {
+          views = popped.state.views ++ left.child ∷ right.child ∷ [];
+          are = views_pushed nodes popped.state.views popped.state.are k view is (left_constraint conflict) (right_constraint conflict) fit.0.0 fit.1.0 f g left.child right.child left.is_child right.is_child;
+          searched = searched_after;
+          opens = opens_grown;
+          nodes_for = λ agent known.
+              each_pushed nodes popped.state.views popped.state.are k view is (left_constraint conflict) (right_constraint conflict) fit.0.0 fit.1.0 f g left.child right.child left.is_child right.is_child
+              (IsNodeFor agent) (popped.state.nodes_for agent known) (omega arith) (omega arith);
+          bars = each_pushed nodes popped.state.views popped.state.are k view is (left_constraint conflict) (right_constraint conflict) fit.0.0 fit.1.0 f g left.child right.child left.is_child right.is_child
+              (λ m node. HasTableBar node) popped.state.bars fit.0.1 fit.1.1;
+          size =
+              let was = popped.state.size in
+              let more = length-two_more nodes (Child k (left_constraint conflict) f) (Child k (right_constraint conflict) g) in
+              ap length (two_pushed nodes (Child k (left_constraint conflict) f) (Child k (right_constraint conflict) g)) ∙ omega (arith, was, more);
+          small = small_grown;
+        }
 
-      pub grown_views : (a_in : left_agent conflict < length view.paths) (b_in : right_agent conflict < length view.paths) (p_low : IsTableBar (left_bar conflict)) (q_low : IsTableBar (right_bar conflict)) → (state_grown a_in b_in p_low q_low).views ≡ popped.views ++ left.child ∷ right.child ∷ []
-      unfolding state_grown
-      grown_views a_in b_in p_low q_low = refl
+    pub grown_views : state_grown.views ≡ popped.state.views ++ left.child ∷ right.child ∷ []
+    unfolding state_grown
+    grown_views = refl
 
 -- the node in hand
 pub record IsInHand (problem : Instance) (fates : List Fate) (k total : ℕ) (views : List View) : Type 0 where
@@ -287,38 +278,7 @@ pub record IsInHand (problem : Instance) (fates : List Fate) (k total : ℕ) (vi
   pub total_is : total ≡ sum view.costs
   pub live : IsLive problem view
 
-pub in_hand : (problem : Instance) (nodes : List Node) (fates : List Fate) (rest : List (ℕ × ℕ)) (count total k : ℕ) (popped : IsPopped problem nodes fates rest count total k) → IsInHand problem fates k total popped.views
+pub in_hand : (problem : Instance) (nodes : List Node) (fates : List Fate) (rest : List (ℕ × ℕ)) (count total k : ℕ) (popped : IsPopped problem nodes fates rest count total k) → IsInHand problem fates k total popped.state.views
 in_hand problem nodes fates rest count total k popped =
-    let first = popped.opens.only (total, k) (Contains-first (total, k) rest) in
-    record { view = first.0; is = first.1; is_open = first.2; total_is = first.3; live = popped.searched.each k first.0 Open first.1 first.2 }
-
-left_tick : (conflict : Conflict) → bar_tick (left_bar conflict) ≡ tick_of conflict
-left_tick (Vertex i j cell tick) = refl
-left_tick (Swap i j from to tick) = refl
-
-right_tick : (conflict : Conflict) → bar_tick (right_bar conflict) ≡ tick_of conflict
-right_tick (Vertex i j cell tick) = refl
-right_tick (Swap i j from to tick) = refl
-
-left_moves : (paths : List (List ℕ)) (conflict : Conflict) → HasConflict paths conflict → IsBar (left_bar conflict)
-left_moves paths (Vertex i j cell tick) meet = tt
-left_moves paths (Swap i j from to tick) meet = meet.1
-
-right_moves : (paths : List (List ℕ)) (conflict : Conflict) → HasConflict paths conflict → IsBar (right_bar conflict)
-right_moves paths (Vertex i j cell tick) meet = tt
-right_moves paths (Swap i j from to tick) meet = λ e. meet.1 (sym e)
-
--- the bars of a conflict's children are such as a table takes
-pub left_table_bar : (paths : List (List ℕ)) (conflict : Conflict) → HasConflict paths conflict → tick_of conflict < 1000000 → IsTableBar (left_bar conflict)
-left_table_bar paths conflict meet early = (let e = left_tick conflict in omega (arith, e, early), left_moves paths conflict meet)
-
-pub right_table_bar : (paths : List (List ℕ)) (conflict : Conflict) → HasConflict paths conflict → tick_of conflict < 1000000 → IsTableBar (right_bar conflict)
-right_table_bar paths conflict meet early = (let e = right_tick conflict in omega (arith, e, early), right_moves paths conflict meet)
-
-pub left_known : (paths : List (List ℕ)) (conflict : Conflict) → HasConflict paths conflict → left_agent conflict < length paths
-left_known paths (Vertex i j cell tick) (differ, p, q, ip, jq, here, there) = slice_get_within paths i p ip
-left_known paths (Swap i j from to tick) (differ, moved, p, q, ip, jq, here, there) = slice_get_within paths i p ip
-
-pub right_known : (paths : List (List ℕ)) (conflict : Conflict) → HasConflict paths conflict → right_agent conflict < length paths
-right_known paths (Vertex i j cell tick) (differ, p, q, ip, jq, here, there) = slice_get_within paths j q jq
-right_known paths (Swap i j from to tick) (differ, moved, p, q, ip, jq, here, there) = slice_get_within paths j q jq
+    let first = popped.state.opens.only (total, k) (Contains-first (total, k) rest) in
+    record { view = first.0; is = first.1; is_open = first.2; total_is = first.3; live = popped.state.searched.each k first.0 Open first.1 first.2 }

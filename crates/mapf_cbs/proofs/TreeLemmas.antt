@@ -1,5 +1,5 @@
 -- What the tree of a search shows, and that it is earned.
-use Rattle.std.proofs.Common.{◌≡◌, ◌≢◌, ◌⊎◌, ℕ, ◌<◌, ◌≤◌, List, Option, Some, None, length, sum, map, slice_get, slice_set, refl, sym, ◌∙◌, subst, inl, inr, ⊎_elim, arith, nat_eq}
+use Rattle.std.proofs.Common.{◌≡◌, ◌≢◌, ◌⊎◌, ℕ, ◌+◌, ◌<◌, ◌≤◌, List, Option, Some, None, length, sum, map, slice_get, slice_set, refl, sym, ◌∙◌, subst, inl, inr, ⊎_elim, arith, nat_eq}
 use Rattle.std.proofs.lemmas.Bool.{cases_eq, cases_lt, cond_both, eqb-true}
 use Rattle.std.proofs.lemmas.Option.{slice_get_within, same_Some, slice_get-map}
 use Rattle.mapf_model.specs.declared.problem.Agent.{Agent}
@@ -119,60 +119,58 @@ module _ (problem : Instance) (views : List View) (fates : List Fate) (count : �
   -- what is so of each node of the search is so of each node of its tree
   pub each_node : (P : NodeConstraints → ConstraintTree → Type 0) → ((k : ℕ) (view : View) (tree : ConstraintTree) → slice_get views k ≡ Some view → IsTreeAt (length problem.agents) views fates k tree → P view.constraints tree) →
       (tree : ConstraintTree) (k : ℕ) (view : View) → slice_get views k ≡ Some view → IsTreeAt (length problem.agents) views fates k tree → AtEachNode P view.constraints tree
-  each_node P f (Split conflict left right) k view is (a, b, expanded, on_left, on_right) =
-      let at_expanded = searched.each k view (Expanded conflict a b) is expanded in
+  each_node P f (Split conflict left right) k view is (a, expanded, on_left, on_right) =
+      let at_expanded = searched.each k view (Expanded conflict a) is expanded in
       let x = at_expanded.to_left in let y = at_expanded.to_right in (
-        f k view (Split conflict left right) is (a, b, expanded, on_left, on_right),
+        f k view (Split conflict left right) is (a, expanded, on_left, on_right),
         subst (λ constraints. AtEachNode P constraints left) x.2 (each_node P f left a x.0 x.1 on_left),
-        subst (λ constraints. AtEachNode P constraints right) y.2 (each_node P f right b y.0 y.1 on_right),
+        subst (λ constraints. AtEachNode P constraints right) y.2 (each_node P f right (a + 1) y.0 y.1 on_right),
       )
   each_node P f (Leaf blocks) k view is at_leaf = f k view (Leaf blocks) is at_leaf
   each_node P f (Clash i j) k view is none = absurd none
 
   pub each_end : (P : NodeConstraints → Type 0) → ((k : ℕ) (view : View) (fate : Fate) → slice_get views k ≡ Some view → slice_get fates k ≡ Some fate → IsEndFate fate → P view.constraints) →
       (tree : ConstraintTree) (k : ℕ) (view : View) → slice_get views k ≡ Some view → IsTreeAt (length problem.agents) views fates k tree → AtEachEnd P view.constraints tree
-  each_end P f (Split conflict left right) k view is (a, b, expanded, on_left, on_right) =
-      let at_expanded = searched.each k view (Expanded conflict a b) is expanded in
+  each_end P f (Split conflict left right) k view is (a, expanded, on_left, on_right) =
+      let at_expanded = searched.each k view (Expanded conflict a) is expanded in
       let x = at_expanded.to_left in let y = at_expanded.to_right in (
         subst (λ constraints. AtEachEnd P constraints left) x.2 (each_end P f left a x.0 x.1 on_left),
-        subst (λ constraints. AtEachEnd P constraints right) y.2 (each_end P f right b y.0 y.1 on_right),
+        subst (λ constraints. AtEachEnd P constraints right) y.2 (each_end P f right (a + 1) y.0 y.1 on_right),
       )
   each_end P f (Leaf blocks) k view is (other, fate, other_is, fate_is, end, blocks_are) = f k view fate is fate_is end
   each_end P f (Clash i j) k view is none = absurd none
 
   -- the search's tree has as many splits as its form
   pub split_count_is : (tree : ConstraintTree) (shape : Shape) (k : ℕ) → IsShape fates k shape → IsTreeAt (length problem.agents) views fates k tree → split_count tree ≡ splits shape
-  split_count_is (Split conflict left right) (Node l r) k (c, x, y, is, on_l, on_r) (a, b, expanded, on_left, on_right) =
-      let same : Expanded c x y ≡ Expanded conflict a b = same_Some (Expanded c x y) (Expanded conflict a b) (sym is ∙ expanded) in
+  split_count_is (Split conflict left right) (Node l r) k (c, x, is, on_l, on_r) (a, expanded, on_left, on_right) =
+      let same : Expanded c x ≡ Expanded conflict a = same_Some (Expanded c x) (Expanded conflict a) (sym is ∙ expanded) in
       let x_is : x ≡ a = cc in
-      let y_is : y ≡ b = cc in
       let e = split_count_is left l a (subst (λ n. IsShape fates n l) x_is on_l) on_left in
-      let f = split_count_is right r b (subst (λ n. IsShape fates n r) y_is on_r) on_right in
+      let f = split_count_is right r (a + 1) (subst (λ n. IsShape fates (n + 1) r) x_is on_r) on_right in
       omega arith
-  split_count_is (Split conflict left right) (End m) k (same, fate, is, end) (a, b, expanded, on_left, on_right) =
-      absurd (subst IsEndFate (same_Some fate (Expanded conflict a b) (sym is ∙ expanded)) end)
-  split_count_is (Leaf blocks) (Node l r) k (c, x, y, is, on_l, on_r) (view, fate, view_is, fate_is, end, are) =
-      absurd (subst IsEndFate (same_Some fate (Expanded c x y) (sym fate_is ∙ is)) end)
+  split_count_is (Split conflict left right) (End m) k (same, fate, is, end) (a, expanded, on_left, on_right) =
+      absurd (subst IsEndFate (same_Some fate (Expanded conflict a) (sym is ∙ expanded)) end)
+  split_count_is (Leaf blocks) (Node l r) k (c, x, is, on_l, on_r) (view, fate, view_is, fate_is, end, are) =
+      absurd (subst IsEndFate (same_Some fate (Expanded c x) (sym fate_is ∙ is)) end)
   split_count_is (Leaf blocks) (End m) k on at_leaf = refl
   split_count_is (Clash i j) shape k on none = absurd none
 
   -- an end of the form is a leaf of the tree
   pub some_leaf : (P : NodeConstraints → Type 0) (j : ℕ) (view_j : View) → slice_get views j ≡ Some view_j → P view_j.constraints →
       (tree : ConstraintTree) (shape : Shape) (k : ℕ) (view : View) → slice_get views k ≡ Some view → IsShape fates k shape → IsTreeAt (length problem.agents) views fates k tree → 0 < occurrences j shape → AtSomeLeaf P view.constraints tree
-  some_leaf P j view_j j_is holds (Split conflict left right) (Node l r) k view is (c, x, y, split, on_l, on_r) (a, b, expanded, on_left, on_right) some =
-      let at_expanded = searched.each k view (Expanded conflict a b) is expanded in
+  some_leaf P j view_j j_is holds (Split conflict left right) (Node l r) k view is (c, x, split, on_l, on_r) (a, expanded, on_left, on_right) some =
+      let at_expanded = searched.each k view (Expanded conflict a) is expanded in
       let to_left = at_expanded.to_left in let to_right = at_expanded.to_right in
-      let same : Expanded c x y ≡ Expanded conflict a b = same_Some (Expanded c x y) (Expanded conflict a b) (sym split ∙ expanded) in
+      let same : Expanded c x ≡ Expanded conflict a = same_Some (Expanded c x) (Expanded conflict a) (sym split ∙ expanded) in
       let x_is : x ≡ a = cc in
-      let y_is : y ≡ b = cc in
       ⊎_elim
       (λ (here : 0 < occurrences j l). inl (subst (λ constraints. AtSomeLeaf P constraints left) to_left.2 (some_leaf P j view_j j_is holds left l a to_left.0 to_left.1 (subst (λ n. IsShape fates n l) x_is on_l) on_left here)))
-      (λ (not_here : occurrences j l ≤ 0). inr (subst (λ constraints. AtSomeLeaf P constraints right) to_right.2 (some_leaf P j view_j j_is holds right r b to_right.0 to_right.1 (subst (λ n. IsShape fates n r) y_is on_r) on_right (omega arith))))
+      (λ (not_here : occurrences j l ≤ 0). inr (subst (λ constraints. AtSomeLeaf P constraints right) to_right.2 (some_leaf P j view_j j_is holds right r (a + 1) to_right.0 to_right.1 (subst (λ n. IsShape fates (n + 1) r) x_is on_r) on_right (omega arith))))
       (cases_lt 0 (occurrences j l))
-  some_leaf P j view_j j_is holds (Split conflict left right) (End m) k view is (same, fate, fate_is, end) (a, b, expanded, on_left, on_right) some =
-      absurd (subst IsEndFate (same_Some fate (Expanded conflict a b) (sym fate_is ∙ expanded)) end)
-  some_leaf P j view_j j_is holds (Leaf blocks) (Node l r) k view is (c, x, y, split, on_l, on_r) (other, fate, other_is, fate_is, end, are) some =
-      absurd (subst IsEndFate (same_Some fate (Expanded c x y) (sym fate_is ∙ split)) end)
+  some_leaf P j view_j j_is holds (Split conflict left right) (End m) k view is (same, fate, fate_is, end) (a, expanded, on_left, on_right) some =
+      absurd (subst IsEndFate (same_Some fate (Expanded conflict a) (sym fate_is ∙ expanded)) end)
+  some_leaf P j view_j j_is holds (Leaf blocks) (Node l r) k view is (c, x, split, on_l, on_r) (other, fate, other_is, fate_is, end, are) some =
+      absurd (subst IsEndFate (same_Some fate (Expanded c x) (sym fate_is ∙ split)) end)
   some_leaf P j view_j j_is holds (Leaf blocks) (End m) k view is (same, fate, fate_is, end) at_leaf some = ⊎_elim
       (λ (e : j ≡ m). subst (λ (v : View). P v.constraints) (same_Some view_j view (sym j_is ∙ subst (λ n. slice_get views n ≡ Some view) (same ∙ sym e) is)) holds)
       (λ (e : j ≢ m). absurd (cond_both (nat_eq j m) 1 0 (λ n. 0 < n → ⊥) (λ t. absurd (e (eqb-true j m t))) (λ f h. omega arith) some))
@@ -185,7 +183,7 @@ module _ (problem : Instance) (views : List View) (fates : List Fate) (count : �
   at_least low least k view Open is fate_is end others total cheapest is_sum =
       let one = least k view is fate_is in let two = live_least problem view (searched.each k view Open is fate_is) others total cheapest is_sum in omega arith
   at_least low least k view Dead is fate_is end others total cheapest is_sum = absurd (dead_none problem view (searched.each k view Dead is fate_is) others cheapest)
-  at_least low least k view (Expanded c a b) is fate_is end others total cheapest is_sum = absurd end
+  at_least low least k view (Expanded c a) is fate_is end others total cheapest is_sum = absurd end
 
   module _ (tree : ConstraintTree) (on_tree : IsTreeAt (length problem.agents) views fates 0 tree) where
     -- a list of a node is due where no open node has a smaller sum
@@ -198,36 +196,28 @@ module _ (problem : Instance) (views : List View) (fates : List Fate) (count : �
           (at_least (sum view.costs) least) tree 0 searched.first.0 searched.first.1 on_tree);
     }
 
-    proper_node : (k : ℕ) (view : View) (node : ConstraintTree) → slice_get views k ≡ Some view → IsTreeAt (length problem.agents) views fates k node → IsProperNode problem node
-    proper_node k view (Split c left right) is (a, b, expanded, on_left, on_right) = (searched.each k view (Expanded c a b) is expanded).proper
-    proper_node k view (Leaf blocks) is (other, fate, other_is, fate_is, end, are) = (are.different, are.of_agents)
-    proper_node k view (Clash i j) is none = absurd none
+    -- what is so of each node of the search is so of each node of the tree, from the root on
+    from_root : (P : NodeConstraints → ConstraintTree → Type 0) → ((k : ℕ) (view : View) (node : ConstraintTree) → slice_get views k ≡ Some view → IsTreeAt (length problem.agents) views fates k node → P view.constraints node) → AtEachNode P root tree
+    from_root P f = subst (λ constraints. AtEachNode P constraints tree) searched.first.2 (each_node P f tree 0 searched.first.0 searched.first.1 on_tree)
+
+    -- each node is proper, and a split stands on the first conflict of due paths
+    node_facts : (k : ℕ) (view : View) (node : ConstraintTree) → slice_get views k ≡ Some view → IsTreeAt (length problem.agents) views fates k node → IsProperNode problem node × IsEarnedNode problem tree view.constraints node × IsOnFirstConflict problem tree view.constraints node
+    node_facts k view (Split c left right) is (a, expanded, on_left, on_right) =
+        let at_expanded = searched.each k view (Expanded c a) is expanded in
+        let first = at_expanded.on_first in
+        let is_due = due view at_expanded.live (λ m other other_is is_open. searched.least k m view other (Expanded c a) is other_is expanded tt is_open) in
+        (at_expanded.proper, (view.paths, sum view.costs, is_due, first.has, first.earliest), (view.paths, sum view.costs, is_due, live_first problem view at_expanded.live, first))
+    node_facts k view (Leaf blocks) is (other, fate, other_is, fate_is, end, are) = ((are.different, are.of_agents), tt, tt)
+    node_facts k view (Clash i j) is none = absurd none
 
     pub is_proper : IsProper problem tree
-    is_proper = subst (λ constraints. AtEachNode (λ to node. IsProperNode problem node) constraints tree) searched.first.2 (each_node (λ to node. IsProperNode problem node) proper_node tree 0 searched.first.0 searched.first.1 on_tree)
-
-    earned_node : (k : ℕ) (view : View) (node : ConstraintTree) → slice_get views k ≡ Some view → IsTreeAt (length problem.agents) views fates k node → IsEarnedNode problem tree view.constraints node
-    earned_node k view (Split c left right) is (a, b, expanded, on_left, on_right) =
-        let at_expanded = searched.each k view (Expanded c a b) is expanded in
-        (view.paths, sum view.costs, due view at_expanded.live (λ m other other_is is_open. searched.least k m view other (Expanded c a b) is other_is expanded tt is_open), at_expanded.on_first.has, at_expanded.on_first.earliest)
-    earned_node k view (Leaf blocks) is at_leaf = tt
-    earned_node k view (Clash i j) is none = tt
+    is_proper = from_root (λ to node. IsProperNode problem node) (λ k view node is at. (node_facts k view node is at).0)
 
     pub is_earned : IsEarned problem tree
-    is_earned = record {
-      proper = is_proper;
-      splits = subst (λ constraints. AtEachNode (IsEarnedNode problem tree) constraints tree) searched.first.2 (each_node (IsEarnedNode problem tree) earned_node tree 0 searched.first.0 searched.first.1 on_tree);
-    }
-
-    first_node : (k : ℕ) (view : View) (node : ConstraintTree) → slice_get views k ≡ Some view → IsTreeAt (length problem.agents) views fates k node → IsOnFirstConflict problem tree view.constraints node
-    first_node k view (Split c left right) is (a, b, expanded, on_left, on_right) =
-        let at_expanded = searched.each k view (Expanded c a b) is expanded in
-        (view.paths, sum view.costs, due view at_expanded.live (λ m other other_is is_open. searched.least k m view other (Expanded c a b) is other_is expanded tt is_open), live_first problem view at_expanded.live, at_expanded.on_first)
-    first_node k view (Leaf blocks) is at_leaf = tt
-    first_node k view (Clash i j) is none = tt
+    is_earned = record { proper = is_proper; splits = from_root (IsEarnedNode problem tree) (λ k view node is at. (node_facts k view node is at).1) }
 
     pub is_on_first : AreOnFirstConflicts problem tree
-    is_on_first = subst (λ constraints. AtEachNode (IsOnFirstConflict problem tree) constraints tree) searched.first.2 (each_node (IsOnFirstConflict problem tree) first_node tree 0 searched.first.0 searched.first.1 on_tree)
+    is_on_first = from_root (IsOnFirstConflict problem tree) (λ k view node is at. (node_facts k view node is at).2)
 
     cost_node : (cost : ℕ) → ((m : ℕ) (other : View) → slice_get views m ≡ Some other → slice_get fates m ≡ Some Open → cost ≤ sum other.costs) →
         (k : ℕ) (view : View) (node : ConstraintTree) → slice_get views k ≡ Some view → IsTreeAt (length problem.agents) views fates k node → NodeShows problem (Cost cost) view.constraints node
@@ -238,14 +228,14 @@ module _ (problem : Instance) (views : List View) (fates : List Fate) (count : �
     cost_node cost least k view (Leaf blocks) is (other, Dead, other_is, fate_is, end, are) =
         let blocks_are = subst (λ (v : View). AreBlocksOf (length problem.agents) v.entries blocks) (same_Some other view (sym other_is ∙ is)) are in
         dead_shows problem view blocks blocks_are (searched.each k view Dead is fate_is) cost
-    cost_node cost least k view (Leaf blocks) is (other, Expanded c a b, other_is, fate_is, end, are) = absurd end
+    cost_node cost least k view (Leaf blocks) is (other, Expanded c a, other_is, fate_is, end, are) = absurd end
     cost_node cost least k view (Clash i j) is none = absurd none
 
     -- the least sum of the open nodes is shown
     pub shows_cost : (cost : ℕ) → ((m : ℕ) (other : View) → slice_get views m ≡ Some other → slice_get fates m ≡ Some Open → cost ≤ sum other.costs) → Shows problem (Cost cost) tree
     shows_cost cost least = record {
       proper = is_proper;
-      nodes = subst (λ constraints. AtEachNode (NodeShows problem (Cost cost)) constraints tree) searched.first.2 (each_node (NodeShows problem (Cost cost)) (cost_node cost least) tree 0 searched.first.0 searched.first.1 on_tree);
+      nodes = from_root (NodeShows problem (Cost cost)) (cost_node cost least);
     }
 
     impossible_node : ((m : ℕ) → slice_get fates m ≡ Some Open → ⊥) →
@@ -255,13 +245,13 @@ module _ (problem : Instance) (views : List View) (fates : List Fate) (count : �
     impossible_node none_open k view (Leaf blocks) is (other, Dead, other_is, fate_is, end, are) =
         let blocks_are = subst (λ (v : View). AreBlocksOf (length problem.agents) v.entries blocks) (same_Some other view (sym other_is ∙ is)) are in
         dead_shows_impossible problem view blocks blocks_are (searched.each k view Dead is fate_is)
-    impossible_node none_open k view (Leaf blocks) is (other, Expanded c a b, other_is, fate_is, end, are) = absurd end
+    impossible_node none_open k view (Leaf blocks) is (other, Expanded c a, other_is, fate_is, end, are) = absurd end
     impossible_node none_open k view (Clash i j) is none = absurd none
 
     pub shows_impossible : ((m : ℕ) → slice_get fates m ≡ Some Open → ⊥) → Shows problem Impossible tree
     shows_impossible none_open = record {
       proper = is_proper;
-      nodes = subst (λ constraints. AtEachNode (NodeShows problem Impossible) constraints tree) searched.first.2 (each_node (NodeShows problem Impossible) (impossible_node none_open) tree 0 searched.first.0 searched.first.1 on_tree);
+      nodes = from_root (NodeShows problem Impossible) (impossible_node none_open);
     }
 
     pub has_splits : split_count tree ≡ count

@@ -18,6 +18,7 @@ use Rattle.mapf_spacetime.specs.declared.found.Found.{Found}
 use Rattle.mapf_spacetime.specs.declared.found.Found.TheVariants.{Arrives, Dead}
 use Rattle.mapf_cbs.specs.declared.whole_node.AgentPath.{AgentPath}
 use Rattle.mapf_cbs.specs.declared.whole_node.WholeNode.{WholeNode}
+use Rattle.mapf_model.specs.declared.constraint.Constraint.{Constraint}
 use Rattle.mapf_cbs.specs.Nodes.{IsChildView}
 use Rattle.mapf_cbs.specs.GeneratedChild.{IsTotal, IsGeneratedState}
 use Rattle.mapf_cbs.specs.Search.{View}
@@ -141,13 +142,13 @@ copy_at view i agent_path copy at same = record {
   bars = λ bar. (λ h. (same.bars bar).1 ((at.bars bar).0 h), λ h. (at.bars bar).1 ((same.bars bar).0 h));
 }
 
-paths_count : (view : View) (agent : ℕ) (bar : Bar) (found : Found) (child : View) → IsChildView view agent bar found child → length child.paths ≡ length view.paths
-paths_count view agent bar (Arrives path labels) child (cost, e) = ap (λ (v : View). length v.paths) e ∙ length-slice_set view.paths agent path
-paths_count view agent bar (Dead labels) child e = ap (λ (v : View). length v.paths) e
+paths_count : (view : View) (constraint : Constraint) (found : Found) (child : View) → IsChildView view constraint found child → length child.paths ≡ length view.paths
+paths_count view constraint (Arrives path labels) child (cost, e) = ap (λ (v : View). length v.paths) e ∙ length-slice_set view.paths constraint.agent path
+paths_count view constraint (Dead labels) child e = ap (λ (v : View). length v.paths) e
 
-path_new : (view : View) (agent : ℕ) (bar : Bar) (found : Found) (child : View) → IsChildView view agent bar found child → (bars : List Bar) (old agent_path : AgentPath) → slice_get view.paths agent ≡ Some old.path → IsAfter old found bars agent_path → slice_get child.paths agent ≡ Some agent_path.path
-path_new view agent bar (Arrives path labels) child (cost, e) bars old agent_path old_is after = ap (λ (v : View). slice_get v.paths agent) e ∙ slice_get-set_same view.paths agent path (slice_get_within view.paths agent old.path old_is) ∙ ap Some (sym after.0)
-path_new view agent bar (Dead labels) child e bars old agent_path old_is after = ap (λ (v : View). slice_get v.paths agent) e ∙ old_is ∙ ap Some (sym after.0)
+path_new : (view : View) (constraint : Constraint) (found : Found) (child : View) → IsChildView view constraint found child → (bars : List Bar) (old agent_path : AgentPath) → slice_get view.paths constraint.agent ≡ Some old.path → IsAfter old found bars agent_path → slice_get child.paths constraint.agent ≡ Some agent_path.path
+path_new view constraint (Arrives path labels) child (cost, e) bars old agent_path old_is after = ap (λ (v : View). slice_get v.paths constraint.agent) e ∙ slice_get-set_same view.paths constraint.agent path (slice_get_within view.paths constraint.agent old.path old_is) ∙ ap Some (sym after.0)
+path_new view constraint (Dead labels) child e bars old agent_path old_is after = ap (λ (v : View). slice_get v.paths constraint.agent) e ∙ old_is ∙ ap Some (sym after.0)
 
 entries_after : (old : AgentPath) (found : Found) (bars : List Bar) (agent_path : AgentPath) → IsAfter old found bars agent_path → found_labels found ≡ agent_path.entries.items
 entries_after old (Arrives path labels) bars agent_path after = sym after.1
@@ -158,39 +159,39 @@ bars_after old (Arrives path labels) bars agent_path after = after.2
 bars_after old (Dead labels) bars agent_path after = after.2
 
 -- a node in which one agent's path changed is the child
-module _ (view : View) (node : WholeNode) (whole : IsWhole node view) (agent : ℕ) (bar : Bar) (found : Found) (child : View) (is_child : IsChildView view agent bar found child) where
-  agent_path_kept : (i : ℕ) (agent_path : AgentPath) → i ≢ agent → IsAgentPathAt view i agent_path → IsAgentPathAt child i agent_path
+module _ (view : View) (node : WholeNode) (whole : IsWhole node view) (constraint : Constraint) (found : Found) (child : View) (is_child : IsChildView view constraint found child) where
+  agent_path_kept : (i : ℕ) (agent_path : AgentPath) → i ≢ constraint.agent → IsAgentPathAt view i agent_path → IsAgentPathAt child i agent_path
   agent_path_kept i agent_path other at = record {
-    path = paths_kept view i agent bar found child (inl other) is_child ∙ at.path;
-    entries = entries_kept view i agent bar found child other is_child ∙ at.entries;
-    bars = subst (λ bs. AreSameBars bs agent_path.bars) (sym (bars_other view i agent bar found child other is_child)) at.bars;
+    path = paths_kept view i constraint found child (inl other) is_child ∙ at.path;
+    entries = entries_kept view i constraint found child other is_child ∙ at.entries;
+    bars = subst (λ bs. AreSameBars bs agent_path.bars) (sym (bars_other view i constraint found child other is_child)) at.bars;
   }
 
-  module _ (bars : List Bar) (same : AreSameBars bars (bar ∷ view.constraints.bars agent)) (old : AgentPath) (here : slice_get node.agent_paths.items agent ≡ Some old) (agent_path : AgentPath) (after : IsAfter old found bars agent_path) where
-    agent_path_new : IsAgentPathAt child agent agent_path
+  module _ (bars : List Bar) (same : AreSameBars bars (constraint.bar ∷ view.constraints.bars constraint.agent)) (old : AgentPath) (here : slice_get node.agent_paths.items constraint.agent ≡ Some old) (agent_path : AgentPath) (after : IsAfter old found bars agent_path) where
+    agent_path_new : IsAgentPathAt child constraint.agent agent_path
     agent_path_new = record {
-      path = path_new view agent bar found child is_child bars old agent_path (whole.each agent old here).path after;
-      entries = entries_new view agent bar found child is_child ∙ entries_after old found bars agent_path after;
-      bars = subst (λ bs. AreSameBars bs agent_path.bars) (sym (bars_bound view agent bar found child is_child))
-          (subst (λ bs. AreSameBars (bar ∷ view.constraints.bars agent) bs) (sym (bars_after old found bars agent_path after)) (bars_swap bars (bar ∷ view.constraints.bars agent) same));
+      path = path_new view constraint found child is_child bars old agent_path (whole.each constraint.agent old here).path after;
+      entries = entries_new view constraint found child is_child ∙ entries_after old found bars agent_path after;
+      bars = subst (λ bs. AreSameBars bs agent_path.bars) (sym (bars_bound view constraint found child is_child))
+          (subst (λ bs. AreSameBars (constraint.bar ∷ view.constraints.bars constraint.agent) bs) (sym (bars_after old found bars agent_path after)) (bars_swap bars (constraint.bar ∷ view.constraints.bars constraint.agent) same));
     }
 
-    pub whole_child : (agent_paths : Vec AgentPath Global) → AreCopies (slice_set node.agent_paths.items agent agent_path) agent_paths.items → (total : ℕ) → total ≡ sum child.costs → IsWhole (record { agent_paths = agent_paths; total = total }) child
+    pub whole_child : (agent_paths : Vec AgentPath Global) → AreCopies (slice_set node.agent_paths.items constraint.agent agent_path) agent_paths.items → (total : ℕ) → total ≡ sum child.costs → IsWhole (record { agent_paths = agent_paths; total = total }) child
     whole_child agent_paths copies total total_is = record {
-      count = copies.count ∙ length-slice_set node.agent_paths.items agent agent_path ∙ whole.count ∙ sym (paths_count view agent bar found child is_child);
+      count = copies.count ∙ length-slice_set node.agent_paths.items constraint.agent agent_path ∙ whole.count ∙ sym (paths_count view constraint found child is_child);
       each = λ i r r_is.
           let from = copies.each i r r_is in
           copy_at child i from.0 r (⊎_elim
-          (λ (e : i ≡ agent).
-          let now : agent_path ≡ from.0 = same_Some agent_path from.0 (sym (slice_get-set_same node.agent_paths.items agent agent_path (slice_get_within node.agent_paths.items agent old here)) ∙ subst (λ n. slice_get (slice_set node.agent_paths.items agent agent_path) n ≡ Some from.0) e from.1) in
-          subst (λ n. IsAgentPathAt child n from.0) (sym e) (subst (λ x. IsAgentPathAt child agent x) now agent_path_new))
-          (λ (e : i ≢ agent). agent_path_kept i from.0 e (whole.each i from.0 (sym (slice_get-set_other node.agent_paths.items agent i agent_path e) ∙ from.1)))
-          (cases_eq i agent)) from.2;
+          (λ (e : i ≡ constraint.agent).
+          let now : agent_path ≡ from.0 = same_Some agent_path from.0 (sym (slice_get-set_same node.agent_paths.items constraint.agent agent_path (slice_get_within node.agent_paths.items constraint.agent old here)) ∙ subst (λ n. slice_get (slice_set node.agent_paths.items constraint.agent agent_path) n ≡ Some from.0) e from.1) in
+          subst (λ n. IsAgentPathAt child n from.0) (sym e) (subst (λ x. IsAgentPathAt child constraint.agent x) now agent_path_new))
+          (λ (e : i ≢ constraint.agent). agent_path_kept i from.0 e (whole.each i from.0 (sym (slice_get-set_other node.agent_paths.items constraint.agent i agent_path e) ∙ from.1)))
+          (cases_eq i constraint.agent)) from.2;
       total = total_is;
     }
 
-pub total_generated : (problem : Instance) (view child : View) (agent : ℕ) (bar : Bar) (found : Found) (goal rest : ℕ) (total : Option ℕ) (n : ℕ) → IsChildView view agent bar found child → IsTotal found goal rest total → IsGeneratedState problem view child total → n ≡ sum view.costs → unwrap_or total n ≡ sum child.costs
-total_generated problem view child agent bar (Arrives path labels) goal rest None n is_child (cost, is, fits, e) state sums = absurd cc
-total_generated problem view child agent bar (Arrives path labels) goal rest (Some m) n is_child is_total state sums = state.1
-total_generated problem view child agent bar (Dead labels) goal rest None n e is_total state sums = sums ∙ sym (ap (λ (v : View). sum v.costs) e)
-total_generated problem view child agent bar (Dead labels) goal rest (Some m) n e is_total state sums = state.1
+pub total_generated : (problem : Instance) (view child : View) (constraint : Constraint) (found : Found) (goal rest : ℕ) (total : Option ℕ) (n : ℕ) → IsChildView view constraint found child → IsTotal found goal rest total → IsGeneratedState problem view child total → n ≡ sum view.costs → unwrap_or total n ≡ sum child.costs
+total_generated problem view child constraint (Arrives path labels) goal rest None n is_child (cost, is, fits, e) state sums = absurd cc
+total_generated problem view child constraint (Arrives path labels) goal rest (Some m) n is_child is_total state sums = state.1
+total_generated problem view child constraint (Dead labels) goal rest None n e is_total state sums = sums ∙ sym (ap (λ (v : View). sum v.costs) e)
+total_generated problem view child constraint (Dead labels) goal rest (Some m) n e is_total state sums = state.1

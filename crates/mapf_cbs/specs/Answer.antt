@@ -6,6 +6,7 @@ use Rattle.mapf_model.specs.declared.item.Claim.TheVariants.{Cost, Impossible}
 use Rattle.mapf_model.specs.declared.item.Item.{Item}
 use Rattle.mapf_model.specs.Earned.{AreCheapest, AreConflictFreeBefore, HaveConflictBefore, IsEarned, IsStoppedWhere}
 use Rattle.mapf_model.specs.Grid.{free_cell_count}
+use Rattle.mapf_model.specs.Limits.{split_ticks}
 use Rattle.mapf_model.specs.Plan.{Instance, IsOptimal, IsImpossible}
 use Rattle.mapf_model.specs.Printed.{IsTreeInRange, IsPlanInRange, IsClaimInRange}
 use Rattle.mapf_model.specs.Tree.{ConstraintTree, NodeConstraints, Spell, Shows, AtSomeLeaf, root, split_count}
@@ -54,10 +55,10 @@ IsStoppedAtFirst Fact problem tree =
 -- have a conflict before tick 1,000,000, and the tree has exactly the limit's splits; or they conflict but have no
 -- conflict before tick 1,000,000, and one more than the splits, times the free cells, exceeds 1,000,000
 abbrev pub MayStop : Instance → ℕ → Cause → ConstraintTree → Type 0
-MayStop problem limit (Splits n) tree = IsStoppedAtFirst (λ paths. HaveConflictBefore paths 1000000) problem tree
+MayStop problem limit (Splits n) tree = IsStoppedAtFirst (λ paths. HaveConflictBefore paths split_ticks) problem tree
     × (n ≡ limit) × (split_count tree ≡ limit)
-MayStop problem limit Ticks tree = IsStoppedAtFirst (λ paths. AreConflictFreeBefore paths 1000000) problem tree
-    × (1000000 < (split_count tree + 1) * free_cell_count problem.grid)
+MayStop problem limit Ticks tree = IsStoppedAtFirst (λ paths. AreConflictFreeBefore paths split_ticks) problem tree
+    × (split_ticks < (split_count tree + 1) * free_cell_count problem.grid)
 
 -- a plan or impossibility with a tree that shows it, or a limit that was met
 abbrev pub IsSearchAnswer : Instance → ℕ → Answer → Type 0

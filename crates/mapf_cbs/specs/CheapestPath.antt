@@ -6,6 +6,7 @@ use Rattle.mapf_model.specs.declared.label.Label.TheVariants.{Ticks, Never}
 use Rattle.mapf_model.specs.declared.problem.Agent.{Agent}
 use Rattle.mapf_model.specs.Bars.{Satisfies, IsBar}
 use Rattle.mapf_model.specs.Grid.{GridMap, free_cell_count}
+use Rattle.mapf_model.specs.Limits.{split_ticks}
 use Rattle.mapf_model.specs.Labels.{entries_of, IsLabel}
 use Rattle.mapf_model.specs.Path.{IsLawful, IsCost, IsTight}
 use Rattle.mapf_constraints.specs.BarSets.{tick_of, AreBefore}
@@ -14,7 +15,7 @@ use Rattle.mapf_spacetime.specs.Task.{task_of}
 
 -- a bar that a table takes
 abbrev pub IsTableBar : Bar → Type 0
-IsTableBar bar = (tick_of bar < 1000000) × IsBar bar
+IsTableBar bar = (tick_of bar < split_ticks) × IsBar bar
 
 -- a cheapest path of an agent under its bars, the first of them by cell numbers, with its cost and the entries that
 -- show it

@@ -1,11 +1,11 @@
 -- A generated child, as it is found.
 use Rattle.std.specs.Prelude.{◌≡◌, ℕ, ◌+◌, ◌-◌, ◌<◌, ◌≤◌, ◌^◌, Option, Some, None, length, sum}
-use Rattle.mapf_model.specs.declared.bar.Bar.{Bar}
+use Rattle.mapf_model.specs.declared.constraint.Constraint.{Constraint}
 use Rattle.mapf_model.specs.Path.{at, IsCost}
 use Rattle.mapf_model.specs.Plan.{Instance}
-use Rattle.mapf_model.specs.Tree.{with_bar}
 use Rattle.mapf_spacetime.specs.declared.found.Found.{Found}
 use Rattle.mapf_spacetime.specs.declared.found.Found.TheVariants.{Arrives, Dead}
+use Rattle.mapf_model.specs.Tree.{child_constraints}
 use Rattle.mapf_cbs.specs.Search.{View, IsLive, IsDead}
 use Rattle.mapf_cbs.specs.Nodes.{IsChildView}
 
@@ -25,8 +25,8 @@ IsGeneratedState problem view child None = IsDead problem child
 IsGeneratedState problem view child (Some total) = IsLive problem child × (total ≡ sum child.costs) × (sum view.costs ≤ total) × (total ≤ sum view.costs + 2 ^ 32)
 
 -- the view of a child, live with this sum or dead
-pub record IsGeneratedChild (problem : Instance) (view : View) (agent : ℕ) (bar : Bar) (found : Found) (total : Option ℕ) : Type 0 where
+pub record IsGeneratedChild (problem : Instance) (view : View) (constraint : Constraint) (found : Found) (total : Option ℕ) : Type 0 where
   pub child : View
-  pub is_child : IsChildView view agent bar found child
-  pub constraints : child.constraints ≡ record { bars = with_bar view.constraints.bars agent bar }
+  pub is_child : IsChildView view constraint found child
+  pub constraints : child.constraints ≡ child_constraints view.constraints constraint
   pub state : IsGeneratedState problem view child total

@@ -1,6 +1,7 @@
 -- Nodes that hold their change alone, and what they mean.
 use Rattle.std.specs.Prelude.{◌≡◌, ◌⊎◌, ℕ, ◌<◌, List, [], Some, length, slice_get, Contains}
 use Rattle.mapf_model.specs.declared.bar.Bar.{Bar}
+use Rattle.mapf_model.specs.declared.constraint.Constraint.{Constraint}
 use Rattle.mapf_model.specs.Tree.{root}
 use Rattle.mapf_spacetime.specs.declared.found.Found.{Found}
 use Rattle.mapf_spacetime.specs.declared.found.Found.TheVariants.{Arrives, Dead}
@@ -15,7 +16,7 @@ use Rattle.mapf_cbs.specs.Search.{View, IsLive, live_child, dead_child}
 -- parents come before their children, and the root, which comes first, has a path of the agent
 abbrev pub IsNodeFor : ℕ → ℕ → Node → Type 0
 IsNodeFor agent k (Root paths) = (k ≡ 0) × (agent < length paths.items)
-IsNodeFor agent k (Child parent bound bar found) = parent < k
+IsNodeFor agent k (Child parent constraint found) = parent < k
 
 -- so it is with all nodes
 abbrev pub AreNodesFor : ℕ → List Node → Type 0
@@ -24,16 +25,16 @@ AreNodesFor agent nodes = (k : ℕ) (node : Node) → slice_get nodes k ≡ Some
 -- the bars are such as a table takes
 abbrev pub HasTableBar : Node → Type 0
 HasTableBar (Root paths) = Unit {0}
-HasTableBar (Child parent bound bar found) = IsTableBar bar
+HasTableBar (Child parent constraint found) = IsTableBar constraint.bar
 
 -- so it is with the bars of all nodes
 abbrev pub HaveTableBars : List Node → Type 0
 HaveTableBars nodes = (k : ℕ) (node : Node) → slice_get nodes k ≡ Some node → HasTableBar node
 
 -- what a child means, by what its parent means and what was found
-abbrev pub IsChildView : View → ℕ → Bar → Found → View → Type 0
-IsChildView before agent bar (Arrives path labels) view = (cost : ℕ) × (view ≡ live_child before agent bar path cost labels)
-IsChildView before agent bar (Dead labels) view = view ≡ dead_child before agent bar labels
+abbrev pub IsChildView : View → Constraint → Found → View → Type 0
+IsChildView before constraint (Arrives path labels) view = (cost : ℕ) × (view ≡ live_child before constraint path cost labels)
+IsChildView before constraint (Dead labels) view = view ≡ dead_child before constraint labels
 
 -- no bars, no entries, and these paths
 pub record IsRootView (paths : List (List ℕ)) (view : View) : Type 0 where
@@ -44,17 +45,20 @@ pub record IsRootView (paths : List (List ℕ)) (view : View) : Type 0 where
 -- what a node means, by what its parent means
 abbrev pub IsNodeView : List View → ℕ → Node → View → Type 0
 IsNodeView views k (Root paths) view = IsRootView paths.items view
-IsNodeView views k (Child parent agent bar found) view = (parent < k) × (before : View) × (slice_get views parent ≡ Some before) × (agent < length before.paths) × IsChildView before agent bar found view
+IsNodeView views k (Child parent constraint found) view = (parent < k) × (before : View) × (slice_get views parent ≡ Some before) × (constraint.agent < length before.paths) × IsChildView before constraint found view
 
 -- these are what the nodes mean
 pub record AreViews (nodes : List Node) (views : List View) : Type 0 where
   pub lengths : length views ≡ length nodes
   pub each : (k : ℕ) (node : Node) (view : View) → slice_get nodes k ≡ Some node → slice_get views k ≡ Some view → IsNodeView views k node view
 
+-- the fact holds of the node's constraints, paths, costs and entries, as the changes from the root on give them
+abbrev pub HoldsOfNode : List Node → ℕ → (View → Type 0) → Type 0
+HoldsOfNode nodes k Fact = (views : List View) (view : View) → AreViews nodes views → slice_get views k ≡ Some view → Fact view
+
 -- the conflict is the first of the node's paths
 abbrev pub IsFirstAt : Instance → List Node → ℕ → Conflict → Type 0
-IsFirstAt problem nodes k conflict = (views : List View) (view : View) → AreViews nodes views →
-    slice_get views k ≡ Some view → IsLive problem view → IsFirstConflict view.paths conflict
+IsFirstAt problem nodes k conflict = HoldsOfNode nodes k (λ view. IsLive problem view → IsFirstConflict view.paths conflict)
 
 -- the bars of one list are those of two others
 pub record AreJoined (all front rest : List Bar) : Type 0 where

@@ -1,16 +1,15 @@
 -- What a conflict-based search knows of its nodes.
 use Rattle.std.specs.Prelude.{◌≡◌, ◌≢◌, ℕ, ◌+◌, ◌*◌, ◌<◌, ◌≤◌, ◌^◌, ◌==◌, if◌then◌else◌, List, [], None, Some, length, slice_get, slice_set, sum, All, AllPairs}
-use Rattle.mapf_model.specs.declared.bar.Bar.{Bar}
-use Rattle.mapf_model.specs.declared.bar.Bar.TheVariants.{Cell, Move}
+use Rattle.mapf_model.specs.declared.constraint.Constraint.{Constraint}
 use Rattle.mapf_model.specs.declared.problem.Agent.{Agent}
 use Rattle.mapf_model.specs.Blocks.{LabelBlock}
 use Rattle.mapf_model.specs.declared.label.Entry.{Entry}
 use Rattle.mapf_model.specs.declared.conflict.Conflict.{Conflict}
-use Rattle.mapf_model.specs.declared.conflict.Conflict.TheVariants.{Vertex, Swap}
 use Rattle.mapf_model.specs.Plan.{Instance}
-use Rattle.mapf_model.specs.Tree.{ConstraintTree, Split, Leaf, Clash, NodeConstraints, root, with_bar, left_child_constraints, right_child_constraints, IsProperSplit, AreOfDifferentAgents, block_of}
+use Rattle.mapf_model.specs.Tree.{ConstraintTree, Split, Leaf, Clash, NodeConstraints, root, child_constraints, left_child_constraints, right_child_constraints, IsProperSplit, AreOfDifferentAgents, block_of}
 use Rattle.mapf_model.specs.Earned.{tick_of}
 use Rattle.mapf_model.specs.Grid.{free_cell_count}
+use Rattle.mapf_model.specs.Limits.{split_ticks}
 use Rattle.mapf_constraints.specs.BarSets.{AreBefore}
 use Rattle.mapf_cbs.specs.CheapestPath.{IsCheapestPath, HasNoPath}
 use Rattle.mapf_cbs.specs.FirstConflicts.{IsFirstConflict}
@@ -47,62 +46,42 @@ pub record IsDead (problem : Instance) (view : View) : Type 0 where
   pub blocked : HasNoPath problem.grid agent (view.constraints.bars who) (view.entries who)
   pub each : (i : ℕ) (other : Agent) (path : List ℕ) (cost : ℕ) → i ≢ who → slice_get problem.agents i ≡ Some other → slice_get view.paths i ≡ Some path → slice_get view.costs i ≡ Some cost → IsCheapestOf problem view i other path cost
 
--- the agent and the bar of the left child, and of the right
-abbrev pub left_agent : Conflict → ℕ
-left_agent (Vertex i j cell tick) = i
-left_agent (Swap i j from to tick) = i
+-- the child under one more constraint whose agent has no path: only that agent's entries change
+abbrev pub dead_child : View → Constraint → List Entry → View
+dead_child view constraint entries = record { constraints = child_constraints view.constraints constraint; paths = view.paths; costs = view.costs; entries = λ k. if k == constraint.agent then entries else view.entries k }
 
--- the agent whom the right child bars
-abbrev pub right_agent : Conflict → ℕ
-right_agent (Vertex i j cell tick) = j
-right_agent (Swap i j from to tick) = j
+-- the child under one more constraint, with its agent's new path, cost and entries
+abbrev pub live_child : View → Constraint → List ℕ → ℕ → List Entry → View
+live_child view constraint path cost entries = record { constraints = child_constraints view.constraints constraint; paths = slice_set view.paths constraint.agent path; costs = slice_set view.costs constraint.agent cost; entries = λ k. if k == constraint.agent then entries else view.entries k }
 
--- what the left child bars its agent from
-abbrev pub left_bar : Conflict → Bar
-left_bar (Vertex i j cell tick) = Cell cell tick
-left_bar (Swap i j from to tick) = Move from to tick
-
--- what the right child bars its agent from
-abbrev pub right_bar : Conflict → Bar
-right_bar (Vertex i j cell tick) = Cell cell tick
-right_bar (Swap i j from to tick) = Move to from tick
-
--- an agent is bound by one more bar: its entries change, and its path and cost where it still arrives
-abbrev pub dead_child : View → ℕ → Bar → List Entry → View
-dead_child view i bar entries = record { constraints = record { bars = with_bar view.constraints.bars i bar }; paths = view.paths; costs = view.costs; entries = λ k. if k == i then entries else view.entries k }
-
--- the child of a node under a new bar of agent i, with that agent's new path, cost and labels
-abbrev pub live_child : View → ℕ → Bar → List ℕ → ℕ → List Entry → View
-live_child view i bar path cost entries = record { constraints = record { bars = with_bar view.constraints.bars i bar }; paths = slice_set view.paths i path; costs = slice_set view.costs i cost; entries = λ k. if k == i then entries else view.entries k }
-
--- a node that was split: its list has the conflict first, and its children are later nodes
-pub record IsExpandedAt (problem : Instance) (views : List View) (fates : List Fate) (k : ℕ) (view : View) (conflict : Conflict) (left right : ℕ) : Type 0 where
+-- a node that was split: the conflict is the first of its paths, and its children are later nodes, the right one next
+-- to the left one
+pub record IsExpandedAt (problem : Instance) (views : List View) (k : ℕ) (view : View) (conflict : Conflict) (left : ℕ) : Type 0 where
   pub live : IsLive problem view
   pub proper : IsProperSplit problem conflict
-  pub early : tick_of conflict < 1000000
+  pub early : tick_of conflict < split_ticks
   pub on_first : IsFirstConflict view.paths conflict
   pub to_left : (child : View) × (slice_get views left ≡ Some child) × (child.constraints ≡ left_child_constraints view.constraints conflict)
-  pub to_right : (child : View) × (slice_get views right ≡ Some child) × (child.constraints ≡ right_child_constraints view.constraints conflict)
-  pub left_later : k < left
-  pub right_later : k < right
+  pub to_right : (child : View) × (slice_get views (left + 1) ≡ Some child) × (child.constraints ≡ right_child_constraints view.constraints conflict)
+  pub later : k < left
 
 -- what is so of a node by its fate
-abbrev pub IsFate : Instance → List View → List Fate → ℕ → View → Fate → Type 0
-IsFate problem views fates k view Open = IsLive problem view
-IsFate problem views fates k view Dead = IsDead problem view
-IsFate problem views fates k view (Expanded conflict left right) = IsExpandedAt problem views fates k view conflict left right
+abbrev pub IsFate : Instance → List View → ℕ → View → Fate → Type 0
+IsFate problem views k view Open = IsLive problem view
+IsFate problem views k view Dead = IsDead problem view
+IsFate problem views k view (Expanded conflict left) = IsExpandedAt problem views k view conflict left
 
 -- the node is split
 abbrev pub IsExpandedFate : Fate → Type 0
 IsExpandedFate Open = ⊥
 IsExpandedFate Dead = ⊥
-IsExpandedFate (Expanded conflict left right) = Unit {0}
+IsExpandedFate (Expanded conflict left) = Unit {0}
 
 -- the node is an end of the tree
 abbrev pub IsEndFate : Fate → Type 0
 IsEndFate Open = Unit {0}
 IsEndFate Dead = Unit {0}
-IsEndFate (Expanded conflict left right) = ⊥
+IsEndFate (Expanded conflict left) = ⊥
 
 -- the form of a tree, with the numbers of its ends
 pub data Shape : Type 0 where
@@ -121,7 +100,7 @@ occurrences m (End k) = if m == k then 1 else 0
 
 -- the node with its descendants has this form
 abbrev pub IsShape : List Fate → ℕ → Shape → Type 0
-IsShape fates k (Node left right) = (conflict : Conflict) × (a : ℕ) × (b : ℕ) × (slice_get fates k ≡ Some (Expanded conflict a b)) × IsShape fates a left × IsShape fates b right
+IsShape fates k (Node left right) = (conflict : Conflict) × (a : ℕ) × (slice_get fates k ≡ Some (Expanded conflict a)) × IsShape fates a left × IsShape fates (a + 1) right
 IsShape fates k (End m) = (same : k ≡ m) × (fate : Fate) × (slice_get fates k ≡ Some fate) × IsEndFate fate
 
 -- the nodes form one tree with so many splits, of which each end is an end
@@ -136,7 +115,7 @@ pub record IsOneTree (fates : List Fate) (count : ℕ) : Type 0 where
 pub record IsSearched (problem : Instance) (views : List View) (fates : List Fate) (count : ℕ) : Type 0 where
   pub lengths : length views ≡ length fates
   pub first : (view : View) × (slice_get views 0 ≡ Some view) × (view.constraints ≡ root)
-  pub each : (k : ℕ) (view : View) (fate : Fate) → slice_get views k ≡ Some view → slice_get fates k ≡ Some fate → IsFate problem views fates k view fate
+  pub each : (k : ℕ) (view : View) (fate : Fate) → slice_get views k ≡ Some view → slice_get fates k ≡ Some fate → IsFate problem views k view fate
   pub least : (k m : ℕ) (view other : View) (fate : Fate) → slice_get views k ≡ Some view → slice_get views m ≡ Some other → slice_get fates k ≡ Some fate → IsExpandedFate fate → slice_get fates m ≡ Some Open → sum view.costs ≤ sum other.costs
   pub tree : IsOneTree fates count
   pub low : (k : ℕ) (view : View) (i : ℕ) → slice_get views k ≡ Some view → AreBefore (count * free_cell_count problem.grid) (view.constraints.bars i)
@@ -152,10 +131,10 @@ pub record AreBlocksOf (count : ℕ) (listed : ℕ → List Entry) (blocks : Lis
 
 -- the node with its descendants is this tree
 abbrev pub IsTreeAt : ℕ → List View → List Fate → ℕ → ConstraintTree → Type 0
-IsTreeAt agents views fates k (Split conflict left right) = (a : ℕ) × (b : ℕ) × (slice_get fates k ≡ Some (Expanded conflict a b)) × IsTreeAt agents views fates a left × IsTreeAt agents views fates b right
+IsTreeAt agents views fates k (Split conflict left right) = (a : ℕ) × (slice_get fates k ≡ Some (Expanded conflict a)) × IsTreeAt agents views fates a left × IsTreeAt agents views fates (a + 1) right
 IsTreeAt agents views fates k (Leaf blocks) = (view : View) × (fate : Fate) × (slice_get views k ≡ Some view) × (slice_get fates k ≡ Some fate) × IsEndFate fate × AreBlocksOf agents view.entries blocks
 IsTreeAt agents views fates k (Clash i j) = ⊥
 
--- children come after their parents
+-- the two children of a node that was split are later nodes of the list, and their numbers fit in 32 bits
 abbrev pub AreChildrenLater : List Fate → Type 0
-AreChildrenLater fates = (k : ℕ) (conflict : Conflict) (a b : ℕ) → slice_get fates k ≡ Some (Expanded conflict a b) → (k < a) × (k < b) × (a < length fates) × (b < length fates)
+AreChildrenLater fates = (k : ℕ) (conflict : Conflict) (left : ℕ) → slice_get fates k ≡ Some (Expanded conflict left) → (k < left) × (left + 1 < length fates) × (left + 1 < 2 ^ 32)

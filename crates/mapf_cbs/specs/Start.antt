@@ -4,6 +4,7 @@ use Rattle.mapf_model.specs.declared.problem.Agent.{Agent}
 use Rattle.mapf_model.specs.Distance.{IsDistance}
 use Rattle.mapf_distance.specs.Distances.{GoalMap, IsLeastDescent}
 use Rattle.mapf_model.specs.Grid.{GridMap, IsGridMap, free_cell_count}
+use Rattle.mapf_model.specs.Limits.{most_agents}
 use Rattle.mapf_model.specs.Path.{IsLawful, IsTight}
 use Rattle.mapf_model.specs.Plan.{Instance}
 use Rattle.mapf_model.specs.Tree.{ConstraintTree}
@@ -34,7 +35,7 @@ pub record AreShortest (problem : Instance) (paths : List (List ℕ)) : Type 0 w
 -- the tables and paths with which a search begins at the root: no two agents have one goal, and each has a shortest path
 pub record IsRootStart (problem : Instance) (tables : List GoalMap) (paths : List (List ℕ)) : Type 0 where
   pub shape : IsGridMap problem.grid
-  pub agents : (1 ≤ length problem.agents) × (length problem.agents ≤ 200)
+  pub agents : (1 ≤ length problem.agents) × (length problem.agents ≤ most_agents)
   pub goals : HaveDifferentGoals problem
   pub tables_are : AreTables problem tables
   pub count : length paths ≡ length problem.agents

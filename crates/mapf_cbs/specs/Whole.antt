@@ -1,6 +1,7 @@
 -- Nodes that hold all that is found at them, and what they mean.
 use Rattle.std.specs.Prelude.{◌≡◌, ℕ, ◌<◌, ◌≤◌, List, Option, None, Some, length, slice_get, sum}
 use Rattle.mapf_model.specs.declared.bar.Bar.{Bar}
+use Rattle.mapf_model.specs.declared.constraint.Constraint.{Constraint}
 use Rattle.mapf_model.specs.Laws.{AreSameBars}
 use Rattle.mapf_model.specs.Plan.{Instance}
 use Rattle.mapf_spacetime.specs.declared.found.Found.{Found}
@@ -59,9 +60,9 @@ IsAfter before (Arrives path labels) bars agent_path = (agent_path.path ≡ path
 IsAfter before (DeadEnd labels) bars agent_path = (agent_path.path ≡ before.path) × (agent_path.entries.items ≡ labels) × (agent_path.bars ≡ bars)
 
 -- a whole child, live with this sum or dead
-pub record IsWholeChild (problem : Instance) (view : View) (agent : ℕ) (bar : Bar) (node : WholeNode) (total : Option ℕ) : Type 0 where
+pub record IsWholeChild (problem : Instance) (view : View) (constraint : Constraint) (node : WholeNode) (total : Option ℕ) : Type 0 where
   pub found : Found
-  pub generated : IsGeneratedChild problem view agent bar found total
+  pub generated : IsGeneratedChild problem view constraint found total
   pub whole : IsWhole node generated.child
 
 -- the node is open, and of all open nodes below n it has the least sum, and is the oldest of these
@@ -91,5 +92,5 @@ pub record IsWholePopped (problem : Instance) (nodes : List WholeNode) (fates : 
   pub changes : List Node
   pub rest : List (ℕ × ℕ)
   pub popped : IsPopped problem changes fates rest count total k
-  pub whole : AreWhole nodes popped.views
+  pub whole : AreWhole nodes popped.state.views
   pub agent_paths : HaveAgentPaths nodes (length problem.agents)

@@ -8,25 +8,25 @@ ghost use Rattle.mapf_spacetime.specs.Task.{task_of};
 ghost use Rattle.mapf_cbs.specs.CheapestPath.{IsTableBar};
 ghost use Rattle.mapf_distance.specs.Tables.{AreTables};
 ghost use Rattle.mapf_cbs.specs.Search.{View, IsLive};
-ghost use Rattle.mapf_cbs.specs.Nodes.{AreNodesFor, HaveTableBars, AreViews};
+ghost use Rattle.mapf_cbs.specs.Nodes.{AreNodesFor, HaveTableBars, AreViews, HoldsOfNode};
 ghost use Rattle.mapf_cbs.specs.GeneratedChild.{IsGeneratedChild, EndsAt, IsTotal};
 
 use crate::node::Node;
 use crate::walks::{bars_at, path_at};
 use mapf_constraints::BarTable;
 use mapf_distance::Distances;
-use mapf_model::{Bar, Cell, OutOfMemory, Path, Problem};
+use mapf_model::{Cell, Constraint, OutOfMemory, Path, Problem};
 use mapf_spacetime::{Found, search};
 use std::alloc::Global;
 
-/// What one more bar led to, with the sum of the new costs where the agent still arrives.
+/// What one more constraint led to, with the sum of the new costs where the agent still arrives.
 #[derive(Debug, Drop)]
 pub struct GeneratedChild {
     pub found: Found,
     pub total: Option<u64>,
 }
 
-/// The child of a node in which one more bar binds the agent.
+/// The child of a node under one more constraint.
 pub fn child<B: BarTable>(
     alloc: Global,
     problem: &Problem,
@@ -34,48 +34,60 @@ pub fn child<B: BarTable>(
     nodes: &[Node],
     k: u32,
     total: u64,
-    agent: u32,
-    bar: Bar,
+    constraint: Constraint,
 ) -> Result<GeneratedChild, OutOfMemory>
     requires tables { AreTables problem.now tables.now }
-    requires nodes { AreNodesFor agent nodes.now }
+    requires nodes { AreNodesFor constraint.agent nodes.now }
     requires bars { HaveTableBars nodes.now }
     requires inside { k < length nodes.now }
-    requires known { agent < length problem.now.agents }
-    requires bar { IsTableBar bar }
+    requires known { constraint.agent < length problem.now.agents }
+    requires bar { IsTableBar constraint.bar }
     requires small { total + 2 ^ 32 < 2 ^ 64 }
-    requires live { (views : List View) × (view : View) × AreViews nodes.now views × (slice_get views k ≡ Some view) × IsLive problem.now view × (total ≡ sum view.costs) }
-    ensures { IfOk result (λ generated. (views : List View) (view : View) → AreViews nodes.now views → slice_get views k ≡ Some view → IsLive problem.now view → total ≡ sum view.costs → IsGeneratedChild problem.now view agent bar generated.found generated.total) }
+    requires live { (views : List View) × (view : View) × AreViews nodes.now views × (slice_get views k ≡ Some view)
+        × IsLive problem.now view × (total ≡ sum view.costs) }
+    ensures { IfOk result (λ generated.
+        HoldsOfNode nodes.now k (λ view. IsLive problem.now view → total ≡ sum view.costs →
+        IsGeneratedChild problem.now view constraint generated.found generated.total)) }
 {
+    let agent = constraint.agent;
     let who = problem.agents()[agent as usize];
-    let found = search_with::<B>(alloc, problem, tables, nodes, k, agent, bar)?;
+    let found = search_with::<B>(alloc, problem, tables, nodes, k, constraint)?;
     let old = cost_of(path_at(nodes, k, agent), who.goal);
     let total = new_total(&found, who.goal, total - u64::from(old));
     Ok(GeneratedChild { found, total })
 }
 
-// What the agent can do under its bars at the node and one more.
+// What the constraint's agent can do under its bars at the node and this one.
 fn search_with<B: BarTable>(
     alloc: Global,
     problem: &Problem,
     tables: &[Distances],
     nodes: &[Node],
     k: u32,
-    agent: u32,
-    bar: Bar,
+    constraint: Constraint,
 ) -> Result<Found, OutOfMemory>
     requires tables { AreTables problem.now tables.now }
-    requires nodes { AreNodesFor agent nodes.now }
+    requires nodes { AreNodesFor constraint.agent nodes.now }
     requires bars { HaveTableBars nodes.now }
     requires inside { k < length nodes.now }
-    requires known { agent < length problem.now.agents }
-    requires bar { IsTableBar bar }
-    ensures { IfOk result (λ found. (who : Agent) (views : List View) (view : View) → slice_get problem.now.agents agent ≡ Some who → AreViews nodes.now views → slice_get views k ≡ Some view → (bars : List Bar) × AreSameBars bars (bar ∷ view.constraints.bars agent) × IsPathAnswer (task_of problem.now.grid who bars) found) }
+    requires known { constraint.agent < length problem.now.agents }
+    requires bar { IsTableBar constraint.bar }
+    ensures { IfOk result (λ found.
+        (who : Agent) → slice_get problem.now.agents constraint.agent ≡ Some who →
+        HoldsOfNode nodes.now k (λ view. (bars : List Bar)
+        × AreSameBars bars (constraint.bar ∷ view.constraints.bars constraint.agent)
+        × IsPathAnswer (task_of problem.now.grid who bars) found)) }
 {
-    let who = problem.agents()[agent as usize];
-    let mut table: B = bars_at(alloc, nodes, k, agent)?;
-    table.add(bar)?;
-    search(alloc, problem.grid(), &tables[agent as usize], &table, who)
+    let who = problem.agents()[constraint.agent as usize];
+    let mut table: B = bars_at(alloc, nodes, k, constraint.agent)?;
+    table.add(constraint.bar)?;
+    search(
+        alloc,
+        problem.grid(),
+        &tables[constraint.agent as usize],
+        &table,
+        who,
+    )
 }
 
 /// The cost of a path that ends at the goal.

@@ -20,12 +20,19 @@ pub fn finders_at(
     requires inside { k < length nodes.now }
     ensures count { IfOk result (λ finders. length finders.items ≡ agents) }
     ensures inside { IfOk result (λ finders. AreInside nodes.now finders.items) }
-    ensures found { IfOk result (λ finders. (views : List View) (view : View) → AreViews nodes.now views → slice_get views k ≡ Some view → AreFinders views view finders.items) }
+    ensures found { IfOk result (λ finders.
+        (views : List View) (view : View) → AreViews nodes.now views → slice_get views k ≡ Some view →
+        AreFinders views view finders.items) }
 {
     let mut finders = none_of(alloc, agents)?;
     let mut at = k;
-    while let Node::Child { parent, agent, .. } = &nodes[at as usize] {
-        note(&mut finders, *agent, at);
+    while let Node::Child {
+        parent,
+        constraint,
+        ..
+    } = &nodes[at as usize]
+    {
+        note(&mut finders, constraint.agent, at);
         at = *parent;
     }
     Ok(finders)

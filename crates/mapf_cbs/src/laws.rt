@@ -3,6 +3,7 @@
 ghost use Rattle.std.specs.Prelude.{◌≡◌, ◌+◌, ◌^◌, ◌<◌, ◌≤◌, ◌∷◌, ℕ, length, IfOk, OnOk};
 ghost use Rattle.mapf_model.specs.Earned.{tick_of};
 ghost use Rattle.mapf_model.specs.Laws.{AreSameBars};
+ghost use Rattle.mapf_model.specs.Limits.{most_splits, split_ticks};
 ghost use Rattle.mapf_cbs.specs.Answer.{IsSearchAnswer};
 ghost use Rattle.mapf_cbs.specs.CheapestPath.{IsTableBar};
 ghost use Rattle.mapf_cbs.specs.Goals.{HaveDifferentGoals};
@@ -14,7 +15,6 @@ ghost use Rattle.mapf_cbs.specs.declared.whole_node.WholeNode.{WholeNode};
 
 use crate::answer::Answer;
 use crate::child::{cost_of, new_total};
-use crate::sides::{left_agent, left_bar, right_agent, right_bar};
 use crate::solver::cause_to_stop;
 use crate::start::{Beginning, begin};
 use crate::whole_node::{WholeNode, agent_paths_with};
@@ -23,13 +23,13 @@ use crate::written::tree_items;
 use mapf_conflicts::first_conflict;
 use mapf_constraints::{BarTable, ListBars};
 use mapf_distance::Distances;
-use mapf_model::{Bar, Conflict, OutOfMemory, Path, Problem};
+use mapf_model::{Bar, Conflict, Constraint, OutOfMemory, Path, Problem};
 use mapf_spacetime::{Found, search};
 use std::alloc::Global;
 
 /// Answers what `solve` answers, by the plainest means.
 pub fn solve_plain(alloc: Global, problem: &Problem, limit: u32) -> Result<Answer, OutOfMemory>
-    requires { limit ≤ 100000 }
+    requires { limit ≤ most_splits }
     ensures { IfOk result (IsSearchAnswer problem.now limit) }
 {
     match begin(alloc, problem)? {
@@ -47,7 +47,7 @@ fn search_plain(
     paths: Vec<Path>,
     limit: u32,
 ) -> Result<Answer, OutOfMemory>
-    requires limit { limit ≤ 100000 }
+    requires limit { limit ≤ most_splits }
     requires root { IsRootStart problem.now tables.now paths.items }
     ensures { IfOk result (IsSearchAnswer problem.now limit) }
 {
@@ -82,12 +82,14 @@ fn split_whole(
     conflict: &Conflict,
 ) -> Result<(), OutOfMemory>
     requires tables { AreTables problem.now tables.now }
-    requires popped { (total : ℕ) × IsWholePopped problem.now tree.old.nodes.items tree.old.fates.items tree.old.splits total k }
+    requires popped { (total : ℕ)
+        × IsWholePopped problem.now tree.old.nodes.items tree.old.fates.items tree.old.splits total k }
     requires goals { HaveDifferentGoals problem.now }
     requires meet { IsFirstAtWhole tree.old.nodes.items k conflict.now }
-    requires early { tick_of conflict.now < 1000000 }
-    requires few { tree.old.splits < 100000 }
-    ensures state { OnOk result (IsWholeState problem.now tree.new.nodes.items tree.new.fates.items (tree.old.splits + 1)) }
+    requires early { tick_of conflict.now < split_ticks }
+    requires few { tree.old.splits < most_splits }
+    ensures state { OnOk result
+        (IsWholeState problem.now tree.new.nodes.items tree.new.fates.items (tree.old.splits + 1)) }
     ensures splits { OnOk result (tree.new.splits ≡ tree.old.splits + 1) }
 {
     let left = child_of(
@@ -95,46 +97,55 @@ fn split_whole(
         problem,
         tables,
         &tree.nodes[k as usize],
-        left_agent(conflict),
-        left_bar(conflict),
+        conflict.left(),
     )?;
     let right = child_of(
         alloc,
         problem,
         tables,
         &tree.nodes[k as usize],
-        right_agent(conflict),
-        right_bar(conflict),
+        conflict.right(),
     )?;
     tree.grow(k, conflict, left, right)
 }
 
-// The child of a node in which one more bar binds the agent.
+// The child of a node under one more constraint.
 fn child_of(
     alloc: Global,
     problem: &Problem,
     tables: &[Distances],
     node: &WholeNode,
-    agent: u32,
-    bar: Bar,
+    constraint: Constraint,
 ) -> Result<WholeChild, OutOfMemory>
     requires tables { AreTables problem.now tables.now }
-    requires known { agent < length problem.now.agents }
+    requires known { constraint.agent < length problem.now.agents }
     requires count { length node.now.agent_paths.items ≡ length problem.now.agents }
-    requires bar { IsTableBar bar }
+    requires bar { IsTableBar constraint.bar }
     requires small { node.now.total + 2 ^ 32 < 2 ^ 64 }
     requires live { (view : View) × IsWhole node.now view × IsLive problem.now view }
-    ensures count { IfOk result (λ generated. length generated.node.agent_paths.items ≡ length node.now.agent_paths.items) }
-    ensures generated { IfOk result (λ generated. (view : View) → IsWhole node.now view → IsLive problem.now view → IsWholeChild problem.now view agent bar generated.node generated.total) }
+    ensures count { IfOk result (λ generated.
+        length generated.node.agent_paths.items ≡ length node.now.agent_paths.items) }
+    ensures generated { IfOk result (λ generated.
+        (view : View) → IsWhole node.now view → IsLive problem.now view →
+        IsWholeChild problem.now view constraint generated.node generated.total) }
 {
-    let who = problem.agents()[agent as usize];
+    let who = problem.agents()[constraint.agent as usize];
     let goal = who.goal;
-    let bars = with_bar(&node.agent_paths[agent as usize].bars, bar)?;
-    let found = search(alloc, problem.grid(), &tables[agent as usize], &bars, who)?;
-    let old = cost_of(&node.agent_paths[agent as usize].path, goal);
+    let bars = with_bar(
+        &node.agent_paths[constraint.agent as usize].bars,
+        constraint.bar,
+    )?;
+    let found = search(
+        alloc,
+        problem.grid(),
+        &tables[constraint.agent as usize],
+        &bars,
+        who,
+    )?;
+    let old = cost_of(&node.agent_paths[constraint.agent as usize].path, goal);
     let total = new_total(&found, goal, node.total - u64::from(old));
-    let agent_path = node.agent_paths[agent as usize].after(alloc, &found, bars)?;
-    let agent_paths = agent_paths_with(alloc, &node.agent_paths, agent, agent_path)?;
+    let agent_path = node.agent_paths[constraint.agent as usize].after(alloc, &found, bars)?;
+    let agent_paths = agent_paths_with(alloc, &node.agent_paths, constraint.agent, agent_path)?;
     let sum = total.unwrap_or(node.total);
     Ok(WholeChild {
         node: WholeNode {

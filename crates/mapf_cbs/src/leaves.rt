@@ -19,5 +19,7 @@ pub trait Leaves {
     fn blocks_at(&self, alloc: Global, k: u32, agents: u32) -> Result<Vec<Block>, OutOfMemory>
         requires nodes { are_for self.now agents }
         requires inside { k < count self.now }
-        ensures { IfOk result (λ blocks. (views : List View) (view : View) → are_views self.now views → slice_get views k ≡ Some view → AreBlocksOf agents view.entries blocks.items) };
+        ensures { IfOk result (λ blocks.
+            (views : List View) (view : View) → are_views self.now views → slice_get views k ≡ Some view →
+            AreBlocksOf agents view.entries blocks.items) };
 }

@@ -10,7 +10,6 @@ pub mod laws;
 mod leaves;
 mod node;
 mod search_tree;
-mod sides;
 mod solver;
 mod start;
 mod walks;

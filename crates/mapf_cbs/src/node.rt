@@ -1,4 +1,4 @@
-use mapf_model::{Bar, Conflict, Path};
+use mapf_model::{Conflict, Constraint, Path};
 use mapf_spacetime::Found;
 
 /// A node of the constraint tree by its change: all else is found at its ancestors.
@@ -8,11 +8,10 @@ pub enum Node {
     Root {
         paths: Vec<Path>,
     },
-    /// The agent has one bar more than at the parent, and this is what its search found.
+    /// The node has one constraint more than the parent, and this is what the search for its agent found.
     Child {
         parent: u32,
-        agent: u32,
-        bar: Bar,
+        constraint: Constraint,
         found: Found,
     },
 }
@@ -24,10 +23,6 @@ pub enum Fate {
     Open,
     /// Some agent can't arrive.
     Dead,
-    /// The node was split on the conflict.
-    Expanded {
-        conflict: Conflict,
-        left: u32,
-        right: u32,
-    },
+    /// The node was split on the conflict: this is the number of its left child, and the right one is next.
+    Expanded { conflict: Conflict, left: u32 },
 }

@@ -1,10 +1,8 @@
-ghost use Rattle.std.specs.Prelude.{◌≡◌, ◌+◌, ◌^◌, ◌<◌, ◌∷◌, [], ◌++◌, length, slice_set, IfOk, IfSome, IfNone, OnOk};
-ghost use Rattle.mapf_cbs.specs.Search.{left_agent, right_agent, left_bar, right_bar};
-ghost use Rattle.mapf_cbs.specs.State.{fate_of, with_key, IsLeastKey};
+ghost use Rattle.std.specs.Prelude.{◌≡◌, ◌+◌, ◌^◌, ◌<◌, ◌∷◌, [], length, IfOk, IfSome, IfNone, OnOk};
+ghost use Rattle.mapf_cbs.specs.State.{fate_of, with_children, split_fates, with_key, with_keys, IsLeastKey};
 
 use crate::child::GeneratedChild;
 use crate::node::{Fate, Node};
-use crate::sides::{left_agent, left_bar, right_agent, right_bar};
 use mapf_model::{Conflict, OutOfMemory, Path};
 use std::alloc::Global;
 use std::collections::BTreeSet;
@@ -69,9 +67,12 @@ impl SearchTree {
         requires few { length self.old.nodes.items < 2 ^ 31 }
         requires inside { k < length self.old.fates.items }
         requires splits { self.old.splits < 2 ^ 31 }
-        ensures nodes { OnOk result (self.new.nodes.items ≡ (self.old.nodes.items ++ Node.Child k (left_agent conflict.now) (left_bar conflict.now) left.found ∷ []) ++ Node.Child k (right_agent conflict.now) (right_bar conflict.now) right.found ∷ []) }
-        ensures fates { OnOk result (self.new.fates.items ≡ slice_set ((self.old.fates.items ++ fate_of left.total ∷ []) ++ fate_of right.total ∷ []) k (Fate.Expanded conflict.now (length self.old.nodes.items) (length self.old.nodes.items + 1))) }
-        ensures waiting { OnOk result (self.new.waiting.keys ≡ with_key (with_key self.old.waiting.keys left.total (length self.old.nodes.items)) right.total (length self.old.nodes.items + 1)) }
+        ensures nodes { OnOk result
+            (self.new.nodes.items ≡ with_children self.old.nodes.items k conflict.now left.found right.found) }
+        ensures fates { OnOk result
+            (self.new.fates.items ≡ split_fates self.old.fates.items k conflict.now left.total right.total) }
+        ensures waiting { OnOk result (self.new.waiting.keys ≡
+            with_keys self.old.waiting.keys (length self.old.nodes.items) left.total right.total) }
         ensures splits { OnOk result (self.new.splits ≡ self.old.splits + 1) }
     {
         let number = expand(&mut self.fates, k, conflict, left.total, right.total)?;
@@ -79,14 +80,12 @@ impl SearchTree {
         self.add_open(right.total, number + 1)?;
         self.nodes.push(Node::Child {
             parent: k,
-            agent: left_agent(conflict),
-            bar: left_bar(conflict),
+            constraint: conflict.left(),
             found: left.found,
         })?;
         self.nodes.push(Node::Child {
             parent: k,
-            agent: right_agent(conflict),
-            bar: right_bar(conflict),
+            constraint: conflict.right(),
             found: right.found,
         })?;
         self.splits += 1;
@@ -95,7 +94,7 @@ impl SearchTree {
 
     // Notes a node that is open, where it has a sum.
     fn add_open(&mut self, total: Option<u64>, number: u32) -> Result<(), OutOfMemory>
-        ensures waiting { OnOk result (self.new.waiting.keys ≡ with_key self.old.waiting.keys total number) }
+        ensures waiting { OnOk result (self.new.waiting.keys ≡ with_key self.old.waiting.keys number total) }
         ensures nodes { OnOk result (self.new.nodes ≡ self.old.nodes) }
         ensures fates { OnOk result (self.new.fates ≡ self.old.fates) }
         ensures splits { OnOk result (self.new.splits ≡ self.old.splits) }
@@ -127,7 +126,7 @@ pub fn expand(
     requires few { length fates.old.items < 2 ^ 31 }
     requires inside { k < length fates.old.items }
     ensures number { IfOk result (λ number. number ≡ length fates.old.items) }
-    ensures fates { OnOk result (fates.new.items ≡ slice_set ((fates.old.items ++ fate_of left ∷ []) ++ fate_of right ∷ []) k (Fate.Expanded conflict.now (length fates.old.items) (length fates.old.items + 1))) }
+    ensures fates { OnOk result (fates.new.items ≡ split_fates fates.old.items k conflict.now left right) }
 {
     let number = fates.len() as u32;
     fates.push(fate_of(&left))?;
@@ -135,7 +134,6 @@ pub fn expand(
     fates[k as usize] = Fate::Expanded {
         conflict: *conflict,
         left: number,
-        right: number + 1,
     };
     Ok(number)
 }

@@ -1,5 +1,6 @@
 ghost use Rattle.std.specs.Prelude.{◌≡◌, ◌≢◌, ◌+◌, ◌<◌, ◌≤◌, IfOk, IfSome, IfNone, OnOk};
 ghost use Rattle.mapf_model.specs.Earned.{tick_of};
+ghost use Rattle.mapf_model.specs.Limits.{most_splits, split_ticks};
 ghost use Rattle.mapf_cbs.specs.Answer.{IsSearchAnswer};
 ghost use Rattle.mapf_cbs.specs.Goals.{HaveDifferentGoals};
 ghost use Rattle.mapf_cbs.specs.Nodes.{IsFirstAt};
@@ -10,25 +11,22 @@ ghost use Rattle.mapf_cbs.specs.State.{IsPopped, IsState, IsCauseToStop};
 use crate::answer::Answer;
 use crate::child::child;
 use crate::search_tree::{SearchTree, take_least};
-use crate::sides::{left_agent, left_bar, right_agent, right_bar, tick_of};
 use crate::start::{Beginning, begin, total_of};
 use crate::walks::plan_at;
 use crate::written::tree_items;
 use mapf_conflicts::first_conflict;
 use mapf_constraints::{BarTable, TickBars};
 use mapf_distance::Distances;
+use mapf_model::limits::SPLIT_TICKS;
 use mapf_model::{Cause, Conflict, OutOfMemory, Path, Problem};
 use std::alloc::Global;
-
-/// A conflict at this tick or later isn't split.
-const TICK_LIMIT: u32 = 1_000_000;
 
 /// Searches for a cheapest valid plan, with at most so many splits of the constraint tree: 0 to
 /// 100,000. Of the open nodes the one of least sum of costs is split next, the oldest of these, on its
 /// first conflict. Where two agents have one goal, or a goal can't be reached, no node is split.
 /// Answers `OutOfMemory` where a request for memory was refused.
 pub fn solve(alloc: Global, problem: &Problem, limit: u32) -> Result<Answer, OutOfMemory>
-    requires { limit ≤ 100000 }
+    requires { limit ≤ most_splits }
     ensures { IfOk result (IsSearchAnswer problem.now limit) }
 {
     solve_with::<TickBars>(alloc, problem, limit)
@@ -40,7 +38,7 @@ pub fn solve_with<B: BarTable>(
     problem: &Problem,
     limit: u32,
 ) -> Result<Answer, OutOfMemory>
-    requires { limit ≤ 100000 }
+    requires { limit ≤ most_splits }
     ensures { IfOk result (IsSearchAnswer problem.now limit) }
 {
     match begin(alloc, problem)? {
@@ -60,7 +58,7 @@ fn search_from<B: BarTable>(
     paths: Vec<Path>,
     limit: u32,
 ) -> Result<Answer, OutOfMemory>
-    requires limit { limit ≤ 100000 }
+    requires limit { limit ≤ most_splits }
     requires root { IsRootStart problem.now tables.now paths.items }
     ensures { IfOk result (IsSearchAnswer problem.now limit) }
 {
@@ -88,10 +86,10 @@ fn search_from<B: BarTable>(
 /// Why the conflict isn't split after so many splits, None where it is.
 pub fn cause_to_stop(conflict: &Conflict, splits: u32, limit: u32) -> Option<Cause>
     ensures some { IfSome result (IsCauseToStop conflict.now splits limit) }
-    ensures early { IfNone result (tick_of conflict.now < 1000000) }
+    ensures early { IfNone result (tick_of conflict.now < split_ticks) }
     ensures allowed { IfNone result (splits ≢ limit) }
 {
-    if tick_of(conflict) >= TICK_LIMIT {
+    if conflict.tick() >= SPLIT_TICKS {
         return Some(Cause::Ticks);
     }
     if splits == limit {
@@ -111,12 +109,14 @@ fn split<B: BarTable>(
     conflict: &Conflict,
 ) -> Result<(), OutOfMemory>
     requires tables { AreTables problem.now tables.now }
-    requires popped { IsPopped problem.now search.old.nodes.items search.old.fates.items search.old.waiting.keys search.old.splits total k }
+    requires popped { IsPopped problem.now
+        search.old.nodes.items search.old.fates.items search.old.waiting.keys search.old.splits total k }
     requires goals { HaveDifferentGoals problem.now }
     requires meet { IsFirstAt problem.now search.old.nodes.items k conflict.now }
-    requires early { tick_of conflict.now < 1000000 }
-    requires few { search.old.splits < 100000 }
-    ensures state { OnOk result (IsState problem.now search.new.nodes.items search.new.fates.items search.new.waiting.keys (search.old.splits + 1)) }
+    requires early { tick_of conflict.now < split_ticks }
+    requires few { search.old.splits < most_splits }
+    ensures state { OnOk result (IsState problem.now
+        search.new.nodes.items search.new.fates.items search.new.waiting.keys (search.old.splits + 1)) }
     ensures splits { OnOk result (search.new.splits ≡ search.old.splits + 1) }
 {
     let left = child::<B>(
@@ -126,8 +126,7 @@ fn split<B: BarTable>(
         &search.nodes,
         k,
         total,
-        left_agent(conflict),
-        left_bar(conflict),
+        conflict.left(),
     )?;
     let right = child::<B>(
         alloc,
@@ -136,8 +135,7 @@ fn split<B: BarTable>(
         &search.nodes,
         k,
         total,
-        right_agent(conflict),
-        right_bar(conflict),
+        conflict.right(),
     )?;
     search.grow(k, conflict, left, right)
 }

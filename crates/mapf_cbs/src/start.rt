@@ -1,4 +1,6 @@
-ghost use Rattle.std.specs.Prelude.{◌≡◌, ◌*◌, ◌^◌, ◌≤◌, ◌-◌, ◌∷◌, [], length, sum_by, IfOk, IfSome, IfNone, MatchOption};
+ghost use Rattle.std.specs.Prelude.{◌≡◌, ◌*◌, ◌^◌, ◌≤◌, ◌-◌, ◌∷◌, [], length, sum_by};
+ghost use Rattle.std.specs.Prelude.{IfOk, IfSome, IfNone, MatchOption};
+ghost use Rattle.mapf_model.specs.Limits.{most_agents};
 ghost use Rattle.mapf_model.specs.Distance.{IsUnreachable};
 ghost use Rattle.mapf_distance.specs.Tables.{AreTables};
 ghost use Rattle.mapf_cbs.specs.Goals.{SomeGoalIsUnreachable};
@@ -97,9 +99,9 @@ fn shortest_path(
 
 /// The sum of the paths' lengths in ticks.
 pub fn total_of(paths: &[Path]) -> u64
-    requires { length paths.now ≤ 200 }
+    requires { length paths.now ≤ most_agents }
     ensures sum { result ≡ sum_by (λ path. length path - 1) paths.now }
-    ensures small { result ≤ 200 * 2 ^ 32 }
+    ensures small { result ≤ most_agents * 2 ^ 32 }
 {
     let mut total = 0u64;
     for path in paths {

@@ -1,7 +1,7 @@
-ghost use Rattle.std.specs.Prelude.{◌≡◌, ◌<◌, ◌≤◌, ℕ, [], List, Some, length, slice_get, All, IfOk, IfSome, IfNone};
+ghost use Rattle.std.specs.Prelude.{◌≡◌, ◌<◌, ◌≤◌, ℕ, [], Some, length, slice_get, All, IfOk, IfSome, IfNone};
+ghost use Rattle.mapf_model.specs.Limits.{most_agents, most_path_cells};
 ghost use Rattle.mapf_model.specs.Laws.{AreSameBars};
-ghost use Rattle.mapf_cbs.specs.Search.{View};
-ghost use Rattle.mapf_cbs.specs.Nodes.{AreNodesFor, HaveTableBars, AreViews};
+ghost use Rattle.mapf_cbs.specs.Nodes.{AreNodesFor, HaveTableBars, HoldsOfNode};
 
 use crate::finders::finders_at;
 use crate::node::Node;
@@ -14,7 +14,7 @@ use std::alloc::Global;
 pub fn path_at(nodes: &[Node], k: u32, agent: u32) -> &Path
     requires nodes { AreNodesFor agent nodes.now }
     requires inside { k < length nodes.now }
-    ensures { (views : _) (view : View) → AreViews nodes.now views → slice_get views k ≡ Some view → slice_get view.paths agent ≡ Some result.now }
+    ensures { HoldsOfNode nodes.now k (λ view. slice_get view.paths agent ≡ Some result.now) }
 {
     let mut at = k;
     loop {
@@ -22,11 +22,10 @@ pub fn path_at(nodes: &[Node], k: u32, agent: u32) -> &Path
             Node::Root { paths } => return &paths[agent as usize],
             Node::Child {
                 parent,
-                agent: bound,
+                constraint,
                 found,
-                ..
             } => {
-                if *bound == agent {
+                if constraint.agent == agent {
                     match found {
                         Found::Arrives { path, .. } => return path,
                         Found::Dead { .. } => {}
@@ -43,8 +42,8 @@ pub fn path_at(nodes: &[Node], k: u32, agent: u32) -> &Path
 pub fn labels_at(nodes: &[Node], k: u32, agent: u32) -> Option<&Labels>
     requires nodes { AreNodesFor agent nodes.now }
     requires inside { k < length nodes.now }
-    ensures some { IfSome result (λ labels. (views : _) (view : View) → AreViews nodes.now views → slice_get views k ≡ Some view → view.entries agent ≡ labels.now) }
-    ensures none { IfNone result ((views : _) (view : View) → AreViews nodes.now views → slice_get views k ≡ Some view → view.entries agent ≡ []) }
+    ensures some { IfSome result (λ labels. HoldsOfNode nodes.now k (λ view. view.entries agent ≡ labels.now)) }
+    ensures none { IfNone result (HoldsOfNode nodes.now k (λ view. view.entries agent ≡ [])) }
 {
     let mut at = k;
     loop {
@@ -52,11 +51,10 @@ pub fn labels_at(nodes: &[Node], k: u32, agent: u32) -> Option<&Labels>
             Node::Root { .. } => return None,
             Node::Child {
                 parent,
-                agent: bound,
+                constraint,
                 found,
-                ..
             } => {
-                if *bound == agent {
+                if constraint.agent == agent {
                     match found {
                         Found::Arrives { labels, .. } => return Some(labels),
                         Found::Dead { labels } => return Some(labels),
@@ -78,19 +76,19 @@ pub fn bars_at<B: BarTable>(
     requires nodes { AreNodesFor agent nodes.now }
     requires bars { HaveTableBars nodes.now }
     requires inside { k < length nodes.now }
-    ensures { IfOk result (λ table. (views : _) (view : View) → AreViews nodes.now views → slice_get views k ≡ Some view → AreSameBars (view.constraints.bars agent) (B.bars table)) }
+    ensures { IfOk result (λ table.
+        HoldsOfNode nodes.now k (λ view. AreSameBars (view.constraints.bars agent) (B.bars table))) }
 {
     let mut table = B::empty(alloc);
     let mut at = k;
     while let Node::Child {
         parent,
-        agent: bound,
-        bar,
+        constraint,
         ..
     } = &nodes[at as usize]
     {
-        if *bound == agent {
-            table.add(*bar)?;
+        if constraint.agent == agent {
+            table.add(constraint.bar)?;
         }
         at = *parent;
     }
@@ -101,9 +99,10 @@ pub fn bars_at<B: BarTable>(
 pub fn plan_at(alloc: Global, nodes: &[Node], k: u32, agents: u32) -> Result<Plan, OutOfMemory>
     requires nodes { (agent : ℕ) → agent < agents → AreNodesFor agent nodes.now }
     requires inside { k < length nodes.now }
-    requires few { (1 ≤ agents) × (agents ≤ 200) }
-    ensures paths { IfOk result (λ plan. (views : List View) (view : View) → AreViews nodes.now views → slice_get views k ≡ Some view → length view.paths ≡ agents → plan ≡ view.paths) }
-    ensures short { IfOk result (λ plan. All (λ path. length path ≤ 10000000) plan) }
+    requires few { (1 ≤ agents) × (agents ≤ most_agents) }
+    ensures paths { IfOk result (λ plan.
+        HoldsOfNode nodes.now k (λ view. length view.paths ≡ agents → plan ≡ view.paths)) }
+    ensures short { IfOk result (λ plan. All (λ path. length path ≤ most_path_cells) plan) }
 {
     let finders = finders_at(alloc, nodes, k, agents)?;
     let mut paths = Vec::new(alloc);
@@ -121,7 +120,7 @@ pub fn plan_at(alloc: Global, nodes: &[Node], k: u32, agents: u32) -> Result<Pla
 /// A copy of the path.
 pub fn copied(alloc: Global, path: &Path) -> Result<Path, OutOfMemory>
     ensures same { IfOk result (λ copy. copy ≡ path.now) }
-    ensures short { IfOk result (λ copy. length copy ≤ 10000000) }
+    ensures short { IfOk result (λ copy. length copy ≤ most_path_cells) }
 {
     let cells = Vec::from_slice(alloc, path.cells())?;
     Ok(Path::of(cells).unwrap())

@@ -1,5 +1,6 @@
 ghost use Rattle.std.specs.Prelude.{◌≡◌, ◌*◌, ◌-◌, ◌^◌, ◌<◌, ◌≤◌, ◌∷◌, [], length, slice_set, sum, sum_by, All, IfOk};
 ghost use Rattle.mapf_model.specs.Laws.{AreSameBars};
+ghost use Rattle.mapf_model.specs.Limits.{most_agents, most_path_cells};
 ghost use Rattle.mapf_cbs.specs.Nodes.{IsRootView};
 ghost use Rattle.mapf_cbs.specs.Search.{View, AreBlocksOf};
 ghost use Rattle.mapf_cbs.specs.Whole.{IsWhole, IsCopy, AreCopies, IsAfter};
@@ -91,10 +92,12 @@ fn copies(alloc: Global, agent_paths: &[AgentPath]) -> Result<Vec<AgentPath>, Ou
 impl WholeNode {
     /// The root of a tree: these paths, and no bars.
     pub fn root(alloc: Global, paths: &[Path]) -> Result<WholeNode, OutOfMemory>
-        requires { length paths.now ≤ 200 }
+        requires { length paths.now ≤ most_agents }
         ensures count { IfOk result (λ node. length node.agent_paths.items ≡ length paths.now) }
-        ensures small { IfOk result (λ node. node.total ≤ 200 * 2 ^ 32) }
-        ensures whole { IfOk result (λ node. (view : View) → IsRootView paths.now view → sum view.costs ≡ sum_by (λ path. length path - 1) paths.now → IsWhole node view) }
+        ensures small { IfOk result (λ node. node.total ≤ most_agents * 2 ^ 32) }
+        ensures whole { IfOk result (λ node.
+            (view : View) → IsRootView paths.now view → sum view.costs ≡ sum_by (λ path. length path - 1) paths.now →
+            IsWhole node view) }
     {
         let total = total_of(paths);
         let mut agent_paths = Vec::new(alloc);
@@ -110,9 +113,9 @@ impl WholeNode {
 
     /// The paths of the node.
     pub fn plan(&self, alloc: Global) -> Result<Plan, OutOfMemory>
-        requires { (1 ≤ length self.now.agent_paths.items) × (length self.now.agent_paths.items ≤ 200) }
+        requires { (1 ≤ length self.now.agent_paths.items) × (length self.now.agent_paths.items ≤ most_agents) }
         ensures paths { IfOk result (λ plan. (view : View) → IsWhole self.now view → plan ≡ view.paths) }
-        ensures short { IfOk result (λ plan. All (λ path. length path ≤ 10000000) plan) }
+        ensures short { IfOk result (λ plan. All (λ path. length path ≤ most_path_cells) plan) }
     {
         let mut paths = Vec::new(alloc);
         for i in 0..self.agent_paths.len() {
@@ -127,7 +130,8 @@ impl WholeNode {
     /// One block for each agent that has labels at the node.
     pub fn blocks(&self, alloc: Global, agents: u32) -> Result<Vec<Block>, OutOfMemory>
         requires { length self.now.agent_paths.items ≡ agents }
-        ensures { IfOk result (λ blocks. (view : View) → IsWhole self.now view → AreBlocksOf agents view.entries blocks.items) }
+        ensures { IfOk result (λ blocks.
+            (view : View) → IsWhole self.now view → AreBlocksOf agents view.entries blocks.items) }
     {
         let mut blocks = Vec::new(alloc);
         for agent in 0..agents {

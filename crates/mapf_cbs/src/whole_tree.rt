@@ -1,5 +1,5 @@
-ghost use Rattle.std.specs.Prelude.{◌≡◌, ◌+◌, ◌^◌, ◌<◌, ◌≤◌, ◌∷◌, [], ◌++◌, ℕ, List, Some, length, slice_get, slice_set, IfOk, OnOk, IsTrue, ◌↔◌};
-ghost use Rattle.mapf_cbs.specs.State.{fate_of};
+ghost use Rattle.std.specs.Prelude.{◌≡◌, ◌+◌, ◌^◌, ◌<◌, ◌∷◌, [], ◌++◌, length, IfOk, OnOk, IsTrue, ◌↔◌};
+ghost use Rattle.mapf_cbs.specs.State.{split_fates};
 ghost use Rattle.mapf_cbs.specs.Search.{View};
 ghost use Rattle.mapf_cbs.specs.Whole.{AreWhole, HaveAgentPaths, IsLeastBelow};
 
@@ -71,8 +71,10 @@ impl WholeTree {
         requires few { length self.old.nodes.items < 2 ^ 31 }
         requires inside { k < length self.old.fates.items }
         requires splits { self.old.splits < 2 ^ 31 }
-        ensures nodes { OnOk result (self.new.nodes.items ≡ (self.old.nodes.items ++ left.node ∷ []) ++ right.node ∷ []) }
-        ensures fates { OnOk result (self.new.fates.items ≡ slice_set ((self.old.fates.items ++ fate_of left.total ∷ []) ++ fate_of right.total ∷ []) k (Fate.Expanded conflict.now (length self.old.nodes.items) (length self.old.nodes.items + 1))) }
+        ensures nodes { OnOk result
+            (self.new.nodes.items ≡ (self.old.nodes.items ++ left.node ∷ []) ++ right.node ∷ []) }
+        ensures fates { OnOk result
+            (self.new.fates.items ≡ split_fates self.old.fates.items k conflict.now left.total right.total) }
         ensures splits { OnOk result (self.new.splits ≡ self.old.splits + 1) }
     {
         expand(&mut self.fates, k, conflict, left.total, right.total)?;

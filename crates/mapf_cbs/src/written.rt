@@ -1,12 +1,11 @@
-ghost use Rattle.std.specs.Prelude.{◌≡◌, ◌<◌, ℕ, List, Some, length, slice_get, IfOk};
+ghost use Rattle.std.specs.Prelude.{◌≡◌, ◌<◌, ℕ, List, length, IfOk};
 ghost use Rattle.mapf_model.specs.Tree.{ConstraintTree, Spell};
 ghost use Rattle.mapf_cbs.specs.Search.{View, AreBlocksOf, AreChildrenLater, IsTreeAt};
-ghost use Rattle.mapf_cbs.specs.Nodes.{AreNodesFor, AreViews};
+ghost use Rattle.mapf_cbs.specs.Nodes.{AreNodesFor, AreViews, HoldsOfNode};
 
 use crate::finders::finders_at;
 use crate::leaves::Leaves;
 use crate::node::{Fate, Node};
-use crate::sides::split_item;
 use crate::walks::labels_at;
 use mapf_model::{Block, Entry, Item, OutOfMemory};
 use std::alloc::Global;
@@ -22,7 +21,9 @@ pub fn tree_items<L: Leaves>(
     requires same { length fates.now ≡ L.count nodes.now }
     requires some { 0 < length fates.now }
     requires later { AreChildrenLater fates.now }
-    ensures { IfOk result (λ items. (views : List View) → L.are_views nodes.now views → length views ≡ length fates.now → (tree : ConstraintTree) × Spell items.items tree × IsTreeAt agents views fates.now 0 tree) }
+    ensures { IfOk result (λ items.
+        (views : List View) → L.are_views nodes.now views → length views ≡ length fates.now →
+        (tree : ConstraintTree) × Spell items.items tree × IsTreeAt agents views fates.now 0 tree) }
 {
     let mut items = Vec::new(alloc);
     let mut owed: Vec<u32> = Vec::new(alloc);
@@ -30,13 +31,9 @@ pub fn tree_items<L: Leaves>(
     while let Some(k) = owed.pop() {
         let fate = fates[k as usize];
         match fate {
-            Fate::Expanded {
-                conflict,
-                left,
-                right,
-            } => {
-                items.push(split_item(conflict))?;
-                owed.push(right)?;
+            Fate::Expanded { conflict, left } => {
+                items.push(Item::split(conflict))?;
+                owed.push(left + 1)?;
                 owed.push(left)?;
             }
             _ => {
@@ -65,7 +62,8 @@ fn blocks_of(alloc: Global, nodes: &[Node], k: u32, agents: u32) -> Result<Vec<B
     requires nodes { (agent : ℕ) → agent < agents → AreNodesFor agent nodes.now }
     requires agents { 0 < agents }
     requires inside { k < length nodes.now }
-    ensures { IfOk result (λ blocks. (views : List View) (view : View) → AreViews nodes.now views → slice_get views k ≡ Some view → AreBlocksOf agents view.entries blocks.items) }
+    ensures { IfOk result (λ blocks.
+        HoldsOfNode nodes.now k (λ view. AreBlocksOf agents view.entries blocks.items)) }
 {
     let finders = finders_at(alloc, nodes, k, agents)?;
     let mut blocks = Vec::new(alloc);
@@ -83,7 +81,7 @@ fn blocks_of(alloc: Global, nodes: &[Node], k: u32, agents: u32) -> Result<Vec<B
 fn entries_at(alloc: Global, nodes: &[Node], k: u32, agent: u32) -> Result<Vec<Entry>, OutOfMemory>
     requires nodes { AreNodesFor agent nodes.now }
     requires inside { k < length nodes.now }
-    ensures { IfOk result (λ entries. (views : List View) (view : View) → AreViews nodes.now views → slice_get views k ≡ Some view → view.entries agent ≡ entries.items) }
+    ensures { IfOk result (λ entries. HoldsOfNode nodes.now k (λ view. view.entries agent ≡ entries.items)) }
 {
     match labels_at(nodes, k, agent) {
         Some(labels) => Ok(Vec::from_slice(alloc, labels.entries())?),

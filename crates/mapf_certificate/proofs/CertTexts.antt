@@ -12,11 +12,11 @@ use Rattle.mapf_model.specs.Printed.{IsConflictInRange, IsBlockInRange, AreBlock
 use Rattle.mapf_model.specs.Tree.{ConstraintTree, Split, Leaf, Clash, Node, nodes_of, nodes_of_all}
 use Rattle.mapf_model.proofs.ItemLemmas.{cut}
 use Rattle.mapf_certificate.specs.declared.sizes.Sizes.{Sizes}
-use Rattle.mapf_certificate.specs.Lines.{grid_of}
+use Rattle.mapf_certificate.specs.Lines.{grid_of, grid_for}
 use Rattle.mapf_certificate.specs.Certificates.{header_text, rest_text, cert_text, IsRest, SpellsCert, SpellsOneCert}
 use Rattle.mapf_certificate.specs.Reading.{Reading}
 use Rattle.mapf_certificate.specs.CertReading.{IsCertText, AwaitsCert, trees_owed_after}
-use Rattle.mapf_certificate.proofs.Blocks.{grid_for}
+use Rattle.mapf_certificate.proofs.Fields.{same_some}
 use Rattle.mapf_certificate.proofs.Nodes.{nodes_apart}
 use Rattle.mapf_certificate.proofs.Rests.{rest_starts, rest_ends}
 use Rattle.mapf_certificate.proofs.Headers.{same_header}
@@ -146,15 +146,12 @@ opened width height limit = record {
   owed = 1;
 }
 
-some_same : (xs ys : List ℕ) → ◌≡◌ {A = Option (List ℕ)} (Some xs) (Some ys) → xs ≡ ys
-some_same xs ys e = cc
-
 -- what an opened reader awaits is a certificate that the bytes of its source spell
 pub spells_from_awaits : (grid : GridMap) (width height limit agents : ℕ) (claim : Claim) (nodes : List Node) (remaining : Option (List ℕ)) (bytes : List ℕ) (r : Reading) → r ≡ opened width height limit → width ≡ grid.width → height ≡ grid.height
     → remaining ≡ Some bytes → AwaitsCert remaining r agents claim nodes → (tree : ConstraintTree) × SpellsCert grid bytes agents claim tree × (nodes ≡ nodes_of tree)
 spells_from_awaits grid width height limit agents claim nodes remaining bytes r new wide high known awaits =
     let first = subst (λ (q : Reading). AwaitsCert remaining q agents claim nodes) new awaits in
-    let one : first.bytes ≡ bytes = some_same first.bytes bytes (sym first.known ∙ known) in
+    let one : first.bytes ≡ bytes = same_some first.bytes bytes (sym first.known ∙ known) in
     spells_from_text grid (grid_of width height) agents claim nodes bytes (record { width = wide; height = high }) (subst (IsCertText (grid_of width height) 1 agents claim nodes) one first.text)
 
 pub awaits_from_spells : (grid : GridMap) (width height limit agents : ℕ) (claim : Claim) (tree : ConstraintTree) (remaining : Option (List ℕ)) (bytes : List ℕ) (r : Reading) → r ≡ opened width height limit → width ≡ grid.width → height ≡ grid.height

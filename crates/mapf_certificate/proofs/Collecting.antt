@@ -8,7 +8,7 @@ use Rattle.mapf_certificate.specs.declared.cert.LinesFault.TheVariants.{Text, De
 use Rattle.mapf_certificate.specs.Buffered.{Buffered}
 use Rattle.mapf_certificate.specs.Reading.{Reading}
 use Rattle.mapf_certificate.specs.CertReading.{Awaits, AwaitsCert, TakesHeader, TakesNode, TakesEnd}
-use Rattle.mapf_certificate.specs.Window.{Window, Fails, Stops, IsNoTextFault}
+use Rattle.mapf_certificate.specs.Window.{Window, Fails, StopsReader, IsNoTextFault}
 use Rattle.mapf_certificate.proofs.Windows.{Window-trans, Window-known, Exceeds-after}
 
 -- from the opened reader to this one a header and these nodes were read
@@ -76,13 +76,13 @@ collected_stops start mid opened r agents claim seen fault before items ends cou
     by [] next = ends next
     by (due ∷ nodes) next = items due nodes next
 
-pub stops_at : (a b : Option (List ℕ)) (failed : Bool) (x : Buffered) (Is : List ℕ → Type 0) (fault : LinesFault) → Fails a b failed x Is fault → Stops a b failed x fault
+pub stops_at : (a b : Option (List ℕ)) (failed : Bool) (x : Buffered) (Is : List ℕ → Type 0) (fault : LinesFault) → Fails a b failed x Is fault → StopsReader a b failed x fault
 stops_at a b failed x Is (Text fault) fails = tt
 stops_at a b failed x Is Device fails = fails.0
 stops_at a b failed x Is TooLong fails = fails.1
 stops_at a b failed x Is Memory fails = tt
 
-pub stops_after : (a b c : Option (List ℕ)) (failed : Bool) (x y : Buffered) (t : List ℕ) (Is : List ℕ → Type 0) (fault : LinesFault) → Window a b x y t → Fails b c failed y Is fault → Stops a c failed x fault
+pub stops_after : (a b c : Option (List ℕ)) (failed : Bool) (x y : Buffered) (t : List ℕ) (Is : List ℕ → Type 0) (fault : LinesFault) → Window a b x y t → Fails b c failed y Is fault → StopsReader a c failed x fault
 stops_after a b c failed x y t Is (Text fault) window fails = tt
 stops_after a b c failed x y t Is Device window fails = fails.0
 stops_after a b c failed x y t Is TooLong window fails = Exceeds-after a b c x y t window fails.1

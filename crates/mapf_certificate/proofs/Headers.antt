@@ -6,8 +6,8 @@ use Rattle.mapf_model.specs.Grid.{GridMap}
 use Rattle.mapf_model.specs.Printed.{IsClaimInRange}
 use Rattle.mapf_model.specs.Tree.{Node}
 use Rattle.mapf_certificate.specs.declared.cert.LinesFault.{LinesFault}
-use Rattle.mapf_certificate.specs.declared.line.Line.{Line}
-use Rattle.mapf_certificate.specs.declared.line.Line.TheVariants as lines
+use Rattle.mapf_certificate.specs.declared.line.CertLine.{CertLine}
+use Rattle.mapf_certificate.specs.declared.line.CertLine.TheVariants as lines
 use Rattle.mapf_certificate.specs.declared.tree_line.Due.TheVariants as dues
 use Rattle.mapf_certificate.specs.Buffered.{Buffered}
 use Rattle.mapf_certificate.specs.Lines.{IsLine, IsAgentCount}
@@ -16,10 +16,11 @@ use Rattle.mapf_certificate.specs.Reading.{Reading, grid_at, agents_at}
 use Rattle.mapf_certificate.specs.CertReading.{HasHeader, Awaits, AwaitsCert}
 use Rattle.mapf_certificate.specs.Untouched.{TakesThere}
 use Rattle.mapf_certificate.specs.Window.{Window, Fails, IsNoTextFault}
+use Rattle.mapf_certificate.specs.Bounded.{BeginsWithLine}
+use Rattle.mapf_certificate.proofs.Fields.{same_some}
 use Rattle.mapf_certificate.proofs.PlainLines.{same_line}
 use Rattle.mapf_certificate.proofs.TakenThere.{there-trans}
 use Rattle.mapf_certificate.proofs.Windows.{Window-trans, Window-known, Fails-after, Fails-weaker, Fails-not}
-use Rattle.mapf_certificate.proofs.LineWindows.{IsNext}
 
 -- only a claim's line could hang on the width, and it doesn't
 claim_words : (width : ℕ) (claim : Claim) → line_text width (lines.Claim claim) ≡ line_text 1 (lines.Claim claim)
@@ -41,7 +42,7 @@ header_cut width agents claim s =
     ∙ ap (λ l. line_text 1 lines.Title ++ l) (append_assoc (line_text 1 (lines.Agents agents)) (line_text width (lines.Claim claim)) s)
     ∙ ap (λ l. line_text 1 lines.Title ++ (line_text 1 (lines.Agents agents) ++ (l ++ s))) (claim_words width claim)
 
-title_next : (width : ℕ) (t : List ℕ) → HasHeader width t → IsNext dues.Title t
+title_next : (width : ℕ) (t : List ℕ) → HasHeader width t → BeginsWithLine dues.Title t
 title_next width t has = record {
   value = lines.Title;
   is = refl;
@@ -49,48 +50,48 @@ title_next width t has = record {
   spelled = has.spelled ∙ header_cut width has.value.0 has.value.1 has.rest;
 }
 
-after_title : (width : ℕ) (line : Line) (more : List ℕ) → IsLine dues.Title line → HasHeader width (line_text 1 line ++ more) → Counted more
+after_title : (width : ℕ) (line : CertLine) (more : List ℕ) → IsLine dues.Title line → HasHeader width (line_text 1 line ++ more) → Counted more
 after_title width line more is has =
     let rest = line_text 1 (lines.Agents has.value.0) ++ (line_text 1 (lines.Claim has.value.1) ++ has.rest) in
     let (same, tail) = same_line dues.Title line lines.Title more rest is refl (has.spelled ∙ header_cut width has.value.0 has.value.1 has.rest) in
     record { agents = has.value.0; claim = has.value.1; agents_in_range = has.is.0; claim_in_range = has.is.1; rest = has.rest; spelled = tail }
 
-agents_next : (t : List ℕ) → Counted t → IsNext dues.Agents t
+agents_next : (t : List ℕ) → Counted t → BeginsWithLine dues.Agents t
 agents_next t counted = record { value = lines.Agents counted.agents; is = counted.agents_in_range; rest = line_text 1 (lines.Claim counted.claim) ++ counted.rest; spelled = counted.spelled }
 
-after_agents : (line : Line) (more : List ℕ) → IsLine dues.Agents line → Counted (line_text 1 line ++ more) → IsNext dues.Claim more
+after_agents : (line : CertLine) (more : List ℕ) → IsLine dues.Agents line → Counted (line_text 1 line ++ more) → BeginsWithLine dues.Claim more
 after_agents line more is counted =
     let rest = line_text 1 (lines.Claim counted.claim) ++ counted.rest in
     let (same, tail) = same_line dues.Agents line (lines.Agents counted.agents) more rest is counted.agents_in_range counted.spelled in
     record { value = lines.Claim counted.claim; is = counted.claim_in_range; rest = counted.rest; spelled = tail }
 
-pub fails_in_title : (width : ℕ) (had left : Option (List ℕ)) (failed : Bool) (x : Buffered) (fault : LinesFault) → Fails had left failed x (IsNext dues.Title) fault → Fails had left failed x (HasHeader width) fault
-fails_in_title width had left failed x fault fails = Fails-weaker had left failed x (HasHeader width) (IsNext dues.Title) fault (title_next width) fails
+pub fails_in_title : (width : ℕ) (had left : Option (List ℕ)) (failed : Bool) (x : Buffered) (fault : LinesFault) → Fails had left failed x (BeginsWithLine dues.Title) fault → Fails had left failed x (HasHeader width) fault
+fails_in_title width had left failed x fault fails = Fails-weaker had left failed x (HasHeader width) (BeginsWithLine dues.Title) fault (title_next width) fails
 
-pub fails_in_agents : (width : ℕ) (had mid left : Option (List ℕ)) (failed : Bool) (x y : Buffered) (first : Line) (fault : LinesFault) → IsLine dues.Title first → Window had mid x y (line_text 1 first)
-    → Fails mid left failed y (IsNext dues.Agents) fault → Fails had left failed x (HasHeader width) fault
+pub fails_in_agents : (width : ℕ) (had mid left : Option (List ℕ)) (failed : Bool) (x y : Buffered) (first : CertLine) (fault : LinesFault) → IsLine dues.Title first → Window had mid x y (line_text 1 first)
+    → Fails mid left failed y (BeginsWithLine dues.Agents) fault → Fails had left failed x (HasHeader width) fault
 fails_in_agents width had mid left failed x y first fault is window fails =
-    Fails-after had mid left failed x y (line_text 1 first) (HasHeader width) (IsNext dues.Agents) fault window (λ more has. agents_next more (after_title width first more is has)) fails
+    Fails-after had mid left failed x y (line_text 1 first) (HasHeader width) (BeginsWithLine dues.Agents) fault window (λ more has. agents_next more (after_title width first more is has)) fails
 
-pub fails_in_claim : (width : ℕ) (had one mid left : Option (List ℕ)) (failed : Bool) (x y z : Buffered) (first second : Line) (fault : LinesFault) → IsLine dues.Title first → IsLine dues.Agents second
-    → Window had one x y (line_text 1 first) → Window one mid y z (line_text 1 second) → Fails mid left failed z (IsNext dues.Claim) fault → Fails had left failed x (HasHeader width) fault
+pub fails_in_claim : (width : ℕ) (had one mid left : Option (List ℕ)) (failed : Bool) (x y z : Buffered) (first second : CertLine) (fault : LinesFault) → IsLine dues.Title first → IsLine dues.Agents second
+    → Window had one x y (line_text 1 first) → Window one mid y z (line_text 1 second) → Fails mid left failed z (BeginsWithLine dues.Claim) fault → Fails had left failed x (HasHeader width) fault
 fails_in_claim width had one mid left failed x y z first second fault is_first is_second window more fails =
     Fails-after had one left failed x y (line_text 1 first) (HasHeader width) Counted fault window (λ t has. after_title width first t is_first has)
-    (Fails-after one mid left failed y z (line_text 1 second) Counted (IsNext dues.Claim) fault more (λ t counted. after_agents second t is_second counted) fails)
+    (Fails-after one mid left failed y z (line_text 1 second) Counted (BeginsWithLine dues.Claim) fault more (λ t counted. after_agents second t is_second counted) fails)
 
-three_lines : (width : ℕ) (first second third : Line) (agents : ℕ) (claim : Claim) → IsLine dues.Title first → second ≡ lines.Agents agents → third ≡ lines.Claim claim → line_text 1 first ++ (line_text 1 second ++ line_text 1 third) ≡ header_text width agents claim
+three_lines : (width : ℕ) (first second third : CertLine) (agents : ℕ) (claim : Claim) → IsLine dues.Title first → second ≡ lines.Agents agents → third ≡ lines.Claim claim → line_text 1 first ++ (line_text 1 second ++ line_text 1 third) ≡ header_text width agents claim
 three_lines width first second third agents claim is_first is_second is_third =
     let last : line_text 1 third ≡ line_text width (lines.Claim claim) = ap (line_text 1) is_third ∙ sym (claim_words width claim) in
     ap (λ l. line_text 1 first ++ (line_text 1 second ++ l)) last ∙ ap (λ l. line_text 1 first ++ (line_text 1 l ++ line_text width (lines.Claim claim))) is_second ∙ ap (λ l. line_text 1 l ++ (line_text 1 (lines.Agents agents) ++ line_text width (lines.Claim claim))) is_first
 
 -- a header whose lines were all in the buffer
-pub header_there : {S : Type 0} (width : ℕ) (s0 s1 s2 s3 : S) (x y z w : Buffered) (first second third : Line) (agents : ℕ) (claim : Claim) → TakesThere s0 s1 x y (line_text 1 first) → TakesThere s1 s2 y z (line_text 1 second) → TakesThere s2 s3 z w (line_text 1 third)
+pub header_there : {S : Type 0} (width : ℕ) (s0 s1 s2 s3 : S) (x y z w : Buffered) (first second third : CertLine) (agents : ℕ) (claim : Claim) → TakesThere s0 s1 x y (line_text 1 first) → TakesThere s1 s2 y z (line_text 1 second) → TakesThere s2 s3 z w (line_text 1 third)
     → IsLine dues.Title first → second ≡ lines.Agents agents → third ≡ lines.Claim claim → TakesThere s0 s3 x w (header_text width agents claim)
 header_there width s0 s1 s2 s3 x y z w first second third agents claim p q r is_first is_second is_third =
     subst (TakesThere s0 s3 x w) (three_lines width first second third agents claim is_first is_second is_third)
     (there-trans s0 s1 s3 x y w (line_text 1 first) (line_text 1 second ++ line_text 1 third) p (there-trans s1 s2 s3 y z w (line_text 1 second) (line_text 1 third) q r))
 
-pub header_window : (width : ℕ) (had one mid left : Option (List ℕ)) (x y z w : Buffered) (first second third : Line) (agents : ℕ) (claim : Claim) → Window had one x y (line_text 1 first) → Window one mid y z (line_text 1 second) → Window mid left z w (line_text 1 third)
+pub header_window : (width : ℕ) (had one mid left : Option (List ℕ)) (x y z w : Buffered) (first second third : CertLine) (agents : ℕ) (claim : Claim) → Window had one x y (line_text 1 first) → Window one mid y z (line_text 1 second) → Window mid left z w (line_text 1 third)
     → IsLine dues.Title first → second ≡ lines.Agents agents → third ≡ lines.Claim claim → Window had left x w (header_text width agents claim)
 header_window width had one mid left x y z w first second third agents claim p q r is_first is_second is_third =
     subst (Window had left x w) (three_lines width first second third agents claim is_first is_second is_third) (Window-trans had one left x y w (line_text 1 first) (line_text 1 second ++ line_text 1 third) p (Window-trans one mid left y z w (line_text 1 second) (line_text 1 third) q r))
@@ -117,7 +118,7 @@ pub header_joins : (had left : Option (List ℕ)) (old new : Reading) (agents : 
     → (bytes : List ℕ) → had ≡ Some bytes → (nodes : List Node) → Awaits left new nodes → AwaitsCert had old agents claim nodes
 header_joins had left old new agents claim few ranged window grid count owed bytes known nodes awaits =
     let (rest, kept, same, many) = Window-known had left old.buffer new.buffer (header_text old.width agents claim) bytes window known in
-    let one : awaits.bytes ≡ rest = some_same awaits.bytes rest (sym awaits.known ∙ kept) in
+    let one : awaits.bytes ≡ rest = same_some awaits.bytes rest (sym awaits.known ∙ kept) in
     let moved = subst (λ (k : ℕ). IsRest (grid_at old) agents k nodes (new.buffer.bytes ++ awaits.bytes)) owed (subst (λ (n : ℕ). IsRest (grid_at old) n new.owed nodes (new.buffer.bytes ++ awaits.bytes)) count (subst (λ (g : GridMap). IsRest g (agents_at new) new.owed nodes (new.buffer.bytes ++ awaits.bytes)) grid awaits.rest)) in
     record {
       bytes = bytes;
@@ -130,9 +131,6 @@ header_joins had left old new agents claim few ranged window grid count owed byt
         rest = moved;
       };
     }
-  where
-    some_same : (xs ys : List ℕ) → ◌≡◌ {A = Option (List ℕ)} (Some xs) (Some ys) → xs ≡ ys
-    some_same xs ys e = cc
 
 -- the header that was read is the one that came
 pub header_same : (had left : Option (List ℕ)) (old new : Reading) (agents due : ℕ) (claim says : Claim) (nodes : List Node) → IsAgentCount agents → IsClaimInRange claim → Window had left old.buffer new.buffer (header_text old.width agents claim) → grid_at new ≡ grid_at old → agents_at new ≡ agents → new.owed ≡ old.owed

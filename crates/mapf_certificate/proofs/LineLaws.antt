@@ -1,19 +1,19 @@
 -- Lines of a certificate: what is read is spelled so, and what is spelled so is read.
 use Rattle.std.proofs.Common.{◌≡◌, ℕ, ◌<◌, ◌≤◌, ◌^◌, ◌-◌, ◌/◌, ◌%◌, ◌*◌, Bool, true, false, cond, List, ◌++◌, codes, drop, Option, Some, None, Result, Ok, Err, refl, sym, ap, subst, ◌∙◌, arith, inl, inr, ◌⊎◌}
-use Rattle.std.specs.Fmt.{decimal}
 use Rattle.std.specs.Str.Parse.{AllDigits}
 use Rattle.std.proofs.lemmas.Fmt.{decimal_is_IsNumeral}
 use Rattle.std.specs.Option.{option_map_or}
 use Rattle.std.specs.Str.{bytes_eq}
 use Rattle.std.proofs.lemmas.Slice.Eq.{bytes_eq-Decides}
+use Rattle.mapf_model.specs.declared.conflict.Conflict.TheVariants as conflicts
 use Rattle.mapf_model.specs.declared.item.Claim.{Claim}
 use Rattle.mapf_model.specs.declared.item.Claim.TheVariants as claims
 use Rattle.mapf_model.specs.declared.label.Label.{Label}
 use Rattle.mapf_model.specs.declared.label.Label.TheVariants as labels
 use Rattle.mapf_model.specs.declared.label.Entry.{Entry}
 use Rattle.mapf_model.specs.Printed.{IsLabelInRange, IsEntryInRange, IsClaimInRange}
-use Rattle.mapf_certificate.specs.declared.line.Line.{Line}
-use Rattle.mapf_certificate.specs.declared.line.Line.TheVariants as lines
+use Rattle.mapf_certificate.specs.declared.line.CertLine.{CertLine}
+use Rattle.mapf_certificate.specs.declared.line.CertLine.TheVariants as lines
 use Rattle.mapf_certificate.specs.declared.line.LineFault.{LineFault}
 use Rattle.mapf_certificate.specs.declared.line.LineFault.TheVariants.{Shape}
 use Rattle.mapf_certificate.specs.declared.sizes.Sizes.{Sizes}
@@ -22,14 +22,14 @@ use Rattle.mapf_certificate.specs.declared.tree_line.Due.TheVariants as dues
 use Rattle.mapf_certificate.specs.declared.tree_line.LabelWord.{LabelWord}
 use Rattle.mapf_certificate.specs.declared.tree_line.LabelWord.TheVariants as word
 use Rattle.mapf_certificate.specs.Numbers.{◌>>=◌, field, pair, strip, read_field, read_last, read_pair, in_range, below, read_cell}
-use Rattle.mapf_certificate.specs.Lines.{words, label_words, IsLine, IsTreeLine, IsAgentCount, grid_of, width_of}
+use Rattle.mapf_certificate.specs.Lines.{words, label_words, IsLine, IsTreeLine, IsAgentCount, width_of, grid_for}
 use Rattle.mapf_certificate.specs.LineReading.{read_title, read_count, read_cost, read_agents, read_claim, read_vertex, read_swap, read_leaf, read_clash, read_agent, read_label_word, label_in_range, read_entry, read_tree_line, read_line}
 use Rattle.mapf_certificate.proofs.Strips.{strip-some}
 use Rattle.mapf_certificate.proofs.Fields.{guarded, through, same_ok, IsPastDigits, field_takes, field_again, last_takes, last_again, pair_takes, pair_again, below_takes, below_again, range_takes, range_again, cell_again, row-below}
 
 -- what a line is read to is spelled by it, in its ranges
-abbrev Takes : Sizes → List ℕ → Line → Type 0
-Takes sizes bs line = (bs ≡ words sizes.width line) × IsTreeLine (grid_of sizes.width sizes.height) sizes.agents line
+abbrev Takes : Sizes → List ℕ → CertLine → Type 0
+Takes sizes bs line = (bs ≡ words sizes.width line) × IsTreeLine (grid_for sizes) sizes.agents line
 
 field_below : (mark bound : ℕ) (bs : List ℕ) (p : Option ℕ × List ℕ) (n : ℕ) → read_field mark bs ≡ Ok p → below bound p.0 ≡ Ok n → (bs ≡ field mark n ++ p.1) × (n < bound)
 field_below mark bound bs p n e ranged =
@@ -51,7 +51,7 @@ last_range mark least most bs v n e ranged =
     let (is, above, under) = range_takes least most v n ranged in
     ((last_takes mark bs n (e ∙ ap Ok is)).0, above, under)
 
-vertex_takes : (sizes : Sizes) (bs : List ℕ) (line : Line) → read_vertex sizes bs ≡ Ok line → Takes sizes (codes "vertex" ++ bs) line
+vertex_takes : (sizes : Sizes) (bs : List ℕ) (line : CertLine) → read_vertex sizes bs ≡ Ok line → Takes sizes (codes "vertex" ++ bs) line
 unfolding read_vertex
 vertex_takes sizes bs line e =
     through (read_field 32 bs) _ line e (λ i read1 more1.
@@ -69,7 +69,7 @@ vertex_takes sizes bs line e =
     let text = text1 ∙ ap (λ r. field 32 first ++ r) (text2 ∙ ap (λ r. field 32 second ++ r) (text3 ∙ ap (λ r. pair sizes.width cell ++ r) text4)) in
     subst (Takes sizes (codes "vertex" ++ bs)) (same_ok _ line made) (ap (λ r. codes "vertex" ++ r) text, (in1, in2, in3, in4))))))))))
 
-swap_takes : (sizes : Sizes) (bs : List ℕ) (line : Line) → read_swap sizes bs ≡ Ok line → Takes sizes (codes "swap" ++ bs) line
+swap_takes : (sizes : Sizes) (bs : List ℕ) (line : CertLine) → read_swap sizes bs ≡ Ok line → Takes sizes (codes "swap" ++ bs) line
 unfolding read_swap
 swap_takes sizes bs line e =
     through (read_field 32 bs) _ line e (λ i read1 more1.
@@ -91,7 +91,7 @@ swap_takes sizes bs line e =
     let text = text1 ∙ ap (λ r. field 32 first ++ r) (text2 ∙ ap (λ r. field 32 second ++ r) (text3 ∙ ap (λ r. pair sizes.width from ++ r) ends)) in
     subst (Takes sizes (codes "swap" ++ bs)) (same_ok _ line made) (ap (λ r. codes "swap" ++ r) text, (in1, in2, in3, in4, in5))))))))))))
 
-leaf_takes : (sizes : Sizes) (bs : List ℕ) (line : Line) → read_leaf sizes bs ≡ Ok line → Takes sizes (codes "leaf" ++ bs) line
+leaf_takes : (sizes : Sizes) (bs : List ℕ) (line : CertLine) → read_leaf sizes bs ≡ Ok line → Takes sizes (codes "leaf" ++ bs) line
 unfolding read_leaf
 leaf_takes sizes bs line e =
     through (read_last 32 bs) _ line e (λ blocks read1 more1.
@@ -99,7 +99,7 @@ leaf_takes sizes bs line e =
     let (text, low, in1) = last_range 32 0 sizes.agents bs blocks count read1 is1 in
     subst (Takes sizes (codes "leaf" ++ bs)) (same_ok _ line made) (ap (λ r. codes "leaf" ++ r) text, in1)))
 
-clash_takes : (sizes : Sizes) (bs : List ℕ) (line : Line) → read_clash sizes bs ≡ Ok line → Takes sizes (codes "clash" ++ bs) line
+clash_takes : (sizes : Sizes) (bs : List ℕ) (line : CertLine) → read_clash sizes bs ≡ Ok line → Takes sizes (codes "clash" ++ bs) line
 unfolding read_clash
 clash_takes sizes bs line e =
     through (read_field 32 bs) _ line e (λ i read1 more1.
@@ -111,7 +111,7 @@ clash_takes sizes bs line e =
     let text = text1 ∙ ap (λ r. field 32 first ++ r) text2 in
     subst (Takes sizes (codes "clash" ++ bs)) (same_ok _ line made) (ap (λ r. codes "clash" ++ r) text, (in1, in2))))))
 
-agent_takes : (sizes : Sizes) (bs : List ℕ) (line : Line) → read_agent sizes bs ≡ Ok line → Takes sizes (codes "agent" ++ bs) line
+agent_takes : (sizes : Sizes) (bs : List ℕ) (line : CertLine) → read_agent sizes bs ≡ Ok line → Takes sizes (codes "agent" ++ bs) line
 unfolding read_agent
 agent_takes sizes bs line e =
     through (read_field 32 bs) _ line e (λ i read1 more1.
@@ -146,7 +146,7 @@ label_takes bs w label e ranged = elim (chosen (bytes_eq bs (codes " inf")) _ _ 
     Labels : List ℕ → Label → Type 0
     Labels bytes l = (bytes ≡ label_words l) × IsLabelInRange l
 
-entry_takes : (sizes : Sizes) (bs : List ℕ) (line : Line) → read_entry sizes bs ≡ Ok line → Takes sizes (codes "at" ++ bs) line
+entry_takes : (sizes : Sizes) (bs : List ℕ) (line : CertLine) → read_entry sizes bs ≡ Ok line → Takes sizes (codes "at" ++ bs) line
 unfolding read_entry
 entry_takes sizes bs line e =
     through (read_pair bs) _ line e (λ at read1 more1.
@@ -170,12 +170,12 @@ front_takes P front bs f other line takes more e = by (strip front bs) refl e
     by (Some rest) is made = subst P (sym (strip-some front bs rest is)) (takes rest made)
     by None is made = more made
 
-end_takes : (sizes : Sizes) (bs : List ℕ) (line : Line) → cond (bytes_eq bs (codes "end")) (Ok lines.End) (Err Shape) ≡ Ok line → Takes sizes bs line
+end_takes : (sizes : Sizes) (bs : List ℕ) (line : CertLine) → cond (bytes_eq bs (codes "end")) (Ok lines.End) (Err Shape) ≡ Ok line → Takes sizes bs line
 end_takes sizes bs line e =
     let (found, same) = guarded (bytes_eq bs (codes "end")) Shape (Ok lines.End) line e in
     subst (Takes sizes bs) (same_ok lines.End line same) ((bytes_eq-Decides bs (codes "end")).0 found, tt)
 
-tree_line_takes : (sizes : Sizes) (bs : List ℕ) (line : Line) → read_tree_line sizes bs ≡ Ok line → Takes sizes bs line
+tree_line_takes : (sizes : Sizes) (bs : List ℕ) (line : CertLine) → read_tree_line sizes bs ≡ Ok line → Takes sizes bs line
 unfolding read_tree_line
 tree_line_takes sizes bs line e =
     let P : List ℕ → Type 0 = λ b. Takes sizes b line in
@@ -196,10 +196,10 @@ unfolding read_cost
 cost_takes bs n e = through (read_last 32 bs) _ n e (λ v read is. let (text, low, high) = last_range 32 0 1999999800 bs v n read is in (text, high))
 
 -- what a line that is due is read to
-abbrev TakesDue : Due → List ℕ → Line → Type 0
+abbrev TakesDue : Due → List ℕ → CertLine → Type 0
 TakesDue due bs line = IsLine due line × (bs ≡ words (width_of due) line)
 
-agents_takes : (bs : List ℕ) (line : Line) → read_agents bs ≡ Ok line → TakesDue dues.Agents bs line
+agents_takes : (bs : List ℕ) (line : CertLine) → read_agents bs ≡ Ok line → TakesDue dues.Agents bs line
 unfolding read_agents
 agents_takes bs line e =
     front_takes (λ b. TakesDue dues.Agents b line) (codes "agents") bs _ (Err Shape) line
@@ -208,7 +208,7 @@ agents_takes bs line e =
     subst (TakesDue dues.Agents (codes "agents" ++ rest)) (same_ok _ line done) (ranged, ap (λ r. codes "agents" ++ r) text)))
     (λ wrong. cc) e
 
-claim_takes : (bs : List ℕ) (line : Line) → read_claim bs ≡ Ok line → TakesDue dues.Claim bs line
+claim_takes : (bs : List ℕ) (line : CertLine) → read_claim bs ≡ Ok line → TakesDue dues.Claim bs line
 unfolding read_claim
 claim_takes bs line e = elim (chosen (bytes_eq bs (codes "claim impossible")) _ _ _ e) [
   | inl (found, same) ↦ subst (TakesDue dues.Claim bs) (same_ok (lines.Claim claims.Impossible) line same) (tt, (bytes_eq-Decides bs (codes "claim impossible")).0 found)
@@ -220,14 +220,14 @@ claim_takes bs line e = elim (chosen (bytes_eq bs (codes "claim impossible")) _ 
       (λ wrong. cc) more
 ]
 
-title_takes : (bs : List ℕ) (line : Line) → read_title bs ≡ Ok line → TakesDue dues.Title bs line
+title_takes : (bs : List ℕ) (line : CertLine) → read_title bs ≡ Ok line → TakesDue dues.Title bs line
 unfolding read_title
 title_takes bs line e =
     let (found, same) = guarded (bytes_eq bs (codes "mapf-cert 1")) Shape (Ok lines.Title) line e in
     subst (TakesDue dues.Title bs) (same_ok lines.Title line same) (refl, (bytes_eq-Decides bs (codes "mapf-cert 1")).0 found)
 
 -- what a line is read to is a line that is due, and is spelled so
-pub line_takes : (due : Due) (bs : List ℕ) (line : Line) → read_line due bs ≡ Ok line → IsLine due line × (bs ≡ words (width_of due) line)
+pub line_takes : (due : Due) (bs : List ℕ) (line : CertLine) → read_line due bs ≡ Ok line → IsLine due line × (bs ≡ words (width_of due) line)
 line_takes dues.Title bs line e = title_takes bs line e
 line_takes dues.Agents bs line e = agents_takes bs line e
 line_takes dues.Claim bs line e = claim_takes bs line e
@@ -252,8 +252,8 @@ cell_sizes_again sizes cell inside = cell_again sizes.width sizes.height cell (o
 agent_fits : (sizes : Sizes) (i : ℕ) → i < sizes.agents → i < 2 ^ 64
 agent_fits sizes i h = omega (arith, sizes.few.1)
 
-vertex_again : (sizes : Sizes) (i j cell tick : ℕ) → IsTreeLine (grid_of sizes.width sizes.height) sizes.agents (lines.Vertex i j cell tick)
-    → read_vertex sizes (field 32 i ++ (field 32 j ++ (pair sizes.width cell ++ field 32 tick))) ≡ Ok (lines.Vertex i j cell tick)
+vertex_again : (sizes : Sizes) (i j cell tick : ℕ) → IsTreeLine (grid_for sizes) sizes.agents (lines.Split (conflicts.Vertex i j cell tick))
+    → read_vertex sizes (field 32 i ++ (field 32 j ++ (pair sizes.width cell ++ field 32 tick))) ≡ Ok (lines.Split (conflicts.Vertex i j cell tick))
 unfolding read_vertex
 vertex_again sizes i j cell tick (first, second, inside, early) =
     let end = field 32 tick in
@@ -266,8 +266,8 @@ vertex_again sizes i j cell tick (first, second, inside, early) =
     (then_ok _ _ _ _ (cell_sizes_again sizes cell inside)
     (then_ok _ _ _ _ (range_again 0 999999 tick (omega arith) early) refl)))))))
 
-swap_again : (sizes : Sizes) (i j from to tick : ℕ) → IsTreeLine (grid_of sizes.width sizes.height) sizes.agents (lines.Swap i j from to tick)
-    → read_swap sizes (field 32 i ++ (field 32 j ++ (pair sizes.width from ++ (pair sizes.width to ++ field 32 tick)))) ≡ Ok (lines.Swap i j from to tick)
+swap_again : (sizes : Sizes) (i j from to tick : ℕ) → IsTreeLine (grid_for sizes) sizes.agents (lines.Split (conflicts.Swap i j from to tick))
+    → read_swap sizes (field 32 i ++ (field 32 j ++ (pair sizes.width from ++ (pair sizes.width to ++ field 32 tick)))) ≡ Ok (lines.Split (conflicts.Swap i j from to tick))
 unfolding read_swap
 swap_again sizes i j from to tick (first, second, here, there, early) =
     let end = field 32 tick in
@@ -304,24 +304,20 @@ agent_again sizes agent entries first some fits =
     (then_ok _ _ _ _ (below_again sizes.agents agent first)
     (then_ok _ _ _ _ (range_again 1 (2 ^ 64 - 1) entries some (omega arith)) refl)))
 
--- a number isn't `inf`
-not_inf : (n : ℕ) → n < 2 ^ 64 → bytes_eq (field 32 n) (codes " inf") ≡ false
-not_inf n fits = by (bytes_eq (field 32 n) (codes " inf")) refl
+-- a number isn't a word of letters
+pub not_word : (word : List ℕ) (n : ℕ) → n < 2 ^ 64 → (AllDigits 10 (drop 1 word) → ⊥) → bytes_eq (field 32 n) word ≡ false
+not_word word n fits letters = by (bytes_eq (field 32 n) word) refl
   where
-    by : (b : Bool) → bytes_eq (field 32 n) (codes " inf") ≡ b → bytes_eq (field 32 n) (codes " inf") ≡ false
+    by : (b : Bool) → bytes_eq (field 32 n) word ≡ b → bytes_eq (field 32 n) word ≡ false
     by false e = e
-    by true e =
-        let same : decimal n ≡ codes "inf" = ap (drop 1) ((bytes_eq-Decides (field 32 n) (codes " inf")).0 e) in
-        let digits : AllDigits 10 (codes "inf") = subst (AllDigits 10) same (decimal_is_IsNumeral n fits).0.1 in
-        let first : 18 < 10 = digits.0 in
-        absurd (omega arith)
+    by true e = absurd (letters (subst (AllDigits 10) (ap (drop 1) ((bytes_eq-Decides (field 32 n) word).0 e)) (decimal_is_IsNumeral n fits).0.1))
 
 label_again : (label : Label) → IsLabelInRange label → (w : LabelWord) × (read_label_word (label_words label) ≡ Ok w) × (label_in_range w ≡ Ok label)
 unfolding read_label_word
 label_again labels.Never is = (word.Never, refl, refl)
 label_again (labels.Ticks n) (above, under) =
     let fits : n < 2 ^ 64 = omega arith in
-    let number = not_inf n fits in
+    let number = not_word (codes " inf") n fits (λ digits. let first : 18 < 10 = digits.0 in omega arith) in
     let read : (read_last 32 (field 32 n) >>= λ v. Ok (word.Ticks v)) ≡ Ok (word.Ticks (Some n)) = then_ok _ _ _ _ (last_again 32 n fits) refl in
     let ranged : (in_range 1 9999999 (Some n) >>= λ v. Ok (labels.Ticks v)) ≡ Ok (labels.Ticks n) = then_ok _ _ _ _ (range_again 1 9999999 n above under) refl in
     (word.Ticks (Some n), ap (λ b. cond b (Ok word.Never) (read_last 32 (field 32 n) >>= λ v. Ok (word.Ticks v))) number ∙ read, ranged)
@@ -330,7 +326,7 @@ label_past : (label : Label) → IsPastDigits (label_words label)
 label_past labels.Never = refl
 label_past (labels.Ticks n) = refl
 
-entry_again : (sizes : Sizes) (entry : Entry) → IsEntryInRange (grid_of sizes.width sizes.height) entry
+entry_again : (sizes : Sizes) (entry : Entry) → IsEntryInRange (grid_for sizes) entry
     → read_entry sizes (pair sizes.width entry.cell ++ (field 32 entry.tick ++ label_words entry.label)) ≡ Ok (lines.At entry)
 unfolding read_entry
 entry_again sizes entry (inside, early, labelled) =
@@ -342,18 +338,16 @@ entry_again sizes entry (inside, early, labelled) =
     (then_ok _ _ _ _ (range_again 0 9999999 entry.tick (omega arith) early)
     (then_ok _ _ _ _ ranged refl)))))
 
-tree_line_again : (sizes : Sizes) (line : Line) → IsTreeLine (grid_of sizes.width sizes.height) sizes.agents line → read_tree_line sizes (words sizes.width line) ≡ Ok line
+tree_line_again : (sizes : Sizes) (line : CertLine) → IsTreeLine (grid_for sizes) sizes.agents line → read_tree_line sizes (words sizes.width line) ≡ Ok line
 unfolding read_tree_line
-tree_line_again sizes lines.Title is = absurd is
-tree_line_again sizes (lines.Agents agents) is = absurd is
-tree_line_again sizes (lines.Claim claim) is = absurd is
-tree_line_again sizes (lines.Vertex i j cell tick) is = vertex_again sizes i j cell tick is
-tree_line_again sizes (lines.Swap i j from to tick) is = swap_again sizes i j from to tick is
+tree_line_again sizes (lines.Split (conflicts.Vertex i j cell tick)) is = vertex_again sizes i j cell tick is
+tree_line_again sizes (lines.Split (conflicts.Swap i j from to tick)) is = swap_again sizes i j from to tick is
 tree_line_again sizes (lines.Leaf blocks) is = leaf_again sizes blocks is
 tree_line_again sizes (lines.Clash i j) is = clash_again sizes i j is.0 is.1
 tree_line_again sizes (lines.Agent agent entries) is = agent_again sizes agent entries is.0 is.1 is.2
 tree_line_again sizes (lines.At entry) is = entry_again sizes entry is
 tree_line_again sizes lines.End is = refl
+tree_line_again sizes _ is = absurd is
 
 pub count_again : (n : ℕ) → IsAgentCount n → read_count (field 32 n) ≡ Ok n
 unfolding read_count
@@ -377,26 +371,10 @@ unfolding read_title
 title_again = refl
 
 -- a line that is due is read from its spelling
-pub line_again : (due : Due) (line : Line) → IsLine due line → read_line due (words (width_of due) line) ≡ Ok line
+pub line_again : (due : Due) (line : CertLine) → IsLine due line → read_line due (words (width_of due) line) ≡ Ok line
 line_again dues.Title line is = ap (λ l. read_title (words 1 l)) is ∙ title_again ∙ ap Ok (sym is)
 line_again dues.Agents (lines.Agents n) is = agents_again n is
-line_again dues.Agents lines.Title is = absurd is
-line_again dues.Agents (lines.Claim claim) is = absurd is
-line_again dues.Agents (lines.Vertex i j cell tick) is = absurd is
-line_again dues.Agents (lines.Swap i j from to tick) is = absurd is
-line_again dues.Agents (lines.Leaf blocks) is = absurd is
-line_again dues.Agents (lines.Clash i j) is = absurd is
-line_again dues.Agents (lines.Agent agent entries) is = absurd is
-line_again dues.Agents (lines.At entry) is = absurd is
-line_again dues.Agents lines.End is = absurd is
+line_again dues.Agents _ is = absurd is
 line_again dues.Claim (lines.Claim claim) is = claim_again claim is
-line_again dues.Claim lines.Title is = absurd is
-line_again dues.Claim (lines.Agents n) is = absurd is
-line_again dues.Claim (lines.Vertex i j cell tick) is = absurd is
-line_again dues.Claim (lines.Swap i j from to tick) is = absurd is
-line_again dues.Claim (lines.Leaf blocks) is = absurd is
-line_again dues.Claim (lines.Clash i j) is = absurd is
-line_again dues.Claim (lines.Agent agent entries) is = absurd is
-line_again dues.Claim (lines.At entry) is = absurd is
-line_again dues.Claim lines.End is = absurd is
+line_again dues.Claim _ is = absurd is
 line_again (dues.Tree sizes) line is = tree_line_again sizes line is

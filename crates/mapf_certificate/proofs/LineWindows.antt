@@ -7,18 +7,15 @@ use Rattle.std.proofs.lemmas.List.{take-append-le, take-append-drop, length-take
 use Rattle.mapf_certificate.specs.declared.buffer.NoLine.{NoLine}
 use Rattle.mapf_certificate.specs.declared.buffer.NoLine.TheVariants as stops
 use Rattle.mapf_certificate.specs.declared.cert.LinesFault.{LinesFault}
-use Rattle.mapf_certificate.specs.declared.line.Line.{Line}
+use Rattle.mapf_certificate.specs.declared.line.CertLine.{CertLine}
 use Rattle.mapf_certificate.specs.declared.tree_line.Due.{Due}
 use Rattle.mapf_certificate.specs.Buffered.{Buffered}
 use Rattle.mapf_certificate.specs.Lines.{IsLine, IsCut, words, width_of, lacks_end}
-use Rattle.mapf_certificate.specs.Certificates.{line_text}
-use Rattle.mapf_certificate.specs.Window.{Window, Refuses, Fails, BeginsWith, EndsEarly, IsOverlong, LacksLine, LacksBytes, Tells}
+use Rattle.mapf_certificate.specs.Window.{Window, Refuses, Fails, EndsEarly, IsOverlong, LacksLine, LacksBytes, Tells}
+use Rattle.mapf_certificate.specs.Bounded.{BeginsWithLine}
 use Rattle.mapf_certificate.proofs.Fields.{both}
 use Rattle.mapf_certificate.proofs.PlainLines.{plain_line, same_front}
 use Rattle.mapf_certificate.proofs.Windows.{Fails-text, Window-trans, ComesWithin-after, Exceeds-after}
-
-abbrev pub IsNext : Due → List ℕ → Type 0
-IsNext due bytes = BeginsWith Line (IsLine due) (line_text (width_of due)) bytes
 
 -- an LF stands in a line's text
 has_end : (front rest : List ℕ) → lacks_end (front ++ (10 ∷ rest)) ≡ true → ⊥
@@ -31,7 +28,7 @@ has_end_soon front rest zero h e = absurd (omega arith)
 has_end_soon [] rest (suc n) h e = cc
 has_end_soon (c ∷ cs) rest (suc n) h e = has_end_soon cs rest n (omega arith) (both (not (c == 10)) (lacks_end (take n (cs ++ (10 ∷ rest)))) e).1
 
-pub refused_early : (due : Due) (a b : Option (List ℕ)) (x y : Buffered) → EndsEarly a b x y → Refuses a b x (IsNext due)
+pub refused_early : (due : Due) (a b : Option (List ℕ)) (x y : Buffered) → EndsEarly a b x y → Refuses a b x (BeginsWithLine due)
 refused_early due a b x y early = record {
   pulled = early.window.pulled;
   source = early.window.source;
@@ -44,7 +41,7 @@ refused_early due a b x y early = record {
   );
 }
 
-pub refused_overlong : (due : Due) (a b : Option (List ℕ)) (x y : Buffered) → IsOverlong a b x y → Refuses a b x (IsNext due)
+pub refused_overlong : (due : Due) (a b : Option (List ℕ)) (x y : Buffered) → IsOverlong a b x y → Refuses a b x (BeginsWithLine due)
 refused_overlong due a b x y long = record {
   pulled = long.window.pulled;
   source = long.window.source;
@@ -58,7 +55,7 @@ refused_overlong due a b x y long = record {
 }
 
 -- the first line is none that is due
-pub refused_line : (due : Due) (a b : Option (List ℕ)) (x y : Buffered) (line rest : List ℕ) → Window a b x y [] → IsCut y.bytes line rest → ((l : Line) → IsLine due l → line ≡ words (width_of due) l → ⊥) → Refuses a b x (IsNext due)
+pub refused_line : (due : Due) (a b : Option (List ℕ)) (x y : Buffered) (line rest : List ℕ) → Window a b x y [] → IsCut y.bytes line rest → ((l : CertLine) → IsLine due l → line ≡ words (width_of due) l → ⊥) → Refuses a b x (BeginsWithLine due)
 refused_line due a b x y line rest window found never = record {
   pulled = window.pulled;
   source = window.source;
@@ -97,11 +94,11 @@ stopped a b c failed x y z stops.Device first lacks = (lacks.0, ComesWithin-afte
 stopped a b c failed x y z stops.PastLimit first lacks = (lacks.0, Exceeds-after a b c x y [] first lacks.1)
 
 -- why no line is there is why none that is due is there
-pub lacking : (due : Due) (a b : Option (List ℕ)) (failed : Bool) (x y : Buffered) (why : NoLine) (fault : LinesFault) → LacksLine a b failed x y why → Tells why fault → Fails a b failed x (IsNext due) fault
-lacking due a b failed x y stops.Ended fault early is = Fails-text a b failed x (IsNext due) fault is early.0 (refused_early due a b x y early.1)
-lacking due a b failed x y stops.Overlong fault long is = Fails-text a b failed x (IsNext due) fault is long.0 (refused_overlong due a b x y long.1)
-lacking due a b failed x y stops.Device fault device is = subst (Fails a b failed x (IsNext due)) (sym is) device
-lacking due a b failed x y stops.PastLimit fault more is = subst (Fails a b failed x (IsNext due)) (sym is) more
+pub lacking : (due : Due) (a b : Option (List ℕ)) (failed : Bool) (x y : Buffered) (why : NoLine) (fault : LinesFault) → LacksLine a b failed x y why → Tells why fault → Fails a b failed x (BeginsWithLine due) fault
+lacking due a b failed x y stops.Ended fault early is = Fails-text a b failed x (BeginsWithLine due) fault is early.0 (refused_early due a b x y early.1)
+lacking due a b failed x y stops.Overlong fault long is = Fails-text a b failed x (BeginsWithLine due) fault is long.0 (refused_overlong due a b x y long.1)
+lacking due a b failed x y stops.Device fault device is = subst (Fails a b failed x (BeginsWithLine due)) (sym is) device
+lacking due a b failed x y stops.PastLimit fault more is = subst (Fails a b failed x (BeginsWithLine due)) (sym is) more
 
 pub place : (bs : List ℕ) (m : ℕ) (r : Option ℕ) → MatchOption r (lacks_end (take m bs) ≡ true) (λ n. (n < length (take m bs)) × IsCut (take m bs) (take n (take m bs)) (drop (n + 1) (take m bs)))
     → IfSome r (λ n. (n < length bs) × IsCut bs (take n bs) (drop (n + 1) bs))

@@ -1,54 +1,36 @@
 -- Nodes in a certificate's text.
-use Rattle.std.proofs.Common.{◌≡◌, ℕ, ◌<◌, ◌≤◌, List, [], ◌∷◌, ◌++◌, length, get_or, AllPairs, Option, Bool, false, suc, zero, refl, sym, ap, subst, ◌∙◌, arith, append_assoc, inl}
+use Rattle.std.proofs.Common.{◌≡◌, ℕ, ◌<◌, ◌≤◌, List, [], ◌∷◌, ◌++◌, length, get_or, AllPairs, Option, Bool, false, suc, zero, sym, ap, subst, ◌∙◌, arith, append_assoc, inl}
 use Rattle.std.proofs.lemmas.List.{append-nil}
 use Rattle.std.proofs.KnownBytes.{Consumes-nil}
-use Rattle.mapf_model.specs.declared.conflict.Conflict.TheVariants as conflicts
+use Rattle.mapf_model.specs.declared.conflict.Conflict.{Conflict}
 use Rattle.mapf_model.specs.Blocks.{LabelBlock}
 use Rattle.mapf_model.specs.Printed.{AreBlocksInRange}
 use Rattle.mapf_model.specs.Tree.{Node, SplitNode, LeafNode, ClashNode}
 use Rattle.mapf_certificate.specs.declared.cert.LinesFault.{LinesFault}
-use Rattle.mapf_certificate.specs.declared.line.Line.{Line}
-use Rattle.mapf_certificate.specs.declared.line.Line.TheVariants as lines
+use Rattle.mapf_certificate.specs.declared.line.CertLine.{CertLine}
+use Rattle.mapf_certificate.specs.declared.line.CertLine.TheVariants as lines
 use Rattle.mapf_certificate.specs.declared.sizes.Sizes.{Sizes}
 use Rattle.mapf_certificate.specs.declared.tree_line.Due.TheVariants as dues
 use Rattle.mapf_certificate.specs.Buffered.{Buffered}
-use Rattle.mapf_certificate.specs.Lines.{IsLine}
-use Rattle.mapf_certificate.specs.Certificates.{line_text, blocks_text, block_text, node_text, IsNode}
+use Rattle.mapf_certificate.specs.Lines.{IsLine, grid_for}
+use Rattle.mapf_certificate.specs.Certificates.{line_text, blocks_text, block_text, first_line, blocks_of, node_text}
 use Rattle.mapf_certificate.specs.CertReading.{CompletesNode}
-use Rattle.mapf_certificate.specs.Window.{BeginsWith, Fails, IsTextFault}
+use Rattle.mapf_certificate.specs.Window.{Fails, IsTextFault}
+use Rattle.mapf_certificate.specs.Bounded.{BeginsWithBlocks, BeginsWithLine, BeginsWithNode, IsBlockFor, IsNodeFor, IsOfLesserAgent}
 use Rattle.mapf_certificate.proofs.PlainLines.{same_line}
 use Rattle.mapf_certificate.proofs.Windows.{Fails-weaker, Fails-text}
-use Rattle.mapf_certificate.proofs.LineWindows.{IsNext}
-use Rattle.mapf_certificate.proofs.Sequences.{AreApart, same_list}
-use Rattle.mapf_certificate.proofs.Blocks.{grid_for, BlockInRange, Rises, NextBlocks, blocks_apart}
+use Rattle.mapf_certificate.proofs.Sequences.{AreSpelledApart, same_list}
+use Rattle.mapf_certificate.proofs.Blocks.{blocks_apart}
 
--- the first line of a node, and the lines after it
-abbrev pub first_line : Node → Line
-first_line (SplitNode (conflicts.Vertex i j cell tick)) = lines.Vertex i j cell tick
-first_line (SplitNode (conflicts.Swap i j from to tick)) = lines.Swap i j from to tick
-first_line (LeafNode blocks) = lines.Leaf (length blocks)
-first_line (ClashNode i j) = lines.Clash i j
-
+-- the lines after the first of a node
 abbrev pub after_first : ℕ → Node → List ℕ
-after_first width (SplitNode (conflicts.Vertex i j cell tick)) = []
-after_first width (SplitNode (conflicts.Swap i j from to tick)) = []
-after_first width (LeafNode blocks) = blocks_text width blocks
-after_first width (ClashNode i j) = []
-
-abbrev pub NodeInRange : Sizes → Node → Type 0
-NodeInRange sizes = IsNode (grid_for sizes) sizes.agents
-
-abbrev pub NextNode : Sizes → List ℕ → Type 0
-NextNode sizes = BeginsWith Node (NodeInRange sizes) (node_text sizes.width)
+after_first width node = blocks_text width (blocks_of node)
 
 pub node_cut : (width : ℕ) (node : Node) (s : List ℕ) → node_text width node ++ s ≡ line_text width (first_line node) ++ (after_first width node ++ s)
-node_cut width (SplitNode (conflicts.Vertex i j cell tick)) s = refl
-node_cut width (SplitNode (conflicts.Swap i j from to tick)) s = refl
-node_cut width (LeafNode blocks) s = append_assoc (line_text width (lines.Leaf (length blocks))) (blocks_text width blocks) s
-node_cut width (ClashNode i j) s = refl
+node_cut width node s = append_assoc (line_text width (first_line node)) (after_first width node) s
 
 -- agents that rise are no fewer than their places
-climbs : (blocks : List LabelBlock) → AllPairs Rises blocks → (k : ℕ) (d : LabelBlock) → k < length blocks → k ≤ (get_or blocks k d).agent
+climbs : (blocks : List LabelBlock) → AllPairs IsOfLesserAgent blocks → (k : ℕ) (d : LabelBlock) → k < length blocks → k ≤ (get_or blocks k d).agent
 climbs blocks rising zero d inside = omega arith
 climbs blocks rising (suc k) d inside =
     let before : k ≤ (get_or blocks k d).agent = climbs blocks rising k d (omega arith) in
@@ -63,13 +45,12 @@ few_blocks sizes (block ∷ blocks) are =
     let low : (get_or all (length blocks) block).agent < sizes.agents = (are.each (length blocks) block (omega arith)).agent in
     omega arith
 
-pub node_line : (sizes : Sizes) (node : Node) → NodeInRange sizes node → IsLine (dues.Tree sizes) (first_line node)
-node_line sizes (SplitNode (conflicts.Vertex i j cell tick)) is = is
-node_line sizes (SplitNode (conflicts.Swap i j from to tick)) is = is
+pub node_line : (sizes : Sizes) (node : Node) → IsNodeFor sizes node → IsLine (dues.Tree sizes) (first_line node)
+node_line sizes (SplitNode conflict) is = is
 node_line sizes (LeafNode blocks) is = few_blocks sizes blocks is
 node_line sizes (ClashNode i j) is = is
 
-pub node_is_line : (sizes : Sizes) (t : List ℕ) → NextNode sizes t → IsNext (dues.Tree sizes) t
+pub node_is_line : (sizes : Sizes) (t : List ℕ) → BeginsWithNode sizes t → BeginsWithLine (dues.Tree sizes) t
 node_is_line sizes t begins = record {
   value = first_line begins.value;
   is = node_line sizes begins.value begins.is;
@@ -78,15 +59,15 @@ node_is_line sizes t begins = record {
 }
 
 -- after a line that begins a node the others of that node come
-pub node_fits : (sizes : Sizes) (line : Line) (more : List ℕ) → IsLine (dues.Tree sizes) line → NextNode sizes (line_text sizes.width line ++ more)
-    → (node : Node) × (line ≡ first_line node) × NodeInRange sizes node × (rest : List ℕ) × (more ≡ after_first sizes.width node ++ rest)
+pub node_fits : (sizes : Sizes) (line : CertLine) (more : List ℕ) → IsLine (dues.Tree sizes) line → BeginsWithNode sizes (line_text sizes.width line ++ more)
+    → (node : Node) × (line ≡ first_line node) × IsNodeFor sizes node × (rest : List ℕ) × (more ≡ after_first sizes.width node ++ rest)
 node_fits sizes line more is begins =
     let node = begins.value in
     let (same, rest) = same_line (dues.Tree sizes) line (first_line node) more (after_first sizes.width node ++ begins.rest) is (node_line sizes node begins.is) (begins.spelled ∙ node_cut sizes.width node begins.rest) in
     (node, same, begins.is, begins.rest, rest)
 
 -- nodes are told apart
-pub nodes_apart : (sizes : Sizes) → AreApart Node (NodeInRange sizes) (node_text sizes.width)
+pub nodes_apart : (sizes : Sizes) → AreSpelledApart Node (IsNodeFor sizes) (node_text sizes.width)
 nodes_apart sizes = record {
   apart = λ a b s t p q e.
       let w = sizes.width in
@@ -94,68 +75,53 @@ nodes_apart sizes = record {
       by a b s t p q same rest;
 }
   where
-    by : (a b : Node) (s t : List ℕ) → NodeInRange sizes a → NodeInRange sizes b → first_line a ≡ first_line b → after_first sizes.width a ++ s ≡ after_first sizes.width b ++ t → (a ≡ b) × (s ≡ t)
-    by (SplitNode (conflicts.Vertex i j cell tick)) (SplitNode (conflicts.Vertex i' j' cell' tick')) s t p q e rest = (cc, rest)
-    by (SplitNode (conflicts.Vertex i j cell tick)) (SplitNode (conflicts.Swap i' j' from to tick')) s t p q e rest = cc
-    by (SplitNode (conflicts.Vertex i j cell tick)) (LeafNode blocks) s t p q e rest = cc
-    by (SplitNode (conflicts.Vertex i j cell tick)) (ClashNode i' j') s t p q e rest = cc
-    by (SplitNode (conflicts.Swap i j from to tick)) (SplitNode (conflicts.Vertex i' j' cell' tick')) s t p q e rest = cc
-    by (SplitNode (conflicts.Swap i j from to tick)) (SplitNode (conflicts.Swap i' j' from' to' tick')) s t p q e rest = (cc, rest)
-    by (SplitNode (conflicts.Swap i j from to tick)) (LeafNode blocks) s t p q e rest = cc
-    by (SplitNode (conflicts.Swap i j from to tick)) (ClashNode i' j') s t p q e rest = cc
-    by (LeafNode blocks) (SplitNode (conflicts.Vertex i' j' cell' tick')) s t p q e rest = cc
-    by (LeafNode blocks) (SplitNode (conflicts.Swap i' j' from' to' tick')) s t p q e rest = cc
+    by : (a b : Node) (s t : List ℕ) → IsNodeFor sizes a → IsNodeFor sizes b → first_line a ≡ first_line b → after_first sizes.width a ++ s ≡ after_first sizes.width b ++ t → (a ≡ b) × (s ≡ t)
+    by (SplitNode conflict) (SplitNode conflict') s t p q e rest = (cc, rest)
     by (LeafNode blocks) (LeafNode blocks') s t p q e rest =
-        let (same, more) = same_list (BlockInRange sizes) (block_text sizes.width) (blocks_apart sizes) blocks blocks' s t p.each q.each (let many : length blocks ≡ length blocks' = cc in many) rest in
+        let (same, more) = same_list (IsBlockFor sizes) (block_text sizes.width) (blocks_apart sizes) blocks blocks' s t p.each q.each (let many : length blocks ≡ length blocks' = cc in many) rest in
         (ap LeafNode same, more)
-    by (LeafNode blocks) (ClashNode i' j') s t p q e rest = cc
-    by (ClashNode i j) (SplitNode (conflicts.Vertex i' j' cell' tick')) s t p q e rest = cc
-    by (ClashNode i j) (SplitNode (conflicts.Swap i' j' from' to' tick')) s t p q e rest = cc
-    by (ClashNode i j) (LeafNode blocks) s t p q e rest = cc
     by (ClashNode i j) (ClashNode i' j') s t p q e rest = (cc, rest)
+    by _ _ s t p q e rest = cc
 
 -- after the line of a leaf its blocks come
-pub blocks_due : (sizes : Sizes) (count : ℕ) (t : List ℕ) → count ≤ sizes.agents → NextNode sizes (line_text sizes.width (lines.Leaf count) ++ t) → NextBlocks sizes count t
+pub blocks_due : (sizes : Sizes) (count : ℕ) (t : List ℕ) → count ≤ sizes.agents → BeginsWithNode sizes (line_text sizes.width (lines.Leaf count) ++ t) → BeginsWithBlocks sizes count t
 blocks_due sizes count t few begins = by (node_fits sizes (lines.Leaf count) t few begins)
   where
-    by : (node : Node) × (lines.Leaf count ≡ first_line node) × NodeInRange sizes node × (rest : List ℕ) × (t ≡ after_first sizes.width node ++ rest) → NextBlocks sizes count t
-    by (SplitNode (conflicts.Vertex i j cell tick), same, is, rest, text) = cc
-    by (SplitNode (conflicts.Swap i j from to tick), same, is, rest, text) = cc
+    by : (node : Node) × (lines.Leaf count ≡ first_line node) × IsNodeFor sizes node × (rest : List ℕ) × (t ≡ after_first sizes.width node ++ rest) → BeginsWithBlocks sizes count t
+    by (SplitNode conflict, same, is, rest, text) = cc
     by (LeafNode blocks, same, is, rest, text) =
         let many : length blocks ≡ count = cc in
         record { value = blocks; is = record { many = many; each = is.each; rising = is.rising }; rest = rest; spelled = text }
     by (ClashNode i j, same, is, rest, text) = cc
 
 -- nothing more is taken for a node of one line
-pub one_line : (sizes : Sizes) (had : Option (List ℕ)) (x : Buffered) (line : Line) (node : Node) → line ≡ first_line node → after_first sizes.width node ≡ [] → NodeInRange sizes node → CompletesNode (grid_for sizes) sizes.agents had had x x line node
+pub one_line : (sizes : Sizes) (had : Option (List ℕ)) (x : Buffered) (line : CertLine) (node : Node) → line ≡ first_line node → after_first sizes.width node ≡ [] → IsNodeFor sizes node → CompletesNode (grid_for sizes) sizes.agents had had x x line node
 one_line sizes had x line node same none is = record {
   in_range = is;
   taken = [];
-  spelled = ap (λ l. line_text sizes.width l ++ []) same ∙ sym (ap (λ l. line_text sizes.width (first_line node) ++ l) (ap (λ l. l ++ []) none)) ∙ sym (node_cut sizes.width node []) ∙ append-nil (node_text sizes.width node);
+  spelled = ap (λ l. line_text sizes.width l ++ []) same ∙ ap (λ l. line_text sizes.width (first_line node) ++ l) (sym none);
   window = record { pulled = []; source = Consumes-nil had; same = append-nil x.bytes; within = omega arith };
 }
 
-pub fails_in_blocks : (sizes : Sizes) (had left : Option (List ℕ)) (failed : Bool) (x : Buffered) (line : Line) (count : ℕ) (fault : LinesFault) → IsLine (dues.Tree sizes) line → line ≡ lines.Leaf count
-    → Fails had left failed x (NextBlocks sizes count) fault → Fails had left failed x (λ t. NextNode sizes (line_text sizes.width line ++ t)) fault
+pub fails_in_blocks : (sizes : Sizes) (had left : Option (List ℕ)) (failed : Bool) (x : Buffered) (line : CertLine) (count : ℕ) (fault : LinesFault) → IsLine (dues.Tree sizes) line → line ≡ lines.Leaf count
+    → Fails had left failed x (BeginsWithBlocks sizes count) fault → Fails had left failed x (λ t. BeginsWithNode sizes (line_text sizes.width line ++ t)) fault
 fails_in_blocks sizes had left failed x line count fault is same fails =
     let few : count ≤ sizes.agents = subst (IsLine (dues.Tree sizes)) same is in
-    Fails-weaker had left failed x (λ t. NextNode sizes (line_text sizes.width line ++ t)) (NextBlocks sizes count) fault
-    (λ t begins. blocks_due sizes count t few (subst (λ (l : Line). NextNode sizes (line_text sizes.width l ++ t)) same begins)) fails
+    Fails-weaker had left failed x (λ t. BeginsWithNode sizes (line_text sizes.width line ++ t)) (BeginsWithBlocks sizes count) fault
+    (λ t begins. blocks_due sizes count t few (subst (λ (l : CertLine). BeginsWithNode sizes (line_text sizes.width l ++ t)) same begins)) fails
 
 -- a line that begins no node
-pub begins_no_node : (sizes : Sizes) (had : Option (List ℕ)) (failed : Bool) (x : Buffered) (line : Line) (fault : LinesFault) → IsTextFault fault → failed ≡ false → IsLine (dues.Tree sizes) line → ((node : Node) → line ≡ first_line node → ⊥)
-    → Fails had had failed x (λ t. NextNode sizes (line_text sizes.width line ++ t)) fault
-begins_no_node sizes had failed x line fault is works ranged never = Fails-text had had failed x (λ t. NextNode sizes (line_text sizes.width line ++ t)) fault is works (record {
+pub begins_no_node : (sizes : Sizes) (had : Option (List ℕ)) (failed : Bool) (x : Buffered) (line : CertLine) (fault : LinesFault) → IsTextFault fault → failed ≡ false → IsLine (dues.Tree sizes) line → ((node : Node) → line ≡ first_line node → ⊥)
+    → Fails had had failed x (λ t. BeginsWithNode sizes (line_text sizes.width line ++ t)) fault
+begins_no_node sizes had failed x line fault is works ranged never = Fails-text had had failed x (λ t. BeginsWithNode sizes (line_text sizes.width line ++ t)) fault is works (record {
   pulled = [];
   source = Consumes-nil had;
   within = omega arith;
   wrong = inl (λ more begins. let (node, same, in_range, rest, text) = node_fits sizes line ((x.bytes ++ []) ++ more) ranged begins in never node same);
 })
 
--- the first line of a node is one of four kinds
-pub first_kinds : (line : Line) → ((i j cell tick : ℕ) → line ≡ lines.Vertex i j cell tick → ⊥) → ((i j from to tick : ℕ) → line ≡ lines.Swap i j from to tick → ⊥) → ((count : ℕ) → line ≡ lines.Leaf count → ⊥) → ((i j : ℕ) → line ≡ lines.Clash i j → ⊥)
-    → (node : Node) → line ≡ first_line node → ⊥
-first_kinds line vertex swap leaf clash (SplitNode (conflicts.Vertex i j cell tick)) e = vertex i j cell tick e
-first_kinds line vertex swap leaf clash (SplitNode (conflicts.Swap i j from to tick)) e = swap i j from to tick e
-first_kinds line vertex swap leaf clash (LeafNode blocks) e = leaf (length blocks) e
-first_kinds line vertex swap leaf clash (ClashNode i j) e = clash i j e
+-- the first line of a node is one of three kinds
+pub first_kinds : (line : CertLine) → ((conflict : Conflict) → line ≡ lines.Split conflict → ⊥) → ((count : ℕ) → line ≡ lines.Leaf count → ⊥) → ((i j : ℕ) → line ≡ lines.Clash i j → ⊥) → (node : Node) → line ≡ first_line node → ⊥
+first_kinds line split leaf clash (SplitNode conflict) e = split conflict e
+first_kinds line split leaf clash (LeafNode blocks) e = leaf (length blocks) e
+first_kinds line split leaf clash (ClashNode i j) e = clash i j e

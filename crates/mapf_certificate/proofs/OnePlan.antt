@@ -3,6 +3,7 @@ use Rattle.std.proofs.Common.{◌≡◌, ℕ, ◌<◌, ◌+◌, List, [], ◌∷
 use Rattle.std.proofs.lemmas.List.Elements.{All-head, All-tail}
 use Rattle.mapf_model.specs.declared.cause.Cause.{Cause}
 use Rattle.mapf_model.specs.Printed.{IsOnGrid, IsPathInRange}
+use Rattle.mapf_certificate.specs.Lines.{grid_for}
 use Rattle.mapf_certificate.specs.declared.line.LineFault.{LineFault}
 use Rattle.mapf_certificate.specs.declared.plan_text.PlanAnswer.{PlanAnswer}
 use Rattle.mapf_certificate.specs.declared.plan_text.PlanAnswer.TheVariants as texts
@@ -11,7 +12,6 @@ use Rattle.mapf_certificate.specs.declared.plan_lines.AnswerLine.TheVariants as 
 use Rattle.mapf_certificate.specs.declared.sizes.Sizes.{Sizes}
 use Rattle.mapf_certificate.specs.Plans.{SpellsOnePlan, IsAnswerInRange, cells_text, path_words, paths_text, ticks_of}
 use Rattle.mapf_certificate.specs.PlanReading.{read_pair_cell, read_path_front, line_of, rest_of}
-use Rattle.mapf_certificate.proofs.Blocks.{grid_for}
 use Rattle.mapf_certificate.proofs.Fields.{ok_pair_parts}
 use Rattle.mapf_certificate.proofs.PathLaws.{cells_past, front_read, ok_triple_parts}
 use Rattle.mapf_certificate.proofs.PathsLaws.{path_lacks}

@@ -6,7 +6,7 @@ use Rattle.mapf_model.specs.Printed.{IsOnGrid}
 use Rattle.mapf_certificate.specs.declared.line.LineFault.TheVariants.{Shape}
 use Rattle.mapf_certificate.specs.declared.sizes.Sizes.{Sizes}
 use Rattle.mapf_certificate.specs.Numbers.{field, pair, begins_well, front_digits, after_digits, read_number, read_field, read_pair}
-use Rattle.mapf_certificate.specs.Lines.{grid_of}
+use Rattle.mapf_certificate.specs.Lines.{grid_for}
 use Rattle.std.specs.Fmt.{decimal}
 use Rattle.mapf_certificate.specs.Plans.{cells_text, path_words, ticks_of, HasCells, GoesOn}
 use Rattle.mapf_certificate.specs.PlanReading.{read_pair_cell, read_path_front}
@@ -51,14 +51,14 @@ pair_cell_shorter sizes bs rest v e =
     omega (arith, ap length after, ap (λ q. length q.2) whole, field_shorter 32 bs x.1 x.0 first, field_shorter 44 x.1 y.1 y.0 second))))
 
 -- a path that goes on with a cell goes on after it with the others
-pub goes_on_step : (sizes : Sizes) (path cells rest : List ℕ) → All (IsOnGrid (grid_of sizes.width sizes.height)) path → GoesOn sizes.width path cells rest → rest ≢ []
+pub goes_on_step : (sizes : Sizes) (path cells rest : List ℕ) → All (IsOnGrid (grid_for sizes)) path → GoesOn sizes.width path cells rest → rest ≢ []
     → (cell : ℕ) × (after : List ℕ) × (read_pair_cell sizes rest ≡ Ok (Some cell, after)) × GoesOn sizes.width path (cells ++ (cell ∷ [])) after
 goes_on_step sizes path cells rest all on some = by on.others on.same on.spelled
   where
     by : (others : List ℕ) → path ≡ cells ++ others → rest ≡ cells_text sizes.width others → (cell : ℕ) × (after : List ℕ) × (read_pair_cell sizes rest ≡ Ok (Some cell, after)) × GoesOn sizes.width path (cells ++ (cell ∷ [])) after
     by [] same spelled = absurd (some spelled)
     by (c ∷ others) same spelled =
-        let inside = All-middle (IsOnGrid (grid_of sizes.width sizes.height)) cells c others (subst (All (IsOnGrid (grid_of sizes.width sizes.height))) same all) in (
+        let inside = All-middle (IsOnGrid (grid_for sizes)) cells c others (subst (All (IsOnGrid (grid_for sizes))) same all) in (
           c,
           cells_text sizes.width others,
           ap (read_pair_cell sizes) spelled ∙ pair_cell_is_read sizes c (cells_text sizes.width others) inside (cells_past sizes.width others),
@@ -73,12 +73,12 @@ goes_on_end width path cells on = by on.others on.same on.spelled
     by [] same spelled = same ∙ append-nil cells
     by (c ∷ others) same spelled = cc
 
-pub has_cells_step : (sizes : Sizes) (bytes cells rest after : List ℕ) (cell : ℕ) → HasCells (grid_of sizes.width sizes.height) bytes cells rest → read_pair_cell sizes rest ≡ Ok (Some cell, after) → HasCells (grid_of sizes.width sizes.height) bytes (cells ++ (cell ∷ [])) after
+pub has_cells_step : (sizes : Sizes) (bytes cells rest after : List ℕ) (cell : ℕ) → HasCells (grid_for sizes) bytes cells rest → read_pair_cell sizes rest ≡ Ok (Some cell, after) → HasCells (grid_for sizes) bytes (cells ++ (cell ∷ [])) after
 has_cells_step sizes bytes cells rest after cell has read =
     let (text, inside) = pair_cell_takes sizes rest after cell read in
     let width = sizes.width in
     record {
-      in_range = All-append (IsOnGrid (grid_of sizes.width sizes.height)) cells (cell ∷ []) has.in_range (All-one (IsOnGrid (grid_of sizes.width sizes.height)) cell inside);
+      in_range = All-append (IsOnGrid (grid_for sizes)) cells (cell ∷ []) has.in_range (All-one (IsOnGrid (grid_for sizes)) cell inside);
       spelled = has.spelled ∙ ap (λ r. cells_text width cells ++ r) text ∙ sym (append_assoc (cells_text width cells) (pair width cell) after)
           ∙ ap (λ t. t ++ after) (ap (λ t. cells_text width cells ++ t) (sym (append-nil (pair width cell))) ∙ sym (flat_map-append (pair width) cells (cell ∷ [])));
     }
@@ -104,10 +104,6 @@ front_read width due (c ∷ cells) some few fits =
 
 pub ok_triple_parts : {A B C E : Type 0} (a x : A) (b y : B) (c z : C) → ◌≡◌ {A = Result (A × B × C) E} (Ok (a, b, c)) (Ok (x, y, z)) → (a ≡ x) × (b ≡ y) × (c ≡ z)
 ok_triple_parts a x b y c z e = let same = same_ok (a, b, c) (x, y, z) e in (ap (λ p. p.0) same, ap (λ p. p.1) same, ap (λ p. p.2) same)
-
--- the error of another type's result is one
-pub same_err : {A E : Type 0} (x y : E) → ◌≡◌ {A = Result A E} (Err x) (Err y) → x ≡ y
-same_err x y e = cc
 
 -- an error that a `?` passed on
 pub passed_on : {A E : Type 0} (r : Result A E) (e m : E) → (y : E) × (r ≡ Err y) × (y ≡ e) → e ≡ m → r ≡ Err m

@@ -6,18 +6,19 @@ use Rattle.std.proofs.lemmas.Str.Parse.{digit_from_value}
 use Rattle.std.proofs.lemmas.Fmt.{decimal_is_IsNumeral, length-decimal-le}
 use Rattle.std.proofs.lemmas.List.Folds.{list_all-append}
 use Rattle.std.proofs.lemmas.Bool.Decides.{nat_tests}
+use Rattle.mapf_model.specs.declared.conflict.Conflict.TheVariants as conflicts
 use Rattle.mapf_model.specs.declared.item.Claim.TheVariants as claims
 use Rattle.mapf_model.specs.declared.label.Label.{Label}
 use Rattle.mapf_model.specs.declared.label.Label.TheVariants as labels
 use Rattle.mapf_model.specs.Printed.{IsLabelInRange}
-use Rattle.mapf_certificate.specs.declared.line.Line.{Line}
-use Rattle.mapf_certificate.specs.declared.line.Line.TheVariants as lines
+use Rattle.mapf_certificate.specs.declared.line.CertLine.{CertLine}
+use Rattle.mapf_certificate.specs.declared.line.CertLine.TheVariants as lines
 use Rattle.mapf_certificate.specs.declared.line.LineFault.{LineFault}
 use Rattle.mapf_certificate.specs.declared.sizes.Sizes.{Sizes}
 use Rattle.mapf_certificate.specs.declared.tree_line.Due.{Due}
 use Rattle.mapf_certificate.specs.declared.tree_line.Due.TheVariants as dues
 use Rattle.mapf_certificate.specs.Numbers.{field, pair}
-use Rattle.mapf_certificate.specs.Lines.{lacks_end, words, label_words, IsLine, IsTreeLine, grid_of, width_of}
+use Rattle.mapf_certificate.specs.Lines.{lacks_end, words, label_words, IsLine, IsTreeLine, width_of, grid_for}
 use Rattle.mapf_certificate.specs.LineReading.{read_line}
 use Rattle.mapf_certificate.specs.Certificates.{line_text}
 use Rattle.mapf_certificate.proofs.Fields.{both, row-below, same_ok}
@@ -63,18 +64,15 @@ plain-label : (label : Label) → IsLabelInRange label → IsPlain 8 (label_word
 plain-label labels.Never is = plain-more 4 8 _ (omega arith) (plain-word (codes " inf") 4 refl refl)
 plain-label (labels.Ticks n) is = plain-field 32 7 n refl (omega arith) (omega arith) (omega arith)
 
-plain_tree : (sizes : Sizes) (line : Line) → IsTreeLine (grid_of sizes.width sizes.height) sizes.agents line → IsPlain 64 (words sizes.width line)
-plain_tree sizes lines.Title is = absurd is
-plain_tree sizes (lines.Agents agents) is = absurd is
-plain_tree sizes (lines.Claim claim) is = absurd is
-plain_tree sizes (lines.Vertex i j cell tick) (first, second, inside, early) =
+plain_tree : (sizes : Sizes) (line : CertLine) → IsTreeLine (grid_for sizes) sizes.agents line → IsPlain 64 (words sizes.width line)
+plain_tree sizes (lines.Split (conflicts.Vertex i j cell tick)) (first, second, inside, early) =
     plain-more 31 64 _ (omega arith)
     (plain-append 6 25 _ _ (plain-word (codes "vertex") 6 refl refl)
     (plain-append 4 21 _ _ (plain-field 32 3 i refl (omega arith) (omega (arith, sizes.few.1)) (omega (arith, sizes.few.1)))
     (plain-append 4 17 _ _ (plain-field 32 3 j refl (omega arith) (omega (arith, sizes.few.1)) (omega (arith, sizes.few.1)))
     (plain-append 10 7 _ _ (plain-pair sizes.width sizes.height cell sizes.narrow.0 sizes.narrow.1 sizes.low.1 inside)
     (plain-field 32 6 tick refl (omega arith) (omega arith) (omega arith))))))
-plain_tree sizes (lines.Swap i j from to tick) (first, second, here, there, early) =
+plain_tree sizes (lines.Split (conflicts.Swap i j from to tick)) (first, second, here, there, early) =
     plain-more 39 64 _ (omega arith)
     (plain-append 4 35 _ _ (plain-word (codes "swap") 4 refl refl)
     (plain-append 4 31 _ _ (plain-field 32 3 i refl (omega arith) (omega (arith, sizes.few.1)) (omega (arith, sizes.few.1)))
@@ -100,36 +98,21 @@ plain_tree sizes (lines.At entry) (inside, early, labelled) =
     (plain-append 10 16 _ _ (plain-pair sizes.width sizes.height entry.cell sizes.narrow.0 sizes.narrow.1 sizes.low.1 inside)
     (plain-append 8 8 _ _ (plain-field 32 7 entry.tick refl (omega arith) (omega arith) (omega arith)) (plain-label entry.label labelled))))
 plain_tree sizes lines.End is = plain-more 3 64 _ (omega arith) (plain-word (codes "end") 3 refl refl)
+plain_tree sizes _ is = absurd is
 
-plain_agents : (line : Line) → IsLine dues.Agents line → IsPlain 64 (words 1 line)
+plain_agents : (line : CertLine) → IsLine dues.Agents line → IsPlain 64 (words 1 line)
 plain_agents (lines.Agents n) (low, high) =
     plain-more 10 64 _ (omega arith) (plain-append 6 4 _ _ (plain-word (codes "agents") 6 refl refl) (plain-field 32 3 n refl (omega arith) (omega arith) (omega arith)))
-plain_agents lines.Title is = absurd is
-plain_agents (lines.Claim claim) is = absurd is
-plain_agents (lines.Vertex i j cell tick) is = absurd is
-plain_agents (lines.Swap i j from to tick) is = absurd is
-plain_agents (lines.Leaf blocks) is = absurd is
-plain_agents (lines.Clash i j) is = absurd is
-plain_agents (lines.Agent agent entries) is = absurd is
-plain_agents (lines.At entry) is = absurd is
-plain_agents lines.End is = absurd is
+plain_agents _ is = absurd is
 
-plain_claim : (line : Line) → IsLine dues.Claim line → IsPlain 64 (words 1 line)
+plain_claim : (line : CertLine) → IsLine dues.Claim line → IsPlain 64 (words 1 line)
 plain_claim (lines.Claim claims.Impossible) is = plain-more 16 64 _ (omega arith) (plain-word (codes "claim impossible") 16 refl refl)
 plain_claim (lines.Claim (claims.Cost cost)) is =
     plain-more 21 64 _ (omega arith) (plain-append 10 11 _ _ (plain-word (codes "claim cost") 10 refl refl) (plain-field 32 10 cost refl (omega arith) (omega arith) (omega arith)))
-plain_claim lines.Title is = absurd is
-plain_claim (lines.Agents n) is = absurd is
-plain_claim (lines.Vertex i j cell tick) is = absurd is
-plain_claim (lines.Swap i j from to tick) is = absurd is
-plain_claim (lines.Leaf blocks) is = absurd is
-plain_claim (lines.Clash i j) is = absurd is
-plain_claim (lines.Agent agent entries) is = absurd is
-plain_claim (lines.At entry) is = absurd is
-plain_claim lines.End is = absurd is
+plain_claim _ is = absurd is
 
 -- a line that is due has no LF in it, and at most 64 bytes
-pub plain_line : (due : Due) (line : Line) → IsLine due line → IsPlain 64 (words (width_of due) line)
+pub plain_line : (due : Due) (line : CertLine) → IsLine due line → IsPlain 64 (words (width_of due) line)
 plain_line dues.Title line is = subst (λ l. IsPlain 64 (words 1 l)) (sym is) (plain-more 11 64 _ (omega arith) (plain-word (codes "mapf-cert 1") 11 refl refl))
 plain_line dues.Agents line is = plain_agents line is
 plain_line dues.Claim line is = plain_claim line is
@@ -154,7 +137,7 @@ same_front (a ∷ as') (b ∷ bs) xs ys p q e =
     (cc, more.1)
 
 -- the lines that two texts begin with are one line where the texts are one
-pub same_line : (due : Due) (l m : Line) (xs ys : List ℕ) → IsLine due l → IsLine due m → line_text (width_of due) l ++ xs ≡ line_text (width_of due) m ++ ys → (l ≡ m) × (xs ≡ ys)
+pub same_line : (due : Due) (l m : CertLine) (xs ys : List ℕ) → IsLine due l → IsLine due m → line_text (width_of due) l ++ xs ≡ line_text (width_of due) m ++ ys → (l ≡ m) × (xs ≡ ys)
 same_line due l m xs ys is_l is_m e =
     let width = width_of due in
     let e' : words width l ++ (10 ∷ xs) ≡ words width m ++ (10 ∷ ys) = sym (append_assoc (words width l) (10 ∷ []) xs) ∙ e ∙ append_assoc (words width m) (10 ∷ []) ys in
@@ -165,13 +148,13 @@ some_of : (word rest : List ℕ) → 0 < length word → 0 < length (word ++ res
 some_of word rest h = omega (arith, length-append word rest)
 
 -- a line has a byte
-pub words_some : (width : ℕ) (line : Line) → 0 < length (words width line)
+pub words_some : (width : ℕ) (line : CertLine) → 0 < length (words width line)
 words_some width lines.Title = omega arith
 words_some width (lines.Agents agents) = some_of (codes "agents") (field 32 agents) (omega arith)
 words_some width (lines.Claim (claims.Cost cost)) = some_of (codes "claim cost") (field 32 cost) (omega arith)
 words_some width (lines.Claim claims.Impossible) = omega arith
-words_some width (lines.Vertex i j cell tick) = some_of (codes "vertex") (field 32 i ++ (field 32 j ++ (pair width cell ++ field 32 tick))) (omega arith)
-words_some width (lines.Swap i j from to tick) = some_of (codes "swap") (field 32 i ++ (field 32 j ++ (pair width from ++ (pair width to ++ field 32 tick)))) (omega arith)
+words_some width (lines.Split (conflicts.Vertex i j cell tick)) = some_of (codes "vertex") (field 32 i ++ (field 32 j ++ (pair width cell ++ field 32 tick))) (omega arith)
+words_some width (lines.Split (conflicts.Swap i j from to tick)) = some_of (codes "swap") (field 32 i ++ (field 32 j ++ (pair width from ++ (pair width to ++ field 32 tick)))) (omega arith)
 words_some width (lines.Leaf blocks) = some_of (codes "leaf") (field 32 blocks) (omega arith)
 words_some width (lines.Clash i j) = some_of (codes "clash") (field 32 i ++ field 32 j) (omega arith)
 words_some width (lines.Agent agent entries) = some_of (codes "agent") (field 32 agent ++ field 32 entries) (omega arith)

@@ -1,9 +1,6 @@
 -- Lines of a plan text: what is read is spelled so, and what is spelled so is read.
-use Rattle.std.proofs.Common.{◌≡◌, ℕ, ◌<◌, ◌≤◌, ◌^◌, Bool, true, false, cond, List, ◌++◌, codes, drop, Ok, Err, refl, ap, subst, ◌∙◌, arith, inl, inr}
-use Rattle.std.specs.Fmt.{decimal}
+use Rattle.std.proofs.Common.{◌≡◌, ℕ, ◌<◌, ◌≤◌, ◌^◌, true, cond, List, ◌++◌, codes, Ok, Err, refl, ap, subst, ◌∙◌, arith, inl, inr}
 use Rattle.std.specs.Str.{bytes_eq}
-use Rattle.std.specs.Str.Parse.{AllDigits}
-use Rattle.std.proofs.lemmas.Fmt.{decimal_is_IsNumeral}
 use Rattle.std.proofs.lemmas.Slice.Eq.{bytes_eq-Decides}
 use Rattle.mapf_model.specs.declared.cause.Cause.TheVariants.{Splits, Ticks}
 use Rattle.mapf_certificate.specs.declared.line.LineFault.TheVariants.{Shape}
@@ -14,7 +11,7 @@ use Rattle.mapf_certificate.specs.Lines.{IsAgentCount, lacks_end}
 use Rattle.mapf_certificate.specs.LineReading.{read_count, read_cost}
 use Rattle.mapf_certificate.specs.PlanReading.{agents_words, answer_words, IsAnswerLine, read_agents_line, read_limit, read_answer_line}
 use Rattle.mapf_certificate.proofs.Fields.{through, same_ok, last_again, range_again}
-use Rattle.mapf_certificate.proofs.LineLaws.{chosen, front_takes, then_ok, last_range, count_takes, cost_takes, count_again, cost_again}
+use Rattle.mapf_certificate.proofs.LineLaws.{not_word, chosen, front_takes, then_ok, last_range, count_takes, cost_takes, count_again, cost_again}
 use Rattle.mapf_certificate.proofs.PlainLines.{plain-append, plain-word, plain-field}
 
 pub agents_takes : (bs : List ℕ) (n : ℕ) → read_agents_line bs ≡ Ok n → IsAgentCount n × (bs ≡ agents_words n)
@@ -54,24 +51,14 @@ answer_takes bs answer e = elim (chosen (bytes_eq bs (codes "impossible")) _ _ _
       (front_takes (λ b. TakesAnswer b answer) (codes "limit") bs read_limit (Err Shape) answer (λ rest. limit_takes rest answer) (λ wrong. cc)) more
 ]
 
-not_ticks : (n : ℕ) → n < 2 ^ 64 → bytes_eq (field 32 n) (codes " ticks") ≡ false
-not_ticks n fits = by (bytes_eq (field 32 n) (codes " ticks")) refl
-  where
-    by : (b : Bool) → bytes_eq (field 32 n) (codes " ticks") ≡ b → bytes_eq (field 32 n) (codes " ticks") ≡ false
-    by false e = e
-    by true e =
-        let same : decimal n ≡ codes "ticks" = ap (drop 1) ((bytes_eq-Decides (field 32 n) (codes " ticks")).0 e) in
-        let digits : AllDigits 10 (codes "ticks") = subst (AllDigits 10) same (decimal_is_IsNumeral n fits).0.1 in
-        let first : 29 < 10 = digits.0 in
-        absurd (omega arith)
-
 limit_again : (n : ℕ) → n ≤ 100000 → read_limit (field 32 n) ≡ Ok (answers.Limit (Splits n))
 unfolding read_limit
 limit_again n high =
     let fits : n < 2 ^ 64 = omega arith in
+    let word = not_word (codes " ticks") n fits (λ digits. let first : 29 < 10 = digits.0 in omega arith) in
     let read : (read_last 32 (field 32 n) >>= λ v. in_range 0 100000 v >>= λ m. Ok (answers.Limit (Splits m))) ≡ Ok (answers.Limit (Splits n)) =
     then_ok _ _ _ _ (last_again 32 n fits) (then_ok _ _ _ _ (range_again 0 100000 n (omega arith) high) refl) in
-    ap (λ b. cond b (Ok (answers.Limit Ticks)) (read_last 32 (field 32 n) >>= λ v. in_range 0 100000 v >>= λ m. Ok (answers.Limit (Splits m)))) (not_ticks n fits) ∙ read
+    ap (λ b. cond b (Ok (answers.Limit Ticks)) (read_last 32 (field 32 n) >>= λ v. in_range 0 100000 v >>= λ m. Ok (answers.Limit (Splits m)))) word ∙ read
 
 ticks_again : read_limit (codes " ticks") ≡ Ok (answers.Limit Ticks)
 unfolding read_limit

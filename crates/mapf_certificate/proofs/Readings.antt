@@ -1,5 +1,5 @@
 -- What the answers of a reader of certificates say of the bytes that its source gave.
-use Rattle.std.proofs.Common.{◌≡◌, ℕ, ◌≤◌, inl, inr, Bool, List, [], ◌∷◌, ◌++◌, Option, Some, IfSome, sym, ap, subst, ◌∙◌, arith}
+use Rattle.std.proofs.Common.{◌≡◌, ℕ, ◌≤◌, inl, inr, Bool, List, [], ◌∷◌, ◌++◌, Option, Some, IfSome, Result, IfErr, sym, ap, subst, ◌∙◌, arith}
 use Rattle.std.proofs.lemmas.List.{append-nil}
 use Rattle.std.proofs.lemmas.Bool.{cases_lt}
 use Rattle.std.specs.Io.KnownBytes.{IsAtEnd}
@@ -7,21 +7,21 @@ use Rattle.mapf_model.specs.declared.item.Claim.{Claim}
 use Rattle.mapf_model.specs.Grid.{GridMap}
 use Rattle.mapf_model.specs.Tree.{Node}
 use Rattle.mapf_certificate.specs.declared.cert.LinesFault.{LinesFault}
-use Rattle.mapf_certificate.specs.declared.line.Line.{Line}
-use Rattle.mapf_certificate.specs.declared.line.Line.TheVariants as lines
+use Rattle.mapf_certificate.specs.declared.line.CertLine.{CertLine}
+use Rattle.mapf_certificate.specs.declared.line.CertLine.TheVariants as lines
 use Rattle.mapf_certificate.specs.declared.sizes.Sizes.{Sizes}
 use Rattle.mapf_certificate.specs.declared.tree_line.Due.TheVariants as dues
 use Rattle.mapf_certificate.specs.Buffered.{Buffered}
-use Rattle.mapf_certificate.specs.Lines.{IsLine, IsAgentCount}
+use Rattle.mapf_certificate.specs.Lines.{IsLine, IsAgentCount, grid_for}
 use Rattle.mapf_certificate.specs.Certificates.{line_text, node_text, IsNode, IsRest}
 use Rattle.mapf_certificate.specs.Reading.{Reading, grid_at, agents_at}
 use Rattle.mapf_certificate.specs.CertReading.{IsRestAt, Awaits, CompletesNode, ReadsNode, ReadsEnd, trees_owed_after}
 use Rattle.mapf_certificate.specs.Window.{Window, Fails, IsNoTextFault}
+use Rattle.mapf_certificate.specs.Bounded.{BeginsWithLine, BeginsWithNode}
+use Rattle.mapf_certificate.proofs.Fields.{same_some}
 use Rattle.mapf_certificate.proofs.PlainLines.{same_line}
 use Rattle.mapf_certificate.proofs.Windows.{Window-trans, Window-known, Fails-after, Fails-weaker, Fails-not}
-use Rattle.mapf_certificate.proofs.LineWindows.{IsNext}
-use Rattle.mapf_certificate.proofs.Blocks.{grid_for}
-use Rattle.mapf_certificate.proofs.Nodes.{NextNode, node_is_line, nodes_apart}
+use Rattle.mapf_certificate.proofs.Nodes.{node_is_line, nodes_apart}
 use Rattle.mapf_certificate.proofs.Rests.{rest_starts, rest_ends, end_is_rest, rest_joins}
 
 -- what bounds the numbers of a reading's lines
@@ -52,7 +52,7 @@ to_bounds : (sizes : Sizes) (r : Reading) (nodes : List Node) (t : List ℕ) →
 to_bounds sizes r nodes t bounds rest = rest_moved (grid_at r) (grid_for sizes) (agents_at r) sizes.agents r.owed nodes t bounds.grid bounds.agents rest
 
 -- a rest with a tree owed begins with a node
-pub node_next : (sizes : Sizes) (r : Reading) (t : List ℕ) → Bounds sizes r → 1 ≤ r.owed → IsRestAt r t → NextNode sizes t
+pub node_next : (sizes : Sizes) (r : Reading) (t : List ℕ) → Bounds sizes r → 1 ≤ r.owed → IsRestAt r t → BeginsWithNode sizes t
 node_next sizes r t bounds some (nodes, rest) =
     let starts = rest_starts (grid_for sizes) sizes.agents r.owed nodes t (to_bounds sizes r nodes t bounds rest) some in
     record { value = starts.node; is = starts.in_range; rest = starts.after; spelled = starts.spelled }
@@ -62,27 +62,31 @@ pub end_next : (sizes : Sizes) (r : Reading) (t : List ℕ) → Bounds sizes r �
 end_next sizes r t bounds none (nodes, rest) = (rest_ends (grid_for sizes) sizes.agents r.owed nodes t (to_bounds sizes r nodes t bounds rest) none).1
 
 -- each rest begins with a line of a tree, or the end
-pub line_next : (sizes : Sizes) (r : Reading) (t : List ℕ) → Bounds sizes r → IsRestAt r t → IsNext (dues.Tree sizes) t
+pub line_next : (sizes : Sizes) (r : Reading) (t : List ℕ) → Bounds sizes r → IsRestAt r t → BeginsWithLine (dues.Tree sizes) t
 line_next sizes r t bounds rest = elim (cases_lt 0 r.owed) [
   | inl some ↦ node_is_line sizes t (node_next sizes r t bounds (omega arith) rest)
   | inr none ↦ record { value = lines.End; is = tt; rest = []; spelled = end_next sizes r t bounds (omega arith) rest ∙ sym (append-nil (line_text sizes.width lines.End)) }
 ]
 
-pub fails_first : (sizes : Sizes) (r : Reading) (had left : Option (List ℕ)) (failed : Bool) (x : Buffered) (fault : LinesFault) → Bounds sizes r → Fails had left failed x (IsNext (dues.Tree sizes)) fault → Fails had left failed x (IsRestAt r) fault
-fails_first sizes r had left failed x fault bounds fails = Fails-weaker had left failed x (IsRestAt r) (IsNext (dues.Tree sizes)) fault (λ t. line_next sizes r t bounds) fails
+-- what is refused of a reading is refused of the same reading
+pub fails_at : {A : Type 0} (a b : Option (List ℕ)) (failed : Bool) (r s : Reading) (answer : Result A LinesFault) → r ≡ s → IfErr answer (Fails a b failed r.buffer (IsRestAt r)) → IfErr answer (Fails a b failed s.buffer (IsRestAt s))
+fails_at a b failed r s answer same fails = let P : Reading → Type 0 = λ q. IfErr answer (Fails a b failed q.buffer (IsRestAt q)) in subst P same fails
 
-pub fails_in_item : (sizes : Sizes) (r : Reading) (had mid left : Option (List ℕ)) (failed : Bool) (x y : Buffered) (line : Line) (fault : LinesFault) → Bounds sizes r → 1 ≤ r.owed → Window had mid x y (line_text sizes.width line)
-    → Fails mid left failed y (λ t. NextNode sizes (line_text sizes.width line ++ t)) fault → Fails had left failed x (IsRestAt r) fault
+pub fails_first : (sizes : Sizes) (r : Reading) (had left : Option (List ℕ)) (failed : Bool) (x : Buffered) (fault : LinesFault) → Bounds sizes r → Fails had left failed x (BeginsWithLine (dues.Tree sizes)) fault → Fails had left failed x (IsRestAt r) fault
+fails_first sizes r had left failed x fault bounds fails = Fails-weaker had left failed x (IsRestAt r) (BeginsWithLine (dues.Tree sizes)) fault (λ t. line_next sizes r t bounds) fails
+
+pub fails_in_item : (sizes : Sizes) (r : Reading) (had mid left : Option (List ℕ)) (failed : Bool) (x y : Buffered) (line : CertLine) (fault : LinesFault) → Bounds sizes r → 1 ≤ r.owed → Window had mid x y (line_text sizes.width line)
+    → Fails mid left failed y (λ t. BeginsWithNode sizes (line_text sizes.width line ++ t)) fault → Fails had left failed x (IsRestAt r) fault
 fails_in_item sizes r had mid left failed x y line fault bounds some window fails =
-    Fails-after had mid left failed x y (line_text sizes.width line) (IsRestAt r) (λ t. NextNode sizes (line_text sizes.width line ++ t)) fault window (λ more. node_next sizes r (line_text sizes.width line ++ more) bounds some) fails
+    Fails-after had mid left failed x y (line_text sizes.width line) (IsRestAt r) (λ t. BeginsWithNode sizes (line_text sizes.width line ++ t)) fault window (λ more. node_next sizes r (line_text sizes.width line ++ more) bounds some) fails
 
-pub fails_in_end : (sizes : Sizes) (r : Reading) (had mid left : Option (List ℕ)) (failed : Bool) (x y : Buffered) (line : Line) (fault : LinesFault) → Bounds sizes r → r.owed ≡ 0 → IsLine (dues.Tree sizes) line
+pub fails_in_end : (sizes : Sizes) (r : Reading) (had mid left : Option (List ℕ)) (failed : Bool) (x y : Buffered) (line : CertLine) (fault : LinesFault) → Bounds sizes r → r.owed ≡ 0 → IsLine (dues.Tree sizes) line
     → Window had mid x y (line_text sizes.width line) → Fails mid left failed y (λ t. (line ≡ lines.End) × (t ≡ [])) fault → Fails had left failed x (IsRestAt r) fault
 fails_in_end sizes r had mid left failed x y line fault bounds none is window fails =
     Fails-after had mid left failed x y (line_text sizes.width line) (IsRestAt r) (λ t. (line ≡ lines.End) × (t ≡ [])) fault window
     (λ more rest. same_line (dues.Tree sizes) line lines.End more [] is tt (end_next sizes r (line_text sizes.width line ++ more) bounds none rest ∙ sym (append-nil (line_text sizes.width lines.End)))) fails
 
-pub reads_node : (sizes : Sizes) (had mid left : Option (List ℕ)) (old new : Reading) (y : Buffered) (line : Line) (node : Node) → Bounds sizes old → old.width ≡ sizes.width → Window had mid old.buffer y (line_text sizes.width line)
+pub reads_node : (sizes : Sizes) (had mid left : Option (List ℕ)) (old new : Reading) (y : Buffered) (line : CertLine) (node : Node) → Bounds sizes old → old.width ≡ sizes.width → Window had mid old.buffer y (line_text sizes.width line)
     → CompletesNode (grid_for sizes) sizes.agents mid left y new.buffer line node → 1 ≤ old.owed → new.owed ≡ trees_owed_after old.owed node → ReadsNode had left old new node
 reads_node sizes had mid left old new y line node bounds wide first completes some owed =
     let window = Window-trans had mid left old.buffer y new.buffer (line_text sizes.width line) completes.taken first completes.window in
@@ -96,7 +100,7 @@ reads_node sizes had mid left old new y line node bounds wide first completes so
 pub node_joins : (had left : Option (List ℕ)) (old new : Reading) (node : Node) → Continues old new → ReadsNode had left old new node → (bytes : List ℕ) → had ≡ Some bytes → (nodes : List Node) → Awaits left new nodes → Awaits had old (node ∷ nodes)
 node_joins had left old new node on reads bytes known nodes awaits =
     let (rest, kept, same, many) = Window-known had left old.buffer new.buffer (node_text old.width node) bytes reads.window known in
-    let one : awaits.bytes ≡ rest = some_same awaits.bytes rest (sym awaits.known ∙ kept) in
+    let one : awaits.bytes ≡ rest = same_some awaits.bytes rest (sym awaits.known ∙ kept) in
     let moved = rest_moved (grid_at new) (grid_at old) (agents_at new) (agents_at old) new.owed nodes (new.buffer.bytes ++ awaits.bytes) on.grid on.agents awaits.rest in
     let after = subst (λ (n : ℕ). IsRest (grid_at old) (agents_at old) n nodes (new.buffer.bytes ++ awaits.bytes)) reads.owed moved in
     let joined = rest_joins (grid_at old) (agents_at old) old.owed node nodes (new.buffer.bytes ++ awaits.bytes) reads.in_range reads.was_owed after in
@@ -105,9 +109,6 @@ node_joins had left old new node on reads bytes known nodes awaits =
       known = known;
       rest = subst (IsRest (grid_at old) (agents_at old) old.owed (node ∷ nodes)) (ap (λ l. node_text old.width node ++ (new.buffer.bytes ++ l)) one ∙ sym same) joined;
     }
-  where
-    some_same : (xs ys : List ℕ) → ◌≡◌ {A = Option (List ℕ)} (Some xs) (Some ys) → xs ≡ ys
-    some_same xs ys e = cc
 
 -- the node that was read is the one that came
 pub node_same : (sizes : Sizes) (had left : Option (List ℕ)) (old new : Reading) (node due : Node) (nodes : List Node) → Bounds sizes old → old.width ≡ sizes.width → Continues old new → ReadsNode had left old new node → Awaits had old (due ∷ nodes)

@@ -9,16 +9,16 @@ use Rattle.std.proofs.lemmas.List.{append-nil}
 use Rattle.std.proofs.lemmas.Option.{get_or_from_slice_get, slice_get_within}
 use Rattle.std.proofs.Math.ListN.{get_or-append}
 use Rattle.std.proofs.Math.Seq.{get_or-append_seam}
-use Rattle.mapf_certificate.specs.CertReading.{AreInOrder, MayFollow}
+use Rattle.mapf_certificate.specs.Bounded.{AreInOrder, MayFollow}
 use Rattle.mapf_certificate.specs.Buffered.{Buffered}
 use Rattle.mapf_certificate.specs.Window.{Window, BeginsWith}
 use Rattle.mapf_certificate.proofs.Windows.{Window-trans}
 
 -- two texts of which one begins the other begin with one value
-pub record AreApart (A : Type 0) (Is : A → Type 0) (text : A → List ℕ) : Type 0 where
+pub record AreSpelledApart (A : Type 0) (Is : A → Type 0) (text : A → List ℕ) : Type 0 where
   pub apart : (a b : A) (s t : List ℕ) → Is a → Is b → text a ++ s ≡ text b ++ t → (a ≡ b) × (s ≡ t)
 
-module _ {A : Type 0} (Is : A → Type 0) (text : A → List ℕ) (spelled : AreApart A Is text) where
+module _ {A : Type 0} (Is : A → Type 0) (text : A → List ℕ) (spelled : AreSpelledApart A Is text) where
   first : (a b : A) (as' bs : List A) (s t : List ℕ) → All Is (a ∷ as') → All Is (b ∷ bs) → flat_map text (a ∷ as') ++ s ≡ flat_map text (b ∷ bs) ++ t → (a ≡ b) × (flat_map text as' ++ s ≡ flat_map text bs ++ t)
   first a b as' bs s t p q e = spelled.apart a b (flat_map text as' ++ s) (flat_map text bs ++ t) (All-head Is a as' p) (All-head Is b bs q)
       (sym (append_assoc (text a) (flat_map text as') s) ∙ e ∙ append_assoc (text b) (flat_map text bs) t)
@@ -72,7 +72,7 @@ taken_more A Is R values new x taken (is, after) grown = subst (Taken A Is R) (s
 })
 
 -- where not all that are due were taken, the text goes on with one that may follow
-pub goes_on : (A : Type 0) (Is : A → Type 0) (R : A → A → Type 0) (text : A → List ℕ) (spelled : AreApart A Is text) (count : ℕ) (values : List A) (more : List ℕ) → Taken A Is R values → length values < count
+pub goes_on : (A : Type 0) (Is : A → Type 0) (R : A → A → Type 0) (text : A → List ℕ) (spelled : AreSpelledApart A Is text) (count : ℕ) (values : List A) (more : List ℕ) → Taken A Is R values → length values < count
     → BeginsWith (List A) (AreInOrder A Is R count) (flat_map text) (flat_map text values ++ more) → BeginsWith A (MayFollow A Is R values) text more
 goes_on A Is R text spelled count values more taken less begins = by (begun Is text spelled values begins.value more begins.rest taken.each begins.is.each (omega (arith, begins.is.many)) begins.spelled)
   where

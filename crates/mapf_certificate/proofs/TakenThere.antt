@@ -3,7 +3,7 @@ use Rattle.std.proofs.Common.{◌≡◌, ℕ, ◌≤◌, inl, inr, Bool, true, f
 use Rattle.std.specs.List.{flat_map}
 use Rattle.std.proofs.lemmas.Grind.{flat_map-append}
 use Rattle.std.proofs.lemmas.List.{append-nil, take_all}
-use Rattle.mapf_certificate.specs.declared.line.Line.{Line}
+use Rattle.mapf_certificate.specs.declared.line.CertLine.{CertLine}
 use Rattle.mapf_certificate.specs.declared.tree_line.Due.{Due}
 use Rattle.mapf_certificate.specs.Buffered.{Buffered}
 use Rattle.mapf_certificate.specs.Certificates.{line_text}
@@ -22,7 +22,7 @@ no_line_there x y front n is whole short lacks same has =
     lacks_line y (ap (λ l. lacks_end (take 65 l)) (sym (is ∙ take_all n y.bytes whole)) ∙ lacks) short (subst HasLine (sym same) has)
 
 -- a text that begins with a line has one
-pub line_there : (due : Due) (line : Line) (x : Buffered) (rest : List ℕ) → IsLine due line → x.bytes ≡ line_text (width_of due) line ++ rest → HasLine x
+pub line_there : (due : Due) (line : CertLine) (x : Buffered) (rest : List ℕ) → IsLine due line → x.bytes ≡ line_text (width_of due) line ++ rest → HasLine x
 line_there due line x rest is e = inl (by (lacks_end (take 65 x.bytes)) refl)
   where
     front : x.bytes ≡ words (width_of due) line ++ (10 ∷ rest)
@@ -35,7 +35,7 @@ line_there due line x rest is e = inl (by (lacks_end (take 65 x.bytes)) refl)
         absurd (has_end_soon (words (width_of due) line) rest 65 (omega arith) (ap (λ l. lacks_end (take 65 l)) (sym front) ∙ same))
 
 -- what follows it is what follows the first line
-pub rest_there : (due : Due) (line : Line) (bytes first after rest : List ℕ) → IsLine due line → IsCut bytes first after → bytes ≡ line_text (width_of due) line ++ rest → after ≡ rest
+pub rest_there : (due : Due) (line : CertLine) (bytes first after rest : List ℕ) → IsLine due line → IsCut bytes first after → bytes ≡ line_text (width_of due) line ++ rest → after ≡ rest
 rest_there due line bytes first after rest is found e =
     let word = words (width_of due) line in
     (same_front first word after rest found.whole (plain_line due line is).ends (sym found.same ∙ e ∙ append_assoc word (10 ∷ []) rest)).1
@@ -46,10 +46,6 @@ there-trans s0 s1 s2 x y z t u first second = λ rest e.
     let (one, mid) = first (u ++ rest) (e ∙ append_assoc t u rest) in
     let (two, last) = second rest (ap (λ b. b.bytes) mid) in
     (two ∙ one, last ∙ ap (λ b. let r : Buffered = record { bytes = rest; left = b.left } in r) mid)
-
--- nothing is taken
-pub there-nil : {S : Type 0} (s : S) (x : Buffered) → TakesThere s s x x []
-there-nil s x = λ rest e. (refl, ap (λ l. let r : Buffered = record { bytes = l; left = x.left } in r) e)
 
 -- one more value's text
 pub there-more : {S A : Type 0} (text : A → List ℕ) (s0 s1 s2 : S) (x y z : Buffered) (values : List A) (value : A) → TakesThere s0 s1 x y (flat_map text values) → TakesThere s1 s2 y z (text value) → TakesThere s0 s2 x z (flat_map text (values ++ (value ∷ [])))

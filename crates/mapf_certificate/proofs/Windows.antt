@@ -5,9 +5,10 @@ use Rattle.std.specs.Io.KnownBytes.{Consumes, IsAtEnd}
 use Rattle.std.proofs.KnownBytes.{Consumes-trans}
 use Rattle.mapf_certificate.specs.declared.cert.CertFault.TheVariants as texts
 use Rattle.mapf_certificate.specs.declared.cert.LinesFault.{LinesFault}
-use Rattle.mapf_certificate.specs.declared.cert.LinesFault.TheVariants.{Text, Device, TooLong, Memory}
+use Rattle.mapf_certificate.specs.declared.cert.LinesFault.TheVariants.{Text, Device, TooLong}
 use Rattle.mapf_certificate.specs.Buffered.{Buffered}
-use Rattle.mapf_certificate.specs.Window.{Window, ComesWithin, Exceeds, Pulls, HasNoInnerMemory, Refuses, Fails, IsTextFault, IsNoTextFault}
+use Rattle.mapf_certificate.specs.Window.{Window, ComesWithin, Exceeds, Pulls, IsNotTextMemory, Refuses, Fails, IsTextFault, IsNoTextFault}
+use Rattle.mapf_certificate.proofs.Fields.{same_err}
 
 -- what comes after two windows
 after_both : (x p q t y : List ℕ) → x ++ p ≡ t ++ y → x ++ (p ++ q) ≡ t ++ (y ++ q)
@@ -74,35 +75,21 @@ Refuses-taken a b x y t Is first never = record {
 }
 
 pub Fails-text : (a b : Option (List ℕ)) (failed : Bool) (x : Buffered) (Is : List ℕ → Type 0) (fault : LinesFault) → IsTextFault fault → failed ≡ false → Refuses a b x Is → Fails a b failed x Is fault
-Fails-text a b failed x Is (Text (texts.K1 n)) is works refused = (works, refused)
-Fails-text a b failed x Is (Text (texts.K2 n)) is works refused = (works, refused)
-Fails-text a b failed x Is (Text (texts.K3 n)) is works refused = (works, refused)
-Fails-text a b failed x Is (Text (texts.K4 n)) is works refused = (works, refused)
 Fails-text a b failed x Is (Text texts.Memory) is works refused = absurd is
-Fails-text a b failed x Is Device is works refused = absurd is
-Fails-text a b failed x Is TooLong is works refused = absurd is
-Fails-text a b failed x Is Memory is works refused = absurd is
+Fails-text a b failed x Is (Text _) is works refused = (works, refused)
+Fails-text a b failed x Is _ is works refused = absurd is
 
 pub Fails-after : (a b c : Option (List ℕ)) (failed : Bool) (x y : Buffered) (t : List ℕ) (Is After : List ℕ → Type 0) (fault : LinesFault) → Window a b x y t → ((more : List ℕ) → Is (t ++ more) → After more)
     → Fails b c failed y After fault → Fails a c failed x Is fault
-Fails-after a b c failed x y t Is After (Text (texts.K1 n)) first follows refused = (refused.0, Refuses-after a b c x y t Is After first follows refused.1)
-Fails-after a b c failed x y t Is After (Text (texts.K2 n)) first follows refused = (refused.0, Refuses-after a b c x y t Is After first follows refused.1)
-Fails-after a b c failed x y t Is After (Text (texts.K3 n)) first follows refused = (refused.0, Refuses-after a b c x y t Is After first follows refused.1)
-Fails-after a b c failed x y t Is After (Text (texts.K4 n)) first follows refused = (refused.0, Refuses-after a b c x y t Is After first follows refused.1)
 Fails-after a b c failed x y t Is After (Text texts.Memory) first follows refused = refused
-Fails-after a b c failed x y t Is After Device first follows refused = (refused.0, ComesWithin-after a b c x y t first refused.1)
+Fails-after a b c failed x y t Is After (Text _) first follows refused = (refused.0, Refuses-after a b c x y t Is After first follows refused.1)
 Fails-after a b c failed x y t Is After TooLong first follows refused = (refused.0, Exceeds-after a b c x y t first refused.1)
-Fails-after a b c failed x y t Is After Memory first follows refused = (refused.0, ComesWithin-after a b c x y t first refused.1)
+Fails-after a b c failed x y t Is After _ first follows refused = (refused.0, ComesWithin-after a b c x y t first refused.1)
 
 pub Fails-weaker : (a b : Option (List ℕ)) (failed : Bool) (x : Buffered) (Is Wider : List ℕ → Type 0) (fault : LinesFault) → ((t : List ℕ) → Is t → Wider t) → Fails a b failed x Wider fault → Fails a b failed x Is fault
-Fails-weaker a b failed x Is Wider (Text (texts.K1 n)) wider refused = (refused.0, Refuses-weaker a b x Is Wider wider refused.1)
-Fails-weaker a b failed x Is Wider (Text (texts.K2 n)) wider refused = (refused.0, Refuses-weaker a b x Is Wider wider refused.1)
-Fails-weaker a b failed x Is Wider (Text (texts.K3 n)) wider refused = (refused.0, Refuses-weaker a b x Is Wider wider refused.1)
-Fails-weaker a b failed x Is Wider (Text (texts.K4 n)) wider refused = (refused.0, Refuses-weaker a b x Is Wider wider refused.1)
 Fails-weaker a b failed x Is Wider (Text texts.Memory) wider refused = refused
-Fails-weaker a b failed x Is Wider Device wider refused = refused
-Fails-weaker a b failed x Is Wider TooLong wider refused = refused
-Fails-weaker a b failed x Is Wider Memory wider refused = refused
+Fails-weaker a b failed x Is Wider (Text _) wider refused = (refused.0, Refuses-weaker a b x Is Wider wider refused.1)
+Fails-weaker a b failed x Is Wider _ wider refused = refused
 
 -- what a source tells, it tells on
 pub Window-known : (a b : Option (List ℕ)) (x y : Buffered) (t bytes : List ℕ) → Window a b x y t → a ≡ Some bytes → (rest : List ℕ) × (b ≡ Some rest) × (x.bytes ++ bytes ≡ t ++ (y.bytes ++ rest)) × (length bytes + y.left ≡ length rest + x.left)
@@ -122,14 +109,9 @@ Refuses-not a b x Is bytes refused known is = by b (subst (λ o. Consumes o b re
     by (Some rest) c (inr (ended, never)) = never (subst Is (ap (λ l. x.bytes ++ l) (c ∙ ap (λ l. refused.pulled ++ l) ended ∙ append-nil refused.pulled)) is)
 
 pub Fails-not : (a b : Option (List ℕ)) (failed : Bool) (x : Buffered) (Is : List ℕ → Type 0) (fault : LinesFault) (bytes : List ℕ) → Fails a b failed x Is fault → a ≡ Some bytes → Is (x.bytes ++ bytes) → IsNoTextFault fault
-Fails-not a b failed x Is (Text (texts.K1 n)) bytes refused known is = absurd (Refuses-not a b x Is bytes refused.1 known is)
-Fails-not a b failed x Is (Text (texts.K2 n)) bytes refused known is = absurd (Refuses-not a b x Is bytes refused.1 known is)
-Fails-not a b failed x Is (Text (texts.K3 n)) bytes refused known is = absurd (Refuses-not a b x Is bytes refused.1 known is)
-Fails-not a b failed x Is (Text (texts.K4 n)) bytes refused known is = absurd (Refuses-not a b x Is bytes refused.1 known is)
 Fails-not a b failed x Is (Text texts.Memory) bytes refused known is = absurd refused
-Fails-not a b failed x Is Device bytes refused known is = tt
-Fails-not a b failed x Is TooLong bytes refused known is = tt
-Fails-not a b failed x Is Memory bytes refused known is = tt
+Fails-not a b failed x Is (Text _) bytes refused known is = absurd (Refuses-not a b x Is bytes refused.1 known is)
+Fails-not a b failed x Is _ bytes refused known is = tt
 
 -- an error that is passed on
 pub err_passed : {A E : Type 0} (r : Result A E) (P : E → Type 0) (e : E) → (y : E) × (r ≡ Err y) × (y ≡ e) → P e → IfErr r P
@@ -137,38 +119,26 @@ err_passed {A = A} {E = E} r P e (y, is, same) holds = let Q : Result A E → Ty
 
 -- a failed call answers `Device` just where its source has failed
 pub device_if_fails : {A : Type 0} (a b : Option (List ℕ)) (failed : Bool) (x : Buffered) (Is : List ℕ → Type 0) (fault : LinesFault) → Fails a b failed x Is fault → IsErrOf {T = A} (Err fault) Device ↔ (failed ≡ true)
-device_if_fails a b failed x Is (Text (texts.K1 n)) fails = (λ e. cc, λ e. cc (fails.0))
-device_if_fails a b failed x Is (Text (texts.K2 n)) fails = (λ e. cc, λ e. cc (fails.0))
-device_if_fails a b failed x Is (Text (texts.K3 n)) fails = (λ e. cc, λ e. cc (fails.0))
-device_if_fails a b failed x Is (Text (texts.K4 n)) fails = (λ e. cc, λ e. cc (fails.0))
 device_if_fails a b failed x Is (Text texts.Memory) fails = absurd fails
 device_if_fails a b failed x Is Device fails = (λ e. fails.0, λ e. refl)
-device_if_fails a b failed x Is TooLong fails = (λ e. cc, λ e. cc (fails.0))
-device_if_fails a b failed x Is Memory fails = (λ e. cc, λ e. cc (fails.0))
-
-same_fault : {A E : Type 0} (x y : E) → ◌≡◌ {A = Result A E} (Err x) (Err y) → x ≡ y
-same_fault x y e = cc
+device_if_fails a b failed x Is _ fails = (λ e. cc, λ e. cc (fails.0))
 
 pulls_within : {A : Type 0} (a b : Option (List ℕ)) (x : Buffered) (fault : LinesFault) → fault ≢ TooLong → ComesWithin a b x → Pulls a b x.left (IsErrOf {T = A} (Err fault) TooLong)
-pulls_within a b x fault other comes = record { came = comes.pulled; source = comes.source; few = omega (arith, comes.within); beyond = (λ e. absurd (other (same_fault fault TooLong e)), λ h. absurd (omega (arith, comes.within))) }
+pulls_within a b x fault other comes = record { came = comes.pulled; source = comes.source; few = omega (arith, comes.within); beyond = (λ e. absurd (other (same_err fault TooLong e)), λ h. absurd (omega (arith, comes.within))) }
 
 pub refuses_within : (a b : Option (List ℕ)) (x : Buffered) (Is : List ℕ → Type 0) → Refuses a b x Is → ComesWithin a b x
 refuses_within a b x Is refused = record { pulled = refused.pulled; source = refused.source; within = refused.within }
 
 -- and `TooLong` just where too many bytes came
 pub pulls_if_fails : {A : Type 0} (a b : Option (List ℕ)) (failed : Bool) (x : Buffered) (Is : List ℕ → Type 0) (fault : LinesFault) → Fails a b failed x Is fault → Pulls a b x.left (IsErrOf {T = A} (Err fault) TooLong)
-pulls_if_fails a b failed x Is (Text (texts.K1 n)) fails = pulls_within a b x (Text (texts.K1 n)) (λ e. cc) (refuses_within a b x Is fails.1)
-pulls_if_fails a b failed x Is (Text (texts.K2 n)) fails = pulls_within a b x (Text (texts.K2 n)) (λ e. cc) (refuses_within a b x Is fails.1)
-pulls_if_fails a b failed x Is (Text (texts.K3 n)) fails = pulls_within a b x (Text (texts.K3 n)) (λ e. cc) (refuses_within a b x Is fails.1)
-pulls_if_fails a b failed x Is (Text (texts.K4 n)) fails = pulls_within a b x (Text (texts.K4 n)) (λ e. cc) (refuses_within a b x Is fails.1)
 pulls_if_fails a b failed x Is (Text texts.Memory) fails = absurd fails
-pulls_if_fails a b failed x Is Device fails = pulls_within a b x Device (λ e. cc) fails.1
+pulls_if_fails a b failed x Is (Text _) fails = pulls_within a b x _ (λ e. cc) (refuses_within a b x Is fails.1)
 pulls_if_fails a b failed x Is TooLong fails = record { came = fails.1.pulled; source = fails.1.source; few = fails.1.few; beyond = (λ e. fails.1.beyond, λ h. refl) }
-pulls_if_fails a b failed x Is Memory fails = pulls_within a b x Memory (λ e. cc) fails.1
+pulls_if_fails a b failed x Is _ fails = pulls_within a b x _ (λ e. cc) fails.1
 
 -- a window is no such answer
 pub pulls_in_window : {A : Type 0} (a b : Option (List ℕ)) (x y : Buffered) (t : List ℕ) (answer : A) → Window a b x y t → Pulls a b x.left (IsErrOf {T = A} (Ok answer) TooLong)
 pulls_in_window a b x y t answer window = record { came = window.pulled; source = window.source; few = omega (arith, window.within); beyond = (λ e. cc, λ h. absurd (omega (arith, window.within))) }
 
-pub no_inner_memory : (a b : Option (List ℕ)) (failed : Bool) (x : Buffered) (Is : List ℕ → Type 0) (fault : LinesFault) → Fails a b failed x Is fault → HasNoInnerMemory fault
+pub no_inner_memory : (a b : Option (List ℕ)) (failed : Bool) (x : Buffered) (Is : List ℕ → Type 0) (fault : LinesFault) → Fails a b failed x Is fault → IsNotTextMemory fault
 no_inner_memory a b failed x Is fault fails = λ e. subst (Fails a b failed x Is) e fails

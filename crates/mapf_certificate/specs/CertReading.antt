@@ -1,30 +1,20 @@
 -- What the answers of a reader of certificates say of the bytes that its source gave.
-use Rattle.std.specs.Prelude.{◌≡◌, ℕ, ◌+◌, ◌-◌, ◌≤◌, true, List, [], ◌∷◌, ◌++◌, Option, Some, All, AllPairs, length}
+use Rattle.std.specs.Prelude.{◌≡◌, ℕ, ◌+◌, ◌-◌, ◌≤◌, true, List, [], ◌∷◌, ◌++◌, Option, Some}
 use Rattle.std.specs.Io.KnownBytes.{IsAtEnd}
 use Rattle.mapf_model.specs.declared.item.Claim.{Claim}
 use Rattle.mapf_model.specs.Grid.{GridMap}
 use Rattle.mapf_model.specs.Printed.{IsClaimInRange}
 use Rattle.mapf_model.specs.Tree.{ConstraintTree, Node, SplitNode, LeafNode, ClashNode, Spell}
 use Rattle.mapf_certificate.specs.declared.cert.Cert.{Cert}
-use Rattle.mapf_certificate.specs.declared.line.Line.{Line}
-use Rattle.mapf_certificate.specs.declared.line.Line.TheVariants as lines
+use Rattle.mapf_certificate.specs.declared.line.CertLine.{CertLine}
+use Rattle.mapf_certificate.specs.declared.line.CertLine.TheVariants as lines
 use Rattle.mapf_certificate.specs.Lines.{IsAgentCount}
 use Rattle.mapf_certificate.specs.Buffered.{Buffered}
 use Rattle.mapf_certificate.specs.Window.{Window, BeginsWith}
 use Rattle.mapf_certificate.specs.Reading.{Reading, grid_at, agents_at}
 use Rattle.mapf_certificate.specs.Certificates.{line_text, node_text, header_text, IsNode, IsRest, SpellsCert}
 
--- so many values in this order, each of this kind
-pub record AreInOrder (A : Type 0) (Is : A → Type 0) (Precedes : A → A → Type 0) (count : ℕ) (values : List A) : Type 0 where
-  pub many : length values ≡ count
-  pub each : All Is values
-  pub rising : AllPairs Precedes values
-
--- a value of this kind that may come after these
-abbrev pub MayFollow : (A : Type 0) → (A → Type 0) → (A → A → Type 0) → List A → A → Type 0
-MayFollow A Is Precedes before value = Is value × All (λ b. Precedes b value) before
-
--- how many trees are owed after a node
+-- how many subtrees are pending after a node
 abbrev pub trees_owed_after : ℕ → Node → ℕ
 trees_owed_after owed (SplitNode conflict) = owed + 1
 trees_owed_after owed (LeafNode blocks) = owed - 1
@@ -68,7 +58,7 @@ pub record TakesHeader (had left : Option (List ℕ)) (old new : Reading) (agent
   pub joins : (bytes : List ℕ) → had ≡ Some bytes → (nodes : List Node) → Awaits left new nodes → AwaitsCert had old agents claim nodes
 
 -- these lines of a node follow this first line of it
-pub record CompletesNode (grid : GridMap) (agents : ℕ) (had left : Option (List ℕ)) (old new : Buffered) (line : Line) (node : Node) : Type 0 where
+pub record CompletesNode (grid : GridMap) (agents : ℕ) (had left : Option (List ℕ)) (old new : Buffered) (line : CertLine) (node : Node) : Type 0 where
   pub in_range : IsNode grid agents node
   pub taken : List ℕ
   pub spelled : line_text grid.width line ++ taken ≡ node_text grid.width node

@@ -3,18 +3,17 @@ use Rattle.std.specs.Prelude.{◌≡◌, ℕ, ◌<◌, List, [], ◌∷◌, ◌+
 use Rattle.std.specs.List.{flat_map}
 use Rattle.mapf_model.specs.declared.item.Claim.{Claim}
 use Rattle.mapf_model.specs.declared.item.Item.{Item}
-use Rattle.mapf_model.specs.declared.conflict.Conflict.TheVariants as conflicts
 use Rattle.mapf_model.specs.declared.label.Entry.{Entry}
 use Rattle.mapf_model.specs.Blocks.{LabelBlock}
 use Rattle.mapf_model.specs.Grid.{GridMap, IsGridMap}
 use Rattle.mapf_model.specs.Printed.{IsConflictInRange, AreBlocksInRange, IsClaimInRange, IsTreeInRange}
 use Rattle.mapf_model.specs.Tree.{ConstraintTree, Node, SplitNode, LeafNode, ClashNode, node_of, nodes_of, nodes_of_all}
-use Rattle.mapf_certificate.specs.declared.line.Line.{Line}
-use Rattle.mapf_certificate.specs.declared.line.Line.TheVariants as lines
+use Rattle.mapf_certificate.specs.declared.line.CertLine.{CertLine}
+use Rattle.mapf_certificate.specs.declared.line.CertLine.TheVariants as lines
 use Rattle.mapf_certificate.specs.Lines.{words, IsAgentCount}
 
 -- a line with its LF
-abbrev pub line_text : ℕ → Line → List ℕ
+abbrev pub line_text : ℕ → CertLine → List ℕ
 line_text width line = words width line ++ (10 ∷ [])
 
 -- the line of an entry
@@ -33,12 +32,21 @@ block_text width block = line_text width (lines.Agent block.agent (length block.
 abbrev pub blocks_text : ℕ → List LabelBlock → List ℕ
 blocks_text width blocks = flat_map (block_text width) blocks
 
+-- the first line of a node
+abbrev pub first_line : Node → CertLine
+first_line (SplitNode conflict) = lines.Split conflict
+first_line (LeafNode blocks) = lines.Leaf (length blocks)
+first_line (ClashNode i j) = lines.Clash i j
+
+-- the blocks of a node
+abbrev pub blocks_of : Node → List LabelBlock
+blocks_of (SplitNode conflict) = []
+blocks_of (LeafNode blocks) = blocks
+blocks_of (ClashNode i j) = []
+
 -- the lines of a node, without those of its children
 abbrev pub node_text : ℕ → Node → List ℕ
-node_text width (SplitNode (conflicts.Vertex i j cell tick)) = line_text width (lines.Vertex i j cell tick)
-node_text width (SplitNode (conflicts.Swap i j from to tick)) = line_text width (lines.Swap i j from to tick)
-node_text width (LeafNode blocks) = line_text width (lines.Leaf (length blocks)) ++ blocks_text width blocks
-node_text width (ClashNode i j) = line_text width (lines.Clash i j)
+node_text width node = line_text width (first_line node) ++ blocks_text width (blocks_of node)
 
 -- the lines of an item
 abbrev pub item_text : ℕ → Item → List ℕ

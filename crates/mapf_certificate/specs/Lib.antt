@@ -8,4 +8,5 @@ pub mod Buffered
 pub mod Window
 pub mod Reading
 pub mod CertReading
+pub mod Bounded
 pub mod Untouched

@@ -2,11 +2,13 @@
 use Rattle.std.specs.Prelude.{ℕ, ◌^◌, ◌-◌, List, codes, Result, Ok, Err, if◌then◌else◌}
 use Rattle.std.specs.Str.{bytes_eq}
 use Rattle.std.specs.Option.{option_map_or}
+use Rattle.mapf_model.specs.Limits.{most_agents, greatest_cost, greatest_sum, last_split_tick}
+use Rattle.mapf_model.specs.declared.conflict.Conflict.TheVariants as conflicts
 use Rattle.mapf_model.specs.declared.item.Claim.TheVariants as claims
 use Rattle.mapf_model.specs.declared.label.Label.{Label}
 use Rattle.mapf_model.specs.declared.label.Label.TheVariants as labels
-use Rattle.mapf_certificate.specs.declared.line.Line.{Line}
-use Rattle.mapf_certificate.specs.declared.line.Line.TheVariants as lines
+use Rattle.mapf_certificate.specs.declared.line.CertLine.{CertLine}
+use Rattle.mapf_certificate.specs.declared.line.CertLine.TheVariants as lines
 use Rattle.mapf_certificate.specs.declared.line.LineFault.{LineFault}
 use Rattle.mapf_certificate.specs.declared.line.LineFault.TheVariants.{Shape}
 use Rattle.mapf_certificate.specs.declared.sizes.Sizes.{Sizes}
@@ -17,29 +19,29 @@ use Rattle.mapf_certificate.specs.declared.tree_line.LabelWord.TheVariants as la
 use Rattle.mapf_certificate.specs.Numbers.{◌>>=◌, strip, read_field, read_last, read_pair, in_range, below, read_cell}
 
 -- the title
-unfoldable pub read_title : List ℕ → Result Line LineFault
+unfoldable pub read_title : List ℕ → Result CertLine LineFault
 read_title bs = if bytes_eq bs (codes "mapf-cert 1") then Ok lines.Title else Err Shape
 
 -- a number of agents
 unfoldable pub read_count : List ℕ → Result ℕ LineFault
-read_count bs = read_last 32 bs >>= in_range 1 200
+read_count bs = read_last 32 bs >>= in_range 1 most_agents
 
 -- a sum of costs
 unfoldable pub read_cost : List ℕ → Result ℕ LineFault
-read_cost bs = read_last 32 bs >>= in_range 0 1999999800
+read_cost bs = read_last 32 bs >>= in_range 0 greatest_sum
 
 -- the line of the number of agents
-unfoldable pub read_agents : List ℕ → Result Line LineFault
+unfoldable pub read_agents : List ℕ → Result CertLine LineFault
 read_agents bs = option_map_or (λ rest. read_count rest >>= λ n. Ok (lines.Agents n)) (strip (codes "agents") bs) (Err Shape)
 
 -- the line of the claim
-unfoldable pub read_claim : List ℕ → Result Line LineFault
+unfoldable pub read_claim : List ℕ → Result CertLine LineFault
 read_claim bs =
     if bytes_eq bs (codes "claim impossible") then Ok (lines.Claim claims.Impossible) else
     option_map_or (λ rest. read_cost rest >>= λ n. Ok (lines.Claim (claims.Cost n))) (strip (codes "claim cost") bs) (Err Shape)
 
 -- a split on a vertex conflict
-unfoldable pub read_vertex : Sizes → List ℕ → Result Line LineFault
+unfoldable pub read_vertex : Sizes → List ℕ → Result CertLine LineFault
 read_vertex sizes bs = do
   i ← read_field 32 bs
   j ← read_field 32 i.1
@@ -48,11 +50,11 @@ read_vertex sizes bs = do
   first ← below sizes.agents i.0
   second ← below sizes.agents j.0
   cell ← read_cell sizes.width sizes.height at.0 at.1
-  ticks ← in_range 0 999999 tick
-  Ok (lines.Vertex first second cell ticks)
+  ticks ← in_range 0 last_split_tick tick
+  Ok (lines.Split (conflicts.Vertex first second cell ticks))
 
 -- a split on a swapping conflict
-unfoldable pub read_swap : Sizes → List ℕ → Result Line LineFault
+unfoldable pub read_swap : Sizes → List ℕ → Result CertLine LineFault
 read_swap sizes bs = do
   i ← read_field 32 bs
   j ← read_field 32 i.1
@@ -63,18 +65,18 @@ read_swap sizes bs = do
   second ← below sizes.agents j.0
   from ← read_cell sizes.width sizes.height here.0 here.1
   to ← read_cell sizes.width sizes.height there.0 there.1
-  ticks ← in_range 0 999999 tick
-  Ok (lines.Swap first second from to ticks)
+  ticks ← in_range 0 last_split_tick tick
+  Ok (lines.Split (conflicts.Swap first second from to ticks))
 
 -- a leaf
-unfoldable pub read_leaf : Sizes → List ℕ → Result Line LineFault
+unfoldable pub read_leaf : Sizes → List ℕ → Result CertLine LineFault
 read_leaf sizes bs = do
   blocks ← read_last 32 bs
   count ← in_range 0 sizes.agents blocks
   Ok (lines.Leaf count)
 
 -- a clash
-unfoldable pub read_clash : Sizes → List ℕ → Result Line LineFault
+unfoldable pub read_clash : Sizes → List ℕ → Result CertLine LineFault
 read_clash sizes bs = do
   i ← read_field 32 bs
   j ← read_last 32 i.1
@@ -83,7 +85,7 @@ read_clash sizes bs = do
   Ok (lines.Clash first second)
 
 -- the first line of a block
-unfoldable pub read_agent : Sizes → List ℕ → Result Line LineFault
+unfoldable pub read_agent : Sizes → List ℕ → Result CertLine LineFault
 read_agent sizes bs = do
   i ← read_field 32 bs
   entries ← read_last 32 i.1
@@ -98,21 +100,21 @@ read_label_word bs = if bytes_eq bs (codes " inf") then Ok label_words.Never els
 -- the label that such a word spells
 abbrev pub label_in_range : LabelWord → Result Label LineFault
 label_in_range label_words.Never = Ok labels.Never
-label_in_range (label_words.Ticks ticks) = in_range 1 9999999 ticks >>= λ n. Ok (labels.Ticks n)
+label_in_range (label_words.Ticks ticks) = in_range 1 greatest_cost ticks >>= λ n. Ok (labels.Ticks n)
 
 -- an entry
-unfoldable pub read_entry : Sizes → List ℕ → Result Line LineFault
+unfoldable pub read_entry : Sizes → List ℕ → Result CertLine LineFault
 read_entry sizes bs = do
   at ← read_pair bs
   tick ← read_field 32 at.2
   word ← read_label_word tick.1
   cell ← read_cell sizes.width sizes.height at.0 at.1
-  ticks ← in_range 0 9999999 tick.0
+  ticks ← in_range 0 greatest_cost tick.0
   label ← label_in_range word
   Ok (lines.At (record { cell = cell; tick = ticks; label = label }))
 
 -- a line of the tree, by its first word
-unfoldable pub read_tree_line : Sizes → List ℕ → Result Line LineFault
+unfoldable pub read_tree_line : Sizes → List ℕ → Result CertLine LineFault
 read_tree_line sizes bs =
     option_map_or (read_entry sizes) (strip (codes "at") bs)
     (option_map_or (read_agent sizes) (strip (codes "agent") bs)
@@ -123,7 +125,7 @@ read_tree_line sizes bs =
     (if bytes_eq bs (codes "end") then Ok lines.End else Err Shape))))))
 
 -- the line that is due
-abbrev pub read_line : Due → List ℕ → Result Line LineFault
+abbrev pub read_line : Due → List ℕ → Result CertLine LineFault
 read_line dues.Title bs = read_title bs
 read_line dues.Agents bs = read_agents bs
 read_line dues.Claim bs = read_claim bs

@@ -2,13 +2,16 @@
 use Rattle.std.specs.Prelude.{◌≡◌, ◌≤◌, ◌<◌, ◌==◌, Bool, true, not, ℕ, ◌^◌, List, [], ◌∷◌, ◌++◌, codes, ⊤}
 use Rattle.std.specs.List.{list_all}
 use Rattle.mapf_model.specs.declared.item.Claim.TheVariants as claims
+use Rattle.mapf_model.specs.declared.conflict.Conflict.{Conflict}
 use Rattle.mapf_model.specs.declared.conflict.Conflict.TheVariants as conflicts
 use Rattle.mapf_model.specs.declared.label.Label.{Label}
 use Rattle.mapf_model.specs.declared.label.Label.TheVariants as labels
+use Rattle.mapf_model.specs.Limits.{most_agents}
 use Rattle.mapf_model.specs.Grid.{GridMap}
 use Rattle.mapf_model.specs.Printed.{IsEntryInRange, IsConflictInRange, IsClaimInRange}
-use Rattle.mapf_certificate.specs.declared.line.Line.{Line}
-use Rattle.mapf_certificate.specs.declared.line.Line.TheVariants as lines
+use Rattle.mapf_certificate.specs.declared.line.CertLine.{CertLine}
+use Rattle.mapf_certificate.specs.declared.line.CertLine.TheVariants as lines
+use Rattle.mapf_certificate.specs.declared.sizes.Sizes.{Sizes}
 use Rattle.mapf_certificate.specs.declared.tree_line.Due.{Due}
 use Rattle.mapf_certificate.specs.declared.tree_line.Due.TheVariants as dues
 use Rattle.mapf_certificate.specs.Numbers.{field, pair}
@@ -18,14 +21,18 @@ abbrev pub label_words : Label → List ℕ
 label_words (labels.Ticks ticks) = field 32 ticks
 label_words labels.Never = codes " inf"
 
+-- the line of a split, without its LF
+abbrev pub conflict_words : ℕ → Conflict → List ℕ
+conflict_words width (conflicts.Vertex i j cell tick) = codes "vertex" ++ (field 32 i ++ (field 32 j ++ (pair width cell ++ field 32 tick)))
+conflict_words width (conflicts.Swap i j from to tick) = codes "swap" ++ (field 32 i ++ (field 32 j ++ (pair width from ++ (pair width to ++ field 32 tick))))
+
 -- a line without its LF, on a grid of this width
-abbrev pub words : ℕ → Line → List ℕ
+abbrev pub words : ℕ → CertLine → List ℕ
 words width lines.Title = codes "mapf-cert 1"
 words width (lines.Agents agents) = codes "agents" ++ field 32 agents
 words width (lines.Claim (claims.Cost cost)) = codes "claim cost" ++ field 32 cost
 words width (lines.Claim claims.Impossible) = codes "claim impossible"
-words width (lines.Vertex i j cell tick) = codes "vertex" ++ (field 32 i ++ (field 32 j ++ (pair width cell ++ field 32 tick)))
-words width (lines.Swap i j from to tick) = codes "swap" ++ (field 32 i ++ (field 32 j ++ (pair width from ++ (pair width to ++ field 32 tick))))
+words width (lines.Split conflict) = conflict_words width conflict
 words width (lines.Leaf blocks) = codes "leaf" ++ field 32 blocks
 words width (lines.Clash i j) = codes "clash" ++ (field 32 i ++ field 32 j)
 words width (lines.Agent agent entries) = codes "agent" ++ (field 32 agent ++ field 32 entries)
@@ -34,19 +41,22 @@ words width lines.End = codes "end"
 
 -- 1 to 200 agents
 abbrev pub IsAgentCount : ℕ → Type 0
-IsAgentCount agents = (1 ≤ agents) × (agents ≤ 200)
+IsAgentCount agents = (1 ≤ agents) × (agents ≤ most_agents)
 
--- a grid of a size, with no say on which cells are free
+-- a grid of these dimensions, only to bound cells by: its list of free cells is empty
 abbrev pub grid_of : ℕ → ℕ → GridMap
 grid_of width height = record { width = width; height = height; free = [] }
 
+-- a grid of the dimensions that bound a line's cells
+abbrev pub grid_for : Sizes → GridMap
+grid_for sizes = grid_of sizes.width sizes.height
+
 -- a line of a tree, or `end`, with its numbers in their ranges
-abbrev pub IsTreeLine : GridMap → ℕ → Line → Type 0
+abbrev pub IsTreeLine : GridMap → ℕ → CertLine → Type 0
 IsTreeLine grid agents lines.Title = ⊥
 IsTreeLine grid agents (lines.Agents count) = ⊥
 IsTreeLine grid agents (lines.Claim claim) = ⊥
-IsTreeLine grid agents (lines.Vertex i j cell tick) = IsConflictInRange grid agents (conflicts.Vertex i j cell tick)
-IsTreeLine grid agents (lines.Swap i j from to tick) = IsConflictInRange grid agents (conflicts.Swap i j from to tick)
+IsTreeLine grid agents (lines.Split conflict) = IsConflictInRange grid agents conflict
 IsTreeLine grid agents (lines.Leaf blocks) = blocks ≤ agents
 IsTreeLine grid agents (lines.Clash i j) = (i < agents) × (j < agents)
 IsTreeLine grid agents (lines.Agent agent entries) = (agent < agents) × (1 ≤ entries) × (entries < 2 ^ 64)
@@ -54,21 +64,21 @@ IsTreeLine grid agents (lines.At entry) = IsEntryInRange grid entry
 IsTreeLine grid agents lines.End = ⊤
 
 -- a claim in range
-abbrev pub IsClaimLine : Line → Type 0
+abbrev pub IsClaimLine : CertLine → Type 0
 IsClaimLine (lines.Claim claim) = IsClaimInRange claim
 IsClaimLine _ = ⊥
 
 -- a number of agents in range
-abbrev pub IsAgentsLine : Line → Type 0
+abbrev pub IsAgentsLine : CertLine → Type 0
 IsAgentsLine (lines.Agents agents) = IsAgentCount agents
 IsAgentsLine _ = ⊥
 
 -- a line that is due, with its numbers in their ranges
-abbrev pub IsLine : Due → Line → Type 0
+abbrev pub IsLine : Due → CertLine → Type 0
 IsLine dues.Title line = line ≡ lines.Title
 IsLine dues.Agents line = IsAgentsLine line
 IsLine dues.Claim line = IsClaimLine line
-IsLine (dues.Tree sizes) line = IsTreeLine (grid_of sizes.width sizes.height) sizes.agents line
+IsLine (dues.Tree sizes) line = IsTreeLine (grid_for sizes) sizes.agents line
 
 -- the width by which a line's pairs are told; lines without pairs need none
 abbrev pub width_of : Due → ℕ

@@ -25,7 +25,7 @@ abbrev pub Gives : {X Y E : Type 0} → (X → Y) → Result X E → Result Y E 
 Gives view (Ok x) read = read ≡ Ok (view x)
 Gives view (Err e) read = read ≡ Err e
 
--- what follows a front
+-- what follows a prefix
 abbrev pub strip : List ℕ → List ℕ → Option (List ℕ)
 strip [] xs = Some xs
 strip (c ∷ p) [] = None

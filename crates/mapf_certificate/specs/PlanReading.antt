@@ -3,6 +3,7 @@ use Rattle.std.specs.Prelude.{◌≡◌, ◌≤◌, ◌==◌, ◌⊎◌, ℕ, �
 use Rattle.std.specs.Result.{result_ok}
 use Rattle.std.specs.Str.{bytes_eq}
 use Rattle.std.specs.Option.{option_map_or}
+use Rattle.mapf_model.specs.Limits.{greatest_sum, most_splits}
 use Rattle.mapf_model.specs.declared.cause.Cause.TheVariants.{Splits, Ticks}
 use Rattle.mapf_certificate.specs.declared.line.LineFault.{LineFault}
 use Rattle.mapf_certificate.specs.declared.line.LineFault.TheVariants.{Shape, Range}
@@ -30,9 +31,9 @@ answer_words (answers.Limit Ticks) = codes "limit ticks"
 
 -- an answer line with its number in its range
 abbrev pub IsAnswerLine : AnswerLine → Type 0
-IsAnswerLine (answers.Cost cost) = cost ≤ 1999999800
+IsAnswerLine (answers.Cost cost) = cost ≤ greatest_sum
 IsAnswerLine answers.Impossible = Unit {0}
-IsAnswerLine (answers.Limit (Splits count)) = count ≤ 100000
+IsAnswerLine (answers.Limit (Splits count)) = count ≤ most_splits
 IsAnswerLine (answers.Limit Ticks) = Unit {0}
 
 -- the line of the number of agents
@@ -43,7 +44,7 @@ read_agents_line bs = option_map_or read_count (strip (codes "agents") bs) (Err 
 unfoldable pub read_limit : List ℕ → Result AnswerLine LineFault
 read_limit bs =
     if bytes_eq bs (codes " ticks") then Ok (answers.Limit Ticks) else
-    (read_last 32 bs >>= λ v. in_range 0 100000 v >>= λ n. Ok (answers.Limit (Splits n)))
+    (read_last 32 bs >>= λ v. in_range 0 most_splits v >>= λ n. Ok (answers.Limit (Splits n)))
 
 -- an answer's first line
 unfoldable pub read_answer_line : List ℕ → Result AnswerLine LineFault
@@ -101,7 +102,7 @@ read_end n bs = next_words n (codes "end") bs >>= nothing_after n
 unfoldable pub read_pair_cell : Sizes → List ℕ → Result (Option ℕ × List ℕ) LineFault
 read_pair_cell sizes bs = read_pair bs >>= λ p. Ok (result_ok (read_cell sizes.width sizes.height p.0 p.1), p.2)
 
--- a value, or want of memory
+-- a value, or a refused allocation
 abbrev pub OrMemory : {A : Type 0} → Result A PlanTextFault → Type 0 → Type 0
 OrMemory result P = P ⊎ (result ≡ Err Memory)
 

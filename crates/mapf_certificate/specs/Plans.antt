@@ -2,7 +2,7 @@
 use Rattle.std.specs.Prelude.{◌≡◌, ◌≤◌, ◌<◌, ℕ, ◌+◌, ◌-◌, Bool, true, Option, Some, List, [], ◌∷◌, ◌++◌, codes, length, All, sum_by}
 use Rattle.std.specs.List.{flat_map}
 use Rattle.mapf_model.specs.declared.cause.Cause.TheVariants.{Splits, Ticks}
-use Rattle.mapf_model.specs.Accepted.{PlanSays, SaysPlan, SaysImpossible, SaysLimit}
+use Rattle.mapf_model.specs.Limits.{most_agents, most_path_cells, most_splits}
 use Rattle.mapf_model.specs.Grid.{GridMap, IsGridMap}
 use Rattle.mapf_model.specs.Printed.{IsOnGrid, IsPathInRange}
 use Rattle.mapf_certificate.specs.declared.plan_text.PlanText.{PlanText}
@@ -51,31 +51,22 @@ plan_text width p = codes "mapf-plan 1\n" ++ ((codes "agents" ++ (field 32 p.age
 abbrev pub IsAnswerInRange : GridMap → ℕ → PlanAnswer → Type 0
 IsAnswerInRange grid agents (Found plan) = (length plan ≡ agents) × All (IsPathInRange grid) plan
 IsAnswerInRange grid agents Impossible = Unit {0}
-IsAnswerInRange grid agents (Limit (Splits count)) = count ≤ 100000
+IsAnswerInRange grid agents (Limit (Splits count)) = count ≤ most_splits
 IsAnswerInRange grid agents (Limit Ticks) = Unit {0}
 
 -- a plan for at most 200 agents
 abbrev pub IsFew : PlanAnswer → Type 0
-IsFew (Found plan) = length plan ≤ 200
+IsFew (Found plan) = length plan ≤ most_agents
 IsFew _ = Unit {0}
 
 -- a value that has a spelling
 abbrev pub IsPlanText : GridMap → PlanText → Type 0
 IsPlanText grid p = IsAgentCount p.agents × IsAnswerInRange grid p.agents p.answer
 
--- what an answer says
-abbrev pub says : PlanAnswer → PlanSays
-says (Found plan) = SaysPlan plan
-says Impossible = SaysImpossible
-says (Limit cause) = SaysLimit
-
--- these bytes spell a plan text for so many agents that says this
-pub record SpellsPlan (grid : GridMap) (bytes : List ℕ) (agents : ℕ) (said : PlanSays) : Type 0 where
-  pub text : PlanText
-  pub in_range : IsPlanText grid text
-  pub spelled : bytes ≡ plan_text grid.width text
-  pub for_agents : text.agents ≡ agents
-  pub same : says text.answer ≡ said
+-- these bytes spell a plan text for so many agents with this answer
+pub record SpellsPlan (grid : GridMap) (bytes : List ℕ) (agents : ℕ) (answer : PlanAnswer) : Type 0 where
+  pub in_range : IsPlanText grid (record { agents = agents; answer = answer })
+  pub spelled : bytes ≡ plan_text grid.width (record { agents = agents; answer = answer })
 
 -- on one grid no bytes spell two plan texts
 abbrev pub SpellsOnePlan : Type 0
@@ -112,5 +103,5 @@ pub record IsPathOf (agents : ℕ) (agent cost : Option ℕ) (due : ℕ) (are_ce
   pub agent_in_range : due < agents
   pub cells : are_cells ≡ true
   pub some : 1 ≤ count
-  pub few : count ≤ 10000000
+  pub few : count ≤ most_path_cells
   pub cost_is : cost ≡ Some (count - 1)

@@ -1,11 +1,12 @@
 -- How far a certificate was read from its source.
-use Rattle.std.specs.Prelude.{◌+◌, ◌≤◌, ◌^◌, ℕ, Bool, Option, Some, None, IfSome}
+use Rattle.std.specs.Prelude.{◌≡◌, ◌+◌, ◌≤◌, ◌^◌, ℕ, Bool, false, Option, Some, None, IfSome}
 use Rattle.mapf_model.specs.declared.item.Claim.{Claim}
+use Rattle.mapf_model.specs.Limits.{greatest_side}
 use Rattle.mapf_model.specs.Grid.{GridMap}
 use Rattle.mapf_certificate.specs.declared.cert.LinesFault.{LinesFault}
 use Rattle.mapf_certificate.specs.Lines.{IsAgentCount, grid_of}
 use Rattle.mapf_certificate.specs.Buffered.{Buffered, spare}
-use Rattle.mapf_certificate.specs.Window.{HasNoInnerMemory}
+use Rattle.mapf_certificate.specs.Window.{IsNotTextMemory}
 
 -- how far a certificate was read: the grid's sizes, what is left in the buffer, and what the header said
 pub record Reading : Type 0 where
@@ -19,11 +20,23 @@ pub record Reading : Type 0 where
 
 -- what is so at any time
 pub record IsReading (r : Reading) : Type 0 where
-  pub columns : (1 ≤ r.width) × (r.width ≤ 2048)
-  pub rows : (1 ≤ r.height) × (r.height ≤ 2048)
+  pub columns : (1 ≤ r.width) × (r.width ≤ greatest_side)
+  pub rows : (1 ≤ r.height) × (r.height ≤ greatest_side)
   pub agents : IfSome r.header (λ h. IsAgentCount h.0)
   pub bounded : r.owed + spare r.buffer ≤ 2 ^ 64
-  pub faults : IfSome r.fault HasNoInnerMemory
+  pub faults : IfSome r.fault IsNotTextMemory
+
+-- this, where no fault was answered
+abbrev pub IfUnfaulted : Reading → Type 0 → Type 0
+IfUnfaulted r P = r.fault ≡ None → P
+
+-- this, where the header is due: neither it nor a fault was answered
+abbrev pub IfHeaderDue : Reading → Type 0 → Type 0
+IfHeaderDue r P = r.fault ≡ None → r.header ≡ None → P
+
+-- this, where an item or the end is due: neither the end nor a fault was answered
+abbrev pub IfItemDue : Reading → Type 0 → Type 0
+IfItemDue r P = r.fault ≡ None → r.is_whole ≡ false → P
 
 -- the size of the grid; which cells are free plays no part
 abbrev pub grid_at : Reading → GridMap

@@ -46,43 +46,33 @@ pub record Refuses (had left : Option (List ℕ)) (buffer : Buffered) (IsText : 
 -- why a text of this kind isn't read: it isn't one, or the source failed, or too many bytes came, or memory was
 -- refused. The source has failed in the second case alone
 abbrev pub Fails : Option (List ℕ) → Option (List ℕ) → Bool → Buffered → (List ℕ → Type 0) → LinesFault → Type 0
-Fails had left failed buffer IsText (Text (texts.K1 line)) = (failed ≡ false) × Refuses had left buffer IsText
-Fails had left failed buffer IsText (Text (texts.K2 line)) = (failed ≡ false) × Refuses had left buffer IsText
-Fails had left failed buffer IsText (Text (texts.K3 line)) = (failed ≡ false) × Refuses had left buffer IsText
-Fails had left failed buffer IsText (Text (texts.K4 line)) = (failed ≡ false) × Refuses had left buffer IsText
 Fails had left failed buffer IsText (Text texts.Memory) = ⊥
+Fails had left failed buffer IsText (Text _) = (failed ≡ false) × Refuses had left buffer IsText
 Fails had left failed buffer IsText Device = (failed ≡ true) × ComesWithin had left buffer
 Fails had left failed buffer IsText TooLong = (failed ≡ false) × Exceeds had left buffer
 Fails had left failed buffer IsText Memory = (failed ≡ false) × ComesWithin had left buffer
 
--- want of memory is no fault of a text
-abbrev pub HasNoInnerMemory : LinesFault → Type 0
-HasNoInnerMemory fault = fault ≢ Text texts.Memory
+-- the fault isn't a fault of the text which only says that memory was refused
+abbrev pub IsNotTextMemory : LinesFault → Type 0
+IsNotTextMemory fault = fault ≢ Text texts.Memory
 
 -- the fault isn't one of the text
 abbrev pub IsNoTextFault : LinesFault → Type 0
 IsNoTextFault (Text fault) = ⊥
-IsNoTextFault Device = Unit {0}
-IsNoTextFault TooLong = Unit {0}
-IsNoTextFault Memory = Unit {0}
+IsNoTextFault _ = Unit {0}
 
 -- what stops a reader other than the text: the source failed, or too many bytes came, or memory was refused
-abbrev pub Stops : Option (List ℕ) → Option (List ℕ) → Bool → Buffered → LinesFault → Type 0
-Stops had left failed buffer (Text fault) = Unit {0}
-Stops had left failed buffer Device = failed ≡ true
-Stops had left failed buffer TooLong = Exceeds had left buffer
-Stops had left failed buffer Memory = Unit {0}
+abbrev pub StopsReader : Option (List ℕ) → Option (List ℕ) → Bool → Buffered → LinesFault → Type 0
+StopsReader had left failed buffer (Text fault) = Unit {0}
+StopsReader had left failed buffer Device = failed ≡ true
+StopsReader had left failed buffer TooLong = Exceeds had left buffer
+StopsReader had left failed buffer Memory = Unit {0}
 
 -- the fault is one of the text
 abbrev pub IsTextFault : LinesFault → Type 0
-IsTextFault (Text (texts.K1 line)) = Unit {0}
-IsTextFault (Text (texts.K2 line)) = Unit {0}
-IsTextFault (Text (texts.K3 line)) = Unit {0}
-IsTextFault (Text (texts.K4 line)) = Unit {0}
 IsTextFault (Text texts.Memory) = ⊥
-IsTextFault Device = ⊥
-IsTextFault TooLong = ⊥
-IsTextFault Memory = ⊥
+IsTextFault (Text _) = Unit {0}
+IsTextFault _ = ⊥
 
 -- the fault that says why no line is there
 abbrev pub Tells : NoLine → LinesFault → Type 0

@@ -3,7 +3,8 @@ ghost use Rattle.mapf_certificate.specs.Buffered.{spare};
 ghost use Rattle.mapf_certificate.specs.Lines.{IsCut, lacks_end};
 ghost use Rattle.mapf_certificate.specs.Untouched.{HasLine, IsUntouched};
 ghost use Rattle.mapf_certificate.specs.Window.{Window, LacksLine, LacksBytes};
-ghost use Rattle.std.specs.Prelude.{[], ◌++◌, take, ◌≡◌, ◌<◌, ◌≤◌, ◌+◌, ◌==◌, List, ℕ, length, drop, IfOk, IfErr, IfSome, IfNone, OnOk, OnErr, vec_len, vec_capacity, false, true};
+ghost use Rattle.std.specs.Prelude.{[], ◌++◌, take, ◌≡◌, ◌<◌, ◌≤◌, ◌+◌, ◌==◌, List, ℕ, length, drop, IfOk, IfErr};
+ghost use Rattle.std.specs.Prelude.{IfSome, IfNone, OnOk, OnErr, vec_len, vec_capacity, false, true};
 
 use crate::ends::line_length;
 use mapf_model::{Failed, OutOfMemory, Source};
@@ -49,7 +50,8 @@ pub enum NoLine {
 
 /// The length of the line that bytes begin with. It is at most 64.
 fn line_end(bytes: &[u8]) -> Option<usize>
-    ensures line { IfSome result (λ n. (n < length bytes.now) × IsCut bytes.now (take n bytes.now) (drop (n + 1) bytes.now)) }
+    ensures line { IfSome result (λ n.
+        (n < length bytes.now) × IsCut bytes.now (take n bytes.now) (drop (n + 1) bytes.now)) }
     ensures none { IfNone result (lacks_end (take 65 bytes.now) ≡ true) }
 {
     line_length(&bytes[..bytes.len().min(65)])
@@ -101,8 +103,10 @@ impl LineBuffer {
         requires room { length self.old.bytes ≤ 64 }
         ensures window { OnOk result (Window (S.remaining source.old) (S.remaining source.new) self.old self.new []) }
         ensures grows { IfOk result (λ more. more ≡ true → length self.old.bytes < length self.new.bytes) }
-        ensures end { IfOk result (λ more. more ≡ false → IsAtEnd (S.remaining source.new) × (self.new.bytes ≡ self.old.bytes)) }
-        ensures stopped { IfErr result (LacksBytes (S.remaining source.old) (S.remaining source.new) (S.has_failed source.new) self.old) }
+        ensures end { IfOk result (λ more. more ≡ false
+            → IsAtEnd (S.remaining source.new) × (self.new.bytes ≡ self.old.bytes)) }
+        ensures stopped { IfErr result
+            (LacksBytes (S.remaining source.old) (S.remaining source.new) (S.has_failed source.new) self.old) }
         ensures works { OnOk result (S.has_failed source.new ≡ false) }
         ensures spare { spare self.new ≡ spare self.old }
     {
@@ -136,8 +140,10 @@ impl LineBuffer {
     pub fn ready<S: Source>(&mut self, source: &mut S) -> Result<usize, NoLine>
         requires { S.has_failed source.old ≡ false }
         ensures window { OnOk result (Window (S.remaining source.old) (S.remaining source.new) self.old self.new []) }
-        ensures line { IfOk result (λ n. (n < length self.new.bytes) × IsCut self.new.bytes (take n self.new.bytes) (drop (n + 1) self.new.bytes)) }
-        ensures stopped { IfErr result (LacksLine (S.remaining source.old) (S.remaining source.new) (S.has_failed source.new) self.old self.new) }
+        ensures line { IfOk result (λ n. (n < length self.new.bytes)
+            × IsCut self.new.bytes (take n self.new.bytes) (drop (n + 1) self.new.bytes)) }
+        ensures stopped { IfErr result
+            (LacksLine (S.remaining source.old) (S.remaining source.new) (S.has_failed source.new) self.old self.new) }
         // Nothing is pulled where a line is there, or too long.
         ensures there { HasLine self.old → IsUntouched self.old self.new source.old source.new }
         ensures works { OnOk result (S.has_failed source.new ≡ false) }

@@ -1,20 +1,24 @@
+ghost use Rattle.mapf_certificate.specs.Bounded.{BeginsWithNode};
 ghost use Rattle.mapf_certificate.specs.Buffered.{spare};
-ghost use Rattle.mapf_certificate.specs.CertReading.{HasHeader, IsRestAt, Awaits, AwaitsCert, TakesHeader, TakesNode, TakesEnd, ReadsEnd, CompletesNode, trees_owed_after};
-ghost use Rattle.mapf_certificate.specs.Certificates.{IsNode, line_text, node_text, header_text};
-ghost use Rattle.mapf_certificate.specs.Lines.{IsAgentCount, IsTreeLine, grid_of};
-ghost use Rattle.mapf_certificate.specs.Reading.{Reading, grid_at, agents_at};
+ghost use Rattle.mapf_certificate.specs.CertReading.{HasHeader, IsRestAt, Awaits, AwaitsCert, CompletesNode};
+ghost use Rattle.mapf_certificate.specs.CertReading.{TakesHeader, TakesNode, TakesEnd, ReadsEnd, trees_owed_after};
+ghost use Rattle.mapf_certificate.specs.Certificates.{line_text, node_text, header_text};
+ghost use Rattle.mapf_certificate.specs.Lines.{IsAgentCount, IsTreeLine, grid_for};
+ghost use Rattle.mapf_certificate.specs.Reading.{Reading, IfUnfaulted, IfHeaderDue, IfItemDue, grid_at, agents_at};
 ghost use Rattle.mapf_certificate.specs.Untouched.{IsUntouched, RefusesThere, TakesThere};
-ghost use Rattle.mapf_certificate.specs.Window.{Window, BeginsWith, Fails, Pulls, HasNoInnerMemory, IsNoTextFault};
-ghost use Rattle.mapf_certificate.specs.declared.line.Line.{Line};
-ghost use Rattle.mapf_certificate.specs.declared.line.Line.TheVariants.{End, Title};
+ghost use Rattle.mapf_certificate.specs.Window.{Window, BeginsWith, Fails, Pulls, IsNotTextMemory, IsNoTextFault};
+ghost use Rattle.mapf_certificate.specs.declared.line.CertLine.{CertLine};
+ghost use Rattle.mapf_certificate.specs.declared.line.CertLine.TheVariants.{End, Title};
+ghost use Rattle.mapf_model.specs.Limits.{greatest_side};
 ghost use Rattle.mapf_model.specs.declared.item.Claim.{Claim};
 ghost use Rattle.mapf_model.specs.Printed.{IsClaimInRange};
 ghost use Rattle.mapf_model.specs.Tree.{Node, node_of};
 ghost use Rattle.std.specs.Io.KnownBytes.{IsAtEnd};
-ghost use Rattle.std.specs.Prelude.{[], ◌∷◌, ◌++◌, ℕ, List, Some, true, IfErr, IsErrOf, ◌^◌, ◌≡◌, ◌↔◌, ◌<◌, ◌≤◌, ◌+◌, IfOk, IfSome, IsSome, IsSomeAnd, OnOk, None, false, MatchOption, MatchResult};
+ghost use Rattle.std.specs.Prelude.{[], ◌∷◌, ◌++◌, ℕ, List, Some, true, IfErr, IsErrOf, ◌^◌, ◌≡◌, ◌↔◌, ◌<◌, ◌≤◌, ◌+◌};
+ghost use Rattle.std.specs.Prelude.{IfOk, IfSome, IsSome, IsSomeAnd, OnOk, None, false, MatchOption, MatchResult};
 
 use crate::cert::LinesFault;
-use crate::line::Line;
+use crate::line::CertLine;
 use crate::lines::Lines;
 use crate::sizes::Sizes;
 use crate::tree_line::Due;
@@ -68,7 +72,7 @@ impl Model for CertLines {
 }
 
 impl CertLines {
-    /// Takes all the memory but that of leaves. At most `limit` bytes may come from the source.
+    /// Allocates the buffer; later only leaves allocate. At most `limit` bytes may come from the source.
     pub fn open(
         alloc: Global,
         width: u32,
@@ -76,9 +80,9 @@ impl CertLines {
         limit: u64,
     ) -> Result<CertLines, OutOfMemory>
         requires some_columns { 1 ≤ width }
-        requires few_columns { width ≤ 2048 }
+        requires few_columns { width ≤ greatest_side }
         requires some_rows { 1 ≤ height }
-        requires few_rows { height ≤ 2048 }
+        requires few_rows { height ≤ greatest_side }
         ensures { IfOk result (λ l. l ≡ record {
           width = width;
           height = height;
@@ -113,28 +117,34 @@ impl CertLines {
         requires works { self.old.fault ≡ None → S.has_failed source.old ≡ false }
         // A fault is answered again, and so is the header, without a look at the source.
         ensures faulted { IfErr result (λ fault. self.new.fault ≡ Some fault) }
-        ensures repeats_fault { IfSome self.old.fault (λ fault. (result ≡ Err fault) × IsUntouched self.old self.new source.old source.new) }
-        ensures repeats_header { self.old.fault ≡ None → IfSome self.old.header (λ h. (result ≡ Ok h) × IsUntouched self.old self.new source.old source.new) }
+        ensures repeats_fault { IfSome self.old.fault (λ fault.
+            (result ≡ Err fault) × IsUntouched self.old self.new source.old source.new) }
+        ensures repeats_header { IfUnfaulted self.old (IfSome self.old.header (λ h.
+            (result ≡ Ok h) × IsUntouched self.old self.new source.old source.new)) }
 
         // What the bytes say.
-        ensures header { self.old.fault ≡ None → self.old.header ≡ None → IfOk result (λ h. TakesHeader (S.remaining source.old) (S.remaining source.new) self.old self.new h.0 h.1) }
-        ensures fails { self.old.fault ≡ None → IfErr result (Fails (S.remaining source.old) (S.remaining source.new) (S.has_failed source.new) self.old.buffer (HasHeader self.old.width)) }
-        ensures only { (agents : ℕ) (claim : Claim) (nodes : List Node) → self.old.fault ≡ None → self.old.header ≡ None → AwaitsCert (S.remaining source.old) self.old agents claim nodes
-            → MatchResult result (λ h. (h.0 ≡ agents) × (h.1 ≡ claim) × Awaits (S.remaining source.new) self.new nodes) IsNoTextFault }
+        ensures header { IfHeaderDue self.old (IfOk result (λ h.
+            TakesHeader (S.remaining source.old) (S.remaining source.new) self.old self.new h.0 h.1)) }
+        ensures fails { IfUnfaulted self.old (IfErr result
+            (Fails (S.remaining source.old) (S.remaining source.new) (S.has_failed source.new)
+            self.old.buffer (HasHeader self.old.width))) }
+        ensures only { (agents : ℕ) (claim : Claim) (nodes : List Node)
+            → IfHeaderDue self.old (AwaitsCert (S.remaining source.old) self.old agents claim nodes
+            → MatchResult result
+            (λ h. (h.0 ≡ agents) × (h.1 ≡ claim) × Awaits (S.remaining source.new) self.new nodes) IsNoTextFault) }
 
         // Where the header's lines were all in the buffer, the source is as it was.
-        ensures there { self.old.fault ≡ None → self.old.header ≡ None → IfOk result (λ h.
-            TakesThere source.old source.new self.old.buffer self.new.buffer (header_text self.old.width h.0 h.1)) }
+        ensures there { IfHeaderDue self.old (IfOk result (λ h.
+            TakesThere source.old source.new self.old.buffer self.new.buffer (header_text self.old.width h.0 h.1))) }
         // Nor is it touched where a line is in the buffer that isn't the first of a certificate.
-        ensures refused { self.old.fault ≡ None
-            → RefusesThere source.old source.new self.old.buffer
-            (BeginsWith Line (λ line. line ≡ Title) (line_text 1)) }
-        // Whether the source failed, and how many bytes came of it; a fault of the text is never want of memory.
-        ensures device { self.old.fault ≡ None → (IsErrOf result LinesFault.Device ↔ (S.has_failed source.new ≡ true)) }
-        ensures pulls { self.old.fault ≡ None
-            → Pulls (S.remaining source.old) (S.remaining source.new) self.old.buffer.left
-            (IsErrOf result LinesFault.TooLong) }
-        ensures inner { IfErr result HasNoInnerMemory }
+        ensures refused { IfUnfaulted self.old (RefusesThere source.old source.new self.old.buffer
+            (BeginsWith CertLine (λ line. line ≡ Title) (line_text 1))) }
+        // Whether the source failed, and how many bytes came of it; a fault of the text is never out of memory.
+        ensures device { IfUnfaulted self.old
+            (IsErrOf result LinesFault.Device ↔ (S.has_failed source.new ≡ true)) }
+        ensures pulls { IfUnfaulted self.old (Pulls (S.remaining source.old) (S.remaining source.new)
+            self.old.buffer.left (IsErrOf result LinesFault.TooLong)) }
+        ensures inner { IfErr result IsNotTextMemory }
 
         ensures grid { (self.new.width ≡ self.old.width) × (self.new.height ≡ self.old.height) }
         ensures owed { self.new.owed ≡ self.old.owed }
@@ -163,30 +173,39 @@ impl CertLines {
         requires header { self.old.fault ≡ None → IsSome self.old.header }
         // A fault is answered again, and so is the end, without a look at the source.
         ensures faulted { IfErr result (λ fault. self.new.fault ≡ Some fault) }
-        ensures repeats_fault { IfSome self.old.fault (λ fault. (result ≡ Err fault) × IsUntouched self.old self.new source.old source.new) }
-        ensures repeats_end { self.old.fault ≡ None → self.old.is_whole ≡ true → (result ≡ Ok None) × IsUntouched self.old self.new source.old source.new }
+        ensures repeats_fault { IfSome self.old.fault (λ fault.
+            (result ≡ Err fault) × IsUntouched self.old self.new source.old source.new) }
+        ensures repeats_end { IfUnfaulted self.old (self.old.is_whole ≡ true
+            → (result ≡ Ok None) × IsUntouched self.old self.new source.old source.new) }
 
         // What the bytes say.
-        ensures item { self.old.fault ≡ None → self.old.is_whole ≡ false → IfOk result (λ o. IfSome o (λ item. TakesNode (S.remaining source.old) (S.remaining source.new) self.old self.new (node_of item))) }
-        ensures end { self.old.fault ≡ None → self.old.is_whole ≡ false → IfOk result (λ o. o ≡ None → TakesEnd (S.remaining source.old) (S.remaining source.new) self.old self.new) }
-        ensures fails { self.old.fault ≡ None → IfErr result (Fails (S.remaining source.old) (S.remaining source.new) (S.has_failed source.new) self.old.buffer (IsRestAt self.old)) }
-        ensures only_item { (node : Node) (nodes : List Node) → self.old.fault ≡ None → self.old.is_whole ≡ false → Awaits (S.remaining source.old) self.old (node ∷ nodes)
-            → MatchResult result (λ o. IsSomeAnd o (λ item. (node_of item ≡ node) × Awaits (S.remaining source.new) self.new nodes)) IsNoTextFault }
-        ensures only_end { self.old.fault ≡ None → self.old.is_whole ≡ false → Awaits (S.remaining source.old) self.old [] → MatchResult result (λ o. o ≡ None) IsNoTextFault }
+        ensures item { IfItemDue self.old (IfOk result (λ o. IfSome o (λ item.
+            TakesNode (S.remaining source.old) (S.remaining source.new) self.old self.new (node_of item)))) }
+        ensures end { IfItemDue self.old (IfOk result (λ o. o ≡ None
+            → TakesEnd (S.remaining source.old) (S.remaining source.new) self.old self.new)) }
+        ensures fails { IfUnfaulted self.old (IfErr result
+            (Fails (S.remaining source.old) (S.remaining source.new) (S.has_failed source.new)
+            self.old.buffer (IsRestAt self.old))) }
+        ensures only_item { (node : Node) (nodes : List Node)
+            → IfItemDue self.old (Awaits (S.remaining source.old) self.old (node ∷ nodes)
+            → MatchResult result (λ o. IsSomeAnd o (λ item.
+            (node_of item ≡ node) × Awaits (S.remaining source.new) self.new nodes)) IsNoTextFault) }
+        ensures only_end { IfItemDue self.old (Awaits (S.remaining source.old) self.old []
+            → MatchResult result (λ o. o ≡ None) IsNoTextFault) }
 
         // Where the item's lines were all in the buffer, the source is as it was.
-        ensures there { self.old.fault ≡ None → IfOk result (λ o. IfSome o (λ item.
+        ensures there { IfUnfaulted self.old (IfOk result (λ o. IfSome o (λ item.
             TakesThere source.old source.new self.old.buffer self.new.buffer
-            (node_text self.old.width (node_of item)))) }
+            (node_text self.old.width (node_of item))))) }
         // Nor is it touched where a line is in the buffer that is none of a tree, nor `end`.
-        ensures refused { self.old.fault ≡ None → RefusesThere source.old source.new self.old.buffer
-            (BeginsWith Line (IsTreeLine (grid_at self.old) (agents_at self.old)) (line_text self.old.width)) }
-        // Whether the source failed, and how many bytes came of it; a fault of the text is never want of memory.
-        ensures device { self.old.fault ≡ None → (IsErrOf result LinesFault.Device ↔ (S.has_failed source.new ≡ true)) }
-        ensures pulls { self.old.fault ≡ None
-            → Pulls (S.remaining source.old) (S.remaining source.new) self.old.buffer.left
-            (IsErrOf result LinesFault.TooLong) }
-        ensures inner { IfErr result HasNoInnerMemory }
+        ensures refused { IfUnfaulted self.old (RefusesThere source.old source.new self.old.buffer
+            (BeginsWith CertLine (IsTreeLine (grid_at self.old) (agents_at self.old)) (line_text self.old.width))) }
+        // Whether the source failed, and how many bytes came of it; a fault of the text is never out of memory.
+        ensures device { IfUnfaulted self.old
+            (IsErrOf result LinesFault.Device ↔ (S.has_failed source.new ≡ true)) }
+        ensures pulls { IfUnfaulted self.old (Pulls (S.remaining source.old) (S.remaining source.new)
+            self.old.buffer.left (IsErrOf result LinesFault.TooLong)) }
+        ensures inner { IfErr result IsNotTextMemory }
 
         ensures grid { (self.new.width ≡ self.old.width) × (self.new.height ≡ self.old.height) }
         ensures part { IfOk result (λ o. IsSome o → self.new.is_whole ≡ false) }
@@ -221,16 +240,20 @@ impl CertLines {
         ensures header { self.new.header ≡ self.old.header }
         ensures part { self.new.is_whole ≡ self.old.is_whole }
         ensures grid { (self.new.width ≡ self.old.width) × (self.new.height ≡ self.old.height) }
-        ensures item { IfOk result (λ o. IfSome o (λ item. TakesNode (S.remaining source.old) (S.remaining source.new) self.old self.new (node_of item))) }
-        ensures end { IfOk result (λ o. o ≡ None → ReadsEnd (S.remaining source.old) (S.remaining source.new) self.old self.new) }
+        ensures item { IfOk result (λ o. IfSome o (λ item.
+            TakesNode (S.remaining source.old) (S.remaining source.new) self.old self.new (node_of item))) }
+        ensures end { IfOk result (λ o. o ≡ None
+            → ReadsEnd (S.remaining source.old) (S.remaining source.new) self.old self.new) }
         ensures refused { RefusesThere source.old source.new self.old.buffer
-            (BeginsWith Line (IsTreeLine (grid_at self.old) (agents_at self.old)) (line_text self.old.width)) }
+            (BeginsWith CertLine (IsTreeLine (grid_at self.old) (agents_at self.old)) (line_text self.old.width)) }
         ensures there { IfOk result (λ o. IfSome o (λ item.
             TakesThere source.old source.new self.old.buffer self.new.buffer
             (node_text self.old.width (node_of item)))) }
-        ensures fails { IfErr result (Fails (S.remaining source.old) (S.remaining source.new) (S.has_failed source.new) self.old.buffer (IsRestAt self.old)) }
+        ensures fails { IfErr result (Fails (S.remaining source.old) (S.remaining source.new) (S.has_failed source.new)
+            self.old.buffer (IsRestAt self.old)) }
         ensures same { (node : Node) (nodes : List Node) → Awaits (S.remaining source.old) self.old (node ∷ nodes)
-            → IfOk result (λ o. IfSome o (λ item. (node_of item ≡ node) × Awaits (S.remaining source.new) self.new nodes)) }
+            → IfOk result (λ o. IfSome o (λ item.
+            (node_of item ≡ node) × Awaits (S.remaining source.new) self.new nodes)) }
         ensures works { OnOk result (S.has_failed source.new ≡ false) }
         ensures nearer { OnOk result (spare self.new.buffer < spare self.old.buffer) }
     {
@@ -241,7 +264,7 @@ impl CertLines {
             agents,
         };
         let line = self.lines.next(source, &Due::Tree(sizes))?;
-        let number = self.lines.number();
+        let number = self.lines.count;
         if self.owed == 0 {
             take_end(&mut self.lines, source, &line)?;
             return Ok(None);
@@ -253,7 +276,7 @@ impl CertLines {
     }
 }
 
-/// The number of trees that are owed after an item, of this number before it.
+/// How many subtrees are pending after this item.
 fn trees_owed_after(owed: u64, item: &Item) -> u64
     requires some { 1 ≤ owed }
     requires few { owed + 1 < 2 ^ 64 }
@@ -266,18 +289,20 @@ fn trees_owed_after(owed: u64, item: &Item) -> u64
 }
 
 /// The line is `end`, and nothing follows it.
-fn take_end<S: Source>(lines: &mut Lines, source: &mut S, line: &Line) -> Result<(), LinesFault>
+fn take_end<S: Source>(lines: &mut Lines, source: &mut S, line: &CertLine) -> Result<(), LinesFault>
     requires { S.has_failed source.old ≡ false }
     ensures works { OnOk result (S.has_failed source.new ≡ false) }
     ensures spare { spare lines.new.buffer ≤ spare lines.old.buffer }
     ensures end { OnOk result (line.now ≡ End) }
-    ensures taken { OnOk result (Window (S.remaining source.old) (S.remaining source.new) lines.old.buffer lines.new.buffer []) }
+    ensures taken { OnOk result
+        (Window (S.remaining source.old) (S.remaining source.new) lines.old.buffer lines.new.buffer []) }
     ensures ended { OnOk result (IsAtEnd (S.remaining source.new)) }
     ensures empty { OnOk result (lines.new.buffer.bytes ≡ []) }
-    ensures fails { IfErr result (Fails (S.remaining source.old) (S.remaining source.new) (S.has_failed source.new) lines.old.buffer (λ text. (line.now ≡ End) × (text ≡ []))) }
+    ensures fails { IfErr result (Fails (S.remaining source.old) (S.remaining source.new) (S.has_failed source.new)
+        lines.old.buffer (λ text. (line.now ≡ End) × (text ≡ []))) }
 {
     match line {
-        Line::End => lines.end(source),
+        CertLine::End => lines.end(source),
         _ => Err(lines.misfit()),
     }
 }
@@ -288,35 +313,25 @@ fn item_of<S: Source>(
     lines: &mut Lines,
     source: &mut S,
     sizes: &Sizes,
-    line: &Line,
+    line: &CertLine,
 ) -> Result<Item, LinesFault>
     requires works { S.has_failed source.old ≡ false }
-    requires line { IsTreeLine (grid_of sizes.now.width sizes.now.height) sizes.now.agents line.now }
+    requires line { IsTreeLine (grid_for sizes.now) sizes.now.agents line.now }
     ensures works { OnOk result (S.has_failed source.new ≡ false) }
     ensures spare { spare lines.new.buffer ≤ spare lines.old.buffer }
-    ensures item { IfOk result (λ item. CompletesNode (grid_of sizes.now.width sizes.now.height) sizes.now.agents (S.remaining source.old) (S.remaining source.new) lines.old.buffer lines.new.buffer line.now (node_of item)) }
+    ensures item { IfOk result (λ item. CompletesNode (grid_for sizes.now) sizes.now.agents
+        (S.remaining source.old) (S.remaining source.new)
+        lines.old.buffer lines.new.buffer line.now (node_of item)) }
     ensures there { IfOk result (λ item. (taken : List ℕ)
         → line_text sizes.now.width line.now ++ taken ≡ node_text sizes.now.width (node_of item)
         → TakesThere source.old source.new lines.old.buffer lines.new.buffer taken) }
-    ensures fails { IfErr result (Fails (S.remaining source.old) (S.remaining source.new) (S.has_failed source.new) lines.old.buffer (λ text. BeginsWith Node (IsNode (grid_of sizes.now.width sizes.now.height) sizes.now.agents) (node_text sizes.now.width) (line_text sizes.now.width line.now ++ text))) }
+    ensures fails { IfErr result (Fails (S.remaining source.old) (S.remaining source.new) (S.has_failed source.new)
+        lines.old.buffer (λ text. BeginsWithNode sizes.now (line_text sizes.now.width line.now ++ text))) }
 {
     match *line {
-        Line::Vertex { i, j, cell, tick } => Ok(Item::Vertex { i, j, cell, tick }),
-        Line::Swap {
-            i,
-            j,
-            from,
-            to,
-            tick,
-        } => Ok(Item::Swap {
-            i,
-            j,
-            from,
-            to,
-            tick,
-        }),
-        Line::Leaf(count) => Ok(Item::Leaf(lines.blocks(alloc, source, sizes, count)?)),
-        Line::Clash { i, j } => Ok(Item::Clash { i, j }),
+        CertLine::Split(conflict) => Ok(Item::split(conflict)),
+        CertLine::Leaf(count) => Ok(Item::Leaf(lines.blocks(alloc, source, sizes, count)?)),
+        CertLine::Clash { i, j } => Ok(Item::Clash { i, j }),
         _ => Err(lines.misfit()),
     }
 }
@@ -326,19 +341,22 @@ fn read_header<S: Source>(lines: &mut Lines, source: &mut S) -> Result<(u32, Cla
     ensures agents { IfOk result (λ h. IsAgentCount h.0) }
     ensures claim { IfOk result (λ h. IsClaimInRange h.1) }
     ensures refused { RefusesThere source.old source.new lines.old.buffer
-        (BeginsWith Line (λ line. line ≡ Title) (line_text 1)) }
+        (BeginsWith CertLine (λ line. line ≡ Title) (line_text 1)) }
     ensures there { (width : ℕ) → IfOk result (λ h.
         TakesThere source.old source.new lines.old.buffer lines.new.buffer (header_text width h.0 h.1)) }
     ensures works { OnOk result (S.has_failed source.new ≡ false) }
     ensures spare { spare lines.new.buffer ≤ spare lines.old.buffer }
-    ensures taken { (width : ℕ) → IfOk result (λ h. Window (S.remaining source.old) (S.remaining source.new) lines.old.buffer lines.new.buffer (header_text width h.0 h.1)) }
-    ensures fails { (width : ℕ) → IfErr result (Fails (S.remaining source.old) (S.remaining source.new) (S.has_failed source.new) lines.old.buffer (HasHeader width)) }
+    ensures taken { (width : ℕ) → IfOk result (λ h. Window (S.remaining source.old) (S.remaining source.new)
+        lines.old.buffer lines.new.buffer (header_text width h.0 h.1)) }
+    ensures fails { (width : ℕ) → IfErr result
+        (Fails (S.remaining source.old) (S.remaining source.new) (S.has_failed source.new)
+        lines.old.buffer (HasHeader width)) }
 {
     lines.next(source, &Due::Title)?;
-    let Line::Agents(agents) = lines.next(source, &Due::Agents)? else {
+    let CertLine::Agents(agents) = lines.next(source, &Due::Agents)? else {
         return Err(lines.misfit());
     };
-    let Line::Claim(claim) = lines.next(source, &Due::Claim)? else {
+    let CertLine::Claim(claim) = lines.next(source, &Due::Claim)? else {
         return Err(lines.misfit());
     };
     Ok((agents, claim))

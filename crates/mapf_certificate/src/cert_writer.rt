@@ -1,10 +1,11 @@
 ghost use Rattle.std.specs.Prelude.{◌≡◌, ◌<◌, ◌++◌, OnOk, IfOk, map};
 ghost use Rattle.std.specs.List.{flat_map};
 ghost use Rattle.mapf_model.specs.Tree.{node_of};
-ghost use Rattle.mapf_certificate.specs.Certificates.{entries_text, blocks_text, item_text, header_text, cert_text};
+ghost use Rattle.mapf_certificate.specs.Certificates.{entries_text, blocks_text, first_line, blocks_of, item_text};
+ghost use Rattle.mapf_certificate.specs.Certificates.{header_text, cert_text};
 
 use crate::cert::Cert;
-use crate::line::Line;
+use crate::line::CertLine;
 use crate::line_writer::push_line;
 use mapf_model::{Block, Grid, Item, OutOfMemory};
 use std::alloc::{AllocError, Global};
@@ -14,7 +15,7 @@ fn push_entries(out: &mut Vec<u8>, block: &Block, width: u32) -> Result<(), Allo
     ensures { OnOk result (out.new.items ≡ out.old.items ++ entries_text width block.now.entries) }
 {
     for entry in &block.entries {
-        push_line(out, &Line::At(*entry), width)?;
+        push_line(out, &CertLine::At(*entry), width)?;
     }
     Ok(())
 }
@@ -24,7 +25,7 @@ fn push_blocks(out: &mut Vec<u8>, blocks: &[Block], width: u32) -> Result<(), Al
     ensures { OnOk result (out.new.items ≡ out.old.items ++ blocks_text width blocks.now) }
 {
     for block in blocks {
-        let line = Line::Agent {
+        let line = CertLine::Agent {
             agent: block.agent,
             entries: block.entries.len() as u64,
         };
@@ -34,42 +35,31 @@ fn push_blocks(out: &mut Vec<u8>, blocks: &[Block], width: u32) -> Result<(), Al
     Ok(())
 }
 
+fn first_line(item: &Item) -> CertLine
+    ensures { result ≡ first_line (node_of item.now) }
+{
+    match item {
+        Item::Vertex { .. } | Item::Swap { .. } => CertLine::Split(item.conflict().unwrap()),
+        Item::Leaf(blocks) => CertLine::Leaf(blocks.len() as u64),
+        Item::Clash { i, j } => CertLine::Clash { i: *i, j: *j },
+    }
+}
+
+fn blocks_of(item: &Item) -> &[Block]
+    ensures { result.now ≡ blocks_of (node_of item.now) }
+{
+    match item {
+        Item::Leaf(blocks) => blocks,
+        _ => &[],
+    }
+}
+
 fn push_item(out: &mut Vec<u8>, item: &Item, width: u32) -> Result<(), AllocError>
     requires { 0 < width }
     ensures { OnOk result (out.new.items ≡ out.old.items ++ item_text width item.now) }
 {
-    match item {
-        Item::Vertex { i, j, cell, tick } => {
-            let line = Line::Vertex {
-                i: *i,
-                j: *j,
-                cell: *cell,
-                tick: *tick,
-            };
-            push_line(out, &line, width)
-        }
-        Item::Swap {
-            i,
-            j,
-            from,
-            to,
-            tick,
-        } => {
-            let line = Line::Swap {
-                i: *i,
-                j: *j,
-                from: *from,
-                to: *to,
-                tick: *tick,
-            };
-            push_line(out, &line, width)
-        }
-        Item::Leaf(blocks) => {
-            push_line(out, &Line::Leaf(blocks.len() as u64), width)?;
-            push_blocks(out, blocks, width)
-        }
-        Item::Clash { i, j } => push_line(out, &Line::Clash { i: *i, j: *j }, width),
-    }
+    push_line(out, &first_line(item), width)?;
+    push_blocks(out, blocks_of(item), width)
 }
 
 fn push_items(out: &mut Vec<u8>, items: &[Item], width: u32) -> Result<(), AllocError>
@@ -86,9 +76,9 @@ fn push_header(out: &mut Vec<u8>, cert: &Cert, width: u32) -> Result<(), AllocEr
     requires { 0 < width }
     ensures { OnOk result (out.new.items ≡ out.old.items ++ header_text width cert.now.agents cert.now.claim) }
 {
-    push_line(out, &Line::Title, width)?;
-    push_line(out, &Line::Agents(cert.agents), width)?;
-    push_line(out, &Line::Claim(cert.claim), width)
+    push_line(out, &CertLine::Title, width)?;
+    push_line(out, &CertLine::Agents(cert.agents), width)?;
+    push_line(out, &CertLine::Claim(cert.claim), width)
 }
 
 /// The text of a certificate for a grid of this size: its header, its items and `end`. `read_cert` reads
@@ -96,12 +86,13 @@ fn push_header(out: &mut Vec<u8>, cert: &Cert, width: u32) -> Result<(), AllocEr
 /// docs/FORMATS.md, the agents of each leaf's blocks and the entries of each block rise, and the items
 /// are those of one tree. Any other certificate is written too, and its text isn't read.
 pub fn write_cert(alloc: Global, cert: &Cert, grid: &Grid) -> Result<Vec<u8>, OutOfMemory>
-    ensures { IfOk result (λ bytes. bytes.items ≡ cert_text grid.now.width cert.now.agents cert.now.claim (map node_of cert.now.tree.items)) }
+    ensures { IfOk result (λ bytes. bytes.items
+        ≡ cert_text grid.now.width cert.now.agents cert.now.claim (map node_of cert.now.tree.items)) }
 {
     let mut out = Vec::new(alloc);
     let width = grid.width();
     push_header(&mut out, cert, width)?;
     push_items(&mut out, &cert.tree, width)?;
-    push_line(&mut out, &Line::End, width)?;
+    push_line(&mut out, &CertLine::End, width)?;
     Ok(out)
 }

@@ -11,7 +11,8 @@ fn end_place(bytes: &[u8]) -> Option<usize>
 
 /// The length of the line that bytes begin with, without its LF.
 pub fn line_length(bytes: &[u8]) -> Option<usize>
-    ensures { MatchOption result (lacks_end bytes.now ≡ true) (λ n. (n < length bytes.now) × IsCut bytes.now (take n bytes.now) (drop (n + 1) bytes.now)) }
+    ensures { MatchOption result (lacks_end bytes.now ≡ true) (λ n.
+        (n < length bytes.now) × IsCut bytes.now (take n bytes.now) (drop (n + 1) bytes.now)) }
 {
     end_place(bytes)
 }

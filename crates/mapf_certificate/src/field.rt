@@ -1,6 +1,7 @@
 ghost use Rattle.std.specs.Prelude.{◌≡◌, ◌≤◌, ◌<◌, ◌+◌, length, take, IfOk, Ok, Err, option_map, true};
 ghost use Rattle.std.specs.Str.Parse.{AllDigits};
-ghost use Rattle.mapf_certificate.specs.Numbers.{Gives, strip, begins_well, small_value, front_digits, read_number, read_field, read_last, read_pair};
+ghost use Rattle.mapf_certificate.specs.Numbers.{Gives, strip, begins_well, small_value, front_digits, read_number};
+ghost use Rattle.mapf_certificate.specs.Numbers.{read_field, read_last, read_pair};
 
 use crate::line::LineFault;
 

@@ -1,33 +1,15 @@
-use mapf_model::{Cell, Claim, Entry, Tick};
+use mapf_model::{Claim, Conflict, Entry};
 
 /// A line of a certificate.
 #[derive(Clone, Copy)]
-pub enum Line {
+pub enum CertLine {
     Title,
     Agents(u32),
     Claim(Claim),
-    Vertex {
-        i: u32,
-        j: u32,
-        cell: Cell,
-        tick: Tick,
-    },
-    Swap {
-        i: u32,
-        j: u32,
-        from: Cell,
-        to: Cell,
-        tick: Tick,
-    },
+    Split(Conflict),
     Leaf(u64),
-    Clash {
-        i: u32,
-        j: u32,
-    },
-    Agent {
-        agent: u32,
-        entries: u64,
-    },
+    Clash { i: u32, j: u32 },
+    Agent { agent: u32, entries: u64 },
     At(Entry),
     End,
 }

@@ -1,11 +1,11 @@
 ghost use Rattle.std.specs.Prelude.{◌≡◌, ◌<◌, ◌++◌, ◌∷◌, [], OnOk};
 ghost use Rattle.mapf_certificate.specs.Numbers.{field, pair};
-ghost use Rattle.mapf_certificate.specs.Lines.{words, label_words};
+ghost use Rattle.mapf_certificate.specs.Lines.{words, conflict_words, label_words};
 ghost use Rattle.mapf_certificate.specs.Certificates.{line_text};
 
-use crate::line::Line;
+use crate::line::CertLine;
 use itoa::Buffer;
-use mapf_model::{Cell, Claim, Entry, Label, Tick};
+use mapf_model::{Cell, Claim, Conflict, Entry, Label};
 use std::alloc::AllocError;
 
 /// Writes a number after its mark.
@@ -53,7 +53,7 @@ fn push_label(out: &mut Vec<u8>, label: Label) -> Result<(), AllocError>
 
 fn push_entry(out: &mut Vec<u8>, entry: &Entry, width: u32) -> Result<(), AllocError>
     requires { 0 < width }
-    ensures { OnOk result (out.new.items ≡ out.old.items ++ words width (Line.At entry.now)) }
+    ensures { OnOk result (out.new.items ≡ out.old.items ++ words width (CertLine.At entry.now)) }
 {
     out.extend_from_slice(b"at")?;
     push_cell(out, entry.cell, width)?;
@@ -61,67 +61,51 @@ fn push_entry(out: &mut Vec<u8>, entry: &Entry, width: u32) -> Result<(), AllocE
     push_label(out, entry.label)
 }
 
-fn push_vertex(
-    out: &mut Vec<u8>,
-    i: u32,
-    j: u32,
-    cell: Cell,
-    tick: Tick,
-    width: u32,
-) -> Result<(), AllocError>
+fn push_conflict(out: &mut Vec<u8>, conflict: &Conflict, width: u32) -> Result<(), AllocError>
     requires { 0 < width }
-    ensures { OnOk result (out.new.items ≡ out.old.items ++ words width (Line.Vertex i j cell tick)) }
+    ensures { OnOk result (out.new.items ≡ out.old.items ++ conflict_words width conflict.now) }
 {
-    push_two(out, b"vertex", i as u64, j as u64)?;
-    push_cell(out, cell, width)?;
-    push_field(out, b' ', tick as u64)
-}
-
-fn push_swap(
-    out: &mut Vec<u8>,
-    i: u32,
-    j: u32,
-    from: Cell,
-    to: Cell,
-    tick: Tick,
-    width: u32,
-) -> Result<(), AllocError>
-    requires { 0 < width }
-    ensures { OnOk result (out.new.items ≡ out.old.items ++ words width (Line.Swap i j from to tick)) }
-{
-    push_two(out, b"swap", i as u64, j as u64)?;
-    push_cell(out, from, width)?;
-    push_cell(out, to, width)?;
-    push_field(out, b' ', tick as u64)
-}
-
-fn push_words(out: &mut Vec<u8>, line: &Line, width: u32) -> Result<(), AllocError>
-    requires { 0 < width }
-    ensures { OnOk result (out.new.items ≡ out.old.items ++ words width line.now) }
-{
-    match *line {
-        Line::Title => out.extend_from_slice(b"mapf-cert 1"),
-        Line::Agents(agents) => push_one(out, b"agents", agents as u64),
-        Line::Claim(Claim::Cost(cost)) => push_one(out, b"claim cost", cost),
-        Line::Claim(Claim::Impossible) => out.extend_from_slice(b"claim impossible"),
-        Line::Vertex { i, j, cell, tick } => push_vertex(out, i, j, cell, tick, width),
-        Line::Swap {
+    match *conflict {
+        Conflict::Vertex { i, j, cell, tick } => {
+            push_two(out, b"vertex", i as u64, j as u64)?;
+            push_cell(out, cell, width)?;
+            push_field(out, b' ', tick as u64)
+        }
+        Conflict::Swap {
             i,
             j,
             from,
             to,
             tick,
-        } => push_swap(out, i, j, from, to, tick, width),
-        Line::Leaf(blocks) => push_one(out, b"leaf", blocks),
-        Line::Clash { i, j } => push_two(out, b"clash", i as u64, j as u64),
-        Line::Agent { agent, entries } => push_two(out, b"agent", agent as u64, entries),
-        Line::At(entry) => push_entry(out, &entry, width),
-        Line::End => out.extend_from_slice(b"end"),
+        } => {
+            push_two(out, b"swap", i as u64, j as u64)?;
+            push_cell(out, from, width)?;
+            push_cell(out, to, width)?;
+            push_field(out, b' ', tick as u64)
+        }
+    }
+}
+
+fn push_words(out: &mut Vec<u8>, line: &CertLine, width: u32) -> Result<(), AllocError>
+    requires { 0 < width }
+    ensures { OnOk result (out.new.items ≡ out.old.items ++ words width line.now) }
+{
+    match *line {
+        CertLine::Title => out.extend_from_slice(b"mapf-cert 1"),
+        CertLine::Agents(agents) => push_one(out, b"agents", agents as u64),
+        CertLine::Claim(Claim::Cost(cost)) => push_one(out, b"claim cost", cost),
+        CertLine::Claim(Claim::Impossible) => out.extend_from_slice(b"claim impossible"),
+        CertLine::Split(conflict) => push_conflict(out, &conflict, width),
+        CertLine::Leaf(blocks) => push_one(out, b"leaf", blocks),
+        CertLine::Clash { i, j } => push_two(out, b"clash", i as u64, j as u64),
+        CertLine::Agent { agent, entries } => push_two(out, b"agent", agent as u64, entries),
+        CertLine::At(entry) => push_entry(out, &entry, width),
+        CertLine::End => out.extend_from_slice(b"end"),
     }
 }
 
 /// Writes a line with its LF.
-pub fn push_line(out: &mut Vec<u8>, line: &Line, width: u32) -> Result<(), AllocError>
+pub fn push_line(out: &mut Vec<u8>, line: &CertLine, width: u32) -> Result<(), AllocError>
     requires { 0 < width }
     ensures { OnOk result (out.new.items ≡ out.old.items ++ line_text width line.now) }
 {

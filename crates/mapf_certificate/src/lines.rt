@@ -1,19 +1,19 @@
 ghost use Rattle.mapf_certificate.specs.Buffered.{spare};
-ghost use Rattle.mapf_certificate.specs.CertReading.{AreInOrder, MayFollow};
+ghost use Rattle.mapf_certificate.specs.Bounded.{AreBlocks, AreEntries, IsNextBlock, IsNextEntry, IsOfLesserAgent};
+ghost use Rattle.mapf_certificate.specs.Bounded.{BeginsWithBlock, BeginsWithBlocks, BeginsWithEntries};
+ghost use Rattle.mapf_certificate.specs.Bounded.{BeginsWithEntry, BeginsWithLine};
 ghost use Rattle.mapf_certificate.specs.Certificates.{line_text, entry_text, entries_text, block_text, blocks_text};
-ghost use Rattle.mapf_certificate.specs.Lines.{IsLine, width_of, grid_of};
+ghost use Rattle.mapf_certificate.specs.Lines.{IsLine, width_of};
 ghost use Rattle.mapf_certificate.specs.Untouched.{HasLine, TakesThere};
-ghost use Rattle.mapf_certificate.specs.Window.{Window, BeginsWith, Fails, IsTextFault, Tells};
-ghost use Rattle.mapf_certificate.specs.declared.line.Line.{Line};
-ghost use Rattle.mapf_model.specs.declared.label.Entry.{Entry};
-ghost use Rattle.mapf_model.specs.Blocks.{LabelBlock};
-ghost use Rattle.mapf_model.specs.Printed.{IsBefore, IsEntryInRange, IsBlockInRange};
+ghost use Rattle.mapf_certificate.specs.Window.{Window, Fails, IsTextFault, Tells};
+ghost use Rattle.mapf_model.specs.Printed.{IsBefore};
 ghost use Rattle.std.specs.Io.KnownBytes.{IsAtEnd};
-ghost use Rattle.std.specs.Prelude.{◌≡◌, ◌<◌, ◌≤◌, ◌+◌, ◌↔◌, IsTrue, List, ℕ, All, AllPairs, IfOk, IfErr, IfSome, OnOk, [], false};
+ghost use Rattle.std.specs.Prelude.{◌≡◌, ◌<◌, ◌≤◌, ◌+◌, ◌↔◌, IsTrue, All, AllPairs, IfOk, IfErr, IfSome, OnOk, []};
+ghost use Rattle.std.specs.Prelude.{false};
 
 use crate::buffer::{LineBuffer, NoLine};
 use crate::cert::{CertFault, LinesFault};
-use crate::line::{Line, LineFault};
+use crate::line::{CertLine, LineFault};
 use crate::sizes::Sizes;
 use crate::tree_line::{Due, line_of};
 use mapf_model::{Block, Entry, OutOfMemory, Source};
@@ -23,8 +23,8 @@ use std::alloc::Global;
 #[derive(Drop)]
 pub struct Lines {
     buffer: LineBuffer,
-    // How many were taken.
-    count: u64,
+    // How many were taken: the number of the line that was taken last, counted from 1.
+    pub count: u64,
 }
 
 /// Whether the second entry may follow the first in a block.
@@ -47,7 +47,7 @@ fn follows_entries(before: &[Entry], entry: &Entry) -> bool
 
 /// Whether a block of this agent may come after these.
 fn follows_blocks(before: &[Block], agent: u32) -> bool
-    requires { AllPairs (λ a b. a.agent < b.agent) before.now }
+    requires { AllPairs IsOfLesserAgent before.now }
     ensures { IsTrue result ↔ All (λ b. b.agent < agent) before.now }
 {
     match before.last() {
@@ -86,11 +86,6 @@ impl Lines {
         })
     }
 
-    /// The number of the line that was taken last, counted from 1.
-    pub fn number(&self) -> u64 {
-        self.count
-    }
-
     /// The line that was taken last doesn't fit where it stands.
     pub fn misfit(&self) -> LinesFault
         ensures { IsTextFault result }
@@ -99,7 +94,7 @@ impl Lines {
     }
 
     /// Takes the next line.
-    pub fn next<S: Source>(&mut self, source: &mut S, due: &Due) -> Result<Line, LinesFault>
+    pub fn next<S: Source>(&mut self, source: &mut S, due: &Due) -> Result<CertLine, LinesFault>
         requires { S.has_failed source.old ≡ false }
         ensures works { OnOk result (S.has_failed source.new ≡ false) }
         ensures nearer { OnOk result (spare self.new.buffer + 2 ≤ spare self.old.buffer) }
@@ -108,10 +103,11 @@ impl Lines {
         ensures there { IfOk result (λ line. TakesThere source.old source.new self.old.buffer self.new.buffer
             (line_text (width_of due.now) line)) }
         ensures untouched { HasLine self.old.buffer → source.new ≡ source.old }
-        ensures due { IfOk result (λ _. HasLine self.old.buffer
-            → BeginsWith Line (IsLine due.now) (line_text (width_of due.now)) self.old.buffer.bytes) }
-        ensures taken { IfOk result (λ line. Window (S.remaining source.old) (S.remaining source.new) self.old.buffer self.new.buffer (line_text (width_of due.now) line)) }
-        ensures fails { IfErr result (Fails (S.remaining source.old) (S.remaining source.new) (S.has_failed source.new) self.old.buffer (BeginsWith Line (IsLine due.now) (line_text (width_of due.now)))) }
+        ensures due { IfOk result (λ _. HasLine self.old.buffer → BeginsWithLine due.now self.old.buffer.bytes) }
+        ensures taken { IfOk result (λ line. Window (S.remaining source.old) (S.remaining source.new)
+            self.old.buffer self.new.buffer (line_text (width_of due.now) line)) }
+        ensures fails { IfErr result (Fails (S.remaining source.old) (S.remaining source.new) (S.has_failed source.new)
+            self.old.buffer (BeginsWithLine due.now)) }
     {
         self.count = self.count.saturating_add(1);
         match self.buffer.ready(source) {
@@ -132,10 +128,12 @@ impl Lines {
         requires { S.has_failed source.old ≡ false }
         ensures works { OnOk result (S.has_failed source.new ≡ false) }
         ensures spare { spare self.new.buffer ≤ spare self.old.buffer }
-        ensures taken { OnOk result (Window (S.remaining source.old) (S.remaining source.new) self.old.buffer self.new.buffer []) }
+        ensures taken { OnOk result
+            (Window (S.remaining source.old) (S.remaining source.new) self.old.buffer self.new.buffer []) }
         ensures ended { OnOk result (IsAtEnd (S.remaining source.new)) }
         ensures empty { OnOk result (self.new.buffer.bytes ≡ []) }
-        ensures fails { IfErr result (Fails (S.remaining source.old) (S.remaining source.new) (S.has_failed source.new) self.old.buffer (λ text. text ≡ [])) }
+        ensures fails { IfErr result (Fails (S.remaining source.old) (S.remaining source.new) (S.has_failed source.new)
+            self.old.buffer (λ text. text ≡ [])) }
     {
         let line = self.count.saturating_add(1);
         if !self.buffer.is_empty() {
@@ -159,11 +157,13 @@ impl Lines {
         requires { S.has_failed source.old ≡ false }
         ensures works { OnOk result (S.has_failed source.new ≡ false) }
         ensures spare { spare self.new.buffer ≤ spare self.old.buffer }
-        ensures entries { IfOk result (λ entries. AreInOrder Entry (IsEntryInRange (grid_of sizes.now.width sizes.now.height)) IsBefore count entries.items) }
+        ensures entries { IfOk result (λ entries. AreEntries sizes.now count entries.items) }
         ensures there { IfOk result (λ entries. TakesThere source.old source.new self.old.buffer self.new.buffer
             (entries_text sizes.now.width entries.items)) }
-        ensures taken { IfOk result (λ entries. Window (S.remaining source.old) (S.remaining source.new) self.old.buffer self.new.buffer (entries_text sizes.now.width entries.items)) }
-        ensures fails { IfErr result (Fails (S.remaining source.old) (S.remaining source.new) (S.has_failed source.new) self.old.buffer (BeginsWith (List Entry) (AreInOrder Entry (IsEntryInRange (grid_of sizes.now.width sizes.now.height)) IsBefore count) (entries_text sizes.now.width))) }
+        ensures taken { IfOk result (λ entries. Window (S.remaining source.old) (S.remaining source.new)
+            self.old.buffer self.new.buffer (entries_text sizes.now.width entries.items)) }
+        ensures fails { IfErr result (Fails (S.remaining source.old) (S.remaining source.new) (S.has_failed source.new)
+            self.old.buffer (BeginsWithEntries sizes.now count)) }
     {
         let mut entries = Vec::new(alloc);
         for _taken in 0..count {
@@ -186,13 +186,15 @@ impl Lines {
         requires rising { AllPairs IsBefore before.now }
         ensures works { OnOk result (S.has_failed source.new ≡ false) }
         ensures spare { spare self.new.buffer ≤ spare self.old.buffer }
-        ensures entry { IfOk result (λ entry. MayFollow Entry (IsEntryInRange (grid_of sizes.now.width sizes.now.height)) IsBefore before.now entry) }
+        ensures entry { IfOk result (λ entry. IsNextEntry sizes.now before.now entry) }
         ensures there { IfOk result (λ entry. TakesThere source.old source.new self.old.buffer self.new.buffer
             (entry_text sizes.now.width entry)) }
-        ensures taken { IfOk result (λ entry. Window (S.remaining source.old) (S.remaining source.new) self.old.buffer self.new.buffer (entry_text sizes.now.width entry)) }
-        ensures fails { IfErr result (Fails (S.remaining source.old) (S.remaining source.new) (S.has_failed source.new) self.old.buffer (BeginsWith Entry (MayFollow Entry (IsEntryInRange (grid_of sizes.now.width sizes.now.height)) IsBefore before.now) (entry_text sizes.now.width))) }
+        ensures taken { IfOk result (λ entry. Window (S.remaining source.old) (S.remaining source.new)
+            self.old.buffer self.new.buffer (entry_text sizes.now.width entry)) }
+        ensures fails { IfErr result (Fails (S.remaining source.old) (S.remaining source.new) (S.has_failed source.new)
+            self.old.buffer (BeginsWithEntry sizes.now before.now)) }
     {
-        let Line::At(entry) = self.next(source, &Due::Tree(*sizes))? else {
+        let CertLine::At(entry) = self.next(source, &Due::Tree(*sizes))? else {
             return Err(self.misfit());
         };
         if !follows_entries(before, &entry) {
@@ -210,16 +212,18 @@ impl Lines {
         before: &[Block],
     ) -> Result<Block, LinesFault>
         requires works { S.has_failed source.old ≡ false }
-        requires rising { AllPairs (λ a b. a.agent < b.agent) before.now }
+        requires rising { AllPairs IsOfLesserAgent before.now }
         ensures works { OnOk result (S.has_failed source.new ≡ false) }
         ensures spare { spare self.new.buffer ≤ spare self.old.buffer }
-        ensures block { IfOk result (λ block. MayFollow LabelBlock (IsBlockInRange (grid_of sizes.now.width sizes.now.height) sizes.now.agents) (λ a b. a.agent < b.agent) before.now block) }
+        ensures block { IfOk result (λ block. IsNextBlock sizes.now before.now block) }
         ensures there { IfOk result (λ block. TakesThere source.old source.new self.old.buffer self.new.buffer
             (block_text sizes.now.width block)) }
-        ensures taken { IfOk result (λ block. Window (S.remaining source.old) (S.remaining source.new) self.old.buffer self.new.buffer (block_text sizes.now.width block)) }
-        ensures fails { IfErr result (Fails (S.remaining source.old) (S.remaining source.new) (S.has_failed source.new) self.old.buffer (BeginsWith LabelBlock (MayFollow LabelBlock (IsBlockInRange (grid_of sizes.now.width sizes.now.height) sizes.now.agents) (λ a b. a.agent < b.agent) before.now) (block_text sizes.now.width))) }
+        ensures taken { IfOk result (λ block. Window (S.remaining source.old) (S.remaining source.new)
+            self.old.buffer self.new.buffer (block_text sizes.now.width block)) }
+        ensures fails { IfErr result (Fails (S.remaining source.old) (S.remaining source.new) (S.has_failed source.new)
+            self.old.buffer (BeginsWithBlock sizes.now before.now)) }
     {
-        let Line::Agent { agent, entries } = self.next(source, &Due::Tree(*sizes))? else {
+        let CertLine::Agent { agent, entries } = self.next(source, &Due::Tree(*sizes))? else {
             return Err(self.misfit());
         };
         if !follows_blocks(before, agent) {
@@ -240,11 +244,13 @@ impl Lines {
         requires { S.has_failed source.old ≡ false }
         ensures works { OnOk result (S.has_failed source.new ≡ false) }
         ensures spare { spare self.new.buffer ≤ spare self.old.buffer }
-        ensures blocks { IfOk result (λ blocks. AreInOrder LabelBlock (IsBlockInRange (grid_of sizes.now.width sizes.now.height) sizes.now.agents) (λ a b. a.agent < b.agent) count blocks.items) }
+        ensures blocks { IfOk result (λ blocks. AreBlocks sizes.now count blocks.items) }
         ensures there { IfOk result (λ blocks. TakesThere source.old source.new self.old.buffer self.new.buffer
             (blocks_text sizes.now.width blocks.items)) }
-        ensures taken { IfOk result (λ blocks. Window (S.remaining source.old) (S.remaining source.new) self.old.buffer self.new.buffer (blocks_text sizes.now.width blocks.items)) }
-        ensures fails { IfErr result (Fails (S.remaining source.old) (S.remaining source.new) (S.has_failed source.new) self.old.buffer (BeginsWith (List LabelBlock) (AreInOrder LabelBlock (IsBlockInRange (grid_of sizes.now.width sizes.now.height) sizes.now.agents) (λ a b. a.agent < b.agent) count) (blocks_text sizes.now.width))) }
+        ensures taken { IfOk result (λ blocks. Window (S.remaining source.old) (S.remaining source.new)
+            self.old.buffer self.new.buffer (blocks_text sizes.now.width blocks.items)) }
+        ensures fails { IfErr result (Fails (S.remaining source.old) (S.remaining source.new) (S.has_failed source.new)
+            self.old.buffer (BeginsWithBlocks sizes.now count)) }
     {
         let mut blocks = Vec::new(alloc);
         for _taken in 0..count {

@@ -7,6 +7,7 @@ use crate::line::LineFault;
 use crate::sizes::up_to;
 use crate::tree_line::{agent_count, cost};
 use mapf_model::Cause;
+use mapf_model::limits::MOST_SPLITS;
 
 /// Line 3 of a plan text.
 #[derive(Clone, Copy)]
@@ -35,7 +36,7 @@ fn limit(rest: &[u8]) -> Result<AnswerLine, LineFault>
         return Ok(AnswerLine::Limit(Cause::Ticks));
     }
     let splits = last(b' ', rest)?;
-    Ok(AnswerLine::Limit(Cause::Splits(up_to(100_000, splits)?)))
+    Ok(AnswerLine::Limit(Cause::Splits(up_to(MOST_SPLITS, splits)?)))
 }
 
 /// Line 3.

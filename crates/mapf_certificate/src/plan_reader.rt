@@ -1,10 +1,15 @@
-ghost use Rattle.std.specs.Prelude.{◌≡◌, ◌⊎◌, ◌<◌, ◌≤◌, ◌+◌, ◌++◌, ◌∷◌, ℕ, List, All, Ok, Err, true, codes, length, vec_len, option_map, ◌↔◌, IsOk, IsSome, IfSome, IfOk, IsOkAnd, OnOk};
+ghost use Rattle.std.specs.Prelude.{◌≡◌, ◌⊎◌, ◌<◌, ◌≤◌, ◌+◌, ◌++◌, ◌∷◌, ℕ, List, All, Ok, Err, true, codes, length};
+ghost use Rattle.std.specs.Prelude.{vec_len, option_map, ◌↔◌, IsOk, IsSome, IfSome, IfOk, IsOkAnd, OnOk};
 ghost use Rattle.mapf_model.specs.Printed.{IsOnGrid, IsPathInRange};
+ghost use Rattle.mapf_model.specs.Limits.{most_path_cells};
 ghost use Rattle.mapf_model.specs.Path.{IsTight};
 ghost use Rattle.mapf_certificate.specs.Numbers.{Gives};
-ghost use Rattle.mapf_certificate.specs.Lines.{grid_of, IsAgentCount};
-ghost use Rattle.mapf_certificate.specs.Plans.{ArePaths, cells_text, path_words, paths_text, cost_of, plan_text, IsAnswerInRange, IsPlanText, IsPathOf};
-ghost use Rattle.mapf_certificate.specs.PlanReading.{cut, next_line, next_words, next_agents, next_answer, read_end, read_header, line_of, rest_of, IsAnswerLine, read_pair_cell, fault_at, OrMemory};
+ghost use Rattle.mapf_certificate.specs.Lines.{grid_for};
+ghost use Rattle.mapf_certificate.specs.Plans.{ArePaths, cells_text, path_words, paths_text, cost_of, plan_text};
+ghost use Rattle.mapf_certificate.specs.Plans.{IsAnswerInRange, IsPlanText, IsPathOf};
+ghost use Rattle.mapf_certificate.specs.PlanReading.{cut, next_line, next_words, next_agents, next_answer, read_end};
+ghost use Rattle.mapf_certificate.specs.PlanReading.{read_header, line_of, rest_of, IsAnswerLine, read_pair_cell};
+ghost use Rattle.mapf_certificate.specs.PlanReading.{fault_at, OrMemory};
 
 use crate::ends;
 use crate::field::pair;
@@ -12,6 +17,7 @@ use crate::line::LineFault;
 use crate::plan_lines::{AnswerLine, agents_line, answer_line, path_front};
 use crate::plan_text::{PlanAnswer, PlanText, PlanTextFault};
 use crate::sizes::{Sizes, below, up_to};
+use mapf_model::limits::GREATEST_COST;
 use mapf_model::{Cell, Grid, Path, Plan};
 use std::alloc::Global;
 
@@ -112,8 +118,11 @@ struct Pairs {
 }
 
 fn pairs_of(alloc: Global, number: u64, bytes: &[u8], sizes: &Sizes) -> Result<Pairs, PlanTextFault>
-    ensures found { IfOk result (λ p. p.are_cells ≡ true → All (IsOnGrid (grid_of sizes.now.width sizes.now.height)) p.cells.items × (bytes.now ≡ cells_text sizes.now.width p.cells.items)) }
-    ensures only { (path : List ℕ) → All (IsOnGrid (grid_of sizes.now.width sizes.now.height)) path → bytes.now ≡ cells_text sizes.now.width path → OrMemory result (IsOkAnd result (λ p. (p.are_cells ≡ true) × (p.cells.items ≡ path))) }
+    ensures found { IfOk result (λ p. p.are_cells ≡ true
+        → All (IsOnGrid (grid_for sizes.now)) p.cells.items × (bytes.now ≡ cells_text sizes.now.width p.cells.items)) }
+    ensures only { (path : List ℕ) → All (IsOnGrid (grid_for sizes.now)) path
+        → bytes.now ≡ cells_text sizes.now.width path
+        → OrMemory result (IsOkAnd result (λ p. (p.are_cells ≡ true) × (p.cells.items ≡ path))) }
 {
     let mut cells = Vec::new(alloc);
     let mut are_cells = true;
@@ -145,8 +154,10 @@ fn path_of(
     line: &[u8],
     sizes: &Sizes,
 ) -> Result<Path, PlanTextFault>
-    ensures found { IfOk result (λ path. IsPathInRange (grid_of sizes.now.width sizes.now.height) path × (line.now ≡ path_words sizes.now.width due path)) }
-    ensures only { (path : List ℕ) → IsPathInRange (grid_of sizes.now.width sizes.now.height) path → due < sizes.now.agents → line.now ≡ path_words sizes.now.width due path → OrMemory result (result ≡ Ok path) }
+    ensures found { IfOk result (λ path.
+        IsPathInRange (grid_for sizes.now) path × (line.now ≡ path_words sizes.now.width due path)) }
+    ensures only { (path : List ℕ) → IsPathInRange (grid_for sizes.now) path → due < sizes.now.agents
+        → line.now ≡ path_words sizes.now.width due path → OrMemory result (result ≡ Ok path) }
 {
     let (agent, cost, rest) = match path_front(line) {
         Ok(parts) => parts,
@@ -165,7 +176,8 @@ fn path_of(
 
 /// The path of these cells, None where the last two are one.
 fn tight(cells: Vec<Cell>) -> Option<Path>
-    ensures tight { IsSome result ↔ ((1 ≤ length cells.items) × (length cells.items ≤ 10000000) × IsTight cells.items) }
+    ensures tight { IsSome result
+        ↔ ((1 ≤ length cells.items) × (length cells.items ≤ most_path_cells) × IsTight cells.items) }
     ensures value { IfSome result (λ path. path ≡ cells.items) }
 {
     match Path::of(cells) {
@@ -183,10 +195,11 @@ fn judge_path(
     pairs: &Pairs,
     sizes: &Sizes,
 ) -> Result<(), LineFault>
-    ensures { IsOk result ↔ IsPathOf sizes.now.agents agent cost due pairs.now.are_cells (length pairs.now.cells.items) }
+    ensures { IsOk result
+        ↔ IsPathOf sizes.now.agents agent cost due pairs.now.are_cells (length pairs.now.cells.items) }
 {
     let agent = below(sizes.agents, agent)?;
-    let cost = up_to(9_999_999, cost)?;
+    let cost = up_to(GREATEST_COST, cost)?;
     if !pairs.are_cells {
         return Err(LineFault::Range);
     }
@@ -203,8 +216,11 @@ fn paths_of<'a>(
     bytes: &'a [u8],
     sizes: &Sizes,
 ) -> Result<(Vec<Path>, u64, &'a [u8]), PlanTextFault>
-    ensures found { IfOk result (λ p. ArePaths (grid_of sizes.now.width sizes.now.height) sizes.now.agents bytes.entry.now p.0.items p.1 p.2.now) }
-    ensures only { (plan : List (List ℕ)) (rest : List ℕ) → length plan ≡ sizes.now.agents → All (IsPathInRange (grid_of sizes.now.width sizes.now.height)) plan → bytes.entry.now ≡ paths_text sizes.now.width 0 plan ++ rest
+    ensures found { IfOk result (λ p.
+        ArePaths (grid_for sizes.now) sizes.now.agents bytes.entry.now p.0.items p.1 p.2.now) }
+    ensures only { (plan : List (List ℕ)) (rest : List ℕ) → length plan ≡ sizes.now.agents
+        → All (IsPathInRange (grid_for sizes.now)) plan
+        → bytes.entry.now ≡ paths_text sizes.now.width 0 plan ++ rest
         → OrMemory result (IsOkAnd result (λ p. (p.0.items ≡ plan) × (p.2.now ≡ rest))) }
 {
     let mut paths = Vec::new(alloc);
@@ -224,8 +240,12 @@ fn paths_of<'a>(
 }
 
 fn plan_of(alloc: Global, bytes: &[u8], cost: u64, sizes: &Sizes) -> Result<Plan, PlanTextFault>
-    ensures found { IfOk result (λ plan. (length plan ≡ sizes.now.agents) × All (IsPathInRange (grid_of sizes.now.width sizes.now.height)) plan × (cost ≡ cost_of plan) × (bytes.now ≡ paths_text sizes.now.width 0 plan ++ codes "end\n")) }
-    ensures only { (plan : List (List ℕ)) → length plan ≡ sizes.now.agents → All (IsPathInRange (grid_of sizes.now.width sizes.now.height)) plan → cost ≡ cost_of plan → bytes.now ≡ paths_text sizes.now.width 0 plan ++ codes "end\n" → OrMemory result (result ≡ Ok plan) }
+    ensures found { IfOk result (λ plan.
+        (length plan ≡ sizes.now.agents) × All (IsPathInRange (grid_for sizes.now)) plan
+        × (cost ≡ cost_of plan) × (bytes.now ≡ paths_text sizes.now.width 0 plan ++ codes "end\n")) }
+    ensures only { (plan : List (List ℕ)) → length plan ≡ sizes.now.agents
+        → All (IsPathInRange (grid_for sizes.now)) plan → cost ≡ cost_of plan
+        → bytes.now ≡ paths_text sizes.now.width 0 plan ++ codes "end\n" → OrMemory result (result ≡ Ok plan) }
 {
     let (paths, sum, rest) = paths_of(alloc, bytes, sizes)?;
     end(4 + sizes.agents as u64, rest)?;
@@ -254,8 +274,11 @@ fn answer_of(
     sizes: &Sizes,
 ) -> Result<PlanAnswer, PlanTextFault>
     requires { IsAnswerLine line.now }
-    ensures found { IfOk result (λ answer. IsAnswerInRange (grid_of sizes.now.width sizes.now.height) sizes.now.agents answer × (line.now ≡ line_of answer) × (rest.now ≡ rest_of sizes.now.width answer)) }
-    ensures only { (answer : PlanAnswer) → IsAnswerInRange (grid_of sizes.now.width sizes.now.height) sizes.now.agents answer → line.now ≡ line_of answer → rest.now ≡ rest_of sizes.now.width answer → OrMemory result (result ≡ Ok answer) }
+    ensures found { IfOk result (λ answer. IsAnswerInRange (grid_for sizes.now) sizes.now.agents answer
+        × (line.now ≡ line_of answer) × (rest.now ≡ rest_of sizes.now.width answer)) }
+    ensures only { (answer : PlanAnswer) → IsAnswerInRange (grid_for sizes.now) sizes.now.agents answer
+        → line.now ≡ line_of answer → rest.now ≡ rest_of sizes.now.width answer
+        → OrMemory result (result ≡ Ok answer) }
 {
     match *line {
         AnswerLine::Cost(cost) => {
@@ -278,7 +301,8 @@ pub fn read_plan(alloc: Global, bytes: &[u8], grid: &Grid) -> Result<PlanText, P
     // What is read is spelled so.
     ensures found { IfOk result (λ p. IsPlanText grid.now p × (bytes.now ≡ plan_text grid.now.width p)) }
     // What is spelled so is read.
-    ensures only { (p : PlanText) → IsPlanText grid.now p → bytes.now ≡ plan_text grid.now.width p → OrMemory result (result ≡ Ok p) }
+    ensures only { (p : PlanText) → IsPlanText grid.now p → bytes.now ≡ plan_text grid.now.width p
+        → OrMemory result (result ≡ Ok p) }
 {
     let (agents, line, rest) = take_header(bytes)?;
     let answer = answer_of(alloc, &line, rest, &Sizes::of(grid, agents))?;

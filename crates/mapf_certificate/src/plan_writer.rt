@@ -1,5 +1,7 @@
 ghost use Rattle.std.specs.Prelude.{◌≡◌, ◌<◌, ◌≤◌, ◌++◌, ◌∷◌, [], OnOk, IfOk, All, length};
-ghost use Rattle.mapf_certificate.specs.Plans.{cells_text, path_text, paths_text, cost_of, answer_text, plan_text, IsPlanText, IsFew};
+ghost use Rattle.mapf_model.specs.Limits.{most_agents};
+ghost use Rattle.mapf_certificate.specs.Plans.{cells_text, path_text, paths_text, cost_of, answer_text, plan_text};
+ghost use Rattle.mapf_certificate.specs.Plans.{IsPlanText, IsFew};
 ghost use Rattle.mapf_certificate.specs.Numbers.{field};
 
 use crate::line_writer::{push_cell, push_field, push_one};
@@ -41,7 +43,7 @@ fn push_paths(out: &mut Vec<u8>, paths: &[Path], width: u32) -> Result<(), Alloc
 
 /// The sum of the paths' costs.
 fn cost_of(paths: &[Path]) -> u64
-    requires { length paths.now ≤ 200 }
+    requires { length paths.now ≤ most_agents }
     ensures { result ≡ cost_of paths.now }
 {
     let mut cost = 0u64;
@@ -62,7 +64,7 @@ fn push_number_line(out: &mut Vec<u8>, word: &[u8], number: u64) -> Result<(), A
 
 fn push_plan(out: &mut Vec<u8>, plan: &Plan, width: u32) -> Result<(), AllocError>
     requires wide { 0 < width }
-    requires few { length plan.now ≤ 200 }
+    requires few { length plan.now ≤ most_agents }
     ensures { OnOk result (out.new.items ≡ out.old.items ++ answer_text width (PlanAnswer.Found plan.now)) }
 {
     push_number_line(out, b"cost", cost_of(plan.paths()))?;

@@ -1,4 +1,5 @@
 ghost use Rattle.std.specs.Prelude.{◌≡◌, ◌≤◌, ◌<◌, ◌+◌, ◌*◌, ℕ};
+ghost use Rattle.mapf_model.specs.Limits.{most_agents, greatest_side};
 ghost use Rattle.mapf_certificate.specs.Numbers.{in_range, below, read_cell};
 
 use crate::line::LineFault;
@@ -10,9 +11,9 @@ pub struct Sizes {
     pub width: u32,
     pub height: u32,
     pub agents: u32,
-    ghost narrow: { (1 ≤ width) × (width ≤ 2048) },
-    ghost low: { (1 ≤ height) × (height ≤ 2048) },
-    ghost few: { (1 ≤ agents) × (agents ≤ 200) },
+    ghost narrow: { (1 ≤ width) × (width ≤ greatest_side) },
+    ghost low: { (1 ≤ height) × (height ≤ greatest_side) },
+    ghost few: { (1 ≤ agents) × (agents ≤ most_agents) },
 }
 
 /// A number in this range.
@@ -58,7 +59,7 @@ pub fn below(bound: u32, number: Option<u64>) -> Result<u32, LineFault>
 impl Sizes {
     pub fn of(grid: &Grid, agents: u32) -> Sizes
         requires some { 1 ≤ agents }
-        requires few { agents ≤ 200 }
+        requires few { agents ≤ most_agents }
         ensures width { result.width ≡ grid.now.width }
         ensures height { result.height ≡ grid.now.height }
         ensures agents { result.agents ≡ agents }

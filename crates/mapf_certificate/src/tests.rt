@@ -4,13 +4,20 @@ use std::alloc::Global;
 use std::test::Fail;
 
 pub const CROSSING: &str =
-    "mapf-cert 1\nagents 2\nclaim cost 5\nvertex 0 1 1,1 1\nleaf 1\nagent 0 1\nat 0,1 0 3\nleaf 1\nagent 1 1\nat 1,0 0 3\nend\n";
+    "mapf-cert 1\nagents 2\nclaim cost 5\nvertex 0 1 1,1 1\nleaf 1\nagent 0 1\nat 0,1 0 3\nleaf 1\n\
+    agent 1 1\nat 1,0 0 3\nend\n";
 
 const CROSSING_PLAN: &str =
     "mapf-plan 1\nagents 2\ncost 5\npath 0 3 0,1 0,1 1,1 2,1\npath 1 2 1,0 1,1 1,2\nend\n";
 
 const PASSING: &str =
-    "mapf-cert 1\nagents 2\nclaim cost 4\nvertex 0 1 1,0 1\nvertex 0 1 1,0 2\nvertex 0 1 1,0 3\nleaf 1\nagent 0 3\nat 0,0 0 5\nat 0,0 1 4\nat 0,0 2 3\nleaf 2\nagent 0 2\nat 0,0 0 4\nat 0,0 1 3\nagent 1 9\nat 1,0 0 4\nat 0,0 1 3\nat 1,0 1 3\nat 2,0 1 3\nat 1,1 1 3\nat 0,0 2 2\nat 1,0 2 2\nat 2,0 2 2\nat 1,1 2 2\nleaf 2\nagent 0 1\nat 0,0 0 3\nagent 1 5\nat 1,0 0 3\nat 0,0 1 2\nat 1,0 1 2\nat 2,0 1 2\nat 1,1 1 2\nswap 0 1 0,0 1,0 0\nleaf 2\nagent 0 1\nat 0,0 0 3\nagent 1 1\nat 1,0 0 2\nswap 0 1 1,0 2,0 1\nleaf 2\nagent 0 2\nat 0,0 0 3\nat 1,0 1 2\nagent 1 1\nat 1,0 0 2\nleaf 1\nagent 1 1\nat 1,0 0 2\nend\n";
+    "mapf-cert 1\nagents 2\nclaim cost 4\nvertex 0 1 1,0 1\nvertex 0 1 1,0 2\nvertex 0 1 1,0 3\n\
+    leaf 1\nagent 0 3\nat 0,0 0 5\nat 0,0 1 4\nat 0,0 2 3\nleaf 2\nagent 0 2\nat 0,0 0 4\n\
+    at 0,0 1 3\nagent 1 9\nat 1,0 0 4\nat 0,0 1 3\nat 1,0 1 3\nat 2,0 1 3\nat 1,1 1 3\nat 0,0 2 2\n\
+    at 1,0 2 2\nat 2,0 2 2\nat 1,1 2 2\nleaf 2\nagent 0 1\nat 0,0 0 3\nagent 1 5\nat 1,0 0 3\n\
+    at 0,0 1 2\nat 1,0 1 2\nat 2,0 1 2\nat 1,1 1 2\nswap 0 1 0,0 1,0 0\nleaf 2\nagent 0 1\n\
+    at 0,0 0 3\nagent 1 1\nat 1,0 0 2\nswap 0 1 1,0 2,0 1\nleaf 2\nagent 0 2\nat 0,0 0 3\n\
+    at 1,0 1 2\nagent 1 1\nat 1,0 0 2\nleaf 1\nagent 1 1\nat 1,0 0 2\nend\n";
 
 /// A free grid of this size.
 fn grid(alloc: Global, width: u32, height: u32) -> Result<Grid, Fail> {

@@ -1,11 +1,15 @@
 ghost use Rattle.std.specs.Prelude.{◌≡◌, ◌<◌, Ok, IfOk, OnOk, length};
 ghost use Rattle.mapf_certificate.specs.Lines.{IsLine, words, width_of};
-ghost use Rattle.mapf_certificate.specs.LineReading.{read_title, read_count, read_cost, read_agents, read_claim, read_vertex, read_swap, read_leaf, read_clash, read_agent, read_label_word, label_in_range, read_entry, read_tree_line, read_line};
+ghost use Rattle.mapf_certificate.specs.LineReading.{read_title, read_count, read_cost, read_agents, read_claim};
+ghost use Rattle.mapf_certificate.specs.LineReading.{read_vertex, read_swap, read_leaf, read_clash, read_agent};
+ghost use Rattle.mapf_certificate.specs.LineReading.{read_label_word, label_in_range, read_entry, read_tree_line};
+ghost use Rattle.mapf_certificate.specs.LineReading.{read_line};
 
 use crate::field::{field, last, pair, strip};
-use crate::line::{Line, LineFault};
+use crate::line::{CertLine, LineFault};
 use crate::sizes::{Sizes, below, from_one_to, up_to, within};
-use mapf_model::{Claim, Entry, Label};
+use mapf_model::limits::{GREATEST_COST, GREATEST_SUM, LAST_SPLIT_TICK, MOST_AGENTS};
+use mapf_model::{Claim, Conflict, Entry, Label};
 
 /// Which line of a certificate is due.
 #[derive(Clone, Copy)]
@@ -18,11 +22,11 @@ pub enum Due {
 }
 
 #[tactic(auto, unfolding(crate::specs::LineReading::read_title))]
-fn title_line(bytes: &[u8]) -> Result<Line, LineFault>
+fn title_line(bytes: &[u8]) -> Result<CertLine, LineFault>
     ensures { result ≡ read_title bytes.now }
 {
     if bytes == b"mapf-cert 1".as_slice() {
-        Ok(Line::Title)
+        Ok(CertLine::Title)
     } else {
         Err(LineFault::Shape)
     }
@@ -33,7 +37,7 @@ fn title_line(bytes: &[u8]) -> Result<Line, LineFault>
 pub fn agent_count(rest: &[u8]) -> Result<u32, LineFault>
     ensures { result ≡ read_count rest.now }
 {
-    from_one_to(200, last(b' ', rest)?)
+    from_one_to(MOST_AGENTS, last(b' ', rest)?)
 }
 
 /// The cost of a plan, after `cost`.
@@ -41,50 +45,50 @@ pub fn agent_count(rest: &[u8]) -> Result<u32, LineFault>
 pub fn cost(rest: &[u8]) -> Result<u64, LineFault>
     ensures { result ≡ read_cost rest.now }
 {
-    within(0, 1_999_999_800, last(b' ', rest)?)
+    within(0, GREATEST_SUM, last(b' ', rest)?)
 }
 
 #[tactic(auto, unfolding(crate::specs::LineReading::read_agents))]
-fn agents_line(bytes: &[u8]) -> Result<Line, LineFault>
+fn agents_line(bytes: &[u8]) -> Result<CertLine, LineFault>
     ensures { result ≡ read_agents bytes.now }
 {
     match strip(bytes, b"agents") {
-        Some(rest) => Ok(Line::Agents(agent_count(rest)?)),
+        Some(rest) => Ok(CertLine::Agents(agent_count(rest)?)),
         None => Err(LineFault::Shape),
     }
 }
 
 #[tactic(auto, unfolding(crate::specs::LineReading::read_claim))]
-fn claim_line(bytes: &[u8]) -> Result<Line, LineFault>
+fn claim_line(bytes: &[u8]) -> Result<CertLine, LineFault>
     ensures { result ≡ read_claim bytes.now }
 {
     if bytes == b"claim impossible".as_slice() {
-        return Ok(Line::Claim(Claim::Impossible));
+        return Ok(CertLine::Claim(Claim::Impossible));
     }
     match strip(bytes, b"claim cost") {
-        Some(rest) => Ok(Line::Claim(Claim::Cost(cost(rest)?))),
+        Some(rest) => Ok(CertLine::Claim(Claim::Cost(cost(rest)?))),
         None => Err(LineFault::Shape),
     }
 }
 
 #[tactic(auto, unfolding(crate::specs::LineReading::read_vertex))]
-fn vertex(rest: &[u8], sizes: &Sizes) -> Result<Line, LineFault>
+fn vertex(rest: &[u8], sizes: &Sizes) -> Result<CertLine, LineFault>
     ensures { result ≡ read_vertex sizes.now rest.now }
 {
     let (i, rest) = field(b' ', rest)?;
     let (j, rest) = field(b' ', rest)?;
     let (x, y, rest) = pair(rest)?;
     let tick = last(b' ', rest)?;
-    Ok(Line::Vertex {
+    Ok(CertLine::Split(Conflict::Vertex {
         i: below(sizes.agents, i)?,
         j: below(sizes.agents, j)?,
         cell: sizes.cell(x, y)?,
-        tick: up_to(999_999, tick)?,
-    })
+        tick: up_to(LAST_SPLIT_TICK, tick)?,
+    }))
 }
 
 #[tactic(auto, unfolding(crate::specs::LineReading::read_swap))]
-fn swap(rest: &[u8], sizes: &Sizes) -> Result<Line, LineFault>
+fn swap(rest: &[u8], sizes: &Sizes) -> Result<CertLine, LineFault>
     ensures { result ≡ read_swap sizes.now rest.now }
 {
     let (i, rest) = field(b' ', rest)?;
@@ -92,42 +96,42 @@ fn swap(rest: &[u8], sizes: &Sizes) -> Result<Line, LineFault>
     let (from_x, from_y, rest) = pair(rest)?;
     let (to_x, to_y, rest) = pair(rest)?;
     let tick = last(b' ', rest)?;
-    Ok(Line::Swap {
+    Ok(CertLine::Split(Conflict::Swap {
         i: below(sizes.agents, i)?,
         j: below(sizes.agents, j)?,
         from: sizes.cell(from_x, from_y)?,
         to: sizes.cell(to_x, to_y)?,
-        tick: up_to(999_999, tick)?,
-    })
+        tick: up_to(LAST_SPLIT_TICK, tick)?,
+    }))
 }
 
 #[tactic(auto, unfolding(crate::specs::LineReading::read_leaf))]
-fn leaf(rest: &[u8], sizes: &Sizes) -> Result<Line, LineFault>
+fn leaf(rest: &[u8], sizes: &Sizes) -> Result<CertLine, LineFault>
     ensures { result ≡ read_leaf sizes.now rest.now }
 {
     let blocks = last(b' ', rest)?;
-    Ok(Line::Leaf(within(0, sizes.agents as u64, blocks)?))
+    Ok(CertLine::Leaf(within(0, sizes.agents as u64, blocks)?))
 }
 
 #[tactic(auto, unfolding(crate::specs::LineReading::read_clash))]
-fn clash(rest: &[u8], sizes: &Sizes) -> Result<Line, LineFault>
+fn clash(rest: &[u8], sizes: &Sizes) -> Result<CertLine, LineFault>
     ensures { result ≡ read_clash sizes.now rest.now }
 {
     let (i, rest) = field(b' ', rest)?;
     let j = last(b' ', rest)?;
-    Ok(Line::Clash {
+    Ok(CertLine::Clash {
         i: below(sizes.agents, i)?,
         j: below(sizes.agents, j)?,
     })
 }
 
 #[tactic(auto, unfolding(crate::specs::LineReading::read_agent))]
-fn agent(rest: &[u8], sizes: &Sizes) -> Result<Line, LineFault>
+fn agent(rest: &[u8], sizes: &Sizes) -> Result<CertLine, LineFault>
     ensures { result ≡ read_agent sizes.now rest.now }
 {
     let (agent, rest) = field(b' ', rest)?;
     let entries = last(b' ', rest)?;
-    Ok(Line::Agent {
+    Ok(CertLine::Agent {
         agent: below(sizes.agents, agent)?,
         entries: within(1, u64::MAX, entries)?,
     })
@@ -155,26 +159,26 @@ fn label(word: &LabelWord) -> Result<Label, LineFault>
 {
     match *word {
         LabelWord::Never => Ok(Label::Never),
-        LabelWord::Ticks(ticks) => Ok(Label::Ticks(from_one_to(9_999_999, ticks)?)),
+        LabelWord::Ticks(ticks) => Ok(Label::Ticks(from_one_to(GREATEST_COST, ticks)?)),
     }
 }
 
 #[tactic(auto, unfolding(crate::specs::LineReading::read_entry))]
-fn entry(rest: &[u8], sizes: &Sizes) -> Result<Line, LineFault>
+fn entry(rest: &[u8], sizes: &Sizes) -> Result<CertLine, LineFault>
     ensures { result ≡ read_entry sizes.now rest.now }
 {
     let (x, y, rest) = pair(rest)?;
     let (tick, rest) = field(b' ', rest)?;
     let word = label_word(rest)?;
-    Ok(Line::At(Entry {
+    Ok(CertLine::At(Entry {
         cell: sizes.cell(x, y)?,
-        tick: up_to(9_999_999, tick)?,
+        tick: up_to(GREATEST_COST, tick)?,
         label: label(&word)?,
     }))
 }
 
 #[tactic(auto, unfolding(crate::specs::LineReading::read_tree_line))]
-fn tree_line(bytes: &[u8], sizes: &Sizes) -> Result<Line, LineFault>
+fn tree_line(bytes: &[u8], sizes: &Sizes) -> Result<CertLine, LineFault>
     ensures { result ≡ read_tree_line sizes.now bytes.now }
 {
     if let Some(rest) = strip(bytes, b"at") {
@@ -196,23 +200,24 @@ fn tree_line(bytes: &[u8], sizes: &Sizes) -> Result<Line, LineFault>
         return clash(rest, sizes);
     }
     if bytes == b"end".as_slice() {
-        return Ok(Line::End);
+        return Ok(CertLine::End);
     }
     Err(LineFault::Shape)
 }
 
 /// Reads a line of a certificate.
-pub fn line_of(due: &Due, bytes: &[u8]) -> Result<Line, LineFault>
+pub fn line_of(due: &Due, bytes: &[u8]) -> Result<CertLine, LineFault>
     // What is read is a line that is due, spelled so.
     ensures found { IfOk result (λ line. IsLine due.now line × (bytes.now ≡ words (width_of due.now) line)) }
     ensures some { OnOk result (0 < length bytes.now) }
     // What is spelled so is read.
-    ensures only { (line : Line) → IsLine due.now line → bytes.now ≡ words (width_of due.now) line → result ≡ Ok line }
+    ensures only { (line : CertLine) → IsLine due.now line
+        → bytes.now ≡ words (width_of due.now) line → result ≡ Ok line }
 {
     judge(due, bytes)
 }
 
-fn judge(due: &Due, bytes: &[u8]) -> Result<Line, LineFault>
+fn judge(due: &Due, bytes: &[u8]) -> Result<CertLine, LineFault>
     ensures { result ≡ read_line due.now bytes.now }
 {
     match due {

@@ -21,7 +21,7 @@ use Rattle.mapf_checker.specs.declared.fault.CheckFault.TheVariants as refusals
 use Rattle.mapf_checker.specs.declared.fault.FromFault.{FromFault}
 use Rattle.mapf_checker.specs.declared.fault.FromFault.TheVariants as from
 use Rattle.mapf_checker.specs.CertJudging.{IsOpened, HasHeaderRefusal, HasTreeRefusal, IsJudgedTree}
-use Rattle.mapf_checker.specs.Faults.{of_cert, Stops}
+use Rattle.mapf_checker.specs.Faults.{of_cert, IsOfChecking}
 use Rattle.mapf_checker.specs.Refusals.{BeginsWithHeader, HasBadNode, HasBadNodeInCert, HasCertRefusal}
 use Rattle.mapf_checker.specs.Verdict.{IsGoodCert, IsShown}
 
@@ -56,7 +56,7 @@ module _ (problem : Instance) (claim : Claim) (had : Option (List ℕ)) (start :
 
 -- why reading a header stopped
 pub stops_heading : (problem : Instance) (claim : Claim) (had left : Option (List ℕ)) (failed : Bool) (start : Reading) (IsText : List ℕ → Type 0) (fault : LinesFault) → Fails had left failed start.buffer IsText fault →
-    ((agents : ℕ) (claimed : Claim) (nodes : List Node) → AwaitsCert had start agents claimed nodes → IsNoTextFault fault) → Stops had left failed start.buffer (HasHeaderRefusal problem claim had start) (of_cert fault)
+    ((agents : ℕ) (claimed : Claim) (nodes : List Node) → AwaitsCert had start agents claimed nodes → IsNoTextFault fault) → IsOfChecking had left failed start.buffer (HasHeaderRefusal problem claim had start) (of_cert fault)
 stops_heading problem claim had left failed start IsText (Text texts.Memory) fails none = absurd fails
 stops_heading problem claim had left failed start IsText (Text (texts.K1 line)) fails none = (fails.0, refuses_within had left start.buffer IsText fails.1, (λ e. cc, none))
 stops_heading problem claim had left failed start IsText (Text (texts.K2 line)) fails none = (fails.0, refuses_within had left start.buffer IsText fails.1, (λ e. cc, none))
@@ -72,7 +72,7 @@ if_known None P f = tt
 if_known (Some x) P f = f x refl
 
 -- the same reason, said otherwise
-pub stops_as : {P Q : CheckFault → Type 0} (had left : Option (List ℕ)) (failed : Bool) (old new : Buffered) (fault : FromFault) → old ≡ new → ((refusal : CheckFault) → P refusal → Q refusal) → Stops had left failed old P fault → Stops had left failed new Q fault
+pub stops_as : {P Q : CheckFault → Type 0} (had left : Option (List ℕ)) (failed : Bool) (old new : Buffered) (fault : FromFault) → old ≡ new → ((refusal : CheckFault) → P refusal → Q refusal) → IsOfChecking had left failed old P fault → IsOfChecking had left failed new Q fault
 stops_as had left failed old new (from.Refused refusal) same f stops = (stops.0, subst (λ b. ComesWithin had left b) same stops.1, f refusal stops.2)
 stops_as had left failed old new from.Device same f stops = (stops.0, subst (λ b. ComesWithin had left b) same stops.1)
 stops_as had left failed old new from.TooLong same f stops = (stops.0, subst (λ b. Exceeds had left b) same stops.1)
@@ -80,7 +80,7 @@ stops_as had left failed old new from.Memory same f stops = (stops.0, subst (λ 
 
 -- after a part was taken
 pub stops_after : {P Q : CheckFault → Type 0} (had mid left : Option (List ℕ)) (failed : Bool) (old now new : Buffered) (taken : List ℕ) (fault : FromFault) → old ≡ new → Window had mid old now taken → ((refusal : CheckFault) → P refusal → Q refusal) →
-    Stops mid left failed now P fault → Stops had left failed new Q fault
+    IsOfChecking mid left failed now P fault → IsOfChecking had left failed new Q fault
 stops_after had mid left failed old now new taken (from.Refused refusal) same window f stops = (stops.0, subst (λ b. ComesWithin had left b) same (ComesWithin-after had mid left old now taken window stops.1), f refusal stops.2)
 stops_after had mid left failed old now new taken from.Device same window f stops = (stops.0, subst (λ b. ComesWithin had left b) same (ComesWithin-after had mid left old now taken window stops.1))
 stops_after had mid left failed old now new taken from.TooLong same window f stops = (stops.0, subst (λ b. Exceeds had left b) same (Exceeds-after had mid left old now taken window stops.1))

@@ -3,6 +3,7 @@ use Rattle.std.proofs.Common.{◌≡◌, ℕ, ◌<◌, ◌+◌, List, Some, Resu
 use Rattle.std.proofs.lemmas.Bool.{cases_lt}
 use Rattle.std.proofs.lemmas.Option.{same_Some, slice_get_within}
 use Rattle.mapf_model.specs.declared.problem.Agent.{Agent}
+use Rattle.mapf_model.specs.Earned.{HaveSomeConflict}
 use Rattle.mapf_model.specs.Path.{IsLawful}
 use Rattle.mapf_model.specs.Plan.{Instance, IsValid}
 use Rattle.mapf_model.proofs.DecidedLemmas.{to_neighbours}
@@ -11,17 +12,15 @@ use Rattle.mapf_checker.specs.declared.lawful.PathFault.TheVariants.{WrongStart,
 use Rattle.mapf_checker.specs.declared.plan_fault.PlanFault.{PlanFault}
 use Rattle.mapf_checker.specs.declared.plan_fault.PlanFault.TheVariants.{V1, V2, V3, V4, V5}
 use Rattle.mapf_checker.specs.PathDefects.{HasPathDefect}
-use Rattle.mapf_checker.specs.Meetings.{AreApart}
 use Rattle.mapf_checker.specs.Defects.{HasDefect, AreLawful, path_fault_of}
-use Rattle.mapf_checker.proofs.MeetingLemmas.{ConflictAt-sym}
 
 module _ (problem : Instance) (plan : List (List ℕ)) where
   pub defect_refutes : (fault : PlanFault) → HasDefect problem plan fault → IsValid problem plan → ⊥
   defect_refutes (V1 i) (agent, path, is_agent, is_path, wrong) valid = wrong (valid.lawful i agent path is_agent is_path).start
   defect_refutes (V2 i tick) (agent, path, is_agent, is_path, bad) valid = bad.1 ((to_neighbours problem.grid path (valid.lawful i agent path is_agent is_path).is_path).neighbours tick bad.0)
   defect_refutes (V3 i) (agent, path, is_agent, is_path, wrong) valid = wrong (valid.lawful i agent path is_agent is_path).goal
-  defect_refutes (V4 i j tick) (order, p, q, is_p, is_q, same) valid = valid.apart i j tick p q (omega arith) is_p is_q (inl same)
-  defect_refutes (V5 i j tick) (order, p, q, is_p, is_q, swap) valid = valid.apart i j tick p q (omega arith) is_p is_q (inr (swap.0, swap.1))
+  defect_refutes (V4 i j tick) (order, cell) valid = valid.apart i j tick cell.first cell.second (omega arith) cell.is_first cell.is_second (inl cell.same)
+  defect_refutes (V5 i j tick) (order, cells) valid = valid.apart i j tick cells.first cells.second (omega arith) cells.is_first cells.is_second (inr (sym cells.back, sym cells.there))
 
   pub unlawful_defect : (i : ℕ) (agent : Agent) (path : List ℕ) (fault : PathFault) → slice_get problem.agents i ≡ Some agent → slice_get plan i ≡ Some path →
       HasPathDefect problem.grid agent path fault → HasDefect problem plan (path_fault_of i fault)
@@ -39,14 +38,11 @@ module _ (problem : Instance) (plan : List (List ℕ)) where
       (subst (λ a. IsLawful problem.grid a path) (same_Some agent agent' (sym is_agent ∙ subst (λ k. slice_get problem.agents k ≡ Some agent') same is_agent')) lawful))
       (cases_lt i count)
 
-  pub valid_of : length plan ≡ length problem.agents → AreLawful problem plan (length plan) → ((i j : ℕ) → i < j → AreApart plan i j) → IsValid problem plan
+  pub valid_of : length plan ≡ length problem.agents → AreLawful problem plan (length plan) → (HaveSomeConflict plan → ⊥) → IsValid problem plan
   valid_of count lawful apart = record {
     count = count;
     lawful = λ i agent path is_agent is_path. let within = slice_get_within plan i path is_path in lawful i agent path within is_agent is_path;
-    apart = λ i j tick p q differ is_p is_q meet. ⊎_elim
-        (λ (less : i < j). apart i j less tick p q is_p is_q meet)
-        (λ past. apart j i (omega arith) tick q p is_q is_p (ConflictAt-sym p q tick meet))
-        (cases_lt i j);
+    apart = λ i j tick p q differ is_p is_q conflict. apart (i, j, tick, p, q, differ, is_p, is_q, conflict);
   }
 
 -- an error stands for a plan that is not valid

@@ -1,7 +1,7 @@
-pub mod MeetingLemmas
+pub mod ConflictLemmas
 pub mod DefectLemmas
 pub mod IndexLemmas
-pub mod WayLemmas
+pub mod BranchLemmas
 pub mod EntryLemmas
 pub mod StartLemmas
 pub mod BlockLemmas

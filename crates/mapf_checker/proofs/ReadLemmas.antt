@@ -16,7 +16,7 @@ use Rattle.mapf_certificate.specs.declared.cert.LinesFault.{LinesFault}
 use Rattle.mapf_certificate.specs.declared.cert.LinesFault.TheVariants.{Text, Device, TooLong, Memory}
 use Rattle.mapf_certificate.specs.declared.cert.CertFault.TheVariants as texts
 use Rattle.mapf_certificate.specs.CertReading.{Awaits, TakesNode, TakesEnd}
-use Rattle.mapf_certificate.specs.declared.line.Line.TheVariants as lines
+use Rattle.mapf_certificate.specs.declared.line.CertLine.TheVariants as lines
 use Rattle.mapf_certificate.specs.Certificates.{IsNode, line_text, node_text}
 use Rattle.mapf_certificate.specs.Reading.{Reading, grid_at, agents_at}
 use Rattle.mapf_certificate.specs.Window.{Window, ComesWithin, Fails, IsNoTextFault}
@@ -26,12 +26,12 @@ use Rattle.mapf_checker.specs.declared.fault.CheckFault.{CheckFault}
 use Rattle.mapf_checker.specs.declared.fault.FromFault.{FromFault}
 use Rattle.mapf_checker.specs.declared.fault.FromFault.TheVariants as from
 use Rattle.mapf_checker.specs.declared.tree.Progress.{Progress}
-use Rattle.mapf_checker.specs.CertJudging.{HasTreeRefusal, IsBetweenItems, IsJudgedTree, IsReadTo}
-use Rattle.mapf_checker.specs.Faults.{of_cert, IsOfJudging, IsNoRefusal, Stops}
+use Rattle.mapf_checker.specs.CertJudging.{HasTreeRefusal, IsBetweenItems, IsJudgedTree, IsReadTo, IsReadOn}
+use Rattle.mapf_checker.specs.Faults.{of_cert, IsOfJudging, IsNoRefusal, IsOfChecking}
 use Rattle.mapf_checker.specs.NodeDefects.{HasNodeDefect, IsGoodNode}
 use Rattle.mapf_checker.specs.Progress.{constraints_after, constraints_after_all, owed_at, owed_by, here_of}
 use Rattle.mapf_checker.specs.Refusals.{HasBadNode}
-use Rattle.mapf_checker.specs.Way.{Place, place_of}
+use Rattle.mapf_checker.specs.Branch.{Place, place_of}
 use Rattle.mapf_checker.proofs.TreeLemmas.{judged_good, shown_good, defect_refutes_node}
 
 -- nothing was read
@@ -69,8 +69,8 @@ is_going false place n some count = refl
 
 -- a node more
 module _ (problem : Instance) (claim : Claim) (had mid left : Option (List ℕ)) (start now new : Reading) (progress : Progress) (between : IsBetweenItems problem claim now progress) (so_far : IsReadTo problem claim had mid start now (owed_by progress)) (node : Node) (next : IsNext mid left now new node) where
-  is_owed : owed_by progress ≡ here_of progress ∷ (place_of progress.way).owed
-  is_owed = is_going progress.is_over (place_of progress.way) now.owed next.takes.read.was_owed between.count
+  is_owed : owed_by progress ≡ here_of progress ∷ (place_of progress.branch).owed
+  is_owed = is_going progress.is_over (place_of progress.branch) now.owed next.takes.read.was_owed between.count
 
   -- it is the next one
   next_is : (given nodes rest : List Node) → nodes ≡ given ++ rest → Awaits mid now rest → (after : List Node) × (nodes ≡ (given ++ node ∷ []) ++ after) × (rest ≡ node ∷ after) × Awaits left new after
@@ -98,7 +98,7 @@ module _ (problem : Instance) (claim : Claim) (had mid left : Option (List ℕ))
     place = is_after ∙ ap (λ o. constraints_after o node) so_far.place ∙ sym (constraints_after_push (root ∷ []) so_far.given node);
     shows = λ rest.
         let before = so_far.shows (node ∷ rest) in
-        let here_on : NodesShow problem claim (owed_by progress) (node ∷ rest) ↔ NodesShow problem claim after rest = rw (is_after, is_owed) (judged_good law problem claim (here_of progress) (place_of progress.way).owed node good rest) in
+        let here_on : NodesShow problem claim (owed_by progress) (node ∷ rest) ↔ NodesShow problem claim after rest = rw (is_after, is_owed) (judged_good law problem claim (here_of progress) (place_of progress.branch).owed node good rest) in
         rw (append_assoc so_far.given (node ∷ []) rest) (λ shows. here_on.0 (before.0 shows), λ shows. before.1 (here_on.1 shows));
   } where
     flat_map-push : (f : Node → List ℕ) (xs : List Node) (x : Node) → flat_map f (xs ++ x ∷ []) ≡ flat_map f xs ++ f x
@@ -121,7 +121,7 @@ module _ (problem : Instance) (claim : Claim) (had mid left : Option (List ℕ))
         before = so_far.given;
         node = node;
         here = here_of progress;
-        owed = (place_of progress.way).owed;
+        owed = (place_of progress.branch).owed;
         place = sym so_far.place ∙ is_owed;
         defect = defect;
         rest = new.buffer.bytes ++ after;
@@ -137,7 +137,7 @@ module _ (problem : Instance) (claim : Claim) (had mid left : Option (List ℕ))
       let all : nodes ≡ so_far.given ++ node ∷ after = same ∙ ap (λ ns. so_far.given ++ ns) front in
       let left_to_show : NodesShow problem claim (owed_by progress) (node ∷ after) = (so_far.shows (node ∷ after)).0 (subst (λ ns. NodesShow problem claim (root ∷ []) ns) all shows) in
       defect_refutes_node problem claim (here_of progress) (grid_at now) (agents_at now) node fault next.takes.read.in_range defect
-      (shown_good law problem claim (here_of progress) (place_of progress.way).owed node after (subst (λ o. NodesShow problem claim o (node ∷ after)) is_owed left_to_show))
+      (shown_good law problem claim (here_of progress) (place_of progress.branch).owed node after (subst (λ o. NodesShow problem claim o (node ∷ after)) is_owed left_to_show))
 
 -- the end was read
 pub read_all : FrontDecides → (problem : Instance) (claim : Claim) (had mid left : Option (List ℕ)) (start now new : Reading) (owed : List NodeConstraints) → now.owed ≡ length owed → IsReadTo problem claim had mid start now owed → TakesEnd mid left now new → IsJudgedTree problem claim had start
@@ -184,7 +184,7 @@ no_refusal Memory is = tt
 module _ (problem : Instance) (claim : Claim) (had left : Option (List ℕ)) (failed : Bool) (start : Reading) where
   -- why reading stopped
   pub stops_reading : (mid : Option (List ℕ)) (now : Reading) (taken : List ℕ) (IsText : List ℕ → Type 0) (fault : LinesFault) → Window had mid start.buffer now.buffer taken → Fails mid left failed now.buffer IsText fault →
-      ((nodes : List Node) → Awaits had start nodes → IsNoTextFault fault) → Stops had left failed start.buffer (HasTreeRefusal problem claim had start) (of_cert fault)
+      ((nodes : List Node) → Awaits had start nodes → IsNoTextFault fault) → IsOfChecking had left failed start.buffer (HasTreeRefusal problem claim had start) (of_cert fault)
   stops_reading mid now taken IsText (Text texts.Memory) window fails none = absurd fails
   stops_reading mid now taken IsText (Text (texts.K1 line)) window fails none = (fails.0, ComesWithin-after had mid left start.buffer now.buffer taken window (refuses_within mid left now.buffer IsText fails.1), (λ e. cc, none))
   stops_reading mid now taken IsText (Text (texts.K2 line)) window fails none = (fails.0, ComesWithin-after had mid left start.buffer now.buffer taken window (refuses_within mid left now.buffer IsText fails.1), (λ e. cc, none))
@@ -202,7 +202,7 @@ module _ (problem : Instance) (claim : Claim) (had left : Option (List ℕ)) (fa
 
   -- why judging stopped
   pub stops_judging : (here : NodeConstraints) (node : Node) (fault : FromFault) → failed ≡ false → ComesWithin had left start.buffer → IsOfJudging (HasNodeDefect problem claim here node) fault →
-      ((refusal : CheckFault) → HasNodeDefect problem claim here node refusal → (bytes : List ℕ) → had ≡ Some bytes → HasBadNode problem claim refusal (start.buffer.bytes ++ bytes)) → Stops had left failed start.buffer (HasTreeRefusal problem claim had start) fault
+      ((refusal : CheckFault) → HasNodeDefect problem claim here node refusal → (bytes : List ℕ) → had ≡ Some bytes → HasBadNode problem claim refusal (start.buffer.bytes ++ bytes)) → IsOfChecking had left failed start.buffer (HasTreeRefusal problem claim had start) fault
   stops_judging here node (from.Refused refusal) works comes is bad = (works, comes, tree_refusal here node refusal is (bad refusal is))
   stops_judging here node from.Device works comes is bad = absurd is
   stops_judging here node from.TooLong works comes is bad = absurd is
@@ -221,6 +221,17 @@ node_moved g h agents same (SplitNode conflict) is = (tree_moved g h same agents
   none = record { each = λ k d within. absurd (omega arith); rising = λ i j d less within. absurd (omega arith) }
 node_moved g h agents same (LeafNode blocks) is = tree_moved g h same agents (Leaf blocks) is
 node_moved g h agents same (ClashNode i j) is = is
+
+-- where reading or judging an item ended with this fault
+pub not_read_on : (problem : Instance) (claim : Claim) (had left : Option (List ℕ)) (failed : Bool) (start reading : Reading) (owed : List NodeConstraints) (result : Result Bool FromFault) (fault : FromFault) → IsErrAnd result (λ given. given ≡ fault) →
+    ((nodes : List Node) → Awaits had start nodes → NodesShow problem claim (root ∷ []) nodes → IsNoRefusal fault) → IsOfChecking had left failed start.buffer (HasTreeRefusal problem claim had start) fault → IsReadOn problem claim had left failed start reading owed result
+not_read_on problem claim had left failed start reading owed (Ok more) fault is only stops = absurd is
+not_read_on problem claim had left failed start reading owed (Err given) fault is only stops = record {
+  read = tt;
+  came = tt;
+  only = λ nodes awaits shows. subst IsNoRefusal (sym is) (only nodes awaits shows);
+  stops = subst (λ f. IsOfChecking had left failed start.buffer (HasTreeRefusal problem claim had start) f) (sym is) stops;
+}
 
 -- an error that is passed on
 pub err_passed : {A E : Type 0} (r : Result A E) (P : E → Type 0) (e : E) → IsErrAnd r (λ y. y ≡ e) → P e → IfErr r P

@@ -5,7 +5,7 @@ use Rattle.mapf_certificate.specs.Window.{ComesWithin, Pulls}
 use Rattle.mapf_checker.specs.declared.fault.CheckFault.{CheckFault}
 use Rattle.mapf_checker.specs.declared.fault.FromFault.{FromFault}
 use Rattle.mapf_checker.specs.declared.fault.FromFault.TheVariants.{Refused, Device, TooLong, Memory}
-use Rattle.mapf_checker.specs.Faults.{Stops}
+use Rattle.mapf_checker.specs.Faults.{IfRefused, IsOfChecking}
 
 -- an error that is passed on is this one
 pub passed : {A E : Type 0} (r : Result A E) (e : E) → IsErrAnd r (λ y. y ≡ e) → r ≡ Err e
@@ -19,8 +19,15 @@ pulls_within : {A : Type 0} (had left : Option (List ℕ)) (x : Buffered) (fault
 pulls_within had left x fault other comes = record { came = comes.pulled; source = comes.source; few = omega (arith, comes.within); beyond = (λ e. absurd (other (same_fault fault TooLong e)), λ h. absurd (omega (arith, comes.within))) }
 
 -- `TooLong` just where too many bytes came
-pub pulls_if_stops : {A : Type 0} (had left : Option (List ℕ)) (failed : Bool) (x : Buffered) (Says : CheckFault → Type 0) (fault : FromFault) → Stops had left failed x Says fault → Pulls had left x.left (IsErrOf {T = A} (Err fault) TooLong)
+pub pulls_if_stops : {A : Type 0} (had left : Option (List ℕ)) (failed : Bool) (x : Buffered) (Says : CheckFault → Type 0) (fault : FromFault) → IsOfChecking had left failed x Says fault → Pulls had left x.left (IsErrOf {T = A} (Err fault) TooLong)
 pulls_if_stops had left failed x Says (Refused refusal) stops = pulls_within had left x (Refused refusal) (λ e. cc) stops.1
 pulls_if_stops had left failed x Says Device stops = pulls_within had left x Device (λ e. cc) stops.1
 pulls_if_stops had left failed x Says TooLong stops = record { came = stops.1.pulled; source = stops.1.source; few = stops.1.few; beyond = (λ e. stops.1.beyond, λ h. refl) }
 pulls_if_stops had left failed x Says Memory stops = pulls_within had left x Memory (λ e. cc) stops.1
+
+-- what a refusal says, said otherwise
+pub refused_if_stops : {P Q : CheckFault → Type 0} (had left : Option (List ℕ)) (failed : Bool) (x : Buffered) (fault : FromFault) → ((refusal : CheckFault) → P refusal → Q refusal) → IsOfChecking had left failed x P fault → IfRefused Q fault
+refused_if_stops had left failed x (Refused refusal) f stops = f refusal stops.2
+refused_if_stops had left failed x Device f stops = tt
+refused_if_stops had left failed x TooLong f stops = tt
+refused_if_stops had left failed x Memory f stops = tt

@@ -13,7 +13,7 @@ use Rattle.mapf_model.specs.Laws.{FrontDecides}
 use Rattle.mapf_model.specs.Tree.{Node, SplitNode, LeafNode, ClashNode, NodeConstraints, NodesShow, Leaf, ShowsFrom, block_of}
 use Rattle.mapf_certificate.specs.Certificates.{IsNode}
 use Rattle.mapf_checker.specs.declared.fault.CheckFault.{CheckFault}
-use Rattle.mapf_checker.specs.Way.{Place, IsSplit}
+use Rattle.mapf_checker.specs.Branch.{Place, IsSplit}
 use Rattle.mapf_checker.specs.Progress.{constraints_after, owed_at}
 use Rattle.mapf_checker.specs.NodeDefects.{HasNodeDefect, HasUnsoundBlock, IsGoodNode}
 use Rattle.mapf_checker.proofs.EntryLemmas.{IsSoundEntry-at}

@@ -1,14 +1,28 @@
 -- What the entries of one agent are judged against: its own problem at a node of the tree.
-use Rattle.std.specs.Prelude.{◌≡◌, List}
+use Rattle.std.specs.Prelude.{◌≡◌, ◌+◌, ℕ, List}
 use Rattle.mapf_model.specs.declared.bar.Bar.{Bar}
+use Rattle.mapf_model.specs.declared.label.Entry.{Entry}
+use Rattle.mapf_model.specs.Labels.{entries_of, IsSoundEntry, IsWithinOne, MayGo}
 use Rattle.mapf_checker.specs.declared.judge.AgentProblem.{AgentProblem}
-use Rattle.mapf_checker.specs.Way.{place_of}
+use Rattle.mapf_checker.specs.Branch.{place_of}
 
 -- the bars of the agent
 abbrev pub bars_on : AgentProblem → List Bar
-bars_on own = (place_of own.way.now).here.bars own.agent
+bars_on own = (place_of own.branch.now).here.bars own.agent
 
 -- the distances are those to the agent's goal on the grid
 pub record HasGoalDistances (own : AgentProblem) : Type 0 where
   pub grid : own.distances.now.grid ≡ own.grid.now
   pub goal : own.distances.now.goal ≡ own.goal
+
+-- the entry is sound under the agent's bars, in a block of these entries
+abbrev pub IsSoundAmong : AgentProblem → List Entry → Entry → Type 0
+IsSoundAmong own entries entry = IsSoundEntry own.grid.now own.goal (bars_on own) (entries_of entries) entry.cell entry.tick entry.label
+
+-- unless the step to this cell is barred, the entry's label is at most one more than the label after it
+abbrev pub IsConsistentStep : AgentProblem → List Entry → Entry → ℕ → Type 0
+IsConsistentStep own entries entry next = MayGo own.grid.now (bars_on own) entry.cell next entry.tick → IsWithinOne own.grid.now own.goal (entries_of entries) entry.label next (entry.tick + 1)
+
+-- so it is of each cell that may be next
+abbrev pub IsConsistent : AgentProblem → List Entry → Entry → Type 0
+IsConsistent own entries entry = (next : ℕ) → IsConsistentStep own entries entry next

@@ -1,5 +1,5 @@
 -- What is known of a certificate while it is judged.
-use Rattle.std.specs.Prelude.{◌≡◌, ◌≢◌, ◌↔◌, ◌≤◌, ℕ, false, List, [], ◌∷◌, ◌++◌, Option, Some, None, length}
+use Rattle.std.specs.Prelude.{◌≡◌, ◌≢◌, ◌↔◌, ◌≤◌, ℕ, Bool, false, List, [], ◌∷◌, ◌++◌, Option, Some, None, Result, IfOk, IfErr, OnOk, MatchBool, length}
 use Rattle.std.specs.List.{flat_map}
 use Rattle.mapf_model.specs.declared.item.Claim.{Claim}
 use Rattle.mapf_model.specs.Plan.{Instance}
@@ -8,10 +8,12 @@ use Rattle.mapf_certificate.specs.declared.cert.CertFault.TheVariants as certs
 use Rattle.mapf_certificate.specs.Certificates.{node_text}
 use Rattle.mapf_certificate.specs.CertReading.{Awaits, AwaitsCert}
 use Rattle.mapf_certificate.specs.Reading.{Reading}
-use Rattle.mapf_certificate.specs.Window.{Window}
+use Rattle.mapf_certificate.specs.Window.{ComesWithin, Window}
 use Rattle.mapf_checker.specs.declared.fault.CheckFault.{CheckFault}
 use Rattle.mapf_checker.specs.declared.fault.CheckFault.TheVariants.{C2, C3, C4, C6, C7, C8, C9}
+use Rattle.mapf_checker.specs.declared.fault.FromFault.{FromFault}
 use Rattle.mapf_checker.specs.declared.tree.Progress.{Progress}
+use Rattle.mapf_checker.specs.Faults.{IsNoRefusal, IsOfChecking}
 use Rattle.mapf_checker.specs.Progress.{constraints_after_all, owed_by, IsReady}
 use Rattle.mapf_checker.specs.Refusals.{BeginsWithHeader, HasBadNode}
 
@@ -77,3 +79,11 @@ pub record IsReadTo (problem : Instance) (claim : Claim) (had left : Option (Lis
   pub behind : (bytes : List ℕ) → had ≡ Some bytes → (rest : List Node) → Awaits left reading rest → Awaits had start (given ++ rest)
   pub place : owed ≡ constraints_after_all (root ∷ []) given
   pub shows : (rest : List Node) → NodesShow problem claim (root ∷ []) (given ++ rest) ↔ NodesShow problem claim owed rest
+
+-- what one more call says: `true`, one item more was read and judged; `false`, the whole tree was; no more bytes came than
+-- are allowed; nothing is refused where the text from its start on spells nodes that show the claim; and what a fault says
+pub record IsReadOn (problem : Instance) (claim : Claim) (had left : Option (List ℕ)) (failed : Bool) (start reading : Reading) (owed : List NodeConstraints) (result : Result Bool FromFault) : Type 0 where
+  pub read : IfOk result (λ more. MatchBool more (IsReadTo problem claim had left start reading owed) (IsJudgedTree problem claim had start))
+  pub came : OnOk result (ComesWithin had left start.buffer)
+  pub only : (nodes : List Node) → Awaits had start nodes → NodesShow problem claim (root ∷ []) nodes → IfErr result IsNoRefusal
+  pub stops : IfErr result (IsOfChecking had left failed start.buffer (HasTreeRefusal problem claim had start))

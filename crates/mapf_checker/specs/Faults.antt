@@ -35,11 +35,11 @@ IsOfJudging Says Memory = ⊤
 
 -- a fault that comes of reading and judging: a refusal that says this, or the source failed, or it gave more than was
 -- allowed, or want of memory. The source has failed in the second case alone
-abbrev pub Stops : Option (List ℕ) → Option (List ℕ) → Bool → Buffered → (CheckFault → Type 0) → FromFault → Type 0
-Stops had left failed buffer Says (Refused fault) = (failed ≡ false) × ComesWithin had left buffer × Says fault
-Stops had left failed buffer Says Device = (failed ≡ true) × ComesWithin had left buffer
-Stops had left failed buffer Says TooLong = (failed ≡ false) × Exceeds had left buffer
-Stops had left failed buffer Says Memory = (failed ≡ false) × ComesWithin had left buffer
+abbrev pub IsOfChecking : Option (List ℕ) → Option (List ℕ) → Bool → Buffered → (CheckFault → Type 0) → FromFault → Type 0
+IsOfChecking had left failed buffer Says (Refused fault) = (failed ≡ false) × ComesWithin had left buffer × Says fault
+IsOfChecking had left failed buffer Says Device = (failed ≡ true) × ComesWithin had left buffer
+IsOfChecking had left failed buffer Says TooLong = (failed ≡ false) × Exceeds had left buffer
+IsOfChecking had left failed buffer Says Memory = (failed ≡ false) × ComesWithin had left buffer
 
 -- what a refusal says
 abbrev pub IfRefused : (CheckFault → Type 0) → FromFault → Type 0
@@ -55,7 +55,7 @@ IsNoRefusal Device = ⊤
 IsNoRefusal TooLong = ⊤
 IsNoRefusal Memory = ⊤
 
--- want of memory is no fault of a text
+-- the refusal isn't a fault of one of the texts which only says that memory was refused
 abbrev pub HasNoTextMemory : CheckFault → Type 0
 HasNoTextMemory (C1 fault) = fault ≢ plans.Memory
 HasNoTextMemory (C2 fault) = fault ≢ certs.Memory
@@ -68,9 +68,9 @@ HasNoTextMemory (C8 line) = ⊤
 HasNoTextMemory (C9 line) = ⊤
 HasNoTextMemory refusals.Memory = ⊤
 
--- nor is it a refusal
-abbrev pub HasNoInnerMemory : FromFault → Type 0
-HasNoInnerMemory (Refused fault) = (fault ≢ refusals.Memory) × HasNoTextMemory fault
-HasNoInnerMemory Device = ⊤
-HasNoInnerMemory TooLong = ⊤
-HasNoInnerMemory Memory = ⊤
+-- the fault isn't a refusal which only says that memory was refused
+abbrev pub IsNoMemoryRefusal : FromFault → Type 0
+IsNoMemoryRefusal (Refused fault) = (fault ≢ refusals.Memory) × HasNoTextMemory fault
+IsNoMemoryRefusal Device = ⊤
+IsNoMemoryRefusal TooLong = ⊤
+IsNoMemoryRefusal Memory = ⊤

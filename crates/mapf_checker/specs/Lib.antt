@@ -1,10 +1,10 @@
 pub mod PathDefects
-pub mod Meetings
+pub mod Conflicts
 pub mod Defects
-pub mod Bounds
+pub mod BarredCells
 pub mod Keys
 pub mod Index
-pub mod Way
+pub mod Branch
 pub mod Order
 pub mod AgentProblem
 pub mod Leaf

@@ -10,13 +10,13 @@ use Rattle.mapf_model.specs.Tree.{Node, SplitNode, LeafNode, ClashNode, NodeCons
 use Rattle.mapf_checker.specs.declared.fault.CheckFault.{CheckFault}
 use Rattle.mapf_checker.specs.declared.fault.CheckFault.TheVariants.{C6, C7, C8, C9}
 use Rattle.mapf_checker.specs.declared.judge.AgentProblem.{AgentProblem}
-use Rattle.mapf_checker.specs.AgentProblem.{bars_on}
+use Rattle.mapf_checker.specs.AgentProblem.{IsSoundAmong}
 
 -- the entry in this place isn't sound
 pub record IsUnsoundAt (own : AgentProblem) (entries : List Entry) (place : ℕ) : Type 0 where
   pub entry : Entry
   pub is_entry : slice_get entries place ≡ Some entry
-  pub unsound : IsSoundEntry own.grid.now own.goal (bars_on own) (entries_of entries) entry.cell entry.tick entry.label → ⊥
+  pub unsound : IsSoundAmong own entries entry → ⊥
 
 -- an entry of the block isn't sound under the bars of its agent
 pub record HasUnsoundEntry (problem : Instance) (here : NodeConstraints) (block : LabelBlock) : Type 0 where

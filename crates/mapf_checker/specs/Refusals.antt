@@ -2,16 +2,17 @@
 use Rattle.std.specs.Prelude.{◌≡◌, ◌≢◌, ◌⊎◌, ℕ, List, [], ◌∷◌, ◌++◌, Option, IfSome, length}
 use Rattle.std.specs.List.{flat_map}
 use Rattle.mapf_model.specs.declared.item.Claim.{Claim}
-use Rattle.mapf_model.specs.Accepted.{SaysPlan, SaysLimit}
+use Rattle.mapf_model.specs.declared.cause.Cause.{Cause}
 use Rattle.mapf_model.specs.Plan.{Instance}
 use Rattle.mapf_model.specs.Printed.{IsClaimInRange}
 use Rattle.mapf_model.specs.Tree.{ConstraintTree, Node, NodeConstraints, root}
 use Rattle.mapf_certificate.specs.declared.cert.CertFault.TheVariants as certs
-use Rattle.mapf_certificate.specs.declared.plan_text.PlanText.{PlanText}
+use Rattle.mapf_certificate.specs.declared.plan_text.PlanAnswer.{PlanAnswer}
+use Rattle.mapf_certificate.specs.declared.plan_text.PlanAnswer.TheVariants.{Found, Limit}
 use Rattle.mapf_certificate.specs.declared.plan_text.PlanTextFault.TheVariants as plans
 use Rattle.mapf_certificate.specs.Certificates.{SpellsCert, header_text, node_text}
 use Rattle.mapf_certificate.specs.Lines.{IsAgentCount}
-use Rattle.mapf_certificate.specs.Plans.{IsPlanText, plan_text, says}
+use Rattle.mapf_certificate.specs.Plans.{SpellsPlan}
 use Rattle.mapf_checker.specs.declared.fault.CheckFault.{CheckFault}
 use Rattle.mapf_checker.specs.declared.fault.CheckFault.TheVariants.{C1, C2, C3, C4, C5, C6, C7, C8, C9}
 use Rattle.mapf_checker.specs.declared.fault.Verdict.{Verdict}
@@ -20,18 +21,13 @@ use Rattle.mapf_checker.specs.NodeDefects.{HasNodeDefect}
 use Rattle.mapf_checker.specs.Progress.{constraints_after_all}
 use Rattle.mapf_checker.specs.Verdict.{IsGoodPlan, claim_of}
 
--- the bytes spell this plan text for a grid of the problem's size
-pub record SpellsText (problem : Instance) (bytes : List ℕ) (text : PlanText) : Type 0 where
-  pub in_range : IsPlanText problem.grid text
-  pub spelled : bytes ≡ plan_text problem.grid.width text
-
 -- what a refusal says of the plan text: it spells nothing, is for another number of agents, says that a limit was met,
 -- or has a plan with this defect
 abbrev pub HasPlanRefusal : Instance → List ℕ → CheckFault → Type 0
-HasPlanRefusal problem bytes (C1 fault) = (fault ≢ plans.Memory) × ((text : PlanText) → SpellsText problem bytes text → ⊥)
-HasPlanRefusal problem bytes C3 = (text : PlanText) × SpellsText problem bytes text × (text.agents ≢ length problem.agents)
-HasPlanRefusal problem bytes C4 = (text : PlanText) × SpellsText problem bytes text × (says text.answer ≡ SaysLimit)
-HasPlanRefusal problem bytes (C5 fault) = (text : PlanText) × (plan : List (List ℕ)) × SpellsText problem bytes text × (says text.answer ≡ SaysPlan plan) × HasDefect problem plan fault
+HasPlanRefusal problem bytes (C1 fault) = (fault ≢ plans.Memory) × ((agents : ℕ) (says : PlanAnswer) → SpellsPlan problem.grid bytes agents says → ⊥)
+HasPlanRefusal problem bytes C3 = (agents : ℕ) × (says : PlanAnswer) × SpellsPlan problem.grid bytes agents says × (agents ≢ length problem.agents)
+HasPlanRefusal problem bytes C4 = (cause : Cause) × SpellsPlan problem.grid bytes (length problem.agents) (Limit cause)
+HasPlanRefusal problem bytes (C5 fault) = (plan : List (List ℕ)) × SpellsPlan problem.grid bytes (length problem.agents) (Found plan) × HasDefect problem plan fault
 HasPlanRefusal problem bytes fault = ⊥
 
 -- the bytes begin with a header whose numbers are in their ranges

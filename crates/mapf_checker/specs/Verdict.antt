@@ -2,47 +2,49 @@
 use Rattle.std.specs.Prelude.{ℕ, List, length}
 use Rattle.mapf_model.specs.declared.item.Claim.{Claim}
 use Rattle.mapf_model.specs.declared.item.Claim.TheVariants as claim
-use Rattle.mapf_model.specs.Accepted.{PlanSays, SaysPlan, SaysImpossible, SaysLimit, Outcome, OptimalOutcome, ImpossibleOutcome, IsAccepted, IsTrueOf}
-use Rattle.mapf_model.specs.Plan.{Instance, IsValid, IsSumOfCosts}
+use Rattle.mapf_model.specs.Plan.{Instance, IsValid, IsSumOfCosts, IsOptimal, IsImpossible}
 use Rattle.mapf_model.specs.Tree.{ConstraintTree, Shows}
 use Rattle.mapf_certificate.specs.Certificates.{SpellsCert}
 use Rattle.mapf_certificate.specs.Plans.{SpellsPlan}
+use Rattle.mapf_certificate.specs.declared.plan_text.PlanAnswer.{PlanAnswer}
+use Rattle.mapf_certificate.specs.declared.plan_text.PlanAnswer.TheVariants as answers
 use Rattle.mapf_checker.specs.declared.fault.Verdict.{Verdict}
 use Rattle.mapf_checker.specs.declared.fault.Verdict.TheVariants.{Optimal, Impossible}
 
--- the outcome of two texts that the verdict names
-abbrev pub outcome_of : Verdict → Outcome
-outcome_of (Optimal sum) = OptimalOutcome sum
-outcome_of Impossible = ImpossibleOutcome
+-- what a verdict says of the problem and the answer of a plan text: the answer is a plan that is optimal with the
+-- verdict's sum, or the answer and the verdict are `impossible` and no plan is valid
+abbrev pub IsTrueOf : Instance → PlanAnswer → Verdict → Type 0
+IsTrueOf problem (answers.Found plan) (Optimal sum) = IsOptimal problem plan sum
+IsTrueOf problem (answers.Found plan) Impossible = ⊥
+IsTrueOf problem answers.Impossible (Optimal sum) = ⊥
+IsTrueOf problem answers.Impossible Impossible = IsImpossible problem
+IsTrueOf problem (answers.Limit cause) verdict = ⊥
 
--- the bytes spell a plan that is optimal with the verdict's sum; or they spell that no plan is valid, and none is
+-- the bytes spell a plan text of which the verdict is true
 pub record IsTrueText (problem : Instance) (bytes : List ℕ) (verdict : Verdict) : Type 0 where
-  pub says : PlanSays
+  pub says : PlanAnswer
   pub spelled : SpellsPlan problem.grid bytes (length problem.agents) says
-  pub is_true : IsTrueOf problem says (outcome_of verdict)
+  pub is_true : IsTrueOf problem says verdict
 
--- the two texts are accepted with this verdict
-abbrev pub AreAccepted : Instance → List ℕ → List ℕ → Verdict → Type 0
-AreAccepted problem plan cert verdict = IsAccepted SpellsPlan SpellsCert problem plan cert (outcome_of verdict)
-
--- what has to be claimed
-abbrev pub claim_of : Verdict → Claim
-claim_of (Optimal sum) = claim.Cost sum
-claim_of Impossible = claim.Impossible
-
--- what a plan text says is good for the verdict: a valid plan with that sum, or that no plan is valid
-abbrev pub IsGoodFor : Instance → PlanSays → Verdict → Type 0
-IsGoodFor problem (SaysPlan plan) (Optimal sum) = IsValid problem plan × IsSumOfCosts problem.agents plan sum
-IsGoodFor problem (SaysPlan plan) Impossible = ⊥
-IsGoodFor problem SaysImpossible (Optimal sum) = ⊥
-IsGoodFor problem SaysImpossible Impossible = Unit {0}
-IsGoodFor problem SaysLimit verdict = ⊥
+-- the answer of a plan text fits the verdict: a valid plan with its sum, or `impossible`, which only a certificate shows,
+-- for `impossible`
+abbrev pub IsGoodFor : Instance → PlanAnswer → Verdict → Type 0
+IsGoodFor problem (answers.Found plan) (Optimal sum) = IsValid problem plan × IsSumOfCosts problem.agents plan sum
+IsGoodFor problem (answers.Found plan) Impossible = ⊥
+IsGoodFor problem answers.Impossible (Optimal sum) = ⊥
+IsGoodFor problem answers.Impossible Impossible = Unit {0}
+IsGoodFor problem (answers.Limit cause) verdict = ⊥
 
 -- the bytes spell such a plan text for the problem
 pub record IsGoodPlan (problem : Instance) (bytes : List ℕ) (verdict : Verdict) : Type 0 where
-  pub says : PlanSays
+  pub says : PlanAnswer
   pub spelled : SpellsPlan problem.grid bytes (length problem.agents) says
   pub good : IsGoodFor problem says verdict
+
+-- the claim that a certificate has to make for the verdict
+abbrev pub claim_of : Verdict → Claim
+claim_of (Optimal sum) = claim.Cost sum
+claim_of Impossible = claim.Impossible
 
 -- the bytes spell a certificate for the problem that shows the claim
 pub record IsGoodCert (problem : Instance) (claimed : Claim) (bytes : List ℕ) : Type 0 where
@@ -50,6 +52,17 @@ pub record IsGoodCert (problem : Instance) (claimed : Claim) (bytes : List ℕ) 
   pub spelled : SpellsCert problem.grid bytes (length problem.agents) claimed tree
   pub shows : Shows problem claimed tree
 
+-- the two texts are accepted with the verdict: the plan text is good for it, and the certificate shows what has to be
+-- claimed
+pub record AreAccepted (problem : Instance) (plan_text cert_text : List ℕ) (verdict : Verdict) : Type 0 where
+  pub plan : IsGoodPlan problem plan_text verdict
+  pub cert : IsGoodCert problem (claim_of verdict) cert_text
+
 -- some tree shows the claim
 abbrev pub IsShown : Instance → Claim → Type 0
 IsShown problem claimed = (tree : ConstraintTree) × Shows problem claimed tree
+
+-- whatever is accepted is so: what is good for a verdict, with a tree that shows what has to be claimed, is as the
+-- verdict says
+abbrev pub AcceptedIsTrue : Type 0
+AcceptedIsTrue = (problem : Instance) (says : PlanAnswer) (verdict : Verdict) → IsGoodFor problem says verdict → IsShown problem (claim_of verdict) → IsTrueOf problem says verdict

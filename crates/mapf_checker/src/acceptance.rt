@@ -1,15 +1,17 @@
-ghost use Rattle.std.specs.Prelude.{◌≡◌, ◌↔◌, ◌⊎◌, ◌<◌, ◌≤◌, ℕ, List, Some, true, false, length, IfOk, IfErr, OnOk, IsErrOf, MatchResult};
+ghost use Rattle.std.specs.Prelude.{◌≡◌, ◌↔◌, ◌⊎◌, ◌<◌, ◌≤◌, ℕ, List, Some, true, false, length};
+ghost use Rattle.std.specs.Prelude.{IfOk, IfErr, OnOk, IsErrOf, MatchResult};
 ghost use Rattle.std.specs.Io.KnownBytes.{Consumes};
 ghost use Rattle.mapf_certificate.specs.Window.{Pulls};
 ghost use Rattle.mapf_checker.specs.declared.fault.Verdict.{Verdict};
-ghost use Rattle.mapf_checker.specs.Faults.{HasNoInnerMemory, HasNoTextMemory, IfRefused, IsNoRefusal};
+ghost use Rattle.mapf_checker.specs.Faults.{IsNoMemoryRefusal, HasNoTextMemory, IfRefused, IsNoRefusal};
 ghost use Rattle.mapf_checker.specs.Refusals.{HasRefusal};
 ghost use Rattle.mapf_checker.specs.Verdict.{AreAccepted, IsGoodPlan, IsTrueText, claim_of};
 
 use crate::cert_judge::judge_cert;
 use crate::fault::{CheckFault, FromFault, Verdict};
+use crate::laws::accepted_is_true;
 use crate::plan_judge::judge_plan;
-use mapf_model::{BytesSource, Claim, Problem, Source, laws};
+use mapf_model::{BytesSource, Claim, Problem, Source};
 use std::alloc::Global;
 
 /// The verdict of two texts that are accepted for the problem. The plan text is judged first, then
@@ -24,8 +26,10 @@ pub fn check(
     ensures truth { IfOk result (IsTrueText problem.now plan_text.now) }
     // What is accepted is accepted by definition, and what is so is accepted, unless memory is refused.
     ensures accepted { IfOk result (AreAccepted problem.now plan_text.now cert_text.now) }
-    ensures only { (verdict : Verdict) → AreAccepted problem.now plan_text.now cert_text.now verdict → MatchResult result (λ given. given ≡ verdict) (λ fault. fault ≡ CheckFault.Memory) }
-    ensures refused { IfErr result (λ fault. (fault ≡ CheckFault.Memory) ⊎ HasRefusal problem.now plan_text.now (Some cert_text.now) fault) }
+    ensures only { (verdict : Verdict) → AreAccepted problem.now plan_text.now cert_text.now verdict
+        → MatchResult result (λ given. given ≡ verdict) (λ fault. fault ≡ CheckFault.Memory) }
+    ensures refused { IfErr result (λ fault. (fault ≡ CheckFault.Memory)
+        ⊎ HasRefusal problem.now plan_text.now (Some cert_text.now) fault) }
     // Want of memory is told by `CheckFault::Memory` alone.
     ensures inner { IfErr result HasNoTextMemory }
 {
@@ -53,21 +57,26 @@ pub fn check_from<S: Source>(
     ensures truth { IfOk result (IsTrueText problem.now plan_text.now) }
     // Where the source tells its bytes: what is accepted is accepted by definition, and what is so is accepted,
     // unless memory is refused, the source fails or too many bytes come.
-    ensures accepted { (bytes : List ℕ) → S.remaining source.old ≡ Some bytes → IfOk result (AreAccepted problem.now plan_text.now bytes) }
-    ensures only { (bytes : List ℕ) (verdict : Verdict) → S.remaining source.old ≡ Some bytes → AreAccepted problem.now plan_text.now bytes verdict → MatchResult result (λ given. given ≡ verdict) IsNoRefusal }
+    ensures accepted { (bytes : List ℕ) → S.remaining source.old ≡ Some bytes
+        → IfOk result (AreAccepted problem.now plan_text.now bytes) }
+    ensures only { (bytes : List ℕ) (verdict : Verdict) → S.remaining source.old ≡ Some bytes
+        → AreAccepted problem.now plan_text.now bytes verdict
+        → MatchResult result (λ given. given ≡ verdict) IsNoRefusal }
     ensures refused { IfErr result (IfRefused (HasRefusal problem.now plan_text.now (S.remaining source.old))) }
     // Want of memory is told by `FromFault::Memory` alone.
-    ensures inner { IfErr result HasNoInnerMemory }
+    ensures inner { IfErr result IsNoMemoryRefusal }
     // A certificate that has more bytes than are allowed is never accepted.
     ensures within { (bytes : List ℕ) → S.remaining source.old ≡ Some bytes → OnOk result (length bytes ≤ limit) }
     // Nothing is pulled where the plan text isn't good.
-    ensures unpulled { ((verdict : Verdict) → IsGoodPlan problem.now plan_text.now verdict → ⊥) → source.new ≡ source.old }
+    ensures unpulled { ((verdict : Verdict) → IsGoodPlan problem.now plan_text.now verdict → ⊥)
+        → source.new ≡ source.old }
     ensures device { IsErrOf result FromFault.Device ↔ (S.has_failed source.new ≡ true) }
     // At most one byte more than the limit is pulled, and `TooLong` is answered just where it came.
     ensures pulls { Pulls (S.remaining source.old) (S.remaining source.new) limit (IsErrOf result FromFault.TooLong) }
-    ensures too_long { IsErrOf result FromFault.TooLong → (came : List ℕ) × Consumes (S.remaining source.old) (S.remaining source.new) came × (limit < length came) }
+    ensures too_long { IsErrOf result FromFault.TooLong → (came : List ℕ)
+        × Consumes (S.remaining source.old) (S.remaining source.new) came × (limit < length came) }
 {
-    laws::shown_claims_hold();
+    accepted_is_true();
     let verdict = judge_plan(alloc, problem, plan_text)?;
     judge_cert(alloc, problem, &claimed_by(verdict), source, limit)?;
     Ok(verdict)

@@ -1,12 +1,14 @@
-ghost use Rattle.std.specs.Prelude.{◌≡◌, ◌↔◌, ◌∷◌, ◌<◌, ◌≤◌, [], ℕ, List, Option, Some, false, length, IfErr, IfOk, OnOk, IsTrue, MatchBool};
+ghost use Rattle.std.specs.Prelude.{◌≡◌, ◌↔◌, ◌∷◌, ◌<◌, ◌≤◌, [], ℕ, List, Option, Some, false, length};
+ghost use Rattle.std.specs.Prelude.{IfErr, IfOk, OnOk, IsTrue};
 ghost use Rattle.mapf_certificate.specs.Buffered.{spare};
 ghost use Rattle.mapf_certificate.specs.CertReading.{Awaits, AwaitsCert, TakesHeader};
 ghost use Rattle.mapf_certificate.specs.Reading.{Reading};
 ghost use Rattle.mapf_certificate.specs.Window.{ComesWithin};
 ghost use Rattle.mapf_model.specs.declared.item.Claim.{Claim};
 ghost use Rattle.mapf_model.specs.Tree.{Node, NodesShow, root};
-ghost use Rattle.mapf_checker.specs.CertJudging.{IsOpened, IsHeaded, HasHeaderRefusal, HasTreeRefusal, IsBetweenItems, IsJudgedTree, IsReadTo};
-ghost use Rattle.mapf_checker.specs.Faults.{Stops, IsNoRefusal};
+ghost use Rattle.mapf_checker.specs.CertJudging.{IsOpened, IsHeaded, IsBetweenItems, IsReadTo, IsReadOn, IsJudgedTree};
+ghost use Rattle.mapf_checker.specs.CertJudging.{HasHeaderRefusal, HasTreeRefusal};
+ghost use Rattle.mapf_checker.specs.Faults.{IsOfChecking, IsNoRefusal};
 ghost use Rattle.mapf_checker.specs.Progress.{owed_by};
 ghost use Rattle.mapf_checker.specs.Refusals.{HasCertRefusal};
 ghost use Rattle.mapf_checker.specs.Verdict.{IsShown, IsGoodCert};
@@ -30,10 +32,13 @@ pub fn judge_cert<S: Source>(
     ensures came { OnOk result (ComesWithin (S.remaining source.old) (S.remaining source.new)
         (record { bytes = []; left = limit })) }
     ensures shown { OnOk result (IsShown problem.now claim.now) }
-    ensures good { (bytes : List ℕ) → S.remaining source.old ≡ Some bytes → OnOk result (IsGoodCert problem.now claim.now bytes) }
+    ensures good { (bytes : List ℕ) → S.remaining source.old ≡ Some bytes
+        → OnOk result (IsGoodCert problem.now claim.now bytes) }
     ensures within { (bytes : List ℕ) → S.remaining source.old ≡ Some bytes → OnOk result (length bytes ≤ limit) }
-    ensures only { (bytes : List ℕ) → S.remaining source.old ≡ Some bytes → IsGoodCert problem.now claim.now bytes → IfErr result IsNoRefusal }
-    ensures stops { IfErr result (Stops (S.remaining source.old) (S.remaining source.new) (S.has_failed source.new) (record { bytes = []; left = limit })
+    ensures only { (bytes : List ℕ) → S.remaining source.old ≡ Some bytes → IsGoodCert problem.now claim.now bytes
+        → IfErr result IsNoRefusal }
+    ensures stops { IfErr result (IsOfChecking (S.remaining source.old) (S.remaining source.new)
+        (S.has_failed source.new) (record { bytes = []; left = limit })
         (HasCertRefusal problem.now claim.now (S.remaining source.old))) }
 {
     laws::items_are_judged_by_front();
@@ -55,10 +60,16 @@ fn judge_header<S: Source>(
     requires opened { IsOpened problem.now lines.old }
     ensures works { OnOk result (S.has_failed source.new ≡ false) }
     ensures headed { OnOk result (IsHeaded problem.now claim.now lines.new) }
-    ensures taken { OnOk result (TakesHeader (S.remaining source.old) (S.remaining source.new) lines.old lines.new (length problem.now.agents) claim.now) }
-    ensures ahead { OnOk result ((agents : ℕ) (claimed : Claim) (nodes : List Node) → AwaitsCert (S.remaining source.old) lines.old agents claimed nodes → Awaits (S.remaining source.new) lines.new nodes) }
-    ensures only { (nodes : List Node) → AwaitsCert (S.remaining source.old) lines.old (length problem.now.agents) claim.now nodes → IfErr result IsNoRefusal }
-    ensures stops { IfErr result (Stops (S.remaining source.old) (S.remaining source.new) (S.has_failed source.new) lines.old.buffer
+    ensures taken { OnOk result (TakesHeader (S.remaining source.old) (S.remaining source.new) lines.old lines.new
+        (length problem.now.agents) claim.now) }
+    ensures ahead { OnOk result ((agents : ℕ) (claimed : Claim) (nodes : List Node)
+        → AwaitsCert (S.remaining source.old) lines.old agents claimed nodes
+        → Awaits (S.remaining source.new) lines.new nodes) }
+    ensures only { (nodes : List Node)
+        → AwaitsCert (S.remaining source.old) lines.old (length problem.now.agents) claim.now nodes
+        → IfErr result IsNoRefusal }
+    ensures stops { IfErr result (IsOfChecking (S.remaining source.old) (S.remaining source.new)
+        (S.has_failed source.new) lines.old.buffer
         (HasHeaderRefusal problem.now claim.now (S.remaining source.old) lines.old)) }
 {
     let (agents, claimed) = lines.header(source)?;
@@ -94,8 +105,10 @@ fn judge_tree<S: Source>(
     ensures works { OnOk result (S.has_failed source.new ≡ false) }
     ensures came { OnOk result (ComesWithin (S.remaining source.old) (S.remaining source.new) lines.old.buffer) }
     ensures judged { OnOk result (IsJudgedTree problem.now claim.now (S.remaining source.old) lines.old) }
-    ensures only { (nodes : List Node) → Awaits (S.remaining source.old) lines.old nodes → NodesShow problem.now claim.now (root ∷ []) nodes → IfErr result IsNoRefusal }
-    ensures stops { IfErr result (Stops (S.remaining source.old) (S.remaining source.new) (S.has_failed source.new) lines.old.buffer
+    ensures only { (nodes : List Node) → Awaits (S.remaining source.old) lines.old nodes
+        → NodesShow problem.now claim.now (root ∷ []) nodes → IfErr result IsNoRefusal }
+    ensures stops { IfErr result (IsOfChecking (S.remaining source.old) (S.remaining source.new)
+        (S.has_failed source.new) lines.old.buffer
         (HasTreeRefusal problem.now claim.now (S.remaining source.old) lines.old)) }
 {
     let mut progress = Progress::new(alloc);
@@ -118,15 +131,10 @@ fn judge_next<S: Source>(
     ensures between { IfOk result (λ came. IsTrue came → IsBetweenItems problem.now claim.now lines.new progress.new) }
     ensures nearer { IfOk result (λ came. IsTrue came → spare lines.new.buffer < spare lines.old.buffer) }
     // Whatever was read and judged before it.
-    ensures read { (had : Option (List ℕ)) (start : Reading) → IsReadTo problem.now claim.now had (S.remaining source.old) start lines.old (owed_by progress.old)
-        → IfOk result (λ came. MatchBool came (IsReadTo problem.now claim.now had (S.remaining source.new) start lines.new (owed_by progress.new)) (IsJudgedTree problem.now claim.now had start)) }
-    ensures only { (had : Option (List ℕ)) (start : Reading) (nodes : List Node) → IsReadTo problem.now claim.now had (S.remaining source.old) start lines.old (owed_by progress.old)
-        → Awaits had start nodes → NodesShow problem.now claim.now (root ∷ []) nodes → IfErr result IsNoRefusal }
-    ensures came { (had : Option (List ℕ)) (start : Reading)
+    ensures judged { (had : Option (List ℕ)) (start : Reading)
         → IsReadTo problem.now claim.now had (S.remaining source.old) start lines.old (owed_by progress.old)
-        → OnOk result (ComesWithin had (S.remaining source.new) start.buffer) }
-    ensures stops { (had : Option (List ℕ)) (start : Reading) → IsReadTo problem.now claim.now had (S.remaining source.old) start lines.old (owed_by progress.old)
-        → IfErr result (Stops had (S.remaining source.new) (S.has_failed source.new) start.buffer (HasTreeRefusal problem.now claim.now had start)) }
+        → IsReadOn problem.now claim.now had (S.remaining source.new) (S.has_failed source.new) start lines.new
+        (owed_by progress.new) result }
 {
     laws::items_are_judged_by_front();
     let Some(item) = lines.next_item(source)? else {

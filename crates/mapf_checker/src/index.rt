@@ -1,11 +1,13 @@
-ghost use Rattle.std.specs.Prelude.{◌≡◌, ◌≢◌, ◌↔◌, ◌≤◌, ◌<◌, ℕ, [], List, Some, None, Contains, IfOk, OnOk, OnErr, IsOk, IsTrue, MatchBool, MatchOption, IsSome, max, unwrap_or};
+ghost use Rattle.std.specs.Prelude.{◌≡◌, ◌↔◌, ◌<◌, ℕ, [], List, Some, None, Contains, IsSome, IsTrue, max, unwrap_or};
+ghost use Rattle.std.specs.Prelude.{IfOk, OnOk, OnErr, MatchBool};
 ghost use Rattle.std.specs.HashMap.{get, spare};
 ghost use Rattle.mapf_model.specs.declared.bar.Bar.{Bar};
-ghost use Rattle.mapf_model.specs.Tree.{with_bar};
-ghost use Rattle.mapf_checker.specs.Keys.{same_bar, same_cell};
+ghost use Rattle.mapf_model.specs.Tree.{with_constraint};
+ghost use Rattle.mapf_checker.specs.Index.{AreOthersKept};
+ghost use Rattle.mapf_checker.specs.Keys.{same_constraint, same_cell};
 
-use crate::bound::{AgentBar, AgentCell, cell_of};
-use mapf_model::{Bar, Cell, OutOfMemory, Tick};
+use crate::agent_cell::{AgentCell, cell_of};
+use mapf_model::{Bar, Cell, Constraint, OutOfMemory, Tick};
 use std::alloc::Global;
 use std::collections::HashMap;
 
@@ -22,13 +24,13 @@ pub struct Undo {
 /// that was added.
 #[derive(Drop)]
 pub struct BarIndex {
-    bars: HashMap<AgentBar, ()>,
+    bars: HashMap<Constraint, ()>,
     // The last tick at which a cell is barred.
     last: HashMap<AgentCell, Tick>,
 }
 
 impl BarIndex {
-    ghost use Rattle.mapf_checker.specs.Index.{Indexes, CanUndo};
+    ghost use Rattle.mapf_checker.specs.Index.{Indexes, CanUndo, IsBarredFrom};
 
     /// No bars.
     pub fn new(alloc: Global) -> BarIndex
@@ -40,15 +42,16 @@ impl BarIndex {
         }
     }
 
-    pub fn has(&self, bound: &AgentBar) -> bool
-        ensures { (bars : ℕ → List Bar) → Indexes bars self.now → IsTrue result ↔ Contains (bars bound.now.agent) bound.now.bar }
+    pub fn has(&self, constraint: &Constraint) -> bool
+        ensures { (bars : ℕ → List Bar) → Indexes bars self.now
+            → IsTrue result ↔ Contains (bars constraint.now.agent) constraint.now.bar }
     {
-        self.bars.contains_key(bound)
+        self.bars.contains_key(constraint)
     }
 
     /// Whether the cell is barred to the agent at this tick or later.
     pub fn has_from(&self, agent: u32, cell: Cell, tick: Tick) -> bool
-        ensures { (bars : ℕ → List Bar) → Indexes bars self.now → IsTrue result ↔ ((later : ℕ) × (tick ≤ later) × Contains (bars agent) (Bar.Cell cell later)) }
+        ensures { (bars : ℕ → List Bar) → Indexes bars self.now → IsTrue result ↔ IsBarredFrom (bars agent) cell tick }
     {
         match self.last.get(&AgentCell { agent, cell }) {
             Some(last) => tick <= *last,
@@ -57,14 +60,16 @@ impl BarIndex {
     }
 
     /// Adds a bar.
-    pub fn add(&mut self, bound: &AgentBar) -> Result<Undo, OutOfMemory>
-        ensures added { OnOk result ((bars : ℕ → List Bar) → Indexes bars self.old → Indexes (with_bar bars bound.now.agent bound.now.bar) self.new) }
-        ensures undo { IfOk result (λ undo. (bars : ℕ → List Bar) → Indexes bars self.old → CanUndo bars bound.now undo) }
+    pub fn add(&mut self, constraint: &Constraint) -> Result<Undo, OutOfMemory>
+        ensures added { OnOk result ((bars : ℕ → List Bar) → Indexes bars self.old
+            → Indexes (with_constraint bars constraint.now) self.new) }
+        ensures undo { IfOk result (λ undo. (bars : ℕ → List Bar) → Indexes bars self.old
+            → CanUndo bars constraint.now undo) }
         ensures unchanged { OnErr result ((bars : ℕ → List Bar) → Indexes bars self.old → Indexes bars self.new) }
     {
         self.last.reserve(1)?;
-        let is_new = insert_bar(&mut self.bars, bound)?;
-        let last = match cell_of(bound) {
+        let is_new = insert_bar(&mut self.bars, constraint)?;
+        let last = match cell_of(constraint) {
             Some((seen, tick)) => raise_last(&mut self.last, seen, tick),
             None => None,
         };
@@ -72,38 +77,47 @@ impl BarIndex {
     }
 
     /// Takes the bar away that was added last.
-    pub fn undo(&mut self, bound: &AgentBar, undo: &Undo)
-        ensures { (bars : ℕ → List Bar) → Indexes (with_bar bars bound.now.agent bound.now.bar) self.old → CanUndo bars bound.now undo.now → Indexes bars self.new }
+    pub fn undo(&mut self, constraint: &Constraint, undo: &Undo)
+        ensures { (bars : ℕ → List Bar) → Indexes (with_constraint bars constraint.now) self.old
+            → CanUndo bars constraint.now undo.now → Indexes bars self.new }
     {
-        remove_if_new(&mut self.bars, bound, undo.is_new);
-        if let Some((seen, _)) = cell_of(bound) {
+        remove_if_new(&mut self.bars, constraint, undo.is_new);
+        if let Some((seen, _)) = cell_of(constraint) {
             restore_last(&mut self.last, seen, undo.last);
         }
     }
 }
 
 // Adds a bar, and answers whether it is new.
-fn insert_bar(bars: &mut HashMap<AgentBar, ()>, bound: &AgentBar) -> Result<bool, OutOfMemory>
-    ensures is_new { IfOk result (λ is_new. MatchBool is_new (get same_bar bars.old bound.now ≡ None) (IsSome (get same_bar bars.old bound.now))) }
-    ensures here { OnOk result (IsSome (get same_bar bars.new bound.now)) }
-    ensures others { OnOk result ((other : AgentBar) → other ≢ bound.now → get same_bar bars.new other ≡ get same_bar bars.old other) }
-    ensures unchanged { OnErr result ((other : AgentBar) → get same_bar bars.new other ≡ get same_bar bars.old other) }
+fn insert_bar(
+    bars: &mut HashMap<Constraint, ()>,
+    constraint: &Constraint,
+) -> Result<bool, OutOfMemory>
+    ensures is_new { IfOk result (λ is_new. MatchBool is_new (get same_constraint bars.old constraint.now ≡ None)
+        (IsSome (get same_constraint bars.old constraint.now))) }
+    ensures here { OnOk result (IsSome (get same_constraint bars.new constraint.now)) }
+    ensures others { OnOk result (AreOthersKept constraint.now (get same_constraint bars.old)
+        (get same_constraint bars.new)) }
+    ensures unchanged { OnErr result ((other : Constraint)
+        → get same_constraint bars.new other ≡ get same_constraint bars.old other) }
 {
-    let bar: Bar = bound.bar;
-    let key = AgentBar {
-        agent: bound.agent,
+    // The prover has to meet the type of the bar here.
+    let bar: Bar = constraint.bar;
+    let key = Constraint {
+        agent: constraint.agent,
         bar,
     };
     Ok(bars.insert(key, ())?.is_none())
 }
 
 // Takes a bar away, if it was new.
-fn remove_if_new(bars: &mut HashMap<AgentBar, ()>, bound: &AgentBar, is_new: bool)
-    ensures here { MatchBool is_new (get same_bar bars.new bound.now ≡ None) (get same_bar bars.new bound.now ≡ get same_bar bars.old bound.now) }
-    ensures others { (other : AgentBar) → other ≢ bound.now → get same_bar bars.new other ≡ get same_bar bars.old other }
+fn remove_if_new(bars: &mut HashMap<Constraint, ()>, constraint: &Constraint, is_new: bool)
+    ensures here { MatchBool is_new (get same_constraint bars.new constraint.now ≡ None)
+        (get same_constraint bars.new constraint.now ≡ get same_constraint bars.old constraint.now) }
+    ensures others { AreOthersKept constraint.now (get same_constraint bars.old) (get same_constraint bars.new) }
 {
     if is_new {
-        bars.remove(bound);
+        bars.remove(constraint);
     }
 }
 
@@ -112,7 +126,7 @@ fn raise_last(lasts: &mut HashMap<AgentCell, Tick>, seen: AgentCell, tick: Tick)
     requires { 0 < spare lasts.old }
     ensures before { result ≡ get same_cell lasts.old seen }
     ensures here { get same_cell lasts.new seen ≡ Some (max (unwrap_or result 0) tick) }
-    ensures others { (other : AgentCell) → other ≢ seen → get same_cell lasts.new other ≡ get same_cell lasts.old other }
+    ensures others { AreOthersKept seen (get same_cell lasts.old) (get same_cell lasts.new) }
 {
     let before = lasts.get(&seen).copied();
     let last = before.unwrap_or(0).max(tick);
@@ -124,7 +138,7 @@ fn raise_last(lasts: &mut HashMap<AgentCell, Tick>, seen: AgentCell, tick: Tick)
 // The last tick of a cell is again what it was.
 fn restore_last(lasts: &mut HashMap<AgentCell, Tick>, seen: AgentCell, before: Option<Tick>)
     ensures here { IsSome (get same_cell lasts.old seen) → get same_cell lasts.new seen ≡ before }
-    ensures others { (other : AgentCell) → other ≢ seen → get same_cell lasts.new other ≡ get same_cell lasts.old other }
+    ensures others { AreOthersKept seen (get same_cell lasts.old) (get same_cell lasts.new) }
 {
     match before {
         None => {

@@ -1,23 +1,25 @@
-ghost use Rattle.std.specs.Prelude.{◌≡◌, ◌+◌, ◌<◌, ◌≤◌, ◌↔◌, ℕ, All, AllPairs, IsTrue, Contains};
+ghost use Rattle.std.specs.Prelude.{◌≡◌, ◌≤◌, ◌↔◌, All, AllPairs, IsTrue, Contains};
 ghost use Rattle.mapf_model.specs.Grid.{IsFree, Step};
-ghost use Rattle.mapf_model.specs.Labels.{entries_of, IsSoundEntry, IsWithinOne, MayGo};
+ghost use Rattle.mapf_model.specs.Limits.{greatest_cost};
 ghost use Rattle.mapf_model.specs.Printed.{IsBefore};
 ghost use Rattle.mapf_checker.specs.AgentProblem.{HasGoalDistances, bars_on};
+ghost use Rattle.mapf_checker.specs.AgentProblem.{IsConsistent, IsConsistentStep, IsSoundAmong};
+ghost use Rattle.mapf_checker.specs.Index.{IsBarredFrom};
 
+use crate::branch::Branch;
 use crate::labels::{exceeds, is_within_one, label_at};
-use crate::way::Way;
 use mapf_distance::Distances;
 use mapf_model::{Bar, Cell, Entry, Grid, laws};
 use std::alloc::Global;
 
 /// What the entries of one agent are judged against: its own problem at a node of the tree, with the bars
-/// on the way there.
+/// on the branch to it.
 #[derive(Drop)]
 pub struct AgentProblem<'a> {
     pub grid: &'a Grid,
     /// The distances to the agent's goal.
     pub distances: &'a Distances,
-    pub way: &'a Way,
+    pub branch: &'a Branch,
     pub agent: u32,
     pub goal: Cell,
 }
@@ -28,8 +30,8 @@ pub struct AgentProblem<'a> {
 pub fn is_sound(alloc: Global, own: &AgentProblem, entries: &[Entry], entry: &Entry) -> bool
     requires distances { HasGoalDistances own.now }
     requires rising { AllPairs IsBefore entries.now }
-    requires tick { entry.now.tick ≤ 9999999 }
-    ensures { IsTrue result ↔ IsSoundEntry own.now.grid.now own.now.goal (bars_on own.now) (entries_of entries.now) entry.now.cell entry.now.tick entry.now.label }
+    requires tick { entry.now.tick ≤ greatest_cost }
+    ensures { IsTrue result ↔ IsSoundAmong own.now entries.now entry.now }
 {
     let Some(distance) = own.distances.get(entry.cell) else {
         return false;
@@ -47,19 +49,20 @@ fn is_barred(own: &AgentProblem, entry: &Entry) -> bool
         cell: entry.cell,
         tick: entry.tick,
     };
-    own.way.has(own.agent, bar)
+    own.branch.has(own.agent, bar)
 }
 
 // Whether a state that isn't barred can have its label.
 fn is_open_sound(alloc: Global, own: &AgentProblem, entries: &[Entry], entry: &Entry) -> bool
     requires distances { HasGoalDistances own.now }
     requires rising { AllPairs IsBefore entries.now }
-    requires tick { entry.now.tick ≤ 9999999 }
+    requires tick { entry.now.tick ≤ greatest_cost }
     requires free { IsFree own.now.grid.now entry.now.cell }
-    ensures { IsTrue result ↔ ((entry.now.cell ≡ own.now.goal → (later : ℕ) × (entry.now.tick ≤ later) × Contains (bars_on own.now) (Bar.Cell own.now.goal later))
-        × ((next : ℕ) → MayGo own.now.grid.now (bars_on own.now) entry.now.cell next entry.now.tick → IsWithinOne own.now.grid.now own.now.goal (entries_of entries.now) entry.now.label next (entry.now.tick + 1))) }
+    ensures { IsTrue result ↔ ((entry.now.cell ≡ own.now.goal
+        → IsBarredFrom (bars_on own.now) own.now.goal entry.now.tick)
+        × IsConsistent own.now entries.now entry.now) }
 {
-    if entry.cell == own.goal && !own.way.has_from(own.agent, own.goal, entry.tick) {
+    if entry.cell == own.goal && !own.branch.has_from(own.agent, own.goal, entry.tick) {
         return false;
     }
     goes_on(alloc, own, entries, entry)
@@ -69,9 +72,9 @@ fn is_open_sound(alloc: Global, own: &AgentProblem, entries: &[Entry], entry: &E
 fn goes_on(alloc: Global, own: &AgentProblem, entries: &[Entry], entry: &Entry) -> bool
     requires distances { HasGoalDistances own.now }
     requires rising { AllPairs IsBefore entries.now }
-    requires tick { entry.now.tick ≤ 9999999 }
+    requires tick { entry.now.tick ≤ greatest_cost }
     requires free { IsFree own.now.grid.now entry.now.cell }
-    ensures { IsTrue result ↔ ((next : ℕ) → MayGo own.now.grid.now (bars_on own.now) entry.now.cell next entry.now.tick → IsWithinOne own.now.grid.now own.now.goal (entries_of entries.now) entry.now.label next (entry.now.tick + 1)) }
+    ensures { IsTrue result ↔ IsConsistent own.now entries.now entry.now }
 {
     let steps = own.grid.steps(alloc, entry.cell);
     steps_hold(steps.as_slice(), own, entries, entry)
@@ -80,9 +83,9 @@ fn goes_on(alloc: Global, own: &AgentProblem, entries: &[Entry], entry: &Entry) 
 fn steps_hold(steps: &[Cell], own: &AgentProblem, entries: &[Entry], entry: &Entry) -> bool
     requires distances { HasGoalDistances own.now }
     requires rising { AllPairs IsBefore entries.now }
-    requires tick { entry.now.tick ≤ 9999999 }
+    requires tick { entry.now.tick ≤ greatest_cost }
     requires steps { All (λ next. Step own.now.grid.now entry.now.cell next) steps.now }
-    ensures { IsTrue result ↔ All (λ next. MayGo own.now.grid.now (bars_on own.now) entry.now.cell next entry.now.tick → IsWithinOne own.now.grid.now own.now.goal (entries_of entries.now) entry.now.label next (entry.now.tick + 1)) steps.now }
+    ensures { IsTrue result ↔ All (IsConsistentStep own.now entries.now entry.now) steps.now }
 {
     for next in steps {
         if !step_holds(own, entries, entry, *next) {
@@ -96,9 +99,9 @@ fn steps_hold(steps: &[Cell], own: &AgentProblem, entries: &[Entry], entry: &Ent
 fn step_holds(own: &AgentProblem, entries: &[Entry], entry: &Entry, next: Cell) -> bool
     requires distances { HasGoalDistances own.now }
     requires rising { AllPairs IsBefore entries.now }
-    requires tick { entry.now.tick ≤ 9999999 }
+    requires tick { entry.now.tick ≤ greatest_cost }
     requires step { Step own.now.grid.now entry.now.cell next }
-    ensures { IsTrue result ↔ (MayGo own.now.grid.now (bars_on own.now) entry.now.cell next entry.now.tick → IsWithinOne own.now.grid.now own.now.goal (entries_of entries.now) entry.now.label next (entry.now.tick + 1)) }
+    ensures { IsTrue result ↔ IsConsistentStep own.now entries.now entry.now next }
 {
     laws::definitions_are_decided();
     // Few steps are barred, and a label tells more often than a bar.
@@ -110,7 +113,7 @@ fn step_holds(own: &AgentProblem, entries: &[Entry], entry: &Entry, next: Cell) 
         cell: next,
         tick: entry.tick + 1,
     };
-    if own.way.has(own.agent, arrival) {
+    if own.branch.has(own.agent, arrival) {
         return true;
     }
     let departure = Bar::Move {
@@ -118,5 +121,5 @@ fn step_holds(own: &AgentProblem, entries: &[Entry], entry: &Entry, next: Cell) 
         to: next,
         tick: entry.tick,
     };
-    own.way.has(own.agent, departure)
+    own.branch.has(own.agent, departure)
 }

@@ -1,9 +1,9 @@
 ghost use Rattle.std.specs.Prelude.{◌≡◌, ◌+◌, ◌<◌, ◌≤◌, ℕ, length, OnOk, IfErr, IfNone, IfSome, slice_index};
 ghost use Rattle.mapf_model.specs.Grid.{IsFree, Step};
+ghost use Rattle.mapf_model.specs.Limits.{most_path_cells};
 ghost use Rattle.mapf_model.specs.Path.{IsLawful};
 ghost use Rattle.mapf_checker.specs.PathDefects.{HasPathDefect};
 
-use crate::step::is_step;
 use mapf_model::{Agent, Cell, Grid, Path, Tick, laws};
 
 /// What is wrong with one agent's path.
@@ -36,13 +36,14 @@ pub fn check_path(grid: &Grid, agent: &Agent, path: &Path) -> Result<(), PathFau
 
 // The least place from which there is no step to the next.
 fn first_bad_step(grid: &Grid, cells: &[Cell]) -> Option<Tick>
-    requires { length cells.now ≤ 10000000 }
+    requires { length cells.now ≤ most_path_cells }
     ensures some { IfSome result (λ k. k + 1 < length cells.now) }
     ensures bad { IfSome result (λ k. Step grid.now (slice_index cells.now k) (slice_index cells.now (k + 1)) → ⊥) }
-    ensures none { IfNone result ((k : ℕ) → k + 1 < length cells.now → Step grid.now (slice_index cells.now k) (slice_index cells.now (k + 1))) }
+    ensures none { IfNone result ((k : ℕ) → k + 1 < length cells.now
+        → Step grid.now (slice_index cells.now k) (slice_index cells.now (k + 1))) }
 {
     for k in 1..cells.len() {
-        if !is_step(grid, cells[k - 1], cells[k]) {
+        if !grid.is_step(cells[k - 1], cells[k]) {
             return Some((k - 1) as u32);
         }
     }

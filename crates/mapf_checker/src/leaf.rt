@@ -1,19 +1,22 @@
-ghost use Rattle.std.specs.Prelude.{◌≡◌, ◌+◌, ◌*◌, ◌<◌, ◌≤◌, ◌↔◌, ℕ, List, All, AllPairs, length, false, IsTrue, IfNone, IfSome, ◌^◌, OnOk, OnErr, IfOk, IfErr};
+ghost use Rattle.std.specs.Prelude.{◌≡◌, ◌+◌, ◌<◌, ◌≤◌, ◌^◌, ◌↔◌, All, AllPairs, length, false};
+ghost use Rattle.std.specs.Prelude.{IsTrue, IfNone, IfSome, OnOk, OnErr, IfErr};
 ghost use Rattle.std.specs.Option.{ForSome};
 ghost use Rattle.mapf_model.specs.declared.item.Claim.{Claim};
 ghost use Rattle.mapf_model.specs.Labels.{entries_of, AreSound, label_plus};
+ghost use Rattle.mapf_model.specs.Limits.{greatest_cost};
 ghost use Rattle.mapf_model.specs.Printed.{IsBefore, IsBlockInRange, AreBlocksInRange};
 ghost use Rattle.mapf_model.specs.Tree.{ShowsFrom, Leaf, LeafNode};
 ghost use Rattle.mapf_checker.specs.AgentProblem.{HasGoalDistances, bars_on};
 ghost use Rattle.mapf_distance.specs.Tables.{AreTables};
-ghost use Rattle.mapf_checker.specs.Leaf.{IsGoodBlock, IsStartTotal, IsEnough, IsGoalOf, IsStartOf, IsStartLabel, IsCut, TakesBlock, LeavesBlock, label_of};
+ghost use Rattle.mapf_checker.specs.Leaf.{IsGoodBlock, IsStartTotal, IsEnough, IsGoalOf, IsStartOf, IsStartLabel};
+ghost use Rattle.mapf_checker.specs.Leaf.{IsCut, TakesBlock, LeavesBlock, label_of};
 ghost use Rattle.mapf_checker.specs.NodeDefects.{HasNodeDefect, HasUnsoundBlock, HasUnsoundEntry, IsUnsoundAt};
-ghost use Rattle.mapf_checker.specs.Way.{place_of};
+ghost use Rattle.mapf_checker.specs.Branch.{place_of};
 
+use crate::branch::Branch;
 use crate::fault::CheckFault;
 use crate::judge::{AgentProblem, is_sound};
 use crate::labels::{distance_label, label_at};
-use crate::way::Way;
 use mapf_distance::Distances;
 use mapf_model::{Block, Cell, Claim, Entry, Label, OutOfMemory, Problem, laws};
 use std::alloc::Global;
@@ -24,18 +27,18 @@ pub fn judge_leaf(
     alloc: Global,
     problem: &Problem,
     tables: &[Distances],
-    way: &Way,
+    branch: &Branch,
     claim: &Claim,
     blocks: &[Block],
     line: u64,
 ) -> Result<(), CheckFault>
     requires tables { AreTables problem.now tables.now }
     requires blocks { AreBlocksInRange problem.now.grid (length problem.now.agents) blocks.now }
-    ensures ok { OnOk result (ShowsFrom problem.now claim.now (place_of way.now).here (Leaf blocks.now)) }
-    ensures err { IfErr result (HasNodeDefect problem.now claim.now (place_of way.now).here (LeafNode blocks.now)) }
+    ensures ok { OnOk result (ShowsFrom problem.now claim.now (place_of branch.now).here (Leaf blocks.now)) }
+    ensures err { IfErr result (HasNodeDefect problem.now claim.now (place_of branch.now).here (LeafNode blocks.now)) }
 {
     laws::definitions_are_decided();
-    if let Err(unsound) = judge_blocks(alloc, problem, tables, way, blocks, line) {
+    if let Err(unsound) = judge_blocks(alloc, problem, tables, branch, blocks, line) {
         return Err(CheckFault::C7(unsound));
     }
     let total = start_total(problem, tables, blocks);
@@ -51,19 +54,19 @@ fn judge_blocks(
     alloc: Global,
     problem: &Problem,
     tables: &[Distances],
-    way: &Way,
+    branch: &Branch,
     blocks: &[Block],
     line: u64,
 ) -> Result<(), u64>
     requires tables { AreTables problem.now tables.now }
     requires blocks { All (IsBlockInRange problem.now.grid (length problem.now.agents)) blocks.now }
-    ensures ok { OnOk result (All (IsGoodBlock problem.now (place_of way.now).here) blocks.now) }
-    ensures err { OnErr result (HasUnsoundBlock problem.now (place_of way.now).here blocks.now) }
+    ensures ok { OnOk result (All (IsGoodBlock problem.now (place_of branch.now).here) blocks.now) }
+    ensures err { OnErr result (HasUnsoundBlock problem.now (place_of branch.now).here blocks.now) }
 {
     let mut line = line;
     for block in blocks {
         line = line.saturating_add(1);
-        judge_block(alloc, problem, tables, way, block, line)?;
+        judge_block(alloc, problem, tables, branch, block, line)?;
         line = line.saturating_add(block.entries.len() as u64);
     }
     Ok(())
@@ -75,21 +78,21 @@ fn judge_block(
     alloc: Global,
     problem: &Problem,
     tables: &[Distances],
-    way: &Way,
+    branch: &Branch,
     block: &Block,
     line: u64,
 ) -> Result<(), u64>
     requires tables { AreTables problem.now tables.now }
     requires block { IsBlockInRange problem.now.grid (length problem.now.agents) block.now }
-    ensures ok { OnOk result (IsGoodBlock problem.now (place_of way.now).here block.now) }
-    ensures err { OnErr result (HasUnsoundEntry problem.now (place_of way.now).here block.now) }
+    ensures ok { OnOk result (IsGoodBlock problem.now (place_of branch.now).here block.now) }
+    ensures err { OnErr result (HasUnsoundEntry problem.now (place_of branch.now).here block.now) }
 {
     let agent = agent_of(block);
     let goal = goal_of(problem, agent);
     let own = AgentProblem {
         grid: problem.grid(),
         distances: &tables[agent as usize],
-        way,
+        branch,
         agent,
         goal,
     };
@@ -122,7 +125,7 @@ fn goal_of(problem: &Problem, agent: u32) -> Cell
 fn first_unsound(alloc: Global, own: &AgentProblem, entries: &[Entry]) -> Option<usize>
     requires distances { HasGoalDistances own.now }
     requires rising { AllPairs IsBefore entries.now }
-    requires ticks { All (λ entry. entry.tick ≤ 9999999) entries.now }
+    requires ticks { All (λ entry. entry.tick ≤ greatest_cost) entries.now }
     ensures none { IfNone result (AreSound own.now.grid.now own.now.goal (bars_on own.now) (entries_of entries.now)) }
     ensures some { IfSome result (IsUnsoundAt own.now entries.now) }
 {

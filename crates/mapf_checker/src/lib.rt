@@ -2,25 +2,25 @@
 #![tactic(auto)]
 
 mod acceptance;
-mod bound;
+mod agent_cell;
+mod branch;
 mod cert_judge;
+mod conflicts;
 mod fault;
 mod index;
 mod judge;
 mod labels;
 mod lawful;
+pub mod laws;
 mod leaf;
-mod meeting;
 mod plan_fault;
 mod plan_judge;
 #[cfg(test)]
 mod samples;
-mod step;
 #[cfg(test)]
 mod tests;
 mod tree;
 mod validity;
-mod way;
 
 pub use acceptance::{check, check_from};
 pub use fault::{CheckFault, FromFault, Verdict};

@@ -14,7 +14,8 @@ use std::alloc::Global;
 /// that none is.
 pub fn judge_plan(alloc: Global, problem: &Problem, plan_text: &[u8]) -> Result<Verdict, FromFault>
     ensures good { IfOk result (IsGoodPlan problem.now plan_text.now) }
-    ensures only { (verdict : Verdict) → IsGoodPlan problem.now plan_text.now verdict → MatchResult result (λ given. given ≡ verdict) (λ fault. fault ≡ FromFault.Memory) }
+    ensures only { (verdict : Verdict) → IsGoodPlan problem.now plan_text.now verdict
+        → MatchResult result (λ given. given ≡ verdict) (λ fault. fault ≡ FromFault.Memory) }
     ensures refused { IfErr result (IsOfJudging (HasPlanRefusal problem.now plan_text.now)) }
 {
     laws::sums_are_one();

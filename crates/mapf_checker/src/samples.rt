@@ -56,7 +56,8 @@ pub const CROSSING_PLAN: &str =
     "mapf-plan 1\nagents 2\ncost 5\npath 0 3 0,1 0,1 1,1 2,1\npath 1 2 1,0 1,1 1,2\nend\n";
 
 pub const CROSSING_CERT: &str =
-    "mapf-cert 1\nagents 2\nclaim cost 5\nvertex 0 1 1,1 1\nleaf 1\nagent 0 1\nat 0,1 0 3\nleaf 1\nagent 1 1\nat 1,0 0 3\nend\n";
+    "mapf-cert 1\nagents 2\nclaim cost 5\nvertex 0 1 1,1 1\nleaf 1\nagent 0 1\nat 0,1 0 3\n\
+     leaf 1\nagent 1 1\nat 1,0 0 3\nend\n";
 
 /// The text with its lines from the first to the last of these replaced, counted from 1.
 pub fn with_lines(

@@ -3,16 +3,16 @@ ghost use Rattle.mapf_certificate.specs.Certificates.{IsNode};
 ghost use Rattle.mapf_model.specs.declared.item.Claim.{Claim};
 ghost use Rattle.mapf_model.specs.Plan.{Instance};
 ghost use Rattle.mapf_model.specs.Printed.{AreBlocksInRange};
-ghost use Rattle.mapf_model.specs.Tree.{SplitNode, LeafNode, ClashNode, IsProperSplit, AreTwoAgents, ShareGoal, node_of, root};
+ghost use Rattle.mapf_model.specs.Tree.{SplitNode, LeafNode, ClashNode, node_of, root};
+ghost use Rattle.mapf_model.specs.Tree.{IsProperSplit, AreTwoAgents, ShareGoal};
 ghost use Rattle.mapf_checker.specs.Faults.{IsOfJudging};
 ghost use Rattle.mapf_distance.specs.Tables.{AreTables};
 ghost use Rattle.mapf_checker.specs.NodeDefects.{HasNodeDefect, IsGoodNode};
-ghost use Rattle.mapf_checker.specs.Way.{place_of};
+ghost use Rattle.mapf_checker.specs.Branch.{place_of};
 
+use crate::branch::Branch;
 use crate::fault::{CheckFault, FromFault};
 use crate::leaf::judge_leaf;
-use crate::step::are_adjacent;
-use crate::way::Way;
 use mapf_distance::{Distances, goal_tables};
 use mapf_model::{Block, Claim, Conflict, Item, OutOfMemory, Problem};
 use std::alloc::Global;
@@ -20,7 +20,7 @@ use std::alloc::Global;
 /// How far a tree was judged whose items come in pre-order.
 #[derive(Drop)]
 pub struct Progress {
-    way: Way,
+    branch: Branch,
     // The distances to each agent's goal, made at the first leaf.
     tables: Vec<Distances>,
     /// Whether the whole tree came.
@@ -36,7 +36,7 @@ impl Progress {
         ensures owed { owed_by result ≡ root ∷ [] }
     {
         Progress {
-            way: Way::new(alloc),
+            branch: Branch::new(alloc),
             tables: Vec::new(alloc),
             is_over: false,
         }
@@ -57,7 +57,8 @@ impl Progress {
         ensures ready { OnOk result (IsReady problem.now self.new) }
         ensures owed { OnOk result (owed_by self.new ≡ constraints_after (owed_by self.old) (node_of item.now)) }
         ensures good { OnOk result (IsGoodNode problem.now claim.now (here_of self.old) (node_of item.now)) }
-        ensures refused { IfErr result (IsOfJudging (HasNodeDefect problem.now claim.now (here_of self.old) (node_of item.now))) }
+        ensures refused { IfErr result (IsOfJudging
+            (HasNodeDefect problem.now claim.now (here_of self.old) (node_of item.now))) }
     {
         match item {
             Item::Vertex { i, j, cell, tick } => {
@@ -95,12 +96,13 @@ impl Progress {
         ensures tables { self.new.tables.items ≡ self.old.tables.items }
         ensures owed { OnOk result (owed_by self.new ≡ constraints_after (owed_by self.old) (SplitNode conflict.now)) }
         ensures good { OnOk result (IsProperSplit problem.now conflict.now) }
-        ensures refused { (claim : Claim) → IfErr result (IsOfJudging (HasNodeDefect problem.now claim (here_of self.old) (SplitNode conflict.now))) }
+        ensures refused { (claim : Claim) → IfErr result (IsOfJudging
+            (HasNodeDefect problem.now claim (here_of self.old) (SplitNode conflict.now))) }
     {
         if !is_proper_split(problem, conflict) {
             return Err(FromFault::Refused(CheckFault::C6(line)));
         }
-        let Ok(()) = self.way.split(conflict) else {
+        let Ok(()) = self.branch.split(conflict) else {
             return Err(FromFault::Memory);
         };
         Ok(())
@@ -120,14 +122,15 @@ impl Progress {
         ensures ready { OnOk result (IsReady problem.now self.new) }
         ensures owed { OnOk result (owed_by self.new ≡ constraints_after (owed_by self.old) (LeafNode blocks.now)) }
         ensures good { OnOk result (IsGoodNode problem.now claim.now (here_of self.old) (LeafNode blocks.now)) }
-        ensures refused { IfErr result (IsOfJudging (HasNodeDefect problem.now claim.now (here_of self.old) (LeafNode blocks.now))) }
+        ensures refused { IfErr result (IsOfJudging
+            (HasNodeDefect problem.now claim.now (here_of self.old) (LeafNode blocks.now))) }
     {
         self.see_to_tables(alloc, problem)?;
         if let Err(fault) = judge_leaf(
             alloc,
             problem,
             &self.tables,
-            &self.way,
+            &self.branch,
             claim,
             blocks,
             line,
@@ -141,7 +144,7 @@ impl Progress {
     fn see_to_tables(&mut self, alloc: Global, problem: &Problem) -> Result<(), FromFault>
         requires ready { IsReady problem.now self.old }
         ensures tables { OnOk result (AreTables problem.now self.new.tables.items) }
-        ensures way { self.new.way ≡ self.old.way }
+        ensures branch { self.new.branch ≡ self.old.branch }
         ensures over { self.new.is_over ≡ self.old.is_over }
         ensures memory { IfErr result (λ fault. fault ≡ FromFault.Memory) }
     {
@@ -160,7 +163,8 @@ impl Progress {
         ensures tables { self.new.tables.items ≡ self.old.tables.items }
         ensures owed { OnOk result (owed_by self.new ≡ constraints_after (owed_by self.old) (ClashNode i j)) }
         ensures good { OnOk result (ShareGoal problem.now i j) }
-        ensures refused { (claim : Claim) → IfErr result (IsOfJudging (HasNodeDefect problem.now claim (here_of self.old) (ClashNode i j))) }
+        ensures refused { (claim : Claim) → IfErr result (IsOfJudging
+            (HasNodeDefect problem.now claim (here_of self.old) (ClashNode i j))) }
     {
         if !share_goal(problem, i, j) {
             return Err(FromFault::Refused(CheckFault::C9(line)));
@@ -171,10 +175,10 @@ impl Progress {
     // Goes on to what is owed after an end of the tree.
     fn end(&mut self) -> Result<(), FromFault>
         ensures tables { self.new.tables.items ≡ self.old.tables.items }
-        ensures owed { OnOk result (owed_by self.new ≡ (place_of self.old.way).owed) }
+        ensures owed { OnOk result (owed_by self.new ≡ (place_of self.old.branch).owed) }
         ensures memory { IfErr result (λ fault. fault ≡ FromFault.Memory) }
     {
-        let Ok(more) = self.way.close() else {
+        let Ok(more) = self.branch.backtrack() else {
             return Err(FromFault::Memory);
         };
         self.is_over = !more;
@@ -189,7 +193,7 @@ fn is_proper_split(problem: &Problem, conflict: &Conflict) -> bool
     match *conflict {
         Conflict::Vertex { i, j, cell, .. } => are_two_agents(problem, i, j) && grid.is_free(cell),
         Conflict::Swap { i, j, from, to, .. } => are_two_agents(problem, i, j)
-            && are_adjacent(grid, from, to),
+            && grid.are_adjacent(from, to),
     }
 }
 

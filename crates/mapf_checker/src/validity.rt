@@ -1,9 +1,9 @@
-ghost use Rattle.std.specs.Prelude.{◌≡◌, ◌<◌, ◌≤◌, ◌↔◌, ℕ, length, IfOk, OnOk, IfErr, IsOk};
+ghost use Rattle.std.specs.Prelude.{◌≡◌, ◌<◌, ◌≤◌, ◌↔◌, length, IfOk, OnOk, IfErr, IsOk};
 ghost use Rattle.mapf_model.specs.Plan.{IsValid, IsSumOfCosts};
-ghost use Rattle.mapf_checker.specs.Defects.{HasDefect, AreLawful, path_fault_of, meeting_fault_of};
+ghost use Rattle.mapf_checker.specs.Defects.{HasDefect, AreLawful, path_fault_of};
 
+use crate::conflicts::first_conflict;
 use crate::lawful::{PathFault, check_path};
-use crate::meeting::{Encounter, Kind, first_encounter};
 use crate::plan_fault::PlanFault;
 use mapf_model::{Path, Plan, Problem};
 
@@ -17,8 +17,8 @@ pub fn check_plan(problem: &Problem, plan: &Plan) -> Result<u64, PlanFault>
     ensures fault { IfErr result (HasDefect problem.now plan.now) }
 {
     check_paths(problem, plan.paths())?;
-    if let Some(encounter) = first_encounter(plan.paths()) {
-        return Err(fault_of(encounter));
+    if let Some(fault) = first_conflict(plan.paths()) {
+        return Err(fault);
     }
     match plan.sum(problem) {
         Some(sum) => Ok(sum),
@@ -48,24 +48,6 @@ fn fault_of_path(agent: u32, fault: PathFault) -> PlanFault
         PathFault::WrongStart => PlanFault::V1 { agent },
         PathFault::BadStep { tick } => PlanFault::V2 { agent, tick },
         PathFault::WrongGoal => PlanFault::V3 { agent },
-    }
-}
-
-fn fault_of(encounter: Encounter) -> PlanFault
-    ensures { result ≡ meeting_fault_of encounter.i encounter.j encounter.meeting.tick encounter.meeting.kind }
-{
-    let Encounter { meeting, i, j } = encounter;
-    match meeting.kind {
-        Kind::InOneCell => PlanFault::V4 {
-            i,
-            j,
-            tick: meeting.tick,
-        },
-        Kind::Swapping => PlanFault::V5 {
-            i,
-            j,
-            tick: meeting.tick,
-        },
     }
 }
 

@@ -6,9 +6,10 @@ use Rattle.std.proofs.lemmas.Option.{slice_get_within, slice_get-get_or, get_or_
 use Rattle.mapf_model.specs.declared.conflict.Conflict.{Conflict}
 use Rattle.mapf_model.specs.declared.conflict.Conflict.TheVariants.{Vertex, Swap}
 use Rattle.mapf_model.specs.Earned.{tick_of, HasConflict, AreConflictFreeBefore, HaveSomeConflict}
+use Rattle.mapf_model.specs.Pairs.{IsFirstPair, HoldsOfNoPair}
 use Rattle.mapf_model.specs.Path.{at}
 use Rattle.mapf_model.specs.Plan.{ConflictAt}
-use Rattle.mapf_conflicts.specs.Pairs.{cells_at, ShareCell, ExchangeCells, IsFirstPair, HoldsOfNoPair, IsConflictOf, IsFirstOf, IsFirstOfItsTick, IsOrdered, AreLess, ComesBefore}
+use Rattle.mapf_conflicts.specs.Pairs.{cells_at, ShareCell, ExchangeCells, IsConflictOf, IsFirstOf, IsFirstOfItsTick, IsOrdered, AreLess, ComesBefore}
 
 path_of : List (List ℕ) → ℕ → List ℕ
 path_of paths i = slice_index_or paths i []
@@ -83,9 +84,9 @@ is_conflict_of paths (Swap i j from to tick) ordered (differ, moves, p, q, is_p,
     )
 
 -- no pair of which the fact holds is less than the first
-not_less : (Fact : ℕ → ℕ → Type 0) (count i j k l : ℕ) → IsFirstPair Fact count i j → k < l → l < count → Fact k l → AreLess k l i j → ⊥
-not_less Fact count i j k l first order within fact (inl less) = first.0 k l less order within fact
-not_less Fact count i j k l first order within fact (inr (same, less)) = first.1 l (omega arith) less (subst (λ agent. Fact agent l) same fact)
+not_less : (Fact : ℕ → ℕ → Type 0) (count i j k l : ℕ) → IsFirstPair Fact count (i, j) → k < l → l < count → Fact k l → AreLess k l i j → ⊥
+not_less Fact count i j k l first order within fact (inl less) = first.first.0 k l less order within fact
+not_less Fact count i j k l first order within fact (inr (same, less)) = first.first.1 l (omega arith) less (subst (λ agent. Fact agent l) same fact)
 
 none_before : (here next : List ℕ) (now : ℕ) (conflict other : Conflict) → IsFirstOf here next conflict → IsConflictOf here next now other → ComesBefore other conflict → ⊥
 none_before here next now (Vertex i j cell tick) (Vertex k l other_cell other_tick) first (order, within, same, k_cell, l_cell) less =

@@ -3,6 +3,7 @@ use Rattle.std.specs.Prelude.{◌≡◌, ◌≢◌, ◌⊎◌, ℕ, ◌<◌, Lis
 use Rattle.mapf_model.specs.declared.conflict.Conflict.{Conflict}
 use Rattle.mapf_model.specs.declared.conflict.Conflict.TheVariants.{Vertex, Swap}
 use Rattle.mapf_model.specs.Earned.{tick_of, HasConflict}
+use Rattle.mapf_model.specs.Pairs.{IsFirstPair, HoldsOfNoPair}
 use Rattle.mapf_model.specs.Path.{at}
 
 -- the agents' cells at the tick
@@ -17,22 +18,13 @@ ShareCell here i j = slice_index here i ≡ slice_index here j
 abbrev pub ExchangeCells : List ℕ → List ℕ → ℕ → ℕ → Type 0
 ExchangeCells here next i j = (slice_index here j ≡ slice_index next i) × (slice_index next j ≡ slice_index here i)
 
--- of the pairs of an agent and a later one of which the fact holds, none comes before this one: none of a smaller
--- first agent, and none of the same first agent and a smaller second one
-abbrev pub IsFirstPair : (ℕ → ℕ → Type 0) → ℕ → ℕ → ℕ → Type 0
-IsFirstPair Fact count i j = ((a b : ℕ) → a < i → a < b → b < count → Fact a b → ⊥) × ((b : ℕ) → i < b → b < j → Fact i b → ⊥)
-
--- the fact holds of no agent and a later one
-abbrev pub HoldsOfNoPair : (ℕ → ℕ → Type 0) → ℕ → Type 0
-HoldsOfNoPair Fact count = (i j : ℕ) → i < j → j < count → Fact i j → ⊥
-
 -- the fact holds of an agent and a later one
 abbrev pub HoldsOfSomePair : (ℕ → ℕ → Type 0) → ℕ → Type 0
 HoldsOfSomePair Fact count = (i : ℕ) × (j : ℕ) × (i < j) × (j < count) × Fact i j
 
 -- two agents share a cell or exchange their cells
-abbrev pub Meet : List ℕ → List ℕ → ℕ → ℕ → Type 0
-Meet here next i j = ShareCell here i j ⊎ ExchangeCells here next i j
+abbrev pub ShareOrExchangeCells : List ℕ → List ℕ → ℕ → ℕ → Type 0
+ShareOrExchangeCells here next i j = ShareCell here i j ⊎ ExchangeCells here next i j
 
 -- the conflict is one of agents that are in these cells at the tick, and in those at the next
 abbrev pub IsConflictOf : List ℕ → List ℕ → ℕ → Conflict → Type 0
@@ -43,8 +35,8 @@ IsConflictOf here next now (Swap i j from to tick) = (i < j) × (j < length here
 -- no conflict of agents that are in these cells comes before this one: vertex conflicts come first, then the pairs in
 -- the order of their agents
 abbrev pub IsFirstOf : List ℕ → List ℕ → Conflict → Type 0
-IsFirstOf here next (Vertex i j cell tick) = IsFirstPair (ShareCell here) (length here) i j
-IsFirstOf here next (Swap i j from to tick) = HoldsOfNoPair (ShareCell here) (length here) × IsFirstPair (ExchangeCells here next) (length here) i j
+IsFirstOf here next (Vertex i j cell tick) = IsFirstPair (ShareCell here) (length here) (i, j)
+IsFirstOf here next (Swap i j from to tick) = HoldsOfNoPair (ShareCell here) (length here) × IsFirstPair (ExchangeCells here next) (length here) (i, j)
 
 -- the first agent has the smaller number
 abbrev pub IsOrdered : Conflict → Type 0

@@ -1,8 +1,12 @@
 ghost use Rattle.std.specs.Prelude.{◌≡◌, ◌≤◌, length, take, All, IfNone, IfSome};
 ghost use Rattle.mapf_model.specs.Earned.{tick_of, HasConflict, AreConflictFreeBefore, HaveSomeConflict};
-ghost use Rattle.mapf_conflicts.specs.Pairs.{cells_at, ShareCell, ExchangeCells, HoldsOfNoPair, IsConflictOf, IsFirstOf, IsFirstOfItsTick, IsOrdered};
+ghost use Rattle.mapf_model.specs.Limits.{most_agents, most_path_cells};
+ghost use Rattle.mapf_model.specs.Pairs.{HoldsOfNoPair};
+ghost use Rattle.mapf_conflicts.specs.Pairs.{cells_at, ShareCell, ExchangeCells};
+ghost use Rattle.mapf_conflicts.specs.Pairs.{IsConflictOf, IsFirstOf, IsFirstOfItsTick, IsOrdered};
 
 use crate::pairs::{exchanging_pair, may_conflict, sharing_pair};
+use mapf_model::limits::MOST_AGENTS;
 use mapf_model::{Cell, Conflict, Path, Plan, Tick};
 
 /// The first conflict of the paths: of least tick, a vertex conflict before a swapping conflict, then
@@ -32,7 +36,7 @@ pub fn first_conflict(plan: &Plan) -> Option<Conflict>
 fn longest(paths: &[Path]) -> Tick
     ensures longest { All (λ path. length path ≤ result) paths.now }
     ensures positive { 1 ≤ result }
-    ensures bounded { result ≤ 10000000 }
+    ensures bounded { result ≤ most_path_cells }
 {
     let mut longest = 1;
     for path in paths {
@@ -42,11 +46,11 @@ fn longest(paths: &[Path]) -> Tick
 }
 
 // The agents' cells at the tick, in front of cells that are no agent's.
-fn cells_at(paths: &[Path], tick: Tick) -> [Cell; 200]
-    requires { length paths.now ≤ 200 }
+fn cells_at(paths: &[Path], tick: Tick) -> [Cell; MOST_AGENTS as usize]
+    requires { length paths.now ≤ most_agents }
     ensures { take (length paths.now) result ≡ cells_at paths.now tick }
 {
-    let mut cells = [Cell(0); 200];
+    let mut cells = [Cell(0); MOST_AGENTS as usize];
     for (i, path) in paths.iter().enumerate() {
         cells[i] = path.at(tick);
     }
@@ -56,7 +60,7 @@ fn cells_at(paths: &[Path], tick: Tick) -> [Cell; 200]
 // The first conflict of agents that are in these cells at the tick, and in those at the next.
 fn conflict_of(here: &[Cell], next: &[Cell], tick: Tick) -> Option<Conflict>
     requires size { length next.now ≡ length here.now }
-    requires few { length here.now ≤ 200 }
+    requires few { length here.now ≤ most_agents }
     ensures some { IfSome result (IsConflictOf here.now next.now tick) }
     ensures first { IfSome result (IsFirstOf here.now next.now) }
     ensures share { IfNone result (HoldsOfNoPair (ShareCell here.now) (length here.now)) }

@@ -3,6 +3,7 @@ use Rattle.std.specs.Prelude.{ℕ, ◌≤◌, List, ◌++◌, map, Option}
 use Rattle.mapf_model.specs.declared.bar.Bar.{Bar}
 use Rattle.mapf_model.specs.declared.bar.Bar.TheVariants.{Cell, Move}
 use Rattle.mapf_model.specs.Bars.{AreBars}
+use Rattle.mapf_model.specs.Limits.{split_ticks}
 use Rattle.mapf_constraints.specs.BarSets.{IsHorizon, IsLastOn}
 use Rattle.mapf_constraints.specs.declared.barred.BarredCell.{BarredCell}
 use Rattle.mapf_constraints.specs.declared.barred.BarredMove.{BarredMove}
@@ -23,5 +24,5 @@ bars_of cells moves = map cell_bar cells ++ map move_bar moves
 pub record IsIndex (all : List Bar) (last_on : ℕ → Option ℕ) (tick : ℕ) : Type 0 where
   pub bars : AreBars all
   pub horizon : IsHorizon all tick
-  pub early : tick ≤ 1000000
+  pub early : tick ≤ split_ticks
   pub last : (cell : ℕ) → IsLastOn all cell (last_on cell)

@@ -2,6 +2,7 @@ ghost use Rattle.std.specs.Prelude.{◌≡◌, ◌<◌, ◌≤◌, ◌↔◌, �
 ghost use Rattle.mapf_model.specs.declared.bar.Bar.{Bar};
 ghost use Rattle.mapf_model.specs.Bars.{IsBar, AreBars};
 ghost use Rattle.mapf_model.specs.Laws.{AreSameBars};
+ghost use Rattle.mapf_model.specs.Limits.{split_ticks};
 ghost use Rattle.mapf_constraints.specs.BarSets.{tick_of, IsHorizon, IsLastOn};
 
 use mapf_model::{Bar, Cell, OutOfMemory, Tick};
@@ -31,12 +32,12 @@ pub trait BarTable: Drop {
     /// The least tick that exceeds the ticks of all bars, 0 for none. It is at most 1,000,000.
     fn horizon(&self) -> Tick
         ensures horizon { IsHorizon (bars self.now) result }
-        ensures early { result ≤ 1000000 }
+        ensures early { result ≤ split_ticks }
         ensures bars { AreBars (bars self.now) };
 
     /// Adds a bar. One that is there leaves the set as it is, and so does a refusal.
     fn add(&mut self, bar: Bar) -> Result<(), OutOfMemory>
-        requires early { tick_of bar < 1000000 }
+        requires early { tick_of bar < split_ticks }
         requires bar { IsBar bar }
         ensures added { OnOk result (AreSameBars (bars self.new) (bar ∷ bars self.old)) }
         ensures refused { OnErr result (AreSameBars (bars self.new) (bars self.old)) };

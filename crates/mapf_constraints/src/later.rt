@@ -2,13 +2,15 @@ ghost use Rattle.std.specs.Prelude.{◌≡◌, ◌<◌, ◌∷◌, max, List};
 ghost use Rattle.std.specs.Option.{option_map_or};
 ghost use Rattle.mapf_model.specs.declared.bar.Bar.{Bar};
 ghost use Rattle.mapf_model.specs.Laws.{AreSameBars};
+ghost use Rattle.mapf_model.specs.Limits.{split_ticks};
 ghost use Rattle.mapf_constraints.specs.BarSets.{tick_of, IsHorizon, IsLastOn};
 
 use mapf_model::{Bar, Cell, Tick};
 
 /// The greatest tick at which the cell is barred, once the bar is added.
 pub fn last_with(last: Option<Tick>, bar: &Bar, cell: Cell) -> Option<Tick>
-    ensures { (before after : List Bar) → IsLastOn before cell last → AreSameBars after (bar.now ∷ before) → IsLastOn after cell result }
+    ensures { (before after : List Bar) → IsLastOn before cell last
+        → AreSameBars after (bar.now ∷ before) → IsLastOn after cell result }
 {
     match bar {
         Bar::Cell { cell: on, tick } if *on == cell => Some(latest(last, *tick)),
@@ -28,8 +30,9 @@ pub fn latest(last: Option<Tick>, tick: Tick) -> Tick
 
 /// The least tick that exceeds those of all bars, once the bar is added.
 pub fn horizon_with(horizon: Tick, bar: &Bar) -> Tick
-    requires { tick_of bar.now < 1000000 }
-    ensures { (before after : List Bar) → IsHorizon before horizon → AreSameBars after (bar.now ∷ before) → IsHorizon after result }
+    requires { tick_of bar.now < split_ticks }
+    ensures { (before after : List Bar) → IsHorizon before horizon
+        → AreSameBars after (bar.now ∷ before) → IsHorizon after result }
 {
     horizon.max(tick(bar) + 1)
 }

@@ -1,3 +1,4 @@
+ghost use Rattle.mapf_model.specs.Limits.{split_ticks};
 ghost use Rattle.mapf_constraints.specs.BarSets.{AreBefore, IsHorizon, IsLastOn};
 
 use crate::bar_table::BarTable;
@@ -16,13 +17,14 @@ impl Model for ListBars {
     ghost use Rattle.std.specs.Prelude.{List};
     ghost use Rattle.mapf_model.specs.declared.bar.Bar.{Bar};
     ghost use Rattle.mapf_model.specs.Bars.{AreBars};
+    ghost use Rattle.mapf_model.specs.Limits.{split_ticks};
     ghost use Rattle.mapf_constraints.specs.BarSets.{AreBefore};
 
     ghost Value = { List Bar };
 
     ghost view = { λ table. table.bars.items };
 
-    ghost invariant = { λ table. AreBars table.bars.items × AreBefore 1000000 table.bars.items };
+    ghost invariant = { λ table. AreBars table.bars.items × AreBefore split_ticks table.bars.items };
 }
 
 impl BarTable for ListBars {
@@ -75,7 +77,7 @@ fn last_among(bars: &[Bar], cell: Cell) -> Option<Tick>
 
 /// The least tick that exceeds those of the bars.
 fn horizon_of(bars: &[Bar]) -> Tick
-    requires { AreBefore 1000000 bars.now }
+    requires { AreBefore split_ticks bars.now }
     ensures { IsHorizon bars.now result }
 {
     let mut horizon = 0;

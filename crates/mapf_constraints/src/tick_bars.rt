@@ -4,6 +4,7 @@ ghost use Rattle.std.specs.Option.{option_map_or};
 ghost use Rattle.std.specs.Ordering.{is_eq, nat_cmp};
 ghost use Rattle.mapf_model.specs.declared.bar.Bar.{Bar};
 ghost use Rattle.mapf_model.specs.Laws.{AreSameBars};
+ghost use Rattle.mapf_model.specs.Limits.{split_ticks};
 
 use crate::bar_table::BarTable;
 use crate::barred::{BarredCell, BarredMove};
@@ -33,7 +34,8 @@ impl Model for TickBars {
 
     ghost view = { λ table. bars_of table.cells.keys table.moves.keys };
 
-    ghost invariant = { λ table. IsIndex (bars_of table.cells.keys table.moves.keys) (get nat_cmp table.last) table.horizon };
+    ghost invariant = { λ table.
+        IsIndex (bars_of table.cells.keys table.moves.keys) (get nat_cmp table.last) table.horizon };
 }
 
 impl BarTable for TickBars {
@@ -89,7 +91,7 @@ impl BarTable for TickBars {
 
 impl TickBars {
     fn add_cell(&mut self, cell: Cell, tick: Tick) -> Result<(), OutOfMemory>
-        requires { tick < 1000000 }
+        requires { tick < split_ticks }
         ensures added { OnOk result (AreSameBars self.new (Bar.Cell cell tick ∷ self.old)) }
         ensures refused { OnErr result (AreSameBars self.new self.old) }
     {
@@ -112,7 +114,7 @@ impl TickBars {
     }
 
     fn add_move(&mut self, from: Cell, to: Cell, tick: Tick) -> Result<(), OutOfMemory>
-        requires early { tick < 1000000 }
+        requires early { tick < split_ticks }
         requires apart { from ≢ to }
         ensures added { OnOk result (AreSameBars self.new (Bar.Move from to tick ∷ self.old)) }
         ensures refused { OnErr result (AreSameBars self.new self.old) }
@@ -125,7 +127,10 @@ impl TickBars {
 
 /// Notes that the cell is barred at the tick.
 fn raise_last(last: &mut BTreeMap<Cell, Tick>, cell: Cell, tick: Tick) -> Result<(), OutOfMemory>
-    ensures raised { OnOk result ((on : ℕ) → get nat_cmp last.new on ≡ (if is_eq (nat_cmp cell on) then Some (option_map_or (λ n. max n tick) (get nat_cmp last.old cell) tick) else get nat_cmp last.old on)) }
+    ensures raised { OnOk result ((on : ℕ) → get nat_cmp last.new on ≡
+        (if is_eq (nat_cmp cell on)
+        then Some (option_map_or (λ n. max n tick) (get nat_cmp last.old cell) tick)
+        else get nat_cmp last.old on)) }
     ensures refused { OnErr result ((on : ℕ) → get nat_cmp last.new on ≡ get nat_cmp last.old on) }
 {
     let before = last.get(&cell).copied();

@@ -1,5 +1,5 @@
 -- Shortest paths to the goal, from the distances of their cells.
-use Rattle.std.proofs.Common.{◌≡◌, ◌≢◌, ℕ, suc, ◌+◌, ◌-◌, ◌<◌, ◌≤◌, min, Some, List, [], ◌∷◌, ◌++◌, Contains, length, slice_index, add-one, refl, sym, ◌∙◌, ap, subst, inl, inr, ⊎_elim, arith}
+use Rattle.std.proofs.Common.{◌≡◌, ◌≢◌, ℕ, suc, ◌+◌, ◌-◌, ◌<◌, ◌≤◌, min, List, [], ◌∷◌, ◌++◌, length, slice_index, add-one, refl, sym, ◌∙◌, ap, subst, inl, inr, ⊎_elim, arith}
 use Rattle.std.proofs.Math.ListN.{get_or-append}
 use Rattle.std.proofs.Math.Seq.{get_or-append_seam}
 use Rattle.std.proofs.lemmas.Bool.{cases_lt}
@@ -9,9 +9,7 @@ use Rattle.mapf_model.specs.Grid.{GridMap, Step}
 use Rattle.mapf_model.specs.Path.{at, IsPath, IsCost, IsTight}
 use Rattle.mapf_model.proofs.DecidedLemmas.{from_neighbours_path}
 use Rattle.mapf_model.proofs.PathLemmas.{IsCost-from_end}
-use Rattle.mapf_distance.specs.Beside.{beside_of}
 use Rattle.mapf_distance.specs.Distances.{IsLeastDescent}
-use Rattle.mapf_distance.proofs.BesideLemmas.{beside_step}
 use Rattle.mapf_distance.proofs.StepLemmas.{Walk-from_free}
 
 pub IsDistance-one : (grid : GridMap) (goal cell a b : ℕ) → IsDistance grid goal cell a → IsDistance grid goal cell b → a ≡ b
@@ -31,13 +29,6 @@ nearer_step grid goal cell distance is =
         least = λ n other. (let a = is.least (suc n) (next, step, other) in omega arith);
       },
     )
-
--- a cell that is one step away and nearer by one is in one of the places beside
-pub nearer_beside : (grid : GridMap) (goal cell distance next : ℕ) → 0 < grid.width → IsDistance grid goal cell (distance + 1) →
-    Step grid cell next → IsDistance grid goal next distance → Contains (beside_of grid.width cell) (Some next)
-nearer_beside grid goal cell distance next wide far step near =
-    beside_step grid cell wide (Walk-from_free grid cell goal (distance + 1) far.walk) next step
-    (λ same. (let e = IsDistance-one grid goal next (distance + 1) distance (subst (λ at. IsDistance grid goal at (distance + 1)) same far) near in omega arith))
 
 -- the cells lead from the first so many steps towards the goal, each time to the least cell that is nearer
 pub record IsDescent (grid : GridMap) (goal cell distance steps : ℕ) (cells : List ℕ) : Type 0 where

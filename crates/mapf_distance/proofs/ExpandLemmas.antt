@@ -4,13 +4,12 @@ use Rattle.std.proofs.lemmas.Bool.{cases_lt, cases_eq}
 use Rattle.std.proofs.lemmas.List.{get_or_default}
 use Rattle.std.proofs.lemmas.Option.{same_Some}
 use Rattle.mapf_model.specs.Grid.{GridMap, IsFree}
+use Rattle.mapf_model.specs.Neighbours.{neighbourhood}
+use Rattle.mapf_model.proofs.StepLemmas.{neighbour_step, step_neighbour, step_free}
 use Rattle.mapf_distance.specs.declared.wave.TheConstants.{BLOCKED, UNREACHED}
-use Rattle.mapf_distance.specs.Beside.{beside_of}
 use Rattle.mapf_distance.specs.Marks.{entry_of}
 use Rattle.mapf_distance.specs.Wave.{IsWave, source_of, entry_at}
-use Rattle.mapf_distance.proofs.BesideLemmas.{step_beside, beside_step}
 use Rattle.mapf_distance.proofs.MarkLemmas.{open_if_free, free_if_open, entry_of-set_other}
-use Rattle.mapf_distance.proofs.StepLemmas.{Step-to_free}
 use Rattle.mapf_distance.proofs.WaveLemmas.{small_entry, reach_next, reach_keeps, reach_enters, known_bound, close}
 
 -- the free cells at the first `count` of the places have a distance of at most this
@@ -28,10 +27,10 @@ pub record IsExpanding (grid : GridMap) (place distance : ℕ) (old : List ℕ) 
 
 -- the places beside a cell are those beside its place
 pub places_beside : (grid : GridMap) (reached : List ℕ) (places : List (Option ℕ)) (place cell width : ℕ) → cell ≡ slice_index reached place → width ≡ grid.width →
-    places ≡ beside_of width cell → places ≡ beside_of grid.width (slice_index reached place)
-places_beside grid reached places place cell width is wide beside = beside ∙ ap (beside_of width) is ∙ ap (λ w. beside_of w (slice_index reached place)) wide
+    places ≡ neighbourhood width cell → places ≡ neighbourhood grid.width (slice_index reached place)
+places_beside grid reached places place cell width is wide beside = beside ∙ ap (neighbourhood width) is ∙ ap (λ w. neighbourhood w (slice_index reached place)) wide
 
-module _ (grid : GridMap) (place distance : ℕ) (old : List ℕ) (places : List (Option ℕ)) (beside : places ≡ beside_of grid.width (slice_index old place)) where
+module _ (grid : GridMap) (place distance : ℕ) (old : List ℕ) (places : List (Option ℕ)) (beside : places ≡ neighbourhood grid.width (slice_index old place)) where
   pub expand_start : (table : List ℕ) → IsWave grid place table old → place < length old → entry_of table (slice_index old place) + 1 ≡ distance → IsExpanding grid place distance old places 0 table old
   expand_start table wave inside next = record { wave = wave; inside = inside; next = next; from = refl; source = refl; taken = λ k next none. absurd (omega arith) }
 
@@ -44,9 +43,9 @@ module _ (grid : GridMap) (place distance : ℕ) (old : List ℕ) (places : List
     unfolding cell
     free_cell = free_if_open grid table e.wave.free cell (let low = small_entry grid place table reached e.wave place e.inside in omega arith)
 
-    at_cell : places ≡ beside_of grid.width cell
+    at_cell : places ≡ neighbourhood grid.width cell
     unfolding cell
-    at_cell = beside ∙ ap (beside_of grid.width) (sym e.from)
+    at_cell = beside ∙ ap (neighbourhood grid.width) (sym e.from)
 
     wide : 0 < grid.width
     wide = (let positive = e.wave.shape.0 in omega arith)
@@ -81,7 +80,7 @@ module _ (grid : GridMap) (place distance : ℕ) (old : List ℕ) (places : List
     expand_reach to within is fresh =
         let free_to = free_if_open grid table e.wave.free to (omega arith) in
         let held : Contains places (Some to) = (count, within, get_or_default places count (Some to) None within ∙ is) in
-        let go = step_beside grid cell wide free_cell to free_to (subst (λ list. Contains list (Some to)) at_cell held) in
+        let go = neighbour_step grid cell wide free_cell to (subst (λ list. Contains list (Some to)) at_cell held) free_to in
         let keeps = reach_keeps grid place table reached e.wave to e.inside go fresh in
         let enters = reach_enters grid place table reached e.wave to e.inside go fresh in
         let low = small_entry grid place table reached e.wave place e.inside in
@@ -107,11 +106,8 @@ module _ (grid : GridMap) (place distance : ℕ) (old : List ℕ) (places : List
 
     pub expand_end : length places ≤ count → IsWave grid (place + 1) table reached
     unfolding cell
-    expand_end all = close grid place table reached e.wave e.inside (λ to go. ⊎_elim
-        (λ (stays : cell ≡ to). let same = ap (entry_of table) stays in omega arith)
-        (λ (moves : cell ≡ to → ⊥).
-        let (k, within, is) = subst (λ list. Contains list (Some to)) (sym at_cell) (beside_step grid cell wide free_cell to go moves) in
-        let t = e.taken k to (omega arith) (get_or_default places k None (Some to) within ∙ is) (open_if_free grid table e.wave.free to (Step-to_free grid cell to go)) in
+    expand_end all = close grid place table reached e.wave e.inside (λ to go.
+        let (k, within, is) = subst (λ list. Contains list (Some to)) (sym at_cell) (step_neighbour grid cell wide free_cell to go) in
+        let t = e.taken k to (omega arith) (get_or_default places k None (Some to) within ∙ is) (open_if_free grid table e.wave.free to (step_free grid cell to go)) in
         let n = e.next in
         omega arith)
-        (cases_eq cell to))

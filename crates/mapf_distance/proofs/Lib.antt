@@ -3,5 +3,4 @@ pub mod StepLemmas
 pub mod WaveLemmas
 pub mod ExpandLemmas
 pub mod StartLemmas
-pub mod BesideLemmas
 pub mod DescentLemmas

@@ -2,6 +2,7 @@
 use Rattle.std.proofs.Common.{ℕ, zero, suc, sym, subst, inl, inr, ⊎_elim}
 use Rattle.mapf_model.specs.Grid.{GridMap, IsFree, DifferByOne, Step}
 use Rattle.mapf_model.specs.Distance.{Walk}
+use Rattle.mapf_model.proofs.StepLemmas.{step_free}
 
 pub Step-sym : (grid : GridMap) (from to : ℕ) → Step grid from to → Step grid to from
 Step-sym grid from to (inl (free, same)) = inl (subst (λ cell. IsFree grid cell) same free, sym same)
@@ -18,10 +19,6 @@ Step-sym grid from to (inr beside) = inr (record {
     turned (inl e) = inr e
     turned (inr e) = inl e
 
-pub Step-to_free : (grid : GridMap) (from to : ℕ) → Step grid from to → IsFree grid to
-Step-to_free grid from to (inl (free, same)) = subst (λ cell. IsFree grid cell) same free
-Step-to_free grid from to (inr beside) = beside.to_free
-
 pub Walk-from_free : (grid : GridMap) (from to n : ℕ) → Walk grid from to n → IsFree grid from
 Walk-from_free grid from to zero (free, same) = free
-Walk-from_free grid from to (suc n) (next, step, walk) = Step-to_free grid next from (Step-sym grid from next step)
+Walk-from_free grid from to (suc n) (next, step, walk) = step_free grid next from (Step-sym grid from next step)

@@ -1,11 +1,11 @@
 ghost use Rattle.std.specs.Prelude.{◌≡◌, ℕ, ◌+◌, ◌-◌, ◌*◌, ◌<◌, ◌≤◌, ◌↔◌, length, IfOk, IfSome, IfNone, IsTrue, OnSome};
 ghost use Rattle.mapf_model.specs.Distance.{IsDistance, IsUnreachable};
 ghost use Rattle.mapf_model.specs.Grid.{IsFree, Step, free_cell_count};
+ghost use Rattle.mapf_model.specs.Limits.{most_path_cells};
+ghost use Rattle.mapf_model.specs.Neighbours.{neighbourhood};
 ghost use Rattle.mapf_model.specs.Path.{at, IsPath, IsCost, IsTight};
-ghost use Rattle.mapf_distance.specs.Beside.{beside_of};
 ghost use Rattle.mapf_distance.specs.Distances.{IsLeastDescent, IsReachable};
 
-use crate::beside::cells_beside;
 use crate::wave;
 use crate::wave::UNREACHED;
 use mapf_model::{Cell, Grid, OutOfMemory, Path};
@@ -75,7 +75,7 @@ impl Distances {
         ensures cost { IfOk result (λ path. IsCost self.now.goal path (length path - 1)) }
         ensures tight { IfOk result IsTight }
         ensures least { IfOk result (IsLeastDescent self.now.grid self.now.goal) }
-        ensures few { IfOk result (λ path. length path ≤ 10000000) }
+        ensures few { IfOk result (λ path. length path ≤ most_path_cells) }
     {
         let Some(distance) = self.get(cell) else {
             unreachable!()
@@ -90,12 +90,13 @@ impl Distances {
         Ok(Path::of(cells).unwrap())
     }
 
-    // The least cell beside this one, in cell number, that is one step nearer to the goal.
+    // The least cell in number that is one step from this one and nearer to the goal.
     fn nearer(&self, cell: Cell, distance: u32) -> Cell
         requires { IsDistance self.now.grid self.now.goal cell (distance + 1) }
         ensures step { Step self.now.grid cell result }
         ensures nearer { IsDistance self.now.grid self.now.goal result distance }
-        ensures least { (other : ℕ) → Step self.now.grid cell other → IsDistance self.now.grid self.now.goal other distance → result ≤ other }
+        ensures least { (other : ℕ) → Step self.now.grid cell other
+            → IsDistance self.now.grid self.now.goal other distance → result ≤ other }
     {
         for beside in self.beside(cell) {
             if let Some(next) = beside {
@@ -113,12 +114,12 @@ impl Distances {
         self.get(cell) == Some(distance)
     }
 
-    fn beside(&self, cell: Cell) -> [Option<Cell>; 4]
+    fn beside(&self, cell: Cell) -> [Option<Cell>; 5]
         requires { IsFree self.now.grid cell }
-        ensures cells { result ≡ beside_of self.now.grid.width cell }
+        ensures cells { result ≡ neighbourhood self.now.grid.width cell }
         ensures wide { 0 < self.now.grid.width }
     {
-        cells_beside(self.width, cell)
+        cell.neighbourhood(self.width)
     }
 }
 

@@ -1,7 +1,6 @@
 //! How many steps is it from each cell to a goal?
 #![tactic(auto)]
 
-mod beside;
 mod distances;
 mod tables;
 mod wave;

@@ -1,10 +1,10 @@
-ghost use Rattle.std.specs.Prelude.{◌≡◌, ◌+◌, ◌<◌, ◌≤◌, ◌++◌, ◌∷◌, ◌↔◌, [], IfOk, IsTrue, map, slice_set, vec_len, vec_capacity};
+ghost use Rattle.std.specs.Prelude.{◌≡◌, ◌+◌, ◌<◌, ◌≤◌, ◌++◌, ◌∷◌, ◌↔◌, [], IfOk, IsTrue, map, slice_set, vec_len};
+ghost use Rattle.std.specs.Prelude.{vec_capacity};
 ghost use Rattle.mapf_model.specs.Grid.{IsFree, IsGridMap, free_cell_count};
 ghost use Rattle.mapf_distance.specs.Marks.{entry_of, is_open, first_entry};
 ghost use Rattle.mapf_distance.specs.Distances.{AreDistances};
 ghost use Rattle.mapf_distance.specs.Wave.{IsWave, source_of};
 
-use crate::beside::cells_beside;
 use mapf_model::{Cell, Grid, OutOfMemory};
 use std::alloc::Global;
 
@@ -90,7 +90,7 @@ impl Wave {
     {
         let cell = self.reached[place];
         let distance = self.entry(cell) + 1;
-        for beside in cells_beside(grid.width(), cell) {
+        for beside in cell.neighbourhood(grid.width()) {
             if let Some(next) = beside {
                 if self.is_unreached(next) {
                     self.reach(next, distance);

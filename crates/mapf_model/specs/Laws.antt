@@ -12,7 +12,6 @@ use Rattle.mapf_model.specs.declared.label.Label.TheVariants.{Ticks, Never}
 use Rattle.mapf_model.specs.Grid.{GridMap, IsFree, Step}
 use Rattle.mapf_model.specs.Path.{IsPath, IsLawful, IsCost, IsTight}
 use Rattle.mapf_model.specs.Printed.{IsBefore}
-use Rattle.mapf_model.specs.Accepted.{PlanSays, Outcome, GoTogether, IsTrueOf}
 use Rattle.mapf_model.specs.Bars.{Satisfies}
 use Rattle.mapf_model.specs.Labels.{Entries, entries_of, AreSound, IsLabel, IsAtMost, label_sum}
 use Rattle.mapf_model.specs.Plan.{Instance, IsValid, IsSumOfCosts}
@@ -114,10 +113,6 @@ pub record BarsAreASet (xs ys : List Bar) : Type 0 where
 -- of two lists of the same bars, what is so under the one is so under the other
 abbrev pub OnlyMembershipCounts : Type 0
 OnlyMembershipCounts = (xs ys : List Bar) → AreSameBars xs ys → BarsAreASet xs ys
-
--- what is accepted is so
-abbrev pub AcceptedIsTrue : Type 0
-AcceptedIsTrue = (problem : Instance) (says : PlanSays) (claim : Claim) (tree : ConstraintTree) (outcome : Outcome) → GoTogether problem says claim tree outcome → IsTrueOf problem says outcome
 
 -- a path that ends as it arrives costs its steps
 abbrev pub TightPathsCostTheirSteps : Type 0

@@ -9,8 +9,8 @@ pub mod Laws
 pub mod Tree
 pub mod Earned
 pub mod Neighbours
+pub mod Pairs
 pub mod Blocks
-pub mod Accepted
 pub mod Printed
 pub mod Examples
 pub mod Devices

@@ -29,7 +29,7 @@ most_splits = 100000
 abbrev pub last_split_tick : ℕ
 last_split_tick = 999999
 
--- how many ticks, from 0 on, a conflict that may be split can have
+-- the first tick at which a conflict isn't split any more
 abbrev pub split_ticks : ℕ
 split_ticks = 1000000
 

@@ -1,24 +1,23 @@
--- The cells one step away, the cell itself included, in rising number.
-use Rattle.std.specs.Prelude.{ℕ, ◌+◌, ◌-◌, Option, None, Some, false, List, [], ◌∷◌, ◌++◌, nat_lt, if◌then◌else◌, slice_index_or}
-use Rattle.mapf_model.specs.Grid.{GridMap, row, column}
+-- Where an agent may be one tick after it is in a cell.
+use Rattle.std.specs.Prelude.{ℕ, ◌+◌, ◌-◌, ◌%◌, Option, None, Some, false, List, [], ◌∷◌, ◌++◌, nat_le, nat_lt, if◌then◌else◌, slice_index_or}
+use Rattle.mapf_model.specs.Grid.{GridMap}
 
--- the place above
-abbrev pub above_of : GridMap → ℕ → Option ℕ
-above_of grid cell = if nat_lt 0 (row grid cell) then Some (cell - grid.width) else None
-
--- the place to the left
-abbrev pub left_of : GridMap → ℕ → Option ℕ
-left_of grid cell = if nat_lt 0 (column grid cell) then Some (cell - 1) else None
-
--- the place to the right
-abbrev pub right_of : GridMap → ℕ → Option ℕ
-right_of grid cell = if nat_lt (column grid cell + 1) grid.width then Some (cell + 1) else None
+-- the cells above and left, the cell itself, and those right and below, on a grid of this width: rising in number, as far
+-- as its rows go
+abbrev pub neighbourhood : ℕ → ℕ → List (Option ℕ)
+neighbourhood width cell =
+    (if nat_le width cell then Some (cell - width) else None) ∷
+    (if nat_lt 0 (cell % width) then Some (cell - 1) else None) ∷
+    Some cell ∷
+    (if nat_lt (cell % width + 1) width then Some (cell + 1) else None) ∷
+    Some (cell + width) ∷ []
 
 -- the cell, if there is one and it is free
-abbrev pub kept : GridMap → Option ℕ → List ℕ
-kept grid None = []
-kept grid (Some cell) = if slice_index_or grid.free cell false then cell ∷ [] else []
+abbrev pub free_cell : GridMap → Option ℕ → List ℕ
+free_cell grid None = []
+free_cell grid (Some cell) = if slice_index_or grid.free cell false then cell ∷ [] else []
 
--- the free ones of these places and the cell itself, in rising number
-abbrev pub free_neighbours : GridMap → ℕ → List ℕ
-free_neighbours grid cell = kept grid (above_of grid cell) ++ kept grid (left_of grid cell) ++ kept grid (Some cell) ++ kept grid (right_of grid cell) ++ kept grid (Some (cell + grid.width))
+-- the free cells at these places
+abbrev pub free_cells : GridMap → List (Option ℕ) → List ℕ
+free_cells grid [] = []
+free_cells grid (place ∷ places) = free_cell grid place ++ free_cells grid places

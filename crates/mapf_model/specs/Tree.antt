@@ -42,7 +42,7 @@ blocks_of (ClashNode i j) = []
 abbrev pub IsSplitOn : Node → Conflict → Type 0
 IsSplitOn node conflict = node ≡ SplitNode conflict (blocks_of node)
 
--- the node is an end of its tree
+-- the node is an end of its tree: a leaf or a clash
 abbrev pub IsEndNode : Node → Type 0
 IsEndNode (SplitNode conflict blocks) = ⊥
 IsEndNode (LeafNode blocks) = Unit {0}
@@ -110,14 +110,18 @@ abbrev pub right_constraint : Conflict → Constraint
 right_constraint (Vertex i j cell tick) = record { agent = j; bar = Cell cell tick }
 right_constraint (Swap i j from to tick) = record { agent = j; bar = Move to from tick }
 
--- what the left child of a split inherits: one constraint more, and the split's blocks in place of those above
--- of the same agents
+-- what a child of a split inherits: one constraint more, and the split's blocks in place of those above of the
+-- same agents
+abbrev pub child_context : NodeContext → List LabelBlock → Constraint → NodeContext
+child_context context blocks constraint = record { bars = with_constraint context.bars constraint; entries = with_blocks blocks context.entries }
+
+-- what the left child inherits
 abbrev pub left_child_context : NodeContext → Conflict → List LabelBlock → NodeContext
-left_child_context context conflict blocks = record { bars = with_constraint context.bars (left_constraint conflict); entries = with_blocks blocks context.entries }
+left_child_context context conflict blocks = child_context context blocks (left_constraint conflict)
 
 -- what the right child inherits
 abbrev pub right_child_context : NodeContext → Conflict → List LabelBlock → NodeContext
-right_child_context context conflict blocks = record { bars = with_constraint context.bars (right_constraint conflict); entries = with_blocks blocks context.entries }
+right_child_context context conflict blocks = child_context context blocks (right_constraint conflict)
 
 -- a fact holds at each node of a tree, with the node's context
 abbrev pub AtEachNode : (NodeContext → ConstraintTree → Type 0) → NodeContext → ConstraintTree → Type 0

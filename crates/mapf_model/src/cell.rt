@@ -1,3 +1,6 @@
+ghost use Rattle.std.specs.Prelude.{◌≡◌, ◌+◌, ◌<◌, ◌^◌};
+ghost use Rattle.mapf_model.specs.Neighbours.{neighbourhood};
+
 use std::marker::Model;
 
 /// The number of a cell of a grid: `y * width + x`, with (0, 0) at the top left.
@@ -12,6 +15,26 @@ impl Model for Cell {
     ghost view = { λ cell. cell.0 };
 
     ghost inverse = { λ n. record { 0 = n } };
+}
+
+impl Cell {
+    /// The cells above and left, the cell itself, and those right and below, on a grid of this width:
+    /// rising in number, as far as its rows go.
+    pub fn neighbourhood(self, width: u32) -> [Option<Cell>; 5]
+        requires wide { 0 < width }
+        requires small { self + width < 2 ^ 32 }
+        ensures { result ≡ neighbourhood width self }
+    {
+        let Cell(number) = self;
+        let column = number % width;
+        [
+            (width <= number).then(|| Cell(number - width)),
+            (column > 0).then(|| Cell(number - 1)),
+            Some(self),
+            (column + 1 < width).then(|| Cell(number + 1)),
+            Some(Cell(number + width)),
+        ]
+    }
 }
 
 /// A moment, counted from 0. In one tick each agent waits or moves to an adjacent cell.

@@ -1,7 +1,8 @@
 //! Devices for tests: they move bytes of memory, one at a time or as many as they can, and fail at a
 //! call that is chosen; and a source that never ends.
 
-ghost use Rattle.std.specs.Prelude.{◌≡◌, ◌≢◌, ◌↔◌, ◌⊎◌, ◌<◌, ◌≤◌, ◌+◌, [], None, Some, false, length, min, replicate, IfOk, IsErr, IsTrue};
+ghost use Rattle.std.specs.Prelude.{◌≡◌, ◌≢◌, ◌↔◌, ◌⊎◌, ◌<◌, ◌≤◌, ◌+◌, [], None, Some, false, length, min, replicate};
+ghost use Rattle.std.specs.Prelude.{IfOk, IsErr, IsTrue};
 ghost use Rattle.std.specs.Result.{is_err};
 ghost use Rattle.std.specs.Io.KnownBytes.{ReadConsumes, WriteAppends};
 ghost use Rattle.mapf_model.specs.Devices.{moved, call_more};
@@ -72,7 +73,12 @@ impl<'a> Model for FuseSource<'a> {
 
     ghost Value = { FuseReads };
 
-    ghost view = { λ s. record { remaining = s.source.bytes.now; pace = s.pace; calls = s.fuse.calls; has_failed = s.is_failed } };
+    ghost view = { λ s. record {
+      remaining = s.source.bytes.now;
+      pace = s.pace;
+      calls = s.fuse.calls;
+      has_failed = s.is_failed;
+    } };
 }
 
 impl<'a> FuseSource<'a> {
@@ -177,7 +183,13 @@ impl Model for FuseSink {
 
     ghost Value = { FuseWrites };
 
-    ghost view = { λ s. record { contents = s.sink.0; room = s.sink.1; pace = s.pace; calls = s.fuse.calls; has_failed = s.is_failed } };
+    ghost view = { λ s. record {
+      contents = s.sink.0;
+      room = s.sink.1;
+      pace = s.pace;
+      calls = s.fuse.calls;
+      has_failed = s.is_failed;
+    } };
 
     ghost invariant = { λ s. s.is_failed ≡ false → s.sink.2 ≡ false };
 }
@@ -191,7 +203,8 @@ impl FuseSink {
         pace: Pace,
         calls: Option<u64>,
     ) -> Result<FuseSink, OutOfMemory>
-        ensures { IfOk result (λ s. s ≡ record { contents = []; room = room; pace = pace; calls = calls; has_failed = false }) }
+        ensures { IfOk result (λ s.
+            s ≡ record { contents = []; room = room; pace = pace; calls = calls; has_failed = false }) }
     {
         Ok(FuseSink {
             sink: BytesSink::with_room(alloc, room)?,

@@ -1,4 +1,6 @@
-ghost use Rattle.mapf_model.specs.Examples.{WaitingBoundsALabel, NoLabelIsRaisedAtAFreeGoal, AClashShowsImpossibility, OneStartIsNoPlan, SwappingIsNoPlan, EachChildBarsItsAgent, ChildrenInheritLabels};
+ghost use Rattle.mapf_model.specs.Examples.{WaitingBoundsALabel, NoLabelIsRaisedAtAFreeGoal};
+ghost use Rattle.mapf_model.specs.Examples.{AClashShowsImpossibility, OneStartIsNoPlan, SwappingIsNoPlan};
+ghost use Rattle.mapf_model.specs.Examples.{EachChildBarsItsAgent, ChildrenInheritLabels};
 
 /// What the definitions of labels say on small problems.
 pub fn labels_by_example()

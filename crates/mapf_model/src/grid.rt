@@ -1,9 +1,7 @@
-ghost use Rattle.std.specs.Prelude.{◌≡◌, ◌+◌, ◌*◌, ◌<◌, ◌≤◌, ◌++◌, ◌^◌, ℕ, length, IfSome, IsSome, IsTrue, ◌↔◌, Contains};
+ghost use Rattle.std.specs.Prelude.{◌≡◌, ◌+◌, ◌*◌, ◌<◌, ◌≤◌, ℕ, length, IfSome, IsSome, IsTrue, ◌↔◌, Contains};
 ghost use Rattle.std.specs.List.Sorted.{IsStrictlyIncreasing};
-ghost use Rattle.smallvec.specs.SmallVec.{HasRoomFor, small_vec_len};
 ghost use Rattle.mapf_model.specs.Limits.{greatest_side};
-ghost use Rattle.mapf_model.specs.Grid.{GridMap, IsFree, Step, IsGridMap, column, row};
-ghost use Rattle.mapf_model.specs.Neighbours.{above_of, left_of, right_of, kept};
+ghost use Rattle.mapf_model.specs.Grid.{GridMap, IsFree, AreAdjacent, Step, IsGridMap, column, row};
 
 use crate::cell::Cell;
 use crate::limits::GREATEST_SIDE;
@@ -24,7 +22,7 @@ impl Model for Grid {
 
     ghost view = { λ g. record { width = g.width; height = g.height; free = g.free.items } };
 
-    ghost invariant = { λ g. (1 ≤ g.width) × (g.width ≤ greatest_side) × (1 ≤ g.height) × (g.height ≤ greatest_side) × (length g.free.items ≡ g.width * g.height) };
+    ghost invariant = { λ g. IsGridMap (record { width = g.width; height = g.height; free = g.free.items }) };
 }
 
 impl Grid {
@@ -101,64 +99,30 @@ impl Grid {
         ensures rising { IsStrictlyIncreasing result.items }
     {
         let mut steps = SmallVec::new(alloc);
-        self.keep(&mut steps, self.above(cell));
-        self.keep(&mut steps, self.left(cell));
-        self.keep(&mut steps, Some(cell));
-        self.keep(&mut steps, self.right(cell));
-        self.keep(&mut steps, Some(self.below(cell)));
+        for place in cell.neighbourhood(self.width()) {
+            if let Some(next) = place {
+                if self.is_free(next) {
+                    steps.push_reserved(next);
+                }
+            }
+        }
         steps
     }
 
-    fn above(&self, cell: Cell) -> Option<Cell>
-        ensures above { result ≡ above_of self.now cell }
-        ensures wide { 0 < self.now.width }
+    /// Whether an agent may be in the second cell one tick after it is in the first.
+    pub fn is_step(&self, from: Cell, to: Cell) -> bool
+        ensures { IsTrue result ↔ Step self.now from to }
     {
-        if cell.0 / self.width > 0 {
-            Some(Cell(cell.0 - self.width))
-        } else {
-            None
+        if !self.is_free(from) {
+            return false;
         }
+        self.is_free(to) && from.neighbourhood(self.width()).contains(&Some(to))
     }
 
-    fn left(&self, cell: Cell) -> Option<Cell>
-        ensures { result ≡ left_of self.now cell }
+    /// Whether the two cells are free and differ by one in exactly one coordinate.
+    pub fn are_adjacent(&self, from: Cell, to: Cell) -> bool
+        ensures { IsTrue result ↔ AreAdjacent self.now from to }
     {
-        if cell.0 % self.width > 0 {
-            Some(Cell(cell.0 - 1))
-        } else {
-            None
-        }
-    }
-
-    fn right(&self, cell: Cell) -> Option<Cell>
-        requires { IsFree self.now cell }
-        ensures { result ≡ right_of self.now cell }
-    {
-        if cell.0 % self.width + 1 < self.width {
-            Some(Cell(cell.0 + 1))
-        } else {
-            None
-        }
-    }
-
-    fn below(&self, cell: Cell) -> Cell
-        requires { IsFree self.now cell }
-        ensures { result ≡ cell + self.now.width }
-    {
-        Cell(cell.0 + self.width)
-    }
-
-    // Adds the cell if it is free.
-    fn keep(&self, steps: &mut SmallVec<Cell, 5>, next: Option<Cell>)
-        requires { HasRoomFor steps.old 1 }
-        ensures items { steps.new.items ≡ steps.old.items ++ kept self.now next }
-        ensures length { small_vec_len steps.new ≤ small_vec_len steps.old + 1 }
-        ensures capacity { steps.new.capacity ≡ steps.old.capacity }
-    {
-        if let Some(cell) = next {
-            if self.is_free(cell) {
-                steps.push_reserved(cell);
-            }
-        }
+        from != to && self.is_step(from, to)
     }
 }

@@ -1,5 +1,7 @@
 ghost use Rattle.std.specs.Prelude.{◌≡◌};
-ghost use Rattle.mapf_model.specs.Limits.{most_agents, greatest_side, most_path_cells, greatest_cost, greatest_sum, most_splits, last_split_tick, split_ticks, most_text_bytes, most_cert_bytes};
+ghost use Rattle.mapf_model.specs.Limits.{most_agents, greatest_side, most_path_cells, greatest_cost, greatest_sum};
+ghost use Rattle.mapf_model.specs.Limits.{most_splits, last_split_tick, split_ticks, most_text_bytes};
+ghost use Rattle.mapf_model.specs.Limits.{most_cert_bytes};
 
 /// The most agents of a problem.
 pub const MOST_AGENTS: u32 = 200;
@@ -22,7 +24,7 @@ pub const MOST_SPLITS: u32 = 100_000;
 /// The last tick of a conflict that may be split.
 pub const LAST_SPLIT_TICK: u32 = 999_999;
 
-/// How many ticks, from 0 on, a conflict that may be split can have.
+/// The first tick at which a conflict isn't split any more.
 pub const SPLIT_TICKS: u32 = 1_000_000;
 
 /// The most bytes of a map, a scenario or a plan text.

@@ -1,8 +1,8 @@
 -- Texts of pieces, one for each number from 0 on.
 use Rattle.std.proofs.Common.{◌≡◌, ℕ, zero, suc, ◌+◌, ◌-◌, ◌<◌, List, ◌++◌, Option, append_assoc, append-nil, sym, ap, ◌∙◌, subst, arith}
 use Rattle.std.specs.List.{range_with_len, flat_map}
-use Rattle.mapf_player.specs.Pages.{Passes, WritesFront}
-use Rattle.mapf_player.proofs.Fronts.{passes_trans, front_after, front_held}
+use Rattle.mapf_player.specs.Pages.{Passes, WritesPrefix}
+use Rattle.mapf_player.proofs.Prefixes.{passes_trans, prefix_after, prefix_held}
 
 split : (f : ℕ → List ℕ) (a k m : ℕ) → flat_map f (range_with_len a (k + suc m)) ≡ flat_map f (range_with_len a k) ++ (f (a + k) ++ flat_map f (range_with_len (a + k + 1) m))
 split f a zero m =
@@ -31,8 +31,8 @@ one_more f k =
 pub pieces_more : (f : ℕ → List ℕ) (k : ℕ) (a b c : Option (List ℕ)) (h i j : List ℕ) → Passes a b h i (flat_map f (range_with_len 0 k)) → Passes b c i j (f k) → Passes a c h j (flat_map f (range_with_len 0 (k + 1)))
 pieces_more f k a b c h i j far this = subst (Passes a c h j) (sym (one_more f k)) (passes_trans a b c h i j (flat_map f (range_with_len 0 k)) (f k) far this)
 
--- after a front of this piece
-pub pieces_front : (f : ℕ → List ℕ) (n k : ℕ) (a b c : Option (List ℕ)) (h i : List ℕ) → k < n → Passes a b h i (flat_map f (range_with_len 0 k)) → WritesFront b c (i ++ f k) → WritesFront a c (h ++ flat_map f (range_with_len 0 n))
-pieces_front f n k a b c h i within far this =
-    subst (λ t. WritesFront a c (h ++ t)) (sym (around f n k within))
-    (front_after a b c h i (flat_map f (range_with_len 0 k)) (f k ++ flat_map f (range_with_len (k + 1) (n - (k + 1)))) far (front_held b c i (f k) (flat_map f (range_with_len (k + 1) (n - (k + 1)))) this))
+-- after a prefix of this piece
+pub pieces_prefix : (f : ℕ → List ℕ) (n k : ℕ) (a b c : Option (List ℕ)) (h i : List ℕ) → k < n → Passes a b h i (flat_map f (range_with_len 0 k)) → WritesPrefix b c (i ++ f k) → WritesPrefix a c (h ++ flat_map f (range_with_len 0 n))
+pieces_prefix f n k a b c h i within far this =
+    subst (λ t. WritesPrefix a c (h ++ t)) (sym (around f n k within))
+    (prefix_after a b c h i (flat_map f (range_with_len 0 k)) (f k ++ flat_map f (range_with_len (k + 1) (n - (k + 1)))) far (prefix_held b c i (f k) (flat_map f (range_with_len (k + 1) (n - (k + 1)))) this))

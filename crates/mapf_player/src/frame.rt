@@ -1,11 +1,12 @@
-ghost use Rattle.std.specs.Prelude.{◌≡◌, ◌<◌, ◌++◌, ◌∷◌, [], false, codes, length, OnOk, OnErr};
+ghost use Rattle.std.specs.Prelude.{◌≡◌, ◌<◌, ◌++◌, ◌∷◌, [], false, codes, length};
 ghost use Rattle.std.specs.Result.{is_err};
-ghost use Rattle.mapf_player.specs.Pages.{Passes, WritesFront};
+ghost use Rattle.mapf_player.specs.Pages.{PassesOrFails};
 ghost use Rattle.mapf_player.specs.Play.{frame, line, row_line, rows};
 
 use crate::page::Page;
 use crate::row::draw_row;
 use itoa::Buffer;
+use mapf_model::limits::GREATEST_SIDE;
 use mapf_model::{Failed, Grid, Path, Sink, Tick};
 
 /// Writes a word, a number and LF.
@@ -16,9 +17,9 @@ pub fn put_line<K: Sink>(
     number: u32,
 ) -> Result<(), Failed>
     requires { K.has_failed sink.old ≡ false }
-    ensures text { OnOk result (Passes (K.contents sink.old) (K.contents sink.new) page.old page.new (line word.now number)) }
+    ensures text { PassesOrFails (K.contents sink.old) (K.contents sink.new) page.old page.new
+        (line word.now number) result }
     ensures failed { K.has_failed sink.new ≡ is_err result }
-    ensures front { OnErr result (WritesFront (K.contents sink.old) (K.contents sink.new) (page.old ++ line word.now number)) }
 {
     let mut buffer = Buffer::new();
     page.put(sink, word)?;
@@ -39,9 +40,9 @@ fn put_row<K: Sink>(
     requires works { K.has_failed sink.old ≡ false }
     requires whole { length row.old ≡ grid.now.width }
     requires inside { y < grid.now.height }
-    ensures text { OnOk result (Passes (K.contents sink.old) (K.contents sink.new) page.old page.new (row_line grid.now paths.now tick y)) }
+    ensures text { PassesOrFails (K.contents sink.old) (K.contents sink.new) page.old page.new
+        (row_line grid.now paths.now tick y) result }
     ensures failed { K.has_failed sink.new ≡ is_err result }
-    ensures front { OnErr result (WritesFront (K.contents sink.old) (K.contents sink.new) (page.old ++ row_line grid.now paths.now tick y)) }
 {
     draw_row(row, grid, paths, tick, y);
     page.put(sink, row)?;
@@ -57,11 +58,11 @@ fn put_rows<K: Sink>(
     tick: Tick,
 ) -> Result<(), Failed>
     requires { K.has_failed sink.old ≡ false }
-    ensures text { OnOk result (Passes (K.contents sink.old) (K.contents sink.new) page.old page.new (rows grid.now paths.now tick)) }
+    ensures text { PassesOrFails (K.contents sink.old) (K.contents sink.new) page.old page.new
+        (rows grid.now paths.now tick) result }
     ensures failed { K.has_failed sink.new ≡ is_err result }
-    ensures front { OnErr result (WritesFront (K.contents sink.old) (K.contents sink.new) (page.old ++ rows grid.now paths.now tick)) }
 {
-    let mut cells = [0; 2048];
+    let mut cells = [0; GREATEST_SIDE as usize];
     let width = grid.width() as usize;
     for y in 0..grid.height() {
         put_row(page, sink, &mut cells[..width], grid, paths, tick, y)?;
@@ -78,9 +79,9 @@ pub fn put_frame<K: Sink>(
     tick: Tick,
 ) -> Result<(), Failed>
     requires { K.has_failed sink.old ≡ false }
-    ensures text { OnOk result (Passes (K.contents sink.old) (K.contents sink.new) page.old page.new (frame grid.now paths.now tick)) }
+    ensures text { PassesOrFails (K.contents sink.old) (K.contents sink.new) page.old page.new
+        (frame grid.now paths.now tick) result }
     ensures failed { K.has_failed sink.new ≡ is_err result }
-    ensures front { OnErr result (WritesFront (K.contents sink.old) (K.contents sink.new) (page.old ++ frame grid.now paths.now tick)) }
 {
     put_line(page, sink, b"tick ", tick)?;
     put_rows(page, sink, grid, paths, tick)

@@ -1,7 +1,6 @@
-ghost use Rattle.std.specs.Prelude.{◌≡◌, ◌+◌, ◌<◌, ◌≤◌, ◌↔◌, ◌++◌, [], List, ℕ, false, IsTrue, length, OnOk, OnErr};
+ghost use Rattle.std.specs.Prelude.{◌≡◌, ◌+◌, ◌<◌, ◌≤◌, ◌↔◌, ◌++◌, [], List, ℕ, false, IsTrue, length};
 ghost use Rattle.std.specs.Result.{is_err};
-ghost use Rattle.std.specs.Io.KnownBytes.{Appends};
-ghost use Rattle.mapf_player.specs.Pages.{Passes, WritesFront};
+ghost use Rattle.mapf_player.specs.Pages.{PassesOrFails, WritesOrFails};
 
 use mapf_model::{Failed, Sink, write_all};
 use std::marker::Model;
@@ -64,13 +63,12 @@ impl Page {
     }
 
     /// Pushes what is held, and holds nothing then, also where the sink failed.
-    #[tactic(auto, using(crate::proofs::Fronts::from_take))]
+    #[tactic(auto, using(crate::proofs::Prefixes::written))]
     pub fn flush<K: Sink>(&mut self, sink: &mut K) -> Result<(), Failed>
         requires { K.has_failed sink.old ≡ false }
-        ensures text { OnOk result (Appends (K.contents sink.old) (K.contents sink.new) self.old) }
+        ensures text { WritesOrFails (K.contents sink.old) (K.contents sink.new) self.old result }
         ensures empty { self.new ≡ [] }
         ensures failed { K.has_failed sink.new ≡ is_err result }
-        ensures front { OnErr result (WritesFront (K.contents sink.old) (K.contents sink.new) self.old) }
     {
         let pushed = write_all(sink, self.as_slice());
         self.clear();
@@ -80,9 +78,8 @@ impl Page {
     /// Adds bytes to those that are held, and pushes where they don't fit.
     pub fn put<K: Sink>(&mut self, sink: &mut K, bytes: &[u8]) -> Result<(), Failed>
         requires { K.has_failed sink.old ≡ false }
-        ensures text { OnOk result (Passes (K.contents sink.old) (K.contents sink.new) self.old self.new bytes.now) }
+        ensures text { PassesOrFails (K.contents sink.old) (K.contents sink.new) self.old self.new bytes.now result }
         ensures failed { K.has_failed sink.new ≡ is_err result }
-        ensures front { OnErr result (WritesFront (K.contents sink.old) (K.contents sink.new) (self.old ++ bytes.now)) }
     {
         if self.has_room(bytes.len()) {
             self.append(bytes);

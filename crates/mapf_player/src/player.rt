@@ -3,7 +3,7 @@ ghost use Rattle.std.specs.List.{range_with_len};
 ghost use Rattle.std.specs.Result.{is_err};
 ghost use Rattle.std.specs.Io.KnownBytes.{Appends};
 ghost use Rattle.mapf_model.specs.Plan.{IsValid};
-ghost use Rattle.mapf_player.specs.Pages.{Passes, WritesFront};
+ghost use Rattle.mapf_player.specs.Pages.{PassesOrFails, WritesOrFails};
 ghost use Rattle.mapf_player.specs.Play.{frame, line, play_text, IsMakespan, IsPlayText};
 
 use crate::frame::{put_frame, put_line};
@@ -32,11 +32,9 @@ fn put_frames<K: Sink>(
     last: Tick,
 ) -> Result<(), Failed>
     requires { K.has_failed sink.old ≡ false }
-    ensures text { OnOk result (Passes (K.contents sink.old) (K.contents sink.new) page.old page.new
-        (flat_map (frame grid.now paths.now) (range_with_len 0 (last + 1)))) }
+    ensures text { PassesOrFails (K.contents sink.old) (K.contents sink.new) page.old page.new
+        (flat_map (frame grid.now paths.now) (range_with_len 0 (last + 1))) result }
     ensures failed { K.has_failed sink.new ≡ is_err result }
-    ensures front { OnErr result (WritesFront (K.contents sink.old) (K.contents sink.new)
-        (page.old ++ flat_map (frame grid.now paths.now) (range_with_len 0 (last + 1)))) }
 {
     for tick in 0..=last {
         put_frame(page, sink, grid, paths, tick)?;
@@ -52,9 +50,9 @@ pub fn write_text<K: Sink>(
     last: Tick,
 ) -> Result<(), Failed>
     requires { K.has_failed sink.old ≡ false }
-    ensures text { OnOk result (Appends (K.contents sink.old) (K.contents sink.new) (play_text grid.now paths.now last)) }
+    ensures text { WritesOrFails (K.contents sink.old) (K.contents sink.new)
+        (play_text grid.now paths.now last) result }
     ensures failed { K.has_failed sink.new ≡ is_err result }
-    ensures front { OnErr result (WritesFront (K.contents sink.old) (K.contents sink.new) (play_text grid.now paths.now last)) }
 {
     let mut page = Page::empty();
     put_frames(&mut page, sink, grid, paths, last)?;
@@ -66,7 +64,7 @@ pub fn write_text<K: Sink>(
 /// for good: a line `tick t`, and a line for each row of the grid. Last comes a line `end m` with the
 /// makespan in ticks. A free cell is `.`, a blocked one `@`. The agents are `0` to `9`, `a` to `z`, `A` to
 /// `Z`, and from the 63rd on `*`. After its path ended an agent stays where it is. It takes no memory.
-/// `Failed` is answered only where the sink failed, and then it got a front of that text.
+/// `Failed` is answered only where the sink failed, and then it got a prefix of that text.
 pub fn play<K: Sink>(problem: &Problem, plan: &Plan, sink: &mut K) -> Result<(), Failed>
     requires works { K.has_failed sink.old ≡ false }
     requires valid { IsValid problem.now plan.now }

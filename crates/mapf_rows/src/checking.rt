@@ -131,7 +131,8 @@ const OF_A_FALSE_CLASH: Row = Row {
 const OF_A_DEARER_PLAN: Row = Row {
     given: CROSSING,
     plan: DEARER,
-    cert: "mapf-cert 1\nagents 2\nclaim cost 6\nvertex 0 1 1,1 1\nleaf 1\nagent 0 1\nat 0,1 0 3\nleaf 1\nagent 1 1\nat 1,0 0 3\nend\n",
+    cert: "mapf-cert 1\nagents 2\nclaim cost 6\nvertex 0 1 1,1 1\nleaf 1\nagent 0 1\nat 0,1 0 3\nleaf 1\n\
+agent 1 1\nat 1,0 0 3\nend\n",
     answer: Err(CheckFault::C8(5)),
 };
 
@@ -253,7 +254,8 @@ const CROSSING_CHANGES: [Change; 15] = [
     (
         4,
         10,
-        "vertex 0 1 2,2 7\nvertex 0 1 1,1 1\nleaf 1\nagent 0 1\nat 0,1 0 3\nleaf 1\nagent 1 1\nat 1,0 0 3\nvertex 0 1 1,1 1\nleaf 1\nagent 0 1\nat 0,1 0 3\nleaf 1\nagent 1 1\nat 1,0 0 3\n",
+        "vertex 0 1 2,2 7\nvertex 0 1 1,1 1\nleaf 1\nagent 0 1\nat 0,1 0 3\nleaf 1\nagent 1 1\nat 1,0 0 3\n\
+vertex 0 1 1,1 1\nleaf 1\nagent 0 1\nat 0,1 0 3\nleaf 1\nagent 1 1\nat 1,0 0 3\n",
         Ok(Verdict::Optimal(5)),
     ),
     // Nothing is asked of the label of a barred state.

@@ -1,9 +1,9 @@
-//! Runs whose map, scenario or plan text can't be read, and sinks that are slow, full or broken.
+//! Runs whose map, scenario or plan text can't be read, or comes slowly, and sinks that are slow, full or broken.
 
 ghost use Rattle.std.specs.Prelude.{◌≡◌, false};
 
 use crate::problems::{CROSSING_CERT, CROSSING_MAP, CROSSING_PLAN, CROSSING_SCEN};
-use mapf_app::{Fault, Input, Kind, Output, Verdict, run_check, run_play, run_solve};
+use mapf_app::{Fault, Input, Kind, Output, Verdict, run_check, run_demo, run_play, run_solve};
 use mapf_model::devices::{EndlessSource, FuseSink, FuseSource, Pace};
 use mapf_model::{BytesSink, BytesSource, Sink};
 use std::alloc::Global;
@@ -12,18 +12,48 @@ use std::test::Fail;
 
 const ROOM: usize = 200;
 
-// How many calls the sources of the map and of the scenario stand, and how many bytes they give in each.
+const DEMO_ROOM: usize = 4096;
+
+// How many calls the sources of the map, of the scenario and of the plan text stand, and how many bytes they
+// give in each.
 #[derive(Clone, Copy)]
 struct Fuses {
     pace: Pace,
     map: Option<u64>,
     scen: Option<u64>,
+    plan: Option<u64>,
+}
+
+impl Fuses {
+    // No source fails.
+    fn at(pace: Pace) -> Fuses {
+        Fuses {
+            pace,
+            map: None,
+            scen: None,
+            plan: None,
+        }
+    }
+}
+
+fn solve_over<P: Sink, C: Sink>(
+    alloc: Global,
+    fuses: Fuses,
+    plan: &mut P,
+    cert: &mut C,
+) -> Result<Kind, Fault>
+    requires plan_works { P.has_failed plan.old ≡ false }
+    requires cert_works { C.has_failed cert.old ≡ false }
+{
+    let mut map = FuseSource::of(CROSSING_MAP.as_bytes(), fuses.pace, fuses.map);
+    let mut scen = FuseSource::of(CROSSING_SCEN.as_bytes(), fuses.pace, fuses.scen);
+    run_solve(alloc, &mut map, &mut scen, 2, 10, plan, cert)
 }
 
 fn check_over(alloc: Global, fuses: Fuses) -> Result<Verdict, Fault> {
     let mut map = FuseSource::of(CROSSING_MAP.as_bytes(), fuses.pace, fuses.map);
     let mut scen = FuseSource::of(CROSSING_SCEN.as_bytes(), fuses.pace, fuses.scen);
-    let mut plan = BytesSource::of(CROSSING_PLAN.as_bytes());
+    let mut plan = FuseSource::of(CROSSING_PLAN.as_bytes(), fuses.pace, fuses.plan);
     let mut cert = BytesSource::of(CROSSING_CERT.as_bytes());
     run_check(alloc, &mut map, &mut scen, 2, &mut plan, &mut cert)
 }
@@ -33,14 +63,17 @@ fn play_over<K: Sink>(alloc: Global, fuses: Fuses, sink: &mut K) -> Result<(), F
 {
     let mut map = FuseSource::of(CROSSING_MAP.as_bytes(), fuses.pace, fuses.map);
     let mut scen = FuseSource::of(CROSSING_SCEN.as_bytes(), fuses.pace, fuses.scen);
-    let mut plan = BytesSource::of(CROSSING_PLAN.as_bytes());
+    let mut plan = FuseSource::of(CROSSING_PLAN.as_bytes(), fuses.pace, fuses.plan);
     run_play(alloc, &mut map, &mut scen, 2, &mut plan, sink)
 }
 
-// A pace, and at most how many calls of the map's and of the scenario's source a failure follows.
-const PACES: [(Pace, u64, u64); 2] = [(Pace::ByteByByte, 45, 62), (Pace::AllAtOnce, 1, 1)];
+// A pace, and at most how many calls of the map's, the scenario's and the plan text's source a failure follows.
+const PACES: [(Pace, u64, u64, u64); 2] = [
+    (Pace::ByteByByte, 45, 62, 78),
+    (Pace::AllAtOnce, 1, 1, 1),
+];
 
-// Both runs end with a failure of this input, and nothing is shown.
+// A check and a play end with a failure of this input, and nothing is shown.
 fn assert_unread(rt: &impl Abort, alloc: Global, fuses: Fuses, input: Input) -> Result<(), Fail> {
     assert_eq!(rt; check_over(alloc, fuses), Err(Fault::F4(input)));
     let mut sink = BytesSink::with_room(alloc, ROOM)?;
@@ -50,16 +83,26 @@ fn assert_unread(rt: &impl Abort, alloc: Global, fuses: Fuses, input: Input) -> 
     Ok(())
 }
 
+// A search ends with a failure of this input, and nothing is written.
+fn assert_unsolved(rt: &impl Abort, alloc: Global, fuses: Fuses, input: Input) -> Result<(), Fail> {
+    let mut plan = BytesSink::with_room(alloc, ROOM)?;
+    let mut cert = BytesSink::with_room(alloc, ROOM)?;
+    let answer = solve_over(alloc, fuses, &mut plan, &mut cert);
+    assert_eq!(rt; answer, Err(Fault::F4(input)));
+    assert!(rt; plan.bytes().is_empty() && cert.bytes().is_empty());
+    Ok(())
+}
+
 #[test]
 fn names_the_map_that_failed(rt: HostRuntime) -> Result<(), Fail> {
-    for (pace, most, _) in PACES {
+    for (pace, most, _, _) in PACES {
         for calls in 0..=most {
             let fuses = Fuses {
-                pace,
                 map: Some(calls),
-                scen: None,
+                ..Fuses::at(pace)
             };
             assert_unread(&rt, rt.alloc(), fuses, Input::Map)?;
+            assert_unsolved(&rt, rt.alloc(), fuses, Input::Map)?;
         }
     }
     Ok(())
@@ -67,16 +110,42 @@ fn names_the_map_that_failed(rt: HostRuntime) -> Result<(), Fail> {
 
 #[test]
 fn names_the_scenario_that_failed(rt: HostRuntime) -> Result<(), Fail> {
-    for (pace, _, most) in PACES {
+    for (pace, _, most, _) in PACES {
         for calls in 0..=most {
             let fuses = Fuses {
-                pace,
-                map: None,
                 scen: Some(calls),
+                ..Fuses::at(pace)
             };
             assert_unread(&rt, rt.alloc(), fuses, Input::Scen)?;
+            assert_unsolved(&rt, rt.alloc(), fuses, Input::Scen)?;
         }
     }
+    Ok(())
+}
+
+#[test]
+fn names_the_plan_that_failed(rt: HostRuntime) -> Result<(), Fail> {
+    for (pace, _, _, most) in PACES {
+        for calls in 0..=most {
+            let fuses = Fuses {
+                plan: Some(calls),
+                ..Fuses::at(pace)
+            };
+            assert_unread(&rt, rt.alloc(), fuses, Input::Plan)?;
+        }
+    }
+    Ok(())
+}
+
+#[test]
+fn gives_up_on_a_map_that_never_ends(rt: HostRuntime) -> Result<(), Fail> {
+    let mut plan = BytesSink::with_room(rt.alloc(), ROOM)?;
+    let mut cert = BytesSink::with_room(rt.alloc(), ROOM)?;
+    let mut map = EndlessSource::of(b' ');
+    let mut scen = BytesSource::of(CROSSING_SCEN.as_bytes());
+    let answer = run_solve(rt.alloc(), &mut map, &mut scen, 2, 10, &mut plan, &mut cert);
+    assert_eq!(rt; answer, Err(Fault::F4(Input::Map)));
+    assert_eq!(rt; plan.bytes(), b"".as_slice());
     Ok(())
 }
 
@@ -102,21 +171,16 @@ fn gives_up_on_a_plan_that_never_ends(rt: HostRuntime) {
     assert_eq!(rt; verdict, Err(Fault::F4(Input::Plan)));
 }
 
-fn solve_into<P: Sink, C: Sink>(alloc: Global, plan: &mut P, cert: &mut C) -> Result<Kind, Fault>
-    requires plan_works { P.has_failed plan.old ≡ false }
-    requires cert_works { C.has_failed cert.old ≡ false }
-{
-    let mut map = BytesSource::of(CROSSING_MAP.as_bytes());
-    let mut scen = BytesSource::of(CROSSING_SCEN.as_bytes());
-    run_solve(alloc, &mut map, &mut scen, 2, 10, plan, cert)
-}
-
 #[test]
-fn writes_the_same_into_slow_sinks(rt: HostRuntime) -> Result<(), Fail> {
-    for pace in [Pace::AllAtOnce, Pace::ByteByByte] {
-        let mut plan = FuseSink::with_room(rt.alloc(), ROOM, pace, None)?;
-        let mut cert = FuseSink::with_room(rt.alloc(), ROOM, pace, None)?;
-        let answer = solve_into(rt.alloc(), &mut plan, &mut cert);
+fn writes_the_same_at_any_pace(rt: HostRuntime) -> Result<(), Fail> {
+    for (read, write) in [
+        (Pace::AllAtOnce, Pace::AllAtOnce),
+        (Pace::AllAtOnce, Pace::ByteByByte),
+        (Pace::ByteByByte, Pace::ByteByByte),
+    ] {
+        let mut plan = FuseSink::with_room(rt.alloc(), ROOM, write, None)?;
+        let mut cert = FuseSink::with_room(rt.alloc(), ROOM, write, None)?;
+        let answer = solve_over(rt.alloc(), Fuses::at(read), &mut plan, &mut cert);
         assert_eq!(rt; answer, Ok(Kind::Found(5)));
         assert_eq!(rt; plan.bytes(), CROSSING_PLAN.as_bytes());
         assert_eq!(rt; cert.bytes(), CROSSING_CERT.as_bytes());
@@ -130,7 +194,7 @@ fn names_the_plan_sink_that_is_full(rt: HostRuntime) -> Result<(), Fail> {
     for room in 0..text.len() {
         let mut plan = BytesSink::with_room(rt.alloc(), room)?;
         let mut cert = BytesSink::with_room(rt.alloc(), ROOM)?;
-        let answer = solve_into(rt.alloc(), &mut plan, &mut cert);
+        let answer = solve_over(rt.alloc(), Fuses::at(Pace::AllAtOnce), &mut plan, &mut cert);
         assert_eq!(rt; answer, Err(Fault::F5(Output::Plan)), "at {room}");
         assert_eq!(rt; plan.bytes(), &text[..room]);
         assert!(rt; cert.bytes().is_empty());
@@ -144,10 +208,53 @@ fn names_the_certificate_sink_that_is_full(rt: HostRuntime) -> Result<(), Fail> 
     for room in 0..text.len() {
         let mut plan = BytesSink::with_room(rt.alloc(), ROOM)?;
         let mut cert = BytesSink::with_room(rt.alloc(), room)?;
-        let answer = solve_into(rt.alloc(), &mut plan, &mut cert);
+        let answer = solve_over(rt.alloc(), Fuses::at(Pace::AllAtOnce), &mut plan, &mut cert);
         assert_eq!(rt; answer, Err(Fault::F5(Output::Cert)), "at {room}");
         assert!(rt; plan.bytes() == CROSSING_PLAN.as_bytes());
         assert_eq!(rt; cert.bytes(), &text[..room]);
+    }
+    Ok(())
+}
+
+#[test]
+fn names_the_plan_sink_that_failed(rt: HostRuntime) -> Result<(), Fail> {
+    let text = CROSSING_PLAN.as_bytes();
+    for calls in 0..text.len() {
+        let fuse = Some(calls as u64);
+        let mut plan = FuseSink::with_room(rt.alloc(), ROOM, Pace::ByteByByte, fuse)?;
+        let mut cert = BytesSink::with_room(rt.alloc(), ROOM)?;
+        let answer = solve_over(rt.alloc(), Fuses::at(Pace::AllAtOnce), &mut plan, &mut cert);
+        assert_eq!(rt; answer, Err(Fault::F5(Output::Plan)), "after {calls} calls");
+        assert_eq!(rt; plan.bytes(), &text[..calls]);
+        assert!(rt; cert.bytes().is_empty());
+    }
+    Ok(())
+}
+
+#[test]
+fn names_the_certificate_sink_that_failed(rt: HostRuntime) -> Result<(), Fail> {
+    let text = CROSSING_CERT.as_bytes();
+    for calls in 0..text.len() {
+        let fuse = Some(calls as u64);
+        let mut plan = BytesSink::with_room(rt.alloc(), ROOM)?;
+        let mut cert = FuseSink::with_room(rt.alloc(), ROOM, Pace::ByteByByte, fuse)?;
+        let answer = solve_over(rt.alloc(), Fuses::at(Pace::AllAtOnce), &mut plan, &mut cert);
+        assert_eq!(rt; answer, Err(Fault::F5(Output::Cert)), "after {calls} calls");
+        assert_eq!(rt; plan.bytes(), CROSSING_PLAN.as_bytes());
+        assert_eq!(rt; cert.bytes(), &text[..calls]);
+    }
+    Ok(())
+}
+
+#[test]
+fn writes_a_prefix_of_the_demo(rt: HostRuntime) -> Result<(), Fail> {
+    let mut whole = BytesSink::with_room(rt.alloc(), DEMO_ROOM)?;
+    assert_eq!(rt; run_demo(rt.alloc(), &mut whole), Ok(()));
+    for calls in 0..whole.bytes().len() {
+        let fuse = Some(calls as u64);
+        let mut out = FuseSink::with_room(rt.alloc(), DEMO_ROOM, Pace::ByteByByte, fuse)?;
+        assert_eq!(rt; run_demo(rt.alloc(), &mut out), Err(Fault::F5(Output::Out)));
+        assert_eq!(rt; out.bytes(), &whole.bytes()[..calls]);
     }
     Ok(())
 }

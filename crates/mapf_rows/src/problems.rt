@@ -40,7 +40,8 @@ pub const CROSSING_PLAN: &str =
     "mapf-plan 1\nagents 2\ncost 5\npath 0 3 0,1 0,1 1,1 2,1\npath 1 2 1,0 1,1 1,2\nend\n";
 
 pub const CROSSING_CERT: &str =
-    "mapf-cert 1\nagents 2\nclaim cost 5\nvertex 0 1 1,1 1\nleaf 1\nagent 0 1\nat 0,1 0 3\nleaf 1\nagent 1 1\nat 1,0 0 3\nend\n";
+    "mapf-cert 1\nagents 2\nclaim cost 5\nvertex 0 1 1,1 1\nleaf 1\nagent 0 1\nat 0,1 0 3\n\
+leaf 1\nagent 1 1\nat 1,0 0 3\nend\n";
 
 // A plan of the crossing in which both agents are in the middle at tick 1.
 pub const MEETING: &str =
@@ -61,7 +62,14 @@ pub const NICHE_PLAN: &str =
     "mapf-plan 1\nagents 2\ncost 4\npath 0 2 0,0 1,0 2,0\npath 1 2 1,0 1,1 1,0\nend\n";
 
 pub const NICHE_CERT: &str =
-    "mapf-cert 1\nagents 2\nclaim cost 4\nvertex 0 1 1,0 1\nvertex 0 1 1,0 2\nvertex 0 1 1,0 3\nleaf 1\nagent 0 3\nat 0,0 0 5\nat 0,0 1 4\nat 0,0 2 3\nleaf 2\nagent 0 2\nat 0,0 0 4\nat 0,0 1 3\nagent 1 9\nat 1,0 0 4\nat 0,0 1 3\nat 1,0 1 3\nat 2,0 1 3\nat 1,1 1 3\nat 0,0 2 2\nat 1,0 2 2\nat 2,0 2 2\nat 1,1 2 2\nleaf 2\nagent 0 1\nat 0,0 0 3\nagent 1 5\nat 1,0 0 3\nat 0,0 1 2\nat 1,0 1 2\nat 2,0 1 2\nat 1,1 1 2\nswap 0 1 0,0 1,0 0\nleaf 2\nagent 0 1\nat 0,0 0 3\nagent 1 1\nat 1,0 0 2\nswap 0 1 1,0 2,0 1\nleaf 2\nagent 0 2\nat 0,0 0 3\nat 1,0 1 2\nagent 1 1\nat 1,0 0 2\nleaf 1\nagent 1 1\nat 1,0 0 2\nend\n";
+    "mapf-cert 1\nagents 2\nclaim cost 4\nvertex 0 1 1,0 1\nvertex 0 1 1,0 2\nvertex 0 1 1,0 3\n\
+leaf 1\nagent 0 3\nat 0,0 0 5\nat 0,0 1 4\nat 0,0 2 3\n\
+leaf 2\nagent 0 2\nat 0,0 0 4\nat 0,0 1 3\nagent 1 9\nat 1,0 0 4\nat 0,0 1 3\nat 1,0 1 3\nat 2,0 1 3\n\
+at 1,1 1 3\nat 0,0 2 2\nat 1,0 2 2\nat 2,0 2 2\nat 1,1 2 2\n\
+leaf 2\nagent 0 1\nat 0,0 0 3\nagent 1 5\nat 1,0 0 3\nat 0,0 1 2\nat 1,0 1 2\nat 2,0 1 2\nat 1,1 1 2\n\
+swap 0 1 0,0 1,0 0\nleaf 2\nagent 0 1\nat 0,0 0 3\nagent 1 1\nat 1,0 0 2\nswap 0 1 1,0 2,0 1\n\
+leaf 2\nagent 0 2\nat 0,0 0 3\nat 1,0 1 2\nagent 1 1\nat 1,0 0 2\n\
+leaf 1\nagent 1 1\nat 1,0 0 2\nend\n";
 
 // Two agents that must exchange their places on two cells.
 pub const EXCHANGE: Given = Given {
@@ -84,7 +92,8 @@ pub const SHARED_START: Given = Given {
 pub const SHARED_START_PLAN: &str = "mapf-plan 1\nagents 2\nimpossible\nend\n";
 
 pub const SHARED_START_CERT: &str =
-    "mapf-cert 1\nagents 2\nclaim impossible\nvertex 0 1 0,0 0\nleaf 1\nagent 0 1\nat 0,0 0 inf\nleaf 1\nagent 1 1\nat 0,0 0 inf\nend\n";
+    "mapf-cert 1\nagents 2\nclaim impossible\nvertex 0 1 0,0 0\nleaf 1\nagent 0 1\nat 0,0 0 inf\n\
+leaf 1\nagent 1 1\nat 0,0 0 inf\nend\n";
 
 // Two agents with one goal.
 pub const SHARED_GOAL: Given = Given {
@@ -111,7 +120,8 @@ pub const WALL_CERT: &str = "mapf-cert 1\nagents 1\nclaim impossible\nleaf 0\nen
 // Four agents that rotate on an open square.
 pub const ROTATION: Given = Given {
     map: "type octile\nheight 2\nwidth 2\nmap\n..\n..\n",
-    scen: "version 1\n0\ta.map\t2\t2\t0\t0\t1\t0\t1\n0\ta.map\t2\t2\t1\t0\t1\t1\t1\n0\ta.map\t2\t2\t1\t1\t0\t1\t1\n0\ta.map\t2\t2\t0\t1\t0\t0\t1\n",
+    scen: "version 1\n0\ta.map\t2\t2\t0\t0\t1\t0\t1\n0\ta.map\t2\t2\t1\t0\t1\t1\t1\n\
+0\ta.map\t2\t2\t1\t1\t0\t1\t1\n0\ta.map\t2\t2\t0\t1\t0\t0\t1\n",
     k: 4,
 };
 

@@ -5,7 +5,7 @@ use crate::problems::{CROSSING, CROSSING_CERT, CROSSING_PLAN, MEETING, RESTING, 
 use crate::runs::{check, check_pulled, problem_of};
 use mapf_app::{CertFault, CheckFault, Fault, Input, PlanFault, Verdict};
 use mapf_checker::{FromFault, check_from};
-use mapf_model::devices::{FuseSource, Pace};
+use mapf_model::devices::{EndlessSource, FuseSource, Pace};
 use mapf_model::{Failed, Source};
 use std::alloc::Global;
 use std::test::Fail;
@@ -101,11 +101,13 @@ fn breaks_off_where_the_source_fails(rt: HostRuntime) {
         j: 1,
         tick: 1,
     };
-    for (plan, fault) in [
-        (CROSSING_PLAN, Fault::F4(Input::Cert)),
-        (MEETING, Fault::Refused(CheckFault::C5(meet))),
+    // A plan that isn't valid is refused before the certificate is pulled.
+    for (plan, calls, fault) in [
+        (CROSSING_PLAN, FIRST_LEAF, Fault::F4(Input::Cert)),
+        (MEETING, FIRST_LEAF, Fault::Refused(CheckFault::C5(meet))),
+        (MEETING, 0, Fault::Refused(CheckFault::C5(meet))),
     ] {
-        let mut source = FuseSource::of(cert, Pace::ByteByByte, Some(FIRST_LEAF as u64));
+        let mut source = FuseSource::of(cert, Pace::ByteByByte, Some(calls as u64));
         let verdict = check_pulled(rt.alloc(), &CROSSING, plan.as_bytes(), &mut source);
         assert_eq!(rt; verdict, Err(fault), "of {plan}");
     }
@@ -114,21 +116,29 @@ fn breaks_off_where_the_source_fails(rt: HostRuntime) {
 #[test]
 fn ends_where_the_source_fails_at_any_call(rt: HostRuntime) {
     let failed = Err(Fault::F4(Input::Cert));
-    for pace in [Pace::AllAtOnce, Pace::ByteByByte] {
+    for (pace, most) in [(Pace::AllAtOnce, 1), (Pace::ByteByByte, 111)] {
         for calls in 0..113 {
             let mut source = FuseSource::of(CROSSING_CERT.as_bytes(), pace, Some(calls));
             let plan = CROSSING_PLAN.as_bytes();
             let verdict = check_pulled(rt.alloc(), &CROSSING, plan, &mut source);
-            let wanted = if source.failed() {
+            let wanted = if calls <= most {
                 failed
             } else {
                 Ok(Verdict::Optimal(5))
             };
             assert_eq!(rt; verdict, wanted, "after {calls} calls");
-            assert!(rt; calls > 0 || source.failed());
-            assert!(rt; calls < 112 || !source.failed(), "after {calls} calls");
+            assert_eq!(rt; source.failed(), calls <= most, "after {calls} calls");
         }
     }
+}
+
+#[test]
+fn refuses_a_line_that_never_ends(rt: HostRuntime) {
+    let mut source = EndlessSource::of(b'x');
+    let plan = CROSSING_PLAN.as_bytes();
+    let verdict = check_pulled(rt.alloc(), &CROSSING, plan, &mut source);
+    let refusal = CheckFault::C2(CertFault::K1(1));
+    assert_eq!(rt; verdict, Err(Fault::Refused(refusal)));
 }
 
 // One line for ever, after a header.

@@ -1,12 +1,13 @@
 -- The labels of a search are sound.
-use Rattle.std.proofs.Common.{◌≡◌, ◌⊎◌, inl, ⊎_elim, ℕ, zero, suc, ◌+◌, ◌-◌, ◌<◌, ◌≤◌, Bool, true, false, ◌==◌, ◌&&◌, cond, take, Option, Some, None, List, [], ◌∷◌, length, slice_index_or, Contains, find, option_map, refl, sym, ap, subst, ◌∙◌, arith}
-use Rattle.std.proofs.lemmas.Bool.{eqb-true, eq-eqb}
+use Rattle.std.proofs.Common.{◌≡◌, ◌⊎◌, inl, ⊎_elim, ℕ, ◌+◌, ◌-◌, ◌<◌, ◌≤◌, take, drop, take-append-drop, Option, Some, None, List, [], Contains, refl, sym, ap, subst, ◌∙◌, arith}
+use Rattle.std.proofs.lemmas.List.Elements.{Contains-append_left}
 use Rattle.mapf_model.specs.declared.label.Entry.{Entry}
 use Rattle.mapf_model.specs.declared.label.Label.{Label}
 use Rattle.mapf_model.specs.declared.label.Label.TheVariants.{Ticks, Never}
 use Rattle.mapf_model.specs.Distance.{IsDistance, IsUnreachable}
 use Rattle.mapf_model.specs.Grid.{GridMap}
 use Rattle.mapf_model.specs.Labels.{entries_of, AreSound, IsSoundEntry, IsLabel, IsEntryOrDistance, IsWithinOne, MayGo}
+use Rattle.mapf_model.proofs.ListedLemmas.{listed_is_contained, contained_is_listed}
 use Rattle.mapf_spacetime.specs.declared.state.State.{State}
 use Rattle.mapf_spacetime.specs.Task.{Task, IsValue, state_at, start_of}
 use Rattle.mapf_spacetime.specs.States.{States, low_states, HasArrived, IsSpent}
@@ -14,59 +15,12 @@ use Rattle.mapf_spacetime.specs.Listed.{label_of, AreEntriesOf}
 use Rattle.mapf_spacetime.proofs.ValueLemmas.{value_unique, value_none}
 use Rattle.mapf_spacetime.proofs.FrontierLemmas.{none_held, reached_within}
 
-both : (a b : Bool) → (a && b) ≡ true → (a ≡ true) × (b ≡ true)
-both true b e = (refl, e)
-both false b e = cc
-
-both_hold : (a b : Bool) → a ≡ true → b ≡ true → (a && b) ≡ true
-both_hold a b e f = rw (e, f) refl
-
-Contains-later : {X : Type 0} (x : X) (xs : List X) (y : X) → Contains xs y → Contains (x ∷ xs) y
-Contains-later x xs y (k, lt, is) = (suc k, omega arith, is)
-
-find_holds : {X : Type 0} (p : X → Bool) (xs : List X) (y : X) → find p xs ≡ Some y → Contains xs y × (p y ≡ true)
-find_holds p [] y e = cc
-find_holds p (x ∷ xs) y e = by (p x) refl (λ found. find_holds p xs y found) e
-  where
-    by : (b : Bool) → p x ≡ b → (find p xs ≡ Some y → Contains xs y × (p y ≡ true)) → cond b (Some x) (find p xs) ≡ Some y → Contains (x ∷ xs) y × (p y ≡ true)
-    by true is rest found = let same : x ≡ y = cc in (subst (Contains (x ∷ xs)) same (0, omega arith, refl), subst (λ z. p z ≡ true) same is)
-    by false is rest found = let (later, holds) = rest found in (Contains-later x xs y later, holds)
-
-find_finds : {X : Type 0} (p : X → Bool) (xs : List X) (y : X) (k : ℕ) → k < length xs → slice_index_or xs k y ≡ y → p y ≡ true → (z : X) × (find p xs ≡ Some z)
-find_finds p [] y k lt is holds = absurd (omega arith)
-find_finds p (x ∷ xs) y zero lt is holds = (x, rw (subst (λ z. p z ≡ true) (sym is) holds) refl)
-find_finds p (x ∷ xs) y (suc k) lt is holds = by (p x) (find_finds p xs y k (omega arith) is holds)
-  where
-    by : (b : Bool) → (z : _) × (find p xs ≡ Some z) → (z : _) × (cond b (Some x) (find p xs) ≡ Some z)
-    by true rest = (x, refl)
-    by false rest = rest
-
-abbrev test : ℕ → ℕ → Entry → Bool
-test cell tick entry = (entry.cell == cell) && (entry.tick == tick)
-
 module _ (states : List State) (cost : Option ℕ) (entries : List Entry) (a : AreEntriesOf states cost entries) where
   pub entry_there : (cell tick : ℕ) → Contains states (state_at cell tick) → entries_of entries cell tick ≡ Some (label_of cost tick)
-  entry_there cell tick listed =
-      let (e, (k, lt, at), cell_is, tick_is) = a.all (state_at cell tick) listed in
-      let passes = both_hold (e.cell == cell) (e.tick == tick) (eq-eqb e.cell cell cell_is) (eq-eqb e.tick tick tick_is) in
-      let (found, is) = find_finds (test cell tick) entries e k lt at passes in
-      let (stands, holds) = find_holds (test cell tick) entries found is in
-      let (c, t) = both (found.cell == cell) (found.tick == tick) holds in
-      ap (option_map (λ entry. entry.label)) is ∙ ap (λ l. Some l) ((a.each found stands).1 ∙ ap (label_of cost) (eqb-true found.tick tick t))
+  entry_there cell tick listed = contained_is_listed entries a.rising cell tick (label_of cost tick) (a.all (state_at cell tick) listed)
 
   pub entry_is : (cell tick : ℕ) (label : Label) → entries_of entries cell tick ≡ Some label → Contains states (state_at cell tick) × (label ≡ label_of cost tick)
-  entry_is cell tick label e = by (find (test cell tick) entries) refl e
-    where
-      by : (r : Option Entry) → find (test cell tick) entries ≡ r → option_map (λ entry. entry.label) r ≡ Some label → Contains states (state_at cell tick) × (label ≡ label_of cost tick)
-      by None is some = cc
-      by (Some found) is some =
-          let (stands, holds) = find_holds (test cell tick) entries found is in
-          let (c, t) = both (found.cell == cell) (found.tick == tick) holds in
-          let ticks = eqb-true found.tick tick t in
-          let cells = eqb-true found.cell cell c in
-          let (listed, label_is) = a.each found stands in
-          let same : found.label ≡ label = cc in
-          (subst (Contains states) (λ i. state_at (cells i) (ticks i)) listed, sym same ∙ label_is ∙ ap (label_of cost) ticks)
+  entry_is cell tick label e = a.each (record { cell = cell; tick = tick; label = label }) (listed_is_contained entries cell tick label e)
 
   pub entry_none : (cell tick : ℕ) → (Contains states (state_at cell tick) → ⊥) → entries_of entries cell tick ≡ None
   entry_none cell tick unlisted = by (entries_of entries cell tick) refl
@@ -85,10 +39,7 @@ pub never_label : (grid : GridMap) (goal : ℕ) (entries : List Entry) (cell tic
 never_label grid goal entries cell tick e is = subst (λ entry. IsEntryOrDistance grid goal cell entry Never) (sym e) is
 
 pub low_reached : (xs : List State) (n : ℕ) (s : State) → Contains (take n xs) s → Contains xs s
-low_reached xs zero s h = absurd (none_held s h)
-low_reached [] (suc n) s h = absurd (none_held s h)
-low_reached (x ∷ xs) (suc n) s (zero, lt, is) = (zero, omega arith, is)
-low_reached (x ∷ xs) (suc n) s (suc k, lt, is) = Contains-later x xs s (low_reached xs n s (k, omega arith, is))
+low_reached xs n s h = subst (λ l. Contains l s) (take-append-drop n xs) (Contains-append_left (take n xs) (drop n xs) s h)
 
 -- the labels below a cost at which the agent arrives
 module _ (task : Task) (states : States) (h : HasArrived task states) (entries : List Entry) (a : AreEntriesOf (low_states states) (Some states.cost) entries) where

@@ -4,7 +4,7 @@ use Rattle.std.proofs.lemmas.Bool.{cases_lt}
 use Rattle.std.proofs.lemmas.List.{get_or_default}
 use Rattle.mapf_model.specs.Grid.{GridMap, Step}
 use Rattle.mapf_model.specs.declared.bar.Bar.TheVariants.{Cell, Move}
-use Rattle.mapf_model.specs.Bars.{Satisfies, AreBars}
+use Rattle.mapf_model.specs.Bars.{Satisfies}
 use Rattle.mapf_model.specs.Distance.{Walk}
 use Rattle.mapf_model.specs.Labels.{MayGo}
 use Rattle.mapf_model.specs.Laws.{NeighboursMakePaths}
@@ -12,7 +12,7 @@ use Rattle.mapf_model.specs.Path.{at, IsPath, IsLawful, IsCost, IsTight}
 use Rattle.mapf_model.proofs.PathLemmas.{IsCost-from_end}
 use Rattle.mapf_spacetime.specs.Task.{Task, Goes, IsValue, IsOpen, IsBarredLater, MayRestFrom, agent_of, state_at, start_of}
 use Rattle.mapf_spacetime.specs.States.{States, HasArrived}
-use Rattle.mapf_spacetime.specs.Way.{state_of, IsWholeWay}
+use Rattle.mapf_spacetime.specs.PathSearch.{state_of, IsWholeWalk}
 use Rattle.mapf_spacetime.proofs.ValueLemmas.{value_free, value_unique, value_none, no_lower}
 use Rattle.mapf_spacetime.proofs.FrontierLemmas.{none_held}
 
@@ -44,29 +44,31 @@ satisfied_step task cells path satisfies tick from to here there = record {
 -- an agent that goes from open state to open state and may rest at the end violates no bar
 module _ (task : Task) (cells : List ℕ) (some : 1 ≤ length cells) (start : slice_index cells 0 ≡ task.start) (start_open : IsOpen task (start_of task))
     (goes : (k : ℕ) → k + 1 < length cells → Goes task (state_of cells k) (state_of cells (k + 1)))
-    (ends : slice_index cells (length cells - 1) ≡ task.goal) (rest : MayRestFrom task (length cells - 1)) (proper : AreBars task.bars) where
+    (ends : slice_index cells (length cells - 1) ≡ task.goal) (rest : MayRestFrom task (length cells - 1)) where
   pub is_open : (k : ℕ) → k < length cells → IsOpen task (state_of cells k)
   is_open zero lt barred = start_open (subst (λ c. Contains task.bars (Cell c 0)) start barred)
   is_open (suc k) lt barred =
       let next : suc k ≡ k + 1 = omega arith in
       (goes k (omega arith)).may.arrival (subst (λ n. Contains task.bars (Cell (slice_index cells n) n)) next barred)
 
-  pub way_satisfies : Satisfies task.bars cells
-  way_satisfies (Cell cell tick) barred meets = ⊎_elim
+  pub goes_satisfy : Satisfies task.bars cells
+  goes_satisfy (Cell cell tick) barred meets = ⊎_elim
       (λ (during : tick < length cells). is_open tick during (subst (λ c. Contains task.bars (Cell c tick)) (sym meets ∙ at_is cells tick during) barred))
-      (λ (after : length cells ≤ tick). rest tick (omega arith) (subst (λ c. Contains task.bars (Cell c tick)) (sym meets ∙ at_past cells tick (omega arith) ∙ ends) barred))
+      (λ (after : length cells ≤ tick). rest.stay tick (omega arith) (subst (λ c. Contains task.bars (Cell c tick)) (sym meets ∙ at_past cells tick (omega arith) ∙ ends) barred))
       (cases_lt tick (length cells))
-  way_satisfies (Move from to tick) barred meets = ⊎_elim
+  goes_satisfy (Move from to tick) barred meets = ⊎_elim
       (λ (during : tick + 1 < length cells).
       (goes tick during).may.move
       (subst (λ c. Contains task.bars (Move c (slice_index cells (tick + 1)) tick)) (sym meets.0 ∙ at_is cells tick (omega arith))
       (subst (λ c. Contains task.bars (Move from c tick)) (sym meets.1 ∙ at_is cells (tick + 1) during) barred)))
       (λ (after : length cells ≤ tick + 1).
-      proper (Move from to tick) barred (sym meets.0 ∙ at_past cells tick (omega arith) ∙ sym (at_past cells (tick + 1) (omega arith)) ∙ meets.1))
+      let here : from ≡ task.goal = sym meets.0 ∙ at_past cells tick (omega arith) ∙ ends in
+      let there : to ≡ task.goal = sym meets.1 ∙ at_past cells (tick + 1) (omega arith) ∙ ends in
+      rest.wait tick (omega arith) (subst (λ c. Contains task.bars (Move c task.goal tick)) here (subst (λ c. Contains task.bars (Move from c tick)) there barred)))
       (cases_lt (tick + 1) (length cells))
 
 -- a walk of the least cost
-module _ (task : Task) (states : States) (cells : List ℕ) (h : HasArrived task states) (w : IsWholeWay task states.cost cells) (start_open : IsOpen task (start_of task)) (proper : AreBars task.bars) where
+module _ (task : Task) (states : States) (cells : List ℕ) (h : HasArrived task states) (w : IsWholeWalk task states.cost cells) (start_open : IsOpen task (start_of task)) where
   pub ends : slice_index cells (length cells - 1) ≡ task.goal
   ends =
       let count = w.count in
@@ -108,7 +110,7 @@ module _ (task : Task) (states : States) (cells : List ℕ) (h : HasArrived task
       (h.frontier.closed (state_of cells k) reached)
 
   opens : (k : ℕ) → k < length cells → IsOpen task (state_of cells k)
-  opens = is_open task cells w.way.some w.way.start start_open w.way.goes ends (let count = w.count in let last : length cells - 1 ≡ states.cost = omega arith in subst (MayRestFrom task) (sym last) h.rest) proper
+  opens = is_open task cells w.way.some w.way.start start_open w.way.goes ends (let count = w.count in let last : length cells - 1 ≡ states.cost = omega arith in subst (MayRestFrom task) (sym last) h.rest)
 
   not_before : 0 < states.cost → slice_index cells (states.cost - 1) ≢ task.goal
   not_before some is =
@@ -125,11 +127,11 @@ module _ (task : Task) (states : States) (cells : List ℕ) (h : HasArrived task
       (λ (now : later < states.cost).
       let same : later ≡ states.cost - 1 = omega arith in
       opens (states.cost - 1) (omega arith) (subst (λ c. Contains task.bars (Cell c (states.cost - 1))) (sym is) (subst (λ n. Contains task.bars (Cell task.goal n)) same barred)))
-      (λ (rest : states.cost ≤ later). h.rest later rest barred)
+      (λ (rest : states.cost ≤ later). h.rest.stay later rest barred)
       (cases_lt later states.cost)
 
   pub walk_satisfies : Satisfies task.bars cells
-  walk_satisfies = way_satisfies task cells w.way.some w.way.start start_open w.way.goes ends (let count = w.count in let last : length cells - 1 ≡ states.cost = omega arith in subst (MayRestFrom task) (sym last) h.rest) proper
+  walk_satisfies = goes_satisfy task cells w.way.some w.way.start start_open w.way.goes ends (let count = w.count in let last : length cells - 1 ≡ states.cost = omega arith in subst (MayRestFrom task) (sym last) h.rest)
 
   pub walk_cost : IsCost task.goal cells states.cost
   walk_cost = let count = w.count in

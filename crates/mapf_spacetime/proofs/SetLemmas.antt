@@ -1,6 +1,6 @@
 -- A set of states as a list.
-use Rattle.std.proofs.Common.{◌≡◌, ℕ, zero, suc, ◌<◌, Bool, true, false, ◌==◌, ◌&&◌, ◌||◌, not, List, [], ◌∷◌, length, slice_index_or, Contains, refl, sym, ◌∙◌, arith}
-use Rattle.std.proofs.lemmas.Bool.{eqb-true, eq-eqb}
+use Rattle.std.proofs.Common.{◌≡◌, ℕ, zero, suc, ◌<◌, Bool, true, false, ◌==◌, ◌&&◌, not, List, [], ◌∷◌, length, slice_index_or, Contains, refl, sym, ◌∙◌, arith}
+use Rattle.std.proofs.lemmas.Bool.{eqb-true, eq-eqb, or_left, or_right}
 use Rattle.std.specs.List.{list_any}
 use Rattle.indexmap.specs.IndexSet.{insert_key}
 use Rattle.indexmap.proofs.CallerLemmas.{Contains-list_any}
@@ -21,13 +21,6 @@ same_state-exact x y e =
 same_state-refl : (s : State) → same_state s s ≡ true
 same_state-refl s = rw (eq-eqb s.tick s.tick refl) (eq-eqb s.cell s.cell refl)
 
-or_right : (a b : Bool) → b ≡ true → (a || b) ≡ true
-or_right true b e = refl
-or_right false b e = e
-
-or_left : (a b : Bool) → a ≡ true → (a || b) ≡ true
-or_left a b e = rw e refl
-
 pub Contains-any : (xs : List State) (s : State) → Contains xs s → list_any (same_state s) xs ≡ true
 Contains-any xs s (k, lt, is) = by xs k lt is
   where
@@ -36,14 +29,14 @@ Contains-any xs s (k, lt, is) = by xs k lt is
     by (y ∷ ys) zero l e = or_left (same_state s y) (list_any (same_state s) ys) (rw e (same_state-refl s))
     by (y ∷ ys) (suc j) l e = or_right (same_state s y) (list_any (same_state s) ys) (by ys j (omega arith) e)
 
+not_false : (b : Bool) → not b ≡ false → b ≡ true
+not_false true e = refl
+not_false false e = cc
+
 -- a state that isn't new was there
 module _ (xs : List State) (s : State) (new : Bool) (is : new ≡ not (list_any (same_state s) xs)) (old : new ≡ false) where
   found : list_any (same_state s) xs ≡ true
-  found = by (list_any (same_state s) xs) (sym is ∙ old)
-    where
-      by : (b : Bool) → not b ≡ false → b ≡ true
-      by true g = refl
-      by false g = cc
+  found = not_false (list_any (same_state s) xs) (sym is ∙ old)
 
   pub held_before : Contains xs s
   held_before = Contains-list_any same_state same_state-exact xs s found

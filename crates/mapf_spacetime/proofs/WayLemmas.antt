@@ -15,7 +15,7 @@ use Rattle.mapf_spacetime.specs.Answer.{IsFirstOfCost}
 use Rattle.mapf_spacetime.specs.declared.state.State.{State}
 use Rattle.mapf_spacetime.specs.Task.{Task, Goes, IsValue, IsWithin, agent_of, state_at, start_of}
 use Rattle.mapf_spacetime.specs.States.{States, with_open, HasArrived, IsKnown}
-use Rattle.mapf_spacetime.specs.Way.{Walked, with_step, with_failure, CanArriveIn, CanArrive, IsNoWayOn, IsWholeWay, state_of, IsSearching}
+use Rattle.mapf_spacetime.specs.PathSearch.{Walked, with_step, with_failure, CanArriveIn, CanArrive, IsNoWayOn, IsWholeWalk, state_of, IsSearching}
 use Rattle.mapf_spacetime.proofs.PathLemmas.{at_is, satisfied_step}
 use Rattle.mapf_spacetime.proofs.ValueLemmas.{level_within, value_free}
 use Rattle.mapf_spacetime.proofs.FrontierLemmas.{reached_within}
@@ -175,11 +175,11 @@ cases_le : (m n : ℕ) → (m ≤ n) ⊎ (n < m)
 cases_le m n = ⊎_elim (λ (less : n < m). inr less) (λ (no_less : m ≤ n). inl no_less) (cases_lt n m)
 
 -- the least walk comes before all paths of its cost
-pub way_first : (task : Task) (cost : ℕ) (cells : List ℕ) → IsWholeWay task cost cells → IsCost task.goal cells cost → IsFirstOfCost task cost cells
-way_first task cost cells w is_cost other zero lawful satisfies other_cost agree =
+pub walk_first : (task : Task) (cost : ℕ) (cells : List ℕ) → IsWholeWalk task cost cells → IsCost task.goal cells cost → IsFirstOfCost task cost cells
+walk_first task cost cells w is_cost other zero lawful satisfies other_cost agree =
     let some = w.way.some in
     let same : at cells 0 ≡ at other 0 = at_is cells 0 (omega arith) ∙ w.way.start ∙ sym lawful.start in omega arith
-way_first task cost cells w is_cost other (suc k) lawful satisfies other_cost agree = ⊎_elim
+walk_first task cost cells w is_cost other (suc k) lawful satisfies other_cost agree = ⊎_elim
     (λ (during : suc k ≤ cost). ⊎_elim
     (λ (less : at other (suc k) < at cells (suc k)).
     let count = w.count in

@@ -1,5 +1,5 @@
 pub mod Task
 pub mod States
-pub mod Way
+pub mod PathSearch
 pub mod Listed
 pub mod Answer

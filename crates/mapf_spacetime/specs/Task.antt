@@ -1,7 +1,7 @@
 -- One agent's task, and the states that it may go through.
 use Rattle.std.specs.Prelude.{◌≡◌, ℕ, ◌+◌, ◌<◌, ◌≤◌, List, Contains}
 use Rattle.mapf_model.specs.declared.bar.Bar.{Bar}
-use Rattle.mapf_model.specs.declared.bar.Bar.TheVariants.{Cell}
+use Rattle.mapf_model.specs.declared.bar.Bar.TheVariants.{Cell, Move}
 use Rattle.mapf_model.specs.declared.problem.Agent.{Agent}
 use Rattle.mapf_model.specs.Distance.{IsDistance}
 use Rattle.mapf_model.specs.Grid.{GridMap, free_cell_count}
@@ -68,6 +68,7 @@ IsOpen task state = Contains task.bars (Cell state.cell state.tick) → ⊥
 abbrev pub IsBarredLater : Task → ℕ → Type 0
 IsBarredLater task tick = (later : ℕ) × (tick ≤ later) × Contains task.bars (Cell task.goal later)
 
--- no bar stands on the goal at this tick or later
-abbrev pub MayRestFrom : Task → ℕ → Type 0
-MayRestFrom task tick = (later : ℕ) → tick ≤ later → Contains task.bars (Cell task.goal later) → ⊥
+-- no bar stands on the goal at this tick or later, nor on waiting there
+pub record MayRestFrom (task : Task) (tick : ℕ) : Type 0 where
+  pub stay : (later : ℕ) → tick ≤ later → Contains task.bars (Cell task.goal later) → ⊥
+  pub wait : (later : ℕ) → tick ≤ later → Contains task.bars (Move task.goal task.goal later) → ⊥

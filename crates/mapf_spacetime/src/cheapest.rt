@@ -1,5 +1,6 @@
 ghost use Rattle.std.specs.Prelude.{◌≡◌, ◌-◌, ◌<◌, ◌≤◌, [], ◌∷◌, List, None, length, false, IfOk, IsTrue, Contains};
 ghost use Rattle.mapf_model.specs.Bars.{Satisfies};
+ghost use Rattle.mapf_model.specs.Limits.{greatest_cost, most_path_cells};
 ghost use Rattle.mapf_model.specs.Path.{IsPath, at};
 ghost use Rattle.mapf_model.specs.Grid.{IsGridMap};
 ghost use Rattle.mapf_model.specs.declared.label.Entry.{Entry};
@@ -14,8 +15,8 @@ use crate::found::Found;
 use crate::frontier::Frontier;
 use crate::ground::Ground;
 use crate::labels::Labels;
+use crate::path_search::least_walk;
 use crate::state::State;
-use crate::way::least_way;
 use mapf_constraints::BarTable;
 use mapf_distance::Distances;
 use mapf_model::{Agent, Cell, Grid, OutOfMemory, Path, Tick};
@@ -81,7 +82,7 @@ fn by_cost<B: BarTable>(alloc: Global, ground: &Ground<B>, first: u32) -> Result
 /// Whether the bars let the agent take the path and stay at its end.
 fn lets_path<B: BarTable>(ground: &Ground<B>, cells: &[Cell]) -> bool
     requires some { 1 ≤ length cells.now }
-    requires short { length cells.now ≤ 10000000 }
+    requires short { length cells.now ≤ most_path_cells }
     requires path { IsPath ground.now.grid cells.now }
     requires start { at cells.now 0 ≡ ground.now.start }
     requires goal { at cells.now (length cells.now - 1) ≡ ground.now.goal }
@@ -91,8 +92,6 @@ fn lets_path<B: BarTable>(ground: &Ground<B>, cells: &[Cell]) -> bool
     if !ground.lets_start() || !ground.may_rest_from(cells.len() as Tick - 1) {
         return false;
     }
-    // The horizon tells that move bars have two cells.
-    let _horizon = ground.horizon();
     for tick in 0..cells.len() - 1 {
         let from = State {
             tick: tick as Tick,
@@ -119,10 +118,8 @@ fn arrive<B: BarTable>(
     ensures { IfOk result (IsPathAnswer ground.now) }
 {
     mapf_model::laws::definitions_are_decided();
-    // The horizon tells that move bars have two cells.
-    let _horizon = ground.horizon();
     let cost = frontier.cost();
-    let cells = least_way(alloc, ground, cost)?;
+    let cells = least_walk(alloc, ground, cost)?;
     let entries = entries_of(alloc, frontier.low(), Some(cost))?;
     Ok(Found::Arrives {
         path: Path::of(cells).unwrap(),
@@ -137,7 +134,7 @@ fn dead<B: BarTable>(
     states: &[State],
 ) -> Result<Found, OutOfMemory>
     requires shape { IsGridMap ground.now.grid }
-    requires few { (s : State) → Contains states.now s → IsWithin ground.now 9999999 s }
+    requires few { (s : State) → Contains states.now s → IsWithin ground.now greatest_cost s }
     requires none { (entries : List Entry) → AreEntriesOf states.now None entries → ShowNone ground.now entries }
     ensures { IfOk result (IsPathAnswer ground.now) }
 {

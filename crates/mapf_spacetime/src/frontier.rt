@@ -1,8 +1,12 @@
-ghost use Rattle.std.specs.Prelude.{◌≡◌, ◌↔◌, ◌+◌, ◌<◌, ◌≤◌, ◌^◌, [], ◌∷◌, ℕ, length, take, false, IfOk, IfSome, IfNone, OnOk, IsTrue, Contains};
+ghost use Rattle.std.specs.Prelude.{◌≡◌, ◌↔◌, ◌+◌, ◌<◌, ◌≤◌, ◌^◌, [], ◌∷◌, ℕ, length, take, false};
+ghost use Rattle.std.specs.Prelude.{IfOk, IfSome, IfNone, OnOk, IsTrue, Contains};
 ghost use Rattle.mapf_model.specs.Grid.{Step};
+ghost use Rattle.mapf_model.specs.Limits.{most_path_cells};
 ghost use Rattle.mapf_spacetime.specs.declared.state.State.{State};
 ghost use Rattle.mapf_spacetime.specs.Task.{IsValue, IsNotBelow};
-ghost use Rattle.mapf_spacetime.specs.States.{first_states, with_reached, with_open, with_waiting, raised, low_states, IsFrontier, Keeps, Takes, Places, HasArrived, IsWalked, IsSpent, IsBelowLimit};
+ghost use Rattle.mapf_spacetime.specs.States.{first_states, with_reached, with_open, with_waiting, raised, low_states};
+ghost use Rattle.mapf_spacetime.specs.States.{IsFrontier, Keeps, Takes, Places, HasArrived, IsWalked, IsSpent};
+ghost use Rattle.mapf_spacetime.specs.States.{IsBelowLimit};
 
 use crate::ground::Ground;
 use crate::state::State;
@@ -28,7 +32,13 @@ impl Model for Frontier {
 
     ghost Value = { States };
 
-    ghost view = { λ f. record { reached = f.reached; open_states = f.open_states.items; waiting = f.waiting.items; cost = f.cost; below = f.below } };
+    ghost view = { λ f. record {
+      reached = f.reached;
+      open_states = f.open_states.items;
+      waiting = f.waiting.items;
+      cost = f.cost;
+      below = f.below;
+    } };
 }
 
 impl Frontier {
@@ -92,7 +102,7 @@ impl Frontier {
 
     /// Turns to the next cost, and gives the states that waited.
     fn raise(&mut self, alloc: Global) -> Vec<State>
-        requires { self.old.cost < 10000000 }
+        requires { self.old.cost < most_path_cells }
         ensures raised { self.old.open_states ≡ [] → self.new ≡ raised self.old }
         ensures waited { result.items ≡ self.old.waiting }
     {
@@ -121,7 +131,7 @@ impl Frontier {
         from: &State,
         to: Cell,
     ) -> Result<(), OutOfMemory>
-        requires small { self.old.cost < 10000000 }
+        requires small { self.old.cost < most_path_cells }
         requires frontier { IsFrontier ground.now (from.now ∷ []) self.old }
         requires reached { Contains self.old.reached from.now }
         requires level { IsValue ground.now from.now self.old.cost }
@@ -149,7 +159,7 @@ impl Frontier {
         ground: &Ground<B>,
         from: &State,
     ) -> Result<(), OutOfMemory>
-        requires small { self.old.cost < 10000000 }
+        requires small { self.old.cost < most_path_cells }
         requires frontier { IsFrontier ground.now (from.now ∷ []) self.old }
         requires reached { Contains self.old.reached from.now }
         requires level { IsValue ground.now from.now self.old.cost }
@@ -170,7 +180,7 @@ impl Frontier {
         alloc: Global,
         ground: &Ground<B>,
     ) -> Result<bool, OutOfMemory>
-        requires small { self.old.cost < 10000000 }
+        requires small { self.old.cost < most_path_cells }
         requires frontier { IsFrontier ground.now [] self.old }
         ensures arrives { IfOk result (λ arrives. IsTrue arrives → HasArrived ground.now self.new) }
         ensures walked { IfOk result (λ arrives. arrives ≡ false → IsWalked ground.now self.new) }
@@ -196,7 +206,8 @@ impl Frontier {
     ) -> Result<(), OutOfMemory>
         requires open_states { self.old.open_states ≡ [] }
         requires waiting { self.old.waiting ≡ [] }
-        requires known { (s : State) → Contains waited.now s → IsNotBelow ground.now self.old.cost s × (s.tick ≤ 10000000) }
+        requires known { (s : State) → Contains waited.now s → IsNotBelow ground.now self.old.cost s
+            × (s.tick ≤ most_path_cells) }
         ensures { OnOk result (Places ground.now waited.now (length waited.now) self.old self.new) }
     {
         for state in waited {

@@ -1,11 +1,11 @@
 ghost use Rattle.std.specs.Prelude.{◌≡◌, ◌≤◌, ◌↔◌, ℕ, IfSome, IfNone, IsTrue, Contains, false};
 ghost use Rattle.std.specs.List.Sorted.{IsStrictlyIncreasing};
 ghost use Rattle.mapf_model.specs.declared.bar.Bar.{Bar};
-ghost use Rattle.mapf_model.specs.Bars.{AreBars};
 ghost use Rattle.mapf_constraints.specs.BarSets.{AreBefore};
 ghost use Rattle.mapf_model.specs.Distance.{IsUnreachable};
 ghost use Rattle.mapf_model.specs.Grid.{IsFree, Step};
 ghost use Rattle.mapf_model.specs.Labels.{MayGo};
+ghost use Rattle.mapf_model.specs.Limits.{most_path_cells, split_ticks};
 ghost use Rattle.mapf_spacetime.specs.Task.{task_of, start_of, IsOpen, IsValue, IsBarredLater, MayRestFrom};
 
 use crate::state::State;
@@ -23,17 +23,24 @@ pub struct Ground<'a, B: BarTable> {
     distances: &'a Distances,
     bars: &'a B,
     agent: Agent,
+    // A tick from which on no bar stands.
+    horizon: Tick,
 }
 
 impl<'a, B: BarTable> Model for Ground<'a, B> {
-    ghost use Rattle.std.specs.Prelude.{◌≡◌};
+    ghost use Rattle.std.specs.Prelude.{◌≡◌, ◌≤◌};
+    ghost use Rattle.mapf_model.specs.Bars.{AreBars};
+    ghost use Rattle.mapf_model.specs.Limits.{split_ticks};
+    ghost use Rattle.mapf_constraints.specs.BarSets.{AreBefore};
     ghost use Rattle.mapf_spacetime.specs.Task.{Task, task_of};
 
     ghost Value = { Task };
 
     ghost view = { λ ground. task_of ground.grid.now ground.agent (B.bars ground.bars.now) };
 
-    ghost invariant = { λ ground. (ground.distances.now.grid ≡ ground.grid.now) × (ground.distances.now.goal ≡ ground.agent.goal) };
+    ghost invariant = { λ ground. (ground.distances.now.grid ≡ ground.grid.now)
+        × (ground.distances.now.goal ≡ ground.agent.goal) × AreBars (B.bars ground.bars.now)
+        × AreBefore ground.horizon (B.bars ground.bars.now) × (ground.horizon ≤ split_ticks) };
 }
 
 impl<'a, B: BarTable> Ground<'a, B> {
@@ -47,6 +54,7 @@ impl<'a, B: BarTable> Ground<'a, B> {
             distances,
             bars,
             agent,
+            horizon: bars.horizon(),
         }
     }
 
@@ -54,12 +62,6 @@ impl<'a, B: BarTable> Ground<'a, B> {
         ensures { result ≡ self.now.start }
     {
         self.agent.start
-    }
-
-    pub fn goal(&self) -> Cell
-        ensures { result ≡ self.now.goal }
-    {
-        self.agent.goal
     }
 
     /// Where the agent may be one tick after it is in the cell, bars aside.
@@ -73,7 +75,7 @@ impl<'a, B: BarTable> Ground<'a, B> {
 
     /// The tick and the distance of the cell together, None where no steps lead to the goal.
     pub fn value(&self, state: &State) -> Option<u32>
-        requires { state.now.tick ≤ 10000000 }
+        requires { state.now.tick ≤ most_path_cells }
         ensures some { IfSome result (IsValue self.now state.now) }
         ensures none { IfNone result (IsUnreachable self.now.grid self.now.goal state.now.cell) }
     {
@@ -85,7 +87,7 @@ impl<'a, B: BarTable> Ground<'a, B> {
 
     /// Whether the bars let the agent go from the state to the cell.
     pub fn lets(&self, from: &State, to: Cell) -> bool
-        requires small { from.now.tick ≤ 10000000 }
+        requires small { from.now.tick ≤ most_path_cells }
         requires step { Step self.now.grid from.now.cell to }
         ensures yes { IsTrue result → MayGo self.now.grid self.now.bars from.now.cell to from.now.tick }
         ensures no { result ≡ false → MayGo self.now.grid self.now.bars from.now.cell to from.now.tick → ⊥ }
@@ -130,9 +132,8 @@ impl<'a, B: BarTable> Ground<'a, B> {
     /// A tick from which on no bar stands.
     pub fn horizon(&self) -> Tick
         ensures above { AreBefore result self.now.bars }
-        ensures early { result ≤ 1000000 }
-        ensures bars { AreBars self.now.bars }
+        ensures early { result ≤ split_ticks }
     {
-        self.bars.horizon()
+        self.horizon
     }
 }

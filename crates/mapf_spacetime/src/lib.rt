@@ -7,9 +7,9 @@ mod found;
 mod frontier;
 mod ground;
 mod labels;
+mod path_search;
 mod state;
 mod state_set;
-mod way;
 
 pub use cheapest::search;
 pub use found::Found;

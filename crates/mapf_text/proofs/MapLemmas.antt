@@ -1,7 +1,8 @@
 -- Map texts: bytes spell one grid at most, and no fault stands in bytes that spell one.
-use Rattle.std.proofs.Common.{◌≡◌, ℕ, ◌<◌, Bool, true, List, [], ◌∷◌, ◌++◌, codes, Option, Some, None, length, get_or, take, drop, map, refl, sym, subst, ◌∙◌, zero, suc, arith, inl, inr}
+use Rattle.std.proofs.Common.{◌≡◌, ℕ, ◌<◌, Bool, true, List, [], ◌∷◌, codes, Some, None, Contains, get_or, take, drop, map, refl, sym, subst, ◌∙◌, zero, suc, arith, inl, inr}
 use Rattle.std.specs.List.{concat}
-use Rattle.std.proofs.lemmas.List.{map-append, get_or-take, length-take-le}
+use Rattle.std.proofs.lemmas.List.{get_or-take, get_or_default, length-take-le}
+use Rattle.std.proofs.lemmas.List.Elements.{Contains-append_left, Contains-append_right, Contains-get_or}
 use Rattle.mapf_model.specs.Grid.{GridMap}
 use Rattle.mapf_text.specs.Lines.{lines_of}
 use Rattle.mapf_text.specs.Words.{is_blank_line}
@@ -53,38 +54,27 @@ flags-unique (x ∷ a) (y ∷ b) e =
     let rest = flags-unique a b tail in
     cc
 
-known_at : (row : List ℕ) (flags : List Bool) (x : ℕ) → map flag_of row ≡ map Some flags → x < length row → flag_of (get_or row x 0) ≡ None → ⊥
-known_at [] flags x e within none = absurd (omega arith)
-known_at (b ∷ row) [] x e within none = cc
-known_at (b ∷ row) (f ∷ flags) zero e within none = let first : flag_of b ≡ Some f = cc in cc
-known_at (b ∷ row) (f ∷ flags) (suc x) e within none =
-    let tail : map flag_of row ≡ map Some flags = cc in
-    known_at row flags x tail (omega arith) none
+known : (bytes : List ℕ) (flags : List Bool) → map flag_of bytes ≡ map Some flags → (b : ℕ) → Contains bytes b → flag_of b ≡ None → ⊥
+known [] flags e b (k, within, is) none = omega arith
+known (x ∷ bytes) [] e b held none = cc
+known (x ∷ bytes) (f ∷ flags) e b (zero, within, is) none = let first : flag_of x ≡ Some f = cc in cc
+known (x ∷ bytes) (f ∷ flags) e b (suc k, within, is) none =
+    let tail : map flag_of bytes ≡ map Some flags = cc in
+    known bytes flags tail b (k, omega arith, is) none
 
-split : (a b : List (Option Bool)) (flags : List Bool) → a ++ b ≡ map Some flags → (f g : List Bool) × (a ≡ map Some f) × (b ≡ map Some g)
-split [] b flags e = ([], flags, refl, e)
-split (o ∷ a) b [] e = cc
-split (o ∷ a) b (x ∷ flags) e =
-    let first : o ≡ Some x = cc in
-    let tail : a ++ b ≡ map Some flags = cc in
-    let (f, g, front, back) = split a b flags tail in
-    (x ∷ f, g, cc, back)
-
-known_in : (rows : List (List ℕ)) (flags : List Bool) (y x : ℕ) → map flag_of (concat rows) ≡ map Some flags → y < length rows → x < length (get_or rows y []) → flag_of (get_or (get_or rows y []) x 0) ≡ None → ⊥
-known_in [] flags y x e below within none = absurd (omega arith)
-known_in (row ∷ rows) flags zero x e below within none =
-    let (f, g, front, back) = split (map flag_of row) (map flag_of (concat rows)) flags (sym (map-append flag_of row (concat rows)) ∙ e) in
-    known_at row f x front within none
-known_in (row ∷ rows) flags (suc y) x e below within none =
-    let (f, g, front, back) = split (map flag_of row) (map flag_of (concat rows)) flags (sym (map-append flag_of row (concat rows)) ∙ e) in
-    known_in rows g y x back (omega arith) within none
+in_concat : (rows : List (List ℕ)) (row : List ℕ) (b : ℕ) → Contains rows row → Contains row b → Contains (concat rows) b
+in_concat [] row b (k, below, is) held = absurd (omega arith)
+in_concat (r ∷ rows) row b (zero, below, is) held = Contains-append_left r (concat rows) b (subst (λ (l : List ℕ). Contains l b) (sym is) held)
+in_concat (r ∷ rows) row b (suc k, below, is) held = Contains-append_right r (concat rows) b (in_concat rows row b (k, omega arith, is) held)
 
 all_known : (body : List (List ℕ)) (height width : ℕ) (free : List Bool) (y x : ℕ) → HasRows body height width free → y < height → HasUnknownAt (get_or body y []) x → ⊥
 all_known body height width free y x rows below unknown =
     let enough = rows.enough in
-    let same : get_or (take height body) y [] ≡ get_or body y [] = get_or-take height body y [] below in
-    let many : length (take height body) ≡ height = length-take-le height body enough in
-    known_in (take height body) free y x rows.flags (omega arith) (rw same unknown.within) (rw same unknown.unknown)
+    let row = get_or body y [] in
+    let within = length-take-le height body enough in
+    let same : get_or (take height body) y row ≡ row = get_or-take height body y row below ∙ sym (get_or_default body y [] row (omega arith)) in
+    known (concat (take height body)) free rows.flags (get_or row x 0)
+    (in_concat (take height body) row (get_or row x 0) (y, omega arith, same) (Contains-get_or row x 0 unknown.within)) unknown.unknown
 
 no_body_fault : (height width : ℕ) (body : List (List ℕ)) (free : List Bool) → HasRows body height width free → ((n : ℕ) → is_blank_line (get_or (drop height body) n []) ≡ true)
     → (fault : MapFault) → HasBodyFault height width body fault → fault ≡ Memory
@@ -134,19 +124,10 @@ map_faultless bytes grid spells (M8 rows) h = in_body bytes grid spells (M8 rows
 map_faultless bytes grid spells (M9 line) h = in_body bytes grid spells (M9 line) h
 map_faultless bytes grid spells Memory h = refl
 
-made : ℕ → ℕ → List Bool → GridMap
-made height width free = record { width = width; height = height; free = free }
-
-same_grid : (g k : GridMap) → g.height ≡ k.height → g.width ≡ k.width → g.free ≡ k.free → g ≡ k
-unfolding made
-same_grid g k height width free =
-    let same : made g.height g.width g.free ≡ made k.height k.width k.free = rw (height, width, free) refl in
-    same
-
 -- bytes spell one grid at most
 pub map_unique : (bytes : List ℕ) (g k : GridMap) → SpellsMap bytes g → SpellsMap bytes k → g ≡ k
 map_unique bytes g k p q =
     let (height, width, body) = header-unique (lines_of bytes) g.height k.height g.width k.width p.body q.body p.header q.header in
     let flags : map flag_of (concat (take k.height q.body)) ≡ map Some g.free = subst (λ (l : List (List ℕ)). map flag_of (concat (take k.height l)) ≡ map Some g.free) body (rw height at p.rows.flags) in
     let free = flags-unique g.free k.free (sym flags ∙ q.rows.flags) in
-    same_grid g k height width free
+    λ i. record { width = width i; height = height i; free = free i }

@@ -1,7 +1,7 @@
 -- Rows: one line more of a list of lines.
-use Rattle.std.proofs.Common.{◌≡◌, ℕ, ◌<◌, ◌≤◌, ◌+◌, Bool, List, [], ◌∷◌, ◌++◌, Some, length, get_or, take, drop, map, refl, sym, ap, subst, ◌∙◌, zero, suc, arith, append_assoc, length-drop, below_more}
+use Rattle.std.proofs.Common.{◌≡◌, ℕ, ◌<◌, ◌≤◌, ◌+◌, Bool, List, [], ◌∷◌, ◌++◌, Some, length, get_or, take, drop, map, sym, ap, subst, ◌∙◌, arith, append_assoc, length-drop, below_more}
 use Rattle.std.specs.List.{concat}
-use Rattle.std.proofs.lemmas.List.{append-nil, map-append}
+use Rattle.std.proofs.lemmas.List.{append-nil, map-append, drop_more, take_more}
 use Rattle.mapf_text.specs.Maps.{flag_of, HasRows, HasBodyFault, HasUnknownAt}
 use Rattle.mapf_text.specs.declared.map_fault.MapFault.TheVariants.{M7, M8}
 
@@ -13,17 +13,13 @@ pub record IsLineAt (lines : List (List ℕ)) (y : ℕ) (line : List ℕ) (rest 
   pub back : drop (y + 1) lines ≡ rest
 
 pub line_at : (lines : List (List ℕ)) (y : ℕ) (line : List ℕ) (rest : List (List ℕ)) → drop y lines ≡ line ∷ rest → IsLineAt lines y line rest
-line_at [] zero line rest e = cc
-line_at [] (suc y) line rest e = cc
-line_at (x ∷ lines) zero line rest e =
-    let same : x ≡ line = cc in
-    let more : lines ≡ rest = cc in
-    let one : 0 + 1 ≡ suc 0 = refl in
-    record { within = omega arith; at = same; front = rw same refl; back = more }
-line_at (x ∷ lines) (suc y) line rest e =
-    let tail = line_at lines y line rest e in
-    let one : suc y + 1 ≡ suc (y + 1) = omega arith in
-    record { within = omega (arith, tail.within); at = tail.at; front = rw one (ap (λ l. x ∷ l) tail.front); back = rw one tail.back }
+line_at lines y line rest e =
+    let left = length-drop y lines in
+    let some = ap length e in
+    let within : y < length lines = omega arith in
+    let next = sym (drop_more lines y [] within) ∙ e in
+    let at : get_or lines y [] ≡ line = cc in
+    record { within = within; at = at; front = take_more lines y [] within ∙ ap (λ l. take y lines ++ (l ∷ [])) at; back = cc }
 
 -- no line is left
 pub no_line_at : (lines : List (List ℕ)) (y : ℕ) → drop y lines ≡ [] → length lines ≤ y

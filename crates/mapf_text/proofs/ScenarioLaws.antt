@@ -18,35 +18,25 @@ version-unique lines a b p q = let e = p.first in let f = q.first in cc
 unique : (word : List ℕ) (m n : ℕ) → IsNumber word m → IsNumber word n → m ≡ n
 unique word m n p q = number-unique word m n p.0 q.0
 
-numbers_of : ℕ → ℕ → ℕ → ℕ → ℕ → ℕ → Numbers
-numbers_of width height start_x start_y goal_x goal_y = record { width = width; height = height; start_x = start_x; start_y = start_y; goal_x = goal_x; goal_y = goal_y }
-
 numbers-unique : (words : List (List ℕ)) (a b : Numbers) → HasNumbers words a → HasNumbers words b → a ≡ b
-unfolding numbers_of
-numbers-unique words a b p q =
-    let width = unique _ a.width b.width p.width q.width in
-    let height = unique _ a.height b.height p.height q.height in
-    let start_x = unique _ a.start_x b.start_x p.start_x q.start_x in
-    let start_y = unique _ a.start_y b.start_y p.start_y q.start_y in
-    let goal_x = unique _ a.goal_x b.goal_x p.goal_x q.goal_x in
-    let goal_y = unique _ a.goal_y b.goal_y p.goal_y q.goal_y in
-    let same : numbers_of a.width a.height a.start_x a.start_y a.goal_x a.goal_y ≡ numbers_of b.width b.height b.start_x b.start_y b.goal_x b.goal_y = rw (width, height, start_x, start_y, goal_x, goal_y) refl in
-    same
+numbers-unique words a b p q = λ i. record {
+  width = unique _ a.width b.width p.width q.width i;
+  height = unique _ a.height b.height p.height q.height i;
+  start_x = unique _ a.start_x b.start_x p.start_x q.start_x i;
+  start_y = unique _ a.start_y b.start_y p.start_y q.start_y i;
+  goal_x = unique _ a.goal_x b.goal_x p.goal_x q.goal_x i;
+  goal_y = unique _ a.goal_y b.goal_y p.goal_y q.goal_y i;
+}
 
 cell-unique : (grid : GridMap) (x y m n : ℕ) → IsCellAt grid x y m → IsCellAt grid x y n → m ≡ n
 cell-unique grid x y m n p q = p.number ∙ sym q.number
 
-agent_of : ℕ → ℕ → Agent
-agent_of start goal = record { start = start; goal = goal }
-
 cells-unique : (grid : GridMap) (words : List (List ℕ)) (a b : Agent) → HasCells grid words a → HasCells grid words b → a ≡ b
-unfolding agent_of
 cells-unique grid words a b p q =
     let same = numbers-unique words p.numbers q.numbers p.size.has_numbers q.size.has_numbers in
     let start = cell-unique grid _ _ a.start b.start (subst (λ (n : Numbers). IsCellAt grid n.start_x n.start_y a.start) same p.start) q.start in
     let goal = cell-unique grid _ _ a.goal b.goal (subst (λ (n : Numbers). IsCellAt grid n.goal_x n.goal_y a.goal) same p.goal) q.goal in
-    let agents : agent_of a.start a.goal ≡ agent_of b.start b.goal = rw (start, goal) refl in
-    agents
+    λ i. record { start = start i; goal = goal i }
 
 SpellAgents-unique : (grid : GridMap) (rows : List (List ℕ)) (a b : List Agent) → SpellAgents grid rows a → SpellAgents grid rows b → a ≡ b
 SpellAgents-unique grid [] [] [] p q = refl
@@ -156,16 +146,11 @@ scenario_faultless bytes grid k problem spells fault h = by fault h
     by (S7 rows) h = in_rows (S7 rows) h
     by Memory h = refl
 
-problem_of : GridMap → List Agent → Instance
-problem_of grid agents = record { grid = grid; agents = agents }
-
 -- bytes spell one problem at most
 pub scenario_unique : (bytes : List ℕ) (grid : GridMap) (k : ℕ) (p q : Instance) → SpellsScenario bytes grid k p → SpellsScenario bytes grid k q → p ≡ q
-unfolding problem_of
 scenario_unique bytes grid k p q a b =
     let rows = version-unique _ a.rows b.rows a.version b.version in
     let there : SpellAgents grid (take k b.rows) p.agents = subst (λ (l : List (List ℕ)). SpellAgents grid (take k l) p.agents) rows a.agents.spelled in
     let agents = SpellAgents-unique grid _ p.agents q.agents there b.agents.spelled in
     let grids : p.grid ≡ q.grid = a.on_grid ∙ sym b.on_grid in
-    let same : problem_of p.grid p.agents ≡ problem_of q.grid q.agents = rw (grids, agents) refl in
-    same
+    λ i. record { grid = grids i; agents = agents i }

@@ -2,6 +2,7 @@
 use Rattle.std.specs.Prelude.{◌≡◌, ◌≢◌, ◌⊎◌, ℕ, ◌+◌, ◌==◌, ◌||◌, ◌<◌, ◌≤◌, Bool, true, false, List, [], ◌∷◌, Option, Some, None, IsSome, Result, Ok, Err, length, map, take, drop, slice_index, slice_index_or, codes, if◌then◌else◌}
 use Rattle.std.specs.List.{concat}
 use Rattle.mapf_model.specs.Grid.{GridMap}
+use Rattle.mapf_model.specs.Limits.{greatest_side}
 use Rattle.mapf_text.specs.Lines.{lines_of}
 use Rattle.mapf_text.specs.Words.{is_blank_line, words_of}
 use Rattle.mapf_text.specs.Numbers.{SpellsNumber}
@@ -36,7 +37,7 @@ pub record AfterMap (lines rest : List (List ℕ)) : Type 0 where
 
 -- a width or a height that a map may have
 abbrev pub IsSize : ℕ → Type 0
-IsSize size = (1 ≤ size) × (size ≤ 2048)
+IsSize size = (1 ≤ size) × (size ≤ greatest_side)
 
 -- the first two lines are `type octile` and a height
 pub record HasHeight (lines : List (List ℕ)) (height : ℕ) (rest : List (List ℕ)) : Type 0 where

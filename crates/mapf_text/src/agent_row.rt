@@ -1,6 +1,7 @@
 ghost use Rattle.std.specs.Prelude.{◌≡◌, ◌≢◌, ℕ, List, [], ◌∷◌, length, Ok, Err, MatchOption, MatchResult};
 ghost use Rattle.mapf_text.specs.Words.{words_of};
-ghost use Rattle.mapf_text.specs.AgentRows.{HasNumbers, IsCellAt, IsNumber, SpellsAgent, IsFirstNoNumber, HasRowFault, numbered};
+ghost use Rattle.mapf_text.specs.AgentRows.{HasNumbers, IsCellAt, IsNumber, SpellsAgent, IsFirstNoNumber};
+ghost use Rattle.mapf_text.specs.AgentRows.{HasRowFault, numbered};
 
 use crate::decimal::is_decimal;
 use crate::number::read_number;
@@ -35,7 +36,8 @@ struct Numbers {
 
 /// The agent of a row of a scenario, which is agent number `row`.
 pub fn read_row(line: &[u8], grid: &Grid, row: u32) -> Result<Agent, ScenFault>
-    ensures { MatchResult result (SpellsAgent grid.now (words_of line.now)) (HasRowFault grid.now (words_of line.now) row) }
+    ensures { MatchResult result (SpellsAgent grid.now (words_of line.now))
+        (HasRowFault grid.now (words_of line.now) row) }
 {
     let Some(fields) = fields_of(line) else {
         return Err(ScenFault::S2 { row });
@@ -61,7 +63,8 @@ pub fn read_row(line: &[u8], grid: &Grid, row: u32) -> Result<Agent, ScenFault>
 
 fn fields_of(line: &[u8]) -> Option<Fields<'_>>
     ensures { MatchOption result (length (words_of line.now) ≢ 9) (λ f. words_of line.now
-        ≡ f.bucket.now ∷ f.map_name.now ∷ f.width.now ∷ f.height.now ∷ f.start_x.now ∷ f.start_y.now ∷ f.goal_x.now ∷ f.goal_y.now ∷ f.length.now ∷ []) }
+        ≡ f.bucket.now ∷ f.map_name.now ∷ f.width.now ∷ f.height.now ∷ f.start_x.now ∷ f.start_y.now
+        ∷ f.goal_x.now ∷ f.goal_y.now ∷ f.length.now ∷ []) }
 {
     let (bucket, rest) = next_word(line)?;
     let (map_name, rest) = next_word(rest)?;
@@ -91,7 +94,8 @@ fn fields_of(line: &[u8]) -> Option<Fields<'_>>
 // The numbers of a row, or the first field that is none, counted from 1.
 fn numbers_of(fields: &Fields) -> Result<Numbers, u32>
     ensures { let f = fields.now in
-        let words = f.bucket.now ∷ f.map_name.now ∷ f.width.now ∷ f.height.now ∷ f.start_x.now ∷ f.start_y.now ∷ f.goal_x.now ∷ f.goal_y.now ∷ f.length.now ∷ [] in
+        let words = f.bucket.now ∷ f.map_name.now ∷ f.width.now ∷ f.height.now ∷ f.start_x.now ∷ f.start_y.now
+        ∷ f.goal_x.now ∷ f.goal_y.now ∷ f.length.now ∷ [] in
         MatchResult result (HasNumbers words) (IsFirstNoNumber (numbered words)) }
 {
     number_in(fields.bucket, 1)?;

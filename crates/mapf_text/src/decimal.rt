@@ -1,7 +1,8 @@
 ghost use Rattle.std.specs.Prelude.{◌≡◌, ◌↔◌, ◌<◌, [], IsTrue, Some, IfSome, length, not, option_map};
 ghost use Rattle.std.specs.Char.{is_ascii_digit};
 ghost use Rattle.std.specs.List.{position_from};
-ghost use Rattle.mapf_text.specs.Decimals.{IsDecimal, after_sign, drop_digits, after_digits, after_fraction, after_exponent, after_decimal};
+ghost use Rattle.mapf_text.specs.Decimals.{IsDecimal, after_sign, drop_digits, after_digits};
+ghost use Rattle.mapf_text.specs.Decimals.{after_fraction, after_exponent, after_decimal};
 
 /// Whether a word is decimal text: an optional sign, digits, optionally a point and digits, and
 /// optionally `e` or `E`, an optional sign and digits.

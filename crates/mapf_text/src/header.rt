@@ -1,11 +1,13 @@
 ghost use Rattle.std.specs.Prelude.{◌≡◌, ◌^◌, ◌<◌, ◌≤◌, ℕ, List, length, IfOk, IfSome, MatchOption, MatchResult};
 ghost use Rattle.mapf_text.specs.Lines.{lines_of};
-ghost use Rattle.mapf_text.specs.Maps.{AfterType, AfterSize, AfterMap, IsHeader, IsSize, SizeIn, HasNoSize, HasMapFault};
+ghost use Rattle.mapf_text.specs.Maps.{AfterType, AfterSize, AfterMap, IsHeader, IsSize};
+ghost use Rattle.mapf_text.specs.Maps.{SizeIn, HasNoSize, HasMapFault};
 
 use crate::line::next_line;
 use crate::map_fault::MapFault;
 use crate::number::{NotNumber, read_number};
 use crate::word::{one_word, two_words};
+use mapf_model::limits::GREATEST_SIDE;
 
 /// The size of a map, 1 to 2,048 each way.
 #[derive(Clone, Copy)]
@@ -25,7 +27,8 @@ enum NotSize {
 
 /// Reads the four lines at the head of a map text, and gives the text after them.
 pub fn read_header(text: &[u8]) -> Result<(Size, &[u8]), MapFault>
-    ensures found { MatchResult result (λ p. IsHeader (lines_of text.now) p.0.height p.0.width (lines_of p.1.now)) (HasMapFault (lines_of text.now)) }
+    ensures found { MatchResult result (λ p. IsHeader (lines_of text.now) p.0.height p.0.width (lines_of p.1.now))
+        (HasMapFault (lines_of text.now)) }
     ensures size { IfOk result (λ p. IsSize p.0.width × IsSize p.0.height) }
     ensures small { IfOk result (λ p. length p.1.now < 2 ^ 63) }
 {
@@ -50,14 +53,11 @@ pub fn read_header(text: &[u8]) -> Result<(Size, &[u8]), MapFault>
 
 // The text after the line `type octile`.
 fn type_line(text: &[u8]) -> Option<&[u8]>
-    ensures { MatchOption result ((rest : List (List ℕ)) → AfterType (lines_of text.now) rest → ⊥) (λ rest. AfterType (lines_of text.now) (lines_of rest.now)) }
+    ensures { MatchOption result ((rest : List (List ℕ)) → AfterType (lines_of text.now) rest → ⊥)
+        (λ rest. AfterType (lines_of text.now) (lines_of rest.now)) }
 {
-    let Some((line, rest)) = next_line(text) else {
-        return None;
-    };
-    let Some((first, second)) = two_words(line) else {
-        return None;
-    };
+    let (line, rest) = next_line(text)?;
+    let (first, second) = two_words(line)?;
     if first == b"type".as_slice() && second == b"octile".as_slice() {
         Some(rest)
     } else {
@@ -67,7 +67,8 @@ fn type_line(text: &[u8]) -> Option<&[u8]>
 
 // The size in a line of this name, and the text after it.
 fn size_line<'a>(text: &'a [u8], name: &[u8]) -> Result<(u32, &'a [u8]), NotSize>
-    ensures { MatchResult result (λ p. AfterSize name.now (lines_of text.now) p.0 (lines_of p.1.now) × IsSize p.0) (HasNoSize name.now (lines_of text.now)) }
+    ensures { MatchResult result (λ p. AfterSize name.now (lines_of text.now) p.0 (lines_of p.1.now) × IsSize p.0)
+        (HasNoSize name.now (lines_of text.now)) }
 {
     let Some((line, rest)) = next_line(text) else {
         return Err(NotSize::Absent);
@@ -88,7 +89,7 @@ fn size_in(line: &[u8], name: &[u8]) -> Result<u32, NotSize>
         return Err(NotSize::Absent);
     }
     match read_number(second) {
-        Ok(size) if 1 <= size && size <= 2048 => Ok(size),
+        Ok(size) if 1 <= size && size <= GREATEST_SIDE => Ok(size),
         Ok(_) => Err(NotSize::OutOfRange),
         Err(NotNumber::TooLarge) => Err(NotSize::OutOfRange),
         Err(NotNumber::NoDigits) => Err(NotSize::Absent),
@@ -97,15 +98,12 @@ fn size_in(line: &[u8], name: &[u8]) -> Result<u32, NotSize>
 
 // The text after the line `map`.
 fn map_line(text: &[u8]) -> Option<&[u8]>
-    ensures found { MatchOption result ((rest : List (List ℕ)) → AfterMap (lines_of text.now) rest → ⊥) (λ rest. AfterMap (lines_of text.now) (lines_of rest.now)) }
+    ensures found { MatchOption result ((rest : List (List ℕ)) → AfterMap (lines_of text.now) rest → ⊥)
+        (λ rest. AfterMap (lines_of text.now) (lines_of rest.now)) }
     ensures small { IfSome result (λ rest. length rest.now < 2 ^ 63) }
 {
-    let Some((line, rest)) = next_line(text) else {
-        return None;
-    };
-    let Some(word) = one_word(line) else {
-        return None;
-    };
+    let (line, rest) = next_line(text)?;
+    let word = one_word(line)?;
     if word == b"map".as_slice() {
         Some(rest)
     } else {

@@ -1,9 +1,11 @@
-ghost use Rattle.std.specs.Prelude.{◌≡◌, ◌⊎◌, ℕ, ◌+◌, ◌*◌, ◌^◌, ◌<◌, ◌≤◌, ◌++◌, true, [], length, map, drop, slice_index_or, IfOk, IfErr, OnOk, MatchResult};
+ghost use Rattle.std.specs.Prelude.{◌≡◌, ◌⊎◌, ℕ, ◌+◌, ◌*◌, ◌^◌, ◌<◌, ◌≤◌, ◌++◌, true, []};
+ghost use Rattle.std.specs.Prelude.{length, map, drop, slice_index_or, IfOk, IfErr, OnOk, MatchResult};
 ghost use Rattle.std.specs.Vec.{vec_len, vec_capacity};
 ghost use Rattle.mapf_model.specs.Grid.{GridMap, IsGridMap};
 ghost use Rattle.mapf_text.specs.Lines.{lines_of};
 ghost use Rattle.mapf_text.specs.Words.{is_blank_line};
-ghost use Rattle.mapf_text.specs.Maps.{IsSize, HasRows, HasBodyFault, HasUnknownAt, HasTextAt, flag_of, SpellsMap, HasMapFault};
+ghost use Rattle.mapf_text.specs.Maps.{IsSize, HasRows, HasBodyFault, HasUnknownAt, HasTextAt, flag_of};
+ghost use Rattle.mapf_text.specs.Maps.{SpellsMap, HasMapFault};
 
 use crate::header::{Size, read_header};
 use crate::line::next_line;
@@ -43,7 +45,8 @@ fn grid_of(alloc: Global, bytes: &[u8]) -> Result<Grid, MapFault>
 fn read_rows(alloc: Global, size: Size, text: &[u8]) -> Result<(Vec<bool>, &[u8]), MapFault>
     requires width { IsSize size.width }
     requires height { IsSize size.height }
-    ensures found { MatchResult result (λ p. HasRows (lines_of text.now) size.height size.width p.0.items) (HasBodyFault size.height size.width (lines_of text.now)) }
+    ensures found { MatchResult result (λ p. HasRows (lines_of text.now) size.height size.width p.0.items)
+        (HasBodyFault size.height size.width (lines_of text.now)) }
     ensures rest { IfOk result (λ p. lines_of p.1.now ≡ drop size.height (lines_of text.now)) }
     ensures length { IfOk result (λ p. length p.0.items ≡ size.width * size.height) }
     ensures shorter { IfOk result (λ p. length p.1.now ≤ length text.now) }
@@ -100,7 +103,8 @@ fn flag_of(byte: u8) -> Option<bool>
 fn only_blank_lines(first: u64, text: &[u8]) -> Result<(), MapFault>
     requires { first + length text.now < 2 ^ 64 }
     ensures blank { OnOk result ((n : ℕ) → is_blank_line (slice_index_or (lines_of text.now) n []) ≡ true) }
-    ensures text { IfErr result (λ fault. (n : ℕ) × HasTextAt (lines_of text.now) n × (fault ≡ MapFault.M9 (first + n))) }
+    ensures text { IfErr result (λ fault. (n : ℕ) × HasTextAt (lines_of text.now) n
+        × (fault ≡ MapFault.M9 (first + n))) }
 {
     let mut number = first;
     let mut rest = text;

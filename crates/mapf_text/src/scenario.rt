@@ -1,6 +1,9 @@
-ghost use Rattle.std.specs.Prelude.{◌≡◌, ◌⊎◌, ◌↔◌, ℕ, ◌≤◌, List, [], ◌∷◌, IsTrue, length, Ok, Err, IfOk, IfErr, MatchOption, MatchResult};
+ghost use Rattle.std.specs.Prelude.{◌≡◌, ◌⊎◌, ◌↔◌, ℕ, ◌≤◌, List, [], ◌∷◌, IsTrue, length};
+ghost use Rattle.std.specs.Prelude.{Ok, Err, IfOk, IfErr, MatchOption, MatchResult};
+ghost use Rattle.mapf_model.specs.Limits.{most_agents};
 ghost use Rattle.mapf_model.specs.Plan.{Instance, IsInstance};
-ghost use Rattle.mapf_text.specs.Scenarios.{filled_lines, IsVersionLine, AfterVersion, HasAgents, SpellsScenario, HasRowsFault, HasScenarioFault};
+ghost use Rattle.mapf_text.specs.Scenarios.{filled_lines, IsVersionLine, AfterVersion, HasAgents};
+ghost use Rattle.mapf_text.specs.Scenarios.{SpellsScenario, HasRowsFault, HasScenarioFault};
 
 use crate::agent_row::read_row;
 use crate::line::next_line;
@@ -14,11 +17,12 @@ use std::alloc::Global;
 ///
 /// After a fault the grid is dropped.
 pub fn read_scen(alloc: Global, bytes: &[u8], grid: Grid, k: u32) -> Result<Problem, ScenFault>
-    requires { (1 ≤ k) × (k ≤ 200) }
+    requires { (1 ≤ k) × (k ≤ most_agents) }
     // What is read is spelled so.
     ensures found { IfOk result (SpellsScenario bytes.now grid k) }
     // What is spelled so is read, unless memory runs out.
-    ensures only { (problem : Instance) → SpellsScenario bytes.now grid k problem → (result ≡ Ok problem) ⊎ (result ≡ Err ScenFault.Memory) }
+    ensures only { (problem : Instance) → SpellsScenario bytes.now grid k problem
+        → (result ≡ Ok problem) ⊎ (result ≡ Err ScenFault.Memory) }
     // The lines before the fault's place are good, and there its defect stands.
     ensures fault { IfErr result (HasScenarioFault grid (filled_lines bytes.now) k) }
     // There are 1 to 200 agents, whose starts and goals are free cells, and as many as were asked for.
@@ -29,8 +33,9 @@ pub fn read_scen(alloc: Global, bytes: &[u8], grid: Grid, k: u32) -> Result<Prob
 }
 
 fn problem_of(alloc: Global, bytes: &[u8], grid: Grid, k: u32) -> Result<Problem, ScenFault>
-    requires { (1 ≤ k) × (k ≤ 200) }
-    ensures cases { MatchResult result (SpellsScenario bytes.now grid k) (HasScenarioFault grid (filled_lines bytes.now) k) }
+    requires { (1 ≤ k) × (k ≤ most_agents) }
+    ensures cases { MatchResult result (SpellsScenario bytes.now grid k)
+        (HasScenarioFault grid (filled_lines bytes.now) k) }
     ensures problem { IfOk result IsInstance }
 {
     let Some(rows) = after_version(bytes) else {
@@ -42,11 +47,10 @@ fn problem_of(alloc: Global, bytes: &[u8], grid: Grid, k: u32) -> Result<Problem
 
 // The text after the version line.
 fn after_version(text: &[u8]) -> Option<&[u8]>
-    ensures { MatchOption result ((rows : List (List ℕ)) → AfterVersion (filled_lines text.now) rows → ⊥) (λ rows. AfterVersion (filled_lines text.now) (filled_lines rows.now)) }
+    ensures { MatchOption result ((rows : List (List ℕ)) → AfterVersion (filled_lines text.now) rows → ⊥)
+        (λ rows. AfterVersion (filled_lines text.now) (filled_lines rows.now)) }
 {
-    let Some((line, rest)) = next_filled_line(text) else {
-        return None;
-    };
+    let (line, rest) = next_filled_line(text)?;
     if is_version_line(line) {
         Some(rest)
     } else {
@@ -65,7 +69,8 @@ fn is_version_line(line: &[u8]) -> bool
 
 // The first line that isn't blank, and the text after it.
 fn next_filled_line(text: &[u8]) -> Option<(&[u8], &[u8])>
-    ensures { MatchOption result (filled_lines text.now ≡ []) (λ p. filled_lines text.now ≡ p.0.now ∷ filled_lines p.1.now) }
+    ensures { MatchOption result (filled_lines text.now ≡ [])
+        (λ p. filled_lines text.now ≡ p.0.now ∷ filled_lines p.1.now) }
 {
     let mut rest = text;
     while let Some((line, more)) = next_line(rest) {
@@ -78,7 +83,8 @@ fn next_filled_line(text: &[u8]) -> Option<(&[u8], &[u8])>
 }
 
 fn read_agents(alloc: Global, text: &[u8], grid: &Grid, k: u32) -> Result<Vec<Agent>, ScenFault>
-    ensures { MatchResult result (λ agents. HasAgents grid.now (filled_lines text.now) k agents.items) (HasRowsFault grid.now (filled_lines text.now) k) }
+    ensures { MatchResult result (λ agents. HasAgents grid.now (filled_lines text.now) k agents.items)
+        (HasRowsFault grid.now (filled_lines text.now) k) }
 {
     let Ok(mut agents) = Vec::with_capacity(alloc, k as usize) else {
         return Err(ScenFault::Memory);

@@ -89,7 +89,7 @@ fn maps(rt: HostRuntime) {
             Some(MapFault::M4 { line: 2 }),
         ),
         (
-            b"type octile\nheight 9999999999999999999999999999999999999999999999999999999999999999999999999999999999999999999999999999\n",
+            b"type octile\nheight 999999999999999999999999999999999999999999999999999999999999\n",
             Some(MapFault::M4 { line: 2 }),
         ),
         (b"type octile\nheight +1\n", Some(MapFault::M2)),

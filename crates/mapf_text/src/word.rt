@@ -45,7 +45,8 @@ fn first_blank(line: &[u8]) -> Option<usize>
 
 /// The word of a line that has just one.
 pub fn one_word(line: &[u8]) -> Option<&[u8]>
-    ensures { MatchOption result ((word : List ℕ) → words_of line.now ≡ word ∷ [] → ⊥) (λ word. words_of line.now ≡ word.now ∷ []) }
+    ensures { MatchOption result ((word : List ℕ) → words_of line.now ≡ word ∷ [] → ⊥)
+        (λ word. words_of line.now ≡ word.now ∷ []) }
 {
     let (word, rest) = next_word(line)?;
     if next_word(rest).is_some() {
@@ -56,7 +57,8 @@ pub fn one_word(line: &[u8]) -> Option<&[u8]>
 
 /// The words of a line that has just two.
 pub fn two_words(line: &[u8]) -> Option<(&[u8], &[u8])>
-    ensures { MatchOption result ((first second : List ℕ) → words_of line.now ≡ first ∷ second ∷ [] → ⊥) (λ p. words_of line.now ≡ p.0.now ∷ p.1.now ∷ []) }
+    ensures { MatchOption result ((first second : List ℕ) → words_of line.now ≡ first ∷ second ∷ [] → ⊥)
+        (λ p. words_of line.now ≡ p.0.now ∷ p.1.now ∷ []) }
 {
     let (first, rest) = next_word(line)?;
     let second = one_word(rest)?;

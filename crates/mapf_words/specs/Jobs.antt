@@ -3,15 +3,16 @@ use Rattle.std.specs.Prelude.{◌≡◌, ◌≤◌, ⊤, ℕ, List, [], unwrap_o
 use Rattle.std.specs.String.{string_bytes}
 use Rattle.clap.specs.Matches.{first_value}
 use Rattle.clap.specs.declared.parser.matches.Found.{Found}
+use Rattle.mapf_model.specs.Limits.{most_agents, most_splits}
 use Rattle.mapf_words.specs.declared.job.Job.{Job}
 use Rattle.mapf_words.specs.declared.job.Job.TheVariants.{Demo, Solve, Check, Play}
 
 -- 1 to 200 agents, and at most 100,000 splits
 abbrev pub IsInRange : Job → Type 0
 IsInRange Demo = ⊤
-IsInRange (Solve map scen k limit plan cert) = (1 ≤ k) × (k ≤ 200) × (limit ≤ 100000)
-IsInRange (Check map scen k plan cert) = (1 ≤ k) × (k ≤ 200)
-IsInRange (Play map scen k plan) = (1 ≤ k) × (k ≤ 200)
+IsInRange (Solve map scen k limit plan cert) = (1 ≤ k) × (k ≤ most_agents) × (limit ≤ most_splits)
+IsInRange (Check map scen k plan cert) = (1 ≤ k) × (k ≤ most_agents)
+IsInRange (Play map scen k plan) = (1 ≤ k) × (k ≤ most_agents)
 
 -- two names of files differ, or both are the null device's, where what is written is kept nowhere
 abbrev pub AreApart : List ℕ → List ℕ → Type 0

@@ -1,11 +1,6 @@
 use clap::{Arg, Command, value_parser};
+use mapf_model::limits::{MOST_AGENTS, MOST_SPLITS};
 use std::alloc::{AllocError, Global};
-
-/// How many agents a run has at most.
-pub const MOST_AGENTS: u32 = 200;
-
-/// How many splits a run may be given at most.
-pub const MOST_SPLITS: u32 = 100_000;
 
 const ABOUT: &str =
     "Finds cheapest collision-free routes for many agents on a grid, with a certificate that

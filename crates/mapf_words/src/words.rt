@@ -3,11 +3,12 @@ ghost use Rattle.std.specs.String.{string_bytes};
 ghost use Rattle.clap.specs.Matches.{found_of};
 ghost use Rattle.mapf_words.specs.Jobs.{AreApart, HasOwnOutputs, IsInRange, IsJobOf, named};
 
-use crate::command::{MOST_AGENTS, MOST_SPLITS, mapf};
+use crate::command::mapf;
 use crate::job::Job;
 use crate::words_fault::WordsFault;
 use clap::ArgMatches;
 use clap::error::ErrorKind;
+use mapf_model::limits::{MOST_AGENTS, MOST_SPLITS};
 use std::alloc::{AllocError, Global};
 
 // The text of the argument of that name.
@@ -36,22 +37,15 @@ fn number_of(
     }
 }
 
-// A file as the words name it: the name of the argument, and the text that was found under it.
-#[derive(Clone, Copy)]
-struct Named<'a> {
-    argument: &'a str,
-    text: &'a str,
-}
-
-// Refuses an output under the name of another file. What is written to the null device is kept nowhere, so
-// there nothing can be lost.
-fn apart(alloc: Global, output: Named<'_>, other: Named<'_>) -> Result<(), WordsFault>
-    ensures { OnOk result (AreApart output.entry.text.now other.entry.text.now) }
+// Refuses an output under the name of another file, each with the name of its argument. What is written to
+// the null device is kept nowhere, so there nothing can be lost.
+fn apart(alloc: Global, output: (&str, &str), other: (&str, &str)) -> Result<(), WordsFault>
+    ensures { OnOk result (AreApart output.entry.1.now other.entry.1.now) }
 {
-    if output.text != other.text || output.text == "/dev/null" {
+    let ((second, text), (first, other)) = (output, other);
+    if text != other || text == "/dev/null" {
         return Ok(());
     }
-    let (first, second, text) = (other.argument, output.argument, output.text);
     Err(WordsFault::Bad(format!(in alloc; "error: {first} and {second} are one file: {text:?}\n")?))
 }
 
@@ -66,22 +60,8 @@ fn own_outputs(
     ensures { OnOk result (AreApart plan.now map.now × AreApart plan.now scen.now
         × AreApart cert.now map.now × AreApart cert.now scen.now × AreApart cert.now plan.now) }
 {
-    let map = Named {
-        argument: "MAP",
-        text: map,
-    };
-    let scen = Named {
-        argument: "SCEN",
-        text: scen,
-    };
-    let plan = Named {
-        argument: "PLAN",
-        text: plan,
-    };
-    let cert = Named {
-        argument: "CERT",
-        text: cert,
-    };
+    let (map, scen) = (("MAP", map), ("SCEN", scen));
+    let (plan, cert) = (("PLAN", plan), ("CERT", cert));
     apart(alloc, plan, map)?;
     apart(alloc, plan, scen)?;
     apart(alloc, cert, map)?;
@@ -100,13 +80,7 @@ fn solve_of(alloc: Global, given: &ArgMatches<'_>) -> Result<Job, WordsFault>
     let limit = number_of(alloc, given, "LIMIT", 0, MOST_SPLITS)?;
     let plan = text_of(alloc, given, "PLAN")?;
     let cert = text_of(alloc, given, "CERT")?;
-    own_outputs(
-        alloc,
-        map.as_str(),
-        scen.as_str(),
-        plan.as_str(),
-        cert.as_str(),
-    )?;
+    own_outputs(alloc, &map, &scen, &plan, &cert)?;
     Ok(Job::Solve {
         map,
         scen,

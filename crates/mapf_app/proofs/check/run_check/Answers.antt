@@ -1,7 +1,7 @@
 use Rattle.std.proofs.Common.{◌≤◌, ⊎_elim, length}
 use Rattle.mapf_app.proofs.CheckLemmas.{read_as, for_told, judges, due_here, refusal_of, none_good, is_refusal, refusal_says}
-use Rattle.mapf_app.specs.Limits.{cert_bytes}
 use Rattle.mapf_checker.specs.Refusals.{HasRefusal}
+use Rattle.mapf_model.specs.Limits.{most_cert_bytes}
 use Rattle.mapf_app.proofs.check.run_check.Goals as goal
 
 pub returns-in-Ok-clause-verdict : goal.returns-in-Ok-clause-verdict
@@ -17,7 +17,7 @@ returns-in-Ok-clause-accepted g c =
 pub returns-in-Ok-clause-within : goal.returns-in-Ok-clause-within
 returns-in-Ok-clause-within g c =
     let read = c.in_ok-problem.ensures.whole in
-    (read.map_whole.within, read.scen_whole.within, c.in_ok-plan_text.ensures.read.within, for_told (λ bytes. length bytes ≤ cert_bytes) (g.C.Source.remaining c.args.cert.now) c.in-Ok.ensures.within)
+    (read.map_whole.within, read.scen_whole.within, c.in_ok-plan_text.ensures.read.within, for_told (λ bytes. length bytes ≤ most_cert_bytes) (g.C.Source.remaining c.args.cert.now) c.in-Ok.ensures.within)
 
 pub returns-in-Ok-clause-unpulled : goal.returns-in-Ok-clause-unpulled
 returns-in-Ok-clause-unpulled g c =

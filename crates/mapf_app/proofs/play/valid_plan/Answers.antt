@@ -1,8 +1,22 @@
-use Rattle.std.proofs.Common.{length, sym, ◌∙◌, ap, subst, inl, Ok}
+use Rattle.std.proofs.Common.{length, sym, ◌∙◌, ap, subst, inl, inr, Ok, Err}
 use Rattle.mapf_model.specs.Plan.{IsValid}
-use Rattle.mapf_certificate.specs.Plans.{says}
-use Rattle.mapf_app.proofs.PlayLemmas.{one_plan, same_plan, says_none, spells_text}
+use Rattle.mapf_app.specs.Faults.{fault_of_plan_text}
+use Rattle.mapf_app.proofs.PlayLemmas.{one_plan, same_plan, is_no_plan, spells_text, unread}
+use Rattle.mapf_certificate.specs.declared.plan_text.PlanAnswer.TheVariants.{Found}
+use Rattle.mapf_checker.proofs.PlanLemmas.{spells_none}
 use Rattle.mapf_app.proofs.play.valid_plan.Goals as goal
+
+pub returns-in-Err-clause-only : goal.returns-in-Err-clause-only
+returns-in-Err-clause-only c = λ plan spells.
+    let problem = c.args.problem.now in
+    let memory = spells_none problem c.args.bytes.now c.in-Err.fault (rw c.grid.ensures at c.in-Err.ensures.only) (length problem.agents) (Found plan) spells.spelled in
+    inr (ap Err (c.fault_of_plan_text.ensures ∙ ap fault_of_plan_text memory))
+
+pub returns-in-Err-clause-fault : goal.returns-in-Err-clause-fault
+returns-in-Err-clause-fault c =
+    let problem = c.args.problem.now in
+    let bytes = c.args.bytes.now in
+    rw c.fault_of_plan_text.ensures (unread problem bytes c.in-Err.fault (spells_none problem bytes c.in-Err.fault (rw c.grid.ensures at c.in-Err.ensures.only)))
 
 pub returns-in_default : goal.returns-in_default
 returns-in_default c =
@@ -11,7 +25,7 @@ returns-in_default c =
     record {
       found = tt;
       only = λ plan spells. absurd (c.in_default.not-Found plan (one_plan problem c.args.bytes.now text (rw c.grid.ensures at c.in-Ok.ensures.only) (length problem.agents) plan spells.spelled).1);
-      fault = (text.agents, says text.answer, spells_text problem c.args.bytes.now text (rw c.grid.ensures at c.in-Ok.ensures.found), says_none text.answer c.in_default.not-Found);
+      fault = (text.agents, text.answer, spells_text problem c.args.bytes.now text (rw c.grid.ensures at c.in-Ok.ensures.found), is_no_plan text.answer c.in_default.not-Found);
       inner = tt;
     }
 

@@ -17,25 +17,25 @@ add-requires-clause-bar g c = c.requires.bar.1
 pub search-requires-clause-grid : goal.search-requires-clause-grid
 search-requires-clause-grid g c =
     let agents = c.agents.ensures.value in
-    let known = rw agents at (slice_get_read c.agents.result.now (length c.agents.result.now) c.args.agent c.index-agents-agent.result refl (rw agents c.requires.known) c.index-agents-agent.is) in
-    let table = slice_get_read c.args.tables.now (length c.args.tables.now) c.args.agent c.index-tables-agent.result refl (let n = c.requires.tables.count in let h = c.requires.known in omega (arith, n, h)) c.index-tables-agent.is in
-    (c.requires.tables.each c.args.agent c.index-agents-agent.result c.index-tables-agent.result known table).0 ∙ sym c.grid.ensures
+    let known = rw agents at (slice_get_read c.agents.result.now (length c.agents.result.now) c.args.constraint.agent c.index-agents-constraint.result refl (rw agents c.requires.known) c.index-agents-constraint.is) in
+    let table = slice_get_read c.args.tables.now (length c.args.tables.now) c.args.constraint.agent c.index-tables-constraint.result refl (let n = c.requires.tables.count in let h = c.requires.known in omega (arith, n, h)) c.index-tables-constraint.is in
+    (c.requires.tables.each c.args.constraint.agent c.index-agents-constraint.result c.index-tables-constraint.result known table).0 ∙ sym c.grid.ensures
 
 pub search-requires-clause-goal : goal.search-requires-clause-goal
 search-requires-clause-goal g c =
     let agents = c.agents.ensures.value in
-    let known = rw agents at (slice_get_read c.agents.result.now (length c.agents.result.now) c.args.agent c.index-agents-agent.result refl (rw agents c.requires.known) c.index-agents-agent.is) in
-    let table = slice_get_read c.args.tables.now (length c.args.tables.now) c.args.agent c.index-tables-agent.result refl (let n = c.requires.tables.count in let h = c.requires.known in omega (arith, n, h)) c.index-tables-agent.is in
-    (c.requires.tables.each c.args.agent c.index-agents-agent.result c.index-tables-agent.result known table).1
+    let known = rw agents at (slice_get_read c.agents.result.now (length c.agents.result.now) c.args.constraint.agent c.index-agents-constraint.result refl (rw agents c.requires.known) c.index-agents-constraint.is) in
+    let table = slice_get_read c.args.tables.now (length c.args.tables.now) c.args.constraint.agent c.index-tables-constraint.result refl (let n = c.requires.tables.count in let h = c.requires.known in omega (arith, n, h)) c.index-tables-constraint.is in
+    (c.requires.tables.each c.args.constraint.agent c.index-agents-constraint.result c.index-tables-constraint.result known table).1
 
 pub returns : goal.returns
-returns g c = IfOk-weaker c.search.result _ _ (λ found is who views view known are view_is.
+returns g c = IfOk-weaker c.search.result _ _ (λ found is who known views view are view_is.
     let agents = c.agents.ensures.value in
-    let read = slice_get_read c.agents.result.now (length c.agents.result.now) c.args.agent c.index-agents-agent.result refl (rw agents c.requires.known) c.index-agents-agent.is in
-    let same : c.index-agents-agent.result ≡ who = same_Some c.index-agents-agent.result who (sym (rw agents at read) ∙ known) in (
+    let read = slice_get_read c.agents.result.now (length c.agents.result.now) c.args.constraint.agent c.index-agents-constraint.result refl (rw agents c.requires.known) c.index-agents-constraint.is in
+    let same : c.index-agents-constraint.result ≡ who = same_Some c.index-agents-constraint.result who (sym (rw agents at read) ∙ known) in (
       g.B.BarTable.bars c.add.new.self,
-      bars_with (view.constraints.bars c.args.agent) (g.B.BarTable.bars c.in_ok-table.table) (g.B.BarTable.bars c.add.new.self) c.args.bar (c.in_ok-table.ensures views view are view_is) c.in_ok-add.ensures.added,
+      bars_with (view.constraints.bars c.args.constraint.agent) (g.B.BarTable.bars c.in_ok-table.table) (g.B.BarTable.bars c.add.new.self) c.args.constraint.bar (c.in_ok-table.ensures views view are view_is) c.in_ok-add.ensures.added,
       subst (λ (a : Agent). IsPathAnswer (task_of c.args.problem.now.grid a (g.B.BarTable.bars c.add.new.self)) found) same
-          (subst (λ (m : GridMap). IsPathAnswer (task_of m c.index-agents-agent.result (g.B.BarTable.bars c.add.new.self)) found) c.grid.ensures is),
+          (subst (λ (m : GridMap). IsPathAnswer (task_of m c.index-agents-constraint.result (g.B.BarTable.bars c.add.new.self)) found) c.grid.ensures is),
     ))
     c.search.ensures

@@ -1,13 +1,24 @@
-use Rattle.std.proofs.Common.{◌≡◌, ◌≢◌, ⊎_elim, subst, arith}
-use Rattle.std.proofs.lemmas.Bool.{cases_eq}
-use Rattle.mapf_cbs.specs.Start.{HaveGoal}
+use Rattle.std.proofs.Common.{◌≡◌, false, true, Option, None, Some, IfNone, IfSome, refl}
 use Rattle.mapf_cbs.proofs.clash.sharing_pair.Goals as goal
 
-pub loop-i-preserved : goal.loop-i-preserved
-loop-i-preserved c a b below above within shared = ⊎_elim
-    (λ (here : a ≡ c.loop-i.i). c.in_default.ensures.none b (omega (arith, here, above)) within (subst (λ n. HaveGoal c.args.agents.now n b) here shared))
-    (λ (other : a ≢ c.loop-i.i). c.loop-i.invariant a b (omega (arith, other, below)) above within shared)
-    (cases_eq a c.loop-i.i)
+if_some : {X : Type 0} {A B C D : X → Type 0} (found : Option X) → ((x : X) → A x → B x → C x → D x) → IfSome found A → IfSome found B → IfSome found C → IfSome found D
+if_some None f a b c = a
+if_some (Some x) f a b c = f x a b c
+
+if_none : {X : Type 0} {A B : Type 0} (found : Option X) → (A → B) → IfNone found A → IfNone found B
+if_none None f a = f a
+if_none (Some x) f a = a
+
+pub returns-clause-some : goal.returns-clause-some
+returns-clause-some c = if_some c.first_pair.result (λ pair order is first. record {
+  order = order.0;
+  within = order.1;
+  holds = is.0 refl;
+  first = (
+    λ a b less above within shared. (let e : false ≡ true = (first.0 a b less above within).1 shared in cc),
+    λ b above less shared. (let e : false ≡ true = (first.1 b above less).1 shared in cc),
+  );
+}) c.first_pair.ensures.pair c.first_pair.ensures.some c.first_pair.ensures.first
 
 pub returns-clause-none : goal.returns-clause-none
-returns-clause-none c i j above within shared = c.loop-i.invariant i j (let h = c.loop-i-test.false in omega (arith, h, above, within)) above within shared
+returns-clause-none c = if_none c.first_pair.result (λ none i j above within shared. let e : false ≡ true = (none i j above within).1 shared in cc) c.first_pair.ensures.none

@@ -22,21 +22,21 @@ loop-at-preserved c =
     let count = c.loop-at.invariant.count in
     let read = slice_get_read c.args.nodes.now (length c.args.nodes.now) c.loop-at.at c.index-nodes-at.result refl c.loop-at.invariant.inside c.index-nodes-at.is in
     let child = read ∙ ap Some c.in-Child.is in
-    let lower = c.requires.nodes 0 c.requires.some c.loop-at.at (Child c.in-Child.parent c.in-Child.agent c.in-Child.bar c.in-Child.found) child in
+    let lower = c.requires.nodes 0 c.requires.some c.loop-at.at (Child c.in-Child.parent c.in-Child.constraint c.in-Child.found) child in
     record {
       inside = let h = c.loop-at.invariant.inside in omega (arith, lower, h);
       count = omega (arith, size, count);
-      finders = noted_inside old new c.in-Child.agent c.loop-at.at size noted c.args.nodes.now c.loop-at.invariant.inside c.loop-at.invariant.finders;
+      finders = noted_inside old new c.in-Child.constraint.agent c.loop-at.at size noted c.args.nodes.now c.loop-at.invariant.inside c.loop-at.invariant.finders;
       same = λ views view before are is before_is.
           let here = view_at c.args.nodes.now views are c.loop-at.at c.loop-at.invariant.inside in
-          noted_up old new c.in-Child.agent c.loop-at.at size noted c.args.nodes.now views are view here.0 here.1 c.in-Child.parent c.in-Child.bar c.in-Child.found child before before_is
+          noted_up old new c.in-Child.constraint.agent c.loop-at.at size noted c.args.nodes.now views are view here.0 here.1 c.in-Child.parent c.in-Child.constraint refl c.in-Child.found child before before_is
           (c.loop-at.invariant.same views view here.0 are is here.1);
     }
 
 pub loop-at-smaller : goal.loop-at-smaller
 loop-at-smaller c =
     let read = slice_get_read c.args.nodes.now (length c.args.nodes.now) c.loop-at.at c.index-nodes-at.result refl c.loop-at.invariant.inside c.index-nodes-at.is in
-    c.requires.nodes 0 c.requires.some c.loop-at.at (Child c.in-Child.parent c.in-Child.agent c.in-Child.bar c.in-Child.found) (read ∙ ap Some c.in-Child.is)
+    c.requires.nodes 0 c.requires.some c.loop-at.at (Child c.in-Child.parent c.in-Child.constraint c.in-Child.found) (read ∙ ap Some c.in-Child.is)
 
 pub returns-clause-inside : goal.returns-clause-inside
 returns-clause-inside c = c.loop-at.invariant.finders

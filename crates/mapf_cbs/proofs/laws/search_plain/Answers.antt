@@ -28,17 +28,17 @@ loop-k-init c =
 pub tree_items-requires-clause-later : goal.tree_items-requires-clause-later
 tree_items-requires-clause-later c =
     let s = c.loop-k.invariant.state in
-    subst AreChildrenLater (sym c.deref-in_default.ensures.value) (children_later c.args.problem.now s.state.views c.loop-k.tree.fates.items c.loop-k.tree.splits s.state.searched)
+    subst AreChildrenLater (sym c.deref-in_default.ensures.value) (children_later c.args.problem.now s.changes c.loop-k.tree.fates.items s.keys c.loop-k.tree.splits s.state (omega (arith, c.loop-k.invariant.within, c.requires.limit)))
 
 pub tree_items-requires-in_default-first_conflict-clause-later : goal.tree_items-requires-in_default-first_conflict-clause-later
 tree_items-requires-in_default-first_conflict-clause-later c =
     let s = c.loop-k.invariant.state in
-    subst AreChildrenLater (sym c.deref-in_default-first_conflict.ensures.value) (children_later c.args.problem.now s.state.views c.loop-k.tree.fates.items c.loop-k.tree.splits s.state.searched)
+    subst AreChildrenLater (sym c.deref-in_default-first_conflict.ensures.value) (children_later c.args.problem.now s.changes c.loop-k.tree.fates.items s.keys c.loop-k.tree.splits s.state (omega (arith, c.loop-k.invariant.within, c.requires.limit)))
 
 pub tree_items-requires-in-Some-cause_to_stop-clause-later : goal.tree_items-requires-in-Some-cause_to_stop-clause-later
 tree_items-requires-in-Some-cause_to_stop-clause-later c =
     let s = c.loop-k.invariant.state in
-    subst AreChildrenLater (sym c.deref-in-Some-cause_to_stop.ensures.value) (children_later c.args.problem.now s.state.views c.loop-k.tree.fates.items c.loop-k.tree.splits s.state.searched)
+    subst AreChildrenLater (sym c.deref-in-Some-cause_to_stop.ensures.value) (children_later c.args.problem.now s.changes c.loop-k.tree.fates.items s.keys c.loop-k.tree.splits s.state (omega (arith, c.loop-k.invariant.within, c.requires.limit)))
 
 pub returns-in_default : goal.returns-in_default
 returns-in_default c =
@@ -69,7 +69,7 @@ returns-in_default-first_conflict c =
     let h = whole_hand problem t.nodes.items t.fates.items t.splits least.node.total c.in-Some.k p in
     let whole = hand_whole problem t.nodes.items t.fates.items t.splits least.node.total c.in-Some.k p c.index.result.now here in
     let plan : c.in_ok-plan.plan ≡ h.view.paths = c.in_ok-plan.ensures.paths h.view whole in
-    let found = tree_of c.agents.result.now problem.agents c.deref-in_default-first_conflict.result.now t.fates.items p.popped.views c.in_ok-items-2.items.items c.agents.ensures.value c.deref-in_default-first_conflict.ensures.value (c.in_ok-items-2.ensures p.popped.views p.whole (p.popped.searched.lengths ∙ ap length (sym c.deref-in_default-first_conflict.ensures.value))) in
+    let found = tree_of c.agents.result.now problem.agents c.deref-in_default-first_conflict.result.now t.fates.items p.popped.state.views c.in_ok-items-2.items.items c.agents.ensures.value c.deref-in_default-first_conflict.ensures.value (c.in_ok-items-2.ensures p.popped.state.views p.whole (p.popped.state.searched.lengths ∙ ap length (sym c.deref-in_default-first_conflict.ensures.value))) in
     subst (λ ps. (tree : ConstraintTree) × IsTreeOf problem c.args.limit c.in_ok-items-2.items.items tree × IsShownOptimal problem ps tree) (sym plan)
     (answer_found problem c.requires.root.shape (root_names problem c.args.tables.now c.args.paths.items c.requires.root) p.changes t.fates.items p.rest t.splits least.node.total c.in-Some.k p.popped c.args.limit c.loop-k.invariant.within c.in_ok-items-2.items.items found h.view h.is h.is_open h.live c.requires.root.agents.0 c.requires.root.agents.1
     (subst (λ ps. All (λ path. length path ≤ 10000000) ps) plan c.in_ok-plan.ensures.short) (subst (λ ps. HaveSomeConflict ps → ⊥) plan c.in_default-first_conflict.ensures.none))
@@ -84,7 +84,7 @@ returns-in-Some-cause_to_stop c =
     let h = whole_hand problem t.nodes.items t.fates.items t.splits least.node.total c.in-Some.k p in
     let whole = hand_whole problem t.nodes.items t.fates.items t.splits least.node.total c.in-Some.k p c.index.result.now here in
     let plan : c.in_ok-plan.plan ≡ h.view.paths = c.in_ok-plan.ensures.paths h.view whole in
-    let found = tree_of c.agents.result.now problem.agents c.deref-in-Some-cause_to_stop.result.now t.fates.items p.popped.views c.in_ok-items-3.items.items c.agents.ensures.value c.deref-in-Some-cause_to_stop.ensures.value (c.in_ok-items-3.ensures p.popped.views p.whole (p.popped.searched.lengths ∙ ap length (sym c.deref-in-Some-cause_to_stop.ensures.value))) in
+    let found = tree_of c.agents.result.now problem.agents c.deref-in-Some-cause_to_stop.result.now t.fates.items p.popped.state.views c.in_ok-items-3.items.items c.agents.ensures.value c.deref-in-Some-cause_to_stop.ensures.value (c.in_ok-items-3.ensures p.popped.state.views p.whole (p.popped.state.searched.lengths ∙ ap length (sym c.deref-in-Some-cause_to_stop.ensures.value))) in
     let conflict = c.in-Some-first_conflict.conflict in
     let meet = subst (λ ps. HasConflict ps conflict × AreConflictFreeBefore ps (tick_of conflict)) plan (c.in-Some-first_conflict.ensures.some, c.in-Some-first_conflict.ensures.first) in
     answer_limit problem c.requires.root.shape (root_names problem c.args.tables.now c.args.paths.items c.requires.root) p.changes t.fates.items p.rest t.splits least.node.total c.in-Some.k p.popped c.args.limit c.loop-k.invariant.within c.in_ok-items-3.items.items found h.view h.is h.is_open h.live c.requires.root.goals conflict meet.0 meet.1 c.in-Some-cause_to_stop.cause c.in-Some-cause_to_stop.ensures.some c.in_ok-items-3.items refl

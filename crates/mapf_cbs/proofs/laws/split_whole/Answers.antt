@@ -1,11 +1,11 @@
-use Rattle.std.proofs.Common.{◌∷◌, [], ◌++◌, ◌+◌, Result, Ok, Err, OnOk, length, refl, sym, ◌∙◌, subst, arith}
+use Rattle.std.proofs.Common.{Result, Ok, Err, OnOk, length, refl, sym, ◌∙◌, ap, subst, arith}
 use Rattle.std.proofs.lemmas.Option.{slice_get_read, slice_get_within}
-use Rattle.mapf_model.specs.declared.bar.Bar.{Bar}
+use Rattle.mapf_model.specs.declared.constraint.Constraint.{Constraint}
 use Rattle.mapf_cbs.specs.declared.node.Fate.TheVariants.{Open}
 use Rattle.mapf_cbs.specs.CheapestPath.{IsTableBar}
-use Rattle.mapf_cbs.specs.Search.{left_agent, right_agent, left_bar, right_bar}
-use Rattle.mapf_cbs.specs.Whole.{IsWholeChild, IsWholeState}
-use Rattle.mapf_cbs.proofs.StateLemmas.{left_known, right_known, left_table_bar, right_table_bar}
+use Rattle.mapf_model.specs.Tree.{left_constraint, right_constraint}
+use Rattle.mapf_cbs.specs.Whole.{IsWholeChild}
+use Rattle.mapf_cbs.proofs.ChildLemmas.{of_paths}
 use Rattle.mapf_cbs.proofs.PlainLemmas.{whole_hand, hand_inside, hand_whole, hand_small, whole_grown}
 use Rattle.mapf_cbs.proofs.laws.split_whole.Goals as goal
 
@@ -26,8 +26,8 @@ child_of-requires-clause-known c =
     let here = slice_get_read t.nodes.items (length t.nodes.items) c.args.k c.index.result.now refl inside c.index.ensures in
     let h = whole_hand c.args.problem.now t.nodes.items t.fates.items t.splits p.0 c.args.k p.1 in
     let whole = hand_whole c.args.problem.now t.nodes.items t.fates.items t.splits p.0 c.args.k p.1 c.index.result.now here in
-    let known = left_known h.view.paths c.args.conflict.now (c.requires.meet c.index.result.now h.view here whole).has in
-    let size = h.live.counted.paths in let agent = c.left_agent.ensures in
+    let known = (of_paths h.view.paths c.args.conflict.now (c.requires.meet c.index.result.now h.view here whole).has c.requires.early).0.0 in
+    let size = h.live.counted.paths in let agent = ap (λ (t : Constraint). t.agent) c.left.ensures in
     omega (arith, known, size, agent)
 
 pub child_of-requires-clause-count : goal.child_of-requires-clause-count
@@ -43,7 +43,7 @@ child_of-requires-clause-bar c =
     let here = slice_get_read t.nodes.items (length t.nodes.items) c.args.k c.index.result.now refl inside c.index.ensures in
     let h = whole_hand c.args.problem.now t.nodes.items t.fates.items t.splits p.0 c.args.k p.1 in
     let whole = hand_whole c.args.problem.now t.nodes.items t.fates.items t.splits p.0 c.args.k p.1 c.index.result.now here in
-    subst IsTableBar (sym c.left_bar.ensures) (left_table_bar h.view.paths c.args.conflict.now (c.requires.meet c.index.result.now h.view here whole).has c.requires.early)
+    subst (λ (t : Constraint). IsTableBar t.bar) (sym c.left.ensures) (of_paths h.view.paths c.args.conflict.now (c.requires.meet c.index.result.now h.view here whole).has c.requires.early).0.1
 
 pub child_of-requires-clause-small : goal.child_of-requires-clause-small
 child_of-requires-clause-small c =
@@ -73,8 +73,8 @@ child_of-requires-2-clause-known c =
     let here = slice_get_read t.nodes.items (length t.nodes.items) c.args.k c.index-2.result.now refl inside c.index-2.ensures in
     let h = whole_hand c.args.problem.now t.nodes.items t.fates.items t.splits p.0 c.args.k p.1 in
     let whole = hand_whole c.args.problem.now t.nodes.items t.fates.items t.splits p.0 c.args.k p.1 c.index-2.result.now here in
-    let known = right_known h.view.paths c.args.conflict.now (c.requires.meet c.index-2.result.now h.view here whole).has in
-    let size = h.live.counted.paths in let agent = c.right_agent.ensures in
+    let known = (of_paths h.view.paths c.args.conflict.now (c.requires.meet c.index-2.result.now h.view here whole).has c.requires.early).1.0 in
+    let size = h.live.counted.paths in let agent = ap (λ (t : Constraint). t.agent) c.right.ensures in
     omega (arith, known, size, agent)
 
 pub child_of-requires-2-clause-count : goal.child_of-requires-2-clause-count
@@ -90,7 +90,7 @@ child_of-requires-2-clause-bar c =
     let here = slice_get_read t.nodes.items (length t.nodes.items) c.args.k c.index-2.result.now refl inside c.index-2.ensures in
     let h = whole_hand c.args.problem.now t.nodes.items t.fates.items t.splits p.0 c.args.k p.1 in
     let whole = hand_whole c.args.problem.now t.nodes.items t.fates.items t.splits p.0 c.args.k p.1 c.index-2.result.now here in
-    subst IsTableBar (sym c.right_bar.ensures) (right_table_bar h.view.paths c.args.conflict.now (c.requires.meet c.index-2.result.now h.view here whole).has c.requires.early)
+    subst (λ (t : Constraint). IsTableBar t.bar) (sym c.right.ensures) (of_paths h.view.paths c.args.conflict.now (c.requires.meet c.index-2.result.now h.view here whole).has c.requires.early).1.1
 
 pub child_of-requires-2-clause-small : goal.child_of-requires-2-clause-small
 child_of-requires-2-clause-small c =
@@ -124,18 +124,11 @@ returns-clause-state c =
     let whole = hand_whole problem t.nodes.items t.fates.items t.splits p.0 c.args.k p.1 c.index.result.now here in
     let whole-2 = hand_whole problem t.nodes.items t.fates.items t.splits p.0 c.args.k p.1 c.index-2.result.now here-2 in
     let met = c.requires.meet c.index.result.now h.view here whole in
-    let left : IsWholeChild problem h.view (left_agent conflict) (left_bar conflict) c.in_ok-left.left.node c.in_ok-left.left.total =
-    subst (λ i. IsWholeChild problem h.view i (left_bar conflict) c.in_ok-left.left.node c.in_ok-left.left.total) c.left_agent.ensures
-    (subst (λ (b : Bar). IsWholeChild problem h.view c.left_agent.result b c.in_ok-left.left.node c.in_ok-left.left.total) c.left_bar.ensures
-    (c.in_ok-left.ensures.generated h.view whole h.live)) in
-    let right : IsWholeChild problem h.view (right_agent conflict) (right_bar conflict) c.in_ok-right.right.node c.in_ok-right.right.total =
-    subst (λ i. IsWholeChild problem h.view i (right_bar conflict) c.in_ok-right.right.node c.in_ok-right.right.total) c.right_agent.ensures
-    (subst (λ (b : Bar). IsWholeChild problem h.view c.right_agent.result b c.in_ok-right.right.node c.in_ok-right.right.total) c.right_bar.ensures
-    (c.in_ok-right.ensures.generated h.view whole-2 h.live)) in
+    let left : IsWholeChild problem h.view (left_constraint conflict) c.in_ok-left.left.node c.in_ok-left.left.total =
+    subst (λ (t : Constraint). IsWholeChild problem h.view t c.in_ok-left.left.node c.in_ok-left.left.total) c.left.ensures (c.in_ok-left.ensures.generated h.view whole h.live) in
+    let right : IsWholeChild problem h.view (right_constraint conflict) c.in_ok-right.right.node c.in_ok-right.right.total =
+    subst (λ (t : Constraint). IsWholeChild problem h.view t c.in_ok-right.right.node c.in_ok-right.right.total) c.right.ensures (c.in_ok-right.ensures.generated h.view whole-2 h.live) in
     let state = whole_grown problem t.nodes.items t.fates.items t.splits p.0 c.args.k p.1 c.requires.goals conflict met c.requires.early
     c.in_ok-left.left.node c.in_ok-right.right.node c.in_ok-left.left.total c.in_ok-right.right.total left right
     (c.in_ok-left.ensures.count ∙ p.1.agent_paths c.args.k c.index.result.now here) (c.in_ok-right.ensures.count ∙ p.1.agent_paths c.args.k c.index-2.result.now here-2) in
-    on_ok_two c.grow.result (λ ns fs.
-    subst (λ xs. IsWholeState problem xs c.grow.new.self.fates.items (t.splits + 1)) (sym ns)
-    (subst (λ xs. IsWholeState problem ((t.nodes.items ++ c.in_ok-left.left.node ∷ []) ++ c.in_ok-right.right.node ∷ []) xs (t.splits + 1)) (sym fs) state))
-    c.grow.ensures.nodes c.grow.ensures.fates
+    on_ok_two c.grow.result (λ ns fs. rw ns (rw fs state)) c.grow.ensures.nodes c.grow.ensures.fates

@@ -1,16 +1,15 @@
-use Rattle.std.proofs.Common.{◌≡◌, ◌∷◌, [], ◌++◌, ◌+◌, Result, Ok, Err, OnOk, length, slice_set, sym, ◌∙◌, ap, subst, arith}
+use Rattle.std.proofs.Common.{Result, Ok, Err, OnOk, sym, ap, subst, arith}
 use Rattle.std.proofs.lemmas.Option.{slice_get_within}
-use Rattle.mapf_model.specs.declared.bar.Bar.{Bar}
-use Rattle.mapf_cbs.specs.declared.node.Node.TheVariants.{Child}
-use Rattle.mapf_cbs.specs.declared.node.Fate.TheVariants.{Open, Expanded}
-use Rattle.mapf_cbs.specs.Search.{left_agent, right_agent, left_bar, right_bar}
+use Rattle.mapf_model.specs.declared.constraint.Constraint.{Constraint}
+use Rattle.mapf_cbs.specs.declared.node.Fate.TheVariants.{Open}
+use Rattle.mapf_model.specs.Tree.{left_constraint, right_constraint}
 use Rattle.mapf_cbs.specs.Nodes.{AreViews, AreNodesFor}
 use Rattle.mapf_cbs.specs.CheapestPath.{IsTableBar}
 use Rattle.mapf_cbs.specs.GeneratedChild.{IsGeneratedChild}
-use Rattle.mapf_cbs.specs.State.{IsState, fate_of}
+use Rattle.mapf_cbs.proofs.ChildLemmas.{of_paths}
 use Rattle.mapf_cbs.proofs.NodeLemmas.{view_in}
 use Rattle.mapf_cbs.proofs.OpenLemmas.{Contains-first}
-use Rattle.mapf_cbs.proofs.StateLemmas.{in_hand, left_known, right_known, left_table_bar, right_table_bar, grown_fates, two_pushed, end_of_total, state_grown}
+use Rattle.mapf_cbs.proofs.StateLemmas.{in_hand, state_grown}
 use Rattle.mapf_cbs.proofs.solver.split.Goals as goal
 
 on_ok_three : {T E A B C D : Type 0} (r : Result T E) → (A → B → C → D) → OnOk r A → OnOk r B → OnOk r C → OnOk r D
@@ -22,28 +21,28 @@ child-requires-clause-nodes g c =
     let p = c.requires.popped in
     let h = in_hand c.args.problem.now c.args.search.now.nodes.items c.args.search.now.fates.items c.args.search.now.waiting.keys c.args.search.now.splits c.args.total c.args.k p in
     let size = h.live.counted.paths in
-    let known = left_known h.view.paths c.args.conflict.now (c.requires.meet p.views h.view p.are h.is h.live).has in
-    let agent = c.left_agent.ensures in
-    subst (λ ns. AreNodesFor c.left_agent.result ns) (sym c.deref.ensures.value) (p.nodes_for c.left_agent.result (omega (arith, known, size, agent)))
+    let known = (of_paths h.view.paths c.args.conflict.now (c.requires.meet p.state.views h.view p.state.are h.is h.live).has c.requires.early).0.0 in
+    let agent = ap (λ (t : Constraint). t.agent) c.left.ensures in
+    subst (λ ns. AreNodesFor c.left.result.agent ns) (sym c.deref.ensures.value) (p.state.nodes_for c.left.result.agent (omega (arith, known, size, agent)))
 
 pub child-requires-clause-inside : goal.child-requires-clause-inside
 child-requires-clause-inside g c =
     let p = c.requires.popped in
     let h = in_hand c.args.problem.now c.args.search.now.nodes.items c.args.search.now.fates.items c.args.search.now.waiting.keys c.args.search.now.splits c.args.total c.args.k p in
-    let e = c.deref.ensures.value in rw e (view_in c.args.search.now.nodes.items p.views p.are c.args.k h.view h.is)
+    let e = c.deref.ensures.value in rw e (view_in c.args.search.now.nodes.items p.state.views p.state.are c.args.k h.view h.is)
 
 pub child-requires-clause-known : goal.child-requires-clause-known
 child-requires-clause-known g c =
     let p = c.requires.popped in
     let h = in_hand c.args.problem.now c.args.search.now.nodes.items c.args.search.now.fates.items c.args.search.now.waiting.keys c.args.search.now.splits c.args.total c.args.k p in
     let size = h.live.counted.paths in
-    let known = left_known h.view.paths c.args.conflict.now (c.requires.meet p.views h.view p.are h.is h.live).has in
-    let agent = c.left_agent.ensures in
+    let known = (of_paths h.view.paths c.args.conflict.now (c.requires.meet p.state.views h.view p.state.are h.is h.live).has c.requires.early).0.0 in
+    let agent = ap (λ (t : Constraint). t.agent) c.left.ensures in
     omega (arith, known, size, agent)
 
 pub child-requires-clause-small : goal.child-requires-clause-small
 child-requires-clause-small g c =
-    let h = c.requires.popped.small (c.args.total, c.args.k) (Contains-first (c.args.total, c.args.k) c.args.search.now.waiting.keys) in
+    let h = c.requires.popped.state.small (c.args.total, c.args.k) (Contains-first (c.args.total, c.args.k) c.args.search.now.waiting.keys) in
     let few = c.requires.few in
     omega (arith, h, few)
 
@@ -51,35 +50,35 @@ pub child-requires-clause-live : goal.child-requires-clause-live
 child-requires-clause-live g c =
     let p = c.requires.popped in
     let h = in_hand c.args.problem.now c.args.search.now.nodes.items c.args.search.now.fates.items c.args.search.now.waiting.keys c.args.search.now.splits c.args.total c.args.k p in
-    (p.views, h.view, subst (λ ns. AreViews ns p.views) (sym c.deref.ensures.value) p.are, h.is, h.live, h.total_is)
+    (p.state.views, h.view, subst (λ ns. AreViews ns p.state.views) (sym c.deref.ensures.value) p.state.are, h.is, h.live, h.total_is)
 
 pub child-requires-2-clause-nodes : goal.child-requires-2-clause-nodes
 child-requires-2-clause-nodes g c =
     let p = c.requires.popped in
     let h = in_hand c.args.problem.now c.args.search.now.nodes.items c.args.search.now.fates.items c.args.search.now.waiting.keys c.args.search.now.splits c.args.total c.args.k p in
     let size = h.live.counted.paths in
-    let known = right_known h.view.paths c.args.conflict.now (c.requires.meet p.views h.view p.are h.is h.live).has in
-    let agent = c.right_agent.ensures in
-    subst (λ ns. AreNodesFor c.right_agent.result ns) (sym c.deref-2.ensures.value) (p.nodes_for c.right_agent.result (omega (arith, known, size, agent)))
+    let known = (of_paths h.view.paths c.args.conflict.now (c.requires.meet p.state.views h.view p.state.are h.is h.live).has c.requires.early).1.0 in
+    let agent = ap (λ (t : Constraint). t.agent) c.right.ensures in
+    subst (λ ns. AreNodesFor c.right.result.agent ns) (sym c.deref-2.ensures.value) (p.state.nodes_for c.right.result.agent (omega (arith, known, size, agent)))
 
 pub child-requires-2-clause-inside : goal.child-requires-2-clause-inside
 child-requires-2-clause-inside g c =
     let p = c.requires.popped in
     let h = in_hand c.args.problem.now c.args.search.now.nodes.items c.args.search.now.fates.items c.args.search.now.waiting.keys c.args.search.now.splits c.args.total c.args.k p in
-    let e = c.deref-2.ensures.value in rw e (view_in c.args.search.now.nodes.items p.views p.are c.args.k h.view h.is)
+    let e = c.deref-2.ensures.value in rw e (view_in c.args.search.now.nodes.items p.state.views p.state.are c.args.k h.view h.is)
 
 pub child-requires-2-clause-known : goal.child-requires-2-clause-known
 child-requires-2-clause-known g c =
     let p = c.requires.popped in
     let h = in_hand c.args.problem.now c.args.search.now.nodes.items c.args.search.now.fates.items c.args.search.now.waiting.keys c.args.search.now.splits c.args.total c.args.k p in
     let size = h.live.counted.paths in
-    let known = right_known h.view.paths c.args.conflict.now (c.requires.meet p.views h.view p.are h.is h.live).has in
-    let agent = c.right_agent.ensures in
+    let known = (of_paths h.view.paths c.args.conflict.now (c.requires.meet p.state.views h.view p.state.are h.is h.live).has c.requires.early).1.0 in
+    let agent = ap (λ (t : Constraint). t.agent) c.right.ensures in
     omega (arith, known, size, agent)
 
 pub child-requires-2-clause-small : goal.child-requires-2-clause-small
 child-requires-2-clause-small g c =
-    let h = c.requires.popped.small (c.args.total, c.args.k) (Contains-first (c.args.total, c.args.k) c.args.search.now.waiting.keys) in
+    let h = c.requires.popped.state.small (c.args.total, c.args.k) (Contains-first (c.args.total, c.args.k) c.args.search.now.waiting.keys) in
     let few = c.requires.few in
     omega (arith, h, few)
 
@@ -87,19 +86,19 @@ pub child-requires-2-clause-live : goal.child-requires-2-clause-live
 child-requires-2-clause-live g c =
     let p = c.requires.popped in
     let h = in_hand c.args.problem.now c.args.search.now.nodes.items c.args.search.now.fates.items c.args.search.now.waiting.keys c.args.search.now.splits c.args.total c.args.k p in
-    (p.views, h.view, subst (λ ns. AreViews ns p.views) (sym c.deref-2.ensures.value) p.are, h.is, h.live, h.total_is)
+    (p.state.views, h.view, subst (λ ns. AreViews ns p.state.views) (sym c.deref-2.ensures.value) p.state.are, h.is, h.live, h.total_is)
 
 pub child-requires-clause-bar : goal.child-requires-clause-bar
 child-requires-clause-bar g c =
     let p = c.requires.popped in
     let h = in_hand c.args.problem.now c.args.search.now.nodes.items c.args.search.now.fates.items c.args.search.now.waiting.keys c.args.search.now.splits c.args.total c.args.k p in
-    subst IsTableBar (sym c.left_bar.ensures) (left_table_bar h.view.paths c.args.conflict.now (c.requires.meet p.views h.view p.are h.is h.live).has c.requires.early)
+    subst (λ (t : Constraint). IsTableBar t.bar) (sym c.left.ensures) (of_paths h.view.paths c.args.conflict.now (c.requires.meet p.state.views h.view p.state.are h.is h.live).has c.requires.early).0.1
 
 pub child-requires-2-clause-bar : goal.child-requires-2-clause-bar
 child-requires-2-clause-bar g c =
     let p = c.requires.popped in
     let h = in_hand c.args.problem.now c.args.search.now.nodes.items c.args.search.now.fates.items c.args.search.now.waiting.keys c.args.search.now.splits c.args.total c.args.k p in
-    subst IsTableBar (sym c.right_bar.ensures) (right_table_bar h.view.paths c.args.conflict.now (c.requires.meet p.views h.view p.are h.is h.live).has c.requires.early)
+    subst (λ (t : Constraint). IsTableBar t.bar) (sym c.right.ensures) (of_paths h.view.paths c.args.conflict.now (c.requires.meet p.state.views h.view p.state.are h.is h.live).has c.requires.early).1.1
 
 pub grow-requires-clause-inside : goal.grow-requires-clause-inside
 grow-requires-clause-inside g c =
@@ -111,32 +110,13 @@ pub returns-clause-state : goal.returns-clause-state
 returns-clause-state g c =
     let p = c.requires.popped in
     let h = in_hand c.args.problem.now c.args.search.now.nodes.items c.args.search.now.fates.items c.args.search.now.waiting.keys c.args.search.now.splits c.args.total c.args.k p in
-    let met = c.requires.meet p.views h.view p.are h.is h.live in
-    let left : IsGeneratedChild c.args.problem.now h.view (left_agent c.args.conflict.now) (left_bar c.args.conflict.now) c.in_ok-left.left.found c.in_ok-left.left.total =
-    subst (λ i. IsGeneratedChild c.args.problem.now h.view i (left_bar c.args.conflict.now) c.in_ok-left.left.found c.in_ok-left.left.total) c.left_agent.ensures
-    (subst (λ (b : Bar). IsGeneratedChild c.args.problem.now h.view c.left_agent.result b c.in_ok-left.left.found c.in_ok-left.left.total) c.left_bar.ensures
-    (c.in_ok-left.ensures p.views h.view (subst (λ ns. AreViews ns p.views) (sym c.deref.ensures.value) p.are) h.is h.live h.total_is)) in
-    let right : IsGeneratedChild c.args.problem.now h.view (right_agent c.args.conflict.now) (right_bar c.args.conflict.now) c.in_ok-right.right.found c.in_ok-right.right.total =
-    subst (λ i. IsGeneratedChild c.args.problem.now h.view i (right_bar c.args.conflict.now) c.in_ok-right.right.found c.in_ok-right.right.total) c.right_agent.ensures
-    (subst (λ (b : Bar). IsGeneratedChild c.args.problem.now h.view c.right_agent.result b c.in_ok-right.right.found c.in_ok-right.right.total) c.right_bar.ensures
-    (c.in_ok-right.ensures p.views h.view (subst (λ ns. AreViews ns p.views) (sym c.deref-2.ensures.value) p.are) h.is h.live h.total_is)) in
-    let size = p.are.lengths in let sizes = p.searched.lengths in
-    let same : length c.args.search.now.nodes.items ≡ length c.args.search.now.fates.items = omega (arith, size, sizes) in
-    let fates_is : slice_set ((c.args.search.now.fates.items ++ fate_of c.in_ok-left.left.total ∷ []) ++ fate_of c.in_ok-right.right.total ∷ []) c.args.k (Expanded c.args.conflict.now (length c.args.search.now.nodes.items) (length c.args.search.now.nodes.items + 1)) ≡
-    slice_set (c.args.search.now.fates.items ++ fate_of c.in_ok-left.left.total ∷ fate_of c.in_ok-right.right.total ∷ []) c.args.k (Expanded c.args.conflict.now (length c.args.search.now.fates.items) (length c.args.search.now.fates.items + 1)) =
-    ap (λ fs. slice_set fs c.args.k (Expanded c.args.conflict.now (length c.args.search.now.nodes.items) (length c.args.search.now.nodes.items + 1))) (two_pushed c.args.search.now.fates.items (fate_of c.in_ok-left.left.total) (fate_of c.in_ok-right.right.total))
-    ∙ ap (λ n. slice_set (c.args.search.now.fates.items ++ fate_of c.in_ok-left.left.total ∷ fate_of c.in_ok-right.right.total ∷ []) c.args.k (Expanded c.args.conflict.now n (n + 1))) same in
-    let inside = slice_get_within c.args.search.now.fates.items c.args.k Open h.is_open in
-    let grown = grown_fates c.args.search.now.fates.items c.args.k c.args.conflict.now (fate_of c.in_ok-left.left.total) (fate_of c.in_ok-right.right.total) inside (end_of_total c.in_ok-left.left.total) (end_of_total c.in_ok-right.right.total) in
-    let early = c.requires.early in
-    let state = state_grown c.args.problem.now c.args.search.now.nodes.items c.args.search.now.fates.items c.args.search.now.waiting.keys c.args.search.now.splits c.args.total c.args.k p c.requires.goals h.view h.is h.is_open h.total_is c.args.conflict.now met early
-    c.in_ok-left.left.found c.in_ok-right.right.found c.in_ok-left.left.total c.in_ok-right.right.total left right
-    (slice_set (c.args.search.now.fates.items ++ fate_of c.in_ok-left.left.total ∷ fate_of c.in_ok-right.right.total ∷ []) c.args.k (Expanded c.args.conflict.now (length c.args.search.now.fates.items) (length c.args.search.now.fates.items + 1)))
-    grown (left_known h.view.paths c.args.conflict.now met.has) (right_known h.view.paths c.args.conflict.now met.has)
-    (left_table_bar h.view.paths c.args.conflict.now met.has early) (right_table_bar h.view.paths c.args.conflict.now met.has early) in
-    on_ok_three c.grow.result (λ ns fs ks.
-    subst (λ xs. IsState c.args.problem.now xs c.grow.new.self.fates.items c.grow.new.self.waiting.keys (c.args.search.now.splits + 1)) (sym ns)
-    (subst (λ xs. IsState c.args.problem.now ((c.args.search.now.nodes.items ++ Child c.args.k (left_agent c.args.conflict.now) (left_bar c.args.conflict.now) c.in_ok-left.left.found ∷ []) ++ Child c.args.k (right_agent c.args.conflict.now) (right_bar c.args.conflict.now) c.in_ok-right.right.found ∷ []) xs c.grow.new.self.waiting.keys (c.args.search.now.splits + 1)) (sym (fs ∙ fates_is))
-    (subst (λ xs. IsState c.args.problem.now ((c.args.search.now.nodes.items ++ Child c.args.k (left_agent c.args.conflict.now) (left_bar c.args.conflict.now) c.in_ok-left.left.found ∷ []) ++ Child c.args.k (right_agent c.args.conflict.now) (right_bar c.args.conflict.now) c.in_ok-right.right.found ∷ [])
-    (slice_set (c.args.search.now.fates.items ++ fate_of c.in_ok-left.left.total ∷ fate_of c.in_ok-right.right.total ∷ []) c.args.k (Expanded c.args.conflict.now (length c.args.search.now.fates.items) (length c.args.search.now.fates.items + 1))) xs (c.args.search.now.splits + 1)) (sym ks) state)))
-    c.grow.ensures.nodes c.grow.ensures.fates c.grow.ensures.waiting
+    let met = c.requires.meet p.state.views h.view p.state.are h.is h.live in
+    let left : IsGeneratedChild c.args.problem.now h.view (left_constraint c.args.conflict.now) c.in_ok-left.left.found c.in_ok-left.left.total =
+    subst (λ (t : Constraint). IsGeneratedChild c.args.problem.now h.view t c.in_ok-left.left.found c.in_ok-left.left.total) c.left.ensures
+    (c.in_ok-left.ensures p.state.views h.view (subst (λ ns. AreViews ns p.state.views) (sym c.deref.ensures.value) p.state.are) h.is h.live h.total_is) in
+    let right : IsGeneratedChild c.args.problem.now h.view (right_constraint c.args.conflict.now) c.in_ok-right.right.found c.in_ok-right.right.total =
+    subst (λ (t : Constraint). IsGeneratedChild c.args.problem.now h.view t c.in_ok-right.right.found c.in_ok-right.right.total) c.right.ensures
+    (c.in_ok-right.ensures p.state.views h.view (subst (λ ns. AreViews ns p.state.views) (sym c.deref-2.ensures.value) p.state.are) h.is h.live h.total_is) in
+    let state = state_grown c.args.problem.now c.args.search.now.nodes.items c.args.search.now.fates.items c.args.search.now.waiting.keys c.args.search.now.splits c.args.total c.args.k p c.requires.goals h.view h.is h.is_open h.total_is c.args.conflict.now met c.requires.early
+    c.in_ok-left.left.found c.in_ok-right.right.found c.in_ok-left.left.total c.in_ok-right.right.total left right in
+    on_ok_three c.grow.result (λ ns fs ks. rw ns (rw fs (rw ks state))) c.grow.ensures.nodes c.grow.ensures.fates c.grow.ensures.waiting

@@ -4,7 +4,7 @@ use Rattle.mapf_cbs.specs.declared.node.Node.TheVariants.{Root, Child}
 use Rattle.mapf_spacetime.specs.declared.found.Found.TheVariants.{Arrives}
 use Rattle.mapf_cbs.proofs.NodeLemmas.{view_at, root_path, found_path, paths_up}
 use Rattle.mapf_cbs.proofs.walks.path_at.Goals as goal
-use Rattle.mapf_cbs.proofs.walks.path_at.Goals.{then-bound-agent+in-Dead, else-bound-agent}
+use Rattle.mapf_cbs.proofs.walks.path_at.Goals.{then-constraint-agent+in-Dead, else-constraint-agent}
 
 pub index-requires : goal.index-requires
 index-requires c =
@@ -23,25 +23,25 @@ pub returns-in-Arrives : goal.returns-in-Arrives
 returns-in-Arrives c views view are is =
     let at = slice_get_read c.args.nodes.now (length c.args.nodes.now) c.loop-at.at c.index-nodes-at.result refl c.loop-at.invariant.inside c.index-nodes-at.is in
     let here = view_at c.args.nodes.now views are c.loop-at.at c.loop-at.invariant.inside in
-    let child : slice_get c.args.nodes.now c.loop-at.at ≡ Some (Child c.in-Child.parent c.in-Child.bound c.in-Child.bar (Arrives c.in-Arrives.path c.in-Arrives.labels)) = at ∙ ap Some (c.in-Child.is ∙ ap (Child c.in-Child.parent c.in-Child.bound c.in-Child.bar) c.in-Arrives.is) in
-    let own = found_path c.args.nodes.now views are c.loop-at.at here.0 here.1 c.in-Child.parent c.in-Child.bound c.in-Child.bar c.in-Arrives.path c.in-Arrives.labels child in
-    c.loop-at.invariant.same views view here.0 are is here.1 ∙ (rw c.if-bound-agent.true at own)
+    let child : slice_get c.args.nodes.now c.loop-at.at ≡ Some (Child c.in-Child.parent c.in-Child.constraint (Arrives c.in-Arrives.path c.in-Arrives.labels)) = at ∙ ap Some (c.in-Child.is ∙ ap (Child c.in-Child.parent c.in-Child.constraint) c.in-Arrives.is) in
+    let own = found_path c.args.nodes.now views are c.loop-at.at here.0 here.1 c.in-Child.parent c.in-Child.constraint c.in-Arrives.path c.in-Arrives.labels child in
+    c.loop-at.invariant.same views view here.0 are is here.1 ∙ (rw c.if-constraint-agent.true at own)
 
 pub loop-at-smaller : goal.loop-at-smaller
 loop-at-smaller c =
     let at = slice_get_read c.args.nodes.now (length c.args.nodes.now) c.loop-at.at c.index-nodes-at.result refl c.loop-at.invariant.inside c.index-nodes-at.is in
-    c.requires.nodes c.loop-at.at (Child c.in-Child.parent c.in-Child.bound c.in-Child.bar c.in-Child.found) (at ∙ ap Some c.in-Child.is)
+    c.requires.nodes c.loop-at.at (Child c.in-Child.parent c.in-Child.constraint c.in-Child.found) (at ∙ ap Some c.in-Child.is)
 
 pub loop-at-preserved : goal.loop-at-preserved
 loop-at-preserved c =
     let at = slice_get_read c.args.nodes.now (length c.args.nodes.now) c.loop-at.at c.index-nodes-at.result refl c.loop-at.invariant.inside c.index-nodes-at.is in
     let child = at ∙ ap Some c.in-Child.is in
-    let lower = c.requires.nodes c.loop-at.at (Child c.in-Child.parent c.in-Child.bound c.in-Child.bar c.in-Child.found) child in
+    let lower = c.requires.nodes c.loop-at.at (Child c.in-Child.parent c.in-Child.constraint c.in-Child.found) child in
     record {
       inside = let h = c.loop-at.invariant.inside in omega (arith, lower, h);
       same = λ views view before are is before_is.
           let here = view_at c.args.nodes.now views are c.loop-at.at c.loop-at.invariant.inside in
-          c.loop-at.invariant.same views view here.0 are is here.1 ∙ paths_up c.args.nodes.now views are c.loop-at.at here.0 here.1 c.in-Child.parent c.in-Child.bound c.in-Child.bar c.in-Child.found child c.args.agent
-          (elim c.if-bound-agent.branch [ then-bound-agent+in-Dead w ↦ inr (w.in-Dead.labels, w.in-Dead.is) | else-bound-agent w ↦ inl (λ e. w.if-bound-agent.false (sym e)) ])
+          c.loop-at.invariant.same views view here.0 are is here.1 ∙ paths_up c.args.nodes.now views are c.loop-at.at here.0 here.1 c.in-Child.parent c.in-Child.constraint c.in-Child.found child c.args.agent
+          (elim c.if-constraint-agent.branch [ then-constraint-agent+in-Dead w ↦ inr (w.in-Dead.labels, w.in-Dead.is) | else-constraint-agent w ↦ inl (λ e. w.if-constraint-agent.false (sym e)) ])
           before before_is;
     }

@@ -1,38 +1,32 @@
 use Rattle.std.proofs.Common.{◌++◌, ◌∙◌, ap, length, refl, subst, sym, le_refl}
 use Rattle.std.proofs.lemmas.Result.{err_from_is_err_and}
-use Rattle.mapf_model.specs.declared.conflict.Conflict.TheVariants as conflicts
 use Rattle.mapf_model.specs.Tree.{SplitNode}
 use Rattle.mapf_certificate.specs.declared.tree_line.Due.TheVariants as dues
-use Rattle.mapf_certificate.specs.Lines.{IsLine}
+use Rattle.mapf_certificate.specs.Lines.{IsLine, grid_for}
 use Rattle.mapf_certificate.specs.Certificates.{blocks_text, line_text}
+use Rattle.mapf_certificate.specs.CertReading.{CompletesNode}
 use Rattle.mapf_certificate.specs.Untouched.{TakesThere}
-use Rattle.mapf_certificate.specs.declared.line.Line.{Line}
-use Rattle.mapf_certificate.specs.declared.line.Line.TheVariants as lines
-use Rattle.mapf_certificate.specs.Window.{Fails}
+use Rattle.mapf_certificate.specs.declared.line.CertLine.{CertLine}
+use Rattle.mapf_certificate.specs.declared.line.CertLine.TheVariants as lines
 use Rattle.mapf_certificate.proofs.PlainLines.{same_line}
 use Rattle.mapf_certificate.proofs.Windows.{err_passed}
-use Rattle.mapf_certificate.proofs.Nodes.{NextNode, one_line, fails_in_blocks, begins_no_node, first_kinds}
+use Rattle.mapf_certificate.proofs.Nodes.{one_line, fails_in_blocks, begins_no_node, first_kinds}
 use Rattle.mapf_certificate.proofs.cert_lines.item_of.Goals as goal
 
 pub returns-in_err-blocks-in-Leaf-clause-fails : goal.returns-in_err-blocks-in-Leaf-clause-fails
 returns-in_err-blocks-in-Leaf-clause-fails g c =
-    let s = g.S.Source in
-    let had = s.remaining c.args.source.now in
-    let left = s.remaining c.blocks-in-Leaf.new.source in
-    let failed = s.has_failed c.blocks-in-Leaf.new.source in
     let sizes = c.args.sizes.now in
+    err_passed _ _ _ (err_from_is_err_and _ c.from_residual.ensures.1)
+    (fails_in_blocks sizes _ _ _ _ _ _ _ c.requires.line c.in-Leaf.is c.in_err-blocks-in-Leaf.ensures.fails)
+
+pub returns-in-Split-clause-item : goal.returns-in-Split-clause-item
+returns-in-Split-clause-item g c =
+    let sizes = c.args.sizes.now in
+    let had = g.S.Source.remaining c.args.source.now in
+    let x = c.args.lines.now.buffer in
     let line = c.args.line.now in
-    let fault = c.in_err-blocks-in-Leaf.field-0.0 in
-    err_passed c.from_residual.result (Fails had left failed c.args.lines.now.buffer (λ t. NextNode sizes (line_text sizes.width line ++ t))) fault (err_from_is_err_and c.from_residual.result c.from_residual.ensures.1)
-    (fails_in_blocks sizes had left failed c.args.lines.now.buffer line c.in-Leaf.count fault c.requires.line c.in-Leaf.is c.in_err-blocks-in-Leaf.ensures.fails)
-
-pub returns-in-Vertex-clause-item : goal.returns-in-Vertex-clause-item
-returns-in-Vertex-clause-item g c =
-    one_line c.args.sizes.now (g.S.Source.remaining c.args.source.now) c.args.lines.now.buffer c.args.line.now (SplitNode (conflicts.Vertex c.in-Vertex.i c.in-Vertex.j c.in-Vertex.cell c.in-Vertex.tick)) c.in-Vertex.is refl (subst (IsLine (dues.Tree c.args.sizes.now)) c.in-Vertex.is c.requires.line)
-
-pub returns-in-Swap-clause-item : goal.returns-in-Swap-clause-item
-returns-in-Swap-clause-item g c =
-    one_line c.args.sizes.now (g.S.Source.remaining c.args.source.now) c.args.lines.now.buffer c.args.line.now (SplitNode (conflicts.Swap c.in-Swap.i c.in-Swap.j c.in-Swap.from c.in-Swap.to c.in-Swap.tick)) c.in-Swap.is refl (subst (IsLine (dues.Tree c.args.sizes.now)) c.in-Swap.is c.requires.line)
+    subst (CompletesNode (grid_for sizes) sizes.agents had had x x line) (sym c.split.ensures)
+    (one_line sizes had x line (SplitNode c.in-Split.conflict) c.in-Split.is refl (subst (IsLine (dues.Tree sizes)) c.in-Split.is c.requires.line))
 
 pub returns-in_default : goal.returns-in_default
 returns-in_default g c =
@@ -41,7 +35,7 @@ returns-in_default g c =
       spare = le_refl _;
       item = tt;
       there = tt;
-      fails = begins_no_node c.args.sizes.now (g.S.Source.remaining c.args.source.now) (g.S.Source.has_failed c.args.source.now) c.args.lines.now.buffer c.args.line.now c.misfit.result c.misfit.ensures c.requires.works c.requires.line (first_kinds c.args.line.now c.in_default.not-Vertex c.in_default.not-Swap c.in_default.not-Leaf c.in_default.not-Clash);
+      fails = begins_no_node c.args.sizes.now _ _ _ _ _ c.misfit.ensures c.requires.works c.requires.line (first_kinds c.args.line.now c.in_default.not-Split c.in_default.not-Leaf c.in_default.not-Clash);
     }
 
 pub returns-in_ok-blocks-in-Leaf-clause-there : goal.returns-in_ok-blocks-in-Leaf-clause-there
@@ -50,5 +44,5 @@ returns-in_ok-blocks-in-Leaf-clause-there g c = λ taken e.
     let blocks = c.in_ok-blocks-in-Leaf.field-0.items in
     let is : IsLine (dues.Tree sizes) (lines.Leaf c.in-Leaf.count) = subst (IsLine (dues.Tree sizes)) c.in-Leaf.is c.requires.line in
     let is' : IsLine (dues.Tree sizes) (lines.Leaf (length blocks)) = subst (λ n. IsLine (dues.Tree sizes) (lines.Leaf n)) (sym c.in_ok-blocks-in-Leaf.ensures.blocks.many) is in
-    let (same, rest) = same_line (dues.Tree sizes) (lines.Leaf c.in-Leaf.count) (lines.Leaf (length blocks)) taken (blocks_text sizes.width blocks) is is' (ap (λ (l : Line). line_text sizes.width l ++ taken) (sym c.in-Leaf.is) ∙ e) in
+    let (same, rest) = same_line (dues.Tree sizes) (lines.Leaf c.in-Leaf.count) (lines.Leaf (length blocks)) taken (blocks_text sizes.width blocks) is is' (ap (λ (l : CertLine). line_text sizes.width l ++ taken) (sym c.in-Leaf.is) ∙ e) in
     subst (TakesThere c.args.source.now c.blocks-in-Leaf.new.source c.args.lines.now.buffer c.blocks-in-Leaf.new.self.buffer) (sym rest) c.in_ok-blocks-in-Leaf.ensures.there

@@ -1,45 +1,27 @@
 use Rattle.std.proofs.lemmas.Result.{err_from_is_err_and}
-use Rattle.mapf_certificate.specs.CertReading.{HasHeader}
-use Rattle.mapf_certificate.specs.Window.{Fails}
 use Rattle.mapf_certificate.proofs.Windows.{err_passed}
 use Rattle.mapf_certificate.proofs.Headers.{fails_in_title, fails_in_agents, fails_in_claim, header_there, header_window}
 use Rattle.mapf_certificate.proofs.cert_lines.read_header.Goals as goal
 
 pub returns-in_err-next-clause-fails : goal.returns-in_err-next-clause-fails
 returns-in_err-next-clause-fails g c = λ width.
-    let s = g.S.Source in
-    let had = s.remaining c.args.source.now in
-    let left = s.remaining c.next.new.source in
-    let failed = s.has_failed c.next.new.source in
-    let old = c.args.lines.now.buffer in
-    err_passed c.from_residual.result (Fails had left failed old (HasHeader width)) c.in_err-next.field-0.0 (err_from_is_err_and c.from_residual.result c.from_residual.ensures.1)
-    (fails_in_title width had left failed old c.in_err-next.field-0.0 c.in_err-next.ensures.fails)
+    err_passed _ _ _ (err_from_is_err_and _ c.from_residual.ensures.1)
+    (fails_in_title width _ _ _ _ _ c.in_err-next.ensures.fails)
 
 pub returns-in_err-agents-clause-fails : goal.returns-in_err-agents-clause-fails
 returns-in_err-agents-clause-fails g c = λ width.
-    let s = g.S.Source in
-    let had = s.remaining c.args.source.now in
-    let left = s.remaining c.next-2.new.source in
-    let failed = s.has_failed c.next-2.new.source in
-    let old = c.args.lines.now.buffer in
-    err_passed c.from_residual-in_err-agents.result (Fails had left failed old (HasHeader width)) c.in_err-agents.field-0.0 (err_from_is_err_and c.from_residual-in_err-agents.result c.from_residual-in_err-agents.ensures.1)
-    (fails_in_agents width had (s.remaining c.next.new.source) left failed old c.next.new.self.buffer c.in_ok-next.field-0 c.in_err-agents.field-0.0 c.in_ok-next.ensures.line c.in_ok-next.ensures.taken c.in_err-agents.ensures.fails)
+    err_passed _ _ _ (err_from_is_err_and _ c.from_residual-in_err-agents.ensures.1)
+    (fails_in_agents width _ _ _ _ _ _ _ _ c.in_ok-next.ensures.line c.in_ok-next.ensures.taken c.in_err-agents.ensures.fails)
 
 pub returns-in_err-claim-clause-fails : goal.returns-in_err-claim-clause-fails
 returns-in_err-claim-clause-fails g c = λ width.
-    let s = g.S.Source in
-    let had = s.remaining c.args.source.now in
-    let left = s.remaining c.next-3.new.source in
-    let failed = s.has_failed c.next-3.new.source in
-    let old = c.args.lines.now.buffer in
-    err_passed c.from_residual-in_err-claim.result (Fails had left failed old (HasHeader width)) c.in_err-claim.field-0.0 (err_from_is_err_and c.from_residual-in_err-claim.result c.from_residual-in_err-claim.ensures.1)
-    (fails_in_claim width had (s.remaining c.next.new.source) (s.remaining c.next-2.new.source) left failed old c.next.new.self.buffer c.next-2.new.self.buffer c.in_ok-next.field-0 c.in_ok-agents.field-0 c.in_err-claim.field-0.0 c.in_ok-next.ensures.line c.in_ok-agents.ensures.line c.in_ok-next.ensures.taken c.in_ok-agents.ensures.taken c.in_err-claim.ensures.fails)
+    err_passed _ _ _ (err_from_is_err_and _ c.from_residual-in_err-claim.ensures.1)
+    (fails_in_claim width _ _ _ _ _ _ _ _ _ _ _ c.in_ok-next.ensures.line c.in_ok-agents.ensures.line c.in_ok-next.ensures.taken c.in_ok-agents.ensures.taken c.in_err-claim.ensures.fails)
 
 pub returns-clause-taken : goal.returns-clause-taken
 returns-clause-taken g c = λ width.
-    let s = g.S.Source in
-    header_window width (s.remaining c.args.source.now) (s.remaining c.next.new.source) (s.remaining c.next-2.new.source) (s.remaining c.next-3.new.source) c.args.lines.now.buffer c.next.new.self.buffer c.next-2.new.self.buffer c.next-3.new.self.buffer
-    c.in_ok-next.field-0 c.in_ok-agents.field-0 c.in_ok-claim.field-0 c.in-Agents.agents c.in-Claim.claim c.in_ok-next.ensures.taken c.in_ok-agents.ensures.taken c.in_ok-claim.ensures.taken c.in_ok-next.ensures.line c.in-Agents.is c.in-Claim.is
+    header_window width _ _ _ _ _ _ _ _
+    _ _ _ _ _ c.in_ok-next.ensures.taken c.in_ok-agents.ensures.taken c.in_ok-claim.ensures.taken c.in_ok-next.ensures.line c.in-Agents.is c.in-Claim.is
 
 pub returns-clause-there : goal.returns-clause-there
 returns-clause-there g c = λ width.

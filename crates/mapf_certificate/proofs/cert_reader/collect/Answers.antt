@@ -3,8 +3,8 @@ use Rattle.std.proofs.lemmas.Result.{err_from_is_err_and}
 use Rattle.std.proofs.lemmas.List.{map-append}
 use Rattle.mapf_model.specs.declared.item.Item.{Item}
 use Rattle.mapf_model.specs.Tree.{node_of}
-use Rattle.mapf_certificate.specs.CertReading.{HasHeader, IsRestAt, Awaits, TakesNode}
-use Rattle.mapf_certificate.specs.Window.{Stops, IsNoTextFault}
+use Rattle.mapf_certificate.specs.CertReading.{Awaits, TakesNode}
+use Rattle.mapf_certificate.specs.Window.{IsNoTextFault}
 use Rattle.mapf_certificate.proofs.PathLaws.{pushed}
 use Rattle.mapf_certificate.proofs.Windows.{err_passed}
 use Rattle.mapf_certificate.proofs.Collecting.{collected_none, collected_more, collected_all, collected_only, collected_stops, stops_at, stops_after, err_matches}
@@ -12,59 +12,43 @@ use Rattle.mapf_certificate.proofs.cert_reader.collect.Goals as goal
 
 pub returns-in_err-agents-clause-stops : goal.returns-in_err-agents-clause-stops
 returns-in_err-agents-clause-stops g c =
-    let s = g.S.Source in
-    let had = s.remaining c.args.source.now in
-    let left = s.remaining c.header.new.source in
-    let failed = s.has_failed c.header.new.source in
-    let opened = c.args.lines.now in
-    let fault = c.in_err-agents.field-0.0 in
-    err_passed c.from_residual.result (Stops had left failed opened.buffer) fault (err_from_is_err_and c.from_residual.result c.from_residual.ensures.1)
-    (stops_at had left failed opened.buffer (HasHeader opened.width) fault (c.in_err-agents.ensures.fails c.requires.unfaulted))
+    err_passed _ _ _ (err_from_is_err_and _ c.from_residual.ensures.1)
+    (stops_at _ _ _ _ _ _ (c.in_err-agents.ensures.fails c.requires.unfaulted))
 
 pub returns-in_err-agents-clause-only : goal.returns-in_err-agents-clause-only
 returns-in_err-agents-clause-only g c = λ agents claim nodes awaits.
-    err_matches c.from_residual.result _ IsNoTextFault c.in_err-agents.field-0.0 (err_from_is_err_and c.from_residual.result c.from_residual.ensures.1)
+    err_matches c.from_residual.result _ IsNoTextFault c.in_err-agents.field-0.0 (err_from_is_err_and _ c.from_residual.ensures.1)
     (c.in_err-agents.ensures.only agents claim nodes c.requires.unfaulted c.requires.unread awaits)
 
 pub loop-tree-init : goal.loop-tree-init
 loop-tree-init g c =
-    let s = g.S.Source in
     record {
       works = c.in_ok-agents.ensures.works;
       unfaulted = c.in_ok-agents.ensures.unfaulted;
       read = subst IsSome (sym c.in_ok-agents.ensures.known) refl;
       part = c.in_ok-agents.ensures.part ∙ c.requires.part;
-      collected = collected_none (s.remaining c.args.source.now) (s.remaining c.header.new.source) c.args.lines.now c.header.new.self c.in_ok-agents.agents c.in_ok-agents.claim (map node_of c.new-tree.result.items)
+      collected = collected_none _ _ _ _ _ _ _
           (ap (map node_of) c.new-tree.ensures.items) (c.in_ok-agents.ensures.header c.requires.unfaulted c.requires.unread)
           (λ count says nodes awaits. c.in_ok-agents.ensures.only count says nodes c.requires.unfaulted c.requires.unread awaits);
     }
 
 pub returns-in_err-item-clause-stops : goal.returns-in_err-item-clause-stops
 returns-in_err-item-clause-stops g c =
-    let s = g.S.Source in
-    let start = s.remaining c.args.source.now in
-    let mid = s.remaining c.loop-tree.source in
-    let left = s.remaining c.next_item.new.source in
-    let failed = s.has_failed c.next_item.new.source in
-    let opened = c.args.lines.now in
     let before = c.loop-tree.invariant.collected in
-    let fault = c.in_err-item.field-0.0 in
-    err_passed c.from_residual-in_err-item.result (Stops start left failed opened.buffer) fault (err_from_is_err_and c.from_residual-in_err-item.result c.from_residual-in_err-item.ensures.1)
-    (stops_after start mid left failed opened.buffer c.loop-tree.lines.buffer before.text (IsRestAt c.loop-tree.lines) fault before.window (c.in_err-item.ensures.fails c.loop-tree.invariant.unfaulted))
+    err_passed _ _ _ (err_from_is_err_and _ c.from_residual-in_err-item.ensures.1)
+    (stops_after _ _ _ _ _ _ _ _ _ before.window (c.in_err-item.ensures.fails c.loop-tree.invariant.unfaulted))
 
 pub returns-in_err-item-clause-only : goal.returns-in_err-item-clause-only
 returns-in_err-item-clause-only g c = λ agents claim nodes awaits.
-    let s = g.S.Source in
     let unfaulted = c.loop-tree.invariant.unfaulted in
     let part = c.loop-tree.invariant.part in
-    err_matches c.from_residual-in_err-item.result _ IsNoTextFault c.in_err-item.field-0.0 (err_from_is_err_and c.from_residual-in_err-item.result c.from_residual-in_err-item.ensures.1)
-    (collected_stops (s.remaining c.args.source.now) (s.remaining c.loop-tree.source) c.args.lines.now c.loop-tree.lines c.in_ok-agents.agents c.in_ok-agents.claim (map node_of c.loop-tree.tree.items) c.in_err-item.field-0.0 c.loop-tree.invariant.collected
+    err_matches c.from_residual-in_err-item.result _ IsNoTextFault c.in_err-item.field-0.0 (err_from_is_err_and _ c.from_residual-in_err-item.ensures.1)
+    (collected_stops _ _ _ _ _ _ _ _ c.loop-tree.invariant.collected
     (λ due others next. c.in_err-item.ensures.only_item due others unfaulted part next) (λ next. c.in_err-item.ensures.only_end unfaulted part next) agents claim nodes awaits)
 
 pub loop-tree-preserved : goal.loop-tree-preserved
 loop-tree-preserved g c =
     let s = g.S.Source in
-    let start = s.remaining c.args.source.now in
     let mid = s.remaining c.loop-tree.source in
     let now = s.remaining c.next_item.new.source in
     let old = c.loop-tree.lines in
@@ -82,7 +66,7 @@ loop-tree-preserved g c =
       unfaulted = here.unfaulted;
       read = subst IsSome (sym here.known) c.loop-tree.invariant.read;
       part = here.part (subst IsSome (sym c.in-Some.is) refl);
-      collected = collected_more start mid now c.args.lines.now old new c.in_ok-agents.agents c.in_ok-agents.claim (map node_of items) (map node_of c.push.new.self.items) (node_of item) c.loop-tree.invariant.collected takes
+      collected = collected_more _ _ _ _ _ _ _ _ _ _ _ c.loop-tree.invariant.collected takes
           (λ due nodes next.
           let Q : Option Item → Type 0 = λ o. IsSomeAnd o (λ i. (node_of i ≡ due) × Awaits now new nodes) in
           subst Q c.in-Some.is (here.only_item due nodes unfaulted part next))
@@ -92,16 +76,15 @@ loop-tree-preserved g c =
 
 pub returns-clause-found : goal.returns-clause-found
 returns-clause-found g c = λ bytes known.
-    let s = g.S.Source in
     let takes = c.in_ok-item.ensures.end c.loop-tree.invariant.unfaulted c.loop-tree.invariant.part c.in_default.is in
-    collected_all (s.remaining c.args.source.now) (s.remaining c.loop-tree.source) (s.remaining c.next_item.new.source) c.args.lines.now c.loop-tree.lines c.next_item.new.self c.in_ok-agents.agents c.in_ok-agents.claim (map node_of c.loop-tree.tree.items)
+    collected_all _ _ _ _ _ _ _ _ _
     c.loop-tree.invariant.collected takes bytes known
 
 pub returns-clause-only : goal.returns-clause-only
 returns-clause-only g c = λ agents claim nodes awaits.
     let s = g.S.Source in
     let now = s.remaining c.next_item.new.source in
-    collected_only (s.remaining c.args.source.now) (s.remaining c.loop-tree.source) c.args.lines.now c.loop-tree.lines c.in_ok-agents.agents c.in_ok-agents.claim (map node_of c.loop-tree.tree.items) c.loop-tree.invariant.collected
+    collected_only _ _ _ _ _ _ _ c.loop-tree.invariant.collected
     (λ due others next.
     let Q : Option Item → Type 0 = λ o. IsSomeAnd o (λ i. (node_of i ≡ due) × Awaits now c.next_item.new.self others) in
     subst Q c.in_default.is (c.in_ok-item.ensures.only_item due others c.loop-tree.invariant.unfaulted c.loop-tree.invariant.part next))

@@ -3,7 +3,7 @@ use Rattle.std.specs.List.{flat_map}
 use Rattle.std.proofs.lemmas.List.Folds.{flat_map-map}
 use Rattle.mapf_model.specs.declared.item.Item.{Item}
 use Rattle.mapf_model.specs.Tree.{node_of}
-use Rattle.mapf_certificate.specs.declared.line.Line.TheVariants as lines
+use Rattle.mapf_certificate.specs.declared.line.CertLine.TheVariants as lines
 use Rattle.mapf_certificate.specs.Certificates.{item_text, node_text, line_text, header_text, cert_text}
 use Rattle.mapf_certificate.proofs.cert_writer.write_cert.Goals as goal
 

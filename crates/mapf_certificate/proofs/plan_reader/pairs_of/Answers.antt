@@ -3,20 +3,20 @@ use Rattle.std.proofs.lemmas.Bool.{false≢true}
 use Rattle.mapf_model.specs.Printed.{IsOnGrid}
 use Rattle.mapf_certificate.specs.declared.line.LineFault.{LineFault}
 use Rattle.mapf_certificate.specs.declared.sizes.Sizes.{Sizes}
-use Rattle.mapf_certificate.specs.Lines.{grid_of}
+use Rattle.mapf_certificate.specs.Lines.{grid_for}
 use Rattle.mapf_certificate.specs.Plans.{GoesOn, HasCells}
 use Rattle.mapf_certificate.specs.PlanReading.{read_pair_cell}
-use Rattle.mapf_certificate.proofs.Fields.{ok_pair_parts}
+use Rattle.mapf_certificate.proofs.Fields.{ok_pair_parts, same_some}
 use Rattle.mapf_certificate.proofs.PathLaws.{goes_on_step, goes_on_end, has_cells_step, pair_cell_shorter, not_empty, is_empty, pushed}
 use Rattle.mapf_certificate.proofs.plan_reader.pairs_of.Goals as goal
 
 -- a path that goes on is read on
-refused : (sizes : Sizes) (path cells rest : List ℕ) (f : LineFault) → All (IsOnGrid (grid_of sizes.width sizes.height)) path → GoesOn sizes.width path cells rest → rest ≢ [] → read_pair_cell sizes rest ≡ Err f → ⊥
+refused : (sizes : Sizes) (path cells rest : List ℕ) (f : LineFault) → All (IsOnGrid (grid_for sizes)) path → GoesOn sizes.width path cells rest → rest ≢ [] → read_pair_cell sizes rest ≡ Err f → ⊥
 refused sizes path cells rest f all on some e =
     let step = goes_on_step sizes path cells rest all on some in
     let wrong : ◌≡◌ {A = Result (Option ℕ × List ℕ) LineFault} (Err f) (Ok (Some step.0, step.1)) = sym e ∙ step.2 in cc
 
-read_on : (sizes : Sizes) (path cells rest after : List ℕ) (v : Option ℕ) → All (IsOnGrid (grid_of sizes.width sizes.height)) path → GoesOn sizes.width path cells rest → rest ≢ [] → read_pair_cell sizes rest ≡ Ok (v, after)
+read_on : (sizes : Sizes) (path cells rest after : List ℕ) (v : Option ℕ) → All (IsOnGrid (grid_for sizes)) path → GoesOn sizes.width path cells rest → rest ≢ [] → read_pair_cell sizes rest ≡ Ok (v, after)
     → (cell : ℕ) × (v ≡ Some cell) × GoesOn sizes.width path (cells ++ (cell ∷ [])) after
 read_on sizes path cells rest after v all on some e =
     let step = goes_on_step sizes path cells rest all on some in
@@ -37,14 +37,11 @@ loop-rest-smaller-else-are_cells c = pair_cell_shorter c.args.sizes.now c.loop-r
 pub loop-rest-smaller : goal.loop-rest-smaller
 loop-rest-smaller c = pair_cell_shorter c.args.sizes.now c.loop-rest.rest.now c.in-Ok.parts.1.now c.in-Ok.parts.0 c.in-Ok.ensures
 
-some_same : (a b : ℕ) → ◌≡◌ {A = Option ℕ} (Some a) (Some b) → a ≡ b
-some_same a b e = cc
-
-keeps_on : (sizes : Sizes) (path cells rest after new : List ℕ) (v : Option ℕ) (cell : ℕ) → All (IsOnGrid (grid_of sizes.width sizes.height)) path → GoesOn sizes.width path cells rest → rest ≢ [] → read_pair_cell sizes rest ≡ Ok (v, after)
+keeps_on : (sizes : Sizes) (path cells rest after new : List ℕ) (v : Option ℕ) (cell : ℕ) → All (IsOnGrid (grid_for sizes)) path → GoesOn sizes.width path cells rest → rest ≢ [] → read_pair_cell sizes rest ≡ Ok (v, after)
     → v ≡ Some cell → new ≡ cells ++ (cell ∷ []) → GoesOn sizes.width path new after
 keeps_on sizes path cells rest after new v cell all on some e is grown =
     let step = read_on sizes path cells rest after v all on some e in
-    let same = some_same step.0 cell (sym step.1 ∙ is) in
+    let same = same_some step.0 cell (sym step.1 ∙ is) in
     subst (λ (l : List ℕ). GoesOn sizes.width path l after) (ap (λ n. cells ++ (n ∷ [])) same ∙ sym grown) step.2
 
 pub loop-rest-preserved-else-is_err : goal.loop-rest-preserved-else-is_err
@@ -56,7 +53,7 @@ loop-rest-preserved-else-is_err c =
     let grown = pushed c.push.result cells c.push.new.self.items c.in-Some.cell c.push.ensures.items c.if-is_err.ensures.value in
     let read : read_pair_cell sizes rest ≡ Ok (Some c.in-Some.cell, after) = c.in-Ok.ensures ∙ ap (λ v. Ok (v, after)) c.in-Some.is in
     record {
-      found = λ are. subst (λ (l : List ℕ). HasCells (grid_of sizes.width sizes.height) c.args.bytes.now l after) (sym grown) (has_cells_step sizes c.args.bytes.now cells rest after c.in-Some.cell (c.loop-rest.invariant.found are) read);
+      found = λ are. subst (λ (l : List ℕ). HasCells (grid_for sizes) c.args.bytes.now l after) (sym grown) (has_cells_step sizes c.args.bytes.now cells rest after c.in-Some.cell (c.loop-rest.invariant.found are) read);
       only = λ path all e.
           let (are, on) = c.loop-rest.invariant.only path all e in
           (are, keeps_on sizes path cells rest after c.push.new.self.items (Some c.in-Some.cell) c.in-Some.cell all on (not_empty _ _ c.is_empty.ensures c.loop-rest-test.true) read refl grown);

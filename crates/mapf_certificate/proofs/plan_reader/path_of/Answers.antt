@@ -6,15 +6,16 @@ use Rattle.mapf_model.specs.Path.{IsTight}
 use Rattle.mapf_certificate.specs.declared.plan_text.PlanTextFault.TheVariants.{Memory}
 use Rattle.mapf_certificate.specs.declared.sizes.Sizes.{Sizes}
 use Rattle.mapf_certificate.specs.Numbers.{field}
-use Rattle.mapf_certificate.specs.Lines.{grid_of}
+use Rattle.mapf_certificate.specs.Lines.{grid_for}
 use Rattle.mapf_certificate.specs.Plans.{path_words, cells_text, ticks_of, IsPathOf}
 use Rattle.mapf_certificate.specs.PlanReading.{read_path_front}
-use Rattle.mapf_certificate.proofs.PathLaws.{front_read, ok_triple_parts, same_err, passed_on}
+use Rattle.mapf_certificate.proofs.Fields.{same_err}
+use Rattle.mapf_certificate.proofs.PathLaws.{front_read, ok_triple_parts, passed_on}
 use Rattle.mapf_certificate.proofs.PlanParts.{path_front_takes}
 use Rattle.mapf_certificate.proofs.plan_reader.path_of.Goals as goal
 
 -- what the front of a path's line is read to
-front : (sizes : Sizes) (due : ℕ) (line path : List ℕ) → IsPathInRange (grid_of sizes.width sizes.height) path → due < sizes.agents → line ≡ path_words sizes.width due path
+front : (sizes : Sizes) (due : ℕ) (line path : List ℕ) → IsPathInRange (grid_for sizes) path → due < sizes.agents → line ≡ path_words sizes.width due path
     → read_path_front line ≡ Ok (Some due, Some (ticks_of path), cells_text sizes.width path)
 front sizes due line path is less e =
     let fits : due < 2 ^ 64 = omega (arith, sizes.few.1) in
@@ -26,7 +27,7 @@ returns-in-Err-clause-only c path is less e =
     let failed : read_path_front c.args.line.now ≡ Err c.in-Err.fault = c.in-Err.ensures in
     cc
 
-parts : (sizes : Sizes) (due : ℕ) (line path : List ℕ) (agent cost : Option ℕ) (rest : List ℕ) → IsPathInRange (grid_of sizes.width sizes.height) path → due < sizes.agents → line ≡ path_words sizes.width due path
+parts : (sizes : Sizes) (due : ℕ) (line path : List ℕ) (agent cost : Option ℕ) (rest : List ℕ) → IsPathInRange (grid_for sizes) path → due < sizes.agents → line ≡ path_words sizes.width due path
     → read_path_front line ≡ Ok (agent, cost, rest) → (agent ≡ Some due) × (cost ≡ Some (ticks_of path)) × (rest ≡ cells_text sizes.width path)
 parts sizes due line path agent cost rest is less e read = ok_triple_parts agent (Some due) cost (Some (ticks_of path)) rest (cells_text sizes.width path) (sym read ∙ front sizes due line path is less e)
 
@@ -35,7 +36,7 @@ returns-in_err-pairs-clause-only c path is less e =
     let (agent, cost, rest) = parts c.args.sizes.now c.args.due c.args.line.now path c.in-Ok.parts.0 c.in-Ok.parts.1 c.in-Ok.parts.2.now is less e c.in-Ok.ensures in
     elim (c.in_err-pairs.ensures.only path is.on_grid rest) [ inl wrong ↦ absurd wrong | inr memory ↦ inr (passed_on c.from_residual.result c.in_err-pairs.field-0.0 Memory (err_from_is_err_and c.from_residual.result c.from_residual.ensures.1) (same_err _ Memory memory)) ]
 
-together : (sizes : Sizes) (due : ℕ) (agent cost : Option ℕ) (are : Bool) (path cells : List ℕ) → IsPathInRange (grid_of sizes.width sizes.height) path → due < sizes.agents → agent ≡ Some due → cost ≡ Some (ticks_of path) → are ≡ true → cells ≡ path
+together : (sizes : Sizes) (due : ℕ) (agent cost : Option ℕ) (are : Bool) (path cells : List ℕ) → IsPathInRange (grid_for sizes) path → due < sizes.agents → agent ≡ Some due → cost ≡ Some (ticks_of path) → are ≡ true → cells ≡ path
     → IsPathOf sizes.agents agent cost due are (length cells)
 together sizes due agent cost are path cells is less agent-is cost-is all same =
     let count : length cells ≡ length path = ap length same in
@@ -49,20 +50,20 @@ returns-in-Err-judge_path-clause-only c path is less e =
       | inr memory ↦ cc
     ]
 
-as_path : (path cells : List ℕ) (sizes : Sizes) → IsPathInRange (grid_of sizes.width sizes.height) path → cells ≡ path → (1 ≤ length cells) × (length cells ≤ 10000000) × IsTight cells
+as_path : (path cells : List ℕ) (sizes : Sizes) → IsPathInRange (grid_for sizes) path → cells ≡ path → (1 ≤ length cells) × (length cells ≤ 10000000) × IsTight cells
 as_path path cells sizes is same =
     let P : List ℕ → Type 0 = λ l. (1 ≤ length l) × (length l ≤ 10000000) × IsTight l in
     subst P (sym same) (is.some, is.short, is.tight)
 
 -- numbers and pairs that go together are a path's line
 concluded : (sizes : Sizes) (due : ℕ) (line rest cells path : List ℕ) (agent cost : Option ℕ) (are : Bool) → read_path_front line ≡ Ok (agent, cost, rest) → IsPathOf sizes.agents agent cost due are (length cells)
-    → (are ≡ true → All (IsOnGrid (grid_of sizes.width sizes.height)) cells × (rest ≡ cells_text sizes.width cells)) → IsTight cells → path ≡ cells
-    → IsPathInRange (grid_of sizes.width sizes.height) path × (line ≡ path_words sizes.width due path)
+    → (are ≡ true → All (IsOnGrid (grid_for sizes)) cells × (rest ≡ cells_text sizes.width cells)) → IsTight cells → path ≡ cells
+    → IsPathInRange (grid_for sizes) path × (line ≡ path_words sizes.width due path)
 concluded sizes due line rest cells path agent cost are read of pairs tight same =
     let (inside, text) = pairs of.cells in
     let front = path_front_takes line due (ticks_of cells) rest (read ∙ ap (λ a. Ok (a, cost, rest)) of.agent_is ∙ ap (λ k. Ok (Some due, k, rest)) of.cost_is) in
     let all : line ≡ path_words sizes.width due cells = front ∙ ap (λ r. codes "path" ++ (field 32 due ++ (field 32 (ticks_of cells) ++ r))) text in
-    let P : List ℕ → Type 0 = λ p. IsPathInRange (grid_of sizes.width sizes.height) p × (line ≡ path_words sizes.width due p) in
+    let P : List ℕ → Type 0 = λ p. IsPathInRange (grid_for sizes) p × (line ≡ path_words sizes.width due p) in
     subst P (sym same) (record { some = of.some; short = of.few; on_grid = inside; tight = tight }, all)
 
 pub returns-in-Some-clause-found : goal.returns-in-Some-clause-found

@@ -3,11 +3,11 @@ use Rattle.std.proofs.lemmas.Result.{err_from_is_err_and}
 use Rattle.mapf_certificate.specs.declared.plan_text.PlanTextFault.{PlanTextFault}
 use Rattle.mapf_certificate.specs.declared.plan_text.PlanTextFault.TheVariants.{Memory}
 use Rattle.mapf_certificate.specs.declared.sizes.Sizes.{Sizes}
-use Rattle.mapf_certificate.specs.Lines.{grid_of}
+use Rattle.mapf_certificate.specs.Lines.{grid_for}
 use Rattle.mapf_certificate.specs.Plans.{path_words, ArePaths, PathsGoOn}
 use Rattle.mapf_certificate.specs.PlanReading.{next_line}
-use Rattle.mapf_certificate.proofs.Fields.{same_ok, ok_pair_parts}
-use Rattle.mapf_certificate.proofs.PathLaws.{same_err, passed_on, pushed}
+use Rattle.mapf_certificate.proofs.Fields.{same_ok, ok_pair_parts, same_err}
+use Rattle.mapf_certificate.proofs.PathLaws.{passed_on, pushed}
 use Rattle.mapf_certificate.proofs.PathsLaws.{GoesOnWith, paths_go_on_step, are_paths_step}
 use Rattle.mapf_certificate.proofs.plan_reader.paths_of.Goals as goal
 
@@ -47,7 +47,7 @@ loop-due-preserved c =
     let (is, words) = c.in_ok-path.ensures.found in
     let stepped = are_paths_step sizes due c.loop-due.sum (4 + due) c.args.bytes.now c.loop-due.rest.now c.in_ok-line.line.now c.in_ok-line.after.now c.in_ok-path.path c.loop-due.paths.items c.push.new.self.items c.loop-due.invariant.found c.in_ok-line.ensures is words grown in
     record {
-      found = subst (λ (n : ℕ). ArePaths (grid_of sizes.width sizes.height) (due + 1) c.args.bytes.now c.push.new.self.items (c.loop-due.sum + (n - 1)) c.in_ok-line.after.now) (ap length (sym c.cells.ensures.value)) stepped;
+      found = subst (λ (n : ℕ). ArePaths (grid_for sizes) (due + 1) c.args.bytes.now c.push.new.self.items (c.loop-due.sum + (n - 1)) c.in_ok-line.after.now) (ap length (sym c.cells.ensures.value)) stepped;
       only = λ plan rest whole all e.
           let on = c.loop-due.invariant.only plan rest whole all e in
           let step = paths_go_on_step sizes due plan c.loop-due.paths.items rest c.loop-due.rest.now whole c.loop-due.invariant.found.count c.loop-due-test.true all on in

@@ -1,7 +1,7 @@
 use Rattle.std.proofs.Common.{◌≡◌, ◌++◌, ◌+◌, ℕ, List, Ok, Err, All, codes, length, ap, sym, subst, ◌∙◌, inl, inr}
 use Rattle.mapf_model.specs.Printed.{IsPathInRange}
 use Rattle.mapf_certificate.specs.declared.sizes.Sizes.{Sizes}
-use Rattle.mapf_certificate.specs.Lines.{grid_of}
+use Rattle.mapf_certificate.specs.Lines.{grid_for}
 use Rattle.mapf_certificate.specs.Plans.{paths_text, cost_of, ArePaths}
 use Rattle.mapf_certificate.specs.PlanReading.{read_end}
 use Rattle.mapf_certificate.proofs.PlanParts.{end_takes, end_again}
@@ -17,10 +17,10 @@ returns-in_err-end-clause-only c plan whole all cost e = elim (c.in_ok-paths.ens
   | inr memory ↦ cc
 ]
 
-concluded : (sizes : Sizes) (bytes rest : List ℕ) (paths plan : List (List ℕ)) (sum cost n : ℕ) (u : Unit {0}) → ArePaths (grid_of sizes.width sizes.height) sizes.agents bytes paths sum rest → read_end n rest ≡ Ok u → plan ≡ paths → sum ≡ cost
-    → (length plan ≡ sizes.agents) × All (IsPathInRange (grid_of sizes.width sizes.height)) plan × (cost ≡ cost_of plan) × (bytes ≡ paths_text sizes.width 0 plan ++ codes "end\n")
+concluded : (sizes : Sizes) (bytes rest : List ℕ) (paths plan : List (List ℕ)) (sum cost n : ℕ) (u : Unit {0}) → ArePaths (grid_for sizes) sizes.agents bytes paths sum rest → read_end n rest ≡ Ok u → plan ≡ paths → sum ≡ cost
+    → (length plan ≡ sizes.agents) × All (IsPathInRange (grid_for sizes)) plan × (cost ≡ cost_of plan) × (bytes ≡ paths_text sizes.width 0 plan ++ codes "end\n")
 concluded sizes bytes rest paths plan sum cost n u are ended same total =
-    let P : List (List ℕ) → Type 0 = λ l. (length l ≡ sizes.agents) × All (IsPathInRange (grid_of sizes.width sizes.height)) l × (cost ≡ cost_of l) × (bytes ≡ paths_text sizes.width 0 l ++ codes "end\n") in
+    let P : List (List ℕ) → Type 0 = λ l. (length l ≡ sizes.agents) × All (IsPathInRange (grid_for sizes)) l × (cost ≡ cost_of l) × (bytes ≡ paths_text sizes.width 0 l ++ codes "end\n") in
     subst P (sym same) (are.count, are.in_range, sym total ∙ are.costs, are.spelled ∙ ap (λ r. paths_text sizes.width 0 paths ++ r) (end_takes n rest u ended))
 
 pub returns-in-Some-clause-found : goal.returns-in-Some-clause-found

@@ -7,11 +7,11 @@ use Rattle.mapf_certificate.specs.declared.plan_text.PlanTextFault.TheVariants.{
 use Rattle.mapf_certificate.specs.declared.plan_text.PlanAnswer.{PlanAnswer}
 use Rattle.mapf_certificate.specs.declared.plan_lines.AnswerLine.{AnswerLine}
 use Rattle.mapf_certificate.specs.declared.sizes.Sizes.{Sizes}
-use Rattle.mapf_certificate.specs.Lines.{grid_of}
+use Rattle.mapf_certificate.specs.Lines.{grid_for}
 use Rattle.mapf_certificate.specs.Plans.{plan_text, IsPlanText, IsAnswerInRange}
 use Rattle.mapf_certificate.specs.PlanReading.{read_header, line_of, rest_of}
-use Rattle.mapf_certificate.proofs.PathLaws.{same_err, passed_on, ok_triple_parts}
-use Rattle.mapf_certificate.proofs.Fields.{same_ok}
+use Rattle.mapf_certificate.proofs.PathLaws.{passed_on, ok_triple_parts}
+use Rattle.mapf_certificate.proofs.Fields.{same_ok, same_err}
 use Rattle.mapf_certificate.proofs.PlanTexts.{headed, header_takes, header_of, answer_moved, text_is}
 use Rattle.mapf_certificate.proofs.plan_reader.read_plan.Goals as goal
 
@@ -35,8 +35,8 @@ parts : (grid : GridMap) (p : PlanText) (bs rest : List ℕ) (agents : ℕ) (lin
     → (agents ≡ p.agents) × (line ≡ line_of p.answer) × (rest ≡ rest_of grid.width p.answer)
 parts grid p bs rest agents line is e read = ok_triple_parts agents p.agents line (line_of p.answer) rest (rest_of grid.width p.answer) (sym read ∙ header_of grid p bs is e)
 
-to_sizes : (grid : GridMap) (sizes : Sizes) (agents : ℕ) (answer : PlanAnswer) → sizes.width ≡ grid.width → sizes.height ≡ grid.height → sizes.agents ≡ agents → IsAnswerInRange grid agents answer → IsAnswerInRange (grid_of sizes.width sizes.height) sizes.agents answer
-to_sizes grid sizes agents answer w h a is = answer_moved grid (grid_of sizes.width sizes.height) agents sizes.agents answer (sym w) (sym h) (sym a) is
+to_sizes : (grid : GridMap) (sizes : Sizes) (agents : ℕ) (answer : PlanAnswer) → sizes.width ≡ grid.width → sizes.height ≡ grid.height → sizes.agents ≡ agents → IsAnswerInRange grid agents answer → IsAnswerInRange (grid_for sizes) sizes.agents answer
+to_sizes grid sizes agents answer w h a is = answer_moved grid (grid_for sizes) agents sizes.agents answer (sym w) (sym h) (sym a) is
 
 pub returns-in_err-answer-clause-only : goal.returns-in_err-answer-clause-only
 returns-in_err-answer-clause-only c p is e =
@@ -50,11 +50,11 @@ returns-in_err-answer-clause-only c p is e =
     ]
 
 found : (grid : GridMap) (sizes : Sizes) (bs rest : List ℕ) (agents : ℕ) (line : AnswerLine) (answer : PlanAnswer) → read_header bs ≡ Ok (agents, line, rest) → sizes.width ≡ grid.width → sizes.height ≡ grid.height → sizes.agents ≡ agents
-    → IsAnswerInRange (grid_of sizes.width sizes.height) sizes.agents answer → line ≡ line_of answer → rest ≡ rest_of sizes.width answer → IsPlanText grid (record { agents = agents; answer = answer }) × (bs ≡ plan_text grid.width (record { agents = agents; answer = answer }))
+    → IsAnswerInRange (grid_for sizes) sizes.agents answer → line ≡ line_of answer → rest ≡ rest_of sizes.width answer → IsPlanText grid (record { agents = agents; answer = answer }) × (bs ≡ plan_text grid.width (record { agents = agents; answer = answer }))
 found grid sizes bs rest agents line answer read w h a is same text =
     let (counted, ranged, all) = header_takes bs (agents, line, rest) read in
     let p : PlanText = record { agents = agents; answer = answer } in (
-      (counted, answer_moved (grid_of sizes.width sizes.height) grid sizes.agents agents answer w h a is),
+      (counted, answer_moved (grid_for sizes) grid sizes.agents agents answer w h a is),
       all ∙ ap (λ l. headed agents l rest) same ∙ ap (headed agents (line_of answer)) (text ∙ ap (λ k. rest_of k answer) w) ∙ sym (text_is grid.width p),
     )
 

@@ -5,7 +5,7 @@ use Rattle.mapf_certificate.specs.Certificates.{header_text}
 use Rattle.mapf_certificate.specs.Window.{ComesWithin}
 use Rattle.mapf_certificate.proofs.Windows.{ComesWithin-after}
 use Rattle.mapf_checker.specs.CertJudging.{IsOpened}
-use Rattle.mapf_checker.specs.Faults.{IsNoRefusal, Stops}
+use Rattle.mapf_checker.specs.Faults.{IsNoRefusal, IsOfChecking}
 use Rattle.mapf_checker.specs.Refusals.{HasCertRefusal}
 use Rattle.mapf_checker.proofs.CertLemmas.{awaits_spelled, cert_within, good_cert, header_refusal, nodes_show, refusal_of_tree, shown_tree, stops_after, stops_as}
 use Rattle.mapf_checker.proofs.ReadLemmas.{err_passed, err_made}
@@ -30,7 +30,7 @@ returns-in_err-judge_header-clause-stops g c =
     let none : Buffered = record { bytes = []; left = c.args.limit } in
     let same : start.buffer ≡ none = rw c.in_ok-lines.ensures refl in
     let fault = c.in_err-judge_header.field-0.0 in
-    err_passed c.from_residual-in_err-judge_header.result (Stops had mid failed none (HasCertRefusal problem claim had)) fault c.from_residual-in_err-judge_header.ensures.1
+    err_passed c.from_residual-in_err-judge_header.result (IsOfChecking had mid failed none (HasCertRefusal problem claim had)) fault c.from_residual-in_err-judge_header.ensures.1
     (stops_as had mid failed start.buffer none fault same (header_refusal problem claim had start opened) c.in_err-judge_header.ensures.stops)
 
 pub returns-clause-good : goal.returns-clause-good

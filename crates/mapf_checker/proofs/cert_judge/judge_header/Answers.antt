@@ -4,7 +4,7 @@ use Rattle.mapf_certificate.specs.CertReading.{HasHeader}
 use Rattle.mapf_certificate.specs.Certificates.{header_text}
 use Rattle.mapf_certificate.proofs.Windows.{Window-within}
 use Rattle.mapf_checker.specs.CertJudging.{HasHeaderRefusal}
-use Rattle.mapf_checker.specs.Faults.{of_cert, IsNoRefusal, Stops}
+use Rattle.mapf_checker.specs.Faults.{of_cert, IsNoRefusal, IsOfChecking}
 use Rattle.mapf_checker.proofs.CertLemmas.{begins, stops_heading}
 use Rattle.mapf_checker.proofs.ReadLemmas.{err_passed, no_refusal}
 use Rattle.mapf_checker.proofs.cert_judge.judge_header.Goals as goal
@@ -24,7 +24,7 @@ returns-in_err-agents-clause-stops g c =
     let failed = (g.S.Source).has_failed c.header.new.source in
     let start = c.args.lines.now in
     let fault = c.in_err-agents.field-0.0 in
-    err_passed c.from_residual.result (Stops had left failed start.buffer (HasHeaderRefusal problem claim had start)) (of_cert fault) c.from_residual.ensures.1
+    err_passed c.from_residual.result (IsOfChecking had left failed start.buffer (HasHeaderRefusal problem claim had start)) (of_cert fault) c.from_residual.ensures.1
     (stops_heading problem claim had left failed start (HasHeader start.width) fault (c.in_err-agents.ensures.fails c.requires.opened.fault)
     (λ agents claimed nodes awaits. c.in_err-agents.ensures.only agents claimed nodes c.requires.opened.fault c.requires.opened.header awaits))
 

@@ -1,6 +1,6 @@
 use Rattle.std.proofs.Common.{length, sym, ◌∙◌, ap}
 use Rattle.mapf_checker.specs.CertJudging.{HasTreeRefusal}
-use Rattle.mapf_checker.specs.Faults.{IsNoRefusal, Stops}
+use Rattle.mapf_checker.specs.Faults.{IsNoRefusal, IsOfChecking}
 use Rattle.mapf_checker.specs.Progress.{owed_by}
 use Rattle.mapf_checker.proofs.ReadLemmas.{read_none, err_passed}
 use Rattle.mapf_checker.proofs.cert_judge.judge_tree.Goals as goal
@@ -23,18 +23,18 @@ loop-progress-init g c = record {
 pub returns-in_err-judge_next-clause-only : goal.returns-in_err-judge_next-clause-only
 returns-in_err-judge_next-clause-only g c nodes awaits shows =
     err_passed c.from_residual.result IsNoRefusal c.in_err-judge_next.field-0.0 c.from_residual.ensures.1
-    (c.in_err-judge_next.ensures.only ((g.S.Source).remaining c.args.source.now) c.args.lines.now nodes c.loop-progress.invariant.read awaits shows)
+    ((c.in_err-judge_next.ensures.judged ((g.S.Source).remaining c.args.source.now) c.args.lines.now c.loop-progress.invariant.read).only nodes awaits shows)
 
 pub returns-in_err-judge_next-clause-stops : goal.returns-in_err-judge_next-clause-stops
 returns-in_err-judge_next-clause-stops g c =
     let had = (g.S.Source).remaining c.args.source.now in
     let start = c.args.lines.now in
-    err_passed c.from_residual.result (Stops had ((g.S.Source).remaining c.judge_next.new.source) ((g.S.Source).has_failed c.judge_next.new.source) start.buffer (HasTreeRefusal c.args.problem.now c.args.claim.now had start))
-    c.in_err-judge_next.field-0.0 c.from_residual.ensures.1 (c.in_err-judge_next.ensures.stops had start c.loop-progress.invariant.read)
+    err_passed c.from_residual.result (IsOfChecking had ((g.S.Source).remaining c.judge_next.new.source) ((g.S.Source).has_failed c.judge_next.new.source) start.buffer (HasTreeRefusal c.args.problem.now c.args.claim.now had start))
+    c.in_err-judge_next.field-0.0 c.from_residual.ensures.1 (c.in_err-judge_next.ensures.judged had start c.loop-progress.invariant.read).stops
 
 pub loop-progress-preserved : goal.loop-progress-preserved
 loop-progress-preserved g c = record {
   works = c.in_ok-judge_next.ensures.works;
   between = c.in_ok-judge_next.ensures.between c.if-branch.true;
-  read = rw c.if-branch.true at (c.in_ok-judge_next.ensures.read ((g.S.Source).remaining c.args.source.now) c.args.lines.now c.loop-progress.invariant.read);
+  read = rw c.if-branch.true at (c.in_ok-judge_next.ensures.judged ((g.S.Source).remaining c.args.source.now) c.args.lines.now c.loop-progress.invariant.read).read;
 }

@@ -1,9 +1,7 @@
 use Rattle.std.proofs.Common.{◌≡◌, ◌<◌, slice_index_or, refl, sym, subst, ⊎_elim, arith}
 use Rattle.std.proofs.lemmas.Bool.{cases_lt, iff_false}
 use Rattle.std.proofs.lemmas.Option.{slice_get_read, get_or_from_slice_get}
-use Rattle.mapf_model.specs.declared.label.Entry.{Entry}
-use Rattle.mapf_model.specs.Labels.{entries_of, IsSoundEntry}
-use Rattle.mapf_checker.specs.AgentProblem.{bars_on}
+use Rattle.mapf_checker.specs.AgentProblem.{IsSoundAmong, bars_on}
 use Rattle.mapf_checker.proofs.EntryLemmas.{AreSound-each}
 use Rattle.mapf_checker.proofs.leaf.first_unsound.Goals as goal
 
@@ -22,8 +20,8 @@ loop-k-preserved c =
     λ k d within. ⊎_elim
     (λ (less : k < c.loop-k.k). c.loop-k.invariant k d less)
     (λ past. let same : k ≡ c.loop-k.k = omega arith in
-    subst (λ j. IsSoundEntry own.grid.now own.goal (bars_on own) (entries_of entries) (slice_index_or entries j d).cell (slice_index_or entries j d).tick (slice_index_or entries j d).label) (sym same)
-    (subst (λ (e : Entry). IsSoundEntry own.grid.now own.goal (bars_on own) (entries_of entries) e.cell e.tick e.label) (sym (get_or_from_slice_get entries c.loop-k.k c.index-entries-k.result d read)) (c.is_sound.ensures.0 c.if-not-is_sound.false)))
+    subst (λ j. IsSoundAmong own entries (slice_index_or entries j d)) (sym same)
+    (subst (IsSoundAmong own entries) (sym (get_or_from_slice_get entries c.loop-k.k c.index-entries-k.result d read)) (c.is_sound.ensures.0 c.if-not-is_sound.false)))
     (cases_lt k c.loop-k.k)
 
 pub returns-clause-none : goal.returns-clause-none

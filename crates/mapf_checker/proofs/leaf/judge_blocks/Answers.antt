@@ -3,7 +3,7 @@ use Rattle.std.proofs.lemmas.Bool.{cases_lt}
 use Rattle.std.proofs.lemmas.Option.{slice_get_read, get_or_from_slice_get}
 use Rattle.mapf_model.specs.Printed.{IsBlockInRange}
 use Rattle.mapf_checker.specs.Leaf.{IsGoodBlock}
-use Rattle.mapf_checker.specs.Way.{place_of}
+use Rattle.mapf_checker.specs.Branch.{place_of}
 use Rattle.mapf_checker.proofs.leaf.judge_blocks.Goals as goal
 
 on_err : {E X : Type 0} (r : Result X E) (P : Type 0) → P → OnErr r P
@@ -24,7 +24,7 @@ returns-in_err-judge_block-clause-err c = on_err c.from_residual.result _ (recor
 pub loop-block-preserved : goal.loop-block-preserved
 loop-block-preserved c =
     let blocks = c.args.blocks.now in
-    let here = (place_of c.args.way.now).here in
+    let here = (place_of c.args.branch.now).here in
     let read = slice_get_read blocks _ c.loop-block.block-index c.block-item.result refl c.loop-block-test.true c.block-item.is in
     λ k d within. ⊎_elim
     (λ (less : k < c.loop-block.block-index). c.loop-block.invariant k d less)

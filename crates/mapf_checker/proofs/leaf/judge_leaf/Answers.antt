@@ -1,6 +1,6 @@
 use Rattle.std.proofs.Common.{refl, inl, inr}
 use Rattle.std.proofs.lemmas.Bool.{iff_false}
-use Rattle.mapf_checker.specs.Way.{place_of}
+use Rattle.mapf_checker.specs.Branch.{place_of}
 use Rattle.mapf_checker.proofs.StartLemmas.{starts_decide}
 use Rattle.mapf_checker.proofs.BlockLemmas.{leaf_shows}
 use Rattle.mapf_checker.proofs.leaf.judge_leaf.Goals as goal
@@ -12,7 +12,7 @@ pub returns-then-is_enough-clause-ok : goal.returns-then-is_enough-clause-ok
 returns-then-is_enough-clause-ok c =
     let law = c.definitions_are_decided.ensures in
     let decide = starts_decide law.starts law.impossible c.args.problem.now c.args.claim.now c.args.blocks.now c.start_total-total.result c.start_total-total.ensures in
-    leaf_shows c.args.problem.now c.args.claim.now (place_of c.args.way.now).here c.args.blocks.now c.requires.blocks.rising c.in_default.ensures.ok (decide.1 (c.is_enough.ensures.0 c.if-is_enough.true))
+    leaf_shows c.args.problem.now c.args.claim.now (place_of c.args.branch.now).here c.args.blocks.now c.requires.blocks.rising c.in_default.ensures.ok (decide.1 (c.is_enough.ensures.0 c.if-is_enough.true))
 
 pub returns-else-is_enough-clause-err : goal.returns-else-is_enough-clause-err
 returns-else-is_enough-clause-err c =

@@ -1,10 +1,10 @@
 use Rattle.std.proofs.Common.{◌≡◌, false, true, ℕ, ◌<◌}
-use Rattle.mapf_conflicts.specs.Pairs.{ShareCell, ExchangeCells, Meet}
+use Rattle.mapf_conflicts.specs.Pairs.{ShareCell, ExchangeCells, ShareOrExchangeCells}
 use Rattle.mapf_conflicts.proofs.pairs.may_conflict_after.Given as goal
 
 abbrev pub invariant-loop-j : goal.invariant-loop-j
 invariant-loop-j l = record {
   share : l.found ≡ false → (k : ℕ) → l.fn.i < k → k < l.j → ShareCell l.here l.fn.i k → ⊥;
-  some : l.found ≡ true → (k : ℕ) × (l.fn.i < k) × (k < l.j) × Meet l.here l.next l.fn.i k;
+  some : l.found ≡ true → (k : ℕ) × (l.fn.i < k) × (k < l.j) × ShareOrExchangeCells l.here l.next l.fn.i k;
   exchange : l.found ≡ false → (k : ℕ) → l.fn.i < k → k < l.j → ExchangeCells l.here l.next l.fn.i k → ⊥;
 }

@@ -1,12 +1,12 @@
 use Rattle.std.proofs.Common.{rules}
 use Rattle.mapf_player.specs.Play.{row_line}
-use Rattle.mapf_player.proofs.Fronts.{on_err}
-use Rattle.mapf_player.proofs.Pieces.{pieces_more, pieces_front}
+use Rattle.mapf_player.proofs.Prefixes.{fails}
+use Rattle.mapf_player.proofs.Pieces.{pieces_more, pieces_prefix}
 use Rattle.mapf_player.proofs.frame.put_rows.Goals as goal
 
-pub returns-in_err-put_row-clause-front : goal.returns-in_err-put_row-clause-front
-returns-in_err-put_row-clause-front g c =
-    on_err _ _ (pieces_front (row_line c.args.grid.now c.args.paths.now c.args.tick) c.args.grid.now.height c.loop-y.y _ _ _ _ _ (rw c.height-y-end.ensures.height at c.loop-y-test.true) c.loop-y.invariant.rows c.in_err-put_row.ensures.front)
+pub returns-in_err-put_row-clause-text : goal.returns-in_err-put_row-clause-text
+returns-in_err-put_row-clause-text g c =
+    fails _ _ _ _ _ _ _ c.from_residual.ensures.1 (pieces_prefix (row_line c.args.grid.now c.args.paths.now c.args.tick) c.args.grid.now.height c.loop-y.y _ _ _ _ _ (rw c.height-y-end.ensures.height at c.loop-y-test.true) c.loop-y.invariant.rows c.in_err-put_row.ensures.text)
 
 pub loop-y-preserved : goal.loop-y-preserved
 loop-y-preserved g c = record {

@@ -1,6 +1,6 @@
 use Rattle.std.proofs.Common.{refl}
 use Rattle.mapf_player.specs.Play.{play_text, IsPlayText}
-use Rattle.mapf_player.proofs.Fronts.{to_some, to_take}
+use Rattle.mapf_player.proofs.Prefixes.{to_some, to_take}
 use Rattle.mapf_player.proofs.player.play.Goals as goal
 
 pub returns-clause-text : goal.returns-clause-text
@@ -10,5 +10,5 @@ returns-clause-text g c =
 
 pub returns-clause-front : goal.returns-clause-front
 returns-clause-front g c =
-    let front = rw (c.grid.ensures, c.paths.ensures.value) at c.write_text.ensures.front in
+    let front = rw (c.grid.ensures, c.paths.ensures.value) at c.write_text.ensures.text in
     to_take _ _ _ (play_text c.args.problem.now.grid c.args.plan.now c.makespan_of-makespan.result) (IsPlayText c.args.problem.now c.args.plan.now) (c.makespan_of-makespan.result, c.makespan_of-makespan.ensures, refl) front

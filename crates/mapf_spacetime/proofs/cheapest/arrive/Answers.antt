@@ -1,20 +1,20 @@
 use Rattle.std.proofs.Common.{◌≡◌, sym, subst, Contains, Some}
 use Rattle.mapf_spacetime.specs.Task.{start_of, IsWithin}
 use Rattle.mapf_spacetime.specs.States.{low_states}
-use Rattle.mapf_spacetime.specs.Way.{CanArrive, IsWholeWay}
+use Rattle.mapf_spacetime.specs.PathSearch.{CanArrive, IsWholeWalk}
 use Rattle.mapf_spacetime.specs.Listed.{AreEntriesOf}
 use Rattle.mapf_spacetime.specs.Answer.{IsArrival}
-use Rattle.mapf_spacetime.proofs.WayLemmas.{start_leads, start_within, way_first}
+use Rattle.mapf_spacetime.proofs.WayLemmas.{start_leads, start_within, walk_first}
 use Rattle.mapf_spacetime.proofs.PathLemmas.{walk_lawful, walk_satisfies, walk_cost, walk_tight}
 use Rattle.mapf_spacetime.proofs.LabelLemmas.{sound_arrives, start_arrives}
 use Rattle.mapf_spacetime.proofs.AnswerLemmas.{ranges_some, low_ticks}
 use Rattle.mapf_spacetime.proofs.cheapest.arrive.Goals as goal
 
-pub least_way-requires-clause-arrives : goal.least_way-requires-clause-arrives
-least_way-requires-clause-arrives g c = subst (λ n. CanArrive c.args.ground.now n (start_of c.args.ground.now)) (sym c.cost-cost.ensures) (start_leads c.args.ground.now c.args.frontier.now c.requires.arrived)
+pub least_walk-requires-clause-arrives : goal.least_walk-requires-clause-arrives
+least_walk-requires-clause-arrives g c = subst (λ n. CanArrive c.args.ground.now n (start_of c.args.ground.now)) (sym c.cost-cost.ensures) (start_leads c.args.ground.now c.args.frontier.now c.requires.arrived)
 
-pub least_way-requires-clause-within : goal.least_way-requires-clause-within
-least_way-requires-clause-within g c = subst (λ n. IsWithin c.args.ground.now n (start_of c.args.ground.now)) (sym c.cost-cost.ensures) (start_within c.args.ground.now c.args.frontier.now c.requires.arrived)
+pub least_walk-requires-clause-within : goal.least_walk-requires-clause-within
+least_walk-requires-clause-within g c = subst (λ n. IsWithin c.args.ground.now n (start_of c.args.ground.now)) (sym c.cost-cost.ensures) (start_within c.args.ground.now c.args.frontier.now c.requires.arrived)
 
 pub entries_of-requires : goal.entries_of-requires
 entries_of-requires g c s least held e =
@@ -27,19 +27,18 @@ returns g c =
     let h = c.requires.arrived in
     let cells = c.in_ok-cells.cells.items in
     let listed = c.in_ok-entries.entries.items in
-    let way = subst (λ n. IsWholeWay task n cells) c.cost-cost.ensures c.in_ok-cells.ensures in
-    let low = rw c.low.ensures at c.in_ok-entries.ensures.entries in
+    let way = subst (λ n. IsWholeWalk task n cells) c.cost-cost.ensures c.in_ok-cells.ensures in
+    let low = rw c.low.ensures at c.in_ok-entries.ensures in
     let a = subst (λ n. AreEntriesOf (low_states states) (Some n) listed) c.cost-cost.ensures low in
-    let proper = c.horizon-horizon.ensures.bars in
     let path_is = rw c.unwrap.ensures at c.of.ensures.value in
     subst (λ path. IsArrival task path c.of-2.result) (sym path_is) (subst (IsArrival task cells) (sym c.of-2.ensures) (record {
       cost = states.cost;
-      lawful = walk_lawful task states cells h way c.requires.start proper c.definitions_are_decided.ensures.path;
-      satisfies = walk_satisfies task states cells h way c.requires.start proper;
-      is_cost = walk_cost task states cells h way c.requires.start proper;
-      tight = walk_tight task states cells h way c.requires.start proper;
+      lawful = walk_lawful task states cells h way c.requires.start c.definitions_are_decided.ensures.path;
+      satisfies = walk_satisfies task states cells h way c.requires.start;
+      is_cost = walk_cost task states cells h way c.requires.start;
+      tight = walk_tight task states cells h way c.requires.start;
       limit = c.requires.limit;
-      first = way_first task states.cost cells way (walk_cost task states cells h way c.requires.start proper);
-      labels = record { sound = sound_arrives task states h listed a; rising = c.in_ok-entries.ensures.rising; ranges = ranges_some task c.requires.shape (low_states states) listed states.cost c.requires.small h.frontier.low a };
+      first = walk_first task states.cost cells way (walk_cost task states cells h way c.requires.start);
+      labels = record { sound = sound_arrives task states h listed a; rising = a.rising; ranges = ranges_some task c.requires.shape (low_states states) listed states.cost c.requires.small h.frontier.low a };
       start = start_arrives task states h listed a;
     }))

@@ -7,9 +7,9 @@ pub returns : goal.returns
 returns g c =
     let task = c.args.ground.now in
     let listed = c.in_ok-entries.entries.items in
-    let a = c.in_ok-entries.ensures.entries in
+    let a = c.in_ok-entries.ensures in
     let shows = c.requires.none listed a in
     subst (IsDeath task) (sym c.of.ensures) (record {
-      labels = record { sound = shows.sound; rising = c.in_ok-entries.ensures.rising; ranges = ranges_none task c.requires.shape c.args.states.now listed c.requires.few a };
+      labels = record { sound = shows.sound; rising = a.rising; ranges = ranges_none task c.requires.shape c.args.states.now listed c.requires.few a };
       start = shows.start;
     })

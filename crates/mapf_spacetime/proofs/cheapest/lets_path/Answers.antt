@@ -4,8 +4,8 @@ use Rattle.std.proofs.lemmas.List.{get_or_default}
 use Rattle.mapf_model.specs.declared.bar.Bar.TheVariants.{Cell}
 use Rattle.mapf_model.specs.Labels.{MayGo}
 use Rattle.mapf_spacetime.specs.Task.{Goes}
-use Rattle.mapf_spacetime.specs.Way.{state_of}
-use Rattle.mapf_spacetime.proofs.PathLemmas.{path_step, at_is, way_satisfies, barred_violates, satisfied_step}
+use Rattle.mapf_spacetime.specs.PathSearch.{state_of}
+use Rattle.mapf_spacetime.proofs.PathLemmas.{path_step, at_is, goes_satisfy, barred_violates, satisfied_step}
 use Rattle.mapf_spacetime.proofs.cheapest.lets_path.Goals.{then-not-lets_start-via-then-not-lets_start, then-not-lets_start-via-else-not-lets_start+then-not-may_rest_from}
 use Rattle.mapf_spacetime.proofs.cheapest.lets_path.Goals as goal
 
@@ -30,9 +30,9 @@ pub returns-clause-yes : goal.returns-clause-yes
 returns-clause-yes g c =
     let task = c.args.ground.now in
     let cells = c.args.cells.now in
-    λ yes. way_satisfies task cells c.requires.some (sym (at_is cells 0 (omega arith)) ∙ c.requires.start) (c.if-not-lets_start.ensures.yes refl)
+    λ yes. goes_satisfy task cells c.requires.some (sym (at_is cells 0 (omega arith)) ∙ c.requires.start) (c.if-not-lets_start.ensures.yes refl)
     (λ k lt. c.loop-tick.invariant k (omega arith))
-    (sym (at_is cells (length cells - 1) (omega arith)) ∙ c.requires.goal) (c.if-not-may_rest_from.ensures.yes refl) c.horizon-horizon.ensures.bars
+    (sym (at_is cells (length cells - 1) (omega arith)) ∙ c.requires.goal) (c.if-not-may_rest_from.ensures.yes refl)
 
 pub returns-then-not-lets_start-clause-no : goal.returns-then-not-lets_start-clause-no
 returns-then-not-lets_start-clause-no g c _ satisfies =

@@ -1,6 +1,6 @@
 use Rattle.std.proofs.Common.{ℕ, ◌+◌, ◌<◌}
 use Rattle.mapf_spacetime.specs.Task.{Goes}
-use Rattle.mapf_spacetime.specs.Way.{state_of}
+use Rattle.mapf_spacetime.specs.PathSearch.{state_of}
 use Rattle.mapf_spacetime.proofs.cheapest.lets_path.Given as goal
 
 abbrev pub invariant-loop-tick : goal.invariant-loop-tick

@@ -17,8 +17,6 @@ returns-in-Ok-clause-header g c =
     let i = c.self.inside in
     let had = s.remaining c.args.source.now in
     let left = s.remaining c.read_header-read.new.source in
-    let failed = s.has_failed c.read_header-read.new.source in
-    let old : Reading = record { width = i.width; height = i.height; buffer = i.lines.buffer; header = i.header; fault = i.fault; is_whole = i.is_whole; owed = i.owed } in
     let h = c.in-Ok.header in
     let new : Reading = record { width = i.width; height = i.height; buffer = c.read_header-read.new.lines.buffer; header = Some h; fault = i.fault; is_whole = i.is_whole; owed = i.owed } in
     let P : Reading → Type 0 = λ r. r.fault ≡ None → r.header ≡ None → TakesHeader had left r new h.0 h.1 in
@@ -26,7 +24,7 @@ returns-in-Ok-clause-header g c =
       agents_in_range = c.in-Ok.ensures.agents;
       claim_in_range = c.in-Ok.ensures.claim;
       window = c.in-Ok.ensures.taken i.width;
-      joins = header_joins had left old new h.0 h.1 c.in-Ok.ensures.agents c.in-Ok.ensures.claim (c.in-Ok.ensures.taken i.width) refl refl refl;
+      joins = header_joins _ _ _ _ _ _ c.in-Ok.ensures.agents c.in-Ok.ensures.claim (c.in-Ok.ensures.taken i.width) refl refl refl;
     })
 
 pub returns-in-Ok-clause-only : goal.returns-in-Ok-clause-only
@@ -35,12 +33,10 @@ returns-in-Ok-clause-only g c =
     let i = c.self.inside in
     let had = s.remaining c.args.source.now in
     let left = s.remaining c.read_header-read.new.source in
-    let failed = s.has_failed c.read_header-read.new.source in
-    let old : Reading = record { width = i.width; height = i.height; buffer = i.lines.buffer; header = i.header; fault = i.fault; is_whole = i.is_whole; owed = i.owed } in
     let h = c.in-Ok.header in
     let new : Reading = record { width = i.width; height = i.height; buffer = c.read_header-read.new.lines.buffer; header = Some h; fault = i.fault; is_whole = i.is_whole; owed = i.owed } in
     let P : Reading → Type 0 = λ r. (agents : ℕ) (claim : Claim) (nodes : List Node) → r.fault ≡ None → r.header ≡ None → AwaitsCert had r agents claim nodes → (h.0 ≡ agents) × (h.1 ≡ claim) × Awaits left new nodes in
-    subst P c.self.view_is (λ agents claim nodes p q awaits. header_same had left old new h.0 agents h.1 claim nodes c.in-Ok.ensures.agents c.in-Ok.ensures.claim (c.in-Ok.ensures.taken i.width) refl refl refl awaits)
+    subst P c.self.view_is (λ agents claim nodes p q awaits. header_same _ _ _ _ _ _ _ _ _ c.in-Ok.ensures.agents c.in-Ok.ensures.claim (c.in-Ok.ensures.taken i.width) refl refl refl awaits)
 
 pub returns-in-Err-clause-fails : goal.returns-in-Err-clause-fails
 returns-in-Err-clause-fails g c =
@@ -49,7 +45,6 @@ returns-in-Err-clause-fails g c =
     let had = s.remaining c.args.source.now in
     let left = s.remaining c.read_header-read.new.source in
     let failed = s.has_failed c.read_header-read.new.source in
-    let old : Reading = record { width = i.width; height = i.height; buffer = i.lines.buffer; header = i.header; fault = i.fault; is_whole = i.is_whole; owed = i.owed } in
     let P : Reading → Type 0 = λ r. r.fault ≡ None → Fails had left failed r.buffer (HasHeader r.width) c.in-Err.fault in
     subst P c.self.view_is (λ p. c.in-Err.ensures.fails i.width)
 
@@ -58,26 +53,19 @@ returns-in-Err-clause-only g c =
     let s = g.S.Source in
     let i = c.self.inside in
     let had = s.remaining c.args.source.now in
-    let left = s.remaining c.read_header-read.new.source in
-    let failed = s.has_failed c.read_header-read.new.source in
-    let old : Reading = record { width = i.width; height = i.height; buffer = i.lines.buffer; header = i.header; fault = i.fault; is_whole = i.is_whole; owed = i.owed } in
     let P : Reading → Type 0 = λ r. (agents : ℕ) (claim : Claim) (nodes : List Node) → r.fault ≡ None → r.header ≡ None → AwaitsCert had r agents claim nodes → IsNoTextFault c.in-Err.fault in
-    subst P c.self.view_is (λ agents claim nodes p q awaits. header_awaited had left failed old agents claim nodes c.in-Err.fault awaits (c.in-Err.ensures.fails i.width))
+    subst P c.self.view_is (λ agents claim nodes p q awaits. header_awaited _ _ _ _ _ _ _ _ awaits (c.in-Err.ensures.fails i.width))
 
 pub invariant_of-self-in-Err : goal.invariant_of-self-in-Err
 invariant_of-self-in-Err g c =
-    let s = g.S.Source in
     let i = c.self.inside in
-    let had = s.remaining c.args.source.now in
-    let left = s.remaining c.read_header-read.new.source in
-    let failed = s.has_failed c.read_header-read.new.source in
     let is = c.self.invariant in
     record {
       columns = is.columns;
       rows = is.rows;
       agents = is.agents;
       bounded = omega (arith, is.bounded, c.read_header-read.ensures.spare);
-      faults = no_inner_memory had left failed i.lines.buffer (HasHeader i.width) c.in-Err.fault (c.in-Err.ensures.fails i.width);
+      faults = no_inner_memory _ _ _ _ _ _ (c.in-Err.ensures.fails i.width);
     }
 
 pub returns-in-Ok-clause-pulls : goal.returns-in-Ok-clause-pulls
@@ -88,16 +76,12 @@ returns-in-Ok-clause-pulls g c =
     let left = s.remaining c.read_header-read.new.source in
     let h = c.in-Ok.header in
     let P : Reading → Type 0 = λ r. r.fault ≡ None → Pulls had left r.buffer.left (IsErrOf {T = ℕ × Claim} (Ok h) TooLong) in
-    subst P c.self.view_is (λ p. pulls_in_window had left i.lines.buffer c.read_header-read.new.lines.buffer (header_text i.width h.0 h.1) h (c.in-Ok.ensures.taken i.width))
+    subst P c.self.view_is (λ p. pulls_in_window _ _ _ _ _ _ (c.in-Ok.ensures.taken i.width))
 
 pub returns-in-Err-clause-device : goal.returns-in-Err-clause-device
 returns-in-Err-clause-device g c = λ p.
-    let s = g.S.Source in
     let i = c.self.inside in
-    let had = s.remaining c.args.source.now in
-    let left = s.remaining c.read_header-read.new.source in
-    let failed = s.has_failed c.read_header-read.new.source in
-    device_if_fails {A = ℕ × Claim} had left failed i.lines.buffer (HasHeader i.width) c.in-Err.fault (c.in-Err.ensures.fails i.width)
+    device_if_fails {A = ℕ × Claim} _ _ _ _ _ _ (c.in-Err.ensures.fails i.width)
 
 pub returns-in-Err-clause-pulls : goal.returns-in-Err-clause-pulls
 returns-in-Err-clause-pulls g c =
@@ -105,18 +89,13 @@ returns-in-Err-clause-pulls g c =
     let i = c.self.inside in
     let had = s.remaining c.args.source.now in
     let left = s.remaining c.read_header-read.new.source in
-    let failed = s.has_failed c.read_header-read.new.source in
     let P : Reading → Type 0 = λ r. r.fault ≡ None → Pulls had left r.buffer.left (IsErrOf {T = ℕ × Claim} (Err c.in-Err.fault) TooLong) in
-    subst P c.self.view_is (λ p. pulls_if_fails {A = ℕ × Claim} had left failed i.lines.buffer (HasHeader i.width) c.in-Err.fault (c.in-Err.ensures.fails i.width))
+    subst P c.self.view_is (λ p. pulls_if_fails {A = ℕ × Claim} _ _ _ _ _ _ (c.in-Err.ensures.fails i.width))
 
 pub returns-in-Err-clause-inner : goal.returns-in-Err-clause-inner
 returns-in-Err-clause-inner g c =
-    let s = g.S.Source in
     let i = c.self.inside in
-    let had = s.remaining c.args.source.now in
-    let left = s.remaining c.read_header-read.new.source in
-    let failed = s.has_failed c.read_header-read.new.source in
-    no_inner_memory had left failed i.lines.buffer (HasHeader i.width) c.in-Err.fault (c.in-Err.ensures.fails i.width)
+    no_inner_memory _ _ _ _ _ _ (c.in-Err.ensures.fails i.width)
 
 pub returns-in-Ok-clause-there : goal.returns-in-Ok-clause-there
 returns-in-Ok-clause-there g c =

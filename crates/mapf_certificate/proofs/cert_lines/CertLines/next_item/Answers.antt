@@ -1,4 +1,4 @@
-use Rattle.std.proofs.Common.{◌≡◌, ◌∷◌, [], Option, IfSome, true, subst, sym, refl}
+use Rattle.std.proofs.Common.{◌≡◌, Option, IfSome, true, subst, sym, refl}
 use Rattle.mapf_model.specs.declared.item.Item.{Item}
 use Rattle.mapf_model.specs.Tree.{node_of}
 use Rattle.mapf_certificate.specs.Reading.{Reading}
@@ -13,7 +13,7 @@ returns-in-Ok-Some-clause-only_end g c = λ p q awaits.
     let old = c.args.self.now in
     let P : Option Item → Type 0 = λ o. IfSome o (λ item. TakesNode had (s.remaining c.read_item.new.source) old c.read_item.new.self (node_of item)) in
     let takes = subst P c.in-Ok-Some.field-0-is c.in-Ok-Some.ensures.item in
-    absurd (no_end had old awaits takes.read.was_owed)
+    absurd (no_end _ _ awaits takes.read.was_owed)
 
 pub returns-in-Ok-None-clause-end : goal.returns-in-Ok-None-clause-end
 returns-in-Ok-None-clause-end g c = λ p q none.
@@ -26,21 +26,19 @@ returns-in-Ok-None-clause-end g c = λ p q none.
     let new : Reading = record mid { is_whole = true } in
     let reads : ReadsEnd had left old mid = subst (ReadsEnd had left old) (sym c.self-2.view_is) (c.in-Ok-None.ensures.end c.in-Ok-None.field-0-is) in
     let read : ReadsEnd had left old new = record { none_owed = reads.none_owed; window = reads.window; ended = reads.ended; empty = reads.empty; owed = reads.owed } in
-    record { read = read; whole = refl; joins = end_joins had left old new read }
+    record { read = read; whole = refl; joins = end_joins _ _ _ _ read }
 
 pub returns-in-Ok-None-clause-only_item : goal.returns-in-Ok-None-clause-only_item
 returns-in-Ok-None-clause-only_item g c = λ node nodes p q awaits.
-    no_node (g.S.Source.remaining c.args.source.now) c.args.self.now node nodes awaits (c.in-Ok-None.ensures.end c.in-Ok-None.field-0-is).none_owed
+    no_node _ _ _ _ awaits (c.in-Ok-None.ensures.end c.in-Ok-None.field-0-is).none_owed
 
 pub returns-in-Err-clause-only_item : goal.returns-in-Err-clause-only_item
 returns-in-Err-clause-only_item g c = λ node nodes p q awaits.
-    let s = g.S.Source in
-    awaited (s.remaining c.args.source.now) (s.remaining c.read_item.new.source) (s.has_failed c.read_item.new.source) c.args.self.now (node ∷ nodes) c.in-Err.fault awaits c.in-Err.ensures.fails
+    awaited _ _ _ _ _ _ awaits c.in-Err.ensures.fails
 
 pub returns-in-Err-clause-only_end : goal.returns-in-Err-clause-only_end
 returns-in-Err-clause-only_end g c = λ p q awaits.
-    let s = g.S.Source in
-    awaited (s.remaining c.args.source.now) (s.remaining c.read_item.new.source) (s.has_failed c.read_item.new.source) c.args.self.now [] c.in-Err.fault awaits c.in-Err.ensures.fails
+    awaited _ _ _ _ _ _ awaits c.in-Err.ensures.fails
 
 pub returns-in-Ok-Some-clause-only_item : goal.returns-in-Ok-Some-clause-only_item
 returns-in-Ok-Some-clause-only_item g c = λ node nodes p q awaits.

@@ -1,57 +1,41 @@
-use Rattle.std.proofs.Common.{◌≡◌, ◌≤◌, IfErr, List, ◌∷◌, ap, subst, refl, arith}
+use Rattle.std.proofs.Common.{◌≡◌, ◌≤◌, List, ◌∷◌, ap, subst, refl, arith}
 use Rattle.std.proofs.lemmas.Result.{err_from_is_err_and}
 use Rattle.mapf_model.specs.Tree.{Node, node_of}
 use Rattle.mapf_certificate.specs.Reading.{Reading, agents_in}
-use Rattle.mapf_certificate.specs.CertReading.{IsRestAt, Awaits, ReadsNode, TakesNode}
+use Rattle.mapf_certificate.specs.CertReading.{Awaits, ReadsNode, TakesNode}
 use Rattle.mapf_certificate.specs.Untouched.{TakesThere}
 use Rattle.mapf_certificate.specs.Certificates.{line_text, node_text}
-use Rattle.mapf_certificate.specs.Window.{Fails}
 use Rattle.mapf_certificate.proofs.TakenThere.{there-trans}
 use Rattle.mapf_certificate.proofs.Windows.{err_passed}
-use Rattle.mapf_certificate.proofs.Readings.{Bounds, Continues, sizes_at, fails_first, fails_in_item, fails_in_end, reads_node, node_joins, node_same}
+use Rattle.mapf_certificate.proofs.Readings.{Bounds, Continues, sizes_at, fails_at, fails_first, fails_in_item, fails_in_end, reads_node, node_joins, node_same}
 use Rattle.mapf_certificate.proofs.cert_lines.CertLines.read_item.Goals as goal
 
 pub returns-in_err-line-clause-fails : goal.returns-in_err-line-clause-fails
 returns-in_err-line-clause-fails g c =
-    let s = g.S.Source in
     let i = c.self.inside in
-    let had = s.remaining c.args.source.now in
     let sizes = sizes_at i.width i.height i.header c.unwrap-agents.result c.self.invariant.columns c.self.invariant.rows c.self.invariant.agents c.unwrap-agents.ensures in
     let old : Reading = record { width = i.width; height = i.height; buffer = i.lines.buffer; header = i.header; fault = i.fault; is_whole = i.is_whole; owed = i.owed } in
     let bounds : Bounds sizes old = record { grid = refl; agents = ap agents_in c.unwrap-agents.ensures } in
-    let left = s.remaining c.next.new.source in
-    let failed = s.has_failed c.next.new.source in
-    let P : Reading → Type 0 = λ r. IfErr c.from_residual.result (Fails had left failed r.buffer (IsRestAt r)) in
-    subst P c.self.view_is (err_passed c.from_residual.result (Fails had left failed old.buffer (IsRestAt old)) c.in_err-line.field-0.0 (err_from_is_err_and c.from_residual.result c.from_residual.ensures.1)
-    (fails_first sizes old had left failed old.buffer c.in_err-line.field-0.0 bounds c.in_err-line.ensures.fails))
+    fails_at _ _ _ _ _ _ c.self.view_is (err_passed _ _ _ (err_from_is_err_and _ c.from_residual.ensures.1)
+    (fails_first sizes old _ _ _ _ _ bounds c.in_err-line.ensures.fails))
 
 pub returns-in_err-take_end-clause-fails : goal.returns-in_err-take_end-clause-fails
 returns-in_err-take_end-clause-fails g c =
-    let s = g.S.Source in
     let i = c.self.inside in
-    let had = s.remaining c.args.source.now in
     let sizes = sizes_at i.width i.height i.header c.unwrap-agents.result c.self.invariant.columns c.self.invariant.rows c.self.invariant.agents c.unwrap-agents.ensures in
     let old : Reading = record { width = i.width; height = i.height; buffer = i.lines.buffer; header = i.header; fault = i.fault; is_whole = i.is_whole; owed = i.owed } in
     let bounds : Bounds sizes old = record { grid = refl; agents = ap agents_in c.unwrap-agents.ensures } in
-    let left = s.remaining c.take_end.new.source in
-    let failed = s.has_failed c.take_end.new.source in
-    let P : Reading → Type 0 = λ r. IfErr c.from_residual-in_err-take_end.result (Fails had left failed r.buffer (IsRestAt r)) in
-    subst P c.self.view_is (err_passed c.from_residual-in_err-take_end.result (Fails had left failed old.buffer (IsRestAt old)) c.in_err-take_end.field-0.0 (err_from_is_err_and c.from_residual-in_err-take_end.result c.from_residual-in_err-take_end.ensures.1)
-    (fails_in_end sizes old had (s.remaining c.next.new.source) left failed old.buffer c.next.new.self.buffer c.in_ok-line.line c.in_err-take_end.field-0.0 bounds c.if-self-eq0.true c.in_ok-line.ensures.line c.in_ok-line.ensures.taken c.in_err-take_end.ensures.fails))
+    fails_at _ _ _ _ _ _ c.self.view_is (err_passed _ _ _ (err_from_is_err_and _ c.from_residual-in_err-take_end.ensures.1)
+    (fails_in_end sizes old _ _ _ _ _ _ _ c.in_err-take_end.field-0.0 bounds c.if-self-eq0.true c.in_ok-line.ensures.line c.in_ok-line.ensures.taken c.in_err-take_end.ensures.fails))
 
 pub returns-in_err-item-clause-fails : goal.returns-in_err-item-clause-fails
 returns-in_err-item-clause-fails g c =
-    let s = g.S.Source in
     let i = c.self.inside in
-    let had = s.remaining c.args.source.now in
     let sizes = sizes_at i.width i.height i.header c.unwrap-agents.result c.self.invariant.columns c.self.invariant.rows c.self.invariant.agents c.unwrap-agents.ensures in
     let old : Reading = record { width = i.width; height = i.height; buffer = i.lines.buffer; header = i.header; fault = i.fault; is_whole = i.is_whole; owed = i.owed } in
     let bounds : Bounds sizes old = record { grid = refl; agents = ap agents_in c.unwrap-agents.ensures } in
-    let left = s.remaining c.item_of.new.source in
-    let failed = s.has_failed c.item_of.new.source in
-    let P : Reading → Type 0 = λ r. IfErr c.from_residual-in_err-item.result (Fails had left failed r.buffer (IsRestAt r)) in
-    subst P c.self.view_is (err_passed c.from_residual-in_err-item.result (Fails had left failed old.buffer (IsRestAt old)) c.in_err-item.field-0.0 (err_from_is_err_and c.from_residual-in_err-item.result c.from_residual-in_err-item.ensures.1)
-    (fails_in_item sizes old had (s.remaining c.next.new.source) left failed old.buffer c.next.new.self.buffer c.in_ok-line.line c.in_err-item.field-0.0 bounds (omega (arith, c.if-self-eq0.false)) c.in_ok-line.ensures.taken c.in_err-item.ensures.fails))
+    fails_at _ _ _ _ _ _ c.self.view_is (err_passed _ _ _ (err_from_is_err_and _ c.from_residual-in_err-item.ensures.1)
+    (fails_in_item sizes old _ _ _ _ _ _ _ c.in_err-item.field-0.0 bounds (omega (arith, c.if-self-eq0.false)) c.in_ok-line.ensures.taken c.in_err-item.ensures.fails))
 
 pub returns-clause-item : goal.returns-clause-item
 returns-clause-item g c =
@@ -65,11 +49,10 @@ returns-clause-item g c =
     let node = node_of c.in_ok-item.item in
     let on : Continues old new = record { grid = refl; agents = refl } in
     let some : 1 ≤ i.owed = omega (arith, c.if-self-eq0.false) in
-    let mid = s.remaining c.next.new.source in
     let left = s.remaining c.item_of.new.source in
-    let read : ReadsNode had left old new node = reads_node sizes had mid left old new c.next.new.self.buffer c.in_ok-line.line node bounds refl c.in_ok-line.ensures.taken c.in_ok-item.ensures.item some c.trees_owed_after-self-inside.ensures in
+    let read : ReadsNode had left old new node = reads_node sizes _ _ _ _ _ _ _ _ bounds refl c.in_ok-line.ensures.taken c.in_ok-item.ensures.item some c.trees_owed_after-self-inside.ensures in
     let P : Reading → Type 0 = λ r. TakesNode had left r new node in
-    subst P c.self.view_is (record { read = read; joins = node_joins had left old new node on read })
+    subst P c.self.view_is (record { read = read; joins = node_joins _ _ _ _ _ on read })
 
 pub returns-clause-same : goal.returns-clause-same
 returns-clause-same g c =
@@ -83,11 +66,10 @@ returns-clause-same g c =
     let node = node_of c.in_ok-item.item in
     let on : Continues old new = record { grid = refl; agents = refl } in
     let some : 1 ≤ i.owed = omega (arith, c.if-self-eq0.false) in
-    let mid = s.remaining c.next.new.source in
     let left = s.remaining c.item_of.new.source in
-    let read : ReadsNode had left old new node = reads_node sizes had mid left old new c.next.new.self.buffer c.in_ok-line.line node bounds refl c.in_ok-line.ensures.taken c.in_ok-item.ensures.item some c.trees_owed_after-self-inside.ensures in
+    let read : ReadsNode had left old new node = reads_node sizes _ _ _ _ _ _ _ _ bounds refl c.in_ok-line.ensures.taken c.in_ok-item.ensures.item some c.trees_owed_after-self-inside.ensures in
     let P : Reading → Type 0 = λ r. (due : Node) (nodes : List Node) → Awaits had r (due ∷ nodes) → (node ≡ due) × Awaits left new nodes in
-    subst P c.self.view_is (λ due nodes awaits. node_same sizes had left old new node due nodes bounds refl on read awaits)
+    subst P c.self.view_is (λ due nodes awaits. node_same sizes _ _ _ _ _ _ _ bounds refl on read awaits)
 
 pub returns-clause-there : goal.returns-clause-there
 returns-clause-there g c =

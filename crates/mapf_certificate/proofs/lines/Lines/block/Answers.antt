@@ -3,53 +3,35 @@ use Rattle.std.proofs.lemmas.Bool.{false≢true}
 use Rattle.std.proofs.lemmas.Result.{err_from_is_err_and}
 use Rattle.mapf_certificate.specs.Untouched.{TakesThere}
 use Rattle.mapf_certificate.specs.Certificates.{line_text, entries_text}
-use Rattle.mapf_certificate.specs.declared.line.Line.{Line}
-use Rattle.mapf_certificate.specs.declared.line.Line.TheVariants as lines
-use Rattle.mapf_certificate.specs.Window.{Fails}
-use Rattle.mapf_certificate.specs.declared.tree_line.Due.TheVariants as dues
+use Rattle.mapf_certificate.specs.declared.line.CertLine.{CertLine}
+use Rattle.mapf_certificate.specs.declared.line.CertLine.TheVariants as lines
 use Rattle.mapf_certificate.proofs.TakenThere.{there-trans}
 use Rattle.mapf_certificate.proofs.Windows.{err_passed, Fails-weaker}
-use Rattle.mapf_certificate.proofs.LineWindows.{IsNext}
-use Rattle.mapf_certificate.proofs.Blocks.{NextBlock, block_is_line, misfit_block, fails_in_entries, block_window}
+use Rattle.mapf_certificate.proofs.Blocks.{block_is_line, misfit_block, fails_in_entries, block_window}
 use Rattle.mapf_certificate.proofs.lines.Lines.block.Goals as goal
 
 pub returns-in_err-agent-clause-fails : goal.returns-in_err-agent-clause-fails
 returns-in_err-agent-clause-fails g c =
-    let s = g.S.Source in
-    let had = s.remaining c.args.source.now in
-    let left = s.remaining c.next.new.source in
-    let failed = s.has_failed c.next.new.source in
-    let old = c.args.self.now.buffer in
     let sizes = c.args.sizes.now in
-    let fault = c.in_err-agent.field-0.0 in
-    err_passed c.from_residual.result (Fails had left failed old (NextBlock sizes c.args.before.now)) fault (err_from_is_err_and c.from_residual.result c.from_residual.ensures.1)
-    (Fails-weaker had left failed old (NextBlock sizes c.args.before.now) (IsNext (dues.Tree sizes)) fault (block_is_line sizes c.args.before.now) c.in_err-agent.ensures.fails)
+    err_passed _ _ _ (err_from_is_err_and _ c.from_residual.ensures.1)
+    (Fails-weaker _ _ _ _ _ _ _ (block_is_line sizes c.args.before.now) c.in_err-agent.ensures.fails)
 
 pub returns-then-not-follows_blocks-clause-fails : goal.returns-then-not-follows_blocks-clause-fails
 returns-then-not-follows_blocks-clause-fails g c =
-    let s = g.S.Source in
-    misfit_block c.args.sizes.now c.args.before.now (s.remaining c.args.source.now) (s.remaining c.next.new.source) (s.has_failed c.next.new.source) c.args.self.now.buffer c.next.new.self.buffer c.in_ok-agent.field-0 c.in-Agent.agent c.in-Agent.entries
-    c.misfit-then-not-follows_blocks.result c.misfit-then-not-follows_blocks.ensures c.in_ok-agent.ensures.works c.in_ok-agent.ensures.line c.in_ok-agent.ensures.taken c.in-Agent.is (λ all.
+    misfit_block c.args.sizes.now c.args.before.now _ _ _ _ _ _ _ _
+    _ c.misfit-then-not-follows_blocks.ensures c.in_ok-agent.ensures.works c.in_ok-agent.ensures.line c.in_ok-agent.ensures.taken c.in-Agent.is (λ all.
     let wrong : IsTrue c.follows_blocks.result = c.follows_blocks.ensures.1 all in
     false≢true (sym c.if-not-follows_blocks.true ∙ wrong))
 
 pub returns-in_err-entries-clause-fails : goal.returns-in_err-entries-clause-fails
 returns-in_err-entries-clause-fails g c =
-    let s = g.S.Source in
-    let had = s.remaining c.args.source.now in
-    let mid = s.remaining c.next.new.source in
-    let left = s.remaining c.entries.new.source in
-    let failed = s.has_failed c.entries.new.source in
-    let old = c.args.self.now.buffer in
     let sizes = c.args.sizes.now in
-    let fault = c.in_err-entries.field-0.0 in
-    err_passed c.from_residual-in_err-entries.result (Fails had left failed old (NextBlock sizes c.args.before.now)) fault (err_from_is_err_and c.from_residual-in_err-entries.result c.from_residual-in_err-entries.ensures.1)
-    (fails_in_entries sizes c.args.before.now had mid left failed old c.next.new.self.buffer c.in_ok-agent.field-0 c.in-Agent.agent c.in-Agent.entries fault c.in_ok-agent.ensures.line c.in_ok-agent.ensures.taken c.in-Agent.is c.in_err-entries.ensures.fails)
+    err_passed _ _ _ (err_from_is_err_and _ c.from_residual-in_err-entries.ensures.1)
+    (fails_in_entries sizes c.args.before.now _ _ _ _ _ _ _ _ _ _ c.in_ok-agent.ensures.line c.in_ok-agent.ensures.taken c.in-Agent.is c.in_err-entries.ensures.fails)
 
 pub returns-clause-taken : goal.returns-clause-taken
 returns-clause-taken g c =
-    let s = g.S.Source in
-    block_window c.args.sizes.now (s.remaining c.args.source.now) (s.remaining c.next.new.source) (s.remaining c.entries.new.source) c.args.self.now.buffer c.next.new.self.buffer c.entries.new.self.buffer c.in_ok-agent.field-0 c.in-Agent.agent c.in-Agent.entries c.in_ok-entries.entries.items
+    block_window c.args.sizes.now _ _ _ _ _ _ _ _ _ _
     c.in_ok-agent.ensures.taken c.in-Agent.is c.in_ok-entries.ensures.entries.many c.in_ok-entries.ensures.taken
 
 pub returns-clause-there : goal.returns-clause-there
@@ -57,5 +39,5 @@ returns-clause-there g c =
     let width = c.args.sizes.now.width in
     let entries = c.in_ok-entries.entries.items in
     let whole : c.in_ok-agent.field-0 ≡ lines.Agent c.in-Agent.agent (length entries) = c.in-Agent.is ∙ ap (lines.Agent c.in-Agent.agent) (sym c.in_ok-entries.ensures.entries.many) in
-    let first = subst (λ (l : Line). TakesThere c.args.source.now c.next.new.source c.args.self.now.buffer c.next.new.self.buffer (line_text width l)) whole c.in_ok-agent.ensures.there in
+    let first = subst (λ (l : CertLine). TakesThere c.args.source.now c.next.new.source c.args.self.now.buffer c.next.new.self.buffer (line_text width l)) whole c.in_ok-agent.ensures.there in
     there-trans c.args.source.now c.next.new.source c.entries.new.source c.args.self.now.buffer c.next.new.self.buffer c.entries.new.self.buffer (line_text width (lines.Agent c.in-Agent.agent (length entries))) (entries_text width entries) first c.in_ok-entries.ensures.there

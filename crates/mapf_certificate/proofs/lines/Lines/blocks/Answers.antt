@@ -2,33 +2,31 @@ use Rattle.std.proofs.Common.{◌≡◌, ◌<◌, List, arith, ap, sym, subst, l
 use Rattle.std.proofs.lemmas.Result.{err_from_is_err_and}
 use Rattle.mapf_model.specs.Blocks.{LabelBlock}
 use Rattle.mapf_certificate.specs.Certificates.{block_text, blocks_text}
-use Rattle.mapf_certificate.specs.CertReading.{MayFollow}
 use Rattle.mapf_certificate.specs.Untouched.{TakesThere}
 use Rattle.mapf_certificate.specs.Window.{Fails}
+use Rattle.mapf_certificate.specs.Bounded.{BeginsWithBlock, IsBlockFor, IsOfLesserAgent, MayFollow}
 use Rattle.mapf_certificate.proofs.PathLaws.{pushed}
 use Rattle.mapf_certificate.proofs.TakenThere.{there-more}
 use Rattle.mapf_certificate.proofs.Windows.{err_passed, ComesWithin-after, Fails-after, Window-within}
 use Rattle.mapf_certificate.proofs.Sequences.{goes_on, taken_more, window_more}
-use Rattle.mapf_certificate.proofs.Blocks.{BlockInRange, Rises, NextBlock, NextBlocks, blocks_apart}
+use Rattle.mapf_certificate.proofs.Blocks.{blocks_apart}
 use Rattle.mapf_certificate.proofs.lines.Lines.blocks.Goals as goal
 
 pub returns-in_err-block-clause-fails : goal.returns-in_err-block-clause-fails
 returns-in_err-block-clause-fails g c =
     let s = g.S.Source in
-    let had = s.remaining c.args.source.now in
     let mid = s.remaining c.loop-taken.source in
     let left = s.remaining c.block.new.source in
     let failed = s.has_failed c.block.new.source in
-    let old = c.args.self.now.buffer in
     let here = c.loop-taken.self.buffer in
     let sizes = c.args.sizes.now in
     let values = c.loop-taken.blocks.items in
     let fault = c.in_err-block.field-0.0 in
     let less : length values < c.args.count = omega (arith, c.loop-taken.invariant.many, c.loop-taken-test.true) in
-    err_passed c.from_residual.result (Fails had left failed old (NextBlocks sizes c.args.count)) fault (err_from_is_err_and c.from_residual.result c.from_residual.ensures.1)
-    (Fails-after had mid left failed old here (blocks_text sizes.width values) (NextBlocks sizes c.args.count) (NextBlock sizes values) fault c.loop-taken.invariant.window
-    (λ more. goes_on LabelBlock (BlockInRange sizes) Rises (block_text sizes.width) (blocks_apart sizes) c.args.count values more c.loop-taken.invariant.taken less)
-    (subst (λ (v : List LabelBlock). Fails mid left failed here (NextBlock sizes v) fault) c.deref.ensures.value c.in_err-block.ensures.fails))
+    err_passed _ _ _ (err_from_is_err_and _ c.from_residual.ensures.1)
+    (Fails-after _ _ _ _ _ _ _ _ _ _ c.loop-taken.invariant.window
+    (λ more. goes_on LabelBlock (IsBlockFor sizes) IsOfLesserAgent (block_text sizes.width) (blocks_apart sizes) c.args.count values more c.loop-taken.invariant.taken less)
+    (subst (λ (v : List LabelBlock). Fails mid left failed here (BeginsWithBlock sizes v) fault) c.deref.ensures.value c.in_err-block.ensures.fails))
 
 pub returns-clause-blocks : goal.returns-clause-blocks
 returns-clause-blocks g c = record {
@@ -39,18 +37,17 @@ returns-clause-blocks g c = record {
 
 pub loop-taken-preserved : goal.loop-taken-preserved
 loop-taken-preserved g c =
-    let s = g.S.Source in
     let sizes = c.args.sizes.now in
     let values = c.loop-taken.blocks.items in
     let value = c.in_ok-block.block in
     let grown : c.push.new.self.items ≡ values ++ (value ∷ []) = pushed c.push.result values c.push.new.self.items value c.push.ensures.items c.if-is_err.ensures.value in
-    let follows = subst (λ (v : List LabelBlock). MayFollow LabelBlock (BlockInRange sizes) Rises v value) c.deref.ensures.value c.in_ok-block.ensures.block in
+    let follows = subst (λ (v : List LabelBlock). MayFollow LabelBlock (IsBlockFor sizes) IsOfLesserAgent v value) c.deref.ensures.value c.in_ok-block.ensures.block in
     record {
       works = c.in_ok-block.ensures.works;
       spare = omega arith;
       many = omega (arith, c.loop-taken.invariant.many, ap length grown, length-append values (value ∷ []));
-      taken = taken_more LabelBlock (BlockInRange sizes) Rises values c.push.new.self.items value c.loop-taken.invariant.taken follows grown;
-      window = window_more (block_text sizes.width) (s.remaining c.args.source.now) (s.remaining c.loop-taken.source) (s.remaining c.block.new.source) c.args.self.now.buffer c.loop-taken.self.buffer c.block.new.self.buffer values c.push.new.self.items value c.loop-taken.invariant.window c.in_ok-block.ensures.taken grown;
+      taken = taken_more _ _ _ _ _ _ c.loop-taken.invariant.taken follows grown;
+      window = window_more (block_text sizes.width) _ _ _ _ _ _ _ _ _ c.loop-taken.invariant.window c.in_ok-block.ensures.taken grown;
       there = subst (λ (v : List LabelBlock). TakesThere c.args.source.now c.block.new.source c.args.self.now.buffer c.block.new.self.buffer (blocks_text sizes.width v)) (sym grown)
           (there-more (block_text sizes.width) c.args.source.now c.loop-taken.source c.block.new.source c.args.self.now.buffer c.loop-taken.self.buffer c.block.new.self.buffer values value c.loop-taken.invariant.there c.in_ok-block.ensures.there);
     }
@@ -59,6 +56,6 @@ pub returns-then-is_err-clause-fails : goal.returns-then-is_err-clause-fails
 returns-then-is_err-clause-fails g c =
     let s = g.S.Source in (
       c.in_ok-block.ensures.works,
-      ComesWithin-after (s.remaining c.args.source.now) (s.remaining c.loop-taken.source) (s.remaining c.block.new.source) c.args.self.now.buffer c.loop-taken.self.buffer (blocks_text c.args.sizes.now.width c.loop-taken.blocks.items) c.loop-taken.invariant.window
-          (Window-within (s.remaining c.loop-taken.source) (s.remaining c.block.new.source) c.loop-taken.self.buffer c.block.new.self.buffer (block_text c.args.sizes.now.width c.in_ok-block.block) c.in_ok-block.ensures.taken),
+      ComesWithin-after _ _ _ _ _ _ c.loop-taken.invariant.window
+          (Window-within _ _ _ _ _ c.in_ok-block.ensures.taken),
     )

@@ -13,5 +13,4 @@ returns-in-Ok-false-clause-empty g c =
 
 pub returns-in-Err-clause-fails : goal.returns-in-Err-clause-fails
 returns-in-Err-clause-fails g c =
-    let s = g.S.Source in
-    lacks_fails (s.remaining c.args.source.now) (s.remaining c.fill.new.source) (s.has_failed c.fill.new.source) c.args.self.now.buffer (λ t. t ≡ []) c.in-Err.why c.fault_without_line.result c.in-Err.ensures.stopped c.fault_without_line.ensures
+    lacks_fails _ _ _ _ _ _ _ c.in-Err.ensures.stopped c.fault_without_line.ensures

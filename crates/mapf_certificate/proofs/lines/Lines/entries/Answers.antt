@@ -3,33 +3,31 @@ use Rattle.std.proofs.lemmas.Result.{err_from_is_err_and}
 use Rattle.mapf_model.specs.declared.label.Entry.{Entry}
 use Rattle.mapf_model.specs.Printed.{IsBefore}
 use Rattle.mapf_certificate.specs.Certificates.{entry_text, entries_text}
-use Rattle.mapf_certificate.specs.CertReading.{MayFollow}
 use Rattle.mapf_certificate.specs.Untouched.{TakesThere}
 use Rattle.mapf_certificate.specs.Window.{Fails}
+use Rattle.mapf_certificate.specs.Bounded.{BeginsWithEntry, IsEntryFor, MayFollow}
 use Rattle.mapf_certificate.proofs.PathLaws.{pushed}
 use Rattle.mapf_certificate.proofs.TakenThere.{there-more}
 use Rattle.mapf_certificate.proofs.Windows.{err_passed, ComesWithin-after, Fails-after, Window-within}
 use Rattle.mapf_certificate.proofs.Sequences.{goes_on, taken_more, window_more}
-use Rattle.mapf_certificate.proofs.Blocks.{InRange, NextEntry, NextEntries, entries_apart}
+use Rattle.mapf_certificate.proofs.Blocks.{entries_apart}
 use Rattle.mapf_certificate.proofs.lines.Lines.entries.Goals as goal
 
 pub returns-in_err-entry-clause-fails : goal.returns-in_err-entry-clause-fails
 returns-in_err-entry-clause-fails g c =
     let s = g.S.Source in
-    let had = s.remaining c.args.source.now in
     let mid = s.remaining c.loop-taken.source in
     let left = s.remaining c.entry.new.source in
     let failed = s.has_failed c.entry.new.source in
-    let old = c.args.self.now.buffer in
     let here = c.loop-taken.self.buffer in
     let sizes = c.args.sizes.now in
     let values = c.loop-taken.entries.items in
     let fault = c.in_err-entry.field-0.0 in
     let less : length values < c.args.count = omega (arith, c.loop-taken.invariant.many, c.loop-taken-test.true) in
-    err_passed c.from_residual.result (Fails had left failed old (NextEntries sizes c.args.count)) fault (err_from_is_err_and c.from_residual.result c.from_residual.ensures.1)
-    (Fails-after had mid left failed old here (entries_text sizes.width values) (NextEntries sizes c.args.count) (NextEntry sizes values) fault c.loop-taken.invariant.window
-    (λ more. goes_on Entry (InRange sizes) IsBefore (entry_text sizes.width) (entries_apart sizes) c.args.count values more c.loop-taken.invariant.taken less)
-    (subst (λ (v : List Entry). Fails mid left failed here (NextEntry sizes v) fault) c.deref.ensures.value c.in_err-entry.ensures.fails))
+    err_passed _ _ _ (err_from_is_err_and _ c.from_residual.ensures.1)
+    (Fails-after _ _ _ _ _ _ _ _ _ _ c.loop-taken.invariant.window
+    (λ more. goes_on Entry (IsEntryFor sizes) IsBefore (entry_text sizes.width) (entries_apart sizes) c.args.count values more c.loop-taken.invariant.taken less)
+    (subst (λ (v : List Entry). Fails mid left failed here (BeginsWithEntry sizes v) fault) c.deref.ensures.value c.in_err-entry.ensures.fails))
 
 pub returns-clause-entries : goal.returns-clause-entries
 returns-clause-entries g c = record {
@@ -40,18 +38,17 @@ returns-clause-entries g c = record {
 
 pub loop-taken-preserved : goal.loop-taken-preserved
 loop-taken-preserved g c =
-    let s = g.S.Source in
     let sizes = c.args.sizes.now in
     let values = c.loop-taken.entries.items in
     let value = c.in_ok-entry.entry in
     let grown : c.push.new.self.items ≡ values ++ (value ∷ []) = pushed c.push.result values c.push.new.self.items value c.push.ensures.items c.if-is_err.ensures.value in
-    let follows = subst (λ (v : List Entry). MayFollow Entry (InRange sizes) IsBefore v value) c.deref.ensures.value c.in_ok-entry.ensures.entry in
+    let follows = subst (λ (v : List Entry). MayFollow Entry (IsEntryFor sizes) IsBefore v value) c.deref.ensures.value c.in_ok-entry.ensures.entry in
     record {
       works = c.in_ok-entry.ensures.works;
       spare = omega arith;
       many = omega (arith, c.loop-taken.invariant.many, ap length grown, length-append values (value ∷ []));
-      taken = taken_more Entry (InRange sizes) IsBefore values c.push.new.self.items value c.loop-taken.invariant.taken follows grown;
-      window = window_more (entry_text sizes.width) (s.remaining c.args.source.now) (s.remaining c.loop-taken.source) (s.remaining c.entry.new.source) c.args.self.now.buffer c.loop-taken.self.buffer c.entry.new.self.buffer values c.push.new.self.items value c.loop-taken.invariant.window c.in_ok-entry.ensures.taken grown;
+      taken = taken_more _ _ _ _ _ _ c.loop-taken.invariant.taken follows grown;
+      window = window_more (entry_text sizes.width) _ _ _ _ _ _ _ _ _ c.loop-taken.invariant.window c.in_ok-entry.ensures.taken grown;
       there = subst (λ (v : List Entry). TakesThere c.args.source.now c.entry.new.source c.args.self.now.buffer c.entry.new.self.buffer (entries_text sizes.width v)) (sym grown)
           (there-more (entry_text sizes.width) c.args.source.now c.loop-taken.source c.entry.new.source c.args.self.now.buffer c.loop-taken.self.buffer c.entry.new.self.buffer values value c.loop-taken.invariant.there c.in_ok-entry.ensures.there);
     }
@@ -60,6 +57,6 @@ pub returns-then-is_err-clause-fails : goal.returns-then-is_err-clause-fails
 returns-then-is_err-clause-fails g c =
     let s = g.S.Source in (
       c.in_ok-entry.ensures.works,
-      ComesWithin-after (s.remaining c.args.source.now) (s.remaining c.loop-taken.source) (s.remaining c.entry.new.source) c.args.self.now.buffer c.loop-taken.self.buffer (entries_text c.args.sizes.now.width c.loop-taken.entries.items) c.loop-taken.invariant.window
-          (Window-within (s.remaining c.loop-taken.source) (s.remaining c.entry.new.source) c.loop-taken.self.buffer c.entry.new.self.buffer (entry_text c.args.sizes.now.width c.in_ok-entry.entry) c.in_ok-entry.ensures.taken),
+      ComesWithin-after _ _ _ _ _ _ c.loop-taken.invariant.window
+          (Window-within _ _ _ _ _ c.in_ok-entry.ensures.taken),
     )

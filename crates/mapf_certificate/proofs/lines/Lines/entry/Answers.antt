@@ -3,36 +3,25 @@ use Rattle.std.proofs.lemmas.Bool.{false≢true}
 use Rattle.std.proofs.lemmas.Result.{err_from_is_err_and}
 use Rattle.mapf_certificate.specs.Untouched.{TakesThere}
 use Rattle.mapf_certificate.specs.Certificates.{line_text}
-use Rattle.mapf_certificate.specs.declared.line.Line.{Line}
-use Rattle.mapf_certificate.specs.Window.{Fails}
-use Rattle.mapf_certificate.specs.declared.tree_line.Due.TheVariants as dues
+use Rattle.mapf_certificate.specs.declared.line.CertLine.{CertLine}
 use Rattle.mapf_certificate.proofs.Windows.{err_passed, Fails-weaker}
-use Rattle.mapf_certificate.proofs.LineWindows.{IsNext}
-use Rattle.mapf_certificate.proofs.Blocks.{NextEntry, entry_is_line, misfit_entry}
+use Rattle.mapf_certificate.proofs.Blocks.{entry_is_line, misfit_entry}
 use Rattle.mapf_certificate.proofs.lines.Lines.entry.Goals as goal
 
 pub returns-in_err-entry-clause-fails : goal.returns-in_err-entry-clause-fails
 returns-in_err-entry-clause-fails g c =
-    let s = g.S.Source in
-    let had = s.remaining c.args.source.now in
-    let left = s.remaining c.next.new.source in
-    let failed = s.has_failed c.next.new.source in
-    let old = c.args.self.now.buffer in
     let sizes = c.args.sizes.now in
-    let fault = c.in_err-entry.field-0.0 in
-    err_passed c.from_residual.result (Fails had left failed old (NextEntry sizes c.args.before.now)) fault (err_from_is_err_and c.from_residual.result c.from_residual.ensures.1)
-    (Fails-weaker had left failed old (NextEntry sizes c.args.before.now) (IsNext (dues.Tree sizes)) fault (entry_is_line sizes c.args.before.now) c.in_err-entry.ensures.fails)
+    err_passed _ _ _ (err_from_is_err_and _ c.from_residual.ensures.1)
+    (Fails-weaker _ _ _ _ _ _ _ (entry_is_line sizes c.args.before.now) c.in_err-entry.ensures.fails)
 
 pub returns-then-not-follows_entries-clause-fails : goal.returns-then-not-follows_entries-clause-fails
 returns-then-not-follows_entries-clause-fails g c =
-    let s = g.S.Source in
-    misfit_entry c.args.sizes.now c.args.before.now (s.remaining c.args.source.now) (s.remaining c.next.new.source) (s.has_failed c.next.new.source) c.args.self.now.buffer c.next.new.self.buffer c.in_ok-entry.field-0 c.in-At.entry
-    c.misfit-then-not-follows_entries.result c.misfit-then-not-follows_entries.ensures c.in_ok-entry.ensures.works c.in_ok-entry.ensures.line c.in_ok-entry.ensures.taken c.in-At.is (λ all.
+    misfit_entry c.args.sizes.now c.args.before.now _ _ _ _ _ _ _
+    _ c.misfit-then-not-follows_entries.ensures c.in_ok-entry.ensures.works c.in_ok-entry.ensures.line c.in_ok-entry.ensures.taken c.in-At.is (λ all.
     let wrong : IsTrue c.follows_entries.result = c.follows_entries.ensures.1 all in
     false≢true (sym c.if-not-follows_entries.true ∙ wrong))
 
 pub returns-clause-there : goal.returns-clause-there
 returns-clause-there g c =
-    let s = g.S.Source in
     let buffer = c.next.new.self.buffer in
-    subst (λ (l : Line). TakesThere c.args.source.now c.next.new.source c.args.self.now.buffer buffer (line_text c.args.sizes.now.width l)) c.in-At.is c.in_ok-entry.ensures.there
+    subst (λ (l : CertLine). TakesThere c.args.source.now c.next.new.source c.args.self.now.buffer buffer (line_text c.args.sizes.now.width l)) c.in-At.is c.in_ok-entry.ensures.there

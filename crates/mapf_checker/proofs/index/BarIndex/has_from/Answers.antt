@@ -1,7 +1,7 @@
 use Rattle.std.proofs.Common.{◌≡◌, Some, None, sym, ◌∙◌, arith}
 use Rattle.std.proofs.lemmas.Bool.{leb-true, le-leb}
 use Rattle.std.proofs.lemmas.Option.{same_Some}
-use Rattle.mapf_checker.specs.declared.bound.AgentCell.{AgentCell}
+use Rattle.mapf_checker.specs.declared.agent_cell.AgentCell.{AgentCell}
 use Rattle.mapf_checker.specs.Index.{last_on}
 use Rattle.mapf_checker.proofs.IndexLemmas.{last_on-covers, last_on-stands}
 use Rattle.mapf_checker.proofs.index.BarIndex.has_from.Goals as goal

@@ -3,8 +3,9 @@ use Rattle.std.proofs.lemmas.Bool.{cases_lt, both_ways}
 use Rattle.std.proofs.lemmas.List.{get_or_default}
 use Rattle.std.proofs.lemmas.Option.{same_Some}
 use Rattle.mapf_model.specs.Distance.{IsDistance}
-use Rattle.mapf_distance.proofs.BesideLemmas.{step_beside, beside_rises}
-use Rattle.mapf_distance.proofs.DescentLemmas.{nearer_step, nearer_beside}
+use Rattle.mapf_model.specs.Neighbours.{neighbourhood}
+use Rattle.mapf_model.proofs.StepLemmas.{neighbour_step, step_neighbour, neighbourhood_rises, rising_places}
+use Rattle.mapf_distance.proofs.DescentLemmas.{nearer_step}
 use Rattle.mapf_distance.proofs.StepLemmas.{Walk-from_free}
 use Rattle.mapf_distance.proofs.distances.Distances.nearer.Goals as goal
 use Rattle.mapf_distance.proofs.distances.Distances.nearer.Goals.{in-Some+else-is_at, in_default}
@@ -22,9 +23,9 @@ returns-then-is_at-clause-step c =
     let within : c.loop-beside.beside-index < length items = omega arith in
     let held : Contains items (Some next) = (c.loop-beside.beside-index, within, get_or_default items c.loop-beside.beside-index (Some next) c.beside-item.result within ∙ c.in-Some.is) in
     let there : IsDistance grid c.args.self.now.goal next c.args.distance = c.is_at.ensures.0 c.if-is_at.true in
-    step_beside grid cell c.beside-beside-items.ensures.wide (Walk-from_free grid cell c.args.self.now.goal (c.args.distance + 1) c.requires.walk) next
-    (Walk-from_free grid next c.args.self.now.goal c.args.distance there.walk)
+    neighbour_step grid cell c.beside-beside-items.ensures.wide (Walk-from_free grid cell c.args.self.now.goal (c.args.distance + 1) c.requires.walk) next
     (subst (λ places. Contains places (Some next)) c.beside-beside-items.ensures.cells held)
+    (Walk-from_free grid next c.args.self.now.goal c.args.distance there.walk)
 
 -- what is nearer in an earlier place would have been taken, and in the later places the cells have greater numbers
 pub returns-then-is_at-clause-least : goal.returns-then-is_at-clause-least
@@ -37,15 +38,15 @@ returns-then-is_at-clause-least c = λ other step there.
     let next = c.in-Some.next in
     let cells = c.beside-beside-items.ensures.cells in
     let four = ap length cells in
-    let (place, within, is) = subst (λ places. Contains places (Some other)) (sym cells) (nearer_beside grid c.args.self.now.goal cell c.args.distance other wide c.requires step there) in
+    let (place, within, is) = subst (λ places. Contains places (Some other)) (sym cells) (step_neighbour grid cell wide (Walk-from_free grid cell c.args.self.now.goal (c.args.distance + 1) c.requires.walk) other step) in
     let at_place = get_or_default items place None (Some other) within ∙ is in
     let at_index = get_or_default items index None c.beside-item.result (omega arith) ∙ c.in-Some.is in
     ⊎_elim
     (λ (earlier : place < index). absurd (c.loop-beside.invariant place other earlier at_place there))
     (λ (past : index ≤ place).
-    beside_rises grid.width cell index place next other wide past
+    (rising_places 0 (neighbourhood grid.width cell) index place next other (neighbourhood_rises grid.width cell wide) past
     (subst (λ places. slice_index_or places index None ≡ Some next) cells at_index)
-    (subst (λ places. slice_index_or places place None ≡ Some other) cells at_place))
+    (subst (λ places. slice_index_or places place None ≡ Some other) cells at_place)).1)
     (cases_lt place index)
 
 pub loop-beside-preserved : goal.loop-beside-preserved
@@ -75,7 +76,7 @@ unreachable-requires c =
     let distance = c.args.distance in
     let items = c.beside-beside-items.result in
     let (next, step, there) = nearer_step grid goal cell distance c.requires in
-    let held = subst (λ places. Contains places (Some next)) (sym c.beside-beside-items.ensures.cells) (nearer_beside grid goal cell distance next c.beside-beside-items.ensures.wide c.requires step there) in
+    let held = subst (λ places. Contains places (Some next)) (sym c.beside-beside-items.ensures.cells) (step_neighbour grid cell c.beside-beside-items.ensures.wide (Walk-from_free grid cell goal (distance + 1) c.requires.walk) next step) in
     let (place, within, is) = held in
     let four = ap length c.beside-beside-items.ensures.cells in
     c.loop-beside.invariant place next (omega arith) (get_or_default items place None (Some next) within ∙ is) there

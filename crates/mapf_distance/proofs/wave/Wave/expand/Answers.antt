@@ -19,8 +19,8 @@ entry-distance-requires c =
     let within = within_table table c.index-cell.result.now (omega arith) in
     omega (arith, c.args.self.now.table.ok.0)
 
-pub cells_beside-beside-items-requires-clause-small : goal.cells_beside-beside-items-requires-clause-small
-cells_beside-beside-items-requires-clause-small c =
+pub neighbourhood-beside-items-requires-clause-small : goal.neighbourhood-beside-items-requires-clause-small
+neighbourhood-beside-items-requires-clause-small c =
     let grid = c.args.grid.now in
     let table = c.args.self.now.table.items in
     let reached = c.args.self.now.reached.items in
@@ -42,9 +42,9 @@ loop-beside-init c =
     let reached = c.args.self.now.reached.items in
     let inside : place < length reached = omega (arith, c.args.self.now.reached.ok.0) in
     let is = get_or_read reached _ _ inside c.index-cell.ensures 0 in
-    let beside = places_beside grid reached c.cells_beside-beside-items.result place c.index-cell.result.now c.width.result is c.width.ensures.width c.cells_beside-beside-items.ensures in
+    let beside = places_beside grid reached c.neighbourhood-beside-items.result place c.index-cell.result.now c.width.result is c.width.ensures.width c.neighbourhood-beside-items.ensures in
     record {
-      expanding = expand_start grid place (c.entry-distance.result + 1) reached c.cells_beside-beside-items.result beside table c.requires.wave inside (ap (λ n. n + 1) (sym (c.entry-distance.ensures ∙ ap (entry_of table) is)));
+      expanding = expand_start grid place (c.entry-distance.result + 1) reached c.neighbourhood-beside-items.result beside table c.requires.wave inside (ap (λ n. n + 1) (sym (c.entry-distance.ensures ∙ ap (entry_of table) is)));
       capacity = refl;
     }
 
@@ -67,10 +67,10 @@ loop-beside-preserved c =
     let grid = c.args.grid.now in
     let place = c.args.place in
     let reached = c.args.self.now.reached.items in
-    let places = c.cells_beside-beside-items.result in
+    let places = c.neighbourhood-beside-items.result in
     let inside : place < length reached = omega (arith, c.args.self.now.reached.ok.0) in
     let is = get_or_read reached _ _ inside c.index-cell.ensures 0 in
-    let beside = places_beside grid reached places place c.index-cell.result.now c.width.result is c.width.ensures.width c.cells_beside-beside-items.ensures in
+    let beside = places_beside grid reached places place c.index-cell.result.now c.width.result is c.width.ensures.width c.neighbourhood-beside-items.ensures in
     let four = ap length beside in
     let index = c.loop-beside.beside-index in
     let within : index < length places = omega arith in
@@ -102,10 +102,10 @@ returns-clause-wave c =
     let grid = c.args.grid.now in
     let place = c.args.place in
     let reached = c.args.self.now.reached.items in
-    let places = c.cells_beside-beside-items.result in
+    let places = c.neighbourhood-beside-items.result in
     let inside : place < length reached = omega (arith, c.args.self.now.reached.ok.0) in
     let is = get_or_read reached _ _ inside c.index-cell.ensures 0 in
-    let beside = places_beside grid reached places place c.index-cell.result.now c.width.result is c.width.ensures.width c.cells_beside-beside-items.ensures in
+    let beside = places_beside grid reached places place c.index-cell.result.now c.width.result is c.width.ensures.width c.neighbourhood-beside-items.ensures in
     let four = ap length beside in
     expand_end grid place (c.entry-distance.result + 1) reached places beside c.loop-beside.beside-index c.loop-beside.self.table.items c.loop-beside.self.reached.items c.loop-beside.invariant.expanding (omega arith)
 

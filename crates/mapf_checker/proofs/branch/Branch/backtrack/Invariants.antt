@@ -1,0 +1,9 @@
+use Rattle.std.proofs.Common.{◌≡◌, length}
+use Rattle.mapf_checker.specs.Branch.{place_of}
+use Rattle.mapf_checker.proofs.branch.Branch.backtrack.Given as goal
+
+abbrev pub invariant-loop-edge : goal.invariant-loop-edge
+invariant-loop-edge l = (place_of l.self).owed ≡ (place_of l.fn.self).owed
+
+abbrev pub decreases-loop-edge : goal.decreases-loop-edge
+decreases-loop-edge l = length l.self

@@ -1,8 +1,0 @@
-use Rattle.mapf_checker.proofs.WayLemmas.{IsIndexedWay-pop}
-use Rattle.mapf_checker.proofs.way.Way.close.Goals as goal
-
-pub invariant_of-self : goal.invariant_of-self
-invariant_of-self c = IsIndexedWay-pop c.pop.new.self.items c.in-Some.turn c.self.inside.index c.undo.new.self (rw c.in-Some.ensures.items at c.self.invariant) c.undo.ensures
-
-pub invariant_of-self-in_default-owed : goal.invariant_of-self-in_default-owed
-invariant_of-self-in_default-owed c = IsIndexedWay-pop c.pop.new.self.items c.in-Some.turn c.self.inside.index c.undo.new.self (rw c.in-Some.ensures.items at c.self.invariant) c.undo.ensures

@@ -1,0 +1,10 @@
+ghost use Rattle.mapf_checker.specs.Verdict.{AcceptedIsTrue};
+
+use mapf_model::laws::shown_claims_hold;
+
+/// What is accepted as optimal is optimal, and what is accepted as impossible is impossible.
+pub fn accepted_is_true()
+    ensures { AcceptedIsTrue }
+{
+    shown_claims_hold();
+}

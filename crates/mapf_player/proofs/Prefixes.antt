@@ -1,0 +1,96 @@
+-- Texts that go out in parts.
+use Rattle.std.proofs.Common.{◌≡◌, ℕ, List, [], ◌++◌, Option, Result, Ok, Err, OnErr, OnOk, length, take, drop, take-append-drop, append_assoc, append-nil, refl, sym, ap, ◌∙◌, subst, ◌≤◌, length-append, arith}
+use Rattle.std.proofs.lemmas.List.{take_at}
+use Rattle.std.specs.Result.{IsErrAnd}
+use Rattle.std.specs.Io.KnownBytes.{Appends}
+use Rattle.std.proofs.KnownBytes.{Appends-trans, Appends-nil}
+use Rattle.mapf_player.specs.Pages.{Passes, WritesPrefix, WritesOrFails, PassesOrFails}
+
+pub from_take : (a b : Option (List ℕ)) (t : List ℕ) (n : ℕ) → Appends a b (take n t) → WritesPrefix a b t
+from_take a b t n w = record { prefix = take n t; rest = drop n t; same = sym (take-append-drop n t); wrote = w }
+
+-- nothing went out
+pub holds : (a : Option (List ℕ)) (held text : List ℕ) → Passes a a held (held ++ text) text
+holds a held text = record { gone = []; same = refl; wrote = Appends-nil a }
+
+-- what was held went out, and then the text
+pub passes_all : (a b c : Option (List ℕ)) (held text : List ℕ) → Appends a b held → Appends b c text → Passes a c held [] text
+passes_all a b c held text w v = record { gone = held ++ text; same = sym (append-nil (held ++ text)); wrote = Appends-trans a b c held text w v }
+
+pub passes_trans : (a b c : Option (List ℕ)) (h i j t u : List ℕ) → Passes a b h i t → Passes b c i j u → Passes a c h j (t ++ u)
+passes_trans a b c h i j t u p q = record {
+  gone = p.gone ++ q.gone;
+  same = sym (append_assoc h t u) ∙ ap (λ x. x ++ u) p.same ∙ append_assoc p.gone i u ∙ ap (λ x. p.gone ++ x) q.same ∙ sym (append_assoc p.gone q.gone j);
+  wrote = Appends-trans a b c p.gone q.gone p.wrote q.wrote;
+}
+
+-- a prefix of the next text, and so of both
+pub prefix_after : (a b c : Option (List ℕ)) (h i t u : List ℕ) → Passes a b h i t → WritesPrefix b c (i ++ u) → WritesPrefix a c (h ++ (t ++ u))
+prefix_after a b c h i t u p w = record {
+  prefix = p.gone ++ w.prefix;
+  rest = w.rest;
+  same = sym (append_assoc h t u) ∙ ap (λ x. x ++ u) p.same ∙ append_assoc p.gone i u ∙ ap (λ x. p.gone ++ x) w.same ∙ sym (append_assoc p.gone w.prefix w.rest);
+  wrote = Appends-trans a b c p.gone w.prefix p.wrote w.wrote;
+}
+
+-- a prefix of the first text is one of both
+pub prefix_before : (a b : Option (List ℕ)) (t u : List ℕ) → WritesPrefix a b t → WritesPrefix a b (t ++ u)
+prefix_before a b t u w = record { prefix = w.prefix; rest = w.rest ++ u; same = ap (λ x. x ++ u) w.same ∙ append_assoc w.prefix w.rest u; wrote = w.wrote }
+
+pub prefix_held : (a b : Option (List ℕ)) (h t u : List ℕ) → WritesPrefix a b (h ++ t) → WritesPrefix a b (h ++ (t ++ u))
+prefix_held a b h t u w = subst (WritesPrefix a b) (append_assoc h t u) (prefix_before a b (h ++ t) u w)
+
+-- a prefix of the next text after one that went out whole
+pub prefix_next : (a b c : Option (List ℕ)) (t u : List ℕ) → Appends a b t → WritesPrefix b c u → WritesPrefix a c (t ++ u)
+prefix_next a b c t u p w = record {
+  prefix = t ++ w.prefix;
+  rest = w.rest;
+  same = ap (λ x. t ++ x) w.same ∙ sym (append_assoc t w.prefix w.rest);
+  wrote = Appends-trans a b c t w.prefix p w.wrote;
+}
+
+-- the same for what the last of several calls answers
+pub passes_then : {T E : Type 0} (r : Result T E) (a b c : Option (List ℕ)) (h i j t u : List ℕ) → Passes a b h i t → PassesOrFails b c i j u r → PassesOrFails a c h j (t ++ u) r
+passes_then (Ok x) a b c h i j t u p q = passes_trans a b c h i j t u p q
+passes_then (Err e) a b c h i j t u p w = prefix_after a b c h i t u p w
+
+-- where a call failed
+pub fails : {T E : Type 0} (Q : E → Type 0) (r : Result T E) (a b : Option (List ℕ)) (held left text : List ℕ) → IsErrAnd r Q → WritesPrefix a b (held ++ text) → PassesOrFails a b held left text r
+fails Q (Ok x) a b held left text is w = absurd is
+fails Q (Err e) a b held left text is w = w
+
+-- where the bytes held go out first
+pub passes_unheld : {T E : Type 0} (r : Result T E) (a b c : Option (List ℕ)) (held left text : List ℕ) → Appends a b held → left ≡ [] → OnOk r (Appends b c text) → OnErr r ((n : ℕ) × (n ≤ length text) × Appends b c (take n text)) → PassesOrFails a c held left text r
+passes_unheld (Ok x) a b c held left text w none v e = subst (λ l. Passes a c held l text) (sym none) (passes_all a b c held text w v)
+passes_unheld (Err e) a b c held left text w none v n = prefix_next a b c held text w (from_take b c text n.0 n.2)
+
+-- what `write_all` tells
+pub written : {T E : Type 0} (r : Result T E) (a b : Option (List ℕ)) (text : List ℕ) → OnOk r (Appends a b text) → OnErr r ((n : ℕ) × (n ≤ length text) × Appends a b (take n text)) → WritesOrFails a b text r
+written (Ok x) a b text w n = w
+written (Err e) a b text w n = from_take a b text n.0 n.2
+
+-- the same of a call that failed before the last
+pub write_fails : {T E : Type 0} (Q : E → Type 0) (r : Result T E) (a b : Option (List ℕ)) (text : List ℕ) → IsErrAnd r Q → WritesPrefix a b text → WritesOrFails a b text r
+write_fails Q (Ok x) a b text is w = absurd is
+write_fails Q (Err e) a b text is w = w
+
+-- the last that is held goes out
+pub finish : {T E : Type 0} (r : Result T E) (a b c : Option (List ℕ)) (left text : List ℕ) → Passes a b [] left text → WritesOrFails b c left r → WritesOrFails a c text r
+finish (Ok x) a b c left text p w = subst (Appends a c) (sym p.same) (Appends-trans a b c p.gone left p.wrote w)
+finish (Err e) a b c left text p w = subst (WritesPrefix a c) (sym p.same) (prefix_next a b c p.gone left p.wrote w)
+
+-- a text of some kind was written
+pub to_some : {T E : Type 0} (r : Result T E) (a b : Option (List ℕ)) (text : List ℕ) (P : List ℕ → Type 0) → P text → WritesOrFails a b text r → OnOk r ((t : List ℕ) × P t × Appends a b t)
+to_some (Ok x) a b text P is w = (text, is, w)
+to_some (Err e) a b text P is w = tt
+
+-- or the first so many bytes of it
+pub to_take : {T E : Type 0} (r : Result T E) (a b : Option (List ℕ)) (text : List ℕ) (P : List ℕ → Type 0) → P text → WritesOrFails a b text r → OnErr r ((t : List ℕ) × P t × (n : ℕ) × (n ≤ length t) × Appends a b (take n t))
+to_take (Ok x) a b text P is w = tt
+to_take (Err e) a b text P is w = (
+  text,
+  is,
+  length w.prefix,
+  omega (arith, ap length w.same, length-append w.prefix w.rest),
+  subst (Appends a b) (sym (ap (take (length w.prefix)) w.same ∙ take_at w.prefix w.rest (length w.prefix) refl)) w.wrote,
+)

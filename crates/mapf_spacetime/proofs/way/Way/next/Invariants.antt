@@ -1,6 +1,0 @@
-use Rattle.std.proofs.Common.{ℕ, ◌<◌, slice_index}
-use Rattle.mapf_spacetime.specs.Way.{IsNoWayOn}
-use Rattle.mapf_spacetime.proofs.way.Way.next.Given as goal
-
-abbrev pub invariant-loop-to : goal.invariant-loop-to
-invariant-loop-to g l = (k : ℕ) → k < l.to-index → IsNoWayOn l.ground l.cost l.self.failed l.from (slice_index l.steps k)

@@ -1,0 +1,193 @@
+ghost use Rattle.std.specs.Prelude.{◌≡◌, ◌↔◌, ◌+◌, ◌-◌, ◌<◌, ◌≤◌, ◌^◌, [], ◌∷◌, ◌++◌, ℕ, length, slice_index};
+ghost use Rattle.std.specs.Prelude.{false, IfOk, IfSome, IfNone, OnOk, IsTrue, Contains};
+ghost use Rattle.std.specs.List.Sorted.{IsStrictlyIncreasing};
+ghost use Rattle.mapf_model.specs.Grid.{IsFree, Step};
+ghost use Rattle.mapf_model.specs.Labels.{MayGo};
+ghost use Rattle.mapf_model.specs.Limits.{most_path_cells};
+ghost use Rattle.mapf_spacetime.specs.Task.{IsWithin, state_at, start_of};
+ghost use Rattle.mapf_spacetime.specs.PathSearch.{AreNoWaysBelow, CanArrive, IsNoWayOn, IsSearching, IsWholeWalk};
+ghost use Rattle.mapf_spacetime.specs.PathSearch.{turns_left, first_walk, with_step, with_failure};
+
+use crate::ground::Ground;
+use crate::state::State;
+use crate::state_set::StateSet;
+use mapf_constraints::BarTable;
+use mapf_model::{Cell, OutOfMemory, Tick};
+use std::alloc::Global;
+use std::marker::Model;
+
+/// A walk from the start, one cell for each tick, and the states from which it had to turn back.
+#[derive(Drop)]
+pub struct PathSearch {
+    cells: Vec<Cell>,
+    failed: StateSet,
+}
+
+impl Model for PathSearch {
+    ghost use Rattle.mapf_spacetime.specs.PathSearch.{Walked};
+
+    ghost Value = { Walked };
+
+    ghost view = { λ walk. record { cells = walk.cells.items; failed = walk.failed } };
+}
+
+impl PathSearch {
+    fn of(alloc: Global, start: Cell) -> Result<PathSearch, OutOfMemory>
+        ensures { IfOk result (λ walk. walk ≡ first_walk start) }
+    {
+        let mut cells = Vec::new(alloc);
+        cells.push(start)?;
+        Ok(PathSearch {
+            cells,
+            failed: StateSet::new(alloc),
+        })
+    }
+
+    fn len(&self) -> usize
+        ensures { result ≡ length self.now.cells }
+    {
+        self.cells.len()
+    }
+
+    /// Where the walk has come.
+    fn last(&self) -> State
+        requires some { 1 ≤ length self.now.cells }
+        requires short { length self.now.cells ≤ most_path_cells }
+        ensures { let tick = length self.now.cells - 1 in result ≡ state_at (slice_index self.now.cells tick) tick }
+    {
+        let tick = self.cells.len() - 1;
+        State {
+            tick: tick as Tick,
+            cell: self.cells[tick],
+        }
+    }
+
+    fn step(&mut self, to: Cell) -> Result<(), OutOfMemory>
+        ensures { OnOk result (self.new ≡ with_step self.old to) }
+    {
+        self.cells.push(to)?;
+        Ok(())
+    }
+
+    /// Turns back from the last state.
+    fn turn_back(&mut self, state: State) -> Result<(), OutOfMemory>
+        requires { Contains self.old.failed state → ⊥ }
+        ensures turned { OnOk result (self.new ≡ with_failure self.old state) }
+        ensures small { OnOk result (length self.new.failed < 2 ^ 63) }
+    {
+        self.failed.add(state)?;
+        self.cells.pop();
+        Ok(())
+    }
+
+    /// Whether the bars let the agent go to the cell, and it may still arrive at the cost from there.
+    fn leads<B: BarTable>(&self, ground: &Ground<B>, from: &State, to: Cell, cost: u32) -> bool
+        requires small { from.now.tick < most_path_cells }
+        requires step { Step ground.now.grid from.now.cell to }
+        ensures may { IsTrue result → MayGo ground.now.grid ground.now.bars from.now.cell to from.now.tick }
+        ensures within { IsTrue result → IsWithin ground.now cost (state_at to (from.now.tick + 1)) }
+        ensures fresh { IsTrue result → Contains self.now.failed (state_at to (from.now.tick + 1)) → ⊥ }
+        ensures no { result ≡ false → IsNoWayOn ground.now cost self.now.failed from.now to }
+    {
+        let next = State {
+            tick: from.tick + 1,
+            cell: to,
+        };
+        if !is_within(ground, &next, cost) {
+            return false;
+        }
+        if !ground.lets(from, to) {
+            return false;
+        }
+        !self.failed.has(&next)
+    }
+
+    /// The first of the cells from which the agent may still arrive.
+    fn next<B: BarTable>(
+        &self,
+        steps: &[Cell],
+        ground: &Ground<B>,
+        from: &State,
+        cost: u32,
+    ) -> Option<Cell>
+        requires small { from.now.tick < most_path_cells }
+        requires steps { (to : ℕ) → Contains steps.now to ↔ Step ground.now.grid from.now.cell to }
+        requires rising { IsStrictlyIncreasing steps.now }
+        ensures may { IfSome result (λ to. MayGo ground.now.grid ground.now.bars from.now.cell to from.now.tick) }
+        ensures within { IfSome result (λ to. IsWithin ground.now cost (state_at to (from.now.tick + 1))) }
+        ensures fresh { IfSome result (λ to. Contains self.now.failed (state_at to (from.now.tick + 1)) → ⊥) }
+        ensures least { IfSome result (AreNoWaysBelow ground.now cost self.now.failed from.now) }
+        ensures none { IfNone result ((to : ℕ) → IsNoWayOn ground.now cost self.now.failed from.now to) }
+    {
+        for to in steps {
+            if self.leads(ground, from, *to, cost) {
+                return Some(*to);
+            }
+        }
+        None
+    }
+
+    /// Goes one step on, or turns back where no step leads on.
+    fn go_on<B: BarTable>(
+        &mut self,
+        alloc: Global,
+        ground: &Ground<B>,
+        cost: u32,
+    ) -> Result<(), OutOfMemory>
+        requires small { cost < 9000000 }
+        requires arrives { CanArrive ground.now cost (start_of ground.now) }
+        requires searching { IsSearching ground.now cost self.old }
+        requires unfinished { length self.old.cells ≤ cost }
+        ensures searching { OnOk result (IsSearching ground.now cost self.new) }
+        ensures nearer { OnOk result (turns_left self.new < turns_left self.old) }
+    {
+        let here = self.last();
+        let steps = ground.steps(alloc, here.cell);
+        if let Some(to) = self.next(steps.as_slice(), ground, &here, cost) {
+            self.step(to)?;
+            return Ok(());
+        }
+        self.turn_back(here)?;
+        Ok(())
+    }
+
+    /// The cells of the walk.
+    fn into_cells(self) -> Vec<Cell>
+        ensures { result.items ≡ self.cells }
+    {
+        let PathSearch { cells, failed: _ } = self;
+        cells
+    }
+}
+
+/// Whether the tick and the distance of the cell together are at most the cost.
+fn is_within<B: BarTable>(ground: &Ground<B>, state: &State, cost: u32) -> bool
+    requires small { state.now.tick ≤ most_path_cells }
+    requires free { IsFree ground.now.grid state.now.cell }
+    ensures within { IsTrue result → IsWithin ground.now cost state.now }
+    ensures no { result ≡ false → CanArrive ground.now cost state.now → ⊥ }
+{
+    match ground.value(state) {
+        Some(value) => value <= cost,
+        None => false,
+    }
+}
+
+/// The walk of the cost from the start to the goal whose cell numbers are least, compared from the
+/// first on.
+pub fn least_walk<B: BarTable>(
+    alloc: Global,
+    ground: &Ground<B>,
+    cost: u32,
+) -> Result<Vec<Cell>, OutOfMemory>
+    requires small { cost < 9000000 }
+    requires arrives { CanArrive ground.now cost (start_of ground.now) }
+    requires within { IsWithin ground.now cost (start_of ground.now) }
+    ensures { IfOk result (λ cells. IsWholeWalk ground.now cost cells.items) }
+{
+    let mut walk = PathSearch::of(alloc, ground.start())?;
+    while walk.len() <= cost as usize {
+        walk.go_on(alloc, ground, cost)?;
+    }
+    Ok(walk.into_cells())
+}
