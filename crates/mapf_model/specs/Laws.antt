@@ -1,8 +1,9 @@
 -- The laws of the definitions.
-use Rattle.std.specs.Prelude.{◌≡◌, ◌≢◌, ◌↔◌, ℕ, ◌+◌, ◌-◌, ◌<◌, List, [], ◌∷◌, Some, length, slice_index, Contains, AllPairs}
+use Rattle.std.specs.Prelude.{◌≡◌, ◌≢◌, ◌↔◌, ℕ, ◌+◌, ◌-◌, ◌<◌, List, [], ◌∷◌, Some, length, slice_index, slice_get, Contains, AllPairs}
 use Rattle.mapf_model.specs.declared.bar.Bar.{Bar}
 use Rattle.mapf_model.specs.declared.problem.Agent.{Agent}
 use Rattle.mapf_model.specs.Blocks.{LabelBlock}
+use Rattle.mapf_model.specs.declared.constraint.Constraint.{Constraint}
 use Rattle.mapf_model.specs.declared.item.Claim.{Claim}
 use Rattle.mapf_model.specs.declared.item.Claim.TheVariants.{Cost, Impossible}
 use Rattle.mapf_model.specs.declared.conflict.Conflict.{Conflict}
@@ -15,7 +16,7 @@ use Rattle.mapf_model.specs.Printed.{IsBefore}
 use Rattle.mapf_model.specs.Bars.{Satisfies}
 use Rattle.mapf_model.specs.Labels.{Entries, entries_of, AreSound, IsLabel, IsAtMost, label_sum}
 use Rattle.mapf_model.specs.Plan.{Instance, IsValid, IsSumOfCosts}
-use Rattle.mapf_model.specs.Tree.{ConstraintTree, Leaf, NodeContext, IsProper, SplitShows, AtSomeEnd, AllSatisfy, root, left_child_context, right_child_context, Node, SplitNode, LeafNode, ClashNode, nodes_of, AreStartLabels, StartsShow, ShareGoal, ShowsFrom, NodesShow, Shows, Holds}
+use Rattle.mapf_model.specs.Tree.{ConstraintTree, Leaf, NodeContext, IsProper, SplitShows, AtSomeEnd, AllSatisfy, root, child_context, left_child_context, right_child_context, Node, SplitNode, LeafNode, ClashNode, nodes_of, AreStartLabels, StartsShow, ShareGoal, ShowsFrom, NodesShow, Shows, Holds}
 
 -- under sound labels each lawful path that obeys the bars costs at least the label of the start
 abbrev pub LabelBound : Type 0
@@ -121,3 +122,17 @@ TightPathsCostTheirSteps = (grid : GridMap) (agent : Agent) (path : List ℕ) �
 -- in a list that rises, the label of a state is the one with which the list has it
 abbrev pub ListedLabelsAreFound : Type 0
 ListedLabelsAreFound = (entries : List Entry) → AllPairs IsBefore entries → (cell tick : ℕ) (label : Label) → (entries_of entries cell tick ≡ Some label) ↔ Contains entries (record { cell = cell; tick = tick; label = label })
+
+-- contexts that no tree tells apart: the same constraints, and for each agent of the problem the same entry of its start
+-- at tick 0
+pub record AreAlike (problem : Instance) (a b : NodeContext) : Type 0 where
+  pub bars : a.bars ≡ b.bars
+  pub starts : (i : ℕ) (agent : Agent) → slice_get problem.agents i ≡ Some agent → a.entries i agent.start 0 ≡ b.entries i agent.start 0
+
+-- of the entries that a node inherits only those of the starts at tick 0 count
+abbrev pub OnlyStartEntriesCount : Type 0
+OnlyStartEntriesCount = (problem : Instance) (claim : Claim) (a b : NodeContext) (tree : ConstraintTree) → AreAlike problem a b → ShowsFrom problem claim a tree → ShowsFrom problem claim b tree
+
+-- the children of alike contexts are alike
+abbrev pub ChildrenAreAlike : Type 0
+ChildrenAreAlike = (problem : Instance) (a b : NodeContext) (blocks : List LabelBlock) (constraint : Constraint) → AreAlike problem a b → AreAlike problem (child_context a blocks constraint) (child_context b blocks constraint)
