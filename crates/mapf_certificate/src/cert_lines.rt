@@ -177,17 +177,12 @@ impl CertLines {
         if let Some(header) = self.header {
             return Ok(header);
         }
-        match read_header(&mut self.lines, source) {
-            Ok((version, agents, claim)) => {
-                self.version = version;
-                self.header = Some((agents, claim));
-                Ok((agents, claim))
-            }
-            Err(fault) => {
-                self.fault = Some(fault);
-                Err(fault)
-            }
-        }
+        let read = read_header(&mut self.lines, source);
+        self.fault = read.err();
+        let (version, agents, claim) = read?;
+        self.version = version;
+        self.header = Some((agents, claim));
+        Ok((agents, claim))
     }
 
     /// The next item of the tree, or None where the whole certificate was read.
