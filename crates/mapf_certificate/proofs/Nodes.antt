@@ -146,15 +146,6 @@ split_rest sizes line conflict told count blocks taken same is counted many e =
     let first : line ≡ lines.Split conflict (count_on_split sizes.version blocks) = same ∙ ap (lines.Split conflict) whole in
     (same_line (dues.Tree sizes) line line taken (blocks_text sizes.width blocks) is is (e ∙ ap (λ (l : CertLine). line_text sizes.width l ++ blocks_text sizes.width blocks) (sym first))).1
 
--- nothing more is taken for a node of one line
-pub one_line : (sizes : Sizes) (had : Option (List ℕ)) (x : Buffered) (line : CertLine) (node : Node) → line ≡ first_line sizes.version node → after_first sizes.width node ≡ [] → IsNodeFor sizes node → CompletesNode sizes.version (grid_for sizes) sizes.agents had had x x line node
-one_line sizes had x line node same none is = record {
-  in_range = is;
-  taken = [];
-  spelled = ap (λ l. line_text sizes.width l ++ []) same ∙ ap (λ l. line_text sizes.width (first_line sizes.version node) ++ l) (sym none);
-  window = record { pulled = []; source = Consumes-nil had; same = append-nil x.bytes; within = omega arith };
-}
-
 pub fails_in_blocks : (sizes : Sizes) (had left : Option (List ℕ)) (failed : Bool) (x : Buffered) (line : CertLine) (count : ℕ) (fault : LinesFault) → IsLine (dues.Tree sizes) line → line ≡ lines.Leaf count
     → Fails had left failed x (BeginsWithBlocks sizes count) fault → Fails had left failed x (λ t. BeginsWithNode sizes (line_text sizes.width line ++ t)) fault
 fails_in_blocks sizes had left failed x line count fault is same fails =

@@ -28,7 +28,7 @@ rest_cons version width node others = append_assoc (node_text version width node
 -- a tree with a split at its root is that split and two trees
 split_parts : (version : Version) (grid : GridMap) (agents : ℕ) (conflict : Conflict) (blocks : List LabelBlock) (left right : ConstraintTree) → IsCertTree version grid agents (Split conflict blocks left right)
     → IsNode version grid agents (SplitNode conflict blocks) × IsCertTree version grid agents left × IsCertTree version grid agents right
-split_parts One grid agents conflict blocks left right ((ranged, are, l, r), (none, below)) = ((ranged, are, none), (l, below.0), (r, below.1))
+split_parts One grid agents conflict blocks left right ((ranged, are, l, r), (none, p, q)) = ((ranged, are, none), (l, p), (r, q))
 split_parts Two grid agents conflict blocks left right ((ranged, are, l, r), all) = ((ranged, are, tt), (l, tt), (r, tt))
 
 split_whole : (version : Version) (grid : GridMap) (agents : ℕ) (conflict : Conflict) (blocks : List LabelBlock) (left right : ConstraintTree) → IsNode version grid agents (SplitNode conflict blocks) → IsCertTree version grid agents left → IsCertTree version grid agents right

@@ -18,7 +18,7 @@ returns-in-Ok-clause-header g c =
     let had = s.remaining c.args.source.now in
     let left = s.remaining c.read_header-read.new.source in
     let h = c.in-Ok.header in
-    let new : Reading = record { width = i.width; height = i.height; buffer = c.read_header-read.new.lines.buffer; header = Some h; fault = i.fault; is_whole = i.is_whole; owed = i.owed } in
+    let new : Reading = record { width = i.width; height = i.height; buffer = c.read_header-read.new.lines.buffer; version = c.in_ok-read.version; header = Some (c.in_ok-read.agents, c.in_ok-read.claim); fault = i.fault; is_whole = i.is_whole; owed = i.owed } in
     let P : Reading → Type 0 = λ r. r.fault ≡ None → r.header ≡ None → TakesHeader had left r new h.0 h.1 in
     subst P c.self.view_is (λ p q. record {
       agents_in_range = c.in-Ok.ensures.agents;
@@ -34,7 +34,7 @@ returns-in-Ok-clause-only g c =
     let had = s.remaining c.args.source.now in
     let left = s.remaining c.read_header-read.new.source in
     let h = c.in-Ok.header in
-    let new : Reading = record { width = i.width; height = i.height; buffer = c.read_header-read.new.lines.buffer; header = Some h; fault = i.fault; is_whole = i.is_whole; owed = i.owed } in
+    let new : Reading = record { width = i.width; height = i.height; buffer = c.read_header-read.new.lines.buffer; version = c.in_ok-read.version; header = Some (c.in_ok-read.agents, c.in_ok-read.claim); fault = i.fault; is_whole = i.is_whole; owed = i.owed } in
     let P : Reading → Type 0 = λ r. (agents : ℕ) (claim : Claim) (nodes : List Node) → r.fault ≡ None → r.header ≡ None → AwaitsCert had r agents claim nodes → (h.0 ≡ agents) × (h.1 ≡ claim) × Awaits left new nodes in
     subst P c.self.view_is (λ agents claim nodes p q awaits. header_same _ _ _ _ _ _ _ _ _ c.in-Ok.ensures.agents c.in-Ok.ensures.claim (c.in-Ok.ensures.taken i.width) refl refl refl awaits)
 
