@@ -177,12 +177,17 @@ impl CertLines {
         if let Some(header) = self.header {
             return Ok(header);
         }
-        let read = read_header(&mut self.lines, source);
-        self.fault = read.err();
-        let (version, agents, claim) = read?;
-        self.version = version;
-        self.header = Some((agents, claim));
-        Ok((agents, claim))
+        match read_header(&mut self.lines, source) {
+            Ok((version, agents, claim)) => {
+                self.version = version;
+                self.header = Some((agents, claim));
+                Ok((agents, claim))
+            }
+            Err(why) => {
+                self.fault = Some(why);
+                Err(why)
+            }
+        }
     }
 
     /// The next item of the tree, or None where the whole certificate was read.
