@@ -1,6 +1,5 @@
 -- Nodes in a certificate's text.
 use Rattle.std.proofs.Common.{◌≡◌, ℕ, ◌<◌, ◌≤◌, List, [], ◌∷◌, ◌++◌, length, get_or, AllPairs, Option, Some, None, unwrap_or, Bool, false, suc, zero, refl, sym, ap, subst, ◌∙◌, arith, append_assoc, inl}
-use Rattle.std.proofs.lemmas.List.{append-nil}
 use Rattle.std.proofs.KnownBytes.{Consumes-nil}
 use Rattle.mapf_model.specs.declared.conflict.Conflict.{Conflict}
 use Rattle.mapf_model.specs.Blocks.{LabelBlock}
@@ -16,7 +15,6 @@ use Rattle.mapf_certificate.specs.declared.tree_line.Due.TheVariants as dues
 use Rattle.mapf_certificate.specs.Buffered.{Buffered}
 use Rattle.mapf_certificate.specs.Lines.{IsLine, IsCountOnSplit, grid_for}
 use Rattle.mapf_certificate.specs.Certificates.{line_text, blocks_text, block_text, count_on_split, first_line, node_text, MayBeOnSplit}
-use Rattle.mapf_certificate.specs.CertReading.{CompletesNode}
 use Rattle.mapf_certificate.specs.Window.{Fails, IsTextFault}
 use Rattle.mapf_certificate.specs.Bounded.{BeginsWithBlocks, BeginsWithLine, BeginsWithNode, IsBlockFor, IsNodeFor, IsOfLesserAgent}
 use Rattle.mapf_certificate.proofs.PlainLines.{same_line}

@@ -1,8 +1,9 @@
 ghost use Rattle.std.specs.Prelude.{◌≡◌, ◌<◌, Ok, IfOk, OnOk, length};
 ghost use Rattle.mapf_certificate.specs.Lines.{IsLine, words, width_of};
-ghost use Rattle.mapf_certificate.specs.LineReading.{read_title, read_count, read_cost, read_agents, read_claim, read_blocks};
+ghost use Rattle.mapf_certificate.specs.LineReading.{read_title, read_count, read_cost, read_agents, read_claim};
 ghost use Rattle.mapf_certificate.specs.LineReading.{read_vertex, read_swap, read_leaf, read_clash, read_agent};
-ghost use Rattle.mapf_certificate.specs.LineReading.{read_label_word, label_in_range, read_entry, read_tree_line, blocks_in_range};
+ghost use Rattle.mapf_certificate.specs.LineReading.{read_label_word, label_in_range, read_entry, read_tree_line};
+ghost use Rattle.mapf_certificate.specs.LineReading.{read_blocks, blocks_in_range};
 ghost use Rattle.mapf_certificate.specs.LineReading.{read_line};
 
 use crate::field::{field, last, pair, strip};
