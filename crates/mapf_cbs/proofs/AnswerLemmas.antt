@@ -41,7 +41,7 @@ pub state_root : (problem : Instance) (paths : Vec (List ℕ) Global) (total : �
 state_root problem paths total view root_view live total_is small = record {
   views = view ∷ [];
   are = record { lengths = refl; each = each_view };
-  searched = searched_first problem view root_view.constraints live;
+  searched = searched_first problem view root_view.context live;
   opens = record {
     only = λ key in_it. only key in_it;
     each = each_open;
@@ -111,7 +111,7 @@ not_apart paths (Vertex i j cell tick) (differ, p, q, ip, jq, here, there) = (i,
 not_apart paths (Swap i j from to tick) (differ, moved, p, q, ip, jq, here, there) = (i, j, tick, p, q, differ, ip, jq, inr (here.0 ∙ sym there.1, here.1 ∙ sym there.0))
 
 -- a tree of the search can be printed, and its splits are earned
-is_tree_of : (problem : Instance) → IsGridMap problem.grid → ((tree : ConstraintTree) → NamesFirstDefect problem tree) → (views : List View) (fates : List Fate) (count limit : ℕ) → count ≤ limit → IsSearched problem views fates count → (items : List Item) (tree : ConstraintTree) → Spell items tree → IsTreeAt (length problem.agents) views fates 0 tree → IsTreeOf problem limit items tree
+is_tree_of : (problem : Instance) → IsGridMap problem.grid → ((tree : ConstraintTree) → NamesFirstDefect problem tree) → (views : List View) (fates : List Fate) (count limit : ℕ) → count ≤ limit → IsSearched problem views fates count → (items : List Item) (tree : ConstraintTree) → Spell items tree → IsTreeAt views fates 0 tree → IsTreeOf problem limit items tree
 is_tree_of problem shape names views fates count limit within searched items tree spelled on_tree = record {
   spelled = spelled;
   few = (let size = has_splits problem views fates count searched tree on_tree in omega (arith, size, within));
@@ -129,7 +129,7 @@ pub is_shown_impossible : (problem : Instance) (tree : ConstraintTree) → Shows
 is_shown_impossible problem tree shows = record { shows = shows; impossible = shown_holds problem Impossible tree shows }
 
 -- no open node is left
-pub answer_impossible : (problem : Instance) → IsGridMap problem.grid → ((tree : ConstraintTree) → NamesFirstDefect problem tree) → (nodes : List Node) (fates : List Fate) (count limit : ℕ) → count ≤ limit → (state : IsState problem nodes fates [] count) (items : List Item) → (tree : ConstraintTree) × Spell items tree × IsTreeAt (length problem.agents) state.views fates 0 tree →
+pub answer_impossible : (problem : Instance) → IsGridMap problem.grid → ((tree : ConstraintTree) → NamesFirstDefect problem tree) → (nodes : List Node) (fates : List Fate) (count limit : ℕ) → count ≤ limit → (state : IsState problem nodes fates [] count) (items : List Item) → (tree : ConstraintTree) × Spell items tree × IsTreeAt state.views fates 0 tree →
     (tree : ConstraintTree) × IsTreeOf problem limit items tree × IsShownImpossible problem tree
 answer_impossible problem shape names nodes fates count limit within state items (tree, spell, on_tree) = (
   tree,
@@ -141,7 +141,7 @@ answer_impossible problem shape names nodes fates count limit within state items
       Contains-none (sum view.0.costs, m) (state.opens.each m view.0 view.1 m_open))),
 )
 
-module _ (problem : Instance) (shape : IsGridMap problem.grid) (names : (tree : ConstraintTree) → NamesFirstDefect problem tree) (nodes : List Node) (fates : List Fate) (rest : List (ℕ × ℕ)) (count total k : ℕ) (popped : IsPopped problem nodes fates rest count total k) (limit : ℕ) (within : count ≤ limit) (items : List Item) (found : (tree : ConstraintTree) × Spell items tree × IsTreeAt (length problem.agents) popped.state.views fates 0 tree) where
+module _ (problem : Instance) (shape : IsGridMap problem.grid) (names : (tree : ConstraintTree) → NamesFirstDefect problem tree) (nodes : List Node) (fates : List Fate) (rest : List (ℕ × ℕ)) (count total k : ℕ) (popped : IsPopped problem nodes fates rest count total k) (limit : ℕ) (within : count ≤ limit) (items : List Item) (found : (tree : ConstraintTree) × Spell items tree × IsTreeAt popped.state.views fates 0 tree) where
   tree_is : IsTreeOf problem limit items found.0
   tree_is = is_tree_of problem shape names popped.state.views fates count limit within popped.state.searched items found.0 found.1 found.2
 
@@ -177,7 +177,7 @@ module _ (problem : Instance) (shape : IsGridMap problem.grid) (names : (tree : 
     answer_splits conflict meet early = (
       found.0,
       tree_is,
-      is_stopped problem popped.state.views fates count popped.state.searched found.0 found.2 (λ constraints paths. AreFirstPaths problem constraints paths × HaveConflictBefore paths 1000000) k view is is_open least (not_apart view.paths conflict meet) (live_first problem view live, (conflict, meet, early)),
+      is_stopped problem popped.state.views fates count popped.state.searched found.0 found.2 (λ context paths. AreFirstPaths problem context paths × HaveConflictBefore paths 1000000) k view is is_open least (not_apart view.paths conflict meet) (live_first problem view live, (conflict, meet, early)),
       has_splits problem popped.state.views fates count popped.state.searched found.0 found.2,
     )
 
@@ -188,7 +188,7 @@ module _ (problem : Instance) (shape : IsGridMap problem.grid) (names : (tree : 
         let size = has_splits problem popped.state.views fates count popped.state.searched found.0 found.2 in (
           found.0,
           tree_is,
-          is_stopped problem popped.state.views fates count popped.state.searched found.0 found.2 (λ constraints paths. AreFirstPaths problem constraints paths × AreConflictFreeBefore paths 1000000) k view is is_open least (not_apart view.paths conflict meet) (live_first problem view live, λ i j tick p q before. apart i j tick p q (omega arith)),
+          is_stopped problem popped.state.views fates count popped.state.searched found.0 found.2 (λ context paths. AreFirstPaths problem context paths × AreConflictFreeBefore paths 1000000) k view is is_open least (not_apart view.paths conflict meet) (live_first problem view live, λ i j tick p q before. apart i j tick p q (omega arith)),
           rw size (omega arith),
         )
 

@@ -59,11 +59,11 @@ HasNoPath-same grid agent xs ys entries same blocked = record {
 module _ (problem : Instance) (view : View) (live : IsLive problem view) (constraint : Constraint) (agent : Agent) (known : slice_get problem.agents constraint.agent ≡ Some agent) (es : List Entry) where
   -- an agent that isn't bound keeps its path
   kept : (k : ℕ) (other : Agent) (path : List ℕ) (cost : ℕ) → k ≢ constraint.agent → slice_get problem.agents k ≡ Some other → slice_get view.paths k ≡ Some path → slice_get view.costs k ≡ Some cost →
-      (b : Bool) → nat_eq k constraint.agent ≡ b → IsCheapestPath problem.grid other (cond b (constraint.bar ∷ view.constraints.bars k) (view.constraints.bars k)) path cost (cond b es (view.entries k))
+      (b : Bool) → nat_eq k constraint.agent ≡ b → IsCheapestPath problem.grid other (cond b (constraint.bar ∷ view.context.bars k) (view.context.bars k)) path cost (cond b es (view.entries k))
   kept k other path cost differ a p c true is = absurd (differ (eqb-true k constraint.agent is))
   kept k other path cost differ a p c false is = live.each k other path cost a p c
 
-  pub dead_child_dead : HasNoPath problem.grid agent (constraint.bar ∷ view.constraints.bars constraint.agent) es → IsDead problem (dead_child view constraint es)
+  pub dead_child_dead : HasNoPath problem.grid agent (constraint.bar ∷ view.context.bars constraint.agent) es → IsDead problem (dead_child view constraint es)
   dead_child_dead blocked = record {
     counted = record { paths = live.counted.paths; costs = live.counted.costs };
     who = constraint.agent;
@@ -73,7 +73,7 @@ module _ (problem : Instance) (view : View) (live : IsLive problem view) (constr
     each = λ k other path cost differ a p c. kept k other path cost differ a p c (nat_eq k constraint.agent) refl;
   }
 
-  module _ (path' : List ℕ) (cost' : ℕ) (agent_path : IsCheapestPath problem.grid agent (constraint.bar ∷ view.constraints.bars constraint.agent) path' cost' es) where
+  module _ (path' : List ℕ) (cost' : ℕ) (agent_path : IsCheapestPath problem.grid agent (constraint.bar ∷ view.context.bars constraint.agent) path' cost' es) where
     within : constraint.agent < length problem.agents
     within = slice_get_within problem.agents constraint.agent agent known
 
@@ -85,11 +85,11 @@ module _ (problem : Instance) (view : View) (live : IsLive problem view) (constr
         let this_path : path' ≡ path = same_Some path' path (sym (slice_get-set_same view.paths constraint.agent path' (omega arith)) ∙ subst (λ n. slice_get (slice_set view.paths constraint.agent path') n ≡ Some path) same p) in
         let this_cost : cost' ≡ cost = same_Some cost' cost (sym (slice_get-set_same view.costs constraint.agent cost' (omega arith)) ∙ subst (λ n. slice_get (slice_set view.costs constraint.agent cost') n ≡ Some cost) same c) in
         let this_agent : agent ≡ other = same_Some agent other (sym known ∙ subst (λ n. slice_get problem.agents n ≡ Some other) same a) in
-        let moved : IsCheapestPath problem.grid other (constraint.bar ∷ view.constraints.bars constraint.agent) path cost es =
-        subst (λ x. IsCheapestPath problem.grid x (constraint.bar ∷ view.constraints.bars constraint.agent) path cost es) this_agent
-        (subst (λ x. IsCheapestPath problem.grid agent (constraint.bar ∷ view.constraints.bars constraint.agent) x cost es) this_path
-        (subst (λ x. IsCheapestPath problem.grid agent (constraint.bar ∷ view.constraints.bars constraint.agent) path' x es) this_cost agent_path)) in
-        rw here (subst (λ n. IsCheapestPath problem.grid other (constraint.bar ∷ view.constraints.bars n) path cost es) (sym same) moved)
+        let moved : IsCheapestPath problem.grid other (constraint.bar ∷ view.context.bars constraint.agent) path cost es =
+        subst (λ x. IsCheapestPath problem.grid x (constraint.bar ∷ view.context.bars constraint.agent) path cost es) this_agent
+        (subst (λ x. IsCheapestPath problem.grid agent (constraint.bar ∷ view.context.bars constraint.agent) x cost es) this_path
+        (subst (λ x. IsCheapestPath problem.grid agent (constraint.bar ∷ view.context.bars constraint.agent) path' x es) this_cost agent_path)) in
+        rw here (subst (λ n. IsCheapestPath problem.grid other (constraint.bar ∷ view.context.bars n) path cost es) (sym same) moved)
     by_agent k other path cost a p c (inr differ) =
         kept k other path cost differ a (sym (slice_get-set_other view.paths constraint.agent k path' differ) ∙ p) (sym (slice_get-set_other view.costs constraint.agent k cost' differ) ∙ c) (nat_eq k constraint.agent) refl
 
@@ -104,7 +104,7 @@ module _ (problem : Instance) (view : View) (live : IsLive problem view) (constr
     live_child_sum cost is =
         let r = agent_path_of problem view live.counted constraint.agent agent known in
         let old = live.each constraint.agent agent r.0 cost known r.2 is in
-        (sum-set view.costs constraint.agent cost cost' is, old.least path' cost' agent_path.lawful (λ b in_it. agent_path.satisfies b (Contains-later constraint.bar b (view.constraints.bars constraint.agent) in_it)) agent_path.is_cost)
+        (sum-set view.costs constraint.agent cost cost' is, old.least path' cost' agent_path.lawful (λ b in_it. agent_path.satisfies b (Contains-later constraint.bar b (view.context.bars constraint.agent) in_it)) agent_path.is_cost)
 
 -- the bars of a child, one of which is new, are below a later bound
 pub AreBefore-with_constraint : (bars : ℕ → List Bar) (constraint : Constraint) (horizon later : ℕ) → horizon ≤ later → bar_tick constraint.bar < later → ((k : ℕ) → AreBefore horizon (bars k)) → (k : ℕ) → AreBefore later (with_constraint bars constraint k)
@@ -161,7 +161,7 @@ module _ (problem : Instance) (view : View) (live : IsLive problem view) where
         elim step [ inl wait ↦ absurd (moved wait.1) | inr move ↦ move ],
       )
 
-  module _ (goals : (i j : ℕ) → ShareGoal problem i j → ⊥) (horizon : ℕ) (below : (i : ℕ) → AreBefore horizon (view.constraints.bars i)) where
+  module _ (goals : (i j : ℕ) → ShareGoal problem i j → ⊥) (horizon : ℕ) (below : (i : ℕ) → AreBefore horizon (view.context.bars i)) where
     -- past both arrivals two agents of different goals don't meet
     pub conflict_early : (conflict : Conflict) → HasConflict view.paths conflict → tick_of conflict < horizon + free_cell_count problem.grid
     conflict_early (Vertex i j cell tick) (differ, p, q, ip, jq, here, there) =

@@ -94,7 +94,7 @@ module _ (problem : Instance) (shape : IsGridMap problem.grid) where
     rising = are.rising;
   }
 
-  pub tree_in_range : (views : List View) (fates : List Fate) (count : ℕ) → IsSearched problem views fates count → (tree : ConstraintTree) (k : ℕ) → IsTreeAt (length problem.agents) views fates k tree → IsTreeInRange problem.grid (length problem.agents) tree
+  pub tree_in_range : (views : List View) (fates : List Fate) (count : ℕ) → IsSearched problem views fates count → (tree : ConstraintTree) (k : ℕ) → IsTreeAt views fates k tree → IsTreeInRange problem.grid (length problem.agents) tree
   tree_in_range views fates count searched (Split conflict left right) k (a, expanded, on_left, on_right) =
       let size = searched.lengths in
       let inside : k < length fates = slice_get_within fates k (Expanded conflict a) expanded in

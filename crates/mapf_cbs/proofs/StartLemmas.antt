@@ -55,8 +55,8 @@ pub record IsRootOf (problem : Instance) (paths : List (List ℕ)) : Type 0 wher
 
 pub root_of : (problem : Instance) (paths : List (List ℕ)) → length paths ≡ length problem.agents → AreShortest problem paths → IsRootOf problem paths
 root_of problem paths count shortest = record {
-  view = record { constraints = root; paths = paths; costs = map (λ path. length path - 1) paths; entries = λ i. [] };
-  is_root = record { constraints = refl; same_paths = refl; entries = λ i. refl };
+  view = record { context = root; paths = paths; costs = map (λ path. length path - 1) paths; entries = λ i. [] };
+  is_root = record { context = refl; same_paths = refl; entries = λ i. refl };
   live = record {
     counted = record { paths = count; costs = length-map paths (λ path. length path - 1) ∙ count };
     each = λ i agent path cost a p c.

@@ -9,7 +9,7 @@ use Rattle.mapf_model.specs.declared.item.Claim.TheVariants.{Cost, Impossible}
 use Rattle.mapf_model.specs.Blocks.{LabelBlock}
 use Rattle.mapf_model.specs.Labels.{entries_of, AreSound, IsLabel, IsAtMost, label_sum}
 use Rattle.mapf_model.specs.Plan.{Instance, IsSumOfCosts}
-use Rattle.mapf_model.specs.Tree.{ConstraintTree, Split, Leaf, Clash, NodeConstraints, AtEachNode, AtEachEnd, AtSomeLeaf, root, split_count, IsProper, IsProperNode, block_of, entries_or, with_blocks, no_entries, AreBlocksSound, AreStartLabels, NodeShows, Shows}
+use Rattle.mapf_model.specs.Tree.{ConstraintTree, Split, Leaf, Clash, NodeContext, AtEachNode, AtEachEnd, AtSomeLeaf, root, split_count, IsProper, IsProperNode, block_of, entries_or, with_blocks, no_entries, AreBlocksSound, AreStartLabels, NodeShows, Shows}
 use Rattle.mapf_model.specs.Earned.{AreCheapest, AreDue, HaveSomeConflict, IsEarnedNode, IsEarned, IsStoppedWhere}
 use Rattle.mapf_cbs.specs.declared.node.Fate.{Fate}
 use Rattle.mapf_cbs.specs.declared.node.Fate.TheVariants.{Open, Dead, Expanded}
@@ -20,7 +20,7 @@ use Rattle.mapf_cbs.proofs.ViewLemmas.{agent_path_of, live_cheapest, live_first,
 
 -- sound entries for each agent, and the labels of the starts
 pub record AreLabelled (problem : Instance) (view : View) (labels : List Label) : Type 0 where
-  pub sound : (i : ℕ) (agent : Agent) → slice_get problem.agents i ≡ Some agent → AreSound problem.grid agent.goal (view.constraints.bars i) (entries_of (view.entries i))
+  pub sound : (i : ℕ) (agent : Agent) → slice_get problem.agents i ≡ Some agent → AreSound problem.grid agent.goal (view.context.bars i) (entries_of (view.entries i))
   pub starts : AreStartLabels problem (λ i. entries_of (view.entries i)) labels
 
 module _ (problem : Instance) (view : View) where
@@ -40,11 +40,11 @@ module _ (problem : Instance) (view : View) where
     };
   }
 
-  dead_sound : (dead : IsDead problem view) (i : ℕ) (agent : Agent) → slice_get problem.agents i ≡ Some agent → (i ≡ dead.who) ⊎ (i ≢ dead.who) → AreSound problem.grid agent.goal (view.constraints.bars i) (entries_of (view.entries i))
+  dead_sound : (dead : IsDead problem view) (i : ℕ) (agent : Agent) → slice_get problem.agents i ≡ Some agent → (i ≡ dead.who) ⊎ (i ≢ dead.who) → AreSound problem.grid agent.goal (view.context.bars i) (entries_of (view.entries i))
   dead_sound dead i agent a (inl same) =
       let is : dead.agent ≡ agent = same_Some dead.agent agent (sym dead.known ∙ subst (λ n. slice_get problem.agents n ≡ Some agent) same a) in
-      subst (λ n. AreSound problem.grid agent.goal (view.constraints.bars n) (entries_of (view.entries n))) (sym same)
-      (subst (λ (x : Agent). AreSound problem.grid x.goal (view.constraints.bars dead.who) (entries_of (view.entries dead.who))) is dead.blocked.labels.sound)
+      subst (λ n. AreSound problem.grid agent.goal (view.context.bars n) (entries_of (view.entries n))) (sym same)
+      (subst (λ (x : Agent). AreSound problem.grid x.goal (view.context.bars dead.who) (entries_of (view.entries dead.who))) is dead.blocked.labels.sound)
   dead_sound dead i agent a (inr differ) =
       let r = agent_path_of problem view dead.counted i agent a in (dead.each i agent r.0 r.1 differ a r.2 r.3).labels.sound
 
@@ -84,9 +84,9 @@ module _ (problem : Instance) (view : View) where
     by_block i agent label inside (Some block) is h = subst (λ es. IsLabel problem.grid agent.goal (entries_of es) agent.start 0 label) (sym (are.some i block is)) h
     by_block i agent label inside None is h = subst (λ es. IsLabel problem.grid agent.goal (entries_of es) agent.start 0 label) (are.none i inside is) h
 
-    pub blocks_sound : (labels : List Label) → AreLabelled problem view labels → AreBlocksSound problem view.constraints blocks
+    pub blocks_sound : (labels : List Label) → AreLabelled problem view labels → AreBlocksSound problem view.context blocks
     blocks_sound labels labelled i agent block a is =
-        subst (λ es. AreSound problem.grid agent.goal (view.constraints.bars i) (entries_of es)) (sym (are.some i block is)) (labelled.sound i agent a)
+        subst (λ es. AreSound problem.grid agent.goal (view.context.bars i) (entries_of es)) (sym (are.some i block is)) (labelled.sound i agent a)
 
     pub blocks_start : (labels : List Label) → AreLabelled problem view labels → AreStartLabels problem (with_blocks blocks no_entries) labels
     blocks_start labels labelled = record {
@@ -94,20 +94,20 @@ module _ (problem : Instance) (view : View) where
       each = λ i agent label a l. by_block i agent label (slice_get_within problem.agents i agent a) (block_of blocks i) refl (labelled.starts.each i agent label a l);
     }
 
-    pub live_shows : IsLive problem view → (cost : ℕ) → cost ≤ sum view.costs → NodeShows problem (Cost cost) view.constraints (Leaf blocks)
+    pub live_shows : IsLive problem view → (cost : ℕ) → cost ≤ sum view.costs → NodeShows problem (Cost cost) view.context (Leaf blocks)
     live_shows live cost low =
         let labelled = live_labelled live in (
           blocks_sound (map Ticks view.costs) labelled,
           (map Ticks view.costs, blocks_start (map Ticks view.costs) labelled, let e : label_sum (map Ticks view.costs) ≡ Ticks (sum view.costs) = label_sum-ticks view.costs in subst (λ l. IsAtMost (Ticks cost) l) (sym e) low),
         )
 
-    pub dead_shows : IsDead problem view → (cost : ℕ) → NodeShows problem (Cost cost) view.constraints (Leaf blocks)
+    pub dead_shows : IsDead problem view → (cost : ℕ) → NodeShows problem (Cost cost) view.context (Leaf blocks)
     dead_shows dead cost =
         let labelled = dead_labelled dead in
         let labels = slice_set (map Ticks view.costs) dead.who Never in
         (blocks_sound labels labelled, (labels, blocks_start labels labelled, subst (λ l. IsAtMost (Ticks cost) l) (sym (dead_infinite dead)) tt))
 
-    pub dead_shows_impossible : IsDead problem view → NodeShows problem Impossible view.constraints (Leaf blocks)
+    pub dead_shows_impossible : IsDead problem view → NodeShows problem Impossible view.context (Leaf blocks)
     dead_shows_impossible dead =
         let labelled = dead_labelled dead in
         let inside : dead.who < length problem.agents = slice_get_within problem.agents dead.who dead.agent dead.known in (
@@ -117,31 +117,31 @@ module _ (problem : Instance) (view : View) where
 
 module _ (problem : Instance) (views : List View) (fates : List Fate) (count : ℕ) (searched : IsSearched problem views fates count) where
   -- what is so of each node of the search is so of each node of its tree
-  pub each_node : (P : NodeConstraints → ConstraintTree → Type 0) → ((k : ℕ) (view : View) (tree : ConstraintTree) → slice_get views k ≡ Some view → IsTreeAt (length problem.agents) views fates k tree → P view.constraints tree) →
-      (tree : ConstraintTree) (k : ℕ) (view : View) → slice_get views k ≡ Some view → IsTreeAt (length problem.agents) views fates k tree → AtEachNode P view.constraints tree
+  pub each_node : (P : NodeContext → ConstraintTree → Type 0) → ((k : ℕ) (view : View) (tree : ConstraintTree) → slice_get views k ≡ Some view → IsTreeAt views fates k tree → P view.context tree) →
+      (tree : ConstraintTree) (k : ℕ) (view : View) → slice_get views k ≡ Some view → IsTreeAt views fates k tree → AtEachNode P view.context tree
   each_node P f (Split conflict left right) k view is (a, expanded, on_left, on_right) =
       let at_expanded = searched.each k view (Expanded conflict a) is expanded in
       let x = at_expanded.to_left in let y = at_expanded.to_right in (
         f k view (Split conflict left right) is (a, expanded, on_left, on_right),
-        subst (λ constraints. AtEachNode P constraints left) x.2 (each_node P f left a x.0 x.1 on_left),
-        subst (λ constraints. AtEachNode P constraints right) y.2 (each_node P f right (a + 1) y.0 y.1 on_right),
+        subst (λ context. AtEachNode P context left) x.2 (each_node P f left a x.0 x.1 on_left),
+        subst (λ context. AtEachNode P context right) y.2 (each_node P f right (a + 1) y.0 y.1 on_right),
       )
   each_node P f (Leaf blocks) k view is at_leaf = f k view (Leaf blocks) is at_leaf
   each_node P f (Clash i j) k view is none = absurd none
 
-  pub each_end : (P : NodeConstraints → Type 0) → ((k : ℕ) (view : View) (fate : Fate) → slice_get views k ≡ Some view → slice_get fates k ≡ Some fate → IsEndFate fate → P view.constraints) →
-      (tree : ConstraintTree) (k : ℕ) (view : View) → slice_get views k ≡ Some view → IsTreeAt (length problem.agents) views fates k tree → AtEachEnd P view.constraints tree
+  pub each_end : (P : NodeContext → Type 0) → ((k : ℕ) (view : View) (fate : Fate) → slice_get views k ≡ Some view → slice_get fates k ≡ Some fate → IsEndFate fate → P view.context) →
+      (tree : ConstraintTree) (k : ℕ) (view : View) → slice_get views k ≡ Some view → IsTreeAt views fates k tree → AtEachEnd P view.context tree
   each_end P f (Split conflict left right) k view is (a, expanded, on_left, on_right) =
       let at_expanded = searched.each k view (Expanded conflict a) is expanded in
       let x = at_expanded.to_left in let y = at_expanded.to_right in (
-        subst (λ constraints. AtEachEnd P constraints left) x.2 (each_end P f left a x.0 x.1 on_left),
-        subst (λ constraints. AtEachEnd P constraints right) y.2 (each_end P f right (a + 1) y.0 y.1 on_right),
+        subst (λ context. AtEachEnd P context left) x.2 (each_end P f left a x.0 x.1 on_left),
+        subst (λ context. AtEachEnd P context right) y.2 (each_end P f right (a + 1) y.0 y.1 on_right),
       )
   each_end P f (Leaf blocks) k view is (other, fate, other_is, fate_is, end, blocks_are) = f k view fate is fate_is end
   each_end P f (Clash i j) k view is none = absurd none
 
   -- the search's tree has as many splits as its form
-  pub split_count_is : (tree : ConstraintTree) (shape : Shape) (k : ℕ) → IsShape fates k shape → IsTreeAt (length problem.agents) views fates k tree → split_count tree ≡ splits shape
+  pub split_count_is : (tree : ConstraintTree) (shape : Shape) (k : ℕ) → IsShape fates k shape → IsTreeAt views fates k tree → split_count tree ≡ splits shape
   split_count_is (Split conflict left right) (Node l r) k (c, x, is, on_l, on_r) (a, expanded, on_left, on_right) =
       let same : Expanded c x ≡ Expanded conflict a = same_Some (Expanded c x) (Expanded conflict a) (sym is ∙ expanded) in
       let x_is : x ≡ a = cc in
@@ -156,52 +156,52 @@ module _ (problem : Instance) (views : List View) (fates : List Fate) (count : �
   split_count_is (Clash i j) shape k on none = absurd none
 
   -- an end of the form is a leaf of the tree
-  pub some_leaf : (P : NodeConstraints → Type 0) (j : ℕ) (view_j : View) → slice_get views j ≡ Some view_j → P view_j.constraints →
-      (tree : ConstraintTree) (shape : Shape) (k : ℕ) (view : View) → slice_get views k ≡ Some view → IsShape fates k shape → IsTreeAt (length problem.agents) views fates k tree → 0 < occurrences j shape → AtSomeLeaf P view.constraints tree
+  pub some_leaf : (P : NodeContext → Type 0) (j : ℕ) (view_j : View) → slice_get views j ≡ Some view_j → P view_j.context →
+      (tree : ConstraintTree) (shape : Shape) (k : ℕ) (view : View) → slice_get views k ≡ Some view → IsShape fates k shape → IsTreeAt views fates k tree → 0 < occurrences j shape → AtSomeLeaf P view.context tree
   some_leaf P j view_j j_is holds (Split conflict left right) (Node l r) k view is (c, x, split, on_l, on_r) (a, expanded, on_left, on_right) some =
       let at_expanded = searched.each k view (Expanded conflict a) is expanded in
       let to_left = at_expanded.to_left in let to_right = at_expanded.to_right in
       let same : Expanded c x ≡ Expanded conflict a = same_Some (Expanded c x) (Expanded conflict a) (sym split ∙ expanded) in
       let x_is : x ≡ a = cc in
       ⊎_elim
-      (λ (here : 0 < occurrences j l). inl (subst (λ constraints. AtSomeLeaf P constraints left) to_left.2 (some_leaf P j view_j j_is holds left l a to_left.0 to_left.1 (subst (λ n. IsShape fates n l) x_is on_l) on_left here)))
-      (λ (not_here : occurrences j l ≤ 0). inr (subst (λ constraints. AtSomeLeaf P constraints right) to_right.2 (some_leaf P j view_j j_is holds right r (a + 1) to_right.0 to_right.1 (subst (λ n. IsShape fates (n + 1) r) x_is on_r) on_right (omega arith))))
+      (λ (here : 0 < occurrences j l). inl (subst (λ context. AtSomeLeaf P context left) to_left.2 (some_leaf P j view_j j_is holds left l a to_left.0 to_left.1 (subst (λ n. IsShape fates n l) x_is on_l) on_left here)))
+      (λ (not_here : occurrences j l ≤ 0). inr (subst (λ context. AtSomeLeaf P context right) to_right.2 (some_leaf P j view_j j_is holds right r (a + 1) to_right.0 to_right.1 (subst (λ n. IsShape fates (n + 1) r) x_is on_r) on_right (omega arith))))
       (cases_lt 0 (occurrences j l))
   some_leaf P j view_j j_is holds (Split conflict left right) (End m) k view is (same, fate, fate_is, end) (a, expanded, on_left, on_right) some =
       absurd (subst IsEndFate (same_Some fate (Expanded conflict a) (sym fate_is ∙ expanded)) end)
   some_leaf P j view_j j_is holds (Leaf blocks) (Node l r) k view is (c, x, split, on_l, on_r) (other, fate, other_is, fate_is, end, are) some =
       absurd (subst IsEndFate (same_Some fate (Expanded c x) (sym fate_is ∙ split)) end)
   some_leaf P j view_j j_is holds (Leaf blocks) (End m) k view is (same, fate, fate_is, end) at_leaf some = ⊎_elim
-      (λ (e : j ≡ m). subst (λ (v : View). P v.constraints) (same_Some view_j view (sym j_is ∙ subst (λ n. slice_get views n ≡ Some view) (same ∙ sym e) is)) holds)
+      (λ (e : j ≡ m). subst (λ (v : View). P v.context) (same_Some view_j view (sym j_is ∙ subst (λ n. slice_get views n ≡ Some view) (same ∙ sym e) is)) holds)
       (λ (e : j ≢ m). absurd (cond_both (nat_eq j m) 1 0 (λ n. 0 < n → ⊥) (λ t. absurd (e (eqb-true j m t))) (λ f h. omega arith) some))
       (cases_eq j m)
   some_leaf P j view_j j_is holds (Clash a b) shape k view is on none some = absurd none
 
   at_least : (low : ℕ) → ((m : ℕ) (view : View) → slice_get views m ≡ Some view → slice_get fates m ≡ Some Open → low ≤ sum view.costs) →
       (k : ℕ) (view : View) (fate : Fate) → slice_get views k ≡ Some view → slice_get fates k ≡ Some fate → IsEndFate fate →
-      (others : List (List ℕ)) (total : ℕ) → AreCheapest problem view.constraints others → IsSumOfCosts problem.agents others total → low ≤ total
+      (others : List (List ℕ)) (total : ℕ) → AreCheapest problem view.context others → IsSumOfCosts problem.agents others total → low ≤ total
   at_least low least k view Open is fate_is end others total cheapest is_sum =
       let one = least k view is fate_is in let two = live_least problem view (searched.each k view Open is fate_is) others total cheapest is_sum in omega arith
   at_least low least k view Dead is fate_is end others total cheapest is_sum = absurd (dead_none problem view (searched.each k view Dead is fate_is) others cheapest)
   at_least low least k view (Expanded c a) is fate_is end others total cheapest is_sum = absurd end
 
-  module _ (tree : ConstraintTree) (on_tree : IsTreeAt (length problem.agents) views fates 0 tree) where
+  module _ (tree : ConstraintTree) (on_tree : IsTreeAt views fates 0 tree) where
     -- a list of a node is due where no open node has a smaller sum
-    pub due : (view : View) → IsLive problem view → ((m : ℕ) (other : View) → slice_get views m ≡ Some other → slice_get fates m ≡ Some Open → sum view.costs ≤ sum other.costs) → AreDue problem tree view.constraints view.paths (sum view.costs)
+    pub due : (view : View) → IsLive problem view → ((m : ℕ) (other : View) → slice_get views m ≡ Some other → slice_get fates m ≡ Some Open → sum view.costs ≤ sum other.costs) → AreDue problem tree view.context view.paths (sum view.costs)
     due view live least = record {
       cheapest = live_cheapest problem view live;
       sum = live_sum problem view live;
-      least = subst (λ constraints. AtEachEnd (λ end_constraints. (others : List (List ℕ)) (other_total : ℕ) → AreCheapest problem end_constraints others → IsSumOfCosts problem.agents others other_total → sum view.costs ≤ other_total) constraints tree) searched.first.2
-          (each_end (λ end_constraints. (others : List (List ℕ)) (other_total : ℕ) → AreCheapest problem end_constraints others → IsSumOfCosts problem.agents others other_total → sum view.costs ≤ other_total)
+      least = subst (λ context. AtEachEnd (λ end_context. (others : List (List ℕ)) (other_total : ℕ) → AreCheapest problem end_context others → IsSumOfCosts problem.agents others other_total → sum view.costs ≤ other_total) context tree) searched.first.2
+          (each_end (λ end_context. (others : List (List ℕ)) (other_total : ℕ) → AreCheapest problem end_context others → IsSumOfCosts problem.agents others other_total → sum view.costs ≤ other_total)
           (at_least (sum view.costs) least) tree 0 searched.first.0 searched.first.1 on_tree);
     }
 
     -- what is so of each node of the search is so of each node of the tree, from the root on
-    from_root : (P : NodeConstraints → ConstraintTree → Type 0) → ((k : ℕ) (view : View) (node : ConstraintTree) → slice_get views k ≡ Some view → IsTreeAt (length problem.agents) views fates k node → P view.constraints node) → AtEachNode P root tree
-    from_root P f = subst (λ constraints. AtEachNode P constraints tree) searched.first.2 (each_node P f tree 0 searched.first.0 searched.first.1 on_tree)
+    from_root : (P : NodeContext → ConstraintTree → Type 0) → ((k : ℕ) (view : View) (node : ConstraintTree) → slice_get views k ≡ Some view → IsTreeAt views fates k node → P view.context node) → AtEachNode P root tree
+    from_root P f = subst (λ context. AtEachNode P context tree) searched.first.2 (each_node P f tree 0 searched.first.0 searched.first.1 on_tree)
 
     -- each node is proper, and a split stands on the first conflict of due paths
-    node_facts : (k : ℕ) (view : View) (node : ConstraintTree) → slice_get views k ≡ Some view → IsTreeAt (length problem.agents) views fates k node → IsProperNode problem node × IsEarnedNode problem tree view.constraints node × IsOnFirstConflict problem tree view.constraints node
+    node_facts : (k : ℕ) (view : View) (node : ConstraintTree) → slice_get views k ≡ Some view → IsTreeAt views fates k node → IsProperNode problem node × IsEarnedNode problem tree view.context node × IsOnFirstConflict problem tree view.context node
     node_facts k view (Split c left right) is (a, expanded, on_left, on_right) =
         let at_expanded = searched.each k view (Expanded c a) is expanded in
         let first = at_expanded.on_first in
@@ -220,7 +220,7 @@ module _ (problem : Instance) (views : List View) (fates : List Fate) (count : �
     is_on_first = from_root (IsOnFirstConflict problem tree) (λ k view node is at. (node_facts k view node is at).2)
 
     cost_node : (cost : ℕ) → ((m : ℕ) (other : View) → slice_get views m ≡ Some other → slice_get fates m ≡ Some Open → cost ≤ sum other.costs) →
-        (k : ℕ) (view : View) (node : ConstraintTree) → slice_get views k ≡ Some view → IsTreeAt (length problem.agents) views fates k node → NodeShows problem (Cost cost) view.constraints node
+        (k : ℕ) (view : View) (node : ConstraintTree) → slice_get views k ≡ Some view → IsTreeAt views fates k node → NodeShows problem (Cost cost) view.context node
     cost_node cost least k view (Split c left right) is at = tt
     cost_node cost least k view (Leaf blocks) is (other, Open, other_is, fate_is, end, are) =
         let blocks_are = subst (λ (v : View). AreBlocksOf (length problem.agents) v.entries blocks) (same_Some other view (sym other_is ∙ is)) are in
@@ -239,7 +239,7 @@ module _ (problem : Instance) (views : List View) (fates : List Fate) (count : �
     }
 
     impossible_node : ((m : ℕ) → slice_get fates m ≡ Some Open → ⊥) →
-        (k : ℕ) (view : View) (node : ConstraintTree) → slice_get views k ≡ Some view → IsTreeAt (length problem.agents) views fates k node → NodeShows problem Impossible view.constraints node
+        (k : ℕ) (view : View) (node : ConstraintTree) → slice_get views k ≡ Some view → IsTreeAt views fates k node → NodeShows problem Impossible view.context node
     impossible_node none_open k view (Split c left right) is at = tt
     impossible_node none_open k view (Leaf blocks) is (other, Open, other_is, fate_is, end, are) = absurd (none_open k fate_is)
     impossible_node none_open k view (Leaf blocks) is (other, Dead, other_is, fate_is, end, are) =
@@ -258,23 +258,23 @@ module _ (problem : Instance) (views : List View) (fates : List Fate) (count : �
     has_splits = split_count_is tree searched.tree.shape 0 searched.tree.is_shape on_tree ∙ searched.tree.exact
 
     -- an open node of least sum whose list has a conflict stops the tree
-    pub is_stopped : (Fact : NodeConstraints → List (List ℕ) → Type 0) (j : ℕ) (view : View) → slice_get views j ≡ Some view → slice_get fates j ≡ Some Open →
-        ((m : ℕ) (other : View) → slice_get views m ≡ Some other → slice_get fates m ≡ Some Open → sum view.costs ≤ sum other.costs) → HaveSomeConflict view.paths → Fact view.constraints view.paths → IsStoppedWhere Fact problem tree
+    pub is_stopped : (Fact : NodeContext → List (List ℕ) → Type 0) (j : ℕ) (view : View) → slice_get views j ≡ Some view → slice_get fates j ≡ Some Open →
+        ((m : ℕ) (other : View) → slice_get views m ≡ Some other → slice_get fates m ≡ Some Open → sum view.costs ≤ sum other.costs) → HaveSomeConflict view.paths → Fact view.context view.paths → IsStoppedWhere Fact problem tree
     is_stopped Fact j view is is_open least meet fact = record {
       earned = is_earned;
       leaf =
-          let P : NodeConstraints → Type 0 = λ constraints. (paths : List (List ℕ)) × (total : ℕ) × AreDue problem tree constraints paths total × HaveSomeConflict paths × Fact constraints paths in
+          let P : NodeContext → Type 0 = λ context. (paths : List (List ℕ)) × (total : ℕ) × AreDue problem tree context paths total × HaveSomeConflict paths × Fact context paths in
           let once = searched.tree.once j Open is_open tt in
-          subst (λ constraints. AtSomeLeaf P constraints tree) searched.first.2
+          subst (λ context. AtSomeLeaf P context tree) searched.first.2
           (some_leaf P j view is (view.paths, sum view.costs, due view (searched.each j view Open is is_open) least, meet, fact)
           tree searched.tree.shape 0 searched.first.0 searched.first.1 searched.tree.is_shape on_tree (omega arith));
     }
 
     -- the paths of an open node are those of a leaf
-    pub at_leaf : (j : ℕ) (view : View) → slice_get views j ≡ Some view → slice_get fates j ≡ Some Open → AtSomeLeaf (λ constraints. AreCheapest problem constraints view.paths × AreFirstPaths problem constraints view.paths) root tree
+    pub at_leaf : (j : ℕ) (view : View) → slice_get views j ≡ Some view → slice_get fates j ≡ Some Open → AtSomeLeaf (λ context. AreCheapest problem context view.paths × AreFirstPaths problem context view.paths) root tree
     at_leaf j view is is_open =
-        let P : NodeConstraints → Type 0 = λ constraints. AreCheapest problem constraints view.paths × AreFirstPaths problem constraints view.paths in
+        let P : NodeContext → Type 0 = λ context. AreCheapest problem context view.paths × AreFirstPaths problem context view.paths in
         let live = searched.each j view Open is is_open in
         let once = searched.tree.once j Open is_open tt in
-        subst (λ constraints. AtSomeLeaf P constraints tree) searched.first.2
+        subst (λ context. AtSomeLeaf P context tree) searched.first.2
         (some_leaf P j view is (live_cheapest problem view live, live_first problem view live) tree searched.tree.shape 0 searched.first.0 searched.first.1 searched.tree.is_shape on_tree (omega arith))

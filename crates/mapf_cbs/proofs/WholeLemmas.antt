@@ -167,13 +167,13 @@ module _ (view : View) (node : WholeNode) (whole : IsWhole node view) (constrain
     bars = subst (λ bs. AreSameBars bs agent_path.bars) (sym (bars_other view i constraint found child other is_child)) at.bars;
   }
 
-  module _ (bars : List Bar) (same : AreSameBars bars (constraint.bar ∷ view.constraints.bars constraint.agent)) (old : AgentPath) (here : slice_get node.agent_paths.items constraint.agent ≡ Some old) (agent_path : AgentPath) (after : IsAfter old found bars agent_path) where
+  module _ (bars : List Bar) (same : AreSameBars bars (constraint.bar ∷ view.context.bars constraint.agent)) (old : AgentPath) (here : slice_get node.agent_paths.items constraint.agent ≡ Some old) (agent_path : AgentPath) (after : IsAfter old found bars agent_path) where
     agent_path_new : IsAgentPathAt child constraint.agent agent_path
     agent_path_new = record {
       path = path_new view constraint found child is_child bars old agent_path (whole.each constraint.agent old here).path after;
       entries = entries_new view constraint found child is_child ∙ entries_after old found bars agent_path after;
       bars = subst (λ bs. AreSameBars bs agent_path.bars) (sym (bars_bound view constraint found child is_child))
-          (subst (λ bs. AreSameBars (constraint.bar ∷ view.constraints.bars constraint.agent) bs) (sym (bars_after old found bars agent_path after)) (bars_swap bars (constraint.bar ∷ view.constraints.bars constraint.agent) same));
+          (subst (λ bs. AreSameBars (constraint.bar ∷ view.context.bars constraint.agent) bs) (sym (bars_after old found bars agent_path after)) (bars_swap bars (constraint.bar ∷ view.context.bars constraint.agent) same));
     }
 
     pub whole_child : (agent_paths : Vec AgentPath Global) → AreCopies (slice_set node.agent_paths.items constraint.agent agent_path) agent_paths.items → (total : ℕ) → total ≡ sum child.costs → IsWhole (record { agent_paths = agent_paths; total = total }) child
