@@ -38,7 +38,7 @@ pub fn blocks_of_all(alloc: Global, nodes: Vec<Node>) -> Result<Vec<Vec<Block>>,
 
 // The blocks of the node: none at the root.
 fn blocks_of(alloc: Global, node: Node) -> Result<Vec<Block>, OutOfMemory>
-    ensures { IfOk result (λ blocks. IsOwnOf node blocks.items) }
+    ensures own { IfOk result (λ blocks. IsOwnOf node blocks.items) }
     ensures small { IfOk result (λ blocks. All (λ block. length block.entries < 2 ^ 64) blocks.items) }
 {
     match node {
