@@ -1,8 +1,7 @@
 -- What the state of a search says of its answers.
 use Rattle.std.proofs.Common.{◌≡◌, All, ℕ, zero, suc, ◌+◌, ◌*◌, ◌^◌, ◌<◌, ◌≤◌, List, [], ◌∷◌, Some, Vec, Contains, length, sum, slice_get, refl, sym, ◌∙◌, ap, subst, inl, inr, arith}
 use Rattle.std.specs.declared.alloc.Global.{Global}
-use Rattle.mapf_model.proofs.ClaimLemmas.{slice_get_inside, holds_of_plans, shown_of_plan}
-use Rattle.mapf_model.proofs.SplitLemmas.{AllSatisfy-root}
+use Rattle.mapf_model.proofs.ClaimLemmas.{slice_get_inside, holds_of_plans, shown_at_root}
 use Rattle.std.proofs.lemmas.Option.{slice_get_within, same_Some}
 use Rattle.mapf_model.specs.declared.item.Claim.{Claim}
 use Rattle.mapf_model.specs.declared.item.Claim.TheVariants.{Cost, Impossible}
@@ -100,8 +99,8 @@ children_later problem nodes fates keys count state few k conflict a is =
     (expanded.later, omega arith, omega arith)
 
 -- a tree of lists that are known by other names
-pub tree_of : (agents others : List Agent) (fates more : List Fate) (views : List View) (items : List Item) → agents ≡ others → fates ≡ more → (tree : ConstraintTree) × Spell items tree × IsTreeAt (length agents) views fates 0 tree → (tree : ConstraintTree) × Spell items tree × IsTreeAt (length others) views more 0 tree
-tree_of agents others fates more views items same fates_same (tree, spell, is) = (tree, spell, subst (λ fs. IsTreeAt (length others) views fs 0 tree) fates_same (subst (λ xs. IsTreeAt (length xs) views fates 0 tree) same is))
+pub tree_of : (fates more : List Fate) (views : List View) (items : List Item) → fates ≡ more → (tree : ConstraintTree) × Spell items tree × IsTreeAt views fates 0 tree → (tree : ConstraintTree) × Spell items tree × IsTreeAt views more 0 tree
+tree_of fates more views items same (tree, spell, is) = (tree, spell, subst (λ fs. IsTreeAt views fs 0 tree) same is)
 
 pub popped_of : (problem : Instance) (nodes : List Node) (fates : List Fate) (keys rest : List (ℕ × ℕ)) (count total k : ℕ) → IsState problem nodes fates keys count → IsLeastKey (total, k) keys rest → IsPopped problem nodes fates rest count total k
 popped_of problem nodes fates keys rest count total k state least = record { state = subst (λ ks. IsState problem nodes fates ks count) least.removal state; above = least.above }
@@ -123,7 +122,7 @@ is_tree_of problem shape names views fates count limit within searched items tre
 
 -- what a tree shows is so
 shown_holds : (problem : Instance) (claim : Claim) (tree : ConstraintTree) → Shows problem claim tree → Holds problem claim
-shown_holds problem claim tree shows = holds_of_plans problem claim (λ plan valid. shown_of_plan problem plan valid claim tree root shows.proper shows.nodes (AllSatisfy-root plan))
+shown_holds problem claim tree shows = holds_of_plans problem claim (λ plan valid. shown_at_root problem plan valid claim tree shows)
 
 pub is_shown_impossible : (problem : Instance) (tree : ConstraintTree) → Shows problem Impossible tree → IsShownImpossible problem tree
 is_shown_impossible problem tree shows = record { shows = shows; impossible = shown_holds problem Impossible tree shows }

@@ -41,9 +41,9 @@ searched_first problem view at_root live = record {
     least zero m v other fate is other_is fate_is expanded open_is = absurd (subst IsExpandedFate (sym (same_Some Open fate fate_is)) expanded)
     least (suc k) m v other fate is other_is fate_is expanded open_is = absurd cc
 
-    once : (k : ℕ) (fate : Fate) → slice_get (Open ∷ []) k ≡ Some fate → IsEndFate fate → occurrences k (End 0) ≡ 1
-    once zero fate is end = refl
-    once (suc k) fate is end = absurd cc
+    once : (k : ℕ) → k < 1 → occurrences k (End 0) ≡ 1
+    once zero within = refl
+    once (suc k) within = absurd (omega arith)
 
     low : (k : ℕ) (v : View) (i : ℕ) → slice_get (view ∷ []) k ≡ Some v → AreBefore (0 * free_cell_count problem.grid) (v.context.bars i)
     low zero v i is bar (n, within, at) =
@@ -57,7 +57,7 @@ module _ (problem : Instance) (goals : (i j : ℕ) → ShareGoal problem i j →
     (j : ℕ) (view : View) (is : slice_get views j ≡ Some view) (was_open : slice_get fates j ≡ Some Open)
     (least : (m : ℕ) (other : View) → slice_get views m ≡ Some other → slice_get fates m ≡ Some Open → sum view.costs ≤ sum other.costs)
     (conflict : Conflict) (on_first : IsFirstConflict view.paths conflict) (in_time : tick_of conflict < 1000000)
-    (x y : View) (x_context : x.context ≡ left_child_context view.context conflict) (y_context : y.context ≡ right_child_context view.context conflict)
+    (x y : View) (x_context : x.context ≡ left_child_context view.context conflict view.blocks) (y_context : y.context ≡ right_child_context view.context conflict view.blocks)
     (left right : Fate) (x_is : IsChildFate problem view x left) (y_is : IsChildFate problem view y right)
     (after : List Fate) (grown : IsGrown fates after j conflict left right)
   where

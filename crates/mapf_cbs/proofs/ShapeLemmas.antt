@@ -26,7 +26,7 @@ graft_not : (j a b k : ℕ) → j ≢ k → graft j a b (End k) ≡ End k
 graft_not j a b k e = cond_both (nat_eq j k) (Node k (End a) (End b)) (End k) (λ s. s ≡ End k) (λ t. absurd (e (eqb-true j k t))) (λ f. refl)
 
 -- the number and its two children, as one sum
-occurs_node : (m k : ℕ) (left right : Shape) → occurrences m (Node k left right) ≡ occurrences m (End k) + (occurrences m left + occurrences m right)
+pub occurs_node : (m k : ℕ) (left right : Shape) → occurrences m (Node k left right) ≡ occurrences m (End k) + (occurrences m left + occurrences m right)
 occurs_node m k left right = refl
 
 -- other numbers stay
@@ -54,7 +54,7 @@ occurrences-past fates k m (End n) (same, fate, is, end) past =
 
 module _ (fates : List Fate) (j : ℕ) (fate : Fate) (was : slice_get fates j ≡ Some fate) (was_end : IsEndFate fate) where
   -- no split has the number of an end
-  not_split : (k n : ℕ) (conflict : Conflict) (a : ℕ) → k ≡ n → slice_get fates k ≡ Some (Expanded conflict a) → occurrences j (End n) ≡ 0
+  pub not_split : (k n : ℕ) (conflict : Conflict) (a : ℕ) → k ≡ n → slice_get fates k ≡ Some (Expanded conflict a) → occurrences j (End n) ≡ 0
   not_split k n conflict a same is = occurs_not j n (λ e. subst IsEndFate (same_Some fate (Expanded conflict a) (sym was ∙ subst (λ m. slice_get fates m ≡ Some (Expanded conflict a)) (same ∙ sym e) is)) was_end)
 
   pub splits-graft : (a b k : ℕ) (shape : Shape) → IsShape fates k shape → splits (graft j a b shape) ≡ splits shape + occurrences j shape
