@@ -6,7 +6,6 @@ pub mod TreeLemmas
 pub mod ShapeLemmas
 pub mod GrowLemmas
 pub mod NodeLemmas
-pub mod BlockLemmas
 pub mod ItemLemmas
 pub mod RangeLemmas
 pub mod FinderLemmas

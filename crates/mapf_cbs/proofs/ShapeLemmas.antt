@@ -13,7 +13,7 @@ graft j a b (Node k left right) = Node k (graft j a b left) (graft j a b right)
 graft j a b (End k) = if j == k then Node k (End a) (End b) else End k
 
 -- how often a number stands at an end
-occurs_here : (m k : ℕ) → m ≡ k → occurrences m (End k) ≡ 1
+pub occurs_here : (m k : ℕ) → m ≡ k → occurrences m (End k) ≡ 1
 occurs_here m k e = let t : nat_eq m k ≡ true = eq-eqb m k e in rw t refl
 
 occurs_not : (m k : ℕ) → m ≢ k → occurrences m (End k) ≡ 0
