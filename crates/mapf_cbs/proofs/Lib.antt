@@ -8,6 +8,7 @@ pub mod GrowLemmas
 pub mod NodeLemmas
 pub mod ItemLemmas
 pub mod RangeLemmas
+pub mod BlockLemmas
 pub mod FinderLemmas
 pub mod GeneratedChildLemmas
 pub mod OpenLemmas

@@ -3,7 +3,7 @@ ghost use Rattle.mapf_cbs.specs.Search.{View, AreBlockLists, bound_blocks, label
 ghost use Rattle.mapf_cbs.specs.Nodes.{AreViews, IsOwnOf};
 
 use crate::node::Node;
-use mapf_model::{Block, OutOfMemory};
+use mapf_model::{Block, Entry, OutOfMemory};
 use mapf_spacetime::Found;
 use std::alloc::Global;
 
@@ -13,15 +13,25 @@ pub fn bound_blocks(alloc: Global, agent: u32, found: Found) -> Result<Vec<Block
     ensures bound { IfOk result (λ blocks. blocks.items ≡ bound_blocks agent (labels_of found)) }
     ensures small { IfOk result (λ blocks. All (λ block. length block.entries < 2 ^ 64) blocks.items) }
 {
-    let entries = match found {
-        Found::Arrives { labels, .. } => labels.into_entries(),
-        Found::Dead { labels } => labels.into_entries(),
-    };
+    let entries = entries_of(found);
     let mut blocks = Vec::new(alloc);
     if !entries.is_empty() {
         blocks.push(Block { agent, entries })?;
     }
     Ok(blocks)
+}
+
+// The entries that were found.
+fn entries_of(found: Found) -> Vec<Entry>
+    ensures { result.items ≡ labels_of found }
+{
+    match found {
+        Found::Arrives { path, labels } => {
+            let _path = path;
+            labels.into_entries()
+        }
+        Found::Dead { labels } => labels.into_entries(),
+    }
 }
 
 /// The blocks of each node. The labels are moved out of the nodes.

@@ -1,4 +1,4 @@
-ghost use Rattle.std.specs.Prelude.{◌≡◌, ◌+◌, ◌^◌, ◌<◌, ◌∷◌, [], ◌++◌, length, IfOk, OnOk, IsTrue, ◌↔◌};
+ghost use Rattle.std.specs.Prelude.{List, ◌≡◌, ◌+◌, ◌^◌, ◌<◌, ◌∷◌, [], ◌++◌, length, IfOk, OnOk, IsTrue, ◌↔◌};
 ghost use Rattle.mapf_cbs.specs.State.{split_fates};
 ghost use Rattle.mapf_cbs.specs.Search.{View, AreBlockLists};
 ghost use Rattle.mapf_cbs.specs.Whole.{AreWhole, IsLeastBelow};
