@@ -8,9 +8,8 @@ use Rattle.mapf_model.specs.declared.item.Claim.TheVariants.{Cost, Impossible}
 use Rattle.mapf_model.specs.declared.conflict.Conflict.{Conflict}
 use Rattle.mapf_model.specs.declared.conflict.Conflict.TheVariants.{Vertex, Swap}
 use Rattle.mapf_model.specs.declared.item.Item.{Item}
-use Rattle.mapf_model.specs.declared.problem.Agent.{Agent}
 use Rattle.mapf_model.specs.Plan.{Instance, IsValid}
-use Rattle.mapf_model.specs.Tree.{ConstraintTree, Spell, Shows, Holds, ShareGoal, split_count, root}
+use Rattle.mapf_model.specs.Tree.{ConstraintTree, Spell, Shows, Holds, ShareGoal, split_count}
 use Rattle.mapf_model.specs.Earned.{HasConflict, AreConflictFreeBefore, HaveConflictBefore, HaveSomeConflict, tick_of}
 use Rattle.mapf_cbs.specs.declared.node.Node.{Node}
 use Rattle.mapf_cbs.specs.declared.node.Node.TheVariants.{Root}

@@ -1,5 +1,5 @@
 -- The blocks of all nodes, gathered node by node.
-use Rattle.std.proofs.Common.{◌≡◌, ℕ, ◌^◌, ◌<◌, List, [], ◌∷◌, ◌++◌, Some, All, length, length-append, slice_get, sym, ◌∙◌, subst, ⊎_elim, arith, Vec}
+use Rattle.std.proofs.Common.{◌≡◌, ℕ, ◌^◌, ◌<◌, List, [], ◌∷◌, ◌++◌, Some, All, length, length-append, slice_get, sym, subst, ⊎_elim, arith, Vec}
 use Rattle.std.specs.declared.alloc.Global.{Global}
 use Rattle.std.proofs.lemmas.Option.{slice_get_within}
 use Rattle.mapf_model.specs.Blocks.{LabelBlock}

@@ -54,7 +54,9 @@ fn blocks_of(alloc: Global, node: Node) -> Result<Vec<Block>, OutOfMemory>
     match node {
         Node::Root { .. } => Ok(Vec::new(alloc)),
         Node::Child {
-            constraint, found, ..
+            constraint,
+            found,
+            ..
         } => bound_blocks(alloc, constraint.agent, found),
     }
 }

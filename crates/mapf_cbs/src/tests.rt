@@ -202,11 +202,13 @@ fn start_label(blocks: &[Block], agent: u32, distance: u32, above: u32) -> u32 {
     for block in blocks {
         if block.agent == agent {
             return match block.entries.first() {
-                Some(Entry {
-                    tick: 0,
-                    label: Label::Ticks(ticks),
-                    ..
-                }) => *ticks,
+                Some(
+                    Entry {
+                        tick: 0,
+                        label: Label::Ticks(ticks),
+                        ..
+                    },
+                ) => *ticks,
                 _ => distance,
             };
         }
