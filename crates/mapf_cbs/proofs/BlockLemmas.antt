@@ -17,9 +17,6 @@ pub record ArePaired {X : Type 0} (P : X → Vec LabelBlock Global → Type 0) (
   pub so_many : length lists ≡ length nodes
   pub each : (k : ℕ) (node : X) (blocks : Vec LabelBlock Global) → slice_get nodes k ≡ Some node → slice_get lists k ≡ Some blocks → P node blocks
 
-pub paired_none : {X : Type 0} (P : X → Vec LabelBlock Global → Type 0) → ArePaired P [] []
-paired_none P = record { so_many = omega arith; each = λ k node blocks node_is is. cc }
-
 pub paired_more : {X : Type 0} (P : X → Vec LabelBlock Global → Type 0) (nodes : List X) (lists : List (Vec LabelBlock Global)) (node : X) (blocks : Vec LabelBlock Global) → ArePaired P nodes lists → P node blocks → ArePaired P (nodes ++ node ∷ []) (lists ++ blocks ∷ [])
 paired_more P nodes lists node blocks before here =
     let size = before.so_many in

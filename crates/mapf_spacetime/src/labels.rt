@@ -34,6 +34,7 @@ impl Labels {
         self.entries.as_slice()
     }
 
+    /// The entries, moved out of the labels.
     pub fn into_entries(self) -> Vec<Entry>
         ensures { result.items ≡ self }
     {
