@@ -12,7 +12,7 @@ use Rattle.mapf_model.specs.Printed.{IsConflictInRange, IsBlockInRange, AreBlock
 use Rattle.mapf_model.specs.Tree.{ConstraintTree, Split, Leaf, Clash, Node, nodes_of, nodes_of_all}
 use Rattle.mapf_model.proofs.ItemLemmas.{cut}
 use Rattle.mapf_certificate.specs.declared.version.Version.{Version}
-use Rattle.mapf_certificate.specs.declared.version.Version.TheVariants.{One}
+use Rattle.mapf_certificate.specs.declared.version.Version.TheVariants.{One, Two}
 use Rattle.mapf_certificate.specs.declared.sizes.Sizes.{Sizes}
 use Rattle.mapf_certificate.specs.Lines.{grid_of, grid_for}
 use Rattle.mapf_certificate.specs.Certificates.{header_text, rest_text, cert_text, IsCertTree, IsRest, SpellsCert, SpellsOneCert}
@@ -89,6 +89,17 @@ text_from_spells grid other version agents claim tree bytes sized spells = recor
     same = sym (append-nil (nodes_of tree));
     spelled = refl;
   };
+}
+
+-- what a certificate of version 1 spells in version 2
+pub converted : (grid : GridMap) (old new : List ℕ) (agents count : ℕ) (claim says : Claim) (tree : ConstraintTree) (nodes : List Node) → SpellsCert grid old One agents claim tree → count ≡ agents → says ≡ claim → nodes ≡ nodes_of tree
+    → new ≡ cert_text Two grid.width count says nodes → SpellsCert grid new Two agents claim tree
+converted grid old new agents count claim says tree nodes spells p q r e = record {
+  agents_in_range = spells.agents_in_range;
+  claim_in_range = spells.claim_in_range;
+  tree_in_range = spells.tree_in_range;
+  tree_of_version = tt;
+  spelled = e ∙ ap (λ (n : ℕ). cert_text Two grid.width n says nodes) p ∙ ap (λ (c : Claim). cert_text Two grid.width agents c nodes) q ∙ ap (cert_text Two grid.width agents claim) r;
 }
 
 -- no bytes spell two rests
