@@ -11,7 +11,7 @@ use Rattle.mapf_model.specs.Grid.{GridMap}
 use Rattle.mapf_model.specs.Laws.{FrontDecides}
 use Rattle.mapf_model.specs.Plan.{Instance}
 use Rattle.mapf_model.specs.Printed.{AreBlocksInRange}
-use Rattle.mapf_model.specs.Tree.{Split, Leaf, Node, SplitNode, LeafNode, ClashNode, NodeConstraints, NodesShow, node_of, root}
+use Rattle.mapf_model.specs.Tree.{Split, Leaf, Node, SplitNode, LeafNode, ClashNode, NodeContext, NodesShow, node_of, root}
 use Rattle.mapf_certificate.specs.declared.cert.LinesFault.{LinesFault}
 use Rattle.mapf_certificate.specs.declared.cert.LinesFault.TheVariants.{Text, Device, TooLong, Memory}
 use Rattle.mapf_certificate.specs.declared.cert.CertFault.TheVariants as texts
@@ -29,13 +29,13 @@ use Rattle.mapf_checker.specs.declared.tree.Progress.{Progress}
 use Rattle.mapf_checker.specs.CertJudging.{HasTreeRefusal, IsBetweenItems, IsJudgedTree, IsReadTo, IsReadOn}
 use Rattle.mapf_checker.specs.Faults.{of_cert, IsOfJudging, IsNoRefusal, IsOfChecking}
 use Rattle.mapf_checker.specs.NodeDefects.{HasNodeDefect, IsGoodNode}
-use Rattle.mapf_checker.specs.Progress.{constraints_after, constraints_after_all, owed_at, owed_by, here_of}
+use Rattle.mapf_checker.specs.Progress.{contexts_after, contexts_after_all, owed_at, owed_by, here_of}
 use Rattle.mapf_checker.specs.Refusals.{HasBadNode}
 use Rattle.mapf_checker.specs.Branch.{Place, place_of}
 use Rattle.mapf_checker.proofs.TreeLemmas.{judged_good, shown_good, defect_refutes_node}
 
 -- nothing was read
-pub read_none : (problem : Instance) (claim : Claim) (had : Option (List ℕ)) (start : Reading) (owed : List NodeConstraints) → owed ≡ root ∷ [] → IsReadTo problem claim had had start start owed
+pub read_none : (problem : Instance) (claim : Claim) (had : Option (List ℕ)) (start : Reading) (owed : List NodeContext) → owed ≡ root ∷ [] → IsReadTo problem claim had had start start owed
 read_none problem claim had start owed same = record {
   given = [];
   width = refl;
@@ -83,7 +83,7 @@ module _ (problem : Instance) (claim : Claim) (had mid left : Option (List ℕ))
   taken : Window had left start.buffer new.buffer (flat_map (node_text start.width) so_far.given ++ node_text start.width node)
   taken = Window-trans had mid left start.buffer now.buffer new.buffer (flat_map (node_text start.width) so_far.given) (node_text start.width node) so_far.window (rw so_far.width at next.takes.read.window)
 
-  pub read_more : FrontDecides → new.width ≡ now.width → IsGoodNode problem claim (here_of progress) node → (after : List NodeConstraints) → after ≡ constraints_after (owed_by progress) node → IsReadTo problem claim had left start new after
+  pub read_more : FrontDecides → new.width ≡ now.width → IsGoodNode problem claim (here_of progress) node → (after : List NodeContext) → after ≡ contexts_after (owed_by progress) node → IsReadTo problem claim had left start new after
   read_more law same_width good after is_after = record {
     given = so_far.given ++ node ∷ [];
     width = same_width ∙ so_far.width;
@@ -95,7 +95,7 @@ module _ (problem : Instance) (claim : Claim) (had mid left : Option (List ℕ))
     behind = λ bytes known rest awaits.
         let (had_left, known_mid, same, count) = Window-known had mid start.buffer now.buffer (flat_map (node_text start.width) so_far.given) bytes so_far.window known in
         subst (λ ns. Awaits had start ns) (sym (append_assoc so_far.given (node ∷ []) rest)) (so_far.behind bytes known (node ∷ rest) (next.takes.joins had_left known_mid rest awaits));
-    place = is_after ∙ ap (λ o. constraints_after o node) so_far.place ∙ sym (constraints_after_push (root ∷ []) so_far.given node);
+    place = is_after ∙ ap (λ o. contexts_after o node) so_far.place ∙ sym (contexts_after_push (root ∷ []) so_far.given node);
     shows = λ rest.
         let before = so_far.shows (node ∷ rest) in
         let here_on : NodesShow problem claim (owed_by progress) (node ∷ rest) ↔ NodesShow problem claim after rest = rw (is_after, is_owed) (judged_good law problem claim (here_of progress) (place_of progress.branch).owed node good rest) in
@@ -105,9 +105,9 @@ module _ (problem : Instance) (claim : Claim) (had mid left : Option (List ℕ))
     flat_map-push f [] x = append-nil (f x)
     flat_map-push f (y ∷ xs) x = ap (λ l. f y ++ l) (flat_map-push f xs x) ∙ sym (append_assoc (f y) (flat_map f xs) (f x))
 
-    constraints_after_push : (owed : List NodeConstraints) (xs : List Node) (x : Node) → constraints_after_all owed (xs ++ x ∷ []) ≡ constraints_after (constraints_after_all owed xs) x
-    constraints_after_push owed [] x = refl
-    constraints_after_push owed (y ∷ xs) x = constraints_after_push (constraints_after owed y) xs x
+    contexts_after_push : (owed : List NodeContext) (xs : List Node) (x : Node) → contexts_after_all owed (xs ++ x ∷ []) ≡ contexts_after (contexts_after_all owed xs) x
+    contexts_after_push owed [] x = refl
+    contexts_after_push owed (y ∷ xs) x = contexts_after_push (contexts_after owed y) xs x
 
   pub came_with_node : ComesWithin had left start.buffer
   came_with_node = Window-within had left start.buffer new.buffer (flat_map (node_text start.width) so_far.given ++ node_text start.width node) taken
@@ -140,7 +140,7 @@ module _ (problem : Instance) (claim : Claim) (had mid left : Option (List ℕ))
       (shown_good law problem claim (here_of progress) (place_of progress.branch).owed node after (subst (λ o. NodesShow problem claim o (node ∷ after)) is_owed left_to_show))
 
 -- the end was read
-pub read_all : FrontDecides → (problem : Instance) (claim : Claim) (had mid left : Option (List ℕ)) (start now new : Reading) (owed : List NodeConstraints) → now.owed ≡ length owed → IsReadTo problem claim had mid start now owed → TakesEnd mid left now new → IsJudgedTree problem claim had start
+pub read_all : FrontDecides → (problem : Instance) (claim : Claim) (had mid left : Option (List ℕ)) (start now new : Reading) (owed : List NodeContext) → now.owed ≡ length owed → IsReadTo problem claim had mid start now owed → TakesEnd mid left now new → IsJudgedTree problem claim had start
 read_all law problem claim had mid left start now new owed count so_far takes = record {
   nodes = so_far.given;
   shows = subst (λ ns. NodesShow problem claim (root ∷ []) ns) (append-nil so_far.given)
@@ -154,17 +154,17 @@ read_all law problem claim had mid left start now new owed count so_far takes = 
       let none_left : after ≡ [] = rw known_left at takes.read.ended in
       omega (arith, count, count_end, ap length none_left);
 } where
-  none : (owed : List NodeConstraints) → length owed ≡ 0 → owed ≡ []
+  none : (owed : List NodeContext) → length owed ≡ 0 → owed ≡ []
   none [] e = refl
   none (o ∷ os) e = absurd (omega (arith, e))
 
 -- what came up to the end was left of the limit
-pub came_to_end : (problem : Instance) (claim : Claim) (had mid left : Option (List ℕ)) (start now new : Reading) (owed : List NodeConstraints) → IsReadTo problem claim had mid start now owed → TakesEnd mid left now new → ComesWithin had left start.buffer
+pub came_to_end : (problem : Instance) (claim : Claim) (had mid left : Option (List ℕ)) (start now new : Reading) (owed : List NodeContext) → IsReadTo problem claim had mid start now owed → TakesEnd mid left now new → ComesWithin had left start.buffer
 came_to_end problem claim had mid left start now new owed so_far takes =
     ComesWithin-after had mid left start.buffer now.buffer (flat_map (node_text start.width) so_far.given) so_far.window (Window-within mid left now.buffer new.buffer (line_text now.width lines.End) takes.read.window)
 
 -- no nodes were to come where reading found a fault of the text
-pub none_awaited : (problem : Instance) (claim : Claim) (had mid : Option (List ℕ)) (start now : Reading) (owed : List NodeConstraints) (fault : LinesFault) → IsReadTo problem claim had mid start now owed →
+pub none_awaited : (problem : Instance) (claim : Claim) (had mid : Option (List ℕ)) (start now : Reading) (owed : List NodeContext) (fault : LinesFault) → IsReadTo problem claim had mid start now owed →
     ((other : Node) (nodes : List Node) → Awaits mid now (other ∷ nodes) → IsNoTextFault fault) → (Awaits mid now [] → IsNoTextFault fault) → (nodes : List Node) → Awaits had start nodes → IsNoTextFault fault
 none_awaited problem claim had mid start now owed fault so_far only_item only_end nodes awaits = let (rest, same, there) = so_far.ahead nodes awaits in by rest there where
   by : (rest : List Node) → Awaits mid now rest → IsNoTextFault fault
@@ -194,14 +194,14 @@ module _ (problem : Instance) (claim : Claim) (had left : Option (List ℕ)) (fa
   stops_reading mid now taken IsText TooLong window fails none = (fails.0, Exceeds-after had mid left start.buffer now.buffer taken window fails.1)
   stops_reading mid now taken IsText Memory window fails none = (fails.0, ComesWithin-after had mid left start.buffer now.buffer taken window fails.1)
 
-  tree_refusal : (here : NodeConstraints) (node : Node) (fault : CheckFault) → HasNodeDefect problem claim here node fault → ((bytes : List ℕ) → had ≡ Some bytes → HasBadNode problem claim fault (start.buffer.bytes ++ bytes)) → HasTreeRefusal problem claim had start fault
+  tree_refusal : (here : NodeContext) (node : Node) (fault : CheckFault) → HasNodeDefect problem claim here node fault → ((bytes : List ℕ) → had ≡ Some bytes → HasBadNode problem claim fault (start.buffer.bytes ++ bytes)) → HasTreeRefusal problem claim had start fault
   tree_refusal here (SplitNode conflict) fault (line, is, defect) bad = rw is (rw is at bad)
   tree_refusal here (LeafNode blocks) fault (inl (line, is, defect)) bad = rw is (rw is at bad)
   tree_refusal here (LeafNode blocks) fault (inr (line, is, defect)) bad = rw is (rw is at bad)
   tree_refusal here (ClashNode i j) fault (line, is, defect) bad = rw is (rw is at bad)
 
   -- why judging stopped
-  pub stops_judging : (here : NodeConstraints) (node : Node) (fault : FromFault) → failed ≡ false → ComesWithin had left start.buffer → IsOfJudging (HasNodeDefect problem claim here node) fault →
+  pub stops_judging : (here : NodeContext) (node : Node) (fault : FromFault) → failed ≡ false → ComesWithin had left start.buffer → IsOfJudging (HasNodeDefect problem claim here node) fault →
       ((refusal : CheckFault) → HasNodeDefect problem claim here node refusal → (bytes : List ℕ) → had ≡ Some bytes → HasBadNode problem claim refusal (start.buffer.bytes ++ bytes)) → IsOfChecking had left failed start.buffer (HasTreeRefusal problem claim had start) fault
   stops_judging here node (from.Refused refusal) works comes is bad = (works, comes, tree_refusal here node refusal is (bad refusal is))
   stops_judging here node from.Device works comes is bad = absurd is
@@ -223,7 +223,7 @@ node_moved g h agents same (LeafNode blocks) is = tree_moved g h same agents (Le
 node_moved g h agents same (ClashNode i j) is = is
 
 -- where reading or judging an item ended with this fault
-pub not_read_on : (problem : Instance) (claim : Claim) (had left : Option (List ℕ)) (failed : Bool) (start reading : Reading) (owed : List NodeConstraints) (result : Result Bool FromFault) (fault : FromFault) → IsErrAnd result (λ given. given ≡ fault) →
+pub not_read_on : (problem : Instance) (claim : Claim) (had left : Option (List ℕ)) (failed : Bool) (start reading : Reading) (owed : List NodeContext) (result : Result Bool FromFault) (fault : FromFault) → IsErrAnd result (λ given. given ≡ fault) →
     ((nodes : List Node) → Awaits had start nodes → NodesShow problem claim (root ∷ []) nodes → IsNoRefusal fault) → IsOfChecking had left failed start.buffer (HasTreeRefusal problem claim had start) fault → IsReadOn problem claim had left failed start reading owed result
 not_read_on problem claim had left failed start reading owed (Ok more) fault is only stops = absurd is
 not_read_on problem claim had left failed start reading owed (Err given) fault is only stops = record {
