@@ -1,4 +1,4 @@
-ghost use Rattle.std.specs.Prelude.{◌≡◌, ◌<◌, ℕ, IfOk, length};
+ghost use Rattle.std.specs.Prelude.{◌≡◌, ◌≢◌, ◌<◌, ℕ, Some, IfOk, length, slice_get};
 ghost use Rattle.mapf_model.specs.Labels.{Entries};
 ghost use Rattle.mapf_model.specs.Tree.{no_entries};
 
@@ -53,7 +53,7 @@ impl Starts {
         let mut k = changes.len();
         while 0 < k {
             k -= 1;
-            self.entries[changes[k].agent as usize] = changes[k].now;
+            set(&mut self.entries, changes[k].agent, changes[k].now);
         }
     }
 
@@ -65,7 +65,16 @@ impl Starts {
         ensures count { length self.new.entries.items ≡ length self.old.entries.items }
     {
         for k in 0..changes.len() {
-            self.entries[changes[k].agent as usize] = changes[k].before;
+            set(&mut self.entries, changes[k].agent, changes[k].before);
         }
     }
+}
+
+fn set(entries: &mut Vec<Option<Label>>, agent: u32, entry: Option<Label>)
+    requires { agent < length entries.old.items }
+    ensures count { length entries.new.items ≡ length entries.old.items }
+    ensures here { slice_get entries.new.items agent ≡ Some entry }
+    ensures others { (i : ℕ) → i ≢ agent → slice_get entries.new.items i ≡ slice_get entries.old.items i }
+{
+    entries[agent as usize] = entry;
 }
