@@ -46,9 +46,9 @@ abbrev pub place_of : Route → Place
 place_of route = place_after route.edges
 
 -- what an edge changed can be undone: its constraint, and the entries of starts, which are those of so many agents
-pub record CanUndoEdge (agents : ℕ) (context : NodeContext) (edge : Edge) : Type 0 where
+pub record CanUndoEdge (count : ℕ) (context : NodeContext) (edge : Edge) : Type 0 where
   pub constraint : CanUndo context.bars edge.constraint edge.undo
-  pub agents : AreOfFirst agents edge.changes.items
+  pub agents : AreOfFirst count edge.changes.items
   pub entries : KnowEntries context.entries edge.changes.items
 
 -- so it is of each edge

@@ -99,10 +99,16 @@ impl Branch {
         ensures agents { self.new.agents ≡ self.old.agents }
     {
         while let Some(edge) = self.edges.pop() {
-            self.index.undo(&edge.constraint, &edge.undo);
-            self.starts.undo(&edge.changes);
-            if let Some(other) = edge.owed {
-                self.descend(other, None, edge.changes)?;
+            let Edge {
+                constraint,
+                owed,
+                changes,
+                undo,
+            } = edge;
+            self.index.undo(&constraint, &undo);
+            self.starts.undo(&changes);
+            if let Some(other) = owed {
+                self.descend(other, None, changes)?;
                 return Ok(true);
             }
         }
