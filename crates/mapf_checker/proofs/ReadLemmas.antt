@@ -232,7 +232,7 @@ no_refusal_judging P from.Memory is none = tt
 
 -- a node that is in range on one grid is so on another of the same size
 pub node_moved : (version : Version) (g h : GridMap) (agents : ℕ) → AreSized g h → (node : Node) → IsNode version g agents node → IsNode version h agents node
-node_moved version g h agents same (SplitNode conflict blocks) is = let moved = tree_moved g h same agents (Split conflict blocks (Leaf []) (Leaf [])) ((is.0, is.1.0), none, none) in (moved.0.0, moved.0.1, is.1.1) where
+node_moved version g h agents same (SplitNode conflict blocks) is = let moved = tree_moved g h same agents (Split conflict blocks (Leaf []) (Leaf [])) (is.0, is.1, none, none) in (moved.0, moved.1, is.2) where
   none : {grid : GridMap} → AreBlocksInRange grid agents []
   none = record { each = λ k d within. absurd (omega arith); rising = λ i j d less within. absurd (omega arith) }
 node_moved version g h agents same (LeafNode blocks) is = tree_moved g h same agents (Leaf blocks) is

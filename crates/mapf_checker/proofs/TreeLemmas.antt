@@ -152,7 +152,7 @@ unsound_alike problem a b blocks alike defect =
 -- a node with a defect isn't good
 pub defect_refutes_node : (problem : Instance) (claim : Claim) (here : NodeContext) (version : Version) (grid : GridMap) (agents : ℕ) (node : Node) (fault : CheckFault) → IsNode version grid agents node → HasNodeDefect problem claim here node fault → IsGoodNode problem claim here node → ⊥
 defect_refutes_node problem claim here version grid agents (SplitNode conflict blocks) fault in_range (inl (line, is, improper)) good = improper good.0.0
-defect_refutes_node problem claim here version grid agents (SplitNode conflict blocks) fault in_range (inr (line, is, unsound)) good = unsound_refutes problem here grid agents blocks in_range.1.0 unsound good.1
+defect_refutes_node problem claim here version grid agents (SplitNode conflict blocks) fault in_range (inr (line, is, unsound)) good = unsound_refutes problem here grid agents blocks in_range.1 unsound good.1
 defect_refutes_node problem claim here version grid agents (LeafNode blocks) fault in_range (inl (line, is, unsound)) good = unsound_refutes problem here grid agents blocks in_range unsound good.nodes.0
 defect_refutes_node problem claim here version grid agents (LeafNode blocks) fault in_range (inr (line, is, weak)) good = weak good.nodes.1
 defect_refutes_node problem claim here version grid agents (ClashNode i j) fault in_range (line, is, apart) good = apart good

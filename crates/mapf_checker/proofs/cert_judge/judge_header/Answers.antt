@@ -31,7 +31,7 @@ returns-in_err-agents-clause-stops g c =
 pub returns-then-agents-clause-only : goal.returns-then-agents-clause-only
 returns-then-agents-clause-only g c version nodes awaits =
     let same = c.in_ok-agents.ensures.only version (length c.args.problem.now.agents) c.args.claim.now nodes c.requires.opened.fault c.requires.opened.header awaits in
-    c.if-agents.true (same.1.0 ∙ ap length (sym c.agents.ensures.value))
+    c.if-agents.true (same.1 ∙ ap length (sym c.agents.ensures.value))
 
 pub returns-then-agents-clause-stops : goal.returns-then-agents-clause-stops
 returns-then-agents-clause-stops g c =
@@ -50,7 +50,7 @@ returns-then-agents-clause-stops g c =
 pub returns-then-not-are_one_claim-clause-only : goal.returns-then-not-are_one_claim-clause-only
 returns-then-not-are_one_claim-clause-only g c version nodes awaits =
     let same = c.in_ok-agents.ensures.only version (length c.args.problem.now.agents) c.args.claim.now nodes c.requires.opened.fault c.requires.opened.header awaits in
-    iff_false c.are_one_claim.ensures c.if-not-are_one_claim.true same.1.1.0
+    iff_false c.are_one_claim.ensures c.if-not-are_one_claim.true same.2
 
 pub returns-then-not-are_one_claim-clause-stops : goal.returns-then-not-are_one_claim-clause-stops
 returns-then-not-are_one_claim-clause-stops g c =
@@ -67,4 +67,4 @@ returns-then-not-are_one_claim-clause-stops g c =
     )
 
 pub returns-clause-ahead : goal.returns-clause-ahead
-returns-clause-ahead g c version agents claimed nodes awaits = (c.in_ok-agents.ensures.only version agents claimed nodes c.requires.opened.fault c.requires.opened.header awaits).1.1.1
+returns-clause-ahead g c version agents claimed nodes awaits = (c.in_ok-agents.ensures.only version agents claimed nodes c.requires.opened.fault c.requires.opened.header awaits).3
