@@ -4,7 +4,7 @@ use Rattle.std.proofs.lemmas.Option.{slice_get_read, get_or_from_slice_get}
 use Rattle.mapf_model.specs.Printed.{IsBlockInRange}
 use Rattle.mapf_checker.specs.Leaf.{IsGoodBlock}
 use Rattle.mapf_checker.specs.Branch.{place_of}
-use Rattle.mapf_checker.proofs.leaf.judge_blocks.Goals as goal
+use Rattle.mapf_checker.proofs.blocks.judge_blocks.Goals as goal
 
 on_err : {E X : Type 0} (r : Result X E) (P : Type 0) → P → OnErr r P
 on_err (Ok x) P p = tt

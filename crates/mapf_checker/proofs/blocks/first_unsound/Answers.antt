@@ -3,7 +3,7 @@ use Rattle.std.proofs.lemmas.Bool.{cases_lt, iff_false}
 use Rattle.std.proofs.lemmas.Option.{slice_get_read, get_or_from_slice_get}
 use Rattle.mapf_checker.specs.AgentProblem.{IsSoundAmong, bars_on}
 use Rattle.mapf_checker.proofs.EntryLemmas.{AreSound-each}
-use Rattle.mapf_checker.proofs.leaf.first_unsound.Goals as goal
+use Rattle.mapf_checker.proofs.blocks.first_unsound.Goals as goal
 
 pub returns-then-not-is_sound-clause-some : goal.returns-then-not-is_sound-clause-some
 returns-then-not-is_sound-clause-some c = record {

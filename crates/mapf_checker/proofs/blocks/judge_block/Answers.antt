@@ -2,7 +2,7 @@ use Rattle.std.proofs.Common.{subst, ap}
 use Rattle.mapf_checker.specs.Leaf.{IsGoalOf}
 use Rattle.mapf_checker.specs.Branch.{place_of}
 use Rattle.mapf_checker.proofs.BlockLemmas.{unsound_entry}
-use Rattle.mapf_checker.proofs.leaf.judge_block.Goals as goal
+use Rattle.mapf_checker.proofs.blocks.judge_block.Goals as goal
 
 pub returns-in-Some-clause-err : goal.returns-in-Some-clause-err
 returns-in-Some-clause-err c =
