@@ -1,17 +1,15 @@
 -- What the state of a search says of its answers.
 use Rattle.std.proofs.Common.{◌≡◌, All, ℕ, zero, suc, ◌+◌, ◌*◌, ◌^◌, ◌<◌, ◌≤◌, List, [], ◌∷◌, Some, Vec, Contains, length, sum, slice_get, refl, sym, ◌∙◌, ap, subst, inl, inr, arith}
 use Rattle.std.specs.declared.alloc.Global.{Global}
-use Rattle.mapf_model.proofs.ClaimLemmas.{slice_get_inside, holds_of_plans, shown_of_plan}
-use Rattle.mapf_model.proofs.SplitLemmas.{AllSatisfy-root}
+use Rattle.mapf_model.proofs.ClaimLemmas.{slice_get_inside, holds_of_plans, shown_at_root}
 use Rattle.std.proofs.lemmas.Option.{slice_get_within, same_Some}
 use Rattle.mapf_model.specs.declared.item.Claim.{Claim}
 use Rattle.mapf_model.specs.declared.item.Claim.TheVariants.{Cost, Impossible}
 use Rattle.mapf_model.specs.declared.conflict.Conflict.{Conflict}
 use Rattle.mapf_model.specs.declared.conflict.Conflict.TheVariants.{Vertex, Swap}
 use Rattle.mapf_model.specs.declared.item.Item.{Item}
-use Rattle.mapf_model.specs.declared.problem.Agent.{Agent}
 use Rattle.mapf_model.specs.Plan.{Instance, IsValid}
-use Rattle.mapf_model.specs.Tree.{ConstraintTree, Spell, Shows, Holds, ShareGoal, split_count, root}
+use Rattle.mapf_model.specs.Tree.{ConstraintTree, Spell, Shows, Holds, ShareGoal, split_count}
 use Rattle.mapf_model.specs.Earned.{HasConflict, AreConflictFreeBefore, HaveConflictBefore, HaveSomeConflict, tick_of}
 use Rattle.mapf_cbs.specs.declared.node.Node.{Node}
 use Rattle.mapf_cbs.specs.declared.node.Node.TheVariants.{Root}
@@ -41,7 +39,7 @@ pub state_root : (problem : Instance) (paths : Vec (List ℕ) Global) (total : �
 state_root problem paths total view root_view live total_is small = record {
   views = view ∷ [];
   are = record { lengths = refl; each = each_view };
-  searched = searched_first problem view root_view.constraints live;
+  searched = searched_first problem view root_view.context live;
   opens = record {
     only = λ key in_it. only key in_it;
     each = each_open;
@@ -100,8 +98,8 @@ children_later problem nodes fates keys count state few k conflict a is =
     (expanded.later, omega arith, omega arith)
 
 -- a tree of lists that are known by other names
-pub tree_of : (agents others : List Agent) (fates more : List Fate) (views : List View) (items : List Item) → agents ≡ others → fates ≡ more → (tree : ConstraintTree) × Spell items tree × IsTreeAt (length agents) views fates 0 tree → (tree : ConstraintTree) × Spell items tree × IsTreeAt (length others) views more 0 tree
-tree_of agents others fates more views items same fates_same (tree, spell, is) = (tree, spell, subst (λ fs. IsTreeAt (length others) views fs 0 tree) fates_same (subst (λ xs. IsTreeAt (length xs) views fates 0 tree) same is))
+pub tree_of : (fates more : List Fate) (views : List View) (items : List Item) → fates ≡ more → (tree : ConstraintTree) × Spell items tree × IsTreeAt views fates 0 tree → (tree : ConstraintTree) × Spell items tree × IsTreeAt views more 0 tree
+tree_of fates more views items same (tree, spell, is) = (tree, spell, subst (λ fs. IsTreeAt views fs 0 tree) same is)
 
 pub popped_of : (problem : Instance) (nodes : List Node) (fates : List Fate) (keys rest : List (ℕ × ℕ)) (count total k : ℕ) → IsState problem nodes fates keys count → IsLeastKey (total, k) keys rest → IsPopped problem nodes fates rest count total k
 popped_of problem nodes fates keys rest count total k state least = record { state = subst (λ ks. IsState problem nodes fates ks count) least.removal state; above = least.above }
@@ -111,7 +109,7 @@ not_apart paths (Vertex i j cell tick) (differ, p, q, ip, jq, here, there) = (i,
 not_apart paths (Swap i j from to tick) (differ, moved, p, q, ip, jq, here, there) = (i, j, tick, p, q, differ, ip, jq, inr (here.0 ∙ sym there.1, here.1 ∙ sym there.0))
 
 -- a tree of the search can be printed, and its splits are earned
-is_tree_of : (problem : Instance) → IsGridMap problem.grid → ((tree : ConstraintTree) → NamesFirstDefect problem tree) → (views : List View) (fates : List Fate) (count limit : ℕ) → count ≤ limit → IsSearched problem views fates count → (items : List Item) (tree : ConstraintTree) → Spell items tree → IsTreeAt (length problem.agents) views fates 0 tree → IsTreeOf problem limit items tree
+is_tree_of : (problem : Instance) → IsGridMap problem.grid → ((tree : ConstraintTree) → NamesFirstDefect problem tree) → (views : List View) (fates : List Fate) (count limit : ℕ) → count ≤ limit → IsSearched problem views fates count → (items : List Item) (tree : ConstraintTree) → Spell items tree → IsTreeAt views fates 0 tree → IsTreeOf problem limit items tree
 is_tree_of problem shape names views fates count limit within searched items tree spelled on_tree = record {
   spelled = spelled;
   few = (let size = has_splits problem views fates count searched tree on_tree in omega (arith, size, within));
@@ -123,13 +121,13 @@ is_tree_of problem shape names views fates count limit within searched items tre
 
 -- what a tree shows is so
 shown_holds : (problem : Instance) (claim : Claim) (tree : ConstraintTree) → Shows problem claim tree → Holds problem claim
-shown_holds problem claim tree shows = holds_of_plans problem claim (λ plan valid. shown_of_plan problem plan valid claim tree root shows.proper shows.nodes (AllSatisfy-root plan))
+shown_holds problem claim tree shows = holds_of_plans problem claim (λ plan valid. shown_at_root problem plan valid claim tree shows)
 
 pub is_shown_impossible : (problem : Instance) (tree : ConstraintTree) → Shows problem Impossible tree → IsShownImpossible problem tree
 is_shown_impossible problem tree shows = record { shows = shows; impossible = shown_holds problem Impossible tree shows }
 
 -- no open node is left
-pub answer_impossible : (problem : Instance) → IsGridMap problem.grid → ((tree : ConstraintTree) → NamesFirstDefect problem tree) → (nodes : List Node) (fates : List Fate) (count limit : ℕ) → count ≤ limit → (state : IsState problem nodes fates [] count) (items : List Item) → (tree : ConstraintTree) × Spell items tree × IsTreeAt (length problem.agents) state.views fates 0 tree →
+pub answer_impossible : (problem : Instance) → IsGridMap problem.grid → ((tree : ConstraintTree) → NamesFirstDefect problem tree) → (nodes : List Node) (fates : List Fate) (count limit : ℕ) → count ≤ limit → (state : IsState problem nodes fates [] count) (items : List Item) → (tree : ConstraintTree) × Spell items tree × IsTreeAt state.views fates 0 tree →
     (tree : ConstraintTree) × IsTreeOf problem limit items tree × IsShownImpossible problem tree
 answer_impossible problem shape names nodes fates count limit within state items (tree, spell, on_tree) = (
   tree,
@@ -141,7 +139,7 @@ answer_impossible problem shape names nodes fates count limit within state items
       Contains-none (sum view.0.costs, m) (state.opens.each m view.0 view.1 m_open))),
 )
 
-module _ (problem : Instance) (shape : IsGridMap problem.grid) (names : (tree : ConstraintTree) → NamesFirstDefect problem tree) (nodes : List Node) (fates : List Fate) (rest : List (ℕ × ℕ)) (count total k : ℕ) (popped : IsPopped problem nodes fates rest count total k) (limit : ℕ) (within : count ≤ limit) (items : List Item) (found : (tree : ConstraintTree) × Spell items tree × IsTreeAt (length problem.agents) popped.state.views fates 0 tree) where
+module _ (problem : Instance) (shape : IsGridMap problem.grid) (names : (tree : ConstraintTree) → NamesFirstDefect problem tree) (nodes : List Node) (fates : List Fate) (rest : List (ℕ × ℕ)) (count total k : ℕ) (popped : IsPopped problem nodes fates rest count total k) (limit : ℕ) (within : count ≤ limit) (items : List Item) (found : (tree : ConstraintTree) × Spell items tree × IsTreeAt popped.state.views fates 0 tree) where
   tree_is : IsTreeOf problem limit items found.0
   tree_is = is_tree_of problem shape names popped.state.views fates count limit within popped.state.searched items found.0 found.1 found.2
 
@@ -177,7 +175,7 @@ module _ (problem : Instance) (shape : IsGridMap problem.grid) (names : (tree : 
     answer_splits conflict meet early = (
       found.0,
       tree_is,
-      is_stopped problem popped.state.views fates count popped.state.searched found.0 found.2 (λ constraints paths. AreFirstPaths problem constraints paths × HaveConflictBefore paths 1000000) k view is is_open least (not_apart view.paths conflict meet) (live_first problem view live, (conflict, meet, early)),
+      is_stopped problem popped.state.views fates count popped.state.searched found.0 found.2 (λ context paths. AreFirstPaths problem context paths × HaveConflictBefore paths 1000000) k view is is_open least (not_apart view.paths conflict meet) (live_first problem view live, (conflict, meet, early)),
       has_splits problem popped.state.views fates count popped.state.searched found.0 found.2,
     )
 
@@ -188,7 +186,7 @@ module _ (problem : Instance) (shape : IsGridMap problem.grid) (names : (tree : 
         let size = has_splits problem popped.state.views fates count popped.state.searched found.0 found.2 in (
           found.0,
           tree_is,
-          is_stopped problem popped.state.views fates count popped.state.searched found.0 found.2 (λ constraints paths. AreFirstPaths problem constraints paths × AreConflictFreeBefore paths 1000000) k view is is_open least (not_apart view.paths conflict meet) (live_first problem view live, λ i j tick p q before. apart i j tick p q (omega arith)),
+          is_stopped problem popped.state.views fates count popped.state.searched found.0 found.2 (λ context paths. AreFirstPaths problem context paths × AreConflictFreeBefore paths 1000000) k view is is_open least (not_apart view.paths conflict meet) (live_first problem view live, λ i j tick p q before. apart i j tick p q (omega arith)),
           rw size (omega arith),
         )
 

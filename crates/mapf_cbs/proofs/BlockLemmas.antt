@@ -1,65 +1,67 @@
--- Blocks are gathered agent by agent.
-use Rattle.std.proofs.Common.{◌≡◌, ◌≢◌, ℕ, suc, ◌+◌, ◌^◌, ◌<◌, ◌≤◌, true, length, List, [], ◌∷◌, ◌++◌, Some, None, All, refl, sym, ◌∙◌, ap, subst, ⊎_elim, arith, nat_eq, cond, eq-eqb}
-use Rattle.std.proofs.lemmas.Bool.{cases_eq, cond_both, eqb-true}
-use Rattle.std.proofs.lemmas.Option.{same_Some}
-use Rattle.std.proofs.lemmas.List.Elements.{All-push}
-use Rattle.std.proofs.lemmas.List.Quantifiers.{all_pairs_push}
-use Rattle.mapf_model.specs.declared.label.Entry.{Entry}
+-- The blocks of all nodes, gathered node by node.
+use Rattle.std.proofs.Common.{◌≡◌, ℕ, ◌^◌, ◌<◌, List, [], ◌∷◌, ◌++◌, Some, All, length, length-append, slice_get, sym, subst, ⊎_elim, arith, Vec}
+use Rattle.std.specs.declared.alloc.Global.{Global}
+use Rattle.std.proofs.lemmas.Option.{slice_get_within}
 use Rattle.mapf_model.specs.Blocks.{LabelBlock}
-use Rattle.mapf_model.specs.Tree.{block_of}
-use Rattle.mapf_cbs.specs.Search.{AreBlocksOf}
+use Rattle.mapf_model.proofs.ClaimLemmas.{slice_get_inside}
+use Rattle.mapf_model.proofs.SumLemmas.{snoc_get}
+use Rattle.mapf_cbs.specs.declared.node.Node.{Node}
+use Rattle.mapf_cbs.specs.declared.whole_node.WholeNode.{WholeNode}
+use Rattle.mapf_cbs.specs.Nodes.{AreViews, IsOwnOf}
+use Rattle.mapf_cbs.specs.Search.{View, AreBlocksOf, AreBlockLists}
+use Rattle.mapf_cbs.specs.Whole.{AreWhole}
+use Rattle.mapf_cbs.proofs.NodeLemmas.{own_blocks}
 
-block_other : (blocks : List LabelBlock) (last : LabelBlock) (i : ℕ) → last.agent ≢ i → block_of (blocks ++ last ∷ []) i ≡ block_of blocks i
-block_other [] last i other = cond_both (nat_eq last.agent i) (Some last) None (λ o. o ≡ None) (λ same. absurd (other (eqb-true last.agent i same))) (λ differ. refl)
-block_other (block ∷ blocks) last i other = ap (λ o. cond (nat_eq block.agent i) (Some block) o) (block_other blocks last i other)
+-- each list belongs to the node of its place
+pub record ArePaired {X : Type 0} (P : X → Vec LabelBlock Global → Type 0) (nodes : List X) (lists : List (Vec LabelBlock Global)) : Type 0 where
+  pub so_many : length lists ≡ length nodes
+  pub each : (k : ℕ) (node : X) (blocks : Vec LabelBlock Global) → slice_get nodes k ≡ Some node → slice_get lists k ≡ Some blocks → P node blocks
 
-block_last : (blocks : List LabelBlock) (last : LabelBlock) → All (λ block. block.agent < last.agent) blocks → block_of (blocks ++ last ∷ []) last.agent ≡ Some last
-block_last [] last low = let e : nat_eq last.agent last.agent ≡ true = eq-eqb last.agent last.agent refl in rw e refl
-block_last (block ∷ blocks) last low =
-    let first : block.agent < last.agent = low 0 block (omega arith) in
-    cond_both (nat_eq block.agent last.agent) (Some block) (block_of (blocks ++ last ∷ []) last.agent) (λ o. o ≡ Some last)
-    (λ same. let e : block.agent ≡ last.agent = eqb-true block.agent last.agent same in absurd (omega arith))
-    (λ differ. block_last blocks last (λ k d within. low (suc k) d (omega arith)))
+pub paired_more : {X : Type 0} (P : X → Vec LabelBlock Global → Type 0) (nodes : List X) (lists : List (Vec LabelBlock Global)) (node : X) (blocks : Vec LabelBlock Global) → ArePaired P nodes lists → P node blocks → ArePaired P (nodes ++ node ∷ []) (lists ++ blocks ∷ [])
+paired_more P nodes lists node blocks before here =
+    let size = before.so_many in
+    record {
+      so_many = let a = length-append nodes (node ∷ []) in let b = length-append lists (blocks ∷ []) in omega (arith, size, a, b);
+      each = λ k n b n_is b_is. ⊎_elim
+          (λ (old : slice_get nodes k ≡ Some n). ⊎_elim
+          (λ (old_list : slice_get lists k ≡ Some b). before.each k n b old old_list)
+          (λ (new_list : (k ≡ length lists) × (blocks ≡ b)). absurd (let inside = slice_get_within nodes k n old in let e = new_list.0 in omega (arith, inside, e, size)))
+          (snoc_get lists blocks k b b_is))
+          (λ (new : (k ≡ length nodes) × (node ≡ n)). ⊎_elim
+          (λ (old_list : slice_get lists k ≡ Some b). absurd (let inside = slice_get_within lists k b old_list in let e = new.0 in omega (arith, inside, e, size)))
+          (λ (new_list : (k ≡ length lists) × (blocks ≡ b)). subst (λ x. P x b) new.1 (subst (λ x. P node x) new_list.1 here))
+          (snoc_get lists blocks k b b_is))
+          (snoc_get nodes node k n n_is);
+    }
 
-no_block : (blocks : List LabelBlock) (i : ℕ) → All (λ block. block.agent < i) blocks → block_of blocks i ≡ None
-no_block [] i low = refl
-no_block (block ∷ blocks) i low =
-    let first : block.agent < i = low 0 block (omega arith) in
-    cond_both (nat_eq block.agent i) (Some block) (block_of blocks i) (λ o. o ≡ None)
-    (λ same. let e : block.agent ≡ i = eqb-true block.agent i same in absurd (omega arith))
-    (λ differ. no_block blocks i (λ k d within. low (suc k) d (omega arith)))
+-- the blocks are the node's own
+abbrev pub IsOwnList : Node → Vec LabelBlock Global → Type 0
+IsOwnList node blocks = IsOwnOf node blocks.items × All (λ block. length block.entries < 2 ^ 64) blocks.items
 
-module _ (n : ℕ) (listed : ℕ → List Entry) (blocks : List LabelBlock) (are : AreBlocksOf n listed blocks) where
-  pub blocks_skip : listed n ≡ [] → AreBlocksOf (n + 1) listed blocks
-  blocks_skip empty = record {
-    different = are.different;
-    of_agents = λ k d within. let h = are.of_agents k d within in omega arith;
-    some = are.some;
-    none = λ i within is. ⊎_elim
-        (λ (e : i ≡ n). rw e empty)
-        (λ (e : i ≢ n). are.none i (omega arith) is)
-        (cases_eq i n);
-    rising = are.rising;
-    filled = are.filled;
-  }
+pub own_lists : (nodes : List Node) (lists : List (Vec LabelBlock Global)) → ArePaired IsOwnList nodes lists → (views : List View) → AreViews nodes views → AreBlockLists views lists
+own_lists nodes lists paired views are =
+    let size = paired.so_many in let sizes = are.lengths in
+    record {
+      lengths = omega arith;
+      each = λ k view blocks view_is is.
+          let inside : k < length views = slice_get_within views k view view_is in
+          let node : (node : Node) × (slice_get nodes k ≡ Some node) = slice_get_inside nodes k (omega arith) in
+          let own = paired.each k node.0 blocks node.1 is in
+          (own_blocks views k node.0 view (are.each k node.0 view node.1 view_is) blocks.items own.0, own.1);
+    }
 
-  pub blocks_more : (last : LabelBlock) → last.agent ≡ n → last.entries ≡ listed n → 1 ≤ length last.entries → length last.entries < 2 ^ 64 → AreBlocksOf (n + 1) listed (blocks ++ last ∷ [])
-  blocks_more last own entries some few =
-      let low : All (λ (block : LabelBlock). block.agent < last.agent) blocks = λ k d within. let h = are.of_agents k d within in omega arith in
-      record {
-        different = all_pairs_push (λ a b. a.agent ≢ b.agent) blocks last are.different (λ k d within e. let h = are.of_agents k d within in omega arith);
-        of_agents = All-push (λ (block : LabelBlock). block.agent < n + 1) blocks last (λ k d within. let h = are.of_agents k d within in omega arith) (omega arith);
-        some = λ i block is. ⊎_elim
-            (λ (e : last.agent ≡ i).
-            let same : last ≡ block = same_Some last block (sym (block_last blocks last low) ∙ subst (λ m. block_of (blocks ++ last ∷ []) m ≡ Some block) (sym e) is) in
-            let here : i ≡ n = omega arith in
-            subst (λ (b : LabelBlock). b.entries ≡ listed i) same (rw here entries))
-            (λ (e : last.agent ≢ i). are.some i block (sym (block_other blocks last i e) ∙ is))
-            (cases_eq last.agent i);
-        none = λ i within is. ⊎_elim
-            (λ (e : last.agent ≡ i). absurd (let f : Some last ≡ None = sym (block_last blocks last low) ∙ subst (λ m. block_of (blocks ++ last ∷ []) m ≡ None) (sym e) is in cc))
-            (λ (e : last.agent ≢ i). are.none i (omega arith) (sym (block_other blocks last i e) ∙ is))
-            (cases_eq last.agent i);
-        rising = all_pairs_push (λ a b. a.agent < b.agent) blocks last are.rising (λ k d within. low k d within);
-        filled = All-push (λ (block : LabelBlock). (block.entries ≡ listed block.agent) × (1 ≤ length block.entries) × (length block.entries < 2 ^ 64)) blocks last are.filled (rw own entries, some, few);
-      }
+-- the blocks are those that a whole node holds
+abbrev pub IsHeldList : WholeNode → Vec LabelBlock Global → Type 0
+IsHeldList node blocks = blocks ≡ node.blocks
+
+pub held_lists : (nodes : List WholeNode) (lists : List (Vec LabelBlock Global)) → ArePaired IsHeldList nodes lists → (views : List View) → AreWhole nodes views → AreBlockLists views lists
+held_lists nodes lists paired views whole =
+    let size = paired.so_many in let sizes = whole.lengths in
+    record {
+      lengths = omega arith;
+      each = λ k view blocks view_is is.
+          let inside : k < length views = slice_get_within views k view view_is in
+          let node : (node : WholeNode) × (slice_get nodes k ≡ Some node) = slice_get_inside nodes k (omega arith) in
+          let held = paired.each k node.0 blocks node.1 is in
+          subst (λ (b : Vec LabelBlock Global). AreBlocksOf view b.items) (sym held) (whole.each k node.0 view node.1 view_is).blocks;
+    }

@@ -1,5 +1,5 @@
 -- Children of a node: more bars, no cheaper path, conflicts before a bound.
-use Rattle.std.proofs.Common.{◌≡◌, ◌≢◌, ◌⊎◌, ℕ, suc, ◌+◌, ◌<◌, ◌≤◌, Bool, true, false, List, [], ◌∷◌, Some, Contains, length, sum, slice_get, slice_set, refl, sym, ◌∙◌, subst, inl, inr, ⊎_elim, arith, nat_eq, cond, eq-eqb}
+use Rattle.std.proofs.Common.{◌≡◌, ◌≢◌, ◌⊎◌, ℕ, suc, ◌+◌, ◌<◌, ◌≤◌, Bool, true, false, List, [], ◌∷◌, Option, Some, None, Contains, length, sum, slice_get, slice_set, refl, sym, ◌∙◌, subst, inl, inr, ⊎_elim, arith, nat_eq, cond, eq-eqb}
 use Rattle.std.proofs.lemmas.Bool.{cases_eq, cases_lt, cond_both, eqb-true}
 use Rattle.std.proofs.lemmas.Option.{slice_get_within, same_Some}
 use Rattle.mapf_model.specs.declared.bar.Bar.{Bar}
@@ -10,9 +10,12 @@ use Rattle.mapf_model.specs.declared.conflict.Conflict.{Conflict}
 use Rattle.mapf_model.specs.declared.conflict.Conflict.TheVariants.{Vertex, Swap}
 use Rattle.mapf_model.specs.Grid.{GridMap, Step, IsFree, free_cell_count}
 use Rattle.mapf_model.specs.Path.{at}
-use Rattle.mapf_model.specs.Labels.{entries_of}
+use Rattle.mapf_model.specs.declared.label.Label.{Label}
+use Rattle.mapf_model.specs.declared.label.Label.TheVariants.{Ticks, Never}
+use Rattle.mapf_model.specs.Blocks.{LabelBlock}
+use Rattle.mapf_model.specs.Labels.{Entries, entries_of, IsLabel}
 use Rattle.mapf_model.specs.Plan.{Instance}
-use Rattle.mapf_model.specs.Tree.{with_constraint, left_constraint, right_constraint, IsProperSplit, ShareGoal}
+use Rattle.mapf_model.specs.Tree.{with_constraint, left_constraint, right_constraint, IsProperSplit, ShareGoal, block_of, entries_or}
 use Rattle.mapf_model.specs.Earned.{HasConflict, tick_of}
 use Rattle.mapf_model.specs.Laws.{AreSameBars}
 use Rattle.mapf_model.proofs.BarLemmas.{Satisfies-same, AreSound-same}
@@ -22,7 +25,8 @@ use Rattle.mapf_constraints.specs.BarSets.{tick_of as bar_tick, AreBefore}
 use Rattle.mapf_spacetime.specs.Answer.{AreGoodLabels}
 use Rattle.mapf_spacetime.specs.Task.{task_of}
 use Rattle.mapf_cbs.specs.CheapestPath.{IsCheapestPath, HasNoPath, IsTableBar}
-use Rattle.mapf_cbs.specs.Search.{View, IsCheapestOf, IsLive, IsDead, live_child, dead_child}
+use Rattle.mapf_cbs.specs.Search.{View, entries_at, IsCheapestOf, AreOwnBlocks, IsLive, IsDead, bound_blocks, live_child, dead_child}
+use Rattle.mapf_cbs.proofs.CheapestPathLemmas.{distance_bound, cheapest_with}
 use Rattle.mapf_cbs.proofs.SumLemmas.{slice_get-set_same, slice_get-set_other, length-slice_set, sum-set}
 use Rattle.mapf_cbs.proofs.ViewLemmas.{agent_path_of}
 
@@ -33,10 +37,10 @@ pub Contains-later : {X : Type 0} (x y : X) (xs : List X) → Contains xs y → 
 Contains-later x y xs (k, within, is) = (suc k, omega arith, is)
 
 -- a list of bars stands for its set
-good_same : (grid : GridMap) (agent : Agent) (xs ys : List Bar) (entries : List Entry) → AreSameBars xs ys → AreGoodLabels (task_of grid agent xs) entries → AreGoodLabels (task_of grid agent ys) entries
+pub good_same : (grid : GridMap) (agent : Agent) (xs ys : List Bar) (entries : List Entry) → AreSameBars xs ys → AreGoodLabels (task_of grid agent xs) entries → AreGoodLabels (task_of grid agent ys) entries
 good_same grid agent xs ys entries same good = record { sound = AreSound-same xs ys same grid agent.goal (entries_of entries) good.sound; rising = good.rising; ranges = good.ranges }
 
-pub IsCheapestPath-same : (grid : GridMap) (agent : Agent) (xs ys : List Bar) (path : List ℕ) (cost : ℕ) (entries : List Entry) → AreSameBars xs ys → IsCheapestPath grid agent xs path cost entries → IsCheapestPath grid agent ys path cost entries
+pub IsCheapestPath-same : (grid : GridMap) (agent : Agent) (xs ys : List Bar) (path : List ℕ) (cost : ℕ) (entries : Entries) → AreSameBars xs ys → IsCheapestPath grid agent xs path cost entries → IsCheapestPath grid agent ys path cost entries
 IsCheapestPath-same grid agent xs ys path cost entries same agent_path = record {
   lawful = agent_path.lawful;
   satisfies = Satisfies-same xs ys same path agent_path.satisfies;
@@ -44,67 +48,113 @@ IsCheapestPath-same grid agent xs ys path cost entries same agent_path = record 
   is_cost = agent_path.is_cost;
   least = λ other other_cost lawful satisfies is. agent_path.least other other_cost lawful (λ bar in_xs. satisfies bar ((same bar).0 in_xs)) is;
   first = λ other tick lawful satisfies is agree. agent_path.first other tick lawful (λ bar in_xs. satisfies bar ((same bar).0 in_xs)) is agree;
-  labels = good_same grid agent xs ys entries same agent_path.labels;
   start = agent_path.start;
   below = λ horizon below. agent_path.below horizon (λ bar in_xs. below bar ((same bar).0 in_xs));
 }
 
-pub HasNoPath-same : (grid : GridMap) (agent : Agent) (xs ys : List Bar) (entries : List Entry) → AreSameBars xs ys → HasNoPath grid agent xs entries → HasNoPath grid agent ys entries
+pub HasNoPath-same : (grid : GridMap) (agent : Agent) (xs ys : List Bar) (entries : Entries) → AreSameBars xs ys → HasNoPath grid agent xs entries → HasNoPath grid agent ys entries
 HasNoPath-same grid agent xs ys entries same blocked = record {
   none = λ path lawful satisfies. blocked.none path lawful (λ bar in_xs. satisfies bar ((same bar).0 in_xs));
-  labels = good_same grid agent xs ys entries same blocked.labels;
   start = blocked.start;
 }
 
-module _ (problem : Instance) (view : View) (live : IsLive problem view) (constraint : Constraint) (agent : Agent) (known : slice_get problem.agents constraint.agent ≡ Some agent) (es : List Entry) where
-  -- an agent that isn't bound keeps its path
-  kept : (k : ℕ) (other : Agent) (path : List ℕ) (cost : ℕ) → k ≢ constraint.agent → slice_get problem.agents k ≡ Some other → slice_get view.paths k ≡ Some path → slice_get view.costs k ≡ Some cost →
-      (b : Bool) → nat_eq k constraint.agent ≡ b → IsCheapestPath problem.grid other (cond b (constraint.bar ∷ view.constraints.bars k) (view.constraints.bars k)) path cost (cond b es (view.entries k))
-  kept k other path cost differ a p c true is = absurd (differ (eqb-true k constraint.agent is))
-  kept k other path cost differ a p c false is = live.each k other path cost a p c
+-- no other agent has a block
+bound_other : (bound : ℕ) (es : List Entry) (i : ℕ) → i ≢ bound → block_of (bound_blocks bound es) i ≡ None
+bound_other bound [] i differ = refl
+bound_other bound (e ∷ es) i differ = cond_both (nat_eq bound i) (Some (record { agent = bound; entries = e ∷ es })) None (λ (o : Option LabelBlock). o ≡ None) (λ same. absurd (differ (sym (eqb-true bound i same)))) (λ f. refl)
 
-  pub dead_child_dead : HasNoPath problem.grid agent (constraint.bar ∷ view.constraints.bars constraint.agent) es → IsDead problem (dead_child view constraint es)
-  dead_child_dead blocked = record {
-    counted = record { paths = live.counted.paths; costs = live.counted.costs };
-    who = constraint.agent;
-    agent = agent;
-    known = known;
-    blocked = let here : nat_eq constraint.agent constraint.agent ≡ true = eq-eqb constraint.agent constraint.agent refl in rw here blocked;
-    each = λ k other path cost differ a p c. kept k other path cost differ a p c (nat_eq k constraint.agent) refl;
-  }
+-- the label of the bound agent's start is that of the entries that were found, and where there are none that from above
+bound_start : (grid : GridMap) (agent : Agent) (bound : ℕ) (es : List Entry) (above : Entries) (label : Label) → IsLabel grid agent.goal (entries_of es) agent.start 0 label → (es ≡ [] → IsLabel grid agent.goal above agent.start 0 label) →
+    IsLabel grid agent.goal (entries_or (block_of (bound_blocks bound es) bound) above) agent.start 0 label
+bound_start grid agent bound [] above label here none = none refl
+bound_start grid agent bound (e ∷ es) above label here none = let same : nat_eq bound bound ≡ true = eq-eqb bound bound refl in rw same here
 
-  module _ (path' : List ℕ) (cost' : ℕ) (agent_path : IsCheapestPath problem.grid agent (constraint.bar ∷ view.constraints.bars constraint.agent) path' cost' es) where
-    within : constraint.agent < length problem.agents
-    within = slice_get_within problem.agents constraint.agent agent known
+-- the block of the entries that were found
+bound_own : (problem : Instance) (bars : ℕ → List Bar) (bound : ℕ) (agent : Agent) → slice_get problem.agents bound ≡ Some agent → (es : List Entry) → AreGoodLabels (task_of problem.grid agent (bars bound)) es → AreOwnBlocks problem bars (bound_blocks bound es)
+bound_own problem bars bound agent known [] good = tt
+bound_own problem bars bound agent known (e ∷ es) good = record { agent = agent; known = known; labels = good; some = omega arith }
 
-    by_agent : (k : ℕ) (other : Agent) (path : List ℕ) (cost : ℕ) → slice_get problem.agents k ≡ Some other → slice_get (slice_set view.paths constraint.agent path') k ≡ Some path → slice_get (slice_set view.costs constraint.agent cost') k ≡ Some cost →
-        (k ≡ constraint.agent) ⊎ (k ≢ constraint.agent) → IsCheapestOf problem (live_child view constraint path' cost' es) k other path cost
-    by_agent k other path cost a p c (inl same) =
-        let one = live.counted.paths in let two = live.counted.costs in let three = within in
-        let here : nat_eq k constraint.agent ≡ true = eq-eqb k constraint.agent same in
-        let this_path : path' ≡ path = same_Some path' path (sym (slice_get-set_same view.paths constraint.agent path' (omega arith)) ∙ subst (λ n. slice_get (slice_set view.paths constraint.agent path') n ≡ Some path) same p) in
-        let this_cost : cost' ≡ cost = same_Some cost' cost (sym (slice_get-set_same view.costs constraint.agent cost' (omega arith)) ∙ subst (λ n. slice_get (slice_set view.costs constraint.agent cost') n ≡ Some cost) same c) in
-        let this_agent : agent ≡ other = same_Some agent other (sym known ∙ subst (λ n. slice_get problem.agents n ≡ Some other) same a) in
-        let moved : IsCheapestPath problem.grid other (constraint.bar ∷ view.constraints.bars constraint.agent) path cost es =
-        subst (λ x. IsCheapestPath problem.grid x (constraint.bar ∷ view.constraints.bars constraint.agent) path cost es) this_agent
-        (subst (λ x. IsCheapestPath problem.grid agent (constraint.bar ∷ view.constraints.bars constraint.agent) x cost es) this_path
-        (subst (λ x. IsCheapestPath problem.grid agent (constraint.bar ∷ view.constraints.bars constraint.agent) path' x es) this_cost agent_path)) in
-        rw here (subst (λ n. IsCheapestPath problem.grid other (constraint.bar ∷ view.constraints.bars n) path cost es) (sym same) moved)
-    by_agent k other path cost a p c (inr differ) =
-        kept k other path cost differ a (sym (slice_get-set_other view.paths constraint.agent k path' differ) ∙ p) (sym (slice_get-set_other view.costs constraint.agent k cost' differ) ∙ c) (nat_eq k constraint.agent) refl
+module _ (problem : Instance) (view : View) (live : IsLive problem view) (constraint : Constraint) (agent : Agent) (known : slice_get problem.agents constraint.agent ≡ Some agent) (es : List Entry)
+    (good : AreGoodLabels (task_of problem.grid agent (constraint.bar ∷ view.context.bars constraint.agent)) es)
+  where
+    own : AreOwnBlocks problem (with_constraint view.context.bars constraint) (bound_blocks constraint.agent es)
+    own = bound_own problem (with_constraint view.context.bars constraint) constraint.agent agent known es (let here : nat_eq constraint.agent constraint.agent ≡ true = eq-eqb constraint.agent constraint.agent refl in rw here good)
 
-    pub live_child_live : IsLive problem (live_child view constraint path' cost' es)
-    live_child_live = record {
-      counted = record { paths = length-slice_set view.paths constraint.agent path' ∙ live.counted.paths; costs = length-slice_set view.costs constraint.agent cost' ∙ live.counted.costs };
-      each = λ k other path cost a p c. by_agent k other path cost a p c (cases_eq k constraint.agent);
+    -- an agent that isn't bound keeps its path
+    kept : (k : ℕ) (other : Agent) (path : List ℕ) (cost : ℕ) → k ≢ constraint.agent → slice_get problem.agents k ≡ Some other → slice_get view.paths k ≡ Some path → slice_get view.costs k ≡ Some cost →
+        (b : Bool) → nat_eq k constraint.agent ≡ b → IsCheapestPath problem.grid other (cond b (constraint.bar ∷ view.context.bars k) (view.context.bars k)) path cost (entries_or (block_of (bound_blocks constraint.agent es) k) (entries_at view k))
+    kept k other path cost differ a p c true is = absurd (differ (eqb-true k constraint.agent is))
+    kept k other path cost differ a p c false is =
+        subst (λ (o : Option LabelBlock). IsCheapestPath problem.grid other (view.context.bars k) path cost (entries_or o (entries_at view k))) (sym (bound_other constraint.agent es k differ)) (live.each k other path cost a p c)
+
+    -- the bound agent's path at the parent
+    old : (path : List ℕ) × (cost : ℕ) × IsCheapestPath problem.grid agent (view.context.bars constraint.agent) path cost (entries_at view constraint.agent)
+    old = let r = agent_path_of problem view live.counted constraint.agent agent known in (r.0, r.1, live.each constraint.agent agent r.0 r.1 known r.2 r.3)
+
+    pub dead_child_dead : HasNoPath problem.grid agent (constraint.bar ∷ view.context.bars constraint.agent) (entries_of es) → IsDead problem (dead_child view constraint es)
+    dead_child_dead blocked = record {
+      counted = record { paths = live.counted.paths; costs = live.counted.costs };
+      own = own;
+      who = constraint.agent;
+      agent = agent;
+      known = known;
+      blocked =
+          let here : nat_eq constraint.agent constraint.agent ≡ true = eq-eqb constraint.agent constraint.agent refl in
+          let start : IsLabel problem.grid agent.goal (entries_or (block_of (bound_blocks constraint.agent es) constraint.agent) (entries_at view constraint.agent)) agent.start 0 Never =
+          bound_start problem.grid agent constraint.agent es (entries_at view constraint.agent) Never blocked.start (λ none. absurd
+          (distance_bound problem.grid agent (view.context.bars constraint.agent) old.0 old.1 Never old.2.lawful old.2.satisfies old.2.is_cost (subst (λ xs. IsLabel problem.grid agent.goal (entries_of xs) agent.start 0 Never) none blocked.start))) in
+          rw here (record { none = blocked.none; start = start });
+      each = λ k other path cost differ a p c. kept k other path cost differ a p c (nat_eq k constraint.agent) refl;
     }
 
-    -- a child is no cheaper
-    pub live_child_sum : (cost : ℕ) → slice_get view.costs constraint.agent ≡ Some cost → (sum (slice_set view.costs constraint.agent cost') + cost ≡ sum view.costs + cost') × (cost ≤ cost')
-    live_child_sum cost is =
-        let r = agent_path_of problem view live.counted constraint.agent agent known in
-        let old = live.each constraint.agent agent r.0 cost known r.2 is in
-        (sum-set view.costs constraint.agent cost cost' is, old.least path' cost' agent_path.lawful (λ b in_it. agent_path.satisfies b (Contains-later constraint.bar b (view.constraints.bars constraint.agent) in_it)) agent_path.is_cost)
+    module _ (path' : List ℕ) (cost' : ℕ) (agent_path : IsCheapestPath problem.grid agent (constraint.bar ∷ view.context.bars constraint.agent) path' cost' (entries_of es)) where
+      within : constraint.agent < length problem.agents
+      within = slice_get_within problem.agents constraint.agent agent known
+
+      old_no_dearer : old.1 ≤ cost'
+      old_no_dearer = old.2.least path' cost' agent_path.lawful (λ b in_it. agent_path.satisfies b (Contains-later constraint.bar b (view.context.bars constraint.agent) in_it)) agent_path.is_cost
+
+      -- where nothing was found the cost is the distance, and so the cost at the parent
+      same_above : es ≡ [] → IsLabel problem.grid agent.goal (entries_at view constraint.agent) agent.start 0 (Ticks cost')
+      same_above none =
+          let high : cost' ≤ old.1 = distance_bound problem.grid agent (view.context.bars constraint.agent) old.0 old.1 (Ticks cost') old.2.lawful old.2.satisfies old.2.is_cost (subst (λ xs. IsLabel problem.grid agent.goal (entries_of xs) agent.start 0 (Ticks cost')) none agent_path.start) in
+          let low = old_no_dearer in
+          let same : old.1 ≡ cost' = omega (arith, high, low) in
+          subst (λ n. IsLabel problem.grid agent.goal (entries_at view constraint.agent) agent.start 0 (Ticks n)) same old.2.start
+
+      new_path : IsCheapestPath problem.grid agent (constraint.bar ∷ view.context.bars constraint.agent) path' cost' (entries_or (block_of (bound_blocks constraint.agent es) constraint.agent) (entries_at view constraint.agent))
+      new_path = cheapest_with problem.grid agent (constraint.bar ∷ view.context.bars constraint.agent) path' cost' (entries_of es) (entries_or (block_of (bound_blocks constraint.agent es) constraint.agent) (entries_at view constraint.agent)) agent_path
+          (bound_start problem.grid agent constraint.agent es (entries_at view constraint.agent) (Ticks cost') agent_path.start same_above)
+
+      by_agent : (k : ℕ) (other : Agent) (path : List ℕ) (cost : ℕ) → slice_get problem.agents k ≡ Some other → slice_get (slice_set view.paths constraint.agent path') k ≡ Some path → slice_get (slice_set view.costs constraint.agent cost') k ≡ Some cost →
+          (k ≡ constraint.agent) ⊎ (k ≢ constraint.agent) → IsCheapestOf problem (live_child view constraint path' cost' es) k other path cost
+      by_agent k other path cost a p c (inl same) =
+          let one = live.counted.paths in let two = live.counted.costs in let three = within in
+          let here : nat_eq k constraint.agent ≡ true = eq-eqb k constraint.agent same in
+          let this_path : path' ≡ path = same_Some path' path (sym (slice_get-set_same view.paths constraint.agent path' (omega arith)) ∙ subst (λ n. slice_get (slice_set view.paths constraint.agent path') n ≡ Some path) same p) in
+          let this_cost : cost' ≡ cost = same_Some cost' cost (sym (slice_get-set_same view.costs constraint.agent cost' (omega arith)) ∙ subst (λ n. slice_get (slice_set view.costs constraint.agent cost') n ≡ Some cost) same c) in
+          let this_agent : agent ≡ other = same_Some agent other (sym known ∙ subst (λ n. slice_get problem.agents n ≡ Some other) same a) in
+          let moved : IsCheapestPath problem.grid other (constraint.bar ∷ view.context.bars constraint.agent) path cost (entries_or (block_of (bound_blocks constraint.agent es) constraint.agent) (entries_at view constraint.agent)) =
+          subst (λ x. IsCheapestPath problem.grid x (constraint.bar ∷ view.context.bars constraint.agent) path cost (entries_or (block_of (bound_blocks constraint.agent es) constraint.agent) (entries_at view constraint.agent))) this_agent
+          (subst (λ x. IsCheapestPath problem.grid agent (constraint.bar ∷ view.context.bars constraint.agent) x cost (entries_or (block_of (bound_blocks constraint.agent es) constraint.agent) (entries_at view constraint.agent))) this_path
+          (subst (λ x. IsCheapestPath problem.grid agent (constraint.bar ∷ view.context.bars constraint.agent) path' x (entries_or (block_of (bound_blocks constraint.agent es) constraint.agent) (entries_at view constraint.agent))) this_cost new_path)) in
+          rw here (subst (λ n. IsCheapestPath problem.grid other (constraint.bar ∷ view.context.bars n) path cost (entries_or (block_of (bound_blocks constraint.agent es) n) (entries_at view n))) (sym same) moved)
+      by_agent k other path cost a p c (inr differ) =
+          kept k other path cost differ a (sym (slice_get-set_other view.paths constraint.agent k path' differ) ∙ p) (sym (slice_get-set_other view.costs constraint.agent k cost' differ) ∙ c) (nat_eq k constraint.agent) refl
+
+      pub live_child_live : IsLive problem (live_child view constraint path' cost' es)
+      live_child_live = record {
+        counted = record { paths = length-slice_set view.paths constraint.agent path' ∙ live.counted.paths; costs = length-slice_set view.costs constraint.agent cost' ∙ live.counted.costs };
+        own = own;
+        each = λ k other path cost a p c. by_agent k other path cost a p c (cases_eq k constraint.agent);
+      }
+
+      -- a child is no cheaper
+      pub live_child_sum : (cost : ℕ) → slice_get view.costs constraint.agent ≡ Some cost → (sum (slice_set view.costs constraint.agent cost') + cost ≡ sum view.costs + cost') × (cost ≤ cost')
+      live_child_sum cost is =
+          let r = agent_path_of problem view live.counted constraint.agent agent known in
+          let before = live.each constraint.agent agent r.0 cost known r.2 is in
+          (sum-set view.costs constraint.agent cost cost' is, before.least path' cost' agent_path.lawful (λ b in_it. agent_path.satisfies b (Contains-later constraint.bar b (view.context.bars constraint.agent) in_it)) agent_path.is_cost)
 
 -- the bars of a child, one of which is new, are below a later bound
 pub AreBefore-with_constraint : (bars : ℕ → List Bar) (constraint : Constraint) (horizon later : ℕ) → horizon ≤ later → bar_tick constraint.bar < later → ((k : ℕ) → AreBefore horizon (bars k)) → (k : ℕ) → AreBefore later (with_constraint bars constraint k)
@@ -161,7 +211,7 @@ module _ (problem : Instance) (view : View) (live : IsLive problem view) where
         elim step [ inl wait ↦ absurd (moved wait.1) | inr move ↦ move ],
       )
 
-  module _ (goals : (i j : ℕ) → ShareGoal problem i j → ⊥) (horizon : ℕ) (below : (i : ℕ) → AreBefore horizon (view.constraints.bars i)) where
+  module _ (goals : (i j : ℕ) → ShareGoal problem i j → ⊥) (horizon : ℕ) (below : (i : ℕ) → AreBefore horizon (view.context.bars i)) where
     -- past both arrivals two agents of different goals don't meet
     pub conflict_early : (conflict : Conflict) → HasConflict view.paths conflict → tick_of conflict < horizon + free_cell_count problem.grid
     conflict_early (Vertex i j cell tick) (differ, p, q, ip, jq, here, there) =

@@ -10,9 +10,9 @@ use Rattle.mapf_cbs.specs.declared.node.Node.TheVariants.{Child}
 use Rattle.mapf_cbs.specs.Nodes.{AreViews}
 use Rattle.mapf_cbs.specs.Finders.{number_of, AreInside, AreNone, HaveSame, IsNoted}
 use Rattle.mapf_cbs.specs.Search.{View}
-use Rattle.mapf_cbs.proofs.NodeLemmas.{paths_up, entries_up}
+use Rattle.mapf_cbs.proofs.NodeLemmas.{paths_up}
 
--- an agent that no node on the way bound so far has the path and the entries of the node here
+-- an agent that no node on the way bound so far has the path of the node here
 abbrev pub IsFoundSoFar : List View → View → View → ℕ → Option ℕ → Type 0
 IsFoundSoFar views view here i None = HaveSame i view here
 IsFoundSoFar views view here i (Some k) = (other : View) × (slice_get views k ≡ Some other) × HaveSame i view other
@@ -21,7 +21,7 @@ pub none_inside : (nodes : List Node) (finders : List (Option ℕ)) → 0 < leng
 none_inside nodes finders some none i finder is = rw (none i finder is) some
 
 pub none_so_far : (views : List View) (view here : View) → view ≡ here → (finders : List (Option ℕ)) → AreNone finders → (i : ℕ) (finder : Option ℕ) → slice_get finders i ≡ Some finder → IsFoundSoFar views view here i finder
-none_so_far views view here same finders none i finder is = rw (none i finder is) (rw same (refl, refl))
+none_so_far views view here same finders none i finder is = rw (none i finder is) (rw same refl)
 
 module _ (old new : List (Option ℕ)) (agent node : ℕ) (size : length new ≡ length old) (noted : IsNoted old new agent node) where
   -- a place of the new list
@@ -58,10 +58,7 @@ module _ (old new : List (Option ℕ)) (agent node : ℕ) (size : length new ≡
       (parent : ℕ) (constraint : Constraint) (bound : constraint.agent ≡ agent) (found : Found) (at : slice_get nodes node ≡ Some (Child parent constraint found)) (before : View) (before_is : slice_get views parent ≡ Some before)
     where
       go_up : (i : ℕ) (finder : Option ℕ) → i ≢ agent → IsFoundSoFar views view here i finder → IsFoundSoFar views view before i finder
-      go_up i None other same = (
-        same.0 ∙ paths_up nodes views are node here here_is parent constraint found at i (inl (λ e. other (e ∙ bound))) before before_is,
-        same.1 ∙ entries_up nodes views are node here here_is parent constraint found at i (λ e. other (e ∙ bound)) before before_is,
-      )
+      go_up i None other same = same ∙ paths_up nodes views are node here here_is parent constraint found at i (inl (λ e. other (e ∙ bound))) before before_is
       go_up i (Some k) other same = same
 
       up_by : ((i : ℕ) (finder : Option ℕ) → slice_get old i ≡ Some finder → IsFoundSoFar views view here i finder) → (i : ℕ) (finder : Option ℕ) → Was i finder → IsFoundSoFar views view before i finder

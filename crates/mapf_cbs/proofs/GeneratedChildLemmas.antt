@@ -6,6 +6,7 @@ use Rattle.mapf_model.specs.declared.bar.Bar.{Bar}
 use Rattle.mapf_model.specs.declared.constraint.Constraint.{Constraint}
 use Rattle.mapf_model.specs.declared.problem.Agent.{Agent}
 use Rattle.mapf_model.specs.Path.{at, IsCost}
+use Rattle.mapf_model.specs.Labels.{entries_of}
 use Rattle.mapf_model.specs.Laws.{AreSameBars}
 use Rattle.mapf_model.specs.Plan.{Instance}
 use Rattle.mapf_model.proofs.DecidedLemmas.{cost_unique}
@@ -18,7 +19,7 @@ use Rattle.mapf_cbs.specs.Search.{View, IsLive, live_child, dead_child}
 use Rattle.mapf_cbs.specs.GeneratedChild.{EndsAt, IsTotal, IsGeneratedChild}
 use Rattle.mapf_cbs.proofs.CheapestPathLemmas.{cheapest_of, none_of}
 use Rattle.mapf_cbs.proofs.ViewLemmas.{agent_path_of}
-use Rattle.mapf_cbs.proofs.ChildLemmas.{Contains-later, IsCheapestPath-same, HasNoPath-same, dead_child_dead, live_child_live, live_child_sum}
+use Rattle.mapf_cbs.proofs.ChildLemmas.{good_same, Contains-later, IsCheapestPath-same, HasNoPath-same, dead_child_dead, live_child_live, live_child_sum}
 
 part_within : (xs : List ℕ) (i x : ℕ) → slice_get xs i ≡ Some x → x ≤ sum xs
 part_within [] i x is = absurd cc
@@ -59,27 +60,28 @@ module _ (problem : Instance) (view : View) (live : IsLive problem view) (i : �
     pub old_within : old ≤ sum view.costs
     old_within = part_within view.costs i old old_cost
 
-module _ (problem : Instance) (view : View) (live : IsLive problem view) (constraint : Constraint) (agent : Agent) (known : slice_get problem.agents constraint.agent ≡ Some agent) (bars : List Bar) (same : AreSameBars bars (constraint.bar ∷ view.constraints.bars constraint.agent))
+module _ (problem : Instance) (view : View) (live : IsLive problem view) (constraint : Constraint) (agent : Agent) (known : slice_get problem.agents constraint.agent ≡ Some agent) (bars : List Bar) (same : AreSameBars bars (constraint.bar ∷ view.context.bars constraint.agent))
     (old : ℕ) (path : List ℕ) (path_is : slice_get view.paths constraint.agent ≡ Some path) (old_is : IsCost agent.goal path old)
   where
     pub generated : (found : Found) → IsPathAnswer (task_of problem.grid agent bars) found → (total : Option ℕ) → old ≤ sum view.costs → IsTotal found agent.goal (sum view.costs - old) total → IsGeneratedChild problem view constraint found total
     generated (Arrives new labels) arrival total less (cost', is', fits, total_is) =
         let cost = arrival.cost in
         let agent_path = cheapest_of problem.grid agent bars new labels arrival in
-        let agent_path' = IsCheapestPath-same problem.grid agent bars (constraint.bar ∷ view.constraints.bars constraint.agent) new cost labels same agent_path in
+        let agent_path' = IsCheapestPath-same problem.grid agent bars (constraint.bar ∷ view.context.bars constraint.agent) new cost (entries_of labels) same agent_path in
+        let good = good_same problem.grid agent bars (constraint.bar ∷ view.context.bars constraint.agent) labels same arrival.labels in
         let one : cost' ≡ cost = cost_unique agent.goal new cost' cost is' agent_path.is_cost in
-        let sums = live_child_sum problem view live constraint agent known labels new cost agent_path' old (old_cost problem view live constraint.agent agent known path path_is old old_is) in
+        let sums = live_child_sum problem view live constraint agent known labels good new cost agent_path' old (old_cost problem view live constraint.agent agent known path path_is old old_is) in
         let a = sums.0 in let b = sums.1 in
         subst (λ t. IsGeneratedChild problem view constraint (Arrives new labels) t) (sym total_is) (record {
           child = live_child view constraint new cost labels;
           is_child = (cost, refl);
-          constraints = refl;
-          state = (live_child_live problem view live constraint agent known labels new cost agent_path', omega arith, omega arith, omega arith);
+          context = refl;
+          state = (live_child_live problem view live constraint agent known labels good new cost agent_path', omega arith, omega arith, omega arith);
         })
     generated (Dead labels) death total less total_is =
         subst (λ t. IsGeneratedChild problem view constraint (Dead labels) t) (sym total_is) (record {
           child = dead_child view constraint labels;
           is_child = refl;
-          constraints = refl;
-          state = dead_child_dead problem view live constraint agent known labels (HasNoPath-same problem.grid agent bars (constraint.bar ∷ view.constraints.bars constraint.agent) labels same (none_of problem.grid agent bars labels death));
+          context = refl;
+          state = dead_child_dead problem view live constraint agent known labels (good_same problem.grid agent bars (constraint.bar ∷ view.context.bars constraint.agent) labels same death.labels) (HasNoPath-same problem.grid agent bars (constraint.bar ∷ view.context.bars constraint.agent) (entries_of labels) same (none_of problem.grid agent bars labels death));
         })

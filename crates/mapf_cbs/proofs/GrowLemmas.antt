@@ -5,14 +5,14 @@ use Rattle.std.proofs.lemmas.Option.{slice_get_within, same_Some}
 use Rattle.mapf_model.specs.declared.constraint.Constraint.{Constraint}
 use Rattle.mapf_model.specs.declared.conflict.Conflict.{Conflict}
 use Rattle.mapf_model.specs.Plan.{Instance}
-use Rattle.mapf_model.specs.Tree.{NodeConstraints, root, with_constraint, left_constraint, right_constraint, left_child_constraints, right_child_constraints, ShareGoal}
+use Rattle.mapf_model.specs.Tree.{NodeContext, root, with_constraint, left_constraint, right_constraint, left_child_context, right_child_context, ShareGoal}
 use Rattle.mapf_model.specs.Earned.{tick_of}
 use Rattle.mapf_cbs.specs.declared.node.Fate.{Fate}
 use Rattle.mapf_cbs.specs.declared.node.Fate.TheVariants.{Open, Dead, Expanded}
 use Rattle.mapf_model.specs.Grid.{free_cell_count}
 use Rattle.mapf_constraints.specs.BarSets.{tick_of as bar_tick, AreBefore}
 use Rattle.mapf_cbs.specs.FirstConflicts.{IsFirstConflict}
-use Rattle.mapf_cbs.specs.Search.{View, IsLive, IsDead, IsFate, IsExpandedAt, IsExpandedFate, IsEndFate, End, occurrences, IsSearched}
+use Rattle.mapf_cbs.specs.Search.{View, IsLive, IsDead, IsFate, IsExpandedAt, IsExpandedFate, End, occurrences, IsSearched}
 use Rattle.mapf_cbs.proofs.SumLemmas.{slice_get-front, slice_get-here, slice_get-second, length-two_more}
 use Rattle.mapf_cbs.proofs.ChildLemmas.{AreBefore-with_constraint, left_tick, right_tick, conflict_proper, conflict_early}
 use Rattle.mapf_cbs.proofs.ShapeLemmas.{IsGrown, IsOneTree-grown}
@@ -23,7 +23,7 @@ IsChildFate problem view child Open = IsLive problem child × (sum view.costs �
 IsChildFate problem view child Dead = IsDead problem child
 IsChildFate problem view child (Expanded conflict left) = ⊥
 
-pub searched_first : (problem : Instance) (view : View) → view.constraints ≡ root → IsLive problem view → IsSearched problem (view ∷ []) (Open ∷ []) 0
+pub searched_first : (problem : Instance) (view : View) → view.context ≡ root → IsLive problem view → IsSearched problem (view ∷ []) (Open ∷ []) 0
 searched_first problem view at_root live = record {
   lengths = refl;
   first = (view, refl, at_root);
@@ -41,15 +41,15 @@ searched_first problem view at_root live = record {
     least zero m v other fate is other_is fate_is expanded open_is = absurd (subst IsExpandedFate (sym (same_Some Open fate fate_is)) expanded)
     least (suc k) m v other fate is other_is fate_is expanded open_is = absurd cc
 
-    once : (k : ℕ) (fate : Fate) → slice_get (Open ∷ []) k ≡ Some fate → IsEndFate fate → occurrences k (End 0) ≡ 1
-    once zero fate is end = refl
-    once (suc k) fate is end = absurd cc
+    once : (k : ℕ) → k < 1 → occurrences k (End 0) ≡ 1
+    once zero within = refl
+    once (suc k) within = absurd (omega arith)
 
-    low : (k : ℕ) (v : View) (i : ℕ) → slice_get (view ∷ []) k ≡ Some v → AreBefore (0 * free_cell_count problem.grid) (v.constraints.bars i)
+    low : (k : ℕ) (v : View) (i : ℕ) → slice_get (view ∷ []) k ≡ Some v → AreBefore (0 * free_cell_count problem.grid) (v.context.bars i)
     low zero v i is bar (n, within, at) =
-        let e : v.constraints.bars i ≡ [] = subst (λ x. x.bars i ≡ []) (sym at_root ∙ ap (λ (x : View). x.constraints) (same_Some view v is)) refl in
-        let h : n < length (v.constraints.bars i) = within in
-        absurd (let z : length (v.constraints.bars i) ≡ 0 = ap length e in omega arith)
+        let e : v.context.bars i ≡ [] = subst (λ x. x.bars i ≡ []) (sym at_root ∙ ap (λ (x : View). x.context) (same_Some view v is)) refl in
+        let h : n < length (v.context.bars i) = within in
+        absurd (let z : length (v.context.bars i) ≡ 0 = ap length e in omega arith)
     low (suc k) v i is bar in_it = absurd cc
 
 module _ (problem : Instance) (goals : (i j : ℕ) → ShareGoal problem i j → ⊥)
@@ -57,7 +57,7 @@ module _ (problem : Instance) (goals : (i j : ℕ) → ShareGoal problem i j →
     (j : ℕ) (view : View) (is : slice_get views j ≡ Some view) (was_open : slice_get fates j ≡ Some Open)
     (least : (m : ℕ) (other : View) → slice_get views m ≡ Some other → slice_get fates m ≡ Some Open → sum view.costs ≤ sum other.costs)
     (conflict : Conflict) (on_first : IsFirstConflict view.paths conflict) (in_time : tick_of conflict < 1000000)
-    (x y : View) (x_constraints : x.constraints ≡ left_child_constraints view.constraints conflict) (y_constraints : y.constraints ≡ right_child_constraints view.constraints conflict)
+    (x y : View) (x_context : x.context ≡ left_child_context view.context conflict view.blocks) (y_context : y.context ≡ right_child_context view.context conflict view.blocks)
     (left right : Fate) (x_is : IsChildFate problem view x left) (y_is : IsChildFate problem view y right)
     (after : List Fate) (grown : IsGrown fates after j conflict left right)
   where
@@ -133,8 +133,8 @@ module _ (problem : Instance) (goals : (i j : ℕ) → ShareGoal problem i j →
           proper = conflict_proper problem view (searched.each j view Open is was_open) conflict on_first.has;
           early = in_time;
           on_first = on_first;
-          to_left = (x, x_at, x_constraints);
-          to_right = (y, y_at, y_constraints);
+          to_left = (x, x_at, x_context);
+          to_right = (y, y_at, y_context);
           later = inside;
         }
 
@@ -181,10 +181,10 @@ module _ (problem : Instance) (goals : (i j : ℕ) → ShareGoal problem i j →
     early : tick_of conflict < count * free_cell_count problem.grid + free_cell_count problem.grid
     early = conflict_early problem view (searched.each j view Open is was_open) goals (count * free_cell_count problem.grid) (λ i. searched.low j view i is) conflict on_first.has
 
-    low_with : (constraint : Constraint) → bar_tick constraint.bar ≡ tick_of conflict → (i : ℕ) → AreBefore ((count + 1) * free_cell_count problem.grid) (with_constraint view.constraints.bars constraint i)
-    low_with constraint at_tick = AreBefore-with_constraint view.constraints.bars constraint (count * free_cell_count problem.grid) ((count + 1) * free_cell_count problem.grid) (omega arith) (let e = early in omega (arith, e, at_tick)) (λ i. searched.low j view i is)
+    low_with : (constraint : Constraint) → bar_tick constraint.bar ≡ tick_of conflict → (i : ℕ) → AreBefore ((count + 1) * free_cell_count problem.grid) (with_constraint view.context.bars constraint i)
+    low_with constraint at_tick = AreBefore-with_constraint view.context.bars constraint (count * free_cell_count problem.grid) ((count + 1) * free_cell_count problem.grid) (omega arith) (let e = early in omega (arith, e, at_tick)) (λ i. searched.low j view i is)
 
-    low_at : (k : ℕ) (v : View) → slice_get (views ++ x ∷ y ∷ []) k ≡ Some v → (i : ℕ) → AreBefore ((count + 1) * free_cell_count problem.grid) (v.constraints.bars i)
+    low_at : (k : ℕ) (v : View) → slice_get (views ++ x ∷ y ∷ []) k ≡ Some v → (i : ℕ) → AreBefore ((count + 1) * free_cell_count problem.grid) (v.context.bars i)
     low_at k v v_is i =
         let size = searched.lengths in
         let two = length-two_more views x y in
@@ -195,11 +195,11 @@ module _ (problem : Instance) (goals : (i j : ℕ) → ShareGoal problem i j →
         (λ (new : length fates ≤ k). ⊎_elim
         (λ (first : k ≡ length fates).
         let e : x ≡ v = same_Some x v (sym x_at ∙ subst (λ n. slice_get (views ++ x ∷ y ∷ []) n ≡ Some v) first v_is) in
-        subst (λ (w : View). AreBefore ((count + 1) * free_cell_count problem.grid) (w.constraints.bars i)) e (subst (λ (w : NodeConstraints). AreBefore ((count + 1) * free_cell_count problem.grid) (w.bars i)) (sym x_constraints) (low_with (left_constraint conflict) (left_tick conflict) i)))
+        subst (λ (w : View). AreBefore ((count + 1) * free_cell_count problem.grid) (w.context.bars i)) e (subst (λ (w : NodeContext). AreBefore ((count + 1) * free_cell_count problem.grid) (w.bars i)) (sym x_context) (low_with (left_constraint conflict) (left_tick conflict) i)))
         (λ (not_first : k ≢ length fates).
         let second : k ≡ length fates + 1 = omega arith in
         let e : y ≡ v = same_Some y v (sym y_at ∙ subst (λ n. slice_get (views ++ x ∷ y ∷ []) n ≡ Some v) second v_is) in
-        subst (λ (w : View). AreBefore ((count + 1) * free_cell_count problem.grid) (w.constraints.bars i)) e (subst (λ (w : NodeConstraints). AreBefore ((count + 1) * free_cell_count problem.grid) (w.bars i)) (sym y_constraints) (low_with (right_constraint conflict) (right_tick conflict) i)))
+        subst (λ (w : View). AreBefore ((count + 1) * free_cell_count problem.grid) (w.context.bars i)) e (subst (λ (w : NodeContext). AreBefore ((count + 1) * free_cell_count problem.grid) (w.bars i)) (sym y_context) (low_with (right_constraint conflict) (right_tick conflict) i)))
         (cases_eq k (length fates)))
         (cases_lt k (length fates))
 

@@ -6,9 +6,9 @@ pub mod TreeLemmas
 pub mod ShapeLemmas
 pub mod GrowLemmas
 pub mod NodeLemmas
-pub mod BlockLemmas
 pub mod ItemLemmas
 pub mod RangeLemmas
+pub mod BlockLemmas
 pub mod FinderLemmas
 pub mod GeneratedChildLemmas
 pub mod OpenLemmas

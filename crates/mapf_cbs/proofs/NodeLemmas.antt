@@ -1,7 +1,7 @@
 -- What a node means follows from what its parent means.
 use Rattle.std.proofs.Common.{◌≡◌, ◌≢◌, ◌⊎◌, ℕ, ◌<◌, List, Some, length, slice_get, refl, sym, ◌∙◌, ap, subst, inl, inr, ⊎_elim, arith, Vec, ◌∷◌, cond, nat_eq, true, eq-eqb, Contains, []}
 use Rattle.std.proofs.lemmas.Bool.{cond_both, eqb-true}
-use Rattle.mapf_model.specs.Tree.{NodeConstraints, with_constraint}
+use Rattle.mapf_model.specs.Tree.{NodeContext, with_constraint}
 use Rattle.mapf_model.specs.Laws.{AreSameBars}
 use Rattle.mapf_model.proofs.SplitLemmas.{Contains-cons_cases}
 use Rattle.mapf_cbs.proofs.ChildLemmas.{Contains-later, Contains-none}
@@ -15,8 +15,9 @@ use Rattle.mapf_spacetime.specs.declared.found.Found.{Found}
 use Rattle.mapf_spacetime.specs.declared.found.Found.TheVariants.{Arrives, Dead}
 use Rattle.mapf_cbs.specs.declared.node.Node.{Node}
 use Rattle.mapf_cbs.specs.declared.node.Node.TheVariants.{Root, Child}
-use Rattle.mapf_cbs.specs.Search.{View}
-use Rattle.mapf_cbs.specs.Nodes.{AreViews, IsChildView, AreJoined}
+use Rattle.mapf_model.specs.Blocks.{LabelBlock}
+use Rattle.mapf_cbs.specs.Search.{View, bound_blocks, labels_of}
+use Rattle.mapf_cbs.specs.Nodes.{AreViews, IsNodeView, IsOwnOf, IsChildView, AreJoined}
 use Rattle.mapf_cbs.proofs.SumLemmas.{slice_get-set_same, slice_get-set_other}
 
 -- a path that this node didn't find is the parent's
@@ -31,28 +32,21 @@ cond_not k i x y other = cond_both (nat_eq k i) x y (λ z. z ≡ y) (λ same. ab
 cond_same : {X : Type 0} (k : ℕ) (x y : X) → cond (nat_eq k k) x y ≡ x
 cond_same k x y = let h : nat_eq k k ≡ true = eq-eqb k k refl in rw h refl
 
-abbrev pub found_labels : Found → List Entry
-found_labels (Arrives path labels) = labels
-found_labels (Dead labels) = labels
+context_are : (before : View) (constraint : Constraint) (found : Found) (view : View) → IsChildView before constraint found view → view.context.bars ≡ with_constraint before.context.bars constraint
+context_are before constraint (Arrives path labels) view (cost, e) = ap (λ (v : View). v.context.bars) e
+context_are before constraint (Dead labels) view e = ap (λ (v : View). v.context.bars) e
 
-pub entries_kept : (before : View) (agent : ℕ) (constraint : Constraint) (found : Found) (view : View) → agent ≢ constraint.agent → IsChildView before constraint found view → view.entries agent ≡ before.entries agent
-entries_kept before agent constraint (Arrives path labels) view other (cost, e) = ap (λ (v : View). v.entries agent) e ∙ cond_not agent constraint.agent labels (before.entries agent) other
-entries_kept before agent constraint (Dead labels) view other e = ap (λ (v : View). v.entries agent) e ∙ cond_not agent constraint.agent labels (before.entries agent) other
-
-pub entries_new : (before : View) (constraint : Constraint) (found : Found) (view : View) → IsChildView before constraint found view → view.entries constraint.agent ≡ found_labels found
-entries_new before constraint (Arrives path labels) view (cost, e) = ap (λ (v : View). v.entries constraint.agent) e ∙ cond_same constraint.agent labels (before.entries constraint.agent)
-entries_new before constraint (Dead labels) view e = ap (λ (v : View). v.entries constraint.agent) e ∙ cond_same constraint.agent labels (before.entries constraint.agent)
-
-constraints_are : (before : View) (constraint : Constraint) (found : Found) (view : View) → IsChildView before constraint found view → view.constraints.bars ≡ with_constraint before.constraints.bars constraint
-constraints_are before constraint (Arrives path labels) view (cost, e) = ap (λ (v : View). v.constraints.bars) e
-constraints_are before constraint (Dead labels) view e = ap (λ (v : View). v.constraints.bars) e
+-- the blocks of a node are its own
+pub blocks_new : (before : View) (constraint : Constraint) (found : Found) (view : View) → IsChildView before constraint found view → view.blocks ≡ bound_blocks constraint.agent (labels_of found)
+blocks_new before constraint (Arrives path labels) view (cost, e) = ap (λ (v : View). v.blocks) e
+blocks_new before constraint (Dead labels) view e = ap (λ (v : View). v.blocks) e
 
 -- the bars at a node are the parent's, with one more for the agent that is constraint.agent
-pub bars_other : (before : View) (agent : ℕ) (constraint : Constraint) (found : Found) (view : View) → agent ≢ constraint.agent → IsChildView before constraint found view → view.constraints.bars agent ≡ before.constraints.bars agent
-bars_other before agent constraint found view other is = ap (λ (bars : ℕ → List Bar). bars agent) (constraints_are before constraint found view is) ∙ cond_not agent constraint.agent (constraint.bar ∷ before.constraints.bars agent) (before.constraints.bars agent) other
+pub bars_other : (before : View) (agent : ℕ) (constraint : Constraint) (found : Found) (view : View) → agent ≢ constraint.agent → IsChildView before constraint found view → view.context.bars agent ≡ before.context.bars agent
+bars_other before agent constraint found view other is = ap (λ (bars : ℕ → List Bar). bars agent) (context_are before constraint found view is) ∙ cond_not agent constraint.agent (constraint.bar ∷ before.context.bars agent) (before.context.bars agent) other
 
-pub bars_bound : (before : View) (constraint : Constraint) (found : Found) (view : View) → IsChildView before constraint found view → view.constraints.bars constraint.agent ≡ constraint.bar ∷ before.constraints.bars constraint.agent
-bars_bound before constraint found view is = ap (λ (bars : ℕ → List Bar). bars constraint.agent) (constraints_are before constraint found view is) ∙ cond_same constraint.agent (constraint.bar ∷ before.constraints.bars constraint.agent) (before.constraints.bars constraint.agent)
+pub bars_bound : (before : View) (constraint : Constraint) (found : Found) (view : View) → IsChildView before constraint found view → view.context.bars constraint.agent ≡ constraint.bar ∷ before.context.bars constraint.agent
+bars_bound before constraint found view is = ap (λ (bars : ℕ → List Bar). bars constraint.agent) (context_are before constraint found view is) ∙ cond_same constraint.agent (constraint.bar ∷ before.context.bars constraint.agent) (before.context.bars constraint.agent)
 
 module _ (nodes : List Node) (views : List View) (are : AreViews nodes views) (k : ℕ) (view : View) (is : slice_get views k ≡ Some view) where
   pub view_in : k < length nodes
@@ -68,37 +62,29 @@ module _ (nodes : List Node) (views : List View) (are : AreViews nodes views) (k
         let same : h.1 ≡ before = same_Some h.1 before (sym h.2 ∙ before_is) in
         subst (λ (v : View). slice_get view.paths agent ≡ slice_get v.paths agent) same (paths_kept h.1 agent constraint found view why h.4)
 
-    pub entries_up : (agent : ℕ) → agent ≢ constraint.agent → (before : View) → slice_get views parent ≡ Some before → view.entries agent ≡ before.entries agent
-    entries_up agent other before before_is =
-        let h = are.each k (Child parent constraint found) view at is in
-        let same : h.1 ≡ before = same_Some h.1 before (sym h.2 ∙ before_is) in
-        subst (λ (v : View). view.entries agent ≡ v.entries agent) same (entries_kept h.1 agent constraint found view other h.4)
-
-    pub found_entries : view.entries constraint.agent ≡ found_labels found
-    found_entries = let h = are.each k (Child parent constraint found) view at is in entries_new h.1 constraint found view h.4
-
-    pub bars_up : (agent : ℕ) → agent ≢ constraint.agent → (before : View) → slice_get views parent ≡ Some before → view.constraints.bars agent ≡ before.constraints.bars agent
+    pub bars_up : (agent : ℕ) → agent ≢ constraint.agent → (before : View) → slice_get views parent ≡ Some before → view.context.bars agent ≡ before.context.bars agent
     bars_up agent other before before_is =
         let h = are.each k (Child parent constraint found) view at is in
         let same : h.1 ≡ before = same_Some h.1 before (sym h.2 ∙ before_is) in
-        subst (λ (v : View). view.constraints.bars agent ≡ v.constraints.bars agent) same (bars_other h.1 agent constraint found view other h.4)
+        subst (λ (v : View). view.context.bars agent ≡ v.context.bars agent) same (bars_other h.1 agent constraint found view other h.4)
 
-    pub bars_more : (before : View) → slice_get views parent ≡ Some before → view.constraints.bars constraint.agent ≡ constraint.bar ∷ before.constraints.bars constraint.agent
+    pub bars_more : (before : View) → slice_get views parent ≡ Some before → view.context.bars constraint.agent ≡ constraint.bar ∷ before.context.bars constraint.agent
     bars_more before before_is =
         let h = are.each k (Child parent constraint found) view at is in
         let same : h.1 ≡ before = same_Some h.1 before (sym h.2 ∙ before_is) in
-        subst (λ (v : View). view.constraints.bars constraint.agent ≡ constraint.bar ∷ v.constraints.bars constraint.agent) same (bars_bound h.1 constraint found view h.4)
+        subst (λ (v : View). view.context.bars constraint.agent ≡ constraint.bar ∷ v.context.bars constraint.agent) same (bars_bound h.1 constraint found view h.4)
 
-  pub root_bars : (paths : Vec (List ℕ) Global) (agent : ℕ) → slice_get nodes k ≡ Some (Root paths) → view.constraints.bars agent ≡ []
-  root_bars paths agent at = ap (λ (w : NodeConstraints). w.bars agent) (are.each k (Root paths) view at is).constraints
-
-  pub root_entries : (paths : Vec (List ℕ) Global) (agent : ℕ) → slice_get nodes k ≡ Some (Root paths) → view.entries agent ≡ []
-  root_entries paths agent at = (are.each k (Root paths) view at is).entries agent
+  pub root_bars : (paths : Vec (List ℕ) Global) (agent : ℕ) → slice_get nodes k ≡ Some (Root paths) → view.context.bars agent ≡ []
+  root_bars paths agent at = ap (λ (w : NodeContext). w.bars agent) (are.each k (Root paths) view at is).context
 
   pub found_path : (parent : ℕ) (constraint : Constraint) (path : List ℕ) (labels : List Entry) → slice_get nodes k ≡ Some (Child parent constraint (Arrives path labels)) → slice_get view.paths constraint.agent ≡ Some path
   found_path parent constraint path labels at =
       let h = are.each k (Child parent constraint (Arrives path labels)) view at is in
       ap (λ (v : View). slice_get v.paths constraint.agent) h.4.1 ∙ slice_get-set_same h.1.paths constraint.agent path h.3
+
+pub own_blocks : (views : List View) (k : ℕ) (node : Node) (view : View) → IsNodeView views k node view → (blocks : List LabelBlock) → IsOwnOf node blocks → blocks ≡ view.blocks
+own_blocks views k (Root paths) view is blocks own = own ∙ sym is.blocks
+own_blocks views k (Child parent constraint found) view is blocks own = own ∙ sym (blocks_new is.1 constraint found view is.4)
 
 pub view_at : (nodes : List Node) (views : List View) → AreViews nodes views → (k : ℕ) → k < length nodes → (view : View) × (slice_get views k ≡ Some view)
 view_at nodes views are k within = let e = are.lengths in slice_get_inside views k (omega arith)

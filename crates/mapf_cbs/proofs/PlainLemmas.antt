@@ -133,7 +133,7 @@ module _ (problem : Instance) (nodes : List WholeNode) (fates : List Fate) (coun
 
   -- no node is open
   pub whole_impossible : IsGridMap problem.grid → ((tree : ConstraintTree) → NamesFirstDefect problem tree) → (limit : ℕ) → count ≤ limit → ((m : ℕ) → m < length fates → slice_get fates m ≡ Some Open → ⊥) → (items : List Item) →
-      (tree : ConstraintTree) × Spell items tree × IsTreeAt (length problem.agents) s.state.views fates 0 tree → (tree : ConstraintTree) × IsTreeOf problem limit items tree × IsShownImpossible problem tree
+      (tree : ConstraintTree) × Spell items tree × IsTreeAt s.state.views fates 0 tree → (tree : ConstraintTree) × IsTreeOf problem limit items tree × IsShownImpossible problem tree
   whole_impossible shape names limit within none items found = answer_impossible problem shape names s.changes fates count limit within (record {
     views = s.state.views;
     are = s.state.are;

@@ -1,6 +1,6 @@
 -- What a search finds can be printed.
-use Rattle.std.proofs.Common.{◌≡◌, ◌≢◌, ℕ, suc, ◌+◌, ◌*◌, ◌-◌, ◌<◌, ◌≤◌, min, true, false, List, [], ◌∷◌, Some, All, AllPairs, length, sum, slice_get, slice_index, get_or, refl, sym, ◌∙◌, subst, ⊎_elim, arith}
-use Rattle.std.proofs.lemmas.Bool.{cases_eq, cases_lt}
+use Rattle.std.proofs.Common.{◌≡◌, ℕ, suc, ◌+◌, ◌*◌, ◌-◌, ◌^◌, ◌<◌, ◌≤◌, min, true, false, List, [], ◌∷◌, Some, All, length, sum, slice_get, slice_index, get_or, refl, sym, ◌∙◌, subst, ⊎_elim, arith}
+use Rattle.std.proofs.lemmas.Bool.{cases_lt}
 use Rattle.std.proofs.lemmas.List.{get_or_past, get_or_default}
 use Rattle.std.proofs.lemmas.List.Sums.{sum_by-cons}
 use Rattle.std.proofs.lemmas.Option.{slice_get_within, get_or_from_slice_get}
@@ -12,14 +12,17 @@ use Rattle.mapf_model.specs.Earned.{tick_of}
 use Rattle.mapf_model.specs.Grid.{GridMap, IsGridMap, IsFree}
 use Rattle.mapf_model.specs.Path.{at, IsLawful, IsTight}
 use Rattle.mapf_model.specs.Plan.{Instance}
-use Rattle.mapf_model.specs.Printed.{IsOnGrid, IsBefore, IsEntryInRange, AreBlocksInRange, IsConflictInRange, IsTreeInRange, IsPathInRange, IsPlanInRange}
+use Rattle.mapf_model.specs.Printed.{IsOnGrid, IsBlockInRange, AreBlocksInRange, IsConflictInRange, IsTreeInRange, IsPathInRange, IsPlanInRange}
 use Rattle.mapf_model.specs.Tree.{ConstraintTree, Split, Leaf, Clash, IsProperSplit}
 use Rattle.mapf_model.proofs.ClaimLemmas.{slice_get_inside}
 use Rattle.mapf_model.proofs.DecidedLemmas.{cost_unique}
 use Rattle.mapf_model.proofs.PathLemmas.{IsCost-tight}
 use Rattle.mapf_cbs.specs.declared.node.Fate.{Fate}
-use Rattle.mapf_cbs.specs.declared.node.Fate.TheVariants.{Open, Dead, Expanded}
-use Rattle.mapf_cbs.specs.Search.{View, IsLive, IsDead, IsSearched, AreBlocksOf, IsTreeAt}
+use Rattle.mapf_cbs.specs.declared.node.Fate.TheVariants.{Expanded}
+use Rattle.mapf_model.specs.declared.bar.Bar.{Bar}
+use Rattle.std.proofs.lemmas.List.Elements.{All-push}
+use Rattle.mapf_cbs.specs.Search.{View, AreOwnBlocks, IsLive, IsSearched, AreBlocksAt, IsTreeAt}
+use Rattle.mapf_cbs.proofs.TreeLemmas.{own_of_fate}
 use Rattle.mapf_cbs.proofs.ChildLemmas.{step_free}
 use Rattle.mapf_cbs.proofs.ViewLemmas.{agent_path_of}
 
@@ -51,59 +54,46 @@ sum_at_most (x ∷ xs) top each =
     let rest = sum_at_most xs top (λ i. each (suc i)) in
     rw sum_by-cons (omega arith)
 
--- the entries of each agent rise and are in range
-abbrev pub AreEntriesInRange : Instance → View → Type 0
-AreEntriesInRange problem view = (i : ℕ) → i < length problem.agents → AllPairs IsBefore (view.entries i) × All (IsEntryInRange problem.grid) (view.entries i)
-
 module _ (problem : Instance) (shape : IsGridMap problem.grid) where
   conflict_in_range : (conflict : Conflict) → IsProperSplit problem conflict → tick_of conflict < 1000000 → IsConflictInRange problem.grid (length problem.agents) conflict
   conflict_in_range (Vertex i j cell tick) proper early = (proper.0.1, proper.0.2, free_on_grid problem.grid cell shape proper.1, omega arith)
   conflict_in_range (Swap i j from to tick) proper early = (proper.0.1, proper.0.2, free_on_grid problem.grid from shape proper.1.from_free, free_on_grid problem.grid to shape proper.1.to_free, omega arith)
 
-  live_entries : (view : View) → IsLive problem view → AreEntriesInRange problem view
-  live_entries view live i within =
-      let agent = slice_get_inside problem.agents i within in
-      let r = agent_path_of problem view live.counted i agent.0 agent.1 in
-      let labels = (live.each i agent.0 r.0 r.1 agent.1 r.2 r.3).labels in
-      (labels.rising, labels.ranges)
-
-  dead_entries : (view : View) → IsDead problem view → AreEntriesInRange problem view
-  dead_entries view dead i within = ⊎_elim
-      (λ (same : i ≡ dead.who).
-      subst (λ n. AllPairs IsBefore (view.entries n) × All (IsEntryInRange problem.grid) (view.entries n)) (sym same) (dead.blocked.labels.rising, dead.blocked.labels.ranges))
-      (λ (other : i ≢ dead.who).
-      let agent = slice_get_inside problem.agents i within in
-      let r = agent_path_of problem view dead.counted i agent.0 agent.1 in
-      let labels = (dead.each i agent.0 r.0 r.1 other agent.1 r.2 r.3).labels in
-      (labels.rising, labels.ranges))
-      (cases_eq i dead.who)
-
-  leaf_in_range : (view : View) (blocks : List LabelBlock) → AreBlocksOf (length problem.agents) view.entries blocks → AreEntriesInRange problem view → AreBlocksInRange problem.grid (length problem.agents) blocks
-  leaf_in_range view blocks are good = record {
-    each = λ k d within.
-        let filled = are.filled k d within in
-        let known = are.of_agents k d within in
-        let g = good (get_or blocks k d).agent known in
-        record {
-          agent = known;
-          some = filled.1;
-          few = filled.2;
-          entries = subst (λ es. All (IsEntryInRange problem.grid) es) (sym filled.0) g.1;
-          rising = subst (λ es. AllPairs IsBefore es) (sym filled.0) g.0;
-        };
-    rising = are.rising;
+  own_in_range : (bars : ℕ → List Bar) (blocks : List LabelBlock) → AreOwnBlocks problem bars blocks → All (λ block. length block.entries < 2 ^ 64) blocks → AreBlocksInRange problem.grid (length problem.agents) blocks
+  own_in_range bars [] own small = record { each = λ k d within. absurd (omega arith); rising = λ a b d lt within. absurd (omega arith) }
+  own_in_range bars (block ∷ []) own small = record {
+    each = All-push (IsBlockInRange problem.grid (length problem.agents)) [] block (λ k d within. absurd (omega arith)) (record {
+      agent = slice_get_within problem.agents block.agent own.agent own.known;
+      some = own.some;
+      few = small 0 block (omega arith);
+      entries = own.labels.ranges;
+      rising = own.labels.rising;
+    });
+    rising = λ a b d lt within. absurd (omega arith);
   }
+  own_in_range bars (block ∷ other ∷ blocks) own small = absurd own
 
-  pub tree_in_range : (views : List View) (fates : List Fate) (count : ℕ) → IsSearched problem views fates count → (tree : ConstraintTree) (k : ℕ) → IsTreeAt (length problem.agents) views fates k tree → IsTreeInRange problem.grid (length problem.agents) tree
-  tree_in_range views fates count searched (Split conflict left right) k (a, expanded, on_left, on_right) =
+  at_node : (views : List View) (fates : List Fate) (count : ℕ) → IsSearched problem views fates count → (k : ℕ) (fate : Fate) (blocks : List LabelBlock) → slice_get fates k ≡ Some fate → AreBlocksAt views k blocks → AreBlocksInRange problem.grid (length problem.agents) blocks
+  at_node views fates count searched k fate blocks fate_is here =
+      let size = searched.lengths in
+      let inside : k < length fates = slice_get_within fates k fate fate_is in
+      let view = slice_get_inside views k (omega arith) in
+      let own = own_of_fate problem view.0 views k fate (searched.each k view.0 fate view.1 fate_is) in
+      let are = here view.0 view.1 in
+      own_in_range view.0.context.bars blocks (subst (λ bs. AreOwnBlocks problem view.0.context.bars bs) (sym are.0) own) are.1
+
+  pub tree_in_range : (views : List View) (fates : List Fate) (count : ℕ) → IsSearched problem views fates count → (tree : ConstraintTree) (k : ℕ) → IsTreeAt views fates k tree → IsTreeInRange problem.grid (length problem.agents) tree
+  tree_in_range views fates count searched (Split conflict blocks left right) k (here, a, expanded, on_left, on_right) =
       let size = searched.lengths in
       let inside : k < length fates = slice_get_within fates k (Expanded conflict a) expanded in
       let view = slice_get_inside views k (omega arith) in
-      let at_expanded = searched.each k view.0 (Expanded conflict a) view.1 expanded in
-      (conflict_in_range conflict at_expanded.proper at_expanded.early, tree_in_range views fates count searched left a on_left, tree_in_range views fates count searched right (a + 1) on_right)
-  tree_in_range views fates count searched (Leaf blocks) k (view, Open, view_is, fate_is, end, are) = leaf_in_range view blocks are (live_entries view (searched.each k view Open view_is fate_is))
-  tree_in_range views fates count searched (Leaf blocks) k (view, Dead, view_is, fate_is, end, are) = leaf_in_range view blocks are (dead_entries view (searched.each k view Dead view_is fate_is))
-  tree_in_range views fates count searched (Leaf blocks) k (view, Expanded c a, view_is, fate_is, end, are) = absurd end
+      let at_expanded = searched.each k view.0 (Expanded conflict a) view.1 expanded in (
+        conflict_in_range conflict at_expanded.proper at_expanded.early,
+        at_node views fates count searched k (Expanded conflict a) blocks expanded here,
+        tree_in_range views fates count searched left a on_left,
+        tree_in_range views fates count searched right (a + 1) on_right,
+      )
+  tree_in_range views fates count searched (Leaf blocks) k (here, fate, fate_is, end) = at_node views fates count searched k fate blocks fate_is here
   tree_in_range views fates count searched (Clash i j) k none = absurd none
 
   module _ (view : View) (live : IsLive problem view) (short : All (λ path. length path ≤ 10000000) view.paths) (few : length problem.agents ≤ 200) where

@@ -7,61 +7,88 @@ use Rattle.mapf_cbs.specs.declared.node.Fate.{Fate}
 use Rattle.mapf_cbs.specs.declared.node.Fate.TheVariants.{Expanded}
 use Rattle.mapf_cbs.specs.Search.{IsEndFate, Shape, Node, End, splits, occurrences, IsShape, IsOneTree}
 
--- the end j becomes a node with two ends
+-- the end j becomes a split with two ends
 abbrev pub graft : ℕ → ℕ → ℕ → Shape → Shape
-graft j a b (Node left right) = Node (graft j a b left) (graft j a b right)
-graft j a b (End k) = if j == k then Node (End a) (End b) else End k
+graft j a b (Node k left right) = Node k (graft j a b left) (graft j a b right)
+graft j a b (End k) = if j == k then Node k (End a) (End b) else End k
 
 -- how often a number stands at an end
-occurs_here : (m k : ℕ) → m ≡ k → occurrences m (End k) ≡ 1
+pub occurs_here : (m k : ℕ) → m ≡ k → occurrences m (End k) ≡ 1
 occurs_here m k e = let t : nat_eq m k ≡ true = eq-eqb m k e in rw t refl
 
 occurs_not : (m k : ℕ) → m ≢ k → occurrences m (End k) ≡ 0
 occurs_not m k e = cond_both (nat_eq m k) 1 0 (λ n. n ≡ 0) (λ t. absurd (e (eqb-true m k t))) (λ f. refl)
 
-graft_here : (j a b k : ℕ) → j ≡ k → graft j a b (End k) ≡ Node (End a) (End b)
+graft_here : (j a b k : ℕ) → j ≡ k → graft j a b (End k) ≡ Node k (End a) (End b)
 graft_here j a b k e = let t : nat_eq j k ≡ true = eq-eqb j k e in rw t refl
 
 graft_not : (j a b k : ℕ) → j ≢ k → graft j a b (End k) ≡ End k
-graft_not j a b k e = cond_both (nat_eq j k) (Node (End a) (End b)) (End k) (λ s. s ≡ End k) (λ t. absurd (e (eqb-true j k t))) (λ f. refl)
+graft_not j a b k e = cond_both (nat_eq j k) (Node k (End a) (End b)) (End k) (λ s. s ≡ End k) (λ t. absurd (e (eqb-true j k t))) (λ f. refl)
 
-pub splits-graft : (j a b : ℕ) (shape : Shape) → splits (graft j a b shape) ≡ splits shape + occurrences j shape
-splits-graft j a b (Node left right) = let l = splits-graft j a b left in let r = splits-graft j a b right in omega arith
-splits-graft j a b (End k) = ⊎_elim
-    (λ (same : j ≡ k). ap splits (graft_here j a b k same) ∙ sym (let e = occurs_here j k same in omega arith))
-    (λ (differ : j ≢ k). ap splits (graft_not j a b k differ) ∙ sym (let e = occurs_not j k differ in omega arith))
-    (cases_eq j k)
+-- the number and its two children, as one sum
+pub occurs_node : (m k : ℕ) (left right : Shape) → occurrences m (Node k left right) ≡ occurrences m (End k) + (occurrences m left + occurrences m right)
+occurs_node m k left right = refl
 
--- other ends stay
-pub occurrences-graft_other : (j a b m : ℕ) → m ≢ j → m ≢ a → m ≢ b → (shape : Shape) → occurrences m (graft j a b shape) ≡ occurrences m shape
-occurrences-graft_other j a b m not_j not_a not_b (Node left right) = let l = occurrences-graft_other j a b m not_j not_a not_b left in let r = occurrences-graft_other j a b m not_j not_a not_b right in omega arith
-occurrences-graft_other j a b m not_j not_a not_b (End k) = ⊎_elim
-    (λ (same : j ≡ k). ap (occurrences m) (graft_here j a b k same) ∙ (let e = occurs_not m a not_a in let f = occurs_not m b not_b in let g = occurs_not m k (λ x. not_j (x ∙ sym same)) in omega arith))
+-- other numbers stay
+pub occurrences-graft_other : (j a b m : ℕ) → m ≢ a → m ≢ b → (shape : Shape) → occurrences m (graft j a b shape) ≡ occurrences m shape
+occurrences-graft_other j a b m not_a not_b (Node k left right) =
+    let l = occurrences-graft_other j a b m not_a not_b left in let r = occurrences-graft_other j a b m not_a not_b right in
+    let e = occurs_node m k left right in let f = occurs_node m k (graft j a b left) (graft j a b right) in
+    omega arith
+occurrences-graft_other j a b m not_a not_b (End k) = ⊎_elim
+    (λ (same : j ≡ k). ap (occurrences m) (graft_here j a b k same) ∙ occurs_node m k (End a) (End b) ∙ (let e = occurs_not m a not_a in let f = occurs_not m b not_b in omega arith))
     (λ (differ : j ≢ k). ap (occurrences m) (graft_not j a b k differ))
     (cases_eq j k)
 
--- a new end stands where the old one stood
-pub occurrences-graft_left : (j a b : ℕ) → a ≢ b → (shape : Shape) → occurrences a shape ≡ 0 → occurrences a (graft j a b shape) ≡ occurrences j shape
-occurrences-graft_left j a b differ (Node left right) fresh = let l = occurrences-graft_left j a b differ left (omega arith) in let r = occurrences-graft_left j a b differ right (omega arith) in omega arith
-occurrences-graft_left j a b differ (End k) fresh = ⊎_elim
-    (λ (same : j ≡ k). ap (occurrences a) (graft_here j a b k same) ∙ (let e = occurs_here a a refl in let f = occurs_not a b differ in let g = occurs_here j k same in omega arith))
-    (λ (other : j ≢ k). ap (occurrences a) (graft_not j a b k other) ∙ (let g = occurs_not j k other in omega arith))
-    (cases_eq j k)
-
-pub occurrences-graft_right : (j a b : ℕ) → a ≢ b → (shape : Shape) → occurrences b shape ≡ 0 → occurrences b (graft j a b shape) ≡ occurrences j shape
-occurrences-graft_right j a b differ (Node left right) fresh = let l = occurrences-graft_right j a b differ left (omega arith) in let r = occurrences-graft_right j a b differ right (omega arith) in omega arith
-occurrences-graft_right j a b differ (End k) fresh = ⊎_elim
-    (λ (same : j ≡ k). ap (occurrences b) (graft_here j a b k same) ∙ (let e = occurs_here b b refl in let f = occurs_not b a (λ x. differ (sym x)) in let g = occurs_here j k same in omega arith))
-    (λ (other : j ≢ k). ap (occurrences b) (graft_not j a b k other) ∙ (let g = occurs_not j k other in omega arith))
-    (cases_eq j k)
-
--- a number past the list is no end
+-- a number past the list is none of the form's
 pub occurrences-past : (fates : List Fate) (k m : ℕ) (shape : Shape) → IsShape fates k shape → length fates ≤ m → occurrences m shape ≡ 0
-occurrences-past fates k m (Node left right) (conflict, a, is, on_left, on_right) past =
-    let l = occurrences-past fates a m left on_left past in let r = occurrences-past fates (a + 1) m right on_right past in omega arith
+occurrences-past fates k m (Node n left right) (same, conflict, a, is, on_left, on_right) past =
+    let l = occurrences-past fates a m left on_left past in let r = occurrences-past fates (a + 1) m right on_right past in
+    let within : k < length fates = slice_get_within fates k (Expanded conflict a) is in
+    let e = occurs_not m n (λ e. let n_is : n ≡ m = sym e in omega arith) in
+    let f = occurs_node m n left right in
+    omega arith
 occurrences-past fates k m (End n) (same, fate, is, end) past =
     let within : k < length fates = slice_get_within fates k fate is in
     occurs_not m n (λ e. let n_is : n ≡ m = sym e in omega arith)
+
+module _ (fates : List Fate) (j : ℕ) (fate : Fate) (was : slice_get fates j ≡ Some fate) (was_end : IsEndFate fate) where
+  -- no split has the number of an end
+  pub not_split : (k n : ℕ) (conflict : Conflict) (a : ℕ) → k ≡ n → slice_get fates k ≡ Some (Expanded conflict a) → occurrences j (End n) ≡ 0
+  not_split k n conflict a same is = occurs_not j n (λ e. subst IsEndFate (same_Some fate (Expanded conflict a) (sym was ∙ subst (λ m. slice_get fates m ≡ Some (Expanded conflict a)) (same ∙ sym e) is)) was_end)
+
+  pub splits-graft : (a b k : ℕ) (shape : Shape) → IsShape fates k shape → splits (graft j a b shape) ≡ splits shape + occurrences j shape
+  splits-graft a b k (Node n left right) (same, c, x, is, on_left, on_right) =
+      let l = splits-graft a b x left on_left in let r = splits-graft a b (x + 1) right on_right in
+      let e = not_split k n c x same is in let f = occurs_node j n left right in
+      omega arith
+  splits-graft a b k (End m) on = ⊎_elim
+      (λ (same : j ≡ m). ap splits (graft_here j a b m same) ∙ sym (let e = occurs_here j m same in omega arith))
+      (λ (differ : j ≢ m). ap splits (graft_not j a b m differ) ∙ sym (let e = occurs_not j m differ in omega arith))
+      (cases_eq j m)
+
+  -- a new end stands where the old one stood
+  pub occurrences-graft_left : (a b : ℕ) → a ≢ b → (k : ℕ) (shape : Shape) → IsShape fates k shape → occurrences a shape ≡ 0 → occurrences a (graft j a b shape) ≡ occurrences j shape
+  occurrences-graft_left a b differ k (Node n left right) (same, c, x, is, on_left, on_right) fresh =
+      let g = occurs_node a n left right in
+      let l = occurrences-graft_left a b differ x left on_left (omega (arith, fresh, g)) in let r = occurrences-graft_left a b differ (x + 1) right on_right (omega (arith, fresh, g)) in
+      let e = not_split k n c x same is in let f = occurs_node j n left right in let h = occurs_node a n (graft j a b left) (graft j a b right) in
+      omega arith
+  occurrences-graft_left a b differ k (End m) on fresh = ⊎_elim
+      (λ (same : j ≡ m). ap (occurrences a) (graft_here j a b m same) ∙ occurs_node a m (End a) (End b) ∙ (let e = occurs_here a a refl in let f = occurs_not a b differ in let g = occurs_here j m same in omega (arith, fresh, e, f, g)))
+      (λ (other : j ≢ m). ap (occurrences a) (graft_not j a b m other) ∙ (let g = occurs_not j m other in omega (arith, fresh, g)))
+      (cases_eq j m)
+
+  pub occurrences-graft_right : (a b : ℕ) → a ≢ b → (k : ℕ) (shape : Shape) → IsShape fates k shape → occurrences b shape ≡ 0 → occurrences b (graft j a b shape) ≡ occurrences j shape
+  occurrences-graft_right a b differ k (Node n left right) (same, c, x, is, on_left, on_right) fresh =
+      let g = occurs_node b n left right in
+      let l = occurrences-graft_right a b differ x left on_left (omega (arith, fresh, g)) in let r = occurrences-graft_right a b differ (x + 1) right on_right (omega (arith, fresh, g)) in
+      let e = not_split k n c x same is in let f = occurs_node j n left right in let h = occurs_node b n (graft j a b left) (graft j a b right) in
+      omega arith
+  occurrences-graft_right a b differ k (End m) on fresh = ⊎_elim
+      (λ (same : j ≡ m). ap (occurrences b) (graft_here j a b m same) ∙ occurs_node b m (End a) (End b) ∙ (let e = occurs_here b b refl in let f = occurs_not b a (λ x. differ (sym x)) in let g = occurs_here j m same in omega (arith, fresh, e, f, g)))
+      (λ (other : j ≢ m). ap (occurrences b) (graft_not j a b m other) ∙ (let g = occurs_not j m other in omega (arith, fresh, g)))
+      (cases_eq j m)
 
 -- where one end is split and two nodes are added
 pub record IsGrown (before after : List Fate) (j : ℕ) (conflict : Conflict) (left right : Fate) : Type 0 where
@@ -75,13 +102,13 @@ pub record IsGrown (before after : List Fate) (j : ℕ) (conflict : Conflict) (l
 
 module _ (before after : List Fate) (j : ℕ) (conflict : Conflict) (left right fate : Fate) (grown : IsGrown before after j conflict left right) (was : slice_get before j ≡ Some fate) (was_end : IsEndFate fate) where
   IsShape-graft : (k : ℕ) (shape : Shape) → IsShape before k shape → IsShape after k (graft j (length before) (length before + 1) shape)
-  IsShape-graft k (Node l r) (c, x, is, on_left, on_right) =
+  IsShape-graft k (Node n l r) (same, c, x, is, on_left, on_right) =
       let within : k < length before = slice_get_within before k (Expanded c x) is in
       let other : k ≢ j = λ e. subst IsEndFate (same_Some fate (Expanded c x) (sym was ∙ subst (λ n. slice_get before n ≡ Some (Expanded c x)) e is)) was_end in
-      (c, x, grown.others k within other ∙ is, IsShape-graft x l on_left, IsShape-graft (x + 1) r on_right)
+      (same, c, x, grown.others k within other ∙ is, IsShape-graft x l on_left, IsShape-graft (x + 1) r on_right)
   IsShape-graft k (End m) (same, f, is, end) = ⊎_elim
       (λ (e : j ≡ m). subst (λ s. IsShape after k s) (sym (graft_here j (length before) (length before + 1) m e))
-      (conflict, length before, subst (λ n. slice_get after n ≡ Some (Expanded conflict (length before))) (e ∙ sym same) grown.split, (refl, left, grown.first, grown.left_end), (refl, right, grown.second, grown.right_end)))
+      (same, conflict, length before, subst (λ n. slice_get after n ≡ Some (Expanded conflict (length before))) (e ∙ sym same) grown.split, (refl, left, grown.first, grown.left_end), (refl, right, grown.second, grown.right_end)))
       (λ (e : j ≢ m).
       let within : k < length before = slice_get_within before k f is in
       subst (λ s. IsShape after k s) (sym (graft_not j (length before) (length before + 1) m e))
@@ -91,24 +118,21 @@ module _ (before after : List Fate) (j : ℕ) (conflict : Conflict) (left right 
   pub IsOneTree-grown : (count : ℕ) → IsOneTree before count → IsOneTree after (count + 1)
   IsOneTree-grown count tree =
       let inside : j < length before = slice_get_within before j fate was in
-      let here = tree.once j fate was was_end in
+      let here = tree.once j inside in
       let differ : length before ≢ length before + 1 = omega arith in
       let size = grown.size in
       record {
         shape = graft j (length before) (length before + 1) tree.shape;
         is_shape = IsShape-graft 0 tree.shape tree.is_shape;
-        exact = let e = splits-graft j (length before) (length before + 1) tree.shape in let f = tree.exact in omega arith;
-        once = λ k f is end. ⊎_elim
+        exact = let e = splits-graft before j fate was was_end (length before) (length before + 1) 0 tree.shape tree.is_shape in let f = tree.exact in omega arith;
+        once = λ k within. ⊎_elim
             (λ (first : k ≡ length before). subst (λ n. occurrences n (graft j (length before) (length before + 1) tree.shape) ≡ 1) (sym first)
-            (occurrences-graft_left j (length before) (length before + 1) differ tree.shape (occurrences-past before 0 (length before) tree.shape tree.is_shape (omega arith)) ∙ here))
+            (occurrences-graft_left before j fate was was_end (length before) (length before + 1) differ 0 tree.shape tree.is_shape (occurrences-past before 0 (length before) tree.shape tree.is_shape (omega arith)) ∙ here))
             (λ (not_first : k ≢ length before). ⊎_elim
             (λ (second : k ≡ length before + 1). subst (λ n. occurrences n (graft j (length before) (length before + 1) tree.shape) ≡ 1) (sym second)
-            (occurrences-graft_right j (length before) (length before + 1) differ tree.shape (occurrences-past before 0 (length before + 1) tree.shape tree.is_shape (omega arith)) ∙ here))
+            (occurrences-graft_right before j fate was was_end (length before) (length before + 1) differ 0 tree.shape tree.is_shape (occurrences-past before 0 (length before + 1) tree.shape tree.is_shape (omega arith)) ∙ here))
             (λ (not_second : k ≢ length before + 1).
-            let within : k < length after = slice_get_within after k f is in
-            let old : k < length before = omega arith in
-            let other : k ≢ j = λ e. subst IsEndFate (same_Some f (Expanded conflict (length before)) (sym is ∙ subst (λ n. slice_get after n ≡ Some (Expanded conflict (length before))) (sym e) grown.split)) end in
-            occurrences-graft_other j (length before) (length before + 1) k other not_first not_second tree.shape ∙ tree.once k f (sym (grown.others k old other) ∙ is) end)
+            occurrences-graft_other j (length before) (length before + 1) k not_first not_second tree.shape ∙ tree.once k (omega (arith, within, size, not_first, not_second)))
             (cases_eq k (length before + 1)))
             (cases_eq k (length before));
       }

@@ -1,5 +1,5 @@
 -- What the tree of a search shows, and that it is earned.
-use Rattle.std.proofs.Common.{◌≡◌, ◌≢◌, ◌⊎◌, ℕ, ◌+◌, ◌<◌, ◌≤◌, List, Option, Some, None, length, sum, map, slice_get, slice_set, refl, sym, ◌∙◌, subst, inl, inr, ⊎_elim, arith, nat_eq}
+use Rattle.std.proofs.Common.{◌≡◌, ◌≢◌, ◌⊎◌, ℕ, ◌+◌, ◌<◌, ◌≤◌, List, [], ◌∷◌, Option, Some, None, length, sum, map, slice_get, slice_set, refl, sym, ◌∙◌, ap, subst, inl, inr, ⊎_elim, arith, nat_eq}
 use Rattle.std.proofs.lemmas.Bool.{cases_eq, cases_lt, cond_both, eqb-true}
 use Rattle.std.proofs.lemmas.Option.{slice_get_within, same_Some, slice_get-map}
 use Rattle.mapf_model.specs.declared.problem.Agent.{Agent}
@@ -9,205 +9,208 @@ use Rattle.mapf_model.specs.declared.item.Claim.TheVariants.{Cost, Impossible}
 use Rattle.mapf_model.specs.Blocks.{LabelBlock}
 use Rattle.mapf_model.specs.Labels.{entries_of, AreSound, IsLabel, IsAtMost, label_sum}
 use Rattle.mapf_model.specs.Plan.{Instance, IsSumOfCosts}
-use Rattle.mapf_model.specs.Tree.{ConstraintTree, Split, Leaf, Clash, NodeConstraints, AtEachNode, AtEachEnd, AtSomeLeaf, root, split_count, IsProper, IsProperNode, block_of, entries_or, with_blocks, no_entries, AreBlocksSound, AreStartLabels, NodeShows, Shows}
+use Rattle.mapf_model.specs.declared.bar.Bar.{Bar}
+use Rattle.mapf_model.specs.declared.conflict.Conflict.{Conflict}
+use Rattle.mapf_model.specs.Tree.{ConstraintTree, Split, Leaf, Clash, NodeContext, AtEachNode, AtEachEnd, AtSomeLeaf, root, left_child_context, right_child_context, split_count, IsProper, IsProperNode, AreProperBlocks, AreBlocksSound, AreStartLabels, NodeShows, Shows}
 use Rattle.mapf_model.specs.Earned.{AreCheapest, AreDue, HaveSomeConflict, IsEarnedNode, IsEarned, IsStoppedWhere}
 use Rattle.mapf_cbs.specs.declared.node.Fate.{Fate}
 use Rattle.mapf_cbs.specs.declared.node.Fate.TheVariants.{Open, Dead, Expanded}
 use Rattle.mapf_cbs.specs.FirstConflicts.{AreFirstPaths, IsOnFirstConflict, AreOnFirstConflicts}
-use Rattle.mapf_cbs.specs.Search.{View, IsLive, IsDead, IsCheapestOf, IsEndFate, Shape, Node, End, splits, occurrences, IsShape, IsSearched, AreBlocksOf, IsTreeAt}
+use Rattle.mapf_cbs.specs.Search.{View, entries_at, AreOwnBlocks, IsLive, IsDead, IsFate, IsCheapestOf, IsEndFate, Shape, Node, End, splits, occurrences, IsShape, IsSearched, AreBlocksAt, IsTreeAt}
+use Rattle.mapf_cbs.proofs.ShapeLemmas.{not_split, occurs_node}
+use Rattle.std.proofs.lemmas.List.Elements.{All-push}
 use Rattle.mapf_cbs.proofs.SumLemmas.{slice_get-set_same, slice_get-set_other, length-slice_set, length-ticks, label_sum-never, label_sum-ticks}
 use Rattle.mapf_cbs.proofs.ViewLemmas.{agent_path_of, live_cheapest, live_first, live_sum, live_least, dead_none}
 
--- sound entries for each agent, and the labels of the starts
-pub record AreLabelled (problem : Instance) (view : View) (labels : List Label) : Type 0 where
-  pub sound : (i : ℕ) (agent : Agent) → slice_get problem.agents i ≡ Some agent → AreSound problem.grid agent.goal (view.constraints.bars i) (entries_of (view.entries i))
-  pub starts : AreStartLabels problem (λ i. entries_of (view.entries i)) labels
-
 module _ (problem : Instance) (view : View) where
   agent_path_label : (i : ℕ) (agent : Agent) (label : Label) (path : List ℕ) (cost : ℕ) → slice_get view.costs i ≡ Some cost → slice_get (map Ticks view.costs) i ≡ Some label →
-      IsCheapestOf problem view i agent path cost → IsLabel problem.grid agent.goal (entries_of (view.entries i)) agent.start 0 label
+      IsCheapestOf problem view i agent path cost → IsLabel problem.grid agent.goal (entries_at view i) agent.start 0 label
   agent_path_label i agent label path cost is l agent_path =
       let e = slice_get-map Ticks view.costs i in
       let same : Ticks cost ≡ label = same_Some (Ticks cost) label (let f : slice_get (map Ticks view.costs) i ≡ Some (Ticks cost) = rw is at e in sym f ∙ l) in
-      subst (λ x. IsLabel problem.grid agent.goal (entries_of (view.entries i)) agent.start 0 x) same agent_path.start
+      subst (λ x. IsLabel problem.grid agent.goal (entries_at view i) agent.start 0 x) same agent_path.start
 
-  pub live_labelled : IsLive problem view → AreLabelled problem view (map Ticks view.costs)
-  live_labelled live = record {
-    sound = λ i agent a. let r = agent_path_of problem view live.counted i agent a in (live.each i agent r.0 r.1 a r.2 r.3).labels.sound;
-    starts = record {
-      count = length-ticks view.costs ∙ live.counted.costs;
-      each = λ i agent label a l. let r = agent_path_of problem view live.counted i agent a in agent_path_label i agent label r.0 r.1 r.3 l (live.each i agent r.0 r.1 a r.2 r.3);
-    };
+  live_starts : IsLive problem view → AreStartLabels problem (entries_at view) (map Ticks view.costs)
+  live_starts live = record {
+    count = length-ticks view.costs ∙ live.counted.costs;
+    each = λ i agent label a l. let r = agent_path_of problem view live.counted i agent a in agent_path_label i agent label r.0 r.1 r.3 l (live.each i agent r.0 r.1 a r.2 r.3);
   }
 
-  dead_sound : (dead : IsDead problem view) (i : ℕ) (agent : Agent) → slice_get problem.agents i ≡ Some agent → (i ≡ dead.who) ⊎ (i ≢ dead.who) → AreSound problem.grid agent.goal (view.constraints.bars i) (entries_of (view.entries i))
-  dead_sound dead i agent a (inl same) =
-      let is : dead.agent ≡ agent = same_Some dead.agent agent (sym dead.known ∙ subst (λ n. slice_get problem.agents n ≡ Some agent) same a) in
-      subst (λ n. AreSound problem.grid agent.goal (view.constraints.bars n) (entries_of (view.entries n))) (sym same)
-      (subst (λ (x : Agent). AreSound problem.grid x.goal (view.constraints.bars dead.who) (entries_of (view.entries dead.who))) is dead.blocked.labels.sound)
-  dead_sound dead i agent a (inr differ) =
-      let r = agent_path_of problem view dead.counted i agent a in (dead.each i agent r.0 r.1 differ a r.2 r.3).labels.sound
-
   dead_start : (dead : IsDead problem view) (i : ℕ) (agent : Agent) (label : Label) → slice_get problem.agents i ≡ Some agent → slice_get (slice_set (map Ticks view.costs) dead.who Never) i ≡ Some label → (i ≡ dead.who) ⊎ (i ≢ dead.who) →
-      IsLabel problem.grid agent.goal (entries_of (view.entries i)) agent.start 0 label
+      IsLabel problem.grid agent.goal (entries_at view i) agent.start 0 label
   dead_start dead i agent label a l (inl same) =
       let is : dead.agent ≡ agent = same_Some dead.agent agent (sym dead.known ∙ subst (λ n. slice_get problem.agents n ≡ Some agent) same a) in
       let inside : dead.who < length problem.agents = slice_get_within problem.agents dead.who dead.agent dead.known in
       let size : length (map Ticks view.costs) ≡ length problem.agents = length-ticks view.costs ∙ dead.counted.costs in
       let never : Never ≡ label = same_Some Never label (sym (slice_get-set_same (map Ticks view.costs) dead.who Never (omega arith)) ∙ subst (λ n. slice_get (slice_set (map Ticks view.costs) dead.who Never) n ≡ Some label) same l) in
-      subst (λ n. IsLabel problem.grid agent.goal (entries_of (view.entries n)) agent.start 0 label) (sym same)
-      (subst (λ (x : Agent). IsLabel problem.grid x.goal (entries_of (view.entries dead.who)) x.start 0 label) is
-      (subst (λ x. IsLabel problem.grid dead.agent.goal (entries_of (view.entries dead.who)) dead.agent.start 0 x) never dead.blocked.start))
+      subst (λ n. IsLabel problem.grid agent.goal (entries_at view n) agent.start 0 label) (sym same)
+      (subst (λ (x : Agent). IsLabel problem.grid x.goal (entries_at view dead.who) x.start 0 label) is
+      (subst (λ x. IsLabel problem.grid dead.agent.goal (entries_at view dead.who) dead.agent.start 0 x) never dead.blocked.start))
   dead_start dead i agent label a l (inr differ) =
       let r = agent_path_of problem view dead.counted i agent a in
       agent_path_label i agent label r.0 r.1 r.3 (sym (slice_get-set_other (map Ticks view.costs) dead.who i Never differ) ∙ l) (dead.each i agent r.0 r.1 differ a r.2 r.3)
 
-  pub dead_labelled : (dead : IsDead problem view) → AreLabelled problem view (slice_set (map Ticks view.costs) dead.who Never)
-  dead_labelled dead = record {
-    sound = λ i agent a. dead_sound dead i agent a (cases_eq i dead.who);
-    starts = record {
-      count = length-slice_set (map Ticks view.costs) dead.who Never ∙ length-ticks view.costs ∙ dead.counted.costs;
-      each = λ i agent label a l. dead_start dead i agent label a l (cases_eq i dead.who);
-    };
+  dead_starts : (dead : IsDead problem view) → AreStartLabels problem (entries_at view) (slice_set (map Ticks view.costs) dead.who Never)
+  dead_starts dead = record {
+    count = length-slice_set (map Ticks view.costs) dead.who Never ∙ length-ticks view.costs ∙ dead.counted.costs;
+    each = λ i agent label a l. dead_start dead i agent label a l (cases_eq i dead.who);
   }
 
-  pub dead_infinite : (dead : IsDead problem view) → label_sum (slice_set (map Ticks view.costs) dead.who Never) ≡ Never
+  dead_infinite : (dead : IsDead problem view) → label_sum (slice_set (map Ticks view.costs) dead.who Never) ≡ Never
   dead_infinite dead =
       let inside : dead.who < length problem.agents = slice_get_within problem.agents dead.who dead.agent dead.known in
       let size : length (map Ticks view.costs) ≡ length problem.agents = length-ticks view.costs ∙ dead.counted.costs in
       label_sum-never (slice_set (map Ticks view.costs) dead.who Never) dead.who (slice_get-set_same (map Ticks view.costs) dead.who Never (omega arith))
 
-  module _ (blocks : List LabelBlock) (are : AreBlocksOf (length problem.agents) view.entries blocks) where
-    -- the blocks give each agent its entries
-    by_block : (i : ℕ) (agent : Agent) (label : Label) → i < length problem.agents → (found : Option LabelBlock) → block_of blocks i ≡ found →
-        IsLabel problem.grid agent.goal (entries_of (view.entries i)) agent.start 0 label → IsLabel problem.grid agent.goal (entries_or found (no_entries i)) agent.start 0 label
-    by_block i agent label inside (Some block) is h = subst (λ es. IsLabel problem.grid agent.goal (entries_of es) agent.start 0 label) (sym (are.some i block is)) h
-    by_block i agent label inside None is h = subst (λ es. IsLabel problem.grid agent.goal (entries_of es) agent.start 0 label) (are.none i inside is) h
+  -- a node's own blocks are proper and sound
+  own_proper : (bars : ℕ → List Bar) (blocks : List LabelBlock) → AreOwnBlocks problem bars blocks → AreProperBlocks problem blocks
+  own_proper bars [] own = (λ a b d lt within. absurd (omega arith), λ k d within. absurd (omega arith))
+  own_proper bars (block ∷ []) own = (
+    λ a b d lt within. absurd (omega arith),
+    All-push (λ (block : LabelBlock). block.agent < length problem.agents) [] block (λ k d within. absurd (omega arith)) (slice_get_within problem.agents block.agent own.agent own.known),
+  )
+  own_proper bars (block ∷ other ∷ blocks) own = absurd own
 
-    pub blocks_sound : (labels : List Label) → AreLabelled problem view labels → AreBlocksSound problem view.constraints blocks
-    blocks_sound labels labelled i agent block a is =
-        subst (λ es. AreSound problem.grid agent.goal (view.constraints.bars i) (entries_of es)) (sym (are.some i block is)) (labelled.sound i agent a)
+  own_sound : (context : NodeContext) (blocks : List LabelBlock) → AreOwnBlocks problem context.bars blocks → AreBlocksSound problem context blocks
+  own_sound context [] own i agent block a is = cc
+  own_sound context (first ∷ []) own i agent block a is = cond_both (nat_eq first.agent i) (Some first) None
+      (λ (o : Option LabelBlock). o ≡ Some block → AreSound problem.grid agent.goal (context.bars i) (entries_of block.entries))
+      (λ t e.
+      let this : first ≡ block = same_Some first block e in
+      let here : first.agent ≡ i = eqb-true first.agent i t in
+      let who : own.agent ≡ agent = same_Some own.agent agent (sym own.known ∙ subst (λ n. slice_get problem.agents n ≡ Some agent) (sym here) a) in
+      subst (λ (b : LabelBlock). AreSound problem.grid agent.goal (context.bars i) (entries_of b.entries)) this
+      (subst (λ n. AreSound problem.grid agent.goal (context.bars n) (entries_of first.entries)) here
+      (subst (λ (x : Agent). AreSound problem.grid x.goal (context.bars first.agent) (entries_of first.entries)) who own.labels.sound)))
+      (λ f e. absurd cc) is
+  own_sound context (first ∷ other ∷ blocks) own i agent block a is = absurd own
 
-    pub blocks_start : (labels : List Label) → AreLabelled problem view labels → AreStartLabels problem (with_blocks blocks no_entries) labels
-    blocks_start labels labelled = record {
-      count = labelled.starts.count;
-      each = λ i agent label a l. by_block i agent label (slice_get_within problem.agents i agent a) (block_of blocks i) refl (labelled.starts.each i agent label a l);
-    }
+  live_shows : IsLive problem view → (cost : ℕ) → cost ≤ sum view.costs → NodeShows problem (Cost cost) view.context (Leaf view.blocks)
+  live_shows live cost low = (
+    own_sound view.context view.blocks live.own,
+    (map Ticks view.costs, live_starts live, let e : label_sum (map Ticks view.costs) ≡ Ticks (sum view.costs) = label_sum-ticks view.costs in subst (λ l. IsAtMost (Ticks cost) l) (sym e) low),
+  )
 
-    pub live_shows : IsLive problem view → (cost : ℕ) → cost ≤ sum view.costs → NodeShows problem (Cost cost) view.constraints (Leaf blocks)
-    live_shows live cost low =
-        let labelled = live_labelled live in (
-          blocks_sound (map Ticks view.costs) labelled,
-          (map Ticks view.costs, blocks_start (map Ticks view.costs) labelled, let e : label_sum (map Ticks view.costs) ≡ Ticks (sum view.costs) = label_sum-ticks view.costs in subst (λ l. IsAtMost (Ticks cost) l) (sym e) low),
-        )
+  dead_shows : IsDead problem view → (cost : ℕ) → NodeShows problem (Cost cost) view.context (Leaf view.blocks)
+  dead_shows dead cost = (
+    own_sound view.context view.blocks dead.own,
+    (slice_set (map Ticks view.costs) dead.who Never, dead_starts dead, subst (λ l. IsAtMost (Ticks cost) l) (sym (dead_infinite dead)) tt),
+  )
 
-    pub dead_shows : IsDead problem view → (cost : ℕ) → NodeShows problem (Cost cost) view.constraints (Leaf blocks)
-    dead_shows dead cost =
-        let labelled = dead_labelled dead in
-        let labels = slice_set (map Ticks view.costs) dead.who Never in
-        (blocks_sound labels labelled, (labels, blocks_start labels labelled, subst (λ l. IsAtMost (Ticks cost) l) (sym (dead_infinite dead)) tt))
+  dead_shows_impossible : IsDead problem view → NodeShows problem Impossible view.context (Leaf view.blocks)
+  dead_shows_impossible dead = (own_sound view.context view.blocks dead.own, (dead.who, dead.agent, dead.known, dead.blocked.start))
 
-    pub dead_shows_impossible : IsDead problem view → NodeShows problem Impossible view.constraints (Leaf blocks)
-    dead_shows_impossible dead =
-        let labelled = dead_labelled dead in
-        let inside : dead.who < length problem.agents = slice_get_within problem.agents dead.who dead.agent dead.known in (
-          blocks_sound (slice_set (map Ticks view.costs) dead.who Never) labelled,
-          (dead.who, dead.agent, dead.known, by_block dead.who dead.agent Never inside (block_of blocks dead.who) refl dead.blocked.start),
-        )
+  pub own_of_fate : (views : List View) (k : ℕ) (fate : Fate) → IsFate problem views k view fate → AreOwnBlocks problem view.context.bars view.blocks
+  own_of_fate views k Open live = live.own
+  own_of_fate views k Dead dead = dead.own
+  own_of_fate views k (Expanded conflict a) at_expanded = at_expanded.live.own
 
 module _ (problem : Instance) (views : List View) (fates : List Fate) (count : ℕ) (searched : IsSearched problem views fates count) where
+  -- the children of a split inherit what it has and what it inherits
+  to_left : (k : ℕ) (view : View) (conflict : Conflict) (blocks : List LabelBlock) (a : ℕ) → slice_get views k ≡ Some view → slice_get fates k ≡ Some (Expanded conflict a) → AreBlocksAt views k blocks → (child : View) × (slice_get views a ≡ Some child) × (child.context ≡ left_child_context view.context conflict blocks)
+  to_left k view conflict blocks a is expanded here =
+      let x = (searched.each k view (Expanded conflict a) is expanded).to_left in
+      (x.0, x.1, x.2 ∙ ap (λ bs. left_child_context view.context conflict bs) (sym (here view is).0))
+
+  to_right : (k : ℕ) (view : View) (conflict : Conflict) (blocks : List LabelBlock) (a : ℕ) → slice_get views k ≡ Some view → slice_get fates k ≡ Some (Expanded conflict a) → AreBlocksAt views k blocks → (child : View) × (slice_get views (a + 1) ≡ Some child) × (child.context ≡ right_child_context view.context conflict blocks)
+  to_right k view conflict blocks a is expanded here =
+      let y = (searched.each k view (Expanded conflict a) is expanded).to_right in
+      (y.0, y.1, y.2 ∙ ap (λ bs. right_child_context view.context conflict bs) (sym (here view is).0))
+
   -- what is so of each node of the search is so of each node of its tree
-  pub each_node : (P : NodeConstraints → ConstraintTree → Type 0) → ((k : ℕ) (view : View) (tree : ConstraintTree) → slice_get views k ≡ Some view → IsTreeAt (length problem.agents) views fates k tree → P view.constraints tree) →
-      (tree : ConstraintTree) (k : ℕ) (view : View) → slice_get views k ≡ Some view → IsTreeAt (length problem.agents) views fates k tree → AtEachNode P view.constraints tree
-  each_node P f (Split conflict left right) k view is (a, expanded, on_left, on_right) =
-      let at_expanded = searched.each k view (Expanded conflict a) is expanded in
-      let x = at_expanded.to_left in let y = at_expanded.to_right in (
-        f k view (Split conflict left right) is (a, expanded, on_left, on_right),
-        subst (λ constraints. AtEachNode P constraints left) x.2 (each_node P f left a x.0 x.1 on_left),
-        subst (λ constraints. AtEachNode P constraints right) y.2 (each_node P f right (a + 1) y.0 y.1 on_right),
+  pub each_node : (P : NodeContext → ConstraintTree → Type 0) → ((k : ℕ) (view : View) (tree : ConstraintTree) → slice_get views k ≡ Some view → IsTreeAt views fates k tree → P view.context tree) →
+      (tree : ConstraintTree) (k : ℕ) (view : View) → slice_get views k ≡ Some view → IsTreeAt views fates k tree → AtEachNode P view.context tree
+  each_node P f (Split conflict blocks left right) k view is (here, a, expanded, on_left, on_right) =
+      let x = to_left k view conflict blocks a is expanded here in let y = to_right k view conflict blocks a is expanded here in (
+        f k view (Split conflict blocks left right) is (here, a, expanded, on_left, on_right),
+        subst (λ context. AtEachNode P context left) x.2 (each_node P f left a x.0 x.1 on_left),
+        subst (λ context. AtEachNode P context right) y.2 (each_node P f right (a + 1) y.0 y.1 on_right),
       )
   each_node P f (Leaf blocks) k view is at_leaf = f k view (Leaf blocks) is at_leaf
   each_node P f (Clash i j) k view is none = absurd none
 
-  pub each_end : (P : NodeConstraints → Type 0) → ((k : ℕ) (view : View) (fate : Fate) → slice_get views k ≡ Some view → slice_get fates k ≡ Some fate → IsEndFate fate → P view.constraints) →
-      (tree : ConstraintTree) (k : ℕ) (view : View) → slice_get views k ≡ Some view → IsTreeAt (length problem.agents) views fates k tree → AtEachEnd P view.constraints tree
-  each_end P f (Split conflict left right) k view is (a, expanded, on_left, on_right) =
-      let at_expanded = searched.each k view (Expanded conflict a) is expanded in
-      let x = at_expanded.to_left in let y = at_expanded.to_right in (
-        subst (λ constraints. AtEachEnd P constraints left) x.2 (each_end P f left a x.0 x.1 on_left),
-        subst (λ constraints. AtEachEnd P constraints right) y.2 (each_end P f right (a + 1) y.0 y.1 on_right),
+  pub each_end : (P : NodeContext → Type 0) → ((k : ℕ) (view : View) (fate : Fate) → slice_get views k ≡ Some view → slice_get fates k ≡ Some fate → IsEndFate fate → P view.context) →
+      (tree : ConstraintTree) (k : ℕ) (view : View) → slice_get views k ≡ Some view → IsTreeAt views fates k tree → AtEachEnd P view.context tree
+  each_end P f (Split conflict blocks left right) k view is (here, a, expanded, on_left, on_right) =
+      let x = to_left k view conflict blocks a is expanded here in let y = to_right k view conflict blocks a is expanded here in (
+        subst (λ context. AtEachEnd P context left) x.2 (each_end P f left a x.0 x.1 on_left),
+        subst (λ context. AtEachEnd P context right) y.2 (each_end P f right (a + 1) y.0 y.1 on_right),
       )
-  each_end P f (Leaf blocks) k view is (other, fate, other_is, fate_is, end, blocks_are) = f k view fate is fate_is end
+  each_end P f (Leaf blocks) k view is (here, fate, fate_is, end) = f k view fate is fate_is end
   each_end P f (Clash i j) k view is none = absurd none
 
   -- the search's tree has as many splits as its form
-  pub split_count_is : (tree : ConstraintTree) (shape : Shape) (k : ℕ) → IsShape fates k shape → IsTreeAt (length problem.agents) views fates k tree → split_count tree ≡ splits shape
-  split_count_is (Split conflict left right) (Node l r) k (c, x, is, on_l, on_r) (a, expanded, on_left, on_right) =
+  pub split_count_is : (tree : ConstraintTree) (shape : Shape) (k : ℕ) → IsShape fates k shape → IsTreeAt views fates k tree → split_count tree ≡ splits shape
+  split_count_is (Split conflict blocks left right) (Node n l r) k (number, c, x, is, on_l, on_r) (here, a, expanded, on_left, on_right) =
       let same : Expanded c x ≡ Expanded conflict a = same_Some (Expanded c x) (Expanded conflict a) (sym is ∙ expanded) in
       let x_is : x ≡ a = cc in
       let e = split_count_is left l a (subst (λ n. IsShape fates n l) x_is on_l) on_left in
       let f = split_count_is right r (a + 1) (subst (λ n. IsShape fates (n + 1) r) x_is on_r) on_right in
       omega arith
-  split_count_is (Split conflict left right) (End m) k (same, fate, is, end) (a, expanded, on_left, on_right) =
+  split_count_is (Split conflict blocks left right) (End m) k (same, fate, is, end) (here, a, expanded, on_left, on_right) =
       absurd (subst IsEndFate (same_Some fate (Expanded conflict a) (sym is ∙ expanded)) end)
-  split_count_is (Leaf blocks) (Node l r) k (c, x, is, on_l, on_r) (view, fate, view_is, fate_is, end, are) =
+  split_count_is (Leaf blocks) (Node n l r) k (number, c, x, is, on_l, on_r) (here, fate, fate_is, end) =
       absurd (subst IsEndFate (same_Some fate (Expanded c x) (sym fate_is ∙ is)) end)
   split_count_is (Leaf blocks) (End m) k on at_leaf = refl
   split_count_is (Clash i j) shape k on none = absurd none
 
   -- an end of the form is a leaf of the tree
-  pub some_leaf : (P : NodeConstraints → Type 0) (j : ℕ) (view_j : View) → slice_get views j ≡ Some view_j → P view_j.constraints →
-      (tree : ConstraintTree) (shape : Shape) (k : ℕ) (view : View) → slice_get views k ≡ Some view → IsShape fates k shape → IsTreeAt (length problem.agents) views fates k tree → 0 < occurrences j shape → AtSomeLeaf P view.constraints tree
-  some_leaf P j view_j j_is holds (Split conflict left right) (Node l r) k view is (c, x, split, on_l, on_r) (a, expanded, on_left, on_right) some =
-      let at_expanded = searched.each k view (Expanded conflict a) is expanded in
-      let to_left = at_expanded.to_left in let to_right = at_expanded.to_right in
+  pub some_leaf : (P : NodeContext → Type 0) (j : ℕ) (view_j : View) (fate_j : Fate) → slice_get views j ≡ Some view_j → slice_get fates j ≡ Some fate_j → IsEndFate fate_j → P view_j.context →
+      (tree : ConstraintTree) (shape : Shape) (k : ℕ) (view : View) → slice_get views k ≡ Some view → IsShape fates k shape → IsTreeAt views fates k tree → 0 < occurrences j shape → AtSomeLeaf P view.context tree
+  some_leaf P j view_j fate_j j_is j_fate j_end holds (Split conflict blocks left right) (Node n l r) k view is (number, c, x, split, on_l, on_r) (here, a, expanded, on_left, on_right) some =
+      let to_l = to_left k view conflict blocks a is expanded here in let to_r = to_right k view conflict blocks a is expanded here in
       let same : Expanded c x ≡ Expanded conflict a = same_Some (Expanded c x) (Expanded conflict a) (sym split ∙ expanded) in
       let x_is : x ≡ a = cc in
+      let not_here = not_split fates j fate_j j_fate j_end k n c x number split in
+      let parts = occurs_node j n l r in
       ⊎_elim
-      (λ (here : 0 < occurrences j l). inl (subst (λ constraints. AtSomeLeaf P constraints left) to_left.2 (some_leaf P j view_j j_is holds left l a to_left.0 to_left.1 (subst (λ n. IsShape fates n l) x_is on_l) on_left here)))
-      (λ (not_here : occurrences j l ≤ 0). inr (subst (λ constraints. AtSomeLeaf P constraints right) to_right.2 (some_leaf P j view_j j_is holds right r (a + 1) to_right.0 to_right.1 (subst (λ n. IsShape fates (n + 1) r) x_is on_r) on_right (omega arith))))
+      (λ (in_left : 0 < occurrences j l). inl (subst (λ context. AtSomeLeaf P context left) to_l.2 (some_leaf P j view_j fate_j j_is j_fate j_end holds left l a to_l.0 to_l.1 (subst (λ m. IsShape fates m l) x_is on_l) on_left in_left)))
+      (λ (not_in_left : occurrences j l ≤ 0). inr (subst (λ context. AtSomeLeaf P context right) to_r.2 (some_leaf P j view_j fate_j j_is j_fate j_end holds right r (a + 1) to_r.0 to_r.1 (subst (λ m. IsShape fates (m + 1) r) x_is on_r) on_right (omega (arith, some, parts, not_here, not_in_left)))))
       (cases_lt 0 (occurrences j l))
-  some_leaf P j view_j j_is holds (Split conflict left right) (End m) k view is (same, fate, fate_is, end) (a, expanded, on_left, on_right) some =
+  some_leaf P j view_j fate_j j_is j_fate j_end holds (Split conflict blocks left right) (End m) k view is (same, fate, fate_is, end) (here, a, expanded, on_left, on_right) some =
       absurd (subst IsEndFate (same_Some fate (Expanded conflict a) (sym fate_is ∙ expanded)) end)
-  some_leaf P j view_j j_is holds (Leaf blocks) (Node l r) k view is (c, x, split, on_l, on_r) (other, fate, other_is, fate_is, end, are) some =
+  some_leaf P j view_j fate_j j_is j_fate j_end holds (Leaf blocks) (Node n l r) k view is (number, c, x, split, on_l, on_r) (here, fate, fate_is, end) some =
       absurd (subst IsEndFate (same_Some fate (Expanded c x) (sym fate_is ∙ split)) end)
-  some_leaf P j view_j j_is holds (Leaf blocks) (End m) k view is (same, fate, fate_is, end) at_leaf some = ⊎_elim
-      (λ (e : j ≡ m). subst (λ (v : View). P v.constraints) (same_Some view_j view (sym j_is ∙ subst (λ n. slice_get views n ≡ Some view) (same ∙ sym e) is)) holds)
+  some_leaf P j view_j fate_j j_is j_fate j_end holds (Leaf blocks) (End m) k view is (same, fate, fate_is, end) at_leaf some = ⊎_elim
+      (λ (e : j ≡ m). subst (λ (v : View). P v.context) (same_Some view_j view (sym j_is ∙ subst (λ n. slice_get views n ≡ Some view) (same ∙ sym e) is)) holds)
       (λ (e : j ≢ m). absurd (cond_both (nat_eq j m) 1 0 (λ n. 0 < n → ⊥) (λ t. absurd (e (eqb-true j m t))) (λ f h. omega arith) some))
       (cases_eq j m)
-  some_leaf P j view_j j_is holds (Clash a b) shape k view is on none some = absurd none
+  some_leaf P j view_j fate_j j_is j_fate j_end holds (Clash a b) shape k view is on none some = absurd none
 
   at_least : (low : ℕ) → ((m : ℕ) (view : View) → slice_get views m ≡ Some view → slice_get fates m ≡ Some Open → low ≤ sum view.costs) →
       (k : ℕ) (view : View) (fate : Fate) → slice_get views k ≡ Some view → slice_get fates k ≡ Some fate → IsEndFate fate →
-      (others : List (List ℕ)) (total : ℕ) → AreCheapest problem view.constraints others → IsSumOfCosts problem.agents others total → low ≤ total
+      (others : List (List ℕ)) (total : ℕ) → AreCheapest problem view.context others → IsSumOfCosts problem.agents others total → low ≤ total
   at_least low least k view Open is fate_is end others total cheapest is_sum =
       let one = least k view is fate_is in let two = live_least problem view (searched.each k view Open is fate_is) others total cheapest is_sum in omega arith
   at_least low least k view Dead is fate_is end others total cheapest is_sum = absurd (dead_none problem view (searched.each k view Dead is fate_is) others cheapest)
   at_least low least k view (Expanded c a) is fate_is end others total cheapest is_sum = absurd end
 
-  module _ (tree : ConstraintTree) (on_tree : IsTreeAt (length problem.agents) views fates 0 tree) where
+  module _ (tree : ConstraintTree) (on_tree : IsTreeAt views fates 0 tree) where
     -- a list of a node is due where no open node has a smaller sum
-    pub due : (view : View) → IsLive problem view → ((m : ℕ) (other : View) → slice_get views m ≡ Some other → slice_get fates m ≡ Some Open → sum view.costs ≤ sum other.costs) → AreDue problem tree view.constraints view.paths (sum view.costs)
+    pub due : (view : View) → IsLive problem view → ((m : ℕ) (other : View) → slice_get views m ≡ Some other → slice_get fates m ≡ Some Open → sum view.costs ≤ sum other.costs) → AreDue problem tree view.context view.paths (sum view.costs)
     due view live least = record {
       cheapest = live_cheapest problem view live;
       sum = live_sum problem view live;
-      least = subst (λ constraints. AtEachEnd (λ end_constraints. (others : List (List ℕ)) (other_total : ℕ) → AreCheapest problem end_constraints others → IsSumOfCosts problem.agents others other_total → sum view.costs ≤ other_total) constraints tree) searched.first.2
-          (each_end (λ end_constraints. (others : List (List ℕ)) (other_total : ℕ) → AreCheapest problem end_constraints others → IsSumOfCosts problem.agents others other_total → sum view.costs ≤ other_total)
+      least = subst (λ context. AtEachEnd (λ end_context. (others : List (List ℕ)) (other_total : ℕ) → AreCheapest problem end_context others → IsSumOfCosts problem.agents others other_total → sum view.costs ≤ other_total) context tree) searched.first.2
+          (each_end (λ end_context. (others : List (List ℕ)) (other_total : ℕ) → AreCheapest problem end_context others → IsSumOfCosts problem.agents others other_total → sum view.costs ≤ other_total)
           (at_least (sum view.costs) least) tree 0 searched.first.0 searched.first.1 on_tree);
     }
 
     -- what is so of each node of the search is so of each node of the tree, from the root on
-    from_root : (P : NodeConstraints → ConstraintTree → Type 0) → ((k : ℕ) (view : View) (node : ConstraintTree) → slice_get views k ≡ Some view → IsTreeAt (length problem.agents) views fates k node → P view.constraints node) → AtEachNode P root tree
-    from_root P f = subst (λ constraints. AtEachNode P constraints tree) searched.first.2 (each_node P f tree 0 searched.first.0 searched.first.1 on_tree)
+    from_root : (P : NodeContext → ConstraintTree → Type 0) → ((k : ℕ) (view : View) (node : ConstraintTree) → slice_get views k ≡ Some view → IsTreeAt views fates k node → P view.context node) → AtEachNode P root tree
+    from_root P f = subst (λ context. AtEachNode P context tree) searched.first.2 (each_node P f tree 0 searched.first.0 searched.first.1 on_tree)
 
     -- each node is proper, and a split stands on the first conflict of due paths
-    node_facts : (k : ℕ) (view : View) (node : ConstraintTree) → slice_get views k ≡ Some view → IsTreeAt (length problem.agents) views fates k node → IsProperNode problem node × IsEarnedNode problem tree view.constraints node × IsOnFirstConflict problem tree view.constraints node
-    node_facts k view (Split c left right) is (a, expanded, on_left, on_right) =
+    node_facts : (k : ℕ) (view : View) (node : ConstraintTree) → slice_get views k ≡ Some view → IsTreeAt views fates k node → IsProperNode problem node × IsEarnedNode problem tree view.context node × IsOnFirstConflict problem tree view.context node
+    node_facts k view (Split c blocks left right) is (here, a, expanded, on_left, on_right) =
         let at_expanded = searched.each k view (Expanded c a) is expanded in
         let first = at_expanded.on_first in
         let is_due = due view at_expanded.live (λ m other other_is is_open. searched.least k m view other (Expanded c a) is other_is expanded tt is_open) in
-        (at_expanded.proper, (view.paths, sum view.costs, is_due, first.has, first.earliest), (view.paths, sum view.costs, is_due, live_first problem view at_expanded.live, first))
-    node_facts k view (Leaf blocks) is (other, fate, other_is, fate_is, end, are) = ((are.different, are.of_agents), tt, tt)
+        let proper = subst (λ bs. AreProperBlocks problem bs) (sym (here view is).0) (own_proper problem view view.context.bars view.blocks at_expanded.live.own) in
+        ((at_expanded.proper, proper), (view.paths, sum view.costs, is_due, first.has, first.earliest), (view.paths, sum view.costs, is_due, live_first problem view at_expanded.live, first))
+    node_facts k view (Leaf blocks) is (here, fate, fate_is, end) =
+        let own = own_of_fate problem view views k fate (searched.each k view fate is fate_is) in
+        (subst (λ bs. AreProperBlocks problem bs) (sym (here view is).0) (own_proper problem view view.context.bars view.blocks own), tt, tt)
     node_facts k view (Clash i j) is none = absurd none
 
     pub is_proper : IsProper problem tree
@@ -219,16 +222,27 @@ module _ (problem : Instance) (views : List View) (fates : List Fate) (count : �
     pub is_on_first : AreOnFirstConflicts problem tree
     is_on_first = from_root (IsOnFirstConflict problem tree) (λ k view node is at. (node_facts k view node is at).2)
 
+    -- the blocks of a split are sound
+    split_shows : (k : ℕ) (view : View) (conflict : Conflict) (blocks : List LabelBlock) (a : ℕ) → slice_get views k ≡ Some view → slice_get fates k ≡ Some (Expanded conflict a) → AreBlocksAt views k blocks → AreBlocksSound problem view.context blocks
+    split_shows k view conflict blocks a is expanded here =
+        let at_expanded = searched.each k view (Expanded conflict a) is expanded in
+        subst (λ bs. AreBlocksSound problem view.context bs) (sym (here view is).0) (own_sound problem view view.context view.blocks at_expanded.live.own)
+
+    cost_leaf : (cost : ℕ) → ((m : ℕ) (other : View) → slice_get views m ≡ Some other → slice_get fates m ≡ Some Open → cost ≤ sum other.costs) →
+        (k : ℕ) (view : View) (fate : Fate) → slice_get views k ≡ Some view → slice_get fates k ≡ Some fate → IsEndFate fate → NodeShows problem (Cost cost) view.context (Leaf view.blocks)
+    cost_leaf cost least k view Open is fate_is end = live_shows problem view (searched.each k view Open is fate_is) cost (least k view is fate_is)
+    cost_leaf cost least k view Dead is fate_is end = dead_shows problem view (searched.each k view Dead is fate_is) cost
+    cost_leaf cost least k view (Expanded c a) is fate_is end = absurd end
+
+    impossible_leaf : ((m : ℕ) → slice_get fates m ≡ Some Open → ⊥) → (k : ℕ) (view : View) (fate : Fate) → slice_get views k ≡ Some view → slice_get fates k ≡ Some fate → IsEndFate fate → NodeShows problem Impossible view.context (Leaf view.blocks)
+    impossible_leaf none_open k view Open is fate_is end = absurd (none_open k fate_is)
+    impossible_leaf none_open k view Dead is fate_is end = dead_shows_impossible problem view (searched.each k view Dead is fate_is)
+    impossible_leaf none_open k view (Expanded c a) is fate_is end = absurd end
+
     cost_node : (cost : ℕ) → ((m : ℕ) (other : View) → slice_get views m ≡ Some other → slice_get fates m ≡ Some Open → cost ≤ sum other.costs) →
-        (k : ℕ) (view : View) (node : ConstraintTree) → slice_get views k ≡ Some view → IsTreeAt (length problem.agents) views fates k node → NodeShows problem (Cost cost) view.constraints node
-    cost_node cost least k view (Split c left right) is at = tt
-    cost_node cost least k view (Leaf blocks) is (other, Open, other_is, fate_is, end, are) =
-        let blocks_are = subst (λ (v : View). AreBlocksOf (length problem.agents) v.entries blocks) (same_Some other view (sym other_is ∙ is)) are in
-        live_shows problem view blocks blocks_are (searched.each k view Open is fate_is) cost (least k view is fate_is)
-    cost_node cost least k view (Leaf blocks) is (other, Dead, other_is, fate_is, end, are) =
-        let blocks_are = subst (λ (v : View). AreBlocksOf (length problem.agents) v.entries blocks) (same_Some other view (sym other_is ∙ is)) are in
-        dead_shows problem view blocks blocks_are (searched.each k view Dead is fate_is) cost
-    cost_node cost least k view (Leaf blocks) is (other, Expanded c a, other_is, fate_is, end, are) = absurd end
+        (k : ℕ) (view : View) (node : ConstraintTree) → slice_get views k ≡ Some view → IsTreeAt views fates k node → NodeShows problem (Cost cost) view.context node
+    cost_node cost least k view (Split c blocks left right) is (here, a, expanded, on_left, on_right) = split_shows k view c blocks a is expanded here
+    cost_node cost least k view (Leaf blocks) is (here, fate, fate_is, end) = subst (λ bs. NodeShows problem (Cost cost) view.context (Leaf bs)) (sym (here view is).0) (cost_leaf cost least k view fate is fate_is end)
     cost_node cost least k view (Clash i j) is none = absurd none
 
     -- the least sum of the open nodes is shown
@@ -239,13 +253,9 @@ module _ (problem : Instance) (views : List View) (fates : List Fate) (count : �
     }
 
     impossible_node : ((m : ℕ) → slice_get fates m ≡ Some Open → ⊥) →
-        (k : ℕ) (view : View) (node : ConstraintTree) → slice_get views k ≡ Some view → IsTreeAt (length problem.agents) views fates k node → NodeShows problem Impossible view.constraints node
-    impossible_node none_open k view (Split c left right) is at = tt
-    impossible_node none_open k view (Leaf blocks) is (other, Open, other_is, fate_is, end, are) = absurd (none_open k fate_is)
-    impossible_node none_open k view (Leaf blocks) is (other, Dead, other_is, fate_is, end, are) =
-        let blocks_are = subst (λ (v : View). AreBlocksOf (length problem.agents) v.entries blocks) (same_Some other view (sym other_is ∙ is)) are in
-        dead_shows_impossible problem view blocks blocks_are (searched.each k view Dead is fate_is)
-    impossible_node none_open k view (Leaf blocks) is (other, Expanded c a, other_is, fate_is, end, are) = absurd end
+        (k : ℕ) (view : View) (node : ConstraintTree) → slice_get views k ≡ Some view → IsTreeAt views fates k node → NodeShows problem Impossible view.context node
+    impossible_node none_open k view (Split c blocks left right) is (here, a, expanded, on_left, on_right) = split_shows k view c blocks a is expanded here
+    impossible_node none_open k view (Leaf blocks) is (here, fate, fate_is, end) = subst (λ bs. NodeShows problem Impossible view.context (Leaf bs)) (sym (here view is).0) (impossible_leaf none_open k view fate is fate_is end)
     impossible_node none_open k view (Clash i j) is none = absurd none
 
     pub shows_impossible : ((m : ℕ) → slice_get fates m ≡ Some Open → ⊥) → Shows problem Impossible tree
@@ -258,23 +268,23 @@ module _ (problem : Instance) (views : List View) (fates : List Fate) (count : �
     has_splits = split_count_is tree searched.tree.shape 0 searched.tree.is_shape on_tree ∙ searched.tree.exact
 
     -- an open node of least sum whose list has a conflict stops the tree
-    pub is_stopped : (Fact : NodeConstraints → List (List ℕ) → Type 0) (j : ℕ) (view : View) → slice_get views j ≡ Some view → slice_get fates j ≡ Some Open →
-        ((m : ℕ) (other : View) → slice_get views m ≡ Some other → slice_get fates m ≡ Some Open → sum view.costs ≤ sum other.costs) → HaveSomeConflict view.paths → Fact view.constraints view.paths → IsStoppedWhere Fact problem tree
+    pub is_stopped : (Fact : NodeContext → List (List ℕ) → Type 0) (j : ℕ) (view : View) → slice_get views j ≡ Some view → slice_get fates j ≡ Some Open →
+        ((m : ℕ) (other : View) → slice_get views m ≡ Some other → slice_get fates m ≡ Some Open → sum view.costs ≤ sum other.costs) → HaveSomeConflict view.paths → Fact view.context view.paths → IsStoppedWhere Fact problem tree
     is_stopped Fact j view is is_open least meet fact = record {
       earned = is_earned;
       leaf =
-          let P : NodeConstraints → Type 0 = λ constraints. (paths : List (List ℕ)) × (total : ℕ) × AreDue problem tree constraints paths total × HaveSomeConflict paths × Fact constraints paths in
-          let once = searched.tree.once j Open is_open tt in
-          subst (λ constraints. AtSomeLeaf P constraints tree) searched.first.2
-          (some_leaf P j view is (view.paths, sum view.costs, due view (searched.each j view Open is is_open) least, meet, fact)
+          let P : NodeContext → Type 0 = λ context. (paths : List (List ℕ)) × (total : ℕ) × AreDue problem tree context paths total × HaveSomeConflict paths × Fact context paths in
+          let once = searched.tree.once j (slice_get_within fates j Open is_open) in
+          subst (λ context. AtSomeLeaf P context tree) searched.first.2
+          (some_leaf P j view Open is is_open tt (view.paths, sum view.costs, due view (searched.each j view Open is is_open) least, meet, fact)
           tree searched.tree.shape 0 searched.first.0 searched.first.1 searched.tree.is_shape on_tree (omega arith));
     }
 
     -- the paths of an open node are those of a leaf
-    pub at_leaf : (j : ℕ) (view : View) → slice_get views j ≡ Some view → slice_get fates j ≡ Some Open → AtSomeLeaf (λ constraints. AreCheapest problem constraints view.paths × AreFirstPaths problem constraints view.paths) root tree
+    pub at_leaf : (j : ℕ) (view : View) → slice_get views j ≡ Some view → slice_get fates j ≡ Some Open → AtSomeLeaf (λ context. AreCheapest problem context view.paths × AreFirstPaths problem context view.paths) root tree
     at_leaf j view is is_open =
-        let P : NodeConstraints → Type 0 = λ constraints. AreCheapest problem constraints view.paths × AreFirstPaths problem constraints view.paths in
+        let P : NodeContext → Type 0 = λ context. AreCheapest problem context view.paths × AreFirstPaths problem context view.paths in
         let live = searched.each j view Open is is_open in
-        let once = searched.tree.once j Open is_open tt in
-        subst (λ constraints. AtSomeLeaf P constraints tree) searched.first.2
-        (some_leaf P j view is (live_cheapest problem view live, live_first problem view live) tree searched.tree.shape 0 searched.first.0 searched.first.1 searched.tree.is_shape on_tree (omega arith))
+        let once = searched.tree.once j (slice_get_within fates j Open is_open) in
+        subst (λ context. AtSomeLeaf P context tree) searched.first.2
+        (some_leaf P j view Open is is_open tt (live_cheapest problem view live, live_first problem view live) tree searched.tree.shape 0 searched.first.0 searched.first.1 searched.tree.is_shape on_tree (omega arith))

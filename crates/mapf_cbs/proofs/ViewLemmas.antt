@@ -27,7 +27,7 @@ module _ (problem : Instance) (view : View) where
       let one = counted.paths in let two = counted.costs in
       slice_get_inside view.costs i (omega arith)
 
-  pub live_cheapest : IsLive problem view → AreCheapest problem view.constraints view.paths
+  pub live_cheapest : IsLive problem view → AreCheapest problem view.context view.paths
   live_cheapest live = record {
     count = live.counted.paths;
     lawful = λ i agent path a p.
@@ -43,14 +43,14 @@ module _ (problem : Instance) (view : View) where
   }
 
   -- and these are the first of their cost
-  pub live_first : IsLive problem view → AreFirstPaths problem view.constraints view.paths
+  pub live_first : IsLive problem view → AreFirstPaths problem view.context view.paths
   live_first live i agent path cost a p is =
       let c = cost_of_path live.counted i path p in
       let agent_path = live.each i agent path c.0 a p c.1 in
       let low = is.least c.0 agent_path.is_cost.rests in
       let high = agent_path.is_cost.least cost is.rests in
       let same : c.0 ≡ cost = omega arith in
-      subst (λ n. IsFirstOfCost (task_of problem.grid agent (view.constraints.bars i)) n path) same agent_path.first
+      subst (λ n. IsFirstOfCost (task_of problem.grid agent (view.context.bars i)) n path) same agent_path.first
 
   pub live_costs : IsLive problem view → AreCosts problem.agents view.paths view.costs
   live_costs live = record {
@@ -63,7 +63,7 @@ module _ (problem : Instance) (view : View) where
   live_sum live = (view.costs, live_costs live, refl)
 
   -- each cheapest list has this sum at least
-  pub live_least : IsLive problem view → (others : List (List ℕ)) (total : ℕ) → AreCheapest problem view.constraints others → IsSumOfCosts problem.agents others total → sum view.costs ≤ total
+  pub live_least : IsLive problem view → (others : List (List ℕ)) (total : ℕ) → AreCheapest problem view.context others → IsSumOfCosts problem.agents others total → sum view.costs ≤ total
   live_least live others total cheapest (costs, are, is) =
       let one = cheapest.count in let two = are.count in let three = live.counted.costs in
       rw is (sum-le view.costs costs (omega arith) (λ i x y cx cy.
@@ -76,7 +76,7 @@ module _ (problem : Instance) (view : View) where
       agent_path.least other.0 y obeying.0 obeying.1 (are.each i agent.0 other.0 y agent.1 other.1 cy)))
 
   -- there is no cheapest list
-  pub dead_none : IsDead problem view → (others : List (List ℕ)) → AreCheapest problem view.constraints others → ⊥
+  pub dead_none : IsDead problem view → (others : List (List ℕ)) → AreCheapest problem view.context others → ⊥
   dead_none dead others cheapest =
       let one = cheapest.count in
       let within : dead.who < length problem.agents = slice_get_within problem.agents dead.who dead.agent dead.known in

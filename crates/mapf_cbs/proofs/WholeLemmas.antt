@@ -1,5 +1,5 @@
 -- Nodes that hold all that is found at them.
-use Rattle.std.proofs.Common.{◌≡◌, ◌≢◌, ℕ, ◌+◌, ◌<◌, ◌≤◌, List, [], ◌∷◌, ◌++◌, Option, None, Some, length, sum, slice_get, slice_set, refl, sym, ◌∙◌, ap, subst, inl, ⊎_elim, arith, Vec}
+use Rattle.std.proofs.Common.{◌≡◌, ◌≢◌, ℕ, ◌+◌, ◌^◌, ◌<◌, ◌≤◌, All, List, [], ◌∷◌, ◌++◌, Option, None, Some, length, sum, slice_get, slice_set, refl, sym, ◌∙◌, ap, subst, inl, ⊎_elim, arith, Vec}
 use Rattle.std.specs.declared.cmp.Ordering.{Ordering}
 use Rattle.std.specs.declared.cmp.Ordering.TheVariants.{Less, Equal, Greater}
 use Rattle.std.specs.Ordering.{nat_cmp, ordering_then}
@@ -21,11 +21,12 @@ use Rattle.mapf_cbs.specs.declared.whole_node.WholeNode.{WholeNode}
 use Rattle.mapf_model.specs.declared.constraint.Constraint.{Constraint}
 use Rattle.mapf_cbs.specs.Nodes.{IsChildView}
 use Rattle.mapf_cbs.specs.GeneratedChild.{IsTotal, IsGeneratedState}
-use Rattle.mapf_cbs.specs.Search.{View}
+use Rattle.mapf_model.specs.Blocks.{LabelBlock}
+use Rattle.mapf_cbs.specs.Search.{View, bound_blocks, labels_of}
 use Rattle.mapf_cbs.specs.State.{key_cmp}
 use Rattle.mapf_cbs.specs.Whole.{IsAgentPathAt, IsWhole, IsCopy, AreCopies, IsAfter, IsLeastOpen, IsLeastBelow}
 use Rattle.mapf_cbs.proofs.SumLemmas.{slice_get-set_same, slice_get-set_other, length-slice_set}
-use Rattle.mapf_cbs.proofs.NodeLemmas.{paths_kept, found_labels, entries_kept, entries_new, bars_other, bars_bound}
+use Rattle.mapf_cbs.proofs.NodeLemmas.{paths_kept, blocks_new, bars_other, bars_bound}
 
 -- the least open node is found by a scan
 module _ (nodes : List WholeNode) (fates : List Fate) (k : ℕ) where
@@ -128,7 +129,7 @@ copies_with agent_paths all agent agent_path inside copies =
       each = λ i copy copy_is. ⊎_elim
           (λ (e : i ≡ agent).
           let same : agent_path ≡ copy = same_Some agent_path copy (sym (slice_get-set_same all agent agent_path (omega (arith, inside, size))) ∙ subst (λ n. slice_get (slice_set all agent agent_path) n ≡ Some copy) e copy_is) in
-          (agent_path, subst (λ n. slice_get (slice_set agent_paths agent agent_path) n ≡ Some agent_path) (sym e) (slice_get-set_same agent_paths agent agent_path inside), subst (λ r. IsCopy agent_path r) same (record { path = refl; entries = refl; bars = λ bar. (λ h. h, λ h. h) })))
+          (agent_path, subst (λ n. slice_get (slice_set agent_paths agent agent_path) n ≡ Some agent_path) (sym e) (slice_get-set_same agent_paths agent agent_path inside), subst (λ r. IsCopy agent_path r) same (record { path = refl; bars = λ bar. (λ h. h, λ h. h) })))
           (λ (e : i ≢ agent).
           let old = copies.each i copy (sym (slice_get-set_other all agent i agent_path e) ∙ copy_is) in
           (old.0, slice_get-set_other agent_paths agent i agent_path e ∙ old.1, old.2))
@@ -138,7 +139,6 @@ copies_with agent_paths all agent agent_path inside copies =
 copy_at : (view : View) (i : ℕ) (agent_path copy : AgentPath) → IsAgentPathAt view i agent_path → IsCopy agent_path copy → IsAgentPathAt view i copy
 copy_at view i agent_path copy at same = record {
   path = at.path ∙ ap Some (sym same.path);
-  entries = at.entries ∙ sym same.entries;
   bars = λ bar. (λ h. (same.bars bar).1 ((at.bars bar).0 h), λ h. (at.bars bar).1 ((same.bars bar).0 h));
 }
 
@@ -150,34 +150,29 @@ path_new : (view : View) (constraint : Constraint) (found : Found) (child : View
 path_new view constraint (Arrives path labels) child (cost, e) bars old agent_path old_is after = ap (λ (v : View). slice_get v.paths constraint.agent) e ∙ slice_get-set_same view.paths constraint.agent path (slice_get_within view.paths constraint.agent old.path old_is) ∙ ap Some (sym after.0)
 path_new view constraint (Dead labels) child e bars old agent_path old_is after = ap (λ (v : View). slice_get v.paths constraint.agent) e ∙ old_is ∙ ap Some (sym after.0)
 
-entries_after : (old : AgentPath) (found : Found) (bars : List Bar) (agent_path : AgentPath) → IsAfter old found bars agent_path → found_labels found ≡ agent_path.entries.items
-entries_after old (Arrives path labels) bars agent_path after = sym after.1
-entries_after old (Dead labels) bars agent_path after = sym after.1
-
 bars_after : (old : AgentPath) (found : Found) (bars : List Bar) (agent_path : AgentPath) → IsAfter old found bars agent_path → agent_path.bars ≡ bars
-bars_after old (Arrives path labels) bars agent_path after = after.2
-bars_after old (Dead labels) bars agent_path after = after.2
+bars_after old (Arrives path labels) bars agent_path after = after.1
+bars_after old (Dead labels) bars agent_path after = after.1
 
 -- a node in which one agent's path changed is the child
 module _ (view : View) (node : WholeNode) (whole : IsWhole node view) (constraint : Constraint) (found : Found) (child : View) (is_child : IsChildView view constraint found child) where
   agent_path_kept : (i : ℕ) (agent_path : AgentPath) → i ≢ constraint.agent → IsAgentPathAt view i agent_path → IsAgentPathAt child i agent_path
   agent_path_kept i agent_path other at = record {
     path = paths_kept view i constraint found child (inl other) is_child ∙ at.path;
-    entries = entries_kept view i constraint found child other is_child ∙ at.entries;
     bars = subst (λ bs. AreSameBars bs agent_path.bars) (sym (bars_other view i constraint found child other is_child)) at.bars;
   }
 
-  module _ (bars : List Bar) (same : AreSameBars bars (constraint.bar ∷ view.constraints.bars constraint.agent)) (old : AgentPath) (here : slice_get node.agent_paths.items constraint.agent ≡ Some old) (agent_path : AgentPath) (after : IsAfter old found bars agent_path) where
+  module _ (bars : List Bar) (same : AreSameBars bars (constraint.bar ∷ view.context.bars constraint.agent)) (old : AgentPath) (here : slice_get node.agent_paths.items constraint.agent ≡ Some old) (agent_path : AgentPath) (after : IsAfter old found bars agent_path) where
     agent_path_new : IsAgentPathAt child constraint.agent agent_path
     agent_path_new = record {
       path = path_new view constraint found child is_child bars old agent_path (whole.each constraint.agent old here).path after;
-      entries = entries_new view constraint found child is_child ∙ entries_after old found bars agent_path after;
       bars = subst (λ bs. AreSameBars bs agent_path.bars) (sym (bars_bound view constraint found child is_child))
-          (subst (λ bs. AreSameBars (constraint.bar ∷ view.constraints.bars constraint.agent) bs) (sym (bars_after old found bars agent_path after)) (bars_swap bars (constraint.bar ∷ view.constraints.bars constraint.agent) same));
+          (subst (λ bs. AreSameBars (constraint.bar ∷ view.context.bars constraint.agent) bs) (sym (bars_after old found bars agent_path after)) (bars_swap bars (constraint.bar ∷ view.context.bars constraint.agent) same));
     }
 
-    pub whole_child : (agent_paths : Vec AgentPath Global) → AreCopies (slice_set node.agent_paths.items constraint.agent agent_path) agent_paths.items → (total : ℕ) → total ≡ sum child.costs → IsWhole (record { agent_paths = agent_paths; total = total }) child
-    whole_child agent_paths copies total total_is = record {
+    pub whole_child : (agent_paths : Vec AgentPath Global) → AreCopies (slice_set node.agent_paths.items constraint.agent agent_path) agent_paths.items → (blocks : Vec LabelBlock Global) → blocks.items ≡ bound_blocks constraint.agent (labels_of found) → All (λ block. length block.entries < 2 ^ 64) blocks.items → (total : ℕ) → total ≡ sum child.costs →
+        IsWhole (record { agent_paths = agent_paths; blocks = blocks; total = total }) child
+    whole_child agent_paths copies blocks own small total total_is = record {
       count = copies.count ∙ length-slice_set node.agent_paths.items constraint.agent agent_path ∙ whole.count ∙ sym (paths_count view constraint found child is_child);
       each = λ i r r_is.
           let from = copies.each i r r_is in
@@ -187,6 +182,7 @@ module _ (view : View) (node : WholeNode) (whole : IsWhole node view) (constrain
           subst (λ n. IsAgentPathAt child n from.0) (sym e) (subst (λ x. IsAgentPathAt child constraint.agent x) now agent_path_new))
           (λ (e : i ≢ constraint.agent). agent_path_kept i from.0 e (whole.each i from.0 (sym (slice_get-set_other node.agent_paths.items constraint.agent i agent_path e) ∙ from.1)))
           (cases_eq i constraint.agent)) from.2;
+      blocks = (own ∙ sym (blocks_new view constraint found child is_child), small);
       total = total_is;
     }
 

@@ -9,7 +9,7 @@ use Rattle.mapf_model.specs.Grid.{free_cell_count}
 use Rattle.mapf_model.specs.Limits.{split_ticks}
 use Rattle.mapf_model.specs.Plan.{Instance, IsOptimal, IsImpossible}
 use Rattle.mapf_model.specs.Printed.{IsTreeInRange, IsPlanInRange, IsClaimInRange}
-use Rattle.mapf_model.specs.Tree.{ConstraintTree, NodeConstraints, Spell, Shows, AtSomeLeaf, root, split_count}
+use Rattle.mapf_model.specs.Tree.{ConstraintTree, NodeContext, Spell, Shows, AtSomeLeaf, root, split_count}
 use Rattle.mapf_cbs.specs.FirstConflicts.{AreFirstPaths, AreOnFirstConflicts}
 use Rattle.mapf_cbs.specs.Goals.{NamesFirstDefect}
 use Rattle.mapf_cbs.specs.declared.answer.Answer.{Answer}
@@ -27,9 +27,9 @@ pub record IsTreeOf (problem : Instance) (limit : ℕ) (items : List Item) (tree
   pub in_range : IsTreeInRange problem.grid (length problem.agents) tree
 
 -- at a node with these constraints the paths are cheapest, and each is the first of its cost
-abbrev pub AreFirstCheapest : Instance → List (List ℕ) → NodeConstraints → Type 0
-AreFirstCheapest problem paths constraints =
-    AreCheapest problem constraints paths × AreFirstPaths problem constraints paths
+abbrev pub AreFirstCheapest : Instance → List (List ℕ) → NodeContext → Type 0
+AreFirstCheapest problem paths context =
+    AreCheapest problem context paths × AreFirstPaths problem context paths
 
 -- the plan is valid, the tree shows that no valid plan is cheaper, and so none is; at a leaf of the tree its paths are
 -- the first of the cheapest ones; they are tight, and the plan and its sum can be printed
@@ -49,7 +49,7 @@ pub record IsShownImpossible (problem : Instance) (tree : ConstraintTree) : Type
 -- an earned tree with a leaf at which due paths, each the first of its cost, conflict, and of which the fact holds
 abbrev pub IsStoppedAtFirst : (List (List ℕ) → Type 0) → Instance → ConstraintTree → Type 0
 IsStoppedAtFirst Fact problem tree =
-    IsStoppedWhere (λ constraints paths. AreFirstPaths problem constraints paths × Fact paths) problem tree
+    IsStoppedWhere (λ context paths. AreFirstPaths problem context paths × Fact paths) problem tree
 
 -- a search with so many splits at most may stop for this cause, with this tree: at a leaf of it the first due paths
 -- have a conflict before tick 1,000,000, and the tree has exactly the limit's splits; or they conflict but have no

@@ -1,37 +1,34 @@
 -- Cheapest paths of agents under their bars.
 use Rattle.std.specs.Prelude.{ℕ, ◌+◌, ◌<◌, ◌≤◌, List}
 use Rattle.mapf_model.specs.declared.bar.Bar.{Bar}
-use Rattle.mapf_model.specs.declared.label.Entry.{Entry}
 use Rattle.mapf_model.specs.declared.label.Label.TheVariants.{Ticks, Never}
 use Rattle.mapf_model.specs.declared.problem.Agent.{Agent}
 use Rattle.mapf_model.specs.Bars.{Satisfies, IsBar}
 use Rattle.mapf_model.specs.Grid.{GridMap, free_cell_count}
 use Rattle.mapf_model.specs.Limits.{split_ticks}
-use Rattle.mapf_model.specs.Labels.{entries_of, IsLabel}
+use Rattle.mapf_model.specs.Labels.{Entries, IsLabel}
 use Rattle.mapf_model.specs.Path.{IsLawful, IsCost, IsTight}
 use Rattle.mapf_constraints.specs.BarSets.{tick_of, AreBefore}
-use Rattle.mapf_spacetime.specs.Answer.{AreGoodLabels, IsFirstOfCost}
+use Rattle.mapf_spacetime.specs.Answer.{IsFirstOfCost}
 use Rattle.mapf_spacetime.specs.Task.{task_of}
 
 -- a bar that a table takes
 abbrev pub IsTableBar : Bar → Type 0
 IsTableBar bar = (tick_of bar < split_ticks) × IsBar bar
 
--- a cheapest path of an agent under its bars, the first of them by cell numbers, with its cost and the entries that
--- show it
-pub record IsCheapestPath (grid : GridMap) (agent : Agent) (bars : List Bar) (path : List ℕ) (cost : ℕ) (entries : List Entry) : Type 0 where
+-- a cheapest path of an agent under its bars, the first of them by cell numbers, with its cost, which is the label of
+-- its start by these entries
+pub record IsCheapestPath (grid : GridMap) (agent : Agent) (bars : List Bar) (path : List ℕ) (cost : ℕ) (entries : Entries) : Type 0 where
   pub lawful : IsLawful grid agent path
   pub satisfies : Satisfies bars path
   pub tight : IsTight path
   pub is_cost : IsCost agent.goal path cost
   pub least : (other : List ℕ) (other_cost : ℕ) → IsLawful grid agent other → Satisfies bars other → IsCost agent.goal other other_cost → cost ≤ other_cost
   pub first : IsFirstOfCost (task_of grid agent bars) cost path
-  pub labels : AreGoodLabels (task_of grid agent bars) entries
-  pub start : IsLabel grid agent.goal (entries_of entries) agent.start 0 (Ticks cost)
+  pub start : IsLabel grid agent.goal entries agent.start 0 (Ticks cost)
   pub below : (horizon : ℕ) → AreBefore horizon bars → cost < horizon + free_cell_count grid
 
--- entries that show that no path of an agent satisfies its bars
-pub record HasNoPath (grid : GridMap) (agent : Agent) (bars : List Bar) (entries : List Entry) : Type 0 where
+-- no path of an agent satisfies its bars, and the label of its start by these entries says so
+pub record HasNoPath (grid : GridMap) (agent : Agent) (bars : List Bar) (entries : Entries) : Type 0 where
   pub none : (path : List ℕ) → IsLawful grid agent path → Satisfies bars path → ⊥
-  pub labels : AreGoodLabels (task_of grid agent bars) entries
-  pub start : IsLabel grid agent.goal (entries_of entries) agent.start 0 Never
+  pub start : IsLabel grid agent.goal entries agent.start 0 Never

@@ -12,11 +12,11 @@ number_of finder = unwrap_or finder 0
 abbrev pub AreInside : List Node → List (Option ℕ) → Type 0
 AreInside nodes finders = (i : ℕ) (finder : Option ℕ) → slice_get finders i ≡ Some finder → number_of finder < length nodes
 
--- the agent's path and entries are the same at both nodes
+-- the agent's path is the same at both nodes
 abbrev pub HaveSame : ℕ → View → View → Type 0
-HaveSame i view other = (slice_get view.paths i ≡ slice_get other.paths i) × (view.entries i ≡ other.entries i)
+HaveSame i view other = slice_get view.paths i ≡ slice_get other.paths i
 
--- each agent's path and entries are those of its node
+-- each agent's path is that of its node
 abbrev pub AreFinders : List View → View → List (Option ℕ) → Type 0
 AreFinders views view finders = (i : ℕ) (finder : Option ℕ) → slice_get finders i ≡ Some finder → (other : View) × (slice_get views (number_of finder) ≡ Some other) × HaveSame i view other
 

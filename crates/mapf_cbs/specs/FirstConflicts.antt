@@ -6,7 +6,7 @@ use Rattle.mapf_model.specs.Earned.{AreDue, HasConflict, AreConflictFreeBefore, 
 use Rattle.mapf_model.specs.declared.problem.Agent.{Agent}
 use Rattle.mapf_model.specs.Path.{IsCost}
 use Rattle.mapf_model.specs.Plan.{Instance}
-use Rattle.mapf_model.specs.Tree.{ConstraintTree, Split, Leaf, Clash, NodeConstraints, AtEachNode, root}
+use Rattle.mapf_model.specs.Tree.{ConstraintTree, Split, Leaf, Clash, NodeContext, AtEachNode, root}
 use Rattle.mapf_spacetime.specs.Answer.{IsFirstOfCost}
 use Rattle.mapf_spacetime.specs.Task.{task_of}
 
@@ -19,18 +19,18 @@ pub record IsFirstConflict (paths : List (List ℕ)) (conflict : Conflict) : Typ
   pub least : IsFirstOfItsTick paths conflict
 
 -- at the node each agent's path is the first of its cost, by cell numbers, of those that satisfy its bars
-abbrev pub AreFirstPaths : Instance → NodeConstraints → List (List ℕ) → Type 0
-AreFirstPaths problem constraints paths = (i : ℕ) (agent : Agent) (path : List ℕ) (cost : ℕ) →
+abbrev pub AreFirstPaths : Instance → NodeContext → List (List ℕ) → Type 0
+AreFirstPaths problem context paths = (i : ℕ) (agent : Agent) (path : List ℕ) (cost : ℕ) →
     slice_get problem.agents i ≡ Some agent → slice_get paths i ≡ Some path → IsCost agent.goal path cost →
-    IsFirstOfCost (task_of problem.grid agent (constraints.bars i)) cost path
+    IsFirstOfCost (task_of problem.grid agent (context.bars i)) cost path
 
 -- a split stands on the first conflict of paths that are due there, each the first of its cost
-abbrev pub IsOnFirstConflict : Instance → ConstraintTree → NodeConstraints → ConstraintTree → Type 0
-IsOnFirstConflict problem tree constraints (Split conflict left right) = (paths : List (List ℕ)) × (total : ℕ)
-    × AreDue problem tree constraints paths total × AreFirstPaths problem constraints paths
+abbrev pub IsOnFirstConflict : Instance → ConstraintTree → NodeContext → ConstraintTree → Type 0
+IsOnFirstConflict problem tree context (Split conflict blocks left right) = (paths : List (List ℕ)) × (total : ℕ)
+    × AreDue problem tree context paths total × AreFirstPaths problem context paths
     × IsFirstConflict paths conflict
-IsOnFirstConflict problem tree constraints (Leaf blocks) = Unit {0}
-IsOnFirstConflict problem tree constraints (Clash i j) = Unit {0}
+IsOnFirstConflict problem tree context (Leaf blocks) = Unit {0}
+IsOnFirstConflict problem tree context (Clash i j) = Unit {0}
 
 -- so it is with each split of the tree
 abbrev pub AreOnFirstConflicts : Instance → ConstraintTree → Type 0

@@ -5,7 +5,7 @@ use Rattle.mapf_model.specs.Path.{at, IsCost}
 use Rattle.mapf_model.specs.Plan.{Instance}
 use Rattle.mapf_spacetime.specs.declared.found.Found.{Found}
 use Rattle.mapf_spacetime.specs.declared.found.Found.TheVariants.{Arrives, Dead}
-use Rattle.mapf_model.specs.Tree.{child_constraints}
+use Rattle.mapf_model.specs.Tree.{child_context}
 use Rattle.mapf_cbs.specs.Search.{View, IsLive, IsDead}
 use Rattle.mapf_cbs.specs.Nodes.{IsChildView}
 
@@ -28,5 +28,5 @@ IsGeneratedState problem view child (Some total) = IsLive problem child × (tota
 pub record IsGeneratedChild (problem : Instance) (view : View) (constraint : Constraint) (found : Found) (total : Option ℕ) : Type 0 where
   pub child : View
   pub is_child : IsChildView view constraint found child
-  pub constraints : child.constraints ≡ child_constraints view.constraints constraint
+  pub context : child.context ≡ child_context view.context view.blocks constraint
   pub state : IsGeneratedState problem view child total

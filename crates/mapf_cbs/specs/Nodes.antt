@@ -11,7 +11,8 @@ use Rattle.mapf_cbs.specs.CheapestPath.{IsTableBar}
 use Rattle.mapf_model.specs.declared.conflict.Conflict.{Conflict}
 use Rattle.mapf_model.specs.Plan.{Instance}
 use Rattle.mapf_cbs.specs.FirstConflicts.{IsFirstConflict}
-use Rattle.mapf_cbs.specs.Search.{View, IsLive, live_child, dead_child}
+use Rattle.mapf_model.specs.Blocks.{LabelBlock}
+use Rattle.mapf_cbs.specs.Search.{View, IsLive, live_child, dead_child, bound_blocks, labels_of}
 
 -- parents come before their children, and the root, which comes first, has a path of the agent
 abbrev pub IsNodeFor : ℕ → ℕ → Node → Type 0
@@ -36,11 +37,16 @@ abbrev pub IsChildView : View → Constraint → Found → View → Type 0
 IsChildView before constraint (Arrives path labels) view = (cost : ℕ) × (view ≡ live_child before constraint path cost labels)
 IsChildView before constraint (Dead labels) view = view ≡ dead_child before constraint labels
 
--- no bars, no entries, and these paths
+-- no constraints, no blocks, and these paths
 pub record IsRootView (paths : List (List ℕ)) (view : View) : Type 0 where
-  pub constraints : view.constraints ≡ root
+  pub context : view.context ≡ root
   pub same_paths : view.paths ≡ paths
-  pub entries : (i : ℕ) → view.entries i ≡ []
+  pub blocks : view.blocks ≡ []
+
+-- the blocks of the node's own change
+abbrev pub IsOwnOf : Node → List LabelBlock → Type 0
+IsOwnOf (Root paths) blocks = blocks ≡ []
+IsOwnOf (Child parent constraint found) blocks = blocks ≡ bound_blocks constraint.agent (labels_of found)
 
 -- what a node means, by what its parent means
 abbrev pub IsNodeView : List View → ℕ → Node → View → Type 0
@@ -52,7 +58,7 @@ pub record AreViews (nodes : List Node) (views : List View) : Type 0 where
   pub lengths : length views ≡ length nodes
   pub each : (k : ℕ) (node : Node) (view : View) → slice_get nodes k ≡ Some node → slice_get views k ≡ Some view → IsNodeView views k node view
 
--- the fact holds of the node's constraints, paths, costs and entries, as the changes from the root on give them
+-- the fact holds of what the node means, as the changes from the root on give it
 abbrev pub HoldsOfNode : List Node → ℕ → (View → Type 0) → Type 0
 HoldsOfNode nodes k Fact = (views : List View) (view : View) → AreViews nodes views → slice_get views k ≡ Some view → Fact view
 

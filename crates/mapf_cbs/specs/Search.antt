@@ -1,12 +1,19 @@
 -- What a conflict-based search knows of its nodes.
-use Rattle.std.specs.Prelude.{◌≡◌, ◌≢◌, ℕ, ◌+◌, ◌*◌, ◌<◌, ◌≤◌, ◌^◌, ◌==◌, if◌then◌else◌, List, [], None, Some, length, slice_get, slice_set, sum, All, AllPairs}
+use Rattle.std.specs.Prelude.{Vec, ◌≡◌, ◌≢◌, ℕ, ◌+◌, ◌*◌, ◌<◌, ◌≤◌, ◌^◌, ◌==◌, if◌then◌else◌, List, [], ◌∷◌, Some, length, slice_get, slice_set, sum, All}
+use Rattle.std.specs.declared.alloc.Global.{Global}
 use Rattle.mapf_model.specs.declared.constraint.Constraint.{Constraint}
 use Rattle.mapf_model.specs.declared.problem.Agent.{Agent}
 use Rattle.mapf_model.specs.Blocks.{LabelBlock}
 use Rattle.mapf_model.specs.declared.label.Entry.{Entry}
 use Rattle.mapf_model.specs.declared.conflict.Conflict.{Conflict}
 use Rattle.mapf_model.specs.Plan.{Instance}
-use Rattle.mapf_model.specs.Tree.{ConstraintTree, Split, Leaf, Clash, NodeConstraints, root, child_constraints, left_child_constraints, right_child_constraints, IsProperSplit, AreOfDifferentAgents, block_of}
+use Rattle.mapf_model.specs.declared.bar.Bar.{Bar}
+use Rattle.mapf_model.specs.Labels.{Entries}
+use Rattle.mapf_model.specs.Tree.{ConstraintTree, Split, Leaf, Clash, NodeContext, root, child_context, left_child_context, right_child_context, IsProperSplit, with_blocks}
+use Rattle.mapf_spacetime.specs.Answer.{AreGoodLabels}
+use Rattle.mapf_spacetime.specs.Task.{task_of}
+use Rattle.mapf_spacetime.specs.declared.found.Found.{Found}
+use Rattle.mapf_spacetime.specs.declared.found.Found.TheVariants.{Arrives, Dead as DeadEnd}
 use Rattle.mapf_model.specs.Earned.{tick_of}
 use Rattle.mapf_model.specs.Grid.{free_cell_count}
 use Rattle.mapf_model.specs.Limits.{split_ticks}
@@ -16,43 +23,73 @@ use Rattle.mapf_cbs.specs.FirstConflicts.{IsFirstConflict}
 use Rattle.mapf_cbs.specs.declared.node.Fate.{Fate}
 use Rattle.mapf_cbs.specs.declared.node.Fate.TheVariants.{Open, Dead, Expanded}
 
--- what a node means: all that is found at it and its ancestors
+-- what a node means: what it inherits, its own constraint included, the agents' paths and costs, and its own blocks
 pub record View : Type 0 where
-  pub constraints : NodeConstraints
+  pub context : NodeContext
   pub paths : List (List ℕ)
   pub costs : List ℕ
-  pub entries : ℕ → List Entry
+  pub blocks : List LabelBlock
+
+-- the agent's entries at the node: those of its block there, else of its nearest block above
+abbrev pub entries_at : View → ℕ → Entries
+entries_at view = with_blocks view.blocks view.context.entries
 
 -- the agent's path is a cheapest one at the node
 abbrev pub IsCheapestOf : Instance → View → ℕ → Agent → List ℕ → ℕ → Type 0
-IsCheapestOf problem view i agent path cost = IsCheapestPath problem.grid agent (view.constraints.bars i) path cost (view.entries i)
+IsCheapestOf problem view i agent path cost = IsCheapestPath problem.grid agent (view.context.bars i) path cost (entries_at view i)
 
 -- one path and one cost for each agent
 pub record AreCounted (problem : Instance) (view : View) : Type 0 where
   pub paths : length view.paths ≡ length problem.agents
   pub costs : length view.costs ≡ length problem.agents
 
+-- the block is of an agent of the problem; its labels, of which there are some, are sound under the agent's bars, and
+-- can be printed
+pub record IsGoodBlock (problem : Instance) (bars : ℕ → List Bar) (block : LabelBlock) : Type 0 where
+  pub agent : Agent
+  pub known : slice_get problem.agents block.agent ≡ Some agent
+  pub labels : AreGoodLabels (task_of problem.grid agent (bars block.agent)) block.entries
+  pub some : 1 ≤ length block.entries
+
+-- no block, or one, which is good
+abbrev pub AreOwnBlocks : Instance → (ℕ → List Bar) → List LabelBlock → Type 0
+AreOwnBlocks problem bars [] = Unit {0}
+AreOwnBlocks problem bars (block ∷ []) = IsGoodBlock problem bars block
+AreOwnBlocks problem bars (block ∷ other ∷ blocks) = ⊥
+
 -- each agent has a cheapest path
 pub record IsLive (problem : Instance) (view : View) : Type 0 where
   pub counted : AreCounted problem view
+  pub own : AreOwnBlocks problem view.context.bars view.blocks
   pub each : (i : ℕ) (agent : Agent) (path : List ℕ) (cost : ℕ) → slice_get problem.agents i ≡ Some agent → slice_get view.paths i ≡ Some path → slice_get view.costs i ≡ Some cost → IsCheapestOf problem view i agent path cost
 
 -- one agent has no path, each other one has a cheapest
 pub record IsDead (problem : Instance) (view : View) : Type 0 where
   pub counted : AreCounted problem view
+  pub own : AreOwnBlocks problem view.context.bars view.blocks
   pub who : ℕ
   pub agent : Agent
   pub known : slice_get problem.agents who ≡ Some agent
-  pub blocked : HasNoPath problem.grid agent (view.constraints.bars who) (view.entries who)
+  pub blocked : HasNoPath problem.grid agent (view.context.bars who) (entries_at view who)
   pub each : (i : ℕ) (other : Agent) (path : List ℕ) (cost : ℕ) → i ≢ who → slice_get problem.agents i ≡ Some other → slice_get view.paths i ≡ Some path → slice_get view.costs i ≡ Some cost → IsCheapestOf problem view i other path cost
 
--- the child under one more constraint whose agent has no path: only that agent's entries change
-abbrev pub dead_child : View → Constraint → List Entry → View
-dead_child view constraint entries = record { constraints = child_constraints view.constraints constraint; paths = view.paths; costs = view.costs; entries = λ k. if k == constraint.agent then entries else view.entries k }
+-- the labels that were found
+abbrev pub labels_of : Found → List Entry
+labels_of (Arrives path labels) = labels
+labels_of (DeadEnd labels) = labels
 
--- the child under one more constraint, with its agent's new path, cost and entries
+-- the blocks of a node at which this agent was bound: one with the entries that were found, none where there are none
+abbrev pub bound_blocks : ℕ → List Entry → List LabelBlock
+bound_blocks agent [] = []
+bound_blocks agent (entry ∷ entries) = record { agent = agent; entries = entry ∷ entries } ∷ []
+
+-- the child under one more constraint whose agent has no path: its blocks show it
+abbrev pub dead_child : View → Constraint → List Entry → View
+dead_child view constraint entries = record { context = child_context view.context view.blocks constraint; paths = view.paths; costs = view.costs; blocks = bound_blocks constraint.agent entries }
+
+-- the child under one more constraint, with its agent's new path and cost, and with blocks that show them
 abbrev pub live_child : View → Constraint → List ℕ → ℕ → List Entry → View
-live_child view constraint path cost entries = record { constraints = child_constraints view.constraints constraint; paths = slice_set view.paths constraint.agent path; costs = slice_set view.costs constraint.agent cost; entries = λ k. if k == constraint.agent then entries else view.entries k }
+live_child view constraint path cost entries = record { context = child_context view.context view.blocks constraint; paths = slice_set view.paths constraint.agent path; costs = slice_set view.costs constraint.agent cost; blocks = bound_blocks constraint.agent entries }
 
 -- a node that was split: the conflict is the first of its paths, and its children are later nodes, the right one next
 -- to the left one
@@ -61,8 +98,8 @@ pub record IsExpandedAt (problem : Instance) (views : List View) (k : ℕ) (view
   pub proper : IsProperSplit problem conflict
   pub early : tick_of conflict < split_ticks
   pub on_first : IsFirstConflict view.paths conflict
-  pub to_left : (child : View) × (slice_get views left ≡ Some child) × (child.constraints ≡ left_child_constraints view.constraints conflict)
-  pub to_right : (child : View) × (slice_get views (left + 1) ≡ Some child) × (child.constraints ≡ right_child_constraints view.constraints conflict)
+  pub to_left : (child : View) × (slice_get views left ≡ Some child) × (child.context ≡ left_child_context view.context conflict view.blocks)
+  pub to_right : (child : View) × (slice_get views (left + 1) ≡ Some child) × (child.context ≡ right_child_context view.context conflict view.blocks)
   pub later : k < left
 
 -- what is so of a node by its fate
@@ -83,57 +120,61 @@ IsEndFate Open = Unit {0}
 IsEndFate Dead = Unit {0}
 IsEndFate (Expanded conflict left) = ⊥
 
--- the form of a tree, with the numbers of its ends
+-- the form of a tree, with the numbers of its nodes
 pub data Shape : Type 0 where
-  Node : (left right : Shape) → Shape
+  Node : (k : ℕ) → (left right : Shape) → Shape
   End : (k : ℕ) → Shape
 
 -- how many splits a form has
 abbrev pub splits : Shape → ℕ
-splits (Node left right) = 1 + (splits left + splits right)
+splits (Node k left right) = 1 + (splits left + splits right)
 splits (End k) = 0
 
--- how often an end has this number
+-- how often a node has this number
 abbrev pub occurrences : ℕ → Shape → ℕ
-occurrences m (Node left right) = occurrences m left + occurrences m right
+occurrences m (Node k left right) = (if m == k then 1 else 0) + (occurrences m left + occurrences m right)
 occurrences m (End k) = if m == k then 1 else 0
 
 -- the node with its descendants has this form
 abbrev pub IsShape : List Fate → ℕ → Shape → Type 0
-IsShape fates k (Node left right) = (conflict : Conflict) × (a : ℕ) × (slice_get fates k ≡ Some (Expanded conflict a)) × IsShape fates a left × IsShape fates (a + 1) right
+IsShape fates k (Node m left right) = (same : k ≡ m) × (conflict : Conflict) × (a : ℕ) × (slice_get fates k ≡ Some (Expanded conflict a)) × IsShape fates a left × IsShape fates (a + 1) right
 IsShape fates k (End m) = (same : k ≡ m) × (fate : Fate) × (slice_get fates k ≡ Some fate) × IsEndFate fate
 
--- the nodes form one tree with so many splits, of which each end is an end
+-- the nodes form one tree with so many splits, in which each node stands once
 pub record IsOneTree (fates : List Fate) (count : ℕ) : Type 0 where
   pub shape : Shape
   pub is_shape : IsShape fates 0 shape
   pub exact : splits shape ≡ count
-  pub once : (k : ℕ) (fate : Fate) → slice_get fates k ≡ Some fate → IsEndFate fate → occurrences k shape ≡ 1
+  pub once : (k : ℕ) → k < length fates → occurrences k shape ≡ 1
 
 -- what holds of the nodes of a search after so many splits: each is as its fate says, and no open node is
 -- cheaper than one that was split
 pub record IsSearched (problem : Instance) (views : List View) (fates : List Fate) (count : ℕ) : Type 0 where
   pub lengths : length views ≡ length fates
-  pub first : (view : View) × (slice_get views 0 ≡ Some view) × (view.constraints ≡ root)
+  pub first : (view : View) × (slice_get views 0 ≡ Some view) × (view.context ≡ root)
   pub each : (k : ℕ) (view : View) (fate : Fate) → slice_get views k ≡ Some view → slice_get fates k ≡ Some fate → IsFate problem views k view fate
   pub least : (k m : ℕ) (view other : View) (fate : Fate) → slice_get views k ≡ Some view → slice_get views m ≡ Some other → slice_get fates k ≡ Some fate → IsExpandedFate fate → slice_get fates m ≡ Some Open → sum view.costs ≤ sum other.costs
   pub tree : IsOneTree fates count
-  pub low : (k : ℕ) (view : View) (i : ℕ) → slice_get views k ≡ Some view → AreBefore (count * free_cell_count problem.grid) (view.constraints.bars i)
+  pub low : (k : ℕ) (view : View) (i : ℕ) → slice_get views k ≡ Some view → AreBefore (count * free_cell_count problem.grid) (view.context.bars i)
 
--- the blocks of a node: one for each agent below the count that has entries
-pub record AreBlocksOf (count : ℕ) (listed : ℕ → List Entry) (blocks : List LabelBlock) : Type 0 where
-  pub different : AreOfDifferentAgents blocks
-  pub of_agents : All (λ block. block.agent < count) blocks
-  pub some : (i : ℕ) (block : LabelBlock) → block_of blocks i ≡ Some block → block.entries ≡ listed i
-  pub none : (i : ℕ) → i < count → block_of blocks i ≡ None → listed i ≡ []
-  pub rising : AllPairs (λ a b. a.agent < b.agent) blocks
-  pub filled : All (λ block. (block.entries ≡ listed block.agent) × (1 ≤ length block.entries) × (length block.entries < 2 ^ 64)) blocks
+-- these are the node's own blocks, and none is too long for memory
+abbrev pub AreBlocksOf : View → List LabelBlock → Type 0
+AreBlocksOf view blocks = (blocks ≡ view.blocks) × All (λ block. length block.entries < 2 ^ 64) blocks
 
--- the node with its descendants is this tree
-abbrev pub IsTreeAt : ℕ → List View → List Fate → ℕ → ConstraintTree → Type 0
-IsTreeAt agents views fates k (Split conflict left right) = (a : ℕ) × (slice_get fates k ≡ Some (Expanded conflict a)) × IsTreeAt agents views fates a left × IsTreeAt agents views fates (a + 1) right
-IsTreeAt agents views fates k (Leaf blocks) = (view : View) × (fate : Fate) × (slice_get views k ≡ Some view) × (slice_get fates k ≡ Some fate) × IsEndFate fate × AreBlocksOf agents view.entries blocks
-IsTreeAt agents views fates k (Clash i j) = ⊥
+-- these are the blocks of each node
+pub record AreBlockLists (views : List View) (lists : List (Vec LabelBlock Global)) : Type 0 where
+  pub lengths : length lists ≡ length views
+  pub each : (k : ℕ) (view : View) (blocks : Vec LabelBlock Global) → slice_get views k ≡ Some view → slice_get lists k ≡ Some blocks → AreBlocksOf view blocks.items
+
+-- these are the blocks of the node with this number
+abbrev pub AreBlocksAt : List View → ℕ → List LabelBlock → Type 0
+AreBlocksAt views k blocks = (view : View) → slice_get views k ≡ Some view → AreBlocksOf view blocks
+
+-- the node with its descendants is this tree: each split and each leaf has its node's own blocks
+abbrev pub IsTreeAt : List View → List Fate → ℕ → ConstraintTree → Type 0
+IsTreeAt views fates k (Split conflict blocks left right) = AreBlocksAt views k blocks × (a : ℕ) × (slice_get fates k ≡ Some (Expanded conflict a)) × IsTreeAt views fates a left × IsTreeAt views fates (a + 1) right
+IsTreeAt views fates k (Leaf blocks) = AreBlocksAt views k blocks × (fate : Fate) × (slice_get fates k ≡ Some fate) × IsEndFate fate
+IsTreeAt views fates k (Clash i j) = ⊥
 
 -- the two children of a node that was split are later nodes of the list, and their numbers fit in 32 bits
 abbrev pub AreChildrenLater : List Fate → Type 0

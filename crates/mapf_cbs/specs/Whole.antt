@@ -14,19 +14,19 @@ use Rattle.mapf_cbs.specs.declared.whole_node.WholeNode.{WholeNode}
 use Rattle.mapf_model.specs.declared.conflict.Conflict.{Conflict}
 use Rattle.mapf_cbs.specs.FirstConflicts.{IsFirstConflict}
 use Rattle.mapf_cbs.specs.GeneratedChild.{IsGeneratedChild}
-use Rattle.mapf_cbs.specs.Search.{View}
+use Rattle.mapf_cbs.specs.Search.{View, AreBlocksOf}
 use Rattle.mapf_cbs.specs.State.{IsState, IsPopped}
 
--- the agent's path, entries and bars
+-- the agent's path and bars
 pub record IsAgentPathAt (view : View) (i : ℕ) (agent_path : AgentPath) : Type 0 where
   pub path : slice_get view.paths i ≡ Some agent_path.path
-  pub entries : view.entries i ≡ agent_path.entries.items
-  pub bars : AreSameBars (view.constraints.bars i) agent_path.bars
+  pub bars : AreSameBars (view.context.bars i) agent_path.bars
 
 -- the node holds just what is found at it
 pub record IsWhole (node : WholeNode) (view : View) : Type 0 where
   pub count : length node.agent_paths.items ≡ length view.paths
   pub each : (i : ℕ) (agent_path : AgentPath) → slice_get node.agent_paths.items i ≡ Some agent_path → IsAgentPathAt view i agent_path
+  pub blocks : AreBlocksOf view node.blocks.items
   pub total : node.total ≡ sum view.costs
 
 -- so do all nodes
@@ -43,10 +43,9 @@ IsFirstAtWhole nodes k conflict = (node : WholeNode) (view : View) → slice_get
 abbrev pub HaveAgentPaths : List WholeNode → ℕ → Type 0
 HaveAgentPaths nodes agents = (k : ℕ) (node : WholeNode) → slice_get nodes k ≡ Some node → length node.agent_paths.items ≡ agents
 
--- the same path, entries and bars
+-- the same path and bars
 pub record IsCopy (agent_path copy : AgentPath) : Type 0 where
   pub path : copy.path ≡ agent_path.path
-  pub entries : copy.entries.items ≡ agent_path.entries.items
   pub bars : AreSameBars copy.bars agent_path.bars
 
 -- so it is with each two of one place
@@ -54,10 +53,10 @@ pub record AreCopies (agent_paths all : List AgentPath) : Type 0 where
   pub count : length all ≡ length agent_paths
   pub each : (i : ℕ) (copy : AgentPath) → slice_get all i ≡ Some copy → (agent_path : AgentPath) × (slice_get agent_paths i ≡ Some agent_path) × IsCopy agent_path copy
 
--- the path with what was found under these bars
+-- the path after what was found under these bars
 abbrev pub IsAfter : AgentPath → Found → List Bar → AgentPath → Type 0
-IsAfter before (Arrives path labels) bars agent_path = (agent_path.path ≡ path) × (agent_path.entries.items ≡ labels) × (agent_path.bars ≡ bars)
-IsAfter before (DeadEnd labels) bars agent_path = (agent_path.path ≡ before.path) × (agent_path.entries.items ≡ labels) × (agent_path.bars ≡ bars)
+IsAfter before (Arrives path labels) bars agent_path = (agent_path.path ≡ path) × (agent_path.bars ≡ bars)
+IsAfter before (DeadEnd labels) bars agent_path = (agent_path.path ≡ before.path) × (agent_path.bars ≡ bars)
 
 -- a whole child, live with this sum or dead
 pub record IsWholeChild (problem : Instance) (view : View) (constraint : Constraint) (node : WholeNode) (total : Option ℕ) : Type 0 where

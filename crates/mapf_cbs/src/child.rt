@@ -75,7 +75,7 @@ fn search_with<B: BarTable>(
     ensures { IfOk result (λ found.
         (who : Agent) → slice_get problem.now.agents constraint.agent ≡ Some who →
         HoldsOfNode nodes.now k (λ view. (bars : List Bar)
-        × AreSameBars bars (constraint.bar ∷ view.constraints.bars constraint.agent)
+        × AreSameBars bars (constraint.bar ∷ view.context.bars constraint.agent)
         × IsPathAnswer (task_of problem.now.grid who bars) found)) }
 {
     let who = problem.agents()[constraint.agent as usize];

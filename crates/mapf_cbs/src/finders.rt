@@ -7,8 +7,8 @@ use crate::node::Node;
 use mapf_model::OutOfMemory;
 use std::alloc::Global;
 
-/// For each agent the nearest node on the way up that bound it, so that its path and labels are found
-/// there. None is the root.
+/// For each agent the nearest node on the way up that bound it, so that its path is found there.
+/// None is the root.
 pub fn finders_at(
     alloc: Global,
     nodes: &[Node],

@@ -14,11 +14,12 @@ ghost use Rattle.mapf_cbs.specs.Whole.{IsFirstAtWhole, IsWhole, IsWholeChild, Is
 ghost use Rattle.mapf_cbs.specs.declared.whole_node.WholeNode.{WholeNode};
 
 use crate::answer::Answer;
+use crate::blocks::bound_blocks;
 use crate::child::{cost_of, new_total};
 use crate::solver::cause_to_stop;
 use crate::start::{Beginning, begin};
 use crate::whole_node::{WholeNode, agent_paths_with};
-use crate::whole_tree::{WholeChild, WholeTree, least_open};
+use crate::whole_tree::{WholeChild, WholeTree, blocks_of_whole, least_open};
 use crate::written::tree_items;
 use mapf_conflicts::first_conflict;
 use mapf_constraints::{BarTable, ListBars};
@@ -51,21 +52,23 @@ fn search_plain(
     requires root { IsRootStart problem.now tables.now paths.items }
     ensures { IfOk result (IsSearchAnswer problem.now limit) }
 {
-    let agents = problem.agents().len() as u32;
     let root = WholeNode::root(alloc, &paths)?;
     let mut tree = WholeTree::of(alloc, root)?;
     loop {
         let Some(k) = least_open(&tree.nodes, &tree.fates) else {
-            let items = tree_items(alloc, &tree.nodes, &tree.fates, agents)?;
+            let lists = blocks_of_whole(alloc, tree.nodes)?;
+            let items = tree_items(alloc, lists, &tree.fates)?;
             return Ok(Answer::Impossible { tree: items });
         };
         let plan = tree.nodes[k as usize].plan(alloc)?;
         let Some(conflict) = first_conflict(&plan) else {
-            let items = tree_items(alloc, &tree.nodes, &tree.fates, agents)?;
+            let lists = blocks_of_whole(alloc, tree.nodes)?;
+            let items = tree_items(alloc, lists, &tree.fates)?;
             return Ok(Answer::Found { plan, tree: items });
         };
         if let Some(cause) = cause_to_stop(&conflict, tree.splits, limit) {
-            let items = tree_items(alloc, &tree.nodes, &tree.fates, agents)?;
+            let lists = blocks_of_whole(alloc, tree.nodes)?;
+            let items = tree_items(alloc, lists, &tree.fates)?;
             return Ok(Answer::Limit { cause, tree: items });
         }
         split_whole(alloc, problem, tables, &mut tree, k, &conflict)?;
@@ -146,10 +149,12 @@ fn child_of(
     let total = new_total(&found, goal, node.total - u64::from(old));
     let agent_path = node.agent_paths[constraint.agent as usize].after(alloc, &found, bars)?;
     let agent_paths = agent_paths_with(alloc, &node.agent_paths, constraint.agent, agent_path)?;
+    let blocks = bound_blocks(alloc, constraint.agent, found)?;
     let sum = total.unwrap_or(node.total);
     Ok(WholeChild {
         node: WholeNode {
             agent_paths,
+            blocks,
             total: sum,
         },
         total,

@@ -3,11 +3,11 @@
 #![tactic(auto)]
 
 mod answer;
+mod blocks;
 mod child;
 mod clash;
 mod finders;
 pub mod laws;
-mod leaves;
 mod node;
 mod search_tree;
 mod solver;

@@ -9,6 +9,7 @@ ghost use Rattle.mapf_cbs.specs.Start.{IsRootStart};
 ghost use Rattle.mapf_cbs.specs.State.{IsPopped, IsState, IsCauseToStop};
 
 use crate::answer::Answer;
+use crate::blocks::blocks_of_all;
 use crate::child::child;
 use crate::search_tree::{SearchTree, take_least};
 use crate::start::{Beginning, begin, total_of};
@@ -67,16 +68,19 @@ fn search_from<B: BarTable>(
     let mut search = SearchTree::of(alloc, paths, total)?;
     loop {
         let Some((total, k)) = take_least(&mut search.waiting) else {
-            let tree = tree_items(alloc, &search.nodes, &search.fates, agents)?;
+            let lists = blocks_of_all(alloc, search.nodes)?;
+            let tree = tree_items(alloc, lists, &search.fates)?;
             return Ok(Answer::Impossible { tree });
         };
         let plan = plan_at(alloc, &search.nodes, k, agents)?;
         let Some(conflict) = first_conflict(&plan) else {
-            let tree = tree_items(alloc, &search.nodes, &search.fates, agents)?;
+            let lists = blocks_of_all(alloc, search.nodes)?;
+            let tree = tree_items(alloc, lists, &search.fates)?;
             return Ok(Answer::Found { plan, tree });
         };
         if let Some(cause) = cause_to_stop(&conflict, search.splits, limit) {
-            let tree = tree_items(alloc, &search.nodes, &search.fates, agents)?;
+            let lists = blocks_of_all(alloc, search.nodes)?;
+            let tree = tree_items(alloc, lists, &search.fates)?;
             return Ok(Answer::Limit { cause, tree });
         }
         split::<B>(alloc, problem, tables, &mut search, k, total, &conflict)?;

@@ -65,27 +65,35 @@ fn block_text(alloc: Global, block: &Block) -> Result<String, AllocError> {
     Ok(text)
 }
 
-fn leaf_text(alloc: Global, blocks: &[Block]) -> Result<String, AllocError> {
-    let mut text = String::from_str(alloc, "leaf")?;
-    for block in blocks {
-        text.push_str(&block_text(alloc, block)?)?;
-    }
-    Ok(text)
-}
-
-fn item_text(alloc: Global, item: &Item) -> Result<String, AllocError> {
+fn node_text(alloc: Global, item: &Item) -> Result<String, AllocError> {
     match item {
-        Item::Vertex { i, j, cell, tick } => format!(in alloc; "vertex {i} {j} {} {tick}", cell.0),
+        Item::Vertex {
+            i,
+            j,
+            cell,
+            tick,
+            ..
+        } => format!(in alloc; "vertex {i} {j} {} {tick}", cell.0),
         Item::Swap {
             i,
             j,
             from,
             to,
             tick,
+            ..
         } => format!(in alloc; "swap {i} {j} {} {} {tick}", from.0, to.0),
-        Item::Leaf(blocks) => leaf_text(alloc, blocks),
+        Item::Leaf(_) => String::from_str(alloc, "leaf"),
         Item::Clash { i, j } => format!(in alloc; "clash {i} {j}"),
     }
+}
+
+/// The node and its blocks.
+fn item_text(alloc: Global, item: &Item) -> Result<String, AllocError> {
+    let mut text = node_text(alloc, item)?;
+    for block in item.blocks() {
+        text.push_str(&block_text(alloc, block)?)?;
+    }
+    Ok(text)
 }
 
 fn tree_text(alloc: Global, tree: &[Item]) -> Result<String, AllocError> {
@@ -171,11 +179,11 @@ fn lets_one_agent_wait_for_another(rt: HostRuntime) -> Result<(), Fail> {
 }
 
 // Agent 1 has to leave its goal for agent 0 and to return.
-const PASSING: &str = "found: 0 1 2: 1 4 1 / vertex 0 1 1 1 / vertex 0 1 1 2 / vertex 0 1 1 3 \
-    / leaf 0: 0@0=5 0@1=4 0@2=3 \
-    / leaf 0: 0@0=4 0@1=3 1: 1@0=4 0@1=3 1@1=3 2@1=3 4@1=3 0@2=2 1@2=2 2@2=2 4@2=2 \
-    / leaf 0: 0@0=3 1: 1@0=3 0@1=2 1@1=2 2@1=2 4@1=2 \
-    / swap 0 1 0 1 0 / leaf 0: 0@0=3 1: 1@0=2 / swap 0 1 1 2 1 / leaf 0: 0@0=3 1@1=2 1: 1@0=2 \
+const PASSING: &str = "found: 0 1 2: 1 4 1 / vertex 0 1 1 1 / vertex 0 1 1 2 0: 0@0=3 \
+    / vertex 0 1 1 3 0: 0@0=4 0@1=3 / leaf 0: 0@0=5 0@1=4 0@2=3 \
+    / leaf 1: 1@0=4 0@1=3 1@1=3 2@1=3 4@1=3 0@2=2 1@2=2 2@2=2 4@2=2 \
+    / leaf 1: 1@0=3 0@1=2 1@1=2 2@1=2 4@1=2 \
+    / swap 0 1 0 1 0 1: 1@0=2 / leaf 0: 0@0=3 / swap 0 1 1 2 1 1: 1@0=2 / leaf 0: 0@0=3 1@1=2 \
     / leaf 1: 1@0=2";
 
 #[test]
@@ -188,32 +196,41 @@ fn lets_an_agent_pass(rt: HostRuntime) -> Result<(), Fail> {
     Ok(())
 }
 
-/// The label of an agent's start at a leaf: its block's entry at tick 0, else its distance.
-fn start_label(blocks: &[Block], agent: u32, distance: u32) -> u32 {
+/// The label of an agent's start at a node: its block's entry at tick 0, else its distance, and where
+/// it has no block there the label that holds above.
+fn start_label(blocks: &[Block], agent: u32, distance: u32, above: u32) -> u32 {
     for block in blocks {
-        if block.agent == agent
-            && let Some(
-                Entry {
-                    tick: 0,
-                    label: Label::Ticks(ticks),
-                    ..
-                },
-            ) = block.entries.first()
-        {
-            return *ticks;
+        if block.agent == agent {
+            return match block.entries.first() {
+                Some(
+                    Entry {
+                        tick: 0,
+                        label: Label::Ticks(ticks),
+                        ..
+                    },
+                ) => *ticks,
+                _ => distance,
+            };
         }
     }
-    distance
+    above
 }
 
 /// The sums of costs of the leaves, for the agent that goes two cells and the one that is at its goal.
 fn leaf_sums(alloc: Global, tree: &[Item]) -> Result<String, AllocError> {
     let mut text = String::new(alloc);
+    let mut owed = Vec::new(alloc);
+    owed.push((2, 0))?;
     for item in tree {
-        if let Item::Leaf(blocks) = item {
-            let passing = u64::from(start_label(blocks.as_slice(), 0, 2));
-            let waiting = u64::from(start_label(blocks.as_slice(), 1, 0));
-            text.push_str(&format!(in alloc; " {}", passing + waiting)?)?;
+        let (passing_above, waiting_above) = owed.pop().unwrap_or((0, 0));
+        let passing = start_label(item.blocks(), 0, 2, passing_above);
+        let waiting = start_label(item.blocks(), 1, 0, waiting_above);
+        if item.conflict().is_some() {
+            owed.push((passing, waiting))?;
+            owed.push((passing, waiting))?;
+        } else {
+            let sum = u64::from(passing) + u64::from(waiting);
+            text.push_str(&format!(in alloc; " {sum}")?)?;
         }
     }
     Ok(text)
@@ -250,8 +267,8 @@ fn finds_the_sum_of_each_node(rt: HostRuntime) -> Result<(), Fail> {
 #[test]
 fn stops_where_two_agents_block_each_other(rt: HostRuntime) -> Result<(), Fail> {
     let ends = [(0, 1), (1, 0)].as_slice();
-    let expected = "limit 3 / swap 0 1 0 1 0 / vertex 0 1 0 1 / leaf 0: 0@0=inf \
-        / leaf 0: 0@0=2 1: 1@0=2 / vertex 0 1 1 1 / leaf 0: 0@0=2 1: 1@0=2 / leaf 1: 1@0=inf";
+    let expected = "limit 3 / swap 0 1 0 1 0 / vertex 0 1 0 1 0: 0@0=2 / leaf 0: 0@0=inf \
+        / leaf 1: 1@0=2 / vertex 0 1 1 1 1: 1@0=2 / leaf 0: 0@0=2 / leaf 1: 1@0=inf";
     solves(&rt, rt.alloc(), "..", ends, 3, expected)
 }
 

@@ -1,4 +1,4 @@
-ghost use Rattle.std.specs.Prelude.{◌≡◌, ◌<◌, ◌≤◌, ℕ, [], Some, length, slice_get, All, IfOk, IfSome, IfNone};
+ghost use Rattle.std.specs.Prelude.{◌≡◌, ◌<◌, ◌≤◌, ℕ, Some, length, slice_get, All, IfOk};
 ghost use Rattle.mapf_model.specs.Limits.{most_agents, most_path_cells};
 ghost use Rattle.mapf_model.specs.Laws.{AreSameBars};
 ghost use Rattle.mapf_cbs.specs.Nodes.{AreNodesFor, HaveTableBars, HoldsOfNode};
@@ -7,7 +7,7 @@ use crate::finders::finders_at;
 use crate::node::Node;
 use mapf_constraints::BarTable;
 use mapf_model::{OutOfMemory, Path, Plan};
-use mapf_spacetime::{Found, Labels};
+use mapf_spacetime::Found;
 use std::alloc::Global;
 
 /// The agent's path at a node: that of the nearest node on the way up that found one.
@@ -37,35 +37,6 @@ pub fn path_at(nodes: &[Node], k: u32, agent: u32) -> &Path
     }
 }
 
-/// The agent's labels at a node: those of the nearest node on the way up that bound it, None where
-/// it isn't bound.
-pub fn labels_at(nodes: &[Node], k: u32, agent: u32) -> Option<&Labels>
-    requires nodes { AreNodesFor agent nodes.now }
-    requires inside { k < length nodes.now }
-    ensures some { IfSome result (λ labels. HoldsOfNode nodes.now k (λ view. view.entries agent ≡ labels.now)) }
-    ensures none { IfNone result (HoldsOfNode nodes.now k (λ view. view.entries agent ≡ [])) }
-{
-    let mut at = k;
-    loop {
-        match &nodes[at as usize] {
-            Node::Root { .. } => return None,
-            Node::Child {
-                parent,
-                constraint,
-                found,
-            } => {
-                if constraint.agent == agent {
-                    match found {
-                        Found::Arrives { labels, .. } => return Some(labels),
-                        Found::Dead { labels } => return Some(labels),
-                    }
-                }
-                at = *parent;
-            }
-        }
-    }
-}
-
 /// The agent's bars at a node: those of all nodes on the way up that bound it.
 pub fn bars_at<B: BarTable>(
     alloc: Global,
@@ -77,7 +48,7 @@ pub fn bars_at<B: BarTable>(
     requires bars { HaveTableBars nodes.now }
     requires inside { k < length nodes.now }
     ensures { IfOk result (λ table.
-        HoldsOfNode nodes.now k (λ view. AreSameBars (view.constraints.bars agent) (B.bars table))) }
+        HoldsOfNode nodes.now k (λ view. AreSameBars (view.context.bars agent) (B.bars table))) }
 {
     let mut table = B::empty(alloc);
     let mut at = k;

@@ -2,13 +2,13 @@ ghost use Rattle.std.specs.Prelude.{◌≡◌, ◌*◌, ◌-◌, ◌^◌, ◌<�
 ghost use Rattle.mapf_model.specs.Laws.{AreSameBars};
 ghost use Rattle.mapf_model.specs.Limits.{most_agents, most_path_cells};
 ghost use Rattle.mapf_cbs.specs.Nodes.{IsRootView};
-ghost use Rattle.mapf_cbs.specs.Search.{View, AreBlocksOf};
+ghost use Rattle.mapf_cbs.specs.Search.{View};
 ghost use Rattle.mapf_cbs.specs.Whole.{IsWhole, IsCopy, AreCopies, IsAfter};
 
 use crate::start::total_of;
 use crate::walks::copied;
 use mapf_constraints::{BarTable, ListBars};
-use mapf_model::{Block, Entry, OutOfMemory, Path, Plan};
+use mapf_model::{Block, OutOfMemory, Path, Plan};
 use mapf_spacetime::Found;
 use std::alloc::Global;
 
@@ -16,7 +16,6 @@ use std::alloc::Global;
 #[derive(Debug, Drop)]
 pub struct AgentPath {
     pub path: Path,
-    pub entries: Vec<Entry>,
     pub bars: ListBars,
 }
 
@@ -25,6 +24,8 @@ pub struct AgentPath {
 pub struct WholeNode {
     // One for each agent.
     pub agent_paths: Vec<AgentPath>,
+    // Of the agent that was bound when the node was made, where it has labels.
+    pub blocks: Vec<Block>,
     // The sum of the paths' costs.
     pub total: u64,
 }
@@ -35,7 +36,6 @@ impl AgentPath {
     {
         Ok(AgentPath {
             path: copied(alloc, &self.path)?,
-            entries: Vec::from_slice(alloc, &self.entries)?,
             bars: self.bars.copy()?,
         })
     }
@@ -50,14 +50,12 @@ impl AgentPath {
         ensures { IfOk result (IsAfter self.now found.now bars) }
     {
         match found {
-            Found::Arrives { path, labels } => Ok(AgentPath {
+            Found::Arrives { path, .. } => Ok(AgentPath {
                 path: copied(alloc, path)?,
-                entries: Vec::from_slice(alloc, labels.entries())?,
                 bars,
             }),
-            Found::Dead { labels } => Ok(AgentPath {
+            Found::Dead { .. } => Ok(AgentPath {
                 path: copied(alloc, &self.path)?,
-                entries: Vec::from_slice(alloc, labels.entries())?,
                 bars,
             }),
         }
@@ -104,11 +102,14 @@ impl WholeNode {
         for i in 0..paths.len() {
             agent_paths.push(AgentPath {
                 path: copied(alloc, &paths[i])?,
-                entries: Vec::new(alloc),
                 bars: ListBars::empty(alloc),
             })?;
         }
-        Ok(WholeNode { agent_paths, total })
+        Ok(WholeNode {
+            agent_paths,
+            blocks: Vec::new(alloc),
+            total,
+        })
     }
 
     /// The paths of the node.
@@ -125,21 +126,5 @@ impl WholeNode {
             Some(plan) => Ok(plan),
             None => unreachable!(),
         }
-    }
-
-    /// One block for each agent that has labels at the node.
-    pub fn blocks(&self, alloc: Global, agents: u32) -> Result<Vec<Block>, OutOfMemory>
-        requires { length self.now.agent_paths.items ≡ agents }
-        ensures { IfOk result (λ blocks.
-            (view : View) → IsWhole self.now view → AreBlocksOf agents view.entries blocks.items) }
-    {
-        let mut blocks = Vec::new(alloc);
-        for agent in 0..agents {
-            let entries = Vec::from_slice(alloc, &self.agent_paths[agent as usize].entries)?;
-            if !entries.is_empty() {
-                blocks.push(Block { agent, entries })?;
-            }
-        }
-        Ok(blocks)
     }
 }

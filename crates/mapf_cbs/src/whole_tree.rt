@@ -1,9 +1,8 @@
-ghost use Rattle.std.specs.Prelude.{◌≡◌, ◌+◌, ◌^◌, ◌<◌, ◌∷◌, [], ◌++◌, length, IfOk, OnOk, IsTrue, ◌↔◌};
+ghost use Rattle.std.specs.Prelude.{List, ◌≡◌, ◌+◌, ◌^◌, ◌<◌, ◌∷◌, [], ◌++◌, length, IfOk, OnOk, IsTrue, ◌↔◌};
 ghost use Rattle.mapf_cbs.specs.State.{split_fates};
-ghost use Rattle.mapf_cbs.specs.Search.{View};
-ghost use Rattle.mapf_cbs.specs.Whole.{AreWhole, HaveAgentPaths, IsLeastBelow};
+ghost use Rattle.mapf_cbs.specs.Search.{View, AreBlockLists};
+ghost use Rattle.mapf_cbs.specs.Whole.{AreWhole, IsLeastBelow};
 
-use crate::leaves::Leaves;
 use crate::node::Fate;
 use crate::search_tree::expand;
 use crate::whole_node::WholeNode;
@@ -25,18 +24,6 @@ pub struct WholeTree {
     pub fates: Vec<Fate>,
     // How many nodes were split.
     pub splits: u32,
-}
-
-impl Leaves for Vec<WholeNode> {
-    ghost are_views = { λ nodes views. AreWhole nodes.items views };
-
-    ghost are_for = { λ nodes agents. HaveAgentPaths nodes.items agents };
-
-    ghost count = { λ nodes. length nodes.items };
-
-    fn blocks_at(&self, alloc: Global, k: u32, agents: u32) -> Result<Vec<Block>, OutOfMemory> {
-        self[k as usize].blocks(alloc, agents)
-    }
 }
 
 impl WholeTree {
@@ -83,6 +70,18 @@ impl WholeTree {
         self.splits += 1;
         Ok(())
     }
+}
+
+/// The blocks of each node, moved out of the nodes.
+pub fn blocks_of_whole(alloc: Global, nodes: Vec<WholeNode>) -> Result<Vec<Vec<Block>>, OutOfMemory>
+    ensures { IfOk result (λ lists.
+        (views : List View) → AreWhole nodes.items views → AreBlockLists views lists.items) }
+{
+    let mut lists = Vec::new(alloc);
+    for node in nodes {
+        lists.push(node.blocks)?;
+    }
+    Ok(lists)
 }
 
 /// The open node of least sum, the oldest of these. None where no node is open.

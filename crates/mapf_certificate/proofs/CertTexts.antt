@@ -11,9 +11,11 @@ use Rattle.mapf_model.specs.Grid.{GridMap}
 use Rattle.mapf_model.specs.Printed.{IsConflictInRange, IsBlockInRange, AreBlocksInRange, IsTreeInRange}
 use Rattle.mapf_model.specs.Tree.{ConstraintTree, Split, Leaf, Clash, Node, nodes_of, nodes_of_all}
 use Rattle.mapf_model.proofs.ItemLemmas.{cut}
+use Rattle.mapf_certificate.specs.declared.version.Version.{Version}
+use Rattle.mapf_certificate.specs.declared.version.Version.TheVariants.{One, Two}
 use Rattle.mapf_certificate.specs.declared.sizes.Sizes.{Sizes}
 use Rattle.mapf_certificate.specs.Lines.{grid_of, grid_for}
-use Rattle.mapf_certificate.specs.Certificates.{header_text, rest_text, cert_text, IsRest, SpellsCert, SpellsOneCert}
+use Rattle.mapf_certificate.specs.Certificates.{header_text, rest_text, cert_text, IsCertTree, IsRest, SpellsCert, SpellsOneCert}
 use Rattle.mapf_certificate.specs.Reading.{Reading}
 use Rattle.mapf_certificate.specs.CertReading.{IsCertText, AwaitsCert, trees_owed_after}
 use Rattle.mapf_certificate.proofs.Fields.{same_some}
@@ -48,68 +50,81 @@ module _ (a b : GridMap) (same : AreSized a b) (agents : ℕ) where
 
   -- only the size of the grid matters
   pub tree_moved : (tree : ConstraintTree) → IsTreeInRange a agents tree → IsTreeInRange b agents tree
-  tree_moved (Split conflict left right) (p, q, r) = (conflict_moved conflict p, tree_moved left q, tree_moved right r)
+  tree_moved (Split conflict blocks left right) (p, are, q, r) = (conflict_moved conflict p, blocks_moved blocks are, tree_moved left q, tree_moved right r)
   tree_moved (Leaf blocks) is = blocks_moved blocks is
   tree_moved (Clash i j) is = is
 
 -- a certificate's text is that of one tree
-pub spells_from_text : (grid other : GridMap) (agents : ℕ) (claim : Claim) (nodes : List Node) (bytes : List ℕ) → AreSized other grid → IsCertText other 1 agents claim nodes bytes
-    → (tree : ConstraintTree) × SpellsCert grid bytes agents claim tree × (nodes ≡ nodes_of tree)
-spells_from_text grid other agents claim nodes bytes sized text = by text.rest.trees text.rest.count text.rest.in_range text.rest.same
+pub spells_from_text : (grid other : GridMap) (version : Version) (agents : ℕ) (claim : Claim) (nodes : List Node) (bytes : List ℕ) → AreSized other grid → IsCertText other 1 version agents claim nodes bytes
+    → (tree : ConstraintTree) × SpellsCert grid bytes version agents claim tree × (nodes ≡ nodes_of tree)
+spells_from_text grid other version agents claim nodes bytes sized text = by text.rest.trees text.rest.count text.rest.in_range text.rest.same
   where
-    by : (trees : List ConstraintTree) → length trees ≡ 1 → All (IsTreeInRange other agents) trees → nodes ≡ nodes_of_all trees → (tree : ConstraintTree) × SpellsCert grid bytes agents claim tree × (nodes ≡ nodes_of tree)
+    by : (trees : List ConstraintTree) → length trees ≡ 1 → All (IsCertTree version other agents) trees → nodes ≡ nodes_of_all trees → (tree : ConstraintTree) × SpellsCert grid bytes version agents claim tree × (nodes ≡ nodes_of tree)
     by [] count all same = absurd (omega arith)
     by (tree ∷ []) count all same =
-        let one : nodes ≡ nodes_of tree = same ∙ append-nil (nodes_of tree) in (
+        let one : nodes ≡ nodes_of tree = same ∙ append-nil (nodes_of tree) in
+        let (ranged, may) = All-head (IsCertTree version other agents) tree [] all in (
           tree,
           record {
             agents_in_range = text.agents_in_range;
             claim_in_range = text.claim_in_range;
-            tree_in_range = tree_moved other grid sized agents tree (All-head (IsTreeInRange other agents) tree [] all);
-            spelled = text.spelled ∙ ap (λ l. header_text other.width agents claim ++ l) (text.rest.spelled ∙ ap (rest_text other.width) one) ∙ ap (λ w. cert_text w agents claim (nodes_of tree)) sized.width;
+            tree_in_range = tree_moved other grid sized agents tree ranged;
+            tree_of_version = may;
+            spelled = text.spelled ∙ ap (λ l. header_text version other.width agents claim ++ l) (text.rest.spelled ∙ ap (rest_text version other.width) one) ∙ ap (λ w. cert_text version w agents claim (nodes_of tree)) sized.width;
           },
           one,
         )
     by (tree ∷ more ∷ trees) count all same = absurd (omega arith)
 
-pub text_from_spells : (grid other : GridMap) (agents : ℕ) (claim : Claim) (tree : ConstraintTree) (bytes : List ℕ) → AreSized grid other → SpellsCert grid bytes agents claim tree → IsCertText other 1 agents claim (nodes_of tree) bytes
-text_from_spells grid other agents claim tree bytes sized spells = record {
+pub text_from_spells : (grid other : GridMap) (version : Version) (agents : ℕ) (claim : Claim) (tree : ConstraintTree) (bytes : List ℕ) → AreSized grid other → SpellsCert grid bytes version agents claim tree → IsCertText other 1 version agents claim (nodes_of tree) bytes
+text_from_spells grid other version agents claim tree bytes sized spells = record {
   agents_in_range = spells.agents_in_range;
   claim_in_range = spells.claim_in_range;
-  after = rest_text other.width (nodes_of tree);
-  spelled = spells.spelled ∙ ap (λ w. cert_text w agents claim (nodes_of tree)) sized.width;
+  after = rest_text version other.width (nodes_of tree);
+  spelled = spells.spelled ∙ ap (λ w. cert_text version w agents claim (nodes_of tree)) sized.width;
   rest = record {
     trees = tree ∷ [];
     count = refl;
-    in_range = All-cons (IsTreeInRange other agents) tree [] (tree_moved grid other sized agents tree spells.tree_in_range) (All-nil (IsTreeInRange other agents));
+    in_range = All-cons (IsCertTree version other agents) tree [] (tree_moved grid other sized agents tree spells.tree_in_range, spells.tree_of_version) (All-nil (IsCertTree version other agents));
     same = sym (append-nil (nodes_of tree));
     spelled = refl;
   };
 }
 
+-- what a certificate of version 1 spells in version 2
+pub converted : (grid : GridMap) (old new : List ℕ) (agents count : ℕ) (claim says : Claim) (tree : ConstraintTree) (nodes : List Node) → SpellsCert grid old One agents claim tree → count ≡ agents → says ≡ claim → nodes ≡ nodes_of tree
+    → new ≡ cert_text Two grid.width count says nodes → SpellsCert grid new Two agents claim tree
+converted grid old new agents count claim says tree nodes spells p q r e = record {
+  agents_in_range = spells.agents_in_range;
+  claim_in_range = spells.claim_in_range;
+  tree_in_range = spells.tree_in_range;
+  tree_of_version = tt;
+  spelled = e ∙ ap (λ (n : ℕ). cert_text Two grid.width n says nodes) p ∙ ap (λ (c : Claim). cert_text Two grid.width agents c nodes) q ∙ ap (cert_text Two grid.width agents claim) r;
+}
+
 -- no bytes spell two rests
-pub same_rest : (sizes : Sizes) (owed : ℕ) (ns ms : List Node) (t u : List ℕ) → IsRest (grid_for sizes) sizes.agents owed ns t → IsRest (grid_for sizes) sizes.agents owed ms u → t ≡ u → ns ≡ ms
+pub same_rest : (sizes : Sizes) (owed : ℕ) (ns ms : List Node) (t u : List ℕ) → IsRest sizes.version (grid_for sizes) sizes.agents owed ns t → IsRest sizes.version (grid_for sizes) sizes.agents owed ms u → t ≡ u → ns ≡ ms
 same_rest sizes owed [] ms t u p q e = elim (cases_lt 0 owed) [
   | inl some ↦
-      let starts = rest_starts (grid_for sizes) sizes.agents owed [] t p (omega arith) in
+      let starts = rest_starts sizes.version (grid_for sizes) sizes.agents owed [] t p (omega arith) in
       by starts.node starts.others starts.same
-  | inr none ↦ sym (rest_ends (grid_for sizes) sizes.agents owed ms u q (omega arith)).0
+  | inr none ↦ sym (rest_ends sizes.version (grid_for sizes) sizes.agents owed ms u q (omega arith)).0
 ]
   where
     by : (node : Node) (others : List Node) → [] ≡ node ∷ others → [] ≡ ms
     by node others wrong = cc
 same_rest sizes owed (n ∷ ns) ms t u p q e = elim (cases_lt 0 owed) [
   | inl some ↦
-      let here = rest_starts (grid_for sizes) sizes.agents owed (n ∷ ns) t p (omega arith) in
-      let there = rest_starts (grid_for sizes) sizes.agents owed ms u q (omega arith) in
+      let here = rest_starts sizes.version (grid_for sizes) sizes.agents owed (n ∷ ns) t p (omega arith) in
+      let there = rest_starts sizes.version (grid_for sizes) sizes.agents owed ms u q (omega arith) in
       let (node, tail) = (nodes_apart sizes).apart here.node there.node here.after there.after here.in_range there.in_range (sym here.spelled ∙ e ∙ there.spelled) in
       let head : here.node ≡ n = head_same here.node n here.others ns here.same in
       let rest : here.others ≡ ns = tail_same here.node n here.others ns here.same in
-      let mine = subst (λ (l : List Node). IsRest (grid_for sizes) sizes.agents (trees_owed_after owed here.node) l here.after) rest here.rest in
-      let other = subst (λ (m : Node). IsRest (grid_for sizes) sizes.agents (trees_owed_after owed m) there.others there.after) (sym node) there.rest in
+      let mine = subst (λ (l : List Node). IsRest sizes.version (grid_for sizes) sizes.agents (trees_owed_after owed here.node) l here.after) rest here.rest in
+      let other = subst (λ (m : Node). IsRest sizes.version (grid_for sizes) sizes.agents (trees_owed_after owed m) there.others there.after) (sym node) there.rest in
       let more = same_rest sizes (trees_owed_after owed here.node) ns there.others here.after there.after mine other tail in
       ap (λ (m : Node). m ∷ ns) (sym head ∙ node) ∙ ap (λ l. there.node ∷ l) more ∙ sym there.same
-  | inr none ↦ absurd (not_none n ns (rest_ends (grid_for sizes) sizes.agents owed (n ∷ ns) t p (omega arith)).0)
+  | inr none ↦ absurd (not_none n ns (rest_ends sizes.version (grid_for sizes) sizes.agents owed (n ∷ ns) t p (omega arith)).0)
 ]
   where
     head_same : (x y : Node) (xs ys : List Node) → y ∷ ys ≡ x ∷ xs → x ≡ y
@@ -123,16 +138,16 @@ same_rest sizes owed (n ∷ ns) ms t u p q e = elim (cases_lt 0 owed) [
 
 -- no bytes spell two certificates
 pub one_cert : SpellsOneCert
-one_cert grid bytes agents agents' claim claim' tree tree' is p q =
+one_cert grid bytes version version' agents agents' claim claim' tree tree' is p q =
     let (narrow, narrow', low, low', free) = is in
-    let sizes : Sizes = record { width = grid.width; height = grid.height; agents = agents; narrow = (narrow, narrow'); low = (low, low'); few = p.agents_in_range } in
+    let sizes : Sizes = record { version = version; width = grid.width; height = grid.height; agents = agents; narrow = (narrow, narrow'); low = (low, low'); few = p.agents_in_range } in
     let sized : AreSized grid (grid_for sizes) = record { width = refl; height = refl } in
-    let first = text_from_spells grid (grid_for sizes) agents claim tree bytes sized p in
-    let second = text_from_spells grid (grid_for sizes) agents' claim' tree' bytes sized q in
-    let (counts, says, rest) = same_header grid.width agents agents' claim claim' first.after second.after p.agents_in_range q.agents_in_range p.claim_in_range q.claim_in_range (sym first.spelled ∙ second.spelled) in
-    let other = subst (λ (n : ℕ). IsRest (grid_for sizes) n 1 (nodes_of tree') second.after) (sym counts) second.rest in
+    let first = text_from_spells grid (grid_for sizes) version agents claim tree bytes sized p in
+    let second = text_from_spells grid (grid_for sizes) version' agents' claim' tree' bytes sized q in
+    let (same, counts, says, rest) = same_header version version' grid.width agents agents' claim claim' first.after second.after p.agents_in_range q.agents_in_range p.claim_in_range q.claim_in_range (sym first.spelled ∙ second.spelled) in
+    let other = subst (λ (n : ℕ). IsRest version (grid_for sizes) n 1 (nodes_of tree') second.after) (sym counts) (subst (λ (v : Version). IsRest v (grid_for sizes) agents' 1 (nodes_of tree') second.after) (sym same) second.rest) in
     let nodes = same_rest sizes 1 (nodes_of tree) (nodes_of tree') first.after second.after first.rest other rest in
-    (counts, says, (cut tree tree' [] [] (ap (λ l. l ++ []) nodes)).0)
+    (same, counts, says, (cut tree tree' [] [] (ap (λ l. l ++ []) nodes)).0)
 
 -- a reader that was just opened
 abbrev pub opened : ℕ → ℕ → ℕ → Reading
@@ -140,6 +155,7 @@ opened width height limit = record {
   width = width;
   height = height;
   buffer = record { bytes = []; left = limit };
+  version = One;
   header = None;
   fault = None;
   is_whole = false;
@@ -147,18 +163,18 @@ opened width height limit = record {
 }
 
 -- what an opened reader awaits is a certificate that the bytes of its source spell
-pub spells_from_awaits : (grid : GridMap) (width height limit agents : ℕ) (claim : Claim) (nodes : List Node) (remaining : Option (List ℕ)) (bytes : List ℕ) (r : Reading) → r ≡ opened width height limit → width ≡ grid.width → height ≡ grid.height
-    → remaining ≡ Some bytes → AwaitsCert remaining r agents claim nodes → (tree : ConstraintTree) × SpellsCert grid bytes agents claim tree × (nodes ≡ nodes_of tree)
-spells_from_awaits grid width height limit agents claim nodes remaining bytes r new wide high known awaits =
-    let first = subst (λ (q : Reading). AwaitsCert remaining q agents claim nodes) new awaits in
+pub spells_from_awaits : (grid : GridMap) (width height limit : ℕ) (version : Version) (agents : ℕ) (claim : Claim) (nodes : List Node) (remaining : Option (List ℕ)) (bytes : List ℕ) (r : Reading) → r ≡ opened width height limit → width ≡ grid.width → height ≡ grid.height
+    → remaining ≡ Some bytes → AwaitsCert remaining r version agents claim nodes → (tree : ConstraintTree) × SpellsCert grid bytes version agents claim tree × (nodes ≡ nodes_of tree)
+spells_from_awaits grid width height limit version agents claim nodes remaining bytes r new wide high known awaits =
+    let first = subst (λ (q : Reading). AwaitsCert remaining q version agents claim nodes) new awaits in
     let one : first.bytes ≡ bytes = same_some first.bytes bytes (sym first.known ∙ known) in
-    spells_from_text grid (grid_of width height) agents claim nodes bytes (record { width = wide; height = high }) (subst (IsCertText (grid_of width height) 1 agents claim nodes) one first.text)
+    spells_from_text grid (grid_of width height) version agents claim nodes bytes (record { width = wide; height = high }) (subst (IsCertText (grid_of width height) 1 version agents claim nodes) one first.text)
 
-pub awaits_from_spells : (grid : GridMap) (width height limit agents : ℕ) (claim : Claim) (tree : ConstraintTree) (remaining : Option (List ℕ)) (bytes : List ℕ) (r : Reading) → r ≡ opened width height limit → width ≡ grid.width → height ≡ grid.height
-    → remaining ≡ Some bytes → SpellsCert grid bytes agents claim tree → AwaitsCert remaining r agents claim (nodes_of tree)
-awaits_from_spells grid width height limit agents claim tree remaining bytes r new wide high known spells =
-    subst (λ (q : Reading). AwaitsCert remaining q agents claim (nodes_of tree)) (sym new) (record {
+pub awaits_from_spells : (grid : GridMap) (width height limit : ℕ) (version : Version) (agents : ℕ) (claim : Claim) (tree : ConstraintTree) (remaining : Option (List ℕ)) (bytes : List ℕ) (r : Reading) → r ≡ opened width height limit → width ≡ grid.width → height ≡ grid.height
+    → remaining ≡ Some bytes → SpellsCert grid bytes version agents claim tree → AwaitsCert remaining r version agents claim (nodes_of tree)
+awaits_from_spells grid width height limit version agents claim tree remaining bytes r new wide high known spells =
+    subst (λ (q : Reading). AwaitsCert remaining q version agents claim (nodes_of tree)) (sym new) (record {
       bytes = bytes;
       known = known;
-      text = text_from_spells grid (grid_of width height) agents claim tree bytes (record { width = sym wide; height = sym high }) spells;
+      text = text_from_spells grid (grid_of width height) version agents claim tree bytes (record { width = sym wide; height = sym high }) spells;
     })

@@ -5,6 +5,7 @@ use Rattle.mapf_model.specs.declared.item.Claim.TheVariants as claims
 use Rattle.mapf_model.specs.Grid.{GridMap}
 use Rattle.mapf_model.specs.Printed.{IsClaimInRange}
 use Rattle.mapf_model.specs.Tree.{Node}
+use Rattle.mapf_certificate.specs.declared.version.Version.{Version}
 use Rattle.mapf_certificate.specs.declared.cert.LinesFault.{LinesFault}
 use Rattle.mapf_certificate.specs.declared.line.CertLine.{CertLine}
 use Rattle.mapf_certificate.specs.declared.line.CertLine.TheVariants as lines
@@ -36,25 +37,25 @@ record Counted (bytes : List ℕ) : Type 0 where
   rest : List ℕ
   spelled : bytes ≡ line_text 1 (lines.Agents agents) ++ (line_text 1 (lines.Claim claim) ++ rest)
 
-header_cut : (width agents : ℕ) (claim : Claim) (s : List ℕ) → header_text width agents claim ++ s ≡ line_text 1 lines.Title ++ (line_text 1 (lines.Agents agents) ++ (line_text 1 (lines.Claim claim) ++ s))
-header_cut width agents claim s =
-    append_assoc (line_text 1 lines.Title) (line_text 1 (lines.Agents agents) ++ line_text width (lines.Claim claim)) s
-    ∙ ap (λ l. line_text 1 lines.Title ++ l) (append_assoc (line_text 1 (lines.Agents agents)) (line_text width (lines.Claim claim)) s)
-    ∙ ap (λ l. line_text 1 lines.Title ++ (line_text 1 (lines.Agents agents) ++ (l ++ s))) (claim_words width claim)
+header_cut : (version : Version) (width agents : ℕ) (claim : Claim) (s : List ℕ) → header_text version width agents claim ++ s ≡ line_text 1 (lines.Title version) ++ (line_text 1 (lines.Agents agents) ++ (line_text 1 (lines.Claim claim) ++ s))
+header_cut version width agents claim s =
+    append_assoc (line_text 1 (lines.Title version)) (line_text 1 (lines.Agents agents) ++ line_text width (lines.Claim claim)) s
+    ∙ ap (λ l. line_text 1 (lines.Title version) ++ l) (append_assoc (line_text 1 (lines.Agents agents)) (line_text width (lines.Claim claim)) s)
+    ∙ ap (λ l. line_text 1 (lines.Title version) ++ (line_text 1 (lines.Agents agents) ++ (l ++ s))) (claim_words width claim)
 
 title_next : (width : ℕ) (t : List ℕ) → HasHeader width t → BeginsWithLine dues.Title t
 title_next width t has = record {
-  value = lines.Title;
-  is = refl;
-  rest = line_text 1 (lines.Agents has.value.0) ++ (line_text 1 (lines.Claim has.value.1) ++ has.rest);
-  spelled = has.spelled ∙ header_cut width has.value.0 has.value.1 has.rest;
+  value = lines.Title has.value.0;
+  is = tt;
+  rest = line_text 1 (lines.Agents has.value.1) ++ (line_text 1 (lines.Claim has.value.2) ++ has.rest);
+  spelled = has.spelled ∙ header_cut has.value.0 width has.value.1 has.value.2 has.rest;
 }
 
 after_title : (width : ℕ) (line : CertLine) (more : List ℕ) → IsLine dues.Title line → HasHeader width (line_text 1 line ++ more) → Counted more
 after_title width line more is has =
-    let rest = line_text 1 (lines.Agents has.value.0) ++ (line_text 1 (lines.Claim has.value.1) ++ has.rest) in
-    let (same, tail) = same_line dues.Title line lines.Title more rest is refl (has.spelled ∙ header_cut width has.value.0 has.value.1 has.rest) in
-    record { agents = has.value.0; claim = has.value.1; agents_in_range = has.is.0; claim_in_range = has.is.1; rest = has.rest; spelled = tail }
+    let rest = line_text 1 (lines.Agents has.value.1) ++ (line_text 1 (lines.Claim has.value.2) ++ has.rest) in
+    let (same, tail) = same_line dues.Title line (lines.Title has.value.0) more rest is tt (has.spelled ∙ header_cut has.value.0 width has.value.1 has.value.2 has.rest) in
+    record { agents = has.value.1; claim = has.value.2; agents_in_range = has.is.0; claim_in_range = has.is.1; rest = has.rest; spelled = tail }
 
 agents_next : (t : List ℕ) → Counted t → BeginsWithLine dues.Agents t
 agents_next t counted = record { value = lines.Agents counted.agents; is = counted.agents_in_range; rest = line_text 1 (lines.Claim counted.claim) ++ counted.rest; spelled = counted.spelled }
@@ -79,22 +80,25 @@ fails_in_claim width had one mid left failed x y z first second fault is_first i
     Fails-after had one left failed x y (line_text 1 first) (HasHeader width) Counted fault window (λ t has. after_title width first t is_first has)
     (Fails-after one mid left failed y z (line_text 1 second) Counted (BeginsWithLine dues.Claim) fault more (λ t counted. after_agents second t is_second counted) fails)
 
-three_lines : (width : ℕ) (first second third : CertLine) (agents : ℕ) (claim : Claim) → IsLine dues.Title first → second ≡ lines.Agents agents → third ≡ lines.Claim claim → line_text 1 first ++ (line_text 1 second ++ line_text 1 third) ≡ header_text width agents claim
-three_lines width first second third agents claim is_first is_second is_third =
+three_lines : (width : ℕ) (first second third : CertLine) (version : Version) (agents : ℕ) (claim : Claim) → first ≡ lines.Title version → second ≡ lines.Agents agents → third ≡ lines.Claim claim → line_text 1 first ++ (line_text 1 second ++ line_text 1 third) ≡ header_text version width agents claim
+three_lines width first second third version agents claim is_first is_second is_third =
     let last : line_text 1 third ≡ line_text width (lines.Claim claim) = ap (line_text 1) is_third ∙ sym (claim_words width claim) in
     ap (λ l. line_text 1 first ++ (line_text 1 second ++ l)) last ∙ ap (λ l. line_text 1 first ++ (line_text 1 l ++ line_text width (lines.Claim claim))) is_second ∙ ap (λ l. line_text 1 l ++ (line_text 1 (lines.Agents agents) ++ line_text width (lines.Claim claim))) is_first
 
 -- a header whose lines were all in the buffer
-pub header_there : {S : Type 0} (width : ℕ) (s0 s1 s2 s3 : S) (x y z w : Buffered) (first second third : CertLine) (agents : ℕ) (claim : Claim) → TakesThere s0 s1 x y (line_text 1 first) → TakesThere s1 s2 y z (line_text 1 second) → TakesThere s2 s3 z w (line_text 1 third)
-    → IsLine dues.Title first → second ≡ lines.Agents agents → third ≡ lines.Claim claim → TakesThere s0 s3 x w (header_text width agents claim)
-header_there width s0 s1 s2 s3 x y z w first second third agents claim p q r is_first is_second is_third =
-    subst (TakesThere s0 s3 x w) (three_lines width first second third agents claim is_first is_second is_third)
+pub header_there : {S : Type 0} (width : ℕ) (s0 s1 s2 s3 : S) (x y z w : Buffered) (first second third : CertLine) (version : Version) (agents : ℕ) (claim : Claim) → TakesThere s0 s1 x y (line_text 1 first) → TakesThere s1 s2 y z (line_text 1 second) → TakesThere s2 s3 z w (line_text 1 third)
+    → first ≡ lines.Title version → second ≡ lines.Agents agents → third ≡ lines.Claim claim → TakesThere s0 s3 x w (header_text version width agents claim)
+header_there width s0 s1 s2 s3 x y z w first second third version agents claim p q r is_first is_second is_third =
+    subst (TakesThere s0 s3 x w) (three_lines width first second third version agents claim is_first is_second is_third)
     (there-trans s0 s1 s3 x y w (line_text 1 first) (line_text 1 second ++ line_text 1 third) p (there-trans s1 s2 s3 y z w (line_text 1 second) (line_text 1 third) q r))
 
-pub header_window : (width : ℕ) (had one mid left : Option (List ℕ)) (x y z w : Buffered) (first second third : CertLine) (agents : ℕ) (claim : Claim) → Window had one x y (line_text 1 first) → Window one mid y z (line_text 1 second) → Window mid left z w (line_text 1 third)
-    → IsLine dues.Title first → second ≡ lines.Agents agents → third ≡ lines.Claim claim → Window had left x w (header_text width agents claim)
-header_window width had one mid left x y z w first second third agents claim p q r is_first is_second is_third =
-    subst (Window had left x w) (three_lines width first second third agents claim is_first is_second is_third) (Window-trans had one left x y w (line_text 1 first) (line_text 1 second ++ line_text 1 third) p (Window-trans one mid left y z w (line_text 1 second) (line_text 1 third) q r))
+pub header_window : (width : ℕ) (had one mid left : Option (List ℕ)) (x y z w : Buffered) (first second third : CertLine) (version : Version) (agents : ℕ) (claim : Claim) → Window had one x y (line_text 1 first) → Window one mid y z (line_text 1 second) → Window mid left z w (line_text 1 third)
+    → first ≡ lines.Title version → second ≡ lines.Agents agents → third ≡ lines.Claim claim → Window had left x w (header_text version width agents claim)
+header_window width had one mid left x y z w first second third version agents claim p q r is_first is_second is_third =
+    subst (Window had left x w) (three_lines width first second third version agents claim is_first is_second is_third) (Window-trans had one left x y w (line_text 1 first) (line_text 1 second ++ line_text 1 third) p (Window-trans one mid left y z w (line_text 1 second) (line_text 1 third) q r))
+
+version_same : (a b : Version) → lines.Title a ≡ lines.Title b → a ≡ b
+version_same a b e = cc
 
 agents_same : (a b : ℕ) → lines.Agents a ≡ lines.Agents b → a ≡ b
 agents_same a b e = cc
@@ -103,23 +107,23 @@ claim_same : (a b : Claim) → lines.Claim a ≡ lines.Claim b → a ≡ b
 claim_same a b e = cc
 
 -- headers are told apart
-pub same_header : (width agents agents' : ℕ) (claim claim' : Claim) (s t : List ℕ) → IsAgentCount agents → IsAgentCount agents' → IsClaimInRange claim → IsClaimInRange claim' → header_text width agents claim ++ s ≡ header_text width agents' claim' ++ t
-    → (agents ≡ agents') × (claim ≡ claim') × (s ≡ t)
-same_header width agents agents' claim claim' s t p q r u e =
+pub same_header : (version version' : Version) (width agents agents' : ℕ) (claim claim' : Claim) (s t : List ℕ) → IsAgentCount agents → IsAgentCount agents' → IsClaimInRange claim → IsClaimInRange claim' → header_text version width agents claim ++ s ≡ header_text version' width agents' claim' ++ t
+    → (version ≡ version') × (agents ≡ agents') × (claim ≡ claim') × (s ≡ t)
+same_header version version' width agents agents' claim claim' s t p q r u e =
     let first = line_text 1 (lines.Agents agents) ++ (line_text 1 (lines.Claim claim) ++ s) in
     let second = line_text 1 (lines.Agents agents') ++ (line_text 1 (lines.Claim claim') ++ t) in
-    let (_, tail) = same_line dues.Title lines.Title lines.Title first second refl refl (sym (header_cut width agents claim s) ∙ e ∙ header_cut width agents' claim' t) in
+    let (titles, tail) = same_line dues.Title (lines.Title version) (lines.Title version') first second tt tt (sym (header_cut version width agents claim s) ∙ e ∙ header_cut version' width agents' claim' t) in
     let (counts, more) = same_line dues.Agents (lines.Agents agents) (lines.Agents agents') (line_text 1 (lines.Claim claim) ++ s) (line_text 1 (lines.Claim claim') ++ t) p q tail in
     let (says, rest) = same_line dues.Claim (lines.Claim claim) (lines.Claim claim') s t r u more in
-    (agents_same agents agents' counts, claim_same claim claim' says, rest)
+    (version_same version version' titles, agents_same agents agents' counts, claim_same claim claim' says, rest)
 
 -- what follows a header makes a certificate with it
-pub header_joins : (had left : Option (List ℕ)) (old new : Reading) (agents : ℕ) (claim : Claim) → IsAgentCount agents → IsClaimInRange claim → Window had left old.buffer new.buffer (header_text old.width agents claim) → grid_at new ≡ grid_at old → agents_at new ≡ agents → new.owed ≡ old.owed
-    → (bytes : List ℕ) → had ≡ Some bytes → (nodes : List Node) → Awaits left new nodes → AwaitsCert had old agents claim nodes
+pub header_joins : (had left : Option (List ℕ)) (old new : Reading) (agents : ℕ) (claim : Claim) → IsAgentCount agents → IsClaimInRange claim → Window had left old.buffer new.buffer (header_text new.version old.width agents claim) → grid_at new ≡ grid_at old → agents_at new ≡ agents → new.owed ≡ old.owed
+    → (bytes : List ℕ) → had ≡ Some bytes → (nodes : List Node) → Awaits left new nodes → AwaitsCert had old new.version agents claim nodes
 header_joins had left old new agents claim few ranged window grid count owed bytes known nodes awaits =
-    let (rest, kept, same, many) = Window-known had left old.buffer new.buffer (header_text old.width agents claim) bytes window known in
+    let (rest, kept, same, many) = Window-known had left old.buffer new.buffer (header_text new.version old.width agents claim) bytes window known in
     let one : awaits.bytes ≡ rest = same_some awaits.bytes rest (sym awaits.known ∙ kept) in
-    let moved = subst (λ (k : ℕ). IsRest (grid_at old) agents k nodes (new.buffer.bytes ++ awaits.bytes)) owed (subst (λ (n : ℕ). IsRest (grid_at old) n new.owed nodes (new.buffer.bytes ++ awaits.bytes)) count (subst (λ (g : GridMap). IsRest g (agents_at new) new.owed nodes (new.buffer.bytes ++ awaits.bytes)) grid awaits.rest)) in
+    let moved = subst (λ (k : ℕ). IsRest new.version (grid_at old) agents k nodes (new.buffer.bytes ++ awaits.bytes)) owed (subst (λ (n : ℕ). IsRest new.version (grid_at old) n new.owed nodes (new.buffer.bytes ++ awaits.bytes)) count (subst (λ (g : GridMap). IsRest new.version g (agents_at new) new.owed nodes (new.buffer.bytes ++ awaits.bytes)) grid awaits.rest)) in
     record {
       bytes = bytes;
       known = known;
@@ -127,23 +131,24 @@ header_joins had left old new agents claim few ranged window grid count owed byt
         agents_in_range = few;
         claim_in_range = ranged;
         after = new.buffer.bytes ++ awaits.bytes;
-        spelled = same ∙ ap (λ l. header_text old.width agents claim ++ (new.buffer.bytes ++ l)) (sym one);
+        spelled = same ∙ ap (λ l. header_text new.version old.width agents claim ++ (new.buffer.bytes ++ l)) (sym one);
         rest = moved;
       };
     }
 
 -- the header that was read is the one that came
-pub header_same : (had left : Option (List ℕ)) (old new : Reading) (agents due : ℕ) (claim says : Claim) (nodes : List Node) → IsAgentCount agents → IsClaimInRange claim → Window had left old.buffer new.buffer (header_text old.width agents claim) → grid_at new ≡ grid_at old → agents_at new ≡ agents → new.owed ≡ old.owed
-    → AwaitsCert had old due says nodes → (agents ≡ due) × (claim ≡ says) × Awaits left new nodes
-header_same had left old new agents due claim says nodes few ranged window grid count owed awaits =
-    let (rest, kept, same, many) = Window-known had left old.buffer new.buffer (header_text old.width agents claim) awaits.bytes window awaits.known in
+pub header_same : (had left : Option (List ℕ)) (old new : Reading) (version : Version) (agents due : ℕ) (claim says : Claim) (nodes : List Node) → IsAgentCount agents → IsClaimInRange claim → Window had left old.buffer new.buffer (header_text new.version old.width agents claim) → grid_at new ≡ grid_at old → agents_at new ≡ agents → new.owed ≡ old.owed
+    → AwaitsCert had old version due says nodes → (new.version ≡ version) × (agents ≡ due) × (claim ≡ says) × Awaits left new nodes
+header_same had left old new version agents due claim says nodes few ranged window grid count owed awaits =
+    let (rest, kept, same, many) = Window-known had left old.buffer new.buffer (header_text new.version old.width agents claim) awaits.bytes window awaits.known in
     let text = awaits.text in
-    let (one, two, tail) = same_header old.width agents due claim says (new.buffer.bytes ++ rest) text.after few text.agents_in_range ranged text.claim_in_range (sym same ∙ text.spelled) in
-    let moved = subst (λ (k : ℕ). IsRest (grid_at new) (agents_at new) k nodes text.after) (sym owed) (subst (λ (n : ℕ). IsRest (grid_at new) n old.owed nodes text.after) (sym one ∙ sym count) (subst (λ (g : GridMap). IsRest g due old.owed nodes text.after) (sym grid) text.rest)) in
-    (one, two, record { bytes = rest; known = kept; rest = subst (IsRest (grid_at new) (agents_at new) new.owed nodes) (sym tail) moved })
+    let (zero, one, two, tail) = same_header new.version version old.width agents due claim says (new.buffer.bytes ++ rest) text.after few text.agents_in_range ranged text.claim_in_range (sym same ∙ text.spelled) in
+    let of_version = subst (λ (v : Version). IsRest v (grid_at old) due old.owed nodes text.after) (sym zero) text.rest in
+    let moved = subst (λ (k : ℕ). IsRest new.version (grid_at new) (agents_at new) k nodes text.after) (sym owed) (subst (λ (n : ℕ). IsRest new.version (grid_at new) n old.owed nodes text.after) (sym one ∙ sym count) (subst (λ (g : GridMap). IsRest new.version g due old.owed nodes text.after) (sym grid) of_version)) in
+    (zero, one, two, record { bytes = rest; known = kept; rest = subst (IsRest new.version (grid_at new) (agents_at new) new.owed nodes) (sym tail) moved })
 
 -- a certificate that is awaited isn't refused
-pub header_awaited : (had left : Option (List ℕ)) (failed : Bool) (r : Reading) (agents : ℕ) (claim : Claim) (nodes : List Node) (fault : LinesFault) → AwaitsCert had r agents claim nodes → Fails had left failed r.buffer (HasHeader r.width) fault → IsNoTextFault fault
-header_awaited had left failed r agents claim nodes fault awaits fails =
+pub header_awaited : (had left : Option (List ℕ)) (failed : Bool) (r : Reading) (version : Version) (agents : ℕ) (claim : Claim) (nodes : List Node) (fault : LinesFault) → AwaitsCert had r version agents claim nodes → Fails had left failed r.buffer (HasHeader r.width) fault → IsNoTextFault fault
+header_awaited had left failed r version agents claim nodes fault awaits fails =
     let text = awaits.text in
-    Fails-not had left failed r.buffer (HasHeader r.width) fault awaits.bytes fails awaits.known (record { value = (agents, claim); is = (text.agents_in_range, text.claim_in_range); rest = text.after; spelled = text.spelled })
+    Fails-not had left failed r.buffer (HasHeader r.width) fault awaits.bytes fails awaits.known (record { value = (version, agents, claim); is = (text.agents_in_range, text.claim_in_range); rest = text.after; spelled = text.spelled })

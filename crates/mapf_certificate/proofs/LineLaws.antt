@@ -1,5 +1,5 @@
 -- Lines of a certificate: what is read is spelled so, and what is spelled so is read.
-use Rattle.std.proofs.Common.{◌≡◌, ℕ, ◌<◌, ◌≤◌, ◌^◌, ◌-◌, ◌/◌, ◌%◌, ◌*◌, Bool, true, false, cond, List, ◌++◌, codes, drop, Option, Some, None, Result, Ok, Err, refl, sym, ap, subst, ◌∙◌, arith, inl, inr, ◌⊎◌}
+use Rattle.std.proofs.Common.{◌≡◌, ℕ, ◌<◌, ◌≤◌, ◌^◌, ◌-◌, ◌/◌, ◌%◌, ◌*◌, Bool, true, false, cond, List, [], ◌∷◌, ◌++◌, codes, drop, Option, Some, None, Result, Ok, Err, refl, sym, ap, subst, ◌∙◌, arith, inl, inr, ◌⊎◌}
 use Rattle.std.specs.Str.Parse.{AllDigits}
 use Rattle.std.proofs.lemmas.Fmt.{decimal_is_IsNumeral}
 use Rattle.std.specs.Option.{option_map_or}
@@ -12,6 +12,8 @@ use Rattle.mapf_model.specs.declared.label.Label.{Label}
 use Rattle.mapf_model.specs.declared.label.Label.TheVariants as labels
 use Rattle.mapf_model.specs.declared.label.Entry.{Entry}
 use Rattle.mapf_model.specs.Printed.{IsLabelInRange, IsEntryInRange, IsClaimInRange}
+use Rattle.mapf_certificate.specs.declared.version.Version.{Version}
+use Rattle.mapf_certificate.specs.declared.version.Version.TheVariants.{One, Two}
 use Rattle.mapf_certificate.specs.declared.line.CertLine.{CertLine}
 use Rattle.mapf_certificate.specs.declared.line.CertLine.TheVariants as lines
 use Rattle.mapf_certificate.specs.declared.line.LineFault.{LineFault}
@@ -22,14 +24,14 @@ use Rattle.mapf_certificate.specs.declared.tree_line.Due.TheVariants as dues
 use Rattle.mapf_certificate.specs.declared.tree_line.LabelWord.{LabelWord}
 use Rattle.mapf_certificate.specs.declared.tree_line.LabelWord.TheVariants as word
 use Rattle.mapf_certificate.specs.Numbers.{◌>>=◌, field, pair, strip, read_field, read_last, read_pair, in_range, below, read_cell}
-use Rattle.mapf_certificate.specs.Lines.{words, label_words, IsLine, IsTreeLine, IsAgentCount, width_of, grid_for}
-use Rattle.mapf_certificate.specs.LineReading.{read_title, read_count, read_cost, read_agents, read_claim, read_vertex, read_swap, read_leaf, read_clash, read_agent, read_label_word, label_in_range, read_entry, read_tree_line, read_line}
+use Rattle.mapf_certificate.specs.Lines.{words, title_words, count_words, label_words, IsLine, IsCountOnSplit, IsTreeLine, IsAgentCount, width_of, grid_for}
+use Rattle.mapf_certificate.specs.LineReading.{read_title, read_count, read_cost, read_agents, read_claim, read_blocks, blocks_in_range, read_vertex, read_swap, read_leaf, read_clash, read_agent, read_label_word, label_in_range, read_entry, read_tree_line, read_line}
 use Rattle.mapf_certificate.proofs.Strips.{strip-some}
 use Rattle.mapf_certificate.proofs.Fields.{guarded, through, same_ok, IsPastDigits, field_takes, field_again, last_takes, last_again, pair_takes, pair_again, below_takes, below_again, range_takes, range_again, cell_again, row-below}
 
 -- what a line is read to is spelled by it, in its ranges
 abbrev Takes : Sizes → List ℕ → CertLine → Type 0
-Takes sizes bs line = (bs ≡ words sizes.width line) × IsTreeLine (grid_for sizes) sizes.agents line
+Takes sizes bs line = (bs ≡ words sizes.width line) × IsTreeLine sizes.version (grid_for sizes) sizes.agents line
 
 field_below : (mark bound : ℕ) (bs : List ℕ) (p : Option ℕ × List ℕ) (n : ℕ) → read_field mark bs ≡ Ok p → below bound p.0 ≡ Ok n → (bs ≡ field mark n ++ p.1) × (n < bound)
 field_below mark bound bs p n e ranged =
@@ -51,23 +53,42 @@ last_range mark least most bs v n e ranged =
     let (is, above, under) = range_takes least most v n ranged in
     ((last_takes mark bs n (e ∙ ap Ok is)).0, above, under)
 
+-- the number of blocks on a split
+blocks_take : (version : Version) (agents : ℕ) (bs : List ℕ) (v : Option (Option ℕ)) (n : Option ℕ) → read_blocks version bs ≡ Ok v → blocks_in_range agents v ≡ Ok n → (bs ≡ count_words n) × IsCountOnSplit version agents n
+unfolding read_blocks
+blocks_take One agents [] v n read ranged =
+    let made : ◌≡◌ {A = Result (Option ℕ) LineFault} (Ok None) (Ok n) = ap (blocks_in_range agents) (same_ok None v read) ∙ ranged in
+    let is = same_ok None n made in
+    (ap count_words is, sym is)
+blocks_take One agents (b ∷ bs) v n read ranged = cc
+blocks_take Two agents bs v n read ranged =
+    through (read_last 32 bs) _ v read (λ w last made.
+    let ranged' : (in_range 0 agents w >>= λ k. Ok (Some k)) ≡ Ok n = ap (blocks_in_range agents) (same_ok _ v made) ∙ ranged in
+    through (in_range 0 agents w) _ n ranged' (λ k is done.
+    let (text, low, few) = last_range 32 0 agents bs w k last is in
+    subst (λ (o : Option ℕ). (bs ≡ count_words o) × IsCountOnSplit Two agents o) (same_ok _ n done) (text, few)))
+
 vertex_takes : (sizes : Sizes) (bs : List ℕ) (line : CertLine) → read_vertex sizes bs ≡ Ok line → Takes sizes (codes "vertex" ++ bs) line
 unfolding read_vertex
 vertex_takes sizes bs line e =
     through (read_field 32 bs) _ line e (λ i read1 more1.
     through (read_field 32 i.1) _ line more1 (λ j read2 more2.
     through (read_pair j.1) _ line more2 (λ at read3 more3.
-    through (read_last 32 at.2) _ line more3 (λ tick read4 more4.
-    through (below sizes.agents i.0) _ line more4 (λ first is1 more5.
-    through (below sizes.agents j.0) _ line more5 (λ second is2 more6.
-    through (read_cell sizes.width sizes.height at.0 at.1) _ line more6 (λ cell is3 more7.
-    through (in_range 0 999999 tick) _ line more7 (λ ticks is4 made.
+    through (read_field 32 at.2) _ line more3 (λ tick read4 more4.
+    through (read_blocks sizes.version tick.1) _ line more4 (λ blocks read5 more5.
+    through (below sizes.agents i.0) _ line more5 (λ first is1 more6.
+    through (below sizes.agents j.0) _ line more6 (λ second is2 more7.
+    through (read_cell sizes.width sizes.height at.0 at.1) _ line more7 (λ cell is3 more8.
+    through (in_range 0 999999 tick.0) _ line more8 (λ ticks is4 more9.
+    through (blocks_in_range sizes.agents blocks) _ line more9 (λ count is5 made.
     let (text1, in1) = field_below 32 sizes.agents bs i first read1 is1 in
     let (text2, in2) = field_below 32 sizes.agents i.1 j second read2 is2 in
     let (text3, in3) = pair_takes j.1 at sizes.width sizes.height cell read3 is3 in
-    let (text4, low, in4) = last_range 32 0 999999 at.2 tick ticks read4 is4 in
-    let text = text1 ∙ ap (λ r. field 32 first ++ r) (text2 ∙ ap (λ r. field 32 second ++ r) (text3 ∙ ap (λ r. pair sizes.width cell ++ r) text4)) in
-    subst (Takes sizes (codes "vertex" ++ bs)) (same_ok _ line made) (ap (λ r. codes "vertex" ++ r) text, (in1, in2, in3, in4))))))))))
+    let (text4, low, in4) = field_range 32 0 999999 at.2 tick ticks read4 is4 in
+    let (text5, in5) = blocks_take sizes.version sizes.agents tick.1 blocks count read5 is5 in
+    let end = text4 ∙ ap (λ r. field 32 ticks ++ r) text5 in
+    let text = text1 ∙ ap (λ r. field 32 first ++ r) (text2 ∙ ap (λ r. field 32 second ++ r) (text3 ∙ ap (λ r. pair sizes.width cell ++ r) end)) in
+    subst (Takes sizes (codes "vertex" ++ bs)) (same_ok _ line made) (ap (λ r. codes "vertex" ++ r) text, ((in1, in2, in3, in4), in5))))))))))))
 
 swap_takes : (sizes : Sizes) (bs : List ℕ) (line : CertLine) → read_swap sizes bs ≡ Ok line → Takes sizes (codes "swap" ++ bs) line
 unfolding read_swap
@@ -76,20 +97,23 @@ swap_takes sizes bs line e =
     through (read_field 32 i.1) _ line more1 (λ j read2 more2.
     through (read_pair j.1) _ line more2 (λ here read3 more3.
     through (read_pair here.2) _ line more3 (λ there read4 more4.
-    through (read_last 32 there.2) _ line more4 (λ tick read5 more5.
-    through (below sizes.agents i.0) _ line more5 (λ first is1 more6.
-    through (below sizes.agents j.0) _ line more6 (λ second is2 more7.
-    through (read_cell sizes.width sizes.height here.0 here.1) _ line more7 (λ from is3 more8.
-    through (read_cell sizes.width sizes.height there.0 there.1) _ line more8 (λ to is4 more9.
-    through (in_range 0 999999 tick) _ line more9 (λ ticks is5 made.
+    through (read_field 32 there.2) _ line more4 (λ tick read5 more5.
+    through (read_blocks sizes.version tick.1) _ line more5 (λ blocks read6 more6.
+    through (below sizes.agents i.0) _ line more6 (λ first is1 more7.
+    through (below sizes.agents j.0) _ line more7 (λ second is2 more8.
+    through (read_cell sizes.width sizes.height here.0 here.1) _ line more8 (λ from is3 more9.
+    through (read_cell sizes.width sizes.height there.0 there.1) _ line more9 (λ to is4 more10.
+    through (in_range 0 999999 tick.0) _ line more10 (λ ticks is5 more11.
+    through (blocks_in_range sizes.agents blocks) _ line more11 (λ count is6 made.
     let (text1, in1) = field_below 32 sizes.agents bs i first read1 is1 in
     let (text2, in2) = field_below 32 sizes.agents i.1 j second read2 is2 in
     let (text3, in3) = pair_takes j.1 here sizes.width sizes.height from read3 is3 in
     let (text4, in4) = pair_takes here.2 there sizes.width sizes.height to read4 is4 in
-    let (text5, low, in5) = last_range 32 0 999999 there.2 tick ticks read5 is5 in
-    let ends = text4 ∙ ap (λ r. pair sizes.width to ++ r) text5 in
+    let (text5, low, in5) = field_range 32 0 999999 there.2 tick ticks read5 is5 in
+    let (text6, in6) = blocks_take sizes.version sizes.agents tick.1 blocks count read6 is6 in
+    let ends = text4 ∙ ap (λ r. pair sizes.width to ++ r) (text5 ∙ ap (λ r. field 32 ticks ++ r) text6) in
     let text = text1 ∙ ap (λ r. field 32 first ++ r) (text2 ∙ ap (λ r. field 32 second ++ r) (text3 ∙ ap (λ r. pair sizes.width from ++ r) ends)) in
-    subst (Takes sizes (codes "swap" ++ bs)) (same_ok _ line made) (ap (λ r. codes "swap" ++ r) text, (in1, in2, in3, in4, in5))))))))))))
+    subst (Takes sizes (codes "swap" ++ bs)) (same_ok _ line made) (ap (λ r. codes "swap" ++ r) text, ((in1, in2, in3, in4, in5), in6))))))))))))))
 
 leaf_takes : (sizes : Sizes) (bs : List ℕ) (line : CertLine) → read_leaf sizes bs ≡ Ok line → Takes sizes (codes "leaf" ++ bs) line
 unfolding read_leaf
@@ -223,8 +247,12 @@ claim_takes bs line e = elim (chosen (bytes_eq bs (codes "claim impossible")) _ 
 title_takes : (bs : List ℕ) (line : CertLine) → read_title bs ≡ Ok line → TakesDue dues.Title bs line
 unfolding read_title
 title_takes bs line e =
-    let (found, same) = guarded (bytes_eq bs (codes "mapf-cert 1")) Shape (Ok lines.Title) line e in
-    subst (TakesDue dues.Title bs) (same_ok lines.Title line same) (refl, (bytes_eq-Decides bs (codes "mapf-cert 1")).0 found)
+    elim (chosen (bytes_eq bs (codes "mapf-cert 1")) _ _ _ e) [
+      | inl (found, same) ↦ subst (TakesDue dues.Title bs) (same_ok (lines.Title One) line same) (tt, (bytes_eq-Decides bs (codes "mapf-cert 1")).0 found)
+      | inr more ↦
+          let (found, same) = guarded (bytes_eq bs (codes "mapf-cert 2")) Shape (Ok (lines.Title Two)) line more in
+          subst (TakesDue dues.Title bs) (same_ok (lines.Title Two) line same) (tt, (bytes_eq-Decides bs (codes "mapf-cert 2")).0 found)
+    ]
 
 -- what a line is read to is a line that is due, and is spelled so
 pub line_takes : (due : Due) (bs : List ℕ) (line : CertLine) → read_line due bs ≡ Ok line → IsLine due line × (bs ≡ words (width_of due) line)
@@ -252,35 +280,53 @@ cell_sizes_again sizes cell inside = cell_again sizes.width sizes.height cell (o
 agent_fits : (sizes : Sizes) (i : ℕ) → i < sizes.agents → i < 2 ^ 64
 agent_fits sizes i h = omega (arith, sizes.few.1)
 
-vertex_again : (sizes : Sizes) (i j cell tick : ℕ) → IsTreeLine (grid_for sizes) sizes.agents (lines.Split (conflicts.Vertex i j cell tick))
-    → read_vertex sizes (field 32 i ++ (field 32 j ++ (pair sizes.width cell ++ field 32 tick))) ≡ Ok (lines.Split (conflicts.Vertex i j cell tick))
+blocks_again : (version : Version) (agents : ℕ) (blocks : Option ℕ) → agents ≤ 200 → IsCountOnSplit version agents blocks → (v : Option (Option ℕ)) × (read_blocks version (count_words blocks) ≡ Ok v) × (blocks_in_range agents v ≡ Ok blocks)
+unfolding read_blocks
+blocks_again One agents None few is = (None, refl, refl)
+blocks_again One agents (Some n) few is = cc
+blocks_again Two agents None few is = absurd is
+blocks_again Two agents (Some n) few is =
+    (Some (Some n), then_ok _ _ _ _ (last_again 32 n (omega arith)) refl, then_ok _ _ _ _ (range_again 0 agents n (omega arith) is) refl)
+
+count_past : (blocks : Option ℕ) → IsPastDigits (count_words blocks)
+count_past None = tt
+count_past (Some n) = refl
+
+vertex_again : (sizes : Sizes) (i j cell tick : ℕ) (blocks : Option ℕ) → IsTreeLine sizes.version (grid_for sizes) sizes.agents (lines.Split (conflicts.Vertex i j cell tick) blocks)
+    → read_vertex sizes (field 32 i ++ (field 32 j ++ (pair sizes.width cell ++ (field 32 tick ++ count_words blocks)))) ≡ Ok (lines.Split (conflicts.Vertex i j cell tick) blocks)
 unfolding read_vertex
-vertex_again sizes i j cell tick (first, second, inside, early) =
-    let end = field 32 tick in
+vertex_again sizes i j cell tick blocks ((first, second, inside, early), counted) =
+    let end = field 32 tick ++ count_words blocks in
+    let (v, read, ranged) = blocks_again sizes.version sizes.agents blocks sizes.few.1 counted in
     then_ok _ _ _ _ (field_again 32 i (field 32 j ++ (pair sizes.width cell ++ end)) (agent_fits sizes i first) refl)
     (then_ok _ _ _ _ (field_again 32 j (pair sizes.width cell ++ end) (agent_fits sizes j second) refl)
     (then_ok _ _ _ _ (pair_cell_again sizes cell end inside refl)
-    (then_ok _ _ _ _ (last_again 32 tick (omega arith))
+    (then_ok _ _ _ _ (field_again 32 tick (count_words blocks) (omega arith) (count_past blocks))
+    (then_ok _ _ _ _ read
     (then_ok _ _ _ _ (below_again sizes.agents i first)
     (then_ok _ _ _ _ (below_again sizes.agents j second)
     (then_ok _ _ _ _ (cell_sizes_again sizes cell inside)
-    (then_ok _ _ _ _ (range_again 0 999999 tick (omega arith) early) refl)))))))
+    (then_ok _ _ _ _ (range_again 0 999999 tick (omega arith) early)
+    (then_ok _ _ _ _ ranged refl)))))))))
 
-swap_again : (sizes : Sizes) (i j from to tick : ℕ) → IsTreeLine (grid_for sizes) sizes.agents (lines.Split (conflicts.Swap i j from to tick))
-    → read_swap sizes (field 32 i ++ (field 32 j ++ (pair sizes.width from ++ (pair sizes.width to ++ field 32 tick)))) ≡ Ok (lines.Split (conflicts.Swap i j from to tick))
+swap_again : (sizes : Sizes) (i j from to tick : ℕ) (blocks : Option ℕ) → IsTreeLine sizes.version (grid_for sizes) sizes.agents (lines.Split (conflicts.Swap i j from to tick) blocks)
+    → read_swap sizes (field 32 i ++ (field 32 j ++ (pair sizes.width from ++ (pair sizes.width to ++ (field 32 tick ++ count_words blocks))))) ≡ Ok (lines.Split (conflicts.Swap i j from to tick) blocks)
 unfolding read_swap
-swap_again sizes i j from to tick (first, second, here, there, early) =
-    let end = field 32 tick in
+swap_again sizes i j from to tick blocks ((first, second, here, there, early), counted) =
+    let end = field 32 tick ++ count_words blocks in
+    let (v, read, ranged) = blocks_again sizes.version sizes.agents blocks sizes.few.1 counted in
     then_ok _ _ _ _ (field_again 32 i (field 32 j ++ (pair sizes.width from ++ (pair sizes.width to ++ end))) (agent_fits sizes i first) refl)
     (then_ok _ _ _ _ (field_again 32 j (pair sizes.width from ++ (pair sizes.width to ++ end)) (agent_fits sizes j second) refl)
     (then_ok _ _ _ _ (pair_cell_again sizes from (pair sizes.width to ++ end) here refl)
     (then_ok _ _ _ _ (pair_cell_again sizes to end there refl)
-    (then_ok _ _ _ _ (last_again 32 tick (omega arith))
+    (then_ok _ _ _ _ (field_again 32 tick (count_words blocks) (omega arith) (count_past blocks))
+    (then_ok _ _ _ _ read
     (then_ok _ _ _ _ (below_again sizes.agents i first)
     (then_ok _ _ _ _ (below_again sizes.agents j second)
     (then_ok _ _ _ _ (cell_sizes_again sizes from here)
     (then_ok _ _ _ _ (cell_sizes_again sizes to there)
-    (then_ok _ _ _ _ (range_again 0 999999 tick (omega arith) early) refl)))))))))
+    (then_ok _ _ _ _ (range_again 0 999999 tick (omega arith) early)
+    (then_ok _ _ _ _ ranged refl)))))))))))
 
 leaf_again : (sizes : Sizes) (blocks : ℕ) → blocks ≤ sizes.agents → read_leaf sizes (field 32 blocks) ≡ Ok (lines.Leaf blocks)
 unfolding read_leaf
@@ -338,10 +384,10 @@ entry_again sizes entry (inside, early, labelled) =
     (then_ok _ _ _ _ (range_again 0 9999999 entry.tick (omega arith) early)
     (then_ok _ _ _ _ ranged refl)))))
 
-tree_line_again : (sizes : Sizes) (line : CertLine) → IsTreeLine (grid_for sizes) sizes.agents line → read_tree_line sizes (words sizes.width line) ≡ Ok line
+tree_line_again : (sizes : Sizes) (line : CertLine) → IsTreeLine sizes.version (grid_for sizes) sizes.agents line → read_tree_line sizes (words sizes.width line) ≡ Ok line
 unfolding read_tree_line
-tree_line_again sizes (lines.Split (conflicts.Vertex i j cell tick)) is = vertex_again sizes i j cell tick is
-tree_line_again sizes (lines.Split (conflicts.Swap i j from to tick)) is = swap_again sizes i j from to tick is
+tree_line_again sizes (lines.Split (conflicts.Vertex i j cell tick) blocks) is = vertex_again sizes i j cell tick blocks is
+tree_line_again sizes (lines.Split (conflicts.Swap i j from to tick) blocks) is = swap_again sizes i j from to tick blocks is
 tree_line_again sizes (lines.Leaf blocks) is = leaf_again sizes blocks is
 tree_line_again sizes (lines.Clash i j) is = clash_again sizes i j is.0 is.1
 tree_line_again sizes (lines.Agent agent entries) is = agent_again sizes agent entries is.0 is.1 is.2
@@ -366,13 +412,15 @@ unfolding read_claim
 claim_again claims.Impossible is = refl
 claim_again (claims.Cost cost) is = then_ok _ _ _ _ (cost_again cost is) refl
 
-title_again : read_title (codes "mapf-cert 1") ≡ Ok lines.Title
+title_again : (version : Version) → read_title (title_words version) ≡ Ok (lines.Title version)
 unfolding read_title
-title_again = refl
+title_again One = refl
+title_again Two = refl
 
 -- a line that is due is read from its spelling
 pub line_again : (due : Due) (line : CertLine) → IsLine due line → read_line due (words (width_of due) line) ≡ Ok line
-line_again dues.Title line is = ap (λ l. read_title (words 1 l)) is ∙ title_again ∙ ap Ok (sym is)
+line_again dues.Title (lines.Title version) is = title_again version
+line_again dues.Title _ is = absurd is
 line_again dues.Agents (lines.Agents n) is = agents_again n is
 line_again dues.Agents _ is = absurd is
 line_again dues.Claim (lines.Claim claim) is = claim_again claim is

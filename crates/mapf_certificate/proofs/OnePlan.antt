@@ -9,6 +9,7 @@ use Rattle.mapf_certificate.specs.declared.plan_text.PlanAnswer.{PlanAnswer}
 use Rattle.mapf_certificate.specs.declared.plan_text.PlanAnswer.TheVariants as texts
 use Rattle.mapf_certificate.specs.declared.plan_text.PlanTextFault.{PlanTextFault}
 use Rattle.mapf_certificate.specs.declared.plan_lines.AnswerLine.TheVariants as answers
+use Rattle.mapf_certificate.specs.declared.version.Version.TheVariants.{One}
 use Rattle.mapf_certificate.specs.declared.sizes.Sizes.{Sizes}
 use Rattle.mapf_certificate.specs.Plans.{SpellsOnePlan, IsAnswerInRange, cells_text, path_words, paths_text, ticks_of}
 use Rattle.mapf_certificate.specs.PlanReading.{read_pair_cell, read_path_front, line_of, rest_of}
@@ -83,7 +84,7 @@ answers_same sizes (texts.Limit cause) (texts.Limit other) is_a is_b line rest =
 pub one_plan : SpellsOnePlan
 one_plan grid bytes text other is fits fits' spelled spelled' =
     let (narrow, narrow', low, low', free) = is in
-    let sizes : Sizes = record { width = grid.width; height = grid.height; agents = text.agents; narrow = (narrow, narrow'); low = (low, low'); few = fits.0 } in
+    let sizes : Sizes = record { version = One; width = grid.width; height = grid.height; agents = text.agents; narrow = (narrow, narrow'); low = (low, low'); few = fits.0 } in
     let first = header_of grid text bytes fits spelled in
     let second = header_of grid other bytes fits' spelled' in
     let (counts, line, rest) = ok_triple_parts {E = PlanTextFault} text.agents other.agents (line_of text.answer) (line_of other.answer) (rest_of grid.width text.answer) (rest_of grid.width other.answer) (sym first ∙ second) in

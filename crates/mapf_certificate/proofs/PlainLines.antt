@@ -1,5 +1,5 @@
 -- Where a line ends: no line has an LF in it, and none of a certificate is longer than 64 bytes.
-use Rattle.std.proofs.Common.{◌≡◌, ℕ, ◌<◌, ◌≤◌, ◌^◌, ◌+◌, ◌/◌, ◌%◌, ◌*◌, ◌&&◌, true, not, List, [], ◌∷◌, ◌++◌, codes, length, refl, sym, ap, subst, ◌∙◌, arith, append_assoc, length-append, ◌==◌}
+use Rattle.std.proofs.Common.{◌≡◌, ℕ, ◌<◌, ◌≤◌, ◌^◌, ◌+◌, ◌/◌, ◌%◌, ◌*◌, ◌&&◌, true, not, List, [], ◌∷◌, ◌++◌, Option, Some, None, codes, length, refl, sym, ap, subst, ◌∙◌, arith, append_assoc, length-append, ◌==◌}
 use Rattle.std.specs.Fmt.{decimal}
 use Rattle.std.specs.Str.Parse.{AllDigits}
 use Rattle.std.proofs.lemmas.Str.Parse.{digit_from_value}
@@ -11,6 +11,8 @@ use Rattle.mapf_model.specs.declared.item.Claim.TheVariants as claims
 use Rattle.mapf_model.specs.declared.label.Label.{Label}
 use Rattle.mapf_model.specs.declared.label.Label.TheVariants as labels
 use Rattle.mapf_model.specs.Printed.{IsLabelInRange}
+use Rattle.mapf_certificate.specs.declared.version.Version.{Version}
+use Rattle.mapf_certificate.specs.declared.version.Version.TheVariants.{One, Two}
 use Rattle.mapf_certificate.specs.declared.line.CertLine.{CertLine}
 use Rattle.mapf_certificate.specs.declared.line.CertLine.TheVariants as lines
 use Rattle.mapf_certificate.specs.declared.line.LineFault.{LineFault}
@@ -18,7 +20,7 @@ use Rattle.mapf_certificate.specs.declared.sizes.Sizes.{Sizes}
 use Rattle.mapf_certificate.specs.declared.tree_line.Due.{Due}
 use Rattle.mapf_certificate.specs.declared.tree_line.Due.TheVariants as dues
 use Rattle.mapf_certificate.specs.Numbers.{field, pair}
-use Rattle.mapf_certificate.specs.Lines.{lacks_end, words, label_words, IsLine, IsTreeLine, width_of, grid_for}
+use Rattle.mapf_certificate.specs.Lines.{lacks_end, words, title_words, count_words, label_words, IsLine, IsCountOnSplit, IsTreeLine, width_of, grid_for}
 use Rattle.mapf_certificate.specs.LineReading.{read_line}
 use Rattle.mapf_certificate.specs.Certificates.{line_text}
 use Rattle.mapf_certificate.proofs.Fields.{both, row-below, same_ok}
@@ -64,22 +66,27 @@ plain-label : (label : Label) → IsLabelInRange label → IsPlain 8 (label_word
 plain-label labels.Never is = plain-more 4 8 _ (omega arith) (plain-word (codes " inf") 4 refl refl)
 plain-label (labels.Ticks n) is = plain-field 32 7 n refl (omega arith) (omega arith) (omega arith)
 
-plain_tree : (sizes : Sizes) (line : CertLine) → IsTreeLine (grid_for sizes) sizes.agents line → IsPlain 64 (words sizes.width line)
-plain_tree sizes (lines.Split (conflicts.Vertex i j cell tick)) (first, second, inside, early) =
-    plain-more 31 64 _ (omega arith)
-    (plain-append 6 25 _ _ (plain-word (codes "vertex") 6 refl refl)
-    (plain-append 4 21 _ _ (plain-field 32 3 i refl (omega arith) (omega (arith, sizes.few.1)) (omega (arith, sizes.few.1)))
-    (plain-append 4 17 _ _ (plain-field 32 3 j refl (omega arith) (omega (arith, sizes.few.1)) (omega (arith, sizes.few.1)))
-    (plain-append 10 7 _ _ (plain-pair sizes.width sizes.height cell sizes.narrow.0 sizes.narrow.1 sizes.low.1 inside)
-    (plain-field 32 6 tick refl (omega arith) (omega arith) (omega arith))))))
-plain_tree sizes (lines.Split (conflicts.Swap i j from to tick)) (first, second, here, there, early) =
-    plain-more 39 64 _ (omega arith)
-    (plain-append 4 35 _ _ (plain-word (codes "swap") 4 refl refl)
-    (plain-append 4 31 _ _ (plain-field 32 3 i refl (omega arith) (omega (arith, sizes.few.1)) (omega (arith, sizes.few.1)))
-    (plain-append 4 27 _ _ (plain-field 32 3 j refl (omega arith) (omega (arith, sizes.few.1)) (omega (arith, sizes.few.1)))
-    (plain-append 10 17 _ _ (plain-pair sizes.width sizes.height from sizes.narrow.0 sizes.narrow.1 sizes.low.1 here)
-    (plain-append 10 7 _ _ (plain-pair sizes.width sizes.height to sizes.narrow.0 sizes.narrow.1 sizes.low.1 there)
-    (plain-field 32 6 tick refl (omega arith) (omega arith) (omega arith)))))))
+plain-count : (version : Version) (agents : ℕ) (blocks : Option ℕ) → agents ≤ 200 → IsCountOnSplit version agents blocks → IsPlain 4 (count_words blocks)
+plain-count version agents None few is = record { ends = refl; short = omega arith }
+plain-count One agents (Some n) few is = cc
+plain-count Two agents (Some n) few is = plain-field 32 3 n refl (omega arith) (omega arith) (omega arith)
+
+plain_tree : (sizes : Sizes) (line : CertLine) → IsTreeLine sizes.version (grid_for sizes) sizes.agents line → IsPlain 64 (words sizes.width line)
+plain_tree sizes (lines.Split (conflicts.Vertex i j cell tick) blocks) ((first, second, inside, early), counted) =
+    plain-more 35 64 _ (omega arith)
+    (plain-append 6 29 _ _ (plain-word (codes "vertex") 6 refl refl)
+    (plain-append 4 25 _ _ (plain-field 32 3 i refl (omega arith) (omega (arith, sizes.few.1)) (omega (arith, sizes.few.1)))
+    (plain-append 4 21 _ _ (plain-field 32 3 j refl (omega arith) (omega (arith, sizes.few.1)) (omega (arith, sizes.few.1)))
+    (plain-append 10 11 _ _ (plain-pair sizes.width sizes.height cell sizes.narrow.0 sizes.narrow.1 sizes.low.1 inside)
+    (plain-append 7 4 _ _ (plain-field 32 6 tick refl (omega arith) (omega arith) (omega arith)) (plain-count sizes.version sizes.agents blocks sizes.few.1 counted))))))
+plain_tree sizes (lines.Split (conflicts.Swap i j from to tick) blocks) ((first, second, here, there, early), counted) =
+    plain-more 43 64 _ (omega arith)
+    (plain-append 4 39 _ _ (plain-word (codes "swap") 4 refl refl)
+    (plain-append 4 35 _ _ (plain-field 32 3 i refl (omega arith) (omega (arith, sizes.few.1)) (omega (arith, sizes.few.1)))
+    (plain-append 4 31 _ _ (plain-field 32 3 j refl (omega arith) (omega (arith, sizes.few.1)) (omega (arith, sizes.few.1)))
+    (plain-append 10 21 _ _ (plain-pair sizes.width sizes.height from sizes.narrow.0 sizes.narrow.1 sizes.low.1 here)
+    (plain-append 10 11 _ _ (plain-pair sizes.width sizes.height to sizes.narrow.0 sizes.narrow.1 sizes.low.1 there)
+    (plain-append 7 4 _ _ (plain-field 32 6 tick refl (omega arith) (omega arith) (omega arith)) (plain-count sizes.version sizes.agents blocks sizes.few.1 counted)))))))
 plain_tree sizes (lines.Leaf blocks) is =
     plain-more 8 64 _ (omega arith) (plain-append 4 4 _ _ (plain-word (codes "leaf") 4 refl refl) (plain-field 32 3 blocks refl (omega arith) (omega (arith, sizes.few.1)) (omega (arith, sizes.few.1))))
 plain_tree sizes (lines.Clash i j) (first, second) =
@@ -100,6 +107,10 @@ plain_tree sizes (lines.At entry) (inside, early, labelled) =
 plain_tree sizes lines.End is = plain-more 3 64 _ (omega arith) (plain-word (codes "end") 3 refl refl)
 plain_tree sizes _ is = absurd is
 
+plain_title : (version : Version) → IsPlain 64 (title_words version)
+plain_title One = plain-more 11 64 _ (omega arith) (plain-word (codes "mapf-cert 1") 11 refl refl)
+plain_title Two = plain-more 11 64 _ (omega arith) (plain-word (codes "mapf-cert 2") 11 refl refl)
+
 plain_agents : (line : CertLine) → IsLine dues.Agents line → IsPlain 64 (words 1 line)
 plain_agents (lines.Agents n) (low, high) =
     plain-more 10 64 _ (omega arith) (plain-append 6 4 _ _ (plain-word (codes "agents") 6 refl refl) (plain-field 32 3 n refl (omega arith) (omega arith) (omega arith)))
@@ -113,7 +124,8 @@ plain_claim _ is = absurd is
 
 -- a line that is due has no LF in it, and at most 64 bytes
 pub plain_line : (due : Due) (line : CertLine) → IsLine due line → IsPlain 64 (words (width_of due) line)
-plain_line dues.Title line is = subst (λ l. IsPlain 64 (words 1 l)) (sym is) (plain-more 11 64 _ (omega arith) (plain-word (codes "mapf-cert 1") 11 refl refl))
+plain_line dues.Title (lines.Title version) is = plain_title version
+plain_line dues.Title _ is = absurd is
 plain_line dues.Agents line is = plain_agents line is
 plain_line dues.Claim line is = plain_claim line is
 plain_line (dues.Tree sizes) line is = plain_tree sizes line is
@@ -149,12 +161,13 @@ some_of word rest h = omega (arith, length-append word rest)
 
 -- a line has a byte
 pub words_some : (width : ℕ) (line : CertLine) → 0 < length (words width line)
-words_some width lines.Title = omega arith
+words_some width (lines.Title One) = omega arith
+words_some width (lines.Title Two) = omega arith
 words_some width (lines.Agents agents) = some_of (codes "agents") (field 32 agents) (omega arith)
 words_some width (lines.Claim (claims.Cost cost)) = some_of (codes "claim cost") (field 32 cost) (omega arith)
 words_some width (lines.Claim claims.Impossible) = omega arith
-words_some width (lines.Split (conflicts.Vertex i j cell tick)) = some_of (codes "vertex") (field 32 i ++ (field 32 j ++ (pair width cell ++ field 32 tick))) (omega arith)
-words_some width (lines.Split (conflicts.Swap i j from to tick)) = some_of (codes "swap") (field 32 i ++ (field 32 j ++ (pair width from ++ (pair width to ++ field 32 tick)))) (omega arith)
+words_some width (lines.Split (conflicts.Vertex i j cell tick) blocks) = some_of (codes "vertex") (field 32 i ++ (field 32 j ++ (pair width cell ++ (field 32 tick ++ count_words blocks)))) (omega arith)
+words_some width (lines.Split (conflicts.Swap i j from to tick) blocks) = some_of (codes "swap") (field 32 i ++ (field 32 j ++ (pair width from ++ (pair width to ++ (field 32 tick ++ count_words blocks))))) (omega arith)
 words_some width (lines.Leaf blocks) = some_of (codes "leaf") (field 32 blocks) (omega arith)
 words_some width (lines.Clash i j) = some_of (codes "clash") (field 32 i ++ field 32 j) (omega arith)
 words_some width (lines.Agent agent entries) = some_of (codes "agent") (field 32 agent ++ field 32 entries) (omega arith)

@@ -31,7 +31,7 @@ IsBlockFor sizes = IsBlockInRange (grid_for sizes) sizes.agents
 
 -- a node in range
 abbrev pub IsNodeFor : Sizes → Node → Type 0
-IsNodeFor sizes = IsNode (grid_for sizes) sizes.agents
+IsNodeFor sizes = IsNode sizes.version (grid_for sizes) sizes.agents
 
 -- the first block is of a lesser agent
 abbrev pub IsOfLesserAgent : LabelBlock → LabelBlock → Type 0
@@ -75,4 +75,4 @@ BeginsWithBlocks sizes count = BeginsWith (List LabelBlock) (AreBlocks sizes cou
 
 -- they begin with a node
 abbrev pub BeginsWithNode : Sizes → List ℕ → Type 0
-BeginsWithNode sizes = BeginsWith Node (IsNodeFor sizes) (node_text sizes.width)
+BeginsWithNode sizes = BeginsWith Node (IsNodeFor sizes) (node_text sizes.version sizes.width)

@@ -5,6 +5,7 @@ use Rattle.mapf_model.specs.declared.item.Claim.{Claim}
 use Rattle.mapf_model.specs.Grid.{GridMap}
 use Rattle.mapf_model.specs.Printed.{IsClaimInRange}
 use Rattle.mapf_model.specs.Tree.{ConstraintTree, Node, SplitNode, LeafNode, ClashNode, Spell}
+use Rattle.mapf_certificate.specs.declared.version.Version.{Version}
 use Rattle.mapf_certificate.specs.declared.cert.Cert.{Cert}
 use Rattle.mapf_certificate.specs.declared.line.CertLine.{CertLine}
 use Rattle.mapf_certificate.specs.declared.line.CertLine.TheVariants as lines
@@ -16,58 +17,58 @@ use Rattle.mapf_certificate.specs.Certificates.{line_text, node_text, header_tex
 
 -- how many subtrees are pending after a node
 abbrev pub trees_owed_after : ℕ → Node → ℕ
-trees_owed_after owed (SplitNode conflict) = owed + 1
+trees_owed_after owed (SplitNode conflict blocks) = owed + 1
 trees_owed_after owed (LeafNode blocks) = owed - 1
 trees_owed_after owed (ClashNode i j) = owed - 1
 
 -- the bytes begin with a header
 abbrev pub HasHeader : ℕ → List ℕ → Type 0
-HasHeader width bytes = BeginsWith (ℕ × Claim) (λ h. IsAgentCount h.0 × IsClaimInRange h.1) (λ h. header_text width h.0 h.1) bytes
+HasHeader width bytes = BeginsWith (Version × ℕ × Claim) (λ h. IsAgentCount h.1 × IsClaimInRange h.2) (λ h. header_text h.0 width h.1 h.2) bytes
 
 -- the bytes are what is still to come of a certificate: some nodes that complete the trees owed, and the end
 abbrev pub IsRestAt : Reading → List ℕ → Type 0
-IsRestAt reading bytes = (nodes : List Node) × IsRest (grid_at reading) (agents_at reading) reading.owed nodes bytes
+IsRestAt reading bytes = (nodes : List Node) × IsRest reading.version (grid_at reading) (agents_at reading) reading.owed nodes bytes
 
 -- what is in the buffer and then still comes from the source spells these nodes, which complete the trees owed, and the end.
 -- Of a source that doesn't tell its bytes this is never so
 pub record Awaits (remaining : Option (List ℕ)) (reading : Reading) (nodes : List Node) : Type 0 where
   pub bytes : List ℕ
   pub known : remaining ≡ Some bytes
-  pub rest : IsRest (grid_at reading) (agents_at reading) reading.owed nodes (reading.buffer.bytes ++ bytes)
+  pub rest : IsRest reading.version (grid_at reading) (agents_at reading) reading.owed nodes (reading.buffer.bytes ++ bytes)
 
 -- the bytes spell a header, then these nodes, which complete so many trees, and the end
-pub record IsCertText (grid : GridMap) (owed agents : ℕ) (claim : Claim) (nodes : List Node) (bytes : List ℕ) : Type 0 where
+pub record IsCertText (grid : GridMap) (owed : ℕ) (version : Version) (agents : ℕ) (claim : Claim) (nodes : List Node) (bytes : List ℕ) : Type 0 where
   pub agents_in_range : IsAgentCount agents
   pub claim_in_range : IsClaimInRange claim
   pub after : List ℕ
-  pub spelled : bytes ≡ header_text grid.width agents claim ++ after
-  pub rest : IsRest grid agents owed nodes after
+  pub spelled : bytes ≡ header_text version grid.width agents claim ++ after
+  pub rest : IsRest version grid agents owed nodes after
 
 -- what is in the buffer and then still comes from the source spells this header, then these nodes, and the end
-pub record AwaitsCert (remaining : Option (List ℕ)) (reading : Reading) (agents : ℕ) (claim : Claim) (nodes : List Node) : Type 0 where
+pub record AwaitsCert (remaining : Option (List ℕ)) (reading : Reading) (version : Version) (agents : ℕ) (claim : Claim) (nodes : List Node) : Type 0 where
   pub bytes : List ℕ
   pub known : remaining ≡ Some bytes
-  pub text : IsCertText (grid_at reading) reading.owed agents claim nodes (reading.buffer.bytes ++ bytes)
+  pub text : IsCertText (grid_at reading) reading.owed version agents claim nodes (reading.buffer.bytes ++ bytes)
 
--- a header was read: its three lines were taken, and what follows it makes a certificate with it, where the source tells
--- its bytes
+-- a header was read: its three lines were taken, of which the first gave the version, and what follows it makes a
+-- certificate with it, where the source tells its bytes
 pub record TakesHeader (had left : Option (List ℕ)) (old new : Reading) (agents : ℕ) (claim : Claim) : Type 0 where
   pub agents_in_range : IsAgentCount agents
   pub claim_in_range : IsClaimInRange claim
-  pub window : Window had left old.buffer new.buffer (header_text old.width agents claim)
-  pub joins : (bytes : List ℕ) → had ≡ Some bytes → (nodes : List Node) → Awaits left new nodes → AwaitsCert had old agents claim nodes
+  pub window : Window had left old.buffer new.buffer (header_text new.version old.width agents claim)
+  pub joins : (bytes : List ℕ) → had ≡ Some bytes → (nodes : List Node) → Awaits left new nodes → AwaitsCert had old new.version agents claim nodes
 
 -- these lines of a node follow this first line of it
-pub record CompletesNode (grid : GridMap) (agents : ℕ) (had left : Option (List ℕ)) (old new : Buffered) (line : CertLine) (node : Node) : Type 0 where
-  pub in_range : IsNode grid agents node
+pub record CompletesNode (version : Version) (grid : GridMap) (agents : ℕ) (had left : Option (List ℕ)) (old new : Buffered) (line : CertLine) (node : Node) : Type 0 where
+  pub in_range : IsNode version grid agents node
   pub taken : List ℕ
-  pub spelled : line_text grid.width line ++ taken ≡ node_text grid.width node
+  pub spelled : line_text grid.width line ++ taken ≡ node_text version grid.width node
   pub window : Window had left old new taken
 
 -- a node was read: its lines were taken, and a tree was owed
 pub record ReadsNode (had left : Option (List ℕ)) (old new : Reading) (node : Node) : Type 0 where
-  pub in_range : IsNode (grid_at old) (agents_at old) node
-  pub window : Window had left old.buffer new.buffer (node_text old.width node)
+  pub in_range : IsNode old.version (grid_at old) (agents_at old) node
+  pub window : Window had left old.buffer new.buffer (node_text old.version old.width node)
   pub was_owed : 1 ≤ old.owed
   pub owed : new.owed ≡ trees_owed_after old.owed node
 
@@ -92,8 +93,8 @@ pub record TakesEnd (had left : Option (List ℕ)) (old new : Reading) : Type 0 
 
 -- the bytes spell a certificate that has the same items
 abbrev pub IsSpelled : GridMap → List ℕ → Cert → Type 0
-IsSpelled grid bytes cert = (tree : ConstraintTree) × SpellsCert grid bytes cert.agents cert.claim tree × Spell cert.tree.items tree
+IsSpelled grid bytes cert = (tree : ConstraintTree) × SpellsCert grid bytes cert.version cert.agents cert.claim tree × Spell cert.tree.items tree
 
--- the certificate has this header, and its items spell this tree
-abbrev pub IsCertOf : ℕ → Claim → ConstraintTree → Cert → Type 0
-IsCertOf agents claim tree cert = (cert.agents ≡ agents) × (cert.claim ≡ claim) × Spell cert.tree.items tree
+-- the certificate is of this version, has this header, and its items spell this tree
+abbrev pub IsCertOf : Version → ℕ → Claim → ConstraintTree → Cert → Type 0
+IsCertOf version agents claim tree cert = (cert.version ≡ version) × (cert.agents ≡ agents) × (cert.claim ≡ claim) × Spell cert.tree.items tree

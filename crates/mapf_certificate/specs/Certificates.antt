@@ -1,5 +1,5 @@
 -- How a certificate is spelled.
-use Rattle.std.specs.Prelude.{◌≡◌, ℕ, ◌<◌, List, [], ◌∷◌, ◌++◌, length, All}
+use Rattle.std.specs.Prelude.{◌≡◌, ℕ, ◌<◌, List, [], ◌∷◌, ◌++◌, length, All, Option, Some, None}
 use Rattle.std.specs.List.{flat_map}
 use Rattle.mapf_model.specs.declared.item.Claim.{Claim}
 use Rattle.mapf_model.specs.declared.item.Item.{Item}
@@ -7,7 +7,9 @@ use Rattle.mapf_model.specs.declared.label.Entry.{Entry}
 use Rattle.mapf_model.specs.Blocks.{LabelBlock}
 use Rattle.mapf_model.specs.Grid.{GridMap, IsGridMap}
 use Rattle.mapf_model.specs.Printed.{IsConflictInRange, AreBlocksInRange, IsClaimInRange, IsTreeInRange}
-use Rattle.mapf_model.specs.Tree.{ConstraintTree, Node, SplitNode, LeafNode, ClashNode, node_of, nodes_of, nodes_of_all}
+use Rattle.mapf_model.specs.Tree.{ConstraintTree, HasLabelsAtLeavesAlone, Node, SplitNode, LeafNode, ClashNode, blocks_of, node_of, nodes_of, nodes_of_all}
+use Rattle.mapf_certificate.specs.declared.version.Version.{Version}
+use Rattle.mapf_certificate.specs.declared.version.Version.TheVariants.{One, Two}
 use Rattle.mapf_certificate.specs.declared.line.CertLine.{CertLine}
 use Rattle.mapf_certificate.specs.declared.line.CertLine.TheVariants as lines
 use Rattle.mapf_certificate.specs.Lines.{words, IsAgentCount}
@@ -32,60 +34,84 @@ block_text width block = line_text width (lines.Agent block.agent (length block.
 abbrev pub blocks_text : ℕ → List LabelBlock → List ℕ
 blocks_text width blocks = flat_map (block_text width) blocks
 
--- the first line of a node
-abbrev pub first_line : Node → CertLine
-first_line (SplitNode conflict) = lines.Split conflict
-first_line (LeafNode blocks) = lines.Leaf (length blocks)
-first_line (ClashNode i j) = lines.Clash i j
+-- what the line of a split with these blocks tells of them: in version 2 their number
+abbrev pub count_on_split : Version → List LabelBlock → Option ℕ
+count_on_split One blocks = None
+count_on_split Two blocks = Some (length blocks)
 
--- the blocks of a node
-abbrev pub blocks_of : Node → List LabelBlock
-blocks_of (SplitNode conflict) = []
-blocks_of (LeafNode blocks) = blocks
-blocks_of (ClashNode i j) = []
+-- the first line of a node
+abbrev pub first_line : Version → Node → CertLine
+first_line version (SplitNode conflict blocks) = lines.Split conflict (count_on_split version blocks)
+first_line version (LeafNode blocks) = lines.Leaf (length blocks)
+first_line version (ClashNode i j) = lines.Clash i j
 
 -- the lines of a node, without those of its children
-abbrev pub node_text : ℕ → Node → List ℕ
-node_text width node = line_text width (first_line node) ++ blocks_text width (blocks_of node)
+abbrev pub node_text : Version → ℕ → Node → List ℕ
+node_text version width node = line_text width (first_line version node) ++ blocks_text width (blocks_of node)
 
 -- the lines of an item
-abbrev pub item_text : ℕ → Item → List ℕ
-item_text width item = node_text width (node_of item)
+abbrev pub item_text : Version → ℕ → Item → List ℕ
+item_text version width item = node_text version width (node_of item)
 
 -- the first three lines
-abbrev pub header_text : ℕ → ℕ → Claim → List ℕ
-header_text width agents claim = line_text width lines.Title ++ (line_text width (lines.Agents agents) ++ line_text width (lines.Claim claim))
+abbrev pub header_text : Version → ℕ → ℕ → Claim → List ℕ
+header_text version width agents claim = line_text width (lines.Title version) ++ (line_text width (lines.Agents agents) ++ line_text width (lines.Claim claim))
 
 -- nodes, and the end
-abbrev pub rest_text : ℕ → List Node → List ℕ
-rest_text width nodes = flat_map (node_text width) nodes ++ line_text width lines.End
+abbrev pub rest_text : Version → ℕ → List Node → List ℕ
+rest_text version width nodes = flat_map (node_text version width) nodes ++ line_text width lines.End
 
 -- the whole text: the header, the nodes in pre-order, and the end
-abbrev pub cert_text : ℕ → ℕ → Claim → List Node → List ℕ
-cert_text width agents claim nodes = header_text width agents claim ++ rest_text width nodes
+abbrev pub cert_text : Version → ℕ → ℕ → Claim → List Node → List ℕ
+cert_text version width agents claim nodes = header_text version width agents claim ++ rest_text version width nodes
+
+-- the blocks that a split may carry: none in version 1
+abbrev pub MayBeOnSplit : Version → List LabelBlock → Type 0
+MayBeOnSplit One blocks = blocks ≡ []
+MayBeOnSplit Two blocks = Unit {0}
+
+-- the blocks of the node may stand there: in version 1 a split has none
+abbrev pub IsNodeOfVersion : Version → Node → Type 0
+IsNodeOfVersion version (SplitNode conflict blocks) = MayBeOnSplit version blocks
+IsNodeOfVersion version (LeafNode blocks) = Unit {0}
+IsNodeOfVersion version (ClashNode i j) = Unit {0}
+
+-- the blocks of the tree stand where they may: in version 1 at leaves alone
+abbrev pub IsTreeOfVersion : Version → ConstraintTree → Type 0
+IsTreeOfVersion One tree = HasLabelsAtLeavesAlone tree
+IsTreeOfVersion Two tree = Unit {0}
 
 -- these bytes spell this certificate on a grid
-pub record SpellsCert (grid : GridMap) (bytes : List ℕ) (agents : ℕ) (claim : Claim) (tree : ConstraintTree) : Type 0 where
+pub record SpellsCert (grid : GridMap) (bytes : List ℕ) (version : Version) (agents : ℕ) (claim : Claim) (tree : ConstraintTree) : Type 0 where
   pub agents_in_range : IsAgentCount agents
   pub claim_in_range : IsClaimInRange claim
   pub tree_in_range : IsTreeInRange grid agents tree
-  pub spelled : bytes ≡ cert_text grid.width agents claim (nodes_of tree)
+  pub tree_of_version : IsTreeOfVersion version tree
+  pub spelled : bytes ≡ cert_text version grid.width agents claim (nodes_of tree)
 
--- a node with its numbers in their ranges and its blocks in their orders
-abbrev pub IsNode : GridMap → ℕ → Node → Type 0
-IsNode grid agents (SplitNode conflict) = IsConflictInRange grid agents conflict
-IsNode grid agents (LeafNode blocks) = AreBlocksInRange grid agents blocks
-IsNode grid agents (ClashNode i j) = (i < agents) × (j < agents)
+-- a node of a certificate of this version, with its numbers in their ranges and its blocks in their orders
+abbrev pub IsNode : Version → GridMap → ℕ → Node → Type 0
+IsNode version grid agents (SplitNode conflict blocks) = IsConflictInRange grid agents conflict × AreBlocksInRange grid agents blocks × MayBeOnSplit version blocks
+IsNode version grid agents (LeafNode blocks) = AreBlocksInRange grid agents blocks
+IsNode version grid agents (ClashNode i j) = (i < agents) × (j < agents)
+
+-- a tree of a certificate of this version, in range
+abbrev pub IsCertTree : Version → GridMap → ℕ → ConstraintTree → Type 0
+IsCertTree version grid agents tree = IsTreeInRange grid agents tree × IsTreeOfVersion version tree
 
 -- what is still to come of a certificate: nodes that complete so many trees, and the end
-pub record IsRest (grid : GridMap) (agents owed : ℕ) (nodes : List Node) (bytes : List ℕ) : Type 0 where
+pub record IsRest (version : Version) (grid : GridMap) (agents owed : ℕ) (nodes : List Node) (bytes : List ℕ) : Type 0 where
   pub trees : List ConstraintTree
   pub count : length trees ≡ owed
-  pub in_range : All (IsTreeInRange grid agents) trees
+  pub in_range : All (IsCertTree version grid agents) trees
   pub same : nodes ≡ nodes_of_all trees
-  pub spelled : bytes ≡ rest_text grid.width nodes
+  pub spelled : bytes ≡ rest_text version grid.width nodes
 
--- no bytes spell two certificates
+-- no bytes spell two certificates, neither in one version nor in two
 abbrev pub SpellsOneCert : Type 0
-SpellsOneCert = (grid : GridMap) (bytes : List ℕ) (agents agents' : ℕ) (claim claim' : Claim) (tree tree' : ConstraintTree) → IsGridMap grid
-    → SpellsCert grid bytes agents claim tree → SpellsCert grid bytes agents' claim' tree' → (agents ≡ agents') × (claim ≡ claim') × (tree ≡ tree')
+SpellsOneCert = (grid : GridMap) (bytes : List ℕ) (version version' : Version) (agents agents' : ℕ) (claim claim' : Claim) (tree tree' : ConstraintTree) → IsGridMap grid
+    → SpellsCert grid bytes version agents claim tree → SpellsCert grid bytes version' agents' claim' tree' → (version ≡ version') × (agents ≡ agents') × (claim ≡ claim') × (tree ≡ tree')
+
+-- the new text spells in version 2 what the old one spells in version 1
+abbrev pub IsConverted : GridMap → List ℕ → List ℕ → Type 0
+IsConverted grid old new = (agents : ℕ) × (claim : Claim) × (tree : ConstraintTree) × SpellsCert grid old One agents claim tree × SpellsCert grid new Two agents claim tree

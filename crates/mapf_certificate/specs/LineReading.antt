@@ -1,5 +1,5 @@
 -- What the lines of a certificate are read to.
-use Rattle.std.specs.Prelude.{ℕ, ◌^◌, ◌-◌, List, codes, Result, Ok, Err, if◌then◌else◌}
+use Rattle.std.specs.Prelude.{ℕ, ◌^◌, ◌-◌, List, [], ◌∷◌, codes, Option, Some, None, Result, Ok, Err, if◌then◌else◌}
 use Rattle.std.specs.Str.{bytes_eq}
 use Rattle.std.specs.Option.{option_map_or}
 use Rattle.mapf_model.specs.Limits.{most_agents, greatest_cost, greatest_sum, last_split_tick}
@@ -7,6 +7,8 @@ use Rattle.mapf_model.specs.declared.conflict.Conflict.TheVariants as conflicts
 use Rattle.mapf_model.specs.declared.item.Claim.TheVariants as claims
 use Rattle.mapf_model.specs.declared.label.Label.{Label}
 use Rattle.mapf_model.specs.declared.label.Label.TheVariants as labels
+use Rattle.mapf_certificate.specs.declared.version.Version.{Version}
+use Rattle.mapf_certificate.specs.declared.version.Version.TheVariants.{One, Two}
 use Rattle.mapf_certificate.specs.declared.line.CertLine.{CertLine}
 use Rattle.mapf_certificate.specs.declared.line.CertLine.TheVariants as lines
 use Rattle.mapf_certificate.specs.declared.line.LineFault.{LineFault}
@@ -20,7 +22,9 @@ use Rattle.mapf_certificate.specs.Numbers.{◌>>=◌, strip, read_field, read_la
 
 -- the title
 unfoldable pub read_title : List ℕ → Result CertLine LineFault
-read_title bs = if bytes_eq bs (codes "mapf-cert 1") then Ok lines.Title else Err Shape
+read_title bs =
+    if bytes_eq bs (codes "mapf-cert 1") then Ok (lines.Title One) else
+    if bytes_eq bs (codes "mapf-cert 2") then Ok (lines.Title Two) else Err Shape
 
 -- a number of agents
 unfoldable pub read_count : List ℕ → Result ℕ LineFault
@@ -40,18 +44,31 @@ read_claim bs =
     if bytes_eq bs (codes "claim impossible") then Ok (lines.Claim claims.Impossible) else
     option_map_or (λ rest. read_cost rest >>= λ n. Ok (lines.Claim (claims.Cost n))) (strip (codes "claim cost") bs) (Err Shape)
 
+-- the number of blocks at the end of a split's line, which version 1 doesn't tell
+unfoldable pub read_blocks : Version → List ℕ → Result (Option (Option ℕ)) LineFault
+read_blocks One [] = Ok None
+read_blocks One (b ∷ bs) = Err Shape
+read_blocks Two bs = read_last 32 bs >>= λ n. Ok (Some n)
+
+-- this number in its range
+abbrev pub blocks_in_range : ℕ → Option (Option ℕ) → Result (Option ℕ) LineFault
+blocks_in_range agents None = Ok None
+blocks_in_range agents (Some blocks) = in_range 0 agents blocks >>= λ n. Ok (Some n)
+
 -- a split on a vertex conflict
 unfoldable pub read_vertex : Sizes → List ℕ → Result CertLine LineFault
 read_vertex sizes bs = do
   i ← read_field 32 bs
   j ← read_field 32 i.1
   at ← read_pair j.1
-  tick ← read_last 32 at.2
+  tick ← read_field 32 at.2
+  blocks ← read_blocks sizes.version tick.1
   first ← below sizes.agents i.0
   second ← below sizes.agents j.0
   cell ← read_cell sizes.width sizes.height at.0 at.1
-  ticks ← in_range 0 last_split_tick tick
-  Ok (lines.Split (conflicts.Vertex first second cell ticks))
+  ticks ← in_range 0 last_split_tick tick.0
+  count ← blocks_in_range sizes.agents blocks
+  Ok (lines.Split (conflicts.Vertex first second cell ticks) count)
 
 -- a split on a swapping conflict
 unfoldable pub read_swap : Sizes → List ℕ → Result CertLine LineFault
@@ -60,13 +77,15 @@ read_swap sizes bs = do
   j ← read_field 32 i.1
   here ← read_pair j.1
   there ← read_pair here.2
-  tick ← read_last 32 there.2
+  tick ← read_field 32 there.2
+  blocks ← read_blocks sizes.version tick.1
   first ← below sizes.agents i.0
   second ← below sizes.agents j.0
   from ← read_cell sizes.width sizes.height here.0 here.1
   to ← read_cell sizes.width sizes.height there.0 there.1
-  ticks ← in_range 0 last_split_tick tick
-  Ok (lines.Split (conflicts.Swap first second from to ticks))
+  ticks ← in_range 0 last_split_tick tick.0
+  count ← blocks_in_range sizes.agents blocks
+  Ok (lines.Split (conflicts.Swap first second from to ticks) count)
 
 -- a leaf
 unfoldable pub read_leaf : Sizes → List ℕ → Result CertLine LineFault

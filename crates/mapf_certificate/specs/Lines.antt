@@ -1,5 +1,5 @@
 -- The lines of a certificate: how they are spelled, and in which ranges.
-use Rattle.std.specs.Prelude.{◌≡◌, ◌≤◌, ◌<◌, ◌==◌, Bool, true, not, ℕ, ◌^◌, List, [], ◌∷◌, ◌++◌, codes, ⊤}
+use Rattle.std.specs.Prelude.{◌≡◌, ◌≤◌, ◌<◌, ◌==◌, Bool, true, not, ℕ, ◌^◌, List, [], ◌∷◌, ◌++◌, codes, Option, Some, None, ⊤}
 use Rattle.std.specs.List.{list_all}
 use Rattle.mapf_model.specs.declared.item.Claim.TheVariants as claims
 use Rattle.mapf_model.specs.declared.conflict.Conflict.{Conflict}
@@ -9,6 +9,8 @@ use Rattle.mapf_model.specs.declared.label.Label.TheVariants as labels
 use Rattle.mapf_model.specs.Limits.{most_agents}
 use Rattle.mapf_model.specs.Grid.{GridMap}
 use Rattle.mapf_model.specs.Printed.{IsEntryInRange, IsConflictInRange, IsClaimInRange}
+use Rattle.mapf_certificate.specs.declared.version.Version.{Version}
+use Rattle.mapf_certificate.specs.declared.version.Version.TheVariants.{One, Two}
 use Rattle.mapf_certificate.specs.declared.line.CertLine.{CertLine}
 use Rattle.mapf_certificate.specs.declared.line.CertLine.TheVariants as lines
 use Rattle.mapf_certificate.specs.declared.sizes.Sizes.{Sizes}
@@ -21,18 +23,28 @@ abbrev pub label_words : Label → List ℕ
 label_words (labels.Ticks ticks) = field 32 ticks
 label_words labels.Never = codes " inf"
 
+-- the first line of a certificate, without its LF
+abbrev pub title_words : Version → List ℕ
+title_words One = codes "mapf-cert 1"
+title_words Two = codes "mapf-cert 2"
+
+-- a blank and the number of blocks on a split; nothing where the line doesn't tell it
+abbrev pub count_words : Option ℕ → List ℕ
+count_words None = []
+count_words (Some blocks) = field 32 blocks
+
 -- the line of a split, without its LF
-abbrev pub conflict_words : ℕ → Conflict → List ℕ
-conflict_words width (conflicts.Vertex i j cell tick) = codes "vertex" ++ (field 32 i ++ (field 32 j ++ (pair width cell ++ field 32 tick)))
-conflict_words width (conflicts.Swap i j from to tick) = codes "swap" ++ (field 32 i ++ (field 32 j ++ (pair width from ++ (pair width to ++ field 32 tick))))
+abbrev pub split_words : ℕ → Conflict → Option ℕ → List ℕ
+split_words width (conflicts.Vertex i j cell tick) blocks = codes "vertex" ++ (field 32 i ++ (field 32 j ++ (pair width cell ++ (field 32 tick ++ count_words blocks))))
+split_words width (conflicts.Swap i j from to tick) blocks = codes "swap" ++ (field 32 i ++ (field 32 j ++ (pair width from ++ (pair width to ++ (field 32 tick ++ count_words blocks)))))
 
 -- a line without its LF, on a grid of this width
 abbrev pub words : ℕ → CertLine → List ℕ
-words width lines.Title = codes "mapf-cert 1"
+words width (lines.Title version) = title_words version
 words width (lines.Agents agents) = codes "agents" ++ field 32 agents
 words width (lines.Claim (claims.Cost cost)) = codes "claim cost" ++ field 32 cost
 words width (lines.Claim claims.Impossible) = codes "claim impossible"
-words width (lines.Split conflict) = conflict_words width conflict
+words width (lines.Split conflict blocks) = split_words width conflict blocks
 words width (lines.Leaf blocks) = codes "leaf" ++ field 32 blocks
 words width (lines.Clash i j) = codes "clash" ++ (field 32 i ++ field 32 j)
 words width (lines.Agent agent entries) = codes "agent" ++ (field 32 agent ++ field 32 entries)
@@ -51,17 +63,29 @@ grid_of width height = record { width = width; height = height; free = [] }
 abbrev pub grid_for : Sizes → GridMap
 grid_for sizes = grid_of sizes.width sizes.height
 
+-- what the line of a split tells of its blocks: nothing in version 1, in version 2 their number, at most one for each
+-- agent
+abbrev pub IsCountOnSplit : Version → ℕ → Option ℕ → Type 0
+IsCountOnSplit One agents blocks = blocks ≡ None
+IsCountOnSplit Two agents None = ⊥
+IsCountOnSplit Two agents (Some blocks) = blocks ≤ agents
+
 -- a line of a tree, or `end`, with its numbers in their ranges
-abbrev pub IsTreeLine : GridMap → ℕ → CertLine → Type 0
-IsTreeLine grid agents lines.Title = ⊥
-IsTreeLine grid agents (lines.Agents count) = ⊥
-IsTreeLine grid agents (lines.Claim claim) = ⊥
-IsTreeLine grid agents (lines.Split conflict) = IsConflictInRange grid agents conflict
-IsTreeLine grid agents (lines.Leaf blocks) = blocks ≤ agents
-IsTreeLine grid agents (lines.Clash i j) = (i < agents) × (j < agents)
-IsTreeLine grid agents (lines.Agent agent entries) = (agent < agents) × (1 ≤ entries) × (entries < 2 ^ 64)
-IsTreeLine grid agents (lines.At entry) = IsEntryInRange grid entry
-IsTreeLine grid agents lines.End = ⊤
+abbrev pub IsTreeLine : Version → GridMap → ℕ → CertLine → Type 0
+IsTreeLine version grid agents (lines.Title v) = ⊥
+IsTreeLine version grid agents (lines.Agents count) = ⊥
+IsTreeLine version grid agents (lines.Claim claim) = ⊥
+IsTreeLine version grid agents (lines.Split conflict blocks) = IsConflictInRange grid agents conflict × IsCountOnSplit version agents blocks
+IsTreeLine version grid agents (lines.Leaf blocks) = blocks ≤ agents
+IsTreeLine version grid agents (lines.Clash i j) = (i < agents) × (j < agents)
+IsTreeLine version grid agents (lines.Agent agent entries) = (agent < agents) × (1 ≤ entries) × (entries < 2 ^ 64)
+IsTreeLine version grid agents (lines.At entry) = IsEntryInRange grid entry
+IsTreeLine version grid agents lines.End = ⊤
+
+-- the first line, of any version
+abbrev pub IsTitleLine : CertLine → Type 0
+IsTitleLine (lines.Title version) = ⊤
+IsTitleLine _ = ⊥
 
 -- a claim in range
 abbrev pub IsClaimLine : CertLine → Type 0
@@ -75,10 +99,10 @@ IsAgentsLine _ = ⊥
 
 -- a line that is due, with its numbers in their ranges
 abbrev pub IsLine : Due → CertLine → Type 0
-IsLine dues.Title line = line ≡ lines.Title
+IsLine dues.Title line = IsTitleLine line
 IsLine dues.Agents line = IsAgentsLine line
 IsLine dues.Claim line = IsClaimLine line
-IsLine (dues.Tree sizes) line = IsTreeLine (grid_for sizes) sizes.agents line
+IsLine (dues.Tree sizes) line = IsTreeLine sizes.version (grid_for sizes) sizes.agents line
 
 -- the width by which a line's pairs are told; lines without pairs need none
 abbrev pub width_of : Due → ℕ

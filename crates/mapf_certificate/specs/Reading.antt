@@ -3,16 +3,19 @@ use Rattle.std.specs.Prelude.{◌≡◌, ◌+◌, ◌≤◌, ◌^◌, ℕ, Bool,
 use Rattle.mapf_model.specs.declared.item.Claim.{Claim}
 use Rattle.mapf_model.specs.Limits.{greatest_side}
 use Rattle.mapf_model.specs.Grid.{GridMap}
+use Rattle.mapf_certificate.specs.declared.version.Version.{Version}
 use Rattle.mapf_certificate.specs.declared.cert.LinesFault.{LinesFault}
 use Rattle.mapf_certificate.specs.Lines.{IsAgentCount, grid_of}
 use Rattle.mapf_certificate.specs.Buffered.{Buffered, spare}
 use Rattle.mapf_certificate.specs.Window.{IsNotTextMemory}
 
--- how far a certificate was read: the grid's sizes, what is left in the buffer, and what the header said
+-- how far a certificate was read: the grid's sizes, what is left in the buffer, and what the header said, the version
+-- too: it means nothing before the header was read
 pub record Reading : Type 0 where
   pub width : ℕ
   pub height : ℕ
   pub buffer : Buffered
+  pub version : Version
   pub header : Option (ℕ × Claim)
   pub fault : Option LinesFault
   pub is_whole : Bool

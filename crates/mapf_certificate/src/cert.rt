@@ -1,9 +1,11 @@
+use crate::version::Version;
 use mapf_model::{Claim, Item};
 
-/// A certificate: for how many agents it is, 1 to 200, what it claims, and the items of a constraint
-/// tree in pre-order.
+/// A certificate: the version of its text, for how many agents it is, 1 to 200, what it claims, and the
+/// items of a constraint tree in pre-order. In version 1 no split has blocks.
 #[derive(Debug, Drop)]
 pub struct Cert {
+    pub version: Version,
     pub agents: u32,
     pub claim: Claim,
     pub tree: Vec<Item>,

@@ -3,12 +3,14 @@ ghost use Rattle.mapf_certificate.specs.Buffered.{spare};
 ghost use Rattle.mapf_certificate.specs.CertReading.{HasHeader, IsRestAt, Awaits, AwaitsCert, CompletesNode};
 ghost use Rattle.mapf_certificate.specs.CertReading.{TakesHeader, TakesNode, TakesEnd, ReadsEnd, trees_owed_after};
 ghost use Rattle.mapf_certificate.specs.Certificates.{line_text, node_text, header_text};
-ghost use Rattle.mapf_certificate.specs.Lines.{IsAgentCount, IsTreeLine, grid_for};
+ghost use Rattle.mapf_certificate.specs.Lines.{IsAgentCount, IsTitleLine, IsTreeLine, grid_for};
 ghost use Rattle.mapf_certificate.specs.Reading.{Reading, IfUnfaulted, IfHeaderDue, IfItemDue, grid_at, agents_at};
 ghost use Rattle.mapf_certificate.specs.Untouched.{IsUntouched, RefusesThere, TakesThere};
 ghost use Rattle.mapf_certificate.specs.Window.{Window, BeginsWith, Fails, Pulls, IsNotTextMemory, IsNoTextFault};
 ghost use Rattle.mapf_certificate.specs.declared.line.CertLine.{CertLine};
-ghost use Rattle.mapf_certificate.specs.declared.line.CertLine.TheVariants.{End, Title};
+ghost use Rattle.mapf_certificate.specs.declared.line.CertLine.TheVariants.{End};
+ghost use Rattle.mapf_certificate.specs.declared.version.Version.{Version};
+ghost use Rattle.mapf_certificate.specs.declared.version.Version.TheVariants.{One};
 ghost use Rattle.mapf_model.specs.Limits.{greatest_side};
 ghost use Rattle.mapf_model.specs.declared.item.Claim.{Claim};
 ghost use Rattle.mapf_model.specs.Printed.{IsClaimInRange};
@@ -22,6 +24,7 @@ use crate::line::CertLine;
 use crate::lines::Lines;
 use crate::sizes::Sizes;
 use crate::tree_line::Due;
+use crate::version::Version;
 use mapf_model::{Claim, Item, OutOfMemory, Source};
 use std::alloc::Global;
 use std::marker::Model;
@@ -34,6 +37,8 @@ pub struct CertLines {
     width: u32,
     height: u32,
     lines: Lines,
+    // What the first line said, where the header was read.
+    version: Version,
     header: Option<(u32, Claim)>,
     // The fault that was answered.
     fault: Option<LinesFault>,
@@ -54,6 +59,7 @@ impl Model for CertLines {
       width = l.width;
       height = l.height;
       buffer = l.lines.buffer;
+      version = l.version;
       header = l.header;
       fault = l.fault;
       is_whole = l.is_whole;
@@ -64,6 +70,7 @@ impl Model for CertLines {
       width = l.width;
       height = l.height;
       buffer = l.lines.buffer;
+      version = l.version;
       header = l.header;
       fault = l.fault;
       is_whole = l.is_whole;
@@ -87,6 +94,7 @@ impl CertLines {
           width = width;
           height = height;
           buffer = record { bytes = []; left = limit };
+          version = One;
           header = None;
           fault = None;
           is_whole = false;
@@ -98,6 +106,7 @@ impl CertLines {
             width,
             height,
             lines: Lines::open(alloc, limit)?,
+            version: Version::One,
             header: None,
             fault: None,
             is_whole: false,
@@ -110,6 +119,14 @@ impl CertLines {
     /// says which line it is; it is tested.
     pub fn line(&self) -> u64 {
         self.item_line
+    }
+
+    /// The version of the text, where the header was read.
+    pub fn version(&self) -> Version
+        requires { IsSome self.now.header }
+        ensures { result ≡ self.now.version }
+    {
+        self.version
     }
 
     /// The number of agents, 1 to 200, and the claim.
@@ -128,17 +145,18 @@ impl CertLines {
         ensures fails { IfUnfaulted self.old (IfErr result
             (Fails (S.remaining source.old) (S.remaining source.new) (S.has_failed source.new)
             self.old.buffer (HasHeader self.old.width))) }
-        ensures only { (agents : ℕ) (claim : Claim) (nodes : List Node)
-            → IfHeaderDue self.old (AwaitsCert (S.remaining source.old) self.old agents claim nodes
-            → MatchResult result
-            (λ h. (h.0 ≡ agents) × (h.1 ≡ claim) × Awaits (S.remaining source.new) self.new nodes) IsNoTextFault) }
+        ensures only { (version : Version) (agents : ℕ) (claim : Claim) (nodes : List Node)
+            → IfHeaderDue self.old (AwaitsCert (S.remaining source.old) self.old version agents claim nodes
+            → MatchResult result (λ h. (self.new.version ≡ version) × (h.0 ≡ agents) × (h.1 ≡ claim)
+            × Awaits (S.remaining source.new) self.new nodes) IsNoTextFault) }
 
         // Where the header's lines were all in the buffer, the source is as it was.
         ensures there { IfHeaderDue self.old (IfOk result (λ h.
-            TakesThere source.old source.new self.old.buffer self.new.buffer (header_text self.old.width h.0 h.1))) }
+            TakesThere source.old source.new self.old.buffer self.new.buffer
+            (header_text self.new.version self.old.width h.0 h.1))) }
         // Nor is it touched where a line is in the buffer that isn't the first of a certificate.
         ensures refused { IfUnfaulted self.old (RefusesThere source.old source.new self.old.buffer
-            (BeginsWith CertLine (λ line. line ≡ Title) (line_text 1))) }
+            (BeginsWith CertLine IsTitleLine (line_text 1))) }
         // Whether the source failed, and how many bytes came of it; a fault of the text is never out of memory.
         ensures device { IfUnfaulted self.old
             (IsErrOf result LinesFault.Device ↔ (S.has_failed source.new ≡ true)) }
@@ -159,12 +177,17 @@ impl CertLines {
         if let Some(header) = self.header {
             return Ok(header);
         }
-        let read = read_header(&mut self.lines, source);
-        match read {
-            Ok(header) => self.header = Some(header),
-            Err(fault) => self.fault = Some(fault),
+        match read_header(&mut self.lines, source) {
+            Ok((version, agents, claim)) => {
+                self.version = version;
+                self.header = Some((agents, claim));
+                Ok((agents, claim))
+            }
+            Err(why) => {
+                self.fault = Some(why);
+                Err(why)
+            }
         }
-        read
     }
 
     /// The next item of the tree, or None where the whole certificate was read.
@@ -196,10 +219,11 @@ impl CertLines {
         // Where the item's lines were all in the buffer, the source is as it was.
         ensures there { IfUnfaulted self.old (IfOk result (λ o. IfSome o (λ item.
             TakesThere source.old source.new self.old.buffer self.new.buffer
-            (node_text self.old.width (node_of item))))) }
+            (node_text self.old.version self.old.width (node_of item))))) }
         // Nor is it touched where a line is in the buffer that is none of a tree, nor `end`.
         ensures refused { IfUnfaulted self.old (RefusesThere source.old source.new self.old.buffer
-            (BeginsWith CertLine (IsTreeLine (grid_at self.old) (agents_at self.old)) (line_text self.old.width))) }
+            (BeginsWith CertLine (IsTreeLine self.old.version (grid_at self.old) (agents_at self.old))
+            (line_text self.old.width))) }
         // Whether the source failed, and how many bytes came of it; a fault of the text is never out of memory.
         ensures device { IfUnfaulted self.old
             (IsErrOf result LinesFault.Device ↔ (S.has_failed source.new ≡ true)) }
@@ -209,7 +233,7 @@ impl CertLines {
 
         ensures grid { (self.new.width ≡ self.old.width) × (self.new.height ≡ self.old.height) }
         ensures part { IfOk result (λ o. IsSome o → self.new.is_whole ≡ false) }
-        ensures known { self.new.header ≡ self.old.header }
+        ensures known { (self.new.version ≡ self.old.version) × (self.new.header ≡ self.old.header) }
         ensures unfaulted { OnOk result (self.new.fault ≡ None) }
         ensures works { OnOk result (S.has_failed source.new ≡ false) }
         ensures nearer { IfOk result (λ o. IsSome o → spare self.new.buffer < spare self.old.buffer) }
@@ -237,7 +261,7 @@ impl CertLines {
         requires works { S.has_failed source.old ≡ false }
         requires header { IsSome self.old.header }
         ensures unfaulted { self.new.fault ≡ self.old.fault }
-        ensures header { self.new.header ≡ self.old.header }
+        ensures header { (self.new.version ≡ self.old.version) × (self.new.header ≡ self.old.header) }
         ensures part { self.new.is_whole ≡ self.old.is_whole }
         ensures grid { (self.new.width ≡ self.old.width) × (self.new.height ≡ self.old.height) }
         ensures item { IfOk result (λ o. IfSome o (λ item.
@@ -245,10 +269,11 @@ impl CertLines {
         ensures end { IfOk result (λ o. o ≡ None
             → ReadsEnd (S.remaining source.old) (S.remaining source.new) self.old self.new) }
         ensures refused { RefusesThere source.old source.new self.old.buffer
-            (BeginsWith CertLine (IsTreeLine (grid_at self.old) (agents_at self.old)) (line_text self.old.width)) }
+            (BeginsWith CertLine (IsTreeLine self.old.version (grid_at self.old) (agents_at self.old))
+            (line_text self.old.width)) }
         ensures there { IfOk result (λ o. IfSome o (λ item.
             TakesThere source.old source.new self.old.buffer self.new.buffer
-            (node_text self.old.width (node_of item)))) }
+            (node_text self.old.version self.old.width (node_of item)))) }
         ensures fails { IfErr result (Fails (S.remaining source.old) (S.remaining source.new) (S.has_failed source.new)
             self.old.buffer (IsRestAt self.old)) }
         ensures same { (node : Node) (nodes : List Node) → Awaits (S.remaining source.old) self.old (node ∷ nodes)
@@ -259,6 +284,7 @@ impl CertLines {
     {
         let (agents, _) = self.header.unwrap();
         let sizes = Sizes {
+            version: self.version,
             width: self.width,
             height: self.height,
             agents,
@@ -316,48 +342,56 @@ fn item_of<S: Source>(
     line: &CertLine,
 ) -> Result<Item, LinesFault>
     requires works { S.has_failed source.old ≡ false }
-    requires line { IsTreeLine (grid_for sizes.now) sizes.now.agents line.now }
+    requires line { IsTreeLine sizes.now.version (grid_for sizes.now) sizes.now.agents line.now }
     ensures works { OnOk result (S.has_failed source.new ≡ false) }
     ensures spare { spare lines.new.buffer ≤ spare lines.old.buffer }
-    ensures item { IfOk result (λ item. CompletesNode (grid_for sizes.now) sizes.now.agents
+    ensures item { IfOk result (λ item. CompletesNode sizes.now.version (grid_for sizes.now) sizes.now.agents
         (S.remaining source.old) (S.remaining source.new)
         lines.old.buffer lines.new.buffer line.now (node_of item)) }
     ensures there { IfOk result (λ item. (taken : List ℕ)
-        → line_text sizes.now.width line.now ++ taken ≡ node_text sizes.now.width (node_of item)
+        → line_text sizes.now.width line.now ++ taken ≡ node_text sizes.now.version sizes.now.width (node_of item)
         → TakesThere source.old source.new lines.old.buffer lines.new.buffer taken) }
     ensures fails { IfErr result (Fails (S.remaining source.old) (S.remaining source.new) (S.has_failed source.new)
         lines.old.buffer (λ text. BeginsWithNode sizes.now (line_text sizes.now.width line.now ++ text))) }
 {
     match *line {
-        CertLine::Split(conflict) => Ok(Item::split(conflict)),
+        CertLine::Split { conflict, blocks } => {
+            let blocks = lines.blocks(alloc, source, sizes, blocks.unwrap_or(0))?;
+            Ok(Item::split(conflict, blocks))
+        }
         CertLine::Leaf(count) => Ok(Item::Leaf(lines.blocks(alloc, source, sizes, count)?)),
         CertLine::Clash { i, j } => Ok(Item::Clash { i, j }),
         _ => Err(lines.misfit()),
     }
 }
 
-fn read_header<S: Source>(lines: &mut Lines, source: &mut S) -> Result<(u32, Claim), LinesFault>
+fn read_header<S: Source>(
+    lines: &mut Lines,
+    source: &mut S,
+) -> Result<(Version, u32, Claim), LinesFault>
     requires { S.has_failed source.old ≡ false }
-    ensures agents { IfOk result (λ h. IsAgentCount h.0) }
-    ensures claim { IfOk result (λ h. IsClaimInRange h.1) }
+    ensures agents { IfOk result (λ h. IsAgentCount h.1) }
+    ensures claim { IfOk result (λ h. IsClaimInRange h.2) }
     ensures refused { RefusesThere source.old source.new lines.old.buffer
-        (BeginsWith CertLine (λ line. line ≡ Title) (line_text 1)) }
+        (BeginsWith CertLine IsTitleLine (line_text 1)) }
     ensures there { (width : ℕ) → IfOk result (λ h.
-        TakesThere source.old source.new lines.old.buffer lines.new.buffer (header_text width h.0 h.1)) }
+        TakesThere source.old source.new lines.old.buffer lines.new.buffer (header_text h.0 width h.1 h.2)) }
     ensures works { OnOk result (S.has_failed source.new ≡ false) }
     ensures spare { spare lines.new.buffer ≤ spare lines.old.buffer }
     ensures taken { (width : ℕ) → IfOk result (λ h. Window (S.remaining source.old) (S.remaining source.new)
-        lines.old.buffer lines.new.buffer (header_text width h.0 h.1)) }
+        lines.old.buffer lines.new.buffer (header_text h.0 width h.1 h.2)) }
     ensures fails { (width : ℕ) → IfErr result
         (Fails (S.remaining source.old) (S.remaining source.new) (S.has_failed source.new)
         lines.old.buffer (HasHeader width)) }
 {
-    lines.next(source, &Due::Title)?;
+    let CertLine::Title(version) = lines.next(source, &Due::Title)? else {
+        return Err(lines.misfit());
+    };
     let CertLine::Agents(agents) = lines.next(source, &Due::Agents)? else {
         return Err(lines.misfit());
     };
     let CertLine::Claim(claim) = lines.next(source, &Due::Claim)? else {
         return Err(lines.misfit());
     };
-    Ok((agents, claim))
+    Ok((version, agents, claim))
 }

@@ -1,6 +1,7 @@
 ghost use Rattle.mapf_certificate.specs.CertReading.{IsSpelled, IsCertOf, AwaitsCert};
 ghost use Rattle.mapf_certificate.specs.Certificates.{SpellsCert};
 ghost use Rattle.mapf_certificate.specs.Window.{StopsReader, IsNoTextFault};
+ghost use Rattle.mapf_certificate.specs.declared.version.Version.{Version};
 ghost use Rattle.mapf_model.specs.declared.item.Claim.{Claim};
 ghost use Rattle.mapf_model.specs.Tree.{ConstraintTree, Node, node_of};
 ghost use Rattle.std.specs.Prelude.{◌≡◌, ℕ, List, Some, None, false, map, IfOk, IfErr, MatchResult};
@@ -21,15 +22,18 @@ fn collect<S: Source>(
     requires unread { lines.old.header ≡ None }
     requires part { lines.old.is_whole ≡ false }
     ensures found { IfOk result (λ cert. (bytes : List ℕ) → S.remaining source.old ≡ Some bytes
-        → AwaitsCert (S.remaining source.old) lines.old cert.agents cert.claim (map node_of cert.tree.items)) }
-    ensures only { (agents : ℕ) (claim : Claim) (nodes : List Node)
-        → AwaitsCert (S.remaining source.old) lines.old agents claim nodes
+        → AwaitsCert (S.remaining source.old) lines.old
+        cert.version cert.agents cert.claim (map node_of cert.tree.items)) }
+    ensures only { (version : Version) (agents : ℕ) (claim : Claim) (nodes : List Node)
+        → AwaitsCert (S.remaining source.old) lines.old version agents claim nodes
         → MatchResult result (λ cert.
-        (cert.agents ≡ agents) × (cert.claim ≡ claim) × (map node_of cert.tree.items ≡ nodes)) IsNoTextFault }
+        (cert.version ≡ version) × (cert.agents ≡ agents) × (cert.claim ≡ claim)
+        × (map node_of cert.tree.items ≡ nodes)) IsNoTextFault }
     ensures stops { IfErr result
         (StopsReader (S.remaining source.old) (S.remaining source.new) (S.has_failed source.new) lines.old.buffer) }
 {
     let (agents, claim) = lines.header(source)?;
+    let version = lines.version();
     let mut tree = Vec::new(alloc);
     while let Some(item) = lines.next_item(source)? {
         if tree.push(item).is_err() {
@@ -37,6 +41,7 @@ fn collect<S: Source>(
         }
     }
     Ok(Cert {
+        version,
         agents,
         claim,
         tree,
@@ -48,9 +53,9 @@ pub fn read_cert(alloc: Global, bytes: &[u8], grid: &Grid) -> Result<Cert, CertF
     // What is read is spelled so, in range.
     ensures found { IfOk result (IsSpelled grid.now bytes.now) }
     // What is spelled so is read, unless memory runs out.
-    ensures only { (agents : ℕ) (claim : Claim) (tree : ConstraintTree)
-        → SpellsCert grid.now bytes.now agents claim tree
-        → MatchResult result (IsCertOf agents claim tree) (λ fault. fault ≡ CertFault.Memory) }
+    ensures only { (version : Version) (agents : ℕ) (claim : Claim) (tree : ConstraintTree)
+        → SpellsCert grid.now bytes.now version agents claim tree
+        → MatchResult result (IsCertOf version agents claim tree) (λ fault. fault ≡ CertFault.Memory) }
 {
     let mut source = BytesSource::of(bytes);
     let Ok(mut lines) = CertLines::open(alloc, grid.width(), grid.height(), bytes.len() as u64)

@@ -1,12 +1,13 @@
-ghost use Rattle.std.specs.Prelude.{◌≡◌, ◌<◌, ◌++◌, OnOk, IfOk, map};
+ghost use Rattle.std.specs.Prelude.{◌≡◌, ◌<◌, ◌++◌, OnOk, IfOk, All, map};
 ghost use Rattle.std.specs.List.{flat_map};
 ghost use Rattle.mapf_model.specs.Tree.{node_of};
-ghost use Rattle.mapf_certificate.specs.Certificates.{entries_text, blocks_text, first_line, blocks_of, item_text};
-ghost use Rattle.mapf_certificate.specs.Certificates.{header_text, cert_text};
+ghost use Rattle.mapf_certificate.specs.Certificates.{entries_text, blocks_text, first_line, item_text};
+ghost use Rattle.mapf_certificate.specs.Certificates.{header_text, cert_text, IsNodeOfVersion};
 
 use crate::cert::Cert;
 use crate::line::CertLine;
 use crate::line_writer::push_line;
+use crate::version::Version;
 use mapf_model::{Block, Grid, Item, OutOfMemory};
 use std::alloc::{AllocError, Global};
 
@@ -35,64 +36,69 @@ fn push_blocks(out: &mut Vec<u8>, blocks: &[Block], width: u32) -> Result<(), Al
     Ok(())
 }
 
-fn first_line(item: &Item) -> CertLine
-    ensures { result ≡ first_line (node_of item.now) }
+fn first_line(version: Version, item: &Item) -> CertLine
+    ensures { result ≡ first_line version (node_of item.now) }
 {
     match item {
-        Item::Vertex { .. } | Item::Swap { .. } => CertLine::Split(item.conflict().unwrap()),
+        Item::Vertex { .. } | Item::Swap { .. } => CertLine::Split {
+            conflict: item.conflict().unwrap(),
+            blocks: match version {
+                Version::One => None,
+                Version::Two => Some(item.blocks().len() as u64),
+            },
+        },
         Item::Leaf(blocks) => CertLine::Leaf(blocks.len() as u64),
         Item::Clash { i, j } => CertLine::Clash { i: *i, j: *j },
     }
 }
 
-fn blocks_of(item: &Item) -> &[Block]
-    ensures { result.now ≡ blocks_of (node_of item.now) }
+fn push_item(out: &mut Vec<u8>, version: Version, item: &Item, width: u32) -> Result<(), AllocError>
+    requires { 0 < width }
+    ensures { OnOk result (out.new.items ≡ out.old.items ++ item_text version width item.now) }
 {
-    match item {
-        Item::Leaf(blocks) => blocks,
-        _ => &[],
-    }
+    push_line(out, &first_line(version, item), width)?;
+    push_blocks(out, item.blocks(), width)
 }
 
-fn push_item(out: &mut Vec<u8>, item: &Item, width: u32) -> Result<(), AllocError>
+fn push_items(
+    out: &mut Vec<u8>,
+    version: Version,
+    items: &[Item],
+    width: u32,
+) -> Result<(), AllocError>
     requires { 0 < width }
-    ensures { OnOk result (out.new.items ≡ out.old.items ++ item_text width item.now) }
-{
-    push_line(out, &first_line(item), width)?;
-    push_blocks(out, blocks_of(item), width)
-}
-
-fn push_items(out: &mut Vec<u8>, items: &[Item], width: u32) -> Result<(), AllocError>
-    requires { 0 < width }
-    ensures { OnOk result (out.new.items ≡ out.old.items ++ flat_map (item_text width) items.now) }
+    ensures { OnOk result (out.new.items ≡ out.old.items ++ flat_map (item_text version width) items.now) }
 {
     for item in items {
-        push_item(out, item, width)?;
+        push_item(out, version, item, width)?;
     }
     Ok(())
 }
 
 fn push_header(out: &mut Vec<u8>, cert: &Cert, width: u32) -> Result<(), AllocError>
     requires { 0 < width }
-    ensures { OnOk result (out.new.items ≡ out.old.items ++ header_text width cert.now.agents cert.now.claim) }
+    ensures { OnOk result (out.new.items ≡ out.old.items
+        ++ header_text cert.now.version width cert.now.agents cert.now.claim) }
 {
-    push_line(out, &CertLine::Title, width)?;
+    push_line(out, &CertLine::Title(cert.version), width)?;
     push_line(out, &CertLine::Agents(cert.agents), width)?;
     push_line(out, &CertLine::Claim(cert.claim), width)
 }
 
 /// The text of a certificate for a grid of this size: its header, its items and `end`. `read_cert` reads
 /// it back where the number of agents, the claim and the numbers of the items are in the ranges of
-/// docs/FORMATS.md, the agents of each leaf's blocks and the entries of each block rise, and the items
-/// are those of one tree. Any other certificate is written too, and its text isn't read.
+/// docs/FORMATS.md, the agents of each node's blocks and the entries of each block rise, and the items
+/// are those of one tree. Any other certificate is written too, and its text isn't read. In version 1
+/// there is no place for blocks on splits.
 pub fn write_cert(alloc: Global, cert: &Cert, grid: &Grid) -> Result<Vec<u8>, OutOfMemory>
+    requires { All (λ item. IsNodeOfVersion cert.now.version (node_of item)) cert.now.tree.items }
     ensures { IfOk result (λ bytes. bytes.items
-        ≡ cert_text grid.now.width cert.now.agents cert.now.claim (map node_of cert.now.tree.items)) }
+        ≡ cert_text cert.now.version grid.now.width cert.now.agents cert.now.claim (map node_of cert.now.tree.items)) }
 {
     let mut out = Vec::new(alloc);
     let width = grid.width();
     push_header(&mut out, cert, width)?;
-    push_items(&mut out, &cert.tree, width)?;
+    push_items(&mut out, cert.version, &cert.tree, width)?;
     push_line(&mut out, &CertLine::End, width)?;
     Ok(out)
 }

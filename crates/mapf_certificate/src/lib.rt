@@ -3,6 +3,7 @@
 
 mod buffer;
 mod cert;
+mod cert_converter;
 mod cert_lines;
 mod cert_reader;
 mod cert_writer;
@@ -18,14 +19,17 @@ mod plan_text;
 mod plan_writer;
 mod sizes;
 mod tree_line;
+mod version;
 
 pub use cert::{Cert, CertFault, LinesFault};
+pub use cert_converter::convert_cert;
 pub use cert_lines::CertLines;
 pub use cert_reader::read_cert;
 pub use cert_writer::write_cert;
 pub use plan_reader::read_plan;
 pub use plan_text::{PlanAnswer, PlanText, PlanTextFault};
 pub use plan_writer::write_plan;
+pub use version::Version;
 
 #[cfg(test)]
 mod stream_tests;

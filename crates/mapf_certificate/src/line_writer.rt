@@ -1,9 +1,10 @@
 ghost use Rattle.std.specs.Prelude.{◌≡◌, ◌<◌, ◌++◌, ◌∷◌, [], OnOk};
 ghost use Rattle.mapf_certificate.specs.Numbers.{field, pair};
-ghost use Rattle.mapf_certificate.specs.Lines.{words, conflict_words, label_words};
+ghost use Rattle.mapf_certificate.specs.Lines.{words, title_words, split_words, count_words, label_words};
 ghost use Rattle.mapf_certificate.specs.Certificates.{line_text};
 
 use crate::line::CertLine;
+use crate::version::Version;
 use itoa::Buffer;
 use mapf_model::{Cell, Claim, Conflict, Entry, Label};
 use std::alloc::AllocError;
@@ -61,15 +62,39 @@ fn push_entry(out: &mut Vec<u8>, entry: &Entry, width: u32) -> Result<(), AllocE
     push_label(out, entry.label)
 }
 
-fn push_conflict(out: &mut Vec<u8>, conflict: &Conflict, width: u32) -> Result<(), AllocError>
+fn push_title(out: &mut Vec<u8>, version: Version) -> Result<(), AllocError>
+    ensures { OnOk result (out.new.items ≡ out.old.items ++ title_words version) }
+{
+    match version {
+        Version::One => out.extend_from_slice(b"mapf-cert 1"),
+        Version::Two => out.extend_from_slice(b"mapf-cert 2"),
+    }
+}
+
+fn push_count(out: &mut Vec<u8>, blocks: Option<u64>) -> Result<(), AllocError>
+    ensures { OnOk result (out.new.items ≡ out.old.items ++ count_words blocks) }
+{
+    match blocks {
+        Some(blocks) => push_field(out, b' ', blocks),
+        None => Ok(()),
+    }
+}
+
+fn push_split(
+    out: &mut Vec<u8>,
+    conflict: &Conflict,
+    blocks: Option<u64>,
+    width: u32,
+) -> Result<(), AllocError>
     requires { 0 < width }
-    ensures { OnOk result (out.new.items ≡ out.old.items ++ conflict_words width conflict.now) }
+    ensures { OnOk result (out.new.items ≡ out.old.items ++ split_words width conflict.now blocks) }
 {
     match *conflict {
         Conflict::Vertex { i, j, cell, tick } => {
             push_two(out, b"vertex", i as u64, j as u64)?;
             push_cell(out, cell, width)?;
-            push_field(out, b' ', tick as u64)
+            push_field(out, b' ', tick as u64)?;
+            push_count(out, blocks)
         }
         Conflict::Swap {
             i,
@@ -81,7 +106,8 @@ fn push_conflict(out: &mut Vec<u8>, conflict: &Conflict, width: u32) -> Result<(
             push_two(out, b"swap", i as u64, j as u64)?;
             push_cell(out, from, width)?;
             push_cell(out, to, width)?;
-            push_field(out, b' ', tick as u64)
+            push_field(out, b' ', tick as u64)?;
+            push_count(out, blocks)
         }
     }
 }
@@ -91,11 +117,11 @@ fn push_words(out: &mut Vec<u8>, line: &CertLine, width: u32) -> Result<(), Allo
     ensures { OnOk result (out.new.items ≡ out.old.items ++ words width line.now) }
 {
     match *line {
-        CertLine::Title => out.extend_from_slice(b"mapf-cert 1"),
+        CertLine::Title(version) => push_title(out, version),
         CertLine::Agents(agents) => push_one(out, b"agents", agents as u64),
         CertLine::Claim(Claim::Cost(cost)) => push_one(out, b"claim cost", cost),
         CertLine::Claim(Claim::Impossible) => out.extend_from_slice(b"claim impossible"),
-        CertLine::Split(conflict) => push_conflict(out, &conflict, width),
+        CertLine::Split { conflict, blocks } => push_split(out, &conflict, blocks, width),
         CertLine::Leaf(blocks) => push_one(out, b"leaf", blocks),
         CertLine::Clash { i, j } => push_two(out, b"clash", i as u64, j as u64),
         CertLine::Agent { agent, entries } => push_two(out, b"agent", agent as u64, entries),

@@ -17,6 +17,7 @@ use crate::line::LineFault;
 use crate::plan_lines::{AnswerLine, agents_line, answer_line, path_front};
 use crate::plan_text::{PlanAnswer, PlanText, PlanTextFault};
 use crate::sizes::{Sizes, below, up_to};
+use crate::version::Version;
 use mapf_model::limits::GREATEST_COST;
 use mapf_model::{Cell, Grid, Path, Plan};
 use std::alloc::Global;
@@ -305,6 +306,6 @@ pub fn read_plan(alloc: Global, bytes: &[u8], grid: &Grid) -> Result<PlanText, P
         → OrMemory result (result ≡ Ok p) }
 {
     let (agents, line, rest) = take_header(bytes)?;
-    let answer = answer_of(alloc, &line, rest, &Sizes::of(grid, agents))?;
+    let answer = answer_of(alloc, &line, rest, &Sizes::of(Version::One, grid, agents))?;
     Ok(PlanText { agents, answer })
 }

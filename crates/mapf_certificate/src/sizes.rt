@@ -3,11 +3,13 @@ ghost use Rattle.mapf_model.specs.Limits.{most_agents, greatest_side};
 ghost use Rattle.mapf_certificate.specs.Numbers.{in_range, below, read_cell};
 
 use crate::line::LineFault;
+use crate::version::Version;
 use mapf_model::{Cell, Grid};
 
-/// What bounds the numbers of a line: the size of the grid, and the number of agents.
+/// What a line is judged by: the version of the text, the size of the grid, and the number of agents.
 #[derive(Clone, Copy)]
 pub struct Sizes {
+    pub version: Version,
     pub width: u32,
     pub height: u32,
     pub agents: u32,
@@ -57,14 +59,16 @@ pub fn below(bound: u32, number: Option<u64>) -> Result<u32, LineFault>
 }
 
 impl Sizes {
-    pub fn of(grid: &Grid, agents: u32) -> Sizes
+    pub fn of(version: Version, grid: &Grid, agents: u32) -> Sizes
         requires some { 1 ≤ agents }
         requires few { agents ≤ most_agents }
+        ensures version { result.version ≡ version }
         ensures width { result.width ≡ grid.now.width }
         ensures height { result.height ≡ grid.now.height }
         ensures agents { result.agents ≡ agents }
     {
         Sizes {
+            version,
             width: grid.width(),
             height: grid.height(),
             agents,

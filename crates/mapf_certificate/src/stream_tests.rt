@@ -1,7 +1,7 @@
 ghost use Rattle.std.specs.Prelude.{◌≡◌, false};
 
-use crate::tests::CROSSING;
-use crate::{CertFault, CertLines, LinesFault};
+use crate::tests::{CROSSING, CROSSING_TWO};
+use crate::{CertFault, CertLines, LinesFault, Version};
 use mapf_model::devices::{EndlessSource, FuseSource, Pace};
 use mapf_model::{Claim, Failed, OutOfMemory, Source};
 use std::alloc::Global;
@@ -110,7 +110,10 @@ fn run_header(
 
 /// The items of the crossing's certificate, and the lines in which they begin.
 const ITEMS: [(&str, u64); 3] = [
-    ("Vertex { i: 0, j: 1, cell: Cell(4), tick: 1 }", 4),
+    (
+        "Vertex { i: 0, j: 1, cell: Cell(4), tick: 1, blocks: [] }",
+        4,
+    ),
     (
         "Leaf([Block { agent: 0, entries: [Entry { cell: Cell(3), tick: 0, label: Ticks(3) }] }])",
         5,
@@ -123,13 +126,19 @@ const ITEMS: [(&str, u64); 3] = [
 
 #[test]
 fn gives_the_header_and_the_items(rt: HostRuntime) -> Result<(), Fail> {
-    for pace in [Pace::ByteByByte, Pace::AllAtOnce] {
-        let mut source = FuseSource::of(CROSSING.as_bytes(), pace, None);
-        let mut lines = CertLines::open(rt.alloc(), 3, 3, 111)?;
+    for (text, version, pace) in [
+        (CROSSING, Version::One, Pace::ByteByByte),
+        (CROSSING, Version::One, Pace::AllAtOnce),
+        (CROSSING_TWO, Version::Two, Pace::ByteByByte),
+        (CROSSING_TWO, Version::Two, Pace::AllAtOnce),
+    ] {
+        let mut source = FuseSource::of(text.as_bytes(), pace, None);
+        let mut lines = CertLines::open(rt.alloc(), 3, 3, 113)?;
         let Ok(header) = lines.header(&mut source) else {
             return Err(Fail::from("no header"));
         };
         assert_eq!(rt; header, (2, Claim::Cost(5)));
+        assert_eq!(rt; lines.version(), version);
         for (text, line) in ITEMS {
             let Ok(Some(item)) = lines.next_item(&mut source) else {
                 return Err(Fail::from("no item"));

@@ -1,10 +1,16 @@
-use crate::{CertFault, PlanTextFault, read_cert, read_plan, write_cert, write_plan};
+use crate::{
+    CertFault, PlanTextFault, Version, convert_cert, read_cert, read_plan, write_cert, write_plan,
+};
 use mapf_model::Grid;
 use std::alloc::Global;
 use std::test::Fail;
 
 pub const CROSSING: &str =
     "mapf-cert 1\nagents 2\nclaim cost 5\nvertex 0 1 1,1 1\nleaf 1\nagent 0 1\nat 0,1 0 3\nleaf 1\n\
+    agent 1 1\nat 1,0 0 3\nend\n";
+
+pub const CROSSING_TWO: &str =
+    "mapf-cert 2\nagents 2\nclaim cost 5\nvertex 0 1 1,1 1 0\nleaf 1\nagent 0 1\nat 0,1 0 3\nleaf 1\n\
     agent 1 1\nat 1,0 0 3\nend\n";
 
 const CROSSING_PLAN: &str =
@@ -18,6 +24,17 @@ const PASSING: &str =
     at 0,0 1 2\nat 1,0 1 2\nat 2,0 1 2\nat 1,1 1 2\nswap 0 1 0,0 1,0 0\nleaf 2\nagent 0 1\n\
     at 0,0 0 3\nagent 1 1\nat 1,0 0 2\nswap 0 1 1,0 2,0 1\nleaf 2\nagent 0 2\nat 0,0 0 3\n\
     at 1,0 1 2\nagent 1 1\nat 1,0 0 2\nleaf 1\nagent 1 1\nat 1,0 0 2\nend\n";
+
+/// The same with each agent's labels at the node that raised them.
+const PASSING_TWO: &str =
+    "mapf-cert 2\nagents 2\nclaim cost 4\nvertex 0 1 1,0 1 0\nvertex 0 1 1,0 2 1\nagent 0 1\n\
+    at 0,0 0 3\nvertex 0 1 1,0 3 1\nagent 0 2\nat 0,0 0 4\nat 0,0 1 3\n\
+    leaf 1\nagent 0 3\nat 0,0 0 5\nat 0,0 1 4\nat 0,0 2 3\nleaf 1\n\
+    agent 1 9\nat 1,0 0 4\nat 0,0 1 3\nat 1,0 1 3\nat 2,0 1 3\nat 1,1 1 3\nat 0,0 2 2\n\
+    at 1,0 2 2\nat 2,0 2 2\nat 1,1 2 2\nleaf 1\nagent 1 5\nat 1,0 0 3\n\
+    at 0,0 1 2\nat 1,0 1 2\nat 2,0 1 2\nat 1,1 1 2\nswap 0 1 0,0 1,0 0 1\nagent 1 1\nat 1,0 0 2\n\
+    leaf 1\nagent 0 1\nat 0,0 0 3\nswap 0 1 1,0 2,0 1 1\nagent 1 1\nat 1,0 0 2\nleaf 1\nagent 0 2\n\
+    at 0,0 0 3\nat 1,0 1 2\nleaf 1\nagent 1 1\nat 1,0 0 2\nend\n";
 
 /// A free grid of this size.
 fn grid(alloc: Global, width: u32, height: u32) -> Result<Grid, Fail> {
@@ -55,11 +72,12 @@ fn with_lines(
 
 fn cert_fault(
     alloc: Global,
+    text: &str,
     first: usize,
     last: usize,
     lines: &str,
 ) -> Result<Option<CertFault>, Fail> {
-    let text = with_lines(alloc, CROSSING, first, last, lines)?;
+    let text = with_lines(alloc, text, first, last, lines)?;
     Ok(read_cert(alloc, text.as_bytes(), &grid(alloc, 3, 3)?).err())
 }
 
@@ -76,11 +94,17 @@ fn plan_fault(
 #[test]
 fn certificates_are_read_and_written(rt: HostRuntime) -> Result<(), Fail> {
     let alloc = rt.alloc();
-    for (text, height, items) in [(CROSSING, 3, 3), (PASSING, 2, 11)] {
+    for (text, version, height, items) in [
+        (CROSSING, Version::One, 3, 3),
+        (PASSING, Version::One, 2, 11),
+        (CROSSING_TWO, Version::Two, 3, 3),
+        (PASSING_TWO, Version::Two, 2, 11),
+    ] {
         let grid = grid(alloc, 3, height)?;
         let cert = read_cert(alloc, text.as_bytes(), &grid)
             .ok()
             .ok_or("a certificate")?;
+        assert_eq!(rt; cert.version, version);
         assert_eq!(rt; cert.tree.len(), items);
         let bytes = write_cert(alloc, &cert, &grid)?;
         assert_eq!(rt; bytes.as_slice(), text.as_bytes());
@@ -88,8 +112,57 @@ fn certificates_are_read_and_written(rt: HostRuntime) -> Result<(), Fail> {
     Ok(())
 }
 
+/// The text of version 1 with what version 2 adds to its lines.
+fn as_version_two(alloc: Global, text: &str) -> Result<String, Fail> {
+    let mut changed = String::new(alloc);
+    for line in text.lines() {
+        if line == "mapf-cert 1" {
+            changed.push_str("mapf-cert 2")?;
+        } else {
+            changed.push_str(line)?;
+        }
+        if line.starts_with("vertex") || line.starts_with("swap") {
+            changed.push_str(" 0")?;
+        }
+        changed.push('\n')?;
+    }
+    Ok(changed)
+}
+
+#[test]
+fn certificates_are_converted(rt: HostRuntime) -> Result<(), Fail> {
+    let alloc = rt.alloc();
+    for (text, height) in [(CROSSING, 3), (PASSING, 2)] {
+        let grid = grid(alloc, 3, height)?;
+        let bytes = convert_cert(alloc, text.as_bytes(), &grid)
+            .ok()
+            .ok_or("a certificate")?;
+        let expected = as_version_two(alloc, text)?;
+        assert_eq!(rt; bytes.as_slice(), expected.as_bytes());
+        assert!(rt; read_cert(alloc, &bytes, &grid).is_ok());
+        // Nothing of version 2 is converted, be it whole or not.
+        for n in 12..bytes.len() {
+            let fault = convert_cert(alloc, &bytes[..n], &grid).err();
+            assert_eq!(rt; fault, Some(CertFault::K1(1)));
+        }
+        let fault = convert_cert(alloc, &bytes, &grid).err();
+        assert_eq!(rt; fault, Some(CertFault::K1(1)));
+    }
+    let grid = grid(alloc, 3, 3)?;
+    let bytes = convert_cert(alloc, CROSSING.as_bytes(), &grid)
+        .ok()
+        .ok_or("a certificate")?;
+    assert_eq!(rt; bytes.as_slice(), CROSSING_TWO.as_bytes());
+    let fault = convert_cert(alloc, CROSSING[..50].as_bytes(), &grid).err();
+    assert_eq!(rt; fault, Some(CertFault::K2(4)));
+    Ok(())
+}
+
 /// Which lines of the crossing's certificate are replaced by which text, and the fault that then comes.
-const CERT_FAULTS: [(usize, usize, &str, Option<CertFault>); 30] = [
+const CERT_FAULTS: [(usize, usize, &str, Option<CertFault>); 33] = [
+    (1, 1, "mapf-cert 2\n", Some(CertFault::K1(4))),
+    (1, 1, "mapf-cert 3\n", Some(CertFault::K1(1))),
+    (4, 4, "vertex 0 1 1,1 1 0\n", Some(CertFault::K1(4))),
     (3, 3, "claim bound 4\n", Some(CertFault::K1(3))),
     (4, 4, "vertex 0 1 1,1 1000000\n", Some(CertFault::K3(4))),
     (4, 4, "vertex 0 1 1,1 999999\n", None),
@@ -157,11 +230,63 @@ const CERT_FAULTS: [(usize, usize, &str, Option<CertFault>); 30] = [
     ),
 ];
 
+/// The same of its certificate in version 2.
+const CERT_FAULTS_TWO: [(usize, usize, &str, Option<CertFault>); 21] = [
+    (1, 1, "mapf-cert 1\n", Some(CertFault::K1(4))),
+    (3, 3, "claim bound 4\n", Some(CertFault::K1(3))),
+    (4, 4, "vertex 0 1 1,1 1\n", Some(CertFault::K1(4))),
+    (4, 4, "vertex 0 1 1,1 1 \n", Some(CertFault::K1(4))),
+    (4, 4, "vertex 0 1 1,1 1 00\n", Some(CertFault::K1(4))),
+    (4, 4, "vertex 0 1 1,1 1 0 0\n", Some(CertFault::K1(4))),
+    (4, 4, "vertex 0 1 1,1 1 3\n", Some(CertFault::K3(4))),
+    (4, 4, "vertex 0 1 1,1 999999 0\n", None),
+    (4, 4, "vertex 0 1 1,1 1000000 0\n", Some(CertFault::K3(4))),
+    (4, 4, "vertex 0 1 1,1 1000000 x\n", Some(CertFault::K1(4))),
+    (4, 4, "swap 0 1 0,0 2,2 1 0\n", None),
+    (4, 4, "swap 0 1 0,0 2,2 1\n", Some(CertFault::K1(4))),
+    (4, 4, "swap 0 1 0,0 2,2 1 3\n", Some(CertFault::K3(4))),
+    (
+        4,
+        4,
+        "swap 0 1 0,0 2,2 1 18446744073709551616\n",
+        Some(CertFault::K3(4)),
+    ),
+    (4, 4, "vertex 0 1 1,1 1 1\n", Some(CertFault::K1(5))),
+    (4, 4, "vertex 0 1 1,1 1 1\nagent 0 1\nat 0,1 0 3\n", None),
+    (
+        4,
+        4,
+        "vertex 0 1 1,1 1 2\nagent 0 1\nat 0,1 0 3\nagent 0 1\nat 0,1 0 3\n",
+        Some(CertFault::K1(7)),
+    ),
+    (
+        4,
+        4,
+        "vertex 0 1 1,1 1 2\nagent 1 1\nat 1,0 0 3\nagent 0 1\nat 0,1 0 3\n",
+        Some(CertFault::K1(7)),
+    ),
+    (
+        4,
+        4,
+        "vertex 0 1 1,1 1 0\nagent 0 1\nat 0,1 0 3\n",
+        Some(CertFault::K1(5)),
+    ),
+    (4, 10, "clash 0 1\n", None),
+    (11, 11, "end\n\n", Some(CertFault::K4(12))),
+];
+
 #[test]
 fn certificates_are_refused(rt: HostRuntime) -> Result<(), Fail> {
     for (first, last, lines, fault) in CERT_FAULTS {
         assert_eq!(rt;
-            cert_fault(rt.alloc(), first, last, lines)?,
+            cert_fault(rt.alloc(), CROSSING, first, last, lines)?,
+            fault,
+            "{lines}"
+        );
+    }
+    for (first, last, lines, fault) in CERT_FAULTS_TWO {
+        assert_eq!(rt;
+            cert_fault(rt.alloc(), CROSSING_TWO, first, last, lines)?,
             fault,
             "{lines}"
         );
@@ -267,13 +392,15 @@ fn plans_are_refused(rt: HostRuntime) -> Result<(), Fail> {
 #[test]
 fn each_front_ended_early(rt: HostRuntime) -> Result<(), Fail> {
     let grid = grid(rt.alloc(), 3, 3)?;
-    let mut line = 1u64;
-    for (n, byte) in CROSSING.as_bytes().iter().enumerate() {
-        let fault = read_cert(rt.alloc(), &CROSSING.as_bytes()[..n], &grid).err();
-        assert_eq!(rt; fault, Some(CertFault::K2(line)));
-        line = line.saturating_add((*byte == b'\n') as u64);
+    for text in [CROSSING, CROSSING_TWO, PASSING_TWO] {
+        let mut line = 1u64;
+        for (n, byte) in text.as_bytes().iter().enumerate() {
+            let fault = read_cert(rt.alloc(), &text.as_bytes()[..n], &grid).err();
+            assert_eq!(rt; fault, Some(CertFault::K2(line)));
+            line = line.saturating_add((*byte == b'\n') as u64);
+        }
     }
-    line = 1;
+    let mut line = 1u64;
     for (n, byte) in CROSSING_PLAN.as_bytes().iter().enumerate() {
         let fault = read_plan(rt.alloc(), &CROSSING_PLAN.as_bytes()[..n], &grid).err();
         assert_eq!(rt; fault, Some(PlanTextFault::P2(line)));

@@ -3,11 +3,13 @@ ghost use Rattle.mapf_certificate.specs.Lines.{IsLine, words, width_of};
 ghost use Rattle.mapf_certificate.specs.LineReading.{read_title, read_count, read_cost, read_agents, read_claim};
 ghost use Rattle.mapf_certificate.specs.LineReading.{read_vertex, read_swap, read_leaf, read_clash, read_agent};
 ghost use Rattle.mapf_certificate.specs.LineReading.{read_label_word, label_in_range, read_entry, read_tree_line};
+ghost use Rattle.mapf_certificate.specs.LineReading.{read_blocks, blocks_in_range};
 ghost use Rattle.mapf_certificate.specs.LineReading.{read_line};
 
 use crate::field::{field, last, pair, strip};
 use crate::line::{CertLine, LineFault};
 use crate::sizes::{Sizes, below, from_one_to, up_to, within};
+use crate::version::Version;
 use mapf_model::limits::{GREATEST_COST, GREATEST_SUM, LAST_SPLIT_TICK, MOST_AGENTS};
 use mapf_model::{Claim, Conflict, Entry, Label};
 
@@ -26,10 +28,12 @@ fn title_line(bytes: &[u8]) -> Result<CertLine, LineFault>
     ensures { result ≡ read_title bytes.now }
 {
     if bytes == b"mapf-cert 1".as_slice() {
-        Ok(CertLine::Title)
-    } else {
-        Err(LineFault::Shape)
+        return Ok(CertLine::Title(Version::One));
     }
+    if bytes == b"mapf-cert 2".as_slice() {
+        return Ok(CertLine::Title(Version::Two));
+    }
+    Err(LineFault::Shape)
 }
 
 /// The number of agents, after `agents`.
@@ -71,6 +75,29 @@ fn claim_line(bytes: &[u8]) -> Result<CertLine, LineFault>
     }
 }
 
+/// The number of blocks at the end of a split's line, which version 1 doesn't tell.
+#[tactic(auto, unfolding(crate::specs::LineReading::read_blocks))]
+fn blocks_word(version: Version, rest: &[u8]) -> Result<Option<Option<u64>>, LineFault>
+    ensures { result ≡ read_blocks version rest.now }
+{
+    match version {
+        Version::One => match rest {
+            [] => Ok(None),
+            _ => Err(LineFault::Shape),
+        },
+        Version::Two => Ok(Some(last(b' ', rest)?)),
+    }
+}
+
+fn block_count(agents: u32, blocks: Option<Option<u64>>) -> Result<Option<u64>, LineFault>
+    ensures { result ≡ blocks_in_range agents blocks }
+{
+    match blocks {
+        Some(blocks) => Ok(Some(within(0, agents as u64, blocks)?)),
+        None => Ok(None),
+    }
+}
+
 #[tactic(auto, unfolding(crate::specs::LineReading::read_vertex))]
 fn vertex(rest: &[u8], sizes: &Sizes) -> Result<CertLine, LineFault>
     ensures { result ≡ read_vertex sizes.now rest.now }
@@ -78,13 +105,17 @@ fn vertex(rest: &[u8], sizes: &Sizes) -> Result<CertLine, LineFault>
     let (i, rest) = field(b' ', rest)?;
     let (j, rest) = field(b' ', rest)?;
     let (x, y, rest) = pair(rest)?;
-    let tick = last(b' ', rest)?;
-    Ok(CertLine::Split(Conflict::Vertex {
-        i: below(sizes.agents, i)?,
-        j: below(sizes.agents, j)?,
-        cell: sizes.cell(x, y)?,
-        tick: up_to(LAST_SPLIT_TICK, tick)?,
-    }))
+    let (tick, rest) = field(b' ', rest)?;
+    let blocks = blocks_word(sizes.version, rest)?;
+    Ok(CertLine::Split {
+        conflict: Conflict::Vertex {
+            i: below(sizes.agents, i)?,
+            j: below(sizes.agents, j)?,
+            cell: sizes.cell(x, y)?,
+            tick: up_to(LAST_SPLIT_TICK, tick)?,
+        },
+        blocks: block_count(sizes.agents, blocks)?,
+    })
 }
 
 #[tactic(auto, unfolding(crate::specs::LineReading::read_swap))]
@@ -95,14 +126,18 @@ fn swap(rest: &[u8], sizes: &Sizes) -> Result<CertLine, LineFault>
     let (j, rest) = field(b' ', rest)?;
     let (from_x, from_y, rest) = pair(rest)?;
     let (to_x, to_y, rest) = pair(rest)?;
-    let tick = last(b' ', rest)?;
-    Ok(CertLine::Split(Conflict::Swap {
-        i: below(sizes.agents, i)?,
-        j: below(sizes.agents, j)?,
-        from: sizes.cell(from_x, from_y)?,
-        to: sizes.cell(to_x, to_y)?,
-        tick: up_to(LAST_SPLIT_TICK, tick)?,
-    }))
+    let (tick, rest) = field(b' ', rest)?;
+    let blocks = blocks_word(sizes.version, rest)?;
+    Ok(CertLine::Split {
+        conflict: Conflict::Swap {
+            i: below(sizes.agents, i)?,
+            j: below(sizes.agents, j)?,
+            from: sizes.cell(from_x, from_y)?,
+            to: sizes.cell(to_x, to_y)?,
+            tick: up_to(LAST_SPLIT_TICK, tick)?,
+        },
+        blocks: block_count(sizes.agents, blocks)?,
+    })
 }
 
 #[tactic(auto, unfolding(crate::specs::LineReading::read_leaf))]

@@ -7,7 +7,7 @@ use Rattle.mapf_model.specs.Blocks.{LabelBlock}
 use Rattle.mapf_model.specs.Labels.{entries_of, AreSound, IsSoundEntry}
 use Rattle.mapf_model.specs.Plan.{Instance}
 use Rattle.mapf_model.specs.declared.item.Claim.{Claim}
-use Rattle.mapf_model.specs.Tree.{NodeConstraints, Leaf, ShowsFrom, StartsShow, with_blocks, no_entries, AreBlocksSound, AreOfAgents, AreOfDifferentAgents}
+use Rattle.mapf_model.specs.Tree.{NodeContext, Leaf, ShowsFrom, StartsShow, with_blocks, AreBlocksSound, AreOfAgents, AreOfDifferentAgents}
 use Rattle.mapf_checker.specs.declared.judge.AgentProblem.{AgentProblem}
 use Rattle.mapf_checker.specs.AgentProblem.{bars_on}
 use Rattle.mapf_checker.specs.Leaf.{IsGoalOf, IsGoodBlock}
@@ -15,7 +15,7 @@ use Rattle.mapf_checker.specs.NodeDefects.{HasUnsoundEntry, IsUnsoundAt}
 use Rattle.mapf_checker.proofs.StartLemmas.{block_of-found}
 
 -- an entry that isn't sound by itself isn't sound in its block
-pub unsound_entry : (problem : Instance) (here : NodeConstraints) (block : LabelBlock) (own : AgentProblem) (entries : List Entry) (place : ℕ) → own.grid.now ≡ problem.grid → bars_on own ≡ here.bars block.agent → entries ≡ block.entries →
+pub unsound_entry : (problem : Instance) (here : NodeContext) (block : LabelBlock) (own : AgentProblem) (entries : List Entry) (place : ℕ) → own.grid.now ≡ problem.grid → bars_on own ≡ here.bars block.agent → entries ≡ block.entries →
     IsGoalOf problem block.agent own.goal → IsUnsoundAt own entries place → HasUnsoundEntry problem here block
 unsound_entry problem here block own entries place on under these (agent, is_agent, is_goal) bad =
     let is = subst (λ es. slice_get es place ≡ Some bad.entry) these bad.is_entry in
@@ -31,7 +31,7 @@ unsound_entry problem here block own entries place on under these (agent, is_age
           (subst (λ es. IsSoundEntry problem.grid agent.goal (here.bars block.agent) (entries_of es) bad.entry.cell bad.entry.tick bad.entry.label) (sym these) sound))));
     }
 
-module _ (problem : Instance) (here : NodeConstraints) (blocks : List LabelBlock) where
+module _ (problem : Instance) (here : NodeContext) (blocks : List LabelBlock) where
   pub blocks_sound : All (IsGoodBlock problem here) blocks → AreBlocksSound problem here blocks
   blocks_sound good i agent block is_agent is_block =
       let (k, within, at, of) = block_of-found blocks i block is_block in
@@ -47,8 +47,8 @@ module _ (problem : Instance) (here : NodeConstraints) (blocks : List LabelBlock
   rising_differ rising i j d order within same = let h = rising i j d order within in omega (arith, h, same)
 
 -- a leaf shows the claim where its blocks are good and the labels of the starts show it
-module _ (problem : Instance) (claim : Claim) (here : NodeConstraints) (blocks : List LabelBlock) (rising : AllPairs (λ a b. a.agent < b.agent) blocks) where
-  pub leaf_shows : All (IsGoodBlock problem here) blocks → StartsShow problem claim (with_blocks blocks no_entries) → ShowsFrom problem claim here (Leaf blocks)
+module _ (problem : Instance) (claim : Claim) (here : NodeContext) (blocks : List LabelBlock) (rising : AllPairs (λ a b. a.agent < b.agent) blocks) where
+  pub leaf_shows : All (IsGoodBlock problem here) blocks → StartsShow problem claim (with_blocks blocks here.entries) → ShowsFrom problem claim here (Leaf blocks)
   leaf_shows good starts = record {
     proper = (rising_differ problem here blocks rising, blocks_of_agents problem here blocks good);
     nodes = (blocks_sound problem here blocks good, starts);

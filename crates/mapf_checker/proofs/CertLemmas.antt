@@ -5,6 +5,7 @@ use Rattle.mapf_model.specs.declared.item.Claim.{Claim}
 use Rattle.mapf_model.specs.Laws.{FrontDecides, TreeIsUnique}
 use Rattle.mapf_model.specs.Plan.{Instance}
 use Rattle.mapf_model.specs.Tree.{ConstraintTree, Node, NodesShow, Shows, nodes_of, root}
+use Rattle.mapf_certificate.specs.declared.version.Version.{Version}
 use Rattle.mapf_certificate.specs.declared.cert.LinesFault.{LinesFault}
 use Rattle.mapf_certificate.specs.declared.cert.LinesFault.TheVariants.{Text, Device, TooLong, Memory}
 use Rattle.mapf_certificate.specs.declared.cert.CertFault.TheVariants as texts
@@ -33,30 +34,30 @@ module _ (problem : Instance) (claim : Claim) (had : Option (List ℕ)) (start :
   sized = record { width = sym opened.width; height = sym opened.height }
 
   -- what spells a certificate is awaited
-  pub awaits_spelled : (agents : ℕ) (claimed : Claim) (tree : ConstraintTree) → SpellsCert problem.grid bytes agents claimed tree → AwaitsCert had start agents claimed (nodes_of tree)
-  awaits_spelled agents claimed tree spells = record {
+  pub awaits_spelled : (version : Version) (agents : ℕ) (claimed : Claim) (tree : ConstraintTree) → SpellsCert problem.grid bytes version agents claimed tree → AwaitsCert had start version agents claimed (nodes_of tree)
+  awaits_spelled version agents claimed tree spells = record {
     bytes = bytes;
     known = known;
-    text = subst (λ owed. IsCertText (grid_at start) owed agents claimed (nodes_of tree) (start.buffer.bytes ++ bytes)) (sym opened.owed)
-        (subst (λ b. IsCertText (grid_at start) 1 agents claimed (nodes_of tree) b) (sym same_bytes) (text_from_spells problem.grid (grid_at start) agents claimed tree bytes sized spells));
+    text = subst (λ owed. IsCertText (grid_at start) owed version agents claimed (nodes_of tree) (start.buffer.bytes ++ bytes)) (sym opened.owed)
+        (subst (λ b. IsCertText (grid_at start) 1 version agents claimed (nodes_of tree) b) (sym same_bytes) (text_from_spells problem.grid (grid_at start) version agents claimed tree bytes sized spells));
   }
 
   -- and what is awaited spells one
-  pub spelled_awaited : (agents : ℕ) (claimed : Claim) (nodes : List Node) → AwaitsCert had start agents claimed nodes → (tree : ConstraintTree) × SpellsCert problem.grid bytes agents claimed tree × (nodes ≡ nodes_of tree)
-  spelled_awaited agents claimed nodes awaits =
+  pub spelled_awaited : (version : Version) (agents : ℕ) (claimed : Claim) (nodes : List Node) → AwaitsCert had start version agents claimed nodes → (tree : ConstraintTree) × SpellsCert problem.grid bytes version agents claimed tree × (nodes ≡ nodes_of tree)
+  spelled_awaited version agents claimed nodes awaits =
       let came : start.buffer.bytes ++ awaits.bytes ≡ bytes = ap (λ b. start.buffer.bytes ++ b) (same_Some awaits.bytes bytes (sym awaits.known ∙ known)) ∙ same_bytes in
-      spells_from_text problem.grid (grid_at start) agents claimed nodes bytes (record { width = opened.width; height = opened.height })
-      (subst (λ owed. IsCertText (grid_at start) owed agents claimed nodes bytes) opened.owed (subst (λ b. IsCertText (grid_at start) start.owed agents claimed nodes b) came awaits.text))
+      spells_from_text problem.grid (grid_at start) version agents claimed nodes bytes (record { width = opened.width; height = opened.height })
+      (subst (λ owed. IsCertText (grid_at start) owed version agents claimed nodes bytes) opened.owed (subst (λ b. IsCertText (grid_at start) start.owed version agents claimed nodes b) came awaits.text))
 
   -- the header stands in front
   pub begins : (left : Option (List ℕ)) (new : Reading) (agents : ℕ) (claimed : Claim) → TakesHeader had left start new agents claimed → BeginsWithHeader problem bytes agents claimed
   begins left new agents claimed takes =
-      let (after, known_left, same, count) = Window-known had left start.buffer new.buffer (header_text start.width agents claimed) bytes takes.window known in
-      record { agents_in_range = takes.agents_in_range; claim_in_range = takes.claim_in_range; rest = new.buffer.bytes ++ after; spelled = sym same_bytes ∙ subst (λ w. start.buffer.bytes ++ bytes ≡ header_text w agents claimed ++ (new.buffer.bytes ++ after)) opened.width same }
+      let (after, known_left, same, count) = Window-known had left start.buffer new.buffer (header_text new.version start.width agents claimed) bytes takes.window known in
+      record { version = new.version; agents_in_range = takes.agents_in_range; claim_in_range = takes.claim_in_range; rest = new.buffer.bytes ++ after; spelled = sym same_bytes ∙ subst (λ w. start.buffer.bytes ++ bytes ≡ header_text new.version w agents claimed ++ (new.buffer.bytes ++ after)) opened.width same }
 
 -- why reading a header stopped
 pub stops_heading : (problem : Instance) (claim : Claim) (had left : Option (List ℕ)) (failed : Bool) (start : Reading) (IsText : List ℕ → Type 0) (fault : LinesFault) → Fails had left failed start.buffer IsText fault →
-    ((agents : ℕ) (claimed : Claim) (nodes : List Node) → AwaitsCert had start agents claimed nodes → IsNoTextFault fault) → IsOfChecking had left failed start.buffer (HasHeaderRefusal problem claim had start) (of_cert fault)
+    ((version : Version) (agents : ℕ) (claimed : Claim) (nodes : List Node) → AwaitsCert had start version agents claimed nodes → IsNoTextFault fault) → IsOfChecking had left failed start.buffer (HasHeaderRefusal problem claim had start) (of_cert fault)
 stops_heading problem claim had left failed start IsText (Text texts.Memory) fails none = absurd fails
 stops_heading problem claim had left failed start IsText (Text (texts.K1 line)) fails none = (fails.0, refuses_within had left start.buffer IsText fails.1, (λ e. cc, none))
 stops_heading problem claim had left failed start IsText (Text (texts.K2 line)) fails none = (fails.0, refuses_within had left start.buffer IsText fails.1, (λ e. cc, none))
@@ -90,7 +91,7 @@ module _ (problem : Instance) (claim : Claim) (had : Option (List ℕ)) (start :
   -- a refusal of the header is one of the certificate
   pub header_refusal : (refusal : CheckFault) → HasHeaderRefusal problem claim had start refusal → HasCertRefusal problem claim had refusal
   header_refusal (C1 fault) is = absurd is
-  header_refusal (C2 fault) (other, none) = (other, if_known had _ (λ bytes known agents claimed tree spells. none agents claimed (nodes_of tree) (awaits_spelled problem claim had start opened bytes known agents claimed tree spells)))
+  header_refusal (C2 fault) (other, none) = (other, if_known had _ (λ bytes known version agents claimed tree spells. none version agents claimed (nodes_of tree) (awaits_spelled problem claim had start opened bytes known version agents claimed tree spells)))
   header_refusal C3 is = if_known had _ is
   header_refusal C4 is = if_known had _ is
   header_refusal (C5 fault) is = absurd is
@@ -102,18 +103,18 @@ module _ (problem : Instance) (claim : Claim) (had : Option (List ℕ)) (start :
 
   module _ (mid : Option (List ℕ)) (headed : Reading) (takes : TakesHeader had mid start headed (length problem.agents) claim) where
     -- the bytes after the header
-    after_header : (bytes : List ℕ) → had ≡ Some bytes → (rest : List ℕ) × (mid ≡ Some rest) × (bytes ≡ header_text problem.grid.width (length problem.agents) claim ++ (headed.buffer.bytes ++ rest))
+    after_header : (bytes : List ℕ) → had ≡ Some bytes → (rest : List ℕ) × (mid ≡ Some rest) × (bytes ≡ header_text headed.version problem.grid.width (length problem.agents) claim ++ (headed.buffer.bytes ++ rest))
     after_header bytes known =
-        let (rest, known_mid, same, count) = Window-known had mid start.buffer headed.buffer (header_text start.width (length problem.agents) claim) bytes takes.window known in
-        (rest, known_mid, sym (same_bytes problem claim had start opened bytes known) ∙ subst (λ w. start.buffer.bytes ++ bytes ≡ header_text w (length problem.agents) claim ++ (headed.buffer.bytes ++ rest)) opened.width same)
+        let (rest, known_mid, same, count) = Window-known had mid start.buffer headed.buffer (header_text headed.version start.width (length problem.agents) claim) bytes takes.window known in
+        (rest, known_mid, sym (same_bytes problem claim had start opened bytes known) ∙ subst (λ w. start.buffer.bytes ++ bytes ≡ header_text headed.version w (length problem.agents) claim ++ (headed.buffer.bytes ++ rest)) opened.width same)
 
-    bad_node_in : (refusal : CheckFault) → ((bytes : List ℕ) → mid ≡ Some bytes → HasBadNode problem claim refusal (headed.buffer.bytes ++ bytes)) → IfSome had (HasBadNodeInCert problem claim refusal)
-    bad_node_in refusal bad = if_known had _ (λ bytes known. let (rest, known_mid, same) = after_header bytes known in (headed.buffer.bytes ++ rest, same, bad rest known_mid))
+    bad_node_in : (refusal : CheckFault) → ((bytes : List ℕ) → mid ≡ Some bytes → HasBadNode problem claim headed.version refusal (headed.buffer.bytes ++ bytes)) → IfSome had (HasBadNodeInCert problem claim refusal)
+    bad_node_in refusal bad = if_known had _ (λ bytes known. let (rest, known_mid, same) = after_header bytes known in record { version = headed.version; nodes = headed.buffer.bytes ++ rest; spelled = same; bad = bad rest known_mid })
 
     -- so is one of the tree
-    pub refusal_of_tree : ((agents : ℕ) (claimed : Claim) (nodes : List Node) → AwaitsCert had start agents claimed nodes → Awaits mid headed nodes) → (refusal : CheckFault) → HasTreeRefusal problem claim mid headed refusal → HasCertRefusal problem claim had refusal
+    pub refusal_of_tree : ((version : Version) (agents : ℕ) (claimed : Claim) (nodes : List Node) → AwaitsCert had start version agents claimed nodes → Awaits mid headed nodes) → (refusal : CheckFault) → HasTreeRefusal problem claim mid headed refusal → HasCertRefusal problem claim had refusal
     refusal_of_tree ahead (C1 fault) is = absurd is
-    refusal_of_tree ahead (C2 fault) (other, none) = (other, if_known had _ (λ bytes known agents claimed tree spells. none (nodes_of tree) (ahead agents claimed (nodes_of tree) (awaits_spelled problem claim had start opened bytes known agents claimed tree spells))))
+    refusal_of_tree ahead (C2 fault) (other, none) = (other, if_known had _ (λ bytes known version agents claimed tree spells. none (nodes_of tree) (ahead version agents claimed (nodes_of tree) (awaits_spelled problem claim had start opened bytes known version agents claimed tree spells))))
     refusal_of_tree ahead C3 is = absurd is
     refusal_of_tree ahead C4 is = absurd is
     refusal_of_tree ahead (C5 fault) is = absurd is
@@ -127,14 +128,14 @@ module _ (problem : Instance) (claim : Claim) (had : Option (List ℕ)) (start :
     pub good_cert : FrontDecides → TreeIsUnique → IsJudgedTree problem claim mid headed → (bytes : List ℕ) → had ≡ Some bytes → IsGoodCert problem claim bytes
     good_cert law unique judged bytes known =
         let (rest, known_mid, same) = after_header bytes known in
-        let (tree, spells, is) = spelled_awaited problem claim had start opened bytes known (length problem.agents) claim judged.nodes (takes.joins bytes known judged.nodes (judged.read rest known_mid)) in
+        let (tree, spells, is) = spelled_awaited problem claim had start opened bytes known headed.version (length problem.agents) claim judged.nodes (takes.joins bytes known judged.nodes (judged.read rest known_mid)) in
         let (shown, is_shown, shows) = ((law problem claim).whole judged.nodes).0 judged.shows in
-        record { tree = tree; spelled = spells; shows = subst (λ t. Shows problem claim t) (unique shown tree (sym is_shown ∙ is)) shows }
+        record { version = headed.version; tree = tree; spelled = spells; shows = subst (λ t. Shows problem claim t) (unique shown tree (sym is_shown ∙ is)) shows }
 
     -- and has no more bytes than are allowed
     pub cert_within : IsJudgedTree problem claim mid headed → (bytes : List ℕ) → had ≡ Some bytes → length bytes ≤ start.buffer.left
     cert_within judged bytes known =
-        let (rest, known_mid, same, count) = Window-known had mid start.buffer headed.buffer (header_text start.width (length problem.agents) claim) bytes takes.window known in
+        let (rest, known_mid, same, count) = Window-known had mid start.buffer headed.buffer (header_text headed.version start.width (length problem.agents) claim) bytes takes.window known in
         omega (arith, count, judged.within rest known_mid)
 
 pub shown_tree : FrontDecides → (problem : Instance) (claim : Claim) (mid : Option (List ℕ)) (headed : Reading) → IsJudgedTree problem claim mid headed → IsShown problem claim

@@ -1,6 +1,7 @@
 pub mod ConflictLemmas
 pub mod DefectLemmas
 pub mod IndexLemmas
+pub mod ChangeLemmas
 pub mod BranchLemmas
 pub mod EntryLemmas
 pub mod StartLemmas

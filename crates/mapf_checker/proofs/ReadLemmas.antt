@@ -8,10 +8,11 @@ use Rattle.std.proofs.KnownBytes.{Consumes-nil}
 use Rattle.mapf_model.specs.declared.item.Claim.{Claim}
 use Rattle.mapf_model.specs.declared.item.Item.{Item}
 use Rattle.mapf_model.specs.Grid.{GridMap}
-use Rattle.mapf_model.specs.Laws.{FrontDecides}
+use Rattle.mapf_model.specs.Laws.{FrontDecides, OnlyStartEntriesCount, ChildrenAreAlike, AreAlike}
 use Rattle.mapf_model.specs.Plan.{Instance}
 use Rattle.mapf_model.specs.Printed.{AreBlocksInRange}
-use Rattle.mapf_model.specs.Tree.{Split, Leaf, Node, SplitNode, LeafNode, ClashNode, NodeConstraints, NodesShow, node_of, root}
+use Rattle.mapf_model.specs.Tree.{Split, Leaf, Node, SplitNode, LeafNode, ClashNode, NodeContext, NodesShow, node_of, root}
+use Rattle.mapf_certificate.specs.declared.version.Version.{Version}
 use Rattle.mapf_certificate.specs.declared.cert.LinesFault.{LinesFault}
 use Rattle.mapf_certificate.specs.declared.cert.LinesFault.TheVariants.{Text, Device, TooLong, Memory}
 use Rattle.mapf_certificate.specs.declared.cert.CertFault.TheVariants as texts
@@ -29,20 +30,21 @@ use Rattle.mapf_checker.specs.declared.tree.Progress.{Progress}
 use Rattle.mapf_checker.specs.CertJudging.{HasTreeRefusal, IsBetweenItems, IsJudgedTree, IsReadTo, IsReadOn}
 use Rattle.mapf_checker.specs.Faults.{of_cert, IsOfJudging, IsNoRefusal, IsOfChecking}
 use Rattle.mapf_checker.specs.NodeDefects.{HasNodeDefect, IsGoodNode}
-use Rattle.mapf_checker.specs.Progress.{constraints_after, constraints_after_all, owed_at, owed_by, here_of}
+use Rattle.mapf_checker.specs.Progress.{contexts_after, contexts_after_all, owed_at, owed_by, here_of, AreAllAlike}
 use Rattle.mapf_checker.specs.Refusals.{HasBadNode}
 use Rattle.mapf_checker.specs.Branch.{Place, place_of}
-use Rattle.mapf_checker.proofs.TreeLemmas.{judged_good, shown_good, defect_refutes_node}
+use Rattle.mapf_checker.proofs.TreeLemmas.{judged_good, shown_good, defect_refutes_node, defect_alike, nodes_show_alike, alike_after, all_alike_same, all_alike_turned, all_alike_passed}
 
 -- nothing was read
-pub read_none : (problem : Instance) (claim : Claim) (had : Option (List ℕ)) (start : Reading) (owed : List NodeConstraints) → owed ≡ root ∷ [] → IsReadTo problem claim had had start start owed
+pub read_none : (problem : Instance) (claim : Claim) (had : Option (List ℕ)) (start : Reading) (owed : List NodeContext) → owed ≡ root ∷ [] → IsReadTo problem claim had had start start owed
 read_none problem claim had start owed same = record {
   given = [];
   width = refl;
+  version = refl;
   window = record { pulled = []; source = Consumes-nil had; same = append-nil start.buffer.bytes; within = omega arith };
   ahead = λ nodes awaits. (nodes, refl, awaits);
   behind = λ bytes known rest awaits. awaits;
-  place = same;
+  place = rw same (all_alike_same problem (root ∷ []));
   shows = λ rest. rw same (λ h. h, λ h. h);
 }
 
@@ -80,52 +82,65 @@ module _ (problem : Instance) (claim : Claim) (had mid left : Option (List ℕ))
       let front : other ∷ rest ≡ node ∷ rest = ap (λ n. n ∷ rest) (sym is) in
       (rest, same ∙ ap (λ ns. given ++ ns) front ∙ sym (append_assoc given (node ∷ []) rest), front, after)
 
-  taken : Window had left start.buffer new.buffer (flat_map (node_text start.width) so_far.given ++ node_text start.width node)
-  taken = Window-trans had mid left start.buffer now.buffer new.buffer (flat_map (node_text start.width) so_far.given) (node_text start.width node) so_far.window (rw so_far.width at next.takes.read.window)
+  taken : Window had left start.buffer new.buffer (flat_map (node_text start.version start.width) so_far.given ++ node_text start.version start.width node)
+  taken = Window-trans had mid left start.buffer now.buffer new.buffer (flat_map (node_text start.version start.width) so_far.given) (node_text start.version start.width node) so_far.window (rw (so_far.version, so_far.width) at next.takes.read.window)
 
-  pub read_more : FrontDecides → new.width ≡ now.width → IsGoodNode problem claim (here_of progress) node → (after : List NodeConstraints) → after ≡ constraints_after (owed_by progress) node → IsReadTo problem claim had left start new after
-  read_more law same_width good after is_after = record {
+  pub read_more : FrontDecides → OnlyStartEntriesCount → ChildrenAreAlike → new.width ≡ now.width → new.version ≡ now.version → IsGoodNode problem claim (here_of progress) node → (after : List NodeContext) → AreAllAlike problem after (contexts_after (owed_by progress) node) → IsReadTo problem claim had left start new after
+  read_more law count children same_width same_version good after is_after = record {
     given = so_far.given ++ node ∷ [];
     width = same_width ∙ so_far.width;
-    window = subst (λ t. Window had left start.buffer new.buffer t) (sym (flat_map-push (node_text start.width) so_far.given node)) taken;
+    version = same_version ∙ so_far.version;
+    window = subst (λ t. Window had left start.buffer new.buffer t) (sym (flat_map-push (node_text start.version start.width) so_far.given node)) taken;
     ahead = λ nodes awaits.
         let (rest, same, there) = so_far.ahead nodes awaits in
         let (further, whole, front, then) = next_is so_far.given nodes rest same there in
         (further, whole, then);
     behind = λ bytes known rest awaits.
-        let (had_left, known_mid, same, count) = Window-known had mid start.buffer now.buffer (flat_map (node_text start.width) so_far.given) bytes so_far.window known in
+        let (had_left, known_mid, same, count) = Window-known had mid start.buffer now.buffer (flat_map (node_text start.version start.width) so_far.given) bytes so_far.window known in
         subst (λ ns. Awaits had start ns) (sym (append_assoc so_far.given (node ∷ []) rest)) (so_far.behind bytes known (node ∷ rest) (next.takes.joins had_left known_mid rest awaits));
-    place = is_after ∙ ap (λ o. constraints_after o node) so_far.place ∙ sym (constraints_after_push (root ∷ []) so_far.given node);
+    place = subst (λ those. AreAllAlike problem after those) (sym (contexts_after_push (root ∷ []) so_far.given node))
+        (all_alike_passed problem after (contexts_after (owed_by progress) node) (contexts_after (contexts_after_all (root ∷ []) so_far.given) node) is_after
+        (alike_after children problem (owed_by progress) (contexts_after_all (root ∷ []) so_far.given) node so_far.place));
     shows = λ rest.
         let before = so_far.shows (node ∷ rest) in
-        let here_on : NodesShow problem claim (owed_by progress) (node ∷ rest) ↔ NodesShow problem claim after rest = rw (is_after, is_owed) (judged_good law problem claim (here_of progress) (place_of progress.branch).owed node good rest) in
+        let next_on : NodesShow problem claim (owed_by progress) (node ∷ rest) ↔ NodesShow problem claim (contexts_after (owed_by progress) node) rest = rw is_owed (judged_good law problem claim (here_of progress) (place_of progress.branch).owed node good rest) in
+        let here_on : NodesShow problem claim (owed_by progress) (node ∷ rest) ↔ NodesShow problem claim after rest = (
+          λ shows. nodes_show_alike count problem claim (contexts_after (owed_by progress) node) after rest (all_alike_turned problem after (contexts_after (owed_by progress) node) is_after) (next_on.0 shows),
+          λ shows. next_on.1 (nodes_show_alike count problem claim after (contexts_after (owed_by progress) node) rest is_after shows),
+        ) in
         rw (append_assoc so_far.given (node ∷ []) rest) (λ shows. here_on.0 (before.0 shows), λ shows. before.1 (here_on.1 shows));
   } where
     flat_map-push : (f : Node → List ℕ) (xs : List Node) (x : Node) → flat_map f (xs ++ x ∷ []) ≡ flat_map f xs ++ f x
     flat_map-push f [] x = append-nil (f x)
     flat_map-push f (y ∷ xs) x = ap (λ l. f y ++ l) (flat_map-push f xs x) ∙ sym (append_assoc (f y) (flat_map f xs) (f x))
 
-    constraints_after_push : (owed : List NodeConstraints) (xs : List Node) (x : Node) → constraints_after_all owed (xs ++ x ∷ []) ≡ constraints_after (constraints_after_all owed xs) x
-    constraints_after_push owed [] x = refl
-    constraints_after_push owed (y ∷ xs) x = constraints_after_push (constraints_after owed y) xs x
+    contexts_after_push : (owed : List NodeContext) (xs : List Node) (x : Node) → contexts_after_all owed (xs ++ x ∷ []) ≡ contexts_after (contexts_after_all owed xs) x
+    contexts_after_push owed [] x = refl
+    contexts_after_push owed (y ∷ xs) x = contexts_after_push (contexts_after owed y) xs x
 
   pub came_with_node : ComesWithin had left start.buffer
-  came_with_node = Window-within had left start.buffer new.buffer (flat_map (node_text start.width) so_far.given ++ node_text start.width node) taken
+  came_with_node = Window-within had left start.buffer new.buffer (flat_map (node_text start.version start.width) so_far.given ++ node_text start.version start.width node) taken
+
+  -- what the node inherits: what is kept of it is alike
+  inherits : (those : List NodeContext) → AreAllAlike problem (here_of progress ∷ (place_of progress.branch).owed) those → (here : NodeContext) × (owed : List NodeContext) × (those ≡ here ∷ owed) × AreAlike problem (here_of progress) here
+  inherits [] alike = absurd alike
+  inherits (here ∷ owed) (alike, rest) = (here, owed, refl, alike)
 
   -- it has a defect
-  pub bad_node : (fault : CheckFault) → HasNodeDefect problem claim (here_of progress) node fault → (bytes : List ℕ) → had ≡ Some bytes → HasBadNode problem claim fault (start.buffer.bytes ++ bytes)
-  bad_node fault defect bytes known =
-      let text = node_text start.width in
+  pub bad_node : OnlyStartEntriesCount → ChildrenAreAlike → (fault : CheckFault) → HasNodeDefect problem claim (here_of progress) node fault → (bytes : List ℕ) → had ≡ Some bytes → HasBadNode problem claim start.version fault (start.buffer.bytes ++ bytes)
+  bad_node count_law children fault defect bytes known =
+      let text = node_text start.version start.width in
       let (after, known_left, same, count) = Window-known had left start.buffer new.buffer (flat_map text so_far.given ++ text node) bytes taken known in
+      let (here, owed, place, alike) = inherits (contexts_after_all (root ∷ []) so_far.given) (subst (λ os. AreAllAlike problem os (contexts_after_all (root ∷ []) so_far.given)) is_owed so_far.place) in
       record {
         before = so_far.given;
         node = node;
-        here = here_of progress;
-        owed = (place_of progress.branch).owed;
-        place = sym so_far.place ∙ is_owed;
-        defect = defect;
+        here = here;
+        owed = owed;
+        place = place;
+        defect = defect_alike count_law children problem claim (here_of progress) here node fault alike defect;
         rest = new.buffer.bytes ++ after;
-        spelled = subst (λ w. start.buffer.bytes ++ bytes ≡ flat_map (node_text w) so_far.given ++ (node_text w node ++ (new.buffer.bytes ++ after))) (sym so_far.width ∙ between.width)
+        spelled = subst (λ w. start.buffer.bytes ++ bytes ≡ flat_map (node_text start.version w) so_far.given ++ (node_text start.version w node ++ (new.buffer.bytes ++ after))) (sym so_far.width ∙ between.width)
             (same ∙ append_assoc (flat_map text so_far.given) (text node) (new.buffer.bytes ++ after));
       }
 
@@ -136,35 +151,35 @@ module _ (problem : Instance) (claim : Claim) (had mid left : Option (List ℕ))
       let (after, whole, front, then) = next_is so_far.given nodes rest same there in
       let all : nodes ≡ so_far.given ++ node ∷ after = same ∙ ap (λ ns. so_far.given ++ ns) front in
       let left_to_show : NodesShow problem claim (owed_by progress) (node ∷ after) = (so_far.shows (node ∷ after)).0 (subst (λ ns. NodesShow problem claim (root ∷ []) ns) all shows) in
-      defect_refutes_node problem claim (here_of progress) (grid_at now) (agents_at now) node fault next.takes.read.in_range defect
+      defect_refutes_node problem claim (here_of progress) now.version (grid_at now) (agents_at now) node fault next.takes.read.in_range defect
       (shown_good law problem claim (here_of progress) (place_of progress.branch).owed node after (subst (λ o. NodesShow problem claim o (node ∷ after)) is_owed left_to_show))
 
 -- the end was read
-pub read_all : FrontDecides → (problem : Instance) (claim : Claim) (had mid left : Option (List ℕ)) (start now new : Reading) (owed : List NodeConstraints) → now.owed ≡ length owed → IsReadTo problem claim had mid start now owed → TakesEnd mid left now new → IsJudgedTree problem claim had start
+pub read_all : FrontDecides → (problem : Instance) (claim : Claim) (had mid left : Option (List ℕ)) (start now new : Reading) (owed : List NodeContext) → now.owed ≡ length owed → IsReadTo problem claim had mid start now owed → TakesEnd mid left now new → IsJudgedTree problem claim had start
 read_all law problem claim had mid left start now new owed count so_far takes = record {
   nodes = so_far.given;
   shows = subst (λ ns. NodesShow problem claim (root ∷ []) ns) (append-nil so_far.given)
       ((so_far.shows []).1 (subst (λ o. NodesShow problem claim o []) (sym (none owed (sym count ∙ takes.read.none_owed))) (law problem claim).over));
   read = λ bytes known.
-      let (rest, known_mid, same, count) = Window-known had mid start.buffer now.buffer (flat_map (node_text start.width) so_far.given) bytes so_far.window known in
+      let (rest, known_mid, same, count) = Window-known had mid start.buffer now.buffer (flat_map (node_text start.version start.width) so_far.given) bytes so_far.window known in
       subst (λ ns. Awaits had start ns) (append-nil so_far.given) (so_far.behind bytes known [] (takes.joins rest known_mid));
   within = λ bytes known.
-      let (rest, known_mid, same, count) = Window-known had mid start.buffer now.buffer (flat_map (node_text start.width) so_far.given) bytes so_far.window known in
+      let (rest, known_mid, same, count) = Window-known had mid start.buffer now.buffer (flat_map (node_text start.version start.width) so_far.given) bytes so_far.window known in
       let (after, known_left, same_end, count_end) = Window-known mid left now.buffer new.buffer (line_text now.width lines.End) rest takes.read.window known_mid in
       let none_left : after ≡ [] = rw known_left at takes.read.ended in
       omega (arith, count, count_end, ap length none_left);
 } where
-  none : (owed : List NodeConstraints) → length owed ≡ 0 → owed ≡ []
+  none : (owed : List NodeContext) → length owed ≡ 0 → owed ≡ []
   none [] e = refl
   none (o ∷ os) e = absurd (omega (arith, e))
 
 -- what came up to the end was left of the limit
-pub came_to_end : (problem : Instance) (claim : Claim) (had mid left : Option (List ℕ)) (start now new : Reading) (owed : List NodeConstraints) → IsReadTo problem claim had mid start now owed → TakesEnd mid left now new → ComesWithin had left start.buffer
+pub came_to_end : (problem : Instance) (claim : Claim) (had mid left : Option (List ℕ)) (start now new : Reading) (owed : List NodeContext) → IsReadTo problem claim had mid start now owed → TakesEnd mid left now new → ComesWithin had left start.buffer
 came_to_end problem claim had mid left start now new owed so_far takes =
-    ComesWithin-after had mid left start.buffer now.buffer (flat_map (node_text start.width) so_far.given) so_far.window (Window-within mid left now.buffer new.buffer (line_text now.width lines.End) takes.read.window)
+    ComesWithin-after had mid left start.buffer now.buffer (flat_map (node_text start.version start.width) so_far.given) so_far.window (Window-within mid left now.buffer new.buffer (line_text now.width lines.End) takes.read.window)
 
 -- no nodes were to come where reading found a fault of the text
-pub none_awaited : (problem : Instance) (claim : Claim) (had mid : Option (List ℕ)) (start now : Reading) (owed : List NodeConstraints) (fault : LinesFault) → IsReadTo problem claim had mid start now owed →
+pub none_awaited : (problem : Instance) (claim : Claim) (had mid : Option (List ℕ)) (start now : Reading) (owed : List NodeContext) (fault : LinesFault) → IsReadTo problem claim had mid start now owed →
     ((other : Node) (nodes : List Node) → Awaits mid now (other ∷ nodes) → IsNoTextFault fault) → (Awaits mid now [] → IsNoTextFault fault) → (nodes : List Node) → Awaits had start nodes → IsNoTextFault fault
 none_awaited problem claim had mid start now owed fault so_far only_item only_end nodes awaits = let (rest, same, there) = so_far.ahead nodes awaits in by rest there where
   by : (rest : List Node) → Awaits mid now rest → IsNoTextFault fault
@@ -194,15 +209,16 @@ module _ (problem : Instance) (claim : Claim) (had left : Option (List ℕ)) (fa
   stops_reading mid now taken IsText TooLong window fails none = (fails.0, Exceeds-after had mid left start.buffer now.buffer taken window fails.1)
   stops_reading mid now taken IsText Memory window fails none = (fails.0, ComesWithin-after had mid left start.buffer now.buffer taken window fails.1)
 
-  tree_refusal : (here : NodeConstraints) (node : Node) (fault : CheckFault) → HasNodeDefect problem claim here node fault → ((bytes : List ℕ) → had ≡ Some bytes → HasBadNode problem claim fault (start.buffer.bytes ++ bytes)) → HasTreeRefusal problem claim had start fault
-  tree_refusal here (SplitNode conflict) fault (line, is, defect) bad = rw is (rw is at bad)
+  tree_refusal : (here : NodeContext) (node : Node) (fault : CheckFault) → HasNodeDefect problem claim here node fault → ((bytes : List ℕ) → had ≡ Some bytes → HasBadNode problem claim start.version fault (start.buffer.bytes ++ bytes)) → HasTreeRefusal problem claim had start fault
+  tree_refusal here (SplitNode conflict blocks) fault (inl (line, is, defect)) bad = rw is (rw is at bad)
+  tree_refusal here (SplitNode conflict blocks) fault (inr (line, is, defect)) bad = rw is (rw is at bad)
   tree_refusal here (LeafNode blocks) fault (inl (line, is, defect)) bad = rw is (rw is at bad)
   tree_refusal here (LeafNode blocks) fault (inr (line, is, defect)) bad = rw is (rw is at bad)
   tree_refusal here (ClashNode i j) fault (line, is, defect) bad = rw is (rw is at bad)
 
   -- why judging stopped
-  pub stops_judging : (here : NodeConstraints) (node : Node) (fault : FromFault) → failed ≡ false → ComesWithin had left start.buffer → IsOfJudging (HasNodeDefect problem claim here node) fault →
-      ((refusal : CheckFault) → HasNodeDefect problem claim here node refusal → (bytes : List ℕ) → had ≡ Some bytes → HasBadNode problem claim refusal (start.buffer.bytes ++ bytes)) → IsOfChecking had left failed start.buffer (HasTreeRefusal problem claim had start) fault
+  pub stops_judging : (here : NodeContext) (node : Node) (fault : FromFault) → failed ≡ false → ComesWithin had left start.buffer → IsOfJudging (HasNodeDefect problem claim here node) fault →
+      ((refusal : CheckFault) → HasNodeDefect problem claim here node refusal → (bytes : List ℕ) → had ≡ Some bytes → HasBadNode problem claim start.version refusal (start.buffer.bytes ++ bytes)) → IsOfChecking had left failed start.buffer (HasTreeRefusal problem claim had start) fault
   stops_judging here node (from.Refused refusal) works comes is bad = (works, comes, tree_refusal here node refusal is (bad refusal is))
   stops_judging here node from.Device works comes is bad = absurd is
   stops_judging here node from.TooLong works comes is bad = absurd is
@@ -215,15 +231,15 @@ no_refusal_judging P from.TooLong is none = tt
 no_refusal_judging P from.Memory is none = tt
 
 -- a node that is in range on one grid is so on another of the same size
-pub node_moved : (g h : GridMap) (agents : ℕ) → AreSized g h → (node : Node) → IsNode g agents node → IsNode h agents node
-node_moved g h agents same (SplitNode conflict) is = (tree_moved g h same agents (Split conflict (Leaf []) (Leaf [])) (is, none, none)).0 where
+pub node_moved : (version : Version) (g h : GridMap) (agents : ℕ) → AreSized g h → (node : Node) → IsNode version g agents node → IsNode version h agents node
+node_moved version g h agents same (SplitNode conflict blocks) is = let moved = tree_moved g h same agents (Split conflict blocks (Leaf []) (Leaf [])) (is.0, is.1, none, none) in (moved.0, moved.1, is.2) where
   none : {grid : GridMap} → AreBlocksInRange grid agents []
   none = record { each = λ k d within. absurd (omega arith); rising = λ i j d less within. absurd (omega arith) }
-node_moved g h agents same (LeafNode blocks) is = tree_moved g h same agents (Leaf blocks) is
-node_moved g h agents same (ClashNode i j) is = is
+node_moved version g h agents same (LeafNode blocks) is = tree_moved g h same agents (Leaf blocks) is
+node_moved version g h agents same (ClashNode i j) is = is
 
 -- where reading or judging an item ended with this fault
-pub not_read_on : (problem : Instance) (claim : Claim) (had left : Option (List ℕ)) (failed : Bool) (start reading : Reading) (owed : List NodeConstraints) (result : Result Bool FromFault) (fault : FromFault) → IsErrAnd result (λ given. given ≡ fault) →
+pub not_read_on : (problem : Instance) (claim : Claim) (had left : Option (List ℕ)) (failed : Bool) (start reading : Reading) (owed : List NodeContext) (result : Result Bool FromFault) (fault : FromFault) → IsErrAnd result (λ given. given ≡ fault) →
     ((nodes : List Node) → Awaits had start nodes → NodesShow problem claim (root ∷ []) nodes → IsNoRefusal fault) → IsOfChecking had left failed start.buffer (HasTreeRefusal problem claim had start) fault → IsReadOn problem claim had left failed start reading owed result
 not_read_on problem claim had left failed start reading owed (Ok more) fault is only stops = absurd is
 not_read_on problem claim had left failed start reading owed (Err given) fault is only stops = record {

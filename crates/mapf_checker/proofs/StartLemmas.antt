@@ -8,19 +8,20 @@ use Rattle.mapf_model.specs.declared.problem.Agent.{Agent}
 use Rattle.mapf_model.specs.declared.label.Label.{Label}
 use Rattle.mapf_model.specs.declared.label.Label.TheVariants.{Ticks, Never}
 use Rattle.mapf_model.specs.Blocks.{LabelBlock}
-use Rattle.mapf_model.specs.Labels.{entries_of, IsLabel, IsDistanceLabel, label_plus, label_sum}
+use Rattle.mapf_model.specs.Labels.{Entries, entries_of, IsLabel, IsEntryOrDistance, label_plus, label_sum}
 use Rattle.mapf_model.specs.Plan.{Instance}
 use Rattle.mapf_model.specs.declared.item.Claim.{Claim}
 use Rattle.mapf_model.specs.declared.item.Claim.TheVariants.{Cost, Impossible}
 use Rattle.mapf_model.specs.Laws.{StartLabelsDecide, StartLabelsDecideImpossible}
-use Rattle.mapf_model.specs.Tree.{StartsShow, block_of, with_blocks, no_entries}
+use Rattle.mapf_model.specs.Tree.{StartsShow, block_of, with_blocks}
 use Rattle.mapf_distance.specs.Tables.{AreTables}
+use Rattle.mapf_checker.specs.Starts.{IsKept}
 use Rattle.mapf_checker.specs.Leaf.{IsCut, IsStartLabel, IsStartOf, IsStartTotal, IsEnough, label_of, TakesBlock, LeavesBlock}
 use Rattle.mapf_distance.specs.Distances.{GoalMap}
 
 -- labels of the first starts
-abbrev pub AreLabelsBelow : Instance → List LabelBlock → List Label → Type 0
-AreLabelsBelow problem blocks labels = (i : ℕ) (agent : Agent) (label : Label) → slice_get problem.agents i ≡ Some agent → slice_get labels i ≡ Some label → IsLabel problem.grid agent.goal (with_blocks blocks no_entries i) agent.start 0 label
+abbrev pub AreLabelsBelow : Instance → List LabelBlock → (ℕ → Entries) → List Label → Type 0
+AreLabelsBelow problem blocks before labels = (i : ℕ) (agent : Agent) (label : Label) → slice_get problem.agents i ≡ Some agent → slice_get labels i ≡ Some label → IsLabel problem.grid agent.goal (with_blocks blocks before i) agent.start 0 label
 
 label_plus-assoc : (a b c : Label) → label_plus a (label_plus b c) ≡ label_plus (label_plus a b) c
 label_plus-assoc (Ticks a) (Ticks b) (Ticks c) = ap Ticks (omega arith)
@@ -43,15 +44,15 @@ slice_get-push [] x y (suc i) e = absurd cc
 slice_get-push (z ∷ xs) x y zero e = inl e
 slice_get-push (z ∷ xs) x y (suc i) e = ⊎_elim (λ (p : slice_get xs i ≡ Some y). inl p) (λ (q : (i ≡ length xs) × (x ≡ y)). inr (ap suc q.0, q.1)) (slice_get-push xs x y i e)
 
-pub AreLabelsBelow-push : (problem : Instance) (blocks : List LabelBlock) (labels : List Label) (agent : Agent) (label : Label) → AreLabelsBelow problem blocks labels →
-    slice_get problem.agents (length labels) ≡ Some agent → IsLabel problem.grid agent.goal (with_blocks blocks no_entries (length labels)) agent.start 0 label → AreLabelsBelow problem blocks (labels ++ label ∷ [])
-AreLabelsBelow-push problem blocks labels agent label before is_agent is_label i agent' label' is_agent' is_label' = ⊎_elim
-    (λ (old : slice_get labels i ≡ Some label'). before i agent' label' is_agent' old)
+pub AreLabelsBelow-push : (problem : Instance) (blocks : List LabelBlock) (before : ℕ → Entries) (labels : List Label) (agent : Agent) (label : Label) → AreLabelsBelow problem blocks before labels →
+    slice_get problem.agents (length labels) ≡ Some agent → IsLabel problem.grid agent.goal (with_blocks blocks before (length labels)) agent.start 0 label → AreLabelsBelow problem blocks before (labels ++ label ∷ [])
+AreLabelsBelow-push problem blocks before labels agent label below is_agent is_label i agent' label' is_agent' is_label' = ⊎_elim
+    (λ (old : slice_get labels i ≡ Some label'). below i agent' label' is_agent' old)
     (λ (new : (i ≡ length labels) × (label ≡ label')).
     let same : agent ≡ agent' = same_Some agent agent' (sym is_agent ∙ subst (λ k. slice_get problem.agents k ≡ Some agent') new.0 is_agent') in
-    subst (λ k. IsLabel problem.grid agent'.goal (with_blocks blocks no_entries k) agent'.start 0 label') (sym new.0)
-    (subst (λ l. IsLabel problem.grid agent'.goal (with_blocks blocks no_entries (length labels)) agent'.start 0 l) new.1
-    (subst (λ (a : Agent). IsLabel problem.grid a.goal (with_blocks blocks no_entries (length labels)) a.start 0 label) same is_label)))
+    subst (λ k. IsLabel problem.grid agent'.goal (with_blocks blocks before k) agent'.start 0 label') (sym new.0)
+    (subst (λ l. IsLabel problem.grid agent'.goal (with_blocks blocks before (length labels)) agent'.start 0 l) new.1
+    (subst (λ (a : Agent). IsLabel problem.grid a.goal (with_blocks blocks before (length labels)) a.start 0 label) same is_label)))
     (slice_get-push labels label label' i is_label')
 
 -- the block of an agent, where it stands
@@ -128,34 +129,33 @@ module _ (blocks : List LabelBlock) (place agent : ℕ) (rising : AllPairs (λ a
       (λ now. let same : k ≡ place = omega arith in rw (ap (λ j. slice_index_or blocks j d) same ∙ at d) above)
       (cases_lt place k))
 
--- labels of an agent with a block, and of one without
-module _ (problem : Instance) (blocks : List LabelBlock) (agent start : ℕ) (is_start : IsStartOf problem agent start) (tables : List GoalMap) (are : AreTables problem tables) (table : GoalMap) (is_table : slice_get tables agent ≡ Some table) (label : Label) where
-  pub start_by_block : (block : LabelBlock) → block_of blocks agent ≡ Some block → IsLabel table.grid table.goal (entries_of block.entries) start 0 label → IsStartLabel problem blocks agent label
-  start_by_block block is_block is_label b is_b =
+-- the label of an agent's start, by its entry
+module _ (problem : Instance) (blocks : List LabelBlock) (before : ℕ → Entries) (agent start : ℕ) (is_start : IsStartOf problem agent start) (tables : List GoalMap) (are : AreTables problem tables) (table : GoalMap) (is_table : slice_get tables agent ≡ Some table) (entry : Option Label) (label : Label) (is_label : IsEntryOrDistance table.grid table.goal start entry label) where
+  start_by_entry : with_blocks blocks before agent start 0 ≡ entry → IsStartLabel problem blocks before agent label
+  start_by_entry same b is_b =
       let (a, is_a, at) = is_start in
       let (on, to) = are.each agent a table is_a is_table in
-      subst (λ (x : Agent). IsLabel problem.grid x.goal (with_blocks blocks no_entries agent) x.start 0 label) (same_Some a b (sym is_a ∙ is_b))
-      (rw is_block (subst (λ s. IsLabel problem.grid a.goal (entries_of block.entries) s 0 label) (sym at)
-      (subst (λ g. IsLabel g a.goal (entries_of block.entries) start 0 label) on (subst (λ g. IsLabel table.grid g (entries_of block.entries) start 0 label) to is_label))))
+      subst (λ (x : Agent). IsLabel problem.grid x.goal (with_blocks blocks before agent) x.start 0 label) (same_Some a b (sym is_a ∙ is_b))
+      (subst (λ s. IsLabel problem.grid a.goal (with_blocks blocks before agent) s 0 label) (sym at)
+      (subst (λ (e : Option Label). IsEntryOrDistance problem.grid a.goal start e label) (sym same)
+      (subst (λ g. IsEntryOrDistance g a.goal start entry label) on (subst (λ g. IsEntryOrDistance table.grid g start entry label) to is_label))))
 
-  pub start_by_distance : block_of blocks agent ≡ None → IsDistanceLabel table.grid table.goal start label → IsStartLabel problem blocks agent label
-  start_by_distance none is_label b is_b =
-      let (a, is_a, at) = is_start in
-      let (on, to) = are.each agent a table is_a is_table in
-      subst (λ (x : Agent). IsLabel problem.grid x.goal (with_blocks blocks no_entries agent) x.start 0 label) (same_Some a b (sym is_a ∙ is_b))
-      (rw none (subst (λ s. IsDistanceLabel problem.grid a.goal s label) (sym at)
-      (subst (λ g. IsDistanceLabel g a.goal start label) on (subst (λ g. IsDistanceLabel table.grid g start label) to is_label))))
+  pub start_by_block : (block : LabelBlock) → block_of blocks agent ≡ Some block → entry ≡ entries_of block.entries start 0 → IsStartLabel problem blocks before agent label
+  start_by_block block is_block is_entry = start_by_entry (rw is_block (sym is_entry))
+
+  pub start_from_above : block_of blocks agent ≡ None → IsKept before agent entry → IsStartLabel problem blocks before agent label
+  start_from_above none kept = start_by_entry (rw none (kept start 0))
 
 -- one label more
-pub start_more : (problem : Instance) (blocks : List LabelBlock) (i : ℕ) (total sum : Option ℕ) (label : Label) → i < length problem.agents →
-    (labels : List Label) × (length labels ≡ i) × AreLabelsBelow problem blocks labels × (label_sum labels ≡ label_of total) →
-    IsStartLabel problem blocks i label → label_of sum ≡ label_plus (label_of total) label →
-    (labels : List Label) × (length labels ≡ i + 1) × AreLabelsBelow problem blocks labels × (label_sum labels ≡ label_of sum)
-start_more problem blocks i total sum label inside (labels, count, below, adds) is_label is_sum =
+pub start_more : (problem : Instance) (blocks : List LabelBlock) (before : ℕ → Entries) (i : ℕ) (total sum : Option ℕ) (label : Label) → i < length problem.agents →
+    (labels : List Label) × (length labels ≡ i) × AreLabelsBelow problem blocks before labels × (label_sum labels ≡ label_of total) →
+    IsStartLabel problem blocks before i label → label_of sum ≡ label_plus (label_of total) label →
+    (labels : List Label) × (length labels ≡ i + 1) × AreLabelsBelow problem blocks before labels × (label_sum labels ≡ label_of sum)
+start_more problem blocks before i total sum label inside (labels, count, below, adds) is_label is_sum =
     let (agent, is_agent) = slice_get_inside problem.agents i inside in (
       labels ++ label ∷ [],
       omega (arith, length_push labels label, count),
-      AreLabelsBelow-push problem blocks labels agent label below (subst (λ k. slice_get problem.agents k ≡ Some agent) (sym count) is_agent) (subst (λ k. IsLabel problem.grid agent.goal (with_blocks blocks no_entries k) agent.start 0 label) (sym count) (is_label agent is_agent)),
+      AreLabelsBelow-push problem blocks before labels agent label below (subst (λ k. slice_get problem.agents k ≡ Some agent) (sym count) is_agent) (subst (λ k. IsLabel problem.grid agent.goal (with_blocks blocks before k) agent.start 0 label) (sym count) (is_label agent is_agent)),
       label_sum-push labels label ∙ ap (λ s. label_plus s label) adds ∙ sym is_sum,
     )
 
@@ -167,15 +167,15 @@ bound_more (Some t) None i label e more bound = tt
 bound_more (Some t) (Some s) i label e more bound = omega (arith, more, bound)
 
 -- whether the labels of the starts show a claim goes by their sum
-pub starts_decide : StartLabelsDecide → StartLabelsDecideImpossible → (problem : Instance) (claim : Claim) (blocks : List LabelBlock) (total : Option ℕ) → IsStartTotal problem blocks total →
-    StartsShow problem claim (with_blocks blocks no_entries) ↔ IsEnough claim total
-starts_decide law never problem (Cost cost) blocks None (labels, are, adds) = (λ _. tt, λ _. (law problem (with_blocks blocks no_entries) labels cost are).1 (rw adds tt))
-starts_decide law never problem (Cost cost) blocks (Some total) (labels, are, adds) =
-    let both = law problem (with_blocks blocks no_entries) labels cost are in
+pub starts_decide : StartLabelsDecide → StartLabelsDecideImpossible → (problem : Instance) (claim : Claim) (blocks : List LabelBlock) (before : ℕ → Entries) (total : Option ℕ) → IsStartTotal problem blocks before total →
+    StartsShow problem claim (with_blocks blocks before) ↔ IsEnough claim total
+starts_decide law never problem (Cost cost) blocks before None (labels, are, adds) = (λ _. tt, λ _. (law problem (with_blocks blocks before) labels cost are).1 (rw adds tt))
+starts_decide law never problem (Cost cost) blocks before (Some total) (labels, are, adds) =
+    let both = law problem (with_blocks blocks before) labels cost are in
     (λ shows. rw adds at (both.0 shows), λ enough. both.1 (rw adds enough))
-starts_decide law never problem Impossible blocks None (labels, are, adds) = (λ _. tt, λ _. (never problem (with_blocks blocks no_entries) labels are).1 (Contains-never labels adds))
-starts_decide law never problem Impossible blocks (Some total) (labels, are, adds) = (
-  λ shows. let e = label_sum-never labels ((never problem (with_blocks blocks no_entries) labels are).0 shows) in absurd (finite labels total adds e),
+starts_decide law never problem Impossible blocks before None (labels, are, adds) = (λ _. tt, λ _. (never problem (with_blocks blocks before) labels are).1 (Contains-never labels adds))
+starts_decide law never problem Impossible blocks before (Some total) (labels, are, adds) = (
+  λ shows. let e = label_sum-never labels ((never problem (with_blocks blocks before) labels are).0 shows) in absurd (finite labels total adds e),
   λ none. absurd none,
 ) where
   finite : (labels : List Label) (total : ℕ) → label_sum labels ≡ Ticks total → label_sum labels ≡ Never → ⊥

@@ -1,43 +1,71 @@
 -- The branch of a constraint tree from its root to the node that is read next.
-use Rattle.std.specs.Prelude.{◌≡◌, Bool, List, [], ◌∷◌, Option, Some, None, fold, MatchBool}
+use Rattle.std.specs.Prelude.{◌≡◌, ℕ, Bool, List, [], ◌∷◌, Option, Some, None, fold, length, MatchBool}
 use Rattle.mapf_model.specs.declared.conflict.Conflict.{Conflict}
-use Rattle.mapf_model.specs.Tree.{NodeConstraints, root, child_constraints, left_child_constraints, right_child_constraints}
+use Rattle.mapf_model.specs.Tree.{NodeContext, root, with_constraint, left_constraint, right_constraint}
 use Rattle.mapf_model.specs.declared.constraint.Constraint.{Constraint}
 use Rattle.mapf_checker.specs.declared.branch.Edge.{Edge}
 use Rattle.mapf_checker.specs.declared.index.BarIndex.{BarIndex}
+use Rattle.mapf_checker.specs.declared.starts.StartChange.{StartChange}
+use Rattle.mapf_checker.specs.declared.starts.Starts.{Starts}
 use Rattle.mapf_checker.specs.Index.{Indexes, CanUndo}
+use Rattle.mapf_checker.specs.Starts.{AreKept, AreOfFirst, KnowEntries, with_changes}
 
--- the constraints of the node that is read next, and of those that are owed after it
+-- the edges from the root, and of how many agents the entries of the starts are kept
+pub record Route : Type 0 where
+  pub edges : List Edge
+  pub agents : ℕ
+
+-- what the node that is read next inherits, and what those inherit that are owed after it
 pub record Place : Type 0 where
-  pub here : NodeConstraints
-  pub owed : List NodeConstraints
+  pub here : NodeContext
+  pub owed : List NodeContext
+
+-- what a child of a split inherits: one constraint more, and the entries of the starts after the split's changes
+abbrev pub child_after : NodeContext → List StartChange → Constraint → NodeContext
+child_after context changes constraint = record { bars = with_constraint context.bars constraint; entries = with_changes changes context.entries }
 
 -- what is owed: the sibling, if it is still to come, then the rest
-abbrev pub with_owed : NodeConstraints → Option Constraint → List NodeConstraints → List NodeConstraints
-with_owed here None owed = owed
-with_owed here (Some other) owed = child_constraints here other ∷ owed
+abbrev pub with_owed : NodeContext → List StartChange → Option Constraint → List NodeContext → List NodeContext
+with_owed here changes None owed = owed
+with_owed here changes (Some other) owed = child_after here changes other ∷ owed
 
 -- at a child with this constraint, where its sibling with that constraint is owed
-abbrev pub descended : Place → Constraint → Option Constraint → Place
-descended place constraint other = record { here = child_constraints place.here constraint; owed = with_owed place.here other place.owed }
+abbrev pub descended : Place → Constraint → Option Constraint → List StartChange → Place
+descended place constraint other changes = record { here = child_after place.here changes constraint; owed = with_owed place.here changes other place.owed }
 
--- where the edges lead to from the root
-abbrev pub place_of : List Edge → Place
-place_of edges = fold (λ place edge. descended place edge.constraint edge.owed) (record { here = root; owed = [] }) edges
+-- where an edge leads to
+abbrev pub along : Place → Edge → Place
+along place edge = descended place edge.constraint edge.owed edge.changes.items
 
--- the constraint of each edge can be undone
-abbrev pub CanUndoAll : NodeConstraints → List Edge → Type 0
-CanUndoAll here [] = Unit {0}
-CanUndoAll here (edge ∷ edges) = CanUndo here.bars edge.constraint edge.undo × CanUndoAll (child_constraints here edge.constraint) edges
+-- where edges lead to from the root
+abbrev pub place_after : List Edge → Place
+place_after edges = fold along (record { here = root; owed = [] }) edges
 
--- the index has the bars of the node that the edges lead to, and they can be undone
-pub record IsIndexedBranch (edges : List Edge) (index : BarIndex) : Type 0 where
-  pub indexed : Indexes (place_of edges).here.bars index
-  pub undone : CanUndoAll root edges
+-- where a route leads to
+abbrev pub place_of : Route → Place
+place_of route = place_after route.edges
 
--- on to the left child of a split
-abbrev pub IsSplit : Place → Conflict → Place → Type 0
-IsSplit old conflict new = (new.here ≡ left_child_constraints old.here conflict) × (new.owed ≡ right_child_constraints old.here conflict ∷ old.owed)
+-- what an edge changed can be undone: its constraint, and the entries of starts, which are those of so many agents
+pub record CanUndoEdge (count : ℕ) (context : NodeContext) (edge : Edge) : Type 0 where
+  pub constraint : CanUndo context.bars edge.constraint edge.undo
+  pub agents : AreOfFirst count edge.changes.items
+  pub entries : KnowEntries context.entries edge.changes.items
+
+-- so it is of each edge
+abbrev pub CanUndoAll : ℕ → NodeContext → List Edge → Type 0
+CanUndoAll agents here [] = Unit {0}
+CanUndoAll agents here (edge ∷ edges) = CanUndoEdge agents here edge × CanUndoAll agents (child_after here edge.changes.items edge.constraint) edges
+
+-- the index has the constraints of the node that the edges lead to, the starts have its entries, and both can be undone
+pub record IsIndexedBranch (edges : List Edge) (index : BarIndex) (starts : Starts) : Type 0 where
+  pub indexed : Indexes (place_after edges).here.bars index
+  pub kept : AreKept (place_after edges).here.entries starts.entries.items
+  pub undone : CanUndoAll (length starts.entries.items) root edges
+
+-- on to the left child of a split that makes these changes
+pub record IsSplit (old : Place) (conflict : Conflict) (changes : List StartChange) (new : Place) : Type 0 where
+  pub here : new.here ≡ child_after old.here changes (left_constraint conflict)
+  pub owed : new.owed ≡ child_after old.here changes (right_constraint conflict) ∷ old.owed
 
 -- on to what is owed next, if something is
 abbrev pub NextOf : Place → Place → Bool → Type 0

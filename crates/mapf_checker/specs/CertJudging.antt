@@ -3,18 +3,19 @@ use Rattle.std.specs.Prelude.{◌≡◌, ◌≢◌, ◌↔◌, ◌≤◌, ℕ, B
 use Rattle.std.specs.List.{flat_map}
 use Rattle.mapf_model.specs.declared.item.Claim.{Claim}
 use Rattle.mapf_model.specs.Plan.{Instance}
-use Rattle.mapf_model.specs.Tree.{Node, NodeConstraints, NodesShow, root}
+use Rattle.mapf_model.specs.Tree.{Node, NodeContext, NodesShow, root}
 use Rattle.mapf_certificate.specs.declared.cert.CertFault.TheVariants as certs
 use Rattle.mapf_certificate.specs.Certificates.{node_text}
 use Rattle.mapf_certificate.specs.CertReading.{Awaits, AwaitsCert}
 use Rattle.mapf_certificate.specs.Reading.{Reading}
+use Rattle.mapf_certificate.specs.declared.version.Version.{Version}
 use Rattle.mapf_certificate.specs.Window.{ComesWithin, Window}
 use Rattle.mapf_checker.specs.declared.fault.CheckFault.{CheckFault}
 use Rattle.mapf_checker.specs.declared.fault.CheckFault.TheVariants.{C2, C3, C4, C6, C7, C8, C9}
 use Rattle.mapf_checker.specs.declared.fault.FromFault.{FromFault}
 use Rattle.mapf_checker.specs.declared.tree.Progress.{Progress}
 use Rattle.mapf_checker.specs.Faults.{IsNoRefusal, IsOfChecking}
-use Rattle.mapf_checker.specs.Progress.{constraints_after_all, owed_by, IsReady}
+use Rattle.mapf_checker.specs.Progress.{contexts_after_all, owed_by, AreAllAlike, IsReady}
 use Rattle.mapf_checker.specs.Refusals.{BeginsWithHeader, HasBadNode}
 
 -- nothing was read
@@ -38,7 +39,7 @@ pub record IsHeaded (problem : Instance) (claim : Claim) (reading : Reading) : T
 
 -- what a refusal says of the bytes that begin with a header
 abbrev pub HasHeaderRefusal : Instance → Claim → Option (List ℕ) → Reading → CheckFault → Type 0
-HasHeaderRefusal problem claim had reading (C2 fault) = (fault ≢ certs.Memory) × ((agents : ℕ) (claimed : Claim) (nodes : List Node) → AwaitsCert had reading agents claimed nodes → ⊥)
+HasHeaderRefusal problem claim had reading (C2 fault) = (fault ≢ certs.Memory) × ((version : Version) (agents : ℕ) (claimed : Claim) (nodes : List Node) → AwaitsCert had reading version agents claimed nodes → ⊥)
 HasHeaderRefusal problem claim had reading C3 = (bytes : List ℕ) → had ≡ Some bytes → (agents : ℕ) × (claimed : Claim) × BeginsWithHeader problem bytes agents claimed × (agents ≢ length problem.agents)
 HasHeaderRefusal problem claim had reading C4 = (bytes : List ℕ) → had ≡ Some bytes → (agents : ℕ) × (claimed : Claim) × BeginsWithHeader problem bytes agents claimed × (claimed ≢ claim)
 HasHeaderRefusal problem claim had reading fault = ⊥
@@ -46,10 +47,10 @@ HasHeaderRefusal problem claim had reading fault = ⊥
 -- what a refusal says of the bytes after the header
 abbrev pub HasTreeRefusal : Instance → Claim → Option (List ℕ) → Reading → CheckFault → Type 0
 HasTreeRefusal problem claim had reading (C2 fault) = (fault ≢ certs.Memory) × ((nodes : List Node) → Awaits had reading nodes → ⊥)
-HasTreeRefusal problem claim had reading (C6 line) = (bytes : List ℕ) → had ≡ Some bytes → HasBadNode problem claim (C6 line) (reading.buffer.bytes ++ bytes)
-HasTreeRefusal problem claim had reading (C7 line) = (bytes : List ℕ) → had ≡ Some bytes → HasBadNode problem claim (C7 line) (reading.buffer.bytes ++ bytes)
-HasTreeRefusal problem claim had reading (C8 line) = (bytes : List ℕ) → had ≡ Some bytes → HasBadNode problem claim (C8 line) (reading.buffer.bytes ++ bytes)
-HasTreeRefusal problem claim had reading (C9 line) = (bytes : List ℕ) → had ≡ Some bytes → HasBadNode problem claim (C9 line) (reading.buffer.bytes ++ bytes)
+HasTreeRefusal problem claim had reading (C6 line) = (bytes : List ℕ) → had ≡ Some bytes → HasBadNode problem claim reading.version (C6 line) (reading.buffer.bytes ++ bytes)
+HasTreeRefusal problem claim had reading (C7 line) = (bytes : List ℕ) → had ≡ Some bytes → HasBadNode problem claim reading.version (C7 line) (reading.buffer.bytes ++ bytes)
+HasTreeRefusal problem claim had reading (C8 line) = (bytes : List ℕ) → had ≡ Some bytes → HasBadNode problem claim reading.version (C8 line) (reading.buffer.bytes ++ bytes)
+HasTreeRefusal problem claim had reading (C9 line) = (bytes : List ℕ) → had ≡ Some bytes → HasBadNode problem claim reading.version (C9 line) (reading.buffer.bytes ++ bytes)
 HasTreeRefusal problem claim had reading fault = ⊥
 
 -- the nodes show the claim, they are what the reader had before it, and no more bytes came than were left of the limit
@@ -70,19 +71,20 @@ pub record IsBetweenItems (problem : Instance) (claim : Claim) (reading : Readin
   pub ready : IsReady problem progress
 
 -- how far a tree was read and judged: these nodes came, whether they and others show the claim goes by the others, and
--- these constraints are owed
-pub record IsReadTo (problem : Instance) (claim : Claim) (had left : Option (List ℕ)) (start reading : Reading) (owed : List NodeConstraints) : Type 0 where
+-- trees are owed that inherit this, as far as it counts
+pub record IsReadTo (problem : Instance) (claim : Claim) (had left : Option (List ℕ)) (start reading : Reading) (owed : List NodeContext) : Type 0 where
   pub given : List Node
   pub width : reading.width ≡ start.width
-  pub window : Window had left start.buffer reading.buffer (flat_map (node_text start.width) given)
+  pub version : reading.version ≡ start.version
+  pub window : Window had left start.buffer reading.buffer (flat_map (node_text start.version start.width) given)
   pub ahead : (nodes : List Node) → Awaits had start nodes → (rest : List Node) × (nodes ≡ given ++ rest) × Awaits left reading rest
   pub behind : (bytes : List ℕ) → had ≡ Some bytes → (rest : List Node) → Awaits left reading rest → Awaits had start (given ++ rest)
-  pub place : owed ≡ constraints_after_all (root ∷ []) given
+  pub place : AreAllAlike problem owed (contexts_after_all (root ∷ []) given)
   pub shows : (rest : List Node) → NodesShow problem claim (root ∷ []) (given ++ rest) ↔ NodesShow problem claim owed rest
 
 -- what one more call says: `true`, one item more was read and judged; `false`, the whole tree was; no more bytes came than
 -- are allowed; nothing is refused where the text from its start on spells nodes that show the claim; and what a fault says
-pub record IsReadOn (problem : Instance) (claim : Claim) (had left : Option (List ℕ)) (failed : Bool) (start reading : Reading) (owed : List NodeConstraints) (result : Result Bool FromFault) : Type 0 where
+pub record IsReadOn (problem : Instance) (claim : Claim) (had left : Option (List ℕ)) (failed : Bool) (start reading : Reading) (owed : List NodeContext) (result : Result Bool FromFault) : Type 0 where
   pub read : IfOk result (λ more. MatchBool more (IsReadTo problem claim had left start reading owed) (IsJudgedTree problem claim had start))
   pub came : OnOk result (ComesWithin had left start.buffer)
   pub only : (nodes : List Node) → Awaits had start nodes → NodesShow problem claim (root ∷ []) nodes → IfErr result IsNoRefusal

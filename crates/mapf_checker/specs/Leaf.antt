@@ -6,9 +6,9 @@ use Rattle.mapf_model.specs.declared.label.Label.TheVariants.{Ticks, Never}
 use Rattle.mapf_model.specs.declared.item.Claim.{Claim}
 use Rattle.mapf_model.specs.declared.item.Claim.TheVariants.{Cost, Impossible}
 use Rattle.mapf_model.specs.Blocks.{LabelBlock}
-use Rattle.mapf_model.specs.Labels.{entries_of, AreSound, IsLabel, label_sum}
+use Rattle.mapf_model.specs.Labels.{Entries, entries_of, AreSound, IsLabel, label_sum}
 use Rattle.mapf_model.specs.Plan.{Instance}
-use Rattle.mapf_model.specs.Tree.{NodeConstraints, AreStartLabels, block_of, with_blocks, no_entries}
+use Rattle.mapf_model.specs.Tree.{NodeContext, AreStartLabels, block_of, with_blocks}
 
 -- the goal of the agent of this number
 abbrev pub IsGoalOf : Instance → ℕ → ℕ → Type 0
@@ -19,7 +19,7 @@ abbrev pub IsStartOf : Instance → ℕ → ℕ → Type 0
 IsStartOf problem i start = (agent : Agent) × (slice_get problem.agents i ≡ Some agent) × (agent.start ≡ start)
 
 -- a block of an agent of the problem, sound under the agent's bars
-abbrev pub IsGoodBlock : Instance → NodeConstraints → LabelBlock → Type 0
+abbrev pub IsGoodBlock : Instance → NodeContext → LabelBlock → Type 0
 IsGoodBlock problem here block = (agent : Agent) × (slice_get problem.agents block.agent ≡ Some agent) × AreSound problem.grid agent.goal (here.bars block.agent) (entries_of block.entries)
 
 -- a sum of labels, None where it is infinite
@@ -27,13 +27,13 @@ abbrev pub label_of : Option ℕ → Label
 label_of (Some total) = Ticks total
 label_of None = Never
 
--- the label of the agent's start
-abbrev pub IsStartLabel : Instance → List LabelBlock → ℕ → Label → Type 0
-IsStartLabel problem blocks i label = (agent : Agent) → slice_get problem.agents i ≡ Some agent → IsLabel problem.grid agent.goal (with_blocks blocks no_entries i) agent.start 0 label
+-- the label of the agent's start at a leaf with these blocks, which inherits these entries
+abbrev pub IsStartLabel : Instance → List LabelBlock → (ℕ → Entries) → ℕ → Label → Type 0
+IsStartLabel problem blocks before i label = (agent : Agent) → slice_get problem.agents i ≡ Some agent → IsLabel problem.grid agent.goal (with_blocks blocks before i) agent.start 0 label
 
 -- the sum of the labels of the starts
-abbrev pub IsStartTotal : Instance → List LabelBlock → Option ℕ → Type 0
-IsStartTotal problem blocks total = (labels : List Label) × AreStartLabels problem (with_blocks blocks no_entries) labels × (label_sum labels ≡ label_of total)
+abbrev pub IsStartTotal : Instance → List LabelBlock → (ℕ → Entries) → Option ℕ → Type 0
+IsStartTotal problem blocks before total = (labels : List Label) × AreStartLabels problem (with_blocks blocks before) labels × (label_sum labels ≡ label_of total)
 
 -- starts with labels of this sum show the claim
 abbrev pub IsEnough : Claim → Option ℕ → Type 0

@@ -4,6 +4,7 @@ pub mod Defects
 pub mod BarredCells
 pub mod Keys
 pub mod Index
+pub mod Starts
 pub mod Branch
 pub mod Order
 pub mod AgentProblem

@@ -1,35 +1,42 @@
 -- How far a tree was judged.
-use Rattle.std.specs.Prelude.{◌≡◌, Bool, true, false, List, [], ◌∷◌, fold}
+use Rattle.std.specs.Prelude.{◌≡◌, Bool, true, false, List, [], ◌∷◌, fold, length}
+use Rattle.std.specs.List.{AllZip}
+use Rattle.mapf_model.specs.Laws.{AreAlike}
 use Rattle.mapf_model.specs.Plan.{Instance}
-use Rattle.mapf_model.specs.Tree.{Node, SplitNode, LeafNode, ClashNode, NodeConstraints, left_child_constraints, right_child_constraints}
+use Rattle.mapf_model.specs.Tree.{Node, SplitNode, LeafNode, ClashNode, NodeContext, left_child_context, right_child_context}
 use Rattle.mapf_checker.specs.declared.tree.Progress.{Progress}
 use Rattle.mapf_distance.specs.Tables.{AreTables}
 use Rattle.mapf_checker.specs.Branch.{Place, place_of}
 
--- the constraints of the trees that are still to come, in pre-order, after this node
-abbrev pub constraints_after : List NodeConstraints → Node → List NodeConstraints
-constraints_after [] node = []
-constraints_after (here ∷ owed) (SplitNode conflict) = left_child_constraints here conflict ∷ right_child_constraints here conflict ∷ owed
-constraints_after (here ∷ owed) (LeafNode blocks) = owed
-constraints_after (here ∷ owed) (ClashNode i j) = owed
+-- what the trees inherit that are still to come, in pre-order, after this node
+abbrev pub contexts_after : List NodeContext → Node → List NodeContext
+contexts_after [] node = []
+contexts_after (here ∷ owed) (SplitNode conflict blocks) = left_child_context here conflict blocks ∷ right_child_context here conflict blocks ∷ owed
+contexts_after (here ∷ owed) (LeafNode blocks) = owed
+contexts_after (here ∷ owed) (ClashNode i j) = owed
 
 -- after all of these nodes
-abbrev pub constraints_after_all : List NodeConstraints → List Node → List NodeConstraints
-constraints_after_all owed nodes = fold constraints_after owed nodes
+abbrev pub contexts_after_all : List NodeContext → List Node → List NodeContext
+contexts_after_all owed nodes = fold contexts_after owed nodes
 
--- the constraints of the trees that are still to come
-abbrev pub owed_at : Bool → Place → List NodeConstraints
+-- no trees tell these contexts from those
+abbrev pub AreAllAlike : Instance → List NodeContext → List NodeContext → Type 0
+AreAllAlike problem these those = AllZip (AreAlike problem) these those
+
+-- what the trees inherit that are still to come, as far as it is kept
+abbrev pub owed_at : Bool → Place → List NodeContext
 owed_at true place = []
 owed_at false place = place.here ∷ place.owed
 
--- the constraints of the trees that are still owed
-abbrev pub owed_by : Progress → List NodeConstraints
+-- of a tree that was judged so far
+abbrev pub owed_by : Progress → List NodeContext
 owed_by progress = owed_at progress.is_over (place_of progress.branch)
 
--- the constraints of the node that is judged next
-abbrev pub here_of : Progress → NodeConstraints
+-- what the node inherits that is judged next, as far as it is kept
+abbrev pub here_of : Progress → NodeContext
 here_of progress = (place_of progress.branch).here
 
--- the tables, once there are some, are those of the problem
-abbrev pub IsReady : Instance → Progress → Type 0
-IsReady problem progress = (progress.tables.items ≡ [] → ⊥) → AreTables problem progress.tables.items
+-- the tables, once there are some, are those of the problem, and the entries are those of its agents
+pub record IsReady (problem : Instance) (progress : Progress) : Type 0 where
+  pub tables : (progress.tables.items ≡ [] → ⊥) → AreTables problem progress.tables.items
+  pub agents : progress.branch.agents ≡ length problem.agents

@@ -5,8 +5,9 @@ use Rattle.mapf_model.specs.declared.item.Claim.{Claim}
 use Rattle.mapf_model.specs.declared.cause.Cause.{Cause}
 use Rattle.mapf_model.specs.Plan.{Instance}
 use Rattle.mapf_model.specs.Printed.{IsClaimInRange}
-use Rattle.mapf_model.specs.Tree.{ConstraintTree, Node, NodeConstraints, root}
+use Rattle.mapf_model.specs.Tree.{ConstraintTree, Node, NodeContext, root}
 use Rattle.mapf_certificate.specs.declared.cert.CertFault.TheVariants as certs
+use Rattle.mapf_certificate.specs.declared.version.Version.{Version}
 use Rattle.mapf_certificate.specs.declared.plan_text.PlanAnswer.{PlanAnswer}
 use Rattle.mapf_certificate.specs.declared.plan_text.PlanAnswer.TheVariants.{Found, Limit}
 use Rattle.mapf_certificate.specs.declared.plan_text.PlanTextFault.TheVariants as plans
@@ -18,7 +19,7 @@ use Rattle.mapf_checker.specs.declared.fault.CheckFault.TheVariants.{C1, C2, C3,
 use Rattle.mapf_checker.specs.declared.fault.Verdict.{Verdict}
 use Rattle.mapf_checker.specs.Defects.{HasDefect}
 use Rattle.mapf_checker.specs.NodeDefects.{HasNodeDefect}
-use Rattle.mapf_checker.specs.Progress.{constraints_after_all}
+use Rattle.mapf_checker.specs.Progress.{contexts_after_all}
 use Rattle.mapf_checker.specs.Verdict.{IsGoodPlan, claim_of}
 
 -- what a refusal says of the plan text: it spells nothing, is for another number of agents, says that a limit was met,
@@ -32,31 +33,35 @@ HasPlanRefusal problem bytes fault = ⊥
 
 -- the bytes begin with a header whose numbers are in their ranges
 pub record BeginsWithHeader (problem : Instance) (bytes : List ℕ) (agents : ℕ) (claim : Claim) : Type 0 where
+  pub version : Version
   pub agents_in_range : IsAgentCount agents
   pub claim_in_range : IsClaimInRange claim
   pub rest : List ℕ
-  pub spelled : bytes ≡ header_text problem.grid.width agents claim ++ rest
+  pub spelled : bytes ≡ header_text version problem.grid.width agents claim ++ rest
 
--- among the nodes with which the bytes begin is one with this defect
-pub record HasBadNode (problem : Instance) (claim : Claim) (fault : CheckFault) (bytes : List ℕ) : Type 0 where
+-- among the nodes with which the bytes of this version begin is one with this defect
+pub record HasBadNode (problem : Instance) (claim : Claim) (version : Version) (fault : CheckFault) (bytes : List ℕ) : Type 0 where
   pub before : List Node
   pub node : Node
-  pub here : NodeConstraints
-  pub owed : List NodeConstraints
-  -- the node has these constraints
-  pub place : constraints_after_all (root ∷ []) before ≡ here ∷ owed
+  pub here : NodeContext
+  pub owed : List NodeContext
+  -- the node inherits this
+  pub place : contexts_after_all (root ∷ []) before ≡ here ∷ owed
   pub defect : HasNodeDefect problem claim here node fault
   pub rest : List ℕ
-  pub spelled : bytes ≡ flat_map (node_text problem.grid.width) before ++ (node_text problem.grid.width node ++ rest)
+  pub spelled : bytes ≡ flat_map (node_text version problem.grid.width) before ++ (node_text version problem.grid.width node ++ rest)
 
 -- after the header for the problem and the claim
-abbrev pub HasBadNodeInCert : Instance → Claim → CheckFault → List ℕ → Type 0
-HasBadNodeInCert problem claim fault bytes = (nodes : List ℕ) × (bytes ≡ header_text problem.grid.width (length problem.agents) claim ++ nodes) × HasBadNode problem claim fault nodes
+pub record HasBadNodeInCert (problem : Instance) (claim : Claim) (fault : CheckFault) (bytes : List ℕ) : Type 0 where
+  pub version : Version
+  pub nodes : List ℕ
+  pub spelled : bytes ≡ header_text version problem.grid.width (length problem.agents) claim ++ nodes
+  pub bad : HasBadNode problem claim version fault nodes
 
 -- what a refusal says of the certificate, where it is known and has to show this claim: it spells nothing, is for
 -- another number of agents, claims something else, or has a node with this defect
 abbrev pub HasCertRefusal : Instance → Claim → Option (List ℕ) → CheckFault → Type 0
-HasCertRefusal problem claim known (C2 fault) = (fault ≢ certs.Memory) × IfSome known (λ bytes. (agents : ℕ) (claimed : Claim) (tree : ConstraintTree) → SpellsCert problem.grid bytes agents claimed tree → ⊥)
+HasCertRefusal problem claim known (C2 fault) = (fault ≢ certs.Memory) × IfSome known (λ bytes. (version : Version) (agents : ℕ) (claimed : Claim) (tree : ConstraintTree) → SpellsCert problem.grid bytes version agents claimed tree → ⊥)
 HasCertRefusal problem claim known C3 = IfSome known (λ bytes. (agents : ℕ) × (claimed : Claim) × BeginsWithHeader problem bytes agents claimed × (agents ≢ length problem.agents))
 HasCertRefusal problem claim known C4 = IfSome known (λ bytes. (agents : ℕ) × (claimed : Claim) × BeginsWithHeader problem bytes agents claimed × (claimed ≢ claim))
 HasCertRefusal problem claim known (C6 line) = IfSome known (HasBadNodeInCert problem claim (C6 line))

@@ -6,6 +6,7 @@ use Rattle.mapf_model.specs.Plan.{Instance, IsValid, IsSumOfCosts, IsOptimal, Is
 use Rattle.mapf_model.specs.Tree.{ConstraintTree, Shows}
 use Rattle.mapf_certificate.specs.Certificates.{SpellsCert}
 use Rattle.mapf_certificate.specs.Plans.{SpellsPlan}
+use Rattle.mapf_certificate.specs.declared.version.Version.{Version}
 use Rattle.mapf_certificate.specs.declared.plan_text.PlanAnswer.{PlanAnswer}
 use Rattle.mapf_certificate.specs.declared.plan_text.PlanAnswer.TheVariants as answers
 use Rattle.mapf_checker.specs.declared.fault.Verdict.{Verdict}
@@ -46,10 +47,11 @@ abbrev pub claim_of : Verdict → Claim
 claim_of (Optimal sum) = claim.Cost sum
 claim_of Impossible = claim.Impossible
 
--- the bytes spell a certificate for the problem that shows the claim
+-- the bytes spell a certificate, of either version, for the problem that shows the claim
 pub record IsGoodCert (problem : Instance) (claimed : Claim) (bytes : List ℕ) : Type 0 where
+  pub version : Version
   pub tree : ConstraintTree
-  pub spelled : SpellsCert problem.grid bytes (length problem.agents) claimed tree
+  pub spelled : SpellsCert problem.grid bytes version (length problem.agents) claimed tree
   pub shows : Shows problem claimed tree
 
 -- the two texts are accepted with the verdict: the plan text is good for it, and the certificate shows what has to be

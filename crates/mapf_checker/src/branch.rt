@@ -1,54 +1,60 @@
-ghost use Rattle.std.specs.Prelude.{◌≡◌, ◌↔◌, ◌∷◌, [], Contains, IfOk, OnOk, IsTrue};
+ghost use Rattle.std.specs.Prelude.{◌≡◌, ◌↔◌, ◌<◌, ◌∷◌, [], Contains, IfOk, OnOk, IsTrue};
 
 use crate::index::{BarIndex, Undo};
-use mapf_model::{Bar, Cell, Conflict, Constraint, OutOfMemory, Tick};
+use crate::starts::{StartChange, Starts};
+use mapf_model::{Bar, Cell, Conflict, Constraint, Label, OutOfMemory, Tick};
 use std::alloc::Global;
 use std::marker::Model;
 
 /// An edge of a constraint tree, from a split to one of its children.
-#[derive(Clone, Copy)]
+#[derive(Drop)]
 pub struct Edge {
     /// The constraint of the child.
     pub constraint: Constraint,
     /// The constraint of the other child, where that child is still to come.
     pub owed: Option<Constraint>,
-    /// What to undo where the edge is left.
+    /// What the split's blocks change, for both children.
+    pub changes: Vec<StartChange>,
+    /// What to undo of the constraint where the edge is left.
     pub undo: Undo,
 }
 
-/// The branch of a constraint tree from its root to the node that is read next: the constraints of that
-/// node, and of the nodes that are owed after it. A tree is read in pre-order, so a node's right child is
-/// owed until all of its left child was read.
+/// The branch of a constraint tree from its root to the node that is read next: what that node inherits,
+/// and the nodes that are owed after it. A tree is read in pre-order, so a node's right child is owed until
+/// all of its left child was read. Of the blocks on the branch the entries of the starts are kept, and
+/// nothing else.
 #[derive(Drop)]
 pub struct Branch {
     edges: Vec<Edge>,
     index: BarIndex,
+    starts: Starts,
 }
 
 impl Model for Branch {
-    ghost use Rattle.std.specs.Prelude.{List};
-    ghost use Rattle.mapf_checker.specs.declared.branch.Edge.{Edge};
-    ghost use Rattle.mapf_checker.specs.Branch.{IsIndexedBranch};
+    ghost use Rattle.std.specs.Prelude.{length};
+    ghost use Rattle.mapf_checker.specs.Branch.{Route, IsIndexedBranch};
 
-    ghost Value = { List Edge };
+    ghost Value = { Route };
 
-    ghost view = { λ branch. branch.edges.items };
+    ghost view = { λ branch. record { edges = branch.edges.items; agents = length branch.starts.entries.items } };
 
-    ghost invariant = { λ branch. IsIndexedBranch branch.edges.items branch.index };
+    ghost invariant = { λ branch. IsIndexedBranch branch.edges.items branch.index branch.starts };
 }
 
 impl Branch {
     ghost use Rattle.mapf_checker.specs.Branch.{NextOf, IsSplit, descended, place_of};
     ghost use Rattle.mapf_checker.specs.Index.{IsBarredFrom};
+    ghost use Rattle.mapf_checker.specs.Starts.{IsKept, AreOfFirst, KnowEntries};
 
     /// The branch at the root, with nothing owed after it.
-    pub fn new(alloc: Global) -> Branch
-        ensures { result ≡ [] }
+    pub fn new(alloc: Global, agents: usize) -> Result<Branch, OutOfMemory>
+        ensures { IfOk result (λ branch. branch ≡ record { edges = []; agents = agents }) }
     {
-        Branch {
+        Ok(Branch {
             edges: Vec::new(alloc),
             index: BarIndex::new(alloc),
-        }
+            starts: Starts::new(alloc, agents)?,
+        })
     }
 
     /// Whether the bar stands for the agent.
@@ -65,21 +71,44 @@ impl Branch {
         self.index.has_from(agent, cell, tick)
     }
 
-    /// Goes on from a split to its left child.
-    pub fn split(&mut self, conflict: &Conflict) -> Result<(), OutOfMemory>
-        ensures { OnOk result (IsSplit (place_of self.old) conflict.now (place_of self.new)) }
+    /// The entry of the agent's start at tick 0 in the nearest block above.
+    pub fn start_entry(&self, agent: usize) -> Option<Label>
+        requires { agent < self.now.agents }
+        ensures { IsKept (place_of self.now).here.entries agent result }
     {
-        self.descend(conflict.left(), Some(conflict.right()))
+        self.starts.get(agent)
+    }
+
+    /// Goes on from a split, whose blocks make these changes, to its left child.
+    pub fn split(
+        &mut self,
+        conflict: &Conflict,
+        changes: Vec<StartChange>,
+    ) -> Result<(), OutOfMemory>
+        requires agents { AreOfFirst self.old.agents changes.items }
+        requires entries { KnowEntries (place_of self.old).here.entries changes.items }
+        ensures split { OnOk result (IsSplit (place_of self.old) conflict.now changes.items (place_of self.new)) }
+        ensures agents { self.new.agents ≡ self.old.agents }
+    {
+        self.descend(conflict.left(), Some(conflict.right()), changes)
     }
 
     /// Goes on from an end of the tree to the node that is owed next, if one is.
     pub fn backtrack(&mut self) -> Result<bool, OutOfMemory>
-        ensures { IfOk result (NextOf (place_of self.old) (place_of self.new)) }
+        ensures next { IfOk result (NextOf (place_of self.old) (place_of self.new)) }
+        ensures agents { self.new.agents ≡ self.old.agents }
     {
         while let Some(edge) = self.edges.pop() {
-            self.index.undo(&edge.constraint, &edge.undo);
-            if let Some(other) = edge.owed {
-                self.descend(other, None)?;
+            let Edge {
+                constraint,
+                owed,
+                changes,
+                undo,
+            } = edge;
+            self.index.undo(&constraint, &undo);
+            self.starts.undo(&changes);
+            if let Some(other) = owed {
+                self.descend(other, None, changes)?;
                 return Ok(true);
             }
         }
@@ -90,14 +119,21 @@ impl Branch {
         &mut self,
         constraint: Constraint,
         owed: Option<Constraint>,
+        changes: Vec<StartChange>,
     ) -> Result<(), OutOfMemory>
-        ensures { OnOk result (place_of self.new ≡ descended (place_of self.old) constraint owed) }
+        requires agents { AreOfFirst self.old.agents changes.items }
+        requires entries { KnowEntries (place_of self.old).here.entries changes.items }
+        ensures place { OnOk result (place_of self.new
+            ≡ descended (place_of self.old) constraint owed changes.items) }
+        ensures agents { self.new.agents ≡ self.old.agents }
     {
         self.edges.reserve(1)?;
         let undo = self.index.add(&constraint)?;
+        self.starts.change(&changes);
         let edge = Edge {
             constraint,
             owed,
+            changes,
             undo,
         };
         self.edges.push_reserved(edge);

@@ -3,6 +3,7 @@ ghost use Rattle.std.specs.Prelude.{IfErr, IfOk, OnOk, IsTrue};
 ghost use Rattle.mapf_certificate.specs.Buffered.{spare};
 ghost use Rattle.mapf_certificate.specs.CertReading.{Awaits, AwaitsCert, TakesHeader};
 ghost use Rattle.mapf_certificate.specs.Reading.{Reading};
+ghost use Rattle.mapf_certificate.specs.declared.version.Version.{Version};
 ghost use Rattle.mapf_certificate.specs.Window.{ComesWithin};
 ghost use Rattle.mapf_model.specs.declared.item.Claim.{Claim};
 ghost use Rattle.mapf_model.specs.Tree.{Node, NodesShow, root};
@@ -62,11 +63,11 @@ fn judge_header<S: Source>(
     ensures headed { OnOk result (IsHeaded problem.now claim.now lines.new) }
     ensures taken { OnOk result (TakesHeader (S.remaining source.old) (S.remaining source.new) lines.old lines.new
         (length problem.now.agents) claim.now) }
-    ensures ahead { OnOk result ((agents : ℕ) (claimed : Claim) (nodes : List Node)
-        → AwaitsCert (S.remaining source.old) lines.old agents claimed nodes
+    ensures ahead { OnOk result ((version : Version) (agents : ℕ) (claimed : Claim) (nodes : List Node)
+        → AwaitsCert (S.remaining source.old) lines.old version agents claimed nodes
         → Awaits (S.remaining source.new) lines.new nodes) }
-    ensures only { (nodes : List Node)
-        → AwaitsCert (S.remaining source.old) lines.old (length problem.now.agents) claim.now nodes
+    ensures only { (version : Version) (nodes : List Node)
+        → AwaitsCert (S.remaining source.old) lines.old version (length problem.now.agents) claim.now nodes
         → IfErr result IsNoRefusal }
     ensures stops { IfErr result (IsOfChecking (S.remaining source.old) (S.remaining source.new)
         (S.has_failed source.new) lines.old.buffer
@@ -111,7 +112,7 @@ fn judge_tree<S: Source>(
         (S.has_failed source.new) lines.old.buffer
         (HasTreeRefusal problem.now claim.now (S.remaining source.old) lines.old)) }
 {
-    let mut progress = Progress::new(alloc);
+    let mut progress = Progress::new(alloc, problem)?;
     while judge_next(alloc, problem, claim, lines, source, &mut progress)? {}
     Ok(())
 }
@@ -137,6 +138,7 @@ fn judge_next<S: Source>(
         (owed_by progress.new) result }
 {
     laws::items_are_judged_by_front();
+    laws::only_start_entries_count();
     let Some(item) = lines.next_item(source)? else {
         return Ok(false);
     };

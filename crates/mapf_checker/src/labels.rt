@@ -1,5 +1,6 @@
 ghost use Rattle.std.specs.Prelude.{◌≡◌, ◌+◌, ◌<◌, ◌≤◌, ◌↔◌, ℕ, AllPairs, IsTrue};
-ghost use Rattle.mapf_model.specs.Labels.{entries_of, IsLabel, IsDistanceLabel, IsAtMost, one_more};
+ghost use Rattle.mapf_model.specs.Labels.{entries_of, IsLabel, IsDistanceLabel, IsEntryOrDistance};
+ghost use Rattle.mapf_model.specs.Labels.{IsAtMost, one_more};
 ghost use Rattle.mapf_model.specs.Printed.{IsBefore};
 ghost use Rattle.mapf_checker.specs.Order.{StandsTo};
 
@@ -37,8 +38,8 @@ fn order(entry: &Entry, cell: Cell, tick: Tick) -> Ordering
     entry.cell.0.cmp(&cell.0)
 }
 
-/// The distance to the goal as a label.
-pub fn distance_label(distances: &Distances, cell: Cell) -> Label
+// The distance to the goal as a label.
+fn distance_label(distances: &Distances, cell: Cell) -> Label
     ensures { IsDistanceLabel distances.now.grid distances.now.goal cell result }
 {
     match distances.get(cell) {
@@ -47,15 +48,22 @@ pub fn distance_label(distances: &Distances, cell: Cell) -> Label
     }
 }
 
+/// The entry, or the distance where there is none.
+pub fn label_or_distance(entry: Option<Label>, distances: &Distances, cell: Cell) -> Label
+    ensures { IsEntryOrDistance distances.now.grid distances.now.goal cell entry result }
+{
+    match entry {
+        Some(label) => label,
+        None => distance_label(distances, cell),
+    }
+}
+
 /// The label of a state.
 pub fn label_at(entries: &[Entry], distances: &Distances, cell: Cell, tick: Tick) -> Label
     requires { AllPairs IsBefore entries.now }
     ensures { IsLabel distances.now.grid distances.now.goal (entries_of entries.now) cell tick result }
 {
-    match entry_at(entries, cell, tick) {
-        Some(label) => label,
-        None => distance_label(distances, cell),
-    }
+    label_or_distance(entry_at(entries, cell, tick), distances, cell)
 }
 
 /// Whether a label is at most one more than another.

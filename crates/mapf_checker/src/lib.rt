@@ -3,6 +3,7 @@
 
 mod acceptance;
 mod agent_cell;
+mod blocks;
 mod branch;
 mod cert_judge;
 mod conflicts;
@@ -17,6 +18,7 @@ mod plan_fault;
 mod plan_judge;
 #[cfg(test)]
 mod samples;
+mod starts;
 #[cfg(test)]
 mod tests;
 mod tree;

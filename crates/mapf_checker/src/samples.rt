@@ -59,6 +59,11 @@ pub const CROSSING_CERT: &str =
     "mapf-cert 1\nagents 2\nclaim cost 5\nvertex 0 1 1,1 1\nleaf 1\nagent 0 1\nat 0,1 0 3\n\
      leaf 1\nagent 1 1\nat 1,0 0 3\nend\n";
 
+/// The same in version 2.
+pub const CROSSING_CERT_TWO: &str =
+    "mapf-cert 2\nagents 2\nclaim cost 5\nvertex 0 1 1,1 1 0\nleaf 1\nagent 0 1\nat 0,1 0 3\n\
+     leaf 1\nagent 1 1\nat 1,0 0 3\nend\n";
+
 /// The text with its lines from the first to the last of these replaced, counted from 1.
 pub fn with_lines(
     alloc: Global,

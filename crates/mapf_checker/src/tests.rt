@@ -1,5 +1,6 @@
 use crate::samples::{
-    CROSSING_CERT, CROSSING_PLAN, crossing, length_of_lines, shared_goal, with_lines,
+    CROSSING_CERT, CROSSING_CERT_TWO, CROSSING_PLAN, crossing, length_of_lines, shared_goal,
+    with_lines,
 };
 use crate::{CheckFault, FromFault, PlanFault, Verdict, check, check_from};
 use mapf_certificate::{CertFault, PlanTextFault};
@@ -222,5 +223,83 @@ fn accepts_that_none_is_possible(rt: HostRuntime) -> Result<(), Fail> {
     let plan = b"mapf-plan 1\nagents 2\nimpossible\nend\n";
     let cert = b"mapf-cert 1\nagents 2\nclaim impossible\nclash 0 1\nend\n";
     assert_eq!(rt; check(alloc, &problem, plan, cert), Ok(Verdict::Impossible));
+    Ok(())
+}
+
+// Which lines of the crossing's certificate in version 2 are replaced by which text, and the answer.
+const JUDGED_TWO: [(usize, usize, &str, Result<Verdict, CheckFault>); 12] = [
+    (1, 1, "mapf-cert 2\n", Ok(Verdict::Optimal(5))),
+    (8, 10, "leaf 0\n", Err(CheckFault::C8(8))),
+    (5, 7, "leaf 0\n", Err(CheckFault::C8(5))),
+    // The block on the split is judged without what the left child adds.
+    (
+        4,
+        7,
+        "vertex 0 1 1,1 1 1\nagent 0 1\nat 0,1 0 3\nleaf 0\n",
+        Err(CheckFault::C7(6)),
+    ),
+    // The split is judged before its blocks, and they before what stands below.
+    (
+        4,
+        7,
+        "vertex 0 0 1,1 1 1\nagent 0 1\nat 0,1 0 3\nclash 0 1\n",
+        Err(CheckFault::C6(4)),
+    ),
+    // What the left child's leaf says is no label at the right child.
+    (
+        4,
+        11,
+        "vertex 0 1 1,1 1 0\nleaf 1\nagent 0 1\nat 0,1 0 3\nleaf 1\nagent 0 1\nat 0,1 0 3\nend\n",
+        Err(CheckFault::C7(10)),
+    ),
+    // Further splits below: blocks on them hold for both their children.
+    (
+        4,
+        7,
+        "vertex 0 1 1,1 1 0\nvertex 0 1 0,0 5 1\nagent 0 1\nat 0,1 0 3\nleaf 0\nleaf 0\n",
+        Ok(Verdict::Optimal(5)),
+    ),
+    // But not where the part of the tree below is over.
+    (
+        4,
+        10,
+        "vertex 0 1 1,1 1 0\nvertex 0 1 0,0 5 1\nagent 0 1\nat 0,1 0 3\nleaf 0\nleaf 0\nleaf 0\n",
+        Err(CheckFault::C8(10)),
+    ),
+    // A nearer block of the agent replaces all its entries, that of the start too.
+    (
+        4,
+        7,
+        "vertex 0 1 1,1 1 0\nvertex 0 1 0,0 5 1\nagent 0 1\nat 0,1 0 3\nleaf 1\nagent 0 1\n\
+         at 1,1 1 2\nleaf 0\n",
+        Err(CheckFault::C8(8)),
+    ),
+    (
+        4,
+        7,
+        "vertex 0 1 1,1 1 0\nvertex 0 1 0,0 5 1\nagent 0 1\nat 0,1 0 3\nvertex 0 1 0,0 6 1\n\
+         agent 0 1\nat 1,1 1 2\nleaf 0\nleaf 0\nleaf 0\n",
+        Err(CheckFault::C8(11)),
+    ),
+    // Behind the part of the tree below it, the older one holds again.
+    (
+        4,
+        7,
+        "vertex 0 1 1,1 1 0\nvertex 0 1 0,0 5 1\nagent 0 1\nat 0,1 0 3\nvertex 0 1 0,0 6 1\n\
+         agent 0 1\nat 1,1 1 2\nleaf 1\nagent 0 1\nat 0,1 0 3\nleaf 1\nagent 0 1\nat 0,1 0 3\nleaf 0\n",
+        Ok(Verdict::Optimal(5)),
+    ),
+    (4, 4, "vertex 0 1 1,1 1\n", Err(CheckFault::C2(CertFault::K1(4)))),
+];
+
+#[test]
+fn judges_version_two(rt: HostRuntime) -> Result<(), Fail> {
+    let alloc = rt.alloc();
+    let crossing = crossing(alloc)?;
+    let plan = CROSSING_PLAN.as_bytes();
+    for (first, last, lines, answer) in JUDGED_TWO {
+        let cert = with_lines(alloc, CROSSING_CERT_TWO, first, last, lines)?;
+        assert_eq!(rt; check(alloc, &crossing, plan, cert.as_bytes()), answer, "{lines}");
+    }
     Ok(())
 }

@@ -1,18 +1,23 @@
-ghost use Rattle.std.specs.Prelude.{◌≡◌, ◌↔◌, ◌∷◌, [], false, length, IfErr, OnOk, IsTrue};
+ghost use Rattle.std.specs.Prelude.{◌≡◌, ◌↔◌, ◌∷◌, [], false, length, IfErr, IfOk, OnOk, IsTrue};
 ghost use Rattle.mapf_certificate.specs.Certificates.{IsNode};
+ghost use Rattle.mapf_certificate.specs.declared.version.Version.{Version};
 ghost use Rattle.mapf_model.specs.declared.item.Claim.{Claim};
 ghost use Rattle.mapf_model.specs.Plan.{Instance};
 ghost use Rattle.mapf_model.specs.Printed.{AreBlocksInRange};
 ghost use Rattle.mapf_model.specs.Tree.{SplitNode, LeafNode, ClashNode, node_of, root};
-ghost use Rattle.mapf_model.specs.Tree.{IsProperSplit, AreTwoAgents, ShareGoal};
+ghost use Rattle.mapf_model.specs.Tree.{IsProperSplit, SplitShows, AreProperBlocks, AreBlocksSound};
+ghost use Rattle.mapf_model.specs.Tree.{AreTwoAgents, ShareGoal};
 ghost use Rattle.mapf_checker.specs.Faults.{IsOfJudging};
 ghost use Rattle.mapf_distance.specs.Tables.{AreTables};
-ghost use Rattle.mapf_checker.specs.NodeDefects.{HasNodeDefect, IsGoodNode};
+ghost use Rattle.mapf_checker.specs.NodeDefects.{HasNodeDefect, IsUnsoundLabel, IsGoodNode};
+ghost use Rattle.mapf_checker.specs.Starts.{AreChangesBy};
 ghost use Rattle.mapf_checker.specs.Branch.{place_of};
 
+use crate::blocks::{changes_by, judge_blocks};
 use crate::branch::Branch;
 use crate::fault::{CheckFault, FromFault};
 use crate::leaf::judge_leaf;
+use crate::starts::StartChange;
 use mapf_distance::{Distances, goal_tables};
 use mapf_model::{Block, Claim, Conflict, Item, OutOfMemory, Problem};
 use std::alloc::Global;
@@ -21,25 +26,25 @@ use std::alloc::Global;
 #[derive(Drop)]
 pub struct Progress {
     branch: Branch,
-    // The distances to each agent's goal, made at the first leaf.
+    // The distances to each agent's goal, made where they are needed first.
     tables: Vec<Distances>,
     /// Whether the whole tree came.
     pub is_over: bool,
 }
 
 impl Progress {
-    ghost use Rattle.mapf_checker.specs.Progress.{owed_by, constraints_after, here_of, IsReady};
+    ghost use Rattle.mapf_checker.specs.Progress.{owed_by, contexts_after, here_of, AreAllAlike, IsReady};
 
     /// Before the root.
-    pub fn new(alloc: Global) -> Progress
-        ensures ready { (problem : Instance) → IsReady problem result }
-        ensures owed { owed_by result ≡ root ∷ [] }
+    pub fn new(alloc: Global, problem: &Problem) -> Result<Progress, OutOfMemory>
+        ensures ready { IfOk result (IsReady problem.now) }
+        ensures owed { IfOk result (λ progress. owed_by progress ≡ root ∷ []) }
     {
-        Progress {
-            branch: Branch::new(alloc),
+        Ok(Progress {
+            branch: Branch::new(alloc, problem.agents().len())?,
             tables: Vec::new(alloc),
             is_over: false,
-        }
+        })
     }
 
     /// Judges the item that begins in this line.
@@ -53,22 +58,29 @@ impl Progress {
     ) -> Result<(), FromFault>
         requires ready { IsReady problem.now self.old }
         requires going { self.old.is_over ≡ false }
-        requires node { IsNode problem.now.grid (length problem.now.agents) (node_of item.now) }
+        requires node { (version : Version) × IsNode version problem.now.grid (length problem.now.agents) (node_of item.now) }
         ensures ready { OnOk result (IsReady problem.now self.new) }
-        ensures owed { OnOk result (owed_by self.new ≡ constraints_after (owed_by self.old) (node_of item.now)) }
+        ensures owed { OnOk result (AreAllAlike problem.now (owed_by self.new)
+            (contexts_after (owed_by self.old) (node_of item.now))) }
         ensures good { OnOk result (IsGoodNode problem.now claim.now (here_of self.old) (node_of item.now)) }
         ensures refused { IfErr result (IsOfJudging
             (HasNodeDefect problem.now claim.now (here_of self.old) (node_of item.now))) }
     {
         match item {
-            Item::Vertex { i, j, cell, tick } => {
+            Item::Vertex {
+                i,
+                j,
+                cell,
+                tick,
+                blocks,
+            } => {
                 let conflict = Conflict::Vertex {
                     i: *i,
                     j: *j,
                     cell: *cell,
                     tick: *tick,
                 };
-                self.split(problem, &conflict, line)
+                self.split(alloc, problem, &conflict, blocks, line)
             }
             Item::Swap {
                 i,
@@ -76,6 +88,7 @@ impl Progress {
                 from,
                 to,
                 tick,
+                blocks,
             } => {
                 let conflict = Conflict::Swap {
                     i: *i,
@@ -84,28 +97,78 @@ impl Progress {
                     to: *to,
                     tick: *tick,
                 };
-                self.split(problem, &conflict, line)
+                self.split(alloc, problem, &conflict, blocks, line)
             }
             Item::Leaf(blocks) => self.leaf(alloc, problem, claim, blocks, line),
             Item::Clash { i, j } => self.clash(problem, *i, *j, line),
         }
     }
 
-    fn split(&mut self, problem: &Problem, conflict: &Conflict, line: u64) -> Result<(), FromFault>
+    fn split(
+        &mut self,
+        alloc: Global,
+        problem: &Problem,
+        conflict: &Conflict,
+        blocks: &[Block],
+        line: u64,
+    ) -> Result<(), FromFault>
+        requires ready { IsReady problem.now self.old }
         requires going { self.old.is_over ≡ false }
-        ensures tables { self.new.tables.items ≡ self.old.tables.items }
-        ensures owed { OnOk result (owed_by self.new ≡ constraints_after (owed_by self.old) (SplitNode conflict.now)) }
-        ensures good { OnOk result (IsProperSplit problem.now conflict.now) }
+        requires blocks { AreBlocksInRange problem.now.grid (length problem.now.agents) blocks.now }
+        ensures ready { OnOk result (IsReady problem.now self.new) }
+        ensures owed { OnOk result (AreAllAlike problem.now (owed_by self.new)
+            (contexts_after (owed_by self.old) (SplitNode conflict.now blocks.now))) }
+        ensures good { OnOk result (SplitShows problem.now (here_of self.old) conflict.now blocks.now) }
         ensures refused { (claim : Claim) → IfErr result (IsOfJudging
-            (HasNodeDefect problem.now claim (here_of self.old) (SplitNode conflict.now))) }
+            (HasNodeDefect problem.now claim (here_of self.old) (SplitNode conflict.now blocks.now))) }
     {
         if !is_proper_split(problem, conflict) {
             return Err(FromFault::Refused(CheckFault::C6(line)));
         }
-        let Ok(()) = self.branch.split(conflict) else {
+        let changes = self.changes(alloc, problem, blocks, line)?;
+        let Ok(()) = self.branch.split(conflict, changes) else {
             return Err(FromFault::Memory);
         };
         Ok(())
+    }
+
+    // Judges the blocks of a split, and answers what they change.
+    fn changes(
+        &mut self,
+        alloc: Global,
+        problem: &Problem,
+        blocks: &[Block],
+        line: u64,
+    ) -> Result<Vec<StartChange>, FromFault>
+        requires ready { IsReady problem.now self.old }
+        requires blocks { AreBlocksInRange problem.now.grid (length problem.now.agents) blocks.now }
+        ensures ready { OnOk result (IsReady problem.now self.new) }
+        ensures branch { self.new.branch ≡ self.old.branch }
+        ensures over { self.new.is_over ≡ self.old.is_over }
+        ensures changes { IfOk result (λ changes.
+            AreChangesBy problem.now (here_of self.old).entries blocks.now changes.items) }
+        ensures proper { OnOk result (AreProperBlocks problem.now blocks.now) }
+        ensures sound { OnOk result (AreBlocksSound problem.now (here_of self.old) blocks.now) }
+        ensures refused { IfErr result (IsOfJudging (IsUnsoundLabel problem.now (here_of self.old) blocks.now)) }
+    {
+        if blocks.is_empty() {
+            return Ok(Vec::new(alloc));
+        }
+        self.see_to_tables(alloc, problem)?;
+        if let Err(unsound) = judge_blocks(
+            alloc,
+            problem,
+            &self.tables,
+            &self.branch,
+            blocks,
+            line,
+        ) {
+            return Err(FromFault::Refused(CheckFault::C7(unsound)));
+        }
+        let Ok(changes) = changes_by(alloc, problem, &self.branch, blocks) else {
+            return Err(FromFault::Memory);
+        };
+        Ok(changes)
     }
 
     fn leaf(
@@ -120,7 +183,7 @@ impl Progress {
         requires going { self.old.is_over ≡ false }
         requires blocks { AreBlocksInRange problem.now.grid (length problem.now.agents) blocks.now }
         ensures ready { OnOk result (IsReady problem.now self.new) }
-        ensures owed { OnOk result (owed_by self.new ≡ constraints_after (owed_by self.old) (LeafNode blocks.now)) }
+        ensures owed { OnOk result (owed_by self.new ≡ contexts_after (owed_by self.old) (LeafNode blocks.now)) }
         ensures good { OnOk result (IsGoodNode problem.now claim.now (here_of self.old) (LeafNode blocks.now)) }
         ensures refused { IfErr result (IsOfJudging
             (HasNodeDefect problem.now claim.now (here_of self.old) (LeafNode blocks.now))) }
@@ -143,6 +206,7 @@ impl Progress {
     // Makes the tables where there are none yet.
     fn see_to_tables(&mut self, alloc: Global, problem: &Problem) -> Result<(), FromFault>
         requires ready { IsReady problem.now self.old }
+        ensures ready { OnOk result (IsReady problem.now self.new) }
         ensures tables { OnOk result (AreTables problem.now self.new.tables.items) }
         ensures branch { self.new.branch ≡ self.old.branch }
         ensures over { self.new.is_over ≡ self.old.is_over }
@@ -161,7 +225,8 @@ impl Progress {
     fn clash(&mut self, problem: &Problem, i: u32, j: u32, line: u64) -> Result<(), FromFault>
         requires going { self.old.is_over ≡ false }
         ensures tables { self.new.tables.items ≡ self.old.tables.items }
-        ensures owed { OnOk result (owed_by self.new ≡ constraints_after (owed_by self.old) (ClashNode i j)) }
+        ensures agents { self.new.branch.agents ≡ self.old.branch.agents }
+        ensures owed { OnOk result (owed_by self.new ≡ contexts_after (owed_by self.old) (ClashNode i j)) }
         ensures good { OnOk result (ShareGoal problem.now i j) }
         ensures refused { (claim : Claim) → IfErr result (IsOfJudging
             (HasNodeDefect problem.now claim (here_of self.old) (ClashNode i j))) }
@@ -175,6 +240,7 @@ impl Progress {
     // Goes on to what is owed after an end of the tree.
     fn end(&mut self) -> Result<(), FromFault>
         ensures tables { self.new.tables.items ≡ self.old.tables.items }
+        ensures agents { self.new.branch.agents ≡ self.old.branch.agents }
         ensures owed { OnOk result (owed_by self.new ≡ (place_of self.old.branch).owed) }
         ensures memory { IfErr result (λ fault. fault ≡ FromFault.Memory) }
     {

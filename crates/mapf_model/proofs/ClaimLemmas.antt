@@ -13,9 +13,9 @@ use Rattle.mapf_model.specs.Bars.{Satisfies}
 use Rattle.mapf_model.specs.declared.bar.Bar.{Bar}
 use Rattle.mapf_model.specs.Blocks.{LabelBlock}
 use Rattle.mapf_model.specs.Plan.{Instance, IsValid, IsSumOfCosts}
-use Rattle.mapf_model.specs.Tree.{ConstraintTree, Split, Leaf, Clash, NodeConstraints, with_constraint, left_constraint, right_constraint, left_child_constraints, right_child_constraints, AllSatisfy, AtEachNode, IsProperNode, Holds, block_of, entries_or, with_blocks, no_entries, AreBlocksSound, StartsShow, ShareGoal, NodeShows}
+use Rattle.mapf_model.specs.Tree.{ConstraintTree, Split, Leaf, Clash, NodeContext, root, Shows, with_constraint, left_constraint, right_constraint, left_child_context, right_child_context, AllSatisfy, AtEachNode, IsProperNode, Holds, block_of, entries_or, with_blocks, no_entries, AreBlocksSound, StartsShow, ShareGoal, NodeShows}
 use Rattle.mapf_model.proofs.LabelLemmas.{lawful_bound, lawful_rests}
-use Rattle.mapf_model.proofs.SplitLemmas.{split}
+use Rattle.mapf_model.proofs.SplitLemmas.{split, AllSatisfy-root}
 
 pub slice_get_inside : {X : Type 0} (xs : List X) (i : ℕ) → i < length xs → (x : X) × (slice_get xs i ≡ Some x)
 slice_get_inside [] i within = absurd (omega arith)
@@ -84,14 +84,14 @@ module _ (problem : Instance) (plan : List (List ℕ)) (valid : IsValid problem 
   AreBounds-no_entries i agent path rest label this_agent this_path rests is =
       AreBounds-sound [] (no_entries i) i agent path rest label this_agent this_path rests (λ cell tick entry found. cc) (λ bar (k, within, same). absurd (omega arith)) is
 
-  AreBounds-with_blocks : (constraints : NodeConstraints) (blocks : List LabelBlock) (before : ℕ → Entries) → AreBlocksSound problem constraints blocks → AllSatisfy plan constraints.bars → AreBounds before → AreBounds (with_blocks blocks before)
+  AreBounds-with_blocks : (context : NodeContext) (blocks : List LabelBlock) (before : ℕ → Entries) → AreBlocksSound problem context blocks → AllSatisfy plan context.bars → AreBounds before → AreBounds (with_blocks blocks before)
   unfolding AreBounds
-  AreBounds-with_blocks constraints blocks before sound obey bounds i agent path rest label this_agent this_path rests is = by_block (block_of blocks i) refl is
+  AreBounds-with_blocks context blocks before sound obey bounds i agent path rest label this_agent this_path rests is = by_block (block_of blocks i) refl is
     where
       by_block : (found : Option LabelBlock) → block_of blocks i ≡ found → IsLabel problem.grid agent.goal (entries_or found (before i)) agent.start 0 label → IsAtMost label (Ticks rest)
       by_block None none at_start = bounds i agent path rest label this_agent this_path rests at_start
       by_block (Some block) found at_start =
-          AreBounds-sound (constraints.bars i) (entries_of block.entries) i agent path rest label this_agent this_path rests (sound i agent block this_agent found) (obey i path this_path) at_start
+          AreBounds-sound (context.bars i) (entries_of block.entries) i agent path rest label this_agent this_path rests (sound i agent block this_agent found) (obey i path this_path) at_start
 
   starts_cost : (cost : ℕ) (entries : ℕ → Entries) → AreBounds entries → StartsShow problem (Cost cost) entries → (total : ℕ) → IsSumOfCosts problem.agents plan total → cost ≤ total
   unfolding AreBounds
@@ -111,11 +111,17 @@ module _ (problem : Instance) (plan : List (List ℕ)) (valid : IsValid problem 
       let p = path_of i agent is in
       bounds i agent p.0 (length p.0) Never is p.1 (lawful_rests problem.grid agent p.0 p.2) never
 
-  pub shown_of_plan : (claim : Claim) (tree : ConstraintTree) (constraints : NodeConstraints) → AtEachNode (λ to node. IsProperNode problem node) constraints tree → AtEachNode (NodeShows problem claim) constraints tree → AllSatisfy plan constraints.bars → Bounds problem claim plan
-  shown_of_plan claim (Split conflict left right) constraints proper shows obey = ⊎_elim
-      (λ (on_left : AllSatisfy plan (with_constraint constraints.bars (left_constraint conflict))). shown_of_plan claim left (left_child_constraints constraints conflict) proper.1 shows.1 on_left)
-      (λ (on_right : AllSatisfy plan (with_constraint constraints.bars (right_constraint conflict))). shown_of_plan claim right (right_child_constraints constraints conflict) proper.2 shows.2 on_right)
-      (split problem plan constraints.bars conflict proper.0 valid obey)
-  shown_of_plan claim (Leaf blocks) constraints proper shows obey =
-      starts_hold claim (with_blocks blocks no_entries) (AreBounds-with_blocks constraints blocks no_entries shows.0 obey AreBounds-no_entries) shows.1
-  shown_of_plan claim (Clash i j) constraints proper shows obey = absurd (clash_refuted i j shows)
+  pub shown_of_plan : (claim : Claim) (tree : ConstraintTree) (context : NodeContext) → AtEachNode (λ to node. IsProperNode problem node) context tree → AtEachNode (NodeShows problem claim) context tree → AllSatisfy plan context.bars → AreBounds context.entries → Bounds problem claim plan
+  shown_of_plan claim (Split conflict blocks left right) context proper shows obey bounds =
+      let below = AreBounds-with_blocks context blocks context.entries shows.0 obey bounds in
+      ⊎_elim
+      (λ (on_left : AllSatisfy plan (with_constraint context.bars (left_constraint conflict))). shown_of_plan claim left (left_child_context context conflict blocks) proper.1 shows.1 on_left below)
+      (λ (on_right : AllSatisfy plan (with_constraint context.bars (right_constraint conflict))). shown_of_plan claim right (right_child_context context conflict blocks) proper.2 shows.2 on_right below)
+      (split problem plan context.bars conflict proper.0.0 valid obey)
+  shown_of_plan claim (Leaf blocks) context proper shows obey bounds =
+      starts_hold claim (with_blocks blocks context.entries) (AreBounds-with_blocks context blocks context.entries shows.0 obey bounds) shows.1
+  shown_of_plan claim (Clash i j) context proper shows obey bounds = absurd (clash_refuted i j shows)
+
+  -- at the root
+  pub shown_at_root : (claim : Claim) (tree : ConstraintTree) → Shows problem claim tree → Bounds problem claim plan
+  shown_at_root claim tree shows = shown_of_plan claim tree root shows.proper shows.nodes (AllSatisfy-root plan) AreBounds-no_entries

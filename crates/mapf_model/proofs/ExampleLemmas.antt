@@ -4,7 +4,7 @@ use Rattle.mapf_model.specs.declared.bar.Bar.TheVariants.{Cell, Move}
 use Rattle.mapf_model.specs.declared.label.Label.{Label}
 use Rattle.mapf_model.specs.declared.label.Label.TheVariants.{Ticks, Never}
 use Rattle.mapf_model.specs.Distance.{Walk}
-use Rattle.mapf_model.specs.Examples.{open_square, agent, WaitingBoundsALabel, NoLabelIsRaisedAtAFreeGoal, AClashShowsImpossibility, OneStartIsNoPlan, SwappingIsNoPlan, EachChildBarsItsAgent}
+use Rattle.mapf_model.specs.Examples.{open_square, agent, WaitingBoundsALabel, NoLabelIsRaisedAtAFreeGoal, AClashShowsImpossibility, OneStartIsNoPlan, SwappingIsNoPlan, EachChildBarsItsAgent, ChildrenInheritLabels}
 use Rattle.mapf_model.specs.Labels.{IsDistanceLabel, IsAtMost, one_more}
 use Rattle.mapf_model.proofs.ClaimLemmas.{slice_get_inside}
 
@@ -54,3 +54,6 @@ swapping_is_no_plan valid = valid.apart 0 1 0 (0 ∷ 1 ∷ []) (1 ∷ 0 ∷ []) 
 
 pub each_child_bars_its_agent : EachChildBarsItsAgent
 each_child_bars_its_agent = (refl, refl, refl, refl)
+
+pub children_inherit_labels : ChildrenInheritLabels
+children_inherit_labels = (refl, refl, refl, refl, refl)

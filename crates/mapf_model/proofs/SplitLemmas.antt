@@ -9,7 +9,7 @@ use Rattle.mapf_model.specs.declared.conflict.Conflict.TheVariants.{Vertex, Swap
 use Rattle.mapf_model.specs.Path.{at}
 use Rattle.mapf_model.specs.Bars.{Violates, Satisfies}
 use Rattle.mapf_model.specs.Plan.{Instance, IsValid}
-use Rattle.mapf_model.specs.Tree.{ConstraintTree, Split, Leaf, Clash, NodeConstraints, root, with_bar, with_constraint, left_constraint, right_constraint, left_child_constraints, right_child_constraints, AtEachNode, AtSomeEnd, IsProperSplit, IsProperNode, AllSatisfy}
+use Rattle.mapf_model.specs.Tree.{ConstraintTree, Split, Leaf, Clash, NodeContext, root, with_bar, with_constraint, left_constraint, right_constraint, left_child_context, right_child_context, AtEachNode, AtSomeEnd, IsProperSplit, IsProperNode, AllSatisfy}
 
 pub Contains-cons_cases : {X : Type 0} (x y : X) (xs : List X) → Contains (x ∷ xs) y → (x ≡ y) ⊎ Contains xs y
 Contains-cons_cases x y xs (zero, within, is) = inl is
@@ -55,13 +55,13 @@ split problem plan bars (Swap i j from to tick) proper valid obey =
     choose plan bars i j (Move from to tick) (Move to from tick) obey
     (λ p q first second there back. valid.apart i j tick p q proper.0.0 first second (inr (there.0 ∙ sym back.1, there.1 ∙ sym back.0)))
 
-pub some_end_obeyed : (problem : Instance) (plan : List (List ℕ)) → IsValid problem plan → (tree : ConstraintTree) (constraints : NodeConstraints) → AtEachNode (λ to node. IsProperNode problem node) constraints tree → AllSatisfy plan constraints.bars → AtSomeEnd (λ to. AllSatisfy plan to.bars) constraints tree
-some_end_obeyed problem plan valid (Split conflict left right) constraints proper obey = ⊎_elim
-    (λ (on_left : AllSatisfy plan (with_constraint constraints.bars (left_constraint conflict))). inl (some_end_obeyed problem plan valid left (left_child_constraints constraints conflict) proper.1 on_left))
-    (λ (on_right : AllSatisfy plan (with_constraint constraints.bars (right_constraint conflict))). inr (some_end_obeyed problem plan valid right (right_child_constraints constraints conflict) proper.2 on_right))
-    (split problem plan constraints.bars conflict proper.0 valid obey)
-some_end_obeyed problem plan valid (Leaf blocks) constraints proper obey = obey
-some_end_obeyed problem plan valid (Clash i j) constraints proper obey = obey
+pub some_end_obeyed : (problem : Instance) (plan : List (List ℕ)) → IsValid problem plan → (tree : ConstraintTree) (context : NodeContext) → AtEachNode (λ to node. IsProperNode problem node) context tree → AllSatisfy plan context.bars → AtSomeEnd (λ to. AllSatisfy plan to.bars) context tree
+some_end_obeyed problem plan valid (Split conflict blocks left right) context proper obey = ⊎_elim
+    (λ (on_left : AllSatisfy plan (with_constraint context.bars (left_constraint conflict))). inl (some_end_obeyed problem plan valid left (left_child_context context conflict blocks) proper.1 on_left))
+    (λ (on_right : AllSatisfy plan (with_constraint context.bars (right_constraint conflict))). inr (some_end_obeyed problem plan valid right (right_child_context context conflict blocks) proper.2 on_right))
+    (split problem plan context.bars conflict proper.0.0 valid obey)
+some_end_obeyed problem plan valid (Leaf blocks) context proper obey = obey
+some_end_obeyed problem plan valid (Clash i j) context proper obey = obey
 
 pub AllSatisfy-root : (plan : List (List ℕ)) → AllSatisfy plan root.bars
 AllSatisfy-root plan i path is bar (k, within, same) = absurd (omega arith)

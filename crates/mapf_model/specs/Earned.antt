@@ -8,24 +8,24 @@ use Rattle.mapf_model.specs.declared.conflict.Conflict.TheVariants.{Vertex, Swap
 use Rattle.mapf_model.specs.Path.{IsLawful, IsCost}
 use Rattle.mapf_model.specs.Bars.{Violates, Satisfies}
 use Rattle.mapf_model.specs.Plan.{Instance, ConflictAt, IsSumOfCosts}
-use Rattle.mapf_model.specs.Tree.{ConstraintTree, Split, Leaf, Clash, NodeConstraints, root, IsProper, AtEachNode, AtEachEnd, AtSomeLeaf}
+use Rattle.mapf_model.specs.Tree.{ConstraintTree, Split, Leaf, Clash, NodeContext, root, IsProper, AtEachNode, AtEachEnd, AtSomeLeaf}
 
 -- a lawful path of the agent that satisfies its constraints
-abbrev pub IsConsistentPath : Instance → NodeConstraints → ℕ → Agent → List ℕ → Type 0
-IsConsistentPath problem constraints i agent path = IsLawful problem.grid agent path × Satisfies (constraints.bars i) path
+abbrev pub IsConsistentPath : Instance → NodeContext → ℕ → Agent → List ℕ → Type 0
+IsConsistentPath problem context i agent path = IsLawful problem.grid agent path × Satisfies (context.bars i) path
 
 -- for each agent a path of least cost among its consistent ones: a node's solution
-pub record AreCheapest (problem : Instance) (constraints : NodeConstraints) (paths : List (List ℕ)) : Type 0 where
+pub record AreCheapest (problem : Instance) (context : NodeContext) (paths : List (List ℕ)) : Type 0 where
   pub count : length paths ≡ length problem.agents
-  pub lawful : (i : ℕ) (agent : Agent) (path : List ℕ) → slice_get problem.agents i ≡ Some agent → slice_get paths i ≡ Some path → IsConsistentPath problem constraints i agent path
+  pub lawful : (i : ℕ) (agent : Agent) (path : List ℕ) → slice_get problem.agents i ≡ Some agent → slice_get paths i ≡ Some path → IsConsistentPath problem context i agent path
   pub least : (i : ℕ) (agent : Agent) (path other : List ℕ) (cost other_cost : ℕ) → slice_get problem.agents i ≡ Some agent → slice_get paths i ≡ Some path →
-      IsConsistentPath problem constraints i agent other → IsCost agent.goal path cost → IsCost agent.goal other other_cost → cost ≤ other_cost
+      IsConsistentPath problem context i agent other → IsCost agent.goal path cost → IsCost agent.goal other other_cost → cost ≤ other_cost
 
 -- cheapest paths at this node, whose sum is at most that of any cheapest paths at an end of the tree
-pub record AreDue (problem : Instance) (tree : ConstraintTree) (constraints : NodeConstraints) (paths : List (List ℕ)) (total : ℕ) : Type 0 where
-  pub cheapest : AreCheapest problem constraints paths
+pub record AreDue (problem : Instance) (tree : ConstraintTree) (context : NodeContext) (paths : List (List ℕ)) (total : ℕ) : Type 0 where
+  pub cheapest : AreCheapest problem context paths
   pub sum : IsSumOfCosts problem.agents paths total
-  pub least : AtEachEnd (λ end_constraints. (others : List (List ℕ)) (other_total : ℕ) → AreCheapest problem end_constraints others → IsSumOfCosts problem.agents others other_total → total ≤ other_total) root tree
+  pub least : AtEachEnd (λ end_context. (others : List (List ℕ)) (other_total : ℕ) → AreCheapest problem end_context others → IsSumOfCosts problem.agents others other_total → total ≤ other_total) root tree
 
 -- when the conflict is
 abbrev pub tick_of : Conflict → ℕ
@@ -50,10 +50,10 @@ abbrev pub HaveConflictBefore : List (List ℕ) → ℕ → Type 0
 HaveConflictBefore paths end = (conflict : Conflict) × HasConflict paths conflict × (tick_of conflict < end)
 
 -- a split stands on the earliest conflict of paths that are due there
-abbrev pub IsEarnedNode : Instance → ConstraintTree → NodeConstraints → ConstraintTree → Type 0
-IsEarnedNode problem tree constraints (Split conflict left right) = (paths : List (List ℕ)) × (total : ℕ) × AreDue problem tree constraints paths total × HasConflict paths conflict × AreConflictFreeBefore paths (tick_of conflict)
-IsEarnedNode problem tree constraints (Leaf blocks) = Unit {0}
-IsEarnedNode problem tree constraints (Clash i j) = Unit {0}
+abbrev pub IsEarnedNode : Instance → ConstraintTree → NodeContext → ConstraintTree → Type 0
+IsEarnedNode problem tree context (Split conflict blocks left right) = (paths : List (List ℕ)) × (total : ℕ) × AreDue problem tree context paths total × HasConflict paths conflict × AreConflictFreeBefore paths (tick_of conflict)
+IsEarnedNode problem tree context (Leaf blocks) = Unit {0}
+IsEarnedNode problem tree context (Clash i j) = Unit {0}
 
 -- a proper tree of which each split is earned
 pub record IsEarned (problem : Instance) (tree : ConstraintTree) : Type 0 where
@@ -61,7 +61,7 @@ pub record IsEarned (problem : Instance) (tree : ConstraintTree) : Type 0 where
   pub splits : AtEachNode (IsEarnedNode problem tree) root tree
 
 -- an earned tree with a leaf at which some due paths conflict and the fact holds of them
-pub record IsStoppedWhere (Fact : NodeConstraints → List (List ℕ) → Type 0) (problem : Instance) (tree : ConstraintTree) : Type 0 where
+pub record IsStoppedWhere (Fact : NodeContext → List (List ℕ) → Type 0) (problem : Instance) (tree : ConstraintTree) : Type 0 where
   pub earned : IsEarned problem tree
-  pub leaf : AtSomeLeaf (λ constraints. (paths : List (List ℕ)) × (total : ℕ)
-      × AreDue problem tree constraints paths total × HaveSomeConflict paths × Fact constraints paths) root tree
+  pub leaf : AtSomeLeaf (λ context. (paths : List (List ℕ)) × (total : ℕ)
+      × AreDue problem tree context paths total × HaveSomeConflict paths × Fact context paths) root tree

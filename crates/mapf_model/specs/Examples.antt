@@ -1,5 +1,5 @@
 -- Small problems on which the definitions can be tried.
-use Rattle.std.specs.Prelude.{◌≡◌, ℕ, true, List, [], ◌∷◌}
+use Rattle.std.specs.Prelude.{◌≡◌, ℕ, true, List, [], ◌∷◌, Some, None}
 use Rattle.mapf_model.specs.declared.bar.Bar.TheVariants.{Cell, Move}
 use Rattle.mapf_model.specs.declared.conflict.Conflict.TheVariants.{Swap}
 use Rattle.mapf_model.specs.declared.item.Claim.TheVariants.{Impossible}
@@ -7,10 +7,11 @@ use Rattle.mapf_model.specs.declared.label.Entry.{Entry}
 use Rattle.mapf_model.specs.declared.label.Label.{Label}
 use Rattle.mapf_model.specs.declared.label.Label.TheVariants.{Ticks}
 use Rattle.mapf_model.specs.declared.problem.Agent.{Agent}
+use Rattle.mapf_model.specs.Blocks.{LabelBlock}
 use Rattle.mapf_model.specs.Grid.{GridMap}
 use Rattle.mapf_model.specs.Labels.{entries_of, AreSound}
 use Rattle.mapf_model.specs.Plan.{Instance, IsValid}
-use Rattle.mapf_model.specs.Tree.{Clash, root, left_child_constraints, right_child_constraints, Shows}
+use Rattle.mapf_model.specs.Tree.{Clash, NodeContext, root, left_child_context, right_child_context, Shows}
 
 -- three by three free cells
 abbrev pub open_square : GridMap
@@ -68,5 +69,27 @@ SwappingIsNoPlan = IsValid neighbours ((0 ∷ 1 ∷ []) ∷ (1 ∷ 0 ∷ []) ∷
 -- the children of a split on a swap: the first agent is barred from its move, the second from its own
 abbrev pub EachChildBarsItsAgent : Type 0
 EachChildBarsItsAgent =
-    ((left_child_constraints root (Swap 0 1 3 4 5)).bars 0 ≡ Move 3 4 5 ∷ []) × ((left_child_constraints root (Swap 0 1 3 4 5)).bars 1 ≡ []) ×
-    ((right_child_constraints root (Swap 0 1 3 4 5)).bars 0 ≡ []) × ((right_child_constraints root (Swap 0 1 3 4 5)).bars 1 ≡ Move 4 3 5 ∷ [])
+    ((left_child_context root (Swap 0 1 3 4 5) []).bars 0 ≡ Move 3 4 5 ∷ []) × ((left_child_context root (Swap 0 1 3 4 5) []).bars 1 ≡ []) ×
+    ((right_child_context root (Swap 0 1 3 4 5) []).bars 0 ≡ []) × ((right_child_context root (Swap 0 1 3 4 5) []).bars 1 ≡ Move 4 3 5 ∷ [])
+
+-- a block of an agent with one entry
+abbrev pub block : ℕ → Entry → LabelBlock
+block agent entry = record { agent = agent; entries = entry ∷ [] }
+
+-- what the left child of a split on a swap of agents 0 and 1 inherits, where the split has this block
+abbrev pub left_below : NodeContext → LabelBlock → NodeContext
+left_below context block = left_child_context context (Swap 0 1 3 4 5) (block ∷ [])
+
+-- what the right child inherits
+abbrev pub right_below : NodeContext → LabelBlock → NodeContext
+right_below context block = right_child_context context (Swap 0 1 3 4 5) (block ∷ [])
+
+-- both children inherit the labels of a split's block; they are its agent's alone; a block further down
+-- replaces all labels of its agent, and none of another
+abbrev pub ChildrenInheritLabels : Type 0
+ChildrenInheritLabels =
+    ((left_below root (block 0 (entry 3 0 (Ticks 4)))).entries 0 3 0 ≡ Some (Ticks 4)) ×
+    ((right_below root (block 0 (entry 3 0 (Ticks 4)))).entries 0 3 0 ≡ Some (Ticks 4)) ×
+    ((left_below root (block 0 (entry 3 0 (Ticks 4)))).entries 1 3 0 ≡ None) ×
+    ((right_below (left_below root (block 0 (entry 3 0 (Ticks 4)))) (block 0 (entry 3 1 (Ticks 3)))).entries 0 3 0 ≡ None) ×
+    ((right_below (left_below root (block 0 (entry 3 0 (Ticks 4)))) (block 1 (entry 3 1 (Ticks 3)))).entries 0 3 0 ≡ Some (Ticks 4))

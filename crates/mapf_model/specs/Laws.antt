@@ -1,8 +1,9 @@
 -- The laws of the definitions.
-use Rattle.std.specs.Prelude.{◌≡◌, ◌≢◌, ◌↔◌, ℕ, ◌+◌, ◌-◌, ◌<◌, List, [], ◌∷◌, Some, length, slice_index, Contains, AllPairs}
+use Rattle.std.specs.Prelude.{◌≡◌, ◌≢◌, ◌↔◌, ℕ, ◌+◌, ◌-◌, ◌<◌, List, [], ◌∷◌, Some, length, slice_index, slice_get, Contains, AllPairs}
 use Rattle.mapf_model.specs.declared.bar.Bar.{Bar}
 use Rattle.mapf_model.specs.declared.problem.Agent.{Agent}
 use Rattle.mapf_model.specs.Blocks.{LabelBlock}
+use Rattle.mapf_model.specs.declared.constraint.Constraint.{Constraint}
 use Rattle.mapf_model.specs.declared.item.Claim.{Claim}
 use Rattle.mapf_model.specs.declared.item.Claim.TheVariants.{Cost, Impossible}
 use Rattle.mapf_model.specs.declared.conflict.Conflict.{Conflict}
@@ -15,7 +16,7 @@ use Rattle.mapf_model.specs.Printed.{IsBefore}
 use Rattle.mapf_model.specs.Bars.{Satisfies}
 use Rattle.mapf_model.specs.Labels.{Entries, entries_of, AreSound, IsLabel, IsAtMost, label_sum}
 use Rattle.mapf_model.specs.Plan.{Instance, IsValid, IsSumOfCosts}
-use Rattle.mapf_model.specs.Tree.{ConstraintTree, Leaf, NodeConstraints, IsProper, IsProperSplit, AtSomeEnd, AllSatisfy, root, left_child_constraints, right_child_constraints, Node, SplitNode, LeafNode, ClashNode, nodes_of, AreStartLabels, StartsShow, ShareGoal, ShowsFrom, NodesShow, Shows, Holds}
+use Rattle.mapf_model.specs.Tree.{ConstraintTree, Leaf, NodeContext, IsProper, SplitShows, AtSomeEnd, AllSatisfy, root, child_context, left_child_context, right_child_context, Node, SplitNode, LeafNode, ClashNode, nodes_of, AreStartLabels, StartsShow, ShareGoal, ShowsFrom, NodesShow, Shows, Holds}
 
 -- under sound labels each lawful path that obeys the bars costs at least the label of the start
 abbrev pub LabelBound : Type 0
@@ -39,24 +40,24 @@ abbrev pub SplitsLoseNoPlan : Type 0
 SplitsLoseNoPlan =
     (problem : Instance) (tree : ConstraintTree) (plan : List (List ℕ)) →
     IsProper problem tree → IsValid problem plan →
-    AtSomeEnd (λ constraints. AllSatisfy plan constraints.bars) root tree
+    AtSomeEnd (λ context. AllSatisfy plan context.bars) root tree
 
 -- what a tree shows is so
 abbrev pub ShownClaimsHold : Type 0
 ShownClaimsHold = (problem : Instance) (claim : Claim) (tree : ConstraintTree) → Shows problem claim tree → Holds problem claim
 
--- how a reader of nodes, with a stack of the constraints of the trees that are owed, judges the node in front
+-- how a reader of nodes, with a stack of the contexts of the trees that are owed, judges the node in front
 pub record NodesShowByFront (problem : Instance) (claim : Claim) : Type 0 where
   pub whole : (items : List Node) → NodesShow problem claim (root ∷ []) items ↔ ((tree : ConstraintTree) × (items ≡ nodes_of tree) × ShowsFrom problem claim root tree)
   pub over : NodesShow problem claim [] []
-  pub missing : (constraints : NodeConstraints) (owed : List NodeConstraints) → NodesShow problem claim (constraints ∷ owed) [] → ⊥
+  pub missing : (context : NodeContext) (owed : List NodeContext) → NodesShow problem claim (context ∷ owed) [] → ⊥
   pub unowed : (item : Node) (items : List Node) → NodesShow problem claim [] (item ∷ items) → ⊥
-  pub at_split : (constraints : NodeConstraints) (owed : List NodeConstraints) (conflict : Conflict) (items : List Node) →
-      NodesShow problem claim (constraints ∷ owed) (SplitNode conflict ∷ items) ↔ (IsProperSplit problem conflict × NodesShow problem claim (left_child_constraints constraints conflict ∷ right_child_constraints constraints conflict ∷ owed) items)
-  pub at_leaf : (constraints : NodeConstraints) (owed : List NodeConstraints) (blocks : List LabelBlock) (items : List Node) →
-      NodesShow problem claim (constraints ∷ owed) (LeafNode blocks ∷ items) ↔ (ShowsFrom problem claim constraints (Leaf blocks) × NodesShow problem claim owed items)
-  pub at_clash : (constraints : NodeConstraints) (owed : List NodeConstraints) (i j : ℕ) (items : List Node) →
-      NodesShow problem claim (constraints ∷ owed) (ClashNode i j ∷ items) ↔ (ShareGoal problem i j × NodesShow problem claim owed items)
+  pub at_split : (context : NodeContext) (owed : List NodeContext) (conflict : Conflict) (blocks : List LabelBlock) (items : List Node) →
+      NodesShow problem claim (context ∷ owed) (SplitNode conflict blocks ∷ items) ↔ (SplitShows problem context conflict blocks × NodesShow problem claim (left_child_context context conflict blocks ∷ right_child_context context conflict blocks ∷ owed) items)
+  pub at_leaf : (context : NodeContext) (owed : List NodeContext) (blocks : List LabelBlock) (items : List Node) →
+      NodesShow problem claim (context ∷ owed) (LeafNode blocks ∷ items) ↔ (ShowsFrom problem claim context (Leaf blocks) × NodesShow problem claim owed items)
+  pub at_clash : (context : NodeContext) (owed : List NodeContext) (i j : ℕ) (items : List Node) →
+      NodesShow problem claim (context ∷ owed) (ClashNode i j ∷ items) ↔ (ShareGoal problem i j × NodesShow problem claim owed items)
 
 -- a list of items is judged from its front
 abbrev pub FrontDecides : Type 0
@@ -121,3 +122,17 @@ TightPathsCostTheirSteps = (grid : GridMap) (agent : Agent) (path : List ℕ) �
 -- in a list that rises, the label of a state is the one with which the list has it
 abbrev pub ListedLabelsAreFound : Type 0
 ListedLabelsAreFound = (entries : List Entry) → AllPairs IsBefore entries → (cell tick : ℕ) (label : Label) → (entries_of entries cell tick ≡ Some label) ↔ Contains entries (record { cell = cell; tick = tick; label = label })
+
+-- contexts that no tree tells apart: the same constraints, and for each agent of the problem the same entry of its start
+-- at tick 0
+pub record AreAlike (problem : Instance) (a b : NodeContext) : Type 0 where
+  pub bars : a.bars ≡ b.bars
+  pub starts : (i : ℕ) (agent : Agent) → slice_get problem.agents i ≡ Some agent → a.entries i agent.start 0 ≡ b.entries i agent.start 0
+
+-- of the entries that a node inherits only those of the starts at tick 0 count
+abbrev pub OnlyStartEntriesCount : Type 0
+OnlyStartEntriesCount = (problem : Instance) (claim : Claim) (a b : NodeContext) (tree : ConstraintTree) → AreAlike problem a b → ShowsFrom problem claim a tree → ShowsFrom problem claim b tree
+
+-- the children of alike contexts are alike
+abbrev pub ChildrenAreAlike : Type 0
+ChildrenAreAlike = (problem : Instance) (a b : NodeContext) (blocks : List LabelBlock) (constraint : Constraint) → AreAlike problem a b → AreAlike problem (child_context a blocks constraint) (child_context b blocks constraint)

@@ -38,7 +38,7 @@ pub record IsBlockInRange (grid : GridMap) (agents : ℕ) (block : LabelBlock) :
   pub entries : All (IsEntryInRange grid) block.entries
   pub rising : AllPairs IsBefore block.entries
 
--- the blocks of a leaf, the agents of which rise strictly
+-- the blocks of a node, the agents of which rise strictly
 pub record AreBlocksInRange (grid : GridMap) (agents : ℕ) (blocks : List LabelBlock) : Type 0 where
   pub each : All (IsBlockInRange grid agents) blocks
   pub rising : AllPairs (λ a b. a.agent < b.agent) blocks
@@ -50,7 +50,7 @@ IsConflictInRange grid agents (Swap i j from to tick) = (i < agents) × (j < age
 
 -- each node of the tree is in range
 abbrev pub IsTreeInRange : GridMap → ℕ → ConstraintTree → Type 0
-IsTreeInRange grid agents (Split conflict left right) = IsConflictInRange grid agents conflict × IsTreeInRange grid agents left × IsTreeInRange grid agents right
+IsTreeInRange grid agents (Split conflict blocks left right) = IsConflictInRange grid agents conflict × AreBlocksInRange grid agents blocks × IsTreeInRange grid agents left × IsTreeInRange grid agents right
 IsTreeInRange grid agents (Leaf blocks) = AreBlocksInRange grid agents blocks
 IsTreeInRange grid agents (Clash i j) = (i < agents) × (j < agents)
 

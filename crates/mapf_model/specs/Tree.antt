@@ -19,35 +19,45 @@ use Rattle.mapf_model.specs.Bars.{Satisfies}
 use Rattle.mapf_model.specs.Labels.{Entries, entries_of, AreSound, IsLabel, IsAtMost, label_sum}
 use Rattle.mapf_model.specs.Plan.{Instance, IsLowerBound, IsImpossible}
 
--- a split on a conflict with two children, a leaf with blocks of labels, or an end at which two agents
--- have one goal
+-- a split on a conflict with blocks of labels and two children, a leaf with blocks of labels, or an end that
+-- claims that two agents have one goal
 pub data ConstraintTree : Type 0 where
-  Split : (conflict : Conflict) → (left right : ConstraintTree) → ConstraintTree
+  Split : (conflict : Conflict) → (blocks : List LabelBlock) → (left right : ConstraintTree) → ConstraintTree
   Leaf : (blocks : List LabelBlock) → ConstraintTree
   Clash : (i j : ℕ) → ConstraintTree
 
 -- a node without its children
 pub data Node : Type 0 where
-  SplitNode : (conflict : Conflict) → Node
+  SplitNode : (conflict : Conflict) → (blocks : List LabelBlock) → Node
   LeafNode : (blocks : List LabelBlock) → Node
   ClashNode : (i j : ℕ) → Node
 
+-- the blocks of a node; a clash has none
+abbrev pub blocks_of : Node → List LabelBlock
+blocks_of (SplitNode conflict blocks) = blocks
+blocks_of (LeafNode blocks) = blocks
+blocks_of (ClashNode i j) = []
+
+-- the node is split on the conflict, whatever its blocks
+abbrev pub IsSplitOn : Node → Conflict → Type 0
+IsSplitOn node conflict = node ≡ SplitNode conflict (blocks_of node)
+
 -- the node is an end of its tree: a leaf or a clash
 abbrev pub IsEndNode : Node → Type 0
-IsEndNode (SplitNode conflict) = ⊥
+IsEndNode (SplitNode conflict blocks) = ⊥
 IsEndNode (LeafNode blocks) = Unit {0}
 IsEndNode (ClashNode i j) = Unit {0}
 
 -- the node that an item gives
 abbrev pub node_of : Item → Node
-node_of (VertexItem i j cell tick) = SplitNode (Vertex i j cell tick)
-node_of (SwapItem i j from to tick) = SplitNode (Swap i j from to tick)
+node_of (VertexItem i j cell tick blocks) = SplitNode (Vertex i j cell tick) blocks.items
+node_of (SwapItem i j from to tick blocks) = SplitNode (Swap i j from to tick) blocks.items
 node_of (LeafItem blocks) = LeafNode blocks.items
 node_of (ClashItem i j) = ClashNode i j
 
 -- the nodes of a tree in pre-order
 abbrev pub nodes_of : ConstraintTree → List Node
-nodes_of (Split conflict left right) = SplitNode conflict ∷ (nodes_of left ++ nodes_of right)
+nodes_of (Split conflict blocks left right) = SplitNode conflict blocks ∷ (nodes_of left ++ nodes_of right)
 nodes_of (Leaf blocks) = LeafNode blocks ∷ []
 nodes_of (Clash i j) = ClashNode i j ∷ []
 
@@ -55,13 +65,32 @@ nodes_of (Clash i j) = ClashNode i j ∷ []
 abbrev pub Spell : List Item → ConstraintTree → Type 0
 Spell items tree = map node_of items ≡ nodes_of tree
 
--- the constraints of a node: the bars of each agent that were gathered on the way from the root
-pub record NodeConstraints : Type 0 where
-  pub bars : ℕ → List Bar
+-- the agent's block, the first if there are several
+abbrev pub block_of : List LabelBlock → ℕ → Option LabelBlock
+block_of blocks agent = find (λ block. block.agent == agent) blocks
 
--- the root has none
-abbrev pub root : NodeConstraints
-root = record { bars = λ agent. [] }
+-- the entries of the block if there is one, else those inherited
+abbrev pub entries_or : Option LabelBlock → Entries → Entries
+entries_or (Some block) before = entries_of block.entries
+entries_or None before = before
+
+-- each agent's entries at a node with these blocks: those of its block here, else those inherited
+abbrev pub with_blocks : List LabelBlock → (ℕ → Entries) → ℕ → Entries
+with_blocks blocks before agent = entries_or (block_of blocks agent) (before agent)
+
+-- no agent has an entry
+abbrev pub no_entries : ℕ → Entries
+no_entries agent cell tick = None
+
+-- what a node inherits: each agent's constraints, the one with which this node was made included, and the
+-- entries of each agent's nearest block above it, none where there is no block
+pub record NodeContext : Type 0 where
+  pub bars : ℕ → List Bar
+  pub entries : ℕ → Entries
+
+-- the root inherits nothing
+abbrev pub root : NodeContext
+root = record { bars = λ agent. []; entries = no_entries }
 
 -- the bars with one more for this agent
 abbrev pub with_bar : (ℕ → List Bar) → ℕ → Bar → ℕ → List Bar
@@ -81,45 +110,52 @@ abbrev pub right_constraint : Conflict → Constraint
 right_constraint (Vertex i j cell tick) = record { agent = j; bar = Cell cell tick }
 right_constraint (Swap i j from to tick) = record { agent = j; bar = Move to from tick }
 
--- the constraints at a child, which has this one more
-abbrev pub child_constraints : NodeConstraints → Constraint → NodeConstraints
-child_constraints constraints constraint = record { bars = with_constraint constraints.bars constraint }
+-- what a child of a split inherits: one constraint more, and the split's blocks in place of those above of the
+-- same agents
+abbrev pub child_context : NodeContext → List LabelBlock → Constraint → NodeContext
+child_context context blocks constraint = record { bars = with_constraint context.bars constraint; entries = with_blocks blocks context.entries }
 
--- the constraints at the left child
-abbrev pub left_child_constraints : NodeConstraints → Conflict → NodeConstraints
-left_child_constraints constraints conflict = child_constraints constraints (left_constraint conflict)
+-- what the left child inherits
+abbrev pub left_child_context : NodeContext → Conflict → List LabelBlock → NodeContext
+left_child_context context conflict blocks = child_context context blocks (left_constraint conflict)
 
--- the constraints at the right child
-abbrev pub right_child_constraints : NodeConstraints → Conflict → NodeConstraints
-right_child_constraints constraints conflict = child_constraints constraints (right_constraint conflict)
+-- what the right child inherits
+abbrev pub right_child_context : NodeContext → Conflict → List LabelBlock → NodeContext
+right_child_context context conflict blocks = child_context context blocks (right_constraint conflict)
 
--- a fact holds at each node of a tree, with its constraints
-abbrev pub AtEachNode : (NodeConstraints → ConstraintTree → Type 0) → NodeConstraints → ConstraintTree → Type 0
-AtEachNode P constraints (Split conflict left right) = P constraints (Split conflict left right) × AtEachNode P (left_child_constraints constraints conflict) left × AtEachNode P (right_child_constraints constraints conflict) right
-AtEachNode P constraints (Leaf blocks) = P constraints (Leaf blocks)
-AtEachNode P constraints (Clash i j) = P constraints (Clash i j)
+-- a fact holds at each node of a tree, with the node's context
+abbrev pub AtEachNode : (NodeContext → ConstraintTree → Type 0) → NodeContext → ConstraintTree → Type 0
+AtEachNode P context (Split conflict blocks left right) = P context (Split conflict blocks left right) × AtEachNode P (left_child_context context conflict blocks) left × AtEachNode P (right_child_context context conflict blocks) right
+AtEachNode P context (Leaf blocks) = P context (Leaf blocks)
+AtEachNode P context (Clash i j) = P context (Clash i j)
 
--- a fact holds of the constraints of each end: each leaf and each clash
-abbrev pub AtEachEnd : (NodeConstraints → Type 0) → NodeConstraints → ConstraintTree → Type 0
-AtEachEnd P constraints (Split conflict left right) = AtEachEnd P (left_child_constraints constraints conflict) left × AtEachEnd P (right_child_constraints constraints conflict) right
-AtEachEnd P constraints (Leaf blocks) = P constraints
-AtEachEnd P constraints (Clash i j) = P constraints
+-- a fact holds of the context of each end: each leaf and each clash
+abbrev pub AtEachEnd : (NodeContext → Type 0) → NodeContext → ConstraintTree → Type 0
+AtEachEnd P context (Split conflict blocks left right) = AtEachEnd P (left_child_context context conflict blocks) left × AtEachEnd P (right_child_context context conflict blocks) right
+AtEachEnd P context (Leaf blocks) = P context
+AtEachEnd P context (Clash i j) = P context
 
--- a fact holds of the constraints of some end
-abbrev pub AtSomeEnd : (NodeConstraints → Type 0) → NodeConstraints → ConstraintTree → Type 0
-AtSomeEnd P constraints (Split conflict left right) = AtSomeEnd P (left_child_constraints constraints conflict) left ⊎ AtSomeEnd P (right_child_constraints constraints conflict) right
-AtSomeEnd P constraints (Leaf blocks) = P constraints
-AtSomeEnd P constraints (Clash i j) = P constraints
+-- a fact holds of the context of some end
+abbrev pub AtSomeEnd : (NodeContext → Type 0) → NodeContext → ConstraintTree → Type 0
+AtSomeEnd P context (Split conflict blocks left right) = AtSomeEnd P (left_child_context context conflict blocks) left ⊎ AtSomeEnd P (right_child_context context conflict blocks) right
+AtSomeEnd P context (Leaf blocks) = P context
+AtSomeEnd P context (Clash i j) = P context
 
--- a fact holds of the constraints of some leaf
-abbrev pub AtSomeLeaf : (NodeConstraints → Type 0) → NodeConstraints → ConstraintTree → Type 0
-AtSomeLeaf P constraints (Split conflict left right) = AtSomeLeaf P (left_child_constraints constraints conflict) left ⊎ AtSomeLeaf P (right_child_constraints constraints conflict) right
-AtSomeLeaf P constraints (Leaf blocks) = P constraints
-AtSomeLeaf P constraints (Clash i j) = ⊥
+-- a fact holds of the context of some leaf
+abbrev pub AtSomeLeaf : (NodeContext → Type 0) → NodeContext → ConstraintTree → Type 0
+AtSomeLeaf P context (Split conflict blocks left right) = AtSomeLeaf P (left_child_context context conflict blocks) left ⊎ AtSomeLeaf P (right_child_context context conflict blocks) right
+AtSomeLeaf P context (Leaf blocks) = P context
+AtSomeLeaf P context (Clash i j) = ⊥
+
+-- no split has a block: a tree of version 1 of the certificate
+abbrev pub HasLabelsAtLeavesAlone : ConstraintTree → Type 0
+HasLabelsAtLeavesAlone (Split conflict blocks left right) = (blocks ≡ []) × HasLabelsAtLeavesAlone left × HasLabelsAtLeavesAlone right
+HasLabelsAtLeavesAlone (Leaf blocks) = Unit {0}
+HasLabelsAtLeavesAlone (Clash i j) = Unit {0}
 
 -- how many splits the tree has
 abbrev pub split_count : ConstraintTree → ℕ
-split_count (Split conflict left right) = 1 + (split_count left + split_count right)
+split_count (Split conflict blocks left right) = 1 + (split_count left + split_count right)
 split_count (Leaf blocks) = 0
 split_count (Clash i j) = 0
 
@@ -140,36 +176,23 @@ AreOfDifferentAgents blocks = AllPairs (λ a b. a.agent ≢ b.agent) blocks
 abbrev pub AreOfAgents : Instance → List LabelBlock → Type 0
 AreOfAgents problem blocks = All (λ block. block.agent < length problem.agents) blocks
 
--- at a leaf each agent of the problem has at most one block, and nobody else has one
+-- each agent of the problem has at most one block, and nobody else has one
+abbrev pub AreProperBlocks : Instance → List LabelBlock → Type 0
+AreProperBlocks problem blocks = AreOfDifferentAgents blocks × AreOfAgents problem blocks
+
+-- a split stands on a proper conflict, and the blocks of a split or a leaf are proper; a clash always is
 abbrev pub IsProperNode : Instance → ConstraintTree → Type 0
-IsProperNode problem (Split conflict left right) = IsProperSplit problem conflict
-IsProperNode problem (Leaf blocks) = AreOfDifferentAgents blocks × AreOfAgents problem blocks
+IsProperNode problem (Split conflict blocks left right) = IsProperSplit problem conflict × AreProperBlocks problem blocks
+IsProperNode problem (Leaf blocks) = AreProperBlocks problem blocks
 IsProperNode problem (Clash i j) = Unit {0}
 
 -- each node is proper
 abbrev pub IsProper : Instance → ConstraintTree → Type 0
-IsProper problem tree = AtEachNode (λ constraints node. IsProperNode problem node) root tree
+IsProper problem tree = AtEachNode (λ context node. IsProperNode problem node) root tree
 
--- the agent's block, the first if there are several
-abbrev pub block_of : List LabelBlock → ℕ → Option LabelBlock
-block_of blocks agent = find (λ block. block.agent == agent) blocks
-
--- the entries of the block if there is one, else those from before
-abbrev pub entries_or : Option LabelBlock → Entries → Entries
-entries_or (Some block) before = entries_of block.entries
-entries_or None before = before
-
--- the entries of each agent, where these blocks come after others
-abbrev pub with_blocks : List LabelBlock → (ℕ → Entries) → ℕ → Entries
-with_blocks blocks before agent = entries_or (block_of blocks agent) (before agent)
-
--- no agent has an entry
-abbrev pub no_entries : ℕ → Entries
-no_entries agent cell tick = None
-
--- each block is sound under its agent's bars
-abbrev pub AreBlocksSound : Instance → NodeConstraints → List LabelBlock → Type 0
-AreBlocksSound problem constraints blocks = (i : ℕ) (agent : Agent) (block : LabelBlock) → slice_get problem.agents i ≡ Some agent → block_of blocks i ≡ Some block → AreSound problem.grid agent.goal (constraints.bars i) (entries_of block.entries)
+-- of each agent of the problem, the block, the first if there are several, is sound under the agent's bars
+abbrev pub AreBlocksSound : Instance → NodeContext → List LabelBlock → Type 0
+AreBlocksSound problem context blocks = (i : ℕ) (agent : Agent) (block : LabelBlock) → slice_get problem.agents i ≡ Some agent → block_of blocks i ≡ Some block → AreSound problem.grid agent.goal (context.bars i) (entries_of block.entries)
 
 -- the labels of the agents' starts at tick 0
 pub record AreStartLabels (problem : Instance) (entries : ℕ → Entries) (labels : List Label) : Type 0 where
@@ -185,16 +208,22 @@ StartsShow problem Impossible entries = (i : ℕ) × (agent : Agent) × (slice_g
 abbrev pub ShareGoal : Instance → ℕ → ℕ → Type 0
 ShareGoal problem i j = (i ≢ j) × (a : Agent) × (b : Agent) × (slice_get problem.agents i ≡ Some a) × (slice_get problem.agents j ≡ Some b) × (a.goal ≡ b.goal)
 
--- the blocks of a leaf are sound and the starts show the claim; the agents of a clash share their goal
-abbrev pub NodeShows : Instance → Claim → NodeConstraints → ConstraintTree → Type 0
-NodeShows problem claim constraints (Split conflict left right) = Unit {0}
-NodeShows problem claim constraints (Leaf blocks) = AreBlocksSound problem constraints blocks × StartsShow problem claim (with_blocks blocks no_entries)
-NodeShows problem claim constraints (Clash i j) = ShareGoal problem i j
+-- the blocks of a split or a leaf are sound under the node's own constraints, without those that its children
+-- add; at a leaf the labels of the starts show the claim, each by the agent's nearest block, the leaf's
+-- included; the agents of a clash share their goal
+abbrev pub NodeShows : Instance → Claim → NodeContext → ConstraintTree → Type 0
+NodeShows problem claim context (Split conflict blocks left right) = AreBlocksSound problem context blocks
+NodeShows problem claim context (Leaf blocks) = AreBlocksSound problem context blocks × StartsShow problem claim (with_blocks blocks context.entries)
+NodeShows problem claim context (Clash i j) = ShareGoal problem i j
 
--- the tree shows the claim where its root has these constraints
-pub record ShowsFrom (problem : Instance) (claim : Claim) (constraints : NodeConstraints) (tree : ConstraintTree) : Type 0 where
-  pub proper : AtEachNode (λ constraints node. IsProperNode problem node) constraints tree
-  pub nodes : AtEachNode (NodeShows problem claim) constraints tree
+-- what is asked of a split, its children aside: its conflict and its blocks are proper, and the blocks are sound
+abbrev pub SplitShows : Instance → NodeContext → Conflict → List LabelBlock → Type 0
+SplitShows problem context conflict blocks = (IsProperSplit problem conflict × AreProperBlocks problem blocks) × AreBlocksSound problem context blocks
+
+-- the tree shows the claim where its root has this context
+pub record ShowsFrom (problem : Instance) (claim : Claim) (context : NodeContext) (tree : ConstraintTree) : Type 0 where
+  pub proper : AtEachNode (λ context node. IsProperNode problem node) context tree
+  pub nodes : AtEachNode (NodeShows problem claim) context tree
 
 -- the tree shows the claim
 abbrev pub Shows : Instance → Claim → ConstraintTree → Type 0
@@ -214,6 +243,6 @@ abbrev pub nodes_of_all : List ConstraintTree → List Node
 nodes_of_all [] = []
 nodes_of_all (tree ∷ trees) = nodes_of tree ++ nodes_of_all trees
 
--- the nodes are those of trees that show the claim, one tree for each of these constraints that are owed
-abbrev pub NodesShow : Instance → Claim → List NodeConstraints → List Node → Type 0
+-- the nodes are those of trees that show the claim, one tree for each of these contexts
+abbrev pub NodesShow : Instance → Claim → List NodeContext → List Node → Type 0
 NodesShow problem claim owed nodes = (trees : List ConstraintTree) × (nodes ≡ nodes_of_all trees) × AllZip (ShowsFrom problem claim) owed trees

@@ -1,6 +1,6 @@
 ghost use Rattle.mapf_model.specs.Examples.{WaitingBoundsALabel, NoLabelIsRaisedAtAFreeGoal};
 ghost use Rattle.mapf_model.specs.Examples.{AClashShowsImpossibility, OneStartIsNoPlan, SwappingIsNoPlan};
-ghost use Rattle.mapf_model.specs.Examples.{EachChildBarsItsAgent};
+ghost use Rattle.mapf_model.specs.Examples.{EachChildBarsItsAgent, ChildrenInheritLabels};
 
 /// What the definitions of labels say on small problems.
 pub fn labels_by_example()
@@ -18,4 +18,5 @@ pub fn plans_by_example()
 pub fn trees_by_example()
     ensures clash { AClashShowsImpossibility }
     ensures children { EachChildBarsItsAgent }
+    ensures labels { ChildrenInheritLabels }
 {}

@@ -20,8 +20,8 @@ pub struct Entry {
     pub label: Label,
 }
 
-/// The entries of one agent at a leaf of a constraint tree. Every state that has no entry has the
-/// distance of its cell as its label.
+/// The entries of one agent at a split or a leaf of a constraint tree. Every state that has no entry
+/// has the distance of its cell as its label.
 #[derive(Debug, Drop)]
 pub struct Block {
     pub agent: u32,

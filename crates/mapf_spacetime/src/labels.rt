@@ -33,6 +33,13 @@ impl Labels {
     {
         self.entries.as_slice()
     }
+
+    /// The entries, moved out of the labels.
+    pub fn into_entries(self) -> Vec<Entry>
+        ensures { result.items ≡ self }
+    {
+        self.entries
+    }
 }
 
 /// The label of the agent that is in the cell at the tick: that of its entry, else the distance of

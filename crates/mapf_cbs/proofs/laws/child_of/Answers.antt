@@ -38,7 +38,7 @@ returns-clause-generated c view whole live =
     let first = whole.each c.args.constraint.agent c.index.result.now (slice_get_read agent_paths (length agent_paths) c.args.constraint.agent c.index.result.now refl inside c.index.ensures) in
     let path = (whole.each c.args.constraint.agent c.index-2.result.now (slice_get_read agent_paths (length agent_paths) c.args.constraint.agent c.index-2.result.now refl inside c.index-2.ensures)).path in
     let third = slice_get_read agent_paths (length agent_paths) c.args.constraint.agent c.index-3.result.now refl inside c.index-3.ensures in
-    let same = bars_with (view.constraints.bars c.args.constraint.agent) c.index.result.now.bars c.in_ok-bars.bars c.args.constraint.bar first.bars c.in_ok-bars.ensures in
+    let same = bars_with (view.context.bars c.args.constraint.agent) c.index.result.now.bars c.in_ok-bars.bars c.args.constraint.bar first.bars c.in_ok-bars.ensures in
     let answer = subst (λ (m : GridMap). IsPathAnswer (task_of m c.index-agents-constraint.result c.in_ok-bars.bars) c.in_ok-found.found) c.grid.ensures c.in_ok-found.ensures in
     let old = c.cost_of-old.result in
     let less = old_within c.args.problem.now view live c.args.constraint.agent c.index-agents-constraint.result known c.index-2.result.now.path path old c.cost_of-old.ensures in
@@ -49,6 +49,6 @@ returns-clause-generated c view whole live =
       found = c.in_ok-found.found;
       generated = b;
       whole = whole_child view c.args.node.now whole c.args.constraint c.in_ok-found.found b.child b.is_child c.in_ok-bars.bars same c.index-3.result.now third c.in_ok-agent_path.agent_path c.in_ok-agent_path.ensures c.in_ok-agent_paths.agent_paths
-          (subst (λ rs. AreCopies (slice_set rs c.args.constraint.agent c.in_ok-agent_path.agent_path) c.in_ok-agent_paths.agent_paths.items) c.deref.ensures.value c.in_ok-agent_paths.ensures) c.unwrap_or-sum.result
+          (subst (λ rs. AreCopies (slice_set rs c.args.constraint.agent c.in_ok-agent_path.agent_path) c.in_ok-agent_paths.agent_paths.items) c.deref.ensures.value c.in_ok-agent_paths.ensures) c.in_ok-blocks.blocks c.in_ok-blocks.ensures.bound c.in_ok-blocks.ensures.small c.unwrap_or-sum.result
           (c.unwrap_or-sum.ensures ∙ total_generated c.args.problem.now view b.child c.args.constraint c.in_ok-found.found c.index-agents-constraint.result.goal (sum view.costs - old) c.new_total-total.result c.args.node.now.total b.is_child is_total b.state whole.total);
     }

@@ -36,7 +36,7 @@ returns-in_default g c =
     let none : c.loop-total.search.waiting.keys ≡ [] = c.in_default.ensures.none in
     let state = subst (λ ks. IsState c.args.problem.now c.loop-total.search.nodes.items c.loop-total.search.fates.items ks c.loop-total.search.splits) none s in
     answer_impossible c.args.problem.now c.requires.root.shape (root_names c.args.problem.now c.args.tables.now c.args.paths.items c.requires.root) c.loop-total.search.nodes.items c.loop-total.search.fates.items c.loop-total.search.splits c.args.limit c.loop-total.invariant.within state c.in_ok-tree.tree.items
-    (tree_of c.agents.result.now c.args.problem.now.agents c.deref-in_default.result.now c.loop-total.search.fates.items state.views c.in_ok-tree.tree.items c.agents.ensures.value c.deref-in_default.ensures.value (c.in_ok-tree.ensures state.views state.are (state.searched.lengths ∙ ap length (sym c.deref-in_default.ensures.value))))
+    (tree_of c.deref-in_default.result.now c.loop-total.search.fates.items state.views c.in_ok-tree.tree.items c.deref-in_default.ensures.value (c.in_ok-tree.ensures state.views (c.in_ok-lists.ensures state.views state.are)))
 
 pub plan_at-requires-clause-inside : goal.plan_at-requires-clause-inside
 plan_at-requires-clause-inside g c =
@@ -61,7 +61,7 @@ returns-in_default-first_conflict g c =
     let p = popped_of c.args.problem.now c.loop-total.search.nodes.items c.loop-total.search.fates.items c.loop-total.search.waiting.keys c.take_least.new.waiting.keys c.loop-total.search.splits c.in-Some.total c.in-Some.k s c.in-Some.ensures.some in
     let h = in_hand c.args.problem.now c.loop-total.search.nodes.items c.loop-total.search.fates.items c.take_least.new.waiting.keys c.loop-total.search.splits c.in-Some.total c.in-Some.k p in
     let plan : c.in_ok-plan.plan ≡ h.view.paths = c.in_ok-plan.ensures.paths p.state.views h.view (subst (λ ns. AreViews ns p.state.views) (sym c.deref-in-loop-total.ensures.value) p.state.are) h.is (h.live.counted.paths ∙ (let e = c.agents.ensures.value in ap length (sym e))) in
-    let found = tree_of c.agents.result.now c.args.problem.now.agents c.deref-in_default-first_conflict.result.now c.loop-total.search.fates.items p.state.views c.in_ok-tree-2.tree.items c.agents.ensures.value c.deref-in_default-first_conflict.ensures.value (c.in_ok-tree-2.ensures p.state.views p.state.are (p.state.searched.lengths ∙ ap length (sym c.deref-in_default-first_conflict.ensures.value))) in
+    let found = tree_of c.deref-in_default-first_conflict.result.now c.loop-total.search.fates.items p.state.views c.in_ok-tree-2.tree.items c.deref-in_default-first_conflict.ensures.value (c.in_ok-tree-2.ensures p.state.views (c.in_ok-lists-2.ensures p.state.views p.state.are)) in
     subst (λ ps. (tree : ConstraintTree) × IsTreeOf c.args.problem.now c.args.limit c.in_ok-tree-2.tree.items tree × IsShownOptimal c.args.problem.now ps tree) (sym plan) (answer_found c.args.problem.now c.requires.root.shape (root_names c.args.problem.now c.args.tables.now c.args.paths.items c.requires.root) c.loop-total.search.nodes.items c.loop-total.search.fates.items c.take_least.new.waiting.keys c.loop-total.search.splits c.in-Some.total c.in-Some.k p c.args.limit c.loop-total.invariant.within c.in_ok-tree-2.tree.items found h.view h.is h.is_open h.live c.requires.root.agents.0 c.requires.root.agents.1 (subst (λ ps. All (λ path. length path ≤ 10000000) ps) plan c.in_ok-plan.ensures.short) (subst (λ ps. HaveSomeConflict ps → ⊥) plan c.in_default-first_conflict.ensures.none))
 
 pub returns-in-Some-cause_to_stop : goal.returns-in-Some-cause_to_stop
@@ -70,7 +70,7 @@ returns-in-Some-cause_to_stop g c =
     let p = popped_of c.args.problem.now c.loop-total.search.nodes.items c.loop-total.search.fates.items c.loop-total.search.waiting.keys c.take_least.new.waiting.keys c.loop-total.search.splits c.in-Some.total c.in-Some.k s c.in-Some.ensures.some in
     let h = in_hand c.args.problem.now c.loop-total.search.nodes.items c.loop-total.search.fates.items c.take_least.new.waiting.keys c.loop-total.search.splits c.in-Some.total c.in-Some.k p in
     let plan : c.in_ok-plan.plan ≡ h.view.paths = c.in_ok-plan.ensures.paths p.state.views h.view (subst (λ ns. AreViews ns p.state.views) (sym c.deref-in-loop-total.ensures.value) p.state.are) h.is (h.live.counted.paths ∙ (let e = c.agents.ensures.value in ap length (sym e))) in
-    let found = tree_of c.agents.result.now c.args.problem.now.agents c.deref-in-Some-cause_to_stop.result.now c.loop-total.search.fates.items p.state.views c.in_ok-tree-3.tree.items c.agents.ensures.value c.deref-in-Some-cause_to_stop.ensures.value (c.in_ok-tree-3.ensures p.state.views p.state.are (p.state.searched.lengths ∙ ap length (sym c.deref-in-Some-cause_to_stop.ensures.value))) in
+    let found = tree_of c.deref-in-Some-cause_to_stop.result.now c.loop-total.search.fates.items p.state.views c.in_ok-tree-3.tree.items c.deref-in-Some-cause_to_stop.ensures.value (c.in_ok-tree-3.ensures p.state.views (c.in_ok-lists-3.ensures p.state.views p.state.are)) in
     let found_first = c.in-Some-first_conflict.ensures in
     let meet = subst (λ ps. HasConflict ps c.in-Some-first_conflict.conflict × AreConflictFreeBefore ps (tick_of c.in-Some-first_conflict.conflict)) plan (found_first.some, found_first.first) in
     answer_limit c.args.problem.now c.requires.root.shape (root_names c.args.problem.now c.args.tables.now c.args.paths.items c.requires.root) c.loop-total.search.nodes.items c.loop-total.search.fates.items c.take_least.new.waiting.keys c.loop-total.search.splits c.in-Some.total c.in-Some.k p c.args.limit c.loop-total.invariant.within c.in_ok-tree-3.tree.items found h.view h.is h.is_open h.live c.requires.root.goals c.in-Some-first_conflict.conflict meet.0 meet.1 c.in-Some-cause_to_stop.cause c.in-Some-cause_to_stop.ensures.some c.in_ok-tree-3.tree refl

@@ -27,8 +27,8 @@ loop-at-init g c = record {
   inside = c.requires.inside;
   same = λ views view here are is here_is.
       let e : view ≡ here = same_Some view here (sym is ∙ here_is) in
-      subst (λ (v : View). AreJoined (view.constraints.bars c.args.agent) (g.B.BarTable.bars c.empty-table.result) (v.constraints.bars c.args.agent)) e
-      (joined_first (view.constraints.bars c.args.agent) (g.B.BarTable.bars c.empty-table.result) c.empty-table.ensures);
+      subst (λ (v : View). AreJoined (view.context.bars c.args.agent) (g.B.BarTable.bars c.empty-table.result) (v.context.bars c.args.agent)) e
+      (joined_first (view.context.bars c.args.agent) (g.B.BarTable.bars c.empty-table.result) c.empty-table.ensures);
 }
 
 pub loop-at-preserved : goal.loop-at-preserved
@@ -43,13 +43,13 @@ loop-at-preserved g c =
           let joined = c.loop-at.invariant.same views view here.0 are is here.1 in
           elim c.if-constraint-agent.branch [
             | then-constraint-agent+in_ok-add w ↦
-                let more : here.0.constraints.bars c.args.agent ≡ c.in-Child.constraint.bar ∷ before.constraints.bars c.args.agent = rw w.if-constraint-agent.true at (bars_more c.args.nodes.now views are c.loop-at.at here.0 here.1 c.in-Child.parent c.in-Child.constraint c.in-Child.found child before before_is) in
-                subst (λ t. AreJoined (view.constraints.bars c.args.agent) (g.B.BarTable.bars t) (before.constraints.bars c.args.agent)) (sym w.table-is)
-                (joined_more (view.constraints.bars c.args.agent) (g.B.BarTable.bars c.loop-at.table) (before.constraints.bars c.args.agent) (g.B.BarTable.bars w.add.new.self) c.in-Child.constraint.bar
-                (joined_same (view.constraints.bars c.args.agent) (g.B.BarTable.bars c.loop-at.table) (c.in-Child.constraint.bar ∷ before.constraints.bars c.args.agent) (here.0.constraints.bars c.args.agent) more joined) w.in_ok-add.ensures.added)
+                let more : here.0.context.bars c.args.agent ≡ c.in-Child.constraint.bar ∷ before.context.bars c.args.agent = rw w.if-constraint-agent.true at (bars_more c.args.nodes.now views are c.loop-at.at here.0 here.1 c.in-Child.parent c.in-Child.constraint c.in-Child.found child before before_is) in
+                subst (λ t. AreJoined (view.context.bars c.args.agent) (g.B.BarTable.bars t) (before.context.bars c.args.agent)) (sym w.table-is)
+                (joined_more (view.context.bars c.args.agent) (g.B.BarTable.bars c.loop-at.table) (before.context.bars c.args.agent) (g.B.BarTable.bars w.add.new.self) c.in-Child.constraint.bar
+                (joined_same (view.context.bars c.args.agent) (g.B.BarTable.bars c.loop-at.table) (c.in-Child.constraint.bar ∷ before.context.bars c.args.agent) (here.0.context.bars c.args.agent) more joined) w.in_ok-add.ensures.added)
             | else-constraint-agent w ↦
-                subst (λ t. AreJoined (view.constraints.bars c.args.agent) (g.B.BarTable.bars t) (before.constraints.bars c.args.agent)) (sym w.table-is)
-                (joined_same (view.constraints.bars c.args.agent) (g.B.BarTable.bars c.loop-at.table) (before.constraints.bars c.args.agent) (here.0.constraints.bars c.args.agent)
+                subst (λ t. AreJoined (view.context.bars c.args.agent) (g.B.BarTable.bars t) (before.context.bars c.args.agent)) (sym w.table-is)
+                (joined_same (view.context.bars c.args.agent) (g.B.BarTable.bars c.loop-at.table) (before.context.bars c.args.agent) (here.0.context.bars c.args.agent)
                 (bars_up c.args.nodes.now views are c.loop-at.at here.0 here.1 c.in-Child.parent c.in-Child.constraint c.in-Child.found child c.args.agent (λ e. w.if-constraint-agent.false (sym e)) before before_is) joined)
           ];
     }
@@ -58,6 +58,6 @@ pub returns : goal.returns
 returns g c views view are is =
     let at = slice_get_read c.args.nodes.now (length c.args.nodes.now) c.loop-at.at c.index-nodes-at.result refl c.loop-at.invariant.inside c.index-nodes-at.is in
     let here = view_at c.args.nodes.now views are c.loop-at.at c.loop-at.invariant.inside in
-    joined_done (view.constraints.bars c.args.agent) (g.B.BarTable.bars c.loop-at.table) (here.0.constraints.bars c.args.agent)
+    joined_done (view.context.bars c.args.agent) (g.B.BarTable.bars c.loop-at.table) (here.0.context.bars c.args.agent)
     (root_bars c.args.nodes.now views are c.loop-at.at here.0 here.1 c.in_default.field-0 c.args.agent (at ∙ ap Some c.in_default.is))
     (c.loop-at.invariant.same views view here.0 are is here.1)

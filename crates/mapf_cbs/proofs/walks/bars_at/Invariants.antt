@@ -6,7 +6,7 @@ use Rattle.mapf_cbs.proofs.walks.bars_at.Given as goal
 abbrev pub invariant-loop-at : goal.invariant-loop-at
 invariant-loop-at g l = record {
   inside : l.at < length l.nodes;
-  same : (views : List View) (view here : View) → AreViews l.nodes views → slice_get views l.k ≡ Some view → slice_get views l.at ≡ Some here → AreJoined (view.constraints.bars l.agent) (g.B.BarTable.bars l.table) (here.constraints.bars l.agent);
+  same : (views : List View) (view here : View) → AreViews l.nodes views → slice_get views l.k ≡ Some view → slice_get views l.at ≡ Some here → AreJoined (view.context.bars l.agent) (g.B.BarTable.bars l.table) (here.context.bars l.agent);
 }
 
 abbrev pub decreases-loop-at : goal.decreases-loop-at

@@ -29,7 +29,7 @@ loop-agent-preserved c =
           let found = c.in_ok-finders.ensures.found views view are is c.loop-agent.agent c.index.result.now finder in
           let path = c.path_at.ensures views found.0 are (subst (λ n. slice_get views n ≡ Some found.0) (sym c.unwrap_or-finder.ensures) found.1) in
           let last : slice_get (paths ++ c.in_ok-path.path ∷ []) c.loop-agent.agent ≡ Some c.in_ok-path.path = subst (λ n. slice_get (paths ++ c.in_ok-path.path ∷ []) n ≡ Some c.in_ok-path.path) so_many (slice_get-here paths [] c.in_ok-path.path) in
-          rw pushed (rw here (last ∙ ap Some c.in_ok-path.ensures.same ∙ sym path ∙ sym found.2.0)))
+          rw pushed (rw here (last ∙ ap Some c.in_ok-path.ensures.same ∙ sym path ∙ sym found.2)))
           (λ (other : i ≢ c.loop-agent.agent).
           rw pushed (slice_get-front paths (c.in_ok-path.path ∷ []) i (omega (arith, below, other, so_many)) ∙ c.loop-agent.invariant.same views view are is i (omega (arith, below, other))))
           (cases_eq i c.loop-agent.agent);

@@ -1,21 +1,41 @@
-use Rattle.std.proofs.Common.{◌≡◌, ◌<◌, ◌+◌, ◌∷◌, [], ◌++◌, Some, All, reverse, length, slice_get, refl, sym, ◌∙◌, ap, subst, arith}
+use Rattle.std.proofs.Common.{◌≡◌, ◌<◌, ◌+◌, ◌∷◌, [], ◌++◌, Some, All, reverse, length, slice_set, refl, sym, ◌∙◌, ap, subst, arith}
 use Rattle.std.proofs.lemmas.Option.{slice_get_read}
 use Rattle.std.proofs.lemmas.List.Elements.{All-pop, All-push}
 use Rattle.mapf_model.specs.declared.item.Item.TheVariants.{Leaf as LeafItem}
-use Rattle.mapf_model.proofs.ClaimLemmas.{slice_get_inside}
-use Rattle.mapf_cbs.specs.Search.{View}
-use Rattle.mapf_cbs.proofs.ItemLemmas.{Leads, weights, weights-leaf, weights-split, reverse_push, leads_split, leads_leaf, leads_done, no_items, end_of}
+use Rattle.mapf_cbs.specs.Search.{AreBlocksAt}
+use Rattle.mapf_cbs.proofs.SumLemmas.{length-slice_set}
+use Rattle.mapf_cbs.proofs.ItemLemmas.{Leads, AreOwed, owed_first, owed_split, owed_leaf, blocks_at, leads_first, weights, weights-leaf, weights-split, reverse_push, leads_split, leads_leaf, leads_done, no_items, end_of}
 use Rattle.mapf_cbs.proofs.written.tree_items.Goals as goal
 
+pub loop-k-init : goal.loop-k-init
+loop-k-init c =
+    let owed : c.push.new.self.items ≡ 0 ∷ [] = c.in_ok-push.ensures.items ∙ ap (λ xs. xs ++ 0 ∷ []) c.new-owed.ensures.items in
+    record {
+      within = subst (λ xs. All (λ n. n < length c.args.fates.now) xs) (sym owed) (All-push (λ n. n < length c.args.fates.now) [] 0 (λ k d within. absurd (omega arith)) c.requires.some);
+      count = sym c.requires.same;
+      still = subst (λ xs. AreOwed c.args.fates.now c.args.lists.items c.args.lists.items (reverse xs)) (sym owed) (owed_first c.args.fates.now c.args.lists.items c.requires.one.0 c.requires.one.1);
+      leads = λ views are. subst (λ xs. Leads views c.args.fates.now c.new-items.result.items (reverse xs)) (sym owed) (subst (λ its. Leads views c.args.fates.now its (0 ∷ [])) (sym c.new-items.ensures.items) (leads_first views c.args.fates.now));
+    }
+
+pub index_mut-requires : goal.index_mut-requires
+index_mut-requires c =
+    let popped = All-pop (λ n. n < length c.args.fates.now) c.loop-k.owed.items c.pop.new.self.items (Some c.in-Some.k) c.in-Some.ensures.items c.loop-k.invariant.within in
+    let inside = popped.1 in let count = c.loop-k.invariant.count in
+    omega (arith, inside, count, c.loop-k.lists.ok)
+
+pub bounds-fates-k : goal.bounds-fates-k
+bounds-fates-k c =
+    (All-pop (λ n. n < length c.args.fates.now) c.loop-k.owed.items c.pop.new.self.items (Some c.in-Some.k) c.in-Some.ensures.items c.loop-k.invariant.within).1
+
 pub overflow_add-left : goal.overflow_add-left
-overflow_add-left g c =
+overflow_add-left c =
     let popped = All-pop (λ n. n < length c.args.fates.now) c.loop-k.owed.items c.pop.new.self.items (Some c.in-Some.k) c.in-Some.ensures.items c.loop-k.invariant.within in
     let expanded = slice_get_read c.args.fates.now (length c.args.fates.now) c.in-Some.k c.index-fates-k.result refl popped.1 c.index-fates-k.is ∙ ap Some c.in-Expanded.is in
     let later = c.requires.later c.in-Some.k c.in-Expanded.conflict c.in-Expanded.left expanded in
     omega (arith, later.2)
 
 pub loop-k-smaller-in-Continue-branch-4 : goal.loop-k-smaller-in-Continue-branch-4
-loop-k-smaller-in-Continue-branch-4 g c =
+loop-k-smaller-in-Continue-branch-4 c =
     let popped = All-pop (λ n. n < length c.args.fates.now) c.loop-k.owed.items c.pop.new.self.items (Some c.in-Some.k) c.in-Some.ensures.items c.loop-k.invariant.within in
     let expanded = slice_get_read c.args.fates.now (length c.args.fates.now) c.in-Some.k c.index-fates-k.result refl popped.1 c.index-fates-k.is ∙ ap Some c.in-Expanded.is in
     let later = c.requires.later c.in-Some.k c.in-Expanded.conflict c.in-Expanded.left expanded in
@@ -26,47 +46,63 @@ loop-k-smaller-in-Continue-branch-4 g c =
     (weights-split (length c.args.fates.now) c.pop.new.self.items c.in-Some.k c.in-Expanded.left (c.in-Expanded.left + 1) later.0 (omega (arith, later.0)) (omega (arith, later.1)) later.1))
 
 pub loop-k-preserved-in-Continue-branch-4 : goal.loop-k-preserved-in-Continue-branch-4
-loop-k-preserved-in-Continue-branch-4 g c =
+loop-k-preserved-in-Continue-branch-4 c =
     let popped = All-pop (λ n. n < length c.args.fates.now) c.loop-k.owed.items c.pop.new.self.items (Some c.in-Some.k) c.in-Some.ensures.items c.loop-k.invariant.within in
+    let inside = popped.1 in
+    let count = c.loop-k.invariant.count in
+    let there = slice_get_read c.loop-k.lists.items (length c.loop-k.lists.items) c.in-Some.k c.index_mut.result.now refl (omega (arith, inside, count)) c.index_mut.ensures.value in
+    let front : reverse c.loop-k.owed.items ≡ c.in-Some.k ∷ reverse c.pop.new.self.items = ap reverse c.in-Some.ensures.items ∙ reverse_push c.pop.new.self.items c.in-Some.k in
+    let still : AreOwed c.args.fates.now c.args.lists.items c.loop-k.lists.items (c.in-Some.k ∷ reverse c.pop.new.self.items) = subst (λ xs. AreOwed c.args.fates.now c.args.lists.items c.loop-k.lists.items xs) front c.loop-k.invariant.still in
+    let size = length-slice_set c.loop-k.lists.items c.in-Some.k c.replace-blocks.new.dest in
     let expanded = slice_get_read c.args.fates.now (length c.args.fates.now) c.in-Some.k c.index-fates-k.result refl popped.1 c.index-fates-k.is ∙ ap Some c.in-Expanded.is in
     let later = c.requires.later c.in-Some.k c.in-Expanded.conflict c.in-Expanded.left expanded in
     let owed : c.push-in-Expanded-3.new.self.items ≡ (c.pop.new.self.items ++ (c.in-Expanded.left + 1) ∷ []) ++ c.in-Expanded.left ∷ [] = c.in_ok-push-in-Expanded-3.ensures.items ∙ ap (λ xs. xs ++ c.in-Expanded.left ∷ []) c.in_ok-push-in-Expanded-2.ensures.items in
+    let next : reverse c.push-in-Expanded-3.new.self.items ≡ c.in-Expanded.left ∷ (c.in-Expanded.left + 1) ∷ reverse c.pop.new.self.items =
+    ap reverse owed ∙ reverse_push (c.pop.new.self.items ++ (c.in-Expanded.left + 1) ∷ []) c.in-Expanded.left ∙ ap (λ xs. c.in-Expanded.left ∷ xs) (reverse_push c.pop.new.self.items (c.in-Expanded.left + 1)) in
     record {
       within = subst (λ xs. All (λ n. n < length c.args.fates.now) xs) (sym owed)
           (All-push (λ n. n < length c.args.fates.now) (c.pop.new.self.items ++ (c.in-Expanded.left + 1) ∷ []) c.in-Expanded.left
           (All-push (λ n. n < length c.args.fates.now) c.pop.new.self.items (c.in-Expanded.left + 1) popped.0 later.1) (omega (arith, later.1)));
-      leads = λ views are size.
-          let before : Leads c.args.agents views c.args.fates.now c.loop-k.items.items (c.in-Some.k ∷ reverse c.pop.new.self.items) =
-          subst (λ xs. Leads c.args.agents views c.args.fates.now c.loop-k.items.items xs) (ap reverse c.in-Some.ensures.items ∙ reverse_push c.pop.new.self.items c.in-Some.k) (c.loop-k.invariant.leads views are size) in
-          let after = leads_split c.args.agents views c.args.fates.now c.loop-k.items.items c.in-Some.k (reverse c.pop.new.self.items) before c.split.result c.in-Expanded.conflict c.in-Expanded.left expanded c.split.ensures in
-          subst (λ xs. Leads c.args.agents views c.args.fates.now c.push-in-Expanded.new.self.items xs)
-          (sym (ap reverse owed ∙ reverse_push (c.pop.new.self.items ++ (c.in-Expanded.left + 1) ∷ []) c.in-Expanded.left ∙ ap (λ xs. c.in-Expanded.left ∷ xs) (reverse_push c.pop.new.self.items (c.in-Expanded.left + 1))))
-          (subst (λ its. Leads c.args.agents views c.args.fates.now its (c.in-Expanded.left ∷ (c.in-Expanded.left + 1) ∷ reverse c.pop.new.self.items)) (sym c.in_ok-push-in-Expanded.ensures.items) after);
+      count = size ∙ count;
+      still = subst (λ xs. AreOwed c.args.fates.now c.args.lists.items (slice_set c.loop-k.lists.items c.in-Some.k c.replace-blocks.new.dest) xs) (sym next)
+          (owed_split c.args.fates.now c.args.lists.items c.loop-k.lists.items c.in-Some.k (reverse c.pop.new.self.items) still c.replace-blocks.new.dest c.in-Expanded.conflict c.in-Expanded.left expanded);
+      leads = λ views are.
+          let before : Leads views c.args.fates.now c.loop-k.items.items (c.in-Some.k ∷ reverse c.pop.new.self.items) = subst (λ xs. Leads views c.args.fates.now c.loop-k.items.items xs) front (c.loop-k.invariant.leads views are) in
+          let here : AreBlocksAt views c.in-Some.k c.replace-blocks.result.items = blocks_at c.args.fates.now c.args.lists.items c.loop-k.lists.items c.in-Some.k (reverse c.pop.new.self.items) still views are c.replace-blocks.result (there ∙ ap Some (sym c.replace-blocks.ensures.value)) in
+          let after = leads_split views c.args.fates.now c.loop-k.items.items c.in-Some.k (reverse c.pop.new.self.items) before c.split.result c.replace-blocks.result.items here c.in-Expanded.conflict c.in-Expanded.left expanded c.split.ensures in
+          subst (λ xs. Leads views c.args.fates.now c.push-in-Expanded.new.self.items xs) (sym next)
+          (subst (λ its. Leads views c.args.fates.now its (c.in-Expanded.left ∷ (c.in-Expanded.left + 1) ∷ reverse c.pop.new.self.items)) (sym c.in_ok-push-in-Expanded.ensures.items) after);
     }
 
 pub loop-k-smaller : goal.loop-k-smaller
-loop-k-smaller g c =
+loop-k-smaller c =
     let before : c.loop-k.owed.items ≡ c.pop.new.self.items ++ c.in-Some.k ∷ [] = c.in-Some.ensures.items in
     subst (λ xs. weights (length c.args.fates.now) c.pop.new.self.items < weights (length c.args.fates.now) xs) (sym before) (weights-leaf (length c.args.fates.now) c.pop.new.self.items c.in-Some.k)
 
 pub loop-k-preserved : goal.loop-k-preserved
-loop-k-preserved g c =
+loop-k-preserved c =
     let popped = All-pop (λ n. n < length c.args.fates.now) c.loop-k.owed.items c.pop.new.self.items (Some c.in-Some.k) c.in-Some.ensures.items c.loop-k.invariant.within in
+    let inside = popped.1 in
+    let count = c.loop-k.invariant.count in
+    let there = slice_get_read c.loop-k.lists.items (length c.loop-k.lists.items) c.in-Some.k c.index_mut.result.now refl (omega (arith, inside, count)) c.index_mut.ensures.value in
+    let front : reverse c.loop-k.owed.items ≡ c.in-Some.k ∷ reverse c.pop.new.self.items = ap reverse c.in-Some.ensures.items ∙ reverse_push c.pop.new.self.items c.in-Some.k in
+    let still : AreOwed c.args.fates.now c.args.lists.items c.loop-k.lists.items (c.in-Some.k ∷ reverse c.pop.new.self.items) = subst (λ xs. AreOwed c.args.fates.now c.args.lists.items c.loop-k.lists.items xs) front c.loop-k.invariant.still in
+    let size = length-slice_set c.loop-k.lists.items c.in-Some.k c.replace-blocks.new.dest in
     let fate = slice_get_read c.args.fates.now (length c.args.fates.now) c.in-Some.k c.index-fates-k.result refl popped.1 c.index-fates-k.is in
+    let end = end_of c.index-fates-k.result c.in_default-fate.not-Expanded in
     record {
       within = popped.0;
-      leads = λ views are size.
-          let view : (view : View) × (slice_get views c.in-Some.k ≡ Some view) = slice_get_inside views c.in-Some.k (let h = popped.1 in omega (arith, h, size)) in
-          let before : Leads c.args.agents views c.args.fates.now c.loop-k.items.items (c.in-Some.k ∷ reverse c.pop.new.self.items) =
-          subst (λ xs. Leads c.args.agents views c.args.fates.now c.loop-k.items.items xs) (ap reverse c.in-Some.ensures.items ∙ reverse_push c.pop.new.self.items c.in-Some.k) (c.loop-k.invariant.leads views are size) in
-          let blocks = c.in_ok-blocks-in_default-fate.ensures views view.0 are view.1 in
-          let after = leads_leaf c.args.agents views c.args.fates.now c.loop-k.items.items c.in-Some.k (reverse c.pop.new.self.items) before (LeafItem c.in_ok-blocks-in_default-fate.blocks) c.in_ok-blocks-in_default-fate.blocks.items
-          (view.0, c.index-fates-k.result, view.1, fate, end_of c.index-fates-k.result c.in_default-fate.not-Expanded, blocks) refl in
-          subst (λ its. Leads c.args.agents views c.args.fates.now its (reverse c.pop.new.self.items)) (sym c.in_ok-push-in_default-fate.ensures.items) after;
+      count = size ∙ count;
+      still = owed_leaf c.args.fates.now c.args.lists.items c.loop-k.lists.items c.in-Some.k (reverse c.pop.new.self.items) still c.replace-blocks.new.dest c.index-fates-k.result fate end;
+      leads = λ views are.
+          let before : Leads views c.args.fates.now c.loop-k.items.items (c.in-Some.k ∷ reverse c.pop.new.self.items) = subst (λ xs. Leads views c.args.fates.now c.loop-k.items.items xs) front (c.loop-k.invariant.leads views are) in
+          let here : AreBlocksAt views c.in-Some.k c.replace-blocks.result.items = blocks_at c.args.fates.now c.args.lists.items c.loop-k.lists.items c.in-Some.k (reverse c.pop.new.self.items) still views are c.replace-blocks.result (there ∙ ap Some (sym c.replace-blocks.ensures.value)) in
+          let after = leads_leaf views c.args.fates.now c.loop-k.items.items c.in-Some.k (reverse c.pop.new.self.items) before (LeafItem c.replace-blocks.result) c.replace-blocks.result.items here c.index-fates-k.result fate end refl in
+          subst (λ its. Leads views c.args.fates.now its (reverse c.pop.new.self.items)) (sym c.in_ok-push-in_default-fate.ensures.items) after;
     }
 
 pub returns : goal.returns
-returns g c views are size =
+returns c views are =
     let none : c.loop-k.owed.items ≡ [] = no_items c.loop-k.owed.items (let h = c.in_default.ensures.cases.0 in omega (arith, h, c.loop-k.owed.ok)) in
-    leads_done c.args.agents views c.args.fates.now c.loop-k.items.items
-    (subst (λ xs. Leads c.args.agents views c.args.fates.now c.loop-k.items.items xs) (ap reverse none) (c.loop-k.invariant.leads views are size))
+    leads_done views c.args.fates.now c.loop-k.items.items
+    (subst (λ xs. Leads views c.args.fates.now c.loop-k.items.items xs) (ap reverse none) (c.loop-k.invariant.leads views are))

@@ -12,7 +12,7 @@ invariant-loop-tree g l =
       unfaulted : l.lines.fault ≡ None;
       read : IsSome l.lines.header;
       part : l.lines.is_whole ≡ false;
-      collected : Collected (source.remaining l.fn.source) (source.remaining l.source) l.fn.lines l.lines l.agents l.claim (map node_of l.tree.items);
+      collected : Collected (source.remaining l.fn.source) (source.remaining l.source) l.fn.lines l.lines l.version l.agents l.claim (map node_of l.tree.items);
     }
 
 abbrev pub decreases-loop-tree : goal.decreases-loop-tree

@@ -16,7 +16,7 @@ pub returns-in_err-judge_header-clause-only : goal.returns-in_err-judge_header-c
 returns-in_err-judge_header-clause-only g c bytes known good =
     let opened : IsOpened c.args.problem.now c.in_ok-lines.lines = search rules in
     err_passed c.from_residual-in_err-judge_header.result IsNoRefusal c.in_err-judge_header.field-0.0 c.from_residual-in_err-judge_header.ensures.1
-    (c.in_err-judge_header.ensures.only (nodes_of good.tree) (awaits_spelled c.args.problem.now c.args.claim.now ((g.S.Source).remaining c.args.source.now) c.in_ok-lines.lines opened bytes known (length c.args.problem.now.agents) c.args.claim.now good.tree good.spelled))
+    (c.in_err-judge_header.ensures.only good.version (nodes_of good.tree) (awaits_spelled c.args.problem.now c.args.claim.now ((g.S.Source).remaining c.args.source.now) c.in_ok-lines.lines opened bytes known good.version (length c.args.problem.now.agents) c.args.claim.now good.tree good.spelled))
 
 pub returns-in_err-judge_header-clause-stops : goal.returns-in_err-judge_header-clause-stops
 returns-in_err-judge_header-clause-stops g c =
@@ -60,8 +60,8 @@ returns-clause-only g c bytes known good =
     let had = (g.S.Source).remaining c.args.source.now in
     let start = c.in_ok-lines.lines in
     let opened : IsOpened problem start = search rules in
-    let awaits = awaits_spelled problem claim had start opened bytes known (length problem.agents) claim good.tree good.spelled in
-    c.judge_tree.ensures.only (nodes_of good.tree) (c.in_ok-judge_header.ensures.ahead (length problem.agents) claim (nodes_of good.tree) awaits) (nodes_show c.items_are_judged_by_front.ensures problem claim good.tree good.shows)
+    let awaits = awaits_spelled problem claim had start opened bytes known good.version (length problem.agents) claim good.tree good.spelled in
+    c.judge_tree.ensures.only (nodes_of good.tree) (c.in_ok-judge_header.ensures.ahead good.version (length problem.agents) claim (nodes_of good.tree) awaits) (nodes_show c.items_are_judged_by_front.ensures problem claim good.tree good.shows)
 
 pub returns-clause-shown : goal.returns-clause-shown
 returns-clause-shown g c =
@@ -82,7 +82,7 @@ returns-clause-stops g c =
     let same : start.buffer ≡ none = rw c.in_ok-lines.ensures refl in
     let takes = c.in_ok-judge_header.ensures.taken in
     err_made c.judge_tree.result
-    (λ fault. stops_after had mid left failed start.buffer headed.buffer none (header_text start.width (length problem.agents) claim) fault same takes.window (refusal_of_tree problem claim had start opened mid headed takes c.in_ok-judge_header.ensures.ahead))
+    (λ fault. stops_after had mid left failed start.buffer headed.buffer none (header_text headed.version start.width (length problem.agents) claim) fault same takes.window (refusal_of_tree problem claim had start opened mid headed takes c.in_ok-judge_header.ensures.ahead))
     c.judge_tree.ensures.stops
 
 pub returns-clause-came : goal.returns-clause-came
@@ -96,5 +96,5 @@ returns-clause-came g c =
     let none : Buffered = record { bytes = []; left = c.args.limit } in
     let same : start.buffer ≡ none = rw c.in_ok-lines.ensures refl in
     on_ok c.judge_tree.result
-    (λ came. subst (λ b. ComesWithin had left b) same (ComesWithin-after had mid left start.buffer headed.buffer (header_text start.width (length problem.agents) c.args.claim.now) c.in_ok-judge_header.ensures.taken.window came))
+    (λ came. subst (λ b. ComesWithin had left b) same (ComesWithin-after had mid left start.buffer headed.buffer (header_text headed.version start.width (length problem.agents) c.args.claim.now) c.in_ok-judge_header.ensures.taken.window came))
     c.judge_tree.ensures.came

@@ -48,8 +48,8 @@ item-requires-clause-node g c =
     let now = c.args.lines.now in
     let takes = rw c.in-Some.is at (c.in_ok-item.ensures.item between.fault between.part) in
     let size : AreSized (grid_at now) problem.grid = record { width = between.width; height = between.height } in
-    let in_range : IsNode (grid_at now) (length problem.agents) (node_of c.in-Some.item) = rw between.header at takes.read.in_range in
-    node_moved (grid_at now) problem.grid (length problem.agents) size (node_of c.in-Some.item) in_range
+    let in_range : IsNode now.version (grid_at now) (length problem.agents) (node_of c.in-Some.item) = rw between.header at takes.read.in_range in
+    (now.version, node_moved now.version (grid_at now) problem.grid (length problem.agents) size (node_of c.in-Some.item) in_range)
 
 pub returns-in_err-item-2-clause-judged : goal.returns-in_err-item-2-clause-judged
 returns-in_err-item-2-clause-judged g c had start so_far =
@@ -69,7 +69,7 @@ returns-in_err-item-2-clause-judged g c had start so_far =
     (λ nodes awaits shows. no_refusal_judging (HasNodeDefect problem claim (here_of c.args.progress.now) node) fault c.in_err-item-2.ensures.refused
     (λ refusal defect. defect_refutes_nodes problem claim had mid left start now new c.args.progress.now between so_far node next c.items_are_judged_by_front.ensures refusal defect nodes awaits shows))
     (stops_judging problem claim had left failed start (here_of c.args.progress.now) node fault said.works (came_with_node problem claim had mid left start now new c.args.progress.now between so_far node next) c.in_err-item-2.ensures.refused
-    (bad_node problem claim had mid left start now new c.args.progress.now between so_far node next))
+    (bad_node problem claim had mid left start now new c.args.progress.now between so_far node next c.only_start_entries_count.ensures.count c.only_start_entries_count.ensures.children))
 
 pub returns-clause-judged : goal.returns-clause-judged
 returns-clause-judged g c had start so_far =
@@ -84,7 +84,7 @@ returns-clause-judged g c had start so_far =
     let next = is_next mid left now new c.in_ok-item.field-0 c.in-Some.item c.in-Some.is (said.item between.fault between.part) (λ other rest there. said.only_item other rest between.fault between.part there) (said.only_end between.fault between.part) in
     let node = node_of c.in-Some.item in
     record {
-      read = read_more problem claim had mid left start now new c.args.progress.now between so_far node next c.items_are_judged_by_front.ensures said.grid.0 c.in_ok-item-2.ensures.good (owed_by c.item.new.self) c.in_ok-item-2.ensures.owed;
+      read = read_more problem claim had mid left start now new c.args.progress.now between so_far node next c.items_are_judged_by_front.ensures c.only_start_entries_count.ensures.count c.only_start_entries_count.ensures.children said.grid.0 said.known.0 c.in_ok-item-2.ensures.good (owed_by c.item.new.self) c.in_ok-item-2.ensures.owed;
       came = came_with_node problem claim had mid left start now new c.args.progress.now between so_far node next;
       only = λ nodes awaits shows. tt;
       stops = tt;

@@ -14,10 +14,10 @@ loop-progress-init g c = record {
     header = c.requires.headed.header;
     fault = c.requires.headed.fault;
     part = c.requires.headed.part;
-    count = c.requires.headed.owed ∙ ap length (sym c.new-progress.ensures.owed);
-    ready = c.new-progress.ensures.ready c.args.problem.now;
+    count = c.requires.headed.owed ∙ ap length (sym c.in_ok-progress.ensures.owed);
+    ready = c.in_ok-progress.ensures.ready;
   };
-  read = read_none c.args.problem.now c.args.claim.now ((g.S.Source).remaining c.args.source.now) c.args.lines.now (owed_by c.new-progress.result) c.new-progress.ensures.owed;
+  read = read_none c.args.problem.now c.args.claim.now ((g.S.Source).remaining c.args.source.now) c.args.lines.now (owed_by c.in_ok-progress.progress) c.in_ok-progress.ensures.owed;
 }
 
 pub returns-in_err-judge_next-clause-only : goal.returns-in_err-judge_next-clause-only

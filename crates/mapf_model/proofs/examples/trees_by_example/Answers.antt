@@ -1,4 +1,4 @@
-use Rattle.mapf_model.proofs.ExampleLemmas.{a_clash_shows_impossibility, each_child_bars_its_agent}
+use Rattle.mapf_model.proofs.ExampleLemmas.{a_clash_shows_impossibility, each_child_bars_its_agent, children_inherit_labels}
 use Rattle.mapf_model.proofs.examples.trees_by_example.Goals as goal
 
 pub returns-clause-clash : goal.returns-clause-clash
@@ -6,3 +6,6 @@ returns-clause-clash c = a_clash_shows_impossibility
 
 pub returns-clause-children : goal.returns-clause-children
 returns-clause-children c = each_child_bars_its_agent
+
+pub returns-clause-labels : goal.returns-clause-labels
+returns-clause-labels c = children_inherit_labels

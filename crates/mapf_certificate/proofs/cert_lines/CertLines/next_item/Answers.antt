@@ -22,7 +22,7 @@ returns-in-Ok-None-clause-end g c = λ p q none.
     let left = s.remaining c.read_item.new.source in
     let old = c.args.self.now in
     let i = c.self-2.inside in
-    let mid : Reading = record { width = i.width; height = i.height; buffer = i.lines.buffer; header = i.header; fault = i.fault; is_whole = i.is_whole; owed = i.owed } in
+    let mid : Reading = record { width = i.width; height = i.height; buffer = i.lines.buffer; version = i.version; header = i.header; fault = i.fault; is_whole = i.is_whole; owed = i.owed } in
     let new : Reading = record mid { is_whole = true } in
     let reads : ReadsEnd had left old mid = subst (ReadsEnd had left old) (sym c.self-2.view_is) (c.in-Ok-None.ensures.end c.in-Ok-None.field-0-is) in
     let read : ReadsEnd had left old new = record { none_owed = reads.none_owed; window = reads.window; ended = reads.ended; empty = reads.empty; owed = reads.owed } in

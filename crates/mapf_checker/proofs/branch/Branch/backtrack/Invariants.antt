@@ -3,7 +3,10 @@ use Rattle.mapf_checker.specs.Branch.{place_of}
 use Rattle.mapf_checker.proofs.branch.Branch.backtrack.Given as goal
 
 abbrev pub invariant-loop-edge : goal.invariant-loop-edge
-invariant-loop-edge l = (place_of l.self).owed ≡ (place_of l.fn.self).owed
+invariant-loop-edge l = record {
+  owed : (place_of l.self).owed ≡ (place_of l.fn.self).owed;
+  agents : l.self.agents ≡ l.fn.self.agents;
+}
 
 abbrev pub decreases-loop-edge : goal.decreases-loop-edge
-decreases-loop-edge l = length l.self
+decreases-loop-edge l = length l.self.edges

@@ -4,22 +4,22 @@ pub leaf-requires-clause-blocks : goal.leaf-requires-clause-blocks
 leaf-requires-clause-blocks c = rw c.deref.ensures.value (rw c.in-Leaf.is at c.requires.node)
 
 pub returns-in-Vertex-clause-owed : goal.returns-in-Vertex-clause-owed
-returns-in-Vertex-clause-owed c = rw c.in-Vertex.is c.split.ensures.owed
+returns-in-Vertex-clause-owed c = rw c.in-Vertex.is (rw c.deref-in-Vertex.ensures.value at c.split.ensures.owed)
 
 pub returns-in-Vertex-clause-good : goal.returns-in-Vertex-clause-good
-returns-in-Vertex-clause-good c = rw c.in-Vertex.is c.split.ensures.good
+returns-in-Vertex-clause-good c = rw c.in-Vertex.is (rw c.deref-in-Vertex.ensures.value at c.split.ensures.good)
 
 pub returns-in-Vertex-clause-refused : goal.returns-in-Vertex-clause-refused
-returns-in-Vertex-clause-refused c = rw c.in-Vertex.is (c.split.ensures.refused c.args.claim.now)
+returns-in-Vertex-clause-refused c = rw c.in-Vertex.is (rw c.deref-in-Vertex.ensures.value at (c.split.ensures.refused c.args.claim.now))
 
 pub returns-in-Swap-clause-owed : goal.returns-in-Swap-clause-owed
-returns-in-Swap-clause-owed c = rw c.in-Swap.is c.split-in-Swap.ensures.owed
+returns-in-Swap-clause-owed c = rw c.in-Swap.is (rw c.deref-in-Swap.ensures.value at c.split-in-Swap.ensures.owed)
 
 pub returns-in-Swap-clause-good : goal.returns-in-Swap-clause-good
-returns-in-Swap-clause-good c = rw c.in-Swap.is c.split-in-Swap.ensures.good
+returns-in-Swap-clause-good c = rw c.in-Swap.is (rw c.deref-in-Swap.ensures.value at c.split-in-Swap.ensures.good)
 
 pub returns-in-Swap-clause-refused : goal.returns-in-Swap-clause-refused
-returns-in-Swap-clause-refused c = rw c.in-Swap.is (c.split-in-Swap.ensures.refused c.args.claim.now)
+returns-in-Swap-clause-refused c = rw c.in-Swap.is (rw c.deref-in-Swap.ensures.value at (c.split-in-Swap.ensures.refused c.args.claim.now))
 
 pub returns-in-Leaf-clause-owed : goal.returns-in-Leaf-clause-owed
 returns-in-Leaf-clause-owed c = rw c.in-Leaf.is (rw c.deref.ensures.value at c.leaf.ensures.owed)

@@ -1,8 +1,0 @@
-use Rattle.std.proofs.Common.{ℕ, ◌<◌, slice_index_or}
-use Rattle.mapf_model.specs.Blocks.{LabelBlock}
-use Rattle.mapf_checker.specs.Leaf.{IsGoodBlock}
-use Rattle.mapf_checker.specs.Branch.{place_of}
-use Rattle.mapf_checker.proofs.leaf.judge_blocks.Given as goal
-
-abbrev pub invariant-loop-block : goal.invariant-loop-block
-invariant-loop-block l = (k : ℕ) (d : LabelBlock) → k < l.block-index → IsGoodBlock l.problem (place_of l.branch).here (slice_index_or l.blocks k d)

@@ -1,0 +1,146 @@
+ghost use Rattle.std.specs.Prelude.{◌≡◌, ◌<◌, ◌≤◌, All, AllPairs, length, IfOk, IfNone, IfSome, OnOk, OnErr};
+ghost use Rattle.mapf_model.specs.Labels.{entries_of, AreSound};
+ghost use Rattle.mapf_model.specs.Limits.{greatest_cost};
+ghost use Rattle.mapf_model.specs.Printed.{IsBefore, IsBlockInRange};
+ghost use Rattle.mapf_distance.specs.Tables.{AreTables};
+ghost use Rattle.mapf_checker.specs.AgentProblem.{HasGoalDistances, bars_on};
+ghost use Rattle.mapf_checker.specs.Branch.{place_of};
+ghost use Rattle.mapf_checker.specs.Leaf.{IsGoodBlock, IsGoalOf, IsStartOf};
+ghost use Rattle.mapf_checker.specs.NodeDefects.{HasUnsoundBlock, HasUnsoundEntry, IsUnsoundAt};
+ghost use Rattle.mapf_checker.specs.Starts.{AreChangesBy, IsChangeBy};
+
+use crate::branch::Branch;
+use crate::judge::{AgentProblem, is_sound};
+use crate::labels::entry_at;
+use crate::starts::StartChange;
+use mapf_distance::Distances;
+use mapf_model::{Block, Cell, Entry, OutOfMemory, Problem};
+use std::alloc::Global;
+
+/// Whether each entry of the blocks of the node in this line is sound; else the line of the first that isn't.
+pub fn judge_blocks(
+    alloc: Global,
+    problem: &Problem,
+    tables: &[Distances],
+    branch: &Branch,
+    blocks: &[Block],
+    line: u64,
+) -> Result<(), u64>
+    requires tables { AreTables problem.now tables.now }
+    requires blocks { All (IsBlockInRange problem.now.grid (length problem.now.agents)) blocks.now }
+    ensures ok { OnOk result (All (IsGoodBlock problem.now (place_of branch.now).here) blocks.now) }
+    ensures err { OnErr result (HasUnsoundBlock problem.now (place_of branch.now).here blocks.now) }
+{
+    let mut line = line;
+    for block in blocks {
+        line = line.saturating_add(1);
+        judge_block(alloc, problem, tables, branch, block, line)?;
+        line = line.saturating_add(block.entries.len() as u64);
+    }
+    Ok(())
+}
+
+// Whether each entry of the block that begins in this line is sound; else the line of the first that
+// isn't.
+fn judge_block(
+    alloc: Global,
+    problem: &Problem,
+    tables: &[Distances],
+    branch: &Branch,
+    block: &Block,
+    line: u64,
+) -> Result<(), u64>
+    requires tables { AreTables problem.now tables.now }
+    requires block { IsBlockInRange problem.now.grid (length problem.now.agents) block.now }
+    ensures ok { OnOk result (IsGoodBlock problem.now (place_of branch.now).here block.now) }
+    ensures err { OnErr result (HasUnsoundEntry problem.now (place_of branch.now).here block.now) }
+{
+    let agent = agent_of(block);
+    let goal = goal_of(problem, agent);
+    let own = AgentProblem {
+        grid: problem.grid(),
+        distances: &tables[agent as usize],
+        branch,
+        agent,
+        goal,
+    };
+    match first_unsound(alloc, &own, entries_in(block)) {
+        Some(k) => Err(line.saturating_add(k as u64).saturating_add(1)),
+        None => Ok(()),
+    }
+}
+
+pub fn agent_of(block: &Block) -> u32
+    ensures { result ≡ block.now.agent }
+{
+    block.agent
+}
+
+pub fn entries_in(block: &Block) -> &[Entry]
+    ensures { result.now ≡ block.now.entries }
+{
+    &block.entries
+}
+
+fn goal_of(problem: &Problem, agent: u32) -> Cell
+    requires { agent < length problem.now.agents }
+    ensures { IsGoalOf problem.now agent result }
+{
+    problem.agents()[agent as usize].goal
+}
+
+// The place of the first entry of a block that isn't sound.
+fn first_unsound(alloc: Global, own: &AgentProblem, entries: &[Entry]) -> Option<usize>
+    requires distances { HasGoalDistances own.now }
+    requires rising { AllPairs IsBefore entries.now }
+    requires ticks { All (λ entry. entry.tick ≤ greatest_cost) entries.now }
+    ensures none { IfNone result (AreSound own.now.grid.now own.now.goal (bars_on own.now) (entries_of entries.now)) }
+    ensures some { IfSome result (IsUnsoundAt own.now entries.now) }
+{
+    for k in 0..entries.len() {
+        if !is_sound(alloc, own, entries, &entries[k]) {
+            return Some(k);
+        }
+    }
+    None
+}
+
+/// What the blocks change of the entries of the starts.
+pub fn changes_by(
+    alloc: Global,
+    problem: &Problem,
+    branch: &Branch,
+    blocks: &[Block],
+) -> Result<Vec<StartChange>, OutOfMemory>
+    requires agents { branch.now.agents ≡ length problem.now.agents }
+    requires blocks { All (IsBlockInRange problem.now.grid (length problem.now.agents)) blocks.now }
+    ensures { IfOk result (λ changes.
+        AreChangesBy problem.now (place_of branch.now).here.entries blocks.now changes.items) }
+{
+    let mut changes = Vec::new(alloc);
+    for block in blocks {
+        changes.push(change_by(problem, branch, block))?;
+    }
+    Ok(changes)
+}
+
+fn change_by(problem: &Problem, branch: &Branch, block: &Block) -> StartChange
+    requires agents { branch.now.agents ≡ length problem.now.agents }
+    requires block { IsBlockInRange problem.now.grid (length problem.now.agents) block.now }
+    ensures { IsChangeBy problem.now (place_of branch.now).here.entries block.now result }
+{
+    let agent = agent_of(block);
+    let start = start_of(problem, agent as usize);
+    StartChange {
+        agent,
+        before: branch.start_entry(agent as usize),
+        now: entry_at(entries_in(block), start, 0),
+    }
+}
+
+pub fn start_of(problem: &Problem, agent: usize) -> Cell
+    requires { agent < length problem.now.agents }
+    ensures { IsStartOf problem.now agent result }
+{
+    problem.agents()[agent].start
+}

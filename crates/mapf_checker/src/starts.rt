@@ -1,0 +1,90 @@
+ghost use Rattle.std.specs.Prelude.{◌≡◌, ◌≢◌, ◌<◌, ℕ, Some, IfOk, length, slice_get};
+ghost use Rattle.mapf_model.specs.Labels.{Entries};
+ghost use Rattle.mapf_model.specs.Tree.{no_entries};
+
+use mapf_model::{Label, OutOfMemory};
+use std::alloc::Global;
+
+/// What a block does to the entry of its agent's start at tick 0.
+#[derive(Clone, Copy)]
+pub struct StartChange {
+    pub agent: u32,
+    /// The entry by the nearest block above.
+    pub before: Option<Label>,
+    /// The entry in the block. Where it lists none, the distance holds.
+    pub now: Option<Label>,
+}
+
+/// For each agent the entry of its start at tick 0, as its nearest block above a node lists it.
+#[derive(Drop)]
+pub struct Starts {
+    entries: Vec<Option<Label>>,
+}
+
+impl Starts {
+    ghost use Rattle.mapf_checker.specs.Starts.{IsKept, AreKept, AreOfFirst, KnowEntries, with_changes};
+
+    /// Without blocks.
+    pub fn new(alloc: Global, agents: usize) -> Result<Starts, OutOfMemory>
+        ensures count { IfOk result (λ starts. length starts.entries.items ≡ agents) }
+        ensures none { IfOk result (λ starts. AreKept no_entries starts.entries.items) }
+    {
+        let mut entries = Vec::new(alloc);
+        for _ in 0..agents {
+            entries.push(None)?;
+        }
+        Ok(Starts { entries })
+    }
+
+    pub fn get(&self, agent: usize) -> Option<Label>
+        requires { agent < length self.now.entries.items }
+        ensures { (entries : ℕ → Entries) → AreKept entries self.now.entries.items → IsKept entries agent result }
+    {
+        self.entries[agent]
+    }
+
+    /// Sees to these changes; of two of one agent the first counts.
+    pub fn change(&mut self, changes: &[StartChange])
+        requires agents { AreOfFirst (length self.old.entries.items) changes.now }
+        ensures entries { (entries : ℕ → Entries) → AreKept entries self.old.entries.items
+            → AreKept (with_changes changes.now entries) self.new.entries.items }
+        ensures count { length self.new.entries.items ≡ length self.old.entries.items }
+    {
+        let mut k = changes.len();
+        while 0 < k {
+            k -= 1;
+            set(&mut self.entries, changes[k].agent, changes[k].now);
+        }
+    }
+
+    /// The entries are again what they were before these changes.
+    pub fn undo(&mut self, changes: &[StartChange])
+        requires agents { AreOfFirst (length self.old.entries.items) changes.now }
+        ensures entries { (entries : ℕ → Entries) → AreKept (with_changes changes.now entries) self.old.entries.items
+            → KnowEntries entries changes.now → AreKept entries self.new.entries.items }
+        ensures count { length self.new.entries.items ≡ length self.old.entries.items }
+    {
+        for k in 0..changes.len() {
+            restore(&mut self.entries, &changes[k]);
+        }
+    }
+}
+
+// The entry of the change's agent is again what it was.
+fn restore(entries: &mut Vec<Option<Label>>, change: &StartChange)
+    requires { change.now.agent < length entries.old.items }
+    ensures count { length entries.new.items ≡ length entries.old.items }
+    ensures here { slice_get entries.new.items change.now.agent ≡ Some change.now.before }
+    ensures others { (i : ℕ) → i ≢ change.now.agent → slice_get entries.new.items i ≡ slice_get entries.old.items i }
+{
+    set(entries, change.agent, change.before);
+}
+
+fn set(entries: &mut Vec<Option<Label>>, agent: u32, entry: Option<Label>)
+    requires { agent < length entries.old.items }
+    ensures count { length entries.new.items ≡ length entries.old.items }
+    ensures here { slice_get entries.new.items agent ≡ Some entry }
+    ensures others { (i : ℕ) → i ≢ agent → slice_get entries.new.items i ≡ slice_get entries.old.items i }
+{
+    entries[agent as usize] = entry;
+}
