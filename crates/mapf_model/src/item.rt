@@ -117,8 +117,10 @@ impl Item {
 /// What a certificate shows.
 #[derive(Clone, Copy, Debug, PartialEq, Eq)]
 pub enum Claim {
-    /// No valid plan has a smaller sum of costs, in ticks.
+    /// No valid plan has a smaller sum of costs, in ticks; some plan has this one, and stands beside it.
     Cost(u64),
+    /// No valid plan has a smaller sum of costs, in ticks, where no plan stands beside it.
+    Bound(u64),
     /// No plan is valid.
     Impossible,
 }
