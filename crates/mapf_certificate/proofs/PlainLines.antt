@@ -37,7 +37,7 @@ plain-append j k bs cs p q = record {
   short = omega (arith, length-append bs cs, p.short, q.short);
 }
 
-plain-more : (j k : ℕ) (bs : List ℕ) → j ≤ k → IsPlain j bs → IsPlain k bs
+pub plain-more : (j k : ℕ) (bs : List ℕ) → j ≤ k → IsPlain j bs → IsPlain k bs
 plain-more j k bs h p = record { ends = p.ends; short = omega (arith, p.short) }
 
 digits_lack : (ds : List ℕ) → AllDigits 10 ds → lacks_end ds ≡ true

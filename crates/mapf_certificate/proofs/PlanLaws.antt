@@ -129,8 +129,8 @@ cause_again Ticks rest is past = (causes.Ticks, refl, refl)
 cause_again (Splits n) rest is past =
     let fits : n < 2 ^ 64 = omega arith in
     let number = not_ticks n rest fits in
-    let read : (read_field 32 (field 32 n ++ rest) >>= λ count. Ok (causes.Splits count.0, count.1)) ≡ Ok (causes.Splits (Some n), rest) = then_ok _ _ _ _ (field_again 32 n rest fits past) refl in
     let ranged : (in_range 0 100000 (Some n) >>= λ m. Ok (Splits m)) ≡ Ok (Splits n) = then_ok _ _ _ _ (range_again 0 100000 n (omega arith) is) refl in
+    let read : (read_field 32 (field 32 n ++ rest) >>= λ count. Ok (causes.Splits count.0, count.1)) ≡ Ok (causes.Splits (Some n), rest) = then_ok _ _ _ _ (field_again 32 n rest fits past) refl in
     (causes.Splits (Some n), ap (λ o. option_map_or (λ r. Ok (causes.Ticks, r)) o (read_field 32 (field 32 n ++ rest) >>= λ count. Ok (causes.Splits count.0, count.1))) number ∙ read, ranged)
 
 bound_again : (version : Version) (bound : Option ℕ) → IsBoundOfVersion version bound → (told : Option (Option ℕ)) × (read_bound version (bound_words bound) ≡ Ok told) × (bound_in_range told ≡ Ok bound)
