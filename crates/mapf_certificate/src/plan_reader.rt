@@ -8,8 +8,8 @@ ghost use Rattle.mapf_certificate.specs.Lines.{grid_for};
 ghost use Rattle.mapf_certificate.specs.Plans.{ArePaths, cells_text, path_words, paths_text, cost_of, plan_text};
 ghost use Rattle.mapf_certificate.specs.Plans.{IsAnswerInRange, IsPlanText, IsPathOf};
 ghost use Rattle.mapf_certificate.specs.PlanReading.{cut, next_line, next_words, next_title, next_agents, next_answer};
-ghost use Rattle.mapf_certificate.specs.PlanReading.{read_end, read_header, line_of, rest_of, IsAnswerLine, read_pair_cell};
-ghost use Rattle.mapf_certificate.specs.PlanReading.{fault_at, OrMemory};
+ghost use Rattle.mapf_certificate.specs.PlanReading.{read_end, read_header, line_of, rest_of, IsAnswerLine};
+ghost use Rattle.mapf_certificate.specs.PlanReading.{read_pair_cell, fault_at, OrMemory};
 
 use crate::ends;
 use crate::field::pair;
