@@ -46,6 +46,9 @@ pub all_alike_same : (problem : Instance) (these : List NodeContext) → AreAllA
 all_alike_same problem [] = tt
 all_alike_same problem (a ∷ these) = (alike_same problem a, all_alike_same problem these)
 
+pub all_alike_if_same : (problem : Instance) (these those : List NodeContext) → these ≡ those → AreAllAlike problem these those
+all_alike_if_same problem these those same = subst (λ others. AreAllAlike problem these others) same (all_alike_same problem these)
+
 pub all_alike_turned : (problem : Instance) (these those : List NodeContext) → AreAllAlike problem these those → AreAllAlike problem those these
 all_alike_turned problem [] [] alike = tt
 all_alike_turned problem (a ∷ these) (b ∷ those) (here, rest) = (alike_turned problem a b here, all_alike_turned problem these those rest)
