@@ -192,7 +192,11 @@ pub defect_alike : OnlyStartEntriesCount → ChildrenAreAlike → (problem : Ins
 defect_alike law children problem claim a b (SplitNode conflict blocks) fault alike (inl improper) = inl improper
 defect_alike law children problem claim a b (SplitNode conflict blocks) fault alike (inr (line, is, unsound)) = inr (line, is, unsound_alike problem a b blocks alike unsound)
 defect_alike law children problem claim a b (LeafNode blocks) fault alike (inl (line, is, unsound)) = inl (line, is, unsound_alike problem a b blocks alike unsound)
-defect_alike law children problem claim a b (LeafNode blocks) fault alike (inr (line, is, weak)) = inr (line, is, λ shows. weak
-    (let any : Constraint = record { agent = 0; bar = Cell 0 0 } in
-    starts_alike law problem claim (child_context b blocks any) (child_context a blocks any) (children problem b a blocks any (alike_turned problem a b alike)) shows))
+defect_alike law children problem claim a b (LeafNode blocks) fault alike (inr (line, is, weak)) = inr (
+  line,
+  is,
+  λ shows. weak
+      (let any : Constraint = record { agent = 0; bar = Cell 0 0 } in
+      starts_alike law problem claim (child_context b blocks any) (child_context a blocks any) (children problem b a blocks any (alike_turned problem a b alike)) shows),
+)
 defect_alike law children problem claim a b (ClashNode i j) fault alike defect = defect
