@@ -46,6 +46,9 @@ pub all_alike_same : (problem : Instance) (these : List NodeContext) → AreAllA
 all_alike_same problem [] = tt
 all_alike_same problem (a ∷ these) = (alike_same problem a, all_alike_same problem these)
 
+pub all_alike_if_same : (problem : Instance) (these those : List NodeContext) → these ≡ those → AreAllAlike problem these those
+all_alike_if_same problem these those same = subst (λ others. AreAllAlike problem these others) same (all_alike_same problem these)
+
 pub all_alike_turned : (problem : Instance) (these those : List NodeContext) → AreAllAlike problem these those → AreAllAlike problem those these
 all_alike_turned problem [] [] alike = tt
 all_alike_turned problem (a ∷ these) (b ∷ those) (here, rest) = (alike_turned problem a b here, all_alike_turned problem these those rest)
@@ -189,7 +192,11 @@ pub defect_alike : OnlyStartEntriesCount → ChildrenAreAlike → (problem : Ins
 defect_alike law children problem claim a b (SplitNode conflict blocks) fault alike (inl improper) = inl improper
 defect_alike law children problem claim a b (SplitNode conflict blocks) fault alike (inr (line, is, unsound)) = inr (line, is, unsound_alike problem a b blocks alike unsound)
 defect_alike law children problem claim a b (LeafNode blocks) fault alike (inl (line, is, unsound)) = inl (line, is, unsound_alike problem a b blocks alike unsound)
-defect_alike law children problem claim a b (LeafNode blocks) fault alike (inr (line, is, weak)) = inr (line, is, λ shows. weak
-    (let any : Constraint = record { agent = 0; bar = Cell 0 0 } in
-    starts_alike law problem claim (child_context b blocks any) (child_context a blocks any) (children problem b a blocks any (alike_turned problem a b alike)) shows))
+defect_alike law children problem claim a b (LeafNode blocks) fault alike (inr (line, is, weak)) = inr (
+  line,
+  is,
+  λ shows. weak
+      (let any : Constraint = record { agent = 0; bar = Cell 0 0 } in
+      starts_alike law problem claim (child_context b blocks any) (child_context a blocks any) (children problem b a blocks any (alike_turned problem a b alike)) shows),
+)
 defect_alike law children problem claim a b (ClashNode i j) fault alike defect = defect
