@@ -289,7 +289,12 @@ const JUDGED_TWO: [(usize, usize, &str, Result<Verdict, CheckFault>); 12] = [
          agent 0 1\nat 1,1 1 2\nleaf 1\nagent 0 1\nat 0,1 0 3\nleaf 1\nagent 0 1\nat 0,1 0 3\nleaf 0\n",
         Ok(Verdict::Optimal(5)),
     ),
-    (4, 4, "vertex 0 1 1,1 1\n", Err(CheckFault::C2(CertFault::K1(4)))),
+    (
+        4,
+        4,
+        "vertex 0 1 1,1 1\n",
+        Err(CheckFault::C2(CertFault::K1(4))),
+    ),
 ];
 
 #[test]
@@ -299,7 +304,11 @@ fn judges_version_two(rt: HostRuntime) -> Result<(), Fail> {
     let plan = CROSSING_PLAN.as_bytes();
     for (first, last, lines, answer) in JUDGED_TWO {
         let cert = with_lines(alloc, CROSSING_CERT_TWO, first, last, lines)?;
-        assert_eq!(rt; check(alloc, &crossing, plan, cert.as_bytes()), answer, "{lines}");
+        assert_eq!(rt;
+            check(alloc, &crossing, plan, cert.as_bytes()),
+            answer,
+            "{lines}"
+        );
     }
     Ok(())
 }
