@@ -1,5 +1,6 @@
 -- The branch while edges are added and undone.
-use Rattle.std.proofs.Common.{◌≡◌, ℕ, List, [], ◌∷◌, ◌++◌, fold, length, refl}
+use Rattle.std.proofs.Common.{◌≡◌, ℕ, List, [], ◌∷◌, ◌++◌, fold, length}
+use Rattle.std.proofs.lemmas.List.Sums.{fold_push}
 use Rattle.mapf_model.specs.declared.bar.Bar.{Bar}
 use Rattle.mapf_model.specs.Labels.{Entries}
 use Rattle.mapf_model.specs.Tree.{root, with_constraint}
@@ -9,10 +10,6 @@ use Rattle.mapf_checker.specs.declared.starts.Starts.{Starts}
 use Rattle.mapf_checker.specs.Index.{Indexes, CanUndo}
 use Rattle.mapf_checker.specs.Starts.{AreKept, KnowEntries, with_changes}
 use Rattle.mapf_checker.specs.Branch.{Place, along, place_after, CanUndoEdge, CanUndoAll, IsIndexedBranch}
-
-fold_push : {A B : Type 0} (f : B → A → B) (start : B) (xs : List A) (x : A) → fold f start (xs ++ x ∷ []) ≡ f (fold f start xs) x
-fold_push f start [] x = refl
-fold_push f start (y ∷ ys) x = fold_push f (f start y) ys x
 
 pub place_after-push : (edges : List Edge) (edge : Edge) → place_after (edges ++ edge ∷ []) ≡ along (place_after edges) edge
 place_after-push edges edge = fold_push along (record { here = root; owed = [] }) edges edge

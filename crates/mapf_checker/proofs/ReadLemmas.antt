@@ -16,7 +16,7 @@ use Rattle.mapf_certificate.specs.declared.version.Version.{Version}
 use Rattle.mapf_certificate.specs.declared.cert.LinesFault.{LinesFault}
 use Rattle.mapf_certificate.specs.declared.cert.LinesFault.TheVariants.{Text, Device, TooLong, Memory}
 use Rattle.mapf_certificate.specs.declared.cert.CertFault.TheVariants as texts
-use Rattle.mapf_certificate.specs.CertReading.{Awaits, TakesNode, TakesEnd}
+use Rattle.mapf_certificate.specs.CertReading.{Awaits, TakesNode, TakesEnd, trees_owed_after}
 use Rattle.mapf_certificate.specs.declared.line.CertLine.TheVariants as lines
 use Rattle.mapf_certificate.specs.Certificates.{IsNode, line_text, node_text}
 use Rattle.mapf_certificate.specs.Reading.{Reading, grid_at, agents_at}
@@ -30,7 +30,7 @@ use Rattle.mapf_checker.specs.declared.tree.Progress.{Progress}
 use Rattle.mapf_checker.specs.CertJudging.{HasTreeRefusal, IsBetweenItems, IsJudgedTree, IsReadTo, IsReadOn}
 use Rattle.mapf_checker.specs.Faults.{of_cert, IsOfJudging, IsNoRefusal, IsOfChecking}
 use Rattle.mapf_checker.specs.NodeDefects.{HasNodeDefect, IsGoodNode}
-use Rattle.mapf_checker.specs.Progress.{contexts_after, contexts_after_all, owed_at, owed_by, here_of, AreAllAlike}
+use Rattle.mapf_checker.specs.Progress.{contexts_after, contexts_after_all, owed_at, owed_by, here_of, AreAllAlike, IsReady}
 use Rattle.mapf_checker.specs.Refusals.{HasBadNode}
 use Rattle.mapf_checker.specs.Branch.{Place, place_of}
 use Rattle.mapf_checker.proofs.TreeLemmas.{judged_good, shown_good, defect_refutes_node, defect_alike, nodes_show_alike, alike_after, all_alike_same, all_alike_turned, all_alike_passed}
@@ -68,6 +68,32 @@ is_next had left old new (Some given) item is takes only_item only_end = rw (←
 is_going : (is_over : Bool) (place : Place) (n : ℕ) → 1 ≤ n → n ≡ length (owed_at is_over place) → owed_at is_over place ≡ place.here ∷ place.owed
 is_going true place n some count = absurd (omega (arith, count))
 is_going false place n some count = refl
+
+-- as many trees are owed after a node as a reader waits for
+contexts_count : (owed : List NodeContext) (node : Node) (n : ℕ) → 1 ≤ n → n ≡ length owed → trees_owed_after n node ≡ length (contexts_after owed node)
+contexts_count [] node n some count = absurd (omega (arith, count))
+contexts_count (here ∷ owed) (SplitNode conflict blocks) n some count = omega (arith, count)
+contexts_count (here ∷ owed) (LeafNode blocks) n some count = omega (arith, count)
+contexts_count (here ∷ owed) (ClashNode i j) n some count = omega (arith, count)
+
+alike_count : (problem : Instance) (these those : List NodeContext) → AreAllAlike problem these those → length these ≡ length those
+alike_count problem [] [] alike = refl
+alike_count problem (a ∷ these) (b ∷ those) alike = omega (arith, alike_count problem these those alike.1)
+alike_count problem [] (b ∷ those) alike = absurd alike
+alike_count problem (a ∷ these) [] alike = absurd alike
+
+-- after a node the reader and the judge still wait for the same trees
+pub between_after : (problem : Instance) (claim : Claim) (now new : Reading) (progress after : Progress) (node : Node) → IsBetweenItems problem claim now progress → 1 ≤ now.owed → new.owed ≡ trees_owed_after now.owed node →
+    (new.width ≡ now.width) × (new.height ≡ now.height) → new.header ≡ now.header → new.fault ≡ None → new.is_whole ≡ false → IsReady problem after → AreAllAlike problem (owed_by after) (contexts_after (owed_by progress) node) → IsBetweenItems problem claim new after
+between_after problem claim now new progress after node between some owed size header fault part ready alike = record {
+  width = size.0 ∙ between.width;
+  height = size.1 ∙ between.height;
+  header = header ∙ between.header;
+  fault = fault;
+  part = part;
+  count = owed ∙ contexts_count (owed_by progress) node now.owed some between.count ∙ sym (alike_count problem (owed_by after) (contexts_after (owed_by progress) node) alike);
+  ready = ready;
+}
 
 -- a node more
 module _ (problem : Instance) (claim : Claim) (had mid left : Option (List ℕ)) (start now new : Reading) (progress : Progress) (between : IsBetweenItems problem claim now progress) (so_far : IsReadTo problem claim had mid start now (owed_by progress)) (node : Node) (next : IsNext mid left now new node) where

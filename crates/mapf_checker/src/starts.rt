@@ -29,11 +29,9 @@ impl Starts {
         ensures count { IfOk result (λ starts. length starts.entries.items ≡ agents) }
         ensures none { IfOk result (λ starts. AreKept no_entries starts.entries.items) }
     {
-        let mut entries = Vec::new(alloc);
-        for _ in 0..agents {
-            entries.push(None)?;
-        }
-        Ok(Starts { entries })
+        Ok(Starts {
+            entries: vec![in alloc; None; agents]?,
+        })
     }
 
     pub fn get(&self, agent: usize) -> Option<Label>

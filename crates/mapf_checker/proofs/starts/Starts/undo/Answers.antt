@@ -1,11 +1,8 @@
-use Rattle.std.proofs.Common.{◌≤◌, ◌+◌, None, drop, get_or, length, refl, subst, ◌∙◌, arith}
+use Rattle.std.proofs.Common.{◌≤◌, ◌+◌, None, drop, get_or, length, subst, ◌∙◌, arith}
 use Rattle.std.proofs.lemmas.List.{drop_more, drop_all}
 use Rattle.mapf_checker.specs.declared.starts.StartChange.{StartChange}
-use Rattle.mapf_checker.proofs.ChangeLemmas.{AreBetween, between_all, between_none, one_undone}
+use Rattle.mapf_checker.proofs.ChangeLemmas.{AreBetween, between_none, one_undone}
 use Rattle.mapf_checker.proofs.starts.Starts.undo.Goals as goal
-
-pub loop-change-init : goal.loop-change-init
-loop-change-init c = record { count = refl; between = λ entries kept known. between_all c.args.changes.now entries c.args.self.now.entries.items kept }
 
 pub loop-change-preserved : goal.loop-change-preserved
 loop-change-preserved c =
