@@ -52,8 +52,7 @@ pub fn assert_judged(
             verdict,
             answer,
             "of {} and {} in version 2",
-            texts.0,
-            texts.1
+            texts.0, texts.1
         );
     }
     Ok(())

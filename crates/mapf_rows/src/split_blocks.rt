@@ -82,18 +82,8 @@ leaf 1\nagent 0 1\nat 0,1 0 3\nleaf 1\nagent 0 1\nat 0,1 0 3\nleaf 0\n",
 ];
 
 const LINES: [Change; 13] = [
-    (
-        1,
-        1,
-        "mapf-cert 3\n",
-        Err(CheckFault::C2(CertFault::K1(1))),
-    ),
-    (
-        1,
-        1,
-        "mapf-cert 1\n",
-        Err(CheckFault::C2(CertFault::K1(4))),
-    ),
+    (1, 1, "mapf-cert 3\n", Err(CheckFault::C2(CertFault::K1(1)))),
+    (1, 1, "mapf-cert 1\n", Err(CheckFault::C2(CertFault::K1(4)))),
     // No number, or one that is too great.
     (
         4,
@@ -166,12 +156,7 @@ const LINES: [Change; 13] = [
 ];
 
 const LINES_OF_VERSION_ONE: [Change; 5] = [
-    (
-        1,
-        1,
-        "mapf-cert 2\n",
-        Err(CheckFault::C2(CertFault::K1(4))),
-    ),
+    (1, 1, "mapf-cert 2\n", Err(CheckFault::C2(CertFault::K1(4)))),
     (
         3,
         3,

@@ -71,11 +71,19 @@ fn reads_pieces(rt: HostRuntime) {
         assert!(rt; 1 <= given.k && given.k <= 200);
         for first in 1..texts.1.len() {
             let answer = check_pieces(rt.alloc(), &given, texts, first, 999);
-            assert_eq!(rt; answer, Ok(Verdict::Optimal(cost)), "{first} and the others");
+            assert_eq!(rt;
+                answer,
+                Ok(Verdict::Optimal(cost)),
+                "{first} and the others"
+            );
         }
         for others in [1, 2] {
             let answer = check_pieces(rt.alloc(), &given, texts, 1, others);
-            assert_eq!(rt; answer, Ok(Verdict::Optimal(cost)), "1 and then {others} each");
+            assert_eq!(rt;
+                answer,
+                Ok(Verdict::Optimal(cost)),
+                "1 and then {others} each"
+            );
         }
     }
 }

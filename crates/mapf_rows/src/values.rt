@@ -94,8 +94,10 @@ fn look_at_leaf(blocks: &[Block]) -> Seen {
 }
 
 // The crossing's certificates, and their items, each with its line.
-const CROSSING_CERTS: [(Version, &str); 2] =
-    [(Version::One, CROSSING_ONE), (Version::Two, CROSSING_CERT)];
+const CROSSING_CERTS: [(Version, &str); 2] = [
+    (Version::One, CROSSING_ONE),
+    (Version::Two, CROSSING_CERT),
+];
 
 const CROSSING_ITEMS: [(u64, Seen); 3] = [
     (4, Seen::Split(0, 1, Cell(4), 1)),
