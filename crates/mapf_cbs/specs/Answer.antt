@@ -28,7 +28,7 @@ pub record IsTreeOf (problem : Instance) (limit : ℕ) (items : List Item) (tree
   pub blocks : CarriesBoundBlocks problem tree
   pub in_range : IsTreeInRange problem.grid (length problem.agents) tree
 
--- at a node with these constraints the paths are cheapest, and each is the first of its cost
+-- at a node with this context the paths are cheapest, and each is the first of its cost
 abbrev pub AreFirstCheapest : Instance → List (List ℕ) → NodeContext → Type 0
 AreFirstCheapest problem paths context =
     AreCheapest problem context paths × AreFirstPaths problem context paths
