@@ -126,13 +126,13 @@ const ITEMS: [(&str, u64); 3] = [
 
 #[test]
 fn gives_the_header_and_the_items(rt: HostRuntime) -> Result<(), Fail> {
-    for (text, version, pace) in [
+    for (cert, version, pace) in [
         (CROSSING, Version::One, Pace::ByteByByte),
         (CROSSING, Version::One, Pace::AllAtOnce),
         (CROSSING_TWO, Version::Two, Pace::ByteByByte),
         (CROSSING_TWO, Version::Two, Pace::AllAtOnce),
     ] {
-        let mut source = FuseSource::of(text.as_bytes(), pace, None);
+        let mut source = FuseSource::of(cert.as_bytes(), pace, None);
         let mut lines = CertLines::open(rt.alloc(), 3, 3, 113)?;
         let Ok(header) = lines.header(&mut source) else {
             return Err(Fail::from("no header"));
