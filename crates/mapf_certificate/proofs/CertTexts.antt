@@ -1,21 +1,22 @@
 -- Whole certificates: what a reader awaits, and what bytes spell.
-use Rattle.std.proofs.Common.{◌≡◌, ℕ, ◌<◌, ◌*◌, List, [], ◌∷◌, ◌++◌, length, All, false, Option, Some, None, refl, sym, ap, subst, ◌∙◌, arith, inl, inr}
+use Rattle.std.proofs.Common.{◌≡◌, ℕ, ◌<◌, ◌*◌, List, [], ◌∷◌, ◌++◌, length, get_or, map, All, false, Option, Some, None, refl, sym, ap, subst, ◌∙◌, arith, inl, inr}
 use Rattle.std.proofs.lemmas.List.{append-nil}
-use Rattle.std.proofs.lemmas.List.Elements.{All-head, All-cons, All-nil}
+use Rattle.std.proofs.lemmas.List.Elements.{All-head, All-tail, All-cons, All-nil, All-append}
 use Rattle.std.proofs.lemmas.Bool.{cases_lt}
 use Rattle.mapf_model.specs.declared.item.Claim.{Claim}
+use Rattle.mapf_model.specs.declared.item.Item.{Item}
 use Rattle.mapf_model.specs.declared.conflict.Conflict.{Conflict}
 use Rattle.mapf_model.specs.declared.conflict.Conflict.TheVariants as conflicts
 use Rattle.mapf_model.specs.Blocks.{LabelBlock}
 use Rattle.mapf_model.specs.Grid.{GridMap}
 use Rattle.mapf_model.specs.Printed.{IsConflictInRange, IsBlockInRange, AreBlocksInRange, IsTreeInRange}
-use Rattle.mapf_model.specs.Tree.{ConstraintTree, Split, Leaf, Clash, Node, nodes_of, nodes_of_all}
+use Rattle.mapf_model.specs.Tree.{ConstraintTree, Split, Leaf, Clash, Node, SplitNode, LeafNode, ClashNode, Spell, node_of, nodes_of, nodes_of_all}
 use Rattle.mapf_model.proofs.ItemLemmas.{cut}
 use Rattle.mapf_certificate.specs.declared.version.Version.{Version}
 use Rattle.mapf_certificate.specs.declared.version.Version.TheVariants.{One, Two}
 use Rattle.mapf_certificate.specs.declared.sizes.Sizes.{Sizes}
 use Rattle.mapf_certificate.specs.Lines.{grid_of, grid_for}
-use Rattle.mapf_certificate.specs.Certificates.{header_text, rest_text, cert_text, IsCertTree, IsRest, SpellsCert, SpellsOneCert}
+use Rattle.mapf_certificate.specs.Certificates.{header_text, rest_text, cert_text, IsNodeOfVersion, IsTreeOfVersion, IsCertTree, IsRest, SpellsCert, SpellsOneCert}
 use Rattle.mapf_certificate.specs.Reading.{Reading}
 use Rattle.mapf_certificate.specs.CertReading.{IsCertText, AwaitsCert, trees_owed_after}
 use Rattle.mapf_certificate.proofs.Fields.{same_some}
@@ -101,6 +102,31 @@ converted grid old new agents count claim says tree nodes spells p q r e = recor
   tree_of_version = tt;
   spelled = e ∙ ap (λ (n : ℕ). cert_text Two grid.width n says nodes) p ∙ ap (λ (c : Claim). cert_text Two grid.width agents c nodes) q ∙ ap (cert_text Two grid.width agents claim) r;
 }
+
+-- the nodes of a tree of a version are nodes of it
+nodes_of_version : (version : Version) (tree : ConstraintTree) → IsTreeOfVersion version tree → All (IsNodeOfVersion version) (nodes_of tree)
+nodes_of_version One (Split conflict blocks left right) (none, l, r) =
+    let Is = IsNodeOfVersion One in
+    All-cons Is (SplitNode conflict blocks) (nodes_of left ++ nodes_of right) none (All-append Is (nodes_of left) (nodes_of right) (nodes_of_version One left l) (nodes_of_version One right r))
+nodes_of_version One (Leaf blocks) is = All-cons (IsNodeOfVersion One) (LeafNode blocks) [] tt (All-nil (IsNodeOfVersion One))
+nodes_of_version One (Clash i j) is = All-cons (IsNodeOfVersion One) (ClashNode i j) [] tt (All-nil (IsNodeOfVersion One))
+nodes_of_version Two tree is = λ k node inside. any (get_or (nodes_of tree) k node)
+  where
+    any : (node : Node) → IsNodeOfVersion Two node
+    any (SplitNode conflict blocks) = tt
+    any (LeafNode blocks) = tt
+    any (ClashNode i j) = tt
+
+-- and so are those of the items that spell it
+pub items_of_version : (version : Version) (items : List Item) (tree : ConstraintTree) → IsTreeOfVersion version tree → Spell items tree → All (λ item. IsNodeOfVersion version (node_of item)) items
+items_of_version version items tree is spelled = by items (subst (All (IsNodeOfVersion version)) (sym spelled) (nodes_of_version version tree is))
+  where
+    Is : Item → Type 0
+    Is item = IsNodeOfVersion version (node_of item)
+
+    by : (items : List Item) → All (IsNodeOfVersion version) (map node_of items) → All (λ item. IsNodeOfVersion version (node_of item)) items
+    by [] all = All-nil Is
+    by (item ∷ more) all = All-cons Is item more (All-head (IsNodeOfVersion version) (node_of item) (map node_of more) all) (by more (All-tail (IsNodeOfVersion version) (node_of item) (map node_of more) all))
 
 -- no bytes spell two rests
 pub same_rest : (sizes : Sizes) (owed : ℕ) (ns ms : List Node) (t u : List ℕ) → IsRest sizes.version (grid_for sizes) sizes.agents owed ns t → IsRest sizes.version (grid_for sizes) sizes.agents owed ms u → t ≡ u → ns ≡ ms

@@ -101,9 +101,9 @@ fn certificates_are_read_and_written(rt: HostRuntime) -> Result<(), Fail> {
         (PASSING_TWO, Version::Two, 2, 11),
     ] {
         let grid = grid(alloc, 3, height)?;
-        let cert = read_cert(alloc, text.as_bytes(), &grid)
-            .ok()
-            .ok_or("a certificate")?;
+        let Ok(cert) = read_cert(alloc, text.as_bytes(), &grid) else {
+            return Err(Fail::from("no certificate"));
+        };
         assert_eq!(rt; cert.version, version);
         assert_eq!(rt; cert.tree.len(), items);
         let bytes = write_cert(alloc, &cert, &grid)?;
