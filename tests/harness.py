@@ -167,13 +167,18 @@ class Case:
         inputs = {name: content(folder / name) for name, _ in self.inputs()}
         return Outcome(ended, outputs, inputs)
 
-    def faults(self, ended, folder):
-        """How a run differs from what is wanted, a text for each difference."""
+    def ended_faults(self, ended):
+        """How a run ended otherwise than is wanted, a text for each difference."""
         found = []
         if ended.status != self.wanted_status():
             found.append(f"status {ended.status}, wanted {self.wanted_status()}")
         for stream, got in (("stdout", ended.stdout), ("stderr", ended.stderr)):
             found.extend(self.stream_faults(stream, got))
+        return found
+
+    def faults(self, ended, folder):
+        """How a run and its files differ from what is wanted, a text for each difference."""
+        found = self.ended_faults(ended)
         for name, wanted in self.outputs() + self.inputs():
             got = content(folder / name)
             if got != wanted:

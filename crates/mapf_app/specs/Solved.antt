@@ -5,6 +5,7 @@ use Rattle.mapf_app.specs.declared.kind.Kind.TheVariants.{Found, Impossible, Lim
 use Rattle.mapf_cbs.specs.Answer.{IsTreeOf, MayStop}
 use Rattle.mapf_certificate.specs.Certificates.{SpellsCert}
 use Rattle.mapf_certificate.specs.Plans.{SpellsPlan}
+use Rattle.mapf_certificate.specs.declared.version.Version.TheVariants.{Two}
 use Rattle.mapf_certificate.specs.declared.plan_text.PlanAnswer.TheVariants as answers
 use Rattle.mapf_checker.specs.Verdict.{AreAccepted}
 use Rattle.mapf_checker.specs.declared.fault.Verdict.TheVariants.{Optimal}
@@ -16,12 +17,12 @@ use Rattle.mapf_model.specs.declared.item.Item.{Item}
 use Rattle.mapf_model.specs.Plan.{Instance, IsOptimal, IsImpossible}
 use Rattle.mapf_model.specs.Tree.{ConstraintTree}
 
--- the bytes spell a certificate of the claim, with a tree of at most so many splits that the search earned
+-- the bytes spell a certificate of version 2 of the claim, with a tree of at most so many splits that the search earned
 pub record SpellsTree (problem : Instance) (limit : ℕ) (claim : Claim) (cert_bytes : List ℕ) : Type 0 where
   pub items : List Item
   pub tree : ConstraintTree
   pub searched : IsTreeOf problem limit items tree
-  pub spelled : SpellsCert problem.grid cert_bytes (length problem.agents) claim tree
+  pub spelled : SpellsCert problem.grid cert_bytes Two (length problem.agents) claim tree
 
 -- the first text spells a plan that is valid with this sum, no valid plan has a smaller sum, both texts are accepted, and the
 -- second has a tree of the search

@@ -18,8 +18,8 @@ use mapf_model::{Sink, Source, write_all};
 use std::alloc::Global;
 
 /// Reads a map and then a scenario, solves the problem of its first `k` agents with at most `limit`
-/// splits, and writes the plan text and then the certificate. On a limit there is no certificate, and its
-/// sink stays as it was. Before both texts are made nothing is written.
+/// splits, and writes the plan text and then the certificate, in version 2. On a limit there is no
+/// certificate, and its sink stays as it was. Before both texts are made nothing is written.
 pub fn run_solve<M: Source, S: Source, P: Sink, C: Sink>(
     alloc: Global,
     map: &mut M,

@@ -1,6 +1,7 @@
 ghost use Rattle.std.specs.Prelude.{◌≡◌, ◌≤◌, ℕ, List, IfOk, length, map};
 ghost use Rattle.mapf_app.specs.Solved.{Prints};
 ghost use Rattle.mapf_certificate.specs.Certificates.{cert_text};
+ghost use Rattle.mapf_certificate.specs.declared.version.Version.TheVariants.{Two};
 ghost use Rattle.mapf_cbs.specs.Answer.{IsTreeOf, IsShownOptimal, IsShownImpossible, MayStop};
 ghost use Rattle.mapf_certificate.specs.Plans.{IsAnswerInRange, SpellsPlan};
 ghost use Rattle.mapf_model.specs.Limits.{most_splits};
@@ -9,11 +10,11 @@ ghost use Rattle.mapf_model.specs.Tree.{ConstraintTree, node_of};
 
 use crate::kind::Kind;
 use mapf_cbs::{Answer, solve};
-use mapf_certificate::{Cert, PlanAnswer, PlanText, write_cert, write_plan};
+use mapf_certificate::{Cert, PlanAnswer, PlanText, Version, write_cert, write_plan};
 use mapf_model::{Cause, Claim, Item, OutOfMemory, Plan, Problem, laws};
 use std::alloc::Global;
 
-/// What a run writes: both texts, of which the second is empty on a limit.
+/// What a run writes: both texts, of which the second is one of version 2, and empty on a limit.
 #[derive(Debug, Drop)]
 pub struct Texts {
     pub kind: Kind,
@@ -38,10 +39,11 @@ fn cert_bytes(
     claim: Claim,
     tree: Vec<Item>,
 ) -> Result<Vec<u8>, OutOfMemory>
-    ensures { IfOk result (λ bytes.
-        bytes.items ≡ cert_text problem.now.grid.width (length problem.now.agents) claim (map node_of tree.items)) }
+    ensures { IfOk result (λ bytes. bytes.items
+        ≡ cert_text Two problem.now.grid.width (length problem.now.agents) claim (map node_of tree.items)) }
 {
     let cert = Cert {
+        version: Version::Two,
         agents: problem.agents().len() as u32,
         claim,
         tree,

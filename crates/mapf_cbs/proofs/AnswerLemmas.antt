@@ -28,7 +28,7 @@ use Rattle.mapf_cbs.specs.Goals.{NamesFirstDefect}
 use Rattle.mapf_cbs.specs.State.{IsState, IsPopped, IsCauseToStop, IsLeastKey}
 use Rattle.mapf_cbs.proofs.ViewLemmas.{live_sum, live_cheapest, live_first}
 use Rattle.mapf_cbs.proofs.ChildLemmas.{conflict_early, Contains-none}
-use Rattle.mapf_cbs.proofs.TreeLemmas.{is_earned, is_on_first, shows_cost, shows_impossible, has_splits, is_stopped, at_leaf}
+use Rattle.mapf_cbs.proofs.TreeLemmas.{is_earned, is_on_first, shows_cost, shows_impossible, has_splits, has_blocks, is_stopped, at_leaf}
 use Rattle.mapf_cbs.proofs.GrowLemmas.{searched_first}
 use Rattle.mapf_cbs.proofs.RangeLemmas.{tree_in_range, plan_in_range, sum_in_range}
 use Rattle.mapf_cbs.proofs.OpenLemmas.{Contains-first}
@@ -39,7 +39,7 @@ pub state_root : (problem : Instance) (paths : Vec (List ℕ) Global) (total : �
 state_root problem paths total view root_view live total_is small = record {
   views = view ∷ [];
   are = record { lengths = refl; each = each_view };
-  searched = searched_first problem view root_view.context live;
+  searched = searched_first problem view root_view.context root_view.blocks live;
   opens = record {
     only = λ key in_it. only key in_it;
     each = each_open;
@@ -116,6 +116,7 @@ is_tree_of problem shape names views fates count limit within searched items tre
   earned = is_earned problem views fates count searched tree on_tree;
   first_conflicts = is_on_first problem views fates count searched tree on_tree;
   first_defect = names tree;
+  blocks = has_blocks problem views fates count searched tree on_tree;
   in_range = tree_in_range problem shape views fates count searched tree 0 on_tree;
 }
 

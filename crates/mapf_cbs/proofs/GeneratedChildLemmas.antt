@@ -1,23 +1,31 @@
 -- What the search for a bound agent found is a child.
-use Rattle.std.proofs.Common.{◌≡◌, ℕ, ◌-◌, ◌≤◌, ◌∷◌, [], zero, suc, List, Option, Some, Contains, length, sum, slice_get, refl, sym, ◌∙◌, ap, subst, ⊎_elim, arith}
+use Rattle.std.proofs.Common.{◌≡◌, ℕ, ◌-◌, ◌<◌, ◌≤◌, ◌∷◌, [], zero, suc, true, List, Option, Some, Contains, length, sum, slice_get, refl, sym, ◌∙◌, ap, subst, ⊎_elim, arith, nat_eq, eq-eqb}
 use Rattle.std.proofs.lemmas.Option.{same_Some}
 use Rattle.std.proofs.lemmas.List.Sums.{sum_by-cons}
 use Rattle.mapf_model.specs.declared.bar.Bar.{Bar}
 use Rattle.mapf_model.specs.declared.constraint.Constraint.{Constraint}
 use Rattle.mapf_model.specs.declared.problem.Agent.{Agent}
+use Rattle.mapf_model.specs.declared.label.Entry.{Entry}
+use Rattle.mapf_model.specs.declared.label.Label.TheVariants.{Never}
+use Rattle.mapf_model.specs.Blocks.{LabelBlock}
+use Rattle.mapf_model.specs.Distance.{IsDistance}
+use Rattle.mapf_model.specs.Grid.{GridMap}
 use Rattle.mapf_model.specs.Path.{at, IsCost}
-use Rattle.mapf_model.specs.Labels.{entries_of}
+use Rattle.mapf_model.specs.Labels.{entries_of, IsLabel}
 use Rattle.mapf_model.specs.Laws.{AreSameBars}
 use Rattle.mapf_model.specs.Plan.{Instance}
+use Rattle.mapf_model.specs.Tree.{child_context}
 use Rattle.mapf_model.proofs.DecidedLemmas.{cost_unique}
 use Rattle.mapf_model.proofs.SplitLemmas.{Contains-cons_cases}
 use Rattle.mapf_spacetime.specs.declared.found.Found.{Found}
 use Rattle.mapf_spacetime.specs.declared.found.Found.TheVariants.{Arrives, Dead}
 use Rattle.mapf_spacetime.specs.Answer.{IsPathAnswer}
 use Rattle.mapf_spacetime.specs.Task.{task_of}
-use Rattle.mapf_cbs.specs.Search.{View, IsLive, live_child, dead_child}
+use Rattle.mapf_cbs.specs.BoundBlocks.{AreBlocksOfBound, AreBlocksFor}
+use Rattle.mapf_cbs.specs.CheapestPath.{IsCheapestPath, HasNoPath}
+use Rattle.mapf_cbs.specs.Search.{View, IsLive, bound_blocks, live_child, dead_child}
 use Rattle.mapf_cbs.specs.GeneratedChild.{EndsAt, IsTotal, IsGeneratedChild}
-use Rattle.mapf_cbs.proofs.CheapestPathLemmas.{cheapest_of, none_of}
+use Rattle.mapf_cbs.proofs.CheapestPathLemmas.{cheapest_of, distance_bound, none_of}
 use Rattle.mapf_cbs.proofs.ViewLemmas.{agent_path_of}
 use Rattle.mapf_cbs.proofs.ChildLemmas.{good_same, Contains-later, IsCheapestPath-same, HasNoPath-same, dead_child_dead, live_child_live, live_child_sum}
 
@@ -60,9 +68,37 @@ module _ (problem : Instance) (view : View) (live : IsLive problem view) (i : �
     pub old_within : old ≤ sum view.costs
     old_within = part_within view.costs i old old_cost
 
+-- the blocks of the bound agent, whether it arrives or not
+module _ (grid : GridMap) (agent : Agent) (bars : List Bar) (bound : ℕ) where
+  arrives_bound : (path : List ℕ) (cost : ℕ) (es : List Entry) → IsCheapestPath grid agent bars path cost (entries_of es) → (1 ≤ length es → (distance : ℕ) × IsDistance grid agent.goal agent.start distance × (distance < cost)) → AreBlocksOfBound grid agent bars bound (bound_blocks bound es)
+  arrives_bound path cost [] cheapest needed = record { path = path; cost = cost; lawful = cheapest.lawful; satisfies = cheapest.satisfies; is_cost = cheapest.is_cost; distance = cheapest.start }
+  arrives_bound path cost (e ∷ es) cheapest needed = (
+    refl,
+    λ kept.
+        let (distance, is, less) = needed (omega arith) in
+        let low = cheapest.least kept.path kept.cost kept.lawful kept.satisfies kept.is_cost in
+        let short = kept.distance.least distance is.walk in
+        omega arith,
+  )
+
+  dead_bound : (es : List Entry) → HasNoPath grid agent bars (entries_of es) → (es ≡ [] → ⊥) → AreBlocksOfBound grid agent bars bound (bound_blocks bound es)
+  dead_bound [] blocked some = absurd (some refl)
+  dead_bound (e ∷ es) blocked some = (refl, λ kept. blocked.none kept.path kept.lawful kept.satisfies)
+
 module _ (problem : Instance) (view : View) (live : IsLive problem view) (constraint : Constraint) (agent : Agent) (known : slice_get problem.agents constraint.agent ≡ Some agent) (bars : List Bar) (same : AreSameBars bars (constraint.bar ∷ view.context.bars constraint.agent))
     (old : ℕ) (path : List ℕ) (path_is : slice_get view.paths constraint.agent ≡ Some path) (old_is : IsCost agent.goal path old)
   where
+    -- the bars of the bound agent at the child
+    bound_there : (blocks : List LabelBlock) → AreBlocksOfBound problem.grid agent (constraint.bar ∷ view.context.bars constraint.agent) constraint.agent blocks → AreBlocksFor problem (child_context view.context view.blocks constraint) (Some constraint.agent) blocks
+    bound_there blocks are = (agent, known, let here : nat_eq constraint.agent constraint.agent ≡ true = eq-eqb constraint.agent constraint.agent refl in rw here are)
+
+    -- an agent that arrived before and now can't has labels
+    some_labels : (labels : List Entry) → HasNoPath problem.grid agent (constraint.bar ∷ view.context.bars constraint.agent) (entries_of labels) → labels ≡ [] → ⊥
+    some_labels labels blocked none =
+        let r = agent_path_of problem view live.counted constraint.agent agent known in
+        let before = live.each constraint.agent agent r.0 r.1 known r.2 r.3 in
+        distance_bound problem.grid agent (view.context.bars constraint.agent) r.0 r.1 Never before.lawful before.satisfies before.is_cost (subst (λ xs. IsLabel problem.grid agent.goal (entries_of xs) agent.start 0 Never) none blocked.start)
+
     pub generated : (found : Found) → IsPathAnswer (task_of problem.grid agent bars) found → (total : Option ℕ) → old ≤ sum view.costs → IsTotal found agent.goal (sum view.costs - old) total → IsGeneratedChild problem view constraint found total
     generated (Arrives new labels) arrival total less (cost', is', fits, total_is) =
         let cost = arrival.cost in
@@ -76,12 +112,15 @@ module _ (problem : Instance) (view : View) (live : IsLive problem view) (constr
           child = live_child view constraint new cost labels;
           is_child = (cost, refl);
           context = refl;
+          bound = bound_there (bound_blocks constraint.agent labels) (arrives_bound problem.grid agent (constraint.bar ∷ view.context.bars constraint.agent) constraint.agent new cost labels agent_path' arrival.needed);
           state = (live_child_live problem view live constraint agent known labels good new cost agent_path', omega arith, omega arith, omega arith);
         })
     generated (Dead labels) death total less total_is =
+        let blocked = HasNoPath-same problem.grid agent bars (constraint.bar ∷ view.context.bars constraint.agent) (entries_of labels) same (none_of problem.grid agent bars labels death) in
         subst (λ t. IsGeneratedChild problem view constraint (Dead labels) t) (sym total_is) (record {
           child = dead_child view constraint labels;
           is_child = refl;
           context = refl;
-          state = dead_child_dead problem view live constraint agent known labels (good_same problem.grid agent bars (constraint.bar ∷ view.context.bars constraint.agent) labels same death.labels) (HasNoPath-same problem.grid agent bars (constraint.bar ∷ view.context.bars constraint.agent) (entries_of labels) same (none_of problem.grid agent bars labels death));
+          bound = bound_there (bound_blocks constraint.agent labels) (dead_bound problem.grid agent (constraint.bar ∷ view.context.bars constraint.agent) constraint.agent labels blocked (some_labels labels blocked));
+          state = dead_child_dead problem view live constraint agent known labels (good_same problem.grid agent bars (constraint.bar ∷ view.context.bars constraint.agent) labels same death.labels) blocked;
         })

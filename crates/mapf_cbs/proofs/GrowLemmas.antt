@@ -11,6 +11,7 @@ use Rattle.mapf_cbs.specs.declared.node.Fate.{Fate}
 use Rattle.mapf_cbs.specs.declared.node.Fate.TheVariants.{Open, Dead, Expanded}
 use Rattle.mapf_model.specs.Grid.{free_cell_count}
 use Rattle.mapf_constraints.specs.BarSets.{tick_of as bar_tick, AreBefore}
+use Rattle.mapf_cbs.specs.BoundBlocks.{AreBlocksFor}
 use Rattle.mapf_cbs.specs.FirstConflicts.{IsFirstConflict}
 use Rattle.mapf_cbs.specs.Search.{View, IsLive, IsDead, IsFate, IsExpandedAt, IsExpandedFate, End, occurrences, IsSearched}
 use Rattle.mapf_cbs.proofs.SumLemmas.{slice_get-front, slice_get-here, slice_get-second, length-two_more}
@@ -23,10 +24,10 @@ IsChildFate problem view child Open = IsLive problem child × (sum view.costs �
 IsChildFate problem view child Dead = IsDead problem child
 IsChildFate problem view child (Expanded conflict left) = ⊥
 
-pub searched_first : (problem : Instance) (view : View) → view.context ≡ root → IsLive problem view → IsSearched problem (view ∷ []) (Open ∷ []) 0
-searched_first problem view at_root live = record {
+pub searched_first : (problem : Instance) (view : View) → view.context ≡ root → view.blocks ≡ [] → IsLive problem view → IsSearched problem (view ∷ []) (Open ∷ []) 0
+searched_first problem view at_root no_blocks live = record {
   lengths = refl;
-  first = (view, refl, at_root);
+  first = (view, refl, at_root, no_blocks);
   each = each;
   least = least;
   tree = record { shape = End 0; is_shape = (refl, Open, refl, tt); exact = refl; once = once };
@@ -58,6 +59,7 @@ module _ (problem : Instance) (goals : (i j : ℕ) → ShareGoal problem i j →
     (least : (m : ℕ) (other : View) → slice_get views m ≡ Some other → slice_get fates m ≡ Some Open → sum view.costs ≤ sum other.costs)
     (conflict : Conflict) (on_first : IsFirstConflict view.paths conflict) (in_time : tick_of conflict < 1000000)
     (x y : View) (x_context : x.context ≡ left_child_context view.context conflict view.blocks) (y_context : y.context ≡ right_child_context view.context conflict view.blocks)
+    (x_bound : AreBlocksFor problem x.context (Some (left_constraint conflict).agent) x.blocks) (y_bound : AreBlocksFor problem y.context (Some (right_constraint conflict).agent) y.blocks)
     (left right : Fate) (x_is : IsChildFate problem view x left) (y_is : IsChildFate problem view y right)
     (after : List Fate) (grown : IsGrown fates after j conflict left right)
   where
@@ -115,8 +117,8 @@ module _ (problem : Instance) (goals : (i j : ℕ) → ShareGoal problem i j →
       proper = h.proper;
       early = h.early;
       on_first = h.on_first;
-      to_left = (h.to_left.0, old_view a h.to_left.0 h.to_left.1, h.to_left.2);
-      to_right = (h.to_right.0, old_view (a + 1) h.to_right.0 h.to_right.1, h.to_right.2);
+      to_left = (h.to_left.0, old_view a h.to_left.0 h.to_left.1, h.to_left.2, h.to_left.3);
+      to_right = (h.to_right.0, old_view (a + 1) h.to_right.0 h.to_right.1, h.to_right.2, h.to_right.3);
       later = h.later;
     }
 
@@ -133,8 +135,8 @@ module _ (problem : Instance) (goals : (i j : ℕ) → ShareGoal problem i j →
           proper = conflict_proper problem view (searched.each j view Open is was_open) conflict on_first.has;
           early = in_time;
           on_first = on_first;
-          to_left = (x, x_at, x_context);
-          to_right = (y, y_at, y_context);
+          to_left = (x, x_at, x_context, x_bound);
+          to_right = (y, y_at, y_context, y_bound);
           later = inside;
         }
 
@@ -208,7 +210,7 @@ module _ (problem : Instance) (goals : (i j : ℕ) → ShareGoal problem i j →
         let size = searched.lengths in let two = length-two_more views x y in let grew = grown.size in
         record {
           lengths = omega arith;
-          first = (searched.first.0, old_view 0 searched.first.0 searched.first.1, searched.first.2);
+          first = (searched.first.0, old_view 0 searched.first.0 searched.first.1, searched.first.2, searched.first.3);
           each = λ k v fate v_is fate_is. each_at k v fate (place k v fate v_is fate_is);
           least = λ k m v other fate v_is other_is fate_is expanded is_open. least_at k m v other fate (place k v fate v_is fate_is) (place m other Open other_is is_open) expanded;
           tree = IsOneTree-grown fates after j conflict left right Open grown was_open tt count searched.tree;

@@ -79,6 +79,7 @@ leaf_answer problem limit goals (i, agent, is, unreachable) items blocks items_a
     earned = record { proper = (λ a b d lt within. absurd (omega arith), λ k d within. absurd (omega arith)); splits = tt };
     first_conflicts = tt;
     first_defect = record { clash = λ a b pair. absurd (goals a b pair.shared); leaf = λ h u. refl };
+    blocks = refl;
     in_range = record { each = λ k d within. absurd (omega arith); rising = λ a b d lt within. absurd (omega arith) };
   },
   is_shown_impossible problem (Leaf []) (record { proper = (λ a b d lt within. absurd (omega arith), λ k d within. absurd (omega arith)); nodes = (λ j other block this found. cc, (i, agent, is, unreachable)) }),
@@ -121,6 +122,7 @@ clash_answer problem limit i j is items items_are = (
       clash = λ a b pair. let e = first_pair problem i j is a b pair in ap (λ n. Clash n j) e.0 ∙ ap (λ n. Clash a n) e.1;
       leaf = λ goals u. absurd (goals i j (share_goal problem i j (λ e. let less = is.order in omega (arith, e, less)) is.holds));
     };
+    blocks = tt;
     in_range = (let less = is.order in let within = is.within in omega (arith, less, within), is.within);
   },
   is_shown_impossible problem (Clash i j) (record { proper = tt; nodes = share_goal problem i j (λ e. let less = is.order in omega (arith, e, less)) is.holds }),

@@ -241,7 +241,7 @@ module _ (problem : Instance) (nodes : List Node) (fates : List Fate) (rest : Li
 
     pub searched_after : IsSearched problem (popped.state.views ++ left.child ∷ right.child ∷ []) (split_fates fates k conflict s t) (count + 1)
     searched_after = searched_grown problem goals popped.state.views fates count popped.state.searched k view is is_open (least_popped problem nodes fates rest count total k popped view is) conflict on_first early left.child right.child
-        left.context right.context
+        left.context right.context left.bound right.bound
         (fate_of s) (fate_of t) (generated_fate problem view left.child s left.state) (generated_fate problem view right.child t right.state) (split_fates fates k conflict s t) grown
 
     pub state_grown : IsState problem (with_children nodes k conflict f g) (split_fates fates k conflict s t) (with_keys rest (length nodes) s t) (count + 1)

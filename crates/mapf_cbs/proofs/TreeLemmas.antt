@@ -11,10 +11,11 @@ use Rattle.mapf_model.specs.Labels.{entries_of, AreSound, IsLabel, IsAtMost, lab
 use Rattle.mapf_model.specs.Plan.{Instance, IsSumOfCosts}
 use Rattle.mapf_model.specs.declared.bar.Bar.{Bar}
 use Rattle.mapf_model.specs.declared.conflict.Conflict.{Conflict}
-use Rattle.mapf_model.specs.Tree.{ConstraintTree, Split, Leaf, Clash, NodeContext, AtEachNode, AtEachEnd, AtSomeLeaf, root, left_child_context, right_child_context, split_count, IsProper, IsProperNode, AreProperBlocks, AreBlocksSound, AreStartLabels, NodeShows, Shows}
+use Rattle.mapf_model.specs.Tree.{ConstraintTree, Split, Leaf, Clash, NodeContext, AtEachNode, AtEachEnd, AtSomeLeaf, root, left_constraint, right_constraint, left_child_context, right_child_context, split_count, IsProper, IsProperNode, AreProperBlocks, AreBlocksSound, AreStartLabels, NodeShows, Shows}
 use Rattle.mapf_model.specs.Earned.{AreCheapest, AreDue, HaveSomeConflict, IsEarnedNode, IsEarned, IsStoppedWhere}
 use Rattle.mapf_cbs.specs.declared.node.Fate.{Fate}
 use Rattle.mapf_cbs.specs.declared.node.Fate.TheVariants.{Open, Dead, Expanded}
+use Rattle.mapf_cbs.specs.BoundBlocks.{AreBlocksFor, CarriesBlocksFor, CarriesBoundBlocks}
 use Rattle.mapf_cbs.specs.FirstConflicts.{AreFirstPaths, IsOnFirstConflict, AreOnFirstConflicts}
 use Rattle.mapf_cbs.specs.Search.{View, entries_at, AreOwnBlocks, IsLive, IsDead, IsFate, IsCheapestOf, IsEndFate, Shape, Node, End, splits, occurrences, IsShape, IsSearched, AreBlocksAt, IsTreeAt}
 use Rattle.mapf_cbs.proofs.ShapeLemmas.{not_split, occurs_node}
@@ -107,15 +108,15 @@ module _ (problem : Instance) (view : View) where
 
 module _ (problem : Instance) (views : List View) (fates : List Fate) (count : ℕ) (searched : IsSearched problem views fates count) where
   -- the children of a split inherit what it has and what it inherits
-  to_left : (k : ℕ) (view : View) (conflict : Conflict) (blocks : List LabelBlock) (a : ℕ) → slice_get views k ≡ Some view → slice_get fates k ≡ Some (Expanded conflict a) → AreBlocksAt views k blocks → (child : View) × (slice_get views a ≡ Some child) × (child.context ≡ left_child_context view.context conflict blocks)
+  to_left : (k : ℕ) (view : View) (conflict : Conflict) (blocks : List LabelBlock) (a : ℕ) → slice_get views k ≡ Some view → slice_get fates k ≡ Some (Expanded conflict a) → AreBlocksAt views k blocks → (child : View) × (slice_get views a ≡ Some child) × (child.context ≡ left_child_context view.context conflict blocks) × AreBlocksFor problem child.context (Some (left_constraint conflict).agent) child.blocks
   to_left k view conflict blocks a is expanded here =
       let x = (searched.each k view (Expanded conflict a) is expanded).to_left in
-      (x.0, x.1, x.2 ∙ ap (λ bs. left_child_context view.context conflict bs) (sym (here view is).0))
+      (x.0, x.1, x.2 ∙ ap (λ bs. left_child_context view.context conflict bs) (sym (here view is).0), x.3)
 
-  to_right : (k : ℕ) (view : View) (conflict : Conflict) (blocks : List LabelBlock) (a : ℕ) → slice_get views k ≡ Some view → slice_get fates k ≡ Some (Expanded conflict a) → AreBlocksAt views k blocks → (child : View) × (slice_get views (a + 1) ≡ Some child) × (child.context ≡ right_child_context view.context conflict blocks)
+  to_right : (k : ℕ) (view : View) (conflict : Conflict) (blocks : List LabelBlock) (a : ℕ) → slice_get views k ≡ Some view → slice_get fates k ≡ Some (Expanded conflict a) → AreBlocksAt views k blocks → (child : View) × (slice_get views (a + 1) ≡ Some child) × (child.context ≡ right_child_context view.context conflict blocks) × AreBlocksFor problem child.context (Some (right_constraint conflict).agent) child.blocks
   to_right k view conflict blocks a is expanded here =
       let y = (searched.each k view (Expanded conflict a) is expanded).to_right in
-      (y.0, y.1, y.2 ∙ ap (λ bs. right_child_context view.context conflict bs) (sym (here view is).0))
+      (y.0, y.1, y.2 ∙ ap (λ bs. right_child_context view.context conflict bs) (sym (here view is).0), y.3)
 
   -- what is so of each node of the search is so of each node of its tree
   pub each_node : (P : NodeContext → ConstraintTree → Type 0) → ((k : ℕ) (view : View) (tree : ConstraintTree) → slice_get views k ≡ Some view → IsTreeAt views fates k tree → P view.context tree) →
@@ -138,6 +139,18 @@ module _ (problem : Instance) (views : List View) (fates : List Fate) (count : �
       )
   each_end P f (Leaf blocks) k view is (here, fate, fate_is, end) = f k view fate is fate_is end
   each_end P f (Clash i j) k view is none = absurd none
+
+  -- each node has the blocks of the agent that was bound there
+  carries : (tree : ConstraintTree) (k : ℕ) (view : View) (bound : Option ℕ) → slice_get views k ≡ Some view → IsTreeAt views fates k tree → AreBlocksFor problem view.context bound view.blocks → CarriesBlocksFor problem view.context bound tree
+  carries (Split conflict blocks left right) k view bound is (here, a, expanded, on_left, on_right) own =
+      let x = to_left k view conflict blocks a is expanded here in let y = to_right k view conflict blocks a is expanded here in
+      let i = (left_constraint conflict).agent in let j = (right_constraint conflict).agent in (
+        subst (λ bs. AreBlocksFor problem view.context bound bs) (sym (here view is).0) own,
+        subst (λ context. CarriesBlocksFor problem context (Some i) left) x.2 (carries left a x.0 (Some i) x.1 on_left x.3),
+        subst (λ context. CarriesBlocksFor problem context (Some j) right) y.2 (carries right (a + 1) y.0 (Some j) y.1 on_right y.3),
+      )
+  carries (Leaf blocks) k view bound is (here, fate, fate_is, end) own = subst (λ bs. AreBlocksFor problem view.context bound bs) (sym (here view is).0) own
+  carries (Clash i j) k view bound is none own = absurd none
 
   -- the search's tree has as many splits as its form
   pub split_count_is : (tree : ConstraintTree) (shape : Shape) (k : ℕ) → IsShape fates k shape → IsTreeAt views fates k tree → split_count tree ≡ splits shape
@@ -266,6 +279,9 @@ module _ (problem : Instance) (views : List View) (fates : List Fate) (count : �
 
     pub has_splits : split_count tree ≡ count
     has_splits = split_count_is tree searched.tree.shape 0 searched.tree.is_shape on_tree ∙ searched.tree.exact
+
+    pub has_blocks : CarriesBoundBlocks problem tree
+    has_blocks = subst (λ context. CarriesBlocksFor problem context None tree) searched.first.2 (carries tree 0 searched.first.0 None searched.first.1 on_tree searched.first.3)
 
     -- an open node of least sum whose list has a conflict stops the tree
     pub is_stopped : (Fact : NodeContext → List (List ℕ) → Type 0) (j : ℕ) (view : View) → slice_get views j ≡ Some view → slice_get fates j ≡ Some Open →

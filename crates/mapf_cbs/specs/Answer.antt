@@ -10,23 +10,25 @@ use Rattle.mapf_model.specs.Limits.{split_ticks}
 use Rattle.mapf_model.specs.Plan.{Instance, IsOptimal, IsImpossible}
 use Rattle.mapf_model.specs.Printed.{IsTreeInRange, IsPlanInRange, IsClaimInRange}
 use Rattle.mapf_model.specs.Tree.{ConstraintTree, NodeContext, Spell, Shows, AtSomeLeaf, root, split_count}
+use Rattle.mapf_cbs.specs.BoundBlocks.{CarriesBoundBlocks}
 use Rattle.mapf_cbs.specs.FirstConflicts.{AreFirstPaths, AreOnFirstConflicts}
 use Rattle.mapf_cbs.specs.Goals.{NamesFirstDefect}
 use Rattle.mapf_cbs.specs.declared.answer.Answer.{Answer}
 use Rattle.mapf_cbs.specs.declared.answer.Answer.TheVariants.{Found as FoundAnswer, Impossible as ImpossibleAnswer, Limit as LimitAnswer}
 
 -- the items spell this tree; it has at most so many splits, each of which stands on the first conflict of cheapest
--- paths, at a node no dearer than any end; where goals alone show that no plan is valid it is one node; and it can be
--- printed
+-- paths, at a node no dearer than any end; where goals alone show that no plan is valid it is one node; each node has
+-- the blocks of the agent that was bound there; and it can be printed
 pub record IsTreeOf (problem : Instance) (limit : ℕ) (items : List Item) (tree : ConstraintTree) : Type 0 where
   pub spelled : Spell items tree
   pub few : split_count tree ≤ limit
   pub earned : IsEarned problem tree
   pub first_conflicts : AreOnFirstConflicts problem tree
   pub first_defect : NamesFirstDefect problem tree
+  pub blocks : CarriesBoundBlocks problem tree
   pub in_range : IsTreeInRange problem.grid (length problem.agents) tree
 
--- at a node with these constraints the paths are cheapest, and each is the first of its cost
+-- at a node with this context the paths are cheapest, and each is the first of its cost
 abbrev pub AreFirstCheapest : Instance → List (List ℕ) → NodeContext → Type 0
 AreFirstCheapest problem paths context =
     AreCheapest problem context paths × AreFirstPaths problem context paths

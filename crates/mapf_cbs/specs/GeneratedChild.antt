@@ -6,6 +6,7 @@ use Rattle.mapf_model.specs.Plan.{Instance}
 use Rattle.mapf_spacetime.specs.declared.found.Found.{Found}
 use Rattle.mapf_spacetime.specs.declared.found.Found.TheVariants.{Arrives, Dead}
 use Rattle.mapf_model.specs.Tree.{child_context}
+use Rattle.mapf_cbs.specs.BoundBlocks.{AreBlocksFor}
 use Rattle.mapf_cbs.specs.Search.{View, IsLive, IsDead}
 use Rattle.mapf_cbs.specs.Nodes.{IsChildView}
 
@@ -29,4 +30,5 @@ pub record IsGeneratedChild (problem : Instance) (view : View) (constraint : Con
   pub child : View
   pub is_child : IsChildView view constraint found child
   pub context : child.context ≡ child_context view.context view.blocks constraint
+  pub bound : AreBlocksFor problem child.context (Some constraint.agent) child.blocks
   pub state : IsGeneratedState problem view child total

@@ -1,4 +1,5 @@
 pub mod CheapestPath
+pub mod BoundBlocks
 pub mod FirstConflicts
 pub mod Goals
 pub mod Search

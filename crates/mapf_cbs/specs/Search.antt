@@ -9,7 +9,7 @@ use Rattle.mapf_model.specs.declared.conflict.Conflict.{Conflict}
 use Rattle.mapf_model.specs.Plan.{Instance}
 use Rattle.mapf_model.specs.declared.bar.Bar.{Bar}
 use Rattle.mapf_model.specs.Labels.{Entries}
-use Rattle.mapf_model.specs.Tree.{ConstraintTree, Split, Leaf, Clash, NodeContext, root, child_context, left_child_context, right_child_context, IsProperSplit, with_blocks}
+use Rattle.mapf_model.specs.Tree.{ConstraintTree, Split, Leaf, Clash, NodeContext, root, child_context, left_child_context, right_child_context, left_constraint, right_constraint, IsProperSplit, with_blocks}
 use Rattle.mapf_spacetime.specs.Answer.{AreGoodLabels}
 use Rattle.mapf_spacetime.specs.Task.{task_of}
 use Rattle.mapf_spacetime.specs.declared.found.Found.{Found}
@@ -18,6 +18,7 @@ use Rattle.mapf_model.specs.Earned.{tick_of}
 use Rattle.mapf_model.specs.Grid.{free_cell_count}
 use Rattle.mapf_model.specs.Limits.{split_ticks}
 use Rattle.mapf_constraints.specs.BarSets.{AreBefore}
+use Rattle.mapf_cbs.specs.BoundBlocks.{AreBlocksFor}
 use Rattle.mapf_cbs.specs.CheapestPath.{IsCheapestPath, HasNoPath}
 use Rattle.mapf_cbs.specs.FirstConflicts.{IsFirstConflict}
 use Rattle.mapf_cbs.specs.declared.node.Fate.{Fate}
@@ -92,14 +93,14 @@ abbrev pub live_child : View → Constraint → List ℕ → ℕ → List Entry 
 live_child view constraint path cost entries = record { context = child_context view.context view.blocks constraint; paths = slice_set view.paths constraint.agent path; costs = slice_set view.costs constraint.agent cost; blocks = bound_blocks constraint.agent entries }
 
 -- a node that was split: the conflict is the first of its paths, and its children are later nodes, the right one next
--- to the left one
+-- to the left one, each with the blocks of the agent that was bound there
 pub record IsExpandedAt (problem : Instance) (views : List View) (k : ℕ) (view : View) (conflict : Conflict) (left : ℕ) : Type 0 where
   pub live : IsLive problem view
   pub proper : IsProperSplit problem conflict
   pub early : tick_of conflict < split_ticks
   pub on_first : IsFirstConflict view.paths conflict
-  pub to_left : (child : View) × (slice_get views left ≡ Some child) × (child.context ≡ left_child_context view.context conflict view.blocks)
-  pub to_right : (child : View) × (slice_get views (left + 1) ≡ Some child) × (child.context ≡ right_child_context view.context conflict view.blocks)
+  pub to_left : (child : View) × (slice_get views left ≡ Some child) × (child.context ≡ left_child_context view.context conflict view.blocks) × AreBlocksFor problem child.context (Some (left_constraint conflict).agent) child.blocks
+  pub to_right : (child : View) × (slice_get views (left + 1) ≡ Some child) × (child.context ≡ right_child_context view.context conflict view.blocks) × AreBlocksFor problem child.context (Some (right_constraint conflict).agent) child.blocks
   pub later : k < left
 
 -- what is so of a node by its fate
@@ -151,7 +152,7 @@ pub record IsOneTree (fates : List Fate) (count : ℕ) : Type 0 where
 -- cheaper than one that was split
 pub record IsSearched (problem : Instance) (views : List View) (fates : List Fate) (count : ℕ) : Type 0 where
   pub lengths : length views ≡ length fates
-  pub first : (view : View) × (slice_get views 0 ≡ Some view) × (view.context ≡ root)
+  pub first : (view : View) × (slice_get views 0 ≡ Some view) × (view.context ≡ root) × (view.blocks ≡ [])
   pub each : (k : ℕ) (view : View) (fate : Fate) → slice_get views k ≡ Some view → slice_get fates k ≡ Some fate → IsFate problem views k view fate
   pub least : (k m : ℕ) (view other : View) (fate : Fate) → slice_get views k ≡ Some view → slice_get views m ≡ Some other → slice_get fates k ≡ Some fate → IsExpandedFate fate → slice_get fates m ≡ Some Open → sum view.costs ≤ sum other.costs
   pub tree : IsOneTree fates count

@@ -7,7 +7,7 @@ use Rattle.mapf_model.specs.declared.label.Entry.{Entry}
 use Rattle.mapf_model.specs.Blocks.{LabelBlock}
 use Rattle.mapf_model.specs.Grid.{GridMap, IsGridMap}
 use Rattle.mapf_model.specs.Printed.{IsConflictInRange, AreBlocksInRange, IsClaimInRange, IsTreeInRange}
-use Rattle.mapf_model.specs.Tree.{ConstraintTree, HasLabelsAtLeavesAlone, Node, SplitNode, LeafNode, ClashNode, blocks_of, node_of, nodes_of, nodes_of_all}
+use Rattle.mapf_model.specs.Tree.{ConstraintTree, HasBlocksAtLeavesAlone, Node, SplitNode, LeafNode, ClashNode, blocks_of, node_of, nodes_of, nodes_of_all}
 use Rattle.mapf_certificate.specs.declared.version.Version.{Version}
 use Rattle.mapf_certificate.specs.declared.version.Version.TheVariants.{One, Two}
 use Rattle.mapf_certificate.specs.declared.line.CertLine.{CertLine}
@@ -78,7 +78,7 @@ IsNodeOfVersion version (ClashNode i j) = Unit {0}
 
 -- the blocks of the tree stand where they may: in version 1 at leaves alone
 abbrev pub IsTreeOfVersion : Version → ConstraintTree → Type 0
-IsTreeOfVersion One tree = HasLabelsAtLeavesAlone tree
+IsTreeOfVersion One tree = HasBlocksAtLeavesAlone tree
 IsTreeOfVersion Two tree = Unit {0}
 
 -- these bytes spell this certificate on a grid

@@ -1,8 +1,9 @@
 ghost use Rattle.mapf_certificate.specs.Certificates.{SpellsCert, IsConverted};
+ghost use Rattle.mapf_certificate.specs.Lines.{title_words};
 ghost use Rattle.mapf_certificate.specs.declared.version.Version.TheVariants.{One, Two};
 ghost use Rattle.mapf_model.specs.declared.item.Claim.{Claim};
 ghost use Rattle.mapf_model.specs.Tree.{ConstraintTree};
-ghost use Rattle.std.specs.Prelude.{◌≡◌, ℕ, IfOk, MatchResult};
+ghost use Rattle.std.specs.Prelude.{◌≡◌, ◌⊎◌, ℕ, List, ◌∷◌, ◌++◌, IfOk, MatchResult};
 
 use crate::cert::{Cert, CertFault};
 use crate::cert_reader::read_cert;
@@ -21,6 +22,9 @@ pub fn convert_cert(alloc: Global, bytes: &[u8], grid: &Grid) -> Result<Vec<u8>,
         → SpellsCert grid.now bytes.now One agents claim tree
         → MatchResult result (λ out. SpellsCert grid.now out.items Two agents claim tree)
         (λ fault. fault ≡ CertFault.Memory) }
+    // A text that begins with the first line of version 2 is at fault in line 1, unless memory runs out.
+    ensures later { (rest : List ℕ) → bytes.now ≡ title_words Two ++ (10 ∷ rest)
+        → MatchResult result (λ out. ⊥) (λ fault. (fault ≡ CertFault.K1 1) ⊎ (fault ≡ CertFault.Memory)) }
 {
     match read_cert(alloc, bytes, grid) {
         Ok(cert) if cert.version == Version::One => {

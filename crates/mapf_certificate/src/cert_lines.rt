@@ -78,7 +78,7 @@ impl Model for CertLines {
 }
 
 impl CertLines {
-    /// Allocates the buffer; later only leaves allocate. At most `limit` bytes may come from the source.
+    /// Allocates the buffer; later only blocks allocate. At most `limit` bytes may come from the source.
     pub fn open(
         alloc: Global,
         width: u32,

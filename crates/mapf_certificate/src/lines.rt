@@ -233,7 +233,7 @@ impl Lines {
         Ok(Block { agent, entries })
     }
 
-    /// The blocks of a leaf, whose agents rise.
+    /// The blocks of a node, whose agents rise.
     pub fn blocks<S: Source>(
         &mut self,
         alloc: Global,

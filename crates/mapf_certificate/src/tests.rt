@@ -194,10 +194,29 @@ fn certificates_are_converted(rt: HostRuntime) -> Result<(), Fail> {
 }
 
 /// Which lines of the crossing's certificate are replaced by which text, and the fault that then comes.
-const CERT_FAULTS: [(usize, usize, &str, Option<CertFault>); 36] = [
+const CERT_FAULTS: [(usize, usize, &str, Option<CertFault>); 40] = [
     (1, 1, "mapf-cert 2\n", Some(CertFault::K1(4))),
     (1, 1, "mapf-cert 3\n", Some(CertFault::K1(1))),
     (4, 4, "vertex 0 1 1,1 1 0\n", Some(CertFault::K1(4))),
+    (4, 4, "swap 0 1 0,0 1,0 0 0\n", Some(CertFault::K1(4))),
+    (
+        4,
+        4,
+        "vertex 0 1 1,1 1 1\nagent 0 1\nat 0,1 0 3\n",
+        Some(CertFault::K1(4)),
+    ),
+    (
+        4,
+        4,
+        "vertex 0 1 1,1 1\nagent 0 1\nat 0,1 0 3\n",
+        Some(CertFault::K1(5)),
+    ),
+    (
+        4,
+        4,
+        "swap 0 1 0,0 1,0 0\nagent 0 1\nat 0,1 0 3\n",
+        Some(CertFault::K1(5)),
+    ),
     (3, 3, "claim bound 4\n", Some(CertFault::K1(3))),
     (3, 3, "claim bound 1999999801\n", Some(CertFault::K1(3))),
     (
@@ -274,7 +293,7 @@ const CERT_FAULTS: [(usize, usize, &str, Option<CertFault>); 36] = [
 ];
 
 /// The same of its certificate in version 2.
-const CERT_FAULTS_TWO: [(usize, usize, &str, Option<CertFault>); 29] = [
+const CERT_FAULTS_TWO: [(usize, usize, &str, Option<CertFault>); 32] = [
     (1, 1, "mapf-cert 1\n", Some(CertFault::K1(4))),
     (
         1,
@@ -295,6 +314,26 @@ const CERT_FAULTS_TWO: [(usize, usize, &str, Option<CertFault>); 29] = [
     (4, 4, "vertex 0 1 1,1 1 00\n", Some(CertFault::K1(4))),
     (4, 4, "vertex 0 1 1,1 1 0 0\n", Some(CertFault::K1(4))),
     (4, 4, "vertex 0 1 1,1 1 3\n", Some(CertFault::K3(4))),
+    // All blocks that may stand there, one for each agent.
+    (
+        4,
+        4,
+        "vertex 0 1 1,1 1 2\nagent 0 1\nat 0,1 0 3\nagent 1 1\nat 1,0 0 3\n",
+        None,
+    ),
+    // A block too few, and one of an agent that isn't there.
+    (
+        4,
+        4,
+        "vertex 0 1 1,1 1 2\nagent 0 1\nat 0,1 0 3\n",
+        Some(CertFault::K1(7)),
+    ),
+    (
+        4,
+        4,
+        "vertex 0 1 1,1 1 1\nagent 2 1\nat 0,1 0 3\n",
+        Some(CertFault::K3(5)),
+    ),
     (4, 4, "vertex 0 1 1,1 999999 0\n", None),
     (4, 4, "vertex 0 1 1,1 1000000 0\n", Some(CertFault::K3(4))),
     (4, 4, "vertex 0 1 1,1 1000000 x\n", Some(CertFault::K1(4))),

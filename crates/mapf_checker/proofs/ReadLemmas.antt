@@ -1,6 +1,8 @@
 -- A tree that is judged as it is read.
 use Rattle.std.proofs.Common.{◌≡◌, ◌↔◌, ℕ, ◌≤◌, Bool, true, false, List, [], ◌∷◌, ◌++◌, Option, Some, None, IfSome, IsSomeAnd, Result, Ok, Err, IfErr, MatchResult, length, refl, sym, ◌∙◌, ap, subst, append_assoc, inl, inr, arith}
-use Rattle.std.proofs.lemmas.List.{append-nil}
+use Rattle.std.proofs.lemmas.List.{append-nil, flat_map_more}
+use Rattle.std.proofs.lemmas.List.Elements.{length_all_zip}
+use Rattle.std.proofs.lemmas.List.Sums.{fold_push}
 use Rattle.std.proofs.lemmas.Option.{same_Some}
 use Rattle.std.specs.List.{flat_map}
 use Rattle.std.specs.Result.{IsErrAnd}
@@ -16,7 +18,7 @@ use Rattle.mapf_certificate.specs.declared.version.Version.{Version}
 use Rattle.mapf_certificate.specs.declared.cert.LinesFault.{LinesFault}
 use Rattle.mapf_certificate.specs.declared.cert.LinesFault.TheVariants.{Text, Device, TooLong, Memory}
 use Rattle.mapf_certificate.specs.declared.cert.CertFault.TheVariants as texts
-use Rattle.mapf_certificate.specs.CertReading.{Awaits, TakesNode, TakesEnd}
+use Rattle.mapf_certificate.specs.CertReading.{Awaits, TakesNode, TakesEnd, trees_owed_after}
 use Rattle.mapf_certificate.specs.declared.line.CertLine.TheVariants as lines
 use Rattle.mapf_certificate.specs.Certificates.{IsNode, line_text, node_text}
 use Rattle.mapf_certificate.specs.Reading.{Reading, grid_at, agents_at}
@@ -30,7 +32,7 @@ use Rattle.mapf_checker.specs.declared.tree.Progress.{Progress}
 use Rattle.mapf_checker.specs.CertJudging.{HasTreeRefusal, IsBetweenItems, IsJudgedTree, IsReadTo, IsReadOn}
 use Rattle.mapf_checker.specs.Faults.{of_cert, IsOfJudging, IsNoRefusal, IsOfChecking}
 use Rattle.mapf_checker.specs.NodeDefects.{HasNodeDefect, IsGoodNode}
-use Rattle.mapf_checker.specs.Progress.{contexts_after, contexts_after_all, owed_at, owed_by, here_of, AreAllAlike}
+use Rattle.mapf_checker.specs.Progress.{contexts_after, contexts_after_all, owed_at, owed_by, here_of, AreAllAlike, IsReady}
 use Rattle.mapf_checker.specs.Refusals.{HasBadNode}
 use Rattle.mapf_checker.specs.Branch.{Place, place_of}
 use Rattle.mapf_checker.proofs.TreeLemmas.{judged_good, shown_good, defect_refutes_node, defect_alike, nodes_show_alike, alike_after, all_alike_same, all_alike_turned, all_alike_passed}
@@ -69,6 +71,26 @@ is_going : (is_over : Bool) (place : Place) (n : ℕ) → 1 ≤ n → n ≡ leng
 is_going true place n some count = absurd (omega (arith, count))
 is_going false place n some count = refl
 
+-- as many trees are owed after a node as a reader waits for
+contexts_count : (owed : List NodeContext) (node : Node) (n : ℕ) → 1 ≤ n → n ≡ length owed → trees_owed_after n node ≡ length (contexts_after owed node)
+contexts_count [] node n some count = absurd (omega (arith, count))
+contexts_count (here ∷ owed) (SplitNode conflict blocks) n some count = omega (arith, count)
+contexts_count (here ∷ owed) (LeafNode blocks) n some count = omega (arith, count)
+contexts_count (here ∷ owed) (ClashNode i j) n some count = omega (arith, count)
+
+-- after a node the reader and the judge still wait for the same trees
+pub between_after : (problem : Instance) (claim : Claim) (now new : Reading) (progress after : Progress) (node : Node) → IsBetweenItems problem claim now progress → 1 ≤ now.owed → new.owed ≡ trees_owed_after now.owed node →
+    (new.width ≡ now.width) × (new.height ≡ now.height) → new.header ≡ now.header → new.fault ≡ None → new.is_whole ≡ false → IsReady problem after → AreAllAlike problem (owed_by after) (contexts_after (owed_by progress) node) → IsBetweenItems problem claim new after
+between_after problem claim now new progress after node between some owed size header fault part ready alike = record {
+  width = size.0 ∙ between.width;
+  height = size.1 ∙ between.height;
+  header = header ∙ between.header;
+  fault = fault;
+  part = part;
+  count = owed ∙ contexts_count (owed_by progress) node now.owed some between.count ∙ sym (length_all_zip (AreAlike problem) (owed_by after) (contexts_after (owed_by progress) node) alike);
+  ready = ready;
+}
+
 -- a node more
 module _ (problem : Instance) (claim : Claim) (had mid left : Option (List ℕ)) (start now new : Reading) (progress : Progress) (between : IsBetweenItems problem claim now progress) (so_far : IsReadTo problem claim had mid start now (owed_by progress)) (node : Node) (next : IsNext mid left now new node) where
   is_owed : owed_by progress ≡ here_of progress ∷ (place_of progress.branch).owed
@@ -90,7 +112,7 @@ module _ (problem : Instance) (claim : Claim) (had mid left : Option (List ℕ))
     given = so_far.given ++ node ∷ [];
     width = same_width ∙ so_far.width;
     version = same_version ∙ so_far.version;
-    window = subst (λ t. Window had left start.buffer new.buffer t) (sym (flat_map-push (node_text start.version start.width) so_far.given node)) taken;
+    window = subst (λ t. Window had left start.buffer new.buffer t) (flat_map_more (node_text start.version start.width) [] so_far.given node) taken;
     ahead = λ nodes awaits.
         let (rest, same, there) = so_far.ahead nodes awaits in
         let (further, whole, front, then) = next_is so_far.given nodes rest same there in
@@ -98,7 +120,7 @@ module _ (problem : Instance) (claim : Claim) (had mid left : Option (List ℕ))
     behind = λ bytes known rest awaits.
         let (had_left, known_mid, same, count) = Window-known had mid start.buffer now.buffer (flat_map (node_text start.version start.width) so_far.given) bytes so_far.window known in
         subst (λ ns. Awaits had start ns) (sym (append_assoc so_far.given (node ∷ []) rest)) (so_far.behind bytes known (node ∷ rest) (next.takes.joins had_left known_mid rest awaits));
-    place = subst (λ those. AreAllAlike problem after those) (sym (contexts_after_push (root ∷ []) so_far.given node))
+    place = subst (λ those. AreAllAlike problem after those) (sym (fold_push contexts_after (root ∷ []) so_far.given node))
         (all_alike_passed problem after (contexts_after (owed_by progress) node) (contexts_after (contexts_after_all (root ∷ []) so_far.given) node) is_after
         (alike_after children problem (owed_by progress) (contexts_after_all (root ∷ []) so_far.given) node so_far.place));
     shows = λ rest.
@@ -109,14 +131,7 @@ module _ (problem : Instance) (claim : Claim) (had mid left : Option (List ℕ))
           λ shows. next_on.1 (nodes_show_alike count problem claim after (contexts_after (owed_by progress) node) rest is_after shows),
         ) in
         rw (append_assoc so_far.given (node ∷ []) rest) (λ shows. here_on.0 (before.0 shows), λ shows. before.1 (here_on.1 shows));
-  } where
-    flat_map-push : (f : Node → List ℕ) (xs : List Node) (x : Node) → flat_map f (xs ++ x ∷ []) ≡ flat_map f xs ++ f x
-    flat_map-push f [] x = append-nil (f x)
-    flat_map-push f (y ∷ xs) x = ap (λ l. f y ++ l) (flat_map-push f xs x) ∙ sym (append_assoc (f y) (flat_map f xs) (f x))
-
-    contexts_after_push : (owed : List NodeContext) (xs : List Node) (x : Node) → contexts_after_all owed (xs ++ x ∷ []) ≡ contexts_after (contexts_after_all owed xs) x
-    contexts_after_push owed [] x = refl
-    contexts_after_push owed (y ∷ xs) x = contexts_after_push (contexts_after owed y) xs x
+  }
 
   pub came_with_node : ComesWithin had left start.buffer
   came_with_node = Window-within had left start.buffer new.buffer (flat_map (node_text start.version start.width) so_far.given ++ node_text start.version start.width node) taken

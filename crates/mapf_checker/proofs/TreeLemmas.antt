@@ -1,7 +1,8 @@
 -- One node of a tree judged.
-use Rattle.std.proofs.Common.{◌≡◌, ◌↔◌, ℕ, Bool, true, false, List, [], ◌∷◌, Some, Result, Ok, Err, OnOk, subst, refl, sym, inl, inr, slice_get, slice_index_or, ◌∙◌, eq-eqb, arith}
+use Rattle.std.proofs.Common.{◌≡◌, ◌↔◌, ℕ, ◌<◌, Bool, true, false, List, [], ◌∷◌, Some, All, Result, Ok, Err, OnOk, subst, refl, sym, inl, inr, slice_get, slice_index_or, ◌∙◌, eq-eqb, arith}
 use Rattle.std.proofs.lemmas.Bool.{cases_eq, ne_eqb}
 use Rattle.std.proofs.lemmas.List.{get_or_default}
+use Rattle.std.proofs.lemmas.List.Elements.{All-nil, All-cons, All-tail}
 use Rattle.std.specs.List.{AllZip}
 use Rattle.mapf_model.specs.declared.bar.Bar.TheVariants.{Cell}
 use Rattle.mapf_model.specs.declared.item.Claim.{Claim}
@@ -22,7 +23,7 @@ use Rattle.mapf_checker.specs.declared.fault.CheckFault.{CheckFault}
 use Rattle.mapf_checker.specs.declared.starts.StartChange.{StartChange}
 use Rattle.mapf_checker.specs.Branch.{Place, IsSplit, child_after}
 use Rattle.mapf_checker.specs.Progress.{contexts_after, owed_at, AreAllAlike}
-use Rattle.mapf_checker.specs.Starts.{AreChangesBy, with_changes}
+use Rattle.mapf_checker.specs.Starts.{AreChangesBy, AreOfFirst, KnowEntries, IsKept, with_changes}
 use Rattle.mapf_checker.specs.NodeDefects.{HasNodeDefect, HasUnsoundBlock, IsGoodNode}
 use Rattle.mapf_checker.proofs.EntryLemmas.{IsSoundEntry-at}
 use Rattle.mapf_checker.proofs.StartLemmas.{block_of-at}
@@ -45,6 +46,9 @@ pub all_alike_same : (problem : Instance) (these : List NodeContext) → AreAllA
 all_alike_same problem [] = tt
 all_alike_same problem (a ∷ these) = (alike_same problem a, all_alike_same problem these)
 
+pub all_alike_if_same : (problem : Instance) (these those : List NodeContext) → these ≡ those → AreAllAlike problem these those
+all_alike_if_same problem these those same = subst (λ others. AreAllAlike problem these others) same (all_alike_same problem these)
+
 pub all_alike_turned : (problem : Instance) (these those : List NodeContext) → AreAllAlike problem these those → AreAllAlike problem those these
 all_alike_turned problem [] [] alike = tt
 all_alike_turned problem (a ∷ these) (b ∷ those) (here, rest) = (alike_turned problem a b here, all_alike_turned problem these those rest)
@@ -62,7 +66,7 @@ all_alike_passed problem (x ∷ xs) (y ∷ ys) [] first second = absurd second
 -- after a node what is owed is still alike
 pub alike_after : ChildrenAreAlike → (problem : Instance) (these those : List NodeContext) (node : Node) → AreAllAlike problem these those → AreAllAlike problem (contexts_after these node) (contexts_after those node)
 alike_after law problem [] [] node alike = tt
-alike_after law problem (a ∷ these) (b ∷ those) (SplitNode conflict blocks) (here, rest) = (law problem a b blocks (left_constraint conflict) here, law problem a b blocks (right_constraint conflict) here, rest)
+alike_after law problem (a ∷ these) (b ∷ those) (SplitNode conflict blocks) (here, rest) = (law problem a b blocks (left_constraint conflict) here, (law problem a b blocks (right_constraint conflict) here, rest))
 alike_after law problem (a ∷ these) (b ∷ those) (LeafNode blocks) (here, rest) = rest
 alike_after law problem (a ∷ these) (b ∷ those) (ClashNode i j) (here, rest) = rest
 alike_after law problem [] (b ∷ those) node alike = absurd alike
@@ -89,6 +93,24 @@ changed_start problem entries (block ∷ blocks) (change ∷ changes) (by, rest)
 changed_start problem entries [] (change ∷ changes) are i agent is = absurd are
 changed_start problem entries (block ∷ blocks) [] are i agent is = absurd are
 
+-- the changes that blocks make are of the blocks' agents
+pub changes_of_first : (problem : Instance) (entries : ℕ → Entries) (count : ℕ) (blocks : List LabelBlock) (changes : List StartChange) → All (λ block. block.agent < count) blocks → AreChangesBy problem entries blocks changes → AreOfFirst count changes
+changes_of_first problem entries count [] [] within are = All-nil (λ (change : StartChange). change.agent < count)
+changes_of_first problem entries count (block ∷ blocks) (change ∷ changes) within (by, rest) =
+    All-cons (λ (change : StartChange). change.agent < count) change changes (rw by.agent (within 0 block (omega arith)))
+    (changes_of_first problem entries count blocks changes (All-tail (λ (b : LabelBlock). b.agent < count) block blocks within) rest)
+changes_of_first problem entries count [] (change ∷ changes) within are = absurd are
+changes_of_first problem entries count (block ∷ blocks) [] within are = absurd are
+
+-- and they know the entries before them
+pub changes_know : (problem : Instance) (entries : ℕ → Entries) (blocks : List LabelBlock) (changes : List StartChange) → AreChangesBy problem entries blocks changes → KnowEntries entries changes
+changes_know problem entries [] [] are = All-nil (λ (change : StartChange). IsKept entries change.agent change.before)
+changes_know problem entries (block ∷ blocks) (change ∷ changes) (by, rest) =
+    All-cons (λ (change : StartChange). IsKept entries change.agent change.before) change changes (subst (λ i. IsKept entries i change.before) (sym by.agent) by.before)
+    (changes_know problem entries blocks changes rest)
+changes_know problem entries [] (change ∷ changes) are = absurd are
+changes_know problem entries (block ∷ blocks) [] are = absurd are
+
 child_alike : (problem : Instance) (here : NodeContext) (blocks : List LabelBlock) (changes : List StartChange) (constraint : Constraint) → AreChangesBy problem here.entries blocks changes → AreAlike problem (child_after here changes constraint) (child_context here blocks constraint)
 child_alike problem here blocks changes constraint are = record { bars = refl; starts = changed_start problem here.entries blocks changes are }
 
@@ -97,7 +119,7 @@ pub contexts_after_split : (problem : Instance) (conflict : Conflict) (blocks : 
     AreAllAlike problem (owed_at is_over new) (contexts_after (owed_at is_over old) (SplitNode conflict blocks))
 contexts_after_split problem conflict blocks changes true old new going are split = absurd cc
 contexts_after_split problem conflict blocks changes false old new going are split = rw (split.here, split.owed)
-    (child_alike problem old.here blocks changes (left_constraint conflict) are, child_alike problem old.here blocks changes (right_constraint conflict) are, all_alike_same problem old.owed)
+    (child_alike problem old.here blocks changes (left_constraint conflict) are, (child_alike problem old.here blocks changes (right_constraint conflict) are, all_alike_same problem old.owed))
 
 pub contexts_after_leaf : (blocks : List LabelBlock) (is_over : Bool) (old : Place) (owed : List NodeContext) → is_over ≡ false → owed ≡ old.owed → owed ≡ contexts_after (owed_at is_over old) (LeafNode blocks)
 contexts_after_leaf blocks true old owed going same = absurd cc
@@ -170,7 +192,11 @@ pub defect_alike : OnlyStartEntriesCount → ChildrenAreAlike → (problem : Ins
 defect_alike law children problem claim a b (SplitNode conflict blocks) fault alike (inl improper) = inl improper
 defect_alike law children problem claim a b (SplitNode conflict blocks) fault alike (inr (line, is, unsound)) = inr (line, is, unsound_alike problem a b blocks alike unsound)
 defect_alike law children problem claim a b (LeafNode blocks) fault alike (inl (line, is, unsound)) = inl (line, is, unsound_alike problem a b blocks alike unsound)
-defect_alike law children problem claim a b (LeafNode blocks) fault alike (inr (line, is, weak)) = inr (line, is, λ shows. weak
-    (let any : Constraint = record { agent = 0; bar = Cell 0 0 } in
-    starts_alike law problem claim (child_context b blocks any) (child_context a blocks any) (children problem b a blocks any (alike_turned problem a b alike)) shows))
+defect_alike law children problem claim a b (LeafNode blocks) fault alike (inr (line, is, weak)) = inr (
+  line,
+  is,
+  λ shows. weak
+      (let any : Constraint = record { agent = 0; bar = Cell 0 0 } in
+      starts_alike law problem claim (child_context b blocks any) (child_context a blocks any) (children problem b a blocks any (alike_turned problem a b alike)) shows),
+)
 defect_alike law children problem claim a b (ClashNode i j) fault alike defect = defect

@@ -37,9 +37,13 @@ descended place constraint other changes = record { here = child_after place.her
 abbrev pub along : Place → Edge → Place
 along place edge = descended place edge.constraint edge.owed edge.changes.items
 
+-- at the root, with nothing owed after it
+abbrev pub at_root : Place
+at_root = record { here = root; owed = [] }
+
 -- where edges lead to from the root
 abbrev pub place_after : List Edge → Place
-place_after edges = fold along (record { here = root; owed = [] }) edges
+place_after edges = fold along at_root edges
 
 -- where a route leads to
 abbrev pub place_of : Route → Place

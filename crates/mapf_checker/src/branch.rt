@@ -1,4 +1,4 @@
-ghost use Rattle.std.specs.Prelude.{◌≡◌, ◌↔◌, ◌<◌, ◌∷◌, [], Contains, IfOk, OnOk, IsTrue};
+ghost use Rattle.std.specs.Prelude.{◌≡◌, ◌↔◌, ◌<◌, ◌∷◌, ◌++◌, [], Contains, IfNone, IfOk, IfSome, OnOk, IsTrue};
 
 use crate::index::{BarIndex, Undo};
 use crate::starts::{StartChange, Starts};
@@ -42,7 +42,7 @@ impl Model for Branch {
 }
 
 impl Branch {
-    ghost use Rattle.mapf_checker.specs.Branch.{NextOf, IsSplit, descended, place_of};
+    ghost use Rattle.mapf_checker.specs.Branch.{CanUndoEdge, NextOf, IsSplit, descended, place_of};
     ghost use Rattle.mapf_checker.specs.Index.{IsBarredFrom};
     ghost use Rattle.mapf_checker.specs.Starts.{IsKept, AreOfFirst, KnowEntries};
 
@@ -98,21 +98,27 @@ impl Branch {
         ensures next { IfOk result (NextOf (place_of self.old) (place_of self.new)) }
         ensures agents { self.new.agents ≡ self.old.agents }
     {
-        while let Some(edge) = self.edges.pop() {
-            let Edge {
-                constraint,
-                owed,
-                changes,
-                undo,
-            } = edge;
-            self.index.undo(&constraint, &undo);
-            self.starts.undo(&changes);
+        while let Some(edge) = self.leave() {
+            let Edge { owed, changes, .. } = edge;
             if let Some(other) = owed {
                 self.descend(other, None, changes)?;
                 return Ok(true);
             }
         }
         Ok(false)
+    }
+
+    // Goes back over the last edge, if there is one, and undoes what it changed.
+    fn leave(&mut self) -> Option<Edge>
+        ensures last { IfSome result (λ edge. self.old.edges ≡ self.new.edges ++ edge ∷ []) }
+        ensures root { IfNone result (self.old.edges ≡ []) }
+        ensures undone { IfSome result (CanUndoEdge self.new.agents (place_of self.new).here) }
+        ensures agents { self.new.agents ≡ self.old.agents }
+    {
+        let edge = self.edges.pop()?;
+        self.index.undo(&edge.constraint, &edge.undo);
+        self.starts.undo(&edge.changes);
+        Some(edge)
     }
 
     fn descend(

@@ -29,11 +29,9 @@ impl Starts {
         ensures count { IfOk result (λ starts. length starts.entries.items ≡ agents) }
         ensures none { IfOk result (λ starts. AreKept no_entries starts.entries.items) }
     {
-        let mut entries = Vec::new(alloc);
-        for _ in 0..agents {
-            entries.push(None)?;
-        }
-        Ok(Starts { entries })
+        Ok(Starts {
+            entries: vec![in alloc; None; agents]?,
+        })
     }
 
     pub fn get(&self, agent: usize) -> Option<Label>
@@ -64,20 +62,10 @@ impl Starts {
             → KnowEntries entries changes.now → AreKept entries self.new.entries.items }
         ensures count { length self.new.entries.items ≡ length self.old.entries.items }
     {
-        for k in 0..changes.len() {
-            restore(&mut self.entries, &changes[k]);
+        for change in changes {
+            set(&mut self.entries, change.agent, change.before);
         }
     }
-}
-
-// The entry of the change's agent is again what it was.
-fn restore(entries: &mut Vec<Option<Label>>, change: &StartChange)
-    requires { change.now.agent < length entries.old.items }
-    ensures count { length entries.new.items ≡ length entries.old.items }
-    ensures here { slice_get entries.new.items change.now.agent ≡ Some change.now.before }
-    ensures others { (i : ℕ) → i ≢ change.now.agent → slice_get entries.new.items i ≡ slice_get entries.old.items i }
-{
-    set(entries, change.agent, change.before);
 }
 
 fn set(entries: &mut Vec<Option<Label>>, agent: u32, entry: Option<Label>)

@@ -227,7 +227,7 @@ fn accepts_that_none_is_possible(rt: HostRuntime) -> Result<(), Fail> {
 }
 
 // Which lines of the crossing's certificate in version 2 are replaced by which text, and the answer.
-const JUDGED_TWO: [(usize, usize, &str, Result<Verdict, CheckFault>); 12] = [
+const JUDGED_TWO: [(usize, usize, &str, Result<Verdict, CheckFault>); 14] = [
     (1, 1, "mapf-cert 2\n", Ok(Verdict::Optimal(5))),
     (8, 10, "leaf 0\n", Err(CheckFault::C8(8))),
     (5, 7, "leaf 0\n", Err(CheckFault::C8(5))),
@@ -244,6 +244,13 @@ const JUDGED_TWO: [(usize, usize, &str, Result<Verdict, CheckFault>); 12] = [
         7,
         "vertex 0 0 1,1 1 1\nagent 0 1\nat 0,1 0 3\nclash 0 1\n",
         Err(CheckFault::C6(4)),
+    ),
+    // But a fault of the lines of its blocks comes before it.
+    (
+        4,
+        7,
+        "vertex 0 0 1,1 1 1\nagent 0 1\nat 0,1 0 03\nclash 0 1\n",
+        Err(CheckFault::C2(CertFault::K1(6))),
     ),
     // What the left child's leaf says is no label at the right child.
     (
@@ -265,6 +272,14 @@ const JUDGED_TWO: [(usize, usize, &str, Result<Verdict, CheckFault>); 12] = [
         10,
         "vertex 0 1 1,1 1 0\nvertex 0 1 0,0 5 1\nagent 0 1\nat 0,1 0 3\nleaf 0\nleaf 0\nleaf 0\n",
         Err(CheckFault::C8(10)),
+    ),
+    // Neither of two blocks on one split does.
+    (
+        4,
+        10,
+        "vertex 0 1 1,1 1 0\nvertex 0 1 1,1 1 0\nleaf 1\nagent 0 1\nat 0,1 0 3\nvertex 0 1 0,0 5 2\n\
+         agent 0 1\nat 0,1 0 3\nagent 1 1\nat 1,0 0 3\nleaf 0\nleaf 0\nleaf 0\n",
+        Err(CheckFault::C8(16)),
     ),
     // A nearer block of the agent replaces all its entries, that of the start too.
     (
@@ -289,7 +304,12 @@ const JUDGED_TWO: [(usize, usize, &str, Result<Verdict, CheckFault>); 12] = [
          agent 0 1\nat 1,1 1 2\nleaf 1\nagent 0 1\nat 0,1 0 3\nleaf 1\nagent 0 1\nat 0,1 0 3\nleaf 0\n",
         Ok(Verdict::Optimal(5)),
     ),
-    (4, 4, "vertex 0 1 1,1 1\n", Err(CheckFault::C2(CertFault::K1(4)))),
+    (
+        4,
+        4,
+        "vertex 0 1 1,1 1\n",
+        Err(CheckFault::C2(CertFault::K1(4))),
+    ),
 ];
 
 #[test]
@@ -299,7 +319,11 @@ fn judges_version_two(rt: HostRuntime) -> Result<(), Fail> {
     let plan = CROSSING_PLAN.as_bytes();
     for (first, last, lines, answer) in JUDGED_TWO {
         let cert = with_lines(alloc, CROSSING_CERT_TWO, first, last, lines)?;
-        assert_eq!(rt; check(alloc, &crossing, plan, cert.as_bytes()), answer, "{lines}");
+        assert_eq!(rt;
+            check(alloc, &crossing, plan, cert.as_bytes()),
+            answer,
+            "{lines}"
+        );
     }
     Ok(())
 }

@@ -58,7 +58,8 @@ impl Progress {
     ) -> Result<(), FromFault>
         requires ready { IsReady problem.now self.old }
         requires going { self.old.is_over ≡ false }
-        requires node { (version : Version) × IsNode version problem.now.grid (length problem.now.agents) (node_of item.now) }
+        requires node { (version : Version)
+            × IsNode version problem.now.grid (length problem.now.agents) (node_of item.now) }
         ensures ready { OnOk result (IsReady problem.now self.new) }
         ensures owed { OnOk result (AreAllAlike problem.now (owed_by self.new)
             (contexts_after (owed_by self.old) (node_of item.now))) }

@@ -9,9 +9,9 @@ use Rattle.mapf_model.specs.declared.label.Label.TheVariants.{Never}
 use Rattle.mapf_model.specs.declared.problem.Agent.{Agent}
 use Rattle.mapf_model.specs.Blocks.{LabelBlock}
 use Rattle.mapf_model.specs.Labels.{Entries, IsEntryOrDistance, AreSound, entries_of}
-use Rattle.mapf_model.specs.Laws.{AreAlike}
+use Rattle.mapf_model.specs.Laws.{AreAlike, OnlySplitsHandOnEntries}
 use Rattle.mapf_model.specs.Plan.{Instance}
-use Rattle.mapf_model.specs.Tree.{ConstraintTree, Split, Leaf, Clash, NodeContext, child_context, left_child_context, right_child_context, left_constraint, right_constraint, with_constraint, block_of, entries_or, with_blocks, AtEachNode, IsProperNode, NodeShows, AreBlocksSound, StartsReach, StartsShow, ShowsFrom}
+use Rattle.mapf_model.specs.Tree.{ConstraintTree, Split, Leaf, Clash, NodeContext, root, HasBlocksAtLeavesAlone, child_context, left_child_context, right_child_context, left_constraint, right_constraint, with_constraint, block_of, entries_or, with_blocks, AtEachNode, IsProperNode, NodeShows, AreBlocksSound, StartsReach, StartsShow, ShowsFrom}
 
 -- what the nodes by themselves are doesn't hang on the context
 proper_anywhere : (problem : Instance) (a b : NodeContext) (tree : ConstraintTree) → AtEachNode (λ context node. IsProperNode problem node) a tree → AtEachNode (λ context node. IsProperNode problem node) b tree
@@ -75,3 +75,18 @@ module _ (problem : Instance) where
     proper = proper_anywhere problem a b tree shows.proper;
     nodes = shown_alike claim a b tree alike shows.nodes;
   }
+
+-- where a node inherits no entry, and no split has a block, none below it does
+none_below : (context : NodeContext) (tree : ConstraintTree) → HasBlocksAtLeavesAlone tree → ((agent cell tick : ℕ) → context.entries agent cell tick ≡ None) → AtEachNode (λ context node. (agent cell tick : ℕ) → context.entries agent cell tick ≡ None) context tree
+none_below context (Split conflict blocks left right) (empty, on_left, on_right) none = (
+  none,
+  none_below (left_child_context context conflict blocks) left on_left inherited,
+  none_below (right_child_context context conflict blocks) right on_right inherited,
+) where
+  inherited : (agent cell tick : ℕ) → with_blocks blocks context.entries agent cell tick ≡ None
+  inherited agent cell tick = rw empty (none agent cell tick)
+none_below context (Leaf blocks) alone none = none
+none_below context (Clash i j) alone none = none
+
+pub only_splits_hand_on_entries : OnlySplitsHandOnEntries
+only_splits_hand_on_entries tree alone = none_below root tree alone (λ agent cell tick. refl)

@@ -1,10 +1,12 @@
 -- The definitions, tried on small problems.
 use Rattle.std.proofs.Common.{◌≡◌, ◌≢◌, ℕ, zero, suc, [], ◌∷◌, Contains, length, refl, sym, ◌∙◌, inl, inr, arith}
+use Rattle.mapf_model.specs.declared.bar.Bar.{Bar}
 use Rattle.mapf_model.specs.declared.bar.Bar.TheVariants.{Cell, Move}
 use Rattle.mapf_model.specs.declared.label.Label.{Label}
 use Rattle.mapf_model.specs.declared.label.Label.TheVariants.{Ticks, Never}
 use Rattle.mapf_model.specs.Distance.{Walk}
-use Rattle.mapf_model.specs.Examples.{open_square, agent, WaitingBoundsALabel, NoLabelIsRaisedAtAFreeGoal, AClashShowsImpossibility, OneStartIsNoPlan, SwappingIsNoPlan, EachChildBarsItsAgent, ChildrenInheritLabels}
+use Rattle.mapf_model.specs.Examples.{open_square, agent, block, entry, WaitingBoundsALabel, NoLabelIsRaisedAtAFreeGoal, AClashShowsImpossibility, OneStartIsNoPlan, SwappingIsNoPlan, EachChildBarsItsAgent, ChildrenInheritLabels, SplitsAreJudgedByTheirOwnBars}
+use Rattle.mapf_model.specs.Grid.{Step}
 use Rattle.mapf_model.specs.Labels.{IsDistanceLabel, IsAtMost, one_more}
 use Rattle.mapf_model.proofs.ClaimLemmas.{slice_get_inside}
 
@@ -57,3 +59,19 @@ each_child_bars_its_agent = (refl, refl, refl, refl)
 
 pub children_inherit_labels : ChildrenInheritLabels
 children_inherit_labels = (refl, refl, refl, refl, refl)
+
+to_the_right : Walk open_square 4 5 1
+to_the_right = (5, inr (record { from_free = refl; to_free = refl; apart = inl (refl, inr refl) }), (refl, refl))
+
+not_three : (after : Label) → IsDistanceLabel open_square 5 4 after → IsAtMost (Ticks 3) (one_more after) → ⊥
+not_three (Ticks n) distance three = let short = distance.least 1 to_the_right in omega arith
+not_three Never unreachable three = unreachable 1 to_the_right
+
+no_bar : (bar : Bar) → Contains [] bar → ⊥
+no_bar bar (k, within, is) = absurd (omega arith)
+
+pub splits_are_judged_by_their_own_bars : SplitsAreJudgedByTheirOwnBars
+splits_are_judged_by_their_own_bars sound =
+    let right : Step open_square 3 4 = inr (record { from_free = refl; to_free = refl; apart = inl (refl, inr refl) }) in
+    let next = (sound 0 (agent 3 5) (block 0 (entry 3 0 (Ticks 3))) refl refl 3 0 (Ticks 3) refl).onward (no_bar (Cell 3 0)) 4 (record { step = right; arrival = no_bar (Cell 4 1); move = no_bar (Move 3 4 0) }) in
+    not_three next.0 next.1 next.2

@@ -11,7 +11,7 @@ use Rattle.mapf_model.specs.Blocks.{LabelBlock}
 use Rattle.mapf_model.specs.Grid.{GridMap}
 use Rattle.mapf_model.specs.Labels.{entries_of, AreSound}
 use Rattle.mapf_model.specs.Plan.{Instance, IsValid}
-use Rattle.mapf_model.specs.Tree.{Clash, NodeContext, root, left_child_context, right_child_context, Shows}
+use Rattle.mapf_model.specs.Tree.{Clash, NodeContext, root, left_child_context, right_child_context, AreBlocksSound, Shows}
 
 -- three by three free cells
 abbrev pub open_square : GridMap
@@ -72,6 +72,11 @@ EachChildBarsItsAgent =
     ((left_child_context root (Swap 0 1 3 4 5) []).bars 0 ≡ Move 3 4 5 ∷ []) × ((left_child_context root (Swap 0 1 3 4 5) []).bars 1 ≡ []) ×
     ((right_child_context root (Swap 0 1 3 4 5) []).bars 0 ≡ []) × ((right_child_context root (Swap 0 1 3 4 5) []).bars 1 ≡ Move 4 3 5 ∷ [])
 
+-- an agent from the left of the square to its right, and one from its top to its bottom: shortest paths meet in the
+-- middle at tick 1
+abbrev pub crossing : Instance
+crossing = record { grid = open_square; agents = agent 3 5 ∷ agent 1 7 ∷ [] }
+
 -- a block of an agent with one entry
 abbrev pub block : ℕ → Entry → LabelBlock
 block agent entry = record { agent = agent; entries = entry ∷ [] }
@@ -93,3 +98,8 @@ ChildrenInheritLabels =
     ((left_below root (block 0 (entry 3 0 (Ticks 4)))).entries 1 3 0 ≡ None) ×
     ((right_below (left_below root (block 0 (entry 3 0 (Ticks 4)))) (block 0 (entry 3 1 (Ticks 3)))).entries 0 3 0 ≡ None) ×
     ((right_below (left_below root (block 0 (entry 3 0 (Ticks 4)))) (block 1 (entry 3 1 (Ticks 3)))).entries 0 3 0 ≡ Some (Ticks 4))
+
+-- a split's block is judged without the constraints that its children add: nothing bars the first agent from the
+-- middle yet, so from its start no 3 ticks are left
+abbrev pub SplitsAreJudgedByTheirOwnBars : Type 0
+SplitsAreJudgedByTheirOwnBars = AreBlocksSound crossing root (block 0 (entry 3 0 (Ticks 3)) ∷ []) → ⊥

@@ -1,5 +1,5 @@
 -- The laws of the definitions.
-use Rattle.std.specs.Prelude.{◌≡◌, ◌≢◌, ◌↔◌, ℕ, ◌+◌, ◌-◌, ◌<◌, List, [], ◌∷◌, Some, length, slice_index, slice_get, Contains, AllPairs}
+use Rattle.std.specs.Prelude.{◌≡◌, ◌≢◌, ◌↔◌, ℕ, ◌+◌, ◌-◌, ◌<◌, List, [], ◌∷◌, Some, None, length, slice_index, slice_get, Contains, AllPairs}
 use Rattle.mapf_model.specs.declared.bar.Bar.{Bar}
 use Rattle.mapf_model.specs.declared.problem.Agent.{Agent}
 use Rattle.mapf_model.specs.Blocks.{LabelBlock}
@@ -16,7 +16,7 @@ use Rattle.mapf_model.specs.Printed.{IsBefore}
 use Rattle.mapf_model.specs.Bars.{Satisfies}
 use Rattle.mapf_model.specs.Labels.{Entries, entries_of, AreSound, IsLabel, IsAtMost, label_sum}
 use Rattle.mapf_model.specs.Plan.{Instance, IsValid, IsSumOfCosts}
-use Rattle.mapf_model.specs.Tree.{ConstraintTree, Leaf, NodeContext, IsProper, SplitShows, AtSomeEnd, AllSatisfy, root, child_context, left_child_context, right_child_context, Node, SplitNode, LeafNode, ClashNode, nodes_of, AreStartLabels, StartsReach, StartsShow, ShareGoal, ShowsFrom, NodesShow, Shows, Holds}
+use Rattle.mapf_model.specs.Tree.{ConstraintTree, Leaf, NodeContext, IsProper, SplitShows, HasBlocksAtLeavesAlone, AtEachNode, AtSomeEnd, AllSatisfy, root, child_context, left_child_context, right_child_context, Node, SplitNode, LeafNode, ClashNode, nodes_of, AreStartLabels, StartsReach, StartsShow, ShareGoal, ShowsFrom, NodesShow, Shows, Holds}
 
 -- under sound labels each lawful path that obeys the bars costs at least the label of the start
 abbrev pub LabelBound : Type 0
@@ -136,3 +136,7 @@ OnlyStartEntriesCount = (problem : Instance) (claim : Claim) (a b : NodeContext)
 -- the children of alike contexts are alike
 abbrev pub ChildrenAreAlike : Type 0
 ChildrenAreAlike = (problem : Instance) (a b : NodeContext) (blocks : List LabelBlock) (constraint : Constraint) → AreAlike problem a b → AreAlike problem (child_context a blocks constraint) (child_context b blocks constraint)
+
+-- where no split has a block no node inherits an entry: each leaf goes by its own blocks alone
+abbrev pub OnlySplitsHandOnEntries : Type 0
+OnlySplitsHandOnEntries = (tree : ConstraintTree) → HasBlocksAtLeavesAlone tree → AtEachNode (λ context node. (agent cell tick : ℕ) → context.entries agent cell tick ≡ None) root tree

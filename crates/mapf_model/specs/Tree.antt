@@ -148,10 +148,10 @@ AtSomeLeaf P context (Leaf blocks) = P context blocks
 AtSomeLeaf P context (Clash i j) = ⊥
 
 -- no split has a block: a tree of version 1 of the certificate
-abbrev pub HasLabelsAtLeavesAlone : ConstraintTree → Type 0
-HasLabelsAtLeavesAlone (Split conflict blocks left right) = (blocks ≡ []) × HasLabelsAtLeavesAlone left × HasLabelsAtLeavesAlone right
-HasLabelsAtLeavesAlone (Leaf blocks) = Unit {0}
-HasLabelsAtLeavesAlone (Clash i j) = Unit {0}
+abbrev pub HasBlocksAtLeavesAlone : ConstraintTree → Type 0
+HasBlocksAtLeavesAlone (Split conflict blocks left right) = (blocks ≡ []) × HasBlocksAtLeavesAlone left × HasBlocksAtLeavesAlone right
+HasBlocksAtLeavesAlone (Leaf blocks) = Unit {0}
+HasBlocksAtLeavesAlone (Clash i j) = Unit {0}
 
 -- how many splits the tree has
 abbrev pub split_count : ConstraintTree → ℕ

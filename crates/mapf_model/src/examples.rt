@@ -1,6 +1,7 @@
 ghost use Rattle.mapf_model.specs.Examples.{WaitingBoundsALabel, NoLabelIsRaisedAtAFreeGoal};
 ghost use Rattle.mapf_model.specs.Examples.{AClashShowsImpossibility, OneStartIsNoPlan, SwappingIsNoPlan};
 ghost use Rattle.mapf_model.specs.Examples.{EachChildBarsItsAgent, ChildrenInheritLabels};
+ghost use Rattle.mapf_model.specs.Examples.{SplitsAreJudgedByTheirOwnBars};
 
 /// What the definitions of labels say on small problems.
 pub fn labels_by_example()
@@ -19,4 +20,5 @@ pub fn trees_by_example()
     ensures clash { AClashShowsImpossibility }
     ensures children { EachChildBarsItsAgent }
     ensures labels { ChildrenInheritLabels }
+    ensures own_bars { SplitsAreJudgedByTheirOwnBars }
 {}

@@ -3,8 +3,19 @@ ghost use Rattle.mapf_model.specs.Limits.{most_agents, greatest_side, most_path_
 ghost use Rattle.mapf_model.specs.Limits.{most_splits, last_split_tick, split_ticks, most_text_bytes};
 ghost use Rattle.mapf_model.specs.Limits.{most_cert_bytes};
 
+/// The number of `MOST_AGENTS`, alone or at the end of a text.
+#[macro_export]
+macro_rules! most_agents {
+    () => {
+        200
+    };
+    ($text:literal) => {
+        concat!($text, 200)
+    };
+}
+
 /// The most agents of a problem.
-pub const MOST_AGENTS: u32 = 200;
+pub const MOST_AGENTS: u32 = most_agents!();
 
 /// The most columns of a grid, and the most rows.
 pub const GREATEST_SIDE: u32 = 2048;
@@ -18,8 +29,19 @@ pub const GREATEST_COST: u32 = 9_999_999;
 /// The greatest sum of costs, in ticks.
 pub const GREATEST_SUM: u64 = 1_999_999_800;
 
+/// The number of `MOST_SPLITS`, alone or at the end of a text.
+#[macro_export]
+macro_rules! most_splits {
+    () => {
+        100000
+    };
+    ($text:literal) => {
+        concat!($text, 100000)
+    };
+}
+
 /// The most splits that a search may be allowed.
-pub const MOST_SPLITS: u32 = 100_000;
+pub const MOST_SPLITS: u32 = most_splits!();
 
 /// The last tick of a conflict that may be split.
 pub const LAST_SPLIT_TICK: u32 = 999_999;

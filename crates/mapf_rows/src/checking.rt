@@ -1,22 +1,28 @@
-//! What the check answers to given texts: verdicts, and each kind of refusal.
+//! What the check answers to given texts: verdicts, and each kind of refusal. The certificates are of
+//! version 1, and what they become in version 2 is judged alike.
 
 ghost use Rattle.std.specs.Prelude.{◌≤◌};
 
 use crate::problems::{
-    AT_REST, AT_REST_PLAN, CROSSING, CROSSING_CERT, CROSSING_PLAN, DEARER, EXCHANGE, MEETING,
-    NICHE, NICHE_CERT, NICHE_PLAN, ROTATION, ROTATION_PLAN, SHARED_GOAL, SHARED_GOAL_CERT,
-    SHARED_GOAL_PLAN, SHARED_START, SHARED_START_CERT, SHARED_START_PLAN, SWAPPING, WALL,
-    WALL_CERT, WALL_PLAN,
+    AT_REST, AT_REST_PLAN, CORRIDOR, CORRIDOR_PLAN, CROSSING, CROSSING_PLAN, DEARER, EXCHANGE,
+    MEETING, NICHE, NICHE_PLAN, ROTATION, ROTATION_PLAN, SHARED_GOAL, SHARED_GOAL_PLAN,
+    SHARED_START, SHARED_START_PLAN, SWAPPING, WALL, WALL_PLAN,
 };
 use crate::runs::{Given, check, problem_of};
 use crate::texts::with_lines;
+use crate::version_one::{
+    AT_REST_ONE, CORRIDOR_ONE, CROSSING_ONE, NICHE_ONE, ROTATION_ONE, SHARED_GOAL_ONE,
+    SHARED_START_ONE, WALL_ONE,
+};
 use mapf_app::{CertFault, CheckFault, Fault, PlanFault, PlanTextFault, Verdict};
+use mapf_certificate::convert_cert;
 use mapf_checker as checker;
 use std::alloc::Global;
 use std::process::Abort;
 use std::test::Fail;
 
-// Over sources and over memory this is the answer.
+// Over sources and over memory this is the answer, and also beside what a certificate of version 1 becomes in
+// version 2.
 pub fn assert_judged(
     rt: &impl Abort,
     alloc: Global,
@@ -40,6 +46,15 @@ pub fn assert_judged(
         texts.0,
         texts.1
     );
+    if let Ok(two) = convert_cert(alloc, cert, problem.grid()) {
+        let verdict = checker::check(alloc, &problem, plan, &two);
+        assert_eq!(rt;
+            verdict,
+            answer,
+            "of {} and {} in version 2",
+            texts.0, texts.1
+        );
+    }
     Ok(())
 }
 
@@ -77,22 +92,57 @@ struct Row {
 const OF_THE_NICHE: Row = Row {
     given: NICHE,
     plan: NICHE_PLAN,
-    cert: NICHE_CERT,
+    cert: NICHE_ONE,
     answer: Ok(Verdict::Optimal(4)),
 };
 
 const OF_A_SHARED_START: Row = Row {
     given: SHARED_START,
     plan: SHARED_START_PLAN,
-    cert: SHARED_START_CERT,
+    cert: SHARED_START_ONE,
     answer: Ok(Verdict::Impossible),
 };
 
 const OF_A_SHARED_GOAL: Row = Row {
     given: SHARED_GOAL,
     plan: SHARED_GOAL_PLAN,
-    cert: SHARED_GOAL_CERT,
+    cert: SHARED_GOAL_ONE,
     answer: Ok(Verdict::Impossible),
+};
+
+const OF_ONE_AT_REST: Row = Row {
+    given: AT_REST,
+    plan: AT_REST_PLAN,
+    cert: AT_REST_ONE,
+    answer: Ok(Verdict::Optimal(0)),
+};
+
+const OF_THE_CORRIDOR: Row = Row {
+    given: CORRIDOR,
+    plan: CORRIDOR_PLAN,
+    cert: CORRIDOR_ONE,
+    answer: Ok(Verdict::Optimal(2)),
+};
+
+const OF_THE_CROSSING: Row = Row {
+    given: CROSSING,
+    plan: CROSSING_PLAN,
+    cert: CROSSING_ONE,
+    answer: Ok(Verdict::Optimal(5)),
+};
+
+const OF_THE_WALL: Row = Row {
+    given: WALL,
+    plan: WALL_PLAN,
+    cert: WALL_ONE,
+    answer: Ok(Verdict::Impossible),
+};
+
+const OF_THE_ROTATION: Row = Row {
+    given: ROTATION,
+    plan: ROTATION_PLAN,
+    cert: ROTATION_ONE,
+    answer: Ok(Verdict::Optimal(4)),
 };
 
 const OF_A_LIMIT: Row = Row {
@@ -136,10 +186,15 @@ agent 1 1\nat 1,0 0 3\nend\n",
     answer: Err(CheckFault::C8(5)),
 };
 
-const ROWS: [Row; 8] = [
+const ROWS: [Row; 13] = [
+    OF_ONE_AT_REST,
+    OF_THE_CORRIDOR,
+    OF_THE_CROSSING,
     OF_THE_NICHE,
     OF_A_SHARED_START,
     OF_A_SHARED_GOAL,
+    OF_THE_WALL,
+    OF_THE_ROTATION,
     OF_A_LIMIT,
     OF_SWAPPING_AGENTS,
     OF_NO_CERTIFICATE,
@@ -238,11 +293,11 @@ const PATHS: [(&str, PlanFault); 7] = [
 #[test]
 fn refuses_plans(rt: HostRuntime) -> Result<(), Fail> {
     for (plan, fault) in PLANS {
-        let texts = (plan, CROSSING_CERT);
+        let texts = (plan, CROSSING_ONE);
         assert_judged(&rt, rt.alloc(), &CROSSING, texts, Err(fault))?;
     }
     for (plan, fault) in PATHS {
-        let texts = (plan, CROSSING_CERT);
+        let texts = (plan, CROSSING_ONE);
         let refusal = Err(CheckFault::C5(fault));
         assert_judged(&rt, rt.alloc(), &CROSSING, texts, refusal)?;
     }
@@ -353,12 +408,12 @@ const WALL_CHANGES: [Change; 1] = [(
 
 #[test]
 fn judges_changed_certificates(rt: HostRuntime) -> Result<(), Fail> {
-    let crossing = (CROSSING_PLAN, CROSSING_CERT);
+    let crossing = (CROSSING_PLAN, CROSSING_ONE);
     assert_changes(&rt, rt.alloc(), &CROSSING, crossing, &CROSSING_CHANGES)?;
     assert_changes(&rt, rt.alloc(), &CROSSING, crossing, &ORDER_CHANGES)?;
-    let niche = (NICHE_PLAN, NICHE_CERT);
+    let niche = (NICHE_PLAN, NICHE_ONE);
     assert_changes(&rt, rt.alloc(), &NICHE, niche, &NICHE_CHANGES)?;
-    let shared = (SHARED_START_PLAN, SHARED_START_CERT);
+    let shared = (SHARED_START_PLAN, SHARED_START_ONE);
     assert_changes(
         &rt,
         rt.alloc(),
@@ -366,6 +421,6 @@ fn judges_changed_certificates(rt: HostRuntime) -> Result<(), Fail> {
         shared,
         &SHARED_START_CHANGES,
     )?;
-    let wall = (WALL_PLAN, WALL_CERT);
+    let wall = (WALL_PLAN, WALL_ONE);
     assert_changes(&rt, rt.alloc(), &WALL, wall, &WALL_CHANGES)
 }

@@ -1,49 +1,118 @@
 //! Texts that are cut short, that are changed in a byte, or whose numbers are too great.
 
+ghost use Rattle.std.specs.Prelude.{◌≤◌};
+
 use crate::checking::{Change, assert_changes, assert_judged};
-use crate::problems::{CROSSING, CROSSING_CERT, CROSSING_MAP, CROSSING_PLAN, CROSSING_SCEN};
-use crate::runs::{Given, check, problem_of, solve};
+use crate::problems::{
+    CROSSING, CROSSING_MAP, CROSSING_PLAN, CROSSING_SCEN, NICHE, NICHE_CERT, NICHE_PLAN,
+};
+use crate::runs::{Given, problem_of, solve};
 use crate::texts::{line_cut, with_lines};
+use crate::version_one::CROSSING_ONE;
 use mapf_app::{CertFault, CheckFault, Fault, MapFault, PlanTextFault, ScenFault};
 use mapf_checker as checker;
+use std::alloc::Global;
+use std::process::Abort;
 use std::test::Fail;
+
+// A certificate of each version, with its problem and the plan text beside it.
+const TEXTS: [(Given, &str, &str); 2] = [
+    (CROSSING, CROSSING_PLAN, CROSSING_ONE),
+    (NICHE, NICHE_PLAN, NICHE_CERT),
+];
 
 #[test]
 fn refuses_texts_that_are_cut_short(rt: HostRuntime) -> Result<(), Fail> {
     let alloc = rt.alloc();
-    let problem = problem_of(alloc, &CROSSING).ok_or("no problem")?;
-    let plan = CROSSING_PLAN.as_bytes();
-    let cert = CROSSING_CERT.as_bytes();
-    assert_eq!(rt; cert.len(), 111);
-    for length in 0..cert.len() {
-        let answer = checker::check(alloc, &problem, plan, &cert[..length]);
-        let fault = CertFault::K2(line_cut(&cert[..length]));
-        assert_eq!(rt; answer, Err(CheckFault::C2(fault)), "at {length}");
+    for (given, plan, cert) in TEXTS {
+        assert!(rt; 1 <= given.k && given.k <= 200);
+        let problem = problem_of(alloc, &given).ok_or("no problem")?;
+        let plan = plan.as_bytes();
+        let cert = cert.as_bytes();
+        for length in 0..cert.len() {
+            let answer = checker::check(alloc, &problem, plan, &cert[..length]);
+            let fault = CertFault::K2(line_cut(&cert[..length]));
+            assert_eq!(rt; answer, Err(CheckFault::C2(fault)), "at {length}");
+        }
+        for length in 0..plan.len() {
+            let answer = checker::check(alloc, &problem, &plan[..length], cert);
+            let fault = PlanTextFault::P2(line_cut(&plan[..length]));
+            assert_eq!(rt; answer, Err(CheckFault::C1(fault)), "at {length}");
+        }
     }
-    for length in 0..plan.len() {
-        let answer = checker::check(alloc, &problem, &plan[..length], cert);
-        let fault = PlanTextFault::P2(line_cut(&plan[..length]));
-        assert_eq!(rt; answer, Err(CheckFault::C1(fault)), "at {length}");
+    Ok(())
+}
+
+// Each change of a byte of the certificate from the first to before the last of these places is refused, but for
+// these, each a place and a byte.
+fn assert_bytes(
+    rt: &impl Abort,
+    alloc: Global,
+    given: &Given,
+    texts: (&str, &str),
+    places: (usize, usize),
+    accepted: &[(usize, u8)],
+) -> Result<(), Fail>
+    requires some { 1 ≤ given.now.k }
+    requires few { given.now.k ≤ 200 }
+{
+    let problem = problem_of(alloc, given).ok_or("no problem")?;
+    let cert = texts.1.as_bytes();
+    let mut changed = Vec::from_slice(alloc, cert)?;
+    for i in places.0..places.1.min(cert.len()) {
+        for byte in 0..=255u8 {
+            changed.clear();
+            changed.extend_from_slice(&cert[..i])?;
+            changed.push(byte)?;
+            changed.extend_from_slice(&cert[i + 1..])?;
+            let answer = checker::check(alloc, &problem, texts.0.as_bytes(), &changed);
+            let is_accepted = byte == cert[i] || accepted.contains(&(i, byte));
+            assert_eq!(rt; answer.is_ok(), is_accepted, "{i}: {byte}");
+        }
     }
     Ok(())
 }
 
 #[test]
 fn accepts_no_change_of_a_byte(rt: HostRuntime) -> Result<(), Fail> {
-    let cert = CROSSING_CERT.as_bytes();
-    let mut changed = Vec::from_slice(rt.alloc(), cert)?;
-    for i in 0..cert.len() {
-        for byte in 0..=255u8 {
-            changed.clear();
-            changed.extend_from_slice(&cert[..i])?;
-            changed.push(byte)?;
-            changed.extend_from_slice(&cert[i + 1..])?;
-            let answer = check(rt.alloc(), &CROSSING, CROSSING_PLAN.as_bytes(), &changed);
-            let is_refused = matches!(answer, Err(Fault::Refused(_)));
-            assert_eq!(rt; is_refused, byte != cert[i], "{i}: {byte}");
-        }
-    }
-    Ok(())
+    let texts = (CROSSING_PLAN, CROSSING_ONE);
+    assert_bytes(&rt, rt.alloc(), &CROSSING, texts, (0, 111), &[])
+}
+
+// A lower label of the start that is enough, or another entry in place of one that isn't needed.
+const HARMLESS: [(usize, u8); 12] = [
+    (131, b'3'),
+    (170, b'4'),
+    (214, b'0'),
+    (214, b'2'),
+    (216, b'1'),
+    (220, b'1'),
+    (220, b'2'),
+    (220, b'3'),
+    (336, b'1'),
+    (336, b'2'),
+    (422, b'1'),
+    (492, b'1'),
+];
+
+// The certificate of the niche has 565 bytes, and a test has a minute.
+#[test]
+fn accepts_harmless_changes_of_a_byte_at_first(rt: HostRuntime) -> Result<(), Fail> {
+    let texts = (NICHE_PLAN, NICHE_CERT);
+    assert_bytes(&rt, rt.alloc(), &NICHE, texts, (0, 280), &HARMLESS)
+}
+
+#[test]
+fn accepts_harmless_changes_of_a_byte_later(rt: HostRuntime) -> Result<(), Fail> {
+    let texts = (NICHE_PLAN, NICHE_CERT);
+    assert_bytes(&rt, rt.alloc(), &NICHE, texts, (280, 430), &HARMLESS)
+}
+
+#[test]
+fn accepts_harmless_changes_of_a_byte_at_last(rt: HostRuntime) -> Result<(), Fail> {
+    let texts = (NICHE_PLAN, NICHE_CERT);
+    assert_eq!(rt; NICHE_CERT.len(), 565);
+    assert_bytes(&rt, rt.alloc(), &NICHE, texts, (430, 565), &HARMLESS)
 }
 
 // Numbers of the crossing's certificate at the ends of their ranges, and past them.
@@ -85,7 +154,7 @@ const NUMBERS: [Change; 8] = [
 
 #[test]
 fn judges_numbers_of_any_size(rt: HostRuntime) -> Result<(), Fail> {
-    let texts = (CROSSING_PLAN, CROSSING_CERT);
+    let texts = (CROSSING_PLAN, CROSSING_ONE);
     assert_changes(&rt, rt.alloc(), &CROSSING, texts, &NUMBERS)
 }
 
@@ -101,7 +170,7 @@ fn refuses_plans_of_too_many_agents(rt: HostRuntime) -> Result<(), Fail> {
     let refusal = Err(CheckFault::C1(PlanTextFault::P3(2)));
     for line in COUNTS {
         let plan = with_lines(rt.alloc(), CROSSING_PLAN, 2, 2, line)?;
-        let texts = (plan.as_str(), CROSSING_CERT);
+        let texts = (plan.as_str(), CROSSING_ONE);
         assert_judged(&rt, rt.alloc(), &CROSSING, texts, refusal)?;
     }
     Ok(())

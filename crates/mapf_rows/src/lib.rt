@@ -6,6 +6,8 @@ mod adapters;
 #[cfg(test)]
 mod checking;
 #[cfg(test)]
+mod converting;
+#[cfg(test)]
 mod failing;
 #[cfg(test)]
 mod faults;
@@ -19,6 +21,8 @@ pub mod runs;
 #[cfg(test)]
 mod solving;
 #[cfg(test)]
+mod split_blocks;
+#[cfg(test)]
 mod streams;
 #[cfg(test)]
 mod telling;
@@ -26,3 +30,5 @@ mod telling;
 mod texts;
 #[cfg(test)]
 mod values;
+#[cfg(test)]
+mod version_one;

@@ -1,4 +1,4 @@
-//! Worked problems, with the texts that are due.
+//! Worked problems, with the texts that are due, certificates in version 2.
 
 use crate::runs::Given;
 
@@ -11,7 +11,7 @@ pub const AT_REST: Given = Given {
 
 pub const AT_REST_PLAN: &str = "mapf-plan 1\nagents 1\ncost 0\npath 0 0 0,0\nend\n";
 
-pub const AT_REST_CERT: &str = "mapf-cert 1\nagents 1\nclaim cost 0\nleaf 0\nend\n";
+pub const AT_REST_CERT: &str = "mapf-cert 2\nagents 1\nclaim cost 0\nleaf 0\nend\n";
 
 // One agent in a corridor; lines that end with CR LF, and a last line without an end.
 pub const CORRIDOR: Given = Given {
@@ -22,7 +22,7 @@ pub const CORRIDOR: Given = Given {
 
 pub const CORRIDOR_PLAN: &str = "mapf-plan 1\nagents 1\ncost 2\npath 0 2 0,0 1,0 2,0\nend\n";
 
-pub const CORRIDOR_CERT: &str = "mapf-cert 1\nagents 1\nclaim cost 2\nleaf 0\nend\n";
+pub const CORRIDOR_CERT: &str = "mapf-cert 2\nagents 1\nclaim cost 2\nleaf 0\nend\n";
 
 // Two agents that cross on an open square of nine cells.
 pub const CROSSING_MAP: &str = "type octile\nheight 3\nwidth 3\nmap\n...\n...\n...\n";
@@ -40,7 +40,7 @@ pub const CROSSING_PLAN: &str =
     "mapf-plan 1\nagents 2\ncost 5\npath 0 3 0,1 0,1 1,1 2,1\npath 1 2 1,0 1,1 1,2\nend\n";
 
 pub const CROSSING_CERT: &str =
-    "mapf-cert 1\nagents 2\nclaim cost 5\nvertex 0 1 1,1 1\nleaf 1\nagent 0 1\nat 0,1 0 3\n\
+    "mapf-cert 2\nagents 2\nclaim cost 5\nvertex 0 1 1,1 1 0\nleaf 1\nagent 0 1\nat 0,1 0 3\n\
 leaf 1\nagent 1 1\nat 1,0 0 3\nend\n";
 
 // A plan of the crossing in which both agents are in the middle at tick 1.
@@ -62,13 +62,14 @@ pub const NICHE_PLAN: &str =
     "mapf-plan 1\nagents 2\ncost 4\npath 0 2 0,0 1,0 2,0\npath 1 2 1,0 1,1 1,0\nend\n";
 
 pub const NICHE_CERT: &str =
-    "mapf-cert 1\nagents 2\nclaim cost 4\nvertex 0 1 1,0 1\nvertex 0 1 1,0 2\nvertex 0 1 1,0 3\n\
+    "mapf-cert 2\nagents 2\nclaim cost 4\nvertex 0 1 1,0 1 0\nvertex 0 1 1,0 2 1\nagent 0 1\nat 0,0 0 3\n\
+vertex 0 1 1,0 3 1\nagent 0 2\nat 0,0 0 4\nat 0,0 1 3\n\
 leaf 1\nagent 0 3\nat 0,0 0 5\nat 0,0 1 4\nat 0,0 2 3\n\
-leaf 2\nagent 0 2\nat 0,0 0 4\nat 0,0 1 3\nagent 1 9\nat 1,0 0 4\nat 0,0 1 3\nat 1,0 1 3\nat 2,0 1 3\n\
+leaf 1\nagent 1 9\nat 1,0 0 4\nat 0,0 1 3\nat 1,0 1 3\nat 2,0 1 3\n\
 at 1,1 1 3\nat 0,0 2 2\nat 1,0 2 2\nat 2,0 2 2\nat 1,1 2 2\n\
-leaf 2\nagent 0 1\nat 0,0 0 3\nagent 1 5\nat 1,0 0 3\nat 0,0 1 2\nat 1,0 1 2\nat 2,0 1 2\nat 1,1 1 2\n\
-swap 0 1 0,0 1,0 0\nleaf 2\nagent 0 1\nat 0,0 0 3\nagent 1 1\nat 1,0 0 2\nswap 0 1 1,0 2,0 1\n\
-leaf 2\nagent 0 2\nat 0,0 0 3\nat 1,0 1 2\nagent 1 1\nat 1,0 0 2\n\
+leaf 1\nagent 1 5\nat 1,0 0 3\nat 0,0 1 2\nat 1,0 1 2\nat 2,0 1 2\nat 1,1 1 2\n\
+swap 0 1 0,0 1,0 0 1\nagent 1 1\nat 1,0 0 2\nleaf 1\nagent 0 1\nat 0,0 0 3\n\
+swap 0 1 1,0 2,0 1 1\nagent 1 1\nat 1,0 0 2\nleaf 1\nagent 0 2\nat 0,0 0 3\nat 1,0 1 2\n\
 leaf 1\nagent 1 1\nat 1,0 0 2\nend\n";
 
 // Two agents that must exchange their places on two cells.
@@ -92,7 +93,7 @@ pub const SHARED_START: Given = Given {
 pub const SHARED_START_PLAN: &str = "mapf-plan 1\nagents 2\nimpossible\nend\n";
 
 pub const SHARED_START_CERT: &str =
-    "mapf-cert 1\nagents 2\nclaim impossible\nvertex 0 1 0,0 0\nleaf 1\nagent 0 1\nat 0,0 0 inf\n\
+    "mapf-cert 2\nagents 2\nclaim impossible\nvertex 0 1 0,0 0 0\nleaf 1\nagent 0 1\nat 0,0 0 inf\n\
 leaf 1\nagent 1 1\nat 0,0 0 inf\nend\n";
 
 // Two agents with one goal.
@@ -104,7 +105,7 @@ pub const SHARED_GOAL: Given = Given {
 
 pub const SHARED_GOAL_PLAN: &str = "mapf-plan 1\nagents 2\nimpossible\nend\n";
 
-pub const SHARED_GOAL_CERT: &str = "mapf-cert 1\nagents 2\nclaim impossible\nclash 0 1\nend\n";
+pub const SHARED_GOAL_CERT: &str = "mapf-cert 2\nagents 2\nclaim impossible\nclash 0 1\nend\n";
 
 // A wall between start and goal.
 pub const WALL: Given = Given {
@@ -115,7 +116,7 @@ pub const WALL: Given = Given {
 
 pub const WALL_PLAN: &str = "mapf-plan 1\nagents 1\nimpossible\nend\n";
 
-pub const WALL_CERT: &str = "mapf-cert 1\nagents 1\nclaim impossible\nleaf 0\nend\n";
+pub const WALL_CERT: &str = "mapf-cert 2\nagents 1\nclaim impossible\nleaf 0\nend\n";
 
 // Four agents that rotate on an open square.
 pub const ROTATION: Given = Given {
@@ -128,7 +129,7 @@ pub const ROTATION: Given = Given {
 pub const ROTATION_PLAN: &str =
     "mapf-plan 1\nagents 4\ncost 4\npath 0 1 0,0 1,0\npath 1 1 1,0 1,1\npath 2 1 1,1 0,1\npath 3 1 0,1 0,0\nend\n";
 
-pub const ROTATION_CERT: &str = "mapf-cert 1\nagents 4\nclaim cost 4\nleaf 0\nend\n";
+pub const ROTATION_CERT: &str = "mapf-cert 2\nagents 4\nclaim cost 4\nleaf 0\nend\n";
 
 // Two agents that are at their goals, side by side.
 pub const RESTING: Given = Given {

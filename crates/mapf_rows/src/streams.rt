@@ -1,8 +1,13 @@
 //! Certificates that come in pieces, that are too long or never end, that break off, or that are made as
 //! they are pulled.
 
-use crate::problems::{CROSSING, CROSSING_CERT, CROSSING_PLAN, MEETING, RESTING, RESTING_PLAN};
-use crate::runs::{check, check_pulled, problem_of};
+ghost use Rattle.std.specs.Prelude.{◌≤◌};
+
+use crate::problems::{
+    CROSSING, CROSSING_PLAN, MEETING, NICHE, NICHE_CERT, NICHE_PLAN, RESTING, RESTING_PLAN,
+};
+use crate::runs::{Given, check, check_pulled, problem_of};
+use crate::version_one::CROSSING_ONE;
 use mapf_app::{CertFault, CheckFault, Fault, Input, PlanFault, Verdict};
 use mapf_checker::{FromFault, check_from};
 use mapf_model::devices::{EndlessSource, FuseSource, Pace};
@@ -39,26 +44,47 @@ impl<'a> Source for Pieces<'a> {
     }
 }
 
-// The answer to the crossing's certificate in such pieces.
-fn check_pieces(alloc: Global, first: usize, others: usize) -> Result<Verdict, Fault> {
-    let bytes = CROSSING_CERT.as_bytes();
+// The answer to a plan text and a certificate that comes in such pieces.
+fn check_pieces(
+    alloc: Global,
+    given: &Given,
+    texts: (&str, &str),
+    first: usize,
+    others: usize,
+) -> Result<Verdict, Fault>
+    requires some { 1 ≤ given.now.k }
+    requires few { given.now.k ≤ 200 }
+{
     let mut source = Pieces {
-        bytes,
+        bytes: texts.1.as_bytes(),
         first,
         others,
     };
-    check_pulled(alloc, &CROSSING, CROSSING_PLAN.as_bytes(), &mut source)
+    check_pulled(alloc, given, texts.0.as_bytes(), &mut source)
 }
 
 #[test]
 fn reads_pieces(rt: HostRuntime) {
-    for first in 1..111 {
-        let answer = check_pieces(rt.alloc(), first, 111);
-        assert_eq!(rt; answer, Ok(Verdict::Optimal(5)), "{first} and the others");
-    }
-    for others in [1, 2] {
-        let answer = check_pieces(rt.alloc(), 1, others);
-        assert_eq!(rt; answer, Ok(Verdict::Optimal(5)), "1 and then {others} each");
+    let crossing = (CROSSING_PLAN, CROSSING_ONE);
+    let niche = (NICHE_PLAN, NICHE_CERT);
+    for (given, texts, cost) in [(CROSSING, crossing, 5), (NICHE, niche, 4)] {
+        assert!(rt; 1 <= given.k && given.k <= 200);
+        for first in 1..texts.1.len() {
+            let answer = check_pieces(rt.alloc(), &given, texts, first, 999);
+            assert_eq!(rt;
+                answer,
+                Ok(Verdict::Optimal(cost)),
+                "{first} and the others"
+            );
+        }
+        for others in [1, 2] {
+            let answer = check_pieces(rt.alloc(), &given, texts, 1, others);
+            assert_eq!(rt;
+                answer,
+                Ok(Verdict::Optimal(cost)),
+                "1 and then {others} each"
+            );
+        }
     }
 }
 
@@ -79,7 +105,7 @@ fn keeps_its_limit(rt: HostRuntime) -> Result<(), Fail> {
     let problem = problem_of(rt.alloc(), &CROSSING).ok_or("no problem")?;
     let plan = CROSSING_PLAN.as_bytes();
     for (limit, more, answer) in LENGTHS {
-        let cert = format!(in rt.alloc(); "{}{more}", CROSSING_CERT)?;
+        let cert = format!(in rt.alloc(); "{}{more}", CROSSING_ONE)?;
         for pace in [Pace::AllAtOnce, Pace::ByteByByte] {
             let mut source = FuseSource::of(cert.as_bytes(), pace, None);
             let verdict = check_from(rt.alloc(), &problem, plan, &mut source, limit);
@@ -94,7 +120,7 @@ const FIRST_LEAF: usize = 58;
 
 #[test]
 fn breaks_off_where_the_source_fails(rt: HostRuntime) {
-    let cert = CROSSING_CERT.as_bytes();
+    let cert = CROSSING_ONE.as_bytes();
     assert!(rt; cert[..FIRST_LEAF].ends_with(b"\nleaf 1\n"));
     let meet = PlanFault::V4 {
         i: 0,
@@ -118,7 +144,7 @@ fn ends_where_the_source_fails_at_any_call(rt: HostRuntime) {
     let failed = Err(Fault::F4(Input::Cert));
     for (pace, most) in [(Pace::AllAtOnce, 1), (Pace::ByteByByte, 111)] {
         for calls in 0..113 {
-            let mut source = FuseSource::of(CROSSING_CERT.as_bytes(), pace, Some(calls));
+            let mut source = FuseSource::of(CROSSING_ONE.as_bytes(), pace, Some(calls));
             let plan = CROSSING_PLAN.as_bytes();
             let verdict = check_pulled(rt.alloc(), &CROSSING, plan, &mut source);
             let wanted = if calls <= most {

@@ -6,9 +6,10 @@ use crate::problems::{
     AT_REST, CROSSING, CROSSING_CERT, CROSSING_PLAN, ROTATION_CERT, ROTATION_PLAN,
 };
 use crate::runs::problem_of;
+use crate::version_one::CROSSING_ONE;
 use mapf_app::run_demo;
 use mapf_certificate::{
-    Cert, CertLines, PlanAnswer, PlanText, read_cert, read_plan, write_cert, write_plan,
+    Cert, CertLines, PlanAnswer, PlanText, Version, read_cert, read_plan, write_cert, write_plan,
 };
 use mapf_model::devices::{FuseSource, Pace};
 use mapf_model::{
@@ -19,7 +20,7 @@ use std::test::Fail;
 
 #[test]
 fn reads_all_that_a_source_gives(rt: HostRuntime) -> Result<(), Fail> {
-    let bytes = CROSSING_CERT.as_bytes();
+    let bytes = CROSSING_ONE.as_bytes();
     for pace in [Pace::AllAtOnce, Pace::ByteByByte] {
         let mut source = FuseSource::of(bytes, pace, None);
         let all = read_all(rt.alloc(), &mut source, 111)
@@ -61,7 +62,7 @@ fn takes_as_much_as_there_is_room_for(rt: HostRuntime) -> Result<(), Fail> {
 // An item of a tree as far as it is looked at.
 #[derive(Clone, Copy, Debug, PartialEq, Eq)]
 enum Seen {
-    // A split on a cell: its agents, the cell and the tick.
+    // A split on a cell without blocks: its agents, the cell and the tick.
     Split(u32, u32, Cell, Tick),
     // A leaf with one entry: its agent, and the entry's cell, tick and label.
     Raised(u32, Cell, Tick, Label),
@@ -70,7 +71,13 @@ enum Seen {
 
 fn look_at(item: &Item) -> Seen {
     match item {
-        Item::Vertex { i, j, cell, tick } => Seen::Split(*i, *j, *cell, *tick),
+        Item::Vertex {
+            i,
+            j,
+            cell,
+            tick,
+            blocks,
+        } if blocks.is_empty() => Seen::Split(*i, *j, *cell, *tick),
         Item::Leaf(blocks) => look_at_leaf(blocks.as_slice()),
         _ => Seen::Other,
     }
@@ -86,7 +93,12 @@ fn look_at_leaf(blocks: &[Block]) -> Seen {
     }
 }
 
-// The items of the crossing's certificate, each with its line.
+// The crossing's certificates, and their items, each with its line.
+const CROSSING_CERTS: [(Version, &str); 2] = [
+    (Version::One, CROSSING_ONE),
+    (Version::Two, CROSSING_CERT),
+];
+
 const CROSSING_ITEMS: [(u64, Seen); 3] = [
     (4, Seen::Split(0, 1, Cell(4), 1)),
     (5, Seen::Raised(0, Cell(3), 0, Label::Ticks(3))),
@@ -96,14 +108,15 @@ const CROSSING_ITEMS: [(u64, Seen); 3] = [
 #[test]
 fn reads_the_value_of_a_certificate(rt: HostRuntime) -> Result<(), Fail> {
     let problem = problem_of(rt.alloc(), &CROSSING).ok_or("no problem")?;
-    let bytes = CROSSING_CERT.as_bytes();
-    let cert = read_cert(rt.alloc(), bytes, problem.grid())
-        .ok()
-        .ok_or("no certificate")?;
-    assert_eq!(rt; (cert.agents, cert.claim), (2, Claim::Cost(5)));
-    assert_eq!(rt; cert.tree.len(), 3);
-    for (item, (_, wanted)) in cert.tree.iter().zip(CROSSING_ITEMS) {
-        assert_eq!(rt; look_at(item), wanted);
+    for (version, text) in CROSSING_CERTS {
+        let cert = read_cert(rt.alloc(), text.as_bytes(), problem.grid());
+        let cert = cert.ok().ok_or("no certificate")?;
+        assert_eq!(rt; cert.version, version);
+        assert_eq!(rt; (cert.agents, cert.claim), (2, Claim::Cost(5)));
+        assert_eq!(rt; cert.tree.len(), 3);
+        for (item, (_, wanted)) in cert.tree.iter().zip(CROSSING_ITEMS) {
+            assert_eq!(rt; look_at(item), wanted);
+        }
     }
     Ok(())
 }
@@ -133,16 +146,19 @@ fn ends<S: Source>(lines: &mut CertLines, source: &mut S) -> bool
 
 #[test]
 fn reads_a_certificate_item_by_item(rt: HostRuntime) -> Result<(), Fail> {
-    let mut source = BytesSource::of(CROSSING_CERT.as_bytes());
-    let mut lines = CertLines::open(rt.alloc(), 3, 3, 111)?;
-    let header = lines.header(&mut source).ok().ok_or("no header")?;
-    assert_eq!(rt; header, (2, Claim::Cost(5)));
-    let split = next_of(&mut lines, &mut source).ok_or("no split")?;
-    let left = next_of(&mut lines, &mut source).ok_or("no leaf")?;
-    let right = next_of(&mut lines, &mut source).ok_or("no leaf")?;
-    let is_whole = ends(&mut lines, &mut source);
-    assert_eq!(rt; [split, left, right], CROSSING_ITEMS);
-    assert!(rt; is_whole);
+    for (version, text) in CROSSING_CERTS {
+        let mut source = BytesSource::of(text.as_bytes());
+        let mut lines = CertLines::open(rt.alloc(), 3, 3, 113)?;
+        let header = lines.header(&mut source).ok().ok_or("no header")?;
+        assert_eq!(rt; header, (2, Claim::Cost(5)));
+        assert_eq!(rt; lines.version(), version);
+        let split = next_of(&mut lines, &mut source).ok_or("no split")?;
+        let left = next_of(&mut lines, &mut source).ok_or("no leaf")?;
+        let right = next_of(&mut lines, &mut source).ok_or("no leaf")?;
+        let is_whole = ends(&mut lines, &mut source);
+        assert_eq!(rt; [split, left, right], CROSSING_ITEMS);
+        assert!(rt; is_whole);
+    }
     Ok(())
 }
 
@@ -181,6 +197,7 @@ fn writes_values_made_by_hand(rt: HostRuntime) -> Result<(), Fail> {
     let mut tree = Vec::new(rt.alloc());
     tree.push(Item::Clash { i: 0, j: 199 })?;
     let cert = Cert {
+        version: Version::Two,
         agents: 200,
         claim: Claim::Impossible,
         tree,
@@ -188,7 +205,7 @@ fn writes_values_made_by_hand(rt: HostRuntime) -> Result<(), Fail> {
     let bytes = write_cert(rt.alloc(), &cert, problem.grid())?;
     assert_eq!(rt;
         bytes.as_slice(),
-        b"mapf-cert 1\nagents 200\nclaim impossible\nclash 0 199\nend\n".as_slice()
+        b"mapf-cert 2\nagents 200\nclaim impossible\nclash 0 199\nend\n".as_slice()
     );
     Ok(())
 }

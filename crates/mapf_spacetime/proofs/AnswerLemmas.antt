@@ -1,5 +1,5 @@
 -- How a search starts and ends.
-use Rattle.std.proofs.Common.{◌≡◌, inl, inr, ⊎_elim, ℕ, ◌-◌, ◌<◌, ◌≤◌, false, Some, None, List, [], ◌∷◌, All, Contains, length, slice_index_or, sym, subst, ◌∙◌, arith}
+use Rattle.std.proofs.Common.{◌≡◌, inl, inr, ⊎_elim, ℕ, zero, suc, ◌-◌, ◌<◌, ◌≤◌, false, Some, None, List, [], ◌∷◌, All, Contains, length, slice_index_or, refl, sym, subst, ◌∙◌, arith}
 use Rattle.std.proofs.lemmas.Bool.{cases_lt, false≢true}
 use Rattle.std.proofs.lemmas.List.{get_or_past}
 use Rattle.std.proofs.lemmas.List.Elements.{Contains-push, Contains-get_or}
@@ -15,12 +15,12 @@ use Rattle.mapf_model.specs.Path.{at, IsPath, IsCost, IsTight}
 use Rattle.mapf_model.specs.Printed.{IsLabelInRange, IsEntryInRange, IsOnGrid}
 use Rattle.mapf_spacetime.specs.declared.state.State.{State}
 use Rattle.mapf_spacetime.specs.Task.{Task, IsValue, IsWithin, IsBelow, state_at, start_of}
-use Rattle.mapf_spacetime.specs.States.{States, first_states, low_states, IsFrontier, HasArrived, IsSpent, IsBelowLimit}
+use Rattle.mapf_spacetime.specs.States.{States, first_states, low_states, with_open, IsKnown, IsFrontier, HasArrived, IsSpent, IsBelowLimit}
 use Rattle.mapf_spacetime.specs.Listed.{AreEntriesOf}
-use Rattle.mapf_spacetime.specs.Answer.{AreGoodLabels, IsArrival, ShowNone}
-use Rattle.mapf_spacetime.proofs.ValueLemmas.{value_free}
+use Rattle.mapf_spacetime.specs.Answer.{AreGoodLabels, IsStartNearer, IsArrival, ShowNone}
+use Rattle.mapf_spacetime.proofs.ValueLemmas.{value_free, no_lower}
 use Rattle.mapf_spacetime.proofs.FrontierLemmas.{none_held, one_held, reached_within}
-use Rattle.mapf_spacetime.proofs.LabelLemmas.{entry_is, entry_none, entry_there, listed_label, never_label, sound_spent, start_spent}
+use Rattle.mapf_spacetime.proofs.LabelLemmas.{entry_is, entry_none, entry_there, listed_label, low_reached, never_label, sound_spent, start_spent}
 use Rattle.mapf_spacetime.proofs.WayLemmas.{descent_first}
 
 pub first_frontier : (task : Task) (first : ℕ) → IsValue task (start_of task) first → IsFrontier task [] (first_states (start_of task) first)
@@ -123,4 +123,31 @@ shortest_arrives task first path value is_path starts ends shortest is_cost tigh
       first = descent_first task path starts shortest is_cost least;
       labels = no_labels task;
       start = shortest;
+      needed = λ some. absurd (omega arith);
     }
+
+-- no known state has a lesser value than the start
+start_least : (task : Task) (states : States) → IsFrontier task [] states → (n : ℕ) (s : State) → s.tick ≡ n → IsKnown states s → (value : ℕ) → IsValue task s value → (first : ℕ) × IsValue task (start_of task) first × (first ≤ value)
+start_least task states f zero s tick known value is = ⊎_elim
+    (λ (same : s ≡ start_of task). (value, subst (λ t. IsValue task t value) same is, omega arith))
+    (λ (from, reached, goes). absurd (let one = goes.tick in omega arith))
+    (f.entered s known)
+start_least task states f (suc n) s tick known value is = ⊎_elim
+    (λ (same : s ≡ start_of task). (value, subst (λ t. IsValue task t value) same is, omega arith))
+    (λ (from, reached, goes).
+    let (before, before_is, within) = reached_within task [] states f from reached in
+    let low = no_lower task from s before value before_is is goes in
+    let (first, first_is, less) = start_least task states f n from (let one = goes.tick in omega arith) (inl reached) before before_is in
+    (first, first_is, omega arith))
+    (f.entered s known)
+
+-- where there are labels of states below the cost, the start is one of them
+pub start_nearer : (task : Task) (states : States) → HasArrived task states → (entries : List Entry) → AreEntriesOf (low_states states) (Some states.cost) entries → 1 ≤ length entries → IsStartNearer task states.cost
+start_nearer task states h (e ∷ entries) a some =
+    let (listed, label_is) = a.each e (0, omega arith, refl) in
+    let (value, is, less) = h.frontier.low (state_at e.cell e.tick) listed in
+    let reached = low_reached states.reached states.below (state_at e.cell e.tick) listed in
+    let (first, first_is, within) = start_least task (with_open states (state_at task.goal states.cost)) h.frontier e.tick (state_at e.cell e.tick) refl (inl reached) value is in
+    let sum = first_is.sum in
+    (first_is.distance, first_is.is, omega arith)
+start_nearer task states h [] a some = absurd (omega arith)

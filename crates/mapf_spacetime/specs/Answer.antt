@@ -1,8 +1,9 @@
 -- What an answer of the search means.
-use Rattle.std.specs.Prelude.{◌≡◌, ℕ, ◌<◌, ◌≤◌, List, All, AllPairs}
+use Rattle.std.specs.Prelude.{◌≡◌, ℕ, ◌<◌, ◌≤◌, List, length, All, AllPairs}
 use Rattle.mapf_model.specs.declared.label.Entry.{Entry}
 use Rattle.mapf_model.specs.declared.label.Label.TheVariants.{Ticks, Never}
 use Rattle.mapf_model.specs.Bars.{Satisfies}
+use Rattle.mapf_model.specs.Distance.{IsDistance}
 use Rattle.mapf_model.specs.Labels.{AreSound, IsLabel, entries_of}
 use Rattle.mapf_model.specs.Path.{at, IsLawful, IsCost, IsTight}
 use Rattle.mapf_model.specs.Printed.{IsBefore, IsEntryInRange}
@@ -27,8 +28,12 @@ abbrev pub IsFirstOfCost : Task → ℕ → List ℕ → Type 0
 IsFirstOfCost task cost path = (other : List ℕ) (tick : ℕ) → IsLawful task.grid (agent_of task) other →
     Satisfies task.bars other → IsCost task.goal other cost → AgreeBefore tick path other → at path tick ≤ at other tick
 
+-- the distance of the start is less than this
+abbrev pub IsStartNearer : Task → ℕ → Type 0
+IsStartNearer task cost = (distance : ℕ) × IsDistance task.grid task.goal task.start distance × (distance < cost)
+
 -- a lawful, tight path that satisfies the bars, whose cost the labels show to be the least, and before which no path of
--- that cost comes
+-- that cost comes. Where the cost is the distance there are no labels
 pub record IsArrival (task : Task) (path : List ℕ) (entries : List Entry) : Type 0 where
   pub cost : ℕ
   pub lawful : IsLawful task.grid (agent_of task) path
@@ -39,6 +44,7 @@ pub record IsArrival (task : Task) (path : List ℕ) (entries : List Entry) : Ty
   pub first : IsFirstOfCost task cost path
   pub labels : AreGoodLabels task entries
   pub start : IsLabel task.grid task.goal (entries_of entries) task.start 0 (Ticks cost)
+  pub needed : 1 ≤ length entries → IsStartNearer task cost
 
 -- the labels show that no path arrives
 pub record IsDeath (task : Task) (entries : List Entry) : Type 0 where

@@ -1,5 +1,6 @@
 use clap::{Arg, Command, value_parser};
 use mapf_model::limits::{MOST_AGENTS, MOST_SPLITS};
+use mapf_model::{most_agents, most_splits};
 use std::alloc::{AllocError, Global};
 
 const ABOUT: &str =
@@ -80,9 +81,9 @@ const MAP: &str = "The grid: a MovingAI map of type octile";
 
 const SCEN: &str = "The agents: a MovingAI scenario of version 1 for that map";
 
-const K: &str = "How many agents: the first K rows of SCEN, 1 to 200";
+const K: &str = most_agents!("How many agents: the first K rows of SCEN, 1 to ");
 
-const LIMIT: &str = "How often the search may split on a conflict, 0 to 100000";
+const LIMIT: &str = most_splits!("How often the search may split on a conflict, 0 to ");
 
 fn file<'a>(alloc: Global, name: &'a str, help: &'a str) -> Arg<'a> {
     Arg::new(alloc, name).required(true).help(help)

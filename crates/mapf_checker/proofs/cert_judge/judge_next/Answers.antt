@@ -1,4 +1,4 @@
-use Rattle.std.proofs.Common.{length}
+use Rattle.std.proofs.Common.{length, refl}
 use Rattle.mapf_model.specs.Tree.{node_of}
 use Rattle.mapf_certificate.specs.CertReading.{IsRestAt}
 use Rattle.mapf_certificate.specs.Certificates.{IsNode}
@@ -7,7 +7,7 @@ use Rattle.mapf_certificate.proofs.CertTexts.{AreSized}
 use Rattle.mapf_checker.specs.Faults.{of_cert}
 use Rattle.mapf_checker.specs.NodeDefects.{HasNodeDefect}
 use Rattle.mapf_checker.specs.Progress.{owed_by, here_of}
-use Rattle.mapf_checker.proofs.ReadLemmas.{is_next, came_with_node, came_to_end, read_more, bad_node, defect_refutes_nodes, read_all, none_awaited, no_refusal, stops_reading, stops_judging, no_refusal_judging, node_moved, not_read_on}
+use Rattle.mapf_checker.proofs.ReadLemmas.{between_after, is_next, came_with_node, came_to_end, read_more, bad_node, defect_refutes_nodes, read_all, none_awaited, no_refusal, stops_reading, stops_judging, no_refusal_judging, node_moved, not_read_on}
 use Rattle.mapf_checker.proofs.cert_judge.judge_next.Goals as goal
 
 pub returns-in_err-item-clause-judged : goal.returns-in_err-item-clause-judged
@@ -89,3 +89,12 @@ returns-clause-judged g c had start so_far =
       only = λ nodes awaits shows. tt;
       stops = tt;
     }
+
+pub returns-clause-between : goal.returns-clause-between
+returns-clause-between g c came =
+    let between = c.requires.between in
+    let said = c.in_ok-item.ensures in
+    let takes = rw c.in-Some.is at (said.item between.fault between.part) in
+    let part = rw c.in-Some.is at said.part in
+    between_after c.args.problem.now c.args.claim.now c.args.lines.now c.next_item.new.self c.args.progress.now c.item.new.self (node_of c.in-Some.item) between takes.read.was_owed takes.read.owed
+    said.grid said.known.1 said.unfaulted (part refl) c.in_ok-item-2.ensures.ready c.in_ok-item-2.ensures.owed

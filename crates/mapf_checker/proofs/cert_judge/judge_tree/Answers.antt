@@ -22,15 +22,15 @@ loop-progress-init g c = record {
 
 pub returns-in_err-judge_next-clause-only : goal.returns-in_err-judge_next-clause-only
 returns-in_err-judge_next-clause-only g c nodes awaits shows =
-    err_passed c.from_residual.result IsNoRefusal c.in_err-judge_next.field-0.0 c.from_residual.ensures.1
+    err_passed c.from_residual-in_err-judge_next.result IsNoRefusal c.in_err-judge_next.field-0.0 c.from_residual-in_err-judge_next.ensures.1
     ((c.in_err-judge_next.ensures.judged ((g.S.Source).remaining c.args.source.now) c.args.lines.now c.loop-progress.invariant.read).only nodes awaits shows)
 
 pub returns-in_err-judge_next-clause-stops : goal.returns-in_err-judge_next-clause-stops
 returns-in_err-judge_next-clause-stops g c =
     let had = (g.S.Source).remaining c.args.source.now in
     let start = c.args.lines.now in
-    err_passed c.from_residual.result (IsOfChecking had ((g.S.Source).remaining c.judge_next.new.source) ((g.S.Source).has_failed c.judge_next.new.source) start.buffer (HasTreeRefusal c.args.problem.now c.args.claim.now had start))
-    c.in_err-judge_next.field-0.0 c.from_residual.ensures.1 (c.in_err-judge_next.ensures.judged had start c.loop-progress.invariant.read).stops
+    err_passed c.from_residual-in_err-judge_next.result (IsOfChecking had ((g.S.Source).remaining c.judge_next.new.source) ((g.S.Source).has_failed c.judge_next.new.source) start.buffer (HasTreeRefusal c.args.problem.now c.args.claim.now had start))
+    c.in_err-judge_next.field-0.0 c.from_residual-in_err-judge_next.ensures.1 (c.in_err-judge_next.ensures.judged had start c.loop-progress.invariant.read).stops
 
 pub loop-progress-preserved : goal.loop-progress-preserved
 loop-progress-preserved g c = record {
@@ -38,3 +38,9 @@ loop-progress-preserved g c = record {
   between = c.in_ok-judge_next.ensures.between c.if-branch.true;
   read = rw c.if-branch.true at (c.in_ok-judge_next.ensures.judged ((g.S.Source).remaining c.args.source.now) c.args.lines.now c.loop-progress.invariant.read).read;
 }
+
+pub returns-clause-came : goal.returns-clause-came
+returns-clause-came g c = (c.in_ok-judge_next.ensures.judged ((g.S.Source).remaining c.args.source.now) c.args.lines.now c.loop-progress.invariant.read).came
+
+pub returns-clause-judged : goal.returns-clause-judged
+returns-clause-judged g c = rw c.if-branch.false at (c.in_ok-judge_next.ensures.judged ((g.S.Source).remaining c.args.source.now) c.args.lines.now c.loop-progress.invariant.read).read

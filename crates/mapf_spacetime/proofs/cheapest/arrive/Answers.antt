@@ -7,7 +7,7 @@ use Rattle.mapf_spacetime.specs.Answer.{IsArrival}
 use Rattle.mapf_spacetime.proofs.WayLemmas.{start_leads, start_within, walk_first}
 use Rattle.mapf_spacetime.proofs.PathLemmas.{walk_lawful, walk_satisfies, walk_cost, walk_tight}
 use Rattle.mapf_spacetime.proofs.LabelLemmas.{sound_arrives, start_arrives}
-use Rattle.mapf_spacetime.proofs.AnswerLemmas.{ranges_some, low_ticks}
+use Rattle.mapf_spacetime.proofs.AnswerLemmas.{ranges_some, low_ticks, start_nearer}
 use Rattle.mapf_spacetime.proofs.cheapest.arrive.Goals as goal
 
 pub least_walk-requires-clause-arrives : goal.least_walk-requires-clause-arrives
@@ -41,4 +41,5 @@ returns g c =
       first = walk_first task states.cost cells way (walk_cost task states cells h way c.requires.start);
       labels = record { sound = sound_arrives task states h listed a; rising = a.rising; ranges = ranges_some task c.requires.shape (low_states states) listed states.cost c.requires.small h.frontier.low a };
       start = start_arrives task states h listed a;
+      needed = start_nearer task states h listed a;
     }))

@@ -10,5 +10,5 @@ invariant_of-self-2 c =
     let undo = c.in_ok-undo.ensures in
     rw (c.push_reserved.ensures.items, c.reserve.ensures.items)
     (IsIndexedBranch-push edges (record { constraint = c.args.constraint; owed = c.args.owed; changes = c.args.changes; undo = c.in_ok-undo.undo }) c.self.inside.index c.add.new.self c.self.inside.starts c.change.new.self indexed c.change.ensures.count
-    (undo.added here.bars indexed.indexed) (c.change.ensures.entries here.entries indexed.kept)
-    (record { constraint = undo.undo here.bars indexed.indexed; agents = c.requires.agents; entries = c.requires.entries }))
+    (undo.added here.bars indexed.indexed) (rw c.deref.ensures.value at (c.change.ensures.entries here.entries indexed.kept))
+    (record { constraint = undo.undo here.bars indexed.indexed; agents = rw (← c.self.view_is) at c.requires.agents; entries = rw (← c.self.view_is) at c.requires.entries }))

@@ -4,8 +4,8 @@ use Rattle.mapf_checker.specs.Starts.{AreKept, KnowEntries, with_changes}
 use Rattle.mapf_checker.proofs.ChangeLemmas.{AreBetween}
 use Rattle.mapf_checker.proofs.starts.Starts.undo.Given as goal
 
-abbrev pub invariant-loop-k : goal.invariant-loop-k
-invariant-loop-k l = record {
+abbrev pub invariant-loop-change : goal.invariant-loop-change
+invariant-loop-change l = record {
   count : length l.self.entries.items ≡ length l.fn.self.entries.items;
-  between : (entries : ℕ → Entries) → AreKept (with_changes l.changes entries) l.fn.self.entries.items → KnowEntries entries l.changes → AreBetween (drop l.k l.changes) entries l.self.entries.items;
+  between : (entries : ℕ → Entries) → AreKept (with_changes l.changes entries) l.fn.self.entries.items → KnowEntries entries l.changes → AreBetween (drop l.change-index l.changes) entries l.self.entries.items;
 }
