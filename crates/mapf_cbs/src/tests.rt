@@ -111,12 +111,14 @@ fn answer_text(alloc: Global, answer: &Answer) -> Result<String, AllocError> {
         Answer::Impossible { tree } => (String::from_str(alloc, "impossible")?, tree),
         Answer::Limit {
             cause: Cause::Ticks,
+            bound,
             tree,
-        } => (String::from_str(alloc, "limit ticks")?, tree),
+        } => (format!(in alloc; "limit ticks bound {bound}")?, tree),
         Answer::Limit {
             cause: Cause::Splits(n),
+            bound,
             tree,
-        } => (format!(in alloc; "limit {n}")?, tree),
+        } => (format!(in alloc; "limit {n} bound {bound}")?, tree),
     };
     text.push_str(&tree_text(alloc, tree)?)?;
     Ok(text)

@@ -25,7 +25,7 @@ returns-in_default c =
     record {
       found = tt;
       only = λ plan spells. absurd (c.in_default.not-Found plan (one_plan problem c.args.bytes.now text (rw c.grid.ensures at c.in-Ok.ensures.only) spells.version (length problem.agents) plan spells.spelled).1);
-      fault = (text.agents, text.answer, spells_text problem c.args.bytes.now text (rw c.grid.ensures at c.in-Ok.ensures.found), is_no_plan text.answer c.in_default.not-Found);
+      fault = (text.version, text.agents, text.answer, spells_text problem c.args.bytes.now text (rw c.grid.ensures at c.in-Ok.ensures.found), is_no_plan text.answer c.in_default.not-Found);
       inner = tt;
     }
 
