@@ -2,8 +2,8 @@
 -- plan has a smaller sum of costs; 'impossible' is printed only where no plan is valid; the checker accepts the certificate
 -- printed with either; and whatever the checker accepts as optimal or as impossible truly is so, whoever wrote it.
 --
--- Beside it: where a bound is accepted or printed, every valid plan has a sum of at least it, and the checker accepts what is
--- printed with it.
+-- Where a bound is printed or accepted, no valid plan has a smaller sum of costs, whoever wrote the texts; and the checker
+-- accepts the certificate printed with a bound.
 --
 -- Bytes are known where a source or a sink tells them; of a file no contract knows them.
 use Rattle.std.specs.Prelude.{◌≡◌, ℕ, List, Option, Some, IfSome, IsSome, length}

@@ -28,7 +28,7 @@ use Rattle.mapf_cbs.specs.Goals.{NamesFirstDefect}
 use Rattle.mapf_cbs.specs.State.{IsState, IsPopped, IsCauseToStop, IsLeastKey}
 use Rattle.mapf_cbs.proofs.ViewLemmas.{live_sum, live_cheapest, live_first}
 use Rattle.mapf_cbs.proofs.ChildLemmas.{conflict_early, Contains-none}
-use Rattle.mapf_cbs.proofs.TreeLemmas.{is_earned, is_on_first, shows_cost, shows_bound, shows_impossible, has_splits, has_blocks, is_stopped, at_leaf, reaches}
+use Rattle.mapf_cbs.proofs.TreeLemmas.{is_earned, is_on_first, shows_cost, shows_bound, shows_impossible, has_splits, has_blocks, is_stopped, at_leaf, meets_at_a_leaf}
 use Rattle.mapf_cbs.proofs.GrowLemmas.{searched_first}
 use Rattle.mapf_cbs.proofs.RangeLemmas.{tree_in_range, plan_in_range, sum_in_range}
 use Rattle.mapf_cbs.proofs.OpenLemmas.{Contains-first}
@@ -178,7 +178,7 @@ module _ (problem : Instance) (shape : IsGridMap problem.grid) (names : (tree : 
         record {
           shows = shows;
           holds = shown_holds problem (Bound (sum view.costs)) found.0 shows;
-          reached = reaches problem popped.state.views fates count popped.state.searched found.0 found.2 k view is is_open;
+          met_at_a_leaf = meets_at_a_leaf problem popped.state.views fates count popped.state.searched found.0 found.2 k view is is_open;
           claim_in_range = sum_in_range problem shape view live short few;
         }
 

@@ -321,8 +321,8 @@ module _ (problem : Instance) (views : List View) (fates : List Fate) (count : �
         (some_leaf P j view Open is is_open tt (live_cheapest problem view live, live_first problem view live) tree searched.tree.shape 0 searched.first.0 searched.first.1 searched.tree.is_shape on_tree (omega arith))
 
     -- the labels of the starts at an open node add up to its sum, at a leaf
-    pub reaches : (j : ℕ) (view : View) → slice_get views j ≡ Some view → slice_get fates j ≡ Some Open → AtSomeLeaf (λ context blocks. StartsAddUpTo problem (sum view.costs) (with_blocks blocks context.entries)) root tree
-    reaches j view is is_open =
+    pub meets_at_a_leaf : (j : ℕ) (view : View) → slice_get views j ≡ Some view → slice_get fates j ≡ Some Open → AtSomeLeaf (λ context blocks. StartsAddUpTo problem (sum view.costs) (with_blocks blocks context.entries)) root tree
+    meets_at_a_leaf j view is is_open =
         let P : NodeContext → List LabelBlock → Type 0 = λ context blocks. StartsAddUpTo problem (sum view.costs) (with_blocks blocks context.entries) in
         let once = searched.tree.once j (slice_get_within fates j Open is_open) in
         subst (λ context. AtSomeLeaf P context tree) searched.first.2

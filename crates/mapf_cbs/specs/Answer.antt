@@ -9,7 +9,6 @@ use Rattle.mapf_model.specs.Grid.{free_cell_count}
 use Rattle.mapf_model.specs.Limits.{split_ticks}
 use Rattle.mapf_model.specs.Plan.{Instance, IsOptimal, IsLowerBound, IsImpossible}
 use Rattle.mapf_model.specs.Printed.{IsTreeInRange, IsPlanInRange, IsClaimInRange}
-use Rattle.mapf_model.specs.Blocks.{LabelBlock}
 use Rattle.mapf_model.specs.Tree.{ConstraintTree, NodeContext, Spell, Shows, StartsAddUpTo, AtSomeLeaf, root, split_count, with_blocks}
 use Rattle.mapf_cbs.specs.BoundBlocks.{CarriesBoundBlocks}
 use Rattle.mapf_cbs.specs.FirstConflicts.{AreFirstPaths, AreOnFirstConflicts}
@@ -29,9 +28,9 @@ pub record IsTreeOf (problem : Instance) (limit : ℕ) (items : List Item) (tree
   pub blocks : CarriesBoundBlocks problem tree
   pub in_range : IsTreeInRange problem.grid (length problem.agents) tree
 
--- at a node with this context, whatever its blocks, the paths are cheapest, and each is the first of its cost
-abbrev pub AreFirstCheapest : Instance → List (List ℕ) → NodeContext → List LabelBlock → Type 0
-AreFirstCheapest problem paths context blocks =
+-- at a node with this context the paths are cheapest, and each is the first of its cost
+abbrev pub AreFirstCheapest : Instance → List (List ℕ) → NodeContext → Type 0
+AreFirstCheapest problem paths context =
     AreCheapest problem context paths × AreFirstPaths problem context paths
 
 -- the plan is valid, the tree shows that no valid plan is cheaper, and so none is; at a leaf of the tree its paths are
@@ -40,7 +39,7 @@ pub record IsShownOptimal (problem : Instance) (plan : List (List ℕ)) (tree : 
   pub total : ℕ
   pub optimal : IsOptimal problem plan total
   pub shows : Shows problem (Cost total) tree
-  pub of_a_leaf : AtSomeLeaf (AreFirstCheapest problem plan) root tree
+  pub of_a_leaf : AtSomeLeaf (λ context blocks. AreFirstCheapest problem plan context) root tree
   pub plan_in_range : IsPlanInRange problem.grid plan
   pub claim_in_range : IsClaimInRange (Cost total)
 
@@ -50,11 +49,11 @@ pub record IsShownImpossible (problem : Instance) (tree : ConstraintTree) : Type
   pub impossible : IsImpossible problem
 
 -- the tree shows that no valid plan has a sum below the bound, and so none has; it shows no greater bound, since at
--- some leaf the labels of the starts add up to just this one; and it can be printed
+-- some leaf the labels of the starts add up to exactly this; and it can be printed
 pub record IsShownBound (problem : Instance) (bound : ℕ) (tree : ConstraintTree) : Type 0 where
   pub shows : Shows problem (Bound bound) tree
   pub holds : IsLowerBound problem bound
-  pub reached : AtSomeLeaf (λ context blocks. StartsAddUpTo problem bound (with_blocks blocks context.entries)) root tree
+  pub met_at_a_leaf : AtSomeLeaf (λ context blocks. StartsAddUpTo problem bound (with_blocks blocks context.entries)) root tree
   pub claim_in_range : IsClaimInRange (Bound bound)
 
 -- an earned tree with a leaf at which due paths, each the first of its cost, conflict, and of which the fact holds

@@ -8,6 +8,7 @@ use Rattle.mapf_model.specs.Printed.{IsClaimInRange}
 use Rattle.mapf_model.specs.Tree.{ConstraintTree, Node, NodeContext, root}
 use Rattle.mapf_certificate.specs.declared.cert.CertFault.TheVariants as certs
 use Rattle.mapf_certificate.specs.declared.version.Version.{Version}
+use Rattle.mapf_certificate.specs.declared.version.Version.TheVariants.{One}
 use Rattle.mapf_certificate.specs.declared.plan_text.PlanAnswer.{PlanAnswer}
 use Rattle.mapf_certificate.specs.declared.plan_text.PlanAnswer.TheVariants.{Found, Limit}
 use Rattle.mapf_certificate.specs.declared.plan_text.PlanTextFault.TheVariants as plans
@@ -27,11 +28,11 @@ use Rattle.mapf_checker.specs.Verdict.{IsGoodPlan, claim_of}
 abbrev pub HasPlanRefusal : Instance → List ℕ → CheckFault → Type 0
 HasPlanRefusal problem bytes (C1 fault) = (fault ≢ plans.Memory) × ((version : Version) (agents : ℕ) (says : PlanAnswer) → SpellsPlan problem.grid bytes version agents says → ⊥)
 HasPlanRefusal problem bytes C3 = (version : Version) × (agents : ℕ) × (says : PlanAnswer) × SpellsPlan problem.grid bytes version agents says × (agents ≢ length problem.agents)
-HasPlanRefusal problem bytes C4 = (version : Version) × (cause : Cause) × SpellsPlan problem.grid bytes version (length problem.agents) (Limit cause)
+HasPlanRefusal problem bytes C4 = (cause : Cause) × SpellsPlan problem.grid bytes One (length problem.agents) (Limit cause)
 HasPlanRefusal problem bytes (C5 fault) = (version : Version) × (plan : List (List ℕ)) × SpellsPlan problem.grid bytes version (length problem.agents) (Found plan) × HasDefect problem plan fault
 HasPlanRefusal problem bytes fault = ⊥
 
--- the bytes begin with a header whose numbers are in their ranges
+-- the bytes begin with a header whose numbers are in their ranges, with a claim that its version may make
 pub record BeginsWithHeader (problem : Instance) (bytes : List ℕ) (agents : ℕ) (claim : Claim) : Type 0 where
   pub version : Version
   pub agents_in_range : IsAgentCount agents

@@ -14,7 +14,7 @@ use Rattle.mapf_checker.specs.declared.fault.Verdict.TheVariants.{Optimal, Bound
 
 -- what a verdict says of the problem and the answer of a plan text: the answer is a plan that is optimal with the
 -- verdict's sum, or the answer and the verdict are `impossible` and no plan is valid, or the answer is a limit with the
--- verdict's bound and every valid plan has at least this sum. It says nothing true of a limit without a bound
+-- verdict's bound and every valid plan has at least this sum. Of a limit without a bound no verdict is true
 abbrev pub IsTrueOf : Instance → PlanAnswer → Verdict → Type 0
 IsTrueOf problem (answers.Found plan) (Optimal sum) = IsOptimal problem plan sum
 IsTrueOf problem (answers.Found plan) _ = ⊥
@@ -31,8 +31,8 @@ pub record IsTrueText (problem : Instance) (bytes : List ℕ) (verdict : Verdict
   pub spelled : SpellsPlan problem.grid bytes version (length problem.agents) says
   pub is_true : IsTrueOf problem says verdict
 
--- the answer of a plan text fits the verdict: a valid plan with its sum; or `impossible` for `impossible`, or a limit
--- with this bound, which only a certificate shows
+-- the answer of a plan text fits the verdict: a valid plan with its sum, `impossible` for `impossible`, or a limit with the
+-- verdict's bound; the last two only a certificate shows
 abbrev pub IsGoodFor : Instance → PlanAnswer → Verdict → Type 0
 IsGoodFor problem (answers.Found plan) (Optimal sum) = IsValid problem plan × IsSumOfCosts problem.agents plan sum
 IsGoodFor problem (answers.Found plan) _ = ⊥

@@ -7,7 +7,8 @@ use mapf_model::OutOfMemory;
 pub enum Verdict {
     /// The plan is valid, its sum of costs in ticks is this, and no valid plan has a smaller one.
     Optimal(u64),
-    /// The plan text says that a limit was met, and no valid plan has a sum of costs below this, in ticks.
+    /// The plan text says that a limit was met, with this bound, and no valid plan has a smaller sum of
+    /// costs, in ticks.
     Bound(u64),
     /// No plan is valid.
     Impossible,

@@ -71,7 +71,8 @@ TreeIsUnique = (s t : ConstraintTree) → nodes_of s ≡ nodes_of t → s ≡ t
 abbrev pub LabelIsUnique : Type 0
 LabelIsUnique = (grid : GridMap) (goal : ℕ) (entries : Entries) (cell tick : ℕ) (a b : Label) → IsLabel grid goal entries cell tick a → IsLabel grid goal entries cell tick b → a ≡ b
 
--- so the labels of the starts, once they are known, decide whether they show a cost or a bound
+-- so the labels of the starts, once they are known, decide whether they add up to at least a number, which is how a
+-- cost or a bound is shown
 abbrev pub StartLabelsDecide : Type 0
 StartLabelsDecide = (problem : Instance) (entries : ℕ → Entries) (labels : List Label) (total : ℕ) → AreStartLabels problem entries labels → StartsReach problem total entries ↔ IsAtMost (Ticks total) (label_sum labels)
 

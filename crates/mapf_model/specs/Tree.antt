@@ -203,7 +203,7 @@ pub record AreStartLabels (problem : Instance) (entries : ℕ → Entries) (labe
 abbrev pub StartsReach : Instance → ℕ → (ℕ → Entries) → Type 0
 StartsReach problem total entries = (labels : List Label) × AreStartLabels problem entries labels × IsAtMost (Ticks total) (label_sum labels)
 
--- they add up to exactly this
+-- the labels of the starts add up to exactly this
 abbrev pub StartsAddUpTo : Instance → ℕ → (ℕ → Entries) → Type 0
 StartsAddUpTo problem total entries = (labels : List Label) × AreStartLabels problem entries labels × (label_sum labels ≡ Ticks total)
 
