@@ -43,8 +43,9 @@ module _ (map scen plan cert : Option (List ℕ)) (count : ℕ) (problem : Insta
     problem = problem;
     posed = posed;
     read = read;
+    version = truth.version;
     says = truth.says;
-    spelled = told (λ bytes. SpellsPlan problem.grid bytes (length problem.agents) truth.says) plan text same truth.spelled;
+    spelled = told (λ bytes. SpellsPlan problem.grid bytes truth.version (length problem.agents) truth.says) plan text same truth.spelled;
     is_true = truth.is_true;
     accepted = told (λ bytes. IfSome cert (λ others. AreAccepted problem bytes others verdict)) plan text same (for_told (λ others. AreAccepted problem text others verdict) cert accepted);
   }

@@ -9,8 +9,9 @@ use Rattle.mapf_app.specs.declared.fault.Fault.TheVariants.{F1, F2, F3, F4, F5, 
 use Rattle.mapf_certificate.specs.PlanReading.{OrMemory}
 use Rattle.mapf_certificate.specs.Plans.{IsPlanText, SpellsPlan, plan_text}
 use Rattle.mapf_certificate.specs.declared.plan_text.PlanAnswer.{PlanAnswer}
-use Rattle.mapf_certificate.specs.declared.plan_text.PlanAnswer.TheVariants.{Found, Impossible, Limit}
+use Rattle.mapf_certificate.specs.declared.plan_text.PlanAnswer.TheVariants.{Found, Impossible, Limit, Bounded}
 use Rattle.mapf_certificate.specs.declared.plan_text.PlanText.{PlanText}
+use Rattle.mapf_certificate.specs.declared.version.Version.{Version}
 use Rattle.mapf_certificate.specs.declared.plan_text.PlanTextFault.{PlanTextFault}
 use Rattle.mapf_certificate.specs.declared.plan_text.PlanTextFault.TheVariants.{P1, P2, P3, P4, Memory}
 use Rattle.mapf_checker.proofs.PlanLemmas.{same_text}
@@ -23,27 +24,28 @@ pub is_no_plan : (answer : PlanAnswer) → ((plan : List (List ℕ)) → answer 
 is_no_plan (Found plan) none = absurd (none plan refl)
 is_no_plan Impossible none = tt
 is_no_plan (Limit cause) none = tt
+is_no_plan (Bounded cause bound) none = tt
 
 -- bytes that are read as this text
 module _ (problem : Instance) (bytes : List ℕ) (text : PlanText) where
-  pub spells_text : IsPlanText problem.grid text × (bytes ≡ plan_text problem.grid.width text) → SpellsPlan problem.grid bytes text.agents text.answer
+  pub spells_text : IsPlanText problem.grid text × (bytes ≡ plan_text problem.grid.width text) → SpellsPlan problem.grid bytes text.version text.agents text.answer
   spells_text found = record { in_range = found.0; spelled = found.1 }
 
   -- spell no other plan
   pub one_plan : ((other : PlanText) → IsPlanText problem.grid other → bytes ≡ plan_text problem.grid.width other → OrMemory {A = PlanText} (Ok text) (◌≡◌ {A = Result PlanText PlanTextFault} (Ok text) (Ok other))) →
-      (agents : ℕ) (plan : List (List ℕ)) → SpellsPlan problem.grid bytes agents (Found plan) → (text.agents ≡ agents) × (text.answer ≡ Found plan)
-  one_plan only agents plan spells =
-      let other : PlanText = record { agents = agents; answer = Found plan } in
+      (version : Version) (agents : ℕ) (plan : List (List ℕ)) → SpellsPlan problem.grid bytes version agents (Found plan) → (text.agents ≡ agents) × (text.answer ≡ Found plan)
+  one_plan only version agents plan spells =
+      let other : PlanText = record { version = version; agents = agents; answer = Found plan } in
       let same : text ≡ other = same_text text other (only other spells.in_range spells.spelled) in
       (ap (λ (t : PlanText). t.agents) same, ap (λ (t : PlanText). t.answer) same)
 
 -- bytes that can't be read have this fault
-pub unread : (problem : Instance) (bytes : List ℕ) (fault : PlanTextFault) → ((agents : ℕ) (answer : PlanAnswer) → SpellsPlan problem.grid bytes agents answer → fault ≡ Memory) → IsReadingPlan problem bytes (fault_of_plan_text fault)
+pub unread : (problem : Instance) (bytes : List ℕ) (fault : PlanTextFault) → ((version : Version) (agents : ℕ) (answer : PlanAnswer) → SpellsPlan problem.grid bytes version agents answer → fault ≡ Memory) → IsReadingPlan problem bytes (fault_of_plan_text fault)
 unread problem bytes Memory none = tt
-unread problem bytes (P1 line) none = (λ e. cc, λ agents answer spells. let memory = none agents answer spells in cc)
-unread problem bytes (P2 line) none = (λ e. cc, λ agents answer spells. let memory = none agents answer spells in cc)
-unread problem bytes (P3 line) none = (λ e. cc, λ agents answer spells. let memory = none agents answer spells in cc)
-unread problem bytes (P4 line) none = (λ e. cc, λ agents answer spells. let memory = none agents answer spells in cc)
+unread problem bytes (P1 line) none = (λ e. cc, λ version agents answer spells. let memory = none version agents answer spells in cc)
+unread problem bytes (P2 line) none = (λ e. cc, λ version agents answer spells. let memory = none version agents answer spells in cc)
+unread problem bytes (P3 line) none = (λ e. cc, λ version agents answer spells. let memory = none version agents answer spells in cc)
+unread problem bytes (P4 line) none = (λ e. cc, λ version agents answer spells. let memory = none version agents answer spells in cc)
 
 -- a fault of the plan text that was read stands in what its source told
 pub play_fault_told : (map scen plan : Option (List ℕ)) (count : ℕ) (problem : Instance) → SpellsProblem map scen count problem → (text : List ℕ) → IfSome plan (λ bytes. text ≡ bytes) → (fault : Fault) → IsReadingPlan problem text fault →

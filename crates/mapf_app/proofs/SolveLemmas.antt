@@ -1,11 +1,5 @@
 -- What a call that wrote says of its bytes.
 use Rattle.std.proofs.Common.{◌≡◌, ℕ, ◌≤◌, true, false, List, length, take, Option, Result, Ok, Err, OnErr, OnOk, sym, subst}
-use Rattle.std.proofs.KnownBytes.{Appends-nil}
-use Rattle.mapf_app.specs.Solved.{Prints}
-use Rattle.mapf_app.specs.declared.kind.Kind.{Kind}
-use Rattle.mapf_app.specs.declared.kind.Kind.TheVariants.{Found, Impossible, Limit}
-use Rattle.mapf_model.specs.declared.cause.Cause.{Cause}
-use Rattle.mapf_model.specs.Plan.{Instance}
 use Rattle.std.specs.Io.KnownBytes.{Appends}
 use Rattle.std.specs.Result.{is_err}
 
@@ -19,9 +13,3 @@ front_written old new bytes text (Err e) same failed says = (says.0, subst (λ w
 pub whole_written : {T E : Type 0} (old new : Option (List ℕ)) (bytes text : List ℕ) (r : Result T E) → bytes ≡ text → is_err r ≡ false → OnOk r (Appends old new bytes) → Appends old new text
 whole_written old new bytes text (Ok x) same went says = subst (Appends old new) same says
 whole_written old new bytes text (Err e) same went says = absurd cc
-
--- on a limit a sink of which nothing was asked has the whole certificate
-pub unasked : (problem : Instance) (limit : ℕ) (kind : Kind) (cause : Cause) → kind ≡ Limit cause → (plan cert : List ℕ) → Prints problem limit kind plan cert → (old : Option (List ℕ)) → Appends old old cert
-unasked problem limit (Found cost) cause is plan cert prints old = absurd cc
-unasked problem limit Impossible cause is plan cert prints old = absurd cc
-unasked problem limit (Limit met) cause is plan cert prints old = subst (Appends old old) (sym prints.nothing) (Appends-nil old)

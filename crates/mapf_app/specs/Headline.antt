@@ -2,6 +2,9 @@
 -- plan has a smaller sum of costs; 'impossible' is printed only where no plan is valid; the checker accepts the certificate
 -- printed with either; and whatever the checker accepts as optimal or as impossible truly is so, whoever wrote it.
 --
+-- Where a bound is printed or accepted, no valid plan has a smaller sum of costs, whoever wrote the texts; and the checker
+-- accepts the certificate printed with a bound.
+--
 -- Bytes are known where a source or a sink tells them; of a file no contract knows them.
 use Rattle.std.specs.Prelude.{◌≡◌, ℕ, List, Option, Some, IfSome, IsSome, length}
 use Rattle.mapf_app.specs.declared.kind.Kind.{Kind}
@@ -9,6 +12,7 @@ use Rattle.mapf_app.specs.declared.kind.Kind.TheVariants.{Found, Impossible, Lim
 use Rattle.mapf_app.specs.Problems.{IsPosed, SpellsProblem}
 use Rattle.mapf_app.specs.Solved.{Prints}
 use Rattle.mapf_certificate.specs.Plans.{SpellsPlan}
+use Rattle.mapf_certificate.specs.declared.version.Version.{Version}
 use Rattle.mapf_certificate.specs.declared.plan_text.PlanAnswer.{PlanAnswer}
 use Rattle.mapf_checker.specs.Verdict.{AreAccepted, IsTrueOf}
 use Rattle.mapf_checker.specs.declared.fault.Verdict.{Verdict}
@@ -16,8 +20,8 @@ use Rattle.mapf_checker.specs.declared.fault.Verdict.TheVariants as verdicts
 use Rattle.mapf_model.specs.Plan.{Instance}
 
 -- what is printed for the problem that the map and the scenario spell: a plan that is valid and than which no valid plan has a
--- smaller sum of costs, or 'impossible' where no plan is valid, either with a certificate by which both texts are accepted; or
--- a limit that was met
+-- smaller sum of costs, or 'impossible' where no plan is valid, or a limit that was met with a bound below which no valid plan
+-- has its sum, each with a certificate by which both texts are accepted
 pub record PrintsTruly (map scen : Option (List ℕ)) (count limit : ℕ) (kind : Kind) (plan_bytes cert_bytes : List ℕ) : Type 0 where
   pub problem : Instance
   pub posed : IsPosed count problem
@@ -25,14 +29,15 @@ pub record PrintsTruly (map scen : Option (List ℕ)) (count limit : ℕ) (kind 
   pub printed : Prints problem limit kind plan_bytes cert_bytes
 
 -- what is answered of two texts, whoever wrote them: for the problem that the map and the scenario spell, the plan of the plan
--- text is optimal with the verdict's sum, or the text says that no plan is valid and none is; and the texts are accepted for it
--- with the verdict
+-- text is optimal with the verdict's sum, or the text says that no plan is valid and none is, or it says that a limit was met
+-- with the verdict's bound and every valid plan has at least this sum; and the texts are accepted for it with the verdict
 pub record JudgesTruly (map scen plan cert : Option (List ℕ)) (count : ℕ) (verdict : Verdict) : Type 0 where
   pub problem : Instance
   pub posed : IsPosed count problem
   pub read : SpellsProblem map scen count problem
+  pub version : Version
   pub says : PlanAnswer
-  pub spelled : IfSome plan (λ plan_text. SpellsPlan problem.grid plan_text (length problem.agents) says)
+  pub spelled : IfSome plan (λ plan_text. SpellsPlan problem.grid plan_text version (length problem.agents) says)
   pub is_true : IsTrueOf problem says verdict
   pub accepted : IfSome plan (λ plan_text. IfSome cert (λ cert_text. AreAccepted problem plan_text cert_text verdict))
 
@@ -53,10 +58,9 @@ pub record IsDueVerdict (map scen plan cert : Option (List ℕ)) (count : ℕ) (
 abbrev pub IsVerdictOn : Kind → Verdict → Type 0
 IsVerdictOn (Found cost) verdict = verdict ≡ verdicts.Optimal cost
 IsVerdictOn Impossible verdict = verdict ≡ verdicts.Impossible
-IsVerdictOn (Limit cause) verdict = ⊥
+IsVerdictOn (Limit cause bound) verdict = verdict ≡ verdicts.Bound bound
 
--- what is printed beside a plan or 'impossible' has to be accepted, by whoever checks it for the same map, scenario and number
--- of agents
+-- what is printed has to be accepted, by whoever checks it for the same map, scenario and number of agents
 abbrev pub PrintedIsDue : Type 0
 PrintedIsDue = (map scen plan cert : List ℕ) (count limit : ℕ) (kind : Kind) (verdict : Verdict) → PrintsTruly (Some map) (Some scen) count limit kind plan cert → IsVerdictOn kind verdict →
     IsDueVerdict (Some map) (Some scen) (Some plan) (Some cert) count verdict

@@ -5,6 +5,7 @@ use Rattle.mapf_app.specs.Problems.{SpellsProblem}
 use Rattle.mapf_app.specs.declared.fault.PlayFault.{PlayFault}
 use Rattle.mapf_app.specs.declared.fault.PlayFault.TheVariants.{Text, NoPlan, OtherCount, Invalid}
 use Rattle.mapf_certificate.specs.Plans.{SpellsPlan}
+use Rattle.mapf_certificate.specs.declared.version.Version.{Version}
 use Rattle.mapf_certificate.specs.declared.plan_text.PlanAnswer.{PlanAnswer}
 use Rattle.mapf_certificate.specs.declared.plan_text.PlanAnswer.TheVariants as answers
 use Rattle.mapf_certificate.specs.declared.plan_text.PlanTextFault.TheVariants as plan_faults
@@ -12,9 +13,10 @@ use Rattle.mapf_checker.specs.Defects.{HasDefect}
 use Rattle.mapf_model.specs.Plan.{Instance, IsValid}
 use Rattle.mapf_player.specs.Play.{IsPlayText}
 
--- the bytes spell a plan for the problem's agents, and it is valid
+-- the bytes spell a plan for the problem's agents, in either version, and it is valid
 pub record SpellsValidPlan (problem : Instance) (bytes : List ℕ) (plan : List (List ℕ)) : Type 0 where
-  pub spelled : SpellsPlan problem.grid bytes (length problem.agents) (answers.Found plan)
+  pub version : Version
+  pub spelled : SpellsPlan problem.grid bytes version (length problem.agents) (answers.Found plan)
   pub valid : IsValid problem plan
 
 -- the text shows, tick by tick, the valid plan that the plan text spells for the problem that the map and the scenario spell
@@ -44,14 +46,15 @@ abbrev pub IsNoPlan : PlanAnswer → Type 0
 IsNoPlan (answers.Found plan) = ⊥
 IsNoPlan answers.Impossible = ⊤
 IsNoPlan (answers.Limit cause) = ⊤
+IsNoPlan (answers.Bounded cause bound) = ⊤
 
 -- what a fault says of the plan text: it spells nothing, holds no plan, is for another number of agents than the problem's,
 -- or has a plan with this defect
 abbrev pub HasPlayFault : Instance → List ℕ → PlayFault → Type 0
-HasPlayFault problem bytes (Text fault) = (fault ≢ plan_faults.Memory) × ((agents : ℕ) (answer : PlanAnswer) → SpellsPlan problem.grid bytes agents answer → ⊥)
-HasPlayFault problem bytes NoPlan = (agents : ℕ) × (answer : PlanAnswer) × SpellsPlan problem.grid bytes agents answer × IsNoPlan answer
-HasPlayFault problem bytes OtherCount = (agents : ℕ) × (plan : List (List ℕ)) × SpellsPlan problem.grid bytes agents (answers.Found plan) × (agents ≢ length problem.agents)
-HasPlayFault problem bytes (Invalid fault) = (plan : List (List ℕ)) × SpellsPlan problem.grid bytes (length problem.agents) (answers.Found plan) × HasDefect problem plan fault
+HasPlayFault problem bytes (Text fault) = (fault ≢ plan_faults.Memory) × ((version : Version) (agents : ℕ) (answer : PlanAnswer) → SpellsPlan problem.grid bytes version agents answer → ⊥)
+HasPlayFault problem bytes NoPlan = (version : Version) × (agents : ℕ) × (answer : PlanAnswer) × SpellsPlan problem.grid bytes version agents answer × IsNoPlan answer
+HasPlayFault problem bytes OtherCount = (version : Version) × (agents : ℕ) × (plan : List (List ℕ)) × SpellsPlan problem.grid bytes version agents (answers.Found plan) × (agents ≢ length problem.agents)
+HasPlayFault problem bytes (Invalid fault) = (version : Version) × (plan : List (List ℕ)) × SpellsPlan problem.grid bytes version (length problem.agents) (answers.Found plan) × HasDefect problem plan fault
 
 -- it is so of the plan text, for the problem that the map and the scenario spell
 pub record IsPlayDefect (map scen plan : Option (List ℕ)) (count : ℕ) (fault : PlayFault) : Type 0 where

@@ -1,8 +1,8 @@
 -- What a run that solves a problem prints.
-use Rattle.std.specs.Prelude.{◌≡◌, ⊤, ℕ, List, [], length}
+use Rattle.std.specs.Prelude.{ℕ, List, length}
 use Rattle.mapf_app.specs.declared.kind.Kind.{Kind}
 use Rattle.mapf_app.specs.declared.kind.Kind.TheVariants.{Found, Impossible, Limit}
-use Rattle.mapf_cbs.specs.Answer.{IsTreeOf, MayStop}
+use Rattle.mapf_cbs.specs.Answer.{IsTreeOf, IsShownBound, MayStop}
 use Rattle.mapf_certificate.specs.Certificates.{SpellsCert}
 use Rattle.mapf_certificate.specs.Plans.{SpellsPlan}
 use Rattle.mapf_certificate.specs.declared.version.Version.TheVariants.{Two}
@@ -28,35 +28,29 @@ pub record SpellsTree (problem : Instance) (limit : ℕ) (claim : Claim) (cert_b
 -- second has a tree of the search
 pub record PrintsOptimal (problem : Instance) (limit cost : ℕ) (plan_bytes cert_bytes : List ℕ) : Type 0 where
   pub plan : List (List ℕ)
-  pub spelled : SpellsPlan problem.grid plan_bytes (length problem.agents) (answers.Found plan)
+  pub spelled : SpellsPlan problem.grid plan_bytes Two (length problem.agents) (answers.Found plan)
   pub optimal : IsOptimal problem plan cost
   pub accepted : AreAccepted problem plan_bytes cert_bytes (Optimal cost)
   pub searched : SpellsTree problem limit (claims.Cost cost) cert_bytes
 
 -- the first text spells that no plan is valid, none is, both texts are accepted, and the second has a tree of the search
 pub record PrintsImpossible (problem : Instance) (limit : ℕ) (plan_bytes cert_bytes : List ℕ) : Type 0 where
-  pub spelled : SpellsPlan problem.grid plan_bytes (length problem.agents) answers.Impossible
+  pub spelled : SpellsPlan problem.grid plan_bytes Two (length problem.agents) answers.Impossible
   pub impossible : IsImpossible problem
   pub accepted : AreAccepted problem plan_bytes cert_bytes verdicts.Impossible
   pub searched : SpellsTree problem limit claims.Impossible cert_bytes
 
--- the first text spells the limit that was met, and there is no second; with some tree the search may stop for this cause
-pub record PrintsLimit (problem : Instance) (limit : ℕ) (cause : Cause) (plan_bytes cert_bytes : List ℕ) : Type 0 where
-  pub spelled : SpellsPlan problem.grid plan_bytes (length problem.agents) (answers.Limit cause)
-  pub nothing : cert_bytes ≡ []
-  pub items : List Item
-  pub tree : ConstraintTree
-  pub searched : IsTreeOf problem limit items tree
-  pub stopped : MayStop problem limit cause tree
+-- the first text spells the limit that was met and a bound, no valid plan has a smaller sum, both texts are accepted, and the
+-- second has a tree of the search, with which it may stop for this cause, and which shows no greater bound
+pub record PrintsLimit (problem : Instance) (limit : ℕ) (cause : Cause) (bound : ℕ) (plan_bytes cert_bytes : List ℕ) : Type 0 where
+  pub spelled : SpellsPlan problem.grid plan_bytes Two (length problem.agents) (answers.Bounded cause bound)
+  pub accepted : AreAccepted problem plan_bytes cert_bytes (verdicts.Bound bound)
+  pub searched : SpellsTree problem limit (claims.Bound bound) cert_bytes
+  pub stopped : MayStop problem limit cause searched.tree
+  pub shown : IsShownBound problem bound searched.tree
 
 -- what the two texts are, by the kind of answer
 abbrev pub Prints : Instance → ℕ → Kind → List ℕ → List ℕ → Type 0
 Prints problem limit (Found cost) plan cert = PrintsOptimal problem limit cost plan cert
 Prints problem limit Impossible plan cert = PrintsImpossible problem limit plan cert
-Prints problem limit (Limit cause) plan cert = PrintsLimit problem limit cause plan cert
-
--- the search ended without an answer
-abbrev pub IsLimit : Kind → Type 0
-IsLimit (Found cost) = ⊥
-IsLimit Impossible = ⊥
-IsLimit (Limit cause) = ⊤
+Prints problem limit (Limit cause bound) plan cert = PrintsLimit problem limit cause bound plan cert

@@ -22,26 +22,32 @@ abbrev pub number_text : Option ℕ → List ℕ
 number_text None = []
 number_text (Some number) = 32 ∷ decimal number
 
--- a line's bytes: its words, a name, numbers, and LF
-abbrev pub line_text : Line → List ℕ
-line_text line = line.words.now ++ (defect_text line.defect ++ (number_text line.numbers.0 ++ (number_text line.numbers.1 ++ (number_text line.numbers.2 ++ (10 ∷ [])))))
+-- what a line says of a bound, if there is one
+abbrev pub bound_text : Option ℕ → List ℕ
+bound_text None = []
+bound_text (Some bound) = codes " bound" ++ number_text (Some bound)
 
--- `cost C`, `impossible`, `limit N` or `limit ticks`
+-- a line's bytes: its words, a name, numbers, a bound, and LF
+abbrev pub line_text : Line → List ℕ
+line_text line = line.words.now ++ (defect_text line.defect ++ (number_text line.numbers.0 ++ (number_text line.numbers.1 ++ (number_text line.numbers.2 ++ (bound_text line.bound ++ (10 ∷ []))))))
+
+-- `cost C`, `impossible`, `limit N bound B` or `limit ticks bound B`
 abbrev pub kind_line : Kind → List ℕ
 kind_line (Found cost) = codes "cost " ++ (decimal cost ++ (10 ∷ []))
 kind_line Impossible = codes "impossible\n"
-kind_line (Limit (Splits splits)) = codes "limit " ++ (decimal splits ++ (10 ∷ []))
-kind_line (Limit Ticks) = codes "limit ticks\n"
+kind_line (Limit (Splits splits) bound) = codes "limit " ++ (decimal splits ++ (codes " bound " ++ (decimal bound ++ (10 ∷ []))))
+kind_line (Limit Ticks bound) = codes "limit ticks bound " ++ (decimal bound ++ (10 ∷ []))
 
 -- 0 solved, 3 impossible, 4 a limit was met
 abbrev pub kind_status : Kind → ℕ
 kind_status (Found cost) = 0
 kind_status Impossible = 3
-kind_status (Limit cause) = 4
+kind_status (Limit cause bound) = 4
 
--- `optimal C` or `impossible`
+-- `optimal C`, `bound B` or `impossible`
 abbrev pub verdict_line : Verdict → List ℕ
 verdict_line (verdicts.Optimal cost) = codes "optimal " ++ (decimal cost ++ (10 ∷ []))
+verdict_line (verdicts.Bound bound) = codes "bound " ++ (decimal bound ++ (10 ∷ []))
 verdict_line verdicts.Impossible = codes "impossible\n"
 
 -- the text was written and the status is this one, or the sink failed and the status is a fault's

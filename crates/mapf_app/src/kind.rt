@@ -7,6 +7,6 @@ pub enum Kind {
     Found(u64),
     /// No plan is valid.
     Impossible,
-    /// The search ended without an answer.
-    Limit(Cause),
+    /// The search ended without an answer, and no valid plan has a sum of costs below this bound, in ticks.
+    Limit { cause: Cause, bound: u64 },
 }

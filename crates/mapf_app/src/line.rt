@@ -3,7 +3,7 @@ ghost use Rattle.std.specs.Result.{is_err};
 ghost use Rattle.std.specs.Io.KnownBytes.{Appends};
 ghost use Rattle.mapf_app.specs.FaultLines.{cert_fault_line, fault_line, map_fault_line, plan_fault_line};
 ghost use Rattle.mapf_app.specs.FaultLines.{plan_text_fault_line, play_fault_line, refusal_line, scenario_fault_line};
-ghost use Rattle.mapf_app.specs.Told.{defect_text, line_text, number_text, verdict_line};
+ghost use Rattle.mapf_app.specs.Told.{bound_text, defect_text, line_text, number_text, verdict_line};
 
 use crate::fault::{Fault, Input, Output, PlayFault};
 use itoa::Buffer;
@@ -12,23 +12,25 @@ use mapf_checker::{CheckFault, PlanFault, Verdict};
 use mapf_model::{Failed, Sink, write_all};
 use mapf_text::{MapFault, ScenFault};
 
-/// A line that the program prints: words, the name of a text's or a plan's fault, and then numbers.
+/// A line that the program prints: words, the name of a text's or a plan's fault, numbers, and a bound.
 #[derive(Clone, Copy, Debug, PartialEq, Eq)]
 pub struct Line {
     words: &'static str,
     defect: Option<&'static str>,
     numbers: (Option<u64>, Option<u64>, Option<u64>),
+    bound: Option<u64>,
 }
 
 impl Line {
     /// The line with these words alone.
     pub fn of(words: &'static str) -> Line
-        ensures { result ≡ record { words = words.entry; defect = None; numbers = (None, None, None) } }
+        ensures { result ≡ record { words = words.entry; defect = None; numbers = (None, None, None); bound = None } }
     {
         Line {
             words,
             defect: None,
             numbers: (None, None, None),
+            bound: None,
         }
     }
 
@@ -47,6 +49,16 @@ impl Line {
     {
         Line {
             numbers: (Some(number), None, None),
+            ..self
+        }
+    }
+
+    /// The line with a bound.
+    pub fn bounded(self, bound: u64) -> Line
+        ensures { result ≡ record self { bound = Some bound } }
+    {
+        Line {
+            bound: Some(bound),
             ..self
         }
     }
@@ -75,6 +87,7 @@ impl Line {
     {
         match verdict {
             Verdict::Optimal(cost) => Line::of("optimal").with(cost),
+            Verdict::Bound(bound) => Line::of("bound").with(bound),
             Verdict::Impossible => Line::of("impossible"),
         }
     }
@@ -224,6 +237,19 @@ fn write_number<K: Sink>(sink: &mut K, number: Option<u64>) -> Result<(), Failed
     write_all(sink, buffer.format(number).as_bytes())
 }
 
+// Writes the word and the bound, if there is one.
+fn write_bound<K: Sink>(sink: &mut K, bound: Option<u64>) -> Result<(), Failed>
+    requires { K.has_failed sink.old ≡ false }
+    ensures text { OnOk result (Appends (K.contents sink.old) (K.contents sink.new) (bound_text bound)) }
+    ensures failed { K.has_failed sink.new ≡ is_err result }
+{
+    if bound.is_none() {
+        return Ok(());
+    }
+    write_all(sink, b" bound")?;
+    write_number(sink, bound)
+}
+
 /// Writes the line with its LF.
 pub fn write_line<K: Sink>(sink: &mut K, line: &Line) -> Result<(), Failed>
     requires { K.has_failed sink.old ≡ false }
@@ -236,5 +262,6 @@ pub fn write_line<K: Sink>(sink: &mut K, line: &Line) -> Result<(), Failed>
     write_number(sink, first)?;
     write_number(sink, second)?;
     write_number(sink, third)?;
+    write_bound(sink, line.bound)?;
     write_all(sink, b"\n")
 }

@@ -36,7 +36,7 @@ fn valid_plan(alloc: Global, problem: &Problem, bytes: &[u8]) -> Result<Plan, Fa
     ensures fault { IfErr result (IsReadingPlan problem.now bytes.now) }
     ensures inner { IfErr result HasNoInnerMemory }
 {
-    let PlanText { agents, answer } = match read_plan(alloc, bytes, problem.grid()) {
+    let PlanText { agents, answer, .. } = match read_plan(alloc, bytes, problem.grid()) {
         Ok(text) => text,
         Err(fault) => return Err(fault_of_plan_text(fault)),
     };

@@ -5,7 +5,7 @@ ghost use Rattle.mapf_app.specs.Faults.{HasNoInnerMemory, IsBeforeWriting, IsOfD
 ghost use Rattle.mapf_app.specs.Headline.{PrintsTruly};
 ghost use Rattle.mapf_app.specs.Order.{HasReadGrid};
 ghost use Rattle.mapf_app.specs.Problems.{SpellsProblem};
-ghost use Rattle.mapf_app.specs.Solved.{IsLimit, Prints};
+ghost use Rattle.mapf_app.specs.Solved.{Prints};
 ghost use Rattle.mapf_app.specs.Unreadable.{IsUnreadable, IsWithin};
 ghost use Rattle.mapf_model.specs.Limits.{most_agents, most_splits, most_text_bytes};
 ghost use Rattle.mapf_model.specs.Plan.{Instance};
@@ -18,8 +18,8 @@ use mapf_model::{Sink, Source, write_all};
 use std::alloc::Global;
 
 /// Reads a map and then a scenario, solves the problem of its first `k` agents with at most `limit`
-/// splits, and writes the plan text and then the certificate, in version 2. On a limit there is no
-/// certificate, and its sink stays as it was. Before both texts are made nothing is written.
+/// splits, and writes the plan text and then the certificate, both in version 2. Before both texts are
+/// made nothing is written.
 pub fn run_solve<M: Source, S: Source, P: Sink, C: Sink>(
     alloc: Global,
     map: &mut M,
@@ -36,8 +36,8 @@ pub fn run_solve<M: Source, S: Source, P: Sink, C: Sink>(
     requires some { 1 ≤ k }
     requires few { k ≤ most_agents }
     requires limit { limit ≤ most_splits }
-    // A plan that is printed is cheapest, 'impossible' is printed only where no plan is valid, and both
-    // texts are accepted for the problem that was read.
+    // A plan that is printed is cheapest, 'impossible' is printed only where no plan is valid, a bound only where
+    // no valid plan has a smaller sum, and both texts are accepted for the problem that was read.
     ensures printed { IfOk result (λ kind. (plan_text : List ℕ) × (cert_text : List ℕ)
         × PrintsTruly (M.remaining map.old) (S.remaining scen.old) k limit kind plan_text cert_text
         × Appends (P.contents plan_sink.old) (P.contents plan_sink.new) plan_text
@@ -52,8 +52,6 @@ pub fn run_solve<M: Source, S: Source, P: Sink, C: Sink>(
     // Inputs of more bytes than the limit aren't read.
     ensures within { OnOk result
         (IsWithin (M.remaining map.old) most_text_bytes × IsWithin (S.remaining scen.old) most_text_bytes) }
-    // On a limit nothing is asked of the certificate's sink.
-    ensures limit { IfOk result (λ kind. IsLimit kind → cert_sink.new ≡ cert_sink.old) }
     // A fault stands where it says.
     ensures fault { IfErr result (IsSolving (M.remaining map.old) (S.remaining scen.old) k) }
     ensures inner { IfErr result HasNoInnerMemory }
@@ -92,10 +90,6 @@ pub fn run_solve<M: Source, S: Source, P: Sink, C: Sink>(
     };
     if write_all(plan_sink, texts.plan.as_slice()).is_err() {
         return Err(Fault::F5(Output::Plan));
-    }
-    // A limit has no certificate.
-    if let Kind::Limit(_) = texts.kind {
-        return Ok(texts.kind);
     }
     if write_all(cert_sink, texts.cert.as_slice()).is_err() {
         return Err(Fault::F5(Output::Cert));

@@ -37,8 +37,17 @@ fn kind_line(kind: Kind) -> (Line, u8)
     match kind {
         Kind::Found(cost) => (Line::of("cost").with(cost), DONE),
         Kind::Impossible => (Line::of("impossible"), IMPOSSIBLE),
-        Kind::Limit(Cause::Splits(splits)) => (Line::of("limit").with(splits as u64), LIMIT),
-        Kind::Limit(Cause::Ticks) => (Line::of("limit ticks"), LIMIT),
+        Kind::Limit {
+            cause: Cause::Splits(splits),
+            bound,
+        } => (
+            Line::of("limit").with(splits as u64).bounded(bound),
+            LIMIT,
+        ),
+        Kind::Limit {
+            cause: Cause::Ticks,
+            bound,
+        } => (Line::of("limit ticks").bounded(bound), LIMIT),
     }
 }
 

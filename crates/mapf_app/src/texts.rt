@@ -2,8 +2,8 @@ ghost use Rattle.std.specs.Prelude.{◌≡◌, ◌≤◌, ℕ, List, IfOk, lengt
 ghost use Rattle.mapf_app.specs.Solved.{Prints};
 ghost use Rattle.mapf_certificate.specs.Certificates.{cert_text};
 ghost use Rattle.mapf_certificate.specs.declared.version.Version.TheVariants.{Two};
-ghost use Rattle.mapf_cbs.specs.Answer.{IsTreeOf, IsShownOptimal, IsShownImpossible, MayStop};
-ghost use Rattle.mapf_certificate.specs.Plans.{IsAnswerInRange, SpellsPlan};
+ghost use Rattle.mapf_cbs.specs.Answer.{IsTreeOf, IsShownOptimal, IsShownImpossible, IsShownBound, MayStop};
+ghost use Rattle.mapf_certificate.specs.Plans.{IsAnswerInRange, IsAnswerOfVersion, SpellsPlan};
 ghost use Rattle.mapf_model.specs.Limits.{most_splits};
 ghost use Rattle.mapf_model.specs.Plan.{IsValid, IsSumOfCosts};
 ghost use Rattle.mapf_model.specs.Tree.{ConstraintTree, node_of};
@@ -14,7 +14,7 @@ use mapf_certificate::{Cert, PlanAnswer, PlanText, Version, write_cert, write_pl
 use mapf_model::{Cause, Claim, Item, OutOfMemory, Plan, Problem, laws};
 use std::alloc::Global;
 
-/// What a run writes: both texts, of which the second is one of version 2, and empty on a limit.
+/// What a run writes: both texts, of version 2.
 #[derive(Debug, Drop)]
 pub struct Texts {
     pub kind: Kind,
@@ -23,10 +23,12 @@ pub struct Texts {
 }
 
 fn plan_bytes(alloc: Global, problem: &Problem, answer: PlanAnswer) -> Result<Vec<u8>, OutOfMemory>
-    requires { IsAnswerInRange problem.now.grid (length problem.now.agents) answer }
-    ensures { IfOk result (λ bytes. SpellsPlan problem.now.grid bytes.items (length problem.now.agents) answer) }
+    requires range { IsAnswerInRange problem.now.grid (length problem.now.agents) answer }
+    requires version { IsAnswerOfVersion Two answer }
+    ensures { IfOk result (λ bytes. SpellsPlan problem.now.grid bytes.items Two (length problem.now.agents) answer) }
 {
     let text = PlanText {
+        version: Version::Two,
         agents: problem.agents().len() as u32,
         answer,
     };
@@ -94,16 +96,25 @@ fn impossible(alloc: Global, problem: &Problem, tree: Vec<Item>) -> Result<Texts
     })
 }
 
-fn limited(alloc: Global, problem: &Problem, cause: Cause) -> Result<Texts, OutOfMemory>
-    requires { IsAnswerInRange problem.now.grid (length problem.now.agents) (PlanAnswer.Limit cause) }
-    ensures { IfOk result (λ texts. (limit : ℕ) (items : List Item) (tree : ConstraintTree) →
-        IsTreeOf problem.now limit items tree → MayStop problem.now limit cause tree →
+fn limited(
+    alloc: Global,
+    problem: &Problem,
+    cause: Cause,
+    bound: u64,
+    tree: Vec<Item>,
+) -> Result<Texts, OutOfMemory>
+    requires range { IsAnswerInRange problem.now.grid (length problem.now.agents) (PlanAnswer.Bounded cause bound) }
+    requires shown { (limit : ℕ) × (shown : ConstraintTree)
+        × IsTreeOf problem.now limit tree.items shown × IsShownBound problem.now bound shown }
+    ensures { IfOk result (λ texts. (limit : ℕ) (shown : ConstraintTree) →
+        IsTreeOf problem.now limit tree.items shown → MayStop problem.now limit cause shown →
+        IsShownBound problem.now bound shown →
         Prints problem.now limit texts.kind texts.plan.items texts.cert.items) }
 {
     Ok(Texts {
-        kind: Kind::Limit(cause),
-        plan: plan_bytes(alloc, problem, PlanAnswer::Limit(cause))?,
-        cert: Vec::new(alloc),
+        kind: Kind::Limit { cause, bound },
+        plan: plan_bytes(alloc, problem, PlanAnswer::Bounded { cause, bound })?,
+        cert: cert_bytes(alloc, problem, Claim::Bound(bound), tree)?,
     })
 }
 
@@ -115,6 +126,6 @@ pub fn texts_of(alloc: Global, problem: &Problem, limit: u32) -> Result<Texts, O
     match solve(alloc, problem, limit)? {
         Answer::Found { plan, tree } => found(alloc, problem, plan, tree),
         Answer::Impossible { tree } => impossible(alloc, problem, tree),
-        Answer::Limit { cause, tree: _ } => limited(alloc, problem, cause),
+        Answer::Limit { cause, bound, tree } => limited(alloc, problem, cause, bound, tree),
     }
 }

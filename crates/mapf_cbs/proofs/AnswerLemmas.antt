@@ -4,7 +4,7 @@ use Rattle.std.specs.declared.alloc.Global.{Global}
 use Rattle.mapf_model.proofs.ClaimLemmas.{slice_get_inside, holds_of_plans, shown_at_root}
 use Rattle.std.proofs.lemmas.Option.{slice_get_within, same_Some}
 use Rattle.mapf_model.specs.declared.item.Claim.{Claim}
-use Rattle.mapf_model.specs.declared.item.Claim.TheVariants.{Cost, Impossible}
+use Rattle.mapf_model.specs.declared.item.Claim.TheVariants.{Cost, Bound, Impossible}
 use Rattle.mapf_model.specs.declared.conflict.Conflict.{Conflict}
 use Rattle.mapf_model.specs.declared.conflict.Conflict.TheVariants.{Vertex, Swap}
 use Rattle.mapf_model.specs.declared.item.Item.{Item}
@@ -22,13 +22,13 @@ use Rattle.mapf_cbs.specs.Nodes.{IsRootView, IsNodeView, IsNodeFor, AreNodesFor,
 use Rattle.mapf_model.specs.declared.cause.Cause.{Cause}
 use Rattle.mapf_model.specs.declared.cause.Cause.TheVariants.{Splits, Ticks}
 use Rattle.mapf_cbs.specs.declared.answer.Answer.TheVariants.{Limit as LimitAnswer}
-use Rattle.mapf_cbs.specs.Answer.{IsTreeOf, IsStoppedAtFirst, IsShownOptimal, IsShownImpossible, IsSearchAnswer}
+use Rattle.mapf_cbs.specs.Answer.{IsTreeOf, IsStoppedAtFirst, IsShownOptimal, IsShownImpossible, IsShownBound, IsSearchAnswer}
 use Rattle.mapf_cbs.specs.FirstConflicts.{AreFirstPaths}
 use Rattle.mapf_cbs.specs.Goals.{NamesFirstDefect}
 use Rattle.mapf_cbs.specs.State.{IsState, IsPopped, IsCauseToStop, IsLeastKey}
 use Rattle.mapf_cbs.proofs.ViewLemmas.{live_sum, live_cheapest, live_first}
 use Rattle.mapf_cbs.proofs.ChildLemmas.{conflict_early, Contains-none}
-use Rattle.mapf_cbs.proofs.TreeLemmas.{is_earned, is_on_first, shows_cost, shows_impossible, has_splits, has_blocks, is_stopped, at_leaf}
+use Rattle.mapf_cbs.proofs.TreeLemmas.{is_earned, is_on_first, shows_cost, shows_bound, shows_impossible, has_splits, has_blocks, is_stopped, at_leaf, meets_at_a_leaf}
 use Rattle.mapf_cbs.proofs.GrowLemmas.{searched_first}
 use Rattle.mapf_cbs.proofs.RangeLemmas.{tree_in_range, plan_in_range, sum_in_range}
 use Rattle.mapf_cbs.proofs.OpenLemmas.{Contains-first}
@@ -172,31 +172,41 @@ module _ (problem : Instance) (shape : IsGridMap problem.grid) (names : (tree : 
       },
     )
 
-    answer_splits : (conflict : Conflict) → HasConflict view.paths conflict → tick_of conflict < 1000000 → (tree : ConstraintTree) × IsTreeOf problem limit items tree × IsStoppedAtFirst (λ paths. HaveConflictBefore paths 1000000) problem tree × (split_count tree ≡ count)
+    shown_bound : 1 ≤ length problem.agents → length problem.agents ≤ 200 → All (λ path. length path ≤ 10000000) view.paths → IsShownBound problem (sum view.costs) found.0
+    shown_bound some few short =
+        let shows = shows_bound problem popped.state.views fates count popped.state.searched found.0 found.2 (sum view.costs) least in
+        record {
+          shows = shows;
+          holds = shown_holds problem (Bound (sum view.costs)) found.0 shows;
+          met_at_a_leaf = meets_at_a_leaf problem popped.state.views fates count popped.state.searched found.0 found.2 k view is is_open;
+          claim_in_range = sum_in_range problem shape view live short few;
+        }
+
+    answer_splits : (conflict : Conflict) → HasConflict view.paths conflict → tick_of conflict < 1000000 → IsStoppedAtFirst (λ paths. HaveConflictBefore paths 1000000) problem found.0 × (split_count found.0 ≡ count)
     answer_splits conflict meet early = (
-      found.0,
-      tree_is,
       is_stopped problem popped.state.views fates count popped.state.searched found.0 found.2 (λ context paths. AreFirstPaths problem context paths × HaveConflictBefore paths 1000000) k view is is_open least (not_apart view.paths conflict meet) (live_first problem view live, (conflict, meet, early)),
       has_splits problem popped.state.views fates count popped.state.searched found.0 found.2,
     )
 
     answer_ticks : ((i j : ℕ) → ShareGoal problem i j → ⊥) → (conflict : Conflict) → HasConflict view.paths conflict → AreConflictFreeBefore view.paths (tick_of conflict) → 1000000 ≤ tick_of conflict →
-        (tree : ConstraintTree) × IsTreeOf problem limit items tree × IsStoppedAtFirst (λ paths. AreConflictFreeBefore paths 1000000) problem tree × (1000000 < (split_count tree + 1) * free_cell_count problem.grid)
+        IsStoppedAtFirst (λ paths. AreConflictFreeBefore paths 1000000) problem found.0 × (1000000 < (split_count found.0 + 1) * free_cell_count problem.grid)
     answer_ticks goals conflict meet apart late =
         let early = conflict_early problem view live goals (count * free_cell_count problem.grid) (λ i. popped.state.searched.low k view i is) conflict meet in
         let size = has_splits problem popped.state.views fates count popped.state.searched found.0 found.2 in (
-          found.0,
-          tree_is,
           is_stopped problem popped.state.views fates count popped.state.searched found.0 found.2 (λ context paths. AreFirstPaths problem context paths × AreConflictFreeBefore paths 1000000) k view is is_open least (not_apart view.paths conflict meet) (live_first problem view live, λ i j tick p q before. apart i j tick p q (omega arith)),
           rw size (omega arith),
         )
 
     -- the answer of a search that stops
-    pub answer_limit : ((i j : ℕ) → ShareGoal problem i j → ⊥) → (conflict : Conflict) → HasConflict view.paths conflict → AreConflictFreeBefore view.paths (tick_of conflict) → (cause : Cause) → IsCauseToStop conflict count limit cause →
-        (listed : Vec Item Global) → listed.items ≡ items → IsSearchAnswer problem limit (LimitAnswer cause listed)
-    answer_limit goals conflict meet apart Ticks late listed same =
-        let a = answer_ticks goals conflict meet apart late in
-        (a.0, subst (λ its. IsTreeOf problem limit its a.0) (sym same) a.1, (a.2, a.3))
-    answer_limit goals conflict meet apart (Splits n) (early, is_limit, all) listed same =
-        let a = answer_splits conflict meet early in
-        (a.0, subst (λ its. IsTreeOf problem limit its a.0) (sym same) a.1, (a.2, is_limit, a.3 ∙ all))
+    module _ (some : 1 ≤ length problem.agents) (few : length problem.agents ≤ 200) (short : All (λ path. length path ≤ 10000000) view.paths) (bound : ℕ) (bound_is : bound ≡ sum view.costs) where
+      is_bound : IsShownBound problem bound found.0
+      is_bound = subst (λ b. IsShownBound problem b found.0) (sym bound_is) (shown_bound some few short)
+
+      pub answer_limit : ((i j : ℕ) → ShareGoal problem i j → ⊥) → (conflict : Conflict) → HasConflict view.paths conflict → AreConflictFreeBefore view.paths (tick_of conflict) → (cause : Cause) → IsCauseToStop conflict count limit cause →
+          (listed : Vec Item Global) → listed.items ≡ items → IsSearchAnswer problem limit (LimitAnswer cause bound listed)
+      answer_limit goals conflict meet apart Ticks late listed same =
+          let a = answer_ticks goals conflict meet apart late in
+          (found.0, subst (λ its. IsTreeOf problem limit its found.0) (sym same) tree_is, (a.0, a.1), is_bound)
+      answer_limit goals conflict meet apart (Splits n) (early, is_limit, all) listed same =
+          let a = answer_splits conflict meet early in
+          (found.0, subst (λ its. IsTreeOf problem limit its found.0) (sym same) tree_is, (a.0, is_limit, a.1 ∙ all), is_bound)

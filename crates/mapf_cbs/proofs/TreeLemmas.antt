@@ -5,13 +5,14 @@ use Rattle.std.proofs.lemmas.Option.{slice_get_within, same_Some, slice_get-map}
 use Rattle.mapf_model.specs.declared.problem.Agent.{Agent}
 use Rattle.mapf_model.specs.declared.label.Label.{Label}
 use Rattle.mapf_model.specs.declared.label.Label.TheVariants.{Ticks, Never}
-use Rattle.mapf_model.specs.declared.item.Claim.TheVariants.{Cost, Impossible}
+use Rattle.mapf_model.specs.declared.item.Claim.{Claim}
+use Rattle.mapf_model.specs.declared.item.Claim.TheVariants.{Cost, Bound, Impossible}
 use Rattle.mapf_model.specs.Blocks.{LabelBlock}
-use Rattle.mapf_model.specs.Labels.{entries_of, AreSound, IsLabel, IsAtMost, label_sum}
+use Rattle.mapf_model.specs.Labels.{Entries, entries_of, AreSound, IsLabel, IsAtMost, label_sum}
 use Rattle.mapf_model.specs.Plan.{Instance, IsSumOfCosts}
 use Rattle.mapf_model.specs.declared.bar.Bar.{Bar}
 use Rattle.mapf_model.specs.declared.conflict.Conflict.{Conflict}
-use Rattle.mapf_model.specs.Tree.{ConstraintTree, Split, Leaf, Clash, NodeContext, AtEachNode, AtEachEnd, AtSomeLeaf, root, left_constraint, right_constraint, left_child_context, right_child_context, split_count, IsProper, IsProperNode, AreProperBlocks, AreBlocksSound, AreStartLabels, NodeShows, Shows}
+use Rattle.mapf_model.specs.Tree.{ConstraintTree, Split, Leaf, Clash, NodeContext, AtEachNode, AtEachEnd, AtSomeLeaf, root, left_constraint, right_constraint, left_child_context, right_child_context, split_count, IsProper, IsProperNode, AreProperBlocks, AreBlocksSound, AreStartLabels, StartsReach, StartsAddUpTo, StartsShow, NodeShows, Shows, with_blocks}
 use Rattle.mapf_model.specs.Earned.{AreCheapest, AreDue, HaveSomeConflict, IsEarnedNode, IsEarned, IsStoppedWhere}
 use Rattle.mapf_cbs.specs.declared.node.Fate.{Fate}
 use Rattle.mapf_cbs.specs.declared.node.Fate.TheVariants.{Open, Dead, Expanded}
@@ -92,6 +93,9 @@ module _ (problem : Instance) (view : View) where
     (map Ticks view.costs, live_starts live, let e : label_sum (map Ticks view.costs) ≡ Ticks (sum view.costs) = label_sum-ticks view.costs in subst (λ l. IsAtMost (Ticks cost) l) (sym e) low),
   )
 
+  pub live_adds_up : IsLive problem view → StartsAddUpTo problem (sum view.costs) (with_blocks view.blocks view.context.entries)
+  live_adds_up live = (map Ticks view.costs, live_starts live, label_sum-ticks view.costs)
+
   dead_shows : IsDead problem view → (cost : ℕ) → NodeShows problem (Cost cost) view.context (Leaf view.blocks)
   dead_shows dead cost = (
     own_sound view.context view.blocks dead.own,
@@ -168,7 +172,7 @@ module _ (problem : Instance) (views : List View) (fates : List Fate) (count : �
   split_count_is (Clash i j) shape k on none = absurd none
 
   -- an end of the form is a leaf of the tree
-  pub some_leaf : (P : NodeContext → Type 0) (j : ℕ) (view_j : View) (fate_j : Fate) → slice_get views j ≡ Some view_j → slice_get fates j ≡ Some fate_j → IsEndFate fate_j → P view_j.context →
+  pub some_leaf : (P : NodeContext → List LabelBlock → Type 0) (j : ℕ) (view_j : View) (fate_j : Fate) → slice_get views j ≡ Some view_j → slice_get fates j ≡ Some fate_j → IsEndFate fate_j → P view_j.context view_j.blocks →
       (tree : ConstraintTree) (shape : Shape) (k : ℕ) (view : View) → slice_get views k ≡ Some view → IsShape fates k shape → IsTreeAt views fates k tree → 0 < occurrences j shape → AtSomeLeaf P view.context tree
   some_leaf P j view_j fate_j j_is j_fate j_end holds (Split conflict blocks left right) (Node n l r) k view is (number, c, x, split, on_l, on_r) (here, a, expanded, on_left, on_right) some =
       let to_l = to_left k view conflict blocks a is expanded here in let to_r = to_right k view conflict blocks a is expanded here in
@@ -185,7 +189,8 @@ module _ (problem : Instance) (views : List View) (fates : List Fate) (count : �
   some_leaf P j view_j fate_j j_is j_fate j_end holds (Leaf blocks) (Node n l r) k view is (number, c, x, split, on_l, on_r) (here, fate, fate_is, end) some =
       absurd (subst IsEndFate (same_Some fate (Expanded c x) (sym fate_is ∙ split)) end)
   some_leaf P j view_j fate_j j_is j_fate j_end holds (Leaf blocks) (End m) k view is (same, fate, fate_is, end) at_leaf some = ⊎_elim
-      (λ (e : j ≡ m). subst (λ (v : View). P v.context) (same_Some view_j view (sym j_is ∙ subst (λ n. slice_get views n ≡ Some view) (same ∙ sym e) is)) holds)
+      (λ (e : j ≡ m). subst (λ bs. P view.context bs) (sym (at_leaf.0 view is).0)
+      (subst (λ (v : View). P v.context v.blocks) (same_Some view_j view (sym j_is ∙ subst (λ n. slice_get views n ≡ Some view) (same ∙ sym e) is)) holds))
       (λ (e : j ≢ m). absurd (cond_both (nat_eq j m) 1 0 (λ n. 0 < n → ⊥) (λ t. absurd (e (eqb-true j m t))) (λ f h. omega arith) some))
       (cases_eq j m)
   some_leaf P j view_j fate_j j_is j_fate j_end holds (Clash a b) shape k view is on none some = absurd none
@@ -252,17 +257,27 @@ module _ (problem : Instance) (views : List View) (fates : List Fate) (count : �
     impossible_leaf none_open k view Dead is fate_is end = dead_shows_impossible problem view (searched.each k view Dead is fate_is)
     impossible_leaf none_open k view (Expanded c a) is fate_is end = absurd end
 
-    cost_node : (cost : ℕ) → ((m : ℕ) (other : View) → slice_get views m ≡ Some other → slice_get fates m ≡ Some Open → cost ≤ sum other.costs) →
-        (k : ℕ) (view : View) (node : ConstraintTree) → slice_get views k ≡ Some view → IsTreeAt views fates k node → NodeShows problem (Cost cost) view.context node
-    cost_node cost least k view (Split c blocks left right) is (here, a, expanded, on_left, on_right) = split_shows k view c blocks a is expanded here
-    cost_node cost least k view (Leaf blocks) is (here, fate, fate_is, end) = subst (λ bs. NodeShows problem (Cost cost) view.context (Leaf bs)) (sym (here view is).0) (cost_leaf cost least k view fate is fate_is end)
-    cost_node cost least k view (Clash i j) is none = absurd none
+    -- what starts show that add up to at least the cost, a cost or a bound, each node shows
+    claim_node : (claim : Claim) (cost : ℕ) → ((entries : ℕ → Entries) → StartsReach problem cost entries → StartsShow problem claim entries) → ((m : ℕ) (other : View) → slice_get views m ≡ Some other → slice_get fates m ≡ Some Open → cost ≤ sum other.costs) →
+        (k : ℕ) (view : View) (node : ConstraintTree) → slice_get views k ≡ Some view → IsTreeAt views fates k node → NodeShows problem claim view.context node
+    claim_node claim cost shown least k view (Split c blocks left right) is (here, a, expanded, on_left, on_right) = split_shows k view c blocks a is expanded here
+    claim_node claim cost shown least k view (Leaf blocks) is (here, fate, fate_is, end) =
+        let leaf = cost_leaf cost least k view fate is fate_is end in
+        subst (λ bs. NodeShows problem claim view.context (Leaf bs)) (sym (here view is).0) (leaf.0, shown (with_blocks view.blocks view.context.entries) leaf.1)
+    claim_node claim cost shown least k view (Clash i j) is none = absurd none
 
-    -- the least sum of the open nodes is shown
+    -- the least sum of the open nodes is shown, as a cost
     pub shows_cost : (cost : ℕ) → ((m : ℕ) (other : View) → slice_get views m ≡ Some other → slice_get fates m ≡ Some Open → cost ≤ sum other.costs) → Shows problem (Cost cost) tree
     shows_cost cost least = record {
       proper = is_proper;
-      nodes = from_root (NodeShows problem (Cost cost)) (cost_node cost least);
+      nodes = from_root (NodeShows problem (Cost cost)) (claim_node (Cost cost) cost (λ entries reach. reach) least);
+    }
+
+    -- and as a bound
+    pub shows_bound : (bound : ℕ) → ((m : ℕ) (other : View) → slice_get views m ≡ Some other → slice_get fates m ≡ Some Open → bound ≤ sum other.costs) → Shows problem (Bound bound) tree
+    shows_bound bound least = record {
+      proper = is_proper;
+      nodes = from_root (NodeShows problem (Bound bound)) (claim_node (Bound bound) bound (λ entries reach. reach) least);
     }
 
     impossible_node : ((m : ℕ) → slice_get fates m ≡ Some Open → ⊥) →
@@ -289,7 +304,7 @@ module _ (problem : Instance) (views : List View) (fates : List Fate) (count : �
     is_stopped Fact j view is is_open least meet fact = record {
       earned = is_earned;
       leaf =
-          let P : NodeContext → Type 0 = λ context. (paths : List (List ℕ)) × (total : ℕ) × AreDue problem tree context paths total × HaveSomeConflict paths × Fact context paths in
+          let P : NodeContext → List LabelBlock → Type 0 = λ context blocks. (paths : List (List ℕ)) × (total : ℕ) × AreDue problem tree context paths total × HaveSomeConflict paths × Fact context paths in
           let once = searched.tree.once j (slice_get_within fates j Open is_open) in
           subst (λ context. AtSomeLeaf P context tree) searched.first.2
           (some_leaf P j view Open is is_open tt (view.paths, sum view.costs, due view (searched.each j view Open is is_open) least, meet, fact)
@@ -297,10 +312,18 @@ module _ (problem : Instance) (views : List View) (fates : List Fate) (count : �
     }
 
     -- the paths of an open node are those of a leaf
-    pub at_leaf : (j : ℕ) (view : View) → slice_get views j ≡ Some view → slice_get fates j ≡ Some Open → AtSomeLeaf (λ context. AreCheapest problem context view.paths × AreFirstPaths problem context view.paths) root tree
+    pub at_leaf : (j : ℕ) (view : View) → slice_get views j ≡ Some view → slice_get fates j ≡ Some Open → AtSomeLeaf (λ context blocks. AreCheapest problem context view.paths × AreFirstPaths problem context view.paths) root tree
     at_leaf j view is is_open =
-        let P : NodeContext → Type 0 = λ context. AreCheapest problem context view.paths × AreFirstPaths problem context view.paths in
+        let P : NodeContext → List LabelBlock → Type 0 = λ context blocks. AreCheapest problem context view.paths × AreFirstPaths problem context view.paths in
         let live = searched.each j view Open is is_open in
         let once = searched.tree.once j (slice_get_within fates j Open is_open) in
         subst (λ context. AtSomeLeaf P context tree) searched.first.2
         (some_leaf P j view Open is is_open tt (live_cheapest problem view live, live_first problem view live) tree searched.tree.shape 0 searched.first.0 searched.first.1 searched.tree.is_shape on_tree (omega arith))
+
+    -- the labels of the starts at an open node add up to its sum, at a leaf
+    pub meets_at_a_leaf : (j : ℕ) (view : View) → slice_get views j ≡ Some view → slice_get fates j ≡ Some Open → AtSomeLeaf (λ context blocks. StartsAddUpTo problem (sum view.costs) (with_blocks blocks context.entries)) root tree
+    meets_at_a_leaf j view is is_open =
+        let P : NodeContext → List LabelBlock → Type 0 = λ context blocks. StartsAddUpTo problem (sum view.costs) (with_blocks blocks context.entries) in
+        let once = searched.tree.once j (slice_get_within fates j Open is_open) in
+        subst (λ context. AtSomeLeaf P context tree) searched.first.2
+        (some_leaf P j view Open is is_open tt (live_adds_up problem view (searched.each j view Open is is_open)) tree searched.tree.shape 0 searched.first.0 searched.first.1 searched.tree.is_shape on_tree (omega arith))

@@ -2,14 +2,14 @@
 use Rattle.std.specs.Prelude.{◌≡◌, ℕ, ◌+◌, ◌*◌, ◌<◌, ◌≤◌, List, length}
 use Rattle.mapf_model.specs.declared.cause.Cause.{Cause}
 use Rattle.mapf_model.specs.declared.cause.Cause.TheVariants.{Splits, Ticks}
-use Rattle.mapf_model.specs.declared.item.Claim.TheVariants.{Cost, Impossible}
+use Rattle.mapf_model.specs.declared.item.Claim.TheVariants.{Cost, Bound, Impossible}
 use Rattle.mapf_model.specs.declared.item.Item.{Item}
 use Rattle.mapf_model.specs.Earned.{AreCheapest, AreConflictFreeBefore, HaveConflictBefore, IsEarned, IsStoppedWhere}
 use Rattle.mapf_model.specs.Grid.{free_cell_count}
 use Rattle.mapf_model.specs.Limits.{split_ticks}
-use Rattle.mapf_model.specs.Plan.{Instance, IsOptimal, IsImpossible}
+use Rattle.mapf_model.specs.Plan.{Instance, IsOptimal, IsLowerBound, IsImpossible}
 use Rattle.mapf_model.specs.Printed.{IsTreeInRange, IsPlanInRange, IsClaimInRange}
-use Rattle.mapf_model.specs.Tree.{ConstraintTree, NodeContext, Spell, Shows, AtSomeLeaf, root, split_count}
+use Rattle.mapf_model.specs.Tree.{ConstraintTree, NodeContext, Spell, Shows, StartsAddUpTo, AtSomeLeaf, root, split_count, with_blocks}
 use Rattle.mapf_cbs.specs.BoundBlocks.{CarriesBoundBlocks}
 use Rattle.mapf_cbs.specs.FirstConflicts.{AreFirstPaths, AreOnFirstConflicts}
 use Rattle.mapf_cbs.specs.Goals.{NamesFirstDefect}
@@ -39,7 +39,7 @@ pub record IsShownOptimal (problem : Instance) (plan : List (List ℕ)) (tree : 
   pub total : ℕ
   pub optimal : IsOptimal problem plan total
   pub shows : Shows problem (Cost total) tree
-  pub of_a_leaf : AtSomeLeaf (AreFirstCheapest problem plan) root tree
+  pub of_a_leaf : AtSomeLeaf (λ context blocks. AreFirstCheapest problem plan context) root tree
   pub plan_in_range : IsPlanInRange problem.grid plan
   pub claim_in_range : IsClaimInRange (Cost total)
 
@@ -47,6 +47,14 @@ pub record IsShownOptimal (problem : Instance) (plan : List (List ℕ)) (tree : 
 pub record IsShownImpossible (problem : Instance) (tree : ConstraintTree) : Type 0 where
   pub shows : Shows problem Impossible tree
   pub impossible : IsImpossible problem
+
+-- the tree shows that no valid plan has a sum below the bound, and so none has; it shows no greater bound, since at
+-- some leaf the labels of the starts add up to exactly this; and it can be printed
+pub record IsShownBound (problem : Instance) (bound : ℕ) (tree : ConstraintTree) : Type 0 where
+  pub shows : Shows problem (Bound bound) tree
+  pub holds : IsLowerBound problem bound
+  pub met_at_a_leaf : AtSomeLeaf (λ context blocks. StartsAddUpTo problem bound (with_blocks blocks context.entries)) root tree
+  pub claim_in_range : IsClaimInRange (Bound bound)
 
 -- an earned tree with a leaf at which due paths, each the first of its cost, conflict, and of which the fact holds
 abbrev pub IsStoppedAtFirst : (List (List ℕ) → Type 0) → Instance → ConstraintTree → Type 0
@@ -62,8 +70,8 @@ MayStop problem limit (Splits n) tree = IsStoppedAtFirst (λ paths. HaveConflict
 MayStop problem limit Ticks tree = IsStoppedAtFirst (λ paths. AreConflictFreeBefore paths split_ticks) problem tree
     × (split_ticks < (split_count tree + 1) * free_cell_count problem.grid)
 
--- a plan or impossibility with a tree that shows it, or a limit that was met
+-- a plan or impossibility with a tree that shows it, or a limit that was met, with the bound that the tree shows
 abbrev pub IsSearchAnswer : Instance → ℕ → Answer → Type 0
 IsSearchAnswer problem limit (FoundAnswer plan items) = (tree : ConstraintTree) × IsTreeOf problem limit items.items tree × IsShownOptimal problem plan tree
 IsSearchAnswer problem limit (ImpossibleAnswer items) = (tree : ConstraintTree) × IsTreeOf problem limit items.items tree × IsShownImpossible problem tree
-IsSearchAnswer problem limit (LimitAnswer cause items) = (tree : ConstraintTree) × IsTreeOf problem limit items.items tree × MayStop problem limit cause tree
+IsSearchAnswer problem limit (LimitAnswer cause bound items) = (tree : ConstraintTree) × IsTreeOf problem limit items.items tree × MayStop problem limit cause tree × IsShownBound problem bound tree

@@ -7,6 +7,11 @@ pub enum Answer {
     Found { plan: Plan, tree: Vec<Item> },
     /// No plan is valid, and the tree shows it.
     Impossible { tree: Vec<Item> },
-    /// The search was stopped, at a leaf of the tree whose paths conflict. Nothing is said of plans.
-    Limit { cause: Cause, tree: Vec<Item> },
+    /// The search was stopped, at a leaf of the tree whose paths conflict. The tree shows that no valid
+    /// plan has a sum of costs below the bound, in ticks, and shows no greater bound.
+    Limit {
+        cause: Cause,
+        bound: u64,
+        tree: Vec<Item>,
+    },
 }

@@ -60,7 +60,9 @@ fn search_plain(
             let items = tree_items(alloc, lists, &tree.fates)?;
             return Ok(Answer::Impossible { tree: items });
         };
-        let plan = tree.nodes[k as usize].plan(alloc)?;
+        let node = &tree.nodes[k as usize];
+        let bound = node.total;
+        let plan = node.plan(alloc)?;
         let Some(conflict) = first_conflict(&plan) else {
             let lists = blocks_of_whole(alloc, tree.nodes)?;
             let items = tree_items(alloc, lists, &tree.fates)?;
@@ -69,7 +71,11 @@ fn search_plain(
         if let Some(cause) = cause_to_stop(&conflict, tree.splits, limit) {
             let lists = blocks_of_whole(alloc, tree.nodes)?;
             let items = tree_items(alloc, lists, &tree.fates)?;
-            return Ok(Answer::Limit { cause, tree: items });
+            return Ok(Answer::Limit {
+                cause,
+                bound,
+                tree: items,
+            });
         }
         split_whole(alloc, problem, tables, &mut tree, k, &conflict)?;
     }

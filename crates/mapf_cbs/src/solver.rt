@@ -81,7 +81,11 @@ fn search_from<B: BarTable>(
         if let Some(cause) = cause_to_stop(&conflict, search.splits, limit) {
             let lists = blocks_of_all(alloc, search.nodes)?;
             let tree = tree_items(alloc, lists, &search.fates)?;
-            return Ok(Answer::Limit { cause, tree });
+            return Ok(Answer::Limit {
+                cause,
+                bound: total,
+                tree,
+            });
         }
         split::<B>(alloc, problem, tables, &mut search, k, total, &conflict)?;
     }

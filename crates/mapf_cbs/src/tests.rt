@@ -111,12 +111,14 @@ fn answer_text(alloc: Global, answer: &Answer) -> Result<String, AllocError> {
         Answer::Impossible { tree } => (String::from_str(alloc, "impossible")?, tree),
         Answer::Limit {
             cause: Cause::Ticks,
+            bound,
             tree,
-        } => (String::from_str(alloc, "limit ticks")?, tree),
+        } => (format!(in alloc; "limit ticks bound {bound}")?, tree),
         Answer::Limit {
             cause: Cause::Splits(n),
+            bound,
             tree,
-        } => (format!(in alloc; "limit {n}")?, tree),
+        } => (format!(in alloc; "limit {n} bound {bound}")?, tree),
     };
     text.push_str(&tree_text(alloc, tree)?)?;
     Ok(text)
@@ -175,7 +177,7 @@ fn lets_one_agent_wait_for_another(rt: HostRuntime) -> Result<(), Fail> {
     let expected = "found: 3 3 4 5: 1 4 7 / vertex 0 1 4 1 / leaf 0: 3@0=3 / leaf 1: 1@0=3";
     solves(&rt, rt.alloc(), rows, ends, 10, expected)?;
     solves(&rt, rt.alloc(), rows, ends, 1, expected)?;
-    solves(&rt, rt.alloc(), rows, ends, 0, "limit 0 / leaf")
+    solves(&rt, rt.alloc(), rows, ends, 0, "limit 0 bound 4 / leaf")
 }
 
 // Agent 1 has to leave its goal for agent 0 and to return.
@@ -192,7 +194,7 @@ fn lets_an_agent_pass(rt: HostRuntime) -> Result<(), Fail> {
     solves(&rt, rt.alloc(), "... @.@", ends, 5, PASSING)?;
     let problem = problem_of(rt.alloc(), "... @.@", ends)?;
     let text = common_text(&rt, rt.alloc(), &problem, 4)?;
-    assert!(rt; text.starts_with("limit 4 / vertex 0 1 1 1 / "));
+    assert!(rt; text.starts_with("limit 4 bound 4 / vertex 0 1 1 1 / "));
     Ok(())
 }
 
@@ -267,7 +269,7 @@ fn finds_the_sum_of_each_node(rt: HostRuntime) -> Result<(), Fail> {
 #[test]
 fn stops_where_two_agents_block_each_other(rt: HostRuntime) -> Result<(), Fail> {
     let ends = [(0, 1), (1, 0)].as_slice();
-    let expected = "limit 3 / swap 0 1 0 1 0 / vertex 0 1 0 1 0: 0@0=2 / leaf 0: 0@0=inf \
+    let expected = "limit 3 bound 4 / swap 0 1 0 1 0 / vertex 0 1 0 1 0: 0@0=2 / leaf 0: 0@0=inf \
         / leaf 1: 1@0=2 / vertex 0 1 1 1 1: 1@0=2 / leaf 0: 0@0=2 / leaf 1: 1@0=inf";
     solves(&rt, rt.alloc(), "..", ends, 3, expected)
 }
@@ -277,7 +279,7 @@ fn shows_that_no_plan_is_valid(rt: HostRuntime) -> Result<(), Fail> {
     let one_start = [(0, 1), (0, 2)].as_slice();
     let expected = "impossible / vertex 0 1 0 0 / leaf 0: 0@0=inf / leaf 1: 0@0=inf";
     solves(&rt, rt.alloc(), "...", one_start, 1, expected)?;
-    solves(&rt, rt.alloc(), "...", one_start, 0, "limit 0 / leaf")?;
+    solves(&rt, rt.alloc(), "...", one_start, 0, "limit 0 bound 3 / leaf")?;
     let one_goal = [(0, 1), (2, 1)].as_slice();
     solves(
         &rt,
@@ -314,7 +316,7 @@ fn takes_the_least_of_the_cheapest_paths(rt: HostRuntime) -> Result<(), Fail> {
     let past = [(0, 3), (2, 2)].as_slice();
     solves(&rt, rt.alloc(), ".. ..", past, 0, "found: 0 1 3: 2 / leaf")?;
     let against = [(0, 3), (1, 1)].as_slice();
-    solves(&rt, rt.alloc(), ".. ..", against, 0, "limit 0 / leaf")?;
+    solves(&rt, rt.alloc(), ".. ..", against, 0, "limit 0 bound 2 / leaf")?;
     let expected = "found: 0 2 3: 1 / vertex 0 1 1 1 / leaf / leaf 1: 1@0=2";
     solves(&rt, rt.alloc(), ".. ..", against, 1, expected)
 }
@@ -389,7 +391,7 @@ fn stops_at_a_conflict_that_is_too_late(rt: HostRuntime) -> Result<(), Fail> {
     let problem = late_meeting(rt.alloc())?;
     let answer = solve(rt.alloc(), &problem, 0)?;
     let text = answer_text(rt.alloc(), &answer)?;
-    assert_eq!(rt; text.as_str(), "limit ticks / leaf");
+    assert_eq!(rt; text.as_str(), "limit ticks bound 4196348 / leaf");
     Ok(())
 }
 
@@ -398,7 +400,7 @@ fn stops_there_with_bars_by_tick(rt: HostRuntime) -> Result<(), Fail> {
     let problem = late_meeting(rt.alloc())?;
     let answer = solve_with::<TickBars>(rt.alloc(), &problem, 0)?;
     let text = answer_text(rt.alloc(), &answer)?;
-    assert_eq!(rt; text.as_str(), "limit ticks / leaf");
+    assert_eq!(rt; text.as_str(), "limit ticks bound 4196348 / leaf");
     Ok(())
 }
 
@@ -407,7 +409,7 @@ fn stops_there_with_bars_in_a_list(rt: HostRuntime) -> Result<(), Fail> {
     let problem = late_meeting(rt.alloc())?;
     let answer = solve_with::<ListBars>(rt.alloc(), &problem, 0)?;
     let text = answer_text(rt.alloc(), &answer)?;
-    assert_eq!(rt; text.as_str(), "limit ticks / leaf");
+    assert_eq!(rt; text.as_str(), "limit ticks bound 4196348 / leaf");
     Ok(())
 }
 
@@ -416,7 +418,7 @@ fn stops_there_in_the_plain_search(rt: HostRuntime) -> Result<(), Fail> {
     let problem = late_meeting(rt.alloc())?;
     let answer = solve_plain(rt.alloc(), &problem, 0)?;
     let text = answer_text(rt.alloc(), &answer)?;
-    assert_eq!(rt; text.as_str(), "limit ticks / leaf");
+    assert_eq!(rt; text.as_str(), "limit ticks bound 4196348 / leaf");
     Ok(())
 }
 
@@ -449,6 +451,6 @@ fn keeps_the_cost_of_a_split(rt: HostRuntime) -> Result<(), Fail> {
     let problem = Problem::of(lanes(rt.alloc())?, agents).ok_or("no problem")?;
     let answer = solve(rt.alloc(), &problem, 5000)?;
     let text = answer_text(rt.alloc(), &answer)?;
-    assert!(rt; text.starts_with("limit 5000 / "));
+    assert!(rt; text.starts_with("limit 5000 bound "));
     Ok(())
 }

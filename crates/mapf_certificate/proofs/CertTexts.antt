@@ -69,6 +69,7 @@ spells_from_text grid other version agents claim nodes bytes sized text = by tex
           record {
             agents_in_range = text.agents_in_range;
             claim_in_range = text.claim_in_range;
+            claim_of_version = text.claim_of_version;
             tree_in_range = tree_moved other grid sized agents tree ranged;
             tree_of_version = may;
             spelled = text.spelled ∙ ap (λ l. header_text version other.width agents claim ++ l) (text.rest.spelled ∙ ap (rest_text version other.width) one) ∙ ap (λ w. cert_text version w agents claim (nodes_of tree)) sized.width;
@@ -81,6 +82,7 @@ pub text_from_spells : (grid other : GridMap) (version : Version) (agents : ℕ)
 text_from_spells grid other version agents claim tree bytes sized spells = record {
   agents_in_range = spells.agents_in_range;
   claim_in_range = spells.claim_in_range;
+  claim_of_version = spells.claim_of_version;
   after = rest_text version other.width (nodes_of tree);
   spelled = spells.spelled ∙ ap (λ w. cert_text version w agents claim (nodes_of tree)) sized.width;
   rest = record {
@@ -98,6 +100,7 @@ pub converted : (grid : GridMap) (old new : List ℕ) (agents count : ℕ) (clai
 converted grid old new agents count claim says tree nodes spells p q r e = record {
   agents_in_range = spells.agents_in_range;
   claim_in_range = spells.claim_in_range;
+  claim_of_version = tt;
   tree_in_range = spells.tree_in_range;
   tree_of_version = tt;
   spelled = e ∙ ap (λ (n : ℕ). cert_text Two grid.width n says nodes) p ∙ ap (λ (c : Claim). cert_text Two grid.width agents c nodes) q ∙ ap (cert_text Two grid.width agents claim) r;
@@ -170,7 +173,7 @@ one_cert grid bytes version version' agents agents' claim claim' tree tree' is p
     let sized : AreSized grid (grid_for sizes) = record { width = refl; height = refl } in
     let first = text_from_spells grid (grid_for sizes) version agents claim tree bytes sized p in
     let second = text_from_spells grid (grid_for sizes) version' agents' claim' tree' bytes sized q in
-    let (same, counts, says, rest) = same_header version version' grid.width agents agents' claim claim' first.after second.after p.agents_in_range q.agents_in_range p.claim_in_range q.claim_in_range (sym first.spelled ∙ second.spelled) in
+    let (same, counts, says, rest) = same_header version version' grid.width agents agents' claim claim' first.after second.after p.agents_in_range q.agents_in_range (p.claim_in_range, p.claim_of_version) (q.claim_in_range, q.claim_of_version) (sym first.spelled ∙ second.spelled) in
     let other = subst (λ (n : ℕ). IsRest version (grid_for sizes) n 1 (nodes_of tree') second.after) (sym counts) (subst (λ (v : Version). IsRest v (grid_for sizes) agents' 1 (nodes_of tree') second.after) (sym same) second.rest) in
     let nodes = same_rest sizes 1 (nodes_of tree) (nodes_of tree') first.after second.after first.rest other rest in
     (same, counts, says, (cut tree tree' [] [] (ap (λ l. l ++ []) nodes)).0)

@@ -11,7 +11,7 @@ use Rattle.mapf_model.specs.declared.item.Claim.TheVariants as claims
 use Rattle.mapf_model.specs.declared.label.Label.{Label}
 use Rattle.mapf_model.specs.declared.label.Label.TheVariants as labels
 use Rattle.mapf_model.specs.declared.label.Entry.{Entry}
-use Rattle.mapf_model.specs.Printed.{IsLabelInRange, IsEntryInRange, IsClaimInRange}
+use Rattle.mapf_model.specs.Printed.{IsLabelInRange, IsEntryInRange}
 use Rattle.mapf_certificate.specs.declared.version.Version.{Version}
 use Rattle.mapf_certificate.specs.declared.version.Version.TheVariants.{One, Two}
 use Rattle.mapf_certificate.specs.declared.line.CertLine.{CertLine}
@@ -24,8 +24,8 @@ use Rattle.mapf_certificate.specs.declared.tree_line.Due.TheVariants as dues
 use Rattle.mapf_certificate.specs.declared.tree_line.LabelWord.{LabelWord}
 use Rattle.mapf_certificate.specs.declared.tree_line.LabelWord.TheVariants as word
 use Rattle.mapf_certificate.specs.Numbers.{◌>>=◌, field, pair, strip, read_field, read_last, read_pair, in_range, below, read_cell}
-use Rattle.mapf_certificate.specs.Lines.{words, title_words, count_words, label_words, IsLine, IsCountOnSplit, IsTreeLine, IsAgentCount, width_of, grid_for}
-use Rattle.mapf_certificate.specs.LineReading.{read_title, read_count, read_cost, read_agents, read_claim, read_blocks, blocks_in_range, read_vertex, read_swap, read_leaf, read_clash, read_agent, read_label_word, label_in_range, read_entry, read_tree_line, read_line}
+use Rattle.mapf_certificate.specs.Lines.{words, title_words, count_words, label_words, IsLine, IsCountOnSplit, IsTreeLine, IsAgentCount, IsClaimOfVersion, IsCertClaim, width_of, grid_for}
+use Rattle.mapf_certificate.specs.LineReading.{read_title, read_count, read_cost, read_agents, read_bound_claim, read_claim, read_blocks, blocks_in_range, read_vertex, read_swap, read_leaf, read_clash, read_agent, read_label_word, label_in_range, read_entry, read_tree_line, read_line}
 use Rattle.mapf_certificate.proofs.Strips.{strip-some}
 use Rattle.mapf_certificate.proofs.Fields.{guarded, through, same_ok, IsPastDigits, field_takes, field_again, last_takes, last_again, pair_takes, pair_again, below_takes, below_again, range_takes, range_again, cell_again, row-below}
 
@@ -38,7 +38,7 @@ field_below mark bound bs p n e ranged =
     let (is, less) = below_takes bound p.0 n ranged in
     ((field_takes mark bs p.1 n (e ∙ ap (λ v. Ok (v, p.1)) is)).0, less)
 
-field_range : (mark least most : ℕ) (bs : List ℕ) (p : Option ℕ × List ℕ) (n : ℕ) → read_field mark bs ≡ Ok p → in_range least most p.0 ≡ Ok n → (bs ≡ field mark n ++ p.1) × (least ≤ n) × (n ≤ most)
+pub field_range : (mark least most : ℕ) (bs : List ℕ) (p : Option ℕ × List ℕ) (n : ℕ) → read_field mark bs ≡ Ok p → in_range least most p.0 ≡ Ok n → (bs ≡ field mark n ++ p.1) × (least ≤ n) × (n ≤ most)
 field_range mark least most bs p n e ranged =
     let (is, above, under) = range_takes least most p.0 n ranged in
     ((field_takes mark bs p.1 n (e ∙ ap (λ v. Ok (v, p.1)) is)).0, above, under)
@@ -232,16 +232,35 @@ agents_takes bs line e =
     subst (TakesDue dues.Agents (codes "agents" ++ rest)) (same_ok _ line done) (ranged, ap (λ r. codes "agents" ++ r) text)))
     (λ wrong. cc) e
 
-claim_takes : (bs : List ℕ) (line : CertLine) → read_claim bs ≡ Ok line → TakesDue dues.Claim bs line
+-- a cost is claimed in both versions, and so is that no plan is valid
+cost_of_either : (version : Version) (cost : ℕ) → IsClaimOfVersion version (claims.Cost cost)
+cost_of_either One cost = tt
+cost_of_either Two cost = tt
+
+impossible_of_either : (version : Version) → IsClaimOfVersion version claims.Impossible
+impossible_of_either One = tt
+impossible_of_either Two = tt
+
+bound_claim_takes : (version : Version) (bs : List ℕ) (line : CertLine) → read_bound_claim version bs ≡ Ok line → TakesDue (dues.Claim version) bs line
+unfolding read_bound_claim
+bound_claim_takes One bs line e = cc
+bound_claim_takes Two bs line e =
+    front_takes (λ b. TakesDue (dues.Claim Two) b line) (codes "claim bound") bs _ (Err Shape) line
+    (λ rest made. through (read_cost rest) _ line made (λ n is done.
+    let (text, ranged) = cost_takes rest n is in
+    subst (TakesDue (dues.Claim Two) (codes "claim bound" ++ rest)) (same_ok _ line done) ((ranged, tt), ap (λ r. codes "claim bound" ++ r) text)))
+    (λ wrong. cc) e
+
+claim_takes : (version : Version) (bs : List ℕ) (line : CertLine) → read_claim version bs ≡ Ok line → TakesDue (dues.Claim version) bs line
 unfolding read_claim
-claim_takes bs line e = elim (chosen (bytes_eq bs (codes "claim impossible")) _ _ _ e) [
-  | inl (found, same) ↦ subst (TakesDue dues.Claim bs) (same_ok (lines.Claim claims.Impossible) line same) (tt, (bytes_eq-Decides bs (codes "claim impossible")).0 found)
+claim_takes version bs line e = elim (chosen (bytes_eq bs (codes "claim impossible")) _ _ _ e) [
+  | inl (found, same) ↦ subst (TakesDue (dues.Claim version) bs) (same_ok (lines.Claim claims.Impossible) line same) ((tt, impossible_of_either version), (bytes_eq-Decides bs (codes "claim impossible")).0 found)
   | inr more ↦
-      front_takes (λ b. TakesDue dues.Claim b line) (codes "claim cost") bs _ (Err Shape) line
+      front_takes (λ b. TakesDue (dues.Claim version) b line) (codes "claim cost") bs _ (read_bound_claim version bs) line
       (λ rest made. through (read_cost rest) _ line made (λ n is done.
       let (text, ranged) = cost_takes rest n is in
-      subst (TakesDue dues.Claim (codes "claim cost" ++ rest)) (same_ok _ line done) (ranged, ap (λ r. codes "claim cost" ++ r) text)))
-      (λ wrong. cc) more
+      subst (TakesDue (dues.Claim version) (codes "claim cost" ++ rest)) (same_ok _ line done) ((ranged, cost_of_either version n), ap (λ r. codes "claim cost" ++ r) text)))
+      (bound_claim_takes version bs line) more
 ]
 
 title_takes : (bs : List ℕ) (line : CertLine) → read_title bs ≡ Ok line → TakesDue dues.Title bs line
@@ -258,7 +277,7 @@ title_takes bs line e =
 pub line_takes : (due : Due) (bs : List ℕ) (line : CertLine) → read_line due bs ≡ Ok line → IsLine due line × (bs ≡ words (width_of due) line)
 line_takes dues.Title bs line e = title_takes bs line e
 line_takes dues.Agents bs line e = agents_takes bs line e
-line_takes dues.Claim bs line e = claim_takes bs line e
+line_takes (dues.Claim version) bs line e = claim_takes version bs line e
 line_takes (dues.Tree sizes) bs line e = let (text, ranged) = tree_line_takes sizes bs line e in (ranged, text)
 
 -- and the other way round
@@ -407,10 +426,16 @@ agents_again : (n : ℕ) → IsAgentCount n → read_agents (words 1 (lines.Agen
 unfolding read_agents
 agents_again n is = then_ok _ _ _ _ (count_again n is) refl
 
-claim_again : (claim : Claim) → IsClaimInRange claim → read_claim (words 1 (lines.Claim claim)) ≡ Ok (lines.Claim claim)
+bound_claim_again : (version : Version) (bound : ℕ) → IsCertClaim version (claims.Bound bound) → read_bound_claim version (words 1 (lines.Claim (claims.Bound bound))) ≡ Ok (lines.Claim (claims.Bound bound))
+unfolding read_bound_claim
+bound_claim_again One bound is = absurd is.1
+bound_claim_again Two bound is = then_ok _ _ _ _ (cost_again bound is.0) refl
+
+claim_again : (version : Version) (claim : Claim) → IsCertClaim version claim → read_claim version (words 1 (lines.Claim claim)) ≡ Ok (lines.Claim claim)
 unfolding read_claim
-claim_again claims.Impossible is = refl
-claim_again (claims.Cost cost) is = then_ok _ _ _ _ (cost_again cost is) refl
+claim_again version claims.Impossible is = refl
+claim_again version (claims.Cost cost) is = then_ok _ _ _ _ (cost_again cost is.0) refl
+claim_again version (claims.Bound bound) is = bound_claim_again version bound is
 
 title_again : (version : Version) → read_title (title_words version) ≡ Ok (lines.Title version)
 unfolding read_title
@@ -423,6 +448,6 @@ line_again dues.Title (lines.Title version) is = title_again version
 line_again dues.Title _ is = absurd is
 line_again dues.Agents (lines.Agents n) is = agents_again n is
 line_again dues.Agents _ is = absurd is
-line_again dues.Claim (lines.Claim claim) is = claim_again claim is
-line_again dues.Claim _ is = absurd is
+line_again (dues.Claim version) (lines.Claim claim) is = claim_again version claim is
+line_again (dues.Claim version) _ is = absurd is
 line_again (dues.Tree sizes) line is = tree_line_again sizes line is

@@ -1,7 +1,6 @@
 -- Plan texts are spelled apart.
-use Rattle.std.proofs.Common.{◌≡◌, ℕ, ◌<◌, ◌+◌, List, [], ◌∷◌, ◌++◌, length, All, Some, refl, sym, ap, ◌∙◌, arith, append_assoc}
+use Rattle.std.proofs.Common.{◌≡◌, ℕ, ◌<◌, ◌+◌, List, [], ◌∷◌, ◌++◌, length, All, Some, None, refl, sym, ap, ◌∙◌, arith, append_assoc}
 use Rattle.std.proofs.lemmas.List.Elements.{All-head, All-tail}
-use Rattle.mapf_model.specs.declared.cause.Cause.{Cause}
 use Rattle.mapf_model.specs.Printed.{IsOnGrid, IsPathInRange}
 use Rattle.mapf_certificate.specs.Lines.{grid_for}
 use Rattle.mapf_certificate.specs.declared.line.LineFault.{LineFault}
@@ -9,16 +8,15 @@ use Rattle.mapf_certificate.specs.declared.plan_text.PlanAnswer.{PlanAnswer}
 use Rattle.mapf_certificate.specs.declared.plan_text.PlanAnswer.TheVariants as texts
 use Rattle.mapf_certificate.specs.declared.plan_text.PlanTextFault.{PlanTextFault}
 use Rattle.mapf_certificate.specs.declared.plan_lines.AnswerLine.TheVariants as answers
-use Rattle.mapf_certificate.specs.declared.version.Version.TheVariants.{One}
 use Rattle.mapf_certificate.specs.declared.sizes.Sizes.{Sizes}
 use Rattle.mapf_certificate.specs.Plans.{SpellsOnePlan, IsAnswerInRange, cells_text, path_words, paths_text, ticks_of}
 use Rattle.mapf_certificate.specs.PlanReading.{read_pair_cell, read_path_front, line_of, rest_of}
 use Rattle.mapf_certificate.proofs.Fields.{ok_pair_parts}
-use Rattle.mapf_certificate.proofs.PathLaws.{cells_past, front_read, ok_triple_parts}
+use Rattle.mapf_certificate.proofs.PathLaws.{cells_past, front_read, ok_triple_parts, ok_header_parts}
 use Rattle.mapf_certificate.proofs.PathsLaws.{path_lacks}
 use Rattle.mapf_certificate.proofs.PlainLines.{same_front}
 use Rattle.mapf_certificate.proofs.PlanParts.{pair_cell_is_read}
-use Rattle.mapf_certificate.proofs.PlanTexts.{answer_moved, header_of}
+use Rattle.mapf_certificate.proofs.PlanTexts.{answer_moved, limits_same, header_of}
 
 -- cells that are spelled alike
 cells_same : (sizes : Sizes) (xs ys : List ℕ) → All (IsOnGrid (grid_for sizes)) xs → All (IsOnGrid (grid_for sizes)) ys → cells_text sizes.width xs ≡ cells_text sizes.width ys → xs ≡ ys
@@ -65,30 +63,25 @@ paths_same sizes due (p ∷ ps) (q ∷ qs) s t whole many all_p all_q e =
     cut x xs u =
         append_assoc (path_words sizes.width due x ++ (10 ∷ [])) (paths_text sizes.width (due + 1) xs) u ∙ append_assoc (path_words sizes.width due x) (10 ∷ []) (paths_text sizes.width (due + 1) xs ++ u)
 
-causes_same : (a b : Cause) → answers.Limit a ≡ answers.Limit b → a ≡ b
-causes_same a b e = cc
-
 -- answers whose lines are spelled alike
 answers_same : (sizes : Sizes) (a b : PlanAnswer) → IsAnswerInRange (grid_for sizes) sizes.agents a → IsAnswerInRange (grid_for sizes) sizes.agents b → line_of a ≡ line_of b → rest_of sizes.width a ≡ rest_of sizes.width b → a ≡ b
 answers_same sizes (texts.Found p) (texts.Found q) is_a is_b line rest = ap texts.Found (paths_same sizes 0 p q _ _ (omega (arith, is_a.0)) (omega (arith, is_a.0, is_b.0)) is_a.1 is_b.1 rest)
 answers_same sizes (texts.Found p) texts.Impossible is_a is_b line rest = cc
 answers_same sizes (texts.Found p) (texts.Limit cause) is_a is_b line rest = cc
-answers_same sizes texts.Impossible (texts.Found q) is_a is_b line rest = cc
-answers_same sizes texts.Impossible texts.Impossible is_a is_b line rest = refl
-answers_same sizes texts.Impossible (texts.Limit cause) is_a is_b line rest = cc
-answers_same sizes (texts.Limit cause) (texts.Found q) is_a is_b line rest = cc
-answers_same sizes (texts.Limit cause) texts.Impossible is_a is_b line rest = cc
-answers_same sizes (texts.Limit cause) (texts.Limit other) is_a is_b line rest = ap texts.Limit (causes_same cause other line)
+answers_same sizes (texts.Found p) (texts.Bounded cause bound) is_a is_b line rest = cc
+answers_same sizes texts.Impossible b is_a is_b line rest = limits_same texts.Impossible b (λ cost e. let wrong : answers.Impossible ≡ answers.Cost cost = e in cc) line
+answers_same sizes (texts.Limit cause) b is_a is_b line rest = limits_same (texts.Limit cause) b (λ cost e. let wrong : answers.Limit cause None ≡ answers.Cost cost = e in cc) line
+answers_same sizes (texts.Bounded cause bound) b is_a is_b line rest = limits_same (texts.Bounded cause bound) b (λ cost e. let wrong : answers.Limit cause (Some bound) ≡ answers.Cost cost = e in cc) line
 
 -- on one grid no bytes spell two plan texts
 pub one_plan : SpellsOnePlan
 one_plan grid bytes text other is fits fits' spelled spelled' =
     let (narrow, narrow', low, low', free) = is in
-    let sizes : Sizes = record { version = One; width = grid.width; height = grid.height; agents = text.agents; narrow = (narrow, narrow'); low = (low, low'); few = fits.0 } in
+    let sizes : Sizes = record { version = text.version; width = grid.width; height = grid.height; agents = text.agents; narrow = (narrow, narrow'); low = (low, low'); few = fits.0 } in
     let first = header_of grid text bytes fits spelled in
     let second = header_of grid other bytes fits' spelled' in
-    let (counts, line, rest) = ok_triple_parts {E = PlanTextFault} text.agents other.agents (line_of text.answer) (line_of other.answer) (rest_of grid.width text.answer) (rest_of grid.width other.answer) (sym first ∙ second) in
+    let (versions, counts, line, rest) = ok_header_parts {E = PlanTextFault} text.version other.version text.agents other.agents (line_of text.answer) (line_of other.answer) (rest_of grid.width text.answer) (rest_of grid.width other.answer) (sym first ∙ second) in
     let is_text = answer_moved grid (grid_for sizes) text.agents sizes.agents text.answer refl refl refl fits.1 in
     let is_other = answer_moved grid (grid_for sizes) other.agents sizes.agents other.answer refl refl (sym counts) fits'.1 in
     let same : text.answer ≡ other.answer = answers_same sizes text.answer other.answer is_text is_other line rest in
-    λ k. record { agents = counts k; answer = same k }
+    λ k. record { version = versions k; agents = counts k; answer = same k }

@@ -105,6 +105,9 @@ front_read width due (c ∷ cells) some few fits =
 pub ok_triple_parts : {A B C E : Type 0} (a x : A) (b y : B) (c z : C) → ◌≡◌ {A = Result (A × B × C) E} (Ok (a, b, c)) (Ok (x, y, z)) → (a ≡ x) × (b ≡ y) × (c ≡ z)
 ok_triple_parts a x b y c z e = let same = same_ok (a, b, c) (x, y, z) e in (ap (λ p. p.0) same, ap (λ p. p.1) same, ap (λ p. p.2) same)
 
+pub ok_header_parts : {A B C D E : Type 0} (a x : A) (b y : B) (c z : C) (d w : D) → ◌≡◌ {A = Result (A × B × C × D) E} (Ok (a, b, c, d)) (Ok (x, y, z, w)) → (a ≡ x) × (b ≡ y) × (c ≡ z) × (d ≡ w)
+ok_header_parts a x b y c z d w e = let same = same_ok (a, b, c, d) (x, y, z, w) e in (ap (λ p. p.0) same, ap (λ p. p.1) same, ap (λ p. p.2) same, ap (λ p. p.3) same)
+
 -- an error that a `?` passed on
 pub passed_on : {A E : Type 0} (r : Result A E) (e m : E) → (y : E) × (r ≡ Err y) × (y ≡ e) → e ≡ m → r ≡ Err m
 passed_on r e m p is = p.1 ∙ ap Err (p.2 ∙ is)

@@ -37,7 +37,7 @@ plain-append j k bs cs p q = record {
   short = omega (arith, length-append bs cs, p.short, q.short);
 }
 
-plain-more : (j k : ℕ) (bs : List ℕ) → j ≤ k → IsPlain j bs → IsPlain k bs
+pub plain-more : (j k : ℕ) (bs : List ℕ) → j ≤ k → IsPlain j bs → IsPlain k bs
 plain-more j k bs h p = record { ends = p.ends; short = omega (arith, p.short) }
 
 digits_lack : (ds : List ℕ) → AllDigits 10 ds → lacks_end ds ≡ true
@@ -116,18 +116,20 @@ plain_agents (lines.Agents n) (low, high) =
     plain-more 10 64 _ (omega arith) (plain-append 6 4 _ _ (plain-word (codes "agents") 6 refl refl) (plain-field 32 3 n refl (omega arith) (omega arith) (omega arith)))
 plain_agents _ is = absurd is
 
-plain_claim : (line : CertLine) → IsLine dues.Claim line → IsPlain 64 (words 1 line)
-plain_claim (lines.Claim claims.Impossible) is = plain-more 16 64 _ (omega arith) (plain-word (codes "claim impossible") 16 refl refl)
-plain_claim (lines.Claim (claims.Cost cost)) is =
+plain_claim : (version : Version) (line : CertLine) → IsLine (dues.Claim version) line → IsPlain 64 (words 1 line)
+plain_claim version (lines.Claim claims.Impossible) is = plain-more 16 64 _ (omega arith) (plain-word (codes "claim impossible") 16 refl refl)
+plain_claim version (lines.Claim (claims.Cost cost)) (few, may) =
     plain-more 21 64 _ (omega arith) (plain-append 10 11 _ _ (plain-word (codes "claim cost") 10 refl refl) (plain-field 32 10 cost refl (omega arith) (omega arith) (omega arith)))
-plain_claim _ is = absurd is
+plain_claim version (lines.Claim (claims.Bound bound)) (few, may) =
+    plain-more 22 64 _ (omega arith) (plain-append 11 11 _ _ (plain-word (codes "claim bound") 11 refl refl) (plain-field 32 10 bound refl (omega arith) (omega arith) (omega arith)))
+plain_claim version _ is = absurd is
 
 -- a line that is due has no LF in it, and at most 64 bytes
 pub plain_line : (due : Due) (line : CertLine) → IsLine due line → IsPlain 64 (words (width_of due) line)
 plain_line dues.Title (lines.Title version) is = plain_title version
 plain_line dues.Title _ is = absurd is
 plain_line dues.Agents line is = plain_agents line is
-plain_line dues.Claim line is = plain_claim line is
+plain_line (dues.Claim version) line is = plain_claim version line is
 plain_line (dues.Tree sizes) line is = plain_tree sizes line is
 
 -- what stands before the first LF, and after it
@@ -165,6 +167,7 @@ words_some width (lines.Title One) = omega arith
 words_some width (lines.Title Two) = omega arith
 words_some width (lines.Agents agents) = some_of (codes "agents") (field 32 agents) (omega arith)
 words_some width (lines.Claim (claims.Cost cost)) = some_of (codes "claim cost") (field 32 cost) (omega arith)
+words_some width (lines.Claim (claims.Bound bound)) = some_of (codes "claim bound") (field 32 bound) (omega arith)
 words_some width (lines.Claim claims.Impossible) = omega arith
 words_some width (lines.Split (conflicts.Vertex i j cell tick) blocks) = some_of (codes "vertex") (field 32 i ++ (field 32 j ++ (pair width cell ++ (field 32 tick ++ count_words blocks)))) (omega arith)
 words_some width (lines.Split (conflicts.Swap i j from to tick) blocks) = some_of (codes "swap") (field 32 i ++ (field 32 j ++ (pair width from ++ (pair width to ++ (field 32 tick ++ count_words blocks))))) (omega arith)

@@ -8,14 +8,16 @@ use Rattle.mapf_certificate.specs.declared.line.LineFault.{LineFault}
 use Rattle.mapf_certificate.specs.declared.line.LineFault.TheVariants.{Shape, Range}
 use Rattle.mapf_certificate.specs.declared.plan_text.PlanTextFault.TheVariants.{P1, P2}
 use Rattle.mapf_certificate.specs.declared.plan_lines.AnswerLine.{AnswerLine}
+use Rattle.mapf_certificate.specs.declared.version.Version.{Version}
 use Rattle.mapf_certificate.specs.declared.sizes.Sizes.{Sizes}
 use Rattle.mapf_certificate.specs.Numbers.{field, pair, read_field, read_pair, read_cell}
 use Rattle.mapf_certificate.specs.Lines.{IsAgentCount, IsCut, lacks_end}
-use Rattle.mapf_certificate.specs.PlanReading.{cut, next_line, fault_at, next_words, next_agents, next_answer, nothing_after, read_end, read_pair_cell, read_path_front, something, agents_words, answer_words, IsAnswerLine, read_agents_line, read_answer_line}
+use Rattle.mapf_certificate.specs.Plans.{plan_title}
+use Rattle.mapf_certificate.specs.PlanReading.{cut, next_line, fault_at, next_words, next_title, next_agents, next_answer, nothing_after, read_end, read_pair_cell, read_path_front, something, agents_words, answer_words, IsAnswerLine, read_plan_title, read_agents_line, read_answer_line}
 use Rattle.mapf_certificate.proofs.Fields.{through, same_ok, ok_pair_parts, pair_takes, field_takes, field_again, IsPastDigits}
 use Rattle.mapf_certificate.proofs.LineLaws.{then_ok, front_takes, pair_cell_again, cell_sizes_again}
 use Rattle.mapf_certificate.proofs.Cuts.{cut_is, cut_takes}
-use Rattle.mapf_certificate.proofs.PlanLaws.{agents_takes, agents_again, answer_takes, answer_again, agents_lack, answer_lacks}
+use Rattle.mapf_certificate.proofs.PlanLaws.{title_takes, title_again, title_lacks, agents_takes, agents_again, answer_takes, answer_again, agents_lack, answer_lacks}
 
 pub line_takes : (n : ℕ) (bs : List ℕ) (p : List ℕ × List ℕ) → next_line n bs ≡ Ok p → IsCut bs p.0 p.1
 unfolding next_line
@@ -49,6 +51,22 @@ fault_takes n (Ok y) x e = ap Ok (same_ok y x e)
 fault_takes n (Err Shape) x e = cc
 fault_takes n (Err Range) x e = cc
 
+pub next_title_takes : (bs rest : List ℕ) (version : Version) → next_title bs ≡ Ok (version, rest) → bs ≡ plan_title version ++ (10 ∷ rest)
+unfolding next_title
+next_title_takes bs rest version e =
+    through (next_line 1 bs) _ (version, rest) e (λ p read more.
+    through (fault_at 1 (read_plan_title p.0)) _ (version, rest) more (λ v is made.
+    let found = line_takes 1 bs p read in
+    let (value, after) = ok_pair_parts v version p.1 rest made in
+    let text = title_takes p.0 version (fault_takes 1 (read_plan_title p.0) v is ∙ ap Ok value) in
+    found.same ∙ ap (λ l. l ++ (10 ∷ p.1)) text ∙ ap (λ r. plan_title version ++ (10 ∷ r)) after))
+
+pub next_title_again : (version : Version) (rest : List ℕ) → next_title (plan_title version ++ (10 ∷ rest)) ≡ Ok (version, rest)
+unfolding next_title
+next_title_again version rest =
+    let read : fault_at 1 (read_plan_title (plan_title version)) ≡ Ok version = ap (fault_at 1) (title_again version) in
+    then_ok _ _ _ _ (line_again 1 (plan_title version) rest (title_lacks version)) (then_ok _ _ _ _ read refl)
+
 pub next_agents_takes : (bs rest : List ℕ) (k : ℕ) → next_agents bs ≡ Ok (k, rest) → IsAgentCount k × (bs ≡ agents_words k ++ (10 ∷ rest))
 unfolding next_agents
 next_agents_takes bs rest k e =
@@ -65,21 +83,21 @@ next_agents_again k rest is =
     let read : fault_at 2 (read_agents_line (agents_words k)) ≡ Ok k = ap (fault_at 2) (agents_again k is) in
     then_ok _ _ _ _ (line_again 2 (agents_words k) rest (agents_lack k is)) (then_ok _ _ _ _ read refl)
 
-pub next_answer_takes : (bs rest : List ℕ) (answer : AnswerLine) → next_answer bs ≡ Ok (answer, rest) → IsAnswerLine answer × (bs ≡ answer_words answer ++ (10 ∷ rest))
+pub next_answer_takes : (version : Version) (bs rest : List ℕ) (answer : AnswerLine) → next_answer version bs ≡ Ok (answer, rest) → IsAnswerLine version answer × (bs ≡ answer_words answer ++ (10 ∷ rest))
 unfolding next_answer
-next_answer_takes bs rest answer e =
+next_answer_takes version bs rest answer e =
     through (next_line 3 bs) _ (answer, rest) e (λ p read more.
-    through (fault_at 3 (read_answer_line p.0)) _ (answer, rest) more (λ a is made.
+    through (fault_at 3 (read_answer_line version p.0)) _ (answer, rest) more (λ a is made.
     let found = line_takes 3 bs p read in
     let (value, after) = ok_pair_parts a answer p.1 rest made in
-    let (ranged, text) = answer_takes p.0 answer (fault_takes 3 (read_answer_line p.0) a is ∙ ap Ok value) in
+    let (ranged, text) = answer_takes version p.0 answer (fault_takes 3 (read_answer_line version p.0) a is ∙ ap Ok value) in
     (ranged, found.same ∙ ap (λ l. l ++ (10 ∷ p.1)) text ∙ ap (λ r. answer_words answer ++ (10 ∷ r)) after)))
 
-pub next_answer_again : (answer : AnswerLine) (rest : List ℕ) → IsAnswerLine answer → next_answer (answer_words answer ++ (10 ∷ rest)) ≡ Ok (answer, rest)
+pub next_answer_again : (version : Version) (answer : AnswerLine) (rest : List ℕ) → IsAnswerLine version answer → next_answer version (answer_words answer ++ (10 ∷ rest)) ≡ Ok (answer, rest)
 unfolding next_answer
-next_answer_again answer rest is =
-    let read : fault_at 3 (read_answer_line (answer_words answer)) ≡ Ok answer = ap (fault_at 3) (answer_again answer is) in
-    then_ok _ _ _ _ (line_again 3 (answer_words answer) rest (answer_lacks answer is)) (then_ok _ _ _ _ read refl)
+next_answer_again version answer rest is =
+    let read : fault_at 3 (read_answer_line version (answer_words answer)) ≡ Ok answer = ap (fault_at 3) (answer_again version answer is) in
+    then_ok _ _ _ _ (line_again 3 (answer_words answer) rest (answer_lacks version answer is)) (then_ok _ _ _ _ read refl)
 
 nothing_takes : (n : ℕ) (bs : List ℕ) (u : Unit {0}) → nothing_after n bs ≡ Ok u → bs ≡ []
 nothing_takes n [] u e = refl

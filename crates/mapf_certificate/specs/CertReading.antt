@@ -9,7 +9,7 @@ use Rattle.mapf_certificate.specs.declared.version.Version.{Version}
 use Rattle.mapf_certificate.specs.declared.cert.Cert.{Cert}
 use Rattle.mapf_certificate.specs.declared.line.CertLine.{CertLine}
 use Rattle.mapf_certificate.specs.declared.line.CertLine.TheVariants as lines
-use Rattle.mapf_certificate.specs.Lines.{IsAgentCount}
+use Rattle.mapf_certificate.specs.Lines.{IsAgentCount, IsClaimOfVersion, IsCertClaim}
 use Rattle.mapf_certificate.specs.Buffered.{Buffered}
 use Rattle.mapf_certificate.specs.Window.{Window, BeginsWith}
 use Rattle.mapf_certificate.specs.Reading.{Reading, grid_at, agents_at}
@@ -23,7 +23,7 @@ trees_owed_after owed (ClashNode i j) = owed - 1
 
 -- the bytes begin with a header
 abbrev pub HasHeader : ℕ → List ℕ → Type 0
-HasHeader width bytes = BeginsWith (Version × ℕ × Claim) (λ h. IsAgentCount h.1 × IsClaimInRange h.2) (λ h. header_text h.0 width h.1 h.2) bytes
+HasHeader width bytes = BeginsWith (Version × ℕ × Claim) (λ h. IsAgentCount h.1 × IsCertClaim h.0 h.2) (λ h. header_text h.0 width h.1 h.2) bytes
 
 -- the bytes are what is still to come of a certificate: some nodes that complete the trees owed, and the end
 abbrev pub IsRestAt : Reading → List ℕ → Type 0
@@ -40,6 +40,7 @@ pub record Awaits (remaining : Option (List ℕ)) (reading : Reading) (nodes : L
 pub record IsCertText (grid : GridMap) (owed : ℕ) (version : Version) (agents : ℕ) (claim : Claim) (nodes : List Node) (bytes : List ℕ) : Type 0 where
   pub agents_in_range : IsAgentCount agents
   pub claim_in_range : IsClaimInRange claim
+  pub claim_of_version : IsClaimOfVersion version claim
   pub after : List ℕ
   pub spelled : bytes ≡ header_text version grid.width agents claim ++ after
   pub rest : IsRest version grid agents owed nodes after
@@ -55,6 +56,7 @@ pub record AwaitsCert (remaining : Option (List ℕ)) (reading : Reading) (versi
 pub record TakesHeader (had left : Option (List ℕ)) (old new : Reading) (agents : ℕ) (claim : Claim) : Type 0 where
   pub agents_in_range : IsAgentCount agents
   pub claim_in_range : IsClaimInRange claim
+  pub claim_of_version : IsClaimOfVersion new.version claim
   pub window : Window had left old.buffer new.buffer (header_text new.version old.width agents claim)
   pub joins : (bytes : List ℕ) → had ≡ Some bytes → (nodes : List Node) → Awaits left new nodes → AwaitsCert had old new.version agents claim nodes
 

@@ -12,7 +12,7 @@ use Rattle.mapf_certificate.specs.declared.version.Version.{Version}
 use Rattle.mapf_certificate.specs.declared.version.Version.TheVariants.{One, Two}
 use Rattle.mapf_certificate.specs.declared.line.CertLine.{CertLine}
 use Rattle.mapf_certificate.specs.declared.line.CertLine.TheVariants as lines
-use Rattle.mapf_certificate.specs.Lines.{words, IsAgentCount}
+use Rattle.mapf_certificate.specs.Lines.{words, IsAgentCount, IsClaimOfVersion}
 
 -- a line with its LF
 abbrev pub line_text : ℕ → CertLine → List ℕ
@@ -85,6 +85,7 @@ IsTreeOfVersion Two tree = Unit {0}
 pub record SpellsCert (grid : GridMap) (bytes : List ℕ) (version : Version) (agents : ℕ) (claim : Claim) (tree : ConstraintTree) : Type 0 where
   pub agents_in_range : IsAgentCount agents
   pub claim_in_range : IsClaimInRange claim
+  pub claim_of_version : IsClaimOfVersion version claim
   pub tree_in_range : IsTreeInRange grid agents tree
   pub tree_of_version : IsTreeOfVersion version tree
   pub spelled : bytes ≡ cert_text version grid.width agents claim (nodes_of tree)

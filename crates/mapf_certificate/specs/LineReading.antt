@@ -38,11 +38,16 @@ read_cost bs = read_last 32 bs >>= in_range 0 greatest_sum
 unfoldable pub read_agents : List ℕ → Result CertLine LineFault
 read_agents bs = option_map_or (λ rest. read_count rest >>= λ n. Ok (lines.Agents n)) (strip (codes "agents") bs) (Err Shape)
 
+-- the line of a bound, which version 1 doesn't claim
+unfoldable pub read_bound_claim : Version → List ℕ → Result CertLine LineFault
+read_bound_claim One bs = Err Shape
+read_bound_claim Two bs = option_map_or (λ rest. read_cost rest >>= λ n. Ok (lines.Claim (claims.Bound n))) (strip (codes "claim bound") bs) (Err Shape)
+
 -- the line of the claim
-unfoldable pub read_claim : List ℕ → Result CertLine LineFault
-read_claim bs =
+unfoldable pub read_claim : Version → List ℕ → Result CertLine LineFault
+read_claim version bs =
     if bytes_eq bs (codes "claim impossible") then Ok (lines.Claim claims.Impossible) else
-    option_map_or (λ rest. read_cost rest >>= λ n. Ok (lines.Claim (claims.Cost n))) (strip (codes "claim cost") bs) (Err Shape)
+    option_map_or (λ rest. read_cost rest >>= λ n. Ok (lines.Claim (claims.Cost n))) (strip (codes "claim cost") bs) (read_bound_claim version bs)
 
 -- the number of blocks at the end of a split's line, which version 1 doesn't tell
 unfoldable pub read_blocks : Version → List ℕ → Result (Option (Option ℕ)) LineFault
@@ -147,5 +152,5 @@ read_tree_line sizes bs =
 abbrev pub read_line : Due → List ℕ → Result CertLine LineFault
 read_line dues.Title bs = read_title bs
 read_line dues.Agents bs = read_agents bs
-read_line dues.Claim bs = read_claim bs
+read_line (dues.Claim version) bs = read_claim version bs
 read_line (dues.Tree sizes) bs = read_tree_line sizes bs

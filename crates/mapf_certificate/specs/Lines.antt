@@ -1,6 +1,7 @@
 -- The lines of a certificate: how they are spelled, and in which ranges.
 use Rattle.std.specs.Prelude.{◌≡◌, ◌≤◌, ◌<◌, ◌==◌, Bool, true, not, ℕ, ◌^◌, List, [], ◌∷◌, ◌++◌, codes, Option, Some, None, ⊤}
 use Rattle.std.specs.List.{list_all}
+use Rattle.mapf_model.specs.declared.item.Claim.{Claim}
 use Rattle.mapf_model.specs.declared.item.Claim.TheVariants as claims
 use Rattle.mapf_model.specs.declared.conflict.Conflict.{Conflict}
 use Rattle.mapf_model.specs.declared.conflict.Conflict.TheVariants as conflicts
@@ -43,6 +44,7 @@ abbrev pub words : ℕ → CertLine → List ℕ
 words width (lines.Title version) = title_words version
 words width (lines.Agents agents) = codes "agents" ++ field 32 agents
 words width (lines.Claim (claims.Cost cost)) = codes "claim cost" ++ field 32 cost
+words width (lines.Claim (claims.Bound bound)) = codes "claim bound" ++ field 32 bound
 words width (lines.Claim claims.Impossible) = codes "claim impossible"
 words width (lines.Split conflict blocks) = split_words width conflict blocks
 words width (lines.Leaf blocks) = codes "leaf" ++ field 32 blocks
@@ -87,10 +89,21 @@ abbrev pub IsTitleLine : CertLine → Type 0
 IsTitleLine (lines.Title version) = ⊤
 IsTitleLine _ = ⊥
 
--- a claim in range
-abbrev pub IsClaimLine : CertLine → Type 0
-IsClaimLine (lines.Claim claim) = IsClaimInRange claim
-IsClaimLine _ = ⊥
+-- what may be claimed: a bound in version 2 alone
+abbrev pub IsClaimOfVersion : Version → Claim → Type 0
+IsClaimOfVersion One (claims.Cost cost) = Unit {0}
+IsClaimOfVersion One (claims.Bound bound) = ⊥
+IsClaimOfVersion One claims.Impossible = Unit {0}
+IsClaimOfVersion Two claim = Unit {0}
+
+-- a claim of a certificate of this version, in range
+abbrev pub IsCertClaim : Version → Claim → Type 0
+IsCertClaim version claim = IsClaimInRange claim × IsClaimOfVersion version claim
+
+-- the line of such a claim
+abbrev pub IsClaimLine : Version → CertLine → Type 0
+IsClaimLine version (lines.Claim claim) = IsCertClaim version claim
+IsClaimLine version _ = ⊥
 
 -- a number of agents in range
 abbrev pub IsAgentsLine : CertLine → Type 0
@@ -101,7 +114,7 @@ IsAgentsLine _ = ⊥
 abbrev pub IsLine : Due → CertLine → Type 0
 IsLine dues.Title line = IsTitleLine line
 IsLine dues.Agents line = IsAgentsLine line
-IsLine dues.Claim line = IsClaimLine line
+IsLine (dues.Claim version) line = IsClaimLine version line
 IsLine (dues.Tree sizes) line = IsTreeLine sizes.version (grid_for sizes) sizes.agents line
 
 -- the width by which a line's pairs are told; lines without pairs need none

@@ -4,6 +4,7 @@ use Rattle.std.specs.Result.{result_ok}
 use Rattle.std.specs.Str.{bytes_eq}
 use Rattle.std.specs.Option.{option_map_or}
 use Rattle.mapf_model.specs.Limits.{greatest_sum, most_splits}
+use Rattle.mapf_model.specs.declared.cause.Cause.{Cause}
 use Rattle.mapf_model.specs.declared.cause.Cause.TheVariants.{Splits, Ticks}
 use Rattle.mapf_certificate.specs.declared.line.LineFault.{LineFault}
 use Rattle.mapf_certificate.specs.declared.line.LineFault.TheVariants.{Shape, Range}
@@ -12,9 +13,13 @@ use Rattle.mapf_certificate.specs.declared.plan_text.PlanTextFault.TheVariants.{
 use Rattle.mapf_certificate.specs.declared.plan_text.PlanAnswer.{PlanAnswer}
 use Rattle.mapf_certificate.specs.declared.plan_text.PlanAnswer.TheVariants as texts
 use Rattle.mapf_certificate.specs.declared.sizes.Sizes.{Sizes}
-use Rattle.mapf_certificate.specs.Plans.{paths_text, cost_of}
+use Rattle.mapf_certificate.specs.declared.version.Version.{Version}
+use Rattle.mapf_certificate.specs.declared.version.Version.TheVariants.{One, Two}
+use Rattle.mapf_certificate.specs.Plans.{paths_text, cost_of, cause_words, IsCauseInRange}
 use Rattle.mapf_certificate.specs.declared.plan_lines.AnswerLine.{AnswerLine}
 use Rattle.mapf_certificate.specs.declared.plan_lines.AnswerLine.TheVariants as answers
+use Rattle.mapf_certificate.specs.declared.plan_lines.CauseWord.{CauseWord}
+use Rattle.mapf_certificate.specs.declared.plan_lines.CauseWord.TheVariants as causes
 use Rattle.mapf_certificate.specs.Numbers.{◌>>=◌, strip, field, read_field, read_last, read_pair, read_cell, in_range}
 use Rattle.mapf_certificate.specs.LineReading.{read_count, read_cost}
 
@@ -22,36 +27,74 @@ use Rattle.mapf_certificate.specs.LineReading.{read_count, read_cost}
 abbrev pub agents_words : ℕ → List ℕ
 agents_words agents = codes "agents" ++ field 32 agents
 
+-- what a limit tells of its bound: nothing, or the word and the number
+abbrev pub bound_words : Option ℕ → List ℕ
+bound_words None = []
+bound_words (Some bound) = codes " bound" ++ field 32 bound
+
 -- the words of an answer's first line
 abbrev pub answer_words : AnswerLine → List ℕ
 answer_words (answers.Cost cost) = codes "cost" ++ field 32 cost
 answer_words answers.Impossible = codes "impossible"
-answer_words (answers.Limit (Splits count)) = codes "limit" ++ field 32 count
-answer_words (answers.Limit Ticks) = codes "limit ticks"
+answer_words (answers.Limit cause bound) = codes "limit" ++ (cause_words cause ++ bound_words bound)
 
--- an answer line with its number in its range
-abbrev pub IsAnswerLine : AnswerLine → Type 0
-IsAnswerLine (answers.Cost cost) = cost ≤ greatest_sum
-IsAnswerLine answers.Impossible = Unit {0}
-IsAnswerLine (answers.Limit (Splits count)) = count ≤ most_splits
-IsAnswerLine (answers.Limit Ticks) = Unit {0}
+-- the bound of a limit: none in version 1, in version 2 one in its range
+abbrev pub IsBoundOfVersion : Version → Option ℕ → Type 0
+IsBoundOfVersion One bound = bound ≡ None
+IsBoundOfVersion Two None = ⊥
+IsBoundOfVersion Two (Some bound) = bound ≤ greatest_sum
+
+-- an answer line of this version with its numbers in their ranges
+abbrev pub IsAnswerLine : Version → AnswerLine → Type 0
+IsAnswerLine version (answers.Cost cost) = cost ≤ greatest_sum
+IsAnswerLine version answers.Impossible = Unit {0}
+IsAnswerLine version (answers.Limit cause bound) = IsCauseInRange cause × IsBoundOfVersion version bound
+
+-- the title
+unfoldable pub read_plan_title : List ℕ → Result Version LineFault
+read_plan_title bs =
+    if bytes_eq bs (codes "mapf-plan 1") then Ok One else
+    if bytes_eq bs (codes "mapf-plan 2") then Ok Two else Err Shape
 
 -- the line of the number of agents
 unfoldable pub read_agents_line : List ℕ → Result ℕ LineFault
 read_agents_line bs = option_map_or read_count (strip (codes "agents") bs) (Err Shape)
 
+-- why the search ended, and what follows
+unfoldable pub read_cause : List ℕ → Result (CauseWord × List ℕ) LineFault
+read_cause bs = option_map_or (λ rest. Ok (causes.Ticks, rest)) (strip (codes " ticks") bs) (read_field 32 bs >>= λ count. Ok (causes.Splits count.0, count.1))
+
+-- the bound at the end of a limit's line, which version 1 doesn't tell
+unfoldable pub read_bound : Version → List ℕ → Result (Option (Option ℕ)) LineFault
+read_bound One [] = Ok None
+read_bound One (b ∷ bs) = Err Shape
+read_bound Two bs = option_map_or (λ rest. read_last 32 rest >>= λ n. Ok (Some n)) (strip (codes " bound") bs) (Err Shape)
+
+-- the cause that such words spell
+abbrev pub cause_in_range : CauseWord → Result Cause LineFault
+cause_in_range causes.Ticks = Ok Ticks
+cause_in_range (causes.Splits count) = in_range 0 most_splits count >>= λ n. Ok (Splits n)
+
+-- this bound in its range
+abbrev pub bound_in_range : Option (Option ℕ) → Result (Option ℕ) LineFault
+bound_in_range None = Ok None
+bound_in_range (Some bound) = in_range 0 greatest_sum bound >>= λ n. Ok (Some n)
+
 -- what follows the word `limit`
-unfoldable pub read_limit : List ℕ → Result AnswerLine LineFault
-read_limit bs =
-    if bytes_eq bs (codes " ticks") then Ok (answers.Limit Ticks) else
-    (read_last 32 bs >>= λ v. in_range 0 most_splits v >>= λ n. Ok (answers.Limit (Splits n)))
+unfoldable pub read_limit : Version → List ℕ → Result AnswerLine LineFault
+read_limit version bs = do
+  word ← read_cause bs
+  told ← read_bound version word.1
+  cause ← cause_in_range word.0
+  bound ← bound_in_range told
+  Ok (answers.Limit cause bound)
 
 -- an answer's first line
-unfoldable pub read_answer_line : List ℕ → Result AnswerLine LineFault
-read_answer_line bs =
+unfoldable pub read_answer_line : Version → List ℕ → Result AnswerLine LineFault
+read_answer_line version bs =
     if bytes_eq bs (codes "impossible") then Ok answers.Impossible else
     option_map_or (λ rest. read_cost rest >>= λ n. Ok (answers.Cost n)) (strip (codes "cost") bs)
-    (option_map_or read_limit (strip (codes "limit") bs) (Err Shape))
+    (option_map_or (read_limit version) (strip (codes "limit") bs) (Err Shape))
 
 -- a value that has to be followed by something
 abbrev pub something : {A : Type 0} → A → List ℕ → Result A LineFault
@@ -81,13 +124,17 @@ fault_at n (Err Range) = Err (P3 n)
 unfoldable pub next_words : ℕ → List ℕ → List ℕ → Result (List ℕ) PlanTextFault
 next_words n words bs = next_line n bs >>= λ p. if bytes_eq p.0 words then Ok p.1 else Err (P1 n)
 
+-- the version and what follows
+unfoldable pub next_title : List ℕ → Result (Version × List ℕ) PlanTextFault
+next_title bs = next_line 1 bs >>= λ p. fault_at 1 (read_plan_title p.0) >>= λ version. Ok (version, p.1)
+
 -- the number of agents and what follows
 unfoldable pub next_agents : List ℕ → Result (ℕ × List ℕ) PlanTextFault
 next_agents bs = next_line 2 bs >>= λ p. fault_at 2 (read_agents_line p.0) >>= λ k. Ok (k, p.1)
 
 -- the answer's first line and what follows
-unfoldable pub next_answer : List ℕ → Result (AnswerLine × List ℕ) PlanTextFault
-next_answer bs = next_line 3 bs >>= λ p. fault_at 3 (read_answer_line p.0) >>= λ answer. Ok (answer, p.1)
+unfoldable pub next_answer : Version → List ℕ → Result (AnswerLine × List ℕ) PlanTextFault
+next_answer version bs = next_line 3 bs >>= λ p. fault_at 3 (read_answer_line version p.0) >>= λ answer. Ok (answer, p.1)
 
 -- the text ends here
 abbrev pub nothing_after : ℕ → List ℕ → Result (Unit {0}) PlanTextFault
@@ -107,17 +154,19 @@ abbrev pub OrMemory : {A : Type 0} → Result A PlanTextFault → Type 0 → Typ
 OrMemory result P = P ⊎ (result ≡ Err Memory)
 
 -- the first three lines
-unfoldable pub read_header : List ℕ → Result (ℕ × AnswerLine × List ℕ) PlanTextFault
-read_header bs = next_words 1 (codes "mapf-plan 1") bs >>= λ r. next_agents r >>= λ k. next_answer k.1 >>= λ a. Ok (k.0, a.0, a.1)
+unfoldable pub read_header : List ℕ → Result (Version × ℕ × AnswerLine × List ℕ) PlanTextFault
+read_header bs = next_title bs >>= λ t. next_agents t.1 >>= λ k. next_answer t.0 k.1 >>= λ a. Ok (t.0, k.0, a.0, a.1)
 
 -- the third line of an answer, and what follows it
 abbrev pub line_of : PlanAnswer → AnswerLine
 line_of (texts.Found plan) = answers.Cost (cost_of plan)
 line_of texts.Impossible = answers.Impossible
-line_of (texts.Limit cause) = answers.Limit cause
+line_of (texts.Limit cause) = answers.Limit cause None
+line_of (texts.Bounded cause bound) = answers.Limit cause (Some bound)
 
 -- what follows an answer's first line
 abbrev pub rest_of : ℕ → PlanAnswer → List ℕ
 rest_of width (texts.Found plan) = paths_text width 0 plan ++ codes "end\n"
 rest_of width texts.Impossible = codes "end\n"
 rest_of width (texts.Limit cause) = codes "end\n"
+rest_of width (texts.Bounded cause bound) = codes "end\n"

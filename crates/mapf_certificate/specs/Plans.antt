@@ -1,13 +1,16 @@
 -- How a plan text is spelled.
 use Rattle.std.specs.Prelude.{◌≡◌, ◌≤◌, ◌<◌, ℕ, ◌+◌, ◌-◌, Bool, true, Option, Some, List, [], ◌∷◌, ◌++◌, codes, length, All, sum_by}
 use Rattle.std.specs.List.{flat_map}
+use Rattle.mapf_model.specs.declared.cause.Cause.{Cause}
 use Rattle.mapf_model.specs.declared.cause.Cause.TheVariants.{Splits, Ticks}
-use Rattle.mapf_model.specs.Limits.{most_agents, most_path_cells, most_splits}
+use Rattle.mapf_model.specs.Limits.{most_agents, most_path_cells, most_splits, greatest_sum}
 use Rattle.mapf_model.specs.Grid.{GridMap, IsGridMap}
 use Rattle.mapf_model.specs.Printed.{IsOnGrid, IsPathInRange}
 use Rattle.mapf_certificate.specs.declared.plan_text.PlanText.{PlanText}
 use Rattle.mapf_certificate.specs.declared.plan_text.PlanAnswer.{PlanAnswer}
-use Rattle.mapf_certificate.specs.declared.plan_text.PlanAnswer.TheVariants.{Found, Impossible, Limit}
+use Rattle.mapf_certificate.specs.declared.plan_text.PlanAnswer.TheVariants.{Found, Impossible, Limit, Bounded}
+use Rattle.mapf_certificate.specs.declared.version.Version.{Version}
+use Rattle.mapf_certificate.specs.declared.version.Version.TheVariants.{One, Two}
 use Rattle.mapf_certificate.specs.Numbers.{field, pair}
 use Rattle.mapf_certificate.specs.Lines.{IsAgentCount}
 
@@ -36,23 +39,45 @@ paths_text width agent (path ∷ paths) = path_text width agent path ++ paths_te
 abbrev pub cost_of : List (List ℕ) → ℕ
 cost_of plan = sum_by ticks_of plan
 
+-- the first line, without its LF
+abbrev pub plan_title : Version → List ℕ
+plan_title One = codes "mapf-plan 1"
+plan_title Two = codes "mapf-plan 2"
+
+-- a blank and why the search ended: the number of splits, or `ticks`
+abbrev pub cause_words : Cause → List ℕ
+cause_words (Splits count) = field 32 count
+cause_words Ticks = codes " ticks"
+
 -- the lines of an answer
 abbrev pub answer_text : ℕ → PlanAnswer → List ℕ
 answer_text width (Found plan) = (codes "cost" ++ (field 32 (cost_of plan) ++ (10 ∷ []))) ++ paths_text width 0 plan
 answer_text width Impossible = codes "impossible\n"
-answer_text width (Limit (Splits count)) = codes "limit" ++ (field 32 count ++ (10 ∷ []))
-answer_text width (Limit Ticks) = codes "limit ticks\n"
+answer_text width (Limit cause) = codes "limit" ++ (cause_words cause ++ (10 ∷ []))
+answer_text width (Bounded cause bound) = codes "limit" ++ (cause_words cause ++ (codes " bound" ++ (field 32 bound ++ (10 ∷ []))))
 
 -- the whole text: the title, the number of agents, the answer and the end
 abbrev pub plan_text : ℕ → PlanText → List ℕ
-plan_text width p = codes "mapf-plan 1\n" ++ ((codes "agents" ++ (field 32 p.agents ++ (10 ∷ []))) ++ (answer_text width p.answer ++ codes "end\n"))
+plan_text width p = plan_title p.version ++ (10 ∷ ((codes "agents" ++ (field 32 p.agents ++ (10 ∷ []))) ++ (answer_text width p.answer ++ codes "end\n")))
+
+-- at most 100,000 splits
+abbrev pub IsCauseInRange : Cause → Type 0
+IsCauseInRange (Splits count) = count ≤ most_splits
+IsCauseInRange Ticks = Unit {0}
 
 -- an answer with its numbers in their ranges
 abbrev pub IsAnswerInRange : GridMap → ℕ → PlanAnswer → Type 0
 IsAnswerInRange grid agents (Found plan) = (length plan ≡ agents) × All (IsPathInRange grid) plan
 IsAnswerInRange grid agents Impossible = Unit {0}
-IsAnswerInRange grid agents (Limit (Splits count)) = count ≤ most_splits
-IsAnswerInRange grid agents (Limit Ticks) = Unit {0}
+IsAnswerInRange grid agents (Limit cause) = IsCauseInRange cause
+IsAnswerInRange grid agents (Bounded cause bound) = IsCauseInRange cause × (bound ≤ greatest_sum)
+
+-- what may be answered: a limit without a bound in version 1 alone, and one with a bound in version 2 alone
+abbrev pub IsAnswerOfVersion : Version → PlanAnswer → Type 0
+IsAnswerOfVersion version (Found plan) = Unit {0}
+IsAnswerOfVersion version Impossible = Unit {0}
+IsAnswerOfVersion version (Limit cause) = version ≡ One
+IsAnswerOfVersion version (Bounded cause bound) = version ≡ Two
 
 -- a plan for at most 200 agents
 abbrev pub IsFew : PlanAnswer → Type 0
@@ -61,14 +86,14 @@ IsFew _ = Unit {0}
 
 -- a value that has a spelling
 abbrev pub IsPlanText : GridMap → PlanText → Type 0
-IsPlanText grid p = IsAgentCount p.agents × IsAnswerInRange grid p.agents p.answer
+IsPlanText grid p = IsAgentCount p.agents × IsAnswerInRange grid p.agents p.answer × IsAnswerOfVersion p.version p.answer
 
--- these bytes spell a plan text for so many agents with this answer
-pub record SpellsPlan (grid : GridMap) (bytes : List ℕ) (agents : ℕ) (answer : PlanAnswer) : Type 0 where
-  pub in_range : IsPlanText grid (record { agents = agents; answer = answer })
-  pub spelled : bytes ≡ plan_text grid.width (record { agents = agents; answer = answer })
+-- these bytes spell a plan text of this version for so many agents with this answer
+pub record SpellsPlan (grid : GridMap) (bytes : List ℕ) (version : Version) (agents : ℕ) (answer : PlanAnswer) : Type 0 where
+  pub in_range : IsPlanText grid (record { version = version; agents = agents; answer = answer })
+  pub spelled : bytes ≡ plan_text grid.width (record { version = version; agents = agents; answer = answer })
 
--- on one grid no bytes spell two plan texts
+-- on one grid no bytes spell two plan texts, neither in one version nor in two
 abbrev pub SpellsOnePlan : Type 0
 SpellsOnePlan = (grid : GridMap) (bytes : List ℕ) (text other : PlanText) → IsGridMap grid → IsPlanText grid text → IsPlanText grid other
     → bytes ≡ plan_text grid.width text → bytes ≡ plan_text grid.width other → text ≡ other

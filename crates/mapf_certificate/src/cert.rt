@@ -2,7 +2,7 @@ use crate::version::Version;
 use mapf_model::{Claim, Item};
 
 /// A certificate: the version of its text, for how many agents it is, 1 to 200, what it claims, and the
-/// items of a constraint tree in pre-order. In version 1 no split has blocks.
+/// items of a constraint tree in pre-order. In version 1 no split has blocks, and no bound is claimed.
 #[derive(Debug, Drop)]
 pub struct Cert {
     pub version: Version,

@@ -3,7 +3,7 @@ ghost use Rattle.mapf_certificate.specs.Buffered.{spare};
 ghost use Rattle.mapf_certificate.specs.CertReading.{HasHeader, IsRestAt, Awaits, AwaitsCert, CompletesNode};
 ghost use Rattle.mapf_certificate.specs.CertReading.{TakesHeader, TakesNode, TakesEnd, ReadsEnd, trees_owed_after};
 ghost use Rattle.mapf_certificate.specs.Certificates.{line_text, node_text, header_text};
-ghost use Rattle.mapf_certificate.specs.Lines.{IsAgentCount, IsTitleLine, IsTreeLine, grid_for};
+ghost use Rattle.mapf_certificate.specs.Lines.{IsAgentCount, IsCertClaim, IsTitleLine, IsTreeLine, grid_for};
 ghost use Rattle.mapf_certificate.specs.Reading.{Reading, IfUnfaulted, IfHeaderDue, IfItemDue, grid_at, agents_at};
 ghost use Rattle.mapf_certificate.specs.Untouched.{IsUntouched, RefusesThere, TakesThere};
 ghost use Rattle.mapf_certificate.specs.Window.{Window, BeginsWith, Fails, Pulls, IsNotTextMemory, IsNoTextFault};
@@ -13,7 +13,6 @@ ghost use Rattle.mapf_certificate.specs.declared.version.Version.{Version};
 ghost use Rattle.mapf_certificate.specs.declared.version.Version.TheVariants.{One};
 ghost use Rattle.mapf_model.specs.Limits.{greatest_side};
 ghost use Rattle.mapf_model.specs.declared.item.Claim.{Claim};
-ghost use Rattle.mapf_model.specs.Printed.{IsClaimInRange};
 ghost use Rattle.mapf_model.specs.Tree.{Node, node_of};
 ghost use Rattle.std.specs.Io.KnownBytes.{IsAtEnd};
 ghost use Rattle.std.specs.Prelude.{[], ◌∷◌, ◌++◌, ℕ, List, Some, true, IfErr, IsErrOf, ◌^◌, ◌≡◌, ◌↔◌, ◌<◌, ◌≤◌, ◌+◌};
@@ -371,7 +370,7 @@ fn read_header<S: Source>(
 ) -> Result<(Version, u32, Claim), LinesFault>
     requires { S.has_failed source.old ≡ false }
     ensures agents { IfOk result (λ h. IsAgentCount h.1) }
-    ensures claim { IfOk result (λ h. IsClaimInRange h.2) }
+    ensures claim { IfOk result (λ h. IsCertClaim h.0 h.2) }
     ensures refused { RefusesThere source.old source.new lines.old.buffer
         (BeginsWith CertLine IsTitleLine (line_text 1)) }
     ensures there { (width : ℕ) → IfOk result (λ h.
@@ -390,7 +389,7 @@ fn read_header<S: Source>(
     let CertLine::Agents(agents) = lines.next(source, &Due::Agents)? else {
         return Err(lines.misfit());
     };
-    let CertLine::Claim(claim) = lines.next(source, &Due::Claim)? else {
+    let CertLine::Claim(claim) = lines.next(source, &Due::Claim(version))? else {
         return Err(lines.misfit());
     };
     Ok((version, agents, claim))

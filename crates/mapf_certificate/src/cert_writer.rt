@@ -3,6 +3,7 @@ ghost use Rattle.std.specs.List.{flat_map};
 ghost use Rattle.mapf_model.specs.Tree.{node_of};
 ghost use Rattle.mapf_certificate.specs.Certificates.{entries_text, blocks_text, first_line, item_text};
 ghost use Rattle.mapf_certificate.specs.Certificates.{header_text, cert_text, IsNodeOfVersion};
+ghost use Rattle.mapf_certificate.specs.Lines.{IsClaimOfVersion};
 
 use crate::cert::Cert;
 use crate::line::CertLine;
@@ -89,9 +90,10 @@ fn push_header(out: &mut Vec<u8>, cert: &Cert, width: u32) -> Result<(), AllocEr
 /// it back where the number of agents, the claim and the numbers of the items are in the ranges of
 /// docs/FORMATS.md, the agents of each node's blocks and the entries of each block rise, and the items
 /// are those of one tree. Any other certificate is written too, and its text isn't read. In version 1
-/// there is no place for blocks on splits.
+/// there is no place for blocks on splits, nor is a bound claimed.
 pub fn write_cert(alloc: Global, cert: &Cert, grid: &Grid) -> Result<Vec<u8>, OutOfMemory>
-    requires { All (λ item. IsNodeOfVersion cert.now.version (node_of item)) cert.now.tree.items }
+    requires claim { IsClaimOfVersion cert.now.version cert.now.claim }
+    requires nodes { All (λ item. IsNodeOfVersion cert.now.version (node_of item)) cert.now.tree.items }
     ensures { IfOk result (λ bytes. bytes.items
         ≡ cert_text cert.now.version grid.now.width cert.now.agents cert.now.claim (map node_of cert.now.tree.items)) }
 {

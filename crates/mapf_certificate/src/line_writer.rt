@@ -120,6 +120,7 @@ fn push_words(out: &mut Vec<u8>, line: &CertLine, width: u32) -> Result<(), Allo
         CertLine::Title(version) => push_title(out, version),
         CertLine::Agents(agents) => push_one(out, b"agents", agents as u64),
         CertLine::Claim(Claim::Cost(cost)) => push_one(out, b"claim cost", cost),
+        CertLine::Claim(Claim::Bound(bound)) => push_one(out, b"claim bound", bound),
         CertLine::Claim(Claim::Impossible) => out.extend_from_slice(b"claim impossible"),
         CertLine::Split { conflict, blocks } => push_split(out, &conflict, blocks, width),
         CertLine::Leaf(blocks) => push_one(out, b"leaf", blocks),

@@ -7,19 +7,19 @@ ghost use Rattle.mapf_certificate.specs.Numbers.{Gives};
 ghost use Rattle.mapf_certificate.specs.Lines.{grid_for};
 ghost use Rattle.mapf_certificate.specs.Plans.{ArePaths, cells_text, path_words, paths_text, cost_of, plan_text};
 ghost use Rattle.mapf_certificate.specs.Plans.{IsAnswerInRange, IsPlanText, IsPathOf};
-ghost use Rattle.mapf_certificate.specs.PlanReading.{cut, next_line, next_words, next_agents, next_answer, read_end};
-ghost use Rattle.mapf_certificate.specs.PlanReading.{read_header, line_of, rest_of, IsAnswerLine, read_pair_cell};
-ghost use Rattle.mapf_certificate.specs.PlanReading.{fault_at, OrMemory};
+ghost use Rattle.mapf_certificate.specs.PlanReading.{cut, next_line, next_words, next_title, next_agents, next_answer};
+ghost use Rattle.mapf_certificate.specs.PlanReading.{read_end, read_header, line_of, rest_of, IsAnswerLine};
+ghost use Rattle.mapf_certificate.specs.PlanReading.{read_pair_cell, fault_at, OrMemory};
 
 use crate::ends;
 use crate::field::pair;
 use crate::line::LineFault;
-use crate::plan_lines::{AnswerLine, agents_line, answer_line, path_front};
+use crate::plan_lines::{AnswerLine, agents_line, answer_line, path_front, title_line};
 use crate::plan_text::{PlanAnswer, PlanText, PlanTextFault};
 use crate::sizes::{Sizes, below, up_to};
 use crate::version::Version;
 use mapf_model::limits::GREATEST_COST;
-use mapf_model::{Cell, Grid, Path, Plan};
+use mapf_model::{Cause, Cell, Grid, Path, Plan};
 use std::alloc::Global;
 
 /// The first line without its LF, and what follows.
@@ -61,6 +61,19 @@ fn take_words<'a>(number: u64, words: &[u8], bytes: &'a [u8]) -> Result<&'a [u8]
     }
 }
 
+/// Takes line 1.
+#[tactic(auto, unfolding(crate::specs::PlanReading::next_title))]
+fn take_title(bytes: &[u8]) -> Result<(Version, &[u8]), PlanTextFault>
+    ensures { Gives (λ p. (p.0, p.1.now)) result (next_title bytes.entry.now) }
+{
+    let (line, rest) = line_at(1, bytes)?;
+    match title_line(line) {
+        Ok(version) => Ok((version, rest)),
+        Err(LineFault::Shape) => Err(PlanTextFault::P1(1)),
+        Err(LineFault::Range) => Err(PlanTextFault::P3(1)),
+    }
+}
+
 /// Takes line 2.
 #[tactic(auto, unfolding(crate::specs::PlanReading::next_agents))]
 fn take_agents(bytes: &[u8]) -> Result<(u32, &[u8]), PlanTextFault>
@@ -76,11 +89,11 @@ fn take_agents(bytes: &[u8]) -> Result<(u32, &[u8]), PlanTextFault>
 
 /// Takes line 3.
 #[tactic(auto, unfolding(crate::specs::PlanReading::next_answer))]
-fn take_answer(bytes: &[u8]) -> Result<(AnswerLine, &[u8]), PlanTextFault>
-    ensures { Gives (λ p. (p.0, p.1.now)) result (next_answer bytes.entry.now) }
+fn take_answer(version: Version, bytes: &[u8]) -> Result<(AnswerLine, &[u8]), PlanTextFault>
+    ensures { Gives (λ p. (p.0, p.1.now)) result (next_answer version bytes.entry.now) }
 {
     let (line, rest) = line_at(3, bytes)?;
-    match answer_line(line) {
+    match answer_line(version, line) {
         Ok(answer) => Ok((answer, rest)),
         Err(LineFault::Shape) => Err(PlanTextFault::P1(3)),
         Err(LineFault::Range) => Err(PlanTextFault::P3(3)),
@@ -258,13 +271,22 @@ fn plan_of(alloc: Global, bytes: &[u8], cost: u64, sizes: &Sizes) -> Result<Plan
 
 /// Takes the first three lines.
 #[tactic(auto, unfolding(crate::specs::PlanReading::read_header))]
-fn take_header(bytes: &[u8]) -> Result<(u32, AnswerLine, &[u8]), PlanTextFault>
-    ensures { Gives (λ p. (p.0, p.1, p.2.now)) result (read_header bytes.entry.now) }
+fn take_header(bytes: &[u8]) -> Result<(Version, u32, AnswerLine, &[u8]), PlanTextFault>
+    ensures { Gives (λ p. (p.0, p.1, p.2, p.3.now)) result (read_header bytes.entry.now) }
 {
-    let rest = take_words(1, b"mapf-plan 1", bytes)?;
+    let (version, rest) = take_title(bytes)?;
     let (agents, rest) = take_agents(rest)?;
-    let (answer, rest) = take_answer(rest)?;
-    Ok((agents, answer, rest))
+    let (answer, rest) = take_answer(version, rest)?;
+    Ok((version, agents, answer, rest))
+}
+
+fn limit_of(cause: Cause, bound: Option<u64>) -> PlanAnswer
+    ensures { line_of result ≡ AnswerLine.Limit cause bound }
+{
+    match bound {
+        Some(bound) => PlanAnswer::Bounded { cause, bound },
+        None => PlanAnswer::Limit(cause),
+    }
 }
 
 /// The answer whose line was read, from what follows it.
@@ -274,7 +296,7 @@ fn answer_of(
     rest: &[u8],
     sizes: &Sizes,
 ) -> Result<PlanAnswer, PlanTextFault>
-    requires { IsAnswerLine line.now }
+    requires { IsAnswerLine sizes.now.version line.now }
     ensures found { IfOk result (λ answer. IsAnswerInRange (grid_for sizes.now) sizes.now.agents answer
         × (line.now ≡ line_of answer) × (rest.now ≡ rest_of sizes.now.width answer)) }
     ensures only { (answer : PlanAnswer) → IsAnswerInRange (grid_for sizes.now) sizes.now.agents answer
@@ -290,9 +312,9 @@ fn answer_of(
             end(4, rest)?;
             Ok(PlanAnswer::Impossible)
         }
-        AnswerLine::Limit(cause) => {
+        AnswerLine::Limit { cause, bound } => {
             end(4, rest)?;
-            Ok(PlanAnswer::Limit(cause))
+            Ok(limit_of(cause, bound))
         }
     }
 }
@@ -305,7 +327,11 @@ pub fn read_plan(alloc: Global, bytes: &[u8], grid: &Grid) -> Result<PlanText, P
     ensures only { (p : PlanText) → IsPlanText grid.now p → bytes.now ≡ plan_text grid.now.width p
         → OrMemory result (result ≡ Ok p) }
 {
-    let (agents, line, rest) = take_header(bytes)?;
-    let answer = answer_of(alloc, &line, rest, &Sizes::of(Version::One, grid, agents))?;
-    Ok(PlanText { agents, answer })
+    let (version, agents, line, rest) = take_header(bytes)?;
+    let answer = answer_of(alloc, &line, rest, &Sizes::of(version, grid, agents))?;
+    Ok(PlanText {
+        version,
+        agents,
+        answer,
+    })
 }

@@ -1,3 +1,4 @@
+use crate::version::Version;
 use mapf_model::{Cause, Plan};
 
 /// What a plan text says.
@@ -7,13 +8,17 @@ pub enum PlanAnswer {
     Found(Plan),
     /// No plan is valid.
     Impossible,
-    /// The search ended without an answer.
+    /// The search ended without an answer. Of version 1 alone.
     Limit(Cause),
+    /// The search ended without an answer, and no valid plan has a sum below this bound. Of version 2
+    /// alone.
+    Bounded { cause: Cause, bound: u64 },
 }
 
-/// A plan text: for how many agents it is, 1 to 200, and its answer.
+/// A plan text: its version, for how many agents it is, 1 to 200, and its answer.
 #[derive(Debug, Drop)]
 pub struct PlanText {
+    pub version: Version,
     pub agents: u32,
     pub answer: PlanAnswer,
 }

@@ -1,11 +1,12 @@
-ghost use Rattle.std.specs.Prelude.{◌≡◌, ◌<◌, ◌≤◌, ◌++◌, ◌∷◌, [], OnOk, IfOk, All, length};
+ghost use Rattle.std.specs.Prelude.{◌≡◌, ◌<◌, ◌≤◌, ◌++◌, ◌∷◌, [], codes, OnOk, IfOk, All, length};
 ghost use Rattle.mapf_model.specs.Limits.{most_agents};
 ghost use Rattle.mapf_certificate.specs.Plans.{cells_text, path_text, paths_text, cost_of, answer_text, plan_text};
-ghost use Rattle.mapf_certificate.specs.Plans.{IsPlanText, IsFew};
+ghost use Rattle.mapf_certificate.specs.Plans.{plan_title, cause_words, IsPlanText, IsFew};
 ghost use Rattle.mapf_certificate.specs.Numbers.{field};
 
 use crate::line_writer::{push_cell, push_field, push_one};
 use crate::plan_text::{PlanAnswer, PlanText};
+use crate::version::Version;
 use mapf_model::{Cause, Cell, Grid, OutOfMemory, Path, Plan};
 use std::alloc::{AllocError, Global};
 
@@ -71,6 +72,25 @@ fn push_plan(out: &mut Vec<u8>, plan: &Plan, width: u32) -> Result<(), AllocErro
     push_paths(out, plan.paths(), width)
 }
 
+fn push_title(out: &mut Vec<u8>, version: Version) -> Result<(), AllocError>
+    ensures { OnOk result (out.new.items ≡ out.old.items ++ plan_title version) }
+{
+    match version {
+        Version::One => out.extend_from_slice(b"mapf-plan 1"),
+        Version::Two => out.extend_from_slice(b"mapf-plan 2"),
+    }
+}
+
+/// Writes `limit` and what stopped the search.
+fn push_limit(out: &mut Vec<u8>, cause: Cause) -> Result<(), AllocError>
+    ensures { OnOk result (out.new.items ≡ out.old.items ++ (codes "limit" ++ cause_words cause)) }
+{
+    match cause {
+        Cause::Splits(count) => push_one(out, b"limit", count as u64),
+        Cause::Ticks => out.extend_from_slice(b"limit ticks"),
+    }
+}
+
 fn push_answer(out: &mut Vec<u8>, answer: &PlanAnswer, width: u32) -> Result<(), AllocError>
     requires wide { 0 < width }
     requires few { IsFew answer.now }
@@ -79,8 +99,15 @@ fn push_answer(out: &mut Vec<u8>, answer: &PlanAnswer, width: u32) -> Result<(),
     match answer {
         PlanAnswer::Found(plan) => push_plan(out, plan, width),
         PlanAnswer::Impossible => out.extend_from_slice(b"impossible\n"),
-        PlanAnswer::Limit(Cause::Ticks) => out.extend_from_slice(b"limit ticks\n"),
-        PlanAnswer::Limit(Cause::Splits(count)) => push_number_line(out, b"limit", *count as u64),
+        PlanAnswer::Limit(cause) => {
+            push_limit(out, *cause)?;
+            out.push(b'\n')?;
+            Ok(())
+        }
+        PlanAnswer::Bounded { cause, bound } => {
+            push_limit(out, *cause)?;
+            push_number_line(out, b" bound", *bound)
+        }
     }
 }
 
@@ -90,7 +117,8 @@ pub fn write_plan(alloc: Global, text: &PlanText, grid: &Grid) -> Result<Vec<u8>
     ensures { IfOk result (λ bytes. bytes.items ≡ plan_text grid.now.width text.now) }
 {
     let mut out = Vec::new(alloc);
-    out.extend_from_slice(b"mapf-plan 1\n")?;
+    push_title(&mut out, text.version)?;
+    out.push(b'\n')?;
     push_number_line(&mut out, b"agents", text.agents as u64)?;
     push_answer(&mut out, &text.answer, grid.width())?;
     out.extend_from_slice(b"end\n")?;

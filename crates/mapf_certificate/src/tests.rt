@@ -1,7 +1,8 @@
 use crate::{
-    CertFault, PlanTextFault, Version, convert_cert, read_cert, read_plan, write_cert, write_plan,
+    CertFault, PlanAnswer, PlanTextFault, Version, convert_cert, read_cert, read_plan, write_cert,
+    write_plan,
 };
-use mapf_model::Grid;
+use mapf_model::{Cause, Claim, Grid};
 use std::alloc::Global;
 use std::test::Fail;
 
@@ -15,6 +16,18 @@ pub const CROSSING_TWO: &str =
 
 const CROSSING_PLAN: &str =
     "mapf-plan 1\nagents 2\ncost 5\npath 0 3 0,1 0,1 1,1 2,1\npath 1 2 1,0 1,1 1,2\nend\n";
+
+const CROSSING_PLAN_TWO: &str =
+    "mapf-plan 2\nagents 2\ncost 5\npath 0 3 0,1 0,1 1,1 2,1\npath 1 2 1,0 1,1 1,2\nend\n";
+
+/// Two agents on two cells that would change places, where the search ended after three splits.
+const STOPPED: &str =
+    "mapf-cert 2\nagents 2\nclaim bound 4\nswap 0 1 0,0 1,0 0 0\nvertex 0 1 0,0 1 1\nagent 0 1\n\
+    at 0,0 0 2\nleaf 1\nagent 0 1\nat 0,0 0 inf\nleaf 1\nagent 1 1\nat 1,0 0 2\n\
+    vertex 0 1 1,0 1 1\nagent 1 1\nat 1,0 0 2\nleaf 1\nagent 0 1\nat 0,0 0 2\nleaf 1\nagent 1 1\n\
+    at 1,0 0 inf\nend\n";
+
+const STOPPED_PLAN: &str = "mapf-plan 2\nagents 2\nlimit 3 bound 4\nend\n";
 
 const PASSING: &str =
     "mapf-cert 1\nagents 2\nclaim cost 4\nvertex 0 1 1,0 1\nvertex 0 1 1,0 2\nvertex 0 1 1,0 3\n\
@@ -83,11 +96,12 @@ fn cert_fault(
 
 fn plan_fault(
     alloc: Global,
+    text: &str,
     first: usize,
     last: usize,
     lines: &str,
 ) -> Result<Option<PlanTextFault>, Fail> {
-    let text = with_lines(alloc, CROSSING_PLAN, first, last, lines)?;
+    let text = with_lines(alloc, text, first, last, lines)?;
     Ok(read_plan(alloc, text.as_bytes(), &grid(alloc, 3, 3)?).err())
 }
 
@@ -99,6 +113,7 @@ fn certificates_are_read_and_written(rt: HostRuntime) -> Result<(), Fail> {
         (PASSING, Version::One, 2, 11),
         (CROSSING_TWO, Version::Two, 3, 3),
         (PASSING_TWO, Version::Two, 2, 11),
+        (STOPPED, Version::Two, 1, 7),
     ] {
         let grid = grid(alloc, 3, height)?;
         let Ok(cert) = read_cert(alloc, text.as_bytes(), &grid) else {
@@ -109,6 +124,26 @@ fn certificates_are_read_and_written(rt: HostRuntime) -> Result<(), Fail> {
         let bytes = write_cert(alloc, &cert, &grid)?;
         assert_eq!(rt; bytes.as_slice(), text.as_bytes());
     }
+    Ok(())
+}
+
+#[test]
+fn bounds_are_read(rt: HostRuntime) -> Result<(), Fail> {
+    let alloc = rt.alloc();
+    let grid = grid(alloc, 2, 1)?;
+    let cert = read_cert(alloc, STOPPED.as_bytes(), &grid)
+        .ok()
+        .ok_or("a certificate")?;
+    assert_eq!(rt; cert.claim, Claim::Bound(4));
+    let plan = read_plan(alloc, STOPPED_PLAN.as_bytes(), &grid)
+        .ok()
+        .ok_or("a plan text")?;
+    assert_eq!(rt; plan.version, Version::Two);
+    let (cause, bound) = match plan.answer {
+        PlanAnswer::Bounded { cause, bound } => (cause, bound),
+        _ => return Err(Fail::from("another answer")),
+    };
+    assert_eq!(rt; (cause, bound), (Cause::Splits(3), 4));
     Ok(())
 }
 
@@ -159,7 +194,7 @@ fn certificates_are_converted(rt: HostRuntime) -> Result<(), Fail> {
 }
 
 /// Which lines of the crossing's certificate are replaced by which text, and the fault that then comes.
-const CERT_FAULTS: [(usize, usize, &str, Option<CertFault>); 37] = [
+const CERT_FAULTS: [(usize, usize, &str, Option<CertFault>); 40] = [
     (1, 1, "mapf-cert 2\n", Some(CertFault::K1(4))),
     (1, 1, "mapf-cert 3\n", Some(CertFault::K1(1))),
     (4, 4, "vertex 0 1 1,1 1 0\n", Some(CertFault::K1(4))),
@@ -183,6 +218,14 @@ const CERT_FAULTS: [(usize, usize, &str, Option<CertFault>); 37] = [
         Some(CertFault::K1(5)),
     ),
     (3, 3, "claim bound 4\n", Some(CertFault::K1(3))),
+    (3, 3, "claim bound 1999999801\n", Some(CertFault::K1(3))),
+    (
+        1,
+        3,
+        "mapf-cert 2\nagents 2\nclaim bound 4\n",
+        Some(CertFault::K1(4)),
+    ),
+    (3, 3, "claim cost 1999999801\n", Some(CertFault::K3(3))),
     (4, 4, "vertex 0 1 1,1 1000000\n", Some(CertFault::K3(4))),
     (4, 4, "vertex 0 1 1,1 999999\n", None),
     (4, 4, "vertex 0 2 1,1 1\n", Some(CertFault::K3(4))),
@@ -250,9 +293,22 @@ const CERT_FAULTS: [(usize, usize, &str, Option<CertFault>); 37] = [
 ];
 
 /// The same of its certificate in version 2.
-const CERT_FAULTS_TWO: [(usize, usize, &str, Option<CertFault>); 24] = [
+const CERT_FAULTS_TWO: [(usize, usize, &str, Option<CertFault>); 32] = [
     (1, 1, "mapf-cert 1\n", Some(CertFault::K1(4))),
-    (3, 3, "claim bound 4\n", Some(CertFault::K1(3))),
+    (
+        1,
+        3,
+        "mapf-cert 1\nagents 2\nclaim bound 4\n",
+        Some(CertFault::K1(3)),
+    ),
+    (3, 3, "claim bound 4\n", None),
+    (3, 3, "claim bound 0\n", None),
+    (3, 3, "claim bound 1999999800\n", None),
+    (3, 3, "claim bound 1999999801\n", Some(CertFault::K3(3))),
+    (3, 3, "claim bound 04\n", Some(CertFault::K1(3))),
+    (3, 3, "claim bound 4 \n", Some(CertFault::K1(3))),
+    (3, 3, "claim bound\n", Some(CertFault::K1(3))),
+    (3, 3, "claim bound inf\n", Some(CertFault::K1(3))),
     (4, 4, "vertex 0 1 1,1 1\n", Some(CertFault::K1(4))),
     (4, 4, "vertex 0 1 1,1 1 \n", Some(CertFault::K1(4))),
     (4, 4, "vertex 0 1 1,1 1 00\n", Some(CertFault::K1(4))),
@@ -339,10 +395,15 @@ fn plans_are_read_and_written(rt: HostRuntime) -> Result<(), Fail> {
     let grid = grid(alloc, 3, 3)?;
     for text in [
         CROSSING_PLAN,
+        CROSSING_PLAN_TWO,
+        STOPPED_PLAN,
         "mapf-plan 1\nagents 1\ncost 0\npath 0 0 0,0\nend\n",
         "mapf-plan 1\nagents 200\nimpossible\nend\n",
         "mapf-plan 1\nagents 2\nlimit 100000\nend\n",
         "mapf-plan 1\nagents 2\nlimit ticks\nend\n",
+        "mapf-plan 2\nagents 200\nimpossible\nend\n",
+        "mapf-plan 2\nagents 2\nlimit 100000 bound 1999999800\nend\n",
+        "mapf-plan 2\nagents 2\nlimit ticks bound 0\nend\n",
     ] {
         let plan = read_plan(alloc, text.as_bytes(), &grid)
             .ok()
@@ -354,7 +415,10 @@ fn plans_are_read_and_written(rt: HostRuntime) -> Result<(), Fail> {
 }
 
 /// The same of the crossing's plan text.
-const PLAN_FAULTS: [(usize, usize, &str, Option<PlanTextFault>); 19] = [
+const PLAN_FAULTS: [(usize, usize, &str, Option<PlanTextFault>); 27] = [
+    (1, 1, "mapf-plan 2\n", None),
+    (1, 1, "mapf-plan 3\n", Some(PlanTextFault::P1(1))),
+    (1, 1, "mapf-plan 02\n", Some(PlanTextFault::P1(1))),
     (2, 2, "agents 201\n", Some(PlanTextFault::P3(2))),
     (2, 2, "agents 0\n", Some(PlanTextFault::P3(2))),
     (
@@ -367,6 +431,16 @@ const PLAN_FAULTS: [(usize, usize, &str, Option<PlanTextFault>); 19] = [
     (3, 3, "cost 1999999801\n", Some(PlanTextFault::P3(3))),
     (3, 5, "limit 100001\n", Some(PlanTextFault::P3(3))),
     (3, 5, "limit ticks \n", Some(PlanTextFault::P1(3))),
+    (3, 5, "limit 100001 \n", Some(PlanTextFault::P1(3))),
+    (3, 5, "limit 3 bound 4\n", Some(PlanTextFault::P1(3))),
+    (3, 5, "limit 100001 bound 4\n", Some(PlanTextFault::P1(3))),
+    (3, 5, "limit ticks bound 4\n", Some(PlanTextFault::P1(3))),
+    (
+        1,
+        5,
+        "mapf-plan 2\nagents 2\nlimit 3\n",
+        Some(PlanTextFault::P1(3)),
+    ),
     (4, 4, "path 0 3\n", Some(PlanTextFault::P1(4))),
     (4, 4, "path 0 3 0,1 0,1 1,1\n", Some(PlanTextFault::P1(4))),
     (
@@ -416,11 +490,59 @@ const PLAN_FAULTS: [(usize, usize, &str, Option<PlanTextFault>); 19] = [
     ),
 ];
 
+/// The same of the plan text of a search that was stopped.
+const LIMIT_FAULTS: [(usize, usize, &str, Option<PlanTextFault>); 22] = [
+    (1, 1, "mapf-plan 1\n", Some(PlanTextFault::P1(3))),
+    (3, 3, "limit 3\n", Some(PlanTextFault::P1(3))),
+    (3, 3, "limit ticks\n", Some(PlanTextFault::P1(3))),
+    (3, 3, "limit 100001\n", Some(PlanTextFault::P1(3))),
+    (3, 3, "limit ticks bound 4\n", None),
+    (3, 3, "limit 100000 bound 4\n", None),
+    (3, 3, "limit 100001 bound 4\n", Some(PlanTextFault::P3(3))),
+    (3, 3, "limit 100001 bound\n", Some(PlanTextFault::P1(3))),
+    (3, 3, "limit 100001 bound 04\n", Some(PlanTextFault::P1(3))),
+    (3, 3, "limit 3 bound 1999999800\n", None),
+    (
+        3,
+        3,
+        "limit 3 bound 1999999801\n",
+        Some(PlanTextFault::P3(3)),
+    ),
+    (
+        3,
+        3,
+        "limit 3 bound 18446744073709551616\n",
+        Some(PlanTextFault::P3(3)),
+    ),
+    (
+        3,
+        3,
+        "limit ticks bound 1999999801\n",
+        Some(PlanTextFault::P3(3)),
+    ),
+    (3, 3, "limit 03 bound 4\n", Some(PlanTextFault::P1(3))),
+    (3, 3, "limit 3 bound 4 \n", Some(PlanTextFault::P1(3))),
+    (3, 3, "limit 3  bound 4\n", Some(PlanTextFault::P1(3))),
+    (3, 3, "limit 3 bound inf\n", Some(PlanTextFault::P1(3))),
+    (3, 3, "limit bound 4\n", Some(PlanTextFault::P1(3))),
+    (3, 3, "bound 4\n", Some(PlanTextFault::P1(3))),
+    (3, 3, "impossible bound 4\n", Some(PlanTextFault::P1(3))),
+    (3, 3, "cost 4 bound 4\n", Some(PlanTextFault::P1(3))),
+    (4, 4, "end\n\n", Some(PlanTextFault::P4(5))),
+];
+
 #[test]
 fn plans_are_refused(rt: HostRuntime) -> Result<(), Fail> {
     for (first, last, lines, fault) in PLAN_FAULTS {
         assert_eq!(rt;
-            plan_fault(rt.alloc(), first, last, lines)?,
+            plan_fault(rt.alloc(), CROSSING_PLAN, first, last, lines)?,
+            fault,
+            "{lines}"
+        );
+    }
+    for (first, last, lines, fault) in LIMIT_FAULTS {
+        assert_eq!(rt;
+            plan_fault(rt.alloc(), STOPPED_PLAN, first, last, lines)?,
             fault,
             "{lines}"
         );
@@ -431,7 +553,7 @@ fn plans_are_refused(rt: HostRuntime) -> Result<(), Fail> {
 #[test]
 fn each_front_ended_early(rt: HostRuntime) -> Result<(), Fail> {
     let grid = grid(rt.alloc(), 3, 3)?;
-    for text in [CROSSING, CROSSING_TWO, PASSING_TWO] {
+    for text in [CROSSING, CROSSING_TWO, PASSING_TWO, STOPPED] {
         let mut line = 1u64;
         for (n, byte) in text.as_bytes().iter().enumerate() {
             let fault = read_cert(rt.alloc(), &text.as_bytes()[..n], &grid).err();
@@ -439,11 +561,13 @@ fn each_front_ended_early(rt: HostRuntime) -> Result<(), Fail> {
             line = line.saturating_add((*byte == b'\n') as u64);
         }
     }
-    let mut line = 1u64;
-    for (n, byte) in CROSSING_PLAN.as_bytes().iter().enumerate() {
-        let fault = read_plan(rt.alloc(), &CROSSING_PLAN.as_bytes()[..n], &grid).err();
-        assert_eq!(rt; fault, Some(PlanTextFault::P2(line)));
-        line = line.saturating_add((*byte == b'\n') as u64);
+    for text in [CROSSING_PLAN, STOPPED_PLAN] {
+        let mut line = 1u64;
+        for (n, byte) in text.as_bytes().iter().enumerate() {
+            let fault = read_plan(rt.alloc(), &text.as_bytes()[..n], &grid).err();
+            assert_eq!(rt; fault, Some(PlanTextFault::P2(line)));
+            line = line.saturating_add((*byte == b'\n') as u64);
+        }
     }
     Ok(())
 }

@@ -1,6 +1,7 @@
 ghost use Rattle.std.specs.Prelude.{◌≡◌, ◌<◌, Ok, IfOk, OnOk, length};
 ghost use Rattle.mapf_certificate.specs.Lines.{IsLine, words, width_of};
-ghost use Rattle.mapf_certificate.specs.LineReading.{read_title, read_count, read_cost, read_agents, read_claim};
+ghost use Rattle.mapf_certificate.specs.LineReading.{read_title, read_count, read_cost, read_agents};
+ghost use Rattle.mapf_certificate.specs.LineReading.{read_bound_claim, read_claim};
 ghost use Rattle.mapf_certificate.specs.LineReading.{read_vertex, read_swap, read_leaf, read_clash, read_agent};
 ghost use Rattle.mapf_certificate.specs.LineReading.{read_label_word, label_in_range, read_entry, read_tree_line};
 ghost use Rattle.mapf_certificate.specs.LineReading.{read_blocks, blocks_in_range};
@@ -18,7 +19,8 @@ use mapf_model::{Claim, Conflict, Entry, Label};
 pub enum Due {
     Title,
     Agents,
-    Claim,
+    /// The claim, in a text of this version.
+    Claim(Version),
     /// Any line of the tree, or `end`.
     Tree(Sizes),
 }
@@ -44,7 +46,7 @@ pub fn agent_count(rest: &[u8]) -> Result<u32, LineFault>
     from_one_to(MOST_AGENTS, last(b' ', rest)?)
 }
 
-/// The cost of a plan, after `cost`.
+/// A sum of costs, after its word.
 #[tactic(auto, unfolding(crate::specs::LineReading::read_cost))]
 pub fn cost(rest: &[u8]) -> Result<u64, LineFault>
     ensures { result ≡ read_cost rest.now }
@@ -62,16 +64,30 @@ fn agents_line(bytes: &[u8]) -> Result<CertLine, LineFault>
     }
 }
 
+/// The line of a bound, which version 1 doesn't claim.
+#[tactic(auto, unfolding(crate::specs::LineReading::read_bound_claim))]
+fn bound_line(version: Version, bytes: &[u8]) -> Result<CertLine, LineFault>
+    ensures { result ≡ read_bound_claim version bytes.now }
+{
+    match version {
+        Version::One => Err(LineFault::Shape),
+        Version::Two => match strip(bytes, b"claim bound") {
+            Some(rest) => Ok(CertLine::Claim(Claim::Bound(cost(rest)?))),
+            None => Err(LineFault::Shape),
+        },
+    }
+}
+
 #[tactic(auto, unfolding(crate::specs::LineReading::read_claim))]
-fn claim_line(bytes: &[u8]) -> Result<CertLine, LineFault>
-    ensures { result ≡ read_claim bytes.now }
+fn claim_line(version: Version, bytes: &[u8]) -> Result<CertLine, LineFault>
+    ensures { result ≡ read_claim version bytes.now }
 {
     if bytes == b"claim impossible".as_slice() {
         return Ok(CertLine::Claim(Claim::Impossible));
     }
     match strip(bytes, b"claim cost") {
         Some(rest) => Ok(CertLine::Claim(Claim::Cost(cost(rest)?))),
-        None => Err(LineFault::Shape),
+        None => bound_line(version, bytes),
     }
 }
 
@@ -258,7 +274,7 @@ fn judge(due: &Due, bytes: &[u8]) -> Result<CertLine, LineFault>
     match due {
         Due::Title => title_line(bytes),
         Due::Agents => agents_line(bytes),
-        Due::Claim => claim_line(bytes),
+        Due::Claim(version) => claim_line(*version, bytes),
         Due::Tree(sizes) => tree_line(bytes, sizes),
     }
 }

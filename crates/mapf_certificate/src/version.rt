@@ -1,8 +1,10 @@
-/// The version of a certificate's text.
+/// The version of a text.
 #[derive(Clone, Copy, Debug, PartialEq, Eq)]
 pub enum Version {
-    /// Blocks stand at leaves alone.
+    /// In a certificate blocks stand at leaves alone and no bound is claimed; in a plan text a limit
+    /// tells no bound.
     One,
-    /// Blocks may stand on splits too.
+    /// In a certificate blocks may stand on splits too and a bound may be claimed; in a plan text a
+    /// limit tells a bound.
     Two,
 }

@@ -53,7 +53,7 @@ module _ (problem : Instance) (claim : Claim) (had : Option (List ℕ)) (start :
   pub begins : (left : Option (List ℕ)) (new : Reading) (agents : ℕ) (claimed : Claim) → TakesHeader had left start new agents claimed → BeginsWithHeader problem bytes agents claimed
   begins left new agents claimed takes =
       let (after, known_left, same, count) = Window-known had left start.buffer new.buffer (header_text new.version start.width agents claimed) bytes takes.window known in
-      record { version = new.version; agents_in_range = takes.agents_in_range; claim_in_range = takes.claim_in_range; rest = new.buffer.bytes ++ after; spelled = sym same_bytes ∙ subst (λ w. start.buffer.bytes ++ bytes ≡ header_text new.version w agents claimed ++ (new.buffer.bytes ++ after)) opened.width same }
+      record { version = new.version; agents_in_range = takes.agents_in_range; claim_in_range = takes.claim_in_range; claim_of_version = takes.claim_of_version; rest = new.buffer.bytes ++ after; spelled = sym same_bytes ∙ subst (λ w. start.buffer.bytes ++ bytes ≡ header_text new.version w agents claimed ++ (new.buffer.bytes ++ after)) opened.width same }
 
 -- why reading a header stopped
 pub stops_heading : (problem : Instance) (claim : Claim) (had left : Option (List ℕ)) (failed : Bool) (start : Reading) (IsText : List ℕ → Type 0) (fault : LinesFault) → Fails had left failed start.buffer IsText fault →

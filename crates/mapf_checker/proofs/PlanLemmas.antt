@@ -5,12 +5,14 @@ use Rattle.mapf_model.specs.Plan.{Instance, IsValid, IsSumOfCosts}
 use Rattle.mapf_certificate.specs.declared.plan_text.PlanAnswer.{PlanAnswer}
 use Rattle.mapf_certificate.specs.declared.plan_text.PlanAnswer.TheVariants as answers
 use Rattle.mapf_certificate.specs.declared.plan_text.PlanText.{PlanText}
+use Rattle.mapf_certificate.specs.declared.version.Version.{Version}
+use Rattle.mapf_model.specs.declared.cause.Cause.{Cause}
 use Rattle.mapf_certificate.specs.declared.plan_text.PlanTextFault.{PlanTextFault}
 use Rattle.mapf_certificate.specs.declared.plan_text.PlanTextFault.TheVariants.{P1, P2, P3, P4, Memory}
 use Rattle.mapf_certificate.specs.PlanReading.{OrMemory}
 use Rattle.mapf_certificate.specs.Plans.{IsPlanText, SpellsPlan, plan_text}
 use Rattle.mapf_checker.specs.declared.fault.Verdict.{Verdict}
-use Rattle.mapf_checker.specs.declared.fault.Verdict.TheVariants.{Optimal, Impossible}
+use Rattle.mapf_checker.specs.declared.fault.Verdict.TheVariants.{Optimal, Bound, Impossible}
 use Rattle.mapf_checker.specs.Verdict.{IsGoodFor, IsGoodPlan}
 use Rattle.mapf_checker.specs.Faults.{of_plan, IsOfJudging}
 use Rattle.mapf_checker.specs.Refusals.{HasPlanRefusal}
@@ -25,42 +27,51 @@ module _ (problem : Instance) (bytes : List ℕ) (text : PlanText) where
   pub good_text : ((other : PlanText) → IsPlanText problem.grid other → bytes ≡ plan_text problem.grid.width other → OrMemory {A = PlanText} (Ok text) (◌≡◌ {A = Result PlanText PlanTextFault} (Ok text) (Ok other))) →
       (verdict : Verdict) → IsGoodPlan problem bytes verdict → (text.agents ≡ length problem.agents) × IsGoodFor problem text.answer verdict
   good_text only verdict good =
-      let other : PlanText = record { agents = length problem.agents; answer = good.says } in
+      let other : PlanText = record { version = good.version; agents = length problem.agents; answer = good.says } in
       let same : text ≡ other = same_text text other (only other good.spelled.in_range good.spelled.spelled) in
       (ap (λ (t : PlanText). t.agents) same, subst (λ a. IsGoodFor problem a verdict) (sym (ap (λ (t : PlanText). t.answer) same)) good.good)
 
   pub text_good : IsPlanText problem.grid text × (bytes ≡ plan_text problem.grid.width text) → text.agents ≡ length problem.agents → (said : PlanAnswer) → text.answer ≡ said → (verdict : Verdict) → IsGoodFor problem said verdict →
       IsGoodPlan problem bytes verdict
   text_good found count said is verdict good = record {
+    version = text.version;
     says = said;
-    spelled = subst (λ n. SpellsPlan problem.grid bytes n said) count (subst (λ a. SpellsPlan problem.grid bytes text.agents a) is (record { in_range = found.0; spelled = found.1 }));
+    spelled = subst (λ n. SpellsPlan problem.grid bytes text.version n said) count (subst (λ a. SpellsPlan problem.grid bytes text.version text.agents a) is (record { in_range = found.0; spelled = found.1 }));
     good = good;
   }
 
 -- bytes that can't be read spell nothing, unless memory was refused
 module _ (problem : Instance) (bytes : List ℕ) where
   pub spells_none : (fault : PlanTextFault) → ((other : PlanText) → IsPlanText problem.grid other → bytes ≡ plan_text problem.grid.width other → OrMemory {A = PlanText} (Err fault) (◌≡◌ {A = Result PlanText PlanTextFault} (Err fault) (Ok other))) →
-      (agents : ℕ) (says : PlanAnswer) → SpellsPlan problem.grid bytes agents says → fault ≡ Memory
-  spells_none fault only agents says spells = by (only (record { agents = agents; answer = says }) spells.in_range spells.spelled) where
-    by : OrMemory {A = PlanText} (Err fault) (◌≡◌ {A = Result PlanText PlanTextFault} (Err fault) (Ok (record { agents = agents; answer = says }))) → fault ≡ Memory
+      (version : Version) (agents : ℕ) (says : PlanAnswer) → SpellsPlan problem.grid bytes version agents says → fault ≡ Memory
+  spells_none fault only version agents says spells = by (only (record { version = version; agents = agents; answer = says }) spells.in_range spells.spelled) where
+    by : OrMemory {A = PlanText} (Err fault) (◌≡◌ {A = Result PlanText PlanTextFault} (Err fault) (Ok (record { version = version; agents = agents; answer = says }))) → fault ≡ Memory
     by (inl same) = absurd cc
     by (inr memory) = cc
 
-  pub refused_text : (fault : PlanTextFault) → ((agents : ℕ) (says : PlanAnswer) → SpellsPlan problem.grid bytes agents says → fault ≡ Memory) → IsOfJudging (HasPlanRefusal problem bytes) (of_plan fault)
+  pub refused_text : (fault : PlanTextFault) → ((version : Version) (agents : ℕ) (says : PlanAnswer) → SpellsPlan problem.grid bytes version agents says → fault ≡ Memory) → IsOfJudging (HasPlanRefusal problem bytes) (of_plan fault)
   refused_text Memory none = tt
-  refused_text (P1 line) none = (λ e. cc, λ agents says spells. let memory = none agents says spells in cc)
-  refused_text (P2 line) none = (λ e. cc, λ agents says spells. let memory = none agents says spells in cc)
-  refused_text (P3 line) none = (λ e. cc, λ agents says spells. let memory = none agents says spells in cc)
-  refused_text (P4 line) none = (λ e. cc, λ agents says spells. let memory = none agents says spells in cc)
+  refused_text (P1 line) none = (λ e. cc, λ version agents says spells. let memory = none version agents says spells in cc)
+  refused_text (P2 line) none = (λ e. cc, λ version agents says spells. let memory = none version agents says spells in cc)
+  refused_text (P3 line) none = (λ e. cc, λ version agents says spells. let memory = none version agents says spells in cc)
+  refused_text (P4 line) none = (λ e. cc, λ version agents says spells. let memory = none version agents says spells in cc)
 
 pub valid_if_good : (problem : Instance) (plan : List (List ℕ)) (verdict : Verdict) → IsGoodFor problem (answers.Found plan) verdict → IsValid problem plan
 valid_if_good problem plan (Optimal sum) good = good.0
+valid_if_good problem plan (Bound bound) good = absurd good
 valid_if_good problem plan Impossible good = absurd good
 
 pub optimal_if_good : SumsAreOne → (problem : Instance) (plan : List (List ℕ)) (sum : ℕ) (verdict : Verdict) → IsSumOfCosts problem.agents plan sum → IsGoodFor problem (answers.Found plan) verdict → Optimal sum ≡ verdict
 optimal_if_good law problem plan sum (Optimal other) adds good = ap Optimal ((law problem plan good.0).one sum other adds good.1)
+optimal_if_good law problem plan sum (Bound bound) adds good = absurd good
 optimal_if_good law problem plan sum Impossible adds good = absurd good
 
 pub impossible_if_good : (problem : Instance) (verdict : Verdict) → IsGoodFor problem answers.Impossible verdict → Impossible ≡ verdict
 impossible_if_good problem (Optimal sum) good = absurd good
+impossible_if_good problem (Bound bound) good = absurd good
 impossible_if_good problem Impossible good = refl
+
+pub bound_if_good : (problem : Instance) (cause : Cause) (bound : ℕ) (verdict : Verdict) → IsGoodFor problem (answers.Bounded cause bound) verdict → Bound bound ≡ verdict
+bound_if_good problem cause bound (Optimal sum) good = absurd good
+bound_if_good problem cause bound (Bound other) good = ap Bound good
+bound_if_good problem cause bound Impossible good = absurd good

@@ -11,9 +11,9 @@ use Rattle.mapf_model.specs.Blocks.{LabelBlock}
 use Rattle.mapf_model.specs.Labels.{Entries, entries_of, IsLabel, IsEntryOrDistance, label_plus, label_sum}
 use Rattle.mapf_model.specs.Plan.{Instance}
 use Rattle.mapf_model.specs.declared.item.Claim.{Claim}
-use Rattle.mapf_model.specs.declared.item.Claim.TheVariants.{Cost, Impossible}
+use Rattle.mapf_model.specs.declared.item.Claim.TheVariants.{Cost, Bound, Impossible}
 use Rattle.mapf_model.specs.Laws.{StartLabelsDecide, StartLabelsDecideImpossible}
-use Rattle.mapf_model.specs.Tree.{StartsShow, block_of, with_blocks}
+use Rattle.mapf_model.specs.Tree.{StartsReach, StartsShow, block_of, with_blocks}
 use Rattle.mapf_distance.specs.Tables.{AreTables}
 use Rattle.mapf_checker.specs.Starts.{IsKept}
 use Rattle.mapf_checker.specs.Leaf.{IsCut, IsStartLabel, IsStartOf, IsStartTotal, IsEnough, label_of, TakesBlock, LeavesBlock}
@@ -166,13 +166,26 @@ bound_more None (Some s) i label e more bound = absurd cc
 bound_more (Some t) None i label e more bound = tt
 bound_more (Some t) (Some s) i label e more bound = omega (arith, more, bound)
 
+-- a sum, None where it is infinite, is at least this
+abbrev pub IsAtLeast : ℕ → Option ℕ → Type 0
+IsAtLeast least None = Unit {0}
+IsAtLeast least (Some total) = least ≤ total
+
+-- whether the labels of the starts add up to at least this goes by their sum
+reach_decide : StartLabelsDecide → (problem : Instance) (least : ℕ) (blocks : List LabelBlock) (before : ℕ → Entries) (total : Option ℕ) → IsStartTotal problem blocks before total →
+    StartsReach problem least (with_blocks blocks before) ↔ IsAtLeast least total
+reach_decide law problem least blocks before None (labels, are, adds) = (λ _. tt, λ _. (law problem (with_blocks blocks before) labels least are).1 (rw adds tt))
+reach_decide law problem least blocks before (Some total) (labels, are, adds) =
+    let both = law problem (with_blocks blocks before) labels least are in
+    (λ shows. rw adds at (both.0 shows), λ enough. both.1 (rw adds enough))
+
 -- whether the labels of the starts show a claim goes by their sum
 pub starts_decide : StartLabelsDecide → StartLabelsDecideImpossible → (problem : Instance) (claim : Claim) (blocks : List LabelBlock) (before : ℕ → Entries) (total : Option ℕ) → IsStartTotal problem blocks before total →
     StartsShow problem claim (with_blocks blocks before) ↔ IsEnough claim total
-starts_decide law never problem (Cost cost) blocks before None (labels, are, adds) = (λ _. tt, λ _. (law problem (with_blocks blocks before) labels cost are).1 (rw adds tt))
-starts_decide law never problem (Cost cost) blocks before (Some total) (labels, are, adds) =
-    let both = law problem (with_blocks blocks before) labels cost are in
-    (λ shows. rw adds at (both.0 shows), λ enough. both.1 (rw adds enough))
+starts_decide law never problem (Cost cost) blocks before None total = reach_decide law problem cost blocks before None total
+starts_decide law never problem (Cost cost) blocks before (Some sum) total = reach_decide law problem cost blocks before (Some sum) total
+starts_decide law never problem (Bound bound) blocks before None total = reach_decide law problem bound blocks before None total
+starts_decide law never problem (Bound bound) blocks before (Some sum) total = reach_decide law problem bound blocks before (Some sum) total
 starts_decide law never problem Impossible blocks before None (labels, are, adds) = (λ _. tt, λ _. (never problem (with_blocks blocks before) labels are).1 (Contains-never labels adds))
 starts_decide law never problem Impossible blocks before (Some total) (labels, are, adds) = (
   λ shows. let e = label_sum-never labels ((never problem (with_blocks blocks before) labels are).0 shows) in absurd (finite labels total adds e),

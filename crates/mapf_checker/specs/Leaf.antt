@@ -4,7 +4,7 @@ use Rattle.mapf_model.specs.declared.problem.Agent.{Agent}
 use Rattle.mapf_model.specs.declared.label.Label.{Label}
 use Rattle.mapf_model.specs.declared.label.Label.TheVariants.{Ticks, Never}
 use Rattle.mapf_model.specs.declared.item.Claim.{Claim}
-use Rattle.mapf_model.specs.declared.item.Claim.TheVariants.{Cost, Impossible}
+use Rattle.mapf_model.specs.declared.item.Claim.TheVariants.{Cost, Bound, Impossible}
 use Rattle.mapf_model.specs.Blocks.{LabelBlock}
 use Rattle.mapf_model.specs.Labels.{Entries, entries_of, AreSound, IsLabel, label_sum}
 use Rattle.mapf_model.specs.Plan.{Instance}
@@ -39,6 +39,7 @@ IsStartTotal problem blocks before total = (labels : List Label) × AreStartLabe
 abbrev pub IsEnough : Claim → Option ℕ → Type 0
 IsEnough claim None = ⊤
 IsEnough (Cost cost) (Some total) = cost ≤ total
+IsEnough (Bound bound) (Some total) = bound ≤ total
 IsEnough Impossible (Some total) = ⊥
 
 -- the blocks before the place are of agents below this one, the others of this one or later ones

@@ -8,11 +8,12 @@ use Rattle.mapf_model.specs.Printed.{IsClaimInRange}
 use Rattle.mapf_model.specs.Tree.{ConstraintTree, Node, NodeContext, root}
 use Rattle.mapf_certificate.specs.declared.cert.CertFault.TheVariants as certs
 use Rattle.mapf_certificate.specs.declared.version.Version.{Version}
+use Rattle.mapf_certificate.specs.declared.version.Version.TheVariants.{One}
 use Rattle.mapf_certificate.specs.declared.plan_text.PlanAnswer.{PlanAnswer}
 use Rattle.mapf_certificate.specs.declared.plan_text.PlanAnswer.TheVariants.{Found, Limit}
 use Rattle.mapf_certificate.specs.declared.plan_text.PlanTextFault.TheVariants as plans
 use Rattle.mapf_certificate.specs.Certificates.{SpellsCert, header_text, node_text}
-use Rattle.mapf_certificate.specs.Lines.{IsAgentCount}
+use Rattle.mapf_certificate.specs.Lines.{IsAgentCount, IsClaimOfVersion}
 use Rattle.mapf_certificate.specs.Plans.{SpellsPlan}
 use Rattle.mapf_checker.specs.declared.fault.CheckFault.{CheckFault}
 use Rattle.mapf_checker.specs.declared.fault.CheckFault.TheVariants.{C1, C2, C3, C4, C5, C6, C7, C8, C9}
@@ -22,20 +23,21 @@ use Rattle.mapf_checker.specs.NodeDefects.{HasNodeDefect}
 use Rattle.mapf_checker.specs.Progress.{contexts_after_all}
 use Rattle.mapf_checker.specs.Verdict.{IsGoodPlan, claim_of}
 
--- what a refusal says of the plan text: it spells nothing, is for another number of agents, says that a limit was met,
--- or has a plan with this defect
+-- what a refusal says of the plan text: it spells nothing, is for another number of agents, says that a limit was met
+-- and has no bound, or has a plan with this defect
 abbrev pub HasPlanRefusal : Instance → List ℕ → CheckFault → Type 0
-HasPlanRefusal problem bytes (C1 fault) = (fault ≢ plans.Memory) × ((agents : ℕ) (says : PlanAnswer) → SpellsPlan problem.grid bytes agents says → ⊥)
-HasPlanRefusal problem bytes C3 = (agents : ℕ) × (says : PlanAnswer) × SpellsPlan problem.grid bytes agents says × (agents ≢ length problem.agents)
-HasPlanRefusal problem bytes C4 = (cause : Cause) × SpellsPlan problem.grid bytes (length problem.agents) (Limit cause)
-HasPlanRefusal problem bytes (C5 fault) = (plan : List (List ℕ)) × SpellsPlan problem.grid bytes (length problem.agents) (Found plan) × HasDefect problem plan fault
+HasPlanRefusal problem bytes (C1 fault) = (fault ≢ plans.Memory) × ((version : Version) (agents : ℕ) (says : PlanAnswer) → SpellsPlan problem.grid bytes version agents says → ⊥)
+HasPlanRefusal problem bytes C3 = (version : Version) × (agents : ℕ) × (says : PlanAnswer) × SpellsPlan problem.grid bytes version agents says × (agents ≢ length problem.agents)
+HasPlanRefusal problem bytes C4 = (cause : Cause) × SpellsPlan problem.grid bytes One (length problem.agents) (Limit cause)
+HasPlanRefusal problem bytes (C5 fault) = (version : Version) × (plan : List (List ℕ)) × SpellsPlan problem.grid bytes version (length problem.agents) (Found plan) × HasDefect problem plan fault
 HasPlanRefusal problem bytes fault = ⊥
 
--- the bytes begin with a header whose numbers are in their ranges
+-- the bytes begin with a header whose numbers are in their ranges, with a claim that its version may make
 pub record BeginsWithHeader (problem : Instance) (bytes : List ℕ) (agents : ℕ) (claim : Claim) : Type 0 where
   pub version : Version
   pub agents_in_range : IsAgentCount agents
   pub claim_in_range : IsClaimInRange claim
+  pub claim_of_version : IsClaimOfVersion version claim
   pub rest : List ℕ
   pub spelled : bytes ≡ header_text version problem.grid.width agents claim ++ rest
 

@@ -1,8 +1,8 @@
 -- What an answer of the checker says.
-use Rattle.std.specs.Prelude.{ℕ, List, length}
+use Rattle.std.specs.Prelude.{◌≡◌, ℕ, List, length}
 use Rattle.mapf_model.specs.declared.item.Claim.{Claim}
 use Rattle.mapf_model.specs.declared.item.Claim.TheVariants as claim
-use Rattle.mapf_model.specs.Plan.{Instance, IsValid, IsSumOfCosts, IsOptimal, IsImpossible}
+use Rattle.mapf_model.specs.Plan.{Instance, IsValid, IsSumOfCosts, IsOptimal, IsLowerBound, IsImpossible}
 use Rattle.mapf_model.specs.Tree.{ConstraintTree, Shows}
 use Rattle.mapf_certificate.specs.Certificates.{SpellsCert}
 use Rattle.mapf_certificate.specs.Plans.{SpellsPlan}
@@ -10,41 +10,49 @@ use Rattle.mapf_certificate.specs.declared.version.Version.{Version}
 use Rattle.mapf_certificate.specs.declared.plan_text.PlanAnswer.{PlanAnswer}
 use Rattle.mapf_certificate.specs.declared.plan_text.PlanAnswer.TheVariants as answers
 use Rattle.mapf_checker.specs.declared.fault.Verdict.{Verdict}
-use Rattle.mapf_checker.specs.declared.fault.Verdict.TheVariants.{Optimal, Impossible}
+use Rattle.mapf_checker.specs.declared.fault.Verdict.TheVariants.{Optimal, Bound, Impossible}
 
 -- what a verdict says of the problem and the answer of a plan text: the answer is a plan that is optimal with the
--- verdict's sum, or the answer and the verdict are `impossible` and no plan is valid
+-- verdict's sum, or the answer and the verdict are `impossible` and no plan is valid, or the answer is a limit with the
+-- verdict's bound and every valid plan has at least this sum. Of a limit without a bound no verdict is true
 abbrev pub IsTrueOf : Instance → PlanAnswer → Verdict → Type 0
 IsTrueOf problem (answers.Found plan) (Optimal sum) = IsOptimal problem plan sum
-IsTrueOf problem (answers.Found plan) Impossible = ⊥
-IsTrueOf problem answers.Impossible (Optimal sum) = ⊥
+IsTrueOf problem (answers.Found plan) _ = ⊥
 IsTrueOf problem answers.Impossible Impossible = IsImpossible problem
+IsTrueOf problem answers.Impossible _ = ⊥
+IsTrueOf problem (answers.Bounded cause says) (Bound bound) = (says ≡ bound) × IsLowerBound problem bound
+IsTrueOf problem (answers.Bounded cause says) _ = ⊥
 IsTrueOf problem (answers.Limit cause) verdict = ⊥
 
--- the bytes spell a plan text of which the verdict is true
+-- the bytes spell a plan text, of either version, of which the verdict is true
 pub record IsTrueText (problem : Instance) (bytes : List ℕ) (verdict : Verdict) : Type 0 where
+  pub version : Version
   pub says : PlanAnswer
-  pub spelled : SpellsPlan problem.grid bytes (length problem.agents) says
+  pub spelled : SpellsPlan problem.grid bytes version (length problem.agents) says
   pub is_true : IsTrueOf problem says verdict
 
--- the answer of a plan text fits the verdict: a valid plan with its sum, or `impossible`, which only a certificate shows,
--- for `impossible`
+-- the answer of a plan text fits the verdict: a valid plan with its sum, `impossible` for `impossible`, or a limit with the
+-- verdict's bound; the last two only a certificate shows
 abbrev pub IsGoodFor : Instance → PlanAnswer → Verdict → Type 0
 IsGoodFor problem (answers.Found plan) (Optimal sum) = IsValid problem plan × IsSumOfCosts problem.agents plan sum
-IsGoodFor problem (answers.Found plan) Impossible = ⊥
-IsGoodFor problem answers.Impossible (Optimal sum) = ⊥
+IsGoodFor problem (answers.Found plan) _ = ⊥
 IsGoodFor problem answers.Impossible Impossible = Unit {0}
+IsGoodFor problem answers.Impossible _ = ⊥
+IsGoodFor problem (answers.Bounded cause says) (Bound bound) = says ≡ bound
+IsGoodFor problem (answers.Bounded cause says) _ = ⊥
 IsGoodFor problem (answers.Limit cause) verdict = ⊥
 
--- the bytes spell such a plan text for the problem
+-- the bytes spell such a plan text, of either version, for the problem
 pub record IsGoodPlan (problem : Instance) (bytes : List ℕ) (verdict : Verdict) : Type 0 where
+  pub version : Version
   pub says : PlanAnswer
-  pub spelled : SpellsPlan problem.grid bytes (length problem.agents) says
+  pub spelled : SpellsPlan problem.grid bytes version (length problem.agents) says
   pub good : IsGoodFor problem says verdict
 
 -- the claim that a certificate has to make for the verdict
 abbrev pub claim_of : Verdict → Claim
 claim_of (Optimal sum) = claim.Cost sum
+claim_of (Bound bound) = claim.Bound bound
 claim_of Impossible = claim.Impossible
 
 -- the bytes spell a certificate, of either version, for the problem that shows the claim

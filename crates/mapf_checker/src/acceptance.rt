@@ -22,7 +22,8 @@ pub fn check(
     plan_text: &[u8],
     cert_text: &[u8],
 ) -> Result<Verdict, CheckFault>
-    // What the plan text says is true: its plan is optimal with that sum, or no plan is valid.
+    // What the plan text says is true: its plan is optimal with that sum, or no plan is valid, or none has a sum
+    // below its bound.
     ensures truth { IfOk result (IsTrueText problem.now plan_text.now) }
     // What is accepted is accepted by definition, and what is so is accepted, unless memory is refused.
     ensures accepted { IfOk result (AreAccepted problem.now plan_text.now cert_text.now) }
@@ -53,7 +54,8 @@ pub fn check_from<S: Source>(
     limit: u64,
 ) -> Result<Verdict, FromFault>
     requires { S.has_failed source.old ≡ false }
-    // What the plan text says is true: its plan is optimal with that sum, or no plan is valid.
+    // What the plan text says is true: its plan is optimal with that sum, or no plan is valid, or none has a sum
+    // below its bound.
     ensures truth { IfOk result (IsTrueText problem.now plan_text.now) }
     // Where the source tells its bytes: what is accepted is accepted by definition, and what is so is accepted,
     // unless memory is refused, the source fails or too many bytes come.
@@ -88,6 +90,7 @@ fn claimed_by(verdict: Verdict) -> Claim
 {
     match verdict {
         Verdict::Optimal(sum) => Claim::Cost(sum),
+        Verdict::Bound(bound) => Claim::Bound(bound),
         Verdict::Impossible => Claim::Impossible,
     }
 }

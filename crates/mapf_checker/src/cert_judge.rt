@@ -87,7 +87,7 @@ fn are_one_claim(a: &Claim, b: &Claim) -> bool
     ensures { IsTrue result ↔ a.now ≡ b.now }
 {
     match (*a, *b) {
-        (Claim::Cost(a), Claim::Cost(b)) => a == b,
+        (Claim::Cost(a), Claim::Cost(b)) | (Claim::Bound(a), Claim::Bound(b)) => a == b,
         (Claim::Impossible, Claim::Impossible) => true,
         _ => false,
     }

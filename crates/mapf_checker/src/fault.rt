@@ -7,6 +7,9 @@ use mapf_model::OutOfMemory;
 pub enum Verdict {
     /// The plan is valid, its sum of costs in ticks is this, and no valid plan has a smaller one.
     Optimal(u64),
+    /// The plan text says that a limit was met, with this bound, and no valid plan has a smaller sum of
+    /// costs, in ticks.
+    Bound(u64),
     /// No plan is valid.
     Impossible,
 }
@@ -22,7 +25,7 @@ pub enum CheckFault {
     C2(CertFault),
     /// One of the texts is for another number of agents than the problem's.
     C3,
-    /// The answer and the claim differ, or the answer is a limit.
+    /// The answer and the claim differ, or the answer is a limit without a bound.
     C4,
     /// The plan isn't valid.
     C5(PlanFault),

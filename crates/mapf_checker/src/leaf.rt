@@ -140,7 +140,7 @@ fn is_enough(claim: &Claim, total: Option<u64>) -> bool
 {
     match (claim, total) {
         (_, None) => true,
-        (Claim::Cost(cost), Some(total)) => *cost <= total,
+        (Claim::Cost(least) | Claim::Bound(least), Some(total)) => *least <= total,
         (Claim::Impossible, Some(_)) => false,
     }
 }

@@ -11,7 +11,7 @@ use mapf_model::{Problem, laws};
 use std::alloc::Global;
 
 /// The verdict that the plan text asks for, if it is good for the problem: its plan is valid, or it says
-/// that none is.
+/// that none is, or it has a bound.
 pub fn judge_plan(alloc: Global, problem: &Problem, plan_text: &[u8]) -> Result<Verdict, FromFault>
     ensures good { IfOk result (IsGoodPlan problem.now plan_text.now) }
     ensures only { (verdict : Verdict) → IsGoodPlan problem.now plan_text.now verdict
@@ -19,7 +19,7 @@ pub fn judge_plan(alloc: Global, problem: &Problem, plan_text: &[u8]) -> Result<
     ensures refused { IfErr result (IsOfJudging (HasPlanRefusal problem.now plan_text.now)) }
 {
     laws::sums_are_one();
-    let PlanText { agents, answer } = read_plan(alloc, plan_text, problem.grid())?;
+    let PlanText { agents, answer, .. } = read_plan(alloc, plan_text, problem.grid())?;
     if agents as usize != problem.agents().len() {
         return Err(FromFault::Refused(CheckFault::C3));
     }
@@ -29,6 +29,7 @@ pub fn judge_plan(alloc: Global, problem: &Problem, plan_text: &[u8]) -> Result<
             Err(fault) => Err(FromFault::Refused(CheckFault::C5(fault))),
         },
         PlanAnswer::Impossible => Ok(Verdict::Impossible),
+        PlanAnswer::Bounded { bound, .. } => Ok(Verdict::Bound(bound)),
         PlanAnswer::Limit(_) => Err(FromFault::Refused(CheckFault::C4)),
     }
 }

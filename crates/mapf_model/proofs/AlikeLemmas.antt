@@ -3,7 +3,7 @@ use Rattle.std.proofs.Common.{◌≡◌, ℕ, List, Option, Some, None, slice_ge
 use Rattle.mapf_model.specs.declared.bar.Bar.{Bar}
 use Rattle.mapf_model.specs.declared.constraint.Constraint.{Constraint}
 use Rattle.mapf_model.specs.declared.item.Claim.{Claim}
-use Rattle.mapf_model.specs.declared.item.Claim.TheVariants.{Cost, Impossible}
+use Rattle.mapf_model.specs.declared.item.Claim.TheVariants.{Cost, Bound, Impossible}
 use Rattle.mapf_model.specs.declared.label.Label.{Label}
 use Rattle.mapf_model.specs.declared.label.Label.TheVariants.{Never}
 use Rattle.mapf_model.specs.declared.problem.Agent.{Agent}
@@ -11,7 +11,7 @@ use Rattle.mapf_model.specs.Blocks.{LabelBlock}
 use Rattle.mapf_model.specs.Labels.{Entries, IsEntryOrDistance, AreSound, entries_of}
 use Rattle.mapf_model.specs.Laws.{AreAlike, OnlySplitsHandOnEntries}
 use Rattle.mapf_model.specs.Plan.{Instance}
-use Rattle.mapf_model.specs.Tree.{ConstraintTree, Split, Leaf, Clash, NodeContext, root, HasBlocksAtLeavesAlone, child_context, left_child_context, right_child_context, left_constraint, right_constraint, with_constraint, block_of, entries_or, with_blocks, AtEachNode, IsProperNode, NodeShows, AreBlocksSound, StartsShow, ShowsFrom}
+use Rattle.mapf_model.specs.Tree.{ConstraintTree, Split, Leaf, Clash, NodeContext, root, HasBlocksAtLeavesAlone, child_context, left_child_context, right_child_context, left_constraint, right_constraint, with_constraint, block_of, entries_or, with_blocks, AtEachNode, IsProperNode, NodeShows, AreBlocksSound, StartsReach, StartsShow, ShowsFrom}
 
 -- what the nodes by themselves are doesn't hang on the context
 proper_anywhere : (problem : Instance) (a b : NodeContext) (tree : ConstraintTree) → AtEachNode (λ context node. IsProperNode problem node) a tree → AtEachNode (λ context node. IsProperNode problem node) b tree
@@ -42,8 +42,8 @@ module _ (problem : Instance) where
   blocks_sound a b blocks alike sound i agent block is found =
       subst (λ (bars : ℕ → List Bar). AreSound problem.grid agent.goal (bars i) (entries_of block.entries)) alike.bars (sound i agent block is found)
 
-  starts_show : (claim : Claim) (a b : ℕ → Entries) → ((i : ℕ) (agent : Agent) → slice_get problem.agents i ≡ Some agent → a i agent.start 0 ≡ b i agent.start 0) → StartsShow problem claim a → StartsShow problem claim b
-  starts_show (Cost cost) a b same (labels, starts, enough) = (
+  starts_reach : (total : ℕ) (a b : ℕ → Entries) → ((i : ℕ) (agent : Agent) → slice_get problem.agents i ≡ Some agent → a i agent.start 0 ≡ b i agent.start 0) → StartsReach problem total a → StartsReach problem total b
+  starts_reach total a b same (labels, starts, enough) = (
     labels,
     record {
       count = starts.count;
@@ -51,6 +51,10 @@ module _ (problem : Instance) where
     },
     enough,
   )
+
+  starts_show : (claim : Claim) (a b : ℕ → Entries) → ((i : ℕ) (agent : Agent) → slice_get problem.agents i ≡ Some agent → a i agent.start 0 ≡ b i agent.start 0) → StartsShow problem claim a → StartsShow problem claim b
+  starts_show (Cost cost) a b same shows = starts_reach cost a b same shows
+  starts_show (Bound bound) a b same shows = starts_reach bound a b same shows
   starts_show Impossible a b same (i, agent, is, never) =
       (i, agent, is, subst (λ (entry : Option Label). IsEntryOrDistance problem.grid agent.goal agent.start entry Never) (same i agent is) never)
 

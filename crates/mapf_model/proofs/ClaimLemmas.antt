@@ -6,14 +6,14 @@ use Rattle.mapf_model.specs.declared.problem.Agent.{Agent}
 use Rattle.mapf_model.specs.declared.label.Label.{Label}
 use Rattle.mapf_model.specs.declared.label.Label.TheVariants.{Ticks, Never}
 use Rattle.mapf_model.specs.declared.item.Claim.{Claim}
-use Rattle.mapf_model.specs.declared.item.Claim.TheVariants.{Cost, Impossible}
+use Rattle.mapf_model.specs.declared.item.Claim.TheVariants.{Cost, Bound, Impossible}
 use Rattle.mapf_model.specs.Path.{IsLawful, RestsFrom}
 use Rattle.mapf_model.specs.Labels.{Entries, entries_of, AreSound, IsLabel, IsAtMost, label_plus, label_sum}
 use Rattle.mapf_model.specs.Bars.{Satisfies}
 use Rattle.mapf_model.specs.declared.bar.Bar.{Bar}
 use Rattle.mapf_model.specs.Blocks.{LabelBlock}
 use Rattle.mapf_model.specs.Plan.{Instance, IsValid, IsSumOfCosts}
-use Rattle.mapf_model.specs.Tree.{ConstraintTree, Split, Leaf, Clash, NodeContext, root, Shows, with_constraint, left_constraint, right_constraint, left_child_context, right_child_context, AllSatisfy, AtEachNode, IsProperNode, Holds, block_of, entries_or, with_blocks, no_entries, AreBlocksSound, StartsShow, ShareGoal, NodeShows}
+use Rattle.mapf_model.specs.Tree.{ConstraintTree, Split, Leaf, Clash, NodeContext, root, Shows, with_constraint, left_constraint, right_constraint, left_child_context, right_child_context, AllSatisfy, AtEachNode, IsProperNode, Holds, block_of, entries_or, with_blocks, no_entries, AreBlocksSound, StartsReach, StartsShow, ShareGoal, NodeShows}
 use Rattle.mapf_model.proofs.LabelLemmas.{lawful_bound, lawful_rests}
 use Rattle.mapf_model.proofs.SplitLemmas.{split, AllSatisfy-root}
 
@@ -45,10 +45,12 @@ at_most_through m n Never p q = absurd q
 -- what a claim says of one valid plan
 abbrev pub Bounds : Instance → Claim → List (List ℕ) → Type 0
 Bounds problem (Cost cost) plan = (total : ℕ) → IsSumOfCosts problem.agents plan total → cost ≤ total
+Bounds problem (Bound bound) plan = (total : ℕ) → IsSumOfCosts problem.agents plan total → bound ≤ total
 Bounds problem Impossible plan = ⊥
 
 pub holds_of_plans : (problem : Instance) (claim : Claim) → ((plan : List (List ℕ)) → IsValid problem plan → Bounds problem claim plan) → Holds problem claim
 holds_of_plans problem (Cost cost) bounds = bounds
+holds_of_plans problem (Bound bound) bounds = bounds
 holds_of_plans problem Impossible bounds = bounds
 
 module _ (problem : Instance) (plan : List (List ℕ)) (valid : IsValid problem plan) where
@@ -93,7 +95,7 @@ module _ (problem : Instance) (plan : List (List ℕ)) (valid : IsValid problem 
       by_block (Some block) found at_start =
           AreBounds-sound (context.bars i) (entries_of block.entries) i agent path rest label this_agent this_path rests (sound i agent block this_agent found) (obey i path this_path) at_start
 
-  starts_cost : (cost : ℕ) (entries : ℕ → Entries) → AreBounds entries → StartsShow problem (Cost cost) entries → (total : ℕ) → IsSumOfCosts problem.agents plan total → cost ≤ total
+  starts_cost : (cost : ℕ) (entries : ℕ → Entries) → AreBounds entries → StartsReach problem cost entries → (total : ℕ) → IsSumOfCosts problem.agents plan total → cost ≤ total
   unfolding AreBounds
   starts_cost cost entries bounds (labels, starts, enough) total (costs, are_costs, is_sum) =
       let one = valid.count in let two = starts.count in let three = are_costs.count in
@@ -107,6 +109,7 @@ module _ (problem : Instance) (plan : List (List ℕ)) (valid : IsValid problem 
   starts_hold : (claim : Claim) (entries : ℕ → Entries) → AreBounds entries → StartsShow problem claim entries → Bounds problem claim plan
   unfolding AreBounds
   starts_hold (Cost cost) entries bounds shows = starts_cost cost entries bounds shows
+  starts_hold (Bound bound) entries bounds shows = starts_cost bound entries bounds shows
   starts_hold Impossible entries bounds (i, agent, is, never) =
       let p = path_of i agent is in
       bounds i agent p.0 (length p.0) Never is p.1 (lawful_rests problem.grid agent p.0 p.2) never

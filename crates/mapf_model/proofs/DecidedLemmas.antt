@@ -5,12 +5,12 @@ use Rattle.std.proofs.lemmas.Option.{slice_get_within, slice_get_read, get_or_fr
 use Rattle.mapf_model.specs.declared.problem.Agent.{Agent}
 use Rattle.mapf_model.specs.declared.label.Label.{Label}
 use Rattle.mapf_model.specs.declared.label.Label.TheVariants.{Ticks, Never}
-use Rattle.mapf_model.specs.declared.item.Claim.TheVariants.{Cost, Impossible}
+use Rattle.mapf_model.specs.declared.item.Claim.TheVariants.{Impossible}
 use Rattle.mapf_model.specs.Grid.{GridMap, IsFree, Step}
 use Rattle.mapf_model.specs.Path.{at, IsPath, IsCost}
 use Rattle.mapf_model.specs.Labels.{Entries, IsLabel, IsEntryOrDistance, IsDistanceLabel, IsAtMost, label_sum}
 use Rattle.mapf_model.specs.Plan.{Instance}
-use Rattle.mapf_model.specs.Tree.{AreStartLabels, StartsShow}
+use Rattle.mapf_model.specs.Tree.{AreStartLabels, StartsReach, StartsShow}
 use Rattle.mapf_model.specs.Laws.{IsPathByNeighbours}
 use Rattle.mapf_model.proofs.ClaimLemmas.{slice_get_inside}
 
@@ -48,9 +48,9 @@ module _ (problem : Instance) (entries : ℕ → Entries) where
       let found : (agent : Agent) × (slice_get problem.agents i ≡ Some agent) = slice_get_inside problem.agents i (omega arith) in
       label_unique problem.grid found.0.goal (entries i) found.0.start 0 x y (p.each i found.0 x found.1 this) (q.each i found.0 y found.1 other))
 
-  pub start_labels_decide : (labels : List Label) (cost : ℕ) → AreStartLabels problem entries labels → StartsShow problem (Cost cost) entries ↔ IsAtMost (Ticks cost) (label_sum labels)
-  start_labels_decide labels cost are = (
-    λ shows. subst (λ ls. IsAtMost (Ticks cost) (label_sum ls)) (start_labels_unique shows.0 labels shows.1 are) shows.2,
+  pub start_labels_decide : (labels : List Label) (total : ℕ) → AreStartLabels problem entries labels → StartsReach problem total entries ↔ IsAtMost (Ticks total) (label_sum labels)
+  start_labels_decide labels total are = (
+    λ shows. subst (λ ls. IsAtMost (Ticks total) (label_sum ls)) (start_labels_unique shows.0 labels shows.1 are) shows.2,
     λ enough. (labels, are, enough),
   )
 

@@ -63,5 +63,5 @@ pub record IsEarned (problem : Instance) (tree : ConstraintTree) : Type 0 where
 -- an earned tree with a leaf at which some due paths conflict and the fact holds of them
 pub record IsStoppedWhere (Fact : NodeContext → List (List ℕ) → Type 0) (problem : Instance) (tree : ConstraintTree) : Type 0 where
   pub earned : IsEarned problem tree
-  pub leaf : AtSomeLeaf (λ context. (paths : List (List ℕ)) × (total : ℕ)
+  pub leaf : AtSomeLeaf (λ context blocks. (paths : List (List ℕ)) × (total : ℕ)
       × AreDue problem tree context paths total × HaveSomeConflict paths × Fact context paths) root tree

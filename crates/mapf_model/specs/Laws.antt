@@ -5,7 +5,7 @@ use Rattle.mapf_model.specs.declared.problem.Agent.{Agent}
 use Rattle.mapf_model.specs.Blocks.{LabelBlock}
 use Rattle.mapf_model.specs.declared.constraint.Constraint.{Constraint}
 use Rattle.mapf_model.specs.declared.item.Claim.{Claim}
-use Rattle.mapf_model.specs.declared.item.Claim.TheVariants.{Cost, Impossible}
+use Rattle.mapf_model.specs.declared.item.Claim.TheVariants.{Impossible}
 use Rattle.mapf_model.specs.declared.conflict.Conflict.{Conflict}
 use Rattle.mapf_model.specs.declared.label.Entry.{Entry}
 use Rattle.mapf_model.specs.declared.label.Label.{Label}
@@ -16,7 +16,7 @@ use Rattle.mapf_model.specs.Printed.{IsBefore}
 use Rattle.mapf_model.specs.Bars.{Satisfies}
 use Rattle.mapf_model.specs.Labels.{Entries, entries_of, AreSound, IsLabel, IsAtMost, label_sum}
 use Rattle.mapf_model.specs.Plan.{Instance, IsValid, IsSumOfCosts}
-use Rattle.mapf_model.specs.Tree.{ConstraintTree, Leaf, NodeContext, IsProper, SplitShows, HasBlocksAtLeavesAlone, AtEachNode, AtSomeEnd, AllSatisfy, root, child_context, left_child_context, right_child_context, Node, SplitNode, LeafNode, ClashNode, nodes_of, AreStartLabels, StartsShow, ShareGoal, ShowsFrom, NodesShow, Shows, Holds}
+use Rattle.mapf_model.specs.Tree.{ConstraintTree, Leaf, NodeContext, IsProper, SplitShows, HasBlocksAtLeavesAlone, AtEachNode, AtSomeEnd, AllSatisfy, root, child_context, left_child_context, right_child_context, Node, SplitNode, LeafNode, ClashNode, nodes_of, AreStartLabels, StartsReach, StartsShow, ShareGoal, ShowsFrom, NodesShow, Shows, Holds}
 
 -- under sound labels each lawful path that obeys the bars costs at least the label of the start
 abbrev pub LabelBound : Type 0
@@ -71,9 +71,10 @@ TreeIsUnique = (s t : ConstraintTree) → nodes_of s ≡ nodes_of t → s ≡ t
 abbrev pub LabelIsUnique : Type 0
 LabelIsUnique = (grid : GridMap) (goal : ℕ) (entries : Entries) (cell tick : ℕ) (a b : Label) → IsLabel grid goal entries cell tick a → IsLabel grid goal entries cell tick b → a ≡ b
 
--- so the labels of the starts, once they are known, decide whether they show a cost
+-- so the labels of the starts, once they are known, decide whether they add up to at least a number, which is how a
+-- cost or a bound is shown
 abbrev pub StartLabelsDecide : Type 0
-StartLabelsDecide = (problem : Instance) (entries : ℕ → Entries) (labels : List Label) (cost : ℕ) → AreStartLabels problem entries labels → StartsShow problem (Cost cost) entries ↔ IsAtMost (Ticks cost) (label_sum labels)
+StartLabelsDecide = (problem : Instance) (entries : ℕ → Entries) (labels : List Label) (total : ℕ) → AreStartLabels problem entries labels → StartsReach problem total entries ↔ IsAtMost (Ticks total) (label_sum labels)
 
 -- and whether they show that no plan is valid
 abbrev pub StartLabelsDecideImpossible : Type 0

@@ -1,7 +1,7 @@
 -- The ranges and orders of the values that plan texts and certificates spell. (Own)
 use Rattle.std.specs.Prelude.{◌≡◌, ◌⊎◌, ℕ, ◌*◌, ◌^◌, ◌<◌, ◌≤◌, ⊤, List, length, All, AllPairs}
 use Rattle.mapf_model.specs.declared.item.Claim.{Claim}
-use Rattle.mapf_model.specs.declared.item.Claim.TheVariants.{Cost, Impossible}
+use Rattle.mapf_model.specs.declared.item.Claim.TheVariants.{Cost, Bound, Impossible}
 use Rattle.mapf_model.specs.declared.conflict.Conflict.{Conflict}
 use Rattle.mapf_model.specs.declared.conflict.Conflict.TheVariants.{Vertex, Swap}
 use Rattle.mapf_model.specs.declared.label.Entry.{Entry}
@@ -54,9 +54,10 @@ IsTreeInRange grid agents (Split conflict blocks left right) = IsConflictInRange
 IsTreeInRange grid agents (Leaf blocks) = AreBlocksInRange grid agents blocks
 IsTreeInRange grid agents (Clash i j) = (i < agents) × (j < agents)
 
--- costs up to 1,999,999,800
+-- costs and bounds up to 1,999,999,800
 abbrev pub IsClaimInRange : Claim → Type 0
 IsClaimInRange (Cost cost) = cost ≤ greatest_sum
+IsClaimInRange (Bound bound) = bound ≤ greatest_sum
 IsClaimInRange Impossible = ⊤
 
 -- 1 to 10,000,000 cells, and no waiting at the end

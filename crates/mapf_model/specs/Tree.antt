@@ -11,7 +11,7 @@ use Rattle.mapf_model.specs.declared.conflict.Conflict.{Conflict}
 use Rattle.mapf_model.specs.declared.conflict.Conflict.TheVariants.{Vertex, Swap}
 use Rattle.mapf_model.specs.declared.constraint.Constraint.{Constraint}
 use Rattle.mapf_model.specs.declared.item.Claim.{Claim}
-use Rattle.mapf_model.specs.declared.item.Claim.TheVariants.{Cost, Impossible}
+use Rattle.mapf_model.specs.declared.item.Claim.TheVariants.{Cost, Bound, Impossible}
 use Rattle.mapf_model.specs.declared.item.Item.{Item}
 use Rattle.mapf_model.specs.declared.item.Item.TheVariants.{Vertex as VertexItem, Swap as SwapItem, Leaf as LeafItem, Clash as ClashItem}
 use Rattle.mapf_model.specs.Grid.{IsFree, AreAdjacent}
@@ -141,10 +141,10 @@ AtSomeEnd P context (Split conflict blocks left right) = AtSomeEnd P (left_child
 AtSomeEnd P context (Leaf blocks) = P context
 AtSomeEnd P context (Clash i j) = P context
 
--- a fact holds of the context of some leaf
-abbrev pub AtSomeLeaf : (NodeContext → Type 0) → NodeContext → ConstraintTree → Type 0
+-- a fact holds of the context and the blocks of some leaf
+abbrev pub AtSomeLeaf : (NodeContext → List LabelBlock → Type 0) → NodeContext → ConstraintTree → Type 0
 AtSomeLeaf P context (Split conflict blocks left right) = AtSomeLeaf P (left_child_context context conflict blocks) left ⊎ AtSomeLeaf P (right_child_context context conflict blocks) right
-AtSomeLeaf P context (Leaf blocks) = P context
+AtSomeLeaf P context (Leaf blocks) = P context blocks
 AtSomeLeaf P context (Clash i j) = ⊥
 
 -- no split has a block: a tree of version 1 of the certificate
@@ -199,9 +199,18 @@ pub record AreStartLabels (problem : Instance) (entries : ℕ → Entries) (labe
   pub count : length labels ≡ length problem.agents
   pub each : (i : ℕ) (agent : Agent) (label : Label) → slice_get problem.agents i ≡ Some agent → slice_get labels i ≡ Some label → IsLabel problem.grid agent.goal (entries i) agent.start 0 label
 
+-- the labels of the starts add up to at least this
+abbrev pub StartsReach : Instance → ℕ → (ℕ → Entries) → Type 0
+StartsReach problem total entries = (labels : List Label) × AreStartLabels problem entries labels × IsAtMost (Ticks total) (label_sum labels)
+
+-- the labels of the starts add up to exactly this
+abbrev pub StartsAddUpTo : Instance → ℕ → (ℕ → Entries) → Type 0
+StartsAddUpTo problem total entries = (labels : List Label) × AreStartLabels problem entries labels × (label_sum labels ≡ Ticks total)
+
 -- the labels of the starts show the claim
 abbrev pub StartsShow : Instance → Claim → (ℕ → Entries) → Type 0
-StartsShow problem (Cost cost) entries = (labels : List Label) × AreStartLabels problem entries labels × IsAtMost (Ticks cost) (label_sum labels)
+StartsShow problem (Cost cost) entries = StartsReach problem cost entries
+StartsShow problem (Bound bound) entries = StartsReach problem bound entries
 StartsShow problem Impossible entries = (i : ℕ) × (agent : Agent) × (slice_get problem.agents i ≡ Some agent) × IsLabel problem.grid agent.goal (entries i) agent.start 0 Never
 
 -- two different agents have one goal
@@ -232,6 +241,7 @@ Shows problem claim tree = ShowsFrom problem claim root tree
 -- what a claim says of the problem
 abbrev pub Holds : Instance → Claim → Type 0
 Holds problem (Cost cost) = IsLowerBound problem cost
+Holds problem (Bound bound) = IsLowerBound problem bound
 Holds problem Impossible = IsImpossible problem
 
 -- each agent's path obeys its bars

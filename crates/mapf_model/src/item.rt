@@ -117,8 +117,10 @@ impl Item {
 /// What a certificate shows.
 #[derive(Clone, Copy, Debug, PartialEq, Eq)]
 pub enum Claim {
-    /// No valid plan has a smaller sum of costs, in ticks.
+    /// No valid plan has a smaller sum of costs than this, in ticks. It goes with a plan of this sum.
     Cost(u64),
+    /// No valid plan has a smaller sum of costs than this, in ticks. It goes with a limit.
+    Bound(u64),
     /// No plan is valid.
     Impossible,
 }

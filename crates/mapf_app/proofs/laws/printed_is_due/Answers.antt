@@ -11,7 +11,7 @@ use Rattle.mapf_app.proofs.laws.printed_is_due.Goals as goal
 accepted_as : (problem : Instance) (limit : ℕ) (kind : Kind) (verdict : Verdict) (plan cert : List ℕ) → Prints problem limit kind plan cert → IsVerdictOn kind verdict → AreAccepted problem plan cert verdict
 accepted_as problem limit (Found cost) verdict plan cert prints is = subst (AreAccepted problem plan cert) (sym is) prints.accepted
 accepted_as problem limit Impossible verdict plan cert prints is = subst (AreAccepted problem plan cert) (sym is) prints.accepted
-accepted_as problem limit (Limit cause) verdict plan cert prints is = absurd is
+accepted_as problem limit (Limit cause bound) verdict plan cert prints is = subst (AreAccepted problem plan cert) (sym is) prints.accepted
 
 pub returns : goal.returns
 returns c = λ map scen plan cert count limit kind verdict truly is. record {

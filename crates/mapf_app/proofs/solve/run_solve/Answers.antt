@@ -2,7 +2,7 @@ use Rattle.std.proofs.Common.{◌≡◌, true, false, ⊎_elim, subst}
 use Rattle.std.specs.Result.{is_err}
 use Rattle.mapf_app.specs.Headline.{PrintsTruly}
 use Rattle.mapf_app.specs.Solved.{Prints}
-use Rattle.mapf_app.proofs.SolveLemmas.{front_written, unasked, whole_written}
+use Rattle.mapf_app.proofs.SolveLemmas.{front_written, whole_written}
 use Rattle.mapf_app.proofs.solve.run_solve.Goals as goal
 
 pub returns-then-is_err-clause-plan_front : goal.returns-then-is_err-clause-plan_front
@@ -22,12 +22,3 @@ returns-then-is_err-2-clause-cert_front g c = λ is.
     let whole = whole_written (g.P.Sink.contents c.args.plan_sink.now) (g.P.Sink.contents c.write_all.new.sink) c.as_slice.result.now texts.plan.items c.write_all.result c.as_slice.ensures.value went c.write_all.ensures.ok in
     let front = front_written (g.C.Sink.contents c.args.cert_sink.now) (g.C.Sink.contents c.write_all-2.new.sink) c.as_slice-2.result.now texts.cert.items c.write_all-2.result c.as_slice-2.ensures.value failed c.write_all-2.ensures.prefix in
     (texts.kind, texts.plan.items, texts.cert.items, front.0, truly, whole, front.1)
-
-pub returns-in-Limit-clause-due : goal.returns-in-Limit-clause-due
-returns-in-Limit-clause-due g c = λ problem map_told scen_told read.
-    let texts = c.in-Ok.texts in
-    let same : c.in_ok-problem.problem ≡ problem = ⊎_elim (λ e. cc) (λ no. absurd no) (c.in_ok-problem.ensures.only problem map_told scen_told read) in
-    let went : is_err c.write_all.result ≡ false = cc in
-    let whole = whole_written (g.P.Sink.contents c.args.plan_sink.now) (g.P.Sink.contents c.write_all.new.sink) c.as_slice.result.now texts.plan.items c.write_all.result c.as_slice.ensures.value went c.write_all.ensures.ok in
-    let prints = subst (λ p. Prints p c.args.limit texts.kind texts.plan.items texts.cert.items) same c.in-Ok.ensures in
-    (texts.plan.items, texts.cert.items, prints, whole, unasked problem c.args.limit texts.kind c.in-Limit.field-0 c.in-Limit.is texts.plan.items texts.cert.items prints (g.C.Sink.contents c.args.cert_sink.now))

@@ -87,7 +87,7 @@ returns-in-Some-cause_to_stop c =
     let found = tree_of c.deref-in-Some-cause_to_stop.result.now t.fates.items p.popped.state.views c.in_ok-items-3.items.items c.deref-in-Some-cause_to_stop.ensures.value (c.in_ok-items-3.ensures p.popped.state.views (c.in_ok-lists-3.ensures p.popped.state.views p.whole)) in
     let conflict = c.in-Some-first_conflict.conflict in
     let meet = subst (λ ps. HasConflict ps conflict × AreConflictFreeBefore ps (tick_of conflict)) plan (c.in-Some-first_conflict.ensures.some, c.in-Some-first_conflict.ensures.first) in
-    answer_limit problem c.requires.root.shape (root_names problem c.args.tables.now c.args.paths.items c.requires.root) p.changes t.fates.items p.rest t.splits least.node.total c.in-Some.k p.popped c.args.limit c.loop-k.invariant.within c.in_ok-items-3.items.items found h.view h.is h.is_open h.live c.requires.root.goals conflict meet.0 meet.1 c.in-Some-cause_to_stop.cause c.in-Some-cause_to_stop.ensures.some c.in_ok-items-3.items refl
+    answer_limit problem c.requires.root.shape (root_names problem c.args.tables.now c.args.paths.items c.requires.root) p.changes t.fates.items p.rest t.splits least.node.total c.in-Some.k p.popped c.args.limit c.loop-k.invariant.within c.in_ok-items-3.items.items found h.view h.is h.is_open h.live c.requires.root.agents.0 c.requires.root.agents.1 (subst (λ ps. All (λ path. length path ≤ 10000000) ps) plan c.in_ok-plan.ensures.short) c.index.result.now.total whole.total c.requires.root.goals conflict meet.0 meet.1 c.in-Some-cause_to_stop.cause c.in-Some-cause_to_stop.ensures.some c.in_ok-items-3.items refl
 
 pub split_whole-requires-clause-popped : goal.split_whole-requires-clause-popped
 split_whole-requires-clause-popped c =

@@ -73,7 +73,7 @@ returns-in-Some-cause_to_stop g c =
     let found = tree_of c.deref-in-Some-cause_to_stop.result.now c.loop-total.search.fates.items p.state.views c.in_ok-tree-3.tree.items c.deref-in-Some-cause_to_stop.ensures.value (c.in_ok-tree-3.ensures p.state.views (c.in_ok-lists-3.ensures p.state.views p.state.are)) in
     let found_first = c.in-Some-first_conflict.ensures in
     let meet = subst (λ ps. HasConflict ps c.in-Some-first_conflict.conflict × AreConflictFreeBefore ps (tick_of c.in-Some-first_conflict.conflict)) plan (found_first.some, found_first.first) in
-    answer_limit c.args.problem.now c.requires.root.shape (root_names c.args.problem.now c.args.tables.now c.args.paths.items c.requires.root) c.loop-total.search.nodes.items c.loop-total.search.fates.items c.take_least.new.waiting.keys c.loop-total.search.splits c.in-Some.total c.in-Some.k p c.args.limit c.loop-total.invariant.within c.in_ok-tree-3.tree.items found h.view h.is h.is_open h.live c.requires.root.goals c.in-Some-first_conflict.conflict meet.0 meet.1 c.in-Some-cause_to_stop.cause c.in-Some-cause_to_stop.ensures.some c.in_ok-tree-3.tree refl
+    answer_limit c.args.problem.now c.requires.root.shape (root_names c.args.problem.now c.args.tables.now c.args.paths.items c.requires.root) c.loop-total.search.nodes.items c.loop-total.search.fates.items c.take_least.new.waiting.keys c.loop-total.search.splits c.in-Some.total c.in-Some.k p c.args.limit c.loop-total.invariant.within c.in_ok-tree-3.tree.items found h.view h.is h.is_open h.live c.requires.root.agents.0 c.requires.root.agents.1 (subst (λ ps. All (λ path. length path ≤ 10000000) ps) plan c.in_ok-plan.ensures.short) c.in-Some.total h.total_is c.requires.root.goals c.in-Some-first_conflict.conflict meet.0 meet.1 c.in-Some-cause_to_stop.cause c.in-Some-cause_to_stop.ensures.some c.in_ok-tree-3.tree refl
 
 pub split-requires-clause-popped : goal.split-requires-clause-popped
 split-requires-clause-popped g c =

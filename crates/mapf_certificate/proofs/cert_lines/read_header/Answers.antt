@@ -11,12 +11,12 @@ returns-in_err-version-clause-fails g c = λ width.
 pub returns-in_err-agents-clause-fails : goal.returns-in_err-agents-clause-fails
 returns-in_err-agents-clause-fails g c = λ width.
     err_passed _ _ _ (err_from_is_err_and _ c.from_residual-in_err-agents.ensures.1)
-    (fails_in_agents width _ _ _ _ _ _ _ _ c.in_ok-version.ensures.line c.in_ok-version.ensures.taken c.in_err-agents.ensures.fails)
+    (fails_in_agents width _ _ _ _ _ _ _ _ _ c.in-Title.is c.in_ok-version.ensures.taken c.in_err-agents.ensures.fails)
 
 pub returns-in_err-claim-clause-fails : goal.returns-in_err-claim-clause-fails
 returns-in_err-claim-clause-fails g c = λ width.
     err_passed _ _ _ (err_from_is_err_and _ c.from_residual-in_err-claim.ensures.1)
-    (fails_in_claim width _ _ _ _ _ _ _ _ _ _ _ c.in_ok-version.ensures.line c.in_ok-agents.ensures.line c.in_ok-version.ensures.taken c.in_ok-agents.ensures.taken c.in_err-claim.ensures.fails)
+    (fails_in_claim width _ _ _ _ _ _ _ _ _ _ _ _ c.in-Title.is c.in_ok-agents.ensures.line c.in_ok-version.ensures.taken c.in_ok-agents.ensures.taken c.in_err-claim.ensures.fails)
 
 pub returns-clause-taken : goal.returns-clause-taken
 returns-clause-taken g c = λ width.

@@ -32,7 +32,7 @@ pub returns-clause-truth : goal.returns-clause-truth
 returns-clause-truth g c =
     let good = c.in_ok-verdict.ensures.good in
     let shown = rw c.claimed_by.ensures at c.in_ok-judge_cert.ensures.shown in
-    record { says = good.says; spelled = good.spelled; is_true = c.accepted_is_true.ensures c.args.problem.now good.says c.in_ok-verdict.verdict good.good shown }
+    record { version = good.version; says = good.says; spelled = good.spelled; is_true = c.accepted_is_true.ensures c.args.problem.now good.says c.in_ok-verdict.verdict good.good shown }
 
 pub returns-clause-accepted : goal.returns-clause-accepted
 returns-clause-accepted g c bytes known = record {

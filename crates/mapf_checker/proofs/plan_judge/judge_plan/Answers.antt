@@ -6,13 +6,13 @@ use Rattle.mapf_checker.specs.Faults.{of_plan, IsOfJudging}
 use Rattle.mapf_checker.specs.Refusals.{HasPlanRefusal}
 use Rattle.mapf_checker.specs.Verdict.{IsGoodFor}
 use Rattle.mapf_checker.proofs.ReadLemmas.{err_matched, err_passed}
-use Rattle.mapf_checker.proofs.PlanLemmas.{good_text, text_good, spells_none, refused_text, valid_if_good, optimal_if_good, impossible_if_good}
+use Rattle.mapf_checker.proofs.PlanLemmas.{good_text, text_good, spells_none, refused_text, valid_if_good, optimal_if_good, impossible_if_good, bound_if_good}
 use Rattle.mapf_checker.proofs.plan_judge.judge_plan.Goals as goal
 
 pub returns-in_err-agents-clause-only : goal.returns-in_err-agents-clause-only
 returns-in_err-agents-clause-only c verdict good =
     let fault = c.in_err-agents.field-0.0 in
-    let memory = spells_none c.args.problem.now c.args.plan_text.now fault (rw c.grid.ensures at c.in_err-agents.ensures.only) (length c.args.problem.now.agents) good.says good.spelled in
+    let memory = spells_none c.args.problem.now c.args.plan_text.now fault (rw c.grid.ensures at c.in_err-agents.ensures.only) good.version (length c.args.problem.now.agents) good.says good.spelled in
     err_matched c.from_residual.result (λ given. given ≡ verdict) (λ f. f ≡ from.Memory) (of_plan fault) c.from_residual.ensures.1 (ap of_plan memory)
 
 pub returns-in_err-agents-clause-refused : goal.returns-in_err-agents-clause-refused
@@ -53,6 +53,12 @@ returns-in-Impossible-clause-only c verdict good =
     let problem = c.args.problem.now in
     let fits = (good_text problem c.args.plan_text.now c.in_ok-agents.field-0 (rw c.grid.ensures at c.in_ok-agents.ensures.only) verdict good).1 in
     impossible_if_good problem verdict (subst (λ s. IsGoodFor problem s verdict) c.in-Impossible.is fits)
+
+pub returns-in-Bounded-clause-only : goal.returns-in-Bounded-clause-only
+returns-in-Bounded-clause-only c verdict good =
+    let problem = c.args.problem.now in
+    let fits = (good_text problem c.args.plan_text.now c.in_ok-agents.field-0 (rw c.grid.ensures at c.in_ok-agents.ensures.only) verdict good).1 in
+    bound_if_good problem _ c.in-Bounded.bound verdict (subst (λ s. IsGoodFor problem s verdict) c.in-Bounded.is fits)
 
 pub returns-clause-only : goal.returns-clause-only
 returns-clause-only c verdict good =

@@ -23,7 +23,8 @@ returns-in-Ok-clause-header g c =
     let P : Reading → Type 0 = λ r. r.fault ≡ None → r.header ≡ None → TakesHeader had left r new h.agents h.claim in
     subst P c.self.view_is (λ p q. record {
       agents_in_range = h.ensures.agents;
-      claim_in_range = h.ensures.claim;
+      claim_in_range = h.ensures.claim.0;
+      claim_of_version = h.ensures.claim.1;
       window = h.ensures.taken i.width;
       joins = header_joins _ _ _ _ _ _ h.ensures.agents h.ensures.claim (h.ensures.taken i.width) refl refl refl;
     })
