@@ -37,10 +37,10 @@ const SOLVE_OUTPUT: &str =
 They are made or emptied before MAP and SCEN are read.
 
 Standard output has one line:
-  cost C       the sum of the agents' costs, in ticks
-  impossible   no plan is valid
-  limit N      no answer after N splits; CERT is then empty
-  limit ticks  no answer, for the agents meet too late; CERT is then empty
+  cost C               the sum of the agents' costs, in ticks
+  impossible           no plan is valid
+  limit N bound B      no answer after N splits; no valid plan costs less than B
+  limit ticks bound B  no answer, for the agents meet too late; the same of B
 
 Exit status:
   0  solved
@@ -49,10 +49,11 @@ Exit status:
   4  a limit was met";
 
 const CHECK_ABOUT: &str =
-    "Judges whether CERT shows that the plan of PLAN is cheapest, or that none is possible";
+    "Judges whether CERT shows what PLAN says: that its plan is cheapest, or none possible, or a bound";
 
 const CHECK_OUTPUT: &str = "Standard output has one line:
   optimal C    the plan is valid, costs C, and no valid plan costs less
+  bound B      PLAN says that a limit was met, and no valid plan costs less than B
   impossible   no plan is valid
   refused ..   the texts don't show it, with the reason
 
