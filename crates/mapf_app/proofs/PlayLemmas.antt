@@ -1,5 +1,5 @@
 -- From the plan text that is read to what is played.
-use Rattle.std.proofs.Common.{◌≡◌, ℕ, List, Option, Result, Ok, Err, IfErr, IfSome, refl, sym, ◌∙◌, ap, subst, inl, inr}
+use Rattle.std.proofs.Common.{◌≡◌, ℕ, List, Option, Result, Ok, Err, IfErr, IfSome, refl, sym, ap, subst}
 use Rattle.std.specs.Option.{IsSome}
 use Rattle.mapf_app.proofs.InputLemmas.{text_is, told}
 use Rattle.mapf_app.specs.Faults.{IsPlaying, IsReadingPlan, fault_of_plan_text}

@@ -1,4 +1,4 @@
-use Rattle.std.proofs.Common.{◌≡◌, Err, MatchResult, ⊎_elim, ◌∙◌, ap, sym, subst}
+use Rattle.std.proofs.Common.{◌≡◌, Err, ⊎_elim, ◌∙◌, ap, subst}
 use Rattle.std.proofs.lemmas.Result.{err_from_is_err_and}
 use Rattle.mapf_app.specs.Faults.{IsPlaying}
 use Rattle.mapf_app.specs.Played.{ShowsPlan}
