@@ -4,7 +4,7 @@ use Rattle.std.specs.Option.{IsSome}
 use Rattle.mapf_app.specs.Checked.{IsRefusalOf, HasGoodPlan}
 use Rattle.mapf_app.specs.Headline.{JudgesTruly, IsDueVerdict}
 use Rattle.mapf_app.specs.Problems.{IsPosed, SpellsProblem}
-use Rattle.mapf_app.proofs.InputLemmas.{told}
+use Rattle.mapf_app.proofs.InputLemmas.{text_is, told}
 use Rattle.mapf_certificate.specs.Plans.{SpellsPlan}
 use Rattle.mapf_checker.specs.Refusals.{HasRefusal}
 use Rattle.mapf_checker.specs.Verdict.{IsTrueText, IsGoodPlan, AreAccepted}
@@ -19,15 +19,6 @@ use Rattle.mapf_model.specs.Plan.{Instance}
 pub for_told : {X : Type 0} (P : X → Type 0) (known : Option X) → ((x : X) → known ≡ Some x → P x) → IfSome known P
 for_told P None each = tt
 for_told P (Some x) each = each x refl
-
--- what is so of the bytes that were told is so of the text
-text_is : (known : Option (List ℕ)) (text bytes : List ℕ) → IfSome known (λ b. text ≡ b) → known ≡ Some bytes → text ≡ bytes
-text_is None text bytes same is = absurd cc
-text_is (Some b) text bytes same is = cc
-
--- a slice of the text that was read is what the source told
-pub read_as : (known : Option (List ℕ)) {text slice : List ℕ} → slice ≡ text → IfSome known (λ bytes. text ≡ bytes) → IfSome known (λ bytes. slice ≡ bytes)
-read_as known is same = subst (λ t. IfSome known (λ bytes. t ≡ bytes)) (sym is) same
 
 -- a refusal is one
 pub is_refusal : (fault : FromFault) (refusal : CheckFault) → fault ≡ Refused refusal → IsNoRefusal fault → ⊥

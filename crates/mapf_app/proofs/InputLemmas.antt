@@ -1,5 +1,5 @@
 -- What is known of bytes that a source tells.
-use Rattle.std.proofs.Common.{◌≡◌, ◌≢◌, ◌⊎◌, inl, inr, List, ℕ, None, Some, Option, Result, Ok, Err, IfSome, subst}
+use Rattle.std.proofs.Common.{◌≡◌, ◌≢◌, ◌⊎◌, inl, inr, List, ℕ, None, Some, Option, Result, Ok, Err, IfSome, sym, subst}
 use Rattle.mapf_app.specs.Faults.{IsReadingMap, IsReadingAgents, fault_of_map, fault_of_scenario}
 use Rattle.mapf_app.specs.Problems.{IsMapDefect, IsAgentsDefect}
 use Rattle.mapf_model.specs.Grid.{GridMap}
@@ -16,6 +16,15 @@ use Rattle.mapf_text.specs.declared.scenario_fault.ScenFault.TheVariants as scen
 pub told : (P : List ℕ → Type 0) (known : Option (List ℕ)) (text : List ℕ) → IfSome known (λ bytes. text ≡ bytes) → P text → IfSome known P
 told P None text same is = tt
 told P (Some bytes) text same is = subst P same is
+
+-- the text that was read is the bytes that the source told
+pub text_is : (known : Option (List ℕ)) (text bytes : List ℕ) → IfSome known (λ b. text ≡ b) → known ≡ Some bytes → text ≡ bytes
+text_is None text bytes same is = absurd cc
+text_is (Some b) text bytes same is = cc
+
+-- a slice of the text that was read is what the source told
+pub read_as : (known : Option (List ℕ)) {text slice : List ℕ} → slice ≡ text → IfSome known (λ bytes. text ≡ bytes) → IfSome known (λ bytes. slice ≡ bytes)
+read_as known is same = subst (λ t. IfSome known (λ bytes. t ≡ bytes)) (sym is) same
 
 -- bytes that are faulted spell nothing
 no_other : {A E : Type 0} (fault memory : E) (x : A) → fault ≢ memory → ◌≡◌ {A = Result A E} (Err fault) (Ok x) ⊎ ◌≡◌ {A = Result A E} (Err fault) (Err memory) → ⊥

@@ -1,8 +1,9 @@
 -- From the plan text that is read to what is played.
-use Rattle.std.proofs.Common.{◌≡◌, ℕ, List, Option, Result, Ok, Err, IfErr, IfSome, refl, sym, ◌∙◌, ap, subst, inl, inr}
-use Rattle.mapf_app.proofs.InputLemmas.{told}
+use Rattle.std.proofs.Common.{◌≡◌, ℕ, List, Option, Result, Ok, Err, IfErr, IfSome, refl, sym, ap, subst}
+use Rattle.std.specs.Option.{IsSome}
+use Rattle.mapf_app.proofs.InputLemmas.{text_is, told}
 use Rattle.mapf_app.specs.Faults.{IsPlaying, IsReadingPlan, fault_of_plan_text}
-use Rattle.mapf_app.specs.Played.{HasPlayFault, IsNoPlan}
+use Rattle.mapf_app.specs.Played.{HasPlayFault, IsDuePlay, IsNoPlan, SpellsValidPlan}
 use Rattle.mapf_app.specs.Problems.{SpellsProblem}
 use Rattle.mapf_app.specs.declared.fault.Fault.{Fault}
 use Rattle.mapf_app.specs.declared.fault.Fault.TheVariants.{F1, F2, F3, F4, F5, F6, Refused}
@@ -61,6 +62,14 @@ play_fault_told map scen plan count problem read text same (F4 input) says = abs
 play_fault_told map scen plan count problem read text same (F5 output) says = absurd says
 play_fault_told map scen plan count problem read text same F6 says = tt
 play_fault_told map scen plan count problem read text same (Refused refusal) says = absurd says
+
+-- a valid plan that has to be played is spelled for the problem that was read, by the text that was read
+pub due_here : (map scen plan : Option (List ℕ)) (count : ℕ) (problem : Instance) (text : List ℕ) → IfSome plan (λ bytes. text ≡ bytes) → ((other : Instance) → IsSome map → IsSome scen → SpellsProblem map scen count other → problem ≡ other) →
+    (other : Instance) (paths : List (List ℕ)) → IsDuePlay map scen plan count other paths → (problem ≡ other) × SpellsValidPlan problem text paths
+due_here map scen plan count problem text same only other paths due =
+    let one = only other due.map_told due.scen_told due.read in
+    let written = text_is plan text due.plan_text same due.plan_told in
+    (one, subst (λ here. SpellsValidPlan here text paths) (sym one) (subst (λ bytes. SpellsValidPlan other bytes paths) (sym written) due.spelled))
 
 -- what is so of the fault that a `?` hands on is so of the result
 pub handed_on : {T E : Type 0} (r : Result T E) (Says : E → Type 0) (fault : E) → (given : E) × (r ≡ Err given) × (given ≡ fault) → Says fault → IfErr r Says

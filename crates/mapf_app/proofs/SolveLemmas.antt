@@ -1,5 +1,6 @@
 -- What a call that wrote says of its bytes.
-use Rattle.std.proofs.Common.{◌≡◌, ℕ, ◌≤◌, true, false, List, length, take, Option, Result, Ok, Err, OnErr, OnOk, sym, subst}
+use Rattle.std.proofs.Common.{◌≡◌, ℕ, ◌≤◌, true, false, List, ◌++◌, length, take, Option, Result, Ok, Err, OnErr, OnOk, subst}
+use Rattle.std.proofs.KnownBytes.{Appends-trans}
 use Rattle.std.specs.Io.KnownBytes.{Appends}
 use Rattle.std.specs.Result.{is_err}
 
@@ -13,3 +14,8 @@ front_written old new bytes text (Err e) same failed says = (says.0, subst (λ w
 pub whole_written : {T E : Type 0} (old new : Option (List ℕ)) (bytes text : List ℕ) (r : Result T E) → bytes ≡ text → is_err r ≡ false → OnOk r (Appends old new bytes) → Appends old new text
 whole_written old new bytes text (Ok x) same went says = subst (Appends old new) same says
 whole_written old new bytes text (Err e) same went says = absurd cc
+
+-- bytes were written, and then what a call writes where it goes well
+pub then_written : {T E : Type 0} (r : Result T E) (old mid new : Option (List ℕ)) (front rest : List ℕ) → Appends old mid front → OnOk r (Appends mid new rest) → OnOk r (Appends old new (front ++ rest))
+then_written (Ok x) old mid new front rest before after = Appends-trans old mid new front rest before after
+then_written (Err e) old mid new front rest before after = tt

@@ -40,10 +40,7 @@ fn kind_line(kind: Kind) -> (Line, u8)
         Kind::Limit {
             cause: Cause::Splits(splits),
             bound,
-        } => (
-            Line::of("limit").with(splits as u64).bounded(bound),
-            LIMIT,
-        ),
+        } => (Line::of("limit").with(splits as u64).bounded(bound), LIMIT),
         Kind::Limit {
             cause: Cause::Ticks,
             bound,

@@ -206,7 +206,7 @@ module _ (problem : Instance) (shape : IsGridMap problem.grid) (names : (tree : 
           (listed : Vec Item Global) → listed.items ≡ items → IsSearchAnswer problem limit (LimitAnswer cause bound listed)
       answer_limit goals conflict meet apart Ticks late listed same =
           let a = answer_ticks goals conflict meet apart late in
-          (found.0, subst (λ its. IsTreeOf problem limit its found.0) (sym same) tree_is, (a.0, a.1), is_bound)
+          (found.0, subst (λ its. IsTreeOf problem limit its found.0) (sym same) tree_is, a, is_bound)
       answer_limit goals conflict meet apart (Splits n) (early, is_limit, all) listed same =
           let a = answer_splits conflict meet early in
           (found.0, subst (λ its. IsTreeOf problem limit its found.0) (sym same) tree_is, (a.0, is_limit, a.1 ∙ all), is_bound)

@@ -257,7 +257,7 @@ module _ (problem : Instance) (views : List View) (fates : List Fate) (count : �
     impossible_leaf none_open k view Dead is fate_is end = dead_shows_impossible problem view (searched.each k view Dead is fate_is)
     impossible_leaf none_open k view (Expanded c a) is fate_is end = absurd end
 
-    -- what starts show that add up to at least the cost, a cost or a bound, each node shows
+    -- a claim that starts show where they add up to at least this is shown at each node, if no open node has a smaller sum
     claim_node : (claim : Claim) (cost : ℕ) → ((entries : ℕ → Entries) → StartsReach problem cost entries → StartsShow problem claim entries) → ((m : ℕ) (other : View) → slice_get views m ≡ Some other → slice_get fates m ≡ Some Open → cost ≤ sum other.costs) →
         (k : ℕ) (view : View) (node : ConstraintTree) → slice_get views k ≡ Some view → IsTreeAt views fates k node → NodeShows problem claim view.context node
     claim_node claim cost shown least k view (Split c blocks left right) is (here, a, expanded, on_left, on_right) = split_shows k view c blocks a is expanded here

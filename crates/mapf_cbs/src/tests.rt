@@ -243,27 +243,45 @@ fn has_sums(
     alloc: Global,
     problem: &Problem,
     limit: u32,
-    expected: &str,
+    head: &str,
+    sums: &str,
 ) -> Result<(), Fail>
     requires { limit ≤ 100000 }
 {
+    let text = common_text(rt, alloc, problem, limit)?;
+    assert!(rt; text.starts_with(head));
     let answer = solve(alloc, problem, limit)?;
     let (Answer::Found { tree, .. } | Answer::Impossible { tree } | Answer::Limit { tree, .. }) =
         &answer;
-    assert_eq!(rt; leaf_sums(alloc, tree)?.as_str(), expected);
+    assert_eq!(rt; leaf_sums(alloc, tree)?.as_str(), sums);
     Ok(())
 }
 
-// Each node is an end before it is split, so that the sum of each is seen with some limit.
+// Each node is an end before it is split, so that the sum of each is seen with some limit. The bound is
+// the sum of the node that is taken next: the least of the ends'.
 #[test]
 fn finds_the_sum_of_each_node(rt: HostRuntime) -> Result<(), Fail> {
     let problem = problem_of(rt.alloc(), "... @.@", [(0, 2), (1, 1)].as_slice())?;
-    has_sums(&rt, rt.alloc(), &problem, 0, " 2")?;
-    has_sums(&rt, rt.alloc(), &problem, 1, " 3 4")?;
-    has_sums(&rt, rt.alloc(), &problem, 2, " 4 6 4")?;
-    has_sums(&rt, rt.alloc(), &problem, 3, " 4 6 5 4")?;
-    has_sums(&rt, rt.alloc(), &problem, 4, " 5 8 6 5 4")?;
-    has_sums(&rt, rt.alloc(), &problem, 5, " 5 8 6 5 5 4")
+    has_sums(&rt, rt.alloc(), &problem, 0, "limit 0 bound 2 /", " 2")?;
+    has_sums(&rt, rt.alloc(), &problem, 1, "limit 1 bound 3 /", " 3 4")?;
+    has_sums(&rt, rt.alloc(), &problem, 2, "limit 2 bound 4 /", " 4 6 4")?;
+    has_sums(
+        &rt,
+        rt.alloc(),
+        &problem,
+        3,
+        "limit 3 bound 4 /",
+        " 4 6 5 4",
+    )?;
+    has_sums(
+        &rt,
+        rt.alloc(),
+        &problem,
+        4,
+        "limit 4 bound 4 /",
+        " 5 8 6 5 4",
+    )?;
+    has_sums(&rt, rt.alloc(), &problem, 5, "found:", " 5 8 6 5 5 4")
 }
 
 #[test]
@@ -279,7 +297,14 @@ fn shows_that_no_plan_is_valid(rt: HostRuntime) -> Result<(), Fail> {
     let one_start = [(0, 1), (0, 2)].as_slice();
     let expected = "impossible / vertex 0 1 0 0 / leaf 0: 0@0=inf / leaf 1: 0@0=inf";
     solves(&rt, rt.alloc(), "...", one_start, 1, expected)?;
-    solves(&rt, rt.alloc(), "...", one_start, 0, "limit 0 bound 3 / leaf")?;
+    solves(
+        &rt,
+        rt.alloc(),
+        "...",
+        one_start,
+        0,
+        "limit 0 bound 3 / leaf",
+    )?;
     let one_goal = [(0, 1), (2, 1)].as_slice();
     solves(
         &rt,
@@ -316,7 +341,14 @@ fn takes_the_least_of_the_cheapest_paths(rt: HostRuntime) -> Result<(), Fail> {
     let past = [(0, 3), (2, 2)].as_slice();
     solves(&rt, rt.alloc(), ".. ..", past, 0, "found: 0 1 3: 2 / leaf")?;
     let against = [(0, 3), (1, 1)].as_slice();
-    solves(&rt, rt.alloc(), ".. ..", against, 0, "limit 0 bound 2 / leaf")?;
+    solves(
+        &rt,
+        rt.alloc(),
+        ".. ..",
+        against,
+        0,
+        "limit 0 bound 2 / leaf",
+    )?;
     let expected = "found: 0 2 3: 1 / vertex 0 1 1 1 / leaf / leaf 1: 1@0=2";
     solves(&rt, rt.alloc(), ".. ..", against, 1, expected)
 }
@@ -433,6 +465,8 @@ fn lanes(alloc: Global) -> Result<Grid, Fail> {
     Ok(Grid::of(2048, 20, free).ok_or("no grid")?)
 }
 
+// Of the nodes one has the sum 2 for the two agents that block each other, and 2^n each have the sums
+// 2n + 1 and 2n + 2: 4,093 have at most 22, so that the 5,001st has 23. Each lane adds 2,047.
 #[test]
 fn keeps_the_cost_of_a_split(rt: HostRuntime) -> Result<(), Fail> {
     let mut agents = Vec::new(rt.alloc());
@@ -451,6 +485,6 @@ fn keeps_the_cost_of_a_split(rt: HostRuntime) -> Result<(), Fail> {
     let problem = Problem::of(lanes(rt.alloc())?, agents).ok_or("no problem")?;
     let answer = solve(rt.alloc(), &problem, 5000)?;
     let text = answer_text(rt.alloc(), &answer)?;
-    assert!(rt; text.starts_with("limit 5000 bound "));
+    assert!(rt; text.starts_with("limit 5000 bound 36869 / "));
     Ok(())
 }

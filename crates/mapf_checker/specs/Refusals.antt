@@ -53,9 +53,10 @@ pub record HasBadNode (problem : Instance) (claim : Claim) (version : Version) (
   pub rest : List ℕ
   pub spelled : bytes ≡ flat_map (node_text version problem.grid.width) before ++ (node_text version problem.grid.width node ++ rest)
 
--- after the header for the problem and the claim
+-- after the header for the problem and the claim, which its version may make
 pub record HasBadNodeInCert (problem : Instance) (claim : Claim) (fault : CheckFault) (bytes : List ℕ) : Type 0 where
   pub version : Version
+  pub claim_of_version : IsClaimOfVersion version claim
   pub nodes : List ℕ
   pub spelled : bytes ≡ header_text version problem.grid.width (length problem.agents) claim ++ nodes
   pub bad : HasBadNode problem claim version fault nodes

@@ -22,15 +22,25 @@ pub fn crossing(alloc: Global) -> Result<Problem, Fail> {
 
 /// Two agents with one goal, on two cells side by side.
 pub fn shared_goal(alloc: Global) -> Result<Problem, Fail> {
+    side_by_side(alloc, [1, 1])
+}
+
+/// Two agents that are to change places, on two cells side by side.
+pub fn swapped(alloc: Global) -> Result<Problem, Fail> {
+    side_by_side(alloc, [1, 0])
+}
+
+// Two agents on two cells side by side, with these goals.
+fn side_by_side(alloc: Global, goals: [u32; 2]) -> Result<Problem, Fail> {
     let mut free = Vec::new(alloc);
     free.push(true)?;
     free.push(true)?;
     let grid = Grid::of(2, 1, free).ok_or("no grid")?;
     let mut agents = Vec::new(alloc);
-    for start in [0, 1] {
+    for (start, goal) in [(0, goals[0]), (1, goals[1])] {
         agents.push(Agent {
             start: Cell(start),
-            goal: Cell(1),
+            goal: Cell(goal),
         })?;
     }
     Ok(Problem::of(grid, agents).ok_or("no problem")?)
@@ -63,6 +73,13 @@ pub const CROSSING_CERT: &str =
 pub const CROSSING_CERT_TWO: &str =
     "mapf-cert 2\nagents 2\nclaim cost 5\nvertex 0 1 1,1 1 0\nleaf 1\nagent 0 1\nat 0,1 0 3\n\
      leaf 1\nagent 1 1\nat 1,0 0 3\nend\n";
+
+/// What a search for the agents that are to change places knows after three splits.
+pub const SWAPPED_CERT: &str =
+    "mapf-cert 2\nagents 2\nclaim bound 4\nswap 0 1 0,0 1,0 0 0\nvertex 0 1 0,0 1 1\nagent 0 1\n\
+     at 0,0 0 2\nleaf 1\nagent 0 1\nat 0,0 0 inf\nleaf 1\nagent 1 1\nat 1,0 0 2\n\
+     vertex 0 1 1,0 1 1\nagent 1 1\nat 1,0 0 2\nleaf 1\nagent 0 1\nat 0,0 0 2\nleaf 1\nagent 1 1\n\
+     at 1,0 0 inf\nend\n";
 
 /// The text with its lines from the first to the last of these replaced, counted from 1.
 pub fn with_lines(

@@ -1,6 +1,6 @@
 use crate::samples::{
-    CROSSING_CERT, CROSSING_CERT_TWO, CROSSING_PLAN, crossing, length_of_lines, shared_goal,
-    with_lines,
+    CROSSING_CERT, CROSSING_CERT_TWO, CROSSING_PLAN, SWAPPED_CERT, crossing, length_of_lines,
+    shared_goal, swapped, with_lines,
 };
 use crate::{CheckFault, FromFault, PlanFault, Verdict, check, check_from};
 use mapf_certificate::{CertFault, PlanTextFault};
@@ -89,10 +89,17 @@ fn fails_at_each_pull(rt: HostRuntime) -> Result<(), Fail> {
 
 // Which lines of the crossing's certificate are replaced by which text, the line with which the refusal
 // is known, and the refusal.
-const REFUSED: [(usize, usize, &str, usize, CheckFault); 12] = [
+const REFUSED: [(usize, usize, &str, usize, CheckFault); 13] = [
     (2, 2, "agents 3\n", 3, CheckFault::C3),
     (3, 3, "claim cost 4\n", 3, CheckFault::C4),
     (3, 3, "claim impossible\n", 3, CheckFault::C4),
+    (
+        1,
+        3,
+        "mapf-cert 2\nagents 2\nclaim bound 5\n",
+        3,
+        CheckFault::C4,
+    ),
     (
         4,
         4,
@@ -323,6 +330,37 @@ fn judges_version_two(rt: HostRuntime) -> Result<(), Fail> {
             check(alloc, &crossing, plan, cert.as_bytes()),
             answer,
             "{lines}"
+        );
+    }
+    Ok(())
+}
+
+// The version and the answer of a plan text for the agents that are to change places, the claim of the
+// certificate, and what is judged of both.
+const BOUNDS: [(u32, &str, &str, Result<Verdict, CheckFault>); 9] = [
+    (2, "limit 3 bound 4", "bound 4", Ok(Verdict::Bound(4))),
+    (2, "limit 3 bound 3", "bound 3", Ok(Verdict::Bound(3))),
+    (2, "limit 3 bound 5", "bound 5", Err(CheckFault::C8(11))),
+    (1, "limit 3", "bound 4", Err(CheckFault::C4)),
+    (2, "limit 3 bound 4", "bound 3", Err(CheckFault::C4)),
+    (2, "limit 3 bound 4", "bound 5", Err(CheckFault::C4)),
+    (2, "limit 3 bound 4", "cost 4", Err(CheckFault::C4)),
+    (2, "limit 3 bound 4", "impossible", Err(CheckFault::C4)),
+    (2, "impossible", "bound 4", Err(CheckFault::C4)),
+];
+
+#[test]
+fn judges_bounds(rt: HostRuntime) -> Result<(), Fail> {
+    let alloc = rt.alloc();
+    let swapped = swapped(alloc)?;
+    for (version, says, claims, answer) in BOUNDS {
+        let plan = format!(in alloc; "mapf-plan {version}\nagents 2\n{says}\nend\n")?;
+        let claim = format!(in alloc; "claim {claims}\n")?;
+        let cert = with_lines(alloc, SWAPPED_CERT, 3, 3, &claim)?;
+        assert_eq!(rt;
+            check(alloc, &swapped, plan.as_bytes(), cert.as_bytes()),
+            answer,
+            "{says}, {claims}"
         );
     }
     Ok(())

@@ -1,5 +1,6 @@
 use Rattle.std.proofs.Common.{◌≤◌, ⊎_elim, length}
-use Rattle.mapf_app.proofs.CheckLemmas.{read_as, for_told, judges, due_here, refusal_of, none_good, is_refusal, refusal_says}
+use Rattle.mapf_app.proofs.InputLemmas.{read_as}
+use Rattle.mapf_app.proofs.CheckLemmas.{for_told, judges, due_here, refusal_of, none_good, is_refusal, refusal_says}
 use Rattle.mapf_checker.specs.Refusals.{HasRefusal}
 use Rattle.mapf_model.specs.Limits.{most_cert_bytes}
 use Rattle.mapf_app.proofs.check.run_check.Goals as goal

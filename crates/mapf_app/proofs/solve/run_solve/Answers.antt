@@ -1,7 +1,6 @@
-use Rattle.std.proofs.Common.{◌≡◌, true, false, ⊎_elim, subst}
+use Rattle.std.proofs.Common.{◌≡◌, true, false}
 use Rattle.std.specs.Result.{is_err}
 use Rattle.mapf_app.specs.Headline.{PrintsTruly}
-use Rattle.mapf_app.specs.Solved.{Prints}
 use Rattle.mapf_app.proofs.SolveLemmas.{front_written, whole_written}
 use Rattle.mapf_app.proofs.solve.run_solve.Goals as goal
 

@@ -54,8 +54,8 @@ plan-requires c =
     let t = c.loop-k.tree in let problem = c.args.problem.now in
     let s = c.loop-k.invariant.state in
     let least : IsLeastOpen t.nodes.items t.fates.items (length t.fates.items) c.in-Some.k = least_at c.deref-in-loop-k.result.now t.nodes.items c.deref-in-loop-k-2.result.now t.fates.items (Some c.in-Some.k) c.deref-in-loop-k.ensures.value c.deref-in-loop-k-2.ensures.value c.in-Some.ensures in
-    let here = slice_get_read t.nodes.items (length t.nodes.items) c.in-Some.k c.index.result.now refl (slice_get_within t.nodes.items c.in-Some.k least.node least.is) c.index.ensures in
-    let size = s.agent_paths c.in-Some.k c.index.result.now here in
+    let here = slice_get_read t.nodes.items (length t.nodes.items) c.in-Some.k c.index-node.result.now refl (slice_get_within t.nodes.items c.in-Some.k least.node least.is) c.index-node.ensures in
+    let size = s.agent_paths c.in-Some.k c.index-node.result.now here in
     let some = c.requires.root.agents.0 in let few = c.requires.root.agents.1 in
     (omega (arith, size, some), omega (arith, size, few))
 
@@ -64,10 +64,10 @@ returns-in_default-first_conflict c =
     let t = c.loop-k.tree in let problem = c.args.problem.now in
     let s = c.loop-k.invariant.state in
     let least : IsLeastOpen t.nodes.items t.fates.items (length t.fates.items) c.in-Some.k = least_at c.deref-in-loop-k.result.now t.nodes.items c.deref-in-loop-k-2.result.now t.fates.items (Some c.in-Some.k) c.deref-in-loop-k.ensures.value c.deref-in-loop-k-2.ensures.value c.in-Some.ensures in
-    let here = slice_get_read t.nodes.items (length t.nodes.items) c.in-Some.k c.index.result.now refl (slice_get_within t.nodes.items c.in-Some.k least.node least.is) c.index.ensures in
+    let here = slice_get_read t.nodes.items (length t.nodes.items) c.in-Some.k c.index-node.result.now refl (slice_get_within t.nodes.items c.in-Some.k least.node least.is) c.index-node.ensures in
     let p = whole_popped problem t.nodes.items t.fates.items t.splits s c.in-Some.k least in
     let h = whole_hand problem t.nodes.items t.fates.items t.splits least.node.total c.in-Some.k p in
-    let whole = hand_whole problem t.nodes.items t.fates.items t.splits least.node.total c.in-Some.k p c.index.result.now here in
+    let whole = hand_whole problem t.nodes.items t.fates.items t.splits least.node.total c.in-Some.k p c.index-node.result.now here in
     let plan : c.in_ok-plan.plan ≡ h.view.paths = c.in_ok-plan.ensures.paths h.view whole in
     let found = tree_of c.deref-in_default-first_conflict.result.now t.fates.items p.popped.state.views c.in_ok-items-2.items.items c.deref-in_default-first_conflict.ensures.value (c.in_ok-items-2.ensures p.popped.state.views (c.in_ok-lists-2.ensures p.popped.state.views p.whole)) in
     subst (λ ps. (tree : ConstraintTree) × IsTreeOf problem c.args.limit c.in_ok-items-2.items.items tree × IsShownOptimal problem ps tree) (sym plan)
@@ -79,15 +79,15 @@ returns-in-Some-cause_to_stop c =
     let t = c.loop-k.tree in let problem = c.args.problem.now in
     let s = c.loop-k.invariant.state in
     let least : IsLeastOpen t.nodes.items t.fates.items (length t.fates.items) c.in-Some.k = least_at c.deref-in-loop-k.result.now t.nodes.items c.deref-in-loop-k-2.result.now t.fates.items (Some c.in-Some.k) c.deref-in-loop-k.ensures.value c.deref-in-loop-k-2.ensures.value c.in-Some.ensures in
-    let here = slice_get_read t.nodes.items (length t.nodes.items) c.in-Some.k c.index.result.now refl (slice_get_within t.nodes.items c.in-Some.k least.node least.is) c.index.ensures in
+    let here = slice_get_read t.nodes.items (length t.nodes.items) c.in-Some.k c.index-node.result.now refl (slice_get_within t.nodes.items c.in-Some.k least.node least.is) c.index-node.ensures in
     let p = whole_popped problem t.nodes.items t.fates.items t.splits s c.in-Some.k least in
     let h = whole_hand problem t.nodes.items t.fates.items t.splits least.node.total c.in-Some.k p in
-    let whole = hand_whole problem t.nodes.items t.fates.items t.splits least.node.total c.in-Some.k p c.index.result.now here in
+    let whole = hand_whole problem t.nodes.items t.fates.items t.splits least.node.total c.in-Some.k p c.index-node.result.now here in
     let plan : c.in_ok-plan.plan ≡ h.view.paths = c.in_ok-plan.ensures.paths h.view whole in
     let found = tree_of c.deref-in-Some-cause_to_stop.result.now t.fates.items p.popped.state.views c.in_ok-items-3.items.items c.deref-in-Some-cause_to_stop.ensures.value (c.in_ok-items-3.ensures p.popped.state.views (c.in_ok-lists-3.ensures p.popped.state.views p.whole)) in
     let conflict = c.in-Some-first_conflict.conflict in
     let meet = subst (λ ps. HasConflict ps conflict × AreConflictFreeBefore ps (tick_of conflict)) plan (c.in-Some-first_conflict.ensures.some, c.in-Some-first_conflict.ensures.first) in
-    answer_limit problem c.requires.root.shape (root_names problem c.args.tables.now c.args.paths.items c.requires.root) p.changes t.fates.items p.rest t.splits least.node.total c.in-Some.k p.popped c.args.limit c.loop-k.invariant.within c.in_ok-items-3.items.items found h.view h.is h.is_open h.live c.requires.root.agents.0 c.requires.root.agents.1 (subst (λ ps. All (λ path. length path ≤ 10000000) ps) plan c.in_ok-plan.ensures.short) c.index.result.now.total whole.total c.requires.root.goals conflict meet.0 meet.1 c.in-Some-cause_to_stop.cause c.in-Some-cause_to_stop.ensures.some c.in_ok-items-3.items refl
+    answer_limit problem c.requires.root.shape (root_names problem c.args.tables.now c.args.paths.items c.requires.root) p.changes t.fates.items p.rest t.splits least.node.total c.in-Some.k p.popped c.args.limit c.loop-k.invariant.within c.in_ok-items-3.items.items found h.view h.is h.is_open h.live c.requires.root.agents.0 c.requires.root.agents.1 (subst (λ ps. All (λ path. length path ≤ 10000000) ps) plan c.in_ok-plan.ensures.short) c.index-node.result.now.total whole.total c.requires.root.goals conflict meet.0 meet.1 c.in-Some-cause_to_stop.cause c.in-Some-cause_to_stop.ensures.some c.in_ok-items-3.items refl
 
 pub split_whole-requires-clause-popped : goal.split_whole-requires-clause-popped
 split_whole-requires-clause-popped c =
@@ -101,8 +101,8 @@ split_whole-requires-clause-meet c node view node_is whole =
     let t = c.loop-k.tree in let problem = c.args.problem.now in
     let s = c.loop-k.invariant.state in
     let least : IsLeastOpen t.nodes.items t.fates.items (length t.fates.items) c.in-Some.k = least_at c.deref-in-loop-k.result.now t.nodes.items c.deref-in-loop-k-2.result.now t.fates.items (Some c.in-Some.k) c.deref-in-loop-k.ensures.value c.deref-in-loop-k-2.ensures.value c.in-Some.ensures in
-    let here = slice_get_read t.nodes.items (length t.nodes.items) c.in-Some.k c.index.result.now refl (slice_get_within t.nodes.items c.in-Some.k least.node least.is) c.index.ensures in
-    let same : node ≡ c.index.result.now = same_Some node c.index.result.now (sym node_is ∙ here) in
+    let here = slice_get_read t.nodes.items (length t.nodes.items) c.in-Some.k c.index-node.result.now refl (slice_get_within t.nodes.items c.in-Some.k least.node least.is) c.index-node.ensures in
+    let same : node ≡ c.index-node.result.now = same_Some node c.index-node.result.now (sym node_is ∙ here) in
     let plan : c.in_ok-plan.plan ≡ view.paths = c.in_ok-plan.ensures.paths view (subst (λ (n : WholeNode). IsWhole n view) same whole) in
     let conflict = c.in-Some-first_conflict.conflict in
     let first = c.in-Some-first_conflict.ensures in

@@ -58,7 +58,7 @@ pub returns-in-Bounded-clause-only : goal.returns-in-Bounded-clause-only
 returns-in-Bounded-clause-only c verdict good =
     let problem = c.args.problem.now in
     let fits = (good_text problem c.args.plan_text.now c.in_ok-agents.field-0 (rw c.grid.ensures at c.in_ok-agents.ensures.only) verdict good).1 in
-    bound_if_good problem _ c.in-Bounded.bound verdict (subst (λ s. IsGoodFor problem s verdict) c.in-Bounded.is fits)
+    bound_if_good problem c.in-Bounded.cause c.in-Bounded.bound verdict (subst (λ s. IsGoodFor problem s verdict) c.in-Bounded.is fits)
 
 pub returns-clause-only : goal.returns-clause-only
 returns-clause-only c verdict good =
