@@ -1,5 +1,5 @@
 //! What the check answers to given texts: verdicts, and each kind of refusal. The certificates are of
-//! version 1, and what they become in version 2 is judged alike.
+//! version 1, and what they become in version 2 is judged alike. A plan text is judged alike in both versions.
 
 ghost use Rattle.std.specs.Prelude.{◌≤◌};
 
@@ -9,7 +9,7 @@ use crate::problems::{
     SHARED_START, SHARED_START_PLAN, SWAPPING, WALL, WALL_PLAN,
 };
 use crate::runs::{Given, check, problem_of};
-use crate::texts::with_lines;
+use crate::texts::{plan_in_other_version, with_lines};
 use crate::version_one::{
     AT_REST_ONE, CORRIDOR_ONE, CROSSING_ONE, NICHE_ONE, ROTATION_ONE, SHARED_GOAL_ONE,
     SHARED_START_ONE, WALL_ONE,
@@ -17,12 +17,36 @@ use crate::version_one::{
 use mapf_app::{CertFault, CheckFault, Fault, PlanFault, PlanTextFault, Verdict};
 use mapf_certificate::convert_cert;
 use mapf_checker as checker;
+use mapf_model::Problem;
 use std::alloc::Global;
 use std::process::Abort;
 use std::test::Fail;
 
-// Over sources and over memory this is the answer, and also beside what a certificate of version 1 becomes in
-// version 2.
+// Over memory this is the answer, and also beside what a certificate of version 1 becomes in version 2.
+fn assert_judged_in_memory(
+    rt: &impl Abort,
+    alloc: Global,
+    problem: &Problem,
+    texts: (&str, &str),
+    answer: Result<Verdict, CheckFault>,
+) {
+    let plan = texts.0.as_bytes();
+    let cert = texts.1.as_bytes();
+    let verdict = checker::check(alloc, problem, plan, cert);
+    assert_eq!(rt; verdict, answer, "of {} and {}", texts.0, texts.1);
+    if let Ok(two) = convert_cert(alloc, cert, problem.grid()) {
+        let verdict = checker::check(alloc, problem, plan, &two);
+        assert_eq!(rt;
+            verdict,
+            answer,
+            "of {} and {} in version 2",
+            texts.0, texts.1
+        );
+    }
+}
+
+// Over sources and over memory this is the answer, with the plan text in each version that it has and with the
+// certificate also in version 2.
 pub fn assert_judged(
     rt: &impl Abort,
     alloc: Global,
@@ -33,12 +57,12 @@ pub fn assert_judged(
     requires some { 1 ≤ given.now.k }
     requires few { given.now.k ≤ 200 }
 {
-    let plan = texts.0.as_bytes();
-    let cert = texts.1.as_bytes();
     let problem = problem_of(alloc, given).ok_or("no problem")?;
-    let verdict = checker::check(alloc, &problem, plan, cert);
-    assert_eq!(rt; verdict, answer, "of {} and {}", texts.0, texts.1);
-    let verdict = check(alloc, given, plan, cert);
+    assert_judged_in_memory(rt, alloc, &problem, texts, answer);
+    if let Some(other) = plan_in_other_version(alloc, texts.0)? {
+        assert_judged_in_memory(rt, alloc, &problem, (other.as_str(), texts.1), answer);
+    }
+    let verdict = check(alloc, given, texts.0.as_bytes(), texts.1.as_bytes());
     assert_eq!(rt;
         verdict,
         answer.map_err(Fault::Refused),
@@ -46,15 +70,6 @@ pub fn assert_judged(
         texts.0,
         texts.1
     );
-    if let Ok(two) = convert_cert(alloc, cert, problem.grid()) {
-        let verdict = checker::check(alloc, &problem, plan, &two);
-        assert_eq!(rt;
-            verdict,
-            answer,
-            "of {} and {} in version 2",
-            texts.0, texts.1
-        );
-    }
     Ok(())
 }
 

@@ -1,11 +1,14 @@
 //! Runs whose map, scenario or plan text can't be read, or comes slowly, and sinks that are slow, full or broken.
 
-ghost use Rattle.std.specs.Prelude.{◌≡◌, false};
+ghost use Rattle.std.specs.Prelude.{◌≡◌, ◌≤◌, false};
 
-use crate::problems::{CROSSING_CERT, CROSSING_MAP, CROSSING_PLAN, CROSSING_SCEN};
+use crate::problems::{
+    CROSSING_CERT, CROSSING_MAP, CROSSING_PLAN, CROSSING_SCEN, CROSSING_STOPPED_CERT,
+    CROSSING_STOPPED_PLAN,
+};
 use mapf_app::{Fault, Input, Kind, Output, Verdict, run_check, run_demo, run_play, run_solve};
 use mapf_model::devices::{EndlessSource, FuseSink, FuseSource, Pace};
-use mapf_model::{BytesSink, BytesSource, Sink};
+use mapf_model::{BytesSink, BytesSource, Cause, Sink};
 use std::alloc::Global;
 use std::process::Abort;
 use std::test::Fail;
@@ -36,18 +39,47 @@ impl Fuses {
     }
 }
 
+// How many splits are allowed, how the search then ends, and both texts that are due.
+#[derive(Clone, Copy)]
+struct End {
+    limit: u32,
+    kind: Kind,
+    plan: &'static str,
+    cert: &'static str,
+}
+
+const ENDS: [End; 2] = [
+    End {
+        limit: 10,
+        kind: Kind::Found(5),
+        plan: CROSSING_PLAN,
+        cert: CROSSING_CERT,
+    },
+    End {
+        limit: 0,
+        kind: Kind::Limit {
+            cause: Cause::Splits(0),
+            bound: 4,
+        },
+        plan: CROSSING_STOPPED_PLAN,
+        cert: CROSSING_STOPPED_CERT,
+    },
+];
+
 fn solve_over<P: Sink, C: Sink>(
     alloc: Global,
+    limit: u32,
     fuses: Fuses,
     plan: &mut P,
     cert: &mut C,
 ) -> Result<Kind, Fault>
     requires plan_works { P.has_failed plan.old ≡ false }
     requires cert_works { C.has_failed cert.old ≡ false }
+    requires limit { limit ≤ 100000 }
 {
     let mut map = FuseSource::of(CROSSING_MAP.as_bytes(), fuses.pace, fuses.map);
     let mut scen = FuseSource::of(CROSSING_SCEN.as_bytes(), fuses.pace, fuses.scen);
-    run_solve(alloc, &mut map, &mut scen, 2, 10, plan, cert)
+    run_solve(alloc, &mut map, &mut scen, 2, limit, plan, cert)
 }
 
 fn check_over(alloc: Global, fuses: Fuses) -> Result<Verdict, Fault> {
@@ -87,7 +119,7 @@ fn assert_unread(rt: &impl Abort, alloc: Global, fuses: Fuses, input: Input) -> 
 fn assert_unsolved(rt: &impl Abort, alloc: Global, fuses: Fuses, input: Input) -> Result<(), Fail> {
     let mut plan = BytesSink::with_room(alloc, ROOM)?;
     let mut cert = BytesSink::with_room(alloc, ROOM)?;
-    let answer = solve_over(alloc, fuses, &mut plan, &mut cert);
+    let answer = solve_over(alloc, 10, fuses, &mut plan, &mut cert);
     assert_eq!(rt; answer, Err(Fault::F4(input)));
     assert!(rt; plan.bytes().is_empty() && cert.bytes().is_empty());
     Ok(())
@@ -173,75 +205,95 @@ fn gives_up_on_a_plan_that_never_ends(rt: HostRuntime) {
 
 #[test]
 fn writes_the_same_at_any_pace(rt: HostRuntime) -> Result<(), Fail> {
-    for (read, write) in [
-        (Pace::AllAtOnce, Pace::AllAtOnce),
-        (Pace::AllAtOnce, Pace::ByteByByte),
-        (Pace::ByteByByte, Pace::ByteByByte),
-    ] {
-        let mut plan = FuseSink::with_room(rt.alloc(), ROOM, write, None)?;
-        let mut cert = FuseSink::with_room(rt.alloc(), ROOM, write, None)?;
-        let answer = solve_over(rt.alloc(), Fuses::at(read), &mut plan, &mut cert);
-        assert_eq!(rt; answer, Ok(Kind::Found(5)));
-        assert_eq!(rt; plan.bytes(), CROSSING_PLAN.as_bytes());
-        assert_eq!(rt; cert.bytes(), CROSSING_CERT.as_bytes());
+    for end in ENDS {
+        assert!(rt; end.limit <= 100_000);
+        for (read, write) in [
+            (Pace::AllAtOnce, Pace::AllAtOnce),
+            (Pace::AllAtOnce, Pace::ByteByByte),
+            (Pace::ByteByByte, Pace::ByteByByte),
+        ] {
+            let fuses = Fuses::at(read);
+            let mut plan = FuseSink::with_room(rt.alloc(), ROOM, write, None)?;
+            let mut cert = FuseSink::with_room(rt.alloc(), ROOM, write, None)?;
+            let answer = solve_over(rt.alloc(), end.limit, fuses, &mut plan, &mut cert);
+            assert_eq!(rt; answer, Ok(end.kind));
+            assert_eq!(rt; plan.bytes(), end.plan.as_bytes());
+            assert_eq!(rt; cert.bytes(), end.cert.as_bytes());
+        }
     }
     Ok(())
 }
 
 #[test]
 fn names_the_plan_sink_that_is_full(rt: HostRuntime) -> Result<(), Fail> {
-    let text = CROSSING_PLAN.as_bytes();
-    for room in 0..text.len() {
-        let mut plan = BytesSink::with_room(rt.alloc(), room)?;
-        let mut cert = BytesSink::with_room(rt.alloc(), ROOM)?;
-        let answer = solve_over(rt.alloc(), Fuses::at(Pace::AllAtOnce), &mut plan, &mut cert);
-        assert_eq!(rt; answer, Err(Fault::F5(Output::Plan)), "at {room}");
-        assert_eq!(rt; plan.bytes(), &text[..room]);
-        assert!(rt; cert.bytes().is_empty());
+    let fuses = Fuses::at(Pace::AllAtOnce);
+    for end in ENDS {
+        assert!(rt; end.limit <= 100_000);
+        let text = end.plan.as_bytes();
+        for room in 0..text.len() {
+            let mut plan = BytesSink::with_room(rt.alloc(), room)?;
+            let mut cert = BytesSink::with_room(rt.alloc(), ROOM)?;
+            let answer = solve_over(rt.alloc(), end.limit, fuses, &mut plan, &mut cert);
+            assert_eq!(rt; answer, Err(Fault::F5(Output::Plan)), "at {room}");
+            assert_eq!(rt; plan.bytes(), &text[..room]);
+            assert!(rt; cert.bytes().is_empty());
+        }
     }
     Ok(())
 }
 
 #[test]
 fn names_the_certificate_sink_that_is_full(rt: HostRuntime) -> Result<(), Fail> {
-    let text = CROSSING_CERT.as_bytes();
-    for room in 0..text.len() {
-        let mut plan = BytesSink::with_room(rt.alloc(), ROOM)?;
-        let mut cert = BytesSink::with_room(rt.alloc(), room)?;
-        let answer = solve_over(rt.alloc(), Fuses::at(Pace::AllAtOnce), &mut plan, &mut cert);
-        assert_eq!(rt; answer, Err(Fault::F5(Output::Cert)), "at {room}");
-        assert!(rt; plan.bytes() == CROSSING_PLAN.as_bytes());
-        assert_eq!(rt; cert.bytes(), &text[..room]);
+    let fuses = Fuses::at(Pace::AllAtOnce);
+    for end in ENDS {
+        assert!(rt; end.limit <= 100_000);
+        let text = end.cert.as_bytes();
+        for room in 0..text.len() {
+            let mut plan = BytesSink::with_room(rt.alloc(), ROOM)?;
+            let mut cert = BytesSink::with_room(rt.alloc(), room)?;
+            let answer = solve_over(rt.alloc(), end.limit, fuses, &mut plan, &mut cert);
+            assert_eq!(rt; answer, Err(Fault::F5(Output::Cert)), "at {room}");
+            assert!(rt; plan.bytes() == end.plan.as_bytes());
+            assert_eq!(rt; cert.bytes(), &text[..room]);
+        }
     }
     Ok(())
 }
 
 #[test]
 fn names_the_plan_sink_that_failed(rt: HostRuntime) -> Result<(), Fail> {
-    let text = CROSSING_PLAN.as_bytes();
-    for calls in 0..text.len() {
-        let fuse = Some(calls as u64);
-        let mut plan = FuseSink::with_room(rt.alloc(), ROOM, Pace::ByteByByte, fuse)?;
-        let mut cert = BytesSink::with_room(rt.alloc(), ROOM)?;
-        let answer = solve_over(rt.alloc(), Fuses::at(Pace::AllAtOnce), &mut plan, &mut cert);
-        assert_eq!(rt; answer, Err(Fault::F5(Output::Plan)), "after {calls} calls");
-        assert_eq!(rt; plan.bytes(), &text[..calls]);
-        assert!(rt; cert.bytes().is_empty());
+    let fuses = Fuses::at(Pace::AllAtOnce);
+    for end in ENDS {
+        assert!(rt; end.limit <= 100_000);
+        let text = end.plan.as_bytes();
+        for calls in 0..text.len() {
+            let fuse = Some(calls as u64);
+            let mut plan = FuseSink::with_room(rt.alloc(), ROOM, Pace::ByteByByte, fuse)?;
+            let mut cert = BytesSink::with_room(rt.alloc(), ROOM)?;
+            let answer = solve_over(rt.alloc(), end.limit, fuses, &mut plan, &mut cert);
+            assert_eq!(rt; answer, Err(Fault::F5(Output::Plan)), "after {calls} calls");
+            assert_eq!(rt; plan.bytes(), &text[..calls]);
+            assert!(rt; cert.bytes().is_empty());
+        }
     }
     Ok(())
 }
 
 #[test]
 fn names_the_certificate_sink_that_failed(rt: HostRuntime) -> Result<(), Fail> {
-    let text = CROSSING_CERT.as_bytes();
-    for calls in 0..text.len() {
-        let fuse = Some(calls as u64);
-        let mut plan = BytesSink::with_room(rt.alloc(), ROOM)?;
-        let mut cert = FuseSink::with_room(rt.alloc(), ROOM, Pace::ByteByByte, fuse)?;
-        let answer = solve_over(rt.alloc(), Fuses::at(Pace::AllAtOnce), &mut plan, &mut cert);
-        assert_eq!(rt; answer, Err(Fault::F5(Output::Cert)), "after {calls} calls");
-        assert_eq!(rt; plan.bytes(), CROSSING_PLAN.as_bytes());
-        assert_eq!(rt; cert.bytes(), &text[..calls]);
+    let fuses = Fuses::at(Pace::AllAtOnce);
+    for end in ENDS {
+        assert!(rt; end.limit <= 100_000);
+        let text = end.cert.as_bytes();
+        for calls in 0..text.len() {
+            let fuse = Some(calls as u64);
+            let mut plan = BytesSink::with_room(rt.alloc(), ROOM)?;
+            let mut cert = FuseSink::with_room(rt.alloc(), ROOM, Pace::ByteByByte, fuse)?;
+            let answer = solve_over(rt.alloc(), end.limit, fuses, &mut plan, &mut cert);
+            assert_eq!(rt; answer, Err(Fault::F5(Output::Cert)), "after {calls} calls");
+            assert_eq!(rt; plan.bytes(), end.plan.as_bytes());
+            assert_eq!(rt; cert.bytes(), &text[..calls]);
+        }
     }
     Ok(())
 }

@@ -4,7 +4,8 @@ ghost use Rattle.std.specs.Prelude.{◌≤◌};
 
 use crate::checking::{Change, assert_changes, assert_judged};
 use crate::problems::{
-    CROSSING, CROSSING_MAP, CROSSING_PLAN, CROSSING_SCEN, NICHE, NICHE_CERT, NICHE_PLAN,
+    CROSSING, CROSSING_MAP, CROSSING_PLAN, CROSSING_SCEN, EXCHANGE, EXCHANGE_STOPPED_CERT,
+    EXCHANGE_STOPPED_PLAN, NICHE, NICHE_CERT, NICHE_PLAN,
 };
 use crate::runs::{Given, problem_of, solve};
 use crate::texts::{line_cut, with_lines};
@@ -15,10 +16,11 @@ use std::alloc::Global;
 use std::process::Abort;
 use std::test::Fail;
 
-// A certificate of each version, with its problem and the plan text beside it.
-const TEXTS: [(Given, &str, &str); 2] = [
+// Certificates of both versions and of a bound, each with its problem and the plan text beside it.
+const TEXTS: [(Given, &str, &str); 3] = [
     (CROSSING, CROSSING_PLAN, CROSSING_ONE),
     (NICHE, NICHE_PLAN, NICHE_CERT),
+    (EXCHANGE, EXCHANGE_STOPPED_PLAN, EXCHANGE_STOPPED_CERT),
 ];
 
 #[test]

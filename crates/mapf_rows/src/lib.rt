@@ -4,6 +4,8 @@
 #[cfg(test)]
 mod adapters;
 #[cfg(test)]
+mod bounds;
+#[cfg(test)]
 mod checking;
 #[cfg(test)]
 mod converting;

@@ -1,10 +1,11 @@
 //! What is shown of plans, and why others aren't.
 
 use crate::problems::{
-    AT_REST, AT_REST_PLAN, CROSSING, CROSSING_PLAN, DEARER, EXCHANGE, MEETING, ROTATION,
-    ROTATION_PLAN, SWAPPING,
+    AT_REST, AT_REST_PLAN, CROSSING, CROSSING_PLAN, CROSSING_STOPPED_PLAN, DEARER, EXCHANGE,
+    EXCHANGE_STOPPED_PLAN, MEETING, ROTATION, ROTATION_PLAN, SWAPPING,
 };
-use crate::runs::{Given, play, problem_of};
+use crate::runs::{Given, play};
+use crate::texts::plan_in_other_version;
 use mapf_app::{Fault, Output, PlanFault, PlanTextFault, PlayFault};
 use mapf_model::BytesSink;
 use mapf_model::devices::{FuseSink, Pace};
@@ -43,6 +44,12 @@ fn shows_plans(rt: HostRuntime) -> Result<(), Fail> {
             assert_eq!(rt; answer, Ok(()), "of {plan}");
             assert_eq!(rt; sink.bytes(), shown.as_bytes());
         }
+        let other = plan_in_other_version(rt.alloc(), plan)?;
+        let other = other.ok_or("no other version")?;
+        let mut sink = BytesSink::with_room(rt.alloc(), ROOM)?;
+        let answer = play(rt.alloc(), &given, other.as_bytes(), &mut sink);
+        assert_eq!(rt; answer, Ok(()), "of {other}");
+        assert_eq!(rt; sink.bytes(), shown.as_bytes());
     }
     Ok(())
 }
@@ -77,7 +84,7 @@ fn shows_a_front_where_the_sink_fails(rt: HostRuntime) -> Result<(), Fail> {
 }
 
 // A problem, a plan text, and why it isn't shown.
-const NOT_SHOWN: [(Given, &str, PlayFault); 14] = [
+const NOT_SHOWN: [(Given, &str, PlayFault); 21] = [
     (
         EXCHANGE,
         "mapf-plan 1\nagents 2\nlimit 3\nend\n",
@@ -92,6 +99,35 @@ const NOT_SHOWN: [(Given, &str, PlayFault); 14] = [
         CROSSING,
         "mapf-plan 1\nagents 3\nlimit 0\nend\n",
         PlayFault::NoPlan,
+    ),
+    (EXCHANGE, EXCHANGE_STOPPED_PLAN, PlayFault::NoPlan),
+    (CROSSING, CROSSING_STOPPED_PLAN, PlayFault::NoPlan),
+    // That there is no plan is told before its number of agents.
+    (
+        CROSSING,
+        "mapf-plan 2\nagents 3\nlimit 3 bound 4\nend\n",
+        PlayFault::NoPlan,
+    ),
+    (
+        CROSSING,
+        "mapf-plan 2\nagents 3\nlimit ticks bound 0\nend\n",
+        PlayFault::NoPlan,
+    ),
+    // A limit has a bound in version 2, and none in version 1.
+    (
+        EXCHANGE,
+        "mapf-plan 2\nagents 2\nlimit 3\nend\n",
+        PlayFault::Text(PlanTextFault::P1(3)),
+    ),
+    (
+        EXCHANGE,
+        "mapf-plan 1\nagents 2\nlimit 3 bound 4\nend\n",
+        PlayFault::Text(PlanTextFault::P1(3)),
+    ),
+    (
+        EXCHANGE,
+        "mapf-plan 2\nagents 2\nlimit 3 bound 1999999801\nend\n",
+        PlayFault::Text(PlanTextFault::P3(3)),
     ),
     (CROSSING, AT_REST_PLAN, PlayFault::OtherCount),
     (Given { k: 1, ..CROSSING }, MEETING, PlayFault::OtherCount),

@@ -9,7 +9,7 @@ pub const AT_REST: Given = Given {
     k: 1,
 };
 
-pub const AT_REST_PLAN: &str = "mapf-plan 1\nagents 1\ncost 0\npath 0 0 0,0\nend\n";
+pub const AT_REST_PLAN: &str = "mapf-plan 2\nagents 1\ncost 0\npath 0 0 0,0\nend\n";
 
 pub const AT_REST_CERT: &str = "mapf-cert 2\nagents 1\nclaim cost 0\nleaf 0\nend\n";
 
@@ -20,7 +20,7 @@ pub const CORRIDOR: Given = Given {
     k: 1,
 };
 
-pub const CORRIDOR_PLAN: &str = "mapf-plan 1\nagents 1\ncost 2\npath 0 2 0,0 1,0 2,0\nend\n";
+pub const CORRIDOR_PLAN: &str = "mapf-plan 2\nagents 1\ncost 2\npath 0 2 0,0 1,0 2,0\nend\n";
 
 pub const CORRIDOR_CERT: &str = "mapf-cert 2\nagents 1\nclaim cost 2\nleaf 0\nend\n";
 
@@ -37,19 +37,24 @@ pub const CROSSING: Given = Given {
 };
 
 pub const CROSSING_PLAN: &str =
-    "mapf-plan 1\nagents 2\ncost 5\npath 0 3 0,1 0,1 1,1 2,1\npath 1 2 1,0 1,1 1,2\nend\n";
+    "mapf-plan 2\nagents 2\ncost 5\npath 0 3 0,1 0,1 1,1 2,1\npath 1 2 1,0 1,1 1,2\nend\n";
 
 pub const CROSSING_CERT: &str =
     "mapf-cert 2\nagents 2\nclaim cost 5\nvertex 0 1 1,1 1 0\nleaf 1\nagent 0 1\nat 0,1 0 3\n\
 leaf 1\nagent 1 1\nat 1,0 0 3\nend\n";
 
+// What is written where no split is allowed: the sum of the distances is the bound.
+pub const CROSSING_STOPPED_PLAN: &str = "mapf-plan 2\nagents 2\nlimit 0 bound 4\nend\n";
+
+pub const CROSSING_STOPPED_CERT: &str = "mapf-cert 2\nagents 2\nclaim bound 4\nleaf 0\nend\n";
+
 // A plan of the crossing in which both agents are in the middle at tick 1.
 pub const MEETING: &str =
-    "mapf-plan 1\nagents 2\ncost 4\npath 0 2 0,1 1,1 2,1\npath 1 2 1,0 1,1 1,2\nend\n";
+    "mapf-plan 2\nagents 2\ncost 4\npath 0 2 0,1 1,1 2,1\npath 1 2 1,0 1,1 1,2\nend\n";
 
 // A valid plan of the crossing that is dearer than need be.
 pub const DEARER: &str =
-    "mapf-plan 1\nagents 2\ncost 6\npath 0 4 0,1 0,1 0,1 1,1 2,1\npath 1 2 1,0 1,1 1,2\nend\n";
+    "mapf-plan 2\nagents 2\ncost 6\npath 0 4 0,1 0,1 0,1 1,1 2,1\npath 1 2 1,0 1,1 1,2\nend\n";
 
 // An agent at its goal is in the way of another, and steps aside into a niche.
 pub const NICHE: Given = Given {
@@ -59,7 +64,7 @@ pub const NICHE: Given = Given {
 };
 
 pub const NICHE_PLAN: &str =
-    "mapf-plan 1\nagents 2\ncost 4\npath 0 2 0,0 1,0 2,0\npath 1 2 1,0 1,1 1,0\nend\n";
+    "mapf-plan 2\nagents 2\ncost 4\npath 0 2 0,0 1,0 2,0\npath 1 2 1,0 1,1 1,0\nend\n";
 
 pub const NICHE_CERT: &str =
     "mapf-cert 2\nagents 2\nclaim cost 4\nvertex 0 1 1,0 1 0\nvertex 0 1 1,0 2 1\nagent 0 1\nat 0,0 0 3\n\
@@ -72,6 +77,19 @@ swap 0 1 0,0 1,0 0 1\nagent 1 1\nat 1,0 0 2\nleaf 1\nagent 0 1\nat 0,0 0 3\n\
 swap 0 1 1,0 2,0 1 1\nagent 1 1\nat 1,0 0 2\nleaf 1\nagent 0 2\nat 0,0 0 3\nat 1,0 1 2\n\
 leaf 1\nagent 1 1\nat 1,0 0 2\nend\n";
 
+// The same with a split too few.
+pub const NICHE_STOPPED_PLAN: &str = "mapf-plan 2\nagents 2\nlimit 4 bound 4\nend\n";
+
+pub const NICHE_STOPPED_CERT: &str =
+    "mapf-cert 2\nagents 2\nclaim bound 4\nvertex 0 1 1,0 1 0\nvertex 0 1 1,0 2 1\nagent 0 1\nat 0,0 0 3\n\
+vertex 0 1 1,0 3 1\nagent 0 2\nat 0,0 0 4\nat 0,0 1 3\n\
+leaf 1\nagent 0 3\nat 0,0 0 5\nat 0,0 1 4\nat 0,0 2 3\n\
+leaf 1\nagent 1 9\nat 1,0 0 4\nat 0,0 1 3\nat 1,0 1 3\nat 2,0 1 3\n\
+at 1,1 1 3\nat 0,0 2 2\nat 1,0 2 2\nat 2,0 2 2\nat 1,1 2 2\n\
+leaf 1\nagent 1 5\nat 1,0 0 3\nat 0,0 1 2\nat 1,0 1 2\nat 2,0 1 2\nat 1,1 1 2\n\
+swap 0 1 0,0 1,0 0 1\nagent 1 1\nat 1,0 0 2\nleaf 1\nagent 0 1\nat 0,0 0 3\n\
+leaf 1\nagent 1 1\nat 1,0 0 2\nend\n";
+
 // Two agents that must exchange their places on two cells.
 pub const EXCHANGE: Given = Given {
     map: "type octile\nheight 1\nwidth 2\nmap\n..\n",
@@ -79,9 +97,19 @@ pub const EXCHANGE: Given = Given {
     k: 2,
 };
 
+// No plan is valid, and no number of splits shows it.
+pub const EXCHANGE_STOPPED_PLAN: &str = "mapf-plan 2\nagents 2\nlimit 3 bound 4\nend\n";
+
+pub const EXCHANGE_STOPPED_CERT: &str =
+    "mapf-cert 2\nagents 2\nclaim bound 4\nswap 0 1 0,0 1,0 0 0\n\
+vertex 0 1 0,0 1 1\nagent 0 1\nat 0,0 0 2\nleaf 1\nagent 0 1\nat 0,0 0 inf\n\
+leaf 1\nagent 1 1\nat 1,0 0 2\n\
+vertex 0 1 1,0 1 1\nagent 1 1\nat 1,0 0 2\nleaf 1\nagent 0 1\nat 0,0 0 2\n\
+leaf 1\nagent 1 1\nat 1,0 0 inf\nend\n";
+
 // A plan in which they exchange them.
 pub const SWAPPING: &str =
-    "mapf-plan 1\nagents 2\ncost 2\npath 0 1 0,0 1,0\npath 1 1 1,0 0,0\nend\n";
+    "mapf-plan 2\nagents 2\ncost 2\npath 0 1 0,0 1,0\npath 1 1 1,0 0,0\nend\n";
 
 // Two agents with one start.
 pub const SHARED_START: Given = Given {
@@ -90,11 +118,15 @@ pub const SHARED_START: Given = Given {
     k: 2,
 };
 
-pub const SHARED_START_PLAN: &str = "mapf-plan 1\nagents 2\nimpossible\nend\n";
+pub const SHARED_START_PLAN: &str = "mapf-plan 2\nagents 2\nimpossible\nend\n";
 
 pub const SHARED_START_CERT: &str =
     "mapf-cert 2\nagents 2\nclaim impossible\nvertex 0 1 0,0 0 0\nleaf 1\nagent 0 1\nat 0,0 0 inf\n\
 leaf 1\nagent 1 1\nat 0,0 0 inf\nend\n";
+
+pub const SHARED_START_STOPPED_PLAN: &str = "mapf-plan 2\nagents 2\nlimit 0 bound 3\nend\n";
+
+pub const SHARED_START_STOPPED_CERT: &str = "mapf-cert 2\nagents 2\nclaim bound 3\nleaf 0\nend\n";
 
 // Two agents with one goal.
 pub const SHARED_GOAL: Given = Given {
@@ -103,7 +135,7 @@ pub const SHARED_GOAL: Given = Given {
     k: 2,
 };
 
-pub const SHARED_GOAL_PLAN: &str = "mapf-plan 1\nagents 2\nimpossible\nend\n";
+pub const SHARED_GOAL_PLAN: &str = "mapf-plan 2\nagents 2\nimpossible\nend\n";
 
 pub const SHARED_GOAL_CERT: &str = "mapf-cert 2\nagents 2\nclaim impossible\nclash 0 1\nend\n";
 
@@ -114,7 +146,7 @@ pub const WALL: Given = Given {
     k: 1,
 };
 
-pub const WALL_PLAN: &str = "mapf-plan 1\nagents 1\nimpossible\nend\n";
+pub const WALL_PLAN: &str = "mapf-plan 2\nagents 1\nimpossible\nend\n";
 
 pub const WALL_CERT: &str = "mapf-cert 2\nagents 1\nclaim impossible\nleaf 0\nend\n";
 
@@ -127,7 +159,7 @@ pub const ROTATION: Given = Given {
 };
 
 pub const ROTATION_PLAN: &str =
-    "mapf-plan 1\nagents 4\ncost 4\npath 0 1 0,0 1,0\npath 1 1 1,0 1,1\npath 2 1 1,1 0,1\npath 3 1 0,1 0,0\nend\n";
+    "mapf-plan 2\nagents 4\ncost 4\npath 0 1 0,0 1,0\npath 1 1 1,0 1,1\npath 2 1 1,1 0,1\npath 3 1 0,1 0,0\nend\n";
 
 pub const ROTATION_CERT: &str = "mapf-cert 2\nagents 4\nclaim cost 4\nleaf 0\nend\n";
 
@@ -138,4 +170,4 @@ pub const RESTING: Given = Given {
     k: 2,
 };
 
-pub const RESTING_PLAN: &str = "mapf-plan 1\nagents 2\ncost 0\npath 0 0 0,0\npath 1 0 1,0\nend\n";
+pub const RESTING_PLAN: &str = "mapf-plan 2\nagents 2\ncost 0\npath 0 0 0,0\npath 1 0 1,0\nend\n";

@@ -1,14 +1,19 @@
 //! What is written for problems of each kind of answer.
 
+ghost use Rattle.std.specs.Prelude.{◌≤◌};
+
 use crate::problems::{
     AT_REST, AT_REST_CERT, AT_REST_PLAN, CORRIDOR, CORRIDOR_CERT, CORRIDOR_PLAN, CROSSING,
-    CROSSING_CERT, CROSSING_PLAN, EXCHANGE, NICHE, NICHE_CERT, NICHE_PLAN, ROTATION, ROTATION_CERT,
-    ROTATION_PLAN, SHARED_GOAL, SHARED_GOAL_CERT, SHARED_GOAL_PLAN, SHARED_START,
-    SHARED_START_CERT, SHARED_START_PLAN, WALL, WALL_CERT, WALL_PLAN,
+    CROSSING_CERT, CROSSING_PLAN, CROSSING_STOPPED_CERT, CROSSING_STOPPED_PLAN, EXCHANGE,
+    EXCHANGE_STOPPED_CERT, EXCHANGE_STOPPED_PLAN, NICHE, NICHE_CERT, NICHE_PLAN,
+    NICHE_STOPPED_CERT, NICHE_STOPPED_PLAN, ROTATION, ROTATION_CERT, ROTATION_PLAN, SHARED_GOAL,
+    SHARED_GOAL_CERT, SHARED_GOAL_PLAN, SHARED_START, SHARED_START_CERT, SHARED_START_PLAN,
+    SHARED_START_STOPPED_CERT, SHARED_START_STOPPED_PLAN, WALL, WALL_CERT, WALL_PLAN,
 };
 use crate::runs::{Given, Solved, check, solve};
 use mapf_app::{Fault, Kind, Verdict};
 use mapf_model::Cause;
+use std::alloc::Global;
 use std::process::Abort;
 use std::test::Fail;
 
@@ -22,7 +27,7 @@ struct Row {
     cert: &'static str,
 }
 
-const ROWS: [Row; 8] = [
+const ROWS: [Row; 12] = [
     Row {
         given: AT_REST,
         limit: 0,
@@ -79,6 +84,47 @@ const ROWS: [Row; 8] = [
         plan: ROTATION_PLAN,
         cert: ROTATION_CERT,
     },
+    // More splits are needed than are allowed.
+    Row {
+        given: CROSSING,
+        limit: 0,
+        kind: Kind::Limit {
+            cause: Cause::Splits(0),
+            bound: 4,
+        },
+        plan: CROSSING_STOPPED_PLAN,
+        cert: CROSSING_STOPPED_CERT,
+    },
+    Row {
+        given: NICHE,
+        limit: 4,
+        kind: Kind::Limit {
+            cause: Cause::Splits(4),
+            bound: 4,
+        },
+        plan: NICHE_STOPPED_PLAN,
+        cert: NICHE_STOPPED_CERT,
+    },
+    Row {
+        given: SHARED_START,
+        limit: 0,
+        kind: Kind::Limit {
+            cause: Cause::Splits(0),
+            bound: 3,
+        },
+        plan: SHARED_START_STOPPED_PLAN,
+        cert: SHARED_START_STOPPED_CERT,
+    },
+    Row {
+        given: EXCHANGE,
+        limit: 3,
+        kind: Kind::Limit {
+            cause: Cause::Splits(3),
+            bound: 4,
+        },
+        plan: EXCHANGE_STOPPED_PLAN,
+        cert: EXCHANGE_STOPPED_CERT,
+    },
 ];
 
 // The run gave this answer, and wrote these texts.
@@ -93,11 +139,11 @@ pub fn assert_written(
     assert_eq!(rt; solved.cert.bytes(), texts.1.as_bytes());
 }
 
-fn verdict_of(kind: Kind) -> Option<Verdict> {
+fn verdict_of(kind: Kind) -> Verdict {
     match kind {
-        Kind::Found(cost) => Some(Verdict::Optimal(cost)),
-        Kind::Impossible => Some(Verdict::Impossible),
-        Kind::Limit(_) => None,
+        Kind::Found(cost) => Verdict::Optimal(cost),
+        Kind::Impossible => Verdict::Impossible,
+        Kind::Limit { bound, .. } => Verdict::Bound(bound),
     }
 }
 
@@ -113,7 +159,7 @@ fn writes_plan_and_certificate(rt: HostRuntime) -> Result<(), Fail> {
             solved.plan.bytes(),
             solved.cert.bytes(),
         );
-        assert_eq!(rt; verdict.ok(), verdict_of(row.kind));
+        assert_eq!(rt; verdict, Ok(verdict_of(row.kind)));
     }
     Ok(())
 }
@@ -126,21 +172,37 @@ fn needs_no_more_splits_than_it_makes(rt: HostRuntime) -> Result<(), Fail> {
     Ok(())
 }
 
-// Problems that need more splits than are allowed, how many these are, and the plan text that is due.
-const LIMITED: [(Given, u32, &str); 4] = [
-    (CROSSING, 0, "mapf-plan 1\nagents 2\nlimit 0\nend\n"),
-    (NICHE, 4, "mapf-plan 1\nagents 2\nlimit 4\nend\n"),
-    (SHARED_START, 0, "mapf-plan 1\nagents 2\nlimit 0\nend\n"),
-    (EXCHANGE, 3, "mapf-plan 1\nagents 2\nlimit 3\nend\n"),
-];
+// Numbers of splits that are too few, and the least sum of an open node once so many are made.
+const NICHE_BOUNDS: [(u32, u64); 5] = [(0, 2), (1, 3), (2, 4), (3, 4), (4, 4)];
 
-#[test]
-fn stops_at_its_limit(rt: HostRuntime) -> Result<(), Fail> {
-    for (given, limit, plan) in LIMITED {
-        assert!(rt; 1 <= given.k && given.k <= 200 && limit <= 100_000);
-        let solved = solve(rt.alloc(), &given, limit)?;
-        let answer = Ok(Kind::Limit(Cause::Splits(limit)));
-        assert_written(&rt, &solved, answer, (plan, ""));
+const EXCHANGE_BOUNDS: [(u32, u64); 4] = [(0, 2), (1, 3), (2, 3), (3, 4)];
+
+// Stopped at each of these limits the search tells that bound, and what it writes is accepted with it.
+fn assert_bounds(
+    rt: &impl Abort,
+    alloc: Global,
+    given: &Given,
+    bounds: &[(u32, u64)],
+) -> Result<(), Fail>
+    requires some { 1 ≤ given.now.k }
+    requires few { given.now.k ≤ 200 }
+{
+    for (limit, bound) in bounds {
+        assert!(rt; *limit <= 100_000);
+        let solved = solve(alloc, given, *limit)?;
+        let kind = Kind::Limit {
+            cause: Cause::Splits(*limit),
+            bound: *bound,
+        };
+        assert_eq!(rt; solved.answer, Ok(kind));
+        let verdict = check(alloc, given, solved.plan.bytes(), solved.cert.bytes());
+        assert_eq!(rt; verdict, Ok(Verdict::Bound(*bound)), "with {limit} splits");
     }
     Ok(())
+}
+
+#[test]
+fn tells_the_bound_that_so_many_splits_show(rt: HostRuntime) -> Result<(), Fail> {
+    assert_bounds(&rt, rt.alloc(), &NICHE, &NICHE_BOUNDS)?;
+    assert_bounds(&rt, rt.alloc(), &EXCHANGE, &EXCHANGE_BOUNDS)
 }

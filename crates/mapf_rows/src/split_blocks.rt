@@ -81,9 +81,12 @@ leaf 1\nagent 0 1\nat 0,1 0 3\nleaf 1\nagent 0 1\nat 0,1 0 3\nleaf 0\n",
     ),
 ];
 
-const LINES: [Change; 13] = [
+const LINES: [Change; 15] = [
     (1, 1, "mapf-cert 3\n", Err(CheckFault::C2(CertFault::K1(1)))),
     (1, 1, "mapf-cert 1\n", Err(CheckFault::C2(CertFault::K1(4)))),
+    // A bound is no claim beside a plan.
+    (3, 3, "claim bound 5\n", Err(CheckFault::C4)),
+    (2, 3, "agents 1\nclaim bound 5\n", Err(CheckFault::C3)),
     // No number, or one that is too great.
     (
         4,

@@ -4,7 +4,8 @@
 ghost use Rattle.std.specs.Prelude.{◌≤◌};
 
 use crate::problems::{
-    CROSSING, CROSSING_PLAN, MEETING, NICHE, NICHE_CERT, NICHE_PLAN, RESTING, RESTING_PLAN,
+    CROSSING, CROSSING_PLAN, CROSSING_STOPPED_PLAN, EXCHANGE, EXCHANGE_STOPPED_CERT,
+    EXCHANGE_STOPPED_PLAN, MEETING, NICHE, NICHE_CERT, NICHE_PLAN, RESTING, RESTING_PLAN,
 };
 use crate::runs::{Given, check, check_pulled, problem_of};
 use crate::version_one::CROSSING_ONE;
@@ -67,23 +68,20 @@ fn check_pieces(
 fn reads_pieces(rt: HostRuntime) {
     let crossing = (CROSSING_PLAN, CROSSING_ONE);
     let niche = (NICHE_PLAN, NICHE_CERT);
-    for (given, texts, cost) in [(CROSSING, crossing, 5), (NICHE, niche, 4)] {
+    let exchange = (EXCHANGE_STOPPED_PLAN, EXCHANGE_STOPPED_CERT);
+    for (given, texts, verdict) in [
+        (CROSSING, crossing, Verdict::Optimal(5)),
+        (NICHE, niche, Verdict::Optimal(4)),
+        (EXCHANGE, exchange, Verdict::Bound(4)),
+    ] {
         assert!(rt; 1 <= given.k && given.k <= 200);
         for first in 1..texts.1.len() {
             let answer = check_pieces(rt.alloc(), &given, texts, first, 999);
-            assert_eq!(rt;
-                answer,
-                Ok(Verdict::Optimal(cost)),
-                "{first} and the others"
-            );
+            assert_eq!(rt; answer, Ok(verdict), "{first} and the others");
         }
         for others in [1, 2] {
             let answer = check_pieces(rt.alloc(), &given, texts, 1, others);
-            assert_eq!(rt;
-                answer,
-                Ok(Verdict::Optimal(cost)),
-                "1 and then {others} each"
-            );
+            assert_eq!(rt; answer, Ok(verdict), "1 and then {others} each");
         }
     }
 }
@@ -118,6 +116,8 @@ fn keeps_its_limit(rt: HostRuntime) -> Result<(), Fail> {
 // How many bytes the crossing's certificate has up to the end of its first line `leaf 1`.
 const FIRST_LEAF: usize = 58;
 
+const LIMIT_ONE: &str = "mapf-plan 1\nagents 2\nlimit 0\nend\n";
+
 #[test]
 fn breaks_off_where_the_source_fails(rt: HostRuntime) {
     let cert = CROSSING_ONE.as_bytes();
@@ -127,11 +127,19 @@ fn breaks_off_where_the_source_fails(rt: HostRuntime) {
         j: 1,
         tick: 1,
     };
-    // A plan that isn't valid is refused before the certificate is pulled.
+    // A plan that isn't valid and a limit without a bound are refused before the certificate is pulled, and a bound
+    // beside a cost after three lines.
     for (plan, calls, fault) in [
         (CROSSING_PLAN, FIRST_LEAF, Fault::F4(Input::Cert)),
         (MEETING, FIRST_LEAF, Fault::Refused(CheckFault::C5(meet))),
         (MEETING, 0, Fault::Refused(CheckFault::C5(meet))),
+        (LIMIT_ONE, 0, Fault::Refused(CheckFault::C4)),
+        (CROSSING_STOPPED_PLAN, 0, Fault::F4(Input::Cert)),
+        (
+            CROSSING_STOPPED_PLAN,
+            FIRST_LEAF,
+            Fault::Refused(CheckFault::C4),
+        ),
     ] {
         let mut source = FuseSource::of(cert, Pace::ByteByByte, Some(calls as u64));
         let verdict = check_pulled(rt.alloc(), &CROSSING, plan.as_bytes(), &mut source);

@@ -1,7 +1,8 @@
 //! What is told of each answer and of each kind of fault, where, and by which exit status.
 
 use crate::problems::{
-    CROSSING, CROSSING_CERT, CROSSING_MAP, CROSSING_PLAN, CROSSING_SCEN, EXCHANGE, SHARED_START,
+    CROSSING, CROSSING_CERT, CROSSING_MAP, CROSSING_PLAN, CROSSING_SCEN, EXCHANGE,
+    EXCHANGE_STOPPED_CERT, EXCHANGE_STOPPED_PLAN, SHARED_START,
 };
 use crate::runs::{Given, check, solve};
 use crate::texts::with_lines;
@@ -31,12 +32,42 @@ fn assert_told(
     assert_eq!(rt; err.bytes(), fault.as_bytes());
 }
 
-const KINDS: [(Kind, &str, u8); 5] = [
+const KINDS: [(Kind, &str, u8); 7] = [
     (Kind::Found(0), "cost 0\n", 0),
     (Kind::Found(1_999_999_800), "cost 1999999800\n", 0),
     (Kind::Impossible, "impossible\n", 3),
-    (Kind::Limit(Cause::Splits(100_000)), "limit 100000\n", 4),
-    (Kind::Limit(Cause::Ticks), "limit ticks\n", 4),
+    (
+        Kind::Limit {
+            cause: Cause::Splits(0),
+            bound: 0,
+        },
+        "limit 0 bound 0\n",
+        4,
+    ),
+    (
+        Kind::Limit {
+            cause: Cause::Splits(100_000),
+            bound: 1_999_999_800,
+        },
+        "limit 100000 bound 1999999800\n",
+        4,
+    ),
+    (
+        Kind::Limit {
+            cause: Cause::Ticks,
+            bound: 4_196_348,
+        },
+        "limit ticks bound 4196348\n",
+        4,
+    ),
+    (
+        Kind::Limit {
+            cause: Cause::Ticks,
+            bound: 0,
+        },
+        "limit ticks bound 0\n",
+        4,
+    ),
 ];
 
 #[test]
@@ -50,8 +81,10 @@ fn tells_how_a_search_ended(rt: HostRuntime) -> Result<(), Fail> {
     Ok(())
 }
 
-const VERDICTS: [(Verdict, &str); 2] = [
+const VERDICTS: [(Verdict, &str); 4] = [
     (Verdict::Optimal(5), "optimal 5\n"),
+    (Verdict::Bound(0), "bound 0\n"),
+    (Verdict::Bound(1_999_999_800), "bound 1999999800\n"),
     (Verdict::Impossible, "impossible\n"),
 ];
 
@@ -275,11 +308,21 @@ fn assert_status(rt: &impl Abort, told: u8, line: &str, calls: u64, status: u8) 
 #[test]
 fn ends_with_a_fault_where_nothing_can_be_told(rt: HostRuntime) -> Result<(), Fail> {
     let alloc = rt.alloc();
-    for calls in 0..12 {
+    for calls in 0..20 {
         let mut err = BytesSink::with_room(alloc, ROOM)?;
         let mut out = FuseSink::with_room(alloc, ROOM, Pace::ByteByByte, Some(calls))?;
         let told = tell_solve(&Ok(Kind::Found(5)), &mut out, &mut err);
         assert_status(&rt, told, "cost 5\n", calls, 0);
+        let limit = Kind::Limit {
+            cause: Cause::Splits(3),
+            bound: 4,
+        };
+        let mut out = FuseSink::with_room(alloc, ROOM, Pace::ByteByByte, Some(calls))?;
+        let told = tell_solve(&Ok(limit), &mut out, &mut err);
+        assert_status(&rt, told, "limit 3 bound 4\n", calls, 4);
+        let mut out = FuseSink::with_room(alloc, ROOM, Pace::ByteByByte, Some(calls))?;
+        let told = tell_check(&Ok(Verdict::Bound(4)), &mut out, &mut err);
+        assert_status(&rt, told, "bound 4\n", calls, 0);
         let mut out = FuseSink::with_room(alloc, ROOM, Pace::ByteByByte, Some(calls))?;
         let told = tell_check(&Ok(Verdict::Optimal(5)), &mut out, &mut err);
         assert_status(&rt, told, "optimal 5\n", calls, 0);
@@ -298,7 +341,7 @@ fn ends_with_a_fault_where_nothing_can_be_told(rt: HostRuntime) -> Result<(), Fa
 const SOLVED: [(Given, u32, &str, u8); 3] = [
     (CROSSING, 10, "cost 5\n", 0),
     (SHARED_START, 1, "impossible\n", 3),
-    (EXCHANGE, 3, "limit 3\n", 4),
+    (EXCHANGE, 3, "limit 3 bound 4\n", 4),
 ];
 
 #[test]
@@ -311,6 +354,21 @@ fn ends_solved_runs(rt: HostRuntime) -> Result<(), Fail> {
         let told = tell_solve(&solved.answer, &mut out, &mut err);
         assert_told(&rt, told, &out, &err, (status, line, ""));
     }
+    Ok(())
+}
+
+#[test]
+fn ends_checked_runs_of_a_limit(rt: HostRuntime) -> Result<(), Fail> {
+    let mut out = BytesSink::with_room(rt.alloc(), ROOM)?;
+    let mut err = BytesSink::with_room(rt.alloc(), ROOM)?;
+    let verdict = check(
+        rt.alloc(),
+        &EXCHANGE,
+        EXCHANGE_STOPPED_PLAN.as_bytes(),
+        EXCHANGE_STOPPED_CERT.as_bytes(),
+    );
+    let told = tell_check(&verdict, &mut out, &mut err);
+    assert_told(&rt, told, &out, &err, (0, "bound 4\n", ""));
     Ok(())
 }
 

@@ -33,3 +33,21 @@ pub fn line_cut(text: &[u8]) -> u64 {
     }
     line
 }
+
+const PLAN_ONE: &str = "mapf-plan 1\n";
+
+const PLAN_TWO: &str = "mapf-plan 2\n";
+
+/// The plan text in the other version, unless its answer is a limit: in all else the versions are alike.
+pub fn plan_in_other_version(alloc: Global, text: &str) -> Result<Option<String>, AllocError> {
+    if text.lines().any(|line| line.starts_with("limit")) {
+        return Ok(None);
+    }
+    if let Some(rest) = text.strip_prefix(PLAN_ONE) {
+        return Ok(Some(format!(in alloc; "{PLAN_TWO}{rest}")?));
+    }
+    if let Some(rest) = text.strip_prefix(PLAN_TWO) {
+        return Ok(Some(format!(in alloc; "{PLAN_ONE}{rest}")?));
+    }
+    Ok(None)
+}

@@ -3,7 +3,8 @@
 ghost use Rattle.std.specs.Prelude.{◌≡◌, None, false, IsSome, OnSome};
 
 use crate::problems::{
-    AT_REST, CROSSING, CROSSING_CERT, CROSSING_PLAN, ROTATION_CERT, ROTATION_PLAN,
+    AT_REST, CROSSING, CROSSING_CERT, CROSSING_PLAN, EXCHANGE, EXCHANGE_STOPPED_CERT,
+    ROTATION_CERT, ROTATION_PLAN,
 };
 use crate::runs::problem_of;
 use crate::version_one::CROSSING_ONE;
@@ -13,7 +14,7 @@ use mapf_certificate::{
 };
 use mapf_model::devices::{FuseSource, Pace};
 use mapf_model::{
-    Block, BytesSink, BytesSource, Cell, Claim, Entry, Item, Label, ReadEnd, Source, Tick,
+    Block, BytesSink, BytesSource, Cause, Cell, Claim, Entry, Item, Label, ReadEnd, Source, Tick,
     read_all, write_all,
 };
 use std::test::Fail;
@@ -167,7 +168,7 @@ fn reads_the_value_of_a_plan(rt: HostRuntime) -> Result<(), Fail> {
     let problem = problem_of(rt.alloc(), &CROSSING).ok_or("no problem")?;
     let text = read_plan(rt.alloc(), CROSSING_PLAN.as_bytes(), problem.grid());
     let text = text.ok().ok_or("no plan text")?;
-    assert_eq!(rt; text.agents, 2);
+    assert_eq!(rt; (text.version, text.agents), (Version::Two, 2));
     let found = match text.answer {
         PlanAnswer::Found(plan) => Some(plan),
         _ => None,
@@ -182,31 +183,127 @@ fn reads_the_value_of_a_plan(rt: HostRuntime) -> Result<(), Fail> {
     Ok(())
 }
 
+// Why a search was stopped, and with which bound, if the answer tells so.
+fn stop_of(answer: &PlanAnswer) -> Option<(Cause, Option<u64>)> {
+    match answer {
+        PlanAnswer::Limit(cause) => Some((*cause, None)),
+        PlanAnswer::Bounded { cause, bound } => Some((*cause, Some(*bound))),
+        _ => None,
+    }
+}
+
+// Plan texts of a limit, each with its version and what it says.
+const STOPS: [(&str, Version, Cause, Option<u64>); 4] = [
+    (
+        "mapf-plan 1\nagents 1\nlimit 0\nend\n",
+        Version::One,
+        Cause::Splits(0),
+        None,
+    ),
+    (
+        "mapf-plan 1\nagents 1\nlimit ticks\nend\n",
+        Version::One,
+        Cause::Ticks,
+        None,
+    ),
+    (
+        "mapf-plan 2\nagents 1\nlimit 100000 bound 1999999800\nend\n",
+        Version::Two,
+        Cause::Splits(100_000),
+        Some(1_999_999_800),
+    ),
+    (
+        "mapf-plan 2\nagents 1\nlimit ticks bound 0\nend\n",
+        Version::Two,
+        Cause::Ticks,
+        Some(0),
+    ),
+];
+
 #[test]
-fn writes_values_made_by_hand(rt: HostRuntime) -> Result<(), Fail> {
+fn reads_and_writes_the_value_of_a_limit(rt: HostRuntime) -> Result<(), Fail> {
     let problem = problem_of(rt.alloc(), &AT_REST).ok_or("no problem")?;
+    for (bytes, version, cause, bound) in STOPS {
+        let text = read_plan(rt.alloc(), bytes.as_bytes(), problem.grid());
+        let text = text.ok().ok_or("no plan text")?;
+        assert_eq!(rt; (text.version, text.agents), (version, 1));
+        assert_eq!(rt; stop_of(&text.answer), Some((cause, bound)));
+        let written = write_plan(rt.alloc(), &text, problem.grid())?;
+        assert_eq!(rt; written.as_slice(), bytes.as_bytes());
+    }
+    Ok(())
+}
+
+#[test]
+fn writes_plan_texts_made_by_hand(rt: HostRuntime) -> Result<(), Fail> {
+    let problem = problem_of(rt.alloc(), &AT_REST).ok_or("no problem")?;
+    for (version, wanted) in [
+        (Version::One, "mapf-plan 1\nagents 200\nimpossible\nend\n"),
+        (Version::Two, "mapf-plan 2\nagents 200\nimpossible\nend\n"),
+    ] {
+        let text = PlanText {
+            version,
+            agents: 200,
+            answer: PlanAnswer::Impossible,
+        };
+        let bytes = write_plan(rt.alloc(), &text, problem.grid())?;
+        assert_eq!(rt; bytes.as_slice(), wanted.as_bytes());
+    }
     let text = PlanText {
+        version: Version::Two,
         agents: 200,
-        answer: PlanAnswer::Impossible,
+        answer: PlanAnswer::Bounded {
+            cause: Cause::Splits(3),
+            bound: 4,
+        },
     };
     let bytes = write_plan(rt.alloc(), &text, problem.grid())?;
     assert_eq!(rt;
         bytes.as_slice(),
-        b"mapf-plan 1\nagents 200\nimpossible\nend\n".as_slice()
+        b"mapf-plan 2\nagents 200\nlimit 3 bound 4\nend\n".as_slice()
     );
-    let mut tree = Vec::new(rt.alloc());
-    tree.push(Item::Clash { i: 0, j: 199 })?;
-    let cert = Cert {
-        version: Version::Two,
-        agents: 200,
-        claim: Claim::Impossible,
-        tree,
-    };
-    let bytes = write_cert(rt.alloc(), &cert, problem.grid())?;
-    assert_eq!(rt;
-        bytes.as_slice(),
-        b"mapf-cert 2\nagents 200\nclaim impossible\nclash 0 199\nend\n".as_slice()
-    );
+    Ok(())
+}
+
+#[test]
+fn writes_certificates_made_by_hand(rt: HostRuntime) -> Result<(), Fail> {
+    let problem = problem_of(rt.alloc(), &AT_REST).ok_or("no problem")?;
+    for (claim, wanted) in [
+        (
+            Claim::Impossible,
+            "mapf-cert 2\nagents 200\nclaim impossible\nclash 0 199\nend\n",
+        ),
+        (
+            Claim::Bound(1_999_999_800),
+            "mapf-cert 2\nagents 200\nclaim bound 1999999800\nclash 0 199\nend\n",
+        ),
+    ] {
+        let mut tree = Vec::new(rt.alloc());
+        tree.push(Item::Clash { i: 0, j: 199 })?;
+        let cert = Cert {
+            version: Version::Two,
+            agents: 200,
+            claim,
+            tree,
+        };
+        let bytes = write_cert(rt.alloc(), &cert, problem.grid())?;
+        assert_eq!(rt; bytes.as_slice(), wanted.as_bytes());
+    }
+    Ok(())
+}
+
+#[test]
+fn reads_the_claim_of_a_bound(rt: HostRuntime) -> Result<(), Fail> {
+    let problem = problem_of(rt.alloc(), &EXCHANGE).ok_or("no problem")?;
+    let cert = read_cert(rt.alloc(), EXCHANGE_STOPPED_CERT.as_bytes(), problem.grid());
+    let cert = cert.ok().ok_or("no certificate")?;
+    assert_eq!(rt; cert.version, Version::Two);
+    assert_eq!(rt; (cert.agents, cert.claim), (2, Claim::Bound(4)));
+    assert_eq!(rt; cert.tree.len(), 7);
+    let mut source = BytesSource::of(EXCHANGE_STOPPED_CERT.as_bytes());
+    let mut lines = CertLines::open(rt.alloc(), 2, 1, 300)?;
+    let header = lines.header(&mut source).ok().ok_or("no header")?;
+    assert_eq!(rt; header, (2, Claim::Bound(4)));
     Ok(())
 }
 
