@@ -4,8 +4,9 @@ ghost use Rattle.std.specs.Prelude.{◌≤◌};
 
 use crate::checking::{Change, assert_changes, assert_judged};
 use crate::problems::{
-    CROSSING, CROSSING_MAP, CROSSING_PLAN, CROSSING_SCEN, EXCHANGE, EXCHANGE_STOPPED_CERT,
-    EXCHANGE_STOPPED_PLAN, NICHE, NICHE_CERT, NICHE_PLAN,
+    CROSSING, CROSSING_MAP, CROSSING_PLAN, CROSSING_SCEN, CROSSING_STOPPED_CERT,
+    CROSSING_STOPPED_PLAN, EXCHANGE, EXCHANGE_STOPPED_CERT, EXCHANGE_STOPPED_PLAN, NICHE,
+    NICHE_CERT, NICHE_PLAN,
 };
 use crate::runs::{Given, problem_of, solve};
 use crate::texts::{line_cut, with_lines};
@@ -78,7 +79,10 @@ fn assert_bytes(
 #[test]
 fn accepts_no_change_of_a_byte(rt: HostRuntime) -> Result<(), Fail> {
     let texts = (CROSSING_PLAN, CROSSING_ONE);
-    assert_bytes(&rt, rt.alloc(), &CROSSING, texts, (0, 111), &[])
+    assert_bytes(&rt, rt.alloc(), &CROSSING, texts, (0, 111), &[])?;
+    let texts = (CROSSING_STOPPED_PLAN, CROSSING_STOPPED_CERT);
+    assert_eq!(rt; CROSSING_STOPPED_CERT.len(), 46);
+    assert_bytes(&rt, rt.alloc(), &CROSSING, texts, (0, 46), &[])
 }
 
 // A lower label of the start that is enough, or another entry in place of one that isn't needed.
