@@ -1,5 +1,5 @@
 -- Numbers in a line: what is read is spelled so, and what is spelled so is read.
-use Rattle.std.proofs.Common.{◌≡◌, ℕ, ◌<◌, ◌≤◌, ◌^◌, ◌+◌, ◌*◌, ◌/◌, ◌%◌, ◌&&◌, Bool, true, false, not, cond, nat_lt, nat_le, List, [], ◌∷◌, ◌++◌, length, get_or, drop, Option, Some, None, Result, Ok, Err, suc, zero, arith, refl, sym, ap, subst, ◌∙◌, inl, inr, ◌⊎◌, append-nil, append_assoc, take-append-drop}
+use Rattle.std.proofs.Common.{◌≡◌, ℕ, ◌<◌, ◌≤◌, ◌^◌, ◌+◌, ◌*◌, ◌/◌, ◌%◌, ◌&&◌, Bool, true, false, not, cond, nat_lt, nat_le, List, [], ◌∷◌, ◌++◌, length, get_or, drop, Option, Some, None, Result, Ok, Err, suc, zero, arith, refl, sym, ap, subst, ◌∙◌, inl, inr, ◌⊎◌, append-nil, append_assoc, take-append-drop, length-drop}
 use Rattle.std.specs.Prelude.{◌==◌, take_while}
 use Rattle.std.specs.Char.{is_ascii_digit, digit_value}
 use Rattle.std.specs.Fmt.{decimal}
@@ -11,39 +11,12 @@ use Rattle.std.proofs.lemmas.List.Folds.{length-prefix_len}
 use Rattle.std.proofs.lemmas.Nat.{mul-add-lt, div-mul-add, mod-mul-add, rows}
 use Rattle.std.proofs.lemmas.Bool.{lt-ltb, ltb-true, le-leb, leb-true, eq-eqb, eqb-true}
 use Rattle.std.proofs.lemmas.Bool.Decides.{nat_tests}
-use Rattle.std.proofs.lemmas.Option.{some_pair_parts}
 use Rattle.std.proofs.lemmas.Grind.{common_steps}
-use Rattle.mapf_certificate.specs.declared.line.LineFault.{LineFault}
-use Rattle.mapf_certificate.specs.declared.line.LineFault.TheVariants.{Shape, Range}
-use Rattle.mapf_certificate.specs.Numbers.{◌>>=◌, field, pair, begins_well, small_value, front_digits, after_digits, read_number, read_field, read_last, read_pair, in_range, below, read_cell}
-use Rattle.mapf_certificate.proofs.Digits.{AllDigits-front_digits, small}
-
--- what a test let through
-pub guarded : {X E : Type 0} (b : Bool) (err : E) (r : Result X E) (x : X) → cond b r (Err err) ≡ Ok x → (b ≡ true) × (r ≡ Ok x)
-guarded true err r x e = (refl, e)
-guarded false err r x e = cc
-
-pub both : (a b : Bool) → (a && b) ≡ true → (a ≡ true) × (b ≡ true)
-both true b e = (refl, e)
-both false b e = cc
-
--- what a bind that succeeds went through, to a goal: the values are variables there
-pub through : {A B E : Type 0} {P : Type 0} (r : Result A E) (f : A → Result B E) (y : B) → (r >>= f) ≡ Ok y → ((x : A) → r ≡ Ok x → f x ≡ Ok y → P) → P
-through (Ok x) f y e more = more x refl e
-through (Err d) f y e more = cc
-
-pub same_ok : {A E : Type 0} (x y : A) → ◌≡◌ {A = Result A E} (Ok x) (Ok y) → x ≡ y
-same_ok x y e = cc
-
--- the error of another type's result is one
-pub same_err : {A E : Type 0} (x y : E) → ◌≡◌ {A = Result A E} (Err x) (Err y) → x ≡ y
-same_err x y e = cc
-
-pub same_some : {A : Type 0} (x y : A) → ◌≡◌ {A = Option A} (Some x) (Some y) → x ≡ y
-same_some x y e = cc
-
-pub ok_pair_parts : {A B E : Type 0} (a x : A) (b y : B) → ◌≡◌ {A = Result (A × B) E} (Ok (a, b)) (Ok (x, y)) → (a ≡ x) × (b ≡ y)
-ok_pair_parts a x b y e = some_pair_parts a x b y (ap (λ r. elim r [ Ok p ↦ Some p | Err f ↦ None ]) e)
+use Rattle.mapf_fields.specs.declared.fault.LineFault.{LineFault}
+use Rattle.mapf_fields.specs.declared.fault.LineFault.TheVariants.{Shape, Range}
+use Rattle.mapf_fields.specs.Numbers.{field, pair, begins_well, small_value, front_digits, after_digits, read_number, read_field, read_last, read_pair, in_range, below, read_cell}
+use Rattle.mapf_fields.proofs.Binds.{guarded, both, through, same_ok, ok_pair_parts}
+use Rattle.mapf_fields.proofs.Digits.{AllDigits-front_digits, small}
 
 own : IsNumeralModel (AllDigits 10) (digits_value 10)
 own = numerals_by_value _ tells_digits
@@ -226,3 +199,37 @@ pair_again width cell rest column row past =
     ap (read_field 32) (append_assoc (field 32 (cell % width)) (field 44 (cell / width)) rest) ∙ field_again 32 (cell % width) (field 44 (cell / width) ++ rest) column refl in
     let b = field_again 44 (cell / width) rest row past in
     rw (a, b) refl
+
+pub field_below : (mark bound : ℕ) (bs : List ℕ) (p : Option ℕ × List ℕ) (n : ℕ) → read_field mark bs ≡ Ok p → below bound p.0 ≡ Ok n → (bs ≡ field mark n ++ p.1) × (n < bound)
+field_below mark bound bs p n e ranged =
+    let (is, less) = below_takes bound p.0 n ranged in
+    ((field_takes mark bs p.1 n (e ∙ ap (λ v. Ok (v, p.1)) is)).0, less)
+
+pub field_range : (mark least most : ℕ) (bs : List ℕ) (p : Option ℕ × List ℕ) (n : ℕ) → read_field mark bs ≡ Ok p → in_range least most p.0 ≡ Ok n → (bs ≡ field mark n ++ p.1) × (least ≤ n) × (n ≤ most)
+field_range mark least most bs p n e ranged =
+    let (is, above, under) = range_takes least most p.0 n ranged in
+    ((field_takes mark bs p.1 n (e ∙ ap (λ v. Ok (v, p.1)) is)).0, above, under)
+
+pub last_below : (mark bound : ℕ) (bs : List ℕ) (v : Option ℕ) (n : ℕ) → read_last mark bs ≡ Ok v → below bound v ≡ Ok n → (bs ≡ field mark n) × (n < bound)
+last_below mark bound bs v n e ranged =
+    let (is, less) = below_takes bound v n ranged in
+    ((last_takes mark bs n (e ∙ ap Ok is)).0, less)
+
+pub last_range : (mark least most : ℕ) (bs : List ℕ) (v : Option ℕ) (n : ℕ) → read_last mark bs ≡ Ok v → in_range least most v ≡ Ok n → (bs ≡ field mark n) × (least ≤ n) × (n ≤ most)
+last_range mark least most bs v n e ranged =
+    let (is, above, under) = range_takes least most v n ranged in
+    ((last_takes mark bs n (e ∙ ap Ok is)).0, above, under)
+
+pub number_shorter : (bs rest : List ℕ) (v : Option ℕ) → read_number bs ≡ Ok (v, rest) → length rest ≤ length bs
+unfolding read_number
+number_shorter bs rest v e =
+    let (begins, parts) = guarded (begins_well (front_digits bs)) Shape _ _ e in
+    let (value, after) = ok_pair_parts _ v (after_digits bs) rest parts in
+    omega (arith, ap length after, length-drop (length (front_digits bs)) bs)
+
+pub field_shorter : (mark : ℕ) (bs rest : List ℕ) (v : Option ℕ) → read_field mark bs ≡ Ok (v, rest) → length rest < length bs
+unfolding read_field
+field_shorter mark [] rest v e = cc
+field_shorter mark (b ∷ bs) rest v e =
+    let (same, more) = guarded (b == mark) Shape _ _ e in
+    omega (arith, number_shorter bs rest v more)

@@ -2,9 +2,9 @@ use Rattle.std.proofs.Common.{◌≡◌, ◌+◌, ◌≤◌, ◌<◌, ◌^◌, l
 use Rattle.std.specs.Str.Parse.{digits_value}
 use Rattle.std.proofs.lemmas.Str.Parse.{digit_at}
 use Rattle.std.proofs.lemmas.List.{take_all}
-use Rattle.mapf_certificate.specs.Numbers.{small_value}
-use Rattle.mapf_certificate.proofs.Digits.{small, value_more, large_front}
-use Rattle.mapf_certificate.proofs.field.value_of.Goals as goal
+use Rattle.mapf_fields.specs.Numbers.{small_value}
+use Rattle.mapf_fields.proofs.Digits.{small, value_more, large_front}
+use Rattle.mapf_fields.proofs.numbers.value_of.Goals as goal
 
 pub overflow_sub-digit : goal.overflow_sub-digit
 overflow_sub-digit c = (digit_at c.args.digits.now c.loop-digit.digit-index c.requires c.loop-digit-test.true).0

@@ -9,7 +9,7 @@ use Rattle.std.proofs.lemmas.List.Sums.{take_while-cons}
 use Rattle.std.proofs.lemmas.List.Folds.{length-prefix_len}
 use Rattle.std.proofs.lemmas.Bool.{lt-ltb, ltb-true}
 use Rattle.std.proofs.lemmas.Bool.Decides.{nat_tests}
-use Rattle.mapf_certificate.specs.Numbers.{small_value, front_digits}
+use Rattle.mapf_fields.specs.Numbers.{small_value, front_digits}
 
 pub small : (ds : List ℕ) → digits_value 10 ds < 2 ^ 64 → small_value ds ≡ Some (digits_value 10 ds)
 unfolding small_value

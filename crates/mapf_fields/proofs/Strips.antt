@@ -1,8 +1,9 @@
 -- What follows a front.
-use Rattle.std.proofs.Common.{◌≡◌, ◌≢◌, ℕ, Bool, true, false, cond, List, [], ◌∷◌, ◌++◌, Option, Some, None, MatchOption, option_map, Bor, refl, sym, ap, ◌∙◌}
+use Rattle.std.proofs.Common.{◌≡◌, ◌≢◌, ℕ, Bool, true, false, cond, List, [], ◌∷◌, ◌++◌, Option, Some, None, MatchOption, option_map, Bor, Result, Ok, refl, sym, ap, subst, ◌∙◌}
 use Rattle.std.specs.Prelude.{◌==◌}
+use Rattle.std.specs.Option.{option_map_or}
 use Rattle.std.proofs.lemmas.Bool.{eqb-true, eq-eqb}
-use Rattle.mapf_certificate.specs.Numbers.{strip}
+use Rattle.mapf_fields.specs.Numbers.{strip}
 
 pub strip-append : (p xs : List ℕ) → strip p (p ++ xs) ≡ Some xs
 strip-append [] xs = refl
@@ -32,3 +33,13 @@ strip-none p xs none = by (strip p xs) refl
 pub strip_is : (p xs : List ℕ) (r : Option (Bor (List ℕ))) → MatchOption r ((rest : List ℕ) → xs ≢ p ++ rest) (λ x. xs ≡ p ++ x.now) → option_map (λ x. x.now) r ≡ strip p xs
 strip_is p xs None h = sym (strip-none p xs h)
 strip_is p xs (Some x) h = sym (ap (strip p) h ∙ strip-append p x.now)
+
+-- what was read after a front, or else
+pub front_takes : {A E : Type 0} (P : List ℕ → Type 0) (front bs : List ℕ) (f : List ℕ → Result A E) (other : Result A E) (line : A)
+    → ((rest : List ℕ) → f rest ≡ Ok line → P (front ++ rest)) → (other ≡ Ok line → P bs)
+    → option_map_or f (strip front bs) other ≡ Ok line → P bs
+front_takes P front bs f other line takes more e = by (strip front bs) refl e
+  where
+    by : (o : Option (List ℕ)) → strip front bs ≡ o → option_map_or f o other ≡ Ok line → P bs
+    by (Some rest) is made = subst P (sym (strip-some front bs rest is)) (takes rest made)
+    by None is made = more made

@@ -3,8 +3,8 @@ use Rattle.std.specs.Prelude.{◌≡◌, ℕ, ◌==◌, ◌&&◌, ◌^◌, ◌+�
 use Rattle.std.specs.Char.{is_ascii_digit}
 use Rattle.std.specs.Fmt.{decimal}
 use Rattle.std.specs.Str.Parse.{digits_value}
-use Rattle.mapf_certificate.specs.declared.line.LineFault.{LineFault}
-use Rattle.mapf_certificate.specs.declared.line.LineFault.TheVariants.{Shape, Range}
+use Rattle.mapf_fields.specs.declared.fault.LineFault.{LineFault}
+use Rattle.mapf_fields.specs.declared.fault.LineFault.TheVariants.{Shape, Range}
 
 -- a number after its mark, which is a blank or a comma
 abbrev pub field : ℕ → ℕ → List ℕ

@@ -1,11 +1,11 @@
 ghost use Rattle.std.specs.Prelude.{◌≡◌, ◌≤◌, ◌<◌, ◌+◌, length, take, IfOk, Ok, Err, option_map, true};
 ghost use Rattle.std.specs.Str.Parse.{AllDigits};
-ghost use Rattle.mapf_certificate.specs.Numbers.{Gives, strip, begins_well, small_value, front_digits, read_number};
-ghost use Rattle.mapf_certificate.specs.Numbers.{read_field, read_last, read_pair};
+ghost use Rattle.mapf_fields.specs.Numbers.{Gives, strip, begins_well, small_value, front_digits, read_number};
+ghost use Rattle.mapf_fields.specs.Numbers.{read_field, read_last, read_pair};
 
-use crate::line::LineFault;
+use crate::fault::LineFault;
 
-/// What follows the front, where the bytes begin with it.
+/// What follows the front, where the bytes begin with it; else None.
 pub fn strip<'a>(bytes: &'a [u8], front: &[u8]) -> Option<&'a [u8]>
     ensures { option_map (λ r. r.now) result ≡ strip front.now bytes.entry.now }
 {
@@ -57,7 +57,8 @@ fn number(bytes: &[u8]) -> Result<(Option<u64>, &[u8]), LineFault>
     }
 }
 
-/// The number after its mark that bytes begin with, and the bytes after it.
+/// The number after its mark that bytes begin with, and the bytes after it. The number has no leading
+/// zeros, and is None from 2^64 on. `LineFault::Shape` where the bytes don't begin so.
 #[tactic(auto, unfolding(crate::specs::Numbers::read_field))]
 pub fn field(mark: u8, bytes: &[u8]) -> Result<(Option<u64>, &[u8]), LineFault>
     ensures { Gives (λ p. (p.0, p.1.now)) result (read_field mark bytes.entry.now) }
@@ -68,7 +69,8 @@ pub fn field(mark: u8, bytes: &[u8]) -> Result<(Option<u64>, &[u8]), LineFault>
     }
 }
 
-/// The number after its mark that bytes are.
+/// The number after its mark that bytes are, with nothing after it. The number has no leading zeros, and
+/// is None from 2^64 on. `LineFault::Shape` where the bytes aren't so.
 #[tactic(auto, unfolding(crate::specs::Numbers::read_last))]
 pub fn last(mark: u8, bytes: &[u8]) -> Result<Option<u64>, LineFault>
     ensures { result ≡ read_last mark bytes.now }
@@ -81,7 +83,9 @@ pub fn last(mark: u8, bytes: &[u8]) -> Result<Option<u64>, LineFault>
     }
 }
 
-/// The column and the row that bytes begin with, and the bytes after them.
+/// The column after a blank and the row after a comma that bytes begin with, and the bytes after them.
+/// Neither has leading zeros, and each is None from 2^64 on. `LineFault::Shape` where the bytes don't
+/// begin so.
 #[tactic(auto, unfolding(crate::specs::Numbers::read_pair))]
 pub fn pair(bytes: &[u8]) -> Result<(Option<u64>, Option<u64>, &[u8]), LineFault>
     ensures { Gives (λ p. (p.0, p.1, p.2.now)) result (read_pair bytes.entry.now) }
