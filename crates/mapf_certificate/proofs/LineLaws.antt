@@ -13,9 +13,9 @@ use Rattle.mapf_model.specs.declared.label.Label.TheVariants as labels
 use Rattle.mapf_model.specs.declared.label.Entry.{Entry}
 use Rattle.mapf_model.specs.Printed.{IsLabelInRange, IsEntryInRange}
 use Rattle.mapf_fields.specs.Numbers.{◌>>=◌, field, pair, strip, read_field, read_last, read_pair, in_range, below, read_cell}
-use Rattle.mapf_fields.proofs.Binds.{guarded, through, same_ok}
-use Rattle.mapf_fields.proofs.Strips.{strip-some}
-use Rattle.mapf_fields.proofs.Fields.{IsPastDigits, field_takes, field_again, last_takes, last_again, pair_takes, pair_again, below_takes, below_again, range_takes, range_again, cell_again, row-below}
+use Rattle.mapf_fields.proofs.Binds.{guarded, through, same_ok, then_ok, chosen}
+use Rattle.mapf_fields.proofs.Strips.{front_takes}
+use Rattle.mapf_fields.proofs.Fields.{IsPastDigits, field_again, last_again, pair_takes, pair_again, below_again, range_again, cell_again, row-below, field_below, field_range, last_below, last_range}
 use Rattle.mapf_certificate.specs.declared.version.Version.{Version}
 use Rattle.mapf_certificate.specs.declared.version.Version.TheVariants.{One, Two}
 use Rattle.mapf_certificate.specs.declared.line.CertLine.{CertLine}

@@ -5,7 +5,7 @@ use Rattle.std.proofs.Math.Seq.{take-append_seam, drop-append-add}
 use Rattle.std.proofs.lemmas.Bool.{cases_lt}
 use Rattle.std.proofs.lemmas.List.{take-append-le, take-append-drop, length-take-le, length-take, take_all}
 use Rattle.mapf_fields.specs.Ends.{IsCut, lacks_end}
-use Rattle.mapf_fields.proofs.Binds.{both}
+use Rattle.mapf_fields.proofs.Cuts.{has_end, has_end_soon}
 use Rattle.mapf_fields.proofs.Plain.{same_front}
 use Rattle.mapf_certificate.specs.declared.buffer.NoLine.{NoLine}
 use Rattle.mapf_certificate.specs.declared.buffer.NoLine.TheVariants as stops

@@ -5,8 +5,8 @@ use Rattle.std.proofs.lemmas.Grind.{flat_map-append, common_steps}
 use Rattle.mapf_model.specs.Printed.{IsOnGrid}
 use Rattle.mapf_fields.specs.declared.fault.LineFault.TheVariants.{Shape}
 use Rattle.mapf_fields.specs.Numbers.{field, pair, begins_well, front_digits, after_digits, read_number, read_field, read_pair}
-use Rattle.mapf_fields.proofs.Binds.{guarded, through, same_ok, ok_pair_parts}
-use Rattle.mapf_fields.proofs.Fields.{IsPastDigits}
+use Rattle.mapf_fields.proofs.Binds.{through, same_ok, ok_pair_parts}
+use Rattle.mapf_fields.proofs.Fields.{IsPastDigits, field_shorter}
 use Rattle.mapf_certificate.specs.declared.sizes.Sizes.{Sizes}
 use Rattle.mapf_certificate.specs.Lines.{grid_for}
 use Rattle.std.specs.Fmt.{decimal}

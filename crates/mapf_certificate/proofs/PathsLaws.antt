@@ -6,7 +6,7 @@ use Rattle.std.proofs.lemmas.List.Sums.{sum_by-append}
 use Rattle.mapf_model.specs.Printed.{IsOnGrid, IsPathInRange}
 use Rattle.mapf_fields.specs.Numbers.{field, pair}
 use Rattle.mapf_fields.specs.Ends.{lacks_end}
-use Rattle.mapf_fields.proofs.Plain.{plain-field, plain-pair}
+use Rattle.mapf_fields.proofs.Plain.{plain-field, plain-pair, lacks-append}
 use Rattle.mapf_certificate.specs.declared.sizes.Sizes.{Sizes}
 use Rattle.mapf_certificate.specs.Lines.{grid_for}
 use Rattle.mapf_certificate.specs.Plans.{cells_text, path_words, path_text, paths_text, ticks_of, ArePaths, PathsGoOn}

@@ -12,9 +12,8 @@ use Rattle.mapf_model.specs.declared.label.Label.{Label}
 use Rattle.mapf_model.specs.declared.label.Label.TheVariants as labels
 use Rattle.mapf_model.specs.Printed.{IsLabelInRange}
 use Rattle.mapf_fields.specs.Numbers.{field, pair}
-use Rattle.mapf_fields.specs.Ends.{lacks_end}
-use Rattle.mapf_fields.proofs.Binds.{both, same_ok}
-use Rattle.mapf_fields.proofs.Fields.{row-below}
+use Rattle.mapf_fields.proofs.Binds.{same_ok}
+use Rattle.mapf_fields.proofs.Plain.{IsPlain, plain-append, plain-more, plain-word, plain-field, plain-pair, same_front, some_of}
 use Rattle.mapf_certificate.specs.declared.version.Version.{Version}
 use Rattle.mapf_certificate.specs.declared.version.Version.TheVariants.{One, Two}
 use Rattle.mapf_certificate.specs.declared.line.CertLine.{CertLine}
