@@ -1,8 +1,7 @@
 -- Lines of a certificate: what is read is spelled so, and what is spelled so is read.
-use Rattle.std.proofs.Common.{◌≡◌, ℕ, ◌<◌, ◌≤◌, ◌^◌, ◌-◌, ◌/◌, ◌%◌, ◌*◌, Bool, true, false, cond, List, [], ◌∷◌, ◌++◌, codes, drop, Option, Some, None, Result, Ok, Err, refl, sym, ap, subst, ◌∙◌, arith, inl, inr, ◌⊎◌}
+use Rattle.std.proofs.Common.{◌≡◌, ℕ, ◌<◌, ◌≤◌, ◌^◌, ◌-◌, ◌/◌, ◌%◌, ◌*◌, Bool, true, false, cond, List, [], ◌∷◌, ◌++◌, codes, drop, Option, Some, None, Result, Ok, Err, refl, sym, ap, subst, ◌∙◌, arith, inl, inr}
 use Rattle.std.specs.Str.Parse.{AllDigits}
 use Rattle.std.proofs.lemmas.Fmt.{decimal_is_IsNumeral}
-use Rattle.std.specs.Option.{option_map_or}
 use Rattle.std.specs.Str.{bytes_eq}
 use Rattle.std.proofs.lemmas.Slice.Eq.{bytes_eq-Decides}
 use Rattle.mapf_model.specs.declared.conflict.Conflict.TheVariants as conflicts
@@ -12,7 +11,7 @@ use Rattle.mapf_model.specs.declared.label.Label.{Label}
 use Rattle.mapf_model.specs.declared.label.Label.TheVariants as labels
 use Rattle.mapf_model.specs.declared.label.Entry.{Entry}
 use Rattle.mapf_model.specs.Printed.{IsLabelInRange, IsEntryInRange}
-use Rattle.mapf_fields.specs.Numbers.{◌>>=◌, field, pair, strip, read_field, read_last, read_pair, in_range, below, read_cell}
+use Rattle.mapf_fields.specs.Numbers.{◌>>=◌, field, pair, read_field, read_last, read_pair, in_range, below, read_cell}
 use Rattle.mapf_fields.proofs.Binds.{guarded, through, same_ok, then_ok, chosen}
 use Rattle.mapf_fields.proofs.Strips.{front_takes}
 use Rattle.mapf_fields.proofs.Fields.{IsPastDigits, field_again, last_again, pair_takes, pair_again, below_again, range_again, cell_again, row-below, field_below, field_range, last_below, last_range}

@@ -1,10 +1,9 @@
 -- The pairs of a path's line, and the paths of a plan, read one after another.
-use Rattle.std.proofs.Common.{◌≡◌, ◌≢◌, ℕ, ◌<◌, ◌≤◌, ◌^◌, ◌/◌, ◌%◌, Bool, true, false, cond, List, [], ◌∷◌, ◌++◌, length, Option, Some, Result, Ok, Err, refl, sym, ap, subst, ◌∙◌, arith, append_assoc, append-nil, length-drop, All, ◌==◌, suc, zero, is_ok, is_err}
+use Rattle.std.proofs.Common.{◌≡◌, ◌≢◌, ℕ, ◌<◌, ◌≤◌, ◌^◌, ◌/◌, ◌%◌, Bool, true, false, cond, List, [], ◌∷◌, ◌++◌, length, Option, Some, Result, Ok, Err, refl, sym, ap, subst, ◌∙◌, arith, append_assoc, append-nil, All, ◌==◌, suc, zero, is_ok, is_err}
 use Rattle.std.proofs.lemmas.List.Elements.{All-append}
 use Rattle.std.proofs.lemmas.Grind.{flat_map-append, common_steps}
 use Rattle.mapf_model.specs.Printed.{IsOnGrid}
-use Rattle.mapf_fields.specs.declared.fault.LineFault.TheVariants.{Shape}
-use Rattle.mapf_fields.specs.Numbers.{field, pair, begins_well, front_digits, after_digits, read_number, read_field, read_pair}
+use Rattle.mapf_fields.specs.Numbers.{field, pair, read_field, read_pair}
 use Rattle.mapf_fields.proofs.Binds.{through, same_ok, ok_pair_parts}
 use Rattle.mapf_fields.proofs.Fields.{IsPastDigits, field_shorter}
 use Rattle.mapf_certificate.specs.declared.sizes.Sizes.{Sizes}
