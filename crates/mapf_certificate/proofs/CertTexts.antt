@@ -12,6 +12,7 @@ use Rattle.mapf_model.specs.Grid.{GridMap}
 use Rattle.mapf_model.specs.Printed.{IsConflictInRange, IsBlockInRange, AreBlocksInRange, IsTreeInRange}
 use Rattle.mapf_model.specs.Tree.{ConstraintTree, Split, Leaf, Clash, Node, SplitNode, LeafNode, ClashNode, Spell, node_of, nodes_of, nodes_of_all}
 use Rattle.mapf_model.proofs.ItemLemmas.{cut}
+use Rattle.mapf_fields.proofs.Binds.{same_some}
 use Rattle.mapf_certificate.specs.declared.version.Version.{Version}
 use Rattle.mapf_certificate.specs.declared.version.Version.TheVariants.{One, Two}
 use Rattle.mapf_certificate.specs.declared.sizes.Sizes.{Sizes}
@@ -19,7 +20,6 @@ use Rattle.mapf_certificate.specs.Lines.{grid_of, grid_for}
 use Rattle.mapf_certificate.specs.Certificates.{header_text, rest_text, cert_text, IsNodeOfVersion, IsTreeOfVersion, IsCertTree, IsRest, SpellsCert, SpellsOneCert}
 use Rattle.mapf_certificate.specs.Reading.{Reading}
 use Rattle.mapf_certificate.specs.CertReading.{IsCertText, AwaitsCert, trees_owed_after}
-use Rattle.mapf_certificate.proofs.Fields.{same_some}
 use Rattle.mapf_certificate.proofs.Nodes.{nodes_apart}
 use Rattle.mapf_certificate.proofs.Rests.{rest_starts, rest_ends}
 use Rattle.mapf_certificate.proofs.Headers.{same_header}

@@ -4,6 +4,7 @@ use Rattle.mapf_model.specs.declared.item.Claim.{Claim}
 use Rattle.mapf_model.specs.declared.item.Claim.TheVariants as claims
 use Rattle.mapf_model.specs.Grid.{GridMap}
 use Rattle.mapf_model.specs.Tree.{Node}
+use Rattle.mapf_fields.proofs.Binds.{same_some}
 use Rattle.mapf_certificate.specs.declared.version.Version.{Version}
 use Rattle.mapf_certificate.specs.declared.cert.LinesFault.{LinesFault}
 use Rattle.mapf_certificate.specs.declared.line.CertLine.{CertLine}
@@ -17,7 +18,6 @@ use Rattle.mapf_certificate.specs.CertReading.{HasHeader, Awaits, AwaitsCert}
 use Rattle.mapf_certificate.specs.Untouched.{TakesThere}
 use Rattle.mapf_certificate.specs.Window.{Window, Fails, IsNoTextFault}
 use Rattle.mapf_certificate.specs.Bounded.{BeginsWithLine}
-use Rattle.mapf_certificate.proofs.Fields.{same_some}
 use Rattle.mapf_certificate.proofs.PlainLines.{same_line}
 use Rattle.mapf_certificate.proofs.TakenThere.{there-trans}
 use Rattle.mapf_certificate.proofs.Windows.{Window-trans, Window-known, Fails-after, Fails-weaker, Fails-not}

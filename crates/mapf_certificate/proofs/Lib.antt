@@ -1,9 +1,5 @@
-pub mod Strips
-pub mod Digits
-pub mod Fields
 pub mod LineLaws
 pub mod PlainLines
-pub mod Cuts
 pub mod PlanLaws
 pub mod PlanParts
 pub mod PathLaws

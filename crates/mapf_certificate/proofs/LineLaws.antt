@@ -1,8 +1,7 @@
 -- Lines of a certificate: what is read is spelled so, and what is spelled so is read.
-use Rattle.std.proofs.Common.{◌≡◌, ℕ, ◌<◌, ◌≤◌, ◌^◌, ◌-◌, ◌/◌, ◌%◌, ◌*◌, Bool, true, false, cond, List, [], ◌∷◌, ◌++◌, codes, drop, Option, Some, None, Result, Ok, Err, refl, sym, ap, subst, ◌∙◌, arith, inl, inr, ◌⊎◌}
+use Rattle.std.proofs.Common.{◌≡◌, ℕ, ◌<◌, ◌≤◌, ◌^◌, ◌-◌, ◌/◌, ◌%◌, ◌*◌, Bool, true, false, cond, List, [], ◌∷◌, ◌++◌, codes, drop, Option, Some, None, Result, Ok, Err, refl, sym, ap, subst, ◌∙◌, arith, inl, inr}
 use Rattle.std.specs.Str.Parse.{AllDigits}
 use Rattle.std.proofs.lemmas.Fmt.{decimal_is_IsNumeral}
-use Rattle.std.specs.Option.{option_map_or}
 use Rattle.std.specs.Str.{bytes_eq}
 use Rattle.std.proofs.lemmas.Slice.Eq.{bytes_eq-Decides}
 use Rattle.mapf_model.specs.declared.conflict.Conflict.TheVariants as conflicts
@@ -12,46 +11,27 @@ use Rattle.mapf_model.specs.declared.label.Label.{Label}
 use Rattle.mapf_model.specs.declared.label.Label.TheVariants as labels
 use Rattle.mapf_model.specs.declared.label.Entry.{Entry}
 use Rattle.mapf_model.specs.Printed.{IsLabelInRange, IsEntryInRange}
+use Rattle.mapf_fields.specs.Numbers.{◌>>=◌, field, pair, read_field, read_last, read_pair, in_range, below, read_cell}
+use Rattle.mapf_fields.proofs.Binds.{guarded, through, same_ok, then_ok, chosen}
+use Rattle.mapf_fields.proofs.Strips.{front_takes}
+use Rattle.mapf_fields.proofs.Fields.{IsPastDigits, field_again, last_again, pair_takes, pair_again, below_again, range_again, cell_again, row-below, field_below, field_range, last_below, last_range}
 use Rattle.mapf_certificate.specs.declared.version.Version.{Version}
 use Rattle.mapf_certificate.specs.declared.version.Version.TheVariants.{One, Two}
 use Rattle.mapf_certificate.specs.declared.line.CertLine.{CertLine}
 use Rattle.mapf_certificate.specs.declared.line.CertLine.TheVariants as lines
-use Rattle.mapf_certificate.specs.declared.line.LineFault.{LineFault}
-use Rattle.mapf_certificate.specs.declared.line.LineFault.TheVariants.{Shape}
+use Rattle.mapf_fields.specs.declared.fault.LineFault.{LineFault}
+use Rattle.mapf_fields.specs.declared.fault.LineFault.TheVariants.{Shape}
 use Rattle.mapf_certificate.specs.declared.sizes.Sizes.{Sizes}
 use Rattle.mapf_certificate.specs.declared.tree_line.Due.{Due}
 use Rattle.mapf_certificate.specs.declared.tree_line.Due.TheVariants as dues
 use Rattle.mapf_certificate.specs.declared.tree_line.LabelWord.{LabelWord}
 use Rattle.mapf_certificate.specs.declared.tree_line.LabelWord.TheVariants as word
-use Rattle.mapf_certificate.specs.Numbers.{◌>>=◌, field, pair, strip, read_field, read_last, read_pair, in_range, below, read_cell}
 use Rattle.mapf_certificate.specs.Lines.{words, title_words, count_words, label_words, IsLine, IsCountOnSplit, IsTreeLine, IsAgentCount, IsClaimOfVersion, IsCertClaim, width_of, grid_for}
 use Rattle.mapf_certificate.specs.LineReading.{read_title, read_count, read_cost, read_agents, read_bound_claim, read_claim, read_blocks, blocks_in_range, read_vertex, read_swap, read_leaf, read_clash, read_agent, read_label_word, label_in_range, read_entry, read_tree_line, read_line}
-use Rattle.mapf_certificate.proofs.Strips.{strip-some}
-use Rattle.mapf_certificate.proofs.Fields.{guarded, through, same_ok, IsPastDigits, field_takes, field_again, last_takes, last_again, pair_takes, pair_again, below_takes, below_again, range_takes, range_again, cell_again, row-below}
 
 -- what a line is read to is spelled by it, in its ranges
 abbrev Takes : Sizes → List ℕ → CertLine → Type 0
 Takes sizes bs line = (bs ≡ words sizes.width line) × IsTreeLine sizes.version (grid_for sizes) sizes.agents line
-
-field_below : (mark bound : ℕ) (bs : List ℕ) (p : Option ℕ × List ℕ) (n : ℕ) → read_field mark bs ≡ Ok p → below bound p.0 ≡ Ok n → (bs ≡ field mark n ++ p.1) × (n < bound)
-field_below mark bound bs p n e ranged =
-    let (is, less) = below_takes bound p.0 n ranged in
-    ((field_takes mark bs p.1 n (e ∙ ap (λ v. Ok (v, p.1)) is)).0, less)
-
-pub field_range : (mark least most : ℕ) (bs : List ℕ) (p : Option ℕ × List ℕ) (n : ℕ) → read_field mark bs ≡ Ok p → in_range least most p.0 ≡ Ok n → (bs ≡ field mark n ++ p.1) × (least ≤ n) × (n ≤ most)
-field_range mark least most bs p n e ranged =
-    let (is, above, under) = range_takes least most p.0 n ranged in
-    ((field_takes mark bs p.1 n (e ∙ ap (λ v. Ok (v, p.1)) is)).0, above, under)
-
-last_below : (mark bound : ℕ) (bs : List ℕ) (v : Option ℕ) (n : ℕ) → read_last mark bs ≡ Ok v → below bound v ≡ Ok n → (bs ≡ field mark n) × (n < bound)
-last_below mark bound bs v n e ranged =
-    let (is, less) = below_takes bound v n ranged in
-    ((last_takes mark bs n (e ∙ ap Ok is)).0, less)
-
-pub last_range : (mark least most : ℕ) (bs : List ℕ) (v : Option ℕ) (n : ℕ) → read_last mark bs ≡ Ok v → in_range least most v ≡ Ok n → (bs ≡ field mark n) × (least ≤ n) × (n ≤ most)
-last_range mark least most bs v n e ranged =
-    let (is, above, under) = range_takes least most v n ranged in
-    ((last_takes mark bs n (e ∙ ap Ok is)).0, above, under)
 
 -- the number of blocks on a split
 blocks_take : (version : Version) (agents : ℕ) (bs : List ℕ) (v : Option (Option ℕ)) (n : Option ℕ) → read_blocks version bs ≡ Ok v → blocks_in_range agents v ≡ Ok n → (bs ≡ count_words n) × IsCountOnSplit version agents n
@@ -147,11 +127,6 @@ agent_takes sizes bs line e =
     let text = text1 ∙ ap (λ r. field 32 agent ++ r) text2 in
     subst (Takes sizes (codes "agent" ++ bs)) (same_ok _ line made) (ap (λ r. codes "agent" ++ r) text, (in1, low, let few : count < 2 ^ 64 = omega arith in few))))))
 
--- which way a test went
-pub chosen : {X : Type 0} (b : Bool) (x y z : X) → cond b x y ≡ z → ((b ≡ true) × (x ≡ z)) ⊎ (y ≡ z)
-chosen true x y z e = inl (refl, e)
-chosen false x y z e = inr e
-
 label_takes : (bs : List ℕ) (w : LabelWord) (label : Label) → read_label_word bs ≡ Ok w → label_in_range w ≡ Ok label → (bs ≡ label_words label) × IsLabelInRange label
 unfolding read_label_word
 label_takes bs w label e ranged = elim (chosen (bytes_eq bs (codes " inf")) _ _ _ e) [
@@ -184,15 +159,6 @@ entry_takes sizes bs line e =
     let (text3, in3) = label_takes tick.1 w label read3 is3 in
     let text = text1 ∙ ap (λ r. pair sizes.width cell ++ r) (text2 ∙ ap (λ r. field 32 ticks ++ r) text3) in
     subst (Takes sizes (codes "at" ++ bs)) (same_ok _ line made) (ap (λ r. codes "at" ++ r) text, (in1, in2, in3))))))))
-
-pub front_takes : {A : Type 0} (P : List ℕ → Type 0) (front bs : List ℕ) (f : List ℕ → Result A LineFault) (other : Result A LineFault) (line : A)
-    → ((rest : List ℕ) → f rest ≡ Ok line → P (front ++ rest)) → (other ≡ Ok line → P bs)
-    → option_map_or f (strip front bs) other ≡ Ok line → P bs
-front_takes P front bs f other line takes more e = by (strip front bs) refl e
-  where
-    by : (o : Option (List ℕ)) → strip front bs ≡ o → option_map_or f o other ≡ Ok line → P bs
-    by (Some rest) is made = subst P (sym (strip-some front bs rest is)) (takes rest made)
-    by None is made = more made
 
 end_takes : (sizes : Sizes) (bs : List ℕ) (line : CertLine) → cond (bytes_eq bs (codes "end")) (Ok lines.End) (Err Shape) ≡ Ok line → Takes sizes bs line
 end_takes sizes bs line e =
@@ -281,9 +247,6 @@ line_takes (dues.Claim version) bs line e = claim_takes version bs line e
 line_takes (dues.Tree sizes) bs line e = let (text, ranged) = tree_line_takes sizes bs line e in (ranged, text)
 
 -- and the other way round
-
-pub then_ok : {A B E : Type 0} (r : Result A E) (f : A → Result B E) (x : A) (y : B) → r ≡ Ok x → f x ≡ Ok y → (r >>= f) ≡ Ok y
-then_ok r f x y e more = ap (λ s. s >>= f) e ∙ more
 
 pub pair_cell_again : (sizes : Sizes) (cell : ℕ) (rest : List ℕ) → cell < sizes.width * sizes.height → IsPastDigits rest
     → read_pair (pair sizes.width cell ++ rest) ≡ Ok (Some (cell % sizes.width), Some (cell / sizes.width), rest)

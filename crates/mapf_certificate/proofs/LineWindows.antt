@@ -1,32 +1,22 @@
 -- What refuses a line that is due.
-use Rattle.std.proofs.Common.{◌≡◌, ℕ, ◌<◌, ◌≤◌, ◌+◌, Bool, true, not, List, [], ◌∷◌, ◌++◌, length, take, drop, Option, Some, None, suc, zero, MatchOption, IfSome, IfNone, min, sym, ap, subst, ◌∙◌, arith, inl, inr, append_assoc, ◌==◌}
+use Rattle.std.proofs.Common.{◌≡◌, ℕ, ◌<◌, ◌≤◌, ◌+◌, Bool, true, List, [], ◌∷◌, ◌++◌, length, take, drop, Option, Some, None, MatchOption, IfNone, min, sym, ap, subst, ◌∙◌, arith, inl, inr, append_assoc}
 use Rattle.std.specs.Io.KnownBytes.{IsAtEnd}
-use Rattle.std.proofs.Math.Seq.{take-append_seam, drop-append-add}
 use Rattle.std.proofs.lemmas.Bool.{cases_lt}
-use Rattle.std.proofs.lemmas.List.{take-append-le, take-append-drop, length-take-le, length-take, take_all}
+use Rattle.std.proofs.lemmas.List.{take-append-le, take_all}
+use Rattle.mapf_fields.specs.Ends.{IsCut, lacks_end}
+use Rattle.mapf_fields.proofs.Cuts.{has_end, has_end_soon}
+use Rattle.mapf_fields.proofs.Plain.{same_front}
 use Rattle.mapf_certificate.specs.declared.buffer.NoLine.{NoLine}
 use Rattle.mapf_certificate.specs.declared.buffer.NoLine.TheVariants as stops
 use Rattle.mapf_certificate.specs.declared.cert.LinesFault.{LinesFault}
 use Rattle.mapf_certificate.specs.declared.line.CertLine.{CertLine}
 use Rattle.mapf_certificate.specs.declared.tree_line.Due.{Due}
 use Rattle.mapf_certificate.specs.Buffered.{Buffered}
-use Rattle.mapf_certificate.specs.Lines.{IsLine, IsCut, words, width_of, lacks_end}
+use Rattle.mapf_certificate.specs.Lines.{IsLine, words, width_of}
 use Rattle.mapf_certificate.specs.Window.{Window, Refuses, Fails, EndsEarly, IsOverlong, LacksLine, LacksBytes, Tells}
 use Rattle.mapf_certificate.specs.Bounded.{BeginsWithLine}
-use Rattle.mapf_certificate.proofs.Fields.{both}
-use Rattle.mapf_certificate.proofs.PlainLines.{plain_line, same_front}
+use Rattle.mapf_certificate.proofs.PlainLines.{plain_line}
 use Rattle.mapf_certificate.proofs.Windows.{Fails-text, Window-trans, ComesWithin-after, Exceeds-after}
-
--- an LF stands in a line's text
-has_end : (front rest : List ℕ) → lacks_end (front ++ (10 ∷ rest)) ≡ true → ⊥
-has_end [] rest e = cc
-has_end (c ∷ cs) rest e = has_end cs rest (both (not (c == 10)) (lacks_end (cs ++ (10 ∷ rest))) e).1
-
--- also in its first bytes, where the line is short
-pub has_end_soon : (front rest : List ℕ) (n : ℕ) → length front < n → lacks_end (take n (front ++ (10 ∷ rest))) ≡ true → ⊥
-has_end_soon front rest zero h e = absurd (omega arith)
-has_end_soon [] rest (suc n) h e = cc
-has_end_soon (c ∷ cs) rest (suc n) h e = has_end_soon cs rest n (omega arith) (both (not (c == 10)) (lacks_end (take n (cs ++ (10 ∷ rest)))) e).1
 
 pub refused_early : (due : Due) (a b : Option (List ℕ)) (x y : Buffered) → EndsEarly a b x y → Refuses a b x (BeginsWithLine due)
 refused_early due a b x y early = record {
@@ -65,21 +55,6 @@ refused_line due a b x y line rest window found never = record {
       never is.value is.is (same_front line (words (width_of due) is.value) (rest ++ more) is.rest found.whole (plain_line due is.value is.is).ends front).0);
 }
 
--- the first line of a front is that of the whole
-at_place : (bs line rest : List ℕ) → bs ≡ line ++ (10 ∷ rest) → (take (length line) bs ≡ line) × (drop (length line + 1) bs ≡ rest)
-at_place bs line rest e = (ap (take (length line)) e ∙ take-append_seam line (10 ∷ rest), ap (drop (length line + 1)) e ∙ drop-append-add line (10 ∷ rest) 1)
-
-pub first_of_front : (bs : List ℕ) (m n : ℕ) → (n < length (take m bs)) × IsCut (take m bs) (take n (take m bs)) (drop (n + 1) (take m bs)) → (n < length bs) × IsCut bs (take n bs) (drop (n + 1) bs)
-first_of_front bs m n (inside, found) =
-    let line = take n (take m bs) in
-    let rest = drop (n + 1) (take m bs) ++ drop m bs in
-    let all : bs ≡ line ++ (10 ∷ rest) = sym (take-append-drop m bs) ∙ ap (λ l. l ++ drop m bs) found.same ∙ append_assoc line (10 ∷ drop (n + 1) (take m bs)) (drop m bs) in
-    let many : length line ≡ n = length-take-le n (take m bs) (omega arith) in
-    let (front, back) = at_place bs line rest all in
-    let P : ℕ → Type 0 = λ k. (take k bs ≡ line) × (drop (k + 1) bs ≡ rest) in
-    let (front', back') = subst P many (front, back) in
-    (omega (arith, length-take m bs), record { same = all ∙ ap (λ l. l ++ (10 ∷ rest)) (sym front') ∙ ap (λ r. take n bs ++ (10 ∷ r)) (sym back'); whole = ap lacks_end front' ∙ found.whole })
-
 pub early : (a b c : Option (List ℕ)) (x y z : Buffered) → Window a b x y [] → Window b c y z [] → IsAtEnd c → z.bytes ≡ y.bytes → length y.bytes ≤ 64 → (front : List ℕ) → front ≡ y.bytes → lacks_end (take 65 front) ≡ true → EndsEarly a c x z
 early a b c x y z first second ended same short front is lacks = record {
   window = Window-trans a b c x y z [] [] first second;
@@ -99,11 +74,6 @@ lacking due a b failed x y stops.Ended fault early is = Fails-text a b failed x 
 lacking due a b failed x y stops.Overlong fault long is = Fails-text a b failed x (BeginsWithLine due) fault is long.0 (refused_overlong due a b x y long.1)
 lacking due a b failed x y stops.Device fault device is = subst (Fails a b failed x (BeginsWithLine due)) (sym is) device
 lacking due a b failed x y stops.PastLimit fault more is = subst (Fails a b failed x (BeginsWithLine due)) (sym is) more
-
-pub place : (bs : List ℕ) (m : ℕ) (r : Option ℕ) → MatchOption r (lacks_end (take m bs) ≡ true) (λ n. (n < length (take m bs)) × IsCut (take m bs) (take n (take m bs)) (drop (n + 1) (take m bs)))
-    → IfSome r (λ n. (n < length bs) × IsCut bs (take n bs) (drop (n + 1) bs))
-place bs m None h = tt
-place bs m (Some n) h = first_of_front bs m n h
 
 front_is : (bs : List ℕ) (m : ℕ) → m ≡ min (length bs) 65 → take 65 bs ≡ take m bs
 front_is bs m e = elim (cases_lt 65 (length bs)) [

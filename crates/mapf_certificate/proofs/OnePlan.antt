@@ -2,8 +2,10 @@
 use Rattle.std.proofs.Common.{◌≡◌, ℕ, ◌<◌, ◌+◌, List, [], ◌∷◌, ◌++◌, length, All, Some, None, refl, sym, ap, ◌∙◌, arith, append_assoc}
 use Rattle.std.proofs.lemmas.List.Elements.{All-head, All-tail}
 use Rattle.mapf_model.specs.Printed.{IsOnGrid, IsPathInRange}
+use Rattle.mapf_fields.proofs.Binds.{ok_pair_parts, ok_triple_parts, ok_four_parts}
+use Rattle.mapf_fields.proofs.Plain.{same_front}
 use Rattle.mapf_certificate.specs.Lines.{grid_for}
-use Rattle.mapf_certificate.specs.declared.line.LineFault.{LineFault}
+use Rattle.mapf_fields.specs.declared.fault.LineFault.{LineFault}
 use Rattle.mapf_certificate.specs.declared.plan_text.PlanAnswer.{PlanAnswer}
 use Rattle.mapf_certificate.specs.declared.plan_text.PlanAnswer.TheVariants as texts
 use Rattle.mapf_certificate.specs.declared.plan_text.PlanTextFault.{PlanTextFault}
@@ -11,10 +13,8 @@ use Rattle.mapf_certificate.specs.declared.plan_lines.AnswerLine.TheVariants as 
 use Rattle.mapf_certificate.specs.declared.sizes.Sizes.{Sizes}
 use Rattle.mapf_certificate.specs.Plans.{SpellsOnePlan, IsAnswerInRange, cells_text, path_words, paths_text, ticks_of}
 use Rattle.mapf_certificate.specs.PlanReading.{read_pair_cell, read_path_front, line_of, rest_of}
-use Rattle.mapf_certificate.proofs.Fields.{ok_pair_parts}
-use Rattle.mapf_certificate.proofs.PathLaws.{cells_past, front_read, ok_triple_parts, ok_header_parts}
+use Rattle.mapf_certificate.proofs.PathLaws.{cells_past, front_read}
 use Rattle.mapf_certificate.proofs.PathsLaws.{path_lacks}
-use Rattle.mapf_certificate.proofs.PlainLines.{same_front}
 use Rattle.mapf_certificate.proofs.PlanParts.{pair_cell_is_read}
 use Rattle.mapf_certificate.proofs.PlanTexts.{answer_moved, limits_same, header_of}
 
@@ -80,7 +80,7 @@ one_plan grid bytes text other is fits fits' spelled spelled' =
     let sizes : Sizes = record { version = text.version; width = grid.width; height = grid.height; agents = text.agents; narrow = (narrow, narrow'); low = (low, low'); few = fits.0 } in
     let first = header_of grid text bytes fits spelled in
     let second = header_of grid other bytes fits' spelled' in
-    let (versions, counts, line, rest) = ok_header_parts {E = PlanTextFault} text.version other.version text.agents other.agents (line_of text.answer) (line_of other.answer) (rest_of grid.width text.answer) (rest_of grid.width other.answer) (sym first ∙ second) in
+    let (versions, counts, line, rest) = ok_four_parts {E = PlanTextFault} text.version other.version text.agents other.agents (line_of text.answer) (line_of other.answer) (rest_of grid.width text.answer) (rest_of grid.width other.answer) (sym first ∙ second) in
     let is_text = answer_moved grid (grid_for sizes) text.agents sizes.agents text.answer refl refl refl fits.1 in
     let is_other = answer_moved grid (grid_for sizes) other.agents sizes.agents other.answer refl refl (sym counts) fits'.1 in
     let same : text.answer ≡ other.answer = answers_same sizes text.answer other.answer is_text is_other line rest in

@@ -1,16 +1,16 @@
 -- The pairs of a path's line, and the paths of a plan, read one after another.
-use Rattle.std.proofs.Common.{◌≡◌, ◌≢◌, ℕ, ◌<◌, ◌≤◌, ◌^◌, ◌/◌, ◌%◌, Bool, true, false, cond, List, [], ◌∷◌, ◌++◌, length, Option, Some, Result, Ok, Err, refl, sym, ap, subst, ◌∙◌, arith, append_assoc, append-nil, length-drop, All, ◌==◌, suc, zero, is_ok, is_err}
+use Rattle.std.proofs.Common.{◌≡◌, ◌≢◌, ℕ, ◌<◌, ◌≤◌, ◌^◌, ◌/◌, ◌%◌, Bool, true, false, cond, List, [], ◌∷◌, ◌++◌, length, Option, Some, Result, Ok, Err, refl, sym, ap, subst, ◌∙◌, arith, append_assoc, append-nil, All, ◌==◌, suc, zero, is_ok, is_err}
 use Rattle.std.proofs.lemmas.List.Elements.{All-append}
 use Rattle.std.proofs.lemmas.Grind.{flat_map-append, common_steps}
 use Rattle.mapf_model.specs.Printed.{IsOnGrid}
-use Rattle.mapf_certificate.specs.declared.line.LineFault.TheVariants.{Shape}
+use Rattle.mapf_fields.specs.Numbers.{field, pair, read_field, read_pair}
+use Rattle.mapf_fields.proofs.Binds.{through, same_ok, ok_pair_parts}
+use Rattle.mapf_fields.proofs.Fields.{IsPastDigits, field_shorter}
 use Rattle.mapf_certificate.specs.declared.sizes.Sizes.{Sizes}
-use Rattle.mapf_certificate.specs.Numbers.{field, pair, begins_well, front_digits, after_digits, read_number, read_field, read_pair}
 use Rattle.mapf_certificate.specs.Lines.{grid_for}
 use Rattle.std.specs.Fmt.{decimal}
 use Rattle.mapf_certificate.specs.Plans.{cells_text, path_words, ticks_of, HasCells, GoesOn}
 use Rattle.mapf_certificate.specs.PlanReading.{read_pair_cell, read_path_front}
-use Rattle.mapf_certificate.proofs.Fields.{guarded, through, same_ok, ok_pair_parts, IsPastDigits}
 use Rattle.mapf_certificate.proofs.PlanParts.{pair_cell_takes, pair_cell_is_read, path_front_again}
 
 -- a fact of each element is one of the element in the middle, and of those before and after it
@@ -25,20 +25,6 @@ All-one P y h (suc k) d less = absurd (omega arith)
 pub cells_past : (width : ℕ) (cells : List ℕ) → IsPastDigits (cells_text width cells)
 cells_past width [] = tt
 cells_past width (c ∷ cells) = refl
-
-number_shorter : (bs rest : List ℕ) (v : Option ℕ) → read_number bs ≡ Ok (v, rest) → length rest ≤ length bs
-unfolding read_number
-number_shorter bs rest v e =
-    let (begins, parts) = guarded (begins_well (front_digits bs)) Shape _ _ e in
-    let (value, after) = ok_pair_parts _ v (after_digits bs) rest parts in
-    omega (arith, ap length after, length-drop (length (front_digits bs)) bs)
-
-field_shorter : (mark : ℕ) (bs rest : List ℕ) (v : Option ℕ) → read_field mark bs ≡ Ok (v, rest) → length rest < length bs
-unfolding read_field
-field_shorter mark [] rest v e = cc
-field_shorter mark (b ∷ bs) rest v e =
-    let (same, more) = guarded (b == mark) Shape _ _ e in
-    omega (arith, number_shorter bs rest v more)
 
 pub pair_cell_shorter : (sizes : Sizes) (bs rest : List ℕ) (v : Option ℕ) → read_pair_cell sizes bs ≡ Ok (v, rest) → length rest < length bs
 unfolding read_pair_cell read_pair
@@ -101,13 +87,3 @@ pub front_read : (width due : ℕ) (path : List ℕ) → 1 ≤ length path → l
 front_read width due [] some few fits = absurd (omega arith)
 front_read width due (c ∷ cells) some few fits =
     path_front_again due (ticks_of (c ∷ cells)) 32 ((decimal (c % width) ++ field 44 (c / width)) ++ cells_text width cells) fits (omega arith) refl
-
-pub ok_triple_parts : {A B C E : Type 0} (a x : A) (b y : B) (c z : C) → ◌≡◌ {A = Result (A × B × C) E} (Ok (a, b, c)) (Ok (x, y, z)) → (a ≡ x) × (b ≡ y) × (c ≡ z)
-ok_triple_parts a x b y c z e = let same = same_ok (a, b, c) (x, y, z) e in (ap (λ p. p.0) same, ap (λ p. p.1) same, ap (λ p. p.2) same)
-
-pub ok_header_parts : {A B C D E : Type 0} (a x : A) (b y : B) (c z : C) (d w : D) → ◌≡◌ {A = Result (A × B × C × D) E} (Ok (a, b, c, d)) (Ok (x, y, z, w)) → (a ≡ x) × (b ≡ y) × (c ≡ z) × (d ≡ w)
-ok_header_parts a x b y c z d w e = let same = same_ok (a, b, c, d) (x, y, z, w) e in (ap (λ p. p.0) same, ap (λ p. p.1) same, ap (λ p. p.2) same, ap (λ p. p.3) same)
-
--- an error that a `?` passed on
-pub passed_on : {A E : Type 0} (r : Result A E) (e m : E) → (y : E) × (r ≡ Err y) × (y ≡ e) → e ≡ m → r ≡ Err m
-passed_on r e m p is = p.1 ∙ ap Err (p.2 ∙ is)

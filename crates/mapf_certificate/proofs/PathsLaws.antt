@@ -1,20 +1,17 @@
 -- The paths of a plan, read one after another.
-use Rattle.std.proofs.Common.{◌≡◌, ℕ, ◌<◌, ◌+◌, ◌-◌, ◌&&◌, true, not, List, [], ◌∷◌, ◌++◌, codes, length, Ok, refl, sym, ap, subst, ◌∙◌, arith, append_assoc, append-nil, length-append, All, ◌==◌}
+use Rattle.std.proofs.Common.{◌≡◌, ℕ, ◌<◌, ◌+◌, ◌-◌, true, List, [], ◌∷◌, ◌++◌, codes, length, Ok, refl, sym, ap, subst, ◌∙◌, arith, append_assoc, append-nil, length-append, All}
 use Rattle.std.proofs.lemmas.List.Elements.{All-append, All-tail}
-use Rattle.std.proofs.lemmas.List.Folds.{list_all-append}
 use Rattle.std.proofs.lemmas.List.Sums.{sum_by-append}
 use Rattle.mapf_model.specs.Printed.{IsOnGrid, IsPathInRange}
+use Rattle.mapf_fields.specs.Numbers.{field, pair}
+use Rattle.mapf_fields.specs.Ends.{lacks_end}
+use Rattle.mapf_fields.proofs.Plain.{plain-field, plain-pair, lacks-append}
 use Rattle.mapf_certificate.specs.declared.sizes.Sizes.{Sizes}
-use Rattle.mapf_certificate.specs.Numbers.{field, pair}
-use Rattle.mapf_certificate.specs.Lines.{lacks_end, grid_for}
+use Rattle.mapf_certificate.specs.Lines.{grid_for}
 use Rattle.mapf_certificate.specs.Plans.{cells_text, path_words, path_text, paths_text, ticks_of, ArePaths, PathsGoOn}
 use Rattle.mapf_certificate.specs.PlanReading.{next_line}
-use Rattle.mapf_certificate.proofs.PlainLines.{plain-field, plain-pair}
 use Rattle.mapf_certificate.proofs.PlanParts.{line_takes, line_again}
 use Rattle.mapf_certificate.proofs.PathLaws.{All-middle, All-one}
-
-lacks-append : (a b : List ℕ) → lacks_end a ≡ true → lacks_end b ≡ true → lacks_end (a ++ b) ≡ true
-lacks-append a b p q = list_all-append (λ c. not (c == 10)) a b ∙ ap (λ t. t && lacks_end b) p ∙ q
 
 cells_lack : (sizes : Sizes) (cells : List ℕ) → All (IsOnGrid (grid_for sizes)) cells → lacks_end (cells_text sizes.width cells) ≡ true
 cells_lack sizes [] all = refl

@@ -1,66 +1,25 @@
 -- Where a line ends: no line has an LF in it, and none of a certificate is longer than 64 bytes.
-use Rattle.std.proofs.Common.{◌≡◌, ℕ, ◌<◌, ◌≤◌, ◌^◌, ◌+◌, ◌/◌, ◌%◌, ◌*◌, ◌&&◌, true, not, List, [], ◌∷◌, ◌++◌, Option, Some, None, codes, length, refl, sym, ap, subst, ◌∙◌, arith, append_assoc, length-append, ◌==◌}
-use Rattle.std.specs.Fmt.{decimal}
-use Rattle.std.specs.Str.Parse.{AllDigits}
-use Rattle.std.proofs.lemmas.Str.Parse.{digit_from_value}
-use Rattle.std.proofs.lemmas.Fmt.{decimal_is_IsNumeral, length-decimal-le}
-use Rattle.std.proofs.lemmas.List.Folds.{list_all-append}
-use Rattle.std.proofs.lemmas.Bool.Decides.{nat_tests}
+use Rattle.std.proofs.Common.{◌≡◌, ℕ, ◌<◌, ◌≤◌, List, [], ◌∷◌, ◌++◌, Option, Some, None, codes, length, refl, sym, ap, ◌∙◌, arith, append_assoc}
 use Rattle.mapf_model.specs.declared.conflict.Conflict.TheVariants as conflicts
 use Rattle.mapf_model.specs.declared.item.Claim.TheVariants as claims
 use Rattle.mapf_model.specs.declared.label.Label.{Label}
 use Rattle.mapf_model.specs.declared.label.Label.TheVariants as labels
 use Rattle.mapf_model.specs.Printed.{IsLabelInRange}
+use Rattle.mapf_fields.specs.Numbers.{field, pair}
+use Rattle.mapf_fields.proofs.Binds.{same_ok}
+use Rattle.mapf_fields.proofs.Plain.{IsPlain, plain-append, plain-more, plain-word, plain-field, plain-pair, same_front, some_of}
 use Rattle.mapf_certificate.specs.declared.version.Version.{Version}
 use Rattle.mapf_certificate.specs.declared.version.Version.TheVariants.{One, Two}
 use Rattle.mapf_certificate.specs.declared.line.CertLine.{CertLine}
 use Rattle.mapf_certificate.specs.declared.line.CertLine.TheVariants as lines
-use Rattle.mapf_certificate.specs.declared.line.LineFault.{LineFault}
+use Rattle.mapf_fields.specs.declared.fault.LineFault.{LineFault}
 use Rattle.mapf_certificate.specs.declared.sizes.Sizes.{Sizes}
 use Rattle.mapf_certificate.specs.declared.tree_line.Due.{Due}
 use Rattle.mapf_certificate.specs.declared.tree_line.Due.TheVariants as dues
-use Rattle.mapf_certificate.specs.Numbers.{field, pair}
-use Rattle.mapf_certificate.specs.Lines.{lacks_end, words, title_words, count_words, label_words, IsLine, IsCountOnSplit, IsTreeLine, width_of, grid_for}
+use Rattle.mapf_certificate.specs.Lines.{words, title_words, count_words, label_words, IsLine, IsCountOnSplit, IsTreeLine, width_of, grid_for}
 use Rattle.mapf_certificate.specs.LineReading.{read_line}
 use Rattle.mapf_certificate.specs.Certificates.{line_text}
-use Rattle.mapf_certificate.proofs.Fields.{both, row-below, same_ok}
 use Rattle.mapf_certificate.proofs.LineLaws.{line_again}
-
--- no LF, and not longer than this
-pub record IsPlain (most : ℕ) (bs : List ℕ) : Type 0 where
-  pub ends : lacks_end bs ≡ true
-  pub short : length bs ≤ most
-
-pub plain-append : (j k : ℕ) (bs cs : List ℕ) → IsPlain j bs → IsPlain k cs → IsPlain (j + k) (bs ++ cs)
-plain-append j k bs cs p q = record {
-  ends = list_all-append (λ b. not (b == 10)) bs cs ∙ ap (λ t. t && lacks_end cs) p.ends ∙ q.ends;
-  short = omega (arith, length-append bs cs, p.short, q.short);
-}
-
-pub plain-more : (j k : ℕ) (bs : List ℕ) → j ≤ k → IsPlain j bs → IsPlain k bs
-plain-more j k bs h p = record { ends = p.ends; short = omega (arith, p.short) }
-
-digits_lack : (ds : List ℕ) → AllDigits 10 ds → lacks_end ds ≡ true
-digits_lack [] all = refl
-digits_lack (d ∷ ds) all =
-    let range = digit_from_value d all.0 in
-    let no : not (d == 10) ≡ true = grind (arith, nat_tests) in
-    ap (λ t. t && lacks_end ds) no ∙ digits_lack ds all.1
-
-pub plain-field : (mark k n : ℕ) → not (mark == 10) ≡ true → 0 < k → n < 10 ^ k → n < 2 ^ 64 → IsPlain (k + 1) (field mark n)
-plain-field mark k n clear some small fits = record {
-  ends = ap (λ t. t && lacks_end (decimal n)) clear ∙ digits_lack (decimal n) (decimal_is_IsNumeral n fits).0.1;
-  short = omega (arith, length-decimal-le k n some small fits);
-}
-
-pub plain-pair : (width height cell : ℕ) → 1 ≤ width → width ≤ 2048 → height ≤ 2048 → cell < width * height → IsPlain 10 (pair width cell)
-plain-pair width height cell some narrow low inside =
-    let row = row-below width height cell inside in
-    let column : cell % width < width = omega arith in
-    plain-append 5 5 _ _ (plain-field 32 4 (cell % width) refl (omega arith) (omega arith) (omega arith)) (plain-field 44 4 (cell / width) refl (omega arith) (omega arith) (omega arith))
-
-pub plain-word : (word : List ℕ) (k : ℕ) → lacks_end word ≡ true → length word ≡ k → IsPlain k word
-plain-word word k e l = record { ends = e; short = omega arith }
 
 plain-label : (label : Label) → IsLabelInRange label → IsPlain 8 (label_words label)
 plain-label labels.Never is = plain-more 4 8 _ (omega arith) (plain-word (codes " inf") 4 refl refl)
@@ -132,24 +91,6 @@ plain_line dues.Agents line is = plain_agents line is
 plain_line (dues.Claim version) line is = plain_claim version line is
 plain_line (dues.Tree sizes) line is = plain_tree sizes line is
 
--- what stands before the first LF, and after it
-pub same_front : (a b xs ys : List ℕ) → lacks_end a ≡ true → lacks_end b ≡ true → a ++ (10 ∷ xs) ≡ b ++ (10 ∷ ys) → (a ≡ b) × (xs ≡ ys)
-same_front [] [] xs ys p q e = (refl, cc)
-same_front [] (b ∷ bs) xs ys p q e =
-    let first : b ≡ 10 = cc in
-    let no : (not (10 == 10) && lacks_end bs) ≡ true = subst (λ (c : ℕ). (not (c == 10) && lacks_end bs) ≡ true) first q in
-    cc
-same_front (a ∷ as') [] xs ys p q e =
-    let first : a ≡ 10 = cc in
-    let no : (not (10 == 10) && lacks_end as') ≡ true = subst (λ (c : ℕ). (not (c == 10) && lacks_end as') ≡ true) first p in
-    cc
-same_front (a ∷ as') (b ∷ bs) xs ys p q e =
-    let first : a ≡ b = cc in
-    let tail : as' ++ (10 ∷ xs) ≡ bs ++ (10 ∷ ys) = cc in
-    let more = same_front as' bs xs ys (both (not (a == 10)) (lacks_end as') p).1 (both (not (b == 10)) (lacks_end bs) q).1 tail in
-    let front = more.0 in
-    (cc, more.1)
-
 -- the lines that two texts begin with are one line where the texts are one
 pub same_line : (due : Due) (l m : CertLine) (xs ys : List ℕ) → IsLine due l → IsLine due m → line_text (width_of due) l ++ xs ≡ line_text (width_of due) m ++ ys → (l ≡ m) × (xs ≡ ys)
 same_line due l m xs ys is_l is_m e =
@@ -157,9 +98,6 @@ same_line due l m xs ys is_l is_m e =
     let e' : words width l ++ (10 ∷ xs) ≡ words width m ++ (10 ∷ ys) = sym (append_assoc (words width l) (10 ∷ []) xs) ∙ e ∙ append_assoc (words width m) (10 ∷ []) ys in
     let (front, rest) = same_front (words width l) (words width m) xs ys (plain_line due l is_l).ends (plain_line due m is_m).ends e' in
     (same_ok {E = LineFault} l m (sym (line_again due l is_l) ∙ ap (read_line due) front ∙ line_again due m is_m), rest)
-
-some_of : (word rest : List ℕ) → 0 < length word → 0 < length (word ++ rest)
-some_of word rest h = omega (arith, length-append word rest)
 
 -- a line has a byte
 pub words_some : (width : ℕ) (line : CertLine) → 0 < length (words width line)

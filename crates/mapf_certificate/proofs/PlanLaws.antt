@@ -10,23 +10,26 @@ use Rattle.std.proofs.lemmas.Slice.Eq.{bytes_eq-Decides}
 use Rattle.std.proofs.lemmas.Str.Parse.{digit_from_value}
 use Rattle.mapf_model.specs.declared.cause.Cause.{Cause}
 use Rattle.mapf_model.specs.declared.cause.Cause.TheVariants.{Splits, Ticks}
-use Rattle.mapf_certificate.specs.declared.line.LineFault.{LineFault}
-use Rattle.mapf_certificate.specs.declared.line.LineFault.TheVariants.{Shape}
+use Rattle.mapf_fields.specs.declared.fault.LineFault.{LineFault}
+use Rattle.mapf_fields.specs.declared.fault.LineFault.TheVariants.{Shape}
+use Rattle.mapf_fields.specs.Numbers.{◌>>=◌, field, strip, read_field, read_last, in_range}
+use Rattle.mapf_fields.specs.Ends.{lacks_end}
+use Rattle.mapf_fields.proofs.Binds.{guarded, through, same_ok, chosen, then_ok}
+use Rattle.mapf_fields.proofs.Strips.{front_takes}
+use Rattle.mapf_fields.proofs.Fields.{IsPastDigits, field_again, last_again, range_again, field_range, last_range}
+use Rattle.mapf_fields.proofs.Plain.{IsPlain, plain-append, plain-more, plain-word, plain-field}
 use Rattle.mapf_certificate.specs.declared.plan_lines.AnswerLine.{AnswerLine}
 use Rattle.mapf_certificate.specs.declared.plan_lines.AnswerLine.TheVariants as answers
 use Rattle.mapf_certificate.specs.declared.plan_lines.CauseWord.{CauseWord}
 use Rattle.mapf_certificate.specs.declared.plan_lines.CauseWord.TheVariants as causes
 use Rattle.mapf_certificate.specs.declared.version.Version.{Version}
 use Rattle.mapf_certificate.specs.declared.version.Version.TheVariants.{One, Two}
-use Rattle.mapf_certificate.specs.Numbers.{◌>>=◌, field, strip, read_field, read_last, in_range}
-use Rattle.mapf_certificate.specs.Lines.{IsAgentCount, lacks_end}
+use Rattle.mapf_certificate.specs.Lines.{IsAgentCount}
 use Rattle.mapf_certificate.specs.LineReading.{read_count, read_cost}
 use Rattle.mapf_certificate.specs.Plans.{plan_title, cause_words, IsCauseInRange}
 use Rattle.mapf_certificate.specs.PlanReading.{agents_words, bound_words, answer_words, IsBoundOfVersion, IsAnswerLine}
 use Rattle.mapf_certificate.specs.PlanReading.{read_plan_title, read_agents_line, read_cause, cause_in_range, read_bound, bound_in_range, read_limit, read_answer_line}
-use Rattle.mapf_certificate.proofs.Fields.{guarded, through, same_ok, IsPastDigits, field_again, last_again, range_again}
-use Rattle.mapf_certificate.proofs.LineLaws.{chosen, front_takes, then_ok, field_range, last_range, count_takes, cost_takes, count_again, cost_again}
-use Rattle.mapf_certificate.proofs.PlainLines.{IsPlain, plain-append, plain-more, plain-word, plain-field}
+use Rattle.mapf_certificate.proofs.LineLaws.{count_takes, cost_takes, count_again, cost_again}
 
 pub title_takes : (bs : List ℕ) (version : Version) → read_plan_title bs ≡ Ok version → bs ≡ plan_title version
 unfolding read_plan_title

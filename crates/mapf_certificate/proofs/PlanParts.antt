@@ -4,19 +4,22 @@ use Rattle.std.specs.Str.{bytes_eq}
 use Rattle.std.specs.Option.{option_map_or}
 use Rattle.std.specs.Result.{result_ok}
 use Rattle.std.proofs.lemmas.Slice.Eq.{bytes_eq-Decides}
-use Rattle.mapf_certificate.specs.declared.line.LineFault.{LineFault}
-use Rattle.mapf_certificate.specs.declared.line.LineFault.TheVariants.{Shape, Range}
+use Rattle.mapf_fields.specs.declared.fault.LineFault.{LineFault}
+use Rattle.mapf_fields.specs.declared.fault.LineFault.TheVariants.{Shape, Range}
+use Rattle.mapf_fields.specs.Numbers.{field, pair, read_field, read_pair, read_cell}
+use Rattle.mapf_fields.specs.Ends.{IsCut, lacks_end, cut}
+use Rattle.mapf_fields.proofs.Binds.{through, same_ok, ok_pair_parts, then_ok}
+use Rattle.mapf_fields.proofs.Strips.{front_takes}
+use Rattle.mapf_fields.proofs.Fields.{pair_takes, field_takes, field_again, IsPastDigits}
+use Rattle.mapf_fields.proofs.Cuts.{cut_is, cut_takes}
 use Rattle.mapf_certificate.specs.declared.plan_text.PlanTextFault.TheVariants.{P1, P2}
 use Rattle.mapf_certificate.specs.declared.plan_lines.AnswerLine.{AnswerLine}
 use Rattle.mapf_certificate.specs.declared.version.Version.{Version}
 use Rattle.mapf_certificate.specs.declared.sizes.Sizes.{Sizes}
-use Rattle.mapf_certificate.specs.Numbers.{field, pair, read_field, read_pair, read_cell}
-use Rattle.mapf_certificate.specs.Lines.{IsAgentCount, IsCut, lacks_end}
+use Rattle.mapf_certificate.specs.Lines.{IsAgentCount}
 use Rattle.mapf_certificate.specs.Plans.{plan_title}
-use Rattle.mapf_certificate.specs.PlanReading.{cut, next_line, fault_at, next_words, next_title, next_agents, next_answer, nothing_after, read_end, read_pair_cell, read_path_front, something, agents_words, answer_words, IsAnswerLine, read_plan_title, read_agents_line, read_answer_line}
-use Rattle.mapf_certificate.proofs.Fields.{through, same_ok, ok_pair_parts, pair_takes, field_takes, field_again, IsPastDigits}
-use Rattle.mapf_certificate.proofs.LineLaws.{then_ok, front_takes, pair_cell_again, cell_sizes_again}
-use Rattle.mapf_certificate.proofs.Cuts.{cut_is, cut_takes}
+use Rattle.mapf_certificate.specs.PlanReading.{next_line, fault_at, next_words, next_title, next_agents, next_answer, nothing_after, read_end, read_pair_cell, read_path_front, something, agents_words, answer_words, IsAnswerLine, read_plan_title, read_agents_line, read_answer_line}
+use Rattle.mapf_certificate.proofs.LineLaws.{pair_cell_again, cell_sizes_again}
 use Rattle.mapf_certificate.proofs.PlanLaws.{title_takes, title_again, title_lacks, agents_takes, agents_again, answer_takes, answer_again, agents_lack, answer_lacks}
 
 pub line_takes : (n : ℕ) (bs : List ℕ) (p : List ℕ × List ℕ) → next_line n bs ≡ Ok p → IsCut bs p.0 p.1

@@ -5,6 +5,8 @@ use Rattle.std.proofs.lemmas.List.Sums.{sum_by-append}
 use Rattle.mapf_model.specs.declared.cause.Cause.{Cause}
 use Rattle.mapf_model.specs.Grid.{GridMap}
 use Rattle.mapf_model.specs.Printed.{IsPathInRange}
+use Rattle.mapf_fields.specs.Numbers.{field}
+use Rattle.mapf_fields.proofs.Binds.{through, same_ok, then_ok}
 use Rattle.mapf_certificate.specs.declared.plan_text.PlanText.{PlanText}
 use Rattle.mapf_certificate.specs.declared.plan_text.PlanAnswer.{PlanAnswer}
 use Rattle.mapf_certificate.specs.declared.plan_text.PlanAnswer.TheVariants as texts
@@ -12,12 +14,9 @@ use Rattle.mapf_certificate.specs.declared.plan_lines.AnswerLine.{AnswerLine}
 use Rattle.mapf_certificate.specs.declared.plan_lines.AnswerLine.TheVariants as answers
 use Rattle.mapf_certificate.specs.declared.version.Version.{Version}
 use Rattle.mapf_certificate.specs.declared.version.Version.TheVariants.{One, Two}
-use Rattle.mapf_certificate.specs.Numbers.{field}
 use Rattle.mapf_certificate.specs.Lines.{IsAgentCount}
 use Rattle.mapf_certificate.specs.Plans.{paths_text, cost_of, ticks_of, plan_title, cause_words, answer_text, plan_text, IsAnswerInRange, IsAnswerOfVersion, IsPlanText}
 use Rattle.mapf_certificate.specs.PlanReading.{next_title, next_agents, next_answer, agents_words, answer_words, IsBoundOfVersion, IsAnswerLine, read_header, line_of, rest_of}
-use Rattle.mapf_certificate.proofs.Fields.{through, same_ok}
-use Rattle.mapf_certificate.proofs.LineLaws.{then_ok}
 use Rattle.mapf_certificate.proofs.PlanParts.{next_title_takes, next_title_again, next_agents_takes, next_agents_again, next_answer_takes, next_answer_again}
 
 -- three lines, and what follows

@@ -6,6 +6,7 @@ use Rattle.std.specs.Io.KnownBytes.{IsAtEnd}
 use Rattle.mapf_model.specs.declared.item.Claim.{Claim}
 use Rattle.mapf_model.specs.Grid.{GridMap}
 use Rattle.mapf_model.specs.Tree.{Node}
+use Rattle.mapf_fields.proofs.Binds.{same_some}
 use Rattle.mapf_certificate.specs.declared.version.Version.{Version}
 use Rattle.mapf_certificate.specs.declared.cert.LinesFault.{LinesFault}
 use Rattle.mapf_certificate.specs.declared.line.CertLine.{CertLine}
@@ -19,7 +20,6 @@ use Rattle.mapf_certificate.specs.Reading.{Reading, grid_at, agents_at}
 use Rattle.mapf_certificate.specs.CertReading.{IsRestAt, Awaits, CompletesNode, ReadsNode, ReadsEnd, trees_owed_after}
 use Rattle.mapf_certificate.specs.Window.{Window, Fails, IsNoTextFault}
 use Rattle.mapf_certificate.specs.Bounded.{BeginsWithLine, BeginsWithNode}
-use Rattle.mapf_certificate.proofs.Fields.{same_some}
 use Rattle.mapf_certificate.proofs.PlainLines.{same_line}
 use Rattle.mapf_certificate.proofs.Windows.{Window-trans, Window-known, Fails-after, Fails-weaker, Fails-not}
 use Rattle.mapf_certificate.proofs.Nodes.{node_is_line, nodes_apart}

@@ -3,14 +3,16 @@ use Rattle.std.proofs.Common.{◌≡◌, ℕ, ◌≤◌, inl, inr, Bool, true, f
 use Rattle.std.specs.List.{flat_map}
 use Rattle.std.proofs.lemmas.Grind.{flat_map-append}
 use Rattle.std.proofs.lemmas.List.{append-nil, take_all}
+use Rattle.mapf_fields.specs.Ends.{IsCut, lacks_end}
+use Rattle.mapf_fields.proofs.Cuts.{has_end_soon}
+use Rattle.mapf_fields.proofs.Plain.{same_front}
 use Rattle.mapf_certificate.specs.declared.line.CertLine.{CertLine}
 use Rattle.mapf_certificate.specs.declared.tree_line.Due.{Due}
 use Rattle.mapf_certificate.specs.Buffered.{Buffered}
 use Rattle.mapf_certificate.specs.Certificates.{line_text}
-use Rattle.mapf_certificate.specs.Lines.{IsLine, IsCut, lacks_end, width_of, words}
+use Rattle.mapf_certificate.specs.Lines.{IsLine, width_of, words}
 use Rattle.mapf_certificate.specs.Untouched.{HasLine, TakesThere}
-use Rattle.mapf_certificate.proofs.LineWindows.{has_end_soon}
-use Rattle.mapf_certificate.proofs.PlainLines.{plain_line, same_front}
+use Rattle.mapf_certificate.proofs.PlainLines.{plain_line}
 
 lacks_line : (x : Buffered) → lacks_end (take 65 x.bytes) ≡ true → length x.bytes ≤ 64 → HasLine x → ⊥
 lacks_line x lacks short (inl found) = cc

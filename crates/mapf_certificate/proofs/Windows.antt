@@ -3,12 +3,12 @@ use Rattle.std.proofs.Common.{◌≡◌, ◌≢◌, ◌↔◌, ℕ, ◌+◌, ◌
 use Rattle.std.proofs.lemmas.List.{append-nil}
 use Rattle.std.specs.Io.KnownBytes.{Consumes, IsAtEnd}
 use Rattle.std.proofs.KnownBytes.{Consumes-trans}
+use Rattle.mapf_fields.proofs.Binds.{same_err}
 use Rattle.mapf_certificate.specs.declared.cert.CertFault.TheVariants as texts
 use Rattle.mapf_certificate.specs.declared.cert.LinesFault.{LinesFault}
 use Rattle.mapf_certificate.specs.declared.cert.LinesFault.TheVariants.{Text, Device, TooLong}
 use Rattle.mapf_certificate.specs.Buffered.{Buffered}
 use Rattle.mapf_certificate.specs.Window.{Window, ComesWithin, Exceeds, Pulls, IsNotTextMemory, Refuses, Fails, IsTextFault, IsNoTextFault}
-use Rattle.mapf_certificate.proofs.Fields.{same_err}
 
 -- what comes after two windows
 after_both : (x p q t y : List ℕ) → x ++ p ≡ t ++ y → x ++ (p ++ q) ≡ t ++ (y ++ q)

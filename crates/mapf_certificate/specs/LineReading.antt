@@ -7,18 +7,18 @@ use Rattle.mapf_model.specs.declared.conflict.Conflict.TheVariants as conflicts
 use Rattle.mapf_model.specs.declared.item.Claim.TheVariants as claims
 use Rattle.mapf_model.specs.declared.label.Label.{Label}
 use Rattle.mapf_model.specs.declared.label.Label.TheVariants as labels
+use Rattle.mapf_fields.specs.Numbers.{◌>>=◌, strip, read_field, read_last, read_pair, in_range, below, read_cell}
 use Rattle.mapf_certificate.specs.declared.version.Version.{Version}
 use Rattle.mapf_certificate.specs.declared.version.Version.TheVariants.{One, Two}
 use Rattle.mapf_certificate.specs.declared.line.CertLine.{CertLine}
 use Rattle.mapf_certificate.specs.declared.line.CertLine.TheVariants as lines
-use Rattle.mapf_certificate.specs.declared.line.LineFault.{LineFault}
-use Rattle.mapf_certificate.specs.declared.line.LineFault.TheVariants.{Shape}
+use Rattle.mapf_fields.specs.declared.fault.LineFault.{LineFault}
+use Rattle.mapf_fields.specs.declared.fault.LineFault.TheVariants.{Shape}
 use Rattle.mapf_certificate.specs.declared.sizes.Sizes.{Sizes}
 use Rattle.mapf_certificate.specs.declared.tree_line.Due.{Due}
 use Rattle.mapf_certificate.specs.declared.tree_line.Due.TheVariants as dues
 use Rattle.mapf_certificate.specs.declared.tree_line.LabelWord.{LabelWord}
 use Rattle.mapf_certificate.specs.declared.tree_line.LabelWord.TheVariants as label_words
-use Rattle.mapf_certificate.specs.Numbers.{◌>>=◌, strip, read_field, read_last, read_pair, in_range, below, read_cell}
 
 -- the title
 unfoldable pub read_title : List ℕ → Result CertLine LineFault

@@ -1,6 +1,5 @@
 -- The lines of a certificate: how they are spelled, and in which ranges.
-use Rattle.std.specs.Prelude.{◌≡◌, ◌≤◌, ◌<◌, ◌==◌, Bool, true, not, ℕ, ◌^◌, List, [], ◌∷◌, ◌++◌, codes, Option, Some, None, ⊤}
-use Rattle.std.specs.List.{list_all}
+use Rattle.std.specs.Prelude.{◌≡◌, ◌≤◌, ◌<◌, ℕ, ◌^◌, List, [], ◌++◌, codes, Option, Some, None, ⊤}
 use Rattle.mapf_model.specs.declared.item.Claim.{Claim}
 use Rattle.mapf_model.specs.declared.item.Claim.TheVariants as claims
 use Rattle.mapf_model.specs.declared.conflict.Conflict.{Conflict}
@@ -10,6 +9,7 @@ use Rattle.mapf_model.specs.declared.label.Label.TheVariants as labels
 use Rattle.mapf_model.specs.Limits.{most_agents}
 use Rattle.mapf_model.specs.Grid.{GridMap}
 use Rattle.mapf_model.specs.Printed.{IsEntryInRange, IsConflictInRange, IsClaimInRange}
+use Rattle.mapf_fields.specs.Numbers.{field, pair}
 use Rattle.mapf_certificate.specs.declared.version.Version.{Version}
 use Rattle.mapf_certificate.specs.declared.version.Version.TheVariants.{One, Two}
 use Rattle.mapf_certificate.specs.declared.line.CertLine.{CertLine}
@@ -17,7 +17,6 @@ use Rattle.mapf_certificate.specs.declared.line.CertLine.TheVariants as lines
 use Rattle.mapf_certificate.specs.declared.sizes.Sizes.{Sizes}
 use Rattle.mapf_certificate.specs.declared.tree_line.Due.{Due}
 use Rattle.mapf_certificate.specs.declared.tree_line.Due.TheVariants as dues
-use Rattle.mapf_certificate.specs.Numbers.{field, pair}
 
 -- a blank and the label
 abbrev pub label_words : Label → List ℕ
@@ -121,12 +120,3 @@ IsLine (dues.Tree sizes) line = IsTreeLine sizes.version (grid_for sizes) sizes.
 abbrev pub width_of : Due → ℕ
 width_of (dues.Tree sizes) = sizes.width
 width_of _ = 1
-
--- no LF
-abbrev pub lacks_end : List ℕ → Bool
-lacks_end bs = list_all (λ b. not (b == 10)) bs
-
--- the first line, and what follows its LF
-pub record IsCut (bs line rest : List ℕ) : Type 0 where
-  pub same : bs ≡ line ++ (10 ∷ rest)
-  pub whole : lacks_end line ≡ true

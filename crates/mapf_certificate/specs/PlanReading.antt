@@ -1,13 +1,15 @@
 -- The lines of a plan text, and what they are read to.
-use Rattle.std.specs.Prelude.{◌≡◌, ◌≤◌, ◌==◌, ◌⊎◌, ℕ, ◌+◌, ◌++◌, List, [], ◌∷◌, codes, Option, Some, None, Result, Ok, Err, if◌then◌else◌, option_map}
+use Rattle.std.specs.Prelude.{◌≡◌, ◌≤◌, ◌⊎◌, ℕ, ◌+◌, ◌++◌, List, [], ◌∷◌, codes, Option, Some, None, Result, Ok, Err, if◌then◌else◌}
 use Rattle.std.specs.Result.{result_ok}
 use Rattle.std.specs.Str.{bytes_eq}
 use Rattle.std.specs.Option.{option_map_or}
 use Rattle.mapf_model.specs.Limits.{greatest_sum, most_splits}
 use Rattle.mapf_model.specs.declared.cause.Cause.{Cause}
 use Rattle.mapf_model.specs.declared.cause.Cause.TheVariants.{Splits, Ticks}
-use Rattle.mapf_certificate.specs.declared.line.LineFault.{LineFault}
-use Rattle.mapf_certificate.specs.declared.line.LineFault.TheVariants.{Shape, Range}
+use Rattle.mapf_fields.specs.declared.fault.LineFault.{LineFault}
+use Rattle.mapf_fields.specs.declared.fault.LineFault.TheVariants.{Shape, Range}
+use Rattle.mapf_fields.specs.Numbers.{◌>>=◌, strip, field, read_field, read_last, read_pair, read_cell, in_range}
+use Rattle.mapf_fields.specs.Ends.{cut}
 use Rattle.mapf_certificate.specs.declared.plan_text.PlanTextFault.{PlanTextFault}
 use Rattle.mapf_certificate.specs.declared.plan_text.PlanTextFault.TheVariants.{P1, P2, P3, P4, Memory}
 use Rattle.mapf_certificate.specs.declared.plan_text.PlanAnswer.{PlanAnswer}
@@ -20,7 +22,6 @@ use Rattle.mapf_certificate.specs.declared.plan_lines.AnswerLine.{AnswerLine}
 use Rattle.mapf_certificate.specs.declared.plan_lines.AnswerLine.TheVariants as answers
 use Rattle.mapf_certificate.specs.declared.plan_lines.CauseWord.{CauseWord}
 use Rattle.mapf_certificate.specs.declared.plan_lines.CauseWord.TheVariants as causes
-use Rattle.mapf_certificate.specs.Numbers.{◌>>=◌, strip, field, read_field, read_last, read_pair, read_cell, in_range}
 use Rattle.mapf_certificate.specs.LineReading.{read_count, read_cost}
 
 -- the words of the number of agents
@@ -104,11 +105,6 @@ something x (b ∷ bs) = Ok x
 -- what stands before the pairs of a path's line, of which there is one at least
 unfoldable pub read_path_front : List ℕ → Result (Option ℕ × Option ℕ × List ℕ) LineFault
 read_path_front bs = option_map_or (λ rest. read_field 32 rest >>= λ agent. read_field 32 agent.1 >>= λ cost. something (agent.0, cost.0, cost.1) cost.1) (strip (codes "path") bs) (Err Shape)
-
--- the first line, and what follows its LF
-abbrev pub cut : List ℕ → Option (List ℕ × List ℕ)
-cut [] = None
-cut (c ∷ cs) = if c == 10 then Some ([], cs) else option_map (λ p. (c ∷ p.0, p.1)) (cut cs)
 
 -- the next line and what follows it; P2 where the text ends before
 unfoldable pub next_line : ℕ → List ℕ → Result (List ℕ × List ℕ) PlanTextFault

@@ -6,12 +6,12 @@ use Rattle.mapf_model.specs.declared.cause.Cause.TheVariants.{Splits, Ticks}
 use Rattle.mapf_model.specs.Limits.{most_agents, most_path_cells, most_splits, greatest_sum}
 use Rattle.mapf_model.specs.Grid.{GridMap, IsGridMap}
 use Rattle.mapf_model.specs.Printed.{IsOnGrid, IsPathInRange}
+use Rattle.mapf_fields.specs.Numbers.{field, pair}
 use Rattle.mapf_certificate.specs.declared.plan_text.PlanText.{PlanText}
 use Rattle.mapf_certificate.specs.declared.plan_text.PlanAnswer.{PlanAnswer}
 use Rattle.mapf_certificate.specs.declared.plan_text.PlanAnswer.TheVariants.{Found, Impossible, Limit, Bounded}
 use Rattle.mapf_certificate.specs.declared.version.Version.{Version}
 use Rattle.mapf_certificate.specs.declared.version.Version.TheVariants.{One, Two}
-use Rattle.mapf_certificate.specs.Numbers.{field, pair}
 use Rattle.mapf_certificate.specs.Lines.{IsAgentCount}
 
 -- a path's cost is its length in ticks

@@ -1,7 +1,7 @@
 -- A reader and its source stay as they were.
 use Rattle.std.specs.Prelude.{◌≡◌, ◌⊎◌, ◌<◌, ℕ, false, List, ◌++◌, length, take}
+use Rattle.mapf_fields.specs.Ends.{lacks_end}
 use Rattle.mapf_certificate.specs.Buffered.{Buffered}
-use Rattle.mapf_certificate.specs.Lines.{lacks_end}
 
 -- a call left both the reader and its source as they were
 abbrev pub IsUntouched : {R S : Type 0} → R → R → S → S → Type 0

@@ -1,12 +1,12 @@
 ghost use Rattle.std.specs.Io.KnownBytes.{IsAtEnd};
+ghost use Rattle.mapf_fields.specs.Ends.{IsCut, lacks_end};
 ghost use Rattle.mapf_certificate.specs.Buffered.{spare};
-ghost use Rattle.mapf_certificate.specs.Lines.{IsCut, lacks_end};
 ghost use Rattle.mapf_certificate.specs.Untouched.{HasLine, IsUntouched};
 ghost use Rattle.mapf_certificate.specs.Window.{Window, LacksLine, LacksBytes};
 ghost use Rattle.std.specs.Prelude.{[], ◌++◌, take, ◌≡◌, ◌<◌, ◌≤◌, ◌+◌, ◌==◌, List, ℕ, length, drop, IfOk, IfErr};
 ghost use Rattle.std.specs.Prelude.{IfSome, IfNone, OnOk, OnErr, vec_len, vec_capacity, false, true};
 
-use crate::ends::line_length;
+use mapf_fields::line_length;
 use mapf_model::{Failed, OutOfMemory, Source};
 use std::alloc::Global;
 use std::marker::Model;

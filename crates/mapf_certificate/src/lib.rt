@@ -7,8 +7,6 @@ mod cert_converter;
 mod cert_lines;
 mod cert_reader;
 mod cert_writer;
-mod ends;
-mod field;
 pub mod laws;
 mod line;
 mod line_writer;

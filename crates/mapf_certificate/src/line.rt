@@ -24,12 +24,3 @@ pub enum CertLine {
     At(Entry),
     End,
 }
-
-/// What is wrong with a line.
-#[derive(Clone, Copy)]
-pub enum LineFault {
-    /// Its words.
-    Shape,
-    /// The range of a number.
-    Range,
-}

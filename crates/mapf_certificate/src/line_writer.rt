@@ -1,5 +1,5 @@
 ghost use Rattle.std.specs.Prelude.{◌≡◌, ◌<◌, ◌++◌, ◌∷◌, [], OnOk};
-ghost use Rattle.mapf_certificate.specs.Numbers.{field, pair};
+ghost use Rattle.mapf_fields.specs.Numbers.{field, pair};
 ghost use Rattle.mapf_certificate.specs.Lines.{words, title_words, split_words, count_words, label_words};
 ghost use Rattle.mapf_certificate.specs.Certificates.{line_text};
 

@@ -13,9 +13,10 @@ ghost use Rattle.std.specs.Prelude.{false};
 
 use crate::buffer::{LineBuffer, NoLine};
 use crate::cert::{CertFault, LinesFault};
-use crate::line::{CertLine, LineFault};
+use crate::line::CertLine;
 use crate::sizes::Sizes;
 use crate::tree_line::{Due, line_of};
+use mapf_fields::LineFault;
 use mapf_model::{Block, Entry, OutOfMemory, Source};
 use std::alloc::Global;
 

@@ -1,14 +1,12 @@
 ghost use Rattle.std.specs.Prelude.{◌≡◌};
-ghost use Rattle.mapf_certificate.specs.Numbers.{Gives};
+ghost use Rattle.mapf_fields.specs.Numbers.{Gives};
 ghost use Rattle.mapf_certificate.specs.PlanReading.{read_plan_title, read_agents_line, read_cause, cause_in_range};
 ghost use Rattle.mapf_certificate.specs.PlanReading.{read_bound, bound_in_range, read_limit, read_answer_line};
 ghost use Rattle.mapf_certificate.specs.PlanReading.{read_path_front};
 
-use crate::field::{field, last, strip};
-use crate::line::LineFault;
-use crate::sizes::{up_to, within};
 use crate::tree_line::{agent_count, cost};
 use crate::version::Version;
+use mapf_fields::{LineFault, field, last, strip, up_to, within};
 use mapf_model::Cause;
 use mapf_model::limits::{GREATEST_SUM, MOST_SPLITS};
 

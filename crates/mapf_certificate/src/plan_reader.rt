@@ -1,33 +1,24 @@
 ghost use Rattle.std.specs.Prelude.{◌≡◌, ◌⊎◌, ◌<◌, ◌≤◌, ◌+◌, ◌++◌, ◌∷◌, ℕ, List, All, Ok, Err, true, codes, length};
-ghost use Rattle.std.specs.Prelude.{vec_len, option_map, ◌↔◌, IsOk, IsSome, IfSome, IfOk, IsOkAnd, OnOk};
+ghost use Rattle.std.specs.Prelude.{vec_len, ◌↔◌, IsOk, IsSome, IfSome, IfOk, IsOkAnd, OnOk};
 ghost use Rattle.mapf_model.specs.Printed.{IsOnGrid, IsPathInRange};
 ghost use Rattle.mapf_model.specs.Limits.{most_path_cells};
 ghost use Rattle.mapf_model.specs.Path.{IsTight};
-ghost use Rattle.mapf_certificate.specs.Numbers.{Gives};
+ghost use Rattle.mapf_fields.specs.Numbers.{Gives};
 ghost use Rattle.mapf_certificate.specs.Lines.{grid_for};
 ghost use Rattle.mapf_certificate.specs.Plans.{ArePaths, cells_text, path_words, paths_text, cost_of, plan_text};
 ghost use Rattle.mapf_certificate.specs.Plans.{IsAnswerInRange, IsPlanText, IsPathOf};
-ghost use Rattle.mapf_certificate.specs.PlanReading.{cut, next_line, next_words, next_title, next_agents, next_answer};
+ghost use Rattle.mapf_certificate.specs.PlanReading.{next_line, next_words, next_title, next_agents, next_answer};
 ghost use Rattle.mapf_certificate.specs.PlanReading.{read_end, read_header, line_of, rest_of, IsAnswerLine};
 ghost use Rattle.mapf_certificate.specs.PlanReading.{read_pair_cell, fault_at, OrMemory};
 
-use crate::ends;
-use crate::field::pair;
-use crate::line::LineFault;
 use crate::plan_lines::{AnswerLine, agents_line, answer_line, path_front, title_line};
 use crate::plan_text::{PlanAnswer, PlanText, PlanTextFault};
-use crate::sizes::{Sizes, below, up_to};
+use crate::sizes::Sizes;
 use crate::version::Version;
+use mapf_fields::{LineFault, below, cut, pair, up_to};
 use mapf_model::limits::GREATEST_COST;
 use mapf_model::{Cause, Cell, Grid, Path, Plan};
 use std::alloc::Global;
-
-/// The first line without its LF, and what follows.
-fn cut(bytes: &[u8]) -> Option<(&[u8], &[u8])>
-    ensures { option_map (λ p. (p.0.now, p.1.now)) result ≡ cut bytes.entry.now }
-{
-    ends::cut(bytes)
-}
 
 #[tactic(auto, unfolding(crate::specs::PlanReading::next_line))]
 fn line_at(number: u64, bytes: &[u8]) -> Result<(&[u8], &[u8]), PlanTextFault>

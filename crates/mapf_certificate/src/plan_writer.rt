@@ -1,8 +1,8 @@
 ghost use Rattle.std.specs.Prelude.{◌≡◌, ◌<◌, ◌≤◌, ◌++◌, ◌∷◌, [], codes, OnOk, IfOk, All, length};
 ghost use Rattle.mapf_model.specs.Limits.{most_agents};
+ghost use Rattle.mapf_fields.specs.Numbers.{field};
 ghost use Rattle.mapf_certificate.specs.Plans.{cells_text, path_text, paths_text, cost_of, answer_text, plan_text};
 ghost use Rattle.mapf_certificate.specs.Plans.{plan_title, cause_words, IsPlanText, IsFew};
-ghost use Rattle.mapf_certificate.specs.Numbers.{field};
 
 use crate::line_writer::{push_cell, push_field, push_one};
 use crate::plan_text::{PlanAnswer, PlanText};

@@ -1,9 +1,9 @@
 ghost use Rattle.std.specs.Prelude.{◌≡◌, ◌≤◌, ◌<◌, ◌+◌, ◌*◌, ℕ};
 ghost use Rattle.mapf_model.specs.Limits.{most_agents, greatest_side};
-ghost use Rattle.mapf_certificate.specs.Numbers.{in_range, below, read_cell};
+ghost use Rattle.mapf_fields.specs.Numbers.{read_cell};
 
-use crate::line::LineFault;
 use crate::version::Version;
+use mapf_fields::{LineFault, below};
 use mapf_model::{Cell, Grid};
 
 /// What a line is judged by: the version of the text, the size of the grid, and the number of agents.
@@ -16,46 +16,6 @@ pub struct Sizes {
     ghost narrow: { (1 ≤ width) × (width ≤ greatest_side) },
     ghost low: { (1 ≤ height) × (height ≤ greatest_side) },
     ghost few: { (1 ≤ agents) × (agents ≤ most_agents) },
-}
-
-/// A number in this range.
-pub fn within(least: u64, most: u64, number: Option<u64>) -> Result<u64, LineFault>
-    ensures { result ≡ in_range least most number }
-{
-    match number {
-        Some(n) if least <= n && n <= most => Ok(n),
-        _ => Err(LineFault::Range),
-    }
-}
-
-/// A number of at most this.
-pub fn up_to(most: u32, number: Option<u64>) -> Result<u32, LineFault>
-    ensures { result ≡ in_range 0 most number }
-{
-    match number {
-        Some(n) if n <= most as u64 => Ok(n as u32),
-        _ => Err(LineFault::Range),
-    }
-}
-
-/// A number from 1 to this.
-pub fn from_one_to(most: u32, number: Option<u64>) -> Result<u32, LineFault>
-    ensures { result ≡ in_range 1 most number }
-{
-    match number {
-        Some(n) if 1 <= n && n <= most as u64 => Ok(n as u32),
-        _ => Err(LineFault::Range),
-    }
-}
-
-/// A number below this.
-pub fn below(bound: u32, number: Option<u64>) -> Result<u32, LineFault>
-    ensures { result ≡ below bound number }
-{
-    match number {
-        Some(n) if n < bound as u64 => Ok(n as u32),
-        _ => Err(LineFault::Range),
-    }
 }
 
 impl Sizes {
@@ -76,7 +36,7 @@ impl Sizes {
     }
 
     /// The cell in this column and row.
-    #[tactic(auto, unfolding(crate::specs::Numbers::read_cell))]
+    #[tactic(auto, unfolding(mapf_fields::specs::Numbers::read_cell))]
     pub fn cell(&self, x: Option<u64>, y: Option<u64>) -> Result<Cell, LineFault>
         ensures { result ≡ read_cell self.now.width self.now.height x y }
     {

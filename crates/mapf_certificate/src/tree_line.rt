@@ -7,10 +7,10 @@ ghost use Rattle.mapf_certificate.specs.LineReading.{read_label_word, label_in_r
 ghost use Rattle.mapf_certificate.specs.LineReading.{read_blocks, blocks_in_range};
 ghost use Rattle.mapf_certificate.specs.LineReading.{read_line};
 
-use crate::field::{field, last, pair, strip};
-use crate::line::{CertLine, LineFault};
-use crate::sizes::{Sizes, below, from_one_to, up_to, within};
+use crate::line::CertLine;
+use crate::sizes::Sizes;
 use crate::version::Version;
+use mapf_fields::{LineFault, below, field, from_one_to, last, pair, strip, up_to, within};
 use mapf_model::limits::{GREATEST_COST, GREATEST_SUM, LAST_SPLIT_TICK, MOST_AGENTS};
 use mapf_model::{Claim, Conflict, Entry, Label};
 

@@ -1,4 +1,5 @@
-use Rattle.mapf_certificate.proofs.LineWindows.{place, no_place}
+use Rattle.mapf_fields.proofs.Cuts.{place}
+use Rattle.mapf_certificate.proofs.LineWindows.{no_place}
 use Rattle.mapf_certificate.proofs.buffer.line_end.Goals as goal
 
 pub returns-clause-line : goal.returns-clause-line

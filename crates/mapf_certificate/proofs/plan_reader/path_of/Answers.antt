@@ -3,14 +3,14 @@ use Rattle.std.proofs.lemmas.Bool.{false≢true}
 use Rattle.std.proofs.lemmas.Result.{err_from_is_err_and}
 use Rattle.mapf_model.specs.Printed.{IsOnGrid, IsPathInRange}
 use Rattle.mapf_model.specs.Path.{IsTight}
+use Rattle.mapf_fields.specs.Numbers.{field}
+use Rattle.mapf_fields.proofs.Binds.{same_err, ok_triple_parts, passed_on}
 use Rattle.mapf_certificate.specs.declared.plan_text.PlanTextFault.TheVariants.{Memory}
 use Rattle.mapf_certificate.specs.declared.sizes.Sizes.{Sizes}
-use Rattle.mapf_certificate.specs.Numbers.{field}
 use Rattle.mapf_certificate.specs.Lines.{grid_for}
 use Rattle.mapf_certificate.specs.Plans.{path_words, cells_text, ticks_of, IsPathOf}
 use Rattle.mapf_certificate.specs.PlanReading.{read_path_front}
-use Rattle.mapf_certificate.proofs.Fields.{same_err}
-use Rattle.mapf_certificate.proofs.PathLaws.{front_read, ok_triple_parts, passed_on}
+use Rattle.mapf_certificate.proofs.PathLaws.{front_read}
 use Rattle.mapf_certificate.proofs.PlanParts.{path_front_takes}
 use Rattle.mapf_certificate.proofs.plan_reader.path_of.Goals as goal
 

@@ -1,6 +1,7 @@
 use Rattle.std.proofs.Common.{◌≡◌, ℕ, List, Ok, Err, ap, sym, subst, ◌∙◌, inl, inr}
 use Rattle.std.proofs.lemmas.Result.{err_from_is_err_and}
 use Rattle.mapf_model.specs.Grid.{GridMap}
+use Rattle.mapf_fields.proofs.Binds.{passed_on, ok_four_parts, same_ok, same_err}
 use Rattle.mapf_certificate.specs.declared.plan_text.PlanText.{PlanText}
 use Rattle.mapf_certificate.specs.declared.plan_text.PlanTextFault.{PlanTextFault}
 use Rattle.mapf_certificate.specs.declared.plan_text.PlanTextFault.TheVariants.{Memory}
@@ -11,8 +12,6 @@ use Rattle.mapf_certificate.specs.declared.version.Version.{Version}
 use Rattle.mapf_certificate.specs.Lines.{grid_for}
 use Rattle.mapf_certificate.specs.Plans.{plan_text, IsPlanText, IsAnswerInRange}
 use Rattle.mapf_certificate.specs.PlanReading.{read_header, line_of, rest_of, IsAnswerLine}
-use Rattle.mapf_certificate.proofs.PathLaws.{passed_on, ok_header_parts}
-use Rattle.mapf_certificate.proofs.Fields.{same_ok, same_err}
 use Rattle.mapf_certificate.proofs.PlanTexts.{headed, header_takes, header_of, answer_moved, answer_of_version, text_is}
 use Rattle.mapf_certificate.proofs.plan_reader.read_plan.Goals as goal
 
@@ -36,7 +35,7 @@ answer_of-requires c =
 -- the parts of a spelled text are those that were read
 parts : (grid : GridMap) (p : PlanText) (bs rest : List ℕ) (version : Version) (agents : ℕ) (line : AnswerLine) → IsPlanText grid p → bs ≡ plan_text grid.width p → read_header bs ≡ Ok (version, agents, line, rest)
     → (version ≡ p.version) × (agents ≡ p.agents) × (line ≡ line_of p.answer) × (rest ≡ rest_of grid.width p.answer)
-parts grid p bs rest version agents line is e read = ok_header_parts version p.version agents p.agents line (line_of p.answer) rest (rest_of grid.width p.answer) (sym read ∙ header_of grid p bs is e)
+parts grid p bs rest version agents line is e read = ok_four_parts version p.version agents p.agents line (line_of p.answer) rest (rest_of grid.width p.answer) (sym read ∙ header_of grid p bs is e)
 
 to_sizes : (grid : GridMap) (sizes : Sizes) (agents : ℕ) (answer : PlanAnswer) → sizes.width ≡ grid.width → sizes.height ≡ grid.height → sizes.agents ≡ agents → IsAnswerInRange grid agents answer → IsAnswerInRange (grid_for sizes) sizes.agents answer
 to_sizes grid sizes agents answer w h a is = answer_moved grid (grid_for sizes) agents sizes.agents answer (sym w) (sym h) (sym a) is

@@ -1,6 +1,6 @@
 use Rattle.std.proofs.Common.{◌≡◌, ℕ, List, Ok, Err, Result, sym, ap, ◌∙◌, IfOk, OnOk, ◌<◌, length, subst}
 use Rattle.mapf_certificate.specs.declared.line.CertLine.{CertLine}
-use Rattle.mapf_certificate.specs.declared.line.LineFault.{LineFault}
+use Rattle.mapf_fields.specs.declared.fault.LineFault.{LineFault}
 use Rattle.mapf_certificate.specs.declared.tree_line.Due.{Due}
 use Rattle.mapf_certificate.specs.Lines.{IsLine, words, width_of}
 use Rattle.mapf_certificate.specs.LineReading.{read_line}

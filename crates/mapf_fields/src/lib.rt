@@ -1,0 +1,15 @@
+//! How are the lines and numbers of the project's own texts spelled and read?
+#![tactic(auto)]
+
+mod ends;
+mod fault;
+mod numbers;
+mod ranges;
+
+pub use ends::{cut, line_length};
+pub use fault::LineFault;
+pub use numbers::{field, last, pair, strip};
+pub use ranges::{below, from_one_to, up_to, within};
+
+#[cfg(test)]
+mod tests;

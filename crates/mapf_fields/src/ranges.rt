@@ -1,0 +1,48 @@
+ghost use Rattle.std.specs.Prelude.{◌≡◌};
+ghost use Rattle.mapf_fields.specs.Numbers.{in_range, below};
+
+use crate::fault::LineFault;
+
+/// The number, where it is at least `least` and at most `most`. `LineFault::Range` for any other, and for
+/// None, which stands for one from 2^64 on.
+pub fn within(least: u64, most: u64, number: Option<u64>) -> Result<u64, LineFault>
+    ensures { result ≡ in_range least most number }
+{
+    match number {
+        Some(n) if least <= n && n <= most => Ok(n),
+        _ => Err(LineFault::Range),
+    }
+}
+
+/// The number, where it is at most `most`. `LineFault::Range` for any other, and for None, which stands
+/// for one from 2^64 on.
+pub fn up_to(most: u32, number: Option<u64>) -> Result<u32, LineFault>
+    ensures { result ≡ in_range 0 most number }
+{
+    match number {
+        Some(n) if n <= most as u64 => Ok(n as u32),
+        _ => Err(LineFault::Range),
+    }
+}
+
+/// The number, where it is at least 1 and at most `most`. `LineFault::Range` for any other, and for None,
+/// which stands for one from 2^64 on.
+pub fn from_one_to(most: u32, number: Option<u64>) -> Result<u32, LineFault>
+    ensures { result ≡ in_range 1 most number }
+{
+    match number {
+        Some(n) if 1 <= n && n <= most as u64 => Ok(n as u32),
+        _ => Err(LineFault::Range),
+    }
+}
+
+/// The number, where it is below `bound`. `LineFault::Range` for any other, and for None, which stands
+/// for one from 2^64 on.
+pub fn below(bound: u32, number: Option<u64>) -> Result<u32, LineFault>
+    ensures { result ≡ below bound number }
+{
+    match number {
+        Some(n) if n < bound as u64 => Ok(n as u32),
+        _ => Err(LineFault::Range),
+    }
+}
