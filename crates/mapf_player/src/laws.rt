@@ -1,3 +1,7 @@
+ghost use Rattle.mapf_player.specs.DispatchLaws.{CellsAreAPrefix, NobodyEntersAnOccupiedCell, NoTwoAgentsMeet};
+ghost use Rattle.mapf_player.specs.DispatchLaws.{ProgressStaysInOrder, RepliesAreOne};
+ghost use Rattle.mapf_player.specs.Events.{SpellsOneListOfEvents};
+ghost use Rattle.mapf_player.specs.Visits.{VisitsAreOne};
 ghost use Rattle.mapf_player.specs.Play.{AgentsAreSeen, TerrainIsSeen, PlaysAreOne};
 
 /// A plan is played by one text.
@@ -9,4 +13,31 @@ pub fn plays_are_one()
 pub fn cells_are_seen()
     ensures agents { AgentsAreSeen }
     ensures terrain { TerrainIsSeen }
+{}
+
+/// A path has at most one list of visits.
+pub fn visits_are_one()
+    ensures { VisitsAreOne }
+{}
+
+/// Agents that follow a valid plan never meet, in whatever order and however often they ask.
+pub fn agents_stay_apart()
+    ensures order { ProgressStaysInOrder }
+    ensures apart { NoTwoAgentsMeet }
+    ensures free { NobodyEntersAnOccupiedCell }
+{}
+
+/// The cells of an agent are those of its first visits.
+pub fn cells_are_a_prefix()
+    ensures { CellsAreAPrefix }
+{}
+
+/// There is at most one reply to an agent that asks.
+pub fn replies_are_one()
+    ensures { RepliesAreOne }
+{}
+
+/// A text of events is one of one list.
+pub fn events_are_spelled_apart()
+    ensures { SpellsOneListOfEvents }
 {}

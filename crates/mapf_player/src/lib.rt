@@ -1,14 +1,21 @@
-//! How does a plan look, tick by tick?
+//! How does a plan look, tick by tick, and how do agents follow it under any delays?
 #![tactic(auto)]
 
+mod dispatch;
+mod events;
 mod frame;
 pub mod laws;
 mod marks;
 mod page;
 mod player;
+mod reply;
 mod row;
+mod visit;
 
+pub use dispatch::Dispatch;
+pub use events::{EventFault, read_events};
 pub use player::play;
+pub use reply::Reply;
 
 #[cfg(test)]
 mod tests;

@@ -1,7 +1,7 @@
 ghost use Rattle.std.specs.Prelude.{◌≡◌, ◌∷◌, [], true, IfOk};
 
-use crate::play;
 use crate::player::write_text;
+use crate::{Dispatch, EventFault, Reply, play, read_events};
 use mapf_model::devices::{FuseSink, Pace};
 use mapf_model::{Agent, BytesSink, Cell, Grid, Path, Plan, Problem, Tick};
 use std::alloc::Global;
@@ -176,6 +176,67 @@ fn leaves_a_prefix_of_more_than_a_page(rt: HostRuntime) -> Result<(), Fail> {
         );
         assert!(rt; 0 < calls || sink.bytes().is_empty());
         assert!(rt; is_whole || calls < 3);
+    }
+    Ok(())
+}
+
+// A plan of these paths.
+fn plan(alloc: Global, all: &[&[u32]]) -> Result<Plan, Fail> {
+    Ok(Plan::of(paths(alloc, all)?).ok_or("a plan")?)
+}
+
+#[test]
+fn dispatches_agents_that_cross(rt: HostRuntime) -> Result<(), Fail> {
+    let alloc = rt.alloc();
+    let plan = plan(alloc, CROSSING)?;
+    let mut dispatch = Dispatch::new(alloc, &plan)?;
+    for (agent, reply) in [
+        (0, Reply::Hold { other: 1 }),
+        (1, Reply::Go(Cell(4))),
+        (0, Reply::Hold { other: 1 }),
+        (1, Reply::Go(Cell(7))),
+        (0, Reply::Go(Cell(4))),
+        (0, Reply::Go(Cell(5))),
+        (0, Reply::Done),
+    ] {
+        assert_eq!(rt; dispatch.ask(agent), reply);
+    }
+    Ok(())
+}
+
+#[test]
+fn holds_a_rotation(rt: HostRuntime) -> Result<(), Fail> {
+    let alloc = rt.alloc();
+    let plan = plan(alloc, &[&[0, 1], &[1, 3], &[3, 2], &[2, 0]])?;
+    let mut dispatch = Dispatch::new(alloc, &plan)?;
+    for (agent, other) in [(0, 1), (1, 2), (2, 3), (3, 0)] {
+        assert_eq!(rt; dispatch.ask(agent), Reply::Hold { other });
+    }
+    Ok(())
+}
+
+#[test]
+fn reads_events_now(rt: HostRuntime) -> Result<(), Fail> {
+    let alloc = rt.alloc();
+    let events = read_events(alloc, b"mapf-events 1\n0\n1\nend\n", 2).or(Err("events"))?;
+    assert_eq!(rt; events.as_slice(), [0u32, 1].as_slice());
+    for (text, fault) in [
+        ("mapf-events 1\n2\nend\n", EventFault::E3(2)),
+        ("mapf-events 1\n01\nend\n", EventFault::E1(2)),
+        ("mapf-events 1\n0\n", EventFault::E2(3)),
+        ("mapf-events 1\nend\nx", EventFault::E4(3)),
+        (
+            "mapf-events 1\n18446744073709551616\nend\n",
+            EventFault::E3(2),
+        ),
+        ("mapf-events 2\nend\n", EventFault::E1(1)),
+        ("", EventFault::E2(1)),
+        ("mapf-events 1\n0", EventFault::E2(2)),
+    ] {
+        match read_events(alloc, text.as_bytes(), 2) {
+            Ok(_) => assert!(rt; false),
+            Err(other) => assert_eq!(rt; other, fault),
+        }
     }
     Ok(())
 }
