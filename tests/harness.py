@@ -19,7 +19,7 @@ BYTES = 4_000_000_000
 SMALL_MEMORY = 64 << 20
 
 # Each of these words stands for a file of the case in a folder of its own.
-FILES = {"MAP": "map", "SCEN": "scen", "PLAN": "plan", "CERT": "cert"}
+FILES = {"MAP": "map", "SCEN": "scen", "PLAN": "plan", "CERT": "cert", "EVENTS": "events"}
 
 # How many runs a script that makes thousands of them has side by side.
 SIDE_BY_SIDE = 4
@@ -50,9 +50,8 @@ class Outcome:
     inputs: dict[str, bytes | None]
 
     def told(self):
-        ended = self.ended
         outputs = ", ".join(f"{name} {shown(bytes_)}" for name, bytes_ in self.outputs.items())
-        return f"status {ended.status}, {shown(ended.stdout)}, {shown(ended.stderr)}, {outputs or 'no output'}"
+        return f"{told(self.ended)}, {outputs or 'no output'}"
 
 
 def bound(most_bytes=BYTES):
@@ -107,6 +106,11 @@ def shown(value):
     if value is None:
         return "nothing"
     return repr(value) if len(value) <= 120 else f"{value[:100]!r} and so on, {len(value)} bytes"
+
+
+def told(ended):
+    """A short form of what a run gave, for a line of text."""
+    return f"status {ended.status}, {shown(ended.stdout)}, {shown(ended.stderr)}"
 
 
 class Case:

@@ -3,7 +3,7 @@ ghost use Rattle.mapf_model.specs.Limits.{most_agents, most_splits};
 
 use crate::outputs;
 use crate::outputs::{Place, Unsolved, identity_of, store};
-use mapf_app::{Fault, Input, Kind, Output, Verdict, run_check, run_play, run_solve};
+use mapf_app::{Fault, Input, Kind, Output, Verdict, run_check, run_dispatch, run_play, run_solve};
 use mapf_model::{ReadSource, WriteSink};
 use std::fs;
 use std::fs::File;
@@ -110,6 +110,34 @@ pub fn play(rt: &HostRuntime, map: &str, scen: &str, k: u32, plan: &str) -> Resu
         &mut ReadSource::of(scen),
         k,
         &mut ReadSource::of(plan),
+        &mut WriteSink::of(rt.stdout()),
+    )
+}
+
+/// Tells agents that follow the plan of a plan text, for the problem of two other files, whether they may
+/// go on, on standard output.
+pub fn dispatch(
+    rt: &HostRuntime,
+    map: &str,
+    scen: &str,
+    k: u32,
+    plan: &str,
+    events: &str,
+) -> Result<(), Fault>
+    requires some { 1 ≤ k }
+    requires few { k ≤ most_agents }
+{
+    let map = open(rt, map, Input::Map)?;
+    let scen = open(rt, scen, Input::Scen)?;
+    let plan = open(rt, plan, Input::Plan)?;
+    let events = open(rt, events, Input::Events)?;
+    run_dispatch(
+        rt.alloc(),
+        &mut ReadSource::of(map),
+        &mut ReadSource::of(scen),
+        k,
+        &mut ReadSource::of(plan),
+        &mut ReadSource::of(events),
         &mut WriteSink::of(rt.stdout()),
     )
 }

@@ -1,4 +1,4 @@
-//! The program: it plans for many agents on a grid, and checks and shows such plans.
+//! The program: it plans for many agents on a grid, checks and shows such plans, and lets agents follow them.
 #![tactic(auto)]
 
 ghost use Rattle.mapf_words.specs.Jobs.{IsInRange};
@@ -45,5 +45,12 @@ fn run(rt: &HostRuntime, job: &Job) -> ExitCode
             cert,
         } => words::checked(rt, &files::check(rt, map, scen, *k, plan, cert)),
         Job::Play { map, scen, k, plan } => words::told(rt, &files::play(rt, map, scen, *k, plan)),
+        Job::Dispatch {
+            map,
+            scen,
+            k,
+            plan,
+            events,
+        } => words::told(rt, &files::dispatch(rt, map, scen, *k, plan, events)),
     }
 }

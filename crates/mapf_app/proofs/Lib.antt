@@ -1,5 +1,6 @@
 pub mod CheckLemmas
+pub mod DispatchLemmas
 pub mod InputLemmas
-pub mod PlayLemmas
+pub mod PlannedLemmas
 pub mod PrintLemmas
 pub mod SolveLemmas

@@ -4,11 +4,11 @@ use Rattle.std.specs.Fmt.{decimal}
 use Rattle.mapf_app.specs.declared.fault.Fault.{Fault}
 use Rattle.mapf_app.specs.declared.fault.Fault.TheVariants.{F1, F2, F3, F4, F5, F6, Refused}
 use Rattle.mapf_app.specs.declared.fault.Input.{Input}
-use Rattle.mapf_app.specs.declared.fault.Input.TheVariants.{Map, Scen, Plan, Cert}
+use Rattle.mapf_app.specs.declared.fault.Input.TheVariants.{Map, Scen, Plan, Cert, Events}
 use Rattle.mapf_app.specs.declared.fault.Output.{Output}
 use Rattle.mapf_app.specs.declared.fault.Output.TheVariants.{Plan as PlanText, Cert as CertText, Out}
 use Rattle.mapf_app.specs.declared.fault.PlayFault.{PlayFault}
-use Rattle.mapf_app.specs.declared.fault.PlayFault.TheVariants.{Text, NoPlan, OtherCount, Invalid}
+use Rattle.mapf_app.specs.declared.fault.PlayFault.TheVariants.{Text, NoPlan, OtherCount, Invalid, Events as EventText}
 use Rattle.mapf_certificate.specs.declared.cert.CertFault.{CertFault}
 use Rattle.mapf_certificate.specs.declared.cert.CertFault.TheVariants as certs
 use Rattle.mapf_certificate.specs.declared.plan_text.PlanTextFault.{PlanTextFault}
@@ -17,6 +17,8 @@ use Rattle.mapf_checker.specs.declared.fault.CheckFault.{CheckFault}
 use Rattle.mapf_checker.specs.declared.fault.CheckFault.TheVariants as checks
 use Rattle.mapf_checker.specs.declared.plan_fault.PlanFault.{PlanFault}
 use Rattle.mapf_checker.specs.declared.plan_fault.PlanFault.TheVariants.{V1, V2, V3, V4, V5}
+use Rattle.mapf_player.specs.declared.events.EventFault.{EventFault}
+use Rattle.mapf_player.specs.declared.events.EventFault.TheVariants as events
 use Rattle.mapf_text.specs.declared.map_fault.MapFault.{MapFault}
 use Rattle.mapf_text.specs.declared.map_fault.MapFault.TheVariants as maps
 use Rattle.mapf_text.specs.declared.scenario_fault.ScenFault.{ScenFault}
@@ -92,12 +94,21 @@ refusal_line (checks.C8 line) = codes "refused C8" ++ numbers (line ∷ [])
 refusal_line (checks.C9 line) = codes "refused C9" ++ numbers (line ∷ [])
 refusal_line checks.Memory = memory_line
 
--- the line of a plan that can't be played
+-- the line of a fault of the events
+abbrev pub event_fault_line : EventFault → List ℕ
+event_fault_line (events.E1 line) = codes "F3 E1" ++ numbers (line ∷ [])
+event_fault_line (events.E2 line) = codes "F3 E2" ++ numbers (line ∷ [])
+event_fault_line (events.E3 line) = codes "F3 E3" ++ numbers (line ∷ [])
+event_fault_line (events.E4 line) = codes "F3 E4" ++ numbers (line ∷ [])
+event_fault_line events.Memory = memory_line
+
+-- the line of a plan that can't be played or followed, or of events that can't be read
 abbrev pub play_fault_line : PlayFault → List ℕ
 play_fault_line (Text fault) = plan_text_fault_line (codes "F3") fault
 play_fault_line NoPlan = codes "F3 none" ++ numbers []
 play_fault_line OtherCount = codes "F3 count" ++ numbers []
 play_fault_line (Invalid fault) = plan_fault_line (codes "F3") fault
+play_fault_line (EventText fault) = event_fault_line fault
 
 -- the line of an input that couldn't be read
 abbrev pub input_line : Input → List ℕ
@@ -105,6 +116,7 @@ input_line Map = codes "F4 map" ++ numbers []
 input_line Scen = codes "F4 scen" ++ numbers []
 input_line Plan = codes "F4 plan" ++ numbers []
 input_line Cert = codes "F4 cert" ++ numbers []
+input_line Events = codes "F4 events" ++ numbers []
 
 -- the line of an output that couldn't be written
 abbrev pub output_line : Output → List ℕ

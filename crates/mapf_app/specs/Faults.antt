@@ -3,14 +3,15 @@ use Rattle.std.specs.Prelude.{◌≡◌, ◌≢◌, ℕ, List, Option, ⊤}
 use Rattle.mapf_model.specs.Grid.{GridMap}
 use Rattle.mapf_model.specs.Plan.{Instance}
 use Rattle.mapf_app.specs.Checked.{IsRefusalOf}
-use Rattle.mapf_app.specs.Played.{HasPlayFault, IsPlayDefect}
+use Rattle.mapf_app.specs.Dispatched.{HasEventsFault, IsDispatchDefect}
+use Rattle.mapf_app.specs.Planned.{HasPlanFault, IsOfPlanText, IsPlanDefect}
 use Rattle.mapf_app.specs.Problems.{IsMapDefect, IsAgentsDefect, IsScenarioDefect}
 use Rattle.mapf_app.specs.declared.fault.Fault.{Fault}
 use Rattle.mapf_app.specs.declared.fault.Fault.TheVariants.{F1, F2, F3, F4, F5, F6, Refused}
 use Rattle.mapf_app.specs.declared.fault.PlayFault.{PlayFault}
-use Rattle.mapf_app.specs.declared.fault.PlayFault.TheVariants.{Text, NoPlan, OtherCount, Invalid}
+use Rattle.mapf_app.specs.declared.fault.PlayFault.TheVariants.{Text, NoPlan, OtherCount, Invalid, Events}
 use Rattle.mapf_app.specs.declared.fault.Input.{Input}
-use Rattle.mapf_app.specs.declared.fault.Input.TheVariants.{Map, Scen, Plan, Cert}
+use Rattle.mapf_app.specs.declared.fault.Input.TheVariants.{Map, Scen, Plan, Cert, Events as EventText}
 use Rattle.mapf_app.specs.declared.fault.Output.{Output}
 use Rattle.mapf_app.specs.declared.fault.Output.TheVariants.{Plan as PlanText, Cert as CertText, Out}
 use Rattle.mapf_certificate.specs.declared.plan_text.PlanTextFault.{PlanTextFault}
@@ -18,6 +19,8 @@ use Rattle.mapf_certificate.specs.declared.plan_text.PlanTextFault.TheVariants a
 use Rattle.mapf_checker.specs.Faults.{HasNoTextMemory}
 use Rattle.mapf_checker.specs.declared.fault.CheckFault.{CheckFault}
 use Rattle.mapf_checker.specs.declared.fault.CheckFault.TheVariants as refusals
+use Rattle.mapf_player.specs.declared.events.EventFault.{EventFault}
+use Rattle.mapf_player.specs.declared.events.EventFault.TheVariants as event_faults
 use Rattle.mapf_text.specs.declared.map_fault.MapFault.{MapFault}
 use Rattle.mapf_text.specs.declared.map_fault.MapFault.TheVariants as map_faults
 use Rattle.mapf_text.specs.declared.scenario_fault.ScenFault.{ScenFault}
@@ -29,13 +32,31 @@ IsProblemInput Map = ⊤
 IsProblemInput Scen = ⊤
 IsProblemInput Plan = ⊥
 IsProblemInput Cert = ⊥
+IsProblemInput EventText = ⊥
+
+-- an input of a run that checks a plan text and a certificate
+abbrev pub IsCheckInput : Input → Type 0
+IsCheckInput Map = ⊤
+IsCheckInput Scen = ⊤
+IsCheckInput Plan = ⊤
+IsCheckInput Cert = ⊤
+IsCheckInput EventText = ⊥
 
 -- an input of a run that plays a plan
-abbrev pub IsPlayInput : Input → Type 0
-IsPlayInput Map = ⊤
-IsPlayInput Scen = ⊤
-IsPlayInput Plan = ⊤
-IsPlayInput Cert = ⊥
+abbrev pub IsPlanInput : Input → Type 0
+IsPlanInput Map = ⊤
+IsPlanInput Scen = ⊤
+IsPlanInput Plan = ⊤
+IsPlanInput Cert = ⊥
+IsPlanInput EventText = ⊥
+
+-- an input of a run that dispatches agents
+abbrev pub IsDispatchInput : Input → Type 0
+IsDispatchInput Map = ⊤
+IsDispatchInput Scen = ⊤
+IsDispatchInput Plan = ⊤
+IsDispatchInput Cert = ⊥
+IsDispatchInput EventText = ⊤
 
 -- one of the two texts
 abbrev pub IsOfTexts : Output → Type 0
@@ -84,11 +105,19 @@ IsSolving map scen count = IsFaultOf map scen count (λ _. ⊥) IsProblemInput I
 
 -- what a fault of checking says
 abbrev pub IsChecking : Option (List ℕ) → Option (List ℕ) → Option (List ℕ) → Option (List ℕ) → ℕ → Fault → Type 0
-IsChecking map scen plan cert count = IsFaultOf map scen count (λ _. ⊥) (λ _. ⊤) (λ _. ⊥) (IsRefusalOf map scen plan cert count)
+IsChecking map scen plan cert count = IsFaultOf map scen count (λ _. ⊥) IsCheckInput (λ _. ⊥) (IsRefusalOf map scen plan cert count)
+
+-- what a fault of reading a problem and a valid plan for it says
+abbrev pub IsPlanning : Option (List ℕ) → Option (List ℕ) → Option (List ℕ) → ℕ → Fault → Type 0
+IsPlanning map scen plan count = IsFaultOf map scen count (IsPlanDefect map scen plan count) IsPlanInput (λ _. ⊥) (λ _. ⊥)
 
 -- what a fault of playing says
 abbrev pub IsPlaying : Option (List ℕ) → Option (List ℕ) → Option (List ℕ) → ℕ → Fault → Type 0
-IsPlaying map scen plan count = IsFaultOf map scen count (IsPlayDefect map scen plan count) IsPlayInput (λ output. output ≡ Out) (λ _. ⊥)
+IsPlaying map scen plan count = IsFaultOf map scen count (IsPlanDefect map scen plan count) IsPlanInput (λ output. output ≡ Out) (λ _. ⊥)
+
+-- what a fault of dispatching says
+abbrev pub IsDispatching : Option (List ℕ) → Option (List ℕ) → Option (List ℕ) → Option (List ℕ) → ℕ → Fault → Type 0
+IsDispatching map scen plan events count = IsFaultOf map scen count (IsDispatchDefect map scen plan events count) IsDispatchInput (λ output. output ≡ Out) (λ _. ⊥)
 
 -- the map couldn't be read, or has a defect
 abbrev pub IsOfMap : Fault → Type 0
@@ -110,6 +139,16 @@ IsOfProblem (F5 output) = ⊥
 IsOfProblem F6 = ⊥
 IsOfProblem (Refused refusal) = ⊥
 
+-- the map, the scenario or the plan text couldn't be read, or has a defect
+abbrev pub IsOfPlan : Fault → Type 0
+IsOfPlan (F1 fault) = ⊤
+IsOfPlan (F2 fault) = ⊤
+IsOfPlan (F3 fault) = IsOfPlanText fault
+IsOfPlan (F4 input) = IsPlanInput input
+IsOfPlan (F5 output) = ⊥
+IsOfPlan F6 = ⊥
+IsOfPlan (Refused refusal) = ⊥
+
 -- the fault comes before anything is written: it is no output's
 abbrev pub IsBeforeWriting : Fault → Type 0
 IsBeforeWriting (F1 fault) = ⊤
@@ -120,15 +159,25 @@ IsBeforeWriting (F5 output) = ⊥
 IsBeforeWriting F6 = ⊤
 IsBeforeWriting (Refused refusal) = ⊤
 
--- what a fault of a plan text that is to be played says of it
+-- what a fault of a plan text that is to be followed says of it
 abbrev pub IsReadingPlan : Instance → List ℕ → Fault → Type 0
 IsReadingPlan problem bytes (F1 fault) = ⊥
 IsReadingPlan problem bytes (F2 fault) = ⊥
-IsReadingPlan problem bytes (F3 fault) = HasPlayFault problem bytes fault
+IsReadingPlan problem bytes (F3 fault) = HasPlanFault problem bytes fault
 IsReadingPlan problem bytes (F4 input) = ⊥
 IsReadingPlan problem bytes (F5 output) = ⊥
 IsReadingPlan problem bytes F6 = ⊤
 IsReadingPlan problem bytes (Refused refusal) = ⊥
+
+-- what a fault of an event text of so many agents says of it
+abbrev pub IsReadingEvents : Option (List ℕ) → ℕ → Fault → Type 0
+IsReadingEvents events count (F1 fault) = ⊥
+IsReadingEvents events count (F2 fault) = ⊥
+IsReadingEvents events count (F3 fault) = HasEventsFault events count fault
+IsReadingEvents events count (F4 input) = input ≡ EventText
+IsReadingEvents events count (F5 output) = ⊥
+IsReadingEvents events count F6 = ⊤
+IsReadingEvents events count (Refused refusal) = ⊥
 
 -- an input that can't be read, an output that can't be written, or want of memory
 abbrev pub IsOfDevices : Fault → Type 0
@@ -150,12 +199,13 @@ IsOfInput (F5 output) = ⊥
 IsOfInput F6 = ⊤
 IsOfInput (Refused refusal) = ⊥
 
--- want of memory is no fault of a plan text
+-- want of memory is no fault of a plan text or of an event text
 abbrev pub HasNoPlayMemory : PlayFault → Type 0
 HasNoPlayMemory (Text fault) = fault ≢ plan_faults.Memory
 HasNoPlayMemory NoPlan = ⊤
 HasNoPlayMemory OtherCount = ⊤
 HasNoPlayMemory (Invalid fault) = ⊤
+HasNoPlayMemory (Events fault) = fault ≢ event_faults.Memory
 
 -- want of memory is told by F6 alone, and inside no other fault
 abbrev pub HasNoInnerMemory : Fault → Type 0
@@ -177,7 +227,12 @@ abbrev pub fault_of_scenario : ScenFault → Fault
 fault_of_scenario scenario_faults.Memory = F6
 fault_of_scenario fault = F2 fault
 
--- a plan text's fault by its name among those of a run that plays it
+-- a plan text's fault by its name among those of a run that follows it
 abbrev pub fault_of_plan_text : PlanTextFault → Fault
 fault_of_plan_text plan_faults.Memory = F6
 fault_of_plan_text fault = F3 (Text fault)
+
+-- an event text's fault by its name among those of a run
+abbrev pub fault_of_events : EventFault → Fault
+fault_of_events event_faults.Memory = F6
+fault_of_events fault = F3 (Events fault)

@@ -4,6 +4,8 @@ pub mod Faults
 pub mod Headline
 pub mod Order
 pub mod Played
+pub mod Planned
+pub mod Dispatched
 pub mod Problems
 pub mod Solved
 pub mod Told

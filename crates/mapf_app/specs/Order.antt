@@ -1,6 +1,7 @@
 -- What was read before an input is pulled: those before it, each whole, and they spell what they must.
 use Rattle.std.specs.Prelude.{◌≡◌, ℕ, Bool, false, List, Option}
 use Rattle.std.specs.Io.KnownBytes.{IsAtEnd}
+use Rattle.mapf_app.specs.Planned.{SpellsPlanned}
 use Rattle.mapf_app.specs.Problems.{SpellsGrid, SpellsProblem}
 use Rattle.mapf_app.specs.Unreadable.{IsWithin}
 use Rattle.mapf_model.specs.Grid.{GridMap}
@@ -25,3 +26,11 @@ pub record HasReadProblem (map_failed : Bool) (map map_left : Option (List ℕ))
   pub scen_whole : IsReadWhole scen_failed scen scen_left
   pub problem : Instance
   pub spelled : SpellsProblem map scen count problem
+
+-- a map, a scenario and a plan text were read whole, and they spell a problem of so many agents and a valid plan for it
+pub record HasReadPlan (map_failed : Bool) (map map_left : Option (List ℕ)) (scen_failed : Bool) (scen scen_left : Option (List ℕ)) (plan_failed : Bool) (plan plan_left : Option (List ℕ)) (count : ℕ) : Type 0 where
+  pub problem_whole : HasReadProblem map_failed map map_left scen_failed scen scen_left count
+  pub plan_whole : IsReadWhole plan_failed plan plan_left
+  pub problem : Instance
+  pub paths : List (List ℕ)
+  pub spelled : SpellsPlanned map scen plan count problem paths

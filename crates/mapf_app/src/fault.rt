@@ -1,5 +1,6 @@
 use mapf_certificate::PlanTextFault;
 use mapf_checker::{CheckFault, PlanFault};
+use mapf_player::EventFault;
 use mapf_text::{MapFault, ScenFault};
 use thiserror::Error;
 
@@ -10,6 +11,7 @@ pub enum Input {
     Scen,
     Plan,
     Cert,
+    Events,
 }
 
 /// An output of a run.
@@ -21,10 +23,10 @@ pub enum Output {
     Out,
 }
 
-/// Why a plan text can't be played.
+/// Why a plan can't be played or followed, or events can't be read.
 #[derive(Clone, Copy, Debug, PartialEq, Eq)]
 pub enum PlayFault {
-    /// The bytes spell no plan text. The variant `Memory` is never in here.
+    /// The bytes of the plan text spell no plan text. The variant `Memory` is never in here.
     Text(PlanTextFault),
     /// The text says that no plan is valid, or that a limit was met.
     NoPlan,
@@ -32,6 +34,8 @@ pub enum PlayFault {
     OtherCount,
     /// The plan isn't valid.
     Invalid(PlanFault),
+    /// The bytes of the event text spell no events. The variant `Memory` is never in here.
+    Events(EventFault),
 }
 
 /// Why a run has no answer. Want of memory is `F6`, and inside no other fault.
@@ -43,8 +47,8 @@ pub enum Fault {
     /// The scenario's bytes have the defect.
     #[error("scenario: {0:?}")]
     F2(ScenFault),
-    /// The plan text can't be played.
-    #[error("plan: {0:?}")]
+    /// The plan can't be played or followed, or the events can't be read.
+    #[error("plan or events: {0:?}")]
     F3(PlayFault),
     /// The input couldn't be read: its source failed, or gave more than `MOST_TEXT_BYTES`
     /// bytes, of a certificate more than `MOST_CERT_BYTES`.

@@ -1,8 +1,9 @@
 ghost use Rattle.std.specs.Prelude.{◌≡◌, false, Some, None, OnOk};
 ghost use Rattle.std.specs.Result.{is_err};
 ghost use Rattle.std.specs.Io.KnownBytes.{Appends};
-ghost use Rattle.mapf_app.specs.FaultLines.{cert_fault_line, fault_line, map_fault_line, plan_fault_line};
-ghost use Rattle.mapf_app.specs.FaultLines.{plan_text_fault_line, play_fault_line, refusal_line, scenario_fault_line};
+ghost use Rattle.mapf_app.specs.FaultLines.{cert_fault_line, event_fault_line, fault_line, map_fault_line};
+ghost use Rattle.mapf_app.specs.FaultLines.{plan_fault_line, plan_text_fault_line, play_fault_line};
+ghost use Rattle.mapf_app.specs.FaultLines.{refusal_line, scenario_fault_line};
 ghost use Rattle.mapf_app.specs.Told.{bound_text, defect_text, line_text, number_text, verdict_line};
 
 use crate::fault::{Fault, Input, Output, PlayFault};
@@ -10,6 +11,7 @@ use itoa::Buffer;
 use mapf_certificate::{CertFault, PlanTextFault};
 use mapf_checker::{CheckFault, PlanFault, Verdict};
 use mapf_model::{Failed, Sink, write_all};
+use mapf_player::EventFault;
 use mapf_text::{MapFault, ScenFault};
 
 /// A line that the program prints: words, the name of a text's or a plan's fault, numbers, and a bound.
@@ -104,6 +106,7 @@ impl Line {
             Fault::F4(Input::Scen) => Line::of("F4 scen"),
             Fault::F4(Input::Plan) => Line::of("F4 plan"),
             Fault::F4(Input::Cert) => Line::of("F4 cert"),
+            Fault::F4(Input::Events) => Line::of("F4 events"),
             Fault::F5(Output::Plan) => Line::of("F5 plan"),
             Fault::F5(Output::Cert) => Line::of("F5 cert"),
             Fault::F5(Output::Out) => Line::of("F5 out"),
@@ -207,6 +210,19 @@ fn play_line(fault: PlayFault) -> Line
         PlayFault::NoPlan => Line::of("F3 none"),
         PlayFault::OtherCount => Line::of("F3 count"),
         PlayFault::Invalid(fault) => plan_line("F3", fault),
+        PlayFault::Events(fault) => event_line(fault),
+    }
+}
+
+fn event_line(fault: EventFault) -> Line
+    ensures { line_text result ≡ event_fault_line fault }
+{
+    match fault {
+        EventFault::E1(line) => Line::of("F3 E1").with(line),
+        EventFault::E2(line) => Line::of("F3 E2").with(line),
+        EventFault::E3(line) => Line::of("F3 E3").with(line),
+        EventFault::E4(line) => Line::of("F3 E4").with(line),
+        EventFault::Memory => Line::of("F6"),
     }
 }
 

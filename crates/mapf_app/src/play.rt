@@ -2,55 +2,19 @@ ghost use Rattle.std.specs.Prelude.{◌≡◌, ◌≤◌, ◌⊎◌, ℕ, List, 
 ghost use Rattle.std.specs.Prelude.{IfOk, IfErr, OnOk, IsErrOf, IsSome, MatchResult};
 ghost use Rattle.std.specs.Io.KnownBytes.{Appends};
 ghost use Rattle.mapf_app.specs.Faults.{HasNoInnerMemory, IsBeforeWriting, IsOfDevices, IsOfMap, IsOfProblem};
-ghost use Rattle.mapf_app.specs.Faults.{IsPlaying, IsReadingPlan, fault_of_plan_text};
+ghost use Rattle.mapf_app.specs.Faults.{IsPlaying};
 ghost use Rattle.mapf_app.specs.Order.{HasReadGrid, HasReadProblem};
-ghost use Rattle.mapf_app.specs.Played.{IsDuePlay, PlaysTruly, ShowsPlan, SpellsValidPlan};
-ghost use Rattle.mapf_app.specs.Problems.{SpellsProblem};
+ghost use Rattle.mapf_app.specs.Planned.{IsDuePlan};
+ghost use Rattle.mapf_app.specs.Played.{PlaysTruly, ShowsPlan};
 ghost use Rattle.mapf_app.specs.Unreadable.{IsUnreadable, IsWithin};
 ghost use Rattle.mapf_model.specs.Limits.{most_agents, most_text_bytes};
 ghost use Rattle.mapf_model.specs.Plan.{Instance};
 
-use crate::fault::{Fault, Input, Output, PlayFault};
-use crate::input::{read_problem, read_text};
-use mapf_certificate::{PlanAnswer, PlanText, PlanTextFault, read_plan};
-use mapf_checker::check_plan;
-use mapf_model::{Failed, Plan, Problem, Sink, Source};
+use crate::fault::{Fault, Input, Output};
+use crate::planned::{Planned, read_planned};
+use mapf_model::{Failed, Sink, Source};
 use mapf_player::play;
 use std::alloc::Global;
-
-// The name of a plan text's fault among those of a run.
-fn fault_of_plan_text(fault: PlanTextFault) -> Fault
-    ensures { result ≡ fault_of_plan_text fault }
-{
-    match fault {
-        PlanTextFault::Memory => Fault::F6,
-        _ => Fault::F3(PlayFault::Text(fault)),
-    }
-}
-
-// The valid plan that a plan text spells for the problem.
-fn valid_plan(alloc: Global, problem: &Problem, bytes: &[u8]) -> Result<Plan, Fault>
-    ensures found { IfOk result (SpellsValidPlan problem.now bytes.now) }
-    ensures only { (plan : List (List ℕ)) → SpellsValidPlan problem.now bytes.now plan →
-        (result ≡ Ok plan) ⊎ (result ≡ Err Fault.F6) }
-    ensures fault { IfErr result (IsReadingPlan problem.now bytes.now) }
-    ensures inner { IfErr result HasNoInnerMemory }
-{
-    let PlanText { agents, answer, .. } = match read_plan(alloc, bytes, problem.grid()) {
-        Ok(text) => text,
-        Err(fault) => return Err(fault_of_plan_text(fault)),
-    };
-    let PlanAnswer::Found(plan) = answer else {
-        return Err(Fault::F3(PlayFault::NoPlan));
-    };
-    if agents as usize != problem.agents().len() {
-        return Err(Fault::F3(PlayFault::OtherCount));
-    }
-    match check_plan(problem, &plan) {
-        Ok(_) => Ok(plan),
-        Err(fault) => Err(Fault::F3(PlayFault::Invalid(fault))),
-    }
-}
 
 /// Reads a map, a scenario of which the first `k` agents count, and a plan text, and writes what its plan
 /// looks like at each tick. Nothing is written before the plan was found valid.
@@ -74,7 +38,7 @@ pub fn run_play<M: Source, S: Source, P: Source, K: Sink>(
         × Appends (K.contents sink.old) (K.contents sink.new) text) }
     // A valid plan that is spelled is the one that is played, unless a device or memory prevents it.
     ensures due { (problem : Instance) (paths : List (List ℕ)) →
-        IsDuePlay (M.remaining map.old) (S.remaining scen.old) (P.remaining plan.old) k problem paths →
+        IsDuePlan (M.remaining map.old) (S.remaining scen.old) (P.remaining plan.old) k problem paths →
         MatchResult result (λ _. ShowsPlan problem paths (K.contents sink.old) (K.contents sink.new)) IsOfDevices }
     // Inputs of more bytes than the limit aren't read.
     ensures within { OnOk result
@@ -108,10 +72,8 @@ pub fn run_play<M: Source, S: Source, P: Source, K: Sink>(
         × Appends (K.contents sink.old) (K.contents sink.new) (take n text) }
     ensures unwritten { IfErr result (λ fault. IsBeforeWriting fault → sink.new ≡ sink.old) }
 {
-    let problem = read_problem(alloc, map, scen, k)?;
-    let text = read_text(alloc, plan, Input::Plan)?;
-    let paths = valid_plan(alloc, &problem, text.as_slice())?;
-    match play(&problem, &paths, sink) {
+    let Planned { problem, plan } = read_planned(alloc, map, scen, k, plan)?;
+    match play(&problem, &plan, sink) {
         Ok(()) => Ok(()),
         Err(Failed) => Err(Fault::F5(Output::Out)),
     }

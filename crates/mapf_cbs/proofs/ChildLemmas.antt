@@ -27,7 +27,8 @@ use Rattle.mapf_spacetime.specs.Task.{task_of}
 use Rattle.mapf_cbs.specs.CheapestPath.{IsCheapestPath, HasNoPath, IsTableBar}
 use Rattle.mapf_cbs.specs.Search.{View, entries_at, IsCheapestOf, AreOwnBlocks, IsLive, IsDead, bound_blocks, live_child, dead_child}
 use Rattle.mapf_cbs.proofs.CheapestPathLemmas.{distance_bound, cheapest_with}
-use Rattle.mapf_cbs.proofs.SumLemmas.{slice_get-set_same, slice_get-set_other, length-slice_set, sum-set}
+use Rattle.mapf_model.proofs.PlaceLemmas.{slice_get-set_same, slice_get-set_other, length-slice_set}
+use Rattle.mapf_cbs.proofs.SumLemmas.{sum-set}
 use Rattle.mapf_cbs.proofs.ViewLemmas.{agent_path_of}
 
 pub Contains-none : {X : Type 0} (x : X) → Contains [] x → ⊥

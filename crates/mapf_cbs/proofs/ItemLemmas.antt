@@ -14,7 +14,7 @@ use Rattle.std.proofs.lemmas.Bool.{cases_lt}
 use Rattle.std.proofs.lemmas.Option.{same_Some}
 use Rattle.mapf_cbs.specs.Search.{View, IsEndFate, Shape, Node, End, occurrences, IsShape, IsOneTree, AreBlockLists, AreBlocksAt, IsTreeAt}
 use Rattle.mapf_cbs.proofs.ShapeLemmas.{occurs_here, occurs_node, occurrences-past}
-use Rattle.mapf_cbs.proofs.SumLemmas.{slice_get-set_other}
+use Rattle.mapf_model.proofs.PlaceLemmas.{slice_get-set_other}
 
 -- once these items are followed by those of the trees that are owed, they are those of the whole tree
 pub record Leads (views : List View) (fates : List Fate) (items : List Item) (owed : List ℕ) : Type 0 where

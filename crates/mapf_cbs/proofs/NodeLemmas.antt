@@ -18,7 +18,7 @@ use Rattle.mapf_cbs.specs.declared.node.Node.TheVariants.{Root, Child}
 use Rattle.mapf_model.specs.Blocks.{LabelBlock}
 use Rattle.mapf_cbs.specs.Search.{View, bound_blocks, labels_of}
 use Rattle.mapf_cbs.specs.Nodes.{AreViews, IsNodeView, IsOwnOf, IsChildView, AreJoined}
-use Rattle.mapf_cbs.proofs.SumLemmas.{slice_get-set_same, slice_get-set_other}
+use Rattle.mapf_model.proofs.PlaceLemmas.{slice_get-set_same, slice_get-set_other}
 
 -- a path that this node didn't find is the parent's
 pub paths_kept : (before : View) (agent : ℕ) (constraint : Constraint) (found : Found) (view : View) → (agent ≢ constraint.agent) ⊎ ((labels : List Entry) × (found ≡ Dead labels)) → IsChildView before constraint found view → slice_get view.paths agent ≡ slice_get before.paths agent

@@ -27,7 +27,7 @@ use Rattle.mapf_cbs.specs.Whole.{IsWhole, AreWhole, HaveAgentPaths, IsWholeChild
 use Rattle.mapf_cbs.proofs.AnswerLemmas.{answer_impossible, state_root, root_views}
 use Rattle.mapf_cbs.proofs.ChildLemmas.{Contains-later, Contains-none}
 use Rattle.mapf_cbs.proofs.OpenLemmas.{Contains-first}
-use Rattle.mapf_cbs.proofs.SumLemmas.{slice_get-front, slice_get-here}
+use Rattle.mapf_model.proofs.PlaceLemmas.{slice_get-front, slice_get-here}
 use Rattle.mapf_cbs.proofs.StateLemmas.{IsInHand, in_hand, two_pushed, state_grown, grown_views}
 use Rattle.mapf_cbs.proofs.WholeLemmas.{less_key, each_more}
 

@@ -18,7 +18,8 @@ use Rattle.mapf_cbs.specs.Search.{View, IsLive, IsEndFate, IsSearched}
 use Rattle.mapf_cbs.specs.Nodes.{AreViews, IsNodeView, IsChildView, IsNodeFor, HasTableBar}
 use Rattle.mapf_cbs.specs.GeneratedChild.{IsGeneratedChild, IsGeneratedState}
 use Rattle.mapf_cbs.specs.State.{IsOpenSet, IsState, IsPopped, fate_of, with_children, split_fates, with_key, with_keys}
-use Rattle.mapf_cbs.proofs.SumLemmas.{slice_get-set_same, slice_get-set_other, length-slice_set, slice_get-front, slice_get-here, slice_get-second, length-two_more}
+use Rattle.mapf_model.proofs.PlaceLemmas.{slice_get-set_same, slice_get-set_other, length-slice_set, slice_get-front, slice_get-here}
+use Rattle.mapf_cbs.proofs.SumLemmas.{slice_get-second, length-two_more}
 use Rattle.mapf_cbs.proofs.ShapeLemmas.{IsGrown}
 use Rattle.mapf_cbs.proofs.GrowLemmas.{IsChildFate, searched_grown}
 use Rattle.mapf_cbs.proofs.OpenLemmas.{less_apart, inserted_only, inserted_old, inserted_new, Contains-first, first_open}

@@ -21,7 +21,8 @@ use Rattle.mapf_cbs.specs.FirstConflicts.{AreFirstPaths, IsOnFirstConflict, AreO
 use Rattle.mapf_cbs.specs.Search.{View, entries_at, AreOwnBlocks, IsLive, IsDead, IsFate, IsCheapestOf, IsEndFate, Shape, Node, End, splits, occurrences, IsShape, IsSearched, AreBlocksAt, IsTreeAt}
 use Rattle.mapf_cbs.proofs.ShapeLemmas.{not_split, occurs_node}
 use Rattle.std.proofs.lemmas.List.Elements.{All-push}
-use Rattle.mapf_cbs.proofs.SumLemmas.{slice_get-set_same, slice_get-set_other, length-slice_set, length-ticks, label_sum-never, label_sum-ticks}
+use Rattle.mapf_model.proofs.PlaceLemmas.{slice_get-set_same, slice_get-set_other, length-slice_set}
+use Rattle.mapf_cbs.proofs.SumLemmas.{length-ticks, label_sum-never, label_sum-ticks}
 use Rattle.mapf_cbs.proofs.ViewLemmas.{agent_path_of, live_cheapest, live_first, live_sum, live_least, dead_none}
 
 module _ (problem : Instance) (view : View) where

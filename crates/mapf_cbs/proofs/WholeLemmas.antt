@@ -25,7 +25,7 @@ use Rattle.mapf_model.specs.Blocks.{LabelBlock}
 use Rattle.mapf_cbs.specs.Search.{View, bound_blocks, labels_of}
 use Rattle.mapf_cbs.specs.State.{key_cmp}
 use Rattle.mapf_cbs.specs.Whole.{IsAgentPathAt, IsWhole, IsCopy, AreCopies, IsAfter, IsLeastOpen, IsLeastBelow}
-use Rattle.mapf_cbs.proofs.SumLemmas.{slice_get-set_same, slice_get-set_other, length-slice_set}
+use Rattle.mapf_model.proofs.PlaceLemmas.{slice_get-set_same, slice_get-set_other, length-slice_set}
 use Rattle.mapf_cbs.proofs.NodeLemmas.{paths_kept, blocks_new, bars_other, bars_bound}
 
 -- the least open node is found by a scan

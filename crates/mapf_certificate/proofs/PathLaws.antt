@@ -1,5 +1,5 @@
 -- The pairs of a path's line, and the paths of a plan, read one after another.
-use Rattle.std.proofs.Common.{◌≡◌, ◌≢◌, ℕ, ◌<◌, ◌≤◌, ◌^◌, ◌/◌, ◌%◌, Bool, true, false, cond, List, [], ◌∷◌, ◌++◌, length, Option, Some, Result, Ok, Err, refl, sym, ap, subst, ◌∙◌, arith, append_assoc, append-nil, All, ◌==◌, suc, zero, is_ok, is_err}
+use Rattle.std.proofs.Common.{◌≡◌, ◌≢◌, ℕ, ◌<◌, ◌≤◌, ◌^◌, ◌/◌, ◌%◌, Bool, true, false, List, [], ◌∷◌, ◌++◌, length, Option, Some, Ok, refl, sym, ap, subst, ◌∙◌, arith, append_assoc, append-nil, All, ◌==◌, suc, zero}
 use Rattle.std.proofs.lemmas.List.Elements.{All-append}
 use Rattle.std.proofs.lemmas.Grind.{flat_map-append, common_steps}
 use Rattle.mapf_model.specs.Printed.{IsOnGrid}
@@ -76,11 +76,6 @@ not_empty (x ∷ xs) b e t = λ same. cc
 pub is_empty : (xs : List ℕ) (b : Bool) → b ≡ (length xs == 0) → b ≡ true → xs ≡ []
 is_empty [] b e t = refl
 is_empty (x ∷ xs) b e t = let wrong : (length (x ∷ xs) == 0) ≡ true = sym e ∙ t in grind (arith, common_steps)
-
--- what a push that didn't fail left
-pub pushed : {A E X : Type 0} (r : Result A E) (old new : List X) (x : X) → new ≡ cond (is_ok r) (old ++ (x ∷ [])) old → false ≡ is_err r → new ≡ old ++ (x ∷ [])
-pushed (Ok u) old new x items fine = items
-pushed (Err e) old new x items fine = cc
 
 -- the line of a path begins with its agent and its cost
 pub front_read : (width due : ℕ) (path : List ℕ) → 1 ≤ length path → length path ≤ 10000000 → due < 2 ^ 64 → read_path_front (path_words width due path) ≡ Ok (Some due, Some (ticks_of path), cells_text width path)

@@ -1,5 +1,5 @@
 -- What a bind of results went through, and what a test let through.
-use Rattle.std.proofs.Common.{◌≡◌, ◌&&◌, ◌⊎◌, Bool, true, false, cond, Option, Some, None, Result, Ok, Err, refl, ap, ◌∙◌, inl, inr}
+use Rattle.std.proofs.Common.{◌≡◌, ◌&&◌, ◌⊎◌, Bool, true, false, cond, is_ok, is_err, List, [], ◌∷◌, ◌++◌, Option, Some, None, Result, Ok, Err, refl, ap, ◌∙◌, inl, inr}
 use Rattle.std.proofs.lemmas.Option.{some_pair_parts}
 use Rattle.mapf_fields.specs.Numbers.{◌>>=◌}
 
@@ -47,3 +47,8 @@ chosen false x y z e = inr e
 
 pub then_ok : {A B E : Type 0} (r : Result A E) (f : A → Result B E) (x : A) (y : B) → r ≡ Ok x → f x ≡ Ok y → (r >>= f) ≡ Ok y
 then_ok r f x y e more = ap (λ s. s >>= f) e ∙ more
+
+-- what a push that didn't fail left
+pub pushed : {A E X : Type 0} (r : Result A E) (old new : List X) (x : X) → new ≡ cond (is_ok r) (old ++ (x ∷ [])) old → false ≡ is_err r → new ≡ old ++ (x ∷ [])
+pushed (Ok u) old new x items fine = items
+pushed (Err e) old new x items fine = cc

@@ -14,7 +14,7 @@ use Rattle.std.proofs.lemmas.Bool.Decides.{nat_tests}
 use Rattle.std.proofs.lemmas.Grind.{common_steps}
 use Rattle.mapf_fields.specs.declared.fault.LineFault.{LineFault}
 use Rattle.mapf_fields.specs.declared.fault.LineFault.TheVariants.{Shape, Range}
-use Rattle.mapf_fields.specs.Numbers.{field, pair, begins_well, small_value, front_digits, after_digits, read_number, read_field, read_last, read_pair, in_range, below, read_cell}
+use Rattle.mapf_fields.specs.Numbers.{field, pair, begins_well, small_value, front_digits, after_digits, read_number, read_field, read_last, read_pair, read_whole, in_range, below, read_cell}
 use Rattle.mapf_fields.proofs.Binds.{guarded, both, through, same_ok, ok_pair_parts}
 use Rattle.mapf_fields.proofs.Digits.{AllDigits-front_digits, small}
 
@@ -109,22 +109,34 @@ pub field_again : (mark n : ℕ) (rest : List ℕ) → n < 2 ^ 64 → IsPastDigi
 unfolding read_field
 field_again mark n rest fits past = ap (λ b. cond b (read_number (decimal n ++ rest)) (Err Shape)) (eq-eqb mark mark refl) ∙ number_again n rest fits past
 
-pub last_takes : (mark : ℕ) (bs : List ℕ) (n : ℕ) → read_last mark bs ≡ Ok (Some n) → (bs ≡ field mark n) × (n < 2 ^ 64)
-unfolding read_last
-last_takes mark bs n e = through (read_field mark bs) _ (Some n) e (λ p read more. by p.0 p.1 read more)
+pub whole_takes : (bs : List ℕ) (n : ℕ) → read_whole bs ≡ Ok (Some n) → (bs ≡ decimal n) × (n < 2 ^ 64)
+unfolding read_whole
+whole_takes bs n e = through (read_number bs) _ (Some n) e (λ p read more. by p.0 p.1 read more)
   where
-    by : (number : Option ℕ) (rest : List ℕ) → read_field mark bs ≡ Ok (number, rest) → elim rest as (λ _. Result (Option ℕ) LineFault) [ [] ↦ Ok number | c ∷ cs ↦ Err Shape ] ≡ Ok (Some n) → (bs ≡ field mark n) × (n < 2 ^ 64)
+    by : (number : Option ℕ) (rest : List ℕ) → read_number bs ≡ Ok (number, rest) → elim rest as (λ _. Result (Option ℕ) LineFault) [ [] ↦ Ok number | c ∷ cs ↦ Err Shape ] ≡ Ok (Some n) → (bs ≡ decimal n) × (n < 2 ^ 64)
     by number [] read more =
         let value = same_ok number (Some n) more in
-        let (spelled, fits) = field_takes mark bs [] n (read ∙ ap (λ v. Ok (v, [])) value) in
-        (spelled ∙ append-nil (field mark n), fits)
+        let (spelled, fits) = number_takes bs [] n (read ∙ ap (λ v. Ok (v, [])) value) in
+        (spelled ∙ append-nil (decimal n), fits)
     by number (c ∷ cs) read more = cc
+
+pub whole_again : (n : ℕ) → n < 2 ^ 64 → read_whole (decimal n) ≡ Ok (Some n)
+unfolding read_whole
+whole_again n fits =
+    let again : read_number (decimal n) ≡ Ok (Some n, []) = ap read_number (sym (append-nil (decimal n))) ∙ number_again n [] fits tt in
+    rw again refl
+
+pub last_takes : (mark : ℕ) (bs : List ℕ) (n : ℕ) → read_last mark bs ≡ Ok (Some n) → (bs ≡ field mark n) × (n < 2 ^ 64)
+unfolding read_last
+last_takes mark [] n e = cc
+last_takes mark (b ∷ bs) n e =
+    let (same, more) = guarded (b == mark) Shape _ _ e in
+    let (tail, fits) = whole_takes bs n more in
+    (ap (λ m. m ∷ bs) (eqb-true b mark same) ∙ ap (λ t. mark ∷ t) tail, fits)
 
 pub last_again : (mark n : ℕ) → n < 2 ^ 64 → read_last mark (field mark n) ≡ Ok (Some n)
 unfolding read_last
-last_again mark n fits =
-    let again : read_field mark (field mark n) ≡ Ok (Some n, []) = ap (read_field mark) (sym (append-nil (field mark n))) ∙ field_again mark n [] fits tt in
-    rw again refl
+last_again mark n fits = ap (λ b. cond b (read_whole (decimal n)) (Err Shape)) (eq-eqb mark mark refl) ∙ whole_again n fits
 
 -- a number in its range
 

@@ -53,18 +53,23 @@ after_digits bs = drop (length (front_digits bs)) bs
 unfoldable pub read_number : List ℕ → Result (Option ℕ × List ℕ) LineFault
 read_number bs = if begins_well (front_digits bs) then Ok (small_value (front_digits bs), after_digits bs) else Err Shape
 
+-- a number alone
+unfoldable pub read_whole : List ℕ → Result (Option ℕ) LineFault
+read_whole bs = read_number bs >>= at_end
+  where
+    at_end : Option ℕ × List ℕ → Result (Option ℕ) LineFault
+    at_end (number, []) = Ok number
+    at_end (number, b ∷ bs) = Err Shape
+
 -- a number after this byte
 unfoldable pub read_field : ℕ → List ℕ → Result (Option ℕ × List ℕ) LineFault
 read_field mark [] = Err Shape
 read_field mark (b ∷ bs) = if b == mark then read_number bs else Err Shape
 
--- a number at the end of a line
+-- a number after this byte, at the end of a line
 unfoldable pub read_last : ℕ → List ℕ → Result (Option ℕ) LineFault
-read_last mark bs = read_field mark bs >>= at_end
-  where
-    at_end : Option ℕ × List ℕ → Result (Option ℕ) LineFault
-    at_end (number, []) = Ok number
-    at_end (number, b ∷ bs) = Err Shape
+read_last mark [] = Err Shape
+read_last mark (b ∷ bs) = if b == mark then read_whole bs else Err Shape
 
 -- a blank and a pair
 unfoldable pub read_pair : List ℕ → Result (Option ℕ × Option ℕ × List ℕ) LineFault

@@ -8,7 +8,7 @@ mod ranges;
 
 pub use ends::{cut, line_length};
 pub use fault::LineFault;
-pub use numbers::{field, last, pair, strip};
+pub use numbers::{field, last, pair, strip, whole};
 pub use ranges::{below, from_one_to, up_to, within};
 
 #[cfg(test)]

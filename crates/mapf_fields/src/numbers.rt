@@ -1,7 +1,7 @@
 ghost use Rattle.std.specs.Prelude.{◌≡◌, ◌≤◌, ◌<◌, ◌+◌, length, take, IfOk, Ok, Err, option_map, true};
 ghost use Rattle.std.specs.Str.Parse.{AllDigits};
 ghost use Rattle.mapf_fields.specs.Numbers.{Gives, strip, begins_well, small_value, front_digits, read_number};
-ghost use Rattle.mapf_fields.specs.Numbers.{read_field, read_last, read_pair};
+ghost use Rattle.mapf_fields.specs.Numbers.{read_field, read_last, read_pair, read_whole};
 
 use crate::fault::LineFault;
 
@@ -69,17 +69,29 @@ pub fn field(mark: u8, bytes: &[u8]) -> Result<(Option<u64>, &[u8]), LineFault>
     }
 }
 
+/// The number that bytes are, with nothing before or after it. The number has no leading zeros, and is None
+/// from 2^64 on. `LineFault::Shape` where the bytes aren't so.
+#[tactic(auto, unfolding(crate::specs::Numbers::read_whole))]
+pub fn whole(bytes: &[u8]) -> Result<Option<u64>, LineFault>
+    ensures { result ≡ read_whole bytes.now }
+{
+    let (number, rest) = number(bytes)?;
+    if rest.is_empty() {
+        Ok(number)
+    } else {
+        Err(LineFault::Shape)
+    }
+}
+
 /// The number after its mark that bytes are, with nothing after it. The number has no leading zeros, and
 /// is None from 2^64 on. `LineFault::Shape` where the bytes aren't so.
 #[tactic(auto, unfolding(crate::specs::Numbers::read_last))]
 pub fn last(mark: u8, bytes: &[u8]) -> Result<Option<u64>, LineFault>
     ensures { result ≡ read_last mark bytes.now }
 {
-    let (number, rest) = field(mark, bytes)?;
-    if rest.is_empty() {
-        Ok(number)
-    } else {
-        Err(LineFault::Shape)
+    match bytes {
+        [first, rest @ ..] if *first == mark => whole(rest),
+        _ => Err(LineFault::Shape),
     }
 }
 

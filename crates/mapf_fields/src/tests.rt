@@ -57,6 +57,30 @@ fn numbers_are_read(rt: HostRuntime) -> Result<(), Fail> {
     Ok(())
 }
 
+/// What a number alone is read to.
+const WHOLE: [(&str, Result<Option<u64>, LineFault>); 12] = [
+    ("0", Ok(Some(0))),
+    ("7", Ok(Some(7))),
+    ("120", Ok(Some(120))),
+    ("18446744073709551615", Ok(Some(u64::MAX))),
+    ("18446744073709551616", Ok(None)),
+    ("", Err(LineFault::Shape)),
+    ("00", Err(LineFault::Shape)),
+    ("01", Err(LineFault::Shape)),
+    ("x", Err(LineFault::Shape)),
+    ("1x", Err(LineFault::Shape)),
+    (" 1", Err(LineFault::Shape)),
+    ("1 ", Err(LineFault::Shape)),
+];
+
+#[test]
+fn numbers_alone_are_read(rt: HostRuntime) -> Result<(), Fail> {
+    for (text, number) in WHOLE {
+        assert_eq!(rt; whole(text.as_bytes()), number, "{text}");
+    }
+    Ok(())
+}
+
 #[test]
 fn ranges_are_kept(rt: HostRuntime) -> Result<(), Fail> {
     for (n, fault) in [(2, true), (3, false), (5, false), (6, true)] {

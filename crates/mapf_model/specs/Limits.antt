@@ -33,7 +33,7 @@ last_split_tick = 999999
 abbrev pub split_ticks : ℕ
 split_ticks = 1000000
 
--- bytes of a map, a scenario or a plan text: 64 mebibytes
+-- bytes of a map, a scenario, a plan text or an event text: 64 mebibytes
 abbrev pub most_text_bytes : ℕ
 most_text_bytes = 67108864
 

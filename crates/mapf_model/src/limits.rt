@@ -49,7 +49,7 @@ pub const LAST_SPLIT_TICK: u32 = 999_999;
 /// The first tick at which a conflict isn't split any more.
 pub const SPLIT_TICKS: u32 = 1_000_000;
 
-/// The most bytes of a map, a scenario or a plan text.
+/// The most bytes of a map, a scenario, a plan text or an event text.
 pub const MOST_TEXT_BYTES: u64 = 67_108_864;
 
 /// The most bytes of a certificate.

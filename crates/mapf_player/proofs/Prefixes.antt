@@ -1,7 +1,7 @@
 -- Texts that go out in parts.
 use Rattle.std.proofs.Common.{◌≡◌, ℕ, List, [], ◌++◌, Option, Result, Ok, Err, OnErr, OnOk, length, take, drop, take-append-drop, append_assoc, append-nil, refl, sym, ap, ◌∙◌, subst, ◌≤◌, length-append, arith}
 use Rattle.std.proofs.lemmas.List.{take_at}
-use Rattle.std.specs.Result.{IsErrAnd}
+use Rattle.std.specs.Result.{IsErr, IsErrAnd}
 use Rattle.std.specs.Io.KnownBytes.{Appends}
 use Rattle.std.proofs.KnownBytes.{Appends-trans, Appends-nil}
 use Rattle.mapf_player.specs.Pages.{Passes, WritesPrefix, WritesOrFails, PassesOrFails}
@@ -40,6 +40,10 @@ prefix_before a b t u w = record { prefix = w.prefix; rest = w.rest ++ u; same =
 pub prefix_held : (a b : Option (List ℕ)) (h t u : List ℕ) → WritesPrefix a b (h ++ t) → WritesPrefix a b (h ++ (t ++ u))
 prefix_held a b h t u w = subst (WritesPrefix a b) (append_assoc h t u) (prefix_before a b (h ++ t) u w)
 
+-- the same where the first text is a word and digits
+pub prefix_digits : (a b : Option (List ℕ)) (h word digits u : List ℕ) → WritesPrefix a b (h ++ (word ++ digits)) → WritesPrefix a b (h ++ (word ++ (digits ++ u)))
+prefix_digits a b h word digits u w = subst (λ t. WritesPrefix a b (h ++ t)) (append_assoc word digits u) (prefix_held a b h (word ++ digits) u w)
+
 -- a prefix of the next text after one that went out whole
 pub prefix_next : (a b c : Option (List ℕ)) (t u : List ℕ) → Appends a b t → WritesPrefix b c u → WritesPrefix a c (t ++ u)
 prefix_next a b c t u p w = record {
@@ -54,10 +58,24 @@ pub passes_then : {T E : Type 0} (r : Result T E) (a b c : Option (List ℕ)) (h
 passes_then (Ok x) a b c h i j t u p q = passes_trans a b c h i j t u p q
 passes_then (Err e) a b c h i j t u p w = prefix_after a b c h i t u p w
 
+-- the same after a word and digits
+pub digits_then : {T E : Type 0} (r : Result T E) (a b c : Option (List ℕ)) (h i j word digits u : List ℕ) → Passes a b h i (word ++ digits) → PassesOrFails b c i j u r → PassesOrFails a c h j (word ++ (digits ++ u)) r
+digits_then r a b c h i j word digits u p q = subst (λ t. PassesOrFails a c h j t r) (append_assoc word digits u) (passes_then r a b c h i j (word ++ digits) u p q)
+
 -- where a call failed
 pub fails : {T E : Type 0} (Q : E → Type 0) (r : Result T E) (a b : Option (List ℕ)) (held left text : List ℕ) → IsErrAnd r Q → WritesPrefix a b (held ++ text) → PassesOrFails a b held left text r
 fails Q (Ok x) a b held left text is w = absurd is
 fails Q (Err e) a b held left text is w = w
+
+-- what is so at the end is said of no call that failed
+pub no_end : {T E : Type 0} (P : Type 0) (r : Result T E) → IsErr r → OnOk r P
+no_end P (Ok x) is = absurd cc
+no_end P (Err e) is = tt
+
+-- and what is so is so of one that didn't
+pub at_end : {T E : Type 0} (P : Type 0) (r : Result T E) → P → OnOk r P
+at_end P (Ok x) is = is
+at_end P (Err e) is = tt
 
 -- where the bytes held go out first
 pub passes_unheld : {T E : Type 0} (r : Result T E) (a b c : Option (List ℕ)) (held left text : List ℕ) → Appends a b held → left ≡ [] → OnOk r (Appends b c text) → OnErr r ((n : ℕ) × (n ≤ length text) × Appends b c (take n text)) → PassesOrFails a c held left text r
@@ -79,18 +97,21 @@ pub finish : {T E : Type 0} (r : Result T E) (a b c : Option (List ℕ)) (left t
 finish (Ok x) a b c left text p w = subst (Appends a c) (sym p.same) (Appends-trans a b c p.gone left p.wrote w)
 finish (Err e) a b c left text p w = subst (WritesPrefix a c) (sym p.same) (prefix_next a b c p.gone left p.wrote w)
 
+-- the text was written
+pub to_ok : {T E : Type 0} (r : Result T E) (a b : Option (List ℕ)) (text : List ℕ) (P : Type 0) → (Appends a b text → P) → WritesOrFails a b text r → OnOk r P
+to_ok (Ok x) a b text P says w = says w
+to_ok (Err e) a b text P says w = tt
+
+-- or the first so many bytes of it
+pub to_err : {T E : Type 0} (r : Result T E) (a b : Option (List ℕ)) (text : List ℕ) (P : Type 0) → ((n : ℕ) → n ≤ length text → Appends a b (take n text) → P) → WritesOrFails a b text r → OnErr r P
+to_err (Ok x) a b text P says w = tt
+to_err (Err e) a b text P says w = says (length w.prefix) (omega (arith, ap length w.same, length-append w.prefix w.rest))
+    (subst (Appends a b) (sym (ap (take (length w.prefix)) w.same ∙ take_at w.prefix w.rest (length w.prefix) refl)) w.wrote)
+
 -- a text of some kind was written
 pub to_some : {T E : Type 0} (r : Result T E) (a b : Option (List ℕ)) (text : List ℕ) (P : List ℕ → Type 0) → P text → WritesOrFails a b text r → OnOk r ((t : List ℕ) × P t × Appends a b t)
-to_some (Ok x) a b text P is w = (text, is, w)
-to_some (Err e) a b text P is w = tt
+to_some r a b text P is w = to_ok r a b text ((t : List ℕ) × P t × Appends a b t) (λ v. (text, is, v)) w
 
 -- or the first so many bytes of it
 pub to_take : {T E : Type 0} (r : Result T E) (a b : Option (List ℕ)) (text : List ℕ) (P : List ℕ → Type 0) → P text → WritesOrFails a b text r → OnErr r ((t : List ℕ) × P t × (n : ℕ) × (n ≤ length t) × Appends a b (take n t))
-to_take (Ok x) a b text P is w = tt
-to_take (Err e) a b text P is w = (
-  text,
-  is,
-  length w.prefix,
-  omega (arith, ap length w.same, length-append w.prefix w.rest),
-  subst (Appends a b) (sym (ap (take (length w.prefix)) w.same ∙ take_at w.prefix w.rest (length w.prefix) refl)) w.wrote,
-)
+to_take r a b text P is w = to_err r a b text ((t : List ℕ) × P t × (n : ℕ) × (n ≤ length t) × Appends a b (take n t)) (λ n low v. (text, is, n, low, v)) w

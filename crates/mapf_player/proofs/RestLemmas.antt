@@ -4,7 +4,7 @@ use Rattle.std.proofs.lemmas.Option.{same_Some}
 use Rattle.mapf_model.specs.declared.problem.Agent.{Agent}
 use Rattle.mapf_model.specs.Grid.{GridMap}
 use Rattle.mapf_model.specs.Path.{at, IsLawful}
-use Rattle.mapf_model.specs.Plan.{IsValid}
+use Rattle.mapf_model.specs.Plan.{Instance, IsValid}
 
 abbrev one_free : GridMap
 one_free = record { width = 1; height = 1; free = true ∷ [] }
@@ -29,7 +29,10 @@ only : {X : Type 0} (x y : X) (i : ℕ) → slice_get (x ∷ []) i ≡ Some y �
 only x y zero e = (refl, same_Some x y e)
 only x y (suc i) e = absurd cc
 
-pub rests_validly : IsValid (record { grid = record { width = 1; height = 1; free = true ∷ [] }; agents = record { start = 0; goal = 0 } ∷ [] }) ((0 ∷ []) ∷ [])
+abbrev pub resting : Instance
+resting = record { grid = record { width = 1; height = 1; free = true ∷ [] }; agents = record { start = 0; goal = 0 } ∷ [] }
+
+pub rests_validly : IsValid resting ((0 ∷ []) ∷ [])
 rests_validly = record {
   count = refl;
   lawful = λ i agent path a p. subst (λ x. IsLawful one_free x path) (only rests agent i a).1 (subst (λ x. IsLawful one_free rests x) (only (0 ∷ []) path i p).1 lawful);

@@ -1,2 +1,8 @@
 pub mod Play
 pub mod Pages
+pub mod Visits
+pub mod Dispatching
+pub mod Turns
+pub mod DispatchLaws
+pub mod Events
+pub mod Replies

@@ -1,31 +1,13 @@
 ghost use Rattle.std.specs.Prelude.{◌≡◌, ◌<◌, ◌++◌, ◌∷◌, [], false, codes, length};
 ghost use Rattle.std.specs.Result.{is_err};
 ghost use Rattle.mapf_player.specs.Pages.{PassesOrFails};
-ghost use Rattle.mapf_player.specs.Play.{frame, line, row_line, rows};
+ghost use Rattle.mapf_player.specs.Play.{frame, row_line, rows};
 
+use crate::line::put_line;
 use crate::page::Page;
 use crate::row::draw_row;
-use itoa::Buffer;
 use mapf_model::limits::GREATEST_SIDE;
 use mapf_model::{Failed, Grid, Path, Sink, Tick};
-
-/// Writes a word, a number and LF.
-pub fn put_line<K: Sink>(
-    page: &mut Page,
-    sink: &mut K,
-    word: &[u8],
-    number: u32,
-) -> Result<(), Failed>
-    requires { K.has_failed sink.old ≡ false }
-    ensures text { PassesOrFails (K.contents sink.old) (K.contents sink.new) page.old page.new
-        (line word.now number) result }
-    ensures failed { K.has_failed sink.new ≡ is_err result }
-{
-    let mut buffer = Buffer::new();
-    page.put(sink, word)?;
-    page.put(sink, buffer.format(number).as_bytes())?;
-    page.put(sink, b"\n")
-}
 
 // Writes a row of the grid and LF, by way of a buffer for a row.
 fn put_row<K: Sink>(

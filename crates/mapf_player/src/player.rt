@@ -6,7 +6,8 @@ ghost use Rattle.mapf_model.specs.Plan.{IsValid};
 ghost use Rattle.mapf_player.specs.Pages.{PassesOrFails, WritesOrFails};
 ghost use Rattle.mapf_player.specs.Play.{frame, line, play_text, IsMakespan, IsPlayText};
 
-use crate::frame::{put_frame, put_line};
+use crate::frame::put_frame;
+use crate::line::put_line;
 use crate::page::Page;
 use mapf_model::{Failed, Grid, Path, Plan, Problem, Sink, Tick};
 

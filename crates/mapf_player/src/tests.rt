@@ -1,9 +1,9 @@
 ghost use Rattle.std.specs.Prelude.{◌≡◌, ◌∷◌, [], true, IfOk};
 
-use crate::play;
 use crate::player::write_text;
+use crate::{Dispatch, EventFault, Reply, play, read_events};
 use mapf_model::devices::{FuseSink, Pace};
-use mapf_model::{Agent, BytesSink, Cell, Grid, Path, Plan, Problem, Tick};
+use mapf_model::{Agent, BytesSink, Cell, Grid, OutOfMemory, Path, Plan, Problem, Tick};
 use std::alloc::Global;
 use std::test::Fail;
 
@@ -176,6 +176,53 @@ fn leaves_a_prefix_of_more_than_a_page(rt: HostRuntime) -> Result<(), Fail> {
         );
         assert!(rt; 0 < calls || sink.bytes().is_empty());
         assert!(rt; is_whole || calls < 3);
+    }
+    Ok(())
+}
+
+// Want of memory is given up, and any other fault is one of the test.
+fn events_of(
+    alloc: Global,
+    text: &[u8],
+    agents: u32,
+) -> Result<Result<Vec<u32>, EventFault>, Fail> {
+    match read_events(alloc, text, agents) {
+        Err(EventFault::Memory) => Err(OutOfMemory.into()),
+        read => Ok(read),
+    }
+}
+
+#[test]
+fn dispatches_an_agent_at_rest(rt: HostRuntime) -> Result<(), Fail> {
+    let plan = at_rest(rt.alloc())?;
+    let mut dispatch = Dispatch::new(rt.alloc(), &plan)?;
+    assert_eq!(rt; dispatch.ask(0), Reply::Done);
+    assert_eq!(rt; dispatch.ask(0), Reply::Done);
+    Ok(())
+}
+
+#[test]
+fn reads_events(rt: HostRuntime) -> Result<(), Fail> {
+    let alloc = rt.alloc();
+    let read = events_of(alloc, b"mapf-events 1\n0\n1\nend\n", 2)?;
+    assert_eq!(rt; read.or(Err("events"))?.as_slice(), [0u32, 1].as_slice());
+    for (text, fault) in [
+        ("mapf-events 1\n2\nend\n", EventFault::E3(2)),
+        ("mapf-events 1\n01\nend\n", EventFault::E1(2)),
+        ("mapf-events 1\n0\n", EventFault::E2(3)),
+        ("mapf-events 1\nend\nx", EventFault::E4(3)),
+        (
+            "mapf-events 1\n18446744073709551616\nend\n",
+            EventFault::E3(2),
+        ),
+        ("mapf-events 2\nend\n", EventFault::E1(1)),
+        ("", EventFault::E2(1)),
+        ("mapf-events 1\n0", EventFault::E2(2)),
+    ] {
+        match events_of(alloc, text.as_bytes(), 2)? {
+            Ok(_) => assert!(rt; false),
+            Err(other) => assert_eq!(rt; other, fault),
+        }
     }
     Ok(())
 }

@@ -1,12 +1,16 @@
-//! Runs whose map, scenario or plan text can't be read, or comes slowly, and sinks that are slow, full or broken.
+//! Runs whose map, scenario, plan text or event text can't be read, or comes slowly, and sinks that are slow, full
+//! or broken.
 
 ghost use Rattle.std.specs.Prelude.{◌≡◌, ◌≤◌, false};
 
 use crate::problems::{
-    CROSSING_CERT, CROSSING_MAP, CROSSING_PLAN, CROSSING_SCEN, CROSSING_STOPPED_CERT,
-    CROSSING_STOPPED_PLAN,
+    CROSSING, CROSSING_CERT, CROSSING_EVENTS, CROSSING_MAP, CROSSING_PLAN, CROSSING_SCEN,
+    CROSSING_STOPPED_CERT, CROSSING_STOPPED_PLAN, CROSSING_TOLD,
 };
-use mapf_app::{Fault, Input, Kind, Output, Verdict, run_check, run_demo, run_play, run_solve};
+use crate::runs::dispatch_pulled;
+use mapf_app::{
+    Fault, Input, Kind, Output, Verdict, run_check, run_demo, run_dispatch, run_play, run_solve,
+};
 use mapf_model::devices::{EndlessSource, FuseSink, FuseSource, Pace};
 use mapf_model::{BytesSink, BytesSource, Cause, Sink};
 use std::alloc::Global;
@@ -17,14 +21,15 @@ const ROOM: usize = 200;
 
 const DEMO_ROOM: usize = 4096;
 
-// How many calls the sources of the map, of the scenario and of the plan text stand, and how many bytes they
-// give in each.
+// How many calls the sources of the map, of the scenario, of the plan text and of the event text stand, and how
+// many bytes they give in each.
 #[derive(Clone, Copy)]
 struct Fuses {
     pace: Pace,
     map: Option<u64>,
     scen: Option<u64>,
     plan: Option<u64>,
+    events: Option<u64>,
 }
 
 impl Fuses {
@@ -35,6 +40,7 @@ impl Fuses {
             map: None,
             scen: None,
             plan: None,
+            events: None,
         }
     }
 }
@@ -99,20 +105,45 @@ fn play_over<K: Sink>(alloc: Global, fuses: Fuses, sink: &mut K) -> Result<(), F
     run_play(alloc, &mut map, &mut scen, 2, &mut plan, sink)
 }
 
+fn dispatch_over<K: Sink>(alloc: Global, fuses: Fuses, sink: &mut K) -> Result<(), Fault>
+    requires { K.has_failed sink.old ≡ false }
+{
+    let mut map = FuseSource::of(CROSSING_MAP.as_bytes(), fuses.pace, fuses.map);
+    let mut scen = FuseSource::of(CROSSING_SCEN.as_bytes(), fuses.pace, fuses.scen);
+    let mut plan = FuseSource::of(CROSSING_PLAN.as_bytes(), fuses.pace, fuses.plan);
+    let mut events = FuseSource::of(CROSSING_EVENTS.as_bytes(), fuses.pace, fuses.events);
+    run_dispatch(alloc, &mut map, &mut scen, 2, &mut plan, &mut events, sink)
+}
+
 // A pace, and at most how many calls of the map's, the scenario's and the plan text's source a failure follows.
 const PACES: [(Pace, u64, u64, u64); 2] = [
     (Pace::ByteByByte, 45, 62, 78),
     (Pace::AllAtOnce, 1, 1, 1),
 ];
 
-// A check and a play end with a failure of this input, and nothing is shown.
+// A run in which agents follow the plan ends with a failure of this input, and nothing is written.
+fn assert_undispatched(
+    rt: &impl Abort,
+    alloc: Global,
+    fuses: Fuses,
+    input: Input,
+) -> Result<(), Fail> {
+    let mut sink = BytesSink::with_room(alloc, ROOM)?;
+    let answer = dispatch_over(alloc, fuses, &mut sink);
+    assert_eq!(rt; answer, Err(Fault::F4(input)));
+    assert!(rt; sink.bytes().is_empty());
+    Ok(())
+}
+
+// A check, a play and a run in which agents follow the plan end with a failure of this input, and nothing is
+// written.
 fn assert_unread(rt: &impl Abort, alloc: Global, fuses: Fuses, input: Input) -> Result<(), Fail> {
     assert_eq!(rt; check_over(alloc, fuses), Err(Fault::F4(input)));
     let mut sink = BytesSink::with_room(alloc, ROOM)?;
     let shown = play_over(alloc, fuses, &mut sink);
     assert_eq!(rt; shown, Err(Fault::F4(input)));
     assert!(rt; sink.bytes().is_empty());
-    Ok(())
+    assert_undispatched(rt, alloc, fuses, input)
 }
 
 // A search ends with a failure of this input, and nothing is written.
@@ -166,6 +197,39 @@ fn names_the_plan_that_failed(rt: HostRuntime) -> Result<(), Fail> {
             assert_unread(&rt, rt.alloc(), fuses, Input::Plan)?;
         }
     }
+    Ok(())
+}
+
+#[test]
+fn names_the_events_that_failed(rt: HostRuntime) -> Result<(), Fail> {
+    let length = CROSSING_EVENTS.len() as u64;
+    for (pace, most) in [(Pace::ByteByByte, length), (Pace::AllAtOnce, 1)] {
+        for calls in 0..=most {
+            let fuses = Fuses {
+                events: Some(calls),
+                ..Fuses::at(pace)
+            };
+            assert_undispatched(&rt, rt.alloc(), fuses, Input::Events)?;
+        }
+        let fuses = Fuses {
+            events: Some(most.saturating_add(1)),
+            ..Fuses::at(pace)
+        };
+        let mut sink = BytesSink::with_room(rt.alloc(), ROOM)?;
+        assert_eq!(rt; dispatch_over(rt.alloc(), fuses, &mut sink), Ok(()));
+        assert_eq!(rt; sink.bytes(), CROSSING_TOLD.as_bytes());
+    }
+    Ok(())
+}
+
+#[test]
+fn gives_up_on_events_that_never_end(rt: HostRuntime) -> Result<(), Fail> {
+    let mut sink = BytesSink::with_room(rt.alloc(), ROOM)?;
+    let mut events = EndlessSource::of(b'0');
+    let plan = CROSSING_PLAN.as_bytes();
+    let answer = dispatch_pulled(rt.alloc(), &CROSSING, plan, &mut events, &mut sink);
+    assert_eq!(rt; answer, Err(Fault::F4(Input::Events)));
+    assert!(rt; sink.bytes().is_empty());
     Ok(())
 }
 

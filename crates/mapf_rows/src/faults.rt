@@ -2,7 +2,7 @@
 
 ghost use Rattle.std.specs.Prelude.{◌≤◌};
 
-use crate::runs::{Given, check, play, solve};
+use crate::runs::{Given, check, dispatch, play, solve};
 use crate::solving::assert_written;
 use mapf_app::{Fault, Kind, MapFault, ScenFault};
 use mapf_model::BytesSink;
@@ -22,6 +22,10 @@ fn assert_fault(rt: &impl Abort, alloc: Global, given: &Given, fault: Fault) -> 
     let mut sink = BytesSink::with_room(alloc, 80)?;
     let shown = play(alloc, given, b"", &mut sink);
     assert_eq!(rt; shown, Err(fault), "of {} and {}", given.map, given.scen);
+    assert_eq!(rt; sink.bytes(), b"".as_slice());
+    let mut sink = BytesSink::with_room(alloc, 80)?;
+    let told = dispatch(alloc, given, b"", b"", &mut sink);
+    assert_eq!(rt; told, Err(fault), "of {} and {}", given.map, given.scen);
     assert_eq!(rt; sink.bytes(), b"".as_slice());
     Ok(())
 }

@@ -10,9 +10,13 @@ mod checking;
 #[cfg(test)]
 mod converting;
 #[cfg(test)]
+mod dispatching;
+#[cfg(test)]
 mod failing;
 #[cfg(test)]
 mod faults;
+#[cfg(test)]
+mod following;
 #[cfg(test)]
 mod hostile;
 #[cfg(test)]

@@ -43,6 +43,12 @@ pub const CROSSING_CERT: &str =
     "mapf-cert 2\nagents 2\nclaim cost 5\nvertex 0 1 1,1 1 0\nleaf 1\nagent 0 1\nat 0,1 0 3\n\
 leaf 1\nagent 1 1\nat 1,0 0 3\nend\n";
 
+// Agents of the crossing that ask to go on, and what they are told.
+pub const CROSSING_EVENTS: &str = "mapf-events 1\n0\n1\n0\n1\n0\n0\n0\nend\n";
+
+pub const CROSSING_TOLD: &str =
+    "hold 0 by 1\ngo 1 1,1\nhold 0 by 1\ngo 1 1,2\ngo 0 1,1\ngo 0 2,1\ndone 0\n";
+
 // What is written where no split is allowed: the sum of the distances is the bound.
 pub const CROSSING_STOPPED_PLAN: &str = "mapf-plan 2\nagents 2\nlimit 0 bound 4\nend\n";
 

@@ -2,8 +2,9 @@
 
 ghost use Rattle.std.specs.Prelude.{◌≡◌, ◌≤◌, false};
 
-use mapf_app::{Fault, Kind, Verdict, run_check, run_play, run_solve};
-use mapf_model::{BytesSink, BytesSource, OutOfMemory, Problem, Sink, Source};
+use mapf_app::{Fault, Kind, Verdict, run_check, run_dispatch, run_play, run_solve};
+use mapf_certificate::{PlanAnswer, PlanText, read_plan};
+use mapf_model::{BytesSink, BytesSource, OutOfMemory, Plan, Problem, Sink, Source};
 use mapf_text::{read_map, read_scen};
 use std::alloc::Global;
 
@@ -74,6 +75,40 @@ pub fn play<K: Sink>(alloc: Global, given: &Given, plan: &[u8], sink: &mut K) ->
     run_play(alloc, &mut map, &mut scen, given.k, &mut plan, sink)
 }
 
+/// Lets agents follow a plan text in the order of an event text, and writes into this sink what they are told.
+pub fn dispatch<K: Sink>(
+    alloc: Global,
+    given: &Given,
+    plan: &[u8],
+    events: &[u8],
+    sink: &mut K,
+) -> Result<(), Fault>
+    requires works { K.has_failed sink.old ≡ false }
+    requires some { 1 ≤ given.now.k }
+    requires few { given.now.k ≤ 200 }
+{
+    dispatch_pulled(alloc, given, plan, &mut BytesSource::of(events), sink)
+}
+
+/// The same with events that come from this source.
+pub fn dispatch_pulled<E: Source, K: Sink>(
+    alloc: Global,
+    given: &Given,
+    plan: &[u8],
+    events: &mut E,
+    sink: &mut K,
+) -> Result<(), Fault>
+    requires events_work { E.has_failed events.old ≡ false }
+    requires works { K.has_failed sink.old ≡ false }
+    requires some { 1 ≤ given.now.k }
+    requires few { given.now.k ≤ 200 }
+{
+    let mut map = BytesSource::of(given.map.as_bytes());
+    let mut scen = BytesSource::of(given.scen.as_bytes());
+    let mut plan = BytesSource::of(plan);
+    run_dispatch(alloc, &mut map, &mut scen, given.k, &mut plan, events, sink)
+}
+
 /// The problem that the texts spell, if they spell one.
 pub fn problem_of(alloc: Global, given: &Given) -> Option<Problem>
     requires some { 1 ≤ given.now.k }
@@ -81,4 +116,13 @@ pub fn problem_of(alloc: Global, given: &Given) -> Option<Problem>
 {
     let grid = read_map(alloc, given.map.as_bytes()).ok()?;
     read_scen(alloc, given.scen.as_bytes(), grid, given.k).ok()
+}
+
+/// The plan that a plan text spells for the problem's map, if it spells one.
+pub fn plan_of(alloc: Global, problem: &Problem, plan: &[u8]) -> Option<Plan> {
+    let PlanText { answer, .. } = read_plan(alloc, plan, problem.grid()).ok()?;
+    match answer {
+        PlanAnswer::Found(plan) => Some(plan),
+        _ => None,
+    }
 }

@@ -7,8 +7,8 @@ use crate::problems::{
 use crate::runs::{Given, check, solve};
 use crate::texts::with_lines;
 use mapf_app::{
-    CertFault, CheckFault, Fault, Input, Kind, MapFault, Output, PlanFault, PlanTextFault,
-    PlayFault, ScenFault, Verdict, tell_check, tell_run, tell_solve,
+    CertFault, CheckFault, EventFault, Fault, Input, Kind, MapFault, Output, PlanFault,
+    PlanTextFault, PlayFault, ScenFault, Verdict, tell_check, tell_run, tell_solve,
 };
 use mapf_model::devices::{FuseSink, Pace};
 use mapf_model::{BytesSink, Cause};
@@ -186,7 +186,7 @@ const FAULTS_OF_INPUTS: [(Fault, &str); 16] = [
     (Fault::F2(ScenFault::S7 { rows: 0 }), "F2 S7 0\n"),
 ];
 
-const FAULTS_OF_PLANS: [(Fault, &str); 11] = [
+const FAULTS_OF_PLANS: [(Fault, &str); 15] = [
     (
         Fault::F3(PlayFault::Text(PlanTextFault::P1(3))),
         "F3 P1 3\n",
@@ -233,13 +233,21 @@ const FAULTS_OF_PLANS: [(Fault, &str); 11] = [
     ),
     (Fault::F3(PlayFault::OtherCount), "F3 count\n"),
     (Fault::F3(PlayFault::NoPlan), "F3 none\n"),
+    (Fault::F3(PlayFault::Events(EventFault::E1(1))), "F3 E1 1\n"),
+    (
+        Fault::F3(PlayFault::Events(EventFault::E2(33_554_425))),
+        "F3 E2 33554425\n",
+    ),
+    (Fault::F3(PlayFault::Events(EventFault::E3(2))), "F3 E3 2\n"),
+    (Fault::F3(PlayFault::Events(EventFault::E4(3))), "F3 E4 3\n"),
 ];
 
-const FAULTS_OF_RUNS: [(Fault, &str); 8] = [
+const FAULTS_OF_RUNS: [(Fault, &str); 9] = [
     (Fault::F4(Input::Map), "F4 map\n"),
     (Fault::F4(Input::Scen), "F4 scen\n"),
     (Fault::F4(Input::Plan), "F4 plan\n"),
     (Fault::F4(Input::Cert), "F4 cert\n"),
+    (Fault::F4(Input::Events), "F4 events\n"),
     (Fault::F5(Output::Plan), "F5 plan\n"),
     (Fault::F5(Output::Cert), "F5 cert\n"),
     (Fault::F5(Output::Out), "F5 out\n"),

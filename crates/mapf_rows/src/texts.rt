@@ -51,3 +51,15 @@ pub fn plan_in_other_version(alloc: Global, text: &str) -> Result<Option<String>
     }
     Ok(None)
 }
+
+/// The text of the events in which these agents ask, one after another.
+pub fn event_text(alloc: Global, agents: &[u32]) -> Result<String, AllocError> {
+    let mut text = String::new(alloc);
+    text.push_str("mapf-events 1\n")?;
+    for agent in agents {
+        let line = format!(in alloc; "{agent}\n")?;
+        text.push_str(line.as_str())?;
+    }
+    text.push_str("end\n")?;
+    Ok(text)
+}

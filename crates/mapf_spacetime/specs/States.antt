@@ -1,8 +1,9 @@
 -- What a search has reached, and what is left for it to reach.
-use Rattle.std.specs.Prelude.{Bool, ◌==◌, ◌&&◌, ◌≡◌, ◌⊎◌, ℕ, ◌+◌, ◌<◌, ◌≤◌, List, [], ◌∷◌, ◌++◌, length, take, slice_index_or, Contains}
+use Rattle.std.specs.Prelude.{Bool, ◌==◌, ◌&&◌, ◌≡◌, ◌⊎◌, ℕ, ◌+◌, ◌<◌, ◌≤◌, List, [], ◌∷◌, ◌++◌, length, take, Some, slice_get, slice_index_or, Contains}
 use Rattle.mapf_model.specs.Distance.{IsUnreachable}
 use Rattle.mapf_model.specs.Grid.{free_cell_count}
 use Rattle.mapf_model.specs.Labels.{MayGo}
+use Rattle.mapf_model.specs.Limits.{most_path_cells}
 use Rattle.mapf_constraints.specs.BarSets.{AreBefore}
 use Rattle.mapf_spacetime.specs.declared.state.State.{State}
 use Rattle.mapf_spacetime.specs.Task.{Task, Goes, IsValue, IsBelow, IsPast, IsBarredLater, MayRestFrom, state_at, start_of}
@@ -14,6 +15,10 @@ pub record States : Type 0 where
   pub waiting : List State
   pub cost : ℕ
   pub below : ℕ
+
+-- for each cell a tick: where paths have such a tick, the cell was reached at it
+abbrev pub AreLast : List ℕ → List State → Type 0
+AreLast ticks reached = (cell tick : ℕ) → slice_get ticks cell ≡ Some tick → tick ≤ most_path_cells → Contains reached (state_at cell tick)
 
 -- only the start, to be reached at the cost
 abbrev pub first_states : State → ℕ → States

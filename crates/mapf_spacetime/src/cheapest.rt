@@ -71,7 +71,7 @@ fn by_cost<B: BarTable>(alloc: Global, ground: &Ground<B>, first: u32) -> Result
         tick: 0,
         cell: ground.start(),
     };
-    let mut frontier = Frontier::of(alloc, start, first)?;
+    let mut frontier = Frontier::of(alloc, start, first, ground.cells())?;
     if frontier.grow(alloc, ground)? {
         return arrive(alloc, ground, &frontier);
     }

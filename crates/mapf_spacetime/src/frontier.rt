@@ -9,8 +9,8 @@ ghost use Rattle.mapf_spacetime.specs.States.{IsFrontier, Keeps, Takes, Places, 
 ghost use Rattle.mapf_spacetime.specs.States.{IsBelowLimit};
 
 use crate::ground::Ground;
+use crate::reached::Reached;
 use crate::state::State;
-use crate::state_set::StateSet;
 use mapf_constraints::BarTable;
 use mapf_model::{Cell, OutOfMemory};
 use std::alloc::Global;
@@ -20,7 +20,7 @@ use std::mem;
 /// What a search has reached, in rising order of the values of states: tick and distance together.
 #[derive(Drop)]
 pub struct Frontier {
-    reached: StateSet,
+    reached: Reached,
     open_states: Vec<State>,
     waiting: Vec<State>,
     cost: u32,
@@ -42,14 +42,19 @@ impl Model for Frontier {
 }
 
 impl Frontier {
-    /// Only the start is known, and its value is the first cost to try.
-    pub fn of(alloc: Global, start: State, value: u32) -> Result<Frontier, OutOfMemory>
+    /// On a grid of so many cells only the start is known, and its value is the first cost to try.
+    pub fn of(
+        alloc: Global,
+        start: State,
+        value: u32,
+        cells: usize,
+    ) -> Result<Frontier, OutOfMemory>
         ensures { IfOk result (λ frontier. frontier ≡ first_states start value) }
     {
         let mut open_states = Vec::new(alloc);
         open_states.push(start)?;
         Ok(Frontier {
-            reached: StateSet::new(alloc),
+            reached: Reached::new(alloc, cells)?,
             open_states,
             waiting: Vec::new(alloc),
             cost: value,
@@ -87,11 +92,20 @@ impl Frontier {
 
     /// Reaches a state, and answers whether it is new.
     fn reach(&mut self, state: State) -> Result<bool, OutOfMemory>
+        requires { state.tick ≤ most_path_cells }
         ensures new { IfOk result (λ new. IsTrue new → self.new ≡ with_reached self.old state) }
         ensures old { IfOk result (λ new. new ≡ false → (self.new ≡ self.old) × Contains self.old.reached state) }
-        ensures small { OnOk result (length self.new.reached < 2 ^ 63) }
+        ensures small { OnOk result (length self.new.reached < 2 ^ 64) }
     {
         self.reached.add(state)
+    }
+
+    /// Whether the state is the one in which its cell was reached last.
+    fn was_reached(&self, state: &State) -> bool
+        requires { state.now.tick ≤ most_path_cells }
+        ensures { IsTrue result → Contains self.now.reached state.now }
+    {
+        self.reached.is_last(state)
     }
 
     fn none_waits(&self) -> bool
@@ -138,13 +152,16 @@ impl Frontier {
         requires step { Step ground.now.grid from.now.cell to }
         ensures { OnOk result (Takes ground.now (from.now ∷ []) from.now to self.old self.new) }
     {
-        if !ground.lets(from, to) {
-            return Ok(());
-        }
         let next = State {
             tick: from.tick + 1,
             cell: to,
         };
+        if self.was_reached(&next) {
+            return Ok(());
+        }
+        if !ground.lets(from, to) {
+            return Ok(());
+        }
         let Some(value) = ground.value(&next) else {
             return Ok(());
         };

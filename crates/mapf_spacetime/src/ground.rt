@@ -129,6 +129,11 @@ impl<'a, B: BarTable> Ground<'a, B> {
         self.may_rest_from(state.tick)
     }
 
+    /// How many cells the grid has.
+    pub fn cells(&self) -> usize {
+        (self.grid.width() * self.grid.height()) as usize
+    }
+
     /// A tick from which on no bar stands.
     pub fn horizon(&self) -> Tick
         ensures above { AreBefore result self.now.bars }

@@ -8,6 +8,7 @@ mod frontier;
 mod ground;
 mod labels;
 mod path_search;
+mod reached;
 mod state;
 mod state_set;
 

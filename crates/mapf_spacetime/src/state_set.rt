@@ -30,19 +30,6 @@ impl StateSet {
         }
     }
 
-    pub fn len(&self) -> usize
-        ensures len { result ≡ length self.now }
-        ensures small { result < 2 ^ 63 }
-    {
-        self.states.len()
-    }
-
-    pub fn states(&self) -> &[State]
-        ensures { result.now ≡ self.now }
-    {
-        self.states.as_slice()
-    }
-
     pub fn has(&self, state: &State) -> bool
         ensures { IsTrue result ↔ Contains self.now state.now }
     {

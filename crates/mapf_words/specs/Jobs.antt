@@ -5,7 +5,7 @@ use Rattle.clap.specs.Matches.{first_value}
 use Rattle.clap.specs.declared.parser.matches.Found.{Found}
 use Rattle.mapf_model.specs.Limits.{most_agents, most_splits}
 use Rattle.mapf_words.specs.declared.job.Job.{Job}
-use Rattle.mapf_words.specs.declared.job.Job.TheVariants.{Demo, Solve, Check, Play}
+use Rattle.mapf_words.specs.declared.job.Job.TheVariants.{Demo, Solve, Check, Play, Dispatch}
 
 -- 1 to 200 agents, and at most 100,000 splits
 abbrev pub IsInRange : Job → Type 0
@@ -13,6 +13,7 @@ IsInRange Demo = ⊤
 IsInRange (Solve map scen k limit plan cert) = (1 ≤ k) × (k ≤ most_agents) × (limit ≤ most_splits)
 IsInRange (Check map scen k plan cert) = (1 ≤ k) × (k ≤ most_agents)
 IsInRange (Play map scen k plan) = (1 ≤ k) × (k ≤ most_agents)
+IsInRange (Dispatch map scen k plan events) = (1 ≤ k) × (k ≤ most_agents)
 
 -- two names of files differ, or both are the null device's, where what is written is kept nowhere
 abbrev pub AreApart : List ℕ → List ℕ → Type 0
@@ -27,6 +28,7 @@ HasOwnOutputs (Solve map scen k limit plan cert) =
     × AreApart (string_bytes cert) (string_bytes plan)
 HasOwnOutputs (Check map scen k plan cert) = ⊤
 HasOwnOutputs (Play map scen k plan) = ⊤
+HasOwnOutputs (Dispatch map scen k plan events) = ⊤
 
 -- the text that was found under a name
 abbrev pub named : Found → List ℕ → List ℕ
@@ -44,3 +46,6 @@ IsJobOf command found (Check map scen k plan cert) =
 IsJobOf command found (Play map scen k plan) =
     (command ≡ codes "play") × (string_bytes map ≡ named found (codes "MAP")) × (string_bytes scen ≡ named found (codes "SCEN"))
     × (string_bytes plan ≡ named found (codes "PLAN"))
+IsJobOf command found (Dispatch map scen k plan events) =
+    (command ≡ codes "dispatch") × (string_bytes map ≡ named found (codes "MAP")) × (string_bytes scen ≡ named found (codes "SCEN"))
+    × (string_bytes plan ≡ named found (codes "PLAN")) × (string_bytes events ≡ named found (codes "EVENTS"))

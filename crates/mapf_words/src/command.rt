@@ -5,29 +5,31 @@ use std::alloc::{AllocError, Global};
 
 const ABOUT: &str =
     "Finds cheapest collision-free routes for many agents on a grid, with a certificate that
-nothing cheaper is possible, checks such certificates, and shows plans tick by tick.
+nothing cheaper is possible, checks such certificates, shows plans tick by tick, and tells agents
+that follow a plan whether they may go on.
 Without words it solves and checks a small built-in problem.";
 
 const OVERVIEW: &str = "Files:
-  MAP   the grid: a MovingAI map of type octile
-  SCEN  the agents: a MovingAI scenario of version 1, of which the first K rows count
-  PLAN  the plan text, and CERT its certificate: solve writes both, check reads them, and
-        play reads PLAN
+  MAP     the grid: a MovingAI map of type octile
+  SCEN    the agents: a MovingAI scenario of version 1, of which the first K rows count
+  PLAN    the plan text, and CERT its certificate: solve writes both, check reads them, and
+          play and dispatch read PLAN
+  EVENTS  the agents that ask to go on, one after another: dispatch reads it
 
 Standard output of solve is one line, as 'cost 5', of check one line, as 'optimal 5', of play
-the grid at each tick, and without words it is the built-in problem's plan text, certificate
-and verdict.
+the grid at each tick, of dispatch an answer for each event, as 'go 1 1,1', and without words it
+is the built-in problem's plan text, certificate and verdict.
 
 Exit status:
-  0  solved, accepted, or shown
+  0  solved, accepted, shown, or dispatched
   1  check refused the plan text or the certificate
   2  a fault, or wrong words, told on standard error
   3  solve found that no plan is possible
   4  solve met a limit before it had an answer
 
 Faults, with details in the same line: F1 the map's text, F2 the scenario's text, F3 a plan
-text that can't be played, F4 a file that can't be read, F5 one that can't be written, F6 no
-memory left.";
+that can't be played or followed, or the event text, F4 a file that can't be read, F5 one
+that can't be written, F6 no memory left.";
 
 const SOLVE_ABOUT: &str =
     "Finds a cheapest plan for the first K agents, and writes it with its certificate";
@@ -76,6 +78,29 @@ or one that isn't valid. Standard output is empty then.
 
 Exit status:
   0  shown
+  2  a fault, or wrong words, told on standard error";
+
+const DISPATCH_ABOUT: &str =
+    "Tells agents that follow the plan of PLAN, each at its own pace, whether they may go on";
+
+const DISPATCH_OUTPUT: &str =
+    "All agents begin where their paths begin. An event is one agent that asks to go on into the next cell
+of its path. EVENTS has a line 'mapf-events 1', for each event a line with the agent's number, 0 to
+K-1, and last a line 'end'. Standard output has a line for each event:
+  go I x,y     agent I goes on into this cell, by its column and row
+  hold I by J  agent I stays, and asks again later: agent J, the least such agent, hasn't yet left
+               this cell, through which the plan takes it first
+  done I       agent I is at the end of its path
+
+Agents may be late at any cell, for any time, but a 'go' counts as done at once: send the next event
+only when the agent has arrived. Then, whatever the events, no two agents are ever in one cell, and
+none is told to go into a cell in which another is. It isn't promised that some agent may go on:
+agents that move round in a circle, with no free cell between them, are held for ever.
+
+Where PLAN can't be followed or EVENTS can't be read (F3), standard output is empty.
+
+Exit status:
+  0  dispatched
   2  a fault, or wrong words, told on standard error";
 
 const MAP: &str = "The grid: a MovingAI map of type octile";
@@ -130,6 +155,21 @@ fn play<'a>(alloc: Global) -> Result<Command<'a>, AllocError> {
         .arg(file(alloc, "PLAN", "The plan text, as solve wrote it"))
 }
 
+fn dispatch<'a>(alloc: Global) -> Result<Command<'a>, AllocError> {
+    Command::new(alloc, "dispatch")
+        .about(DISPATCH_ABOUT)
+        .after_help(DISPATCH_OUTPUT)
+        .arg(file(alloc, "MAP", MAP))?
+        .arg(file(alloc, "SCEN", SCEN))?
+        .arg(number(alloc, "K", 1, MOST_AGENTS, K))?
+        .arg(file(alloc, "PLAN", "The plan text, as solve wrote it"))?
+        .arg(file(
+            alloc,
+            "EVENTS",
+            "The agents that ask to go on, one after another",
+        ))
+}
+
 /// The words that the program takes.
 pub fn mapf<'a>(alloc: Global) -> Result<Command<'a>, AllocError> {
     Command::new(alloc, "mapf")
@@ -139,5 +179,6 @@ pub fn mapf<'a>(alloc: Global) -> Result<Command<'a>, AllocError> {
         .subcommand_required(true)
         .subcommand(solve(alloc)?)?
         .subcommand(check(alloc)?)?
-        .subcommand(play(alloc)?)
+        .subcommand(play(alloc)?)?
+        .subcommand(dispatch(alloc)?)
 }

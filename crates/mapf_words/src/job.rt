@@ -31,4 +31,14 @@ pub enum Job {
         k: u32,
         plan: String,
     },
+    /// Let the first `k` agents follow the plan of a plan text, and tell them whether they may go on, as
+    /// they ask for it in an event text.
+    Dispatch {
+        map: String,
+        scen: String,
+        /// 1 to 200.
+        k: u32,
+        plan: String,
+        events: String,
+    },
 }

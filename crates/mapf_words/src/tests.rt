@@ -37,6 +37,14 @@ fn reads_jobs(rt: HostRuntime) -> Result<(), Fail> {
         plan: String::from_str(alloc, "p")?,
     };
     assert_eq!(rt; asked(alloc, "mapf play m s 2 p")?, Ok(play));
+    let dispatch = Job::Dispatch {
+        map: String::from_str(alloc, "m")?,
+        scen: String::from_str(alloc, "s")?,
+        k: 2,
+        plan: String::from_str(alloc, "p")?,
+        events: String::from_str(alloc, "e")?,
+    };
+    assert_eq!(rt; asked(alloc, "mapf dispatch m s 2 p e")?, Ok(dispatch));
     assert_eq!(rt; asked(alloc, "mapf")?, Ok(Job::Demo));
     assert_eq!(rt; job_of(alloc, Vec::new(alloc)), Ok(Job::Demo));
     Ok(())
@@ -55,7 +63,10 @@ fn refuses_words(rt: HostRuntime) -> Result<(), Fail> {
         "mapf play m s 2",
         "mapf play m s 0 p",
         "mapf play m s 201 p",
-        "mapf dispatch m s 2 p e",
+        "mapf dispatch m s 2 p",
+        "mapf dispatch m s 0 p e",
+        "mapf dispatch m s 201 p e",
+        "mapf dispatch m s 2 p e f",
         "mapf --",
         "mapf solve m s 2 10 m c",
         "mapf solve m s 2 10 p s",
@@ -83,6 +94,7 @@ fn shows_help(rt: HostRuntime) -> Result<(), Fail> {
         ("mapf check --help", "\n  1  refused"),
         ("mapf help check", "\n  1  refused"),
         ("mapf play --help", "\n  0  shown"),
+        ("mapf dispatch --help", "\n  0  dispatched"),
     ] {
         match asked(rt.alloc(), text)? {
             Err(WordsFault::Shown(message)) => {

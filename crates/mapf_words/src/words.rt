@@ -118,6 +118,20 @@ fn play_of(alloc: Global, given: &ArgMatches<'_>) -> Result<Job, WordsFault>
     })
 }
 
+fn dispatch_of(alloc: Global, given: &ArgMatches<'_>) -> Result<Job, WordsFault>
+    ensures range { IfOk result IsInRange }
+    ensures named { IfOk result (IsJobOf (codes "dispatch") (found_of given.now)) }
+    ensures own { IfOk result HasOwnOutputs }
+{
+    Ok(Job::Dispatch {
+        map: text_of(alloc, given, "MAP")?,
+        scen: text_of(alloc, given, "SCEN")?,
+        k: number_of(alloc, given, "K", 1, MOST_AGENTS)?,
+        plan: text_of(alloc, given, "PLAN")?,
+        events: text_of(alloc, given, "EVENTS")?,
+    })
+}
+
 // The job of a command, by what was found under its names.
 fn job_in(alloc: Global, command: &str, given: &ArgMatches<'_>) -> Result<Job, WordsFault>
     ensures range { IfOk result IsInRange }
@@ -128,6 +142,7 @@ fn job_in(alloc: Global, command: &str, given: &ArgMatches<'_>) -> Result<Job, W
         "solve" => solve_of(alloc, given),
         "check" => check_of(alloc, given),
         "play" => play_of(alloc, given),
+        "dispatch" => dispatch_of(alloc, given),
         _ => Err(WordsFault::Bad(String::from_str(alloc, "error: no such command\n")?)),
     }
 }

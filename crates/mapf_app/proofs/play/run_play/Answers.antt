@@ -1,43 +1,19 @@
-use Rattle.std.proofs.Common.{◌≡◌, Err, ⊎_elim, ◌∙◌, ap, subst}
+use Rattle.std.proofs.Common.{◌≡◌, ⊎_elim, subst}
 use Rattle.std.proofs.lemmas.Result.{err_from_is_err_and}
-use Rattle.mapf_app.specs.Faults.{IsPlaying}
 use Rattle.mapf_app.specs.Played.{ShowsPlan}
-use Rattle.mapf_app.specs.declared.fault.Fault.TheVariants.{F6}
-use Rattle.mapf_app.proofs.InputLemmas.{read_as}
-use Rattle.mapf_app.proofs.PlayLemmas.{due_here, handed_on, play_fault_told}
+use Rattle.mapf_app.specs.declared.planned.Planned.{Planned}
+use Rattle.mapf_app.proofs.PlannedLemmas.{hands_on_device}
 use Rattle.mapf_app.proofs.play.run_play.Goals as goal
 
-pub returns-in_err-paths-clause-due : goal.returns-in_err-paths-clause-due
-returns-in_err-paths-clause-due g c = λ problem paths due.
-    let map = g.M.Source.remaining c.args.map.now in
-    let scen = g.S.Source.remaining c.args.scen.now in
-    let plan = g.P.Source.remaining c.args.plan.now in
-    let fault = c.in_err-paths.field-0.0 in
-    let same = read_as plan c.as_slice.ensures.value c.in_ok-text.ensures.whole in
-    let here = due_here map scen plan c.args.k c.in_ok-problem.problem c.as_slice.result.now same (λ other map_told scen_told read. ⊎_elim (λ e. cc) (λ no. absurd no) (c.in_ok-problem.ensures.only other map_told scen_told read)) problem paths due in
-    let memory : fault ≡ F6 = ⊎_elim (λ e. cc) (λ e. cc) (c.in_err-paths.ensures.only paths here.1) in
-    let (given, is, handed) = err_from_is_err_and c.from_residual-in_err-paths.result c.from_residual-in_err-paths.ensures.1 in
-    let told : c.from_residual-in_err-paths.result ≡ Err F6 = is ∙ ap Err (handed ∙ memory) in
-    rw told tt
-
-pub returns-in_err-paths-clause-fault : goal.returns-in_err-paths-clause-fault
-returns-in_err-paths-clause-fault g c =
-    let map = g.M.Source.remaining c.args.map.now in
-    let scen = g.S.Source.remaining c.args.scen.now in
-    let plan = g.P.Source.remaining c.args.plan.now in
-    let fault = c.in_err-paths.field-0.0 in
-    let same = read_as plan c.as_slice.ensures.value c.in_ok-text.ensures.whole in
-    handed_on c.from_residual-in_err-paths.result (IsPlaying map scen plan c.args.k) fault (err_from_is_err_and c.from_residual-in_err-paths.result c.from_residual-in_err-paths.ensures.1)
-    (play_fault_told map scen plan c.args.k c.in_ok-problem.problem c.in_ok-problem.ensures.found c.as_slice.result.now same fault c.in_err-paths.ensures.fault)
+pub returns-in_err-problem-clause-due : goal.returns-in_err-problem-clause-due
+returns-in_err-problem-clause-due g c = λ problem paths due.
+    hands_on_device _ _ _ (err_from_is_err_and c.from_residual.result c.from_residual.ensures.1)
+    (⊎_elim (λ e. cc) (λ says. says) (c.in_err-problem.ensures.only (record { problem = problem; plan = paths }) due))
 
 pub returns-in-Ok-clause-due : goal.returns-in-Ok-clause-due
 returns-in-Ok-clause-due g c = λ problem paths due.
-    let map = g.M.Source.remaining c.args.map.now in
-    let scen = g.S.Source.remaining c.args.scen.now in
-    let plan = g.P.Source.remaining c.args.plan.now in
-    let same = read_as plan c.as_slice.ensures.value c.in_ok-text.ensures.whole in
-    let here = due_here map scen plan c.args.k c.in_ok-problem.problem c.as_slice.result.now same (λ other map_told scen_told read. ⊎_elim (λ e. cc) (λ no. absurd no) (c.in_ok-problem.ensures.only other map_told scen_told read)) problem paths due in
-    let those : c.in_ok-paths.paths ≡ paths = ⊎_elim (λ e. cc) (λ e. cc) (c.in_ok-paths.ensures.only paths here.1) in
+    let planned : Planned = record { problem = problem; plan = paths } in
+    let same : c.in_ok-problem.field-0 ≡ planned = ⊎_elim (λ e. cc) (λ no. absurd no) (c.in_ok-problem.ensures.only planned due) in
     let old = g.K.Sink.contents c.args.sink.now in
     let new = g.K.Sink.contents c.play.new.sink in
-    subst (λ p. ShowsPlan p paths old new) here.0 (subst (λ ps. ShowsPlan c.in_ok-problem.problem ps old new) those c.in-Ok.ensures.text)
+    subst (λ (p : Planned). ShowsPlan p.problem p.plan old new) same c.in-Ok.ensures.text

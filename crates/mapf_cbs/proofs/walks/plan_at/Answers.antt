@@ -3,7 +3,7 @@ use Rattle.std.proofs.lemmas.Bool.{cases_eq}
 use Rattle.std.proofs.lemmas.List.Elements.{All-push}
 use Rattle.std.proofs.lemmas.Option.{slice_get_read, slice_get_within, same_Some}
 use Rattle.mapf_model.proofs.DecidedLemmas.{same_list}
-use Rattle.mapf_cbs.proofs.SumLemmas.{slice_get-front, slice_get-here}
+use Rattle.mapf_model.proofs.PlaceLemmas.{slice_get-front, slice_get-here}
 use Rattle.mapf_cbs.proofs.walks.plan_at.Goals as goal
 
 pub path_at-requires-clause-inside : goal.path_at-requires-clause-inside

@@ -3,7 +3,7 @@ use Rattle.std.proofs.lemmas.Option.{slice_get_read}
 use Rattle.std.proofs.lemmas.List.Elements.{All-pop, All-push}
 use Rattle.mapf_model.specs.declared.item.Item.TheVariants.{Leaf as LeafItem}
 use Rattle.mapf_cbs.specs.Search.{AreBlocksAt}
-use Rattle.mapf_cbs.proofs.SumLemmas.{length-slice_set}
+use Rattle.mapf_model.proofs.PlaceLemmas.{length-slice_set}
 use Rattle.mapf_cbs.proofs.ItemLemmas.{Leads, AreOwed, owed_first, owed_split, owed_leaf, blocks_at, leads_first, weights, weights-leaf, weights-split, reverse_push, leads_split, leads_leaf, leads_done, no_items, end_of}
 use Rattle.mapf_cbs.proofs.written.tree_items.Goals as goal
 

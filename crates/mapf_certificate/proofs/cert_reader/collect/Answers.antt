@@ -5,7 +5,7 @@ use Rattle.mapf_model.specs.declared.item.Item.{Item}
 use Rattle.mapf_model.specs.Tree.{node_of}
 use Rattle.mapf_certificate.specs.CertReading.{Awaits, TakesNode}
 use Rattle.mapf_certificate.specs.Window.{IsNoTextFault}
-use Rattle.mapf_certificate.proofs.PathLaws.{pushed}
+use Rattle.mapf_fields.proofs.Binds.{pushed}
 use Rattle.mapf_certificate.proofs.Windows.{err_passed}
 use Rattle.mapf_certificate.proofs.Collecting.{collected_none, collected_more, collected_all, collected_only, collected_stops, stops_at, stops_after, err_matches}
 use Rattle.mapf_certificate.proofs.cert_reader.collect.Goals as goal

@@ -2,12 +2,12 @@ use Rattle.std.proofs.Common.{◌≡◌, ◌≢◌, ◌++◌, ◌∷◌, [], Lis
 use Rattle.std.proofs.lemmas.Bool.{false≢true}
 use Rattle.mapf_model.specs.Printed.{IsOnGrid}
 use Rattle.mapf_fields.specs.declared.fault.LineFault.{LineFault}
-use Rattle.mapf_fields.proofs.Binds.{ok_pair_parts, same_some}
+use Rattle.mapf_fields.proofs.Binds.{ok_pair_parts, same_some, pushed}
 use Rattle.mapf_certificate.specs.declared.sizes.Sizes.{Sizes}
 use Rattle.mapf_certificate.specs.Lines.{grid_for}
 use Rattle.mapf_certificate.specs.Plans.{GoesOn, HasCells}
 use Rattle.mapf_certificate.specs.PlanReading.{read_pair_cell}
-use Rattle.mapf_certificate.proofs.PathLaws.{goes_on_step, goes_on_end, has_cells_step, pair_cell_shorter, not_empty, is_empty, pushed}
+use Rattle.mapf_certificate.proofs.PathLaws.{goes_on_step, goes_on_end, has_cells_step, pair_cell_shorter, not_empty, is_empty}
 use Rattle.mapf_certificate.proofs.plan_reader.pairs_of.Goals as goal
 
 -- a path that goes on is read on

@@ -1,13 +1,12 @@
 use Rattle.std.proofs.Common.{◌≡◌, ◌+◌, ◌-◌, ◌++◌, ◌∷◌, [], ℕ, List, Ok, Err, length, ap, sym, subst, ◌∙◌, inl, inr, arith}
 use Rattle.std.proofs.lemmas.Result.{err_from_is_err_and}
-use Rattle.mapf_fields.proofs.Binds.{same_ok, ok_pair_parts, same_err, passed_on}
+use Rattle.mapf_fields.proofs.Binds.{same_ok, ok_pair_parts, same_err, passed_on, pushed}
 use Rattle.mapf_certificate.specs.declared.plan_text.PlanTextFault.{PlanTextFault}
 use Rattle.mapf_certificate.specs.declared.plan_text.PlanTextFault.TheVariants.{Memory}
 use Rattle.mapf_certificate.specs.declared.sizes.Sizes.{Sizes}
 use Rattle.mapf_certificate.specs.Lines.{grid_for}
 use Rattle.mapf_certificate.specs.Plans.{path_words, ArePaths, PathsGoOn}
 use Rattle.mapf_certificate.specs.PlanReading.{next_line}
-use Rattle.mapf_certificate.proofs.PathLaws.{pushed}
 use Rattle.mapf_certificate.proofs.PathsLaws.{GoesOnWith, paths_go_on_step, are_paths_step}
 use Rattle.mapf_certificate.proofs.plan_reader.paths_of.Goals as goal
 

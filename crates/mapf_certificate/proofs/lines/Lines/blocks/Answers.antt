@@ -5,7 +5,7 @@ use Rattle.mapf_certificate.specs.Certificates.{block_text, blocks_text}
 use Rattle.mapf_certificate.specs.Untouched.{TakesThere}
 use Rattle.mapf_certificate.specs.Window.{Fails}
 use Rattle.mapf_certificate.specs.Bounded.{BeginsWithBlock, IsBlockFor, IsOfLesserAgent, MayFollow}
-use Rattle.mapf_certificate.proofs.PathLaws.{pushed}
+use Rattle.mapf_fields.proofs.Binds.{pushed}
 use Rattle.mapf_certificate.proofs.TakenThere.{there-more}
 use Rattle.mapf_certificate.proofs.Windows.{err_passed, ComesWithin-after, Fails-after, Window-within}
 use Rattle.mapf_certificate.proofs.Sequences.{goes_on, taken_more, window_more}

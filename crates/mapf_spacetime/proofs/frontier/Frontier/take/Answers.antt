@@ -1,4 +1,4 @@
-use Rattle.std.proofs.Common.{◌+◌, ◌<◌, ◌≤◌, ◌∷◌, [], ⊎_elim, subst, arith, ◌≡◌, refl}
+use Rattle.std.proofs.Common.{◌+◌, ◌<◌, ◌≤◌, ◌∷◌, [], ⊎_elim, inl, subst, arith, ◌≡◌, refl}
 use Rattle.std.proofs.lemmas.Bool.{cases_lt}
 use Rattle.mapf_spacetime.specs.Task.{state_at, Goes, IsValue}
 use Rattle.mapf_spacetime.proofs.ValueLemmas.{no_lower}
@@ -22,3 +22,10 @@ returns g c =
     let same : value ≡ states.cost = omega arith in
     take_level task (from ∷ []) states c.requires.frontier from c.args.to c.requires.reached may (subst (IsValue task next) same is) c.place.new.self (c.in_ok-place.ensures.level level))
     (cases_lt states.cost value)
+
+pub returns-then-was_reached : goal.returns-then-was_reached
+returns-then-was_reached g c = record {
+  frontier = c.requires.frontier;
+  keeps = record { reached = refl; cost = refl; below = refl; known = λ s known. known };
+  taken = λ may. inl (inl (c.if-was_reached.ensures refl));
+}

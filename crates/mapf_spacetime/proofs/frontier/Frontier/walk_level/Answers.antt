@@ -1,4 +1,4 @@
-use Rattle.std.proofs.Common.{◌∷◌, ◌∙◌, [], refl, sym, ap, subst, Contains}
+use Rattle.std.proofs.Common.{◌∷◌, ◌∙◌, [], refl, sym, ap, subst, Contains, arith}
 use Rattle.std.proofs.lemmas.List.Elements.{Contains-push}
 use Rattle.mapf_spacetime.specs.Task.{IsValue}
 use Rattle.mapf_spacetime.specs.States.{IsFrontier}
@@ -17,6 +17,15 @@ steps-steps-requires g c =
     let task = c.args.ground.now in
     let f = subst (IsFrontier task []) c.in-Some.ensures.some c.loop-state.invariant.frontier in
     value_free task c.in-Some.state c.take_open.new.self.cost (open_value task c.take_open.new.self c.in-Some.state f)
+
+pub reach-requires : goal.reach-requires
+reach-requires g c =
+    let task = c.args.ground.now in
+    let f = subst (IsFrontier task []) c.in-Some.ensures.some c.loop-state.invariant.frontier in
+    let sum = (open_value task c.take_open.new.self c.in-Some.state f).sum in
+    let cost = sym (ap (λ states. states.cost) c.in-Some.ensures.some) ∙ c.loop-state.invariant.cost in
+    let small = c.requires.small in
+    omega arith
 
 pub take_all-requires-clause-frontier : goal.take_all-requires-clause-frontier
 take_all-requires-clause-frontier g c =

@@ -1,0 +1,135 @@
+ghost use Rattle.std.specs.Prelude.{◌≡◌, ◌≤◌, ◌<◌, ◌⊎◌, ℕ, List, All, IsSome, Ok, Err, false, true, take};
+ghost use Rattle.std.specs.Prelude.{IfOk, IfErr, IfSome, OnOk, IsErrOf, MatchResult, Some};
+ghost use Rattle.std.specs.Result.{IsErrAnd};
+ghost use Rattle.std.specs.Io.KnownBytes.{Appends};
+ghost use Rattle.mapf_app.specs.Dispatched.{DispatchesTruly, IsDueDispatch, ShowsReplies};
+ghost use Rattle.mapf_app.specs.Faults.{HasNoInnerMemory, IsBeforeWriting, IsDispatching, IsOfDevices, IsOfInput};
+ghost use Rattle.mapf_app.specs.Faults.{IsOfMap, IsOfPlan, IsOfProblem, IsReadingEvents, fault_of_events};
+ghost use Rattle.mapf_app.specs.Order.{HasReadGrid, HasReadPlan, HasReadProblem, IsReadWhole};
+ghost use Rattle.mapf_app.specs.Unreadable.{IsUnreadable, IsWithin};
+ghost use Rattle.mapf_model.specs.Limits.{most_agents, most_text_bytes};
+ghost use Rattle.mapf_model.specs.Plan.{Instance};
+ghost use Rattle.mapf_player.specs.Events.{SpellsEvents};
+
+use crate::fault::{Fault, Input, Output, PlayFault};
+use crate::input::read_text;
+use crate::planned::{Planned, read_planned};
+use mapf_model::{Failed, OutOfMemory, Sink, Source};
+use mapf_player::{Dispatch, EventFault, dispatch_all, read_events};
+use std::alloc::Global;
+
+// The name of an event text's fault among those of a run.
+fn fault_of_events(fault: EventFault) -> Fault
+    ensures { result ≡ fault_of_events fault }
+{
+    match fault {
+        EventFault::Memory => Fault::F6,
+        _ => Fault::F3(PlayFault::Events(fault)),
+    }
+}
+
+// The agents that ask, one after another, as the event text spells them.
+fn read_asking<E: Source>(alloc: Global, events: &mut E, k: u32) -> Result<Vec<u32>, Fault>
+    requires works { E.has_failed events.old ≡ false }
+    requires few { k ≤ most_agents }
+    ensures found { IfOk result (λ agents. IfSome (E.remaining events.old) (λ text. SpellsEvents text k agents.items)) }
+    ensures low { IfOk result (λ agents. All (λ agent. agent < k) agents.items) }
+    ensures only { (text agents : List ℕ) → E.remaining events.old ≡ Some text → SpellsEvents text k agents →
+        IfOk result (λ read. read.items ≡ agents) × IfErr result IsOfInput }
+    ensures read { OnOk result
+        (IsReadWhole (E.has_failed events.new) (E.remaining events.old) (E.remaining events.new)) }
+    ensures fault { IfErr result (IsReadingEvents (E.remaining events.old) k) }
+    ensures inner { IfErr result HasNoInnerMemory }
+    ensures failed { E.has_failed events.new ≡ true → IsErrOf result (Fault.F4 Input.Events) }
+    ensures unreadable { IsErrOf result (Fault.F4 Input.Events) →
+        IsUnreadable (E.has_failed events.new) (E.remaining events.old) (E.remaining events.new) most_text_bytes }
+{
+    let text = read_text(alloc, events, Input::Events)?;
+    match read_events(alloc, text.as_slice(), k) {
+        Ok(agents) => Ok(agents),
+        Err(fault) => Err(fault_of_events(fault)),
+    }
+}
+
+/// Reads a map, a scenario of which the first `k` agents count, a plan text and an event text, lets the
+/// agents follow the plan, and writes for each event, in order, what the agent is told that asks to go on.
+/// Nothing is written before the plan was found valid, the events were read and all memory was taken.
+pub fn run_dispatch<M: Source, S: Source, P: Source, E: Source, K: Sink>(
+    alloc: Global,
+    map: &mut M,
+    scen: &mut S,
+    k: u32,
+    plan: &mut P,
+    events: &mut E,
+    sink: &mut K,
+) -> Result<(), Fault>
+    requires map_works { M.has_failed map.old ≡ false }
+    requires scen_works { S.has_failed scen.old ≡ false }
+    requires plan_works { P.has_failed plan.old ≡ false }
+    requires events_work { E.has_failed events.old ≡ false }
+    requires sink_works { K.has_failed sink.old ≡ false }
+    requires some { 1 ≤ k }
+    requires few { k ≤ most_agents }
+    // What is written are the replies to the events that were read, while all follow the valid plan that was read.
+    ensures text { OnOk result ((text : List ℕ)
+        × DispatchesTruly (M.remaining map.old) (S.remaining scen.old) (P.remaining plan.old)
+        (E.remaining events.old) k text
+        × Appends (K.contents sink.old) (K.contents sink.new) text) }
+    // Events that are spelled beside a valid plan are answered, unless a device or memory prevents it.
+    ensures due { (problem : Instance) (paths : List (List ℕ)) (agents : List ℕ) →
+        IsDueDispatch (M.remaining map.old) (S.remaining scen.old) (P.remaining plan.old) (E.remaining events.old) k
+        problem paths agents →
+        MatchResult result
+        (λ _. ShowsReplies problem paths agents (K.contents sink.old) (K.contents sink.new)) IsOfDevices }
+    // Inputs of more bytes than the limit aren't read.
+    ensures within { OnOk result
+        (IsWithin (M.remaining map.old) most_text_bytes × IsWithin (S.remaining scen.old) most_text_bytes
+        × IsWithin (P.remaining plan.old) most_text_bytes × IsWithin (E.remaining events.old) most_text_bytes) }
+    // A fault stands where it says.
+    ensures fault { IfErr result (IsDispatching
+        (M.remaining map.old) (S.remaining scen.old) (P.remaining plan.old) (E.remaining events.old) k) }
+    ensures inner { IfErr result HasNoInnerMemory }
+    // A device's fault is told only where it has failed, or a source gave too much, and wherever it has failed.
+    ensures map { IsErrOf result (Fault.F4 Input.Map) →
+        IsUnreadable (M.has_failed map.new) (M.remaining map.old) (M.remaining map.new) most_text_bytes }
+    ensures map_failed { M.has_failed map.new ≡ true → IsErrOf result (Fault.F4 Input.Map) }
+    ensures scen { IsErrOf result (Fault.F4 Input.Scen) →
+        IsUnreadable (S.has_failed scen.new) (S.remaining scen.old) (S.remaining scen.new) most_text_bytes }
+    ensures scen_failed { S.has_failed scen.new ≡ true → IsErrOf result (Fault.F4 Input.Scen) }
+    ensures plan { IsErrOf result (Fault.F4 Input.Plan) →
+        IsUnreadable (P.has_failed plan.new) (P.remaining plan.old) (P.remaining plan.new) most_text_bytes }
+    ensures plan_failed { P.has_failed plan.new ≡ true → IsErrOf result (Fault.F4 Input.Plan) }
+    ensures events { IsErrOf result (Fault.F4 Input.Events) →
+        IsUnreadable (E.has_failed events.new) (E.remaining events.old) (E.remaining events.new) most_text_bytes }
+    ensures events_failed { E.has_failed events.new ≡ true → IsErrOf result (Fault.F4 Input.Events) }
+    ensures sink { IsErrOf result (Fault.F5 Output.Out) → K.has_failed sink.new ≡ true }
+    ensures sink_failed { K.has_failed sink.new ≡ true → IsErrOf result (Fault.F5 Output.Out) }
+    // Each input is pulled only after those before it were read whole and spelled what they must.
+    ensures scen_unpulled { IfErr result (λ fault. IsOfMap fault → scen.new ≡ scen.old) }
+    ensures scen_order { (HasReadGrid (M.has_failed map.new) (M.remaining map.old) (M.remaining map.new) → ⊥) →
+        scen.new ≡ scen.old }
+    ensures plan_unpulled { IfErr result (λ fault. IsOfProblem fault → plan.new ≡ plan.old) }
+    ensures plan_order { (HasReadProblem (M.has_failed map.new) (M.remaining map.old) (M.remaining map.new)
+        (S.has_failed scen.new) (S.remaining scen.old) (S.remaining scen.new) k → ⊥) → plan.new ≡ plan.old }
+    ensures events_unpulled { IfErr result (λ fault. IsOfPlan fault → events.new ≡ events.old) }
+    ensures events_order { (HasReadPlan (M.has_failed map.new) (M.remaining map.old) (M.remaining map.new)
+        (S.has_failed scen.new) (S.remaining scen.old) (S.remaining scen.new)
+        (P.has_failed plan.new) (P.remaining plan.old) (P.remaining plan.new) k → ⊥) → events.new ≡ events.old }
+    // What a sink that failed got is a front of such a text, and any other fault leaves it as it was.
+    ensures front { IsErrOf result (Fault.F5 Output.Out) → (text : List ℕ) × (n : ℕ)
+        × DispatchesTruly (M.remaining map.old) (S.remaining scen.old) (P.remaining plan.old)
+        (E.remaining events.old) k text
+        × Appends (K.contents sink.old) (K.contents sink.new) (take n text) }
+    ensures unwritten { IfErr result (λ fault. IsBeforeWriting fault → sink.new ≡ sink.old) }
+{
+    let Planned { problem, plan } = read_planned(alloc, map, scen, k, plan)?;
+    let agents = read_asking(alloc, events, k)?;
+    let mut dispatch = match Dispatch::new(alloc, &plan) {
+        Ok(dispatch) => dispatch,
+        Err(OutOfMemory) => return Err(Fault::F6),
+    };
+    match dispatch_all(&mut dispatch, problem.grid(), agents.as_slice(), sink) {
+        Ok(()) => Ok(()),
+        Err(Failed) => Err(Fault::F5(Output::Out)),
+    }
+}

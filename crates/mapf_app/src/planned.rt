@@ -1,0 +1,113 @@
+ghost use Rattle.std.specs.Prelude.{◌≡◌, ◌≤◌, ◌⊎◌, ℕ, List, Ok, Err, false, true, IfOk, IfErr, OnOk, IsErrOf};
+ghost use Rattle.std.specs.Result.{IsErrAnd};
+ghost use Rattle.mapf_app.specs.Faults.{HasNoInnerMemory, IsOfInput, IsOfMap, IsOfProblem, IsPlanning, IsReadingPlan};
+ghost use Rattle.mapf_app.specs.Faults.{fault_of_plan_text};
+ghost use Rattle.mapf_app.specs.Order.{HasReadGrid, HasReadProblem, HasReadPlan};
+ghost use Rattle.mapf_app.specs.Planned.{IsDuePlan, SpellsPlanned, SpellsValidPlan};
+ghost use Rattle.mapf_app.specs.Unreadable.{IsUnreadable};
+ghost use Rattle.mapf_app.specs.declared.planned.Planned.{Planned};
+ghost use Rattle.mapf_model.specs.Limits.{most_agents, most_text_bytes};
+ghost use Rattle.mapf_model.specs.Plan.{Instance};
+
+use crate::fault::{Fault, Input, PlayFault};
+use crate::input::{read_problem, read_text};
+use mapf_certificate::{PlanAnswer, PlanText, PlanTextFault, read_plan};
+use mapf_checker::check_plan;
+use mapf_model::{Plan, Problem, Source};
+use std::alloc::Global;
+
+/// A problem, and a valid plan for it.
+#[derive(Debug, Drop)]
+pub struct Planned {
+    pub problem: Problem,
+    pub plan: Plan,
+}
+
+// The name of a plan text's fault among those of a run.
+fn fault_of_plan_text(fault: PlanTextFault) -> Fault
+    ensures { result ≡ fault_of_plan_text fault }
+{
+    match fault {
+        PlanTextFault::Memory => Fault::F6,
+        _ => Fault::F3(PlayFault::Text(fault)),
+    }
+}
+
+// The valid plan that a plan text spells for the problem.
+fn valid_plan(alloc: Global, problem: &Problem, bytes: &[u8]) -> Result<Plan, Fault>
+    ensures found { IfOk result (SpellsValidPlan problem.now bytes.now) }
+    ensures only { (plan : List (List ℕ)) → SpellsValidPlan problem.now bytes.now plan →
+        (result ≡ Ok plan) ⊎ (result ≡ Err Fault.F6) }
+    ensures fault { IfErr result (IsReadingPlan problem.now bytes.now) }
+    ensures inner { IfErr result HasNoInnerMemory }
+{
+    let PlanText { agents, answer, .. } = match read_plan(alloc, bytes, problem.grid()) {
+        Ok(text) => text,
+        Err(fault) => return Err(fault_of_plan_text(fault)),
+    };
+    let PlanAnswer::Found(plan) = answer else {
+        return Err(Fault::F3(PlayFault::NoPlan));
+    };
+    if agents as usize != problem.agents().len() {
+        return Err(Fault::F3(PlayFault::OtherCount));
+    }
+    match check_plan(problem, &plan) {
+        Ok(_) => Ok(plan),
+        Err(fault) => Err(Fault::F3(PlayFault::Invalid(fault))),
+    }
+}
+
+/// The problem that a map and a scenario spell, of which the first `k` agents count, and the valid plan
+/// that a plan text spells for it. Each input is parsed before the next one is pulled.
+pub fn read_planned<M: Source, S: Source, P: Source>(
+    alloc: Global,
+    map: &mut M,
+    scen: &mut S,
+    k: u32,
+    plan: &mut P,
+) -> Result<Planned, Fault>
+    requires map_works { M.has_failed map.old ≡ false }
+    requires scen_works { S.has_failed scen.old ≡ false }
+    requires plan_works { P.has_failed plan.old ≡ false }
+    requires some { 1 ≤ k }
+    requires few { k ≤ most_agents }
+    // What is read is spelled so.
+    ensures found { IfOk result (λ planned. SpellsPlanned
+        (M.remaining map.old) (S.remaining scen.old) (P.remaining plan.old) k planned.problem planned.plan) }
+    // What is spelled so is read, unless a device or memory prevents it.
+    ensures only { (planned : Planned) →
+        IsDuePlan (M.remaining map.old) (S.remaining scen.old) (P.remaining plan.old) k planned.problem planned.plan →
+        (result ≡ Ok planned) ⊎ IsErrAnd result IsOfInput }
+    // A fault stands where it says.
+    ensures fault { IfErr result (IsPlanning (M.remaining map.old) (S.remaining scen.old) (P.remaining plan.old) k) }
+    ensures inner { IfErr result HasNoInnerMemory }
+    // A source's fault is told where it has failed or gave too much, and wherever it has failed.
+    ensures map { IsErrOf result (Fault.F4 Input.Map) →
+        IsUnreadable (M.has_failed map.new) (M.remaining map.old) (M.remaining map.new) most_text_bytes }
+    ensures map_failed { M.has_failed map.new ≡ true → IsErrOf result (Fault.F4 Input.Map) }
+    ensures scen { IsErrOf result (Fault.F4 Input.Scen) →
+        IsUnreadable (S.has_failed scen.new) (S.remaining scen.old) (S.remaining scen.new) most_text_bytes }
+    ensures scen_failed { S.has_failed scen.new ≡ true → IsErrOf result (Fault.F4 Input.Scen) }
+    ensures plan { IsErrOf result (Fault.F4 Input.Plan) →
+        IsUnreadable (P.has_failed plan.new) (P.remaining plan.old) (P.remaining plan.new) most_text_bytes }
+    ensures plan_failed { P.has_failed plan.new ≡ true → IsErrOf result (Fault.F4 Input.Plan) }
+    // All three are read whole, and none has more bytes than the limit.
+    ensures whole { OnOk result (HasReadPlan (M.has_failed map.new) (M.remaining map.old) (M.remaining map.new)
+        (S.has_failed scen.new) (S.remaining scen.old) (S.remaining scen.new)
+        (P.has_failed plan.new) (P.remaining plan.old) (P.remaining plan.new) k) }
+    // Each input is pulled only after those before it were read whole and spelled what they must.
+    ensures scen_unpulled { IfErr result (λ fault. IsOfMap fault → scen.new ≡ scen.old) }
+    ensures scen_order { (HasReadGrid (M.has_failed map.new) (M.remaining map.old) (M.remaining map.new) → ⊥) →
+        scen.new ≡ scen.old }
+    ensures plan_unpulled { IfErr result (λ fault. IsOfProblem fault → plan.new ≡ plan.old) }
+    ensures plan_order { (HasReadProblem (M.has_failed map.new) (M.remaining map.old) (M.remaining map.new)
+        (S.has_failed scen.new) (S.remaining scen.old) (S.remaining scen.new) k → ⊥) → plan.new ≡ plan.old }
+{
+    let problem = read_problem(alloc, map, scen, k)?;
+    let text = read_text(alloc, plan, Input::Plan)?;
+    let paths = valid_plan(alloc, &problem, text.as_slice())?;
+    Ok(Planned {
+        problem,
+        plan: paths,
+    })
+}

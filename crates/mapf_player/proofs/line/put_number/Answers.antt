@@ -1,0 +1,11 @@
+use Rattle.std.specs.Fmt.{decimal}
+use Rattle.mapf_player.proofs.Prefixes.{passes_then, fails, prefix_held}
+use Rattle.mapf_player.proofs.line.put_number.Goals as goal
+
+pub returns-in_err-put-clause-text : goal.returns-in_err-put-clause-text
+returns-in_err-put-clause-text g c = fails _ _ _ _ _ _ _ c.from_residual.ensures.1 (prefix_held _ _ _ c.args.word.now (decimal c.args.number) c.in_err-put.ensures.text)
+
+pub returns-clause-text : goal.returns-clause-text
+returns-clause-text g c =
+    let digits = rw (c.as_bytes.ensures.value, c.format.ensures.text) at c.put-2.ensures.text in
+    passes_then _ _ _ _ _ _ _ c.args.word.now (decimal c.args.number) c.in_ok-put.ensures.text digits

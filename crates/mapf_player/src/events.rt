@@ -1,0 +1,89 @@
+ghost use Rattle.std.specs.Prelude.{◌≡◌, ◌<◌, ◌++◌, ℕ, List, All, IfOk, IsOk, IsOkAnd, Ok, false};
+ghost use Rattle.std.specs.Fmt.{decimal};
+ghost use Rattle.mapf_fields.specs.Ends.{IsCut, lacks_end};
+ghost use Rattle.mapf_player.specs.Events.{OrMemory, SpellsEvents, event_lines};
+
+use mapf_fields::{below, cut, whole};
+use std::alloc::Global;
+
+/// Why a text of events can't be read. Lines are counted from 1.
+#[derive(Clone, Copy, Debug, PartialEq, Eq)]
+pub enum EventFault {
+    /// The line isn't the one that is due.
+    E1(u64),
+    /// The text ends where this line should begin, or inside it.
+    E2(u64),
+    /// The agent of this line isn't one of the problem's.
+    E3(u64),
+    /// Something follows the last line, from this line on.
+    E4(u64),
+    /// A request for memory was refused.
+    Memory,
+}
+
+// Takes the line that is due.
+fn line_at(number: u64, bytes: &[u8]) -> Result<(&[u8], &[u8]), EventFault>
+    ensures found { IfOk result (λ p. IsCut bytes.entry.now p.0.now p.1.now) }
+    ensures only { lacks_end bytes.entry.now ≡ false → IsOk result }
+{
+    match cut(bytes) {
+        Some(parts) => Ok(parts),
+        None => Err(EventFault::E2(number)),
+    }
+}
+
+// The agent of a line.
+fn agent_of(number: u64, line: &[u8], agents: u32) -> Result<u32, EventFault>
+    ensures found { IfOk result (λ agent. (line.now ≡ decimal agent) × (agent < agents)) }
+    ensures only { (agent : ℕ) → agent < agents → line.now ≡ decimal agent → result ≡ Ok agent }
+{
+    let Ok(agent) = whole(line) else {
+        return Err(EventFault::E1(number));
+    };
+    match below(agents, agent) {
+        Ok(agent) => Ok(agent),
+        Err(_) => Err(EventFault::E3(number)),
+    }
+}
+
+// The agents of the lines up to `end`, the number of the line after it, and what follows.
+fn agents_of(alloc: Global, bytes: &[u8], agents: u32) -> Result<(Vec<u32>, u64, &[u8]), EventFault>
+    ensures found { IfOk result (λ p. All (λ agent. agent < agents) p.0.items
+        × (bytes.entry.now ≡ event_lines p.0.items ++ p.2.now)) }
+    ensures only { (events rest : List ℕ) → All (λ agent. agent < agents) events
+        → bytes.entry.now ≡ event_lines events ++ rest
+        → OrMemory result (IsOkAnd result (λ p. (p.0.items ≡ events) × (p.2.now ≡ rest))) }
+{
+    let mut events = Vec::new(alloc);
+    let mut number = 2u64;
+    let mut rest = bytes;
+    loop {
+        let (line, after) = line_at(number, rest)?;
+        rest = after;
+        if line == b"end".as_slice() {
+            return Ok((events, number + 1, rest));
+        }
+        if events.push(agent_of(number, line, agents)?).is_err() {
+            return Err(EventFault::Memory);
+        }
+        number += 1;
+    }
+}
+
+/// The agents that ask to go on, one after another, as a text of events of so many agents spells them.
+pub fn read_events(alloc: Global, bytes: &[u8], agents: u32) -> Result<Vec<u32>, EventFault>
+    ensures found { IfOk result (λ events. SpellsEvents bytes.now agents events.items) }
+    ensures only { (events : List ℕ) → SpellsEvents bytes.now agents events
+        → OrMemory result (IsOkAnd result (λ read. read.items ≡ events)) }
+{
+    let (title, rest) = line_at(1, bytes)?;
+    if title != b"mapf-events 1".as_slice() {
+        return Err(EventFault::E1(1));
+    }
+    let (events, number, rest) = agents_of(alloc, rest, agents)?;
+    if rest.is_empty() {
+        Ok(events)
+    } else {
+        Err(EventFault::E4(number))
+    }
+}

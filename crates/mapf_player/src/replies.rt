@@ -1,0 +1,93 @@
+ghost use Rattle.std.specs.Prelude.{◌≡◌, ◌<◌, ◌≤◌, ℕ, List, All, OnOk, OnErr, false, length, take};
+ghost use Rattle.std.specs.Result.{is_err};
+ghost use Rattle.std.specs.Io.KnownBytes.{Appends};
+ghost use Rattle.mapf_player.specs.Dispatching.{AreReplies, Progress};
+ghost use Rattle.mapf_player.specs.Pages.{PassesOrFails};
+ghost use Rattle.mapf_player.specs.Replies.{reply_line, reply_text};
+ghost use Rattle.mapf_player.specs.declared.reply.Reply.{Reply};
+
+use crate::dispatch::Dispatch;
+use crate::line::{put_line, put_number};
+use crate::page::Page;
+use crate::reply::Reply;
+use mapf_model::{Failed, Grid, Sink};
+
+// Writes what an agent is told.
+fn put_reply<K: Sink>(
+    page: &mut Page,
+    sink: &mut K,
+    grid: &Grid,
+    agent: u32,
+    reply: Reply,
+) -> Result<(), Failed>
+    requires { K.has_failed sink.old ≡ false }
+    ensures text { PassesOrFails (K.contents sink.old) (K.contents sink.new) page.old page.new
+        (reply_line grid.now.width agent reply) result }
+    ensures failed { K.has_failed sink.new ≡ is_err result }
+{
+    match reply {
+        Reply::Go(cell) => {
+            put_number(page, sink, b"go ", agent)?;
+            put_number(page, sink, b" ", cell.0 % grid.width())?;
+            put_line(page, sink, b",", cell.0 / grid.width())
+        }
+        Reply::Hold { other } => {
+            put_number(page, sink, b"hold ", agent)?;
+            put_line(page, sink, b" by ", other)
+        }
+        Reply::Done => put_line(page, sink, b"done ", agent),
+    }
+}
+
+// Writes what each of the agents is told that ask one after another.
+fn put_replies<K: Sink>(
+    page: &mut Page,
+    sink: &mut K,
+    dispatch: &mut Dispatch,
+    grid: &Grid,
+    agents: &[u32],
+) -> Result<(), Failed>
+    requires works { K.has_failed sink.old ≡ false }
+    requires agents { All (λ agent. agent < length dispatch.old.numbers) agents.now }
+    ensures text { (replies : List Reply) × (after : Progress)
+        × AreReplies dispatch.old agents.now replies after
+        × PassesOrFails (K.contents sink.old) (K.contents sink.new) page.old page.new
+        (reply_text grid.now.width agents.now replies) result
+        × OnOk result (dispatch.new ≡ after) }
+    ensures agents { length dispatch.new.numbers ≡ length dispatch.old.numbers }
+    ensures failed { K.has_failed sink.new ≡ is_err result }
+{
+    for agent in agents {
+        let reply = dispatch.ask(*agent);
+        put_reply(page, sink, grid, *agent, reply)?;
+    }
+    Ok(())
+}
+
+/// Lets agents ask one after another, each of them as often as it stands in the list, and writes what they
+/// are told, a line each: `go I x,y`, `hold I by J` or `done I`, where I and J are agents and x,y is the
+/// cell by its column and row. It takes no memory. `Failed` is answered only where the sink failed, and then
+/// it got a prefix of that text, and nothing is said of where the agents are then.
+pub fn dispatch_all<K: Sink>(
+    dispatch: &mut Dispatch,
+    grid: &Grid,
+    agents: &[u32],
+    sink: &mut K,
+) -> Result<(), Failed>
+    requires works { K.has_failed sink.old ≡ false }
+    requires agents { All (λ agent. agent < length dispatch.old.numbers) agents.now }
+    ensures text { OnOk result ((replies : List Reply)
+        × AreReplies dispatch.old agents.now replies dispatch.new
+        × Appends (K.contents sink.old) (K.contents sink.new) (reply_text grid.now.width agents.now replies)) }
+    ensures agents { length dispatch.new.numbers ≡ length dispatch.old.numbers }
+    ensures failed { K.has_failed sink.new ≡ is_err result }
+    ensures front { OnErr result ((replies : List Reply) × (after : Progress)
+        × AreReplies dispatch.old agents.now replies after × (n : ℕ)
+        × (n ≤ length (reply_text grid.now.width agents.now replies))
+        × Appends (K.contents sink.old) (K.contents sink.new)
+        (take n (reply_text grid.now.width agents.now replies))) }
+{
+    let mut page = Page::empty();
+    put_replies(&mut page, sink, dispatch, grid, agents)?;
+    page.flush(sink)
+}
