@@ -1,10 +1,11 @@
 -- What a run that solves a problem prints.
 use Rattle.std.specs.Prelude.{ℕ, List, length}
 use Rattle.mapf_app.specs.declared.kind.Kind.{Kind}
+use Rattle.mapf_app.specs.declared.solved.Solved.{Solved}
 use Rattle.mapf_app.specs.declared.kind.Kind.TheVariants.{Found, Impossible, Limit}
 use Rattle.mapf_cbs.specs.Answer.{IsTreeOf, IsShownBound, MayStop}
-use Rattle.mapf_certificate.specs.Certificates.{SpellsCert}
-use Rattle.mapf_certificate.specs.Plans.{SpellsPlan}
+use Rattle.mapf_certificate.specs.Certificates.{SpellsCert, cert_text}
+use Rattle.mapf_certificate.specs.Plans.{SpellsPlan, plan_text}
 use Rattle.mapf_certificate.specs.declared.version.Version.TheVariants.{Two}
 use Rattle.mapf_certificate.specs.declared.plan_text.PlanAnswer.TheVariants as answers
 use Rattle.mapf_checker.specs.Verdict.{AreAccepted}
@@ -13,15 +14,14 @@ use Rattle.mapf_checker.specs.declared.fault.Verdict.TheVariants as verdicts
 use Rattle.mapf_model.specs.declared.cause.Cause.{Cause}
 use Rattle.mapf_model.specs.declared.item.Claim.{Claim}
 use Rattle.mapf_model.specs.declared.item.Claim.TheVariants as claims
-use Rattle.mapf_model.specs.declared.item.Item.{Item}
 use Rattle.mapf_model.specs.Plan.{Instance, IsOptimal, IsImpossible}
-use Rattle.mapf_model.specs.Tree.{ConstraintTree}
+use Rattle.mapf_model.specs.Tree.{ConstraintTree, Node}
 
 -- the bytes spell a certificate of version 2 of the claim, with a tree of at most so many splits that the search earned
 pub record SpellsTree (problem : Instance) (limit : ℕ) (claim : Claim) (cert_bytes : List ℕ) : Type 0 where
-  pub items : List Item
+  pub nodes : List Node
   pub tree : ConstraintTree
-  pub searched : IsTreeOf problem limit items tree
+  pub searched : IsTreeOf problem limit nodes tree
   pub spelled : SpellsCert problem.grid cert_bytes Two (length problem.agents) claim tree
 
 -- the first text spells a plan that is valid with this sum, no valid plan has a smaller sum, both texts are accepted, and the
@@ -54,3 +54,15 @@ abbrev pub Prints : Instance → ℕ → Kind → List ℕ → List ℕ → Type
 Prints problem limit (Found cost) plan cert = PrintsOptimal problem limit cost plan cert
 Prints problem limit Impossible plan cert = PrintsImpossible problem limit plan cert
 Prints problem limit (Limit cause bound) plan cert = PrintsLimit problem limit cause bound plan cert
+
+-- the bytes of the plan text
+abbrev pub plan_bytes : Instance → Solved → List ℕ
+plan_bytes problem solved = plan_text problem.grid.width solved.text
+
+-- the bytes of the certificate
+abbrev pub cert_bytes : Instance → Solved → List ℕ
+cert_bytes problem solved = cert_text Two problem.grid.width (length problem.agents) solved.claim solved.tree.items
+
+-- what these two texts are
+abbrev pub IsSolved : Instance → ℕ → Solved → Type 0
+IsSolved problem limit solved = Prints problem limit solved.kind (plan_bytes problem solved) (cert_bytes problem solved)

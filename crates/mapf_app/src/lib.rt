@@ -12,8 +12,9 @@ mod line;
 mod planned;
 mod play;
 mod solve;
+mod solved;
 mod tell;
-mod texts;
+mod write_tree;
 
 pub use check::run_check;
 pub use demo::run_demo;

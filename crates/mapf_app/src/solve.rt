@@ -13,13 +13,15 @@ ghost use Rattle.mapf_model.specs.Plan.{Instance};
 use crate::fault::{Fault, Input, Output};
 use crate::input::read_problem;
 use crate::kind::Kind;
-use crate::texts::texts_of;
-use mapf_model::{Sink, Source, write_all};
+use crate::solved::solve_problem;
+use crate::write_tree::write_tree;
+use mapf_certificate::TextWriter;
+use mapf_model::{Sink, Source};
 use std::alloc::Global;
 
 /// Reads a map and then a scenario, solves the problem of its first `k` agents with at most `limit`
-/// splits, and writes the plan text and then the certificate, both in version 2. Before both texts are
-/// made nothing is written.
+/// splits, and writes the plan text and then the certificate, both in version 2. Before all the memory
+/// that this takes is there, nothing is written.
 pub fn run_solve<M: Source, S: Source, P: Sink, C: Sink>(
     alloc: Global,
     map: &mut M,
@@ -85,14 +87,16 @@ pub fn run_solve<M: Source, S: Source, P: Sink, C: Sink>(
         (plan_sink.new ≡ plan_sink.old) × (cert_sink.new ≡ cert_sink.old)) }
 {
     let problem = read_problem(alloc, map, scen, k)?;
-    let Ok(texts) = texts_of(alloc, &problem, limit) else {
+    let Ok(solved) = solve_problem(alloc, &problem, limit) else {
         return Err(Fault::F6);
     };
-    if write_all(plan_sink, texts.plan.as_slice()).is_err() {
+    let agents = problem.agents().len() as u32;
+    let mut writer = TextWriter::of(problem.grid());
+    if writer.plan(plan_sink, &solved.text).is_err() {
         return Err(Fault::F5(Output::Plan));
     }
-    if write_all(cert_sink, texts.cert.as_slice()).is_err() {
+    if write_tree(&mut writer, cert_sink, agents, solved.claim, &solved.tree).is_err() {
         return Err(Fault::F5(Output::Cert));
     }
-    Ok(texts.kind)
+    Ok(solved.kind)
 }

@@ -18,3 +18,4 @@ pub mod Readings
 pub mod Headers
 pub mod CertTexts
 pub mod Collecting
+pub mod PlanWriting

@@ -18,6 +18,10 @@ use Rattle.mapf_certificate.specs.declared.sizes.Sizes.{Sizes}
 use Rattle.mapf_certificate.specs.declared.tree_line.Due.{Due}
 use Rattle.mapf_certificate.specs.declared.tree_line.Due.TheVariants as dues
 
+-- how many bytes a line takes at most with its LF: a word, and eight fields
+abbrev pub line_room : ℕ
+line_room = 189
+
 -- a blank and the label
 abbrev pub label_words : Label → List ℕ
 label_words (labels.Ticks ticks) = field 32 ticks

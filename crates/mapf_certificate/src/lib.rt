@@ -11,11 +11,13 @@ pub mod laws;
 mod line;
 mod line_writer;
 mod lines;
+mod memory_sink;
 mod plan_lines;
 mod plan_reader;
 mod plan_text;
 mod plan_writer;
 mod sizes;
+mod text_writer;
 mod tree_line;
 mod version;
 
@@ -24,9 +26,11 @@ pub use cert_converter::convert_cert;
 pub use cert_lines::CertLines;
 pub use cert_reader::read_cert;
 pub use cert_writer::write_cert;
+pub use line::CertLine;
 pub use plan_reader::read_plan;
 pub use plan_text::{PlanAnswer, PlanText, PlanTextFault};
 pub use plan_writer::write_plan;
+pub use text_writer::TextWriter;
 pub use version::Version;
 
 #[cfg(test)]

@@ -4,3 +4,6 @@ pub mod Digits
 pub mod Fields
 pub mod Cuts
 pub mod Plain
+pub mod Prefixes
+pub mod ListPieces
+pub mod Spelled

@@ -1,8 +1,8 @@
 -- Texts of pieces, one for each number from 0 on.
 use Rattle.std.proofs.Common.{◌≡◌, ℕ, zero, suc, ◌+◌, ◌-◌, ◌<◌, List, ◌++◌, Option, append_assoc, append-nil, sym, ap, ◌∙◌, subst, arith}
 use Rattle.std.specs.List.{range_with_len, flat_map}
-use Rattle.mapf_player.specs.Pages.{Passes, WritesPrefix}
-use Rattle.mapf_player.proofs.Prefixes.{passes_trans, prefix_after, prefix_held}
+use Rattle.mapf_fields.specs.Pages.{Passes, WritesPrefix}
+use Rattle.mapf_fields.proofs.Prefixes.{passes_trans, prefix_after, prefix_held}
 
 split : (f : ℕ → List ℕ) (a k m : ℕ) → flat_map f (range_with_len a (k + suc m)) ≡ flat_map f (range_with_len a k) ++ (f (a + k) ++ flat_map f (range_with_len (a + k + 1) m))
 split f a zero m =

@@ -11,11 +11,11 @@ use Rattle.mapf_player.specs.declared.reply.Reply.TheVariants.{Go, Hold, Done}
 use Rattle.mapf_player.specs.Dispatching.{Progress, IsProgress, IsInOrder, IsNext, IsAwaited, IsReply, AreReplies, beginning}
 use Rattle.mapf_player.specs.DispatchLaws.{EveryAgentIsAnswered, ReplyTextsAreOne}
 use Rattle.mapf_player.specs.Visits.{AreVisitsOfAll}
-use Rattle.mapf_player.specs.Pages.{Passes, WritesPrefix}
+use Rattle.mapf_fields.specs.Pages.{Passes, WritesPrefix}
 use Rattle.mapf_player.specs.Replies.{reply_line, reply_text}
 use Rattle.mapf_player.proofs.DispatchLemmas.{kept_by_reply, replies_are_one, replies_join, with_number}
 use Rattle.mapf_player.proofs.DueLemmas.{next_none, of_valid_progress}
-use Rattle.mapf_player.proofs.Prefixes.{passes_trans, prefix_after, prefix_held}
+use Rattle.mapf_fields.proofs.Prefixes.{passes_trans, prefix_after, prefix_held}
 use Rattle.mapf_player.proofs.VisitLemmas.{visits_are_one}
 
 -- one of the visits from this number on is of the same cell and earlier

@@ -1,5 +1,4 @@
 pub mod Play
-pub mod Pages
 pub mod Visits
 pub mod Dispatching
 pub mod Turns

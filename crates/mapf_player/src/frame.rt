@@ -1,11 +1,11 @@
 ghost use Rattle.std.specs.Prelude.{◌≡◌, ◌<◌, ◌++◌, ◌∷◌, [], false, codes, length};
 ghost use Rattle.std.specs.Result.{is_err};
-ghost use Rattle.mapf_player.specs.Pages.{PassesOrFails};
+ghost use Rattle.mapf_fields.specs.Pages.{PassesOrFails};
 ghost use Rattle.mapf_player.specs.Play.{frame, row_line, rows};
 
 use crate::line::put_line;
-use crate::page::Page;
 use crate::row::draw_row;
+use mapf_fields::Page;
 use mapf_model::limits::GREATEST_SIDE;
 use mapf_model::{Failed, Grid, Path, Sink, Tick};
 

@@ -7,7 +7,6 @@ mod frame;
 pub mod laws;
 mod line;
 mod marks;
-mod page;
 mod player;
 mod replies;
 mod reply;

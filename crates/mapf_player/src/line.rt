@@ -1,11 +1,11 @@
 ghost use Rattle.std.specs.Prelude.{◌≡◌, ◌++◌, false};
 ghost use Rattle.std.specs.Result.{is_err};
 ghost use Rattle.std.specs.Fmt.{decimal};
-ghost use Rattle.mapf_player.specs.Pages.{PassesOrFails};
+ghost use Rattle.mapf_fields.specs.Pages.{PassesOrFails};
 ghost use Rattle.mapf_player.specs.Play.{line};
 
-use crate::page::Page;
 use itoa::Buffer;
+use mapf_fields::Page;
 use mapf_model::{Failed, Sink};
 
 /// Writes a word and a number.

@@ -3,12 +3,12 @@ ghost use Rattle.std.specs.List.{range_with_len};
 ghost use Rattle.std.specs.Result.{is_err};
 ghost use Rattle.std.specs.Io.KnownBytes.{Appends};
 ghost use Rattle.mapf_model.specs.Plan.{IsValid};
-ghost use Rattle.mapf_player.specs.Pages.{PassesOrFails, WritesOrFails};
+ghost use Rattle.mapf_fields.specs.Pages.{PassesOrFails, WritesOrFails};
 ghost use Rattle.mapf_player.specs.Play.{frame, line, play_text, IsMakespan, IsPlayText};
 
 use crate::frame::put_frame;
 use crate::line::put_line;
-use crate::page::Page;
+use mapf_fields::Page;
 use mapf_model::{Failed, Grid, Path, Plan, Problem, Sink, Tick};
 
 // The tick at which the last agent arrives for good.

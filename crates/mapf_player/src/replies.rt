@@ -2,14 +2,14 @@ ghost use Rattle.std.specs.Prelude.{◌≡◌, ◌<◌, ◌≤◌, ℕ, List, Al
 ghost use Rattle.std.specs.Result.{is_err};
 ghost use Rattle.std.specs.Io.KnownBytes.{Appends};
 ghost use Rattle.mapf_player.specs.Dispatching.{AreReplies, Progress};
-ghost use Rattle.mapf_player.specs.Pages.{PassesOrFails};
+ghost use Rattle.mapf_fields.specs.Pages.{PassesOrFails};
 ghost use Rattle.mapf_player.specs.Replies.{reply_line, reply_text};
 ghost use Rattle.mapf_player.specs.declared.reply.Reply.{Reply};
 
 use crate::dispatch::Dispatch;
 use crate::line::{put_line, put_number};
-use crate::page::Page;
 use crate::reply::Reply;
+use mapf_fields::Page;
 use mapf_model::{Failed, Grid, Sink};
 
 // Writes what an agent is told.

@@ -1,6 +1,6 @@
 use Rattle.std.proofs.Common.{codes}
 use Rattle.mapf_player.specs.Play.{frame, line, rows}
-use Rattle.mapf_player.proofs.Prefixes.{passes_then, fails, prefix_held}
+use Rattle.mapf_fields.proofs.Prefixes.{passes_then, fails, prefix_held}
 use Rattle.mapf_player.proofs.frame.put_frame.Goals as goal
 
 pub returns-in_err-put_line-clause-text : goal.returns-in_err-put_line-clause-text

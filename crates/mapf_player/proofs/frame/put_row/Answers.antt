@@ -1,6 +1,6 @@
 use Rattle.std.proofs.Common.{◌∷◌, []}
 use Rattle.mapf_player.specs.Play.{row_cells, row_line}
-use Rattle.mapf_player.proofs.Prefixes.{passes_then, fails, prefix_held}
+use Rattle.mapf_fields.proofs.Prefixes.{passes_then, fails, prefix_held}
 use Rattle.mapf_player.proofs.frame.put_row.Goals as goal
 
 pub returns-in_err-put-clause-text : goal.returns-in_err-put-clause-text

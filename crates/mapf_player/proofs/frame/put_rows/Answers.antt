@@ -1,6 +1,6 @@
 use Rattle.std.proofs.Common.{rules}
 use Rattle.mapf_player.specs.Play.{row_line}
-use Rattle.mapf_player.proofs.Prefixes.{fails}
+use Rattle.mapf_fields.proofs.Prefixes.{fails}
 use Rattle.mapf_player.proofs.Pieces.{pieces_more, pieces_prefix}
 use Rattle.mapf_player.proofs.frame.put_rows.Goals as goal
 

@@ -1,6 +1,6 @@
 use Rattle.std.proofs.Common.{◌≡◌, false}
 use Rattle.std.specs.List.{range_with_len, flat_map}
-use Rattle.mapf_player.specs.Pages.{Passes}
+use Rattle.mapf_fields.specs.Pages.{Passes}
 use Rattle.mapf_player.specs.Play.{row_line}
 use Rattle.mapf_player.proofs.frame.put_rows.Given as goal
 

@@ -1,6 +1,6 @@
 use Rattle.std.proofs.Common.{◌∷◌, []}
 use Rattle.std.specs.Fmt.{decimal}
-use Rattle.mapf_player.proofs.Prefixes.{digits_then, fails, prefix_digits}
+use Rattle.mapf_fields.proofs.Prefixes.{digits_then, fails, prefix_digits}
 use Rattle.mapf_player.proofs.line.put_line.Goals as goal
 
 pub returns-in_err-put_number-clause-text : goal.returns-in_err-put_number-clause-text

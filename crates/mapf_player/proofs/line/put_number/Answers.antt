@@ -1,5 +1,5 @@
 use Rattle.std.specs.Fmt.{decimal}
-use Rattle.mapf_player.proofs.Prefixes.{passes_then, fails, prefix_held}
+use Rattle.mapf_fields.proofs.Prefixes.{passes_then, fails, prefix_held}
 use Rattle.mapf_player.proofs.line.put_number.Goals as goal
 
 pub returns-in_err-put-clause-text : goal.returns-in_err-put-clause-text

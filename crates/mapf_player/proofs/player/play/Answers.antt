@@ -1,6 +1,6 @@
 use Rattle.std.proofs.Common.{refl}
 use Rattle.mapf_player.specs.Play.{play_text, IsPlayText}
-use Rattle.mapf_player.proofs.Prefixes.{to_some, to_take}
+use Rattle.mapf_fields.proofs.Prefixes.{to_some, to_take}
 use Rattle.mapf_player.proofs.player.play.Goals as goal
 
 pub returns-clause-text : goal.returns-clause-text

@@ -1,6 +1,6 @@
 use Rattle.std.proofs.Common.{◌≡◌, ◌+◌, arith, rules}
 use Rattle.mapf_player.specs.Play.{frame}
-use Rattle.mapf_player.proofs.Prefixes.{fails}
+use Rattle.mapf_fields.proofs.Prefixes.{fails}
 use Rattle.mapf_player.proofs.Pieces.{pieces_more, pieces_prefix}
 use Rattle.mapf_player.proofs.player.put_frames.Goals as goal
 

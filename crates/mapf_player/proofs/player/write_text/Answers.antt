@@ -1,7 +1,7 @@
 use Rattle.std.proofs.Common.{◌+◌, [], codes}
 use Rattle.std.specs.List.{range_with_len, flat_map}
 use Rattle.mapf_player.specs.Play.{frame, line}
-use Rattle.mapf_player.proofs.Prefixes.{passes_trans, prefix_held, prefix_after, write_fails, finish}
+use Rattle.mapf_fields.proofs.Prefixes.{passes_trans, prefix_held, prefix_after, write_fails, finish}
 use Rattle.mapf_player.proofs.player.write_text.Goals as goal
 
 pub returns-in_err-put_frames-clause-text : goal.returns-in_err-put_frames-clause-text

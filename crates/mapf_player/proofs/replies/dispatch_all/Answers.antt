@@ -1,7 +1,7 @@
 use Rattle.std.proofs.Common.{subst, sym}
 use Rattle.mapf_player.specs.Dispatching.{AreReplies}
 use Rattle.mapf_player.specs.Replies.{reply_text}
-use Rattle.mapf_player.proofs.Prefixes.{write_fails, finish, to_err, to_ok}
+use Rattle.mapf_fields.proofs.Prefixes.{write_fails, finish, to_err, to_ok}
 use Rattle.mapf_player.proofs.replies.dispatch_all.Goals as goal
 
 pub returns-in_err-put_replies-clause-front : goal.returns-in_err-put_replies-clause-front

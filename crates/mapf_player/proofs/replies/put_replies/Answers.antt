@@ -1,7 +1,7 @@
 use Rattle.std.proofs.Common.{◌<◌, ◌++◌, ◌∷◌, [], All, get_or, refl, sym, subst, ◌∙◌, arith, rules}
 use Rattle.std.proofs.lemmas.List.{take_all}
 use Rattle.mapf_player.proofs.DueLemmas.{of_valid_progress}
-use Rattle.mapf_player.proofs.Prefixes.{fails, no_end}
+use Rattle.mapf_fields.proofs.Prefixes.{fails, no_end}
 use Rattle.mapf_player.proofs.ReplyLemmas.{replied_more, lines_more, lines_fail, numbers_kept}
 use Rattle.mapf_player.proofs.replies.put_replies.Goals as goal
 

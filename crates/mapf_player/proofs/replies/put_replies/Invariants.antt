@@ -1,7 +1,7 @@
 use Rattle.std.proofs.Common.{◌≡◌, List, false, length, take}
 use Rattle.mapf_player.specs.declared.reply.Reply.{Reply}
 use Rattle.mapf_player.specs.Dispatching.{AreReplies}
-use Rattle.mapf_player.specs.Pages.{Passes}
+use Rattle.mapf_fields.specs.Pages.{Passes}
 use Rattle.mapf_player.specs.Replies.{reply_text}
 use Rattle.mapf_player.proofs.replies.put_replies.Given as goal
 

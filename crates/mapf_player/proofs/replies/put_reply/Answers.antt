@@ -1,7 +1,7 @@
 use Rattle.std.proofs.Common.{◌++◌, ◌%◌, ◌/◌, codes}
 use Rattle.std.specs.Fmt.{decimal}
 use Rattle.mapf_player.specs.Play.{line}
-use Rattle.mapf_player.proofs.Prefixes.{digits_then, fails, prefix_digits}
+use Rattle.mapf_fields.proofs.Prefixes.{digits_then, fails, prefix_digits}
 use Rattle.mapf_player.proofs.replies.put_reply.Goals as goal
 
 pub returns-in_err-put_number-in-Go-clause-text : goal.returns-in_err-put_number-in-Go-clause-text

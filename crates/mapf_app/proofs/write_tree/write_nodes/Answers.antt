@@ -1,0 +1,19 @@
+use Rattle.std.proofs.Common.{rules, ap}
+use Rattle.mapf_fields.proofs.Prefixes.{fails}
+use Rattle.mapf_fields.proofs.ListPieces.{list_more, list_prefix}
+use Rattle.mapf_certificate.specs.declared.version.Version.TheVariants.{Two}
+use Rattle.mapf_certificate.specs.Certificates.{node_text}
+use Rattle.mapf_app.proofs.write_tree.write_nodes.Goals as goal
+
+pub returns-in_err-write_node-clause-text : goal.returns-in_err-write_node-clause-text
+returns-in_err-write_node-clause-text g c =
+    fails _ _ _ _ _ _ _ c.from_residual.ensures.1 (list_prefix (node_text Two c.args.writer.now.width) c.args.tree.now c.loop-node.node-index c.node-item.result c.loop-node-test.true c.node-item.is
+    _ _ _ _ _ _ (ap (λ w. node_text Two w c.node-item.result) c.loop-node.invariant.width) c.loop-node.invariant.text c.in_err-write_node.ensures.text)
+
+pub loop-node-preserved : goal.loop-node-preserved
+loop-node-preserved g c = record {
+  works = search rules;
+  width = search rules;
+  text = list_more (node_text Two c.args.writer.now.width) c.args.tree.now c.loop-node.node-index c.node-item.result c.loop-node-test.true c.node-item.is
+      _ _ _ _ _ _ _ (ap (λ w. node_text Two w c.node-item.result) c.loop-node.invariant.width) c.loop-node.invariant.text c.in_ok-write_node.ensures.text;
+}

@@ -1,0 +1,13 @@
+use Rattle.std.proofs.Common.{◌≡◌, false, take}
+use Rattle.mapf_fields.specs.Pages.{Passes}
+use Rattle.mapf_certificate.specs.Certificates.{entries_text}
+use Rattle.mapf_certificate.proofs.text_writer.TextWriter.entries.Given as goal
+
+abbrev pub invariant-loop-entry : goal.invariant-loop-entry
+invariant-loop-entry g l =
+    let sink = g.K.Sink in
+    record {
+      works : sink.has_failed l.sink ≡ false;
+      width : l.self.width ≡ l.fn.self.width;
+      text : Passes (sink.contents l.fn.sink) (sink.contents l.sink) l.fn.self.page l.self.page (entries_text l.fn.self.width (take l.entry-index l.entries));
+    }

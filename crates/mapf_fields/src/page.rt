@@ -1,0 +1,150 @@
+ghost use Rattle.std.specs.Prelude.{◌≡◌, ◌+◌, ◌<◌, ◌≤◌, ◌↔◌, ◌++◌, ◌∷◌, [], List, ℕ, false, IsTrue, OnOk, length};
+ghost use Rattle.std.specs.Result.{is_err};
+ghost use Rattle.mapf_fields.specs.Numbers.{field};
+ghost use Rattle.mapf_fields.specs.Pages.{PassesOrFails, WritesOrFails, page_room, field_room};
+
+use itoa::Buffer;
+use mapf_model::{Failed, Sink, write_all};
+use std::marker::Model;
+
+/// How many bytes are gathered at most: thousands of lines go out by one push, and a stack has room for them.
+const ROOM: usize = 65_536;
+
+/// Bytes that wait to be pushed together. It takes no memory but its own.
+#[derive(Drop)]
+pub struct Page {
+    bytes: [u8; ROOM],
+    used: usize,
+}
+
+impl Model for Page {
+    ghost use Rattle.std.specs.Prelude.{List, ℕ, ◌≤◌, take};
+    ghost use Rattle.mapf_fields.specs.Pages.{page_room};
+
+    ghost Value = { List ℕ };
+
+    ghost view = { λ p. take p.used p.bytes };
+
+    ghost invariant = { λ p. p.used ≤ page_room };
+}
+
+impl Page {
+    pub fn empty() -> Page
+        ensures { result ≡ [] }
+    {
+        Page {
+            bytes: [0; ROOM],
+            used: 0,
+        }
+    }
+
+    fn has_room(&self, count: usize) -> bool
+        ensures { IsTrue result ↔ (length self.now + count ≤ page_room) }
+    {
+        count <= ROOM - self.used
+    }
+
+    /// Adds bytes, for which there is room.
+    #[inline]
+    pub fn push_bytes(&mut self, bytes: &[u8])
+        requires { length self.old + length bytes.now ≤ page_room }
+        ensures { self.new ≡ self.old ++ bytes.now }
+    {
+        let end = self.used + bytes.len();
+        self.bytes[self.used..end].copy_from_slice(bytes);
+        self.used = end;
+    }
+
+    /// Adds a byte, for which there is room.
+    #[inline]
+    pub fn push_byte(&mut self, byte: u8)
+        requires { length self.old < page_room }
+        ensures { self.new ≡ self.old ++ (byte ∷ []) }
+    {
+        self.push_bytes(&[byte]);
+    }
+
+    /// Adds a number after its mark.
+    #[inline]
+    pub fn push_field(&mut self, mark: u8, number: u64)
+        requires { length self.old + field_room ≤ page_room }
+        ensures text { self.new ≡ self.old ++ field mark number }
+        ensures short { length self.new ≤ length self.old + field_room }
+    {
+        if number < 10 {
+            self.push_bytes(&[mark, b'0' + number as u8]);
+        } else if number < 100 {
+            self.push_bytes(&[mark, b'0' + (number / 10) as u8, b'0' + (number % 10) as u8]);
+        } else if number < 1000 {
+            let tens = number / 10;
+            self.push_bytes(&[
+                mark,
+                b'0' + (tens / 10) as u8,
+                b'0' + (tens % 10) as u8,
+                b'0' + (number % 10) as u8,
+            ]);
+        } else {
+            let mut buffer = Buffer::new();
+            self.push_byte(mark);
+            self.push_bytes(buffer.format(number).as_bytes());
+        }
+    }
+
+    fn clear(&mut self)
+        ensures { self.new ≡ [] }
+    {
+        self.used = 0;
+    }
+
+    fn as_slice(&self) -> &[u8]
+        ensures { result.now ≡ self.now }
+    {
+        &self.bytes[..self.used]
+    }
+
+    /// Pushes what is held, and holds nothing then, also where the sink failed.
+    #[tactic(auto, using(crate::proofs::Prefixes::written))]
+    pub fn flush<K: Sink>(&mut self, sink: &mut K) -> Result<(), Failed>
+        requires { K.has_failed sink.old ≡ false }
+        ensures text { WritesOrFails (K.contents sink.old) (K.contents sink.new) self.old result }
+        ensures empty { self.new ≡ [] }
+        ensures failed { K.has_failed sink.new ≡ is_err result }
+    {
+        let pushed = write_all(sink, self.as_slice());
+        self.clear();
+        pushed
+    }
+
+    /// Makes room for so many bytes: pushes what is held where they don't fit.
+    #[inline]
+    pub fn reserve<K: Sink>(&mut self, sink: &mut K, count: usize) -> Result<(), Failed>
+        requires works { K.has_failed sink.old ≡ false }
+        requires fits { count ≤ page_room }
+        ensures text { PassesOrFails (K.contents sink.old) (K.contents sink.new) self.old self.new [] result }
+        ensures room { OnOk result (length self.new + count ≤ page_room) }
+        ensures failed { K.has_failed sink.new ≡ is_err result }
+    {
+        if self.has_room(count) {
+            return Ok(());
+        }
+        self.flush(sink)
+    }
+
+    /// Adds bytes to those that are held, and pushes where they don't fit.
+    pub fn put<K: Sink>(&mut self, sink: &mut K, bytes: &[u8]) -> Result<(), Failed>
+        requires { K.has_failed sink.old ≡ false }
+        ensures text { PassesOrFails (K.contents sink.old) (K.contents sink.new) self.old self.new bytes.now result }
+        ensures failed { K.has_failed sink.new ≡ is_err result }
+    {
+        if self.has_room(bytes.len()) {
+            self.push_bytes(bytes);
+            return Ok(());
+        }
+        self.flush(sink)?;
+        if self.has_room(bytes.len()) {
+            self.push_bytes(bytes);
+            return Ok(());
+        }
+        write_all(sink, bytes)
+    }
+}
