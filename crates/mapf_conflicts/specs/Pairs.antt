@@ -1,5 +1,6 @@
 -- Conflicts of agents, by the lists of their cells at one tick and at the next.
 use Rattle.std.specs.Prelude.{◌≡◌, ◌≢◌, ◌⊎◌, ℕ, ◌<◌, List, length, map, slice_index}
+use Rattle.std.specs.Borrow.{Bor}
 use Rattle.mapf_model.specs.declared.conflict.Conflict.{Conflict}
 use Rattle.mapf_model.specs.declared.conflict.Conflict.TheVariants.{Vertex, Swap}
 use Rattle.mapf_model.specs.Earned.{tick_of, HasConflict}
@@ -9,6 +10,14 @@ use Rattle.mapf_model.specs.Path.{at}
 -- the agents' cells at the tick
 abbrev pub cells_at : List (List ℕ) → ℕ → List ℕ
 cells_at paths tick = map (λ path. at path tick) paths
+
+-- the values behind references to paths
+abbrev pub paths_behind : List (Bor (List ℕ)) → List (List ℕ)
+paths_behind paths = map (λ path. path.now) paths
+
+-- each agent is marked at its own cell
+abbrev pub ArePlaced : List ℕ → List ℕ → Type 0
+ArePlaced marks here = (i : ℕ) → i < length here → slice_index marks (slice_index here i) ≡ i
 
 -- the agents at two places are in one cell
 abbrev pub ShareCell : List ℕ → ℕ → ℕ → Type 0

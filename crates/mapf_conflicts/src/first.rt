@@ -1,10 +1,11 @@
-ghost use Rattle.std.specs.Prelude.{◌≡◌, ◌≤◌, length, take, All, IfNone, IfSome};
+ghost use Rattle.std.specs.Prelude.{◌≡◌, ◌≤◌, length, All, IfNone, IfSome};
 ghost use Rattle.mapf_model.specs.Earned.{tick_of, HasConflict, AreConflictFreeBefore, HaveSomeConflict};
 ghost use Rattle.mapf_model.specs.Limits.{most_agents, most_path_cells};
 ghost use Rattle.mapf_model.specs.Pairs.{HoldsOfNoPair};
-ghost use Rattle.mapf_conflicts.specs.Pairs.{cells_at, ShareCell, ExchangeCells};
+ghost use Rattle.mapf_conflicts.specs.Pairs.{cells_at, paths_behind, ShareCell, ExchangeCells};
 ghost use Rattle.mapf_conflicts.specs.Pairs.{IsConflictOf, IsFirstOf, IsFirstOfItsTick, IsOrdered};
 
+use crate::apart::are_apart;
 use crate::pairs::{exchanging_pair, may_conflict, sharing_pair};
 use mapf_model::limits::MOST_AGENTS;
 use mapf_model::{Cell, Conflict, Path, Plan, Tick};
@@ -20,21 +21,39 @@ pub fn first_conflict(plan: &Plan) -> Option<Conflict>
     ensures none { IfNone result (HaveSomeConflict plan.now → ⊥) }
 {
     let paths = plan.paths();
+    let mut behind = [&paths[0]; MOST_AGENTS as usize];
+    for (i, path) in paths.iter().enumerate() {
+        behind[i] = path;
+    }
+    first_among(&mut [], &behind[..paths.len()])
+}
+
+/// The same of paths that stand elsewhere, with marks of some cells, or of none.
+pub fn first_among(marks: &mut [u8], paths: &[&Path]) -> Option<Conflict>
+    requires { length paths.now ≤ most_agents }
+    ensures some { IfSome result (HasConflict (paths_behind paths.now)) }
+    ensures first { IfSome result (λ conflict. AreConflictFreeBefore (paths_behind paths.now) (tick_of conflict)) }
+    ensures ordered { IfSome result IsOrdered }
+    ensures least { IfSome result (IsFirstOfItsTick (paths_behind paths.now)) }
+    ensures none { IfNone result (HaveSomeConflict (paths_behind paths.now) → ⊥) }
+{
     let count = paths.len();
-    let mut here = cells_at(paths, 0);
+    let mut here = [Cell(0); MOST_AGENTS as usize];
+    let mut next = [Cell(0); MOST_AGENTS as usize];
+    write_cells(paths, 0, &mut here[..count]);
     for tick in 0..longest(paths) {
-        let next = cells_at(paths, tick + 1);
-        if let Some(conflict) = conflict_of(&here[..count], &next[..count], tick) {
+        write_cells(paths, tick + 1, &mut next[..count]);
+        if let Some(conflict) = conflict_of(marks, &here[..count], &next[..count], tick) {
             return Some(conflict);
         }
-        here = next;
+        here[..count].copy_from_slice(&next[..count]);
     }
     None
 }
 
 // The number of cells of the longest path.
-fn longest(paths: &[Path]) -> Tick
-    ensures longest { All (λ path. length path ≤ result) paths.now }
+fn longest(paths: &[&Path]) -> Tick
+    ensures longest { All (λ path. length path ≤ result) (paths_behind paths.now) }
     ensures positive { 1 ≤ result }
     ensures bounded { result ≤ most_path_cells }
 {
@@ -45,20 +64,18 @@ fn longest(paths: &[Path]) -> Tick
     longest as Tick
 }
 
-// The agents' cells at the tick, in front of cells that are no agent's.
-fn cells_at(paths: &[Path], tick: Tick) -> [Cell; MOST_AGENTS as usize]
-    requires { length paths.now ≤ most_agents }
-    ensures { take (length paths.now) result ≡ cells_at paths.now tick }
+// Writes the agents' cells at the tick.
+fn write_cells(paths: &[&Path], tick: Tick, cells: &mut [Cell])
+    requires { length cells.old ≡ length paths.now }
+    ensures { cells.new ≡ cells_at (paths_behind paths.now) tick }
 {
-    let mut cells = [Cell(0); MOST_AGENTS as usize];
     for (i, path) in paths.iter().enumerate() {
         cells[i] = path.at(tick);
     }
-    cells
 }
 
 // The first conflict of agents that are in these cells at the tick, and in those at the next.
-fn conflict_of(here: &[Cell], next: &[Cell], tick: Tick) -> Option<Conflict>
+fn conflict_of(marks: &mut [u8], here: &[Cell], next: &[Cell], tick: Tick) -> Option<Conflict>
     requires size { length next.now ≡ length here.now }
     requires few { length here.now ≤ most_agents }
     ensures some { IfSome result (IsConflictOf here.now next.now tick) }
@@ -66,7 +83,7 @@ fn conflict_of(here: &[Cell], next: &[Cell], tick: Tick) -> Option<Conflict>
     ensures share { IfNone result (HoldsOfNoPair (ShareCell here.now) (length here.now)) }
     ensures exchange { IfNone result (HoldsOfNoPair (ExchangeCells here.now next.now) (length here.now)) }
 {
-    if !may_conflict(here, next) {
+    if are_apart(marks, here, next) || !may_conflict(here, next) {
         return None;
     }
     if let Some((i, j)) = sharing_pair(here) {
@@ -90,6 +107,7 @@ fn conflict_of(here: &[Cell], next: &[Cell], tick: Tick) -> Option<Conflict>
 #[cfg(test)]
 mod tests {
     use super::*;
+    use crate::marks::{CellMarks, first_conflict_in};
     use std::alloc::Global;
     use std::test::Fail;
 
@@ -104,6 +122,25 @@ mod tests {
             all.push(Path::of(cells).ok_or("no path")?)?;
         }
         Ok(Plan::of(all).ok_or("no plan")?)
+    }
+
+    // The first conflict of the plan, which is the same whatever cells have marks, and whatever the
+    // marks hold from earlier.
+    fn found(alloc: Global, plan: &Plan) -> Result<Option<Conflict>, Fail> {
+        let conflict = first_conflict(plan);
+        let mut behind = Vec::new(alloc);
+        for path in plan.paths() {
+            behind.push(path)?;
+        }
+        for cells in [0, 3, 256] {
+            let mut marks = CellMarks::new(alloc, cells)?;
+            for _ in 0..2 {
+                if behind.len() > 200 || first_conflict_in(&mut marks, &behind) != conflict {
+                    return Err("another conflict with marks")?;
+                }
+            }
+        }
+        Ok(conflict)
     }
 
     fn vertex(i: u32, j: u32, cell: u32, tick: Tick) -> Option<Conflict> {
@@ -128,11 +165,11 @@ mod tests {
     #[test]
     fn takes_vertex_before_swap_then_least_agents(rt: HostRuntime) -> Result<(), Fail> {
         let both = plan(rt.alloc(), &[&[0, 1], &[1, 0], &[2], &[2], &[2]])?;
-        assert_eq!(rt; first_conflict(&both), vertex(2, 3, 2, 0));
+        assert_eq!(rt; found(rt.alloc(), &both)?, vertex(2, 3, 2, 0));
         let nested = plan(rt.alloc(), &[&[4], &[3], &[3], &[4]])?;
-        assert_eq!(rt; first_conflict(&nested), vertex(0, 3, 4, 0));
+        assert_eq!(rt; found(rt.alloc(), &nested)?, vertex(0, 3, 4, 0));
         let swaps = plan(rt.alloc(), &[&[0, 1], &[4, 5], &[5, 4], &[1, 0]])?;
-        assert_eq!(rt; first_conflict(&swaps), swap(0, 3, 0, 1, 0));
+        assert_eq!(rt; found(rt.alloc(), &swaps)?, swap(0, 3, 0, 1, 0));
         Ok(())
     }
 
@@ -142,23 +179,23 @@ mod tests {
             rt.alloc(),
             &[&[6, 7, 8], &[8, 8, 8], &[3, 0, 1], &[4, 1, 0]],
         )?;
-        assert_eq!(rt; first_conflict(&plan), swap(2, 3, 0, 1, 1));
+        assert_eq!(rt; found(rt.alloc(), &plan)?, swap(2, 3, 0, 1, 1));
         Ok(())
     }
 
     #[test]
     fn meets_an_agent_at_rest(rt: HostRuntime) -> Result<(), Fail> {
         let plan = plan(rt.alloc(), &[&[2], &[0, 1, 2]])?;
-        assert_eq!(rt; first_conflict(&plan), vertex(0, 1, 2, 2));
+        assert_eq!(rt; found(rt.alloc(), &plan)?, vertex(0, 1, 2, 2));
         Ok(())
     }
 
     #[test]
     fn lets_agents_follow_and_rotate(rt: HostRuntime) -> Result<(), Fail> {
         let follow = plan(rt.alloc(), &[&[0, 1, 2], &[1, 2, 3]])?;
-        assert_eq!(rt; first_conflict(&follow), None);
+        assert_eq!(rt; found(rt.alloc(), &follow)?, None);
         let rotate = plan(rt.alloc(), &[&[0, 1], &[1, 3], &[3, 2], &[2, 0]])?;
-        assert_eq!(rt; first_conflict(&rotate), None);
+        assert_eq!(rt; found(rt.alloc(), &rotate)?, None);
         Ok(())
     }
 
@@ -177,7 +214,7 @@ mod tests {
             } else {
                 None
             };
-            assert_eq!(rt; first_conflict(&plan), expected);
+            assert_eq!(rt; found(rt.alloc(), &plan)?, expected);
         }
         Ok(())
     }

@@ -1,0 +1,49 @@
+ghost use Rattle.std.specs.Prelude.{◌≡◌, ◌≤◌, ℕ, length, IfOk, IfNone, IfSome};
+ghost use Rattle.mapf_model.specs.Earned.{tick_of, HasConflict, AreConflictFreeBefore, HaveSomeConflict};
+ghost use Rattle.mapf_model.specs.Limits.{most_agents};
+ghost use Rattle.mapf_conflicts.specs.Pairs.{paths_behind, IsFirstOfItsTick, IsOrdered};
+
+use crate::first::first_among;
+use mapf_model::{Conflict, OutOfMemory, Path};
+use std::alloc::Global;
+use std::marker::Model;
+
+/// For each cell the agent that was marked there last. A mark is never taken away: an agent is in a
+/// cell where it is marked there and its own cell is this one. So one value serves every tick of every
+/// plan on a grid.
+#[derive(Debug, Drop)]
+pub struct CellMarks {
+    // A number of an agent fits a byte, as there are at most 200.
+    agents: Vec<u8>,
+}
+
+impl Model for CellMarks {
+    ghost Value = { ℕ };
+
+    ghost view = { λ marks. length marks.agents.items };
+}
+
+impl CellMarks {
+    /// Marks of the cells below this number.
+    pub fn new(alloc: Global, cells: usize) -> Result<CellMarks, OutOfMemory>
+        ensures { IfOk result (λ marks. marks ≡ cells) }
+    {
+        Ok(CellMarks {
+            agents: vec![in alloc; 0; cells]?,
+        })
+    }
+}
+
+/// The first conflict of these paths, in the order of `first_conflict`. A tick takes time linear in
+/// the number of agents where no two of them conflict and each cell has a mark.
+pub fn first_conflict_in(marks: &mut CellMarks, paths: &[&Path]) -> Option<Conflict>
+    requires { length paths.now ≤ most_agents }
+    ensures some { IfSome result (HasConflict (paths_behind paths.now)) }
+    ensures first { IfSome result (λ conflict. AreConflictFreeBefore (paths_behind paths.now) (tick_of conflict)) }
+    ensures ordered { IfSome result IsOrdered }
+    ensures least { IfSome result (IsFirstOfItsTick (paths_behind paths.now)) }
+    ensures none { IfNone result (HaveSomeConflict (paths_behind paths.now) → ⊥) }
+    ensures marks { marks.new ≡ marks.old }
+{
+    first_among(&mut marks.agents, paths)
+}
