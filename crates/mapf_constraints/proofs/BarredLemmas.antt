@@ -15,7 +15,7 @@ use Rattle.mapf_model.specs.Laws.{AreSameBars}
 use Rattle.mapf_constraints.specs.declared.barred.BarredCell.{BarredCell}
 use Rattle.mapf_constraints.specs.declared.barred.BarredMove.{BarredMove}
 use Rattle.mapf_constraints.specs.BarSets.{tick_of, IsHorizon, IsLastOn}
-use Rattle.mapf_constraints.specs.Barred.{cell_bar, move_bar, bars_of, IsIndex}
+use Rattle.mapf_constraints.specs.Barred.{cell_bar, move_bar, bars_of, IsIndex, IsMarked, AreMarked}
 use Rattle.mapf_constraints.proofs.SetLemmas.{Contains-cons_cases, Contains-map, Contains-map_cases, AreSame, AreSame-map, AreSame-left, AreSame-right}
 use Rattle.mapf_constraints.proofs.BarLemmas.{IsLastOn-cell, IsLastOn-other, IsLastOn-same}
 
@@ -90,6 +90,16 @@ bars_of-same_cells cells before moves same = AreSame-left (map cell_bar cells) (
 
 pub bars_of-more_moves : (cells : List BarredCell) (moves before : List BarredMove) (barred : BarredMove) → AreSame moves (barred ∷ before) → AreSameBars (bars_of cells moves) (move_bar barred ∷ bars_of cells before)
 bars_of-more_moves cells moves before barred same = AreSame-right (map cell_bar cells) (map move_bar moves) (map move_bar before) (move_bar barred) (AreSame-map move_bar moves (barred ∷ before) same)
+
+-- the marks of one more bar
+pub AreMarked-with : (before after : List Bar) (bar : Bar) (old new : List Bool) → AreSameBars after (bar ∷ before) → AreMarked old before → IsMarked new (tick_of bar) → ((tick : ℕ) → IsMarked old tick → IsMarked new tick) → AreMarked new after
+AreMarked-with before after bar old new same are at kept other held = ⊎_elim
+    (λ is. subst (λ (b : Bar). IsMarked new (tick_of b)) is at)
+    (λ there. kept (tick_of other) (are other there))
+    (Contains-cons_cases bar other before ((same other).0 held))
+
+pub AreMarked-same : (before after : List Bar) (marked : List Bool) → AreSameBars after before → AreMarked marked before → AreMarked marked after
+AreMarked-same before after marked same are other held = are other ((same other).0 held)
 
 module _ (before after : List Bar) (last : ℕ → Option ℕ) (tick : ℕ) (old : IsIndex before last tick) where
   module _ (bar : Bar) (is : IsBar bar) (early : tick_of bar < 1000000) (same : AreSameBars after (bar ∷ before)) where

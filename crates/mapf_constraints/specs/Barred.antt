@@ -1,10 +1,10 @@
 -- The bars that two ordered sets stand for.
-use Rattle.std.specs.Prelude.{ℕ, ◌≤◌, List, ◌++◌, map, Option}
+use Rattle.std.specs.Prelude.{◌≡◌, ℕ, ◌≤◌, ◌%◌, Bool, false, true, List, ◌++◌, Contains, map, Option, slice_index_or}
 use Rattle.mapf_model.specs.declared.bar.Bar.{Bar}
 use Rattle.mapf_model.specs.declared.bar.Bar.TheVariants.{Cell, Move}
 use Rattle.mapf_model.specs.Bars.{AreBars}
 use Rattle.mapf_model.specs.Limits.{split_ticks}
-use Rattle.mapf_constraints.specs.BarSets.{IsHorizon, IsLastOn}
+use Rattle.mapf_constraints.specs.BarSets.{tick_of, IsHorizon, IsLastOn}
 use Rattle.mapf_constraints.specs.declared.barred.BarredCell.{BarredCell}
 use Rattle.mapf_constraints.specs.declared.barred.BarredMove.{BarredMove}
 
@@ -26,3 +26,11 @@ pub record IsIndex (all : List Bar) (last_on : ℕ → Option ℕ) (tick : ℕ) 
   pub horizon : IsHorizon all tick
   pub early : tick ≤ split_ticks
   pub last : (cell : ℕ) → IsLastOn all cell (last_on cell)
+
+-- the tick is marked, by its remainder
+abbrev pub IsMarked : List Bool → ℕ → Type 0
+IsMarked marked tick = slice_index_or marked (tick % 64) false ≡ true
+
+-- the tick of each bar is marked
+abbrev pub AreMarked : List Bool → List Bar → Type 0
+AreMarked marked bars = (bar : Bar) → Contains bars bar → IsMarked marked (tick_of bar)

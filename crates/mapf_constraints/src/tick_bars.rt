@@ -1,4 +1,5 @@
 ghost use Rattle.std.specs.Prelude.{◌≡◌, ◌<◌, ◌≢◌, ◌∷◌, ℕ, Some, max, OnErr, OnOk, if◌then◌else◌};
+ghost use Rattle.mapf_constraints.specs.Barred.{IsMarked};
 ghost use Rattle.std.specs.BTreeMap.{get};
 ghost use Rattle.std.specs.Option.{option_map_or};
 ghost use Rattle.std.specs.Ordering.{is_eq, nat_cmp};
@@ -14,9 +15,12 @@ use std::alloc::Global;
 use std::collections::{BTreeMap, BTreeSet};
 use std::marker::Model;
 
-/// Bars in the order of their ticks, so that a query looks only at the bars of its tick.
+/// Bars in the order of their ticks, so that a query looks only at the bars of its tick. Most ticks have
+/// none, and marks tell most of these at once.
 #[derive(Debug, Drop)]
 pub struct TickBars {
+    // The ticks of bars, each by its remainder. More may be marked.
+    marked: [bool; 64],
     cells: BTreeSet<BarredCell>,
     moves: BTreeSet<BarredMove>,
     last: BTreeMap<Cell, Tick>,
@@ -28,14 +32,15 @@ impl Model for TickBars {
     ghost use Rattle.std.specs.Ordering.{nat_cmp};
     ghost use Rattle.std.specs.BTreeMap.{get};
     ghost use Rattle.mapf_model.specs.declared.bar.Bar.{Bar};
-    ghost use Rattle.mapf_constraints.specs.Barred.{bars_of, IsIndex};
+    ghost use Rattle.mapf_constraints.specs.Barred.{bars_of, AreMarked, IsIndex};
 
     ghost Value = { List Bar };
 
     ghost view = { λ table. bars_of table.cells.keys table.moves.keys };
 
     ghost invariant = { λ table.
-        IsIndex (bars_of table.cells.keys table.moves.keys) (get nat_cmp table.last) table.horizon };
+        IsIndex (bars_of table.cells.keys table.moves.keys) (get nat_cmp table.last) table.horizon
+        × AreMarked table.marked (bars_of table.cells.keys table.moves.keys) };
 }
 
 impl BarTable for TickBars {
@@ -43,6 +48,7 @@ impl BarTable for TickBars {
 
     fn empty(alloc: Global) -> TickBars {
         TickBars {
+            marked: [false; 64],
             cells: BTreeSet::new(alloc),
             moves: BTreeSet::new(alloc),
             last: BTreeMap::new(alloc),
@@ -54,11 +60,17 @@ impl BarTable for TickBars {
         if tick >= self.horizon {
             return false;
         }
+        if !self.marked[tick as usize % 64] {
+            return false;
+        }
         self.cells.contains(&BarredCell { tick, cell })
     }
 
     fn bars_move(&self, from: Cell, to: Cell, tick: Tick) -> bool {
         if tick >= self.horizon {
+            return false;
+        }
+        if !self.marked[tick as usize % 64] {
             return false;
         }
         self.moves.contains(&BarredMove { tick, from, to })
@@ -81,6 +93,7 @@ impl BarTable for TickBars {
 
     fn copy(&self) -> Result<TickBars, OutOfMemory> {
         Ok(TickBars {
+            marked: self.marked,
             cells: self.cells.clone()?,
             moves: self.moves.clone()?,
             last: self.last.clone()?,
@@ -103,6 +116,7 @@ impl TickBars {
         self.cells.insert(barred)?;
         match raise_last(&mut self.last, cell, tick) {
             Ok(()) => {
+                mark(&mut self.marked, tick);
                 self.horizon = horizon_with(self.horizon, &bar);
                 Ok(())
             }
@@ -120,9 +134,18 @@ impl TickBars {
         ensures refused { OnErr result (AreSameBars self.new self.old) }
     {
         self.moves.insert(BarredMove { tick, from, to })?;
+        mark(&mut self.marked, tick);
         self.horizon = horizon_with(self.horizon, &Bar::Move { from, to, tick });
         Ok(())
     }
+}
+
+/// Marks the tick.
+fn mark(marked: &mut [bool; 64], tick: Tick)
+    ensures at { IsMarked marked.new tick }
+    ensures kept { (other : ℕ) → IsMarked marked.old other → IsMarked marked.new other }
+{
+    marked[tick as usize % 64] = true;
 }
 
 /// Notes that the cell is barred at the tick.

@@ -8,7 +8,13 @@ use Rattle.mapf_constraints.proofs.tick_bars.TickBarsBarTable.bars_cell.Goals as
 pub returns-then-tick-self : goal.returns-then-tick-self
 returns-then-tick-self c = rw (← c.self.view_is) (
   (λ yes. absurd (false≢true yes)),
-  (λ held. absurd (omega (arith, c.self.invariant.horizon.above (Cell c.args.cell c.args.tick) held))),
+  (λ held. absurd (omega (arith, c.self.invariant.0.horizon.above (Cell c.args.cell c.args.tick) held))),
+)
+
+pub returns-then-not-self-tick : goal.returns-then-not-self-tick
+returns-then-not-self-tick c = rw (← c.self.view_is) (
+  (λ yes. absurd (false≢true yes)),
+  (λ held. absurd (let marked = c.self.invariant.1 (Cell c.args.cell c.args.tick) held in false≢true (sym c.if-not-self-tick.true ∙ marked))),
 )
 
 pub returns : goal.returns
