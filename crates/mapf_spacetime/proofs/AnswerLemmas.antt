@@ -30,10 +30,11 @@ first_frontier task first is = record {
   top = λ s h. absurd (none_held s h);
   bound = omega arith;
   level = λ s h. subst (λ t. IsValue task t first) (one_held (start_of task) s h) is;
-  past = λ s h. absurd (none_held s h);
+  next = λ s h. absurd (none_held s h);
+  later = λ s h. absurd (none_held s h);
   entered = λ s k. ⊎_elim
       (λ r. absurd (none_held s r))
-      (λ other. ⊎_elim (λ o. inl (sym (one_held (start_of task) s o))) (λ q. absurd (none_held s q)) other)
+      (λ other. ⊎_elim (λ o. inl (sym (one_held (start_of task) s o))) (λ w. ⊎_elim (λ n. absurd (none_held s n)) (λ l. absurd (none_held s l)) w) other)
       k;
   closed = λ s h. absurd (none_held s h);
   quiet = λ tick h. absurd (none_held (state_at task.goal tick) h);
@@ -101,9 +102,6 @@ no_labels task = record {
   rising = λ i j d less within. absurd (omega arith);
   ranges = λ k d lt. absurd (omega arith);
 }
-
-pub low_ticks : (task : Task) (states : States) → HasArrived task states → (s : State) (least : ℕ) → Contains (low_states states) s → Some states.cost ≡ Some least → s.tick ≤ least
-low_ticks task states h s least held e = let same : states.cost ≡ least = cc in let (value, is, less) = h.frontier.low s held in let sum = is.sum in omega arith
 
 -- a shortest path that satisfies the bars is a cheapest one, and needs no labels
 pub shortest_arrives : (task : Task) (first : ℕ) (path : List ℕ) → IsValue task (start_of task) first → IsPath task.grid path → at path 0 ≡ task.start → at path (length path - 1) ≡ task.goal →

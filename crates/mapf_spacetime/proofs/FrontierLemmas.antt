@@ -1,13 +1,14 @@
 -- A frontier stays one when states are added to it.
-use Rattle.std.proofs.Common.{◌≡◌, ◌⊎◌, ◌↔◌, inl, inr, ⊎_elim, ℕ, ◌+◌, ◌<◌, ◌≤◌, List, [], ◌∷◌, ◌++◌, length, slice_index_or, Contains, refl, sym, ap, subst, ◌∙◌, arith, length-append}
-use Rattle.std.proofs.lemmas.List.{get_or_default, take-append-le}
+use Rattle.std.proofs.Common.{◌≡◌, ◌⊎◌, inl, inr, ⊎_elim, ℕ, ◌+◌, ◌<◌, ◌≤◌, Some, List, [], ◌∷◌, ◌++◌, length, Contains, refl, sym, ap, subst, ◌∙◌, arith, length-append}
+use Rattle.std.proofs.lemmas.List.{take-append-le}
 use Rattle.std.proofs.lemmas.List.Elements.{Contains-append_left, Contains-push, Contains-push_cases}
-use Rattle.mapf_model.specs.Grid.{Step}
 use Rattle.mapf_model.specs.Labels.{MayGo}
+use Rattle.mapf_model.specs.Neighbours.{neighbourhood}
+use Rattle.mapf_model.proofs.StepLemmas.{step_neighbour}
 use Rattle.mapf_spacetime.specs.declared.state.State.{State}
 use Rattle.mapf_spacetime.specs.Task.{Task, Goes, IsValue, IsWithin, IsPast, IsBarredLater, MayRestFrom, state_at, start_of}
-use Rattle.mapf_spacetime.specs.States.{States, with_reached, with_open, with_waiting, low_states, IsKnown, IsTaken, IsClosed, IsFrontier, Keeps, Takes, HasArrived}
-use Rattle.mapf_spacetime.proofs.ValueLemmas.{below_within, level_within, at_goal}
+use Rattle.mapf_spacetime.specs.States.{States, with_reached, with_open, with_next, with_later, low_states, IsWaiting, IsKnown, IsTaken, IsClosed, IsFrontier, Keeps, Takes, HasArrived}
+use Rattle.mapf_spacetime.proofs.ValueLemmas.{below_within, level_within, value_free, at_goal}
 
 pub none_held : {X : Type 0} (x : X) → Contains [] x → ⊥
 none_held x (k, lt, is) = omega arith
@@ -19,8 +20,17 @@ module _ (states : States) (new : State) where
   pub known_open : (s : State) → IsKnown states s → IsKnown (with_open states new) s
   known_open s k = ⊎_elim (λ r. inl r) (λ other. inr (⊎_elim (λ o. inl (Contains-append_left states.open_states (new ∷ []) s o)) (λ w. inr w) other)) k
 
-  pub known_waiting : (s : State) → IsKnown states s → IsKnown (with_waiting states new) s
-  known_waiting s k = ⊎_elim (λ r. inl r) (λ other. inr (⊎_elim (λ o. inl o) (λ w. inr (Contains-append_left states.waiting (new ∷ []) s w)) other)) k
+  pub known_next : (s : State) → IsKnown states s → IsKnown (with_next states new) s
+  known_next s k = ⊎_elim (λ r. inl r) (λ other. inr (⊎_elim
+      (λ o. inl o)
+      (λ w. inr (⊎_elim (λ n. inl (Contains-append_left states.next_states (new ∷ []) s n)) (λ l. inr l) w))
+      other)) k
+
+  pub known_later : (s : State) → IsKnown states s → IsKnown (with_later states new) s
+  known_later s k = ⊎_elim (λ r. inl r) (λ other. inr (⊎_elim
+      (λ o. inl o)
+      (λ w. inr (⊎_elim (λ n. inl n) (λ l. inr (Contains-append_left states.later_states (new ∷ []) s l)) w))
+      other)) k
 
   pub known_open_cases : (s : State) → IsKnown (with_open states new) s → IsKnown states s ⊎ (new ≡ s)
   known_open_cases s k = ⊎_elim (λ r. inl (inl r)) (λ other. ⊎_elim
@@ -28,10 +38,22 @@ module _ (states : States) (new : State) where
       (λ w. inl (inr (inr w)))
       other) k
 
-  known_waiting_cases : (s : State) → IsKnown (with_waiting states new) s → IsKnown states s ⊎ (new ≡ s)
-  known_waiting_cases s k = ⊎_elim (λ r. inl (inl r)) (λ other. ⊎_elim
+  known_next_cases : (s : State) → IsKnown (with_next states new) s → IsKnown states s ⊎ (new ≡ s)
+  known_next_cases s k = ⊎_elim (λ r. inl (inl r)) (λ other. ⊎_elim
       (λ o. inl (inr (inl o)))
-      (λ w. ⊎_elim (λ old. inl (inr (inr old))) (λ same. inr same) (Contains-push_cases states.waiting new s w))
+      (λ w. ⊎_elim
+      (λ n. ⊎_elim (λ old. inl (inr (inr (inl old)))) (λ same. inr same) (Contains-push_cases states.next_states new s n))
+      (λ l. inl (inr (inr (inr l))))
+      w)
+      other) k
+
+  known_later_cases : (s : State) → IsKnown (with_later states new) s → IsKnown states s ⊎ (new ≡ s)
+  known_later_cases s k = ⊎_elim (λ r. inl (inl r)) (λ other. ⊎_elim
+      (λ o. inl (inr (inl o)))
+      (λ w. ⊎_elim
+      (λ n. inl (inr (inr (inl n))))
+      (λ l. ⊎_elim (λ old. inl (inr (inr (inr old)))) (λ same. inr same) (Contains-push_cases states.later_states new s l))
+      w)
       other) k
 
 pub IsTaken-known : (task : Task) (old new : States) → ((s : State) → IsKnown old s → IsKnown new s) → (from : State) (to : ℕ) → IsTaken task old from to → IsTaken task new from to
@@ -44,6 +66,10 @@ IsClosed-known task old new known from closed to = IsTaken-known task old new kn
 pub reached_within : (task : Task) (busy : List State) (states : States) → IsFrontier task busy states → (s : State) → Contains states.reached s → IsWithin task states.cost s
 reached_within task busy states f s h = ⊎_elim (λ low. below_within task s states.cost (f.low s low)) (λ level. level_within task s states.cost level) (f.top s h)
 
+-- a state that waits has a value beyond the cost
+pub waiting_past : (task : Task) (busy : List State) (states : States) → IsFrontier task busy states → (s : State) → IsWaiting states s → IsPast task states.cost s
+waiting_past task busy states f s w = ⊎_elim (λ n. (states.cost + 1, f.next s n, omega arith)) (λ l. (states.cost + 2, f.later s l, omega arith)) w
+
 -- a state that can be stepped into is left to be reached
 module _ (task : Task) (busy : List State) (states : States) (f : IsFrontier task busy states) (from to : State) (is_reached : Contains states.reached from) (goes : Goes task from to) where
   add_open : IsValue task to states.cost → IsFrontier task busy (with_open states to)
@@ -53,22 +79,38 @@ module _ (task : Task) (busy : List State) (states : States) (f : IsFrontier tas
     top = f.top;
     bound = f.bound;
     level = λ s h. ⊎_elim (λ old. f.level s old) (λ same. subst (λ t. IsValue task t states.cost) same level) (Contains-push_cases states.open_states to s h);
-    past = f.past;
+    next = f.next;
+    later = f.later;
     entered = λ s k. ⊎_elim (λ old. f.entered s old) (λ same. inr (from, is_reached, subst (Goes task from) same goes)) (known_open_cases states to s k);
     closed = λ s h. ⊎_elim (λ b. inl b) (λ c. inr (IsClosed-known task states (with_open states to) (known_open states to) s c)) (f.closed s h);
     quiet = f.quiet;
   }
 
-  add_waiting : IsPast task states.cost to → IsFrontier task busy (with_waiting states to)
-  add_waiting past = record {
+  add_next : IsValue task to (states.cost + 1) → IsFrontier task busy (with_next states to)
+  add_next value = record {
     start = f.start;
     low = f.low;
     top = f.top;
     bound = f.bound;
     level = f.level;
-    past = λ s h. ⊎_elim (λ old. f.past s old) (λ same. subst (IsPast task states.cost) same past) (Contains-push_cases states.waiting to s h);
-    entered = λ s k. ⊎_elim (λ old. f.entered s old) (λ same. inr (from, is_reached, subst (Goes task from) same goes)) (known_waiting_cases states to s k);
-    closed = λ s h. ⊎_elim (λ b. inl b) (λ c. inr (IsClosed-known task states (with_waiting states to) (known_waiting states to) s c)) (f.closed s h);
+    next = λ s h. ⊎_elim (λ old. f.next s old) (λ same. subst (λ t. IsValue task t (states.cost + 1)) same value) (Contains-push_cases states.next_states to s h);
+    later = f.later;
+    entered = λ s k. ⊎_elim (λ old. f.entered s old) (λ same. inr (from, is_reached, subst (Goes task from) same goes)) (known_next_cases states to s k);
+    closed = λ s h. ⊎_elim (λ b. inl b) (λ c. inr (IsClosed-known task states (with_next states to) (known_next states to) s c)) (f.closed s h);
+    quiet = f.quiet;
+  }
+
+  add_later : IsValue task to (states.cost + 2) → IsFrontier task busy (with_later states to)
+  add_later value = record {
+    start = f.start;
+    low = f.low;
+    top = f.top;
+    bound = f.bound;
+    level = f.level;
+    next = f.next;
+    later = λ s h. ⊎_elim (λ old. f.later s old) (λ same. subst (λ t. IsValue task t (states.cost + 2)) same value) (Contains-push_cases states.later_states to s h);
+    entered = λ s k. ⊎_elim (λ old. f.entered s old) (λ same. inr (from, is_reached, subst (Goes task from) same goes)) (known_later_cases states to s k);
+    closed = λ s h. ⊎_elim (λ b. inl b) (λ c. inr (IsClosed-known task states (with_later states to) (known_later states to) s c)) (f.closed s h);
     quiet = f.quiet;
   }
 
@@ -89,31 +131,40 @@ module _ (task : Task) (busy : List State) (states : States) (f : IsFrontier tas
           taken = λ m. inl (inr (inl (Contains-push states.open_states next)));
         })
 
-    pub take_past : IsPast task states.cost (state_at to (from.tick + 1)) → (new : States) → new ≡ with_waiting states (state_at to (from.tick + 1)) → Takes task busy from to states new
-    take_past past new is =
+    pub take_next : IsValue task (state_at to (from.tick + 1)) (states.cost + 1) → (new : States) → new ≡ with_next states (state_at to (from.tick + 1)) → Takes task busy from to states new
+    take_next value new is =
         let next = state_at to (from.tick + 1) in
         subst (Takes task busy from to states) (sym is) (record {
-          frontier = add_waiting task busy states f from next is_reached goes past;
-          keeps = record { reached = refl; cost = refl; below = refl; known = known_waiting states next };
-          taken = λ m. inl (inr (inr (Contains-push states.waiting next)));
+          frontier = add_next task busy states f from next is_reached goes value;
+          keeps = record { reached = refl; cost = refl; below = refl; known = known_next states next };
+          taken = λ m. inl (inr (inr (inl (Contains-push states.next_states next))));
         })
 
--- once all steps from the state were taken, none is busy
-pub close : (task : Task) (states : States) (from : State) → IsFrontier task (from ∷ []) states →
-    (steps : List ℕ) → ((to : ℕ) → Contains steps to ↔ Step task.grid from.cell to) →
-    ((k : ℕ) → k < length steps → IsTaken task states from (slice_index_or steps k 0)) →
+    pub take_later : IsValue task (state_at to (from.tick + 1)) (states.cost + 2) → (new : States) → new ≡ with_later states (state_at to (from.tick + 1)) → Takes task busy from to states new
+    take_later value new is =
+        let next = state_at to (from.tick + 1) in
+        subst (Takes task busy from to states) (sym is) (record {
+          frontier = add_later task busy states f from next is_reached goes value;
+          keeps = record { reached = refl; cost = refl; below = refl; known = known_later states next };
+          taken = λ m. inl (inr (inr (inr (Contains-push states.later_states next))));
+        })
+
+-- once the steps to all cells beside the state were taken, none is busy
+pub close : (task : Task) (states : States) (from : State) → IsFrontier task (from ∷ []) states → (value : ℕ) → IsValue task from value → 0 < task.grid.width →
+    ((to : ℕ) → Contains (neighbourhood task.grid.width from.cell) (Some to) → IsTaken task states from to) →
     IsFrontier task [] states
-close task states from f steps exact taken = record {
+close task states from f value is wide taken = record {
   start = f.start;
   low = f.low;
   top = f.top;
   bound = f.bound;
   level = f.level;
-  past = f.past;
+  next = f.next;
+  later = f.later;
   entered = f.entered;
   closed = λ s h. ⊎_elim
       (λ busy. let same = one_held from s busy in inr (subst (IsClosed task states) same
-      (λ to may. let (j, within, to_is) = (exact to).1 may.step in subst (IsTaken task states from) (get_or_default steps j 0 to within ∙ to_is) (taken j within) may)))
+      (λ to may. taken to (step_neighbour task.grid from.cell wide (value_free task from value is) to may.step) may)))
       (λ c. inr c)
       (f.closed s h);
   quiet = f.quiet;
@@ -160,7 +211,8 @@ module _ (task : Task) (states : States) (state : State) (f : IsFrontier task []
         (Contains-push_cases states.reached state s h);
     bound = (let bound : states.below ≤ length states.reached = f.bound in omega (arith, length-append states.reached (state ∷ [])));
     level = λ s h. f.level s (Contains-append_left states.open_states (state ∷ []) s h);
-    past = f.past;
+    next = f.next;
+    later = f.later;
     entered = λ s k. ⊎_elim
         (λ is. inl is)
         (λ e. let (from, held, goes) = e in inr (from, Contains-append_left states.reached (state ∷ []) from held, goes))
@@ -185,7 +237,8 @@ module _ (task : Task) (states : States) (state : State) (f : IsFrontier task []
         top = f.top;
         bound = f.bound;
         level = λ s h. f.level s (Contains-append_left states.open_states (state ∷ []) s h);
-        past = f.past;
+        next = f.next;
+        later = f.later;
         entered = λ s k. f.entered s (known_open states state s k);
         closed = λ s h. ⊎_elim (λ b. inl b) (λ c. inr (IsClosed-known task (with_open states state) states known s c)) (f.closed s h);
         quiet = f.quiet;

@@ -10,10 +10,10 @@ use Rattle.mapf_model.specs.Labels.{entries_of, AreSound, IsSoundEntry, IsLabel,
 use Rattle.mapf_model.proofs.ListedLemmas.{listed_is_contained, contained_is_listed}
 use Rattle.mapf_spacetime.specs.declared.state.State.{State}
 use Rattle.mapf_spacetime.specs.Task.{Task, IsValue, state_at, start_of}
-use Rattle.mapf_spacetime.specs.States.{States, low_states, HasArrived, IsSpent}
+use Rattle.mapf_spacetime.specs.States.{States, low_states, with_open, IsWaiting, HasArrived, IsSpent}
 use Rattle.mapf_spacetime.specs.Listed.{label_of, AreEntriesOf}
 use Rattle.mapf_spacetime.proofs.ValueLemmas.{value_unique, value_none}
-use Rattle.mapf_spacetime.proofs.FrontierLemmas.{none_held, reached_within}
+use Rattle.mapf_spacetime.proofs.FrontierLemmas.{none_held, reached_within, waiting_past}
 
 module _ (states : List State) (cost : Option ℕ) (entries : List Entry) (a : AreEntriesOf states cost entries) where
   pub entry_there : (cell tick : ℕ) → Contains states (state_at cell tick) → entries_of entries cell tick ≡ Some (label_of cost tick)
@@ -62,7 +62,7 @@ module _ (task : Task) (states : States) (h : HasArrived task states) (entries :
       (h.frontier.top (state_at next (tick + 1)) there))
       (λ other. ⊎_elim
       (λ is_open. let level = h.frontier.level (state_at next (tick + 1)) is_open in let sum = level.sum in (Ticks level.distance, at_distance next (tick + 1) states.cost level (omega arith), omega arith))
-      (λ waits. let (value, past, more) = h.frontier.past (state_at next (tick + 1)) waits in let sum = past.sum in (Ticks past.distance, at_distance next (tick + 1) value past (omega arith), omega arith))
+      (λ waits. let (value, past, more) = waiting_past task [] (with_open states (state_at task.goal states.cost)) h.frontier (state_at next (tick + 1)) waits in let sum = past.sum in (Ticks past.distance, at_distance next (tick + 1) value past (omega arith), omega arith))
       other)
       known)
       (λ none. (
@@ -107,8 +107,8 @@ module _ (task : Task) (states : States) (h : IsSpent task states) (entries : Li
   never_there : (cell tick : ℕ) → Contains states.reached (state_at cell tick) → IsLabel task.grid task.goal (entries_of entries) cell tick Never
   never_there cell tick reached = listed_label task.grid task.goal entries cell tick Never (entry_there states.reached None entries a cell tick reached)
 
-  all_reached : (s : State) → Contains states.open_states s ⊎ Contains states.waiting s → ⊥
-  all_reached s other = ⊎_elim (λ o. none_held s (subst (λ l. Contains l s) h.walked.none_open o)) (λ w. none_held s (subst (λ l. Contains l s) h.none_waits w)) other
+  all_reached : (s : State) → Contains states.open_states s ⊎ IsWaiting states s → ⊥
+  all_reached s other = ⊎_elim (λ o. none_held s (subst (λ l. Contains l s) h.walked.none_open o)) (λ w. ⊎_elim (λ n. none_held s (subst (λ l. Contains l s) h.none_waits.0 n)) (λ l. none_held s (subst (λ l. Contains l s) h.none_waits.1 l)) w) other
 
   onward_spent : (cell tick next : ℕ) → Contains states.reached (state_at cell tick) → MayGo task.grid task.bars cell next tick → IsWithinOne task.grid task.goal (entries_of entries) Never next (tick + 1)
   onward_spent cell tick next reached may = ⊎_elim

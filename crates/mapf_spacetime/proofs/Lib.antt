@@ -1,4 +1,5 @@
 pub mod SetLemmas
+pub mod StampLemmas
 pub mod ValueLemmas
 pub mod FrontierLemmas
 pub mod GrowLemmas

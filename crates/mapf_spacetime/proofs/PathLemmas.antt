@@ -1,5 +1,5 @@
 -- Walks of states as paths.
-use Rattle.std.proofs.Common.{◌≡◌, ◌≢◌, inl, inr, ⊎_elim, ℕ, zero, suc, ◌+◌, ◌-◌, ◌<◌, ◌≤◌, min, List, length, slice_index, slice_index_or, Contains, sym, ap, subst, ◌∙◌, arith}
+use Rattle.std.proofs.Common.{◌≡◌, ◌≢◌, inl, inr, ⊎_elim, ℕ, zero, suc, ◌+◌, ◌-◌, ◌<◌, ◌≤◌, min, List, [], length, slice_index, slice_index_or, Contains, sym, ap, subst, ◌∙◌, arith}
 use Rattle.std.proofs.lemmas.Bool.{cases_lt}
 use Rattle.std.proofs.lemmas.List.{get_or_default}
 use Rattle.mapf_model.specs.Grid.{GridMap, Step}
@@ -11,10 +11,10 @@ use Rattle.mapf_model.specs.Laws.{NeighboursMakePaths}
 use Rattle.mapf_model.specs.Path.{at, IsPath, IsLawful, IsCost, IsTight}
 use Rattle.mapf_model.proofs.PathLemmas.{IsCost-from_end}
 use Rattle.mapf_spacetime.specs.Task.{Task, Goes, IsValue, IsOpen, IsBarredLater, MayRestFrom, agent_of, state_at, start_of}
-use Rattle.mapf_spacetime.specs.States.{States, HasArrived}
+use Rattle.mapf_spacetime.specs.States.{States, with_open, HasArrived}
 use Rattle.mapf_spacetime.specs.PathSearch.{state_of, IsWholeWalk}
 use Rattle.mapf_spacetime.proofs.ValueLemmas.{value_free, value_unique, value_none, no_lower}
-use Rattle.mapf_spacetime.proofs.FrontierLemmas.{none_held}
+use Rattle.mapf_spacetime.proofs.FrontierLemmas.{none_held, waiting_past}
 
 pub at_is : (cells : List ℕ) (tick : ℕ) → tick < length cells → at cells tick ≡ slice_index cells tick
 at_is cells tick lt = let same : min tick (length cells - 1) ≡ tick = omega arith in ap (λ n. slice_index cells n) same
@@ -101,7 +101,7 @@ module _ (task : Task) (states : States) (cells : List ℕ) (h : HasArrived task
       (λ other. ⊎_elim
       (λ o. let level = subst (λ s. IsValue task s states.cost) same (h.frontier.level (state_at (slice_index cells (suc k)) (k + 1)) o) in
       let one = value_unique task (state_of cells (suc k)) value states.cost is level in absurd (omega arith))
-      (λ q. let (v, v_is, more) = h.frontier.past (state_at (slice_index cells (suc k)) (k + 1)) q in
+      (λ q. let (v, v_is, more) = waiting_past task [] (with_open states (state_at task.goal states.cost)) h.frontier (state_at (slice_index cells (suc k)) (k + 1)) q in
       let one = value_unique task (state_of cells (suc k)) value v is (subst (λ s. IsValue task s v) same v_is) in absurd (omega arith))
       other)
       known)

@@ -29,7 +29,7 @@ Contains-any xs s (k, lt, is) = by xs k lt is
     by (y ∷ ys) zero l e = or_left (same_state s y) (list_any (same_state s) ys) (rw e (same_state-refl s))
     by (y ∷ ys) (suc j) l e = or_right (same_state s y) (list_any (same_state s) ys) (by ys j (omega arith) e)
 
-not_false : (b : Bool) → not b ≡ false → b ≡ true
+pub not_false : (b : Bool) → not b ≡ false → b ≡ true
 not_false true e = refl
 not_false false e = cc
 

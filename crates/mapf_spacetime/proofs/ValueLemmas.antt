@@ -1,8 +1,9 @@
 -- Walks, distances and the values of states.
-use Rattle.std.proofs.Common.{◌≡◌, ⊎_elim, ℕ, zero, suc, ◌≤◌, refl, subst, arith}
+use Rattle.std.proofs.Common.{◌≡◌, ⊎_elim, ℕ, zero, suc, ◌+◌, ◌≤◌, refl, subst, arith}
 use Rattle.mapf_model.specs.Distance.{Walk, IsDistance, IsUnreachable}
 use Rattle.mapf_model.specs.Grid.{GridMap, IsFree}
 use Rattle.mapf_spacetime.specs.declared.state.State.{State}
+use Rattle.mapf_distance.proofs.StepLemmas.{Step-sym}
 use Rattle.mapf_spacetime.specs.Task.{Task, Goes, IsValue, IsWithin, IsBelow}
 
 pub walk_start : (grid : GridMap) (goal cell n : ℕ) → Walk grid cell goal n → IsFree grid cell
@@ -44,6 +45,15 @@ module _ (task : Task) (state : State) where
 pub no_lower : (task : Task) (from to : State) (a b : ℕ) → IsValue task from a → IsValue task to b → Goes task from to → a ≤ b
 no_lower task from to a b p q goes =
     let short = p.is.least (suc q.distance) (to.cell, goes.may.step, q.is.walk) in
+    let tick = goes.tick in
+    let s = p.sum in
+    let t = q.sum in
+    omega arith
+
+-- a step raises the value by two at most
+pub not_higher : (task : Task) (from to : State) (a b : ℕ) → IsValue task from a → IsValue task to b → Goes task from to → b ≤ a + 2
+not_higher task from to a b p q goes =
+    let short = q.is.least (suc p.distance) (from.cell, Step-sym task.grid from.cell to.cell goes.may.step, p.is.walk) in
     let tick = goes.tick in
     let s = p.sum in
     let t = q.sum in

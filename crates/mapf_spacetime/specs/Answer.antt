@@ -57,6 +57,6 @@ pub record ShowNone (task : Task) (entries : List Entry) : Type 0 where
   pub start : IsLabel task.grid task.goal (entries_of entries) task.start 0 Never
 
 -- a path that arrives at the least cost, or labels that show that none arrives
-abbrev pub IsPathAnswer : Task → Found → Type 0
+abbrev pub IsPathAnswer : Task → Found (List Entry) → Type 0
 IsPathAnswer task (Arrives path labels) = IsArrival task path labels
 IsPathAnswer task (Dead labels) = IsDeath task labels

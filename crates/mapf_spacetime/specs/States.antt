@@ -1,28 +1,40 @@
 -- What a search has reached, and what is left for it to reach.
-use Rattle.std.specs.Prelude.{Bool, ◌==◌, ◌&&◌, ◌≡◌, ◌⊎◌, ℕ, ◌+◌, ◌<◌, ◌≤◌, List, [], ◌∷◌, ◌++◌, length, take, Some, slice_get, slice_index_or, Contains}
+use Rattle.std.specs.Prelude.{Bool, ◌==◌, ◌&&◌, ◌≡◌, ◌⊎◌, ℕ, ◌+◌, ◌<◌, ◌≤◌, List, [], ◌∷◌, ◌++◌, length, take, Some, slice_get, Contains}
 use Rattle.mapf_model.specs.Distance.{IsUnreachable}
 use Rattle.mapf_model.specs.Grid.{free_cell_count}
 use Rattle.mapf_model.specs.Labels.{MayGo}
-use Rattle.mapf_model.specs.Limits.{most_path_cells}
 use Rattle.mapf_constraints.specs.BarSets.{AreBefore}
 use Rattle.mapf_spacetime.specs.declared.state.State.{State}
-use Rattle.mapf_spacetime.specs.Task.{Task, Goes, IsValue, IsBelow, IsPast, IsBarredLater, MayRestFrom, state_at, start_of}
+use Rattle.mapf_spacetime.specs.Task.{Task, Goes, IsValue, IsBelow, IsBarredLater, MayRestFrom, state_at, start_of}
 
--- the states that were reached, the first `below` of them below the cost being tried; the open ones at that cost, still to be reached; and those that wait for a greater cost
+-- the states that were reached, the first `below` of them below the cost being tried; the open ones at that cost, still to be reached; and those that wait for the cost after it, and for the one after that
 pub record States : Type 0 where
   pub reached : List State
   pub open_states : List State
-  pub waiting : List State
+  pub next_states : List State
+  pub later_states : List State
   pub cost : ℕ
   pub below : ℕ
 
--- for each cell a tick: where paths have such a tick, the cell was reached at it
-abbrev pub AreLast : List ℕ → List State → Type 0
-AreLast ticks reached = (cell tick : ℕ) → slice_get ticks cell ≡ Some tick → tick ≤ most_path_cells → Contains reached (state_at cell tick)
+-- more than the ticks of paths
+abbrev pub stamp_ticks : ℕ
+stamp_ticks = 16777216
+
+-- a base to which the ticks of paths can be added
+abbrev pub IsBase : ℕ → Type 0
+IsBase base = (0 < base) × (base + stamp_ticks ≤ 4294967295)
+
+-- for each cell a stamp: where it is the base and a tick together, the cell was reached at that tick
+abbrev pub AreLast : ℕ → List ℕ → List State → Type 0
+AreLast base stamps reached = (cell tick : ℕ) → slice_get stamps cell ≡ Some (base + tick) → Contains reached (state_at cell tick)
+
+-- each stamp is below the next base
+abbrev pub AreOfBase : ℕ → List ℕ → Type 0
+AreOfBase base stamps = (cell stamp : ℕ) → slice_get stamps cell ≡ Some stamp → stamp < base + stamp_ticks
 
 -- only the start, to be reached at the cost
 abbrev pub first_states : State → ℕ → States
-first_states start cost = record { reached = []; open_states = start ∷ []; waiting = []; cost = cost; below = 0 }
+first_states start cost = record { reached = []; open_states = start ∷ []; next_states = []; later_states = []; cost = cost; below = 0 }
 
 -- one more state is reached
 abbrev pub with_reached : States → State → States
@@ -32,21 +44,33 @@ with_reached states state = record states { reached = states.reached ++ state �
 abbrev pub with_open : States → State → States
 with_open states state = record states { open_states = states.open_states ++ state ∷ [] }
 
--- one more state waits
-abbrev pub with_waiting : States → State → States
-with_waiting states state = record states { waiting = states.waiting ++ state ∷ [] }
+-- one more state waits for the next cost
+abbrev pub with_next : States → State → States
+with_next states state = record states { next_states = states.next_states ++ state ∷ [] }
 
--- the next cost, at which all that was reached is below it
+-- one more state waits for the cost after the next one
+abbrev pub with_later : States → State → States
+with_later states state = record states { later_states = states.later_states ++ state ∷ [] }
+
+-- the next cost: all that was reached is below it, and what waited for it is open
 abbrev pub raised : States → States
-raised states = record { reached = states.reached; open_states = []; waiting = []; cost = states.cost + 1; below = length states.reached }
+raised states = record { reached = states.reached; open_states = states.next_states; next_states = states.later_states; later_states = []; cost = states.cost + 1; below = length states.reached }
 
 -- the states that were reached below the cost
 abbrev pub low_states : States → List State
 low_states states = take states.below states.reached
 
+-- the state waits for a greater cost
+abbrev pub IsWaiting : States → State → Type 0
+IsWaiting states state = Contains states.next_states state ⊎ Contains states.later_states state
+
+-- no state waits
+abbrev pub NoneWait : States → Type 0
+NoneWait states = (states.next_states ≡ []) × (states.later_states ≡ [])
+
 -- the state was reached, or it is left to be reached
 abbrev pub IsKnown : States → State → Type 0
-IsKnown states state = Contains states.reached state ⊎ (Contains states.open_states state ⊎ Contains states.waiting state)
+IsKnown states state = Contains states.reached state ⊎ (Contains states.open_states state ⊎ IsWaiting states state)
 
 -- the state can be stepped into from a reached one
 abbrev pub IsEntered : Task → List State → State → Type 0
@@ -67,7 +91,8 @@ pub record IsFrontier (task : Task) (busy : List State) (states : States) : Type
   pub top : (s : State) → Contains states.reached s → Contains (low_states states) s ⊎ IsValue task s states.cost
   pub bound : states.below ≤ length states.reached
   pub level : (s : State) → Contains states.open_states s → IsValue task s states.cost
-  pub past : (s : State) → Contains states.waiting s → IsPast task states.cost s
+  pub next : (s : State) → Contains states.next_states s → IsValue task s (states.cost + 1)
+  pub later : (s : State) → Contains states.later_states s → IsValue task s (states.cost + 2)
   pub entered : (s : State) → IsKnown states s → (s ≡ start_of task) ⊎ IsEntered task states.reached s
   pub closed : (s : State) → Contains states.reached s → Contains busy s ⊎ IsClosed task states s
   pub quiet : (tick : ℕ) → Contains states.reached (state_at task.goal tick) → IsBarredLater task tick
@@ -98,16 +123,7 @@ pub record IsWalked (task : Task) (states : States) : Type 0 where
 -- all states that can be reached were, and none is an arrival
 pub record IsSpent (task : Task) (states : States) : Type 0 where
   pub walked : IsWalked task states
-  pub none_waits : states.waiting ≡ []
-
--- the first `count` of the states that waited were placed at the cost
-pub record Places (task : Task) (waited : List State) (count : ℕ) (old new : States) : Type 0 where
-  pub reached : new.reached ≡ old.reached
-  pub cost : new.cost ≡ old.cost
-  pub below : new.below ≡ old.below
-  pub level : (s : State) → Contains new.open_states s → Contains waited s × IsValue task s old.cost
-  pub past : (s : State) → Contains new.waiting s → Contains waited s × IsPast task old.cost s
-  pub placed : (k : ℕ) (s : State) → k < count → slice_index_or waited k s ≡ s → Contains new.open_states s ⊎ Contains new.waiting s
+  pub none_waits : NoneWait states
 
 -- less than the first tick without bars and the number of free cells together
 abbrev pub IsBelowLimit : Task → ℕ → Type 0

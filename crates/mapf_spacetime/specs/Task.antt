@@ -56,10 +56,6 @@ IsBelow task cost state = (value : ℕ) × IsValue task state value × (value < 
 abbrev pub IsPast : Task → ℕ → State → Type 0
 IsPast task cost state = (value : ℕ) × IsValue task state value × (cost < value)
 
--- the state has a value, and it is no less than this
-abbrev pub IsNotBelow : Task → ℕ → State → Type 0
-IsNotBelow task cost state = (value : ℕ) × IsValue task state value × (cost ≤ value)
-
 -- the agent isn't forbidden to be in the state
 abbrev pub IsOpen : Task → State → Type 0
 IsOpen task state = Contains task.bars (Cell state.cell state.tick) → ⊥

@@ -5,18 +5,19 @@ ghost use Rattle.mapf_model.specs.Path.{IsPath, at};
 ghost use Rattle.mapf_model.specs.Grid.{IsGridMap};
 ghost use Rattle.mapf_model.specs.declared.label.Entry.{Entry};
 ghost use Rattle.mapf_spacetime.specs.declared.state.State.{State};
-ghost use Rattle.mapf_spacetime.specs.Task.{task_of, IsOpen, IsValue, IsWithin, start_of};
+ghost use Rattle.mapf_spacetime.specs.Task.{Task, task_of, IsOpen, IsValue, IsWithin, start_of};
 ghost use Rattle.mapf_spacetime.specs.Listed.{AreEntriesOf};
 ghost use Rattle.mapf_spacetime.specs.States.{HasArrived, IsBelowLimit};
 ghost use Rattle.mapf_spacetime.specs.Answer.{IsPathAnswer, ShowNone};
 
-use crate::entries::entries_of;
 use crate::found::Found;
 use crate::frontier::Frontier;
 use crate::ground::Ground;
 use crate::labels::Labels;
 use crate::path_search::least_walk;
 use crate::state::State;
+use crate::state_labels::StateLabels;
+use crate::workspace::Workspace;
 use mapf_constraints::BarTable;
 use mapf_distance::Distances;
 use mapf_model::{Agent, Cell, Grid, OutOfMemory, Path, Tick};
@@ -32,6 +33,53 @@ pub fn search<'a, B: BarTable>(
     bars: &'a B,
     agent: Agent,
 ) -> Result<Found, OutOfMemory>
+    requires grid { distances.now.grid ≡ grid.now }
+    requires goal { distances.now.goal ≡ agent.goal }
+    ensures { IfOk result (IsPathAnswer (task_of grid.now agent (B.bars bars.now))) }
+{
+    with_labels(alloc, search_states(alloc, grid, distances, bars, agent)?)
+}
+
+// The same with labels in memory of their own.
+pub(crate) fn with_labels(alloc: Global, found: Found<StateLabels>) -> Result<Found, OutOfMemory>
+    ensures { (task : Task) → IsPathAnswer task found → IfOk result (IsPathAnswer task) }
+{
+    match found {
+        Found::Arrives { path, labels } => Ok(Found::Arrives {
+            path,
+            labels: Labels::of(labels.into_entries(alloc)?),
+        }),
+        Found::Dead { labels } => Ok(Found::Dead {
+            labels: Labels::of(labels.into_entries(alloc)?),
+        }),
+    }
+}
+
+/// The same in less memory.
+pub fn search_states<'a, B: BarTable>(
+    alloc: Global,
+    grid: &'a Grid,
+    distances: &'a Distances,
+    bars: &'a B,
+    agent: Agent,
+) -> Result<Found<StateLabels>, OutOfMemory>
+    requires grid { distances.now.grid ≡ grid.now }
+    requires goal { distances.now.goal ≡ agent.goal }
+    ensures { IfOk result (IsPathAnswer (task_of grid.now agent (B.bars bars.now))) }
+{
+    let mut workspace = Workspace::new(alloc);
+    search_in(alloc, &mut workspace, grid, distances, bars, agent)
+}
+
+/// The same in the memory of earlier searches, whatever these were.
+pub fn search_in<'a, B: BarTable>(
+    alloc: Global,
+    workspace: &mut Workspace,
+    grid: &'a Grid,
+    distances: &'a Distances,
+    bars: &'a B,
+    agent: Agent,
+) -> Result<Found<StateLabels>, OutOfMemory>
     requires grid { distances.now.grid ≡ grid.now }
     requires goal { distances.now.goal ≡ agent.goal }
     ensures { IfOk result (IsPathAnswer (task_of grid.now agent (B.bars bars.now))) }
@@ -54,14 +102,19 @@ pub fn search<'a, B: BarTable>(
     if lets_path {
         return Ok(Found::Arrives {
             path,
-            labels: Labels::of(Vec::new(alloc)),
+            labels: StateLabels::none(alloc),
         });
     }
-    by_cost(alloc, &ground, first)
+    by_cost(alloc, &mut workspace.frontier, &ground, first)
 }
 
 /// What the agent can do where not every shortest path is open to it, from its distance on.
-fn by_cost<B: BarTable>(alloc: Global, ground: &Ground<B>, first: u32) -> Result<Found, OutOfMemory>
+fn by_cost<B: BarTable>(
+    alloc: Global,
+    frontier: &mut Frontier,
+    ground: &Ground<B>,
+    first: u32,
+) -> Result<Found<StateLabels>, OutOfMemory>
     requires shape { IsGridMap ground.now.grid }
     requires start { IsOpen ground.now (start_of ground.now) }
     requires first { IsValue ground.now (start_of ground.now) first }
@@ -71,9 +124,9 @@ fn by_cost<B: BarTable>(alloc: Global, ground: &Ground<B>, first: u32) -> Result
         tick: 0,
         cell: ground.start(),
     };
-    let mut frontier = Frontier::of(alloc, start, first, ground.cells())?;
-    if frontier.grow(alloc, ground)? {
-        return arrive(alloc, ground, &frontier);
+    frontier.begin(start, first, ground.cells())?;
+    if frontier.grow(ground)? {
+        return arrive(alloc, ground, frontier);
     }
     let reached = frontier.reached();
     dead(alloc, ground, reached)
@@ -109,7 +162,7 @@ fn arrive<B: BarTable>(
     alloc: Global,
     ground: &Ground<B>,
     frontier: &Frontier,
-) -> Result<Found, OutOfMemory>
+) -> Result<Found<StateLabels>, OutOfMemory>
     requires shape { IsGridMap ground.now.grid }
     requires small { frontier.now.cost < 6000000 }
     requires limit { IsBelowLimit ground.now frontier.now.cost }
@@ -120,10 +173,10 @@ fn arrive<B: BarTable>(
     mapf_model::laws::definitions_are_decided();
     let cost = frontier.cost();
     let cells = least_walk(alloc, ground, cost)?;
-    let entries = entries_of(alloc, frontier.low(), Some(cost))?;
+    let labels = StateLabels::of(alloc, frontier.low(), Some(cost))?;
     Ok(Found::Arrives {
         path: Path::of(cells).unwrap(),
-        labels: Labels::of(entries),
+        labels,
     })
 }
 
@@ -132,14 +185,12 @@ fn dead<B: BarTable>(
     alloc: Global,
     ground: &Ground<B>,
     states: &[State],
-) -> Result<Found, OutOfMemory>
+) -> Result<Found<StateLabels>, OutOfMemory>
     requires shape { IsGridMap ground.now.grid }
     requires few { (s : State) → Contains states.now s → IsWithin ground.now greatest_cost s }
     requires none { (entries : List Entry) → AreEntriesOf states.now None entries → ShowNone ground.now entries }
     ensures { IfOk result (IsPathAnswer ground.now) }
 {
-    let entries = entries_of(alloc, states, None)?;
-    Ok(Found::Dead {
-        labels: Labels::of(entries),
-    })
+    let labels = StateLabels::of(alloc, states, None)?;
+    Ok(Found::Dead { labels })
 }

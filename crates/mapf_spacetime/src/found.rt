@@ -3,9 +3,9 @@ use mapf_model::Path;
 
 /// What a search found.
 #[derive(Debug, Drop)]
-pub enum Found {
+pub enum Found<L = Labels> {
     /// A cheapest path, and labels that show that none is cheaper.
-    Arrives { path: Path, labels: Labels },
+    Arrives { path: Path, labels: L },
     /// No path arrives, and the labels show it.
-    Dead { labels: Labels },
+    Dead { labels: L },
 }

@@ -1,11 +1,11 @@
-ghost use Rattle.std.specs.Prelude.{◌≡◌, ◌↔◌, ◌+◌, ◌<◌, ◌≤◌, ◌^◌, [], ◌∷◌, ℕ, length, take, false};
+ghost use Rattle.std.specs.Prelude.{◌≡◌, ◌↔◌, ◌+◌, ◌<◌, ◌≤◌, ◌^◌, [], ◌∷◌, Some, length, take, false};
 ghost use Rattle.std.specs.Prelude.{IfOk, IfSome, IfNone, OnOk, IsTrue, Contains};
-ghost use Rattle.mapf_model.specs.Grid.{Step};
 ghost use Rattle.mapf_model.specs.Limits.{most_path_cells};
+ghost use Rattle.mapf_model.specs.Neighbours.{neighbourhood};
 ghost use Rattle.mapf_spacetime.specs.declared.state.State.{State};
-ghost use Rattle.mapf_spacetime.specs.Task.{IsValue, IsNotBelow};
-ghost use Rattle.mapf_spacetime.specs.States.{first_states, with_reached, with_open, with_waiting, raised, low_states};
-ghost use Rattle.mapf_spacetime.specs.States.{IsFrontier, Keeps, Takes, Places, HasArrived, IsWalked, IsSpent};
+ghost use Rattle.mapf_spacetime.specs.Task.{IsValue};
+ghost use Rattle.mapf_spacetime.specs.States.{first_states, with_reached, with_open, with_next, with_later, raised, low_states};
+ghost use Rattle.mapf_spacetime.specs.States.{IsFrontier, Keeps, Takes, NoneWait, HasArrived, IsWalked, IsSpent};
 ghost use Rattle.mapf_spacetime.specs.States.{IsBelowLimit};
 
 use crate::ground::Ground;
@@ -22,7 +22,9 @@ use std::mem;
 pub struct Frontier {
     reached: Reached,
     open_states: Vec<State>,
-    waiting: Vec<State>,
+    // The states of the next cost, and those of the cost after it: no step raises the value by more.
+    next_states: Vec<State>,
+    later_states: Vec<State>,
     cost: u32,
     below: usize,
 }
@@ -35,31 +37,40 @@ impl Model for Frontier {
     ghost view = { λ f. record {
       reached = f.reached;
       open_states = f.open_states.items;
-      waiting = f.waiting.items;
+      next_states = f.next_states.items;
+      later_states = f.later_states.items;
       cost = f.cost;
       below = f.below;
     } };
 }
 
 impl Frontier {
-    /// On a grid of so many cells only the start is known, and its value is the first cost to try.
-    pub fn of(
-        alloc: Global,
-        start: State,
-        value: u32,
-        cells: usize,
-    ) -> Result<Frontier, OutOfMemory>
-        ensures { IfOk result (λ frontier. frontier ≡ first_states start value) }
-    {
-        let mut open_states = Vec::new(alloc);
-        open_states.push(start)?;
-        Ok(Frontier {
-            reached: Reached::new(alloc, cells)?,
-            open_states,
-            waiting: Vec::new(alloc),
-            cost: value,
+    /// Nothing is known.
+    pub fn new(alloc: Global) -> Frontier {
+        Frontier {
+            reached: Reached::new(alloc),
+            open_states: Vec::new(alloc),
+            next_states: Vec::new(alloc),
+            later_states: Vec::new(alloc),
+            cost: 0,
             below: 0,
-        })
+        }
+    }
+
+    /// Begins anew, in the same memory: on a grid of so many cells only the start is known, and its
+    /// value is the first cost to try.
+    pub fn begin(&mut self, start: State, value: u32, cells: usize) -> Result<(), OutOfMemory>
+        ensures { OnOk result (self.new ≡ first_states start value) }
+    {
+        self.reached.clear();
+        self.reached.make_room(cells)?;
+        self.open_states.clear();
+        self.open_states.push(start)?;
+        self.next_states.clear();
+        self.later_states.clear();
+        self.cost = value;
+        self.below = 0;
+        Ok(())
     }
 
     pub fn cost(&self) -> u32
@@ -82,6 +93,7 @@ impl Frontier {
         &self.reached.states()[..self.below]
     }
 
+    #[inline(always)]
     fn take_open(&mut self) -> Option<State>
         ensures some { IfSome result (λ state. self.old ≡ with_open self.new state) }
         ensures none { IfNone result ((self.old.open_states ≡ []) × (self.new ≡ self.old)) }
@@ -91,16 +103,19 @@ impl Frontier {
     }
 
     /// Reaches a state, and answers whether it is new.
+    #[inline(always)]
     fn reach(&mut self, state: State) -> Result<bool, OutOfMemory>
         requires { state.tick ≤ most_path_cells }
         ensures new { IfOk result (λ new. IsTrue new → self.new ≡ with_reached self.old state) }
         ensures old { IfOk result (λ new. new ≡ false → (self.new ≡ self.old) × Contains self.old.reached state) }
         ensures small { OnOk result (length self.new.reached < 2 ^ 64) }
     {
-        self.reached.add(state)
+        let new = self.reached.add(state)?;
+        Ok(new)
     }
 
     /// Whether the state is the one in which its cell was reached last.
+    #[inline(always)]
     fn was_reached(&self, state: &State) -> bool
         requires { state.now.tick ≤ most_path_cells }
         ensures { IsTrue result → Contains self.now.reached state.now }
@@ -109,36 +124,42 @@ impl Frontier {
     }
 
     fn none_waits(&self) -> bool
-        ensures { IsTrue result ↔ (self.now.waiting ≡ []) }
+        ensures { IsTrue result ↔ NoneWait self.now }
     {
-        self.waiting.is_empty()
+        self.next_states.is_empty() && self.later_states.is_empty()
     }
 
-    /// Turns to the next cost, and gives the states that waited.
-    fn raise(&mut self, alloc: Global) -> Vec<State>
+    /// Turns to the next cost, where no state is open: those that waited for it are.
+    fn raise(&mut self)
         requires { self.old.cost < most_path_cells }
-        ensures raised { self.old.open_states ≡ [] → self.new ≡ raised self.old }
-        ensures waited { result.items ≡ self.old.waiting }
+        ensures { self.old.open_states ≡ [] → self.new ≡ raised self.old }
     {
         self.cost += 1;
         self.below = self.reached.len();
-        mem::replace(&mut self.waiting, Vec::new(alloc))
+        mem::swap(&mut self.open_states, &mut self.next_states);
+        mem::swap(&mut self.next_states, &mut self.later_states);
     }
 
     /// Leaves a state to be reached at its value.
+    #[inline(always)]
     fn place(&mut self, state: State, value: u32) -> Result<(), OutOfMemory>
+        requires { self.old.cost < most_path_cells }
         ensures level { OnOk result (value ≤ self.old.cost → self.new ≡ with_open self.old state) }
-        ensures past { OnOk result (self.old.cost < value → self.new ≡ with_waiting self.old state) }
+        ensures next { OnOk result (value ≡ self.old.cost + 1 → self.new ≡ with_next self.old state) }
+        ensures later { OnOk result (self.old.cost + 1 < value → self.new ≡ with_later self.old state) }
     {
         if value <= self.cost {
             self.open_states.push(state)?;
+        } else if value == self.cost + 1 {
+            self.next_states.push(state)?;
         } else {
-            self.waiting.push(state)?;
+            self.later_states.push(state)?;
         }
         Ok(())
     }
 
-    /// Takes one step, unless it is barred.
+    /// Takes the step to a cell beside that of the state, unless it is barred or can't lead to the goal.
+    #[inline(always)]
     fn take<B: BarTable>(
         &mut self,
         ground: &Ground<B>,
@@ -149,7 +170,8 @@ impl Frontier {
         requires frontier { IsFrontier ground.now (from.now ∷ []) self.old }
         requires reached { Contains self.old.reached from.now }
         requires level { IsValue ground.now from.now self.old.cost }
-        requires step { Step ground.now.grid from.now.cell to }
+        requires wide { 0 < ground.now.grid.width }
+        requires beside { Contains (neighbourhood ground.now.grid.width from.now.cell) (Some to) }
         ensures { OnOk result (Takes ground.now (from.now ∷ []) from.now to self.old self.new) }
     {
         let next = State {
@@ -159,44 +181,36 @@ impl Frontier {
         if self.was_reached(&next) {
             return Ok(());
         }
-        if !ground.lets(from, to) {
-            return Ok(());
-        }
         let Some(value) = ground.value(&next) else {
             return Ok(());
         };
+        if !ground.lets(from, to) {
+            return Ok(());
+        }
         self.place(next, value)?;
         Ok(())
     }
 
     /// Takes each of the steps from a state.
-    fn take_all<B: BarTable>(
-        &mut self,
-        steps: &[Cell],
-        ground: &Ground<B>,
-        from: &State,
-    ) -> Result<(), OutOfMemory>
+    fn take_all<B: BarTable>(&mut self, ground: &Ground<B>, from: &State) -> Result<(), OutOfMemory>
         requires small { self.old.cost < most_path_cells }
         requires frontier { IsFrontier ground.now (from.now ∷ []) self.old }
         requires reached { Contains self.old.reached from.now }
         requires level { IsValue ground.now from.now self.old.cost }
-        requires steps { (to : ℕ) → Contains steps.now to ↔ Step ground.now.grid from.now.cell to }
         ensures frontier { OnOk result (IsFrontier ground.now [] self.new) }
         ensures keeps { OnOk result (Keeps self.old self.new) }
     {
-        for to in steps {
-            self.take(ground, from, *to)?;
+        for place in ground.beside(from.cell) {
+            if let Some(to) = place {
+                self.take(ground, from, to)?;
+            }
         }
         Ok(())
     }
 
     /// Reaches all open states and those of the same value behind them, until the agent arrives.
     /// Answers whether it does.
-    fn walk_level<B: BarTable>(
-        &mut self,
-        alloc: Global,
-        ground: &Ground<B>,
-    ) -> Result<bool, OutOfMemory>
+    fn walk_level<B: BarTable>(&mut self, ground: &Ground<B>) -> Result<bool, OutOfMemory>
         requires small { self.old.cost < most_path_cells }
         requires frontier { IsFrontier ground.now [] self.old }
         ensures arrives { IfOk result (λ arrives. IsTrue arrives → HasArrived ground.now self.new) }
@@ -208,53 +222,15 @@ impl Frontier {
                 return Ok(true);
             }
             if self.reach(state)? {
-                let steps = ground.steps(alloc, state.cell);
-                self.take_all(steps.as_slice(), ground, &state)?;
+                self.take_all(ground, &state)?;
             }
         }
         Ok(false)
     }
 
-    /// Places the states that waited, at the next cost.
-    fn place_all<B: BarTable>(
-        &mut self,
-        waited: &[State],
-        ground: &Ground<B>,
-    ) -> Result<(), OutOfMemory>
-        requires open_states { self.old.open_states ≡ [] }
-        requires waiting { self.old.waiting ≡ [] }
-        requires known { (s : State) → Contains waited.now s → IsNotBelow ground.now self.old.cost s
-            × (s.tick ≤ most_path_cells) }
-        ensures { OnOk result (Places ground.now waited.now (length waited.now) self.old self.new) }
-    {
-        for state in waited {
-            let Some(value) = ground.value(state) else {
-                unreachable!()
-            };
-            self.place(*state, value)?;
-        }
-        Ok(())
-    }
-
-    /// Turns to the next cost.
-    fn advance<B: BarTable>(&mut self, alloc: Global, ground: &Ground<B>) -> Result<(), OutOfMemory>
-        requires small { self.old.cost < 9000000 }
-        requires walked { IsWalked ground.now self.old }
-        ensures frontier { OnOk result (IsFrontier ground.now [] self.new) }
-        ensures cost { OnOk result (self.new.cost ≡ self.old.cost + 1) }
-    {
-        let waited = self.raise(alloc);
-        self.place_all(waited.as_slice(), ground)?;
-        Ok(())
-    }
-
     /// Raises the cost until the agent arrives, or no state is left to reach. Answers whether it
     /// arrives.
-    pub fn grow<B: BarTable>(
-        &mut self,
-        alloc: Global,
-        ground: &Ground<B>,
-    ) -> Result<bool, OutOfMemory>
+    pub fn grow<B: BarTable>(&mut self, ground: &Ground<B>) -> Result<bool, OutOfMemory>
         requires small { self.old.cost < 4194304 }
         requires limit { IsBelowLimit ground.now self.old.cost }
         requires frontier { IsFrontier ground.now [] self.old }
@@ -266,13 +242,13 @@ impl Frontier {
         let horizon = ground.horizon();
         let mut cost = self.cost();
         loop {
-            if self.walk_level(alloc, ground)? {
+            if self.walk_level(ground)? {
                 return Ok(true);
             }
             if self.none_waits() {
                 return Ok(false);
             }
-            self.advance(alloc, ground)?;
+            self.raise();
             cost += 1;
             prove!(cost < horizon + 4194304);
         }

@@ -1,19 +1,17 @@
-ghost use Rattle.std.specs.Prelude.{◌≡◌, ◌≤◌, ◌↔◌, ℕ, IfSome, IfNone, IsTrue, Contains, false};
-ghost use Rattle.std.specs.List.Sorted.{IsStrictlyIncreasing};
+ghost use Rattle.std.specs.Prelude.{◌≡◌, ◌<◌, ◌≤◌, IfSome, IfNone, IsTrue, Contains, false};
 ghost use Rattle.mapf_model.specs.declared.bar.Bar.{Bar};
 ghost use Rattle.mapf_constraints.specs.BarSets.{AreBefore};
 ghost use Rattle.mapf_model.specs.Distance.{IsUnreachable};
 ghost use Rattle.mapf_model.specs.Grid.{IsFree, Step};
 ghost use Rattle.mapf_model.specs.Labels.{MayGo};
 ghost use Rattle.mapf_model.specs.Limits.{most_path_cells, split_ticks};
+ghost use Rattle.mapf_model.specs.Neighbours.{neighbourhood};
 ghost use Rattle.mapf_spacetime.specs.Task.{task_of, start_of, IsOpen, IsValue, IsBarredLater, MayRestFrom};
 
 use crate::state::State;
 use mapf_constraints::BarTable;
 use mapf_distance::Distances;
 use mapf_model::{Agent, Cell, Grid, Tick};
-use smallvec::SmallVec;
-use std::alloc::Global;
 use std::marker::Model;
 
 /// Where an agent goes, and what is barred to it.
@@ -64,16 +62,19 @@ impl<'a, B: BarTable> Ground<'a, B> {
         self.agent.start
     }
 
-    /// Where the agent may be one tick after it is in the cell, bars aside.
-    pub fn steps(&self, alloc: Global, cell: Cell) -> SmallVec<Cell, 5>
+    /// The cells around a cell, in rising order: those of them that are free are where the agent may be
+    /// one tick after it is there, bars aside.
+    #[inline(always)]
+    pub fn beside(&self, cell: Cell) -> [Option<Cell>; 5]
         requires { IsFree self.now.grid cell }
-        ensures exact { (to : ℕ) → Contains result.items to ↔ Step self.now.grid cell to }
-        ensures rising { IsStrictlyIncreasing result.items }
+        ensures cells { result ≡ neighbourhood self.now.grid.width cell }
+        ensures wide { 0 < self.now.grid.width }
     {
-        self.grid.steps(alloc, cell)
+        cell.neighbourhood(self.grid.width())
     }
 
     /// The tick and the distance of the cell together, None where no steps lead to the goal.
+    #[inline(always)]
     pub fn value(&self, state: &State) -> Option<u32>
         requires { state.now.tick ≤ most_path_cells }
         ensures some { IfSome result (IsValue self.now state.now) }
@@ -86,6 +87,7 @@ impl<'a, B: BarTable> Ground<'a, B> {
     }
 
     /// Whether the bars let the agent go from the state to the cell.
+    #[inline(always)]
     pub fn lets(&self, from: &State, to: Cell) -> bool
         requires small { from.now.tick ≤ most_path_cells }
         requires step { Step self.now.grid from.now.cell to }
@@ -118,6 +120,7 @@ impl<'a, B: BarTable> Ground<'a, B> {
     }
 
     /// Whether the agent arrives in this state and may stay.
+    #[inline(always)]
     pub fn is_arrival(&self, state: &State) -> bool
         ensures goal { IsTrue result → state.now.cell ≡ self.now.goal }
         ensures rest { IsTrue result → MayRestFrom self.now state.now.tick }

@@ -1,8 +1,9 @@
-ghost use Rattle.std.specs.Prelude.{◌≡◌, ◌==◌, ◌&&◌, find};
+ghost use Rattle.std.specs.Prelude.{◌≡◌, ◌==◌, ◌&&◌, ◌<◌, ◌↔◌, [], Some, IsTrue, length, find, slice_get};
 ghost use Rattle.mapf_model.specs.Labels.{IsLabel, entries_of};
 
 use mapf_distance::Distances;
 use mapf_model::{Cell, Entry, Label, Tick};
+use std::alloc::Global;
 use std::marker::Model;
 
 /// The entries of one agent, sorted by tick and then by the number of the cell. A state that has
@@ -26,6 +27,35 @@ impl Labels {
         ensures { result ≡ entries.items }
     {
         Labels { entries }
+    }
+
+    /// No labels.
+    pub fn none(alloc: Global) -> Labels
+        ensures { result ≡ [] }
+    {
+        Labels {
+            entries: Vec::new(alloc),
+        }
+    }
+
+    pub fn len(&self) -> usize
+        ensures { result ≡ length self.now }
+    {
+        self.entries.len()
+    }
+
+    pub fn is_empty(&self) -> bool
+        ensures { IsTrue result ↔ (self.now ≡ []) }
+    {
+        self.entries.is_empty()
+    }
+
+    /// The entry in this place.
+    pub fn entry(&self, place: usize) -> Entry
+        requires { place < length self.now }
+        ensures { slice_get self.now place ≡ Some result }
+    {
+        self.entries[place]
     }
 
     pub fn entries(&self) -> &[Entry]

@@ -2,7 +2,6 @@
 #![tactic(auto)]
 
 mod cheapest;
-mod entries;
 mod found;
 mod frontier;
 mod ground;
@@ -10,11 +9,15 @@ mod labels;
 mod path_search;
 mod reached;
 mod state;
+mod state_labels;
 mod state_set;
+mod workspace;
 
-pub use cheapest::search;
+pub use cheapest::{search, search_in, search_states};
 pub use found::Found;
 pub use labels::{Labels, label_at};
+pub use state_labels::StateLabels;
+pub use workspace::Workspace;
 
 #[cfg(test)]
 mod tests;

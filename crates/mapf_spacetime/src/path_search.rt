@@ -1,9 +1,9 @@
-ghost use Rattle.std.specs.Prelude.{◌≡◌, ◌↔◌, ◌+◌, ◌-◌, ◌<◌, ◌≤◌, ◌^◌, [], ◌∷◌, ◌++◌, ℕ, length, slice_index};
+ghost use Rattle.std.specs.Prelude.{◌≡◌, ◌+◌, ◌-◌, ◌<◌, ◌≤◌, ◌^◌, [], ◌∷◌, ◌++◌, ℕ, Some, length, slice_index};
 ghost use Rattle.std.specs.Prelude.{false, IfOk, IfSome, IfNone, OnOk, IsTrue, Contains};
-ghost use Rattle.std.specs.List.Sorted.{IsStrictlyIncreasing};
-ghost use Rattle.mapf_model.specs.Grid.{IsFree, Step};
+ghost use Rattle.mapf_model.specs.Grid.{IsFree};
 ghost use Rattle.mapf_model.specs.Labels.{MayGo};
 ghost use Rattle.mapf_model.specs.Limits.{most_path_cells};
+ghost use Rattle.mapf_model.specs.Neighbours.{neighbourhood};
 ghost use Rattle.mapf_spacetime.specs.Task.{IsWithin, state_at, start_of};
 ghost use Rattle.mapf_spacetime.specs.PathSearch.{AreNoWaysBelow, CanArrive, IsNoWayOn, IsSearching, IsWholeWalk};
 ghost use Rattle.mapf_spacetime.specs.PathSearch.{turns_left, first_walk, with_step, with_failure};
@@ -32,10 +32,10 @@ impl Model for PathSearch {
 }
 
 impl PathSearch {
-    fn of(alloc: Global, start: Cell) -> Result<PathSearch, OutOfMemory>
+    fn of(alloc: Global, start: Cell, cost: u32) -> Result<PathSearch, OutOfMemory>
         ensures { IfOk result (λ walk. walk ≡ first_walk start) }
     {
-        let mut cells = Vec::new(alloc);
+        let mut cells = Vec::with_capacity(alloc, cost as usize + 1)?;
         cells.push(start)?;
         Ok(PathSearch {
             cells,
@@ -83,7 +83,9 @@ impl PathSearch {
     /// Whether the bars let the agent go to the cell, and it may still arrive at the cost from there.
     fn leads<B: BarTable>(&self, ground: &Ground<B>, from: &State, to: Cell, cost: u32) -> bool
         requires small { from.now.tick < most_path_cells }
-        requires step { Step ground.now.grid from.now.cell to }
+        requires free { IsFree ground.now.grid from.now.cell }
+        requires wide { 0 < ground.now.grid.width }
+        requires beside { Contains (neighbourhood ground.now.grid.width from.now.cell) (Some to) }
         ensures may { IsTrue result → MayGo ground.now.grid ground.now.bars from.now.cell to from.now.tick }
         ensures within { IsTrue result → IsWithin ground.now cost (state_at to (from.now.tick + 1)) }
         ensures fresh { IsTrue result → Contains self.now.failed (state_at to (from.now.tick + 1)) → ⊥ }
@@ -102,38 +104,28 @@ impl PathSearch {
         !self.failed.has(&next)
     }
 
-    /// The first of the cells from which the agent may still arrive.
-    fn next<B: BarTable>(
-        &self,
-        steps: &[Cell],
-        ground: &Ground<B>,
-        from: &State,
-        cost: u32,
-    ) -> Option<Cell>
+    /// The least of the cells beside that of the state from which the agent may still arrive.
+    fn next<B: BarTable>(&self, ground: &Ground<B>, from: &State, cost: u32) -> Option<Cell>
         requires small { from.now.tick < most_path_cells }
-        requires steps { (to : ℕ) → Contains steps.now to ↔ Step ground.now.grid from.now.cell to }
-        requires rising { IsStrictlyIncreasing steps.now }
+        requires free { IsFree ground.now.grid from.now.cell }
         ensures may { IfSome result (λ to. MayGo ground.now.grid ground.now.bars from.now.cell to from.now.tick) }
         ensures within { IfSome result (λ to. IsWithin ground.now cost (state_at to (from.now.tick + 1))) }
         ensures fresh { IfSome result (λ to. Contains self.now.failed (state_at to (from.now.tick + 1)) → ⊥) }
         ensures least { IfSome result (AreNoWaysBelow ground.now cost self.now.failed from.now) }
         ensures none { IfNone result ((to : ℕ) → IsNoWayOn ground.now cost self.now.failed from.now to) }
     {
-        for to in steps {
-            if self.leads(ground, from, *to, cost) {
-                return Some(*to);
+        for place in ground.beside(from.cell) {
+            if let Some(to) = place {
+                if self.leads(ground, from, to, cost) {
+                    return Some(to);
+                }
             }
         }
         None
     }
 
     /// Goes one step on, or turns back where no step leads on.
-    fn go_on<B: BarTable>(
-        &mut self,
-        alloc: Global,
-        ground: &Ground<B>,
-        cost: u32,
-    ) -> Result<(), OutOfMemory>
+    fn go_on<B: BarTable>(&mut self, ground: &Ground<B>, cost: u32) -> Result<(), OutOfMemory>
         requires small { cost < 9000000 }
         requires arrives { CanArrive ground.now cost (start_of ground.now) }
         requires searching { IsSearching ground.now cost self.old }
@@ -142,8 +134,7 @@ impl PathSearch {
         ensures nearer { OnOk result (turns_left self.new < turns_left self.old) }
     {
         let here = self.last();
-        let steps = ground.steps(alloc, here.cell);
-        if let Some(to) = self.next(steps.as_slice(), ground, &here, cost) {
+        if let Some(to) = self.next(ground, &here, cost) {
             self.step(to)?;
             return Ok(());
         }
@@ -163,9 +154,8 @@ impl PathSearch {
 /// Whether the tick and the distance of the cell together are at most the cost.
 fn is_within<B: BarTable>(ground: &Ground<B>, state: &State, cost: u32) -> bool
     requires small { state.now.tick ≤ most_path_cells }
-    requires free { IsFree ground.now.grid state.now.cell }
     ensures within { IsTrue result → IsWithin ground.now cost state.now }
-    ensures no { result ≡ false → CanArrive ground.now cost state.now → ⊥ }
+    ensures no { result ≡ false → IsFree ground.now.grid state.now.cell → CanArrive ground.now cost state.now → ⊥ }
 {
     match ground.value(state) {
         Some(value) => value <= cost,
@@ -185,9 +175,9 @@ pub fn least_walk<B: BarTable>(
     requires within { IsWithin ground.now cost (start_of ground.now) }
     ensures { IfOk result (λ cells. IsWholeWalk ground.now cost cells.items) }
 {
-    let mut walk = PathSearch::of(alloc, ground.start())?;
+    let mut walk = PathSearch::of(alloc, ground.start(), cost)?;
     while walk.len() <= cost as usize {
-        walk.go_on(alloc, ground, cost)?;
+        walk.go_on(ground, cost)?;
     }
     Ok(walk.into_cells())
 }

@@ -1,46 +1,72 @@
 ghost use Rattle.std.specs.Prelude.{◌≡◌, ◌<◌, ◌≤◌, ◌^◌, ◌++◌, ◌∷◌, [], false, length, IsTrue, IfOk, OnOk, Contains};
 ghost use Rattle.mapf_model.specs.Limits.{most_path_cells};
+ghost use Rattle.mapf_spacetime.specs.Task.{state_at};
 
 use crate::state::State;
-use mapf_model::{OutOfMemory, Tick};
+use mapf_model::{Cell, OutOfMemory, Tick};
 use std::alloc::Global;
 use std::marker::Model;
 
-// The tick of a cell that no state has reached.
-const NEVER: Tick = Tick::MAX;
+// By so much the base rises from one search to the next: more than the ticks of paths.
+const STAMP_TICKS: u32 = 16_777_216;
 
 /// The states that a search has reached, in the order in which they came. The states of one value have
 /// different cells, so the tick at which a cell was reached last tells whether such a state is new.
 #[derive(Drop)]
 pub struct Reached {
     states: Vec<State>,
-    // For each cell the tick at which it was reached last.
-    last: Vec<Tick>,
+    // For each cell the base and the tick at which it was reached last together. The stamps of earlier
+    // searches are below the base, so they needn't be cleared.
+    stamps: Vec<u32>,
+    base: u32,
 }
 
 impl Model for Reached {
     ghost use Rattle.std.specs.Prelude.{List};
-    ghost use Rattle.mapf_spacetime.specs.States.{AreLast};
+    ghost use Rattle.mapf_spacetime.specs.States.{AreLast, AreOfBase, IsBase};
     ghost use Rattle.mapf_spacetime.specs.declared.state.State.{State};
 
     ghost Value = { List State };
 
     ghost view = { λ reached. reached.states.items };
 
-    ghost invariant = { λ reached. AreLast reached.last.items reached.states.items };
+    ghost invariant = { λ reached. AreLast reached.base reached.stamps.items reached.states.items
+        × AreOfBase reached.base reached.stamps.items × IsBase reached.base };
 }
 
 impl Reached {
-    /// No state of a grid of so many cells.
-    pub fn new(alloc: Global, cells: usize) -> Result<Reached, OutOfMemory>
-        ensures { IfOk result (λ reached. reached ≡ []) }
+    /// No state, of a grid without cells.
+    pub fn new(alloc: Global) -> Reached
+        ensures { result ≡ [] }
     {
-        let mut last = Vec::new(alloc);
-        last.resize(cells, NEVER)?;
-        Ok(Reached {
+        Reached {
             states: Vec::new(alloc),
-            last,
-        })
+            stamps: Vec::new(alloc),
+            base: STAMP_TICKS,
+        }
+    }
+
+    /// Forgets all states.
+    pub fn clear(&mut self)
+        ensures { self.new ≡ [] }
+    {
+        self.states.clear();
+        if self.base < u32::MAX - 2 * STAMP_TICKS {
+            self.base += STAMP_TICKS;
+        } else {
+            self.base = STAMP_TICKS;
+            self.stamps.clear();
+        }
+    }
+
+    /// Makes room for the states of a grid of so many cells.
+    pub fn make_room(&mut self, cells: usize) -> Result<(), OutOfMemory>
+        ensures { OnOk result (self.new ≡ self.old) }
+    {
+        if self.stamps.len() < cells {
+            self.stamps.resize(cells, 0)?;
+        }
+        Ok(())
     }
 
     pub fn len(&self) -> usize
@@ -56,24 +82,27 @@ impl Reached {
     }
 
     /// Whether the state is the one in which its cell was reached last.
+    #[inline(always)]
     pub fn is_last(&self, state: &State) -> bool
         requires { state.now.tick ≤ most_path_cells }
         ensures { IsTrue result → Contains self.now state.now }
     {
-        match self.last.get(state.cell.0 as usize) {
-            Some(tick) => *tick == state.tick,
+        match self.stamps.get(state.cell.0 as usize) {
+            Some(stamp) => *stamp == self.base + state.tick,
             None => false,
         }
     }
 
-    /// Notes the tick of a state that was reached.
-    fn note(&mut self, state: &State)
-        requires { Contains self.old state.now }
+    /// Notes the tick at which a cell was reached.
+    #[inline(always)]
+    fn note(&mut self, cell: Cell, tick: Tick)
+        requires small { tick ≤ most_path_cells }
+        requires reached { Contains self.old (state_at cell tick) }
         ensures { self.new ≡ self.old }
     {
-        let cell = state.cell.0 as usize;
-        if cell < self.last.len() {
-            self.last[cell] = state.tick;
+        let place = cell.0 as usize;
+        if place < self.stamps.len() {
+            self.stamps[place] = self.base + tick;
         }
     }
 
@@ -89,7 +118,7 @@ impl Reached {
             return Ok(false);
         }
         self.states.push(state)?;
-        self.note(&state);
+        self.note(state.cell, state.tick);
         Ok(true)
     }
 }

@@ -1,4 +1,5 @@
-use crate::{Found, Labels, label_at, search};
+use crate::cheapest::with_labels;
+use crate::{Found, Labels, Workspace, label_at, search, search_in};
 use mapf_constraints::{Bar, BarTable, ListBars, TickBars};
 use mapf_distance::Distances;
 use mapf_model::{Agent, Cell, Grid, Label, Path};
@@ -363,6 +364,43 @@ fn a_label_is_the_entry_else_the_distance(rt: HostRuntime) -> Result<(), Fail> {
             assert_eq!(rt; label_at(labels, &distances, Cell(4), 0), Label::Never);
         }
         Found::Dead { labels: _ } => return Err(Fail::from("dead")),
+    }
+    Ok(())
+}
+
+/// What the search finds in this workspace.
+fn searched_in(
+    alloc: Global,
+    workspace: &mut Workspace,
+    rows: &str,
+    ends: (u32, u32),
+    cells: &[(u32, u32)],
+) -> Result<String, Fail> {
+    let grid = grid_of(alloc, rows)?;
+    let mut bars = TickBars::empty(alloc);
+    bar_all(&mut bars, cells, &[])?;
+    let (start, goal) = (Cell(ends.0), Cell(ends.1));
+    if !grid.is_free(goal) {
+        return Err(Fail::from("no goal"));
+    }
+    let distances = Distances::of(alloc, &grid, goal)?;
+    let agent = Agent { start, goal };
+    let found = search_in(alloc, workspace, &grid, &distances, &bars, agent)?;
+    Ok(found_text(alloc, &with_labels(alloc, found)?)?)
+}
+
+#[test]
+fn a_workspace_serves_one_search_after_the_other(rt: HostRuntime) -> Result<(), Fail> {
+    let alloc = rt.alloc();
+    let mut workspace = Workspace::new(alloc);
+    for _round in 0..300 {
+        let row = searched_in(alloc, &mut workspace, "...", (0, 2), &[(1, 1)])?;
+        assert_eq!(rt; row.as_str(), "path 0 0 1 2; 0@0=3");
+        let bars = [(1, 1), (1, 2), (1, 3)];
+        let bay = searched_in(alloc, &mut workspace, "... @.@", (0, 2), &bars)?;
+        assert_eq!(rt; bay.as_str(), "path 0 0 0 0 1 2; 0@0=5 0@1=4 0@2=3");
+        let alone = searched_in(alloc, &mut workspace, ".", (0, 0), &[(0, 3)])?;
+        assert_eq!(rt; alone.as_str(), "dead; 0@0=never 0@1=never 0@2=never");
     }
     Ok(())
 }

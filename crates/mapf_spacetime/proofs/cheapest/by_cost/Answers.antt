@@ -7,7 +7,7 @@ use Rattle.mapf_spacetime.proofs.cheapest.by_cost.Goals as goal
 pub grow-requires-clause-frontier : goal.grow-requires-clause-frontier
 grow-requires-clause-frontier g c =
     let task = c.args.ground.now in
-    let is = rw c.start.ensures at c.in_ok-frontier.ensures in
+    let is = rw c.start.ensures at c.in_ok-begin.ensures in
     subst (IsFrontier task []) (sym is) (first_frontier task c.args.first c.requires.first)
 
 pub dead-requires-clause-few : goal.dead-requires-clause-few

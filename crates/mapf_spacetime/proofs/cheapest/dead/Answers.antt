@@ -1,15 +1,13 @@
-use Rattle.std.proofs.Common.{sym, subst}
-use Rattle.mapf_spacetime.specs.Answer.{IsDeath}
 use Rattle.mapf_spacetime.proofs.AnswerLemmas.{ranges_none}
 use Rattle.mapf_spacetime.proofs.cheapest.dead.Goals as goal
 
 pub returns : goal.returns
 returns g c =
     let task = c.args.ground.now in
-    let listed = c.in_ok-entries.entries.items in
-    let a = c.in_ok-entries.ensures in
+    let listed = c.in_ok-labels.labels in
+    let a = c.in_ok-labels.ensures in
     let shows = c.requires.none listed a in
-    subst (IsDeath task) (sym c.of.ensures) (record {
+    record {
       labels = record { sound = shows.sound; rising = a.rising; ranges = ranges_none task c.requires.shape c.args.states.now listed c.requires.few a };
       start = shows.start;
-    })
+    }

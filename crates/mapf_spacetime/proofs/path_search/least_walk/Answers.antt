@@ -4,8 +4,8 @@ use Rattle.mapf_spacetime.proofs.path_search.least_walk.Goals as goal
 
 pub returns : goal.returns
 returns g c =
-    let searching = c.loop-alloc.invariant in
-    let long = c.loop-alloc-test.false in
+    let searching = c.loop-walk.invariant in
+    let long = c.loop-walk-test.false in
     let size = c.len.ensures in
     let short = searching.short in
     subst (IsWholeWalk c.args.ground.now c.args.cost) (sym c.into_cells.ensures) (record {

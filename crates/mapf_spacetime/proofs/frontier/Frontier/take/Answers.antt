@@ -1,9 +1,17 @@
-use Rattle.std.proofs.Common.{◌+◌, ◌<◌, ◌≤◌, ◌∷◌, [], ⊎_elim, inl, subst, arith, ◌≡◌, refl}
+use Rattle.std.proofs.Common.{◌≡◌, ◌+◌, ◌<◌, ◌≤◌, ◌∷◌, [], ⊎_elim, inl, refl, subst, arith}
 use Rattle.std.proofs.lemmas.Bool.{cases_lt}
+use Rattle.mapf_model.proofs.StepLemmas.{neighbour_step}
 use Rattle.mapf_spacetime.specs.Task.{state_at, Goes, IsValue}
-use Rattle.mapf_spacetime.proofs.ValueLemmas.{no_lower}
-use Rattle.mapf_spacetime.proofs.FrontierLemmas.{take_level, take_past}
+use Rattle.mapf_spacetime.proofs.ValueLemmas.{value_free, no_lower, not_higher}
+use Rattle.mapf_spacetime.proofs.FrontierLemmas.{take_level, take_next, take_later}
 use Rattle.mapf_spacetime.proofs.frontier.Frontier.take.Goals as goal
+
+pub lets-requires-clause-step : goal.lets-requires-clause-step
+lets-requires-clause-step g c =
+    let task = c.args.ground.now in
+    let from = c.args.from.now in
+    let next = state_at c.args.to (from.tick + 1) in
+    neighbour_step task.grid from.cell c.requires.wide (value_free task from c.args.self.now.cost c.requires.level) c.args.to c.requires.beside (value_free task next c.in-Some.value c.in-Some.ensures.some)
 
 pub returns : goal.returns
 returns g c =
@@ -16,8 +24,16 @@ returns g c =
     let is = c.in-Some.ensures.some in
     let goes : Goes task from next = record { may = may; tick = refl } in
     let low = no_lower task from next states.cost value c.requires.level is goes in
+    let high = not_higher task from next states.cost value c.requires.level is goes in
     ⊎_elim
-    (λ (past : states.cost < value). take_past task (from ∷ []) states c.requires.frontier from c.args.to c.requires.reached may (value, is, past) c.place.new.self (c.in_ok-place.ensures.past past))
+    (λ (past : states.cost < value). ⊎_elim
+    (λ (later : states.cost + 1 < value).
+    let same : value ≡ states.cost + 2 = omega arith in
+    take_later task (from ∷ []) states c.requires.frontier from c.args.to c.requires.reached may (subst (IsValue task next) same is) c.place.new.self (c.in_ok-place.ensures.later later))
+    (λ (not_later : value ≤ states.cost + 1).
+    let same : value ≡ states.cost + 1 = omega arith in
+    take_next task (from ∷ []) states c.requires.frontier from c.args.to c.requires.reached may (subst (IsValue task next) same is) c.place.new.self (c.in_ok-place.ensures.next same))
+    (cases_lt (states.cost + 1) value))
     (λ (level : value ≤ states.cost).
     let same : value ≡ states.cost = omega arith in
     take_level task (from ∷ []) states c.requires.frontier from c.args.to c.requires.reached may (subst (IsValue task next) same is) c.place.new.self (c.in_ok-place.ensures.level level))

@@ -1,10 +1,10 @@
-use Rattle.std.proofs.Common.{ℕ, ◌<◌, ◌∷◌, [], slice_index_or}
+use Rattle.std.proofs.Common.{◌≡◌, ℕ, ◌<◌, ◌∷◌, [], Some, None, slice_index_or}
 use Rattle.mapf_spacetime.specs.States.{IsFrontier, Keeps, IsTaken}
 use Rattle.mapf_spacetime.proofs.frontier.Frontier.take_all.Given as goal
 
-abbrev pub invariant-loop-to : goal.invariant-loop-to
-invariant-loop-to g l = record {
+abbrev pub invariant-loop-place : goal.invariant-loop-place
+invariant-loop-place g l = record {
   frontier : IsFrontier l.ground (l.from ∷ []) l.self;
   keeps : Keeps l.initial.self l.self;
-  taken : (k : ℕ) → k < l.to-index → IsTaken l.ground l.self l.from (slice_index_or l.steps k 0);
+  taken : (place to : ℕ) → place < l.place-index → slice_index_or l.place-items place None ≡ Some to → IsTaken l.ground l.self l.from to;
 }

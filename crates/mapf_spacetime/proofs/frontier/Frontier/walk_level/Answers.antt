@@ -2,7 +2,6 @@ use Rattle.std.proofs.Common.{◌∷◌, ◌∙◌, [], refl, sym, ap, subst, Co
 use Rattle.std.proofs.lemmas.List.Elements.{Contains-push}
 use Rattle.mapf_spacetime.specs.Task.{IsValue}
 use Rattle.mapf_spacetime.specs.States.{IsFrontier}
-use Rattle.mapf_spacetime.proofs.ValueLemmas.{value_free}
 use Rattle.mapf_spacetime.proofs.FrontierLemmas.{arrived, open_value, reach_new, reach_old}
 use Rattle.mapf_spacetime.proofs.frontier.Frontier.walk_level.Goals as goal
 
@@ -11,12 +10,6 @@ returns-then-is_arrival-clause-arrives g c =
     let task = c.args.ground.now in
     let f = subst (IsFrontier task []) c.in-Some.ensures.some c.loop-state.invariant.frontier in
     λ yes. arrived task c.take_open.new.self c.in-Some.state f (c.if-is_arrival.ensures.goal refl) (c.if-is_arrival.ensures.rest refl)
-
-pub steps-steps-requires : goal.steps-steps-requires
-steps-steps-requires g c =
-    let task = c.args.ground.now in
-    let f = subst (IsFrontier task []) c.in-Some.ensures.some c.loop-state.invariant.frontier in
-    value_free task c.in-Some.state c.take_open.new.self.cost (open_value task c.take_open.new.self c.in-Some.state f)
 
 pub reach-requires : goal.reach-requires
 reach-requires g c =

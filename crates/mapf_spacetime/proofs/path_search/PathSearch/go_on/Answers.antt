@@ -8,8 +8,8 @@ use Rattle.mapf_spacetime.proofs.ValueLemmas.{value_free}
 use Rattle.mapf_spacetime.proofs.WayLemmas.{step_searching, back_searching}
 use Rattle.mapf_spacetime.proofs.path_search.PathSearch.go_on.Goals as goal
 
-pub steps-steps-requires : goal.steps-steps-requires
-steps-steps-requires g c =
+pub next-requires-clause-free : goal.next-requires-clause-free
+next-requires-clause-free g c =
     let task = c.args.ground.now in
     let cells = c.args.self.now.cells in
     let some = c.requires.searching.from.some in

@@ -1,6 +1,7 @@
-use Rattle.std.proofs.Common.{ℕ, ◌<◌, slice_index}
+use Rattle.std.proofs.Common.{◌≡◌, ◌<◌, ℕ, Some, None, slice_index_or}
 use Rattle.mapf_spacetime.specs.PathSearch.{IsNoWayOn}
 use Rattle.mapf_spacetime.proofs.path_search.PathSearch.next.Given as goal
 
-abbrev pub invariant-loop-to : goal.invariant-loop-to
-invariant-loop-to g l = (k : ℕ) → k < l.to-index → IsNoWayOn l.ground l.cost l.self.failed l.from (slice_index l.steps k)
+abbrev pub invariant-loop-place : goal.invariant-loop-place
+invariant-loop-place g l =
+    (place to : ℕ) → place < l.place-index → slice_index_or l.place-items place None ≡ Some to → IsNoWayOn l.ground l.cost l.self.failed l.from to

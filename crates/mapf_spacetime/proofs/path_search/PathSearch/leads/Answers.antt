@@ -1,0 +1,20 @@
+use Rattle.std.proofs.Common.{◌+◌, refl}
+use Rattle.mapf_model.proofs.StepLemmas.{neighbour_step, step_free}
+use Rattle.mapf_spacetime.specs.Task.{state_at}
+use Rattle.mapf_spacetime.proofs.SetLemmas.{not_false}
+use Rattle.mapf_spacetime.proofs.ValueLemmas.{value_free}
+use Rattle.mapf_spacetime.proofs.path_search.PathSearch.leads.Goals as goal
+
+pub lets-requires-clause-step : goal.lets-requires-clause-step
+lets-requires-clause-step g c =
+    let task = c.args.ground.now in
+    let from = c.args.from.now in
+    let (value, is, le) = c.if-not-is_within.ensures.within refl in
+    neighbour_step task.grid from.cell c.requires.wide c.requires.free c.args.to c.requires.beside (value_free task (state_at c.args.to (from.tick + 1)) value is)
+
+pub returns-then-not-is_within-clause-no : goal.returns-then-not-is_within-clause-no
+returns-then-not-is_within-clause-no g c = λ no may arrives.
+    absurd (c.if-not-is_within.ensures.no refl (step_free c.args.ground.now.grid c.args.from.now.cell c.args.to may.step) arrives)
+
+pub returns-clause-no : goal.returns-clause-no
+returns-clause-no g c = rw (← c.self.view_is) (λ no may arrives. c.has.ensures.0 (not_false c.has.result no))

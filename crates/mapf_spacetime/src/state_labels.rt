@@ -1,0 +1,110 @@
+ghost use Rattle.std.specs.Prelude.{◌≡◌, ◌<◌, ◌↔◌, ◌^◌, [], Some, IfOk, IsTrue, length, map, slice_get};
+ghost use Rattle.mapf_spacetime.specs.Listed.{AreEntriesOf, entry_for};
+
+use crate::state::State;
+use mapf_model::{Entry, Label, OutOfMemory};
+use std::alloc::Global;
+use std::marker::Model;
+
+/// The labels of one agent as a search leaves them: the states that have one, in rising order of tick
+/// and cell. Each label is what is left of one cost, or each is `Never`. They say what `Labels` say, in
+/// half the memory.
+#[derive(Debug, Drop)]
+pub struct StateLabels {
+    states: Vec<State>,
+    // The cost at which the agent arrives, None where it can't.
+    cost: Option<u32>,
+}
+
+impl Model for StateLabels {
+    ghost use Rattle.std.specs.Prelude.{List, map};
+    ghost use Rattle.mapf_model.specs.declared.label.Entry.{Entry};
+    ghost use Rattle.mapf_spacetime.specs.Listed.{entry_for};
+
+    ghost Value = { List Entry };
+
+    ghost view = { λ labels. map (entry_for labels.cost) labels.states.items };
+}
+
+impl StateLabels {
+    /// No labels.
+    pub fn none(alloc: Global) -> StateLabels
+        ensures { result ≡ [] }
+    {
+        StateLabels {
+            states: Vec::new(alloc),
+            cost: None,
+        }
+    }
+
+    /// The labels of these states at the cost.
+    pub(crate) fn of(
+        alloc: Global,
+        states: &[State],
+        cost: Option<u32>,
+    ) -> Result<StateLabels, OutOfMemory>
+        ensures { IfOk result (λ labels. AreEntriesOf states.now cost labels) }
+    {
+        let mut sorted = Vec::from_slice(alloc, states)?;
+        sorted.sort_unstable();
+        sorted.dedup();
+        Ok(StateLabels {
+            states: sorted,
+            cost,
+        })
+    }
+
+    /// How many labels there are.
+    pub fn len(&self) -> usize
+        ensures count { result ≡ length self.now }
+        ensures small { length self.now < 2 ^ 64 }
+    {
+        self.states.len()
+    }
+
+    pub fn is_empty(&self) -> bool
+        ensures { IsTrue result ↔ (self.now ≡ []) }
+    {
+        self.states.is_empty()
+    }
+
+    /// The entry in this place.
+    pub fn entry(&self, place: usize) -> Entry
+        requires { place < length self.now }
+        ensures { slice_get self.now place ≡ Some result }
+    {
+        entry_of(&self.states[place], self.cost)
+    }
+
+    /// The entries, in memory of their own.
+    pub fn into_entries(self, alloc: Global) -> Result<Vec<Entry>, OutOfMemory>
+        ensures { IfOk result (λ entries. entries.items ≡ self) }
+    {
+        entries_of(alloc, self.states.as_slice(), self.cost)
+    }
+}
+
+// An entry for each of the states.
+fn entries_of(alloc: Global, states: &[State], cost: Option<u32>) -> Result<Vec<Entry>, OutOfMemory>
+    ensures { IfOk result (λ entries. entries.items ≡ map (entry_for cost) states.now) }
+{
+    let mut entries = Vec::with_capacity(alloc, states.len())?;
+    for state in states {
+        entries.push(entry_of(state, cost))?;
+    }
+    Ok(entries)
+}
+
+// The entry of a state: the ticks that are left of the cost, `Never` where there is none.
+fn entry_of(state: &State, cost: Option<u32>) -> Entry
+    ensures { result ≡ entry_for cost state.now }
+{
+    Entry {
+        cell: state.cell,
+        tick: state.tick,
+        label: match cost {
+            Some(cost) => Label::Ticks(cost.saturating_sub(state.tick)),
+            None => Label::Never,
+        },
+    }
+}
