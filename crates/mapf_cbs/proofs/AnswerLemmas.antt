@@ -7,9 +7,8 @@ use Rattle.mapf_model.specs.declared.item.Claim.{Claim}
 use Rattle.mapf_model.specs.declared.item.Claim.TheVariants.{Cost, Bound, Impossible}
 use Rattle.mapf_model.specs.declared.conflict.Conflict.{Conflict}
 use Rattle.mapf_model.specs.declared.conflict.Conflict.TheVariants.{Vertex, Swap}
-use Rattle.mapf_model.specs.declared.item.Item.{Item}
 use Rattle.mapf_model.specs.Plan.{Instance, IsValid}
-use Rattle.mapf_model.specs.Tree.{ConstraintTree, Spell, Shows, Holds, ShareGoal, split_count}
+use Rattle.mapf_model.specs.Tree.{ConstraintTree, Node as TreeNode, nodes_of, Shows, Holds, ShareGoal, split_count}
 use Rattle.mapf_model.specs.Earned.{HasConflict, AreConflictFreeBefore, HaveConflictBefore, HaveSomeConflict, tick_of}
 use Rattle.mapf_cbs.specs.declared.node.Node.{Node}
 use Rattle.mapf_cbs.specs.declared.node.Node.TheVariants.{Root}
@@ -21,8 +20,8 @@ use Rattle.mapf_cbs.specs.Search.{View, IsLive, IsSearched, AreChildrenLater, Is
 use Rattle.mapf_cbs.specs.Nodes.{IsRootView, IsNodeView, IsNodeFor, AreNodesFor, HasTableBar, HaveTableBars}
 use Rattle.mapf_model.specs.declared.cause.Cause.{Cause}
 use Rattle.mapf_model.specs.declared.cause.Cause.TheVariants.{Splits, Ticks}
-use Rattle.mapf_cbs.specs.declared.answer.Answer.TheVariants.{Limit as LimitAnswer}
-use Rattle.mapf_cbs.specs.Answer.{IsTreeOf, IsStoppedAtFirst, IsShownOptimal, IsShownImpossible, IsShownBound, IsSearchAnswer}
+use Rattle.mapf_cbs.specs.declared.outcome.Outcome.TheVariants.{Limit as LimitOutcome}
+use Rattle.mapf_cbs.specs.Answer.{IsTreeOf, IsStoppedAtFirst, IsShownOptimal, IsShownImpossible, IsShownBound, IsOutcome}
 use Rattle.mapf_cbs.specs.FirstConflicts.{AreFirstPaths}
 use Rattle.mapf_cbs.specs.Goals.{NamesFirstDefect}
 use Rattle.mapf_cbs.specs.State.{IsState, IsPopped, IsCauseToStop, IsLeastKey}
@@ -98,8 +97,8 @@ children_later problem nodes fates keys count state few k conflict a is =
     (expanded.later, omega arith, omega arith)
 
 -- a tree of lists that are known by other names
-pub tree_of : (fates more : List Fate) (views : List View) (items : List Item) → fates ≡ more → (tree : ConstraintTree) × Spell items tree × IsTreeAt views fates 0 tree → (tree : ConstraintTree) × Spell items tree × IsTreeAt views more 0 tree
-tree_of fates more views items same (tree, spell, is) = (tree, spell, subst (λ fs. IsTreeAt views fs 0 tree) same is)
+pub tree_of : (fates more : List Fate) (views : List View) (listed : List TreeNode) → fates ≡ more → (tree : ConstraintTree) × (listed ≡ nodes_of tree) × IsTreeAt views fates 0 tree → (tree : ConstraintTree) × (listed ≡ nodes_of tree) × IsTreeAt views more 0 tree
+tree_of fates more views listed same (tree, spell, is) = (tree, spell, subst (λ fs. IsTreeAt views fs 0 tree) same is)
 
 pub popped_of : (problem : Instance) (nodes : List Node) (fates : List Fate) (keys rest : List (ℕ × ℕ)) (count total k : ℕ) → IsState problem nodes fates keys count → IsLeastKey (total, k) keys rest → IsPopped problem nodes fates rest count total k
 popped_of problem nodes fates keys rest count total k state least = record { state = subst (λ ks. IsState problem nodes fates ks count) least.removal state; above = least.above }
@@ -109,8 +108,8 @@ not_apart paths (Vertex i j cell tick) (differ, p, q, ip, jq, here, there) = (i,
 not_apart paths (Swap i j from to tick) (differ, moved, p, q, ip, jq, here, there) = (i, j, tick, p, q, differ, ip, jq, inr (here.0 ∙ sym there.1, here.1 ∙ sym there.0))
 
 -- a tree of the search can be printed, and its splits are earned
-is_tree_of : (problem : Instance) → IsGridMap problem.grid → ((tree : ConstraintTree) → NamesFirstDefect problem tree) → (views : List View) (fates : List Fate) (count limit : ℕ) → count ≤ limit → IsSearched problem views fates count → (items : List Item) (tree : ConstraintTree) → Spell items tree → IsTreeAt views fates 0 tree → IsTreeOf problem limit items tree
-is_tree_of problem shape names views fates count limit within searched items tree spelled on_tree = record {
+is_tree_of : (problem : Instance) → IsGridMap problem.grid → ((tree : ConstraintTree) → NamesFirstDefect problem tree) → (views : List View) (fates : List Fate) (count limit : ℕ) → count ≤ limit → IsSearched problem views fates count → (listed : List TreeNode) (tree : ConstraintTree) → (listed ≡ nodes_of tree) → IsTreeAt views fates 0 tree → IsTreeOf problem limit listed tree
+is_tree_of problem shape names views fates count limit within searched listed tree spelled on_tree = record {
   spelled = spelled;
   few = (let size = has_splits problem views fates count searched tree on_tree in omega (arith, size, within));
   earned = is_earned problem views fates count searched tree on_tree;
@@ -128,11 +127,11 @@ pub is_shown_impossible : (problem : Instance) (tree : ConstraintTree) → Shows
 is_shown_impossible problem tree shows = record { shows = shows; impossible = shown_holds problem Impossible tree shows }
 
 -- no open node is left
-pub answer_impossible : (problem : Instance) → IsGridMap problem.grid → ((tree : ConstraintTree) → NamesFirstDefect problem tree) → (nodes : List Node) (fates : List Fate) (count limit : ℕ) → count ≤ limit → (state : IsState problem nodes fates [] count) (items : List Item) → (tree : ConstraintTree) × Spell items tree × IsTreeAt state.views fates 0 tree →
-    (tree : ConstraintTree) × IsTreeOf problem limit items tree × IsShownImpossible problem tree
-answer_impossible problem shape names nodes fates count limit within state items (tree, spell, on_tree) = (
+pub answer_impossible : (problem : Instance) → IsGridMap problem.grid → ((tree : ConstraintTree) → NamesFirstDefect problem tree) → (nodes : List Node) (fates : List Fate) (count limit : ℕ) → count ≤ limit → (state : IsState problem nodes fates [] count) (listed : List TreeNode) → (tree : ConstraintTree) × (listed ≡ nodes_of tree) × IsTreeAt state.views fates 0 tree →
+    (tree : ConstraintTree) × IsTreeOf problem limit listed tree × IsShownImpossible problem tree
+answer_impossible problem shape names nodes fates count limit within state listed (tree, spell, on_tree) = (
   tree,
-  is_tree_of problem shape names state.views fates count limit within state.searched items tree spell on_tree,
+  is_tree_of problem shape names state.views fates count limit within state.searched listed tree spell on_tree,
   is_shown_impossible problem tree (shows_impossible problem state.views fates count state.searched tree on_tree (λ m m_open.
       let size = state.searched.lengths in
       let inside = slice_get_within fates m Open m_open in
@@ -140,9 +139,9 @@ answer_impossible problem shape names nodes fates count limit within state items
       Contains-none (sum view.0.costs, m) (state.opens.each m view.0 view.1 m_open))),
 )
 
-module _ (problem : Instance) (shape : IsGridMap problem.grid) (names : (tree : ConstraintTree) → NamesFirstDefect problem tree) (nodes : List Node) (fates : List Fate) (rest : List (ℕ × ℕ)) (count total k : ℕ) (popped : IsPopped problem nodes fates rest count total k) (limit : ℕ) (within : count ≤ limit) (items : List Item) (found : (tree : ConstraintTree) × Spell items tree × IsTreeAt popped.state.views fates 0 tree) where
-  tree_is : IsTreeOf problem limit items found.0
-  tree_is = is_tree_of problem shape names popped.state.views fates count limit within popped.state.searched items found.0 found.1 found.2
+module _ (problem : Instance) (shape : IsGridMap problem.grid) (names : (tree : ConstraintTree) → NamesFirstDefect problem tree) (nodes : List Node) (fates : List Fate) (rest : List (ℕ × ℕ)) (count total k : ℕ) (popped : IsPopped problem nodes fates rest count total k) (limit : ℕ) (within : count ≤ limit) (listed : List TreeNode) (found : (tree : ConstraintTree) × (listed ≡ nodes_of tree) × IsTreeAt popped.state.views fates 0 tree) where
+  tree_is : IsTreeOf problem limit listed found.0
+  tree_is = is_tree_of problem shape names popped.state.views fates count limit within popped.state.searched listed found.0 found.1 found.2
 
   module _ (view : View) (is : slice_get popped.state.views k ≡ Some view) (is_open : slice_get fates k ≡ Some Open) (live : IsLive problem view) where
     least : (m : ℕ) (other : View) → slice_get popped.state.views m ≡ Some other → slice_get fates m ≡ Some Open → sum view.costs ≤ sum other.costs
@@ -158,7 +157,7 @@ module _ (problem : Instance) (shape : IsGridMap problem.grid) (names : (tree : 
     shown_cost : Shows problem (Cost (sum view.costs)) found.0
     shown_cost = shows_cost problem popped.state.views fates count popped.state.searched found.0 found.2 (sum view.costs) least
 
-    pub answer_found : 1 ≤ length problem.agents → length problem.agents ≤ 200 → All (λ path. length path ≤ 10000000) view.paths → (HaveSomeConflict view.paths → ⊥) → (tree : ConstraintTree) × IsTreeOf problem limit items tree × IsShownOptimal problem view.paths tree
+    pub answer_found : 1 ≤ length problem.agents → length problem.agents ≤ 200 → All (λ path. length path ≤ 10000000) view.paths → (HaveSomeConflict view.paths → ⊥) → (tree : ConstraintTree) × IsTreeOf problem limit listed tree × IsShownOptimal problem view.paths tree
     answer_found some few short none = (
       found.0,
       tree_is,
@@ -203,10 +202,10 @@ module _ (problem : Instance) (shape : IsGridMap problem.grid) (names : (tree : 
       is_bound = subst (λ b. IsShownBound problem b found.0) (sym bound_is) (shown_bound some few short)
 
       pub answer_limit : ((i j : ℕ) → ShareGoal problem i j → ⊥) → (conflict : Conflict) → HasConflict view.paths conflict → AreConflictFreeBefore view.paths (tick_of conflict) → (cause : Cause) → IsCauseToStop conflict count limit cause →
-          (listed : Vec Item Global) → listed.items ≡ items → IsSearchAnswer problem limit (LimitAnswer cause bound listed)
-      answer_limit goals conflict meet apart Ticks late listed same =
+          (whole : Vec TreeNode Global) → whole.items ≡ listed → IsOutcome problem limit (LimitOutcome cause bound whole)
+      answer_limit goals conflict meet apart Ticks late whole same =
           let a = answer_ticks goals conflict meet apart late in
           (found.0, subst (λ its. IsTreeOf problem limit its found.0) (sym same) tree_is, a, is_bound)
-      answer_limit goals conflict meet apart (Splits n) (early, is_limit, all) listed same =
+      answer_limit goals conflict meet apart (Splits n) (early, is_limit, all) whole same =
           let a = answer_splits conflict meet early in
           (found.0, subst (λ its. IsTreeOf problem limit its found.0) (sym same) tree_is, (a.0, is_limit, a.1 ∙ all), is_bound)

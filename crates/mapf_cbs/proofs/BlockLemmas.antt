@@ -1,6 +1,5 @@
 -- The blocks of all nodes, gathered node by node.
-use Rattle.std.proofs.Common.{◌≡◌, ℕ, ◌^◌, ◌<◌, List, [], ◌∷◌, ◌++◌, Some, All, length, length-append, slice_get, sym, subst, ⊎_elim, arith, Vec}
-use Rattle.std.specs.declared.alloc.Global.{Global}
+use Rattle.std.proofs.Common.{◌≡◌, ℕ, ◌^◌, ◌<◌, List, [], ◌∷◌, ◌++◌, Some, All, length, length-append, slice_get, sym, subst, ⊎_elim, arith}
 use Rattle.std.proofs.lemmas.Option.{slice_get_within}
 use Rattle.mapf_model.specs.Blocks.{LabelBlock}
 use Rattle.mapf_model.proofs.ClaimLemmas.{slice_get_inside}
@@ -13,11 +12,11 @@ use Rattle.mapf_cbs.specs.Whole.{AreWhole}
 use Rattle.mapf_cbs.proofs.NodeLemmas.{own_blocks}
 
 -- each list belongs to the node of its place
-pub record ArePaired {X : Type 0} (P : X → Vec LabelBlock Global → Type 0) (nodes : List X) (lists : List (Vec LabelBlock Global)) : Type 0 where
+pub record ArePaired {X : Type 0} (P : X → List LabelBlock → Type 0) (nodes : List X) (lists : List (List LabelBlock)) : Type 0 where
   pub so_many : length lists ≡ length nodes
-  pub each : (k : ℕ) (node : X) (blocks : Vec LabelBlock Global) → slice_get nodes k ≡ Some node → slice_get lists k ≡ Some blocks → P node blocks
+  pub each : (k : ℕ) (node : X) (blocks : List LabelBlock) → slice_get nodes k ≡ Some node → slice_get lists k ≡ Some blocks → P node blocks
 
-pub paired_more : {X : Type 0} (P : X → Vec LabelBlock Global → Type 0) (nodes : List X) (lists : List (Vec LabelBlock Global)) (node : X) (blocks : Vec LabelBlock Global) → ArePaired P nodes lists → P node blocks → ArePaired P (nodes ++ node ∷ []) (lists ++ blocks ∷ [])
+pub paired_more : {X : Type 0} (P : X → List LabelBlock → Type 0) (nodes : List X) (lists : List (List LabelBlock)) (node : X) (blocks : List LabelBlock) → ArePaired P nodes lists → P node blocks → ArePaired P (nodes ++ node ∷ []) (lists ++ blocks ∷ [])
 paired_more P nodes lists node blocks before here =
     let size = before.so_many in
     record {
@@ -35,10 +34,10 @@ paired_more P nodes lists node blocks before here =
     }
 
 -- the blocks are the node's own
-abbrev pub IsOwnList : Node → Vec LabelBlock Global → Type 0
-IsOwnList node blocks = IsOwnOf node blocks.items × All (λ block. length block.entries < 2 ^ 64) blocks.items
+abbrev pub IsOwnList : Node → List LabelBlock → Type 0
+IsOwnList node blocks = IsOwnOf node blocks × All (λ block. length block.entries < 2 ^ 64) blocks
 
-pub own_lists : (nodes : List Node) (lists : List (Vec LabelBlock Global)) → ArePaired IsOwnList nodes lists → (views : List View) → AreViews nodes views → AreBlockLists views lists
+pub own_lists : (nodes : List Node) (lists : List (List LabelBlock)) → ArePaired IsOwnList nodes lists → (views : List View) → AreViews nodes views → AreBlockLists views lists
 own_lists nodes lists paired views are =
     let size = paired.so_many in let sizes = are.lengths in
     record {
@@ -47,14 +46,14 @@ own_lists nodes lists paired views are =
           let inside : k < length views = slice_get_within views k view view_is in
           let node : (node : Node) × (slice_get nodes k ≡ Some node) = slice_get_inside nodes k (omega arith) in
           let own = paired.each k node.0 blocks node.1 is in
-          (own_blocks views k node.0 view (are.each k node.0 view node.1 view_is) blocks.items own.0, own.1);
+          (own_blocks views k node.0 view (are.each k node.0 view node.1 view_is) blocks own.0, own.1);
     }
 
 -- the blocks are those that a whole node holds
-abbrev pub IsHeldList : WholeNode → Vec LabelBlock Global → Type 0
-IsHeldList node blocks = blocks ≡ node.blocks
+abbrev pub IsHeldList : WholeNode → List LabelBlock → Type 0
+IsHeldList node blocks = blocks ≡ node.bound
 
-pub held_lists : (nodes : List WholeNode) (lists : List (Vec LabelBlock Global)) → ArePaired IsHeldList nodes lists → (views : List View) → AreWhole nodes views → AreBlockLists views lists
+pub held_lists : (nodes : List WholeNode) (lists : List (List LabelBlock)) → ArePaired IsHeldList nodes lists → (views : List View) → AreWhole nodes views → AreBlockLists views lists
 held_lists nodes lists paired views whole =
     let size = paired.so_many in let sizes = whole.lengths in
     record {
@@ -63,5 +62,5 @@ held_lists nodes lists paired views whole =
           let inside : k < length views = slice_get_within views k view view_is in
           let node : (node : WholeNode) × (slice_get nodes k ≡ Some node) = slice_get_inside nodes k (omega arith) in
           let held = paired.each k node.0 blocks node.1 is in
-          subst (λ (b : Vec LabelBlock Global). AreBlocksOf view b.items) (sym held) (whole.each k node.0 view node.1 view_is).blocks;
+          subst (λ (b : List LabelBlock). AreBlocksOf view b) (sym held) (whole.each k node.0 view node.1 view_is).blocks;
     }

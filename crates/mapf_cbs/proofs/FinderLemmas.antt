@@ -4,6 +4,7 @@ use Rattle.std.proofs.lemmas.Bool.{cases_eq}
 use Rattle.std.proofs.lemmas.Option.{slice_get_within, same_Some}
 use Rattle.mapf_model.specs.declared.constraint.Constraint.{Constraint}
 use Rattle.mapf_model.proofs.ClaimLemmas.{slice_get_inside}
+use Rattle.mapf_model.specs.declared.label.Entry.{Entry}
 use Rattle.mapf_spacetime.specs.declared.found.Found.{Found}
 use Rattle.mapf_cbs.specs.declared.node.Node.{Node}
 use Rattle.mapf_cbs.specs.declared.node.Node.TheVariants.{Child}
@@ -55,7 +56,7 @@ module _ (old new : List (Option ℕ)) (agent node : ℕ) (size : length new ≡
   noted_inside nodes in_it inside i finder is = inside_by nodes in_it inside i finder (was i finder is)
 
   module _ (nodes : List Node) (views : List View) (are : AreViews nodes views) (view here : View) (here_is : slice_get views node ≡ Some here)
-      (parent : ℕ) (constraint : Constraint) (bound : constraint.agent ≡ agent) (found : Found) (at : slice_get nodes node ≡ Some (Child parent constraint found)) (before : View) (before_is : slice_get views parent ≡ Some before)
+      (parent : ℕ) (constraint : Constraint) (bound : constraint.agent ≡ agent) (found : Found (List Entry)) (at : slice_get nodes node ≡ Some (Child parent constraint found)) (before : View) (before_is : slice_get views parent ≡ Some before)
     where
       go_up : (i : ℕ) (finder : Option ℕ) → i ≢ agent → IsFoundSoFar views view here i finder → IsFoundSoFar views view before i finder
       go_up i None other same = same ∙ paths_up nodes views are node here here_is parent constraint found at i (inl (λ e. other (e ∙ bound))) before before_is

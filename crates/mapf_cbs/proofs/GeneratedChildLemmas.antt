@@ -34,7 +34,7 @@ part_within [] i x is = absurd cc
 part_within (y ∷ xs) zero x is = let e : y ≡ x = same_Some y x is in rw sum_by-cons (omega arith)
 part_within (y ∷ xs) (suc i) x is = let h = part_within xs i x is in rw sum_by-cons (omega arith)
 
-pub found_ends : (problem : Instance) (agent : Agent) (bars : List Bar) (found : Found) → IsPathAnswer (task_of problem.grid agent bars) found → EndsAt found agent.goal
+pub found_ends : (problem : Instance) (agent : Agent) (bars : List Bar) (found : Found (List Entry)) → IsPathAnswer (task_of problem.grid agent bars) found → EndsAt found agent.goal
 found_ends problem agent bars (Arrives path labels) is = is.lawful.goal
 found_ends problem agent bars (Dead labels) is = tt
 
@@ -99,7 +99,7 @@ module _ (problem : Instance) (view : View) (live : IsLive problem view) (constr
         let before = live.each constraint.agent agent r.0 r.1 known r.2 r.3 in
         distance_bound problem.grid agent (view.context.bars constraint.agent) r.0 r.1 Never before.lawful before.satisfies before.is_cost (subst (λ xs. IsLabel problem.grid agent.goal (entries_of xs) agent.start 0 Never) none blocked.start)
 
-    pub generated : (found : Found) → IsPathAnswer (task_of problem.grid agent bars) found → (total : Option ℕ) → old ≤ sum view.costs → IsTotal found agent.goal (sum view.costs - old) total → IsGeneratedChild problem view constraint found total
+    pub generated : (found : Found (List Entry)) → IsPathAnswer (task_of problem.grid agent bars) found → (total : Option ℕ) → old ≤ sum view.costs → IsTotal found agent.goal (sum view.costs - old) total → IsGeneratedChild problem view constraint found total
     generated (Arrives new labels) arrival total less (cost', is', fits, total_is) =
         let cost = arrival.cost in
         let agent_path = cheapest_of problem.grid agent bars new labels arrival in

@@ -1,46 +1,44 @@
--- The items of the trees that are owed.
-use Rattle.std.proofs.Common.{◌≡◌, ℕ, zero, suc, ◌+◌, ◌*◌, ◌-◌, ◌<◌, ◌≤◌, List, [], ◌∷◌, ◌++◌, Some, reverse, map, length, slice_get, slice_set, sum_by, refl, sym, ◌∙◌, subst, ⊎_elim, arith, append_assoc, Vec}
+-- The nodes of the trees that are owed.
+use Rattle.std.proofs.Common.{◌≡◌, ℕ, zero, suc, ◌+◌, ◌*◌, ◌-◌, ◌<◌, ◌≤◌, List, [], ◌∷◌, ◌++◌, Some, reverse, length, slice_get, slice_set, sum_by, refl, sym, ◌∙◌, subst, ⊎_elim, arith, append_assoc}
 use Rattle.std.specs.List.{AllZip}
-use Rattle.std.proofs.lemmas.List.{append-nil, reverse-append, map_push}
+use Rattle.std.proofs.lemmas.List.{append-nil, reverse-append}
 use Rattle.std.proofs.lemmas.List.Sums.{sum_by_push}
 use Rattle.mapf_model.specs.declared.conflict.Conflict.{Conflict}
-use Rattle.mapf_model.specs.declared.item.Item.{Item}
 use Rattle.mapf_model.specs.Blocks.{LabelBlock}
-use Rattle.mapf_model.specs.Tree.{ConstraintTree, Split, Leaf, SplitNode, LeafNode, node_of, nodes_of, nodes_of_all}
+use Rattle.mapf_model.specs.Tree.{ConstraintTree, Node as TreeNode, Split, Leaf, SplitNode, LeafNode, nodes_of, nodes_of_all}
 use Rattle.mapf_cbs.specs.declared.node.Fate.{Fate}
 use Rattle.mapf_cbs.specs.declared.node.Fate.TheVariants.{Open, Dead, Expanded}
-use Rattle.std.specs.declared.alloc.Global.{Global}
 use Rattle.std.proofs.lemmas.Bool.{cases_lt}
 use Rattle.std.proofs.lemmas.Option.{same_Some}
 use Rattle.mapf_cbs.specs.Search.{View, IsEndFate, Shape, Node, End, occurrences, IsShape, IsOneTree, AreBlockLists, AreBlocksAt, IsTreeAt}
 use Rattle.mapf_cbs.proofs.ShapeLemmas.{occurs_here, occurs_node, occurrences-past}
 use Rattle.mapf_model.proofs.PlaceLemmas.{slice_get-set_other}
 
--- once these items are followed by those of the trees that are owed, they are those of the whole tree
-pub record Leads (views : List View) (fates : List Fate) (items : List Item) (owed : List ℕ) : Type 0 where
-  pub leads : (trees : List ConstraintTree) → AllZip (IsTreeAt views fates) owed trees → (tree : ConstraintTree) × (map node_of items ++ nodes_of_all trees ≡ nodes_of tree) × IsTreeAt views fates 0 tree
+-- once these nodes are followed by those of the trees that are owed, they are those of the whole tree
+pub record Leads (views : List View) (fates : List Fate) (listed : List TreeNode) (owed : List ℕ) : Type 0 where
+  pub leads : (trees : List ConstraintTree) → AllZip (IsTreeAt views fates) owed trees → (tree : ConstraintTree) × (listed ++ nodes_of_all trees ≡ nodes_of tree) × IsTreeAt views fates 0 tree
 
 pub reverse_push : (xs : List ℕ) (x : ℕ) → reverse (xs ++ x ∷ []) ≡ x ∷ reverse xs
 reverse_push xs x = reverse-append xs (x ∷ [])
 
 module _ (views : List View) (fates : List Fate) where
-  module _ (items : List Item) (k : ℕ) (owed : List ℕ) (before : Leads views fates items (k ∷ owed)) (item : Item) (blocks : List LabelBlock) (here : AreBlocksAt views k blocks) where
-    after_split : (conflict : Conflict) (a : ℕ) → slice_get fates k ≡ Some (Expanded conflict a) → node_of item ≡ SplitNode conflict blocks →
-        (trees : List ConstraintTree) → AllZip (IsTreeAt views fates) (a ∷ (a + 1) ∷ owed) trees → (tree : ConstraintTree) × (map node_of (items ++ item ∷ []) ++ nodes_of_all trees ≡ nodes_of tree) × IsTreeAt views fates 0 tree
+  module _ (listed : List TreeNode) (k : ℕ) (owed : List ℕ) (before : Leads views fates listed (k ∷ owed)) (item : TreeNode) (blocks : List LabelBlock) (here : AreBlocksAt views k blocks) where
+    after_split : (conflict : Conflict) (a : ℕ) → slice_get fates k ≡ Some (Expanded conflict a) → item ≡ SplitNode conflict blocks →
+        (trees : List ConstraintTree) → AllZip (IsTreeAt views fates) (a ∷ (a + 1) ∷ owed) trees → (tree : ConstraintTree) × ((listed ++ item ∷ []) ++ nodes_of_all trees ≡ nodes_of tree) × IsTreeAt views fates 0 tree
     after_split conflict a is e [] zip = absurd zip
     after_split conflict a is e (left ∷ []) zip = absurd zip.1
     after_split conflict a is e (left ∷ right ∷ trees) zip =
         let whole = before.leads (Split conflict blocks left right ∷ trees) ((here, a, is, zip.0, zip.1.0), zip.1.1) in
-        (whole.0, (let f = map_push node_of items item in rw f (rw e (simp append_assoc (simp append_assoc at whole.1)))), whole.2)
+        (whole.0, (rw e (simp append_assoc (simp append_assoc at whole.1))), whole.2)
 
-    pub leads_split : (conflict : Conflict) (a : ℕ) → slice_get fates k ≡ Some (Expanded conflict a) → node_of item ≡ SplitNode conflict blocks → Leads views fates (items ++ item ∷ []) (a ∷ (a + 1) ∷ owed)
+    pub leads_split : (conflict : Conflict) (a : ℕ) → slice_get fates k ≡ Some (Expanded conflict a) → item ≡ SplitNode conflict blocks → Leads views fates (listed ++ item ∷ []) (a ∷ (a + 1) ∷ owed)
     leads_split conflict a is e = record { leads = after_split conflict a is e }
 
-    pub leads_leaf : (fate : Fate) → slice_get fates k ≡ Some fate → IsEndFate fate → node_of item ≡ LeafNode blocks → Leads views fates (items ++ item ∷ []) owed
+    pub leads_leaf : (fate : Fate) → slice_get fates k ≡ Some fate → IsEndFate fate → item ≡ LeafNode blocks → Leads views fates (listed ++ item ∷ []) owed
     leads_leaf fate is end e = record {
       leads = λ trees zip.
           let whole = before.leads (Leaf blocks ∷ trees) ((here, fate, is, end), zip) in
-          (whole.0, (let f = map_push node_of items item in rw f (rw e (simp append_assoc whole.1))), whole.2);
+          (whole.0, (rw e (simp append_assoc whole.1)), whole.2);
     }
 
   pub leads_first : Leads views fates [] (0 ∷ [])
@@ -51,10 +49,10 @@ module _ (views : List View) (fates : List Fate) where
       first_of (tree ∷ []) zip = (tree, append-nil (nodes_of tree), zip.0)
       first_of (tree ∷ other ∷ trees) zip = absurd zip.1
 
-  pub leads_done : (items : List Item) → Leads views fates items [] → (tree : ConstraintTree) × (map node_of items ≡ nodes_of tree) × IsTreeAt views fates 0 tree
-  leads_done items before =
+  pub leads_done : (listed : List TreeNode) → Leads views fates listed [] → (tree : ConstraintTree) × (listed ≡ nodes_of tree) × IsTreeAt views fates 0 tree
+  leads_done listed before =
       let whole = before.leads [] tt in
-      (whole.0, sym (append-nil (map node_of items)) ∙ whole.1, whole.2)
+      (whole.0, sym (append-nil listed) ∙ whole.1, whole.2)
 
 -- how often a node of these forms has this number
 abbrev pub occurrences_all : ℕ → List Shape → ℕ
@@ -62,13 +60,13 @@ occurrences_all m [] = 0
 occurrences_all m (shape ∷ shapes) = occurrences m shape + occurrences_all m shapes
 
 -- the forms of the trees that are owed: each node stands there once at most, and still has its blocks
-pub record AreOwed (fates : List Fate) (first lists : List (Vec LabelBlock Global)) (owed : List ℕ) : Type 0 where
+pub record AreOwed (fates : List Fate) (first lists : List (List LabelBlock)) (owed : List ℕ) : Type 0 where
   pub shapes : List Shape
   pub are : AllZip (IsShape fates) owed shapes
   pub apart : (m : ℕ) → occurrences_all m shapes ≤ 1
   pub kept : (m : ℕ) → 0 < occurrences_all m shapes → slice_get lists m ≡ slice_get first m
 
-module _ (fates : List Fate) (first : List (Vec LabelBlock Global)) where
+module _ (fates : List Fate) (first : List (List LabelBlock)) where
   pub owed_first : (count : ℕ) → IsOneTree fates count → AreOwed fates first first (0 ∷ [])
   owed_first count tree = record {
     shapes = tree.shape ∷ [];
@@ -85,7 +83,7 @@ module _ (fates : List Fate) (first : List (Vec LabelBlock Global)) where
   occurs k (End n) (same, fate, is, end) = let e = occurs_here k n same in omega (arith, e)
 
   -- the blocks of a node that is owed are still there
-  module _ (lists : List (Vec LabelBlock Global)) (k : ℕ) (owed : List ℕ) where
+  module _ (lists : List (List LabelBlock)) (k : ℕ) (owed : List ℕ) where
     still : (shapes : List Shape) → AllZip (IsShape fates) (k ∷ owed) shapes → 0 < occurrences_all k shapes
     still [] zip = absurd zip
     still (shape ∷ shapes) zip = let h = occurs k shape zip.0 in omega (arith, h)
@@ -93,10 +91,10 @@ module _ (fates : List Fate) (first : List (Vec LabelBlock Global)) where
     blocks_there : AreOwed fates first lists (k ∷ owed) → slice_get lists k ≡ slice_get first k
     blocks_there before = before.kept k (still before.shapes before.are)
 
-    pub blocks_at : AreOwed fates first lists (k ∷ owed) → (views : List View) → AreBlockLists views first → (blocks : Vec LabelBlock Global) → slice_get lists k ≡ Some blocks → AreBlocksAt views k blocks.items
+    pub blocks_at : AreOwed fates first lists (k ∷ owed) → (views : List View) → AreBlockLists views first → (blocks : List LabelBlock) → slice_get lists k ≡ Some blocks → AreBlocksAt views k blocks
     blocks_at before views are blocks is view view_is = are.each k view blocks view_is (sym (blocks_there before) ∙ is)
 
-    split_of : (taken : Vec LabelBlock Global) (conflict : Conflict) (a : ℕ) → slice_get fates k ≡ Some (Expanded conflict a) → (shapes : List Shape) → AllZip (IsShape fates) (k ∷ owed) shapes → ((m : ℕ) → occurrences_all m shapes ≤ 1) →
+    split_of : (taken : List LabelBlock) (conflict : Conflict) (a : ℕ) → slice_get fates k ≡ Some (Expanded conflict a) → (shapes : List Shape) → AllZip (IsShape fates) (k ∷ owed) shapes → ((m : ℕ) → occurrences_all m shapes ≤ 1) →
         ((m : ℕ) → 0 < occurrences_all m shapes → slice_get lists m ≡ slice_get first m) → AreOwed fates first (slice_set lists k taken) (a ∷ (a + 1) ∷ owed)
     split_of taken conflict a expanded [] zip apart kept = absurd zip
     split_of taken conflict a expanded (End n ∷ shapes) zip apart kept = let (same, fate, is, end) = zip.0 in absurd (subst IsEndFate (same_Some fate (Expanded conflict a) (sym is ∙ expanded)) end)
@@ -113,10 +111,10 @@ module _ (fates : List Fate) (first : List (Vec LabelBlock Global)) where
               slice_get-set_other lists k m taken (λ e. let h = apart m in let g = occurs_here m n (e ∙ number) in omega (arith, h, g, f, some)) ∙ kept m (omega (arith, f, some));
         }
 
-    pub owed_split : AreOwed fates first lists (k ∷ owed) → (taken : Vec LabelBlock Global) (conflict : Conflict) (a : ℕ) → slice_get fates k ≡ Some (Expanded conflict a) → AreOwed fates first (slice_set lists k taken) (a ∷ (a + 1) ∷ owed)
+    pub owed_split : AreOwed fates first lists (k ∷ owed) → (taken : List LabelBlock) (conflict : Conflict) (a : ℕ) → slice_get fates k ≡ Some (Expanded conflict a) → AreOwed fates first (slice_set lists k taken) (a ∷ (a + 1) ∷ owed)
     owed_split before taken conflict a expanded = split_of taken conflict a expanded before.shapes before.are before.apart before.kept
 
-    end_taken : (taken : Vec LabelBlock Global) (fate : Fate) → slice_get fates k ≡ Some fate → IsEndFate fate → (shapes : List Shape) → AllZip (IsShape fates) (k ∷ owed) shapes → ((m : ℕ) → occurrences_all m shapes ≤ 1) →
+    end_taken : (taken : List LabelBlock) (fate : Fate) → slice_get fates k ≡ Some fate → IsEndFate fate → (shapes : List Shape) → AllZip (IsShape fates) (k ∷ owed) shapes → ((m : ℕ) → occurrences_all m shapes ≤ 1) →
         ((m : ℕ) → 0 < occurrences_all m shapes → slice_get lists m ≡ slice_get first m) → AreOwed fates first (slice_set lists k taken) owed
     end_taken taken fate fate_is end [] zip apart kept = absurd zip
     end_taken taken fate fate_is end (Node n left right ∷ shapes) zip apart kept = let (number, c, x, is, on_left, on_right) = zip.0 in absurd (subst IsEndFate (same_Some fate (Expanded c x) (sym fate_is ∙ is)) end)
@@ -127,7 +125,7 @@ module _ (fates : List Fate) (first : List (Vec LabelBlock Global)) where
       kept = λ m some. slice_get-set_other lists k m taken (λ e. let h = apart m in let g = occurs_here m n (e ∙ zip.0.0) in omega (arith, h, g, some)) ∙ kept m (omega (arith, some));
     }
 
-    pub owed_leaf : AreOwed fates first lists (k ∷ owed) → (taken : Vec LabelBlock Global) (fate : Fate) → slice_get fates k ≡ Some fate → IsEndFate fate → AreOwed fates first (slice_set lists k taken) owed
+    pub owed_leaf : AreOwed fates first lists (k ∷ owed) → (taken : List LabelBlock) (fate : Fate) → slice_get fates k ≡ Some fate → IsEndFate fate → AreOwed fates first (slice_set lists k taken) owed
     owed_leaf before taken fate is end = end_taken taken fate is end before.shapes before.are before.apart before.kept
 
 -- the later a node, the less is left below it

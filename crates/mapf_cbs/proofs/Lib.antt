@@ -1,3 +1,4 @@
+pub mod OptionLemmas
 pub mod CheapestPathLemmas
 pub mod SumLemmas
 pub mod ViewLemmas

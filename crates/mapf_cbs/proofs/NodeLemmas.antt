@@ -21,7 +21,7 @@ use Rattle.mapf_cbs.specs.Nodes.{AreViews, IsNodeView, IsOwnOf, IsChildView, Are
 use Rattle.mapf_model.proofs.PlaceLemmas.{slice_get-set_same, slice_get-set_other}
 
 -- a path that this node didn't find is the parent's
-pub paths_kept : (before : View) (agent : ℕ) (constraint : Constraint) (found : Found) (view : View) → (agent ≢ constraint.agent) ⊎ ((labels : List Entry) × (found ≡ Dead labels)) → IsChildView before constraint found view → slice_get view.paths agent ≡ slice_get before.paths agent
+pub paths_kept : (before : View) (agent : ℕ) (constraint : Constraint) (found : Found (List Entry)) (view : View) → (agent ≢ constraint.agent) ⊎ ((labels : List Entry) × (found ≡ Dead labels)) → IsChildView before constraint found view → slice_get view.paths agent ≡ slice_get before.paths agent
 paths_kept before agent constraint (Arrives path labels) view (inl other) (cost, e) = ap (λ (v : View). slice_get v.paths agent) e ∙ slice_get-set_other before.paths constraint.agent agent path other
 paths_kept before agent constraint (Arrives path labels) view (inr (ls, dead)) is = absurd cc
 paths_kept before agent constraint (Dead labels) view why e = ap (λ (v : View). slice_get v.paths agent) e
@@ -32,20 +32,20 @@ cond_not k i x y other = cond_both (nat_eq k i) x y (λ z. z ≡ y) (λ same. ab
 cond_same : {X : Type 0} (k : ℕ) (x y : X) → cond (nat_eq k k) x y ≡ x
 cond_same k x y = let h : nat_eq k k ≡ true = eq-eqb k k refl in rw h refl
 
-context_are : (before : View) (constraint : Constraint) (found : Found) (view : View) → IsChildView before constraint found view → view.context.bars ≡ with_constraint before.context.bars constraint
+context_are : (before : View) (constraint : Constraint) (found : Found (List Entry)) (view : View) → IsChildView before constraint found view → view.context.bars ≡ with_constraint before.context.bars constraint
 context_are before constraint (Arrives path labels) view (cost, e) = ap (λ (v : View). v.context.bars) e
 context_are before constraint (Dead labels) view e = ap (λ (v : View). v.context.bars) e
 
 -- the blocks of a node are its own
-pub blocks_new : (before : View) (constraint : Constraint) (found : Found) (view : View) → IsChildView before constraint found view → view.blocks ≡ bound_blocks constraint.agent (labels_of found)
+pub blocks_new : (before : View) (constraint : Constraint) (found : Found (List Entry)) (view : View) → IsChildView before constraint found view → view.blocks ≡ bound_blocks constraint.agent (labels_of found)
 blocks_new before constraint (Arrives path labels) view (cost, e) = ap (λ (v : View). v.blocks) e
 blocks_new before constraint (Dead labels) view e = ap (λ (v : View). v.blocks) e
 
 -- the bars at a node are the parent's, with one more for the agent that is constraint.agent
-pub bars_other : (before : View) (agent : ℕ) (constraint : Constraint) (found : Found) (view : View) → agent ≢ constraint.agent → IsChildView before constraint found view → view.context.bars agent ≡ before.context.bars agent
+pub bars_other : (before : View) (agent : ℕ) (constraint : Constraint) (found : Found (List Entry)) (view : View) → agent ≢ constraint.agent → IsChildView before constraint found view → view.context.bars agent ≡ before.context.bars agent
 bars_other before agent constraint found view other is = ap (λ (bars : ℕ → List Bar). bars agent) (context_are before constraint found view is) ∙ cond_not agent constraint.agent (constraint.bar ∷ before.context.bars agent) (before.context.bars agent) other
 
-pub bars_bound : (before : View) (constraint : Constraint) (found : Found) (view : View) → IsChildView before constraint found view → view.context.bars constraint.agent ≡ constraint.bar ∷ before.context.bars constraint.agent
+pub bars_bound : (before : View) (constraint : Constraint) (found : Found (List Entry)) (view : View) → IsChildView before constraint found view → view.context.bars constraint.agent ≡ constraint.bar ∷ before.context.bars constraint.agent
 bars_bound before constraint found view is = ap (λ (bars : ℕ → List Bar). bars constraint.agent) (context_are before constraint found view is) ∙ cond_same constraint.agent (constraint.bar ∷ before.context.bars constraint.agent) (before.context.bars constraint.agent)
 
 module _ (nodes : List Node) (views : List View) (are : AreViews nodes views) (k : ℕ) (view : View) (is : slice_get views k ≡ Some view) where
@@ -55,7 +55,7 @@ module _ (nodes : List Node) (views : List View) (are : AreViews nodes views) (k
   pub root_path : (paths : Vec (List ℕ) Global) (agent : ℕ) → slice_get nodes k ≡ Some (Root paths) → slice_get view.paths agent ≡ slice_get paths.items agent
   root_path paths agent at = ap (λ ps. slice_get ps agent) (are.each k (Root paths) view at is).same_paths
 
-  module _ (parent : ℕ) (constraint : Constraint) (found : Found) (at : slice_get nodes k ≡ Some (Child parent constraint found)) where
+  module _ (parent : ℕ) (constraint : Constraint) (found : Found (List Entry)) (at : slice_get nodes k ≡ Some (Child parent constraint found)) where
     pub paths_up : (agent : ℕ) → (agent ≢ constraint.agent) ⊎ ((labels : List Entry) × (found ≡ Dead labels)) → (before : View) → slice_get views parent ≡ Some before → slice_get view.paths agent ≡ slice_get before.paths agent
     paths_up agent why before before_is =
         let h = are.each k (Child parent constraint found) view at is in

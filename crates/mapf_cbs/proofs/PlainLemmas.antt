@@ -4,10 +4,9 @@ use Rattle.std.specs.declared.cmp.Ordering.TheVariants.{Less}
 use Rattle.std.proofs.lemmas.Bool.{cases_eq, cases_lt, cond_both, eqb-true, eqb-false}
 use Rattle.std.proofs.lemmas.Option.{slice_get_within, same_Some}
 use Rattle.mapf_model.specs.declared.conflict.Conflict.{Conflict}
-use Rattle.mapf_model.specs.declared.item.Item.{Item}
 use Rattle.mapf_model.specs.Grid.{IsGridMap}
 use Rattle.mapf_model.specs.Plan.{Instance}
-use Rattle.mapf_model.specs.Tree.{ConstraintTree, Spell, ShareGoal, left_constraint, right_constraint}
+use Rattle.mapf_model.specs.Tree.{ConstraintTree, Node as TreeNode, nodes_of, ShareGoal, left_constraint, right_constraint}
 use Rattle.mapf_model.specs.Earned.{tick_of}
 use Rattle.mapf_model.proofs.ClaimLemmas.{slice_get_inside}
 use Rattle.mapf_model.proofs.SplitLemmas.{Contains-cons_cases}
@@ -132,9 +131,9 @@ module _ (problem : Instance) (nodes : List WholeNode) (fates : List Fate) (coun
     }
 
   -- no node is open
-  pub whole_impossible : IsGridMap problem.grid → ((tree : ConstraintTree) → NamesFirstDefect problem tree) → (limit : ℕ) → count ≤ limit → ((m : ℕ) → m < length fates → slice_get fates m ≡ Some Open → ⊥) → (items : List Item) →
-      (tree : ConstraintTree) × Spell items tree × IsTreeAt s.state.views fates 0 tree → (tree : ConstraintTree) × IsTreeOf problem limit items tree × IsShownImpossible problem tree
-  whole_impossible shape names limit within none items found = answer_impossible problem shape names s.changes fates count limit within (record {
+  pub whole_impossible : IsGridMap problem.grid → ((tree : ConstraintTree) → NamesFirstDefect problem tree) → (limit : ℕ) → count ≤ limit → ((m : ℕ) → m < length fates → slice_get fates m ≡ Some Open → ⊥) → (listed : List TreeNode) →
+      (tree : ConstraintTree) × (listed ≡ nodes_of tree) × IsTreeAt s.state.views fates 0 tree → (tree : ConstraintTree) × IsTreeOf problem limit listed tree × IsShownImpossible problem tree
+  whole_impossible shape names limit within none listed found = answer_impossible problem shape names s.changes fates count limit within (record {
     views = s.state.views;
     are = s.state.are;
     searched = s.state.searched;
@@ -146,7 +145,7 @@ module _ (problem : Instance) (nodes : List WholeNode) (fates : List Fate) (coun
     bars = s.state.bars;
     size = s.state.size;
     small = λ key in_it. absurd (Contains-none key in_it);
-  }) items found
+  }) listed found
 
 pub least_at : (nodes others : List WholeNode) (fates more : List Fate) (found : Option ℕ) → nodes ≡ others → fates ≡ more → IsLeastBelow nodes fates (length fates) found → IsLeastBelow others more (length more) found
 least_at nodes others fates more found a b is = subst (λ fs. IsLeastBelow others fs (length fs) found) b (subst (λ ns. IsLeastBelow ns fates (length fates) found) a is)

@@ -5,14 +5,12 @@ use Rattle.std.proofs.lemmas.Bool.{cases_lt}
 use Rattle.std.proofs.lemmas.Option.{slice_get_read, slice_get_within, same_Some, slice_get-map}
 use Rattle.std.proofs.lemmas.List.{length-map}
 use Rattle.std.proofs.lemmas.List.Sums.{sum-map}
-use Rattle.mapf_model.specs.declared.item.Item.{Item}
-use Rattle.mapf_model.specs.declared.item.Item.TheVariants.{Leaf as LeafItem, Clash as ClashItem}
 use Rattle.mapf_model.specs.declared.problem.Agent.{Agent}
 use Rattle.mapf_model.specs.Blocks.{LabelBlock}
 use Rattle.mapf_model.specs.Grid.{GridMap}
 use Rattle.mapf_model.specs.Pairs.{IsFirstPair, HoldsOfNoPair}
 use Rattle.mapf_model.specs.Plan.{Instance}
-use Rattle.mapf_model.specs.Tree.{ConstraintTree, Leaf, Clash, ShareGoal, root}
+use Rattle.mapf_model.specs.Tree.{ConstraintTree, Node as TreeNode, LeafNode, ClashNode, Leaf, Clash, ShareGoal, root}
 use Rattle.mapf_model.proofs.ClaimLemmas.{slice_get_inside}
 use Rattle.mapf_model.proofs.SumLemmas.{snoc_get}
 use Rattle.mapf_cbs.specs.Answer.{IsTreeOf, IsShownImpossible}
@@ -70,11 +68,11 @@ root_of problem paths count shortest = record {
 }
 
 -- a leaf without blocks, where a goal can't be reached
-pub leaf_answer : (problem : Instance) (limit : ℕ) → HaveDifferentGoals problem → SomeGoalIsUnreachable problem → (items : List Item) (blocks : Vec LabelBlock Global) → items ≡ LeafItem blocks ∷ [] → blocks.items ≡ [] → (tree : ConstraintTree) × IsTreeOf problem limit items tree × IsShownImpossible problem tree
-leaf_answer problem limit goals (i, agent, is, unreachable) items blocks items_are none = (
+pub leaf_answer : (problem : Instance) (limit : ℕ) → HaveDifferentGoals problem → SomeGoalIsUnreachable problem → (listed : List TreeNode) → listed ≡ LeafNode [] ∷ [] → (tree : ConstraintTree) × IsTreeOf problem limit listed tree × IsShownImpossible problem tree
+leaf_answer problem limit goals (i, agent, is, unreachable) listed listed_are = (
   Leaf [],
   record {
-    spelled = rw items_are (rw none refl);
+    spelled = listed_are;
     few = omega arith;
     earned = record { proper = (λ a b d lt within. absurd (omega arith), λ k d within. absurd (omega arith)); splits = tt };
     first_conflicts = tt;
@@ -110,11 +108,11 @@ first_pair problem i j is a b pair =
     (sym a_first, sym b_first)
 
 -- a clash of the first two agents that have one goal
-pub clash_answer : (problem : Instance) (limit i j : ℕ) → IsFirstPair (HaveGoal problem.agents) (length problem.agents) (i, j) → (items : List Item) → items ≡ ClashItem i j ∷ [] → (tree : ConstraintTree) × IsTreeOf problem limit items tree × IsShownImpossible problem tree
-clash_answer problem limit i j is items items_are = (
+pub clash_answer : (problem : Instance) (limit i j : ℕ) → IsFirstPair (HaveGoal problem.agents) (length problem.agents) (i, j) → (listed : List TreeNode) → listed ≡ ClashNode i j ∷ [] → (tree : ConstraintTree) × IsTreeOf problem limit listed tree × IsShownImpossible problem tree
+clash_answer problem limit i j is listed listed_are = (
   Clash i j,
   record {
-    spelled = rw items_are refl;
+    spelled = listed_are;
     few = omega arith;
     earned = record { proper = tt; splits = tt };
     first_conflicts = tt;

@@ -8,6 +8,7 @@ use Rattle.mapf_model.specs.Plan.{Instance}
 use Rattle.mapf_model.specs.Tree.{left_constraint, right_constraint, ShareGoal}
 use Rattle.mapf_model.specs.Earned.{tick_of}
 use Rattle.mapf_model.proofs.SplitLemmas.{Contains-cons_cases}
+use Rattle.mapf_model.specs.declared.label.Entry.{Entry}
 use Rattle.mapf_spacetime.specs.declared.found.Found.{Found}
 use Rattle.mapf_cbs.specs.declared.node.Node.{Node}
 use Rattle.mapf_cbs.specs.declared.node.Node.TheVariants.{Root, Child}
@@ -69,7 +70,7 @@ grown_fates fates k conflict left right inside =
 
 -- the nodes after a split mean the views after it
 module _ (nodes : List Node) (views : List View) (are : AreViews nodes views) (k : ℕ) (view : View) (is : slice_get views k ≡ Some view)
-    (p q : Constraint) (p_in : p.agent < length view.paths) (q_in : q.agent < length view.paths) (f g : Found) (x y : View) (x_is : IsChildView view p f x) (y_is : IsChildView view q g y) where
+    (p q : Constraint) (p_in : p.agent < length view.paths) (q_in : q.agent < length view.paths) (f g : Found (List Entry)) (x y : View) (x_is : IsChildView view p f x) (y_is : IsChildView view q g y) where
   lift_view : (m : ℕ) (node : Node) (v : View) → IsNodeView views m node v → IsNodeView (views ++ x ∷ y ∷ []) m node v
   lift_view m (Root paths) v h = h
   lift_view m (Child parent constraint found) v h = (h.0, h.1, slice_get-front views (x ∷ y ∷ []) parent (slice_get_within views parent h.1 h.2) ∙ h.2, h.3, h.4)
@@ -141,7 +142,7 @@ least_popped problem nodes fates rest count total k popped view is m other m_is 
 module _ (problem : Instance) (nodes : List Node) (fates : List Fate) (rest : List (ℕ × ℕ)) (count total k : ℕ) (popped : IsPopped problem nodes fates rest count total k)
     (goals : (i j : ℕ) → ShareGoal problem i j → ⊥) (view : View) (is : slice_get popped.state.views k ≡ Some view) (is_open : slice_get fates k ≡ Some Open) (total_is : total ≡ sum view.costs)
     (conflict : Conflict) (on_first : IsFirstConflict view.paths conflict) (early : tick_of conflict < 1000000)
-    (f g : Found) (s t : Option ℕ) (left : IsGeneratedChild problem view (left_constraint conflict) f s) (right : IsGeneratedChild problem view (right_constraint conflict) g t)
+    (f g : Found (List Entry)) (s t : Option ℕ) (left : IsGeneratedChild problem view (left_constraint conflict) f s) (right : IsGeneratedChild problem view (right_constraint conflict) g t)
   where
     same_length : length popped.state.views ≡ length nodes
     same_length = popped.state.are.lengths

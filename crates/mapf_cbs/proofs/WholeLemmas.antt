@@ -14,6 +14,7 @@ use Rattle.mapf_cbs.specs.declared.node.Fate.TheVariants.{Open}
 use Rattle.std.specs.declared.alloc.Global.{Global}
 use Rattle.std.specs.Option.{unwrap_or}
 use Rattle.mapf_model.specs.Plan.{Instance}
+use Rattle.mapf_model.specs.declared.label.Entry.{Entry}
 use Rattle.mapf_spacetime.specs.declared.found.Found.{Found}
 use Rattle.mapf_spacetime.specs.declared.found.Found.TheVariants.{Arrives, Dead}
 use Rattle.mapf_cbs.specs.declared.whole_node.AgentPath.{AgentPath}
@@ -142,20 +143,20 @@ copy_at view i agent_path copy at same = record {
   bars = λ bar. (λ h. (same.bars bar).1 ((at.bars bar).0 h), λ h. (at.bars bar).1 ((same.bars bar).0 h));
 }
 
-paths_count : (view : View) (constraint : Constraint) (found : Found) (child : View) → IsChildView view constraint found child → length child.paths ≡ length view.paths
+paths_count : (view : View) (constraint : Constraint) (found : Found (List Entry)) (child : View) → IsChildView view constraint found child → length child.paths ≡ length view.paths
 paths_count view constraint (Arrives path labels) child (cost, e) = ap (λ (v : View). length v.paths) e ∙ length-slice_set view.paths constraint.agent path
 paths_count view constraint (Dead labels) child e = ap (λ (v : View). length v.paths) e
 
-path_new : (view : View) (constraint : Constraint) (found : Found) (child : View) → IsChildView view constraint found child → (bars : List Bar) (old agent_path : AgentPath) → slice_get view.paths constraint.agent ≡ Some old.path → IsAfter old found bars agent_path → slice_get child.paths constraint.agent ≡ Some agent_path.path
+path_new : (view : View) (constraint : Constraint) (found : Found (List Entry)) (child : View) → IsChildView view constraint found child → (bars : List Bar) (old agent_path : AgentPath) → slice_get view.paths constraint.agent ≡ Some old.path → IsAfter old found bars agent_path → slice_get child.paths constraint.agent ≡ Some agent_path.path
 path_new view constraint (Arrives path labels) child (cost, e) bars old agent_path old_is after = ap (λ (v : View). slice_get v.paths constraint.agent) e ∙ slice_get-set_same view.paths constraint.agent path (slice_get_within view.paths constraint.agent old.path old_is) ∙ ap Some (sym after.0)
 path_new view constraint (Dead labels) child e bars old agent_path old_is after = ap (λ (v : View). slice_get v.paths constraint.agent) e ∙ old_is ∙ ap Some (sym after.0)
 
-bars_after : (old : AgentPath) (found : Found) (bars : List Bar) (agent_path : AgentPath) → IsAfter old found bars agent_path → agent_path.bars ≡ bars
+bars_after : (old : AgentPath) (found : Found (List Entry)) (bars : List Bar) (agent_path : AgentPath) → IsAfter old found bars agent_path → agent_path.bars ≡ bars
 bars_after old (Arrives path labels) bars agent_path after = after.1
 bars_after old (Dead labels) bars agent_path after = after.1
 
 -- a node in which one agent's path changed is the child
-module _ (view : View) (node : WholeNode) (whole : IsWhole node view) (constraint : Constraint) (found : Found) (child : View) (is_child : IsChildView view constraint found child) where
+module _ (view : View) (node : WholeNode) (whole : IsWhole node view) (constraint : Constraint) (found : Found (List Entry)) (child : View) (is_child : IsChildView view constraint found child) where
   agent_path_kept : (i : ℕ) (agent_path : AgentPath) → i ≢ constraint.agent → IsAgentPathAt view i agent_path → IsAgentPathAt child i agent_path
   agent_path_kept i agent_path other at = record {
     path = paths_kept view i constraint found child (inl other) is_child ∙ at.path;
@@ -170,8 +171,8 @@ module _ (view : View) (node : WholeNode) (whole : IsWhole node view) (constrain
           (subst (λ bs. AreSameBars (constraint.bar ∷ view.context.bars constraint.agent) bs) (sym (bars_after old found bars agent_path after)) (bars_swap bars (constraint.bar ∷ view.context.bars constraint.agent) same));
     }
 
-    pub whole_child : (agent_paths : Vec AgentPath Global) → AreCopies (slice_set node.agent_paths.items constraint.agent agent_path) agent_paths.items → (blocks : Vec LabelBlock Global) → blocks.items ≡ bound_blocks constraint.agent (labels_of found) → All (λ block. length block.entries < 2 ^ 64) blocks.items → (total : ℕ) → total ≡ sum child.costs →
-        IsWhole (record { agent_paths = agent_paths; blocks = blocks; total = total }) child
+    pub whole_child : (agent_paths : Vec AgentPath Global) → AreCopies (slice_set node.agent_paths.items constraint.agent agent_path) agent_paths.items → (blocks : List LabelBlock) → blocks ≡ bound_blocks constraint.agent (labels_of found) → All (λ block. length block.entries < 2 ^ 64) blocks → (total : ℕ) → total ≡ sum child.costs →
+        IsWhole (record { agent_paths = agent_paths; bound = blocks; total = total }) child
     whole_child agent_paths copies blocks own small total total_is = record {
       count = copies.count ∙ length-slice_set node.agent_paths.items constraint.agent agent_path ∙ whole.count ∙ sym (paths_count view constraint found child is_child);
       each = λ i r r_is.
@@ -186,7 +187,7 @@ module _ (view : View) (node : WholeNode) (whole : IsWhole node view) (constrain
       total = total_is;
     }
 
-pub total_generated : (problem : Instance) (view child : View) (constraint : Constraint) (found : Found) (goal rest : ℕ) (total : Option ℕ) (n : ℕ) → IsChildView view constraint found child → IsTotal found goal rest total → IsGeneratedState problem view child total → n ≡ sum view.costs → unwrap_or total n ≡ sum child.costs
+pub total_generated : (problem : Instance) (view child : View) (constraint : Constraint) (found : Found (List Entry)) (goal rest : ℕ) (total : Option ℕ) (n : ℕ) → IsChildView view constraint found child → IsTotal found goal rest total → IsGeneratedState problem view child total → n ≡ sum view.costs → unwrap_or total n ≡ sum child.costs
 total_generated problem view child constraint (Arrives path labels) goal rest None n is_child (cost, is, fits, e) state sums = absurd cc
 total_generated problem view child constraint (Arrives path labels) goal rest (Some m) n is_child is_total state sums = state.1
 total_generated problem view child constraint (Dead labels) goal rest None n e is_total state sums = sums ∙ sym (ap (λ (v : View). sum v.costs) e)

@@ -1,26 +1,27 @@
 -- What an answer of the search says.
-use Rattle.std.specs.Prelude.{◌≡◌, ℕ, ◌+◌, ◌*◌, ◌<◌, ◌≤◌, List, length}
+use Rattle.std.specs.Prelude.{◌≡◌, ℕ, ◌+◌, ◌*◌, ◌<◌, ◌≤◌, List, length, map}
 use Rattle.mapf_model.specs.declared.cause.Cause.{Cause}
 use Rattle.mapf_model.specs.declared.cause.Cause.TheVariants.{Splits, Ticks}
 use Rattle.mapf_model.specs.declared.item.Claim.TheVariants.{Cost, Bound, Impossible}
-use Rattle.mapf_model.specs.declared.item.Item.{Item}
 use Rattle.mapf_model.specs.Earned.{AreCheapest, AreConflictFreeBefore, HaveConflictBefore, IsEarned, IsStoppedWhere}
 use Rattle.mapf_model.specs.Grid.{free_cell_count}
 use Rattle.mapf_model.specs.Limits.{split_ticks}
 use Rattle.mapf_model.specs.Plan.{Instance, IsOptimal, IsLowerBound, IsImpossible}
 use Rattle.mapf_model.specs.Printed.{IsTreeInRange, IsPlanInRange, IsClaimInRange}
-use Rattle.mapf_model.specs.Tree.{ConstraintTree, NodeContext, Spell, Shows, StartsAddUpTo, AtSomeLeaf, root, split_count, with_blocks}
+use Rattle.mapf_model.specs.Tree.{ConstraintTree, NodeContext, Node, node_of, nodes_of, Shows, StartsAddUpTo, AtSomeLeaf, root, split_count, with_blocks}
 use Rattle.mapf_cbs.specs.BoundBlocks.{CarriesBoundBlocks}
 use Rattle.mapf_cbs.specs.FirstConflicts.{AreFirstPaths, AreOnFirstConflicts}
 use Rattle.mapf_cbs.specs.Goals.{NamesFirstDefect}
 use Rattle.mapf_cbs.specs.declared.answer.Answer.{Answer}
 use Rattle.mapf_cbs.specs.declared.answer.Answer.TheVariants.{Found as FoundAnswer, Impossible as ImpossibleAnswer, Limit as LimitAnswer}
+use Rattle.mapf_cbs.specs.declared.outcome.Outcome.{Outcome}
+use Rattle.mapf_cbs.specs.declared.outcome.Outcome.TheVariants.{Found as FoundOutcome, Impossible as ImpossibleOutcome, Limit as LimitOutcome}
 
--- the items spell this tree; it has at most so many splits, each of which stands on the first conflict of cheapest
+-- these are the nodes of the tree in pre-order; it has at most so many splits, each of which stands on the first conflict of cheapest
 -- paths, at a node no dearer than any end; where goals alone show that no plan is valid it is one node; each node has
 -- the blocks of the agent that was bound there; and it can be printed
-pub record IsTreeOf (problem : Instance) (limit : ℕ) (items : List Item) (tree : ConstraintTree) : Type 0 where
-  pub spelled : Spell items tree
+pub record IsTreeOf (problem : Instance) (limit : ℕ) (nodes : List Node) (tree : ConstraintTree) : Type 0 where
+  pub spelled : nodes ≡ nodes_of tree
   pub few : split_count tree ≤ limit
   pub earned : IsEarned problem tree
   pub first_conflicts : AreOnFirstConflicts problem tree
@@ -72,6 +73,12 @@ MayStop problem limit Ticks tree = IsStoppedAtFirst (λ paths. AreConflictFreeBe
 
 -- a plan or impossibility with a tree that shows it, or a limit that was met, with the bound that the tree shows
 abbrev pub IsSearchAnswer : Instance → ℕ → Answer → Type 0
-IsSearchAnswer problem limit (FoundAnswer plan items) = (tree : ConstraintTree) × IsTreeOf problem limit items.items tree × IsShownOptimal problem plan tree
-IsSearchAnswer problem limit (ImpossibleAnswer items) = (tree : ConstraintTree) × IsTreeOf problem limit items.items tree × IsShownImpossible problem tree
-IsSearchAnswer problem limit (LimitAnswer cause bound items) = (tree : ConstraintTree) × IsTreeOf problem limit items.items tree × MayStop problem limit cause tree × IsShownBound problem bound tree
+IsSearchAnswer problem limit (FoundAnswer plan items) = (tree : ConstraintTree) × IsTreeOf problem limit (map node_of items.items) tree × IsShownOptimal problem plan tree
+IsSearchAnswer problem limit (ImpossibleAnswer items) = (tree : ConstraintTree) × IsTreeOf problem limit (map node_of items.items) tree × IsShownImpossible problem tree
+IsSearchAnswer problem limit (LimitAnswer cause bound items) = (tree : ConstraintTree) × IsTreeOf problem limit (map node_of items.items) tree × MayStop problem limit cause tree × IsShownBound problem bound tree
+
+-- the same of an outcome, which has the nodes of its tree
+abbrev pub IsOutcome : Instance → ℕ → Outcome → Type 0
+IsOutcome problem limit (FoundOutcome plan nodes) = (tree : ConstraintTree) × IsTreeOf problem limit nodes.items tree × IsShownOptimal problem plan tree
+IsOutcome problem limit (ImpossibleOutcome nodes) = (tree : ConstraintTree) × IsTreeOf problem limit nodes.items tree × IsShownImpossible problem tree
+IsOutcome problem limit (LimitOutcome cause bound nodes) = (tree : ConstraintTree) × IsTreeOf problem limit nodes.items tree × MayStop problem limit cause tree × IsShownBound problem bound tree

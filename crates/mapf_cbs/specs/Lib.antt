@@ -9,4 +9,5 @@ pub mod State
 pub mod Finders
 pub mod Start
 pub mod Answer
+pub mod TreeNodes
 pub mod Whole

@@ -3,6 +3,7 @@ use Rattle.std.specs.Prelude.{◌≡◌, ◌⊎◌, ℕ, ◌<◌, List, [], Some
 use Rattle.mapf_model.specs.declared.bar.Bar.{Bar}
 use Rattle.mapf_model.specs.declared.constraint.Constraint.{Constraint}
 use Rattle.mapf_model.specs.Tree.{root}
+use Rattle.mapf_model.specs.declared.label.Entry.{Entry}
 use Rattle.mapf_spacetime.specs.declared.found.Found.{Found}
 use Rattle.mapf_spacetime.specs.declared.found.Found.TheVariants.{Arrives, Dead}
 use Rattle.mapf_cbs.specs.declared.node.Node.{Node}
@@ -33,7 +34,7 @@ abbrev pub HaveTableBars : List Node → Type 0
 HaveTableBars nodes = (k : ℕ) (node : Node) → slice_get nodes k ≡ Some node → HasTableBar node
 
 -- what a child means, by what its parent means and what was found
-abbrev pub IsChildView : View → Constraint → Found → View → Type 0
+abbrev pub IsChildView : View → Constraint → Found (List Entry) → View → Type 0
 IsChildView before constraint (Arrives path labels) view = (cost : ℕ) × (view ≡ live_child before constraint path cost labels)
 IsChildView before constraint (Dead labels) view = view ≡ dead_child before constraint labels
 

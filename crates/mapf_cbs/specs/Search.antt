@@ -1,6 +1,5 @@
 -- What a conflict-based search knows of its nodes.
-use Rattle.std.specs.Prelude.{Vec, ◌≡◌, ◌≢◌, ℕ, ◌+◌, ◌*◌, ◌<◌, ◌≤◌, ◌^◌, ◌==◌, if◌then◌else◌, List, [], ◌∷◌, Some, length, slice_get, slice_set, sum, All}
-use Rattle.std.specs.declared.alloc.Global.{Global}
+use Rattle.std.specs.Prelude.{◌≡◌, ◌≢◌, ℕ, ◌+◌, ◌*◌, ◌<◌, ◌≤◌, ◌^◌, ◌==◌, if◌then◌else◌, List, [], ◌∷◌, Some, length, slice_get, slice_set, sum, All}
 use Rattle.mapf_model.specs.declared.constraint.Constraint.{Constraint}
 use Rattle.mapf_model.specs.declared.problem.Agent.{Agent}
 use Rattle.mapf_model.specs.Blocks.{LabelBlock}
@@ -75,7 +74,7 @@ pub record IsDead (problem : Instance) (view : View) : Type 0 where
   pub each : (i : ℕ) (other : Agent) (path : List ℕ) (cost : ℕ) → i ≢ who → slice_get problem.agents i ≡ Some other → slice_get view.paths i ≡ Some path → slice_get view.costs i ≡ Some cost → IsCheapestOf problem view i other path cost
 
 -- the labels that were found
-abbrev pub labels_of : Found → List Entry
+abbrev pub labels_of : Found (List Entry) → List Entry
 labels_of (Arrives path labels) = labels
 labels_of (DeadEnd labels) = labels
 
@@ -163,9 +162,9 @@ abbrev pub AreBlocksOf : View → List LabelBlock → Type 0
 AreBlocksOf view blocks = (blocks ≡ view.blocks) × All (λ block. length block.entries < 2 ^ 64) blocks
 
 -- these are the blocks of each node
-pub record AreBlockLists (views : List View) (lists : List (Vec LabelBlock Global)) : Type 0 where
+pub record AreBlockLists (views : List View) (lists : List (List LabelBlock)) : Type 0 where
   pub lengths : length lists ≡ length views
-  pub each : (k : ℕ) (view : View) (blocks : Vec LabelBlock Global) → slice_get views k ≡ Some view → slice_get lists k ≡ Some blocks → AreBlocksOf view blocks.items
+  pub each : (k : ℕ) (view : View) (blocks : List LabelBlock) → slice_get views k ≡ Some view → slice_get lists k ≡ Some blocks → AreBlocksOf view blocks
 
 -- these are the blocks of the node with this number
 abbrev pub AreBlocksAt : List View → ℕ → List LabelBlock → Type 0

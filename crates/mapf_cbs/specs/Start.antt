@@ -43,5 +43,5 @@ pub record IsRootStart (problem : Instance) (tables : List GoalMap) (paths : Lis
 
 -- a tree of no splits that shows that no plan is valid, or what a search begins with
 abbrev pub IsBeginning : Instance → Beginning → Type 0
-IsBeginning problem (ImpossibleBeginning items) = (limit : ℕ) → (tree : ConstraintTree) × IsTreeOf problem limit items.items tree × IsShownImpossible problem tree
+IsBeginning problem (ImpossibleBeginning nodes) = (limit : ℕ) → (tree : ConstraintTree) × IsTreeOf problem limit nodes.items tree × IsShownImpossible problem tree
 IsBeginning problem (RootBeginning tables paths) = IsRootStart problem tables.items paths.items

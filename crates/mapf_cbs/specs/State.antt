@@ -11,6 +11,7 @@ use Rattle.mapf_model.specs.Earned.{tick_of}
 use Rattle.mapf_model.specs.Plan.{Instance}
 use Rattle.mapf_model.specs.Limits.{most_agents, split_ticks}
 use Rattle.mapf_model.specs.Tree.{left_constraint, right_constraint}
+use Rattle.mapf_model.specs.declared.label.Entry.{Entry}
 use Rattle.mapf_spacetime.specs.declared.found.Found.{Found}
 use Rattle.mapf_cbs.specs.declared.node.Node.{Node}
 use Rattle.mapf_cbs.specs.declared.node.Node.TheVariants.{Child}
@@ -25,7 +26,7 @@ fate_of None = Dead
 fate_of (Some total) = Open
 
 -- the nodes with the two children of the node k, which is split on the conflict, and what was found at these
-abbrev pub with_children : List Node → ℕ → Conflict → Found → Found → List Node
+abbrev pub with_children : List Node → ℕ → Conflict → Found (List Entry) → Found (List Entry) → List Node
 with_children nodes k conflict left right = (nodes ++ Child k (left_constraint conflict) left ∷ []) ++ Child k (right_constraint conflict) right ∷ []
 
 -- the fates after a node is split: it names its left child, and the fates of the two children come last

@@ -4,6 +4,7 @@ use Rattle.mapf_model.specs.declared.bar.Bar.{Bar}
 use Rattle.mapf_model.specs.declared.constraint.Constraint.{Constraint}
 use Rattle.mapf_model.specs.Laws.{AreSameBars}
 use Rattle.mapf_model.specs.Plan.{Instance}
+use Rattle.mapf_model.specs.declared.label.Entry.{Entry}
 use Rattle.mapf_spacetime.specs.declared.found.Found.{Found}
 use Rattle.mapf_spacetime.specs.declared.found.Found.TheVariants.{Arrives, Dead as DeadEnd}
 use Rattle.mapf_cbs.specs.declared.node.Node.{Node}
@@ -26,7 +27,7 @@ pub record IsAgentPathAt (view : View) (i : ℕ) (agent_path : AgentPath) : Type
 pub record IsWhole (node : WholeNode) (view : View) : Type 0 where
   pub count : length node.agent_paths.items ≡ length view.paths
   pub each : (i : ℕ) (agent_path : AgentPath) → slice_get node.agent_paths.items i ≡ Some agent_path → IsAgentPathAt view i agent_path
-  pub blocks : AreBlocksOf view node.blocks.items
+  pub blocks : AreBlocksOf view node.bound
   pub total : node.total ≡ sum view.costs
 
 -- so do all nodes
@@ -54,13 +55,13 @@ pub record AreCopies (agent_paths all : List AgentPath) : Type 0 where
   pub each : (i : ℕ) (copy : AgentPath) → slice_get all i ≡ Some copy → (agent_path : AgentPath) × (slice_get agent_paths i ≡ Some agent_path) × IsCopy agent_path copy
 
 -- the path after what was found under these bars
-abbrev pub IsAfter : AgentPath → Found → List Bar → AgentPath → Type 0
+abbrev pub IsAfter : AgentPath → Found (List Entry) → List Bar → AgentPath → Type 0
 IsAfter before (Arrives path labels) bars agent_path = (agent_path.path ≡ path) × (agent_path.bars ≡ bars)
 IsAfter before (DeadEnd labels) bars agent_path = (agent_path.path ≡ before.path) × (agent_path.bars ≡ bars)
 
 -- a whole child, live with this sum or dead
 pub record IsWholeChild (problem : Instance) (view : View) (constraint : Constraint) (node : WholeNode) (total : Option ℕ) : Type 0 where
-  pub found : Found
+  pub found : Found (List Entry)
   pub generated : IsGeneratedChild problem view constraint found total
   pub whole : IsWhole node generated.child
 

@@ -16,19 +16,20 @@ use crate::walks::{bars_at, path_at};
 use mapf_constraints::BarTable;
 use mapf_distance::Distances;
 use mapf_model::{Cell, Constraint, OutOfMemory, Path, Problem};
-use mapf_spacetime::{Found, search};
+use mapf_spacetime::{Found, StateLabels, Workspace, search_in};
 use std::alloc::Global;
 
 /// What one more constraint led to, with the sum of the new costs where the agent still arrives.
 #[derive(Debug, Drop)]
 pub struct GeneratedChild {
-    pub found: Found,
+    pub found: Found<StateLabels>,
     pub total: Option<u64>,
 }
 
-/// The child of a node under one more constraint.
+/// The child of a node under one more constraint. The workspace is memory alone.
 pub fn child<B: BarTable>(
     alloc: Global,
+    workspace: &mut Workspace,
     problem: &Problem,
     tables: &[Distances],
     nodes: &[Node],
@@ -51,7 +52,7 @@ pub fn child<B: BarTable>(
 {
     let agent = constraint.agent;
     let who = problem.agents()[agent as usize];
-    let found = search_with::<B>(alloc, problem, tables, nodes, k, constraint)?;
+    let found = search_with::<B>(alloc, workspace, problem, tables, nodes, k, constraint)?;
     let old = cost_of(path_at(nodes, k, agent), who.goal);
     let total = new_total(&found, who.goal, total - u64::from(old));
     Ok(GeneratedChild { found, total })
@@ -60,12 +61,13 @@ pub fn child<B: BarTable>(
 // What the constraint's agent can do under its bars at the node and this one.
 fn search_with<B: BarTable>(
     alloc: Global,
+    workspace: &mut Workspace,
     problem: &Problem,
     tables: &[Distances],
     nodes: &[Node],
     k: u32,
     constraint: Constraint,
-) -> Result<Found, OutOfMemory>
+) -> Result<Found<StateLabels>, OutOfMemory>
     requires tables { AreTables problem.now tables.now }
     requires nodes { AreNodesFor constraint.agent nodes.now }
     requires bars { HaveTableBars nodes.now }
@@ -81,8 +83,9 @@ fn search_with<B: BarTable>(
     let who = problem.agents()[constraint.agent as usize];
     let mut table: B = bars_at(alloc, nodes, k, constraint.agent)?;
     table.add(constraint.bar)?;
-    search(
+    search_in(
         alloc,
+        workspace,
         problem.grid(),
         &tables[constraint.agent as usize],
         &table,
@@ -102,7 +105,7 @@ pub fn cost_of(path: &Path, goal: Cell) -> u32
 }
 
 /// The sum with the cost of the path that was found, None where none was.
-pub fn new_total(found: &Found, goal: Cell, rest: u64) -> Option<u64>
+pub fn new_total(found: &Found<StateLabels>, goal: Cell, rest: u64) -> Option<u64>
     requires lawful { EndsAt found.now goal }
     requires small { rest + 2 ^ 32 < 2 ^ 64 }
     ensures { IsTotal found.now goal rest result }

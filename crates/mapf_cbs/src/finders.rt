@@ -43,11 +43,7 @@ fn none_of(alloc: Global, agents: u32) -> Result<Vec<Option<u32>>, OutOfMemory>
     ensures count { IfOk result (λ finders. length finders.items ≡ agents) }
     ensures none { IfOk result (λ finders. AreNone finders.items) }
 {
-    let mut finders = Vec::new(alloc);
-    for _ in 0..agents {
-        finders.push(None)?;
-    }
-    Ok(finders)
+    Ok(vec![in alloc; None; agents as usize]?)
 }
 
 // The node bound the agent, unless one nearer did.

@@ -4,7 +4,7 @@ ghost use Rattle.std.specs.Prelude.{◌≡◌, ◌+◌, ◌^◌, ◌<◌, ◌≤
 ghost use Rattle.mapf_model.specs.Earned.{tick_of};
 ghost use Rattle.mapf_model.specs.Laws.{AreSameBars};
 ghost use Rattle.mapf_model.specs.Limits.{most_splits, split_ticks};
-ghost use Rattle.mapf_cbs.specs.Answer.{IsSearchAnswer};
+ghost use Rattle.mapf_cbs.specs.Answer.{IsOutcome, IsSearchAnswer};
 ghost use Rattle.mapf_cbs.specs.CheapestPath.{IsTableBar};
 ghost use Rattle.mapf_cbs.specs.Goals.{HaveDifferentGoals};
 ghost use Rattle.mapf_distance.specs.Tables.{AreTables};
@@ -14,18 +14,19 @@ ghost use Rattle.mapf_cbs.specs.Whole.{IsFirstAtWhole, IsWhole, IsWholeChild, Is
 ghost use Rattle.mapf_cbs.specs.declared.whole_node.WholeNode.{WholeNode};
 
 use crate::answer::Answer;
-use crate::blocks::bound_blocks;
+use crate::bound_labels::BoundLabels;
 use crate::child::{cost_of, new_total};
+use crate::outcome::Outcome;
 use crate::solver::cause_to_stop;
 use crate::start::{Beginning, begin};
 use crate::whole_node::{WholeNode, agent_paths_with};
-use crate::whole_tree::{WholeChild, WholeTree, blocks_of_whole, least_open};
-use crate::written::tree_items;
+use crate::whole_tree::{WholeChild, WholeTree, labels_of_whole, least_open};
+use crate::written::tree_nodes;
 use mapf_conflicts::first_conflict;
 use mapf_constraints::{BarTable, ListBars};
 use mapf_distance::Distances;
 use mapf_model::{Bar, Conflict, Constraint, OutOfMemory, Path, Problem};
-use mapf_spacetime::{Found, search};
+use mapf_spacetime::search_states;
 use std::alloc::Global;
 
 /// Answers what `solve` answers, by the plainest means.
@@ -34,8 +35,10 @@ pub fn solve_plain(alloc: Global, problem: &Problem, limit: u32) -> Result<Answe
     ensures { IfOk result (IsSearchAnswer problem.now limit) }
 {
     match begin(alloc, problem)? {
-        Beginning::Impossible { tree } => Ok(Answer::Impossible { tree }),
-        Beginning::Root { tables, paths } => { search_plain(alloc, problem, &tables, paths, limit) }
+        Beginning::Impossible { tree } => Outcome::Impossible { tree }.into_answer(alloc),
+        Beginning::Root { tables, paths } => {
+            search_plain(alloc, problem, &tables, paths, limit)?.into_answer(alloc)
+        }
     }
 }
 
@@ -47,34 +50,34 @@ fn search_plain(
     tables: &[Distances],
     paths: Vec<Path>,
     limit: u32,
-) -> Result<Answer, OutOfMemory>
+) -> Result<Outcome, OutOfMemory>
     requires limit { limit ≤ most_splits }
     requires root { IsRootStart problem.now tables.now paths.items }
-    ensures { IfOk result (IsSearchAnswer problem.now limit) }
+    ensures { IfOk result (IsOutcome problem.now limit) }
 {
     let root = WholeNode::root(alloc, &paths)?;
     let mut tree = WholeTree::of(alloc, root)?;
     loop {
         let Some(k) = least_open(&tree.nodes, &tree.fates) else {
-            let lists = blocks_of_whole(alloc, tree.nodes)?;
-            let items = tree_items(alloc, lists, &tree.fates)?;
-            return Ok(Answer::Impossible { tree: items });
+            let lists = labels_of_whole(alloc, tree.nodes)?;
+            let nodes = tree_nodes(alloc, lists, &tree.fates)?;
+            return Ok(Outcome::Impossible { tree: nodes });
         };
         let node = &tree.nodes[k as usize];
         let bound = node.total;
         let plan = node.plan(alloc)?;
         let Some(conflict) = first_conflict(&plan) else {
-            let lists = blocks_of_whole(alloc, tree.nodes)?;
-            let items = tree_items(alloc, lists, &tree.fates)?;
-            return Ok(Answer::Found { plan, tree: items });
+            let lists = labels_of_whole(alloc, tree.nodes)?;
+            let nodes = tree_nodes(alloc, lists, &tree.fates)?;
+            return Ok(Outcome::Found { plan, tree: nodes });
         };
         if let Some(cause) = cause_to_stop(&conflict, tree.splits, limit) {
-            let lists = blocks_of_whole(alloc, tree.nodes)?;
-            let items = tree_items(alloc, lists, &tree.fates)?;
-            return Ok(Answer::Limit {
+            let lists = labels_of_whole(alloc, tree.nodes)?;
+            let nodes = tree_nodes(alloc, lists, &tree.fates)?;
+            return Ok(Outcome::Limit {
                 cause,
                 bound,
-                tree: items,
+                tree: nodes,
             });
         }
         split_whole(alloc, problem, tables, &mut tree, k, &conflict)?;
@@ -144,7 +147,7 @@ fn child_of(
         &node.agent_paths[constraint.agent as usize].bars,
         constraint.bar,
     )?;
-    let found = search(
+    let found = search_states(
         alloc,
         problem.grid(),
         &tables[constraint.agent as usize],
@@ -155,12 +158,12 @@ fn child_of(
     let total = new_total(&found, goal, node.total - u64::from(old));
     let agent_path = node.agent_paths[constraint.agent as usize].after(alloc, &found, bars)?;
     let agent_paths = agent_paths_with(alloc, &node.agent_paths, constraint.agent, agent_path)?;
-    let blocks = bound_blocks(alloc, constraint.agent, found)?;
+    let bound = BoundLabels::of(constraint.agent, found);
     let sum = total.unwrap_or(node.total);
     Ok(WholeChild {
         node: WholeNode {
             agent_paths,
-            blocks,
+            bound,
             total: sum,
         },
         total,

@@ -4,22 +4,29 @@
 
 mod answer;
 mod blocks;
+mod bound_labels;
 mod child;
 mod clash;
 mod finders;
 pub mod laws;
 mod node;
+mod outcome;
 mod search_tree;
 mod solver;
 mod start;
+mod tree_node;
 mod walks;
 mod whole_node;
 mod whole_tree;
 mod written;
 
 pub use answer::Answer;
+pub use bound_labels::BoundLabels;
 pub use mapf_model::Cause;
-pub use solver::{solve, solve_with};
+pub use mapf_spacetime::StateLabels;
+pub use outcome::Outcome;
+pub use solver::{search, search_with, solve, solve_with};
+pub use tree_node::{NodeKind, TreeNode};
 
 #[cfg(test)]
 mod tests;

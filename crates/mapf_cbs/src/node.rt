@@ -1,5 +1,5 @@
 use mapf_model::{Conflict, Constraint, Path};
-use mapf_spacetime::Found;
+use mapf_spacetime::{Found, StateLabels};
 
 /// A node of the constraint tree by its change: all else is found at its ancestors.
 #[derive(Debug, Drop)]
@@ -12,7 +12,7 @@ pub enum Node {
     Child {
         parent: u32,
         constraint: Constraint,
-        found: Found,
+        found: Found<StateLabels>,
     },
 }
 

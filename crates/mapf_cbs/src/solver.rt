@@ -1,7 +1,7 @@
 ghost use Rattle.std.specs.Prelude.{◌≡◌, ◌≢◌, ◌+◌, ◌<◌, ◌≤◌, IfOk, IfSome, IfNone, OnOk};
 ghost use Rattle.mapf_model.specs.Earned.{tick_of};
 ghost use Rattle.mapf_model.specs.Limits.{most_splits, split_ticks};
-ghost use Rattle.mapf_cbs.specs.Answer.{IsSearchAnswer};
+ghost use Rattle.mapf_cbs.specs.Answer.{IsOutcome, IsSearchAnswer};
 ghost use Rattle.mapf_cbs.specs.Goals.{HaveDifferentGoals};
 ghost use Rattle.mapf_cbs.specs.Nodes.{IsFirstAt};
 ghost use Rattle.mapf_distance.specs.Tables.{AreTables};
@@ -9,17 +9,19 @@ ghost use Rattle.mapf_cbs.specs.Start.{IsRootStart};
 ghost use Rattle.mapf_cbs.specs.State.{IsPopped, IsState, IsCauseToStop};
 
 use crate::answer::Answer;
-use crate::blocks::blocks_of_all;
+use crate::blocks::labels_of_all;
 use crate::child::child;
+use crate::outcome::Outcome;
 use crate::search_tree::{SearchTree, take_least};
 use crate::start::{Beginning, begin, total_of};
-use crate::walks::plan_at;
-use crate::written::tree_items;
-use mapf_conflicts::first_conflict;
+use crate::walks::{conflict_at, plan_at};
+use crate::written::tree_nodes;
+use mapf_conflicts::CellMarks;
 use mapf_constraints::{BarTable, TickBars};
 use mapf_distance::Distances;
 use mapf_model::limits::SPLIT_TICKS;
 use mapf_model::{Cause, Conflict, OutOfMemory, Path, Problem};
+use mapf_spacetime::Workspace;
 use std::alloc::Global;
 
 /// Searches for a cheapest valid plan, with at most so many splits of the constraint tree: 0 to
@@ -42,8 +44,28 @@ pub fn solve_with<B: BarTable>(
     requires { limit ≤ most_splits }
     ensures { IfOk result (IsSearchAnswer problem.now limit) }
 {
+    search_with::<B>(alloc, problem, limit)?.into_answer(alloc)
+}
+
+/// Searches as `solve` does, and answers with the nodes of the tree in place of its items.
+pub fn search(alloc: Global, problem: &Problem, limit: u32) -> Result<Outcome, OutOfMemory>
+    requires { limit ≤ most_splits }
+    ensures { IfOk result (IsOutcome problem.now limit) }
+{
+    search_with::<TickBars>(alloc, problem, limit)
+}
+
+/// The same, with each agent's bars in a table of this type while its path is searched.
+pub fn search_with<B: BarTable>(
+    alloc: Global,
+    problem: &Problem,
+    limit: u32,
+) -> Result<Outcome, OutOfMemory>
+    requires { limit ≤ most_splits }
+    ensures { IfOk result (IsOutcome problem.now limit) }
+{
     match begin(alloc, problem)? {
-        Beginning::Impossible { tree } => Ok(Answer::Impossible { tree }),
+        Beginning::Impossible { tree } => Ok(Outcome::Impossible { tree }),
         Beginning::Root { tables, paths } => {
             search_from::<B>(alloc, problem, &tables, paths, limit)
         }
@@ -58,36 +80,49 @@ fn search_from<B: BarTable>(
     tables: &[Distances],
     paths: Vec<Path>,
     limit: u32,
-) -> Result<Answer, OutOfMemory>
+) -> Result<Outcome, OutOfMemory>
     requires limit { limit ≤ most_splits }
     requires root { IsRootStart problem.now tables.now paths.items }
-    ensures { IfOk result (IsSearchAnswer problem.now limit) }
+    ensures { IfOk result (IsOutcome problem.now limit) }
 {
     let agents = problem.agents().len() as u32;
     let total = total_of(&paths);
     let mut search = SearchTree::of(alloc, paths, total)?;
+    let grid = problem.grid();
+    let mut marks = CellMarks::new(alloc, (grid.width() * grid.height()) as usize)?;
+    let mut workspace = Workspace::new(alloc);
     loop {
         let Some((total, k)) = take_least(&mut search.waiting) else {
-            let lists = blocks_of_all(alloc, search.nodes)?;
-            let tree = tree_items(alloc, lists, &search.fates)?;
-            return Ok(Answer::Impossible { tree });
+            let lists = labels_of_all(alloc, search.nodes)?;
+            let tree = tree_nodes(alloc, lists, &search.fates)?;
+            return Ok(Outcome::Impossible { tree });
         };
-        let plan = plan_at(alloc, &search.nodes, k, agents)?;
-        let Some(conflict) = first_conflict(&plan) else {
-            let lists = blocks_of_all(alloc, search.nodes)?;
-            let tree = tree_items(alloc, lists, &search.fates)?;
-            return Ok(Answer::Found { plan, tree });
+        let found = conflict_at(alloc, &mut marks, &search.nodes, k, agents)?;
+        let Some(conflict) = found else {
+            let plan = plan_at(alloc, &search.nodes, k, agents)?;
+            let lists = labels_of_all(alloc, search.nodes)?;
+            let tree = tree_nodes(alloc, lists, &search.fates)?;
+            return Ok(Outcome::Found { plan, tree });
         };
         if let Some(cause) = cause_to_stop(&conflict, search.splits, limit) {
-            let lists = blocks_of_all(alloc, search.nodes)?;
-            let tree = tree_items(alloc, lists, &search.fates)?;
-            return Ok(Answer::Limit {
+            let lists = labels_of_all(alloc, search.nodes)?;
+            let tree = tree_nodes(alloc, lists, &search.fates)?;
+            return Ok(Outcome::Limit {
                 cause,
                 bound: total,
                 tree,
             });
         }
-        split::<B>(alloc, problem, tables, &mut search, k, total, &conflict)?;
+        split::<B>(
+            alloc,
+            &mut workspace,
+            problem,
+            tables,
+            &mut search,
+            k,
+            total,
+            &conflict,
+        )?;
     }
 }
 
@@ -109,6 +144,7 @@ pub fn cause_to_stop(conflict: &Conflict, splits: u32, limit: u32) -> Option<Cau
 // Splits the node on the conflict.
 fn split<B: BarTable>(
     alloc: Global,
+    workspace: &mut Workspace,
     problem: &Problem,
     tables: &[Distances],
     search: &mut SearchTree,
@@ -129,6 +165,7 @@ fn split<B: BarTable>(
 {
     let left = child::<B>(
         alloc,
+        workspace,
         problem,
         tables,
         &search.nodes,
@@ -138,6 +175,7 @@ fn split<B: BarTable>(
     )?;
     let right = child::<B>(
         alloc,
+        workspace,
         problem,
         tables,
         &search.nodes,

@@ -6,9 +6,11 @@ ghost use Rattle.mapf_distance.specs.Tables.{AreTables};
 ghost use Rattle.mapf_cbs.specs.Goals.{SomeGoalIsUnreachable};
 ghost use Rattle.mapf_cbs.specs.Start.{IsBeginning, IsShortest, AreShortest};
 
+use crate::bound_labels::BoundLabels;
 use crate::clash::sharing_pair;
+use crate::tree_node::TreeNode;
 use mapf_distance::{Distances, goal_tables};
-use mapf_model::{Agent, Grid, Item, OutOfMemory, Path, Problem};
+use mapf_model::{Agent, Grid, OutOfMemory, Path, Problem};
 use std::alloc::Global;
 
 /// How a search begins.
@@ -16,7 +18,7 @@ use std::alloc::Global;
 pub enum Beginning {
     /// No plan is valid, and this tree of one node shows it.
     Impossible {
-        tree: Vec<Item>,
+        tree: Vec<TreeNode>,
     },
     /// The distances to each agent's goal, and the paths of the root.
     Root {
@@ -33,29 +35,26 @@ pub fn begin(alloc: Global, problem: &Problem) -> Result<Beginning, OutOfMemory>
     // The width tells the shape of the grid.
     let _width = problem.grid().width();
     if let Some((i, j)) = sharing_pair(problem.agents()) {
-        let clash = Item::Clash {
-            i: i as u32,
-            j: j as u32,
-        };
-        let tree = one_item(alloc, clash)?;
+        let clash = TreeNode::clash(alloc, i as u32, j as u32);
+        let tree = one_node(alloc, clash)?;
         return Ok(Beginning::Impossible { tree });
     }
     let tables = goal_tables(alloc, problem)?;
     match shortest_paths(alloc, problem, &tables)? {
         Some(paths) => Ok(Beginning::Root { tables, paths }),
         None => {
-            let tree = one_item(alloc, Item::Leaf(Vec::new(alloc)))?;
+            let tree = one_node(alloc, TreeNode::leaf(BoundLabels::none(alloc)))?;
             Ok(Beginning::Impossible { tree })
         }
     }
 }
 
-// The items of a tree of one node.
-fn one_item(alloc: Global, item: Item) -> Result<Vec<Item>, OutOfMemory>
-    ensures { IfOk result (λ tree. tree.items ≡ item ∷ []) }
+// A tree of one node.
+fn one_node(alloc: Global, node: TreeNode) -> Result<Vec<TreeNode>, OutOfMemory>
+    ensures { IfOk result (λ tree. tree.items ≡ node ∷ []) }
 {
     let mut tree = Vec::new(alloc);
-    tree.push(item)?;
+    tree.push(node)?;
     Ok(tree)
 }
 

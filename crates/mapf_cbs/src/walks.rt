@@ -1,12 +1,16 @@
-ghost use Rattle.std.specs.Prelude.{◌≡◌, ◌<◌, ◌≤◌, ℕ, Some, length, slice_get, All, IfOk};
+ghost use Rattle.std.specs.Prelude.{◌≡◌, ◌<◌, ◌≤◌, ℕ, Some, length, slice_get, All, IfOk, IfSome, IfNone, OnOk};
+ghost use Rattle.mapf_model.specs.Earned.{HaveSomeConflict};
 ghost use Rattle.mapf_model.specs.Limits.{most_agents, most_path_cells};
 ghost use Rattle.mapf_model.specs.Laws.{AreSameBars};
+ghost use Rattle.mapf_conflicts.specs.Pairs.{paths_behind};
+ghost use Rattle.mapf_cbs.specs.FirstConflicts.{IsFirstConflict};
 ghost use Rattle.mapf_cbs.specs.Nodes.{AreNodesFor, HaveTableBars, HoldsOfNode};
 
 use crate::finders::finders_at;
 use crate::node::Node;
+use mapf_conflicts::{CellMarks, first_conflict_in};
 use mapf_constraints::BarTable;
-use mapf_model::{OutOfMemory, Path, Plan};
+use mapf_model::{Conflict, OutOfMemory, Path, Plan};
 use mapf_spacetime::Found;
 use std::alloc::Global;
 
@@ -66,7 +70,29 @@ pub fn bars_at<B: BarTable>(
     Ok(table)
 }
 
-/// The paths of a node at which each agent has one.
+/// The first conflict of the paths of a node at which each agent has one.
+pub fn conflict_at(
+    alloc: Global,
+    marks: &mut CellMarks,
+    nodes: &[Node],
+    k: u32,
+    agents: u32,
+) -> Result<Option<Conflict>, OutOfMemory>
+    requires nodes { (agent : ℕ) → agent < agents → AreNodesFor agent nodes.now }
+    requires inside { k < length nodes.now }
+    requires few { (1 ≤ agents) × (agents ≤ most_agents) }
+    ensures some { IfOk result (λ found. IfSome found (λ conflict.
+        HoldsOfNode nodes.now k (λ view. length view.paths ≡ agents → IsFirstConflict view.paths conflict))) }
+    ensures none { IfOk result (λ found. IfNone found
+        (HoldsOfNode nodes.now k (λ view. length view.paths ≡ agents → HaveSomeConflict view.paths → ⊥))) }
+    ensures short { OnOk result (HoldsOfNode nodes.now k (λ view.
+        length view.paths ≡ agents → All (λ path. length path ≤ most_path_cells) view.paths)) }
+{
+    let paths = paths_at(alloc, nodes, k, agents)?;
+    Ok(first_conflict_in(marks, &paths))
+}
+
+/// The plan of the paths of a node at which each agent has one.
 pub fn plan_at(alloc: Global, nodes: &[Node], k: u32, agents: u32) -> Result<Plan, OutOfMemory>
     requires nodes { (agent : ℕ) → agent < agents → AreNodesFor agent nodes.now }
     requires inside { k < length nodes.now }
@@ -75,14 +101,48 @@ pub fn plan_at(alloc: Global, nodes: &[Node], k: u32, agents: u32) -> Result<Pla
         HoldsOfNode nodes.now k (λ view. length view.paths ≡ agents → plan ≡ view.paths)) }
     ensures short { IfOk result (λ plan. All (λ path. length path ≤ most_path_cells) plan) }
 {
+    let paths = paths_at(alloc, nodes, k, agents)?;
+    plan_of(alloc, &paths)
+}
+
+// The path of each agent at the node, where it was found.
+fn paths_at<'a>(
+    alloc: Global,
+    nodes: &'a [Node],
+    k: u32,
+    agents: u32,
+) -> Result<Vec<&'a Path>, OutOfMemory>
+    requires nodes { (agent : ℕ) → agent < agents → AreNodesFor agent nodes.now }
+    requires inside { k < length nodes.now }
+    requires few { (1 ≤ agents) × (agents ≤ most_agents) }
+    ensures count { IfOk result (λ paths. length paths.items ≡ agents) }
+    ensures paths { IfOk result (λ paths.
+        HoldsOfNode nodes.now k (λ view. length view.paths ≡ agents → paths_behind paths.items ≡ view.paths)) }
+    ensures short { IfOk result (λ paths. All (λ path. length path ≤ most_path_cells) (paths_behind paths.items)) }
+{
     let finders = finders_at(alloc, nodes, k, agents)?;
-    let mut paths = Vec::new(alloc);
+    let mut paths = Vec::with_capacity(alloc, agents as usize)?;
     for agent in 0..agents {
         let finder = finders[agent as usize].unwrap_or(0);
-        let path = copied(alloc, path_at(nodes, finder, agent))?;
+        let path = path_at(nodes, finder, agent);
+        // The cells tell the bound on their number.
+        let _cells = path.cells();
         paths.push(path)?;
     }
-    match Plan::of(paths) {
+    Ok(paths)
+}
+
+// A plan of copies of the paths.
+fn plan_of(alloc: Global, paths: &[&Path]) -> Result<Plan, OutOfMemory>
+    requires few { (1 ≤ length paths.now) × (length paths.now ≤ most_agents) }
+    ensures same { IfOk result (λ plan. plan ≡ paths_behind paths.now) }
+    ensures short { IfOk result (λ plan. All (λ path. length path ≤ most_path_cells) plan) }
+{
+    let mut copies = Vec::new(alloc);
+    for path in paths {
+        copies.push(copied(alloc, path)?)?;
+    }
+    match Plan::of(copies) {
         Some(plan) => Ok(plan),
         None => unreachable!(),
     }

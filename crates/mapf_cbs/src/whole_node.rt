@@ -5,11 +5,12 @@ ghost use Rattle.mapf_cbs.specs.Nodes.{IsRootView};
 ghost use Rattle.mapf_cbs.specs.Search.{View};
 ghost use Rattle.mapf_cbs.specs.Whole.{IsWhole, IsCopy, AreCopies, IsAfter};
 
+use crate::bound_labels::BoundLabels;
 use crate::start::total_of;
 use crate::walks::copied;
 use mapf_constraints::{BarTable, ListBars};
-use mapf_model::{Block, OutOfMemory, Path, Plan};
-use mapf_spacetime::Found;
+use mapf_model::{OutOfMemory, Path, Plan};
+use mapf_spacetime::{Found, StateLabels};
 use std::alloc::Global;
 
 /// What a node holds of one agent.
@@ -24,8 +25,8 @@ pub struct AgentPath {
 pub struct WholeNode {
     // One for each agent.
     pub agent_paths: Vec<AgentPath>,
-    // Of the agent that was bound when the node was made, where it has labels.
-    pub blocks: Vec<Block>,
+    // Of the agent that was bound when the node was made.
+    pub bound: BoundLabels,
     // The sum of the paths' costs.
     pub total: u64,
 }
@@ -44,7 +45,7 @@ impl AgentPath {
     pub fn after(
         &self,
         alloc: Global,
-        found: &Found,
+        found: &Found<StateLabels>,
         bars: ListBars,
     ) -> Result<AgentPath, OutOfMemory>
         ensures { IfOk result (IsAfter self.now found.now bars) }
@@ -107,7 +108,7 @@ impl WholeNode {
         }
         Ok(WholeNode {
             agent_paths,
-            blocks: Vec::new(alloc),
+            bound: BoundLabels::none(alloc),
             total,
         })
     }

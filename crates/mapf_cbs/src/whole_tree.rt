@@ -3,10 +3,11 @@ ghost use Rattle.mapf_cbs.specs.State.{split_fates};
 ghost use Rattle.mapf_cbs.specs.Search.{View, AreBlockLists};
 ghost use Rattle.mapf_cbs.specs.Whole.{AreWhole, IsLeastBelow};
 
+use crate::bound_labels::BoundLabels;
 use crate::node::Fate;
 use crate::search_tree::expand;
 use crate::whole_node::WholeNode;
-use mapf_model::{Block, Conflict, OutOfMemory};
+use mapf_model::{Conflict, OutOfMemory};
 use std::alloc::Global;
 
 /// A child with all that is found at it, and with its sum where the bound agent still arrives.
@@ -72,14 +73,17 @@ impl WholeTree {
     }
 }
 
-/// The blocks of each node, moved out of the nodes.
-pub fn blocks_of_whole(alloc: Global, nodes: Vec<WholeNode>) -> Result<Vec<Vec<Block>>, OutOfMemory>
+/// The labels of each node, moved out of the nodes.
+pub fn labels_of_whole(
+    alloc: Global,
+    nodes: Vec<WholeNode>,
+) -> Result<Vec<BoundLabels>, OutOfMemory>
     ensures { IfOk result (λ lists.
         (views : List View) → AreWhole nodes.items views → AreBlockLists views lists.items) }
 {
     let mut lists = Vec::new(alloc);
     for node in nodes {
-        lists.push(node.blocks)?;
+        lists.push(node.bound)?;
     }
     Ok(lists)
 }

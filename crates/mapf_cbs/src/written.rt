@@ -1,42 +1,44 @@
 ghost use Rattle.std.specs.Prelude.{◌≡◌, ◌<◌, ℕ, List, length, IfOk};
-ghost use Rattle.mapf_model.specs.Tree.{ConstraintTree, Spell};
+ghost use Rattle.mapf_model.specs.Tree.{ConstraintTree, nodes_of};
 ghost use Rattle.mapf_cbs.specs.Search.{View, AreBlockLists, AreChildrenLater, IsOneTree, IsTreeAt};
 
+use crate::bound_labels::BoundLabels;
 use crate::node::Fate;
-use mapf_model::{Block, Item, OutOfMemory};
+use crate::tree_node::TreeNode;
+use mapf_model::OutOfMemory;
 use std::alloc::Global;
 use std::mem;
 
-/// The items of the nodes' tree in pre-order, by the blocks of each node. The blocks are moved into
-/// the items.
-pub fn tree_items(
+/// The nodes of a search's tree in pre-order, by the labels of each node. The labels are moved into
+/// them.
+pub fn tree_nodes(
     alloc: Global,
-    lists: Vec<Vec<Block>>,
+    lists: Vec<BoundLabels>,
     fates: &[Fate],
-) -> Result<Vec<Item>, OutOfMemory>
+) -> Result<Vec<TreeNode>, OutOfMemory>
     requires same { length fates.now ≡ length lists.items }
     requires some { 0 < length fates.now }
     requires later { AreChildrenLater fates.now }
     requires one { (count : ℕ) × IsOneTree fates.now count }
-    ensures { IfOk result (λ items.
+    ensures { IfOk result (λ nodes.
         (views : List View) → AreBlockLists views lists.items →
-        (tree : ConstraintTree) × Spell items.items tree × IsTreeAt views fates.now 0 tree) }
+        (tree : ConstraintTree) × (nodes.items ≡ nodes_of tree) × IsTreeAt views fates.now 0 tree) }
 {
     let mut lists = lists;
-    let mut items = Vec::new(alloc);
+    let mut nodes = Vec::new(alloc);
     let mut owed: Vec<u32> = Vec::new(alloc);
     owed.push(0)?;
     while let Some(k) = owed.pop() {
-        let blocks = mem::replace(&mut lists[k as usize], Vec::new(alloc));
+        let bound = mem::replace(&mut lists[k as usize], BoundLabels::none(alloc));
         let fate = fates[k as usize];
         match fate {
             Fate::Expanded { conflict, left } => {
-                items.push(Item::split(conflict, blocks))?;
+                nodes.push(TreeNode::split(conflict, bound))?;
                 owed.push(left + 1)?;
                 owed.push(left)?;
             }
-            _ => items.push(Item::Leaf(blocks))?,
+            _ => nodes.push(TreeNode::leaf(bound))?,
         }
     }
-    Ok(items)
+    Ok(nodes)
 }

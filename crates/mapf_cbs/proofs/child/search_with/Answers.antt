@@ -14,22 +14,22 @@ add-requires-clause-early g c = c.requires.bar.0
 pub add-requires-clause-bar : goal.add-requires-clause-bar
 add-requires-clause-bar g c = c.requires.bar.1
 
-pub search-requires-clause-grid : goal.search-requires-clause-grid
-search-requires-clause-grid g c =
+pub search_in-requires-clause-grid : goal.search_in-requires-clause-grid
+search_in-requires-clause-grid g c =
     let agents = c.agents.ensures.value in
     let known = rw agents at (slice_get_read c.agents.result.now (length c.agents.result.now) c.args.constraint.agent c.index-agents-constraint.result refl (rw agents c.requires.known) c.index-agents-constraint.is) in
     let table = slice_get_read c.args.tables.now (length c.args.tables.now) c.args.constraint.agent c.index-tables-constraint.result refl (let n = c.requires.tables.count in let h = c.requires.known in omega (arith, n, h)) c.index-tables-constraint.is in
     (c.requires.tables.each c.args.constraint.agent c.index-agents-constraint.result c.index-tables-constraint.result known table).0 ∙ sym c.grid.ensures
 
-pub search-requires-clause-goal : goal.search-requires-clause-goal
-search-requires-clause-goal g c =
+pub search_in-requires-clause-goal : goal.search_in-requires-clause-goal
+search_in-requires-clause-goal g c =
     let agents = c.agents.ensures.value in
     let known = rw agents at (slice_get_read c.agents.result.now (length c.agents.result.now) c.args.constraint.agent c.index-agents-constraint.result refl (rw agents c.requires.known) c.index-agents-constraint.is) in
     let table = slice_get_read c.args.tables.now (length c.args.tables.now) c.args.constraint.agent c.index-tables-constraint.result refl (let n = c.requires.tables.count in let h = c.requires.known in omega (arith, n, h)) c.index-tables-constraint.is in
     (c.requires.tables.each c.args.constraint.agent c.index-agents-constraint.result c.index-tables-constraint.result known table).1
 
 pub returns : goal.returns
-returns g c = IfOk-weaker c.search.result _ _ (λ found is who known views view are view_is.
+returns g c = IfOk-weaker c.search_in.result _ _ (λ found is who known views view are view_is.
     let agents = c.agents.ensures.value in
     let read = slice_get_read c.agents.result.now (length c.agents.result.now) c.args.constraint.agent c.index-agents-constraint.result refl (rw agents c.requires.known) c.index-agents-constraint.is in
     let same : c.index-agents-constraint.result ≡ who = same_Some c.index-agents-constraint.result who (sym (rw agents at read) ∙ known) in (
@@ -38,4 +38,4 @@ returns g c = IfOk-weaker c.search.result _ _ (λ found is who known views view 
       subst (λ (a : Agent). IsPathAnswer (task_of c.args.problem.now.grid a (g.B.BarTable.bars c.add.new.self)) found) same
           (subst (λ (m : GridMap). IsPathAnswer (task_of m c.index-agents-constraint.result (g.B.BarTable.bars c.add.new.self)) found) c.grid.ensures is),
     ))
-    c.search.ensures
+    c.search_in.ensures

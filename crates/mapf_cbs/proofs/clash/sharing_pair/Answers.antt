@@ -1,13 +1,10 @@
-use Rattle.std.proofs.Common.{◌≡◌, false, true, Option, None, Some, IfNone, IfSome, refl}
+use Rattle.std.proofs.Common.{◌≡◌, false, true, Option, None, Some, IfSome, refl}
+use Rattle.mapf_cbs.proofs.OptionLemmas.{if_none}
 use Rattle.mapf_cbs.proofs.clash.sharing_pair.Goals as goal
 
 if_some : {X : Type 0} {A B C D : X → Type 0} (found : Option X) → ((x : X) → A x → B x → C x → D x) → IfSome found A → IfSome found B → IfSome found C → IfSome found D
 if_some None f a b c = a
 if_some (Some x) f a b c = f x a b c
-
-if_none : {X : Type 0} {A B : Type 0} (found : Option X) → (A → B) → IfNone found A → IfNone found B
-if_none None f a = f a
-if_none (Some x) f a = a
 
 pub returns-clause-some : goal.returns-clause-some
 returns-clause-some c = if_some c.first_pair.result (λ pair order is first. record {

@@ -49,6 +49,6 @@ returns-clause-generated c view whole live =
       found = c.in_ok-found.found;
       generated = b;
       whole = whole_child view c.args.node.now whole c.args.constraint c.in_ok-found.found b.child b.is_child c.in_ok-bars.bars same c.index-3.result.now third c.in_ok-agent_path.agent_path c.in_ok-agent_path.ensures c.in_ok-agent_paths.agent_paths
-          (subst (λ rs. AreCopies (slice_set rs c.args.constraint.agent c.in_ok-agent_path.agent_path) c.in_ok-agent_paths.agent_paths.items) c.deref.ensures.value c.in_ok-agent_paths.ensures) c.in_ok-blocks.blocks c.in_ok-blocks.ensures.bound c.in_ok-blocks.ensures.small c.unwrap_or-sum.result
+          (subst (λ rs. AreCopies (slice_set rs c.args.constraint.agent c.in_ok-agent_path.agent_path) c.in_ok-agent_paths.agent_paths.items) c.deref.ensures.value c.in_ok-agent_paths.ensures) c.of-bound.result c.of-bound.ensures.bound c.of-bound.ensures.small c.unwrap_or-sum.result
           (c.unwrap_or-sum.ensures ∙ total_generated c.args.problem.now view b.child c.args.constraint c.in_ok-found.found c.index-agents-constraint.result.goal (sum view.costs - old) c.new_total-total.result c.args.node.now.total b.is_child is_total b.state whole.total);
     }

@@ -25,18 +25,18 @@ loop-k-init c =
       state = rw n (rw fs (rw ns first));
     }
 
-pub tree_items-requires-clause-later : goal.tree_items-requires-clause-later
-tree_items-requires-clause-later c =
+pub tree_nodes-requires-clause-later : goal.tree_nodes-requires-clause-later
+tree_nodes-requires-clause-later c =
     let s = c.loop-k.invariant.state in
     subst AreChildrenLater (sym c.deref-in_default.ensures.value) (children_later c.args.problem.now s.changes c.loop-k.tree.fates.items s.keys c.loop-k.tree.splits s.state (omega (arith, c.loop-k.invariant.within, c.requires.limit)))
 
-pub tree_items-requires-in_default-first_conflict-clause-later : goal.tree_items-requires-in_default-first_conflict-clause-later
-tree_items-requires-in_default-first_conflict-clause-later c =
+pub tree_nodes-requires-in_default-first_conflict-clause-later : goal.tree_nodes-requires-in_default-first_conflict-clause-later
+tree_nodes-requires-in_default-first_conflict-clause-later c =
     let s = c.loop-k.invariant.state in
     subst AreChildrenLater (sym c.deref-in_default-first_conflict.ensures.value) (children_later c.args.problem.now s.changes c.loop-k.tree.fates.items s.keys c.loop-k.tree.splits s.state (omega (arith, c.loop-k.invariant.within, c.requires.limit)))
 
-pub tree_items-requires-in-Some-cause_to_stop-clause-later : goal.tree_items-requires-in-Some-cause_to_stop-clause-later
-tree_items-requires-in-Some-cause_to_stop-clause-later c =
+pub tree_nodes-requires-in-Some-cause_to_stop-clause-later : goal.tree_nodes-requires-in-Some-cause_to_stop-clause-later
+tree_nodes-requires-in-Some-cause_to_stop-clause-later c =
     let s = c.loop-k.invariant.state in
     subst AreChildrenLater (sym c.deref-in-Some-cause_to_stop.ensures.value) (children_later c.args.problem.now s.changes c.loop-k.tree.fates.items s.keys c.loop-k.tree.splits s.state (omega (arith, c.loop-k.invariant.within, c.requires.limit)))
 
@@ -44,10 +44,10 @@ pub returns-in_default : goal.returns-in_default
 returns-in_default c =
     let t = c.loop-k.tree in let problem = c.args.problem.now in
     let s = c.loop-k.invariant.state in
-    let found = tree_of c.deref-in_default.result.now t.fates.items s.state.views c.in_ok-items.items.items c.deref-in_default.ensures.value (c.in_ok-items.ensures s.state.views (c.in_ok-lists.ensures s.state.views s.whole)) in
+    let found = tree_of c.deref-in_default.result.now t.fates.items s.state.views c.in_ok-nodes.nodes.items c.deref-in_default.ensures.value (c.in_ok-nodes.ensures s.state.views (c.in_ok-lists.ensures s.state.views s.whole)) in
     whole_impossible problem t.nodes.items t.fates.items t.splits s c.requires.root.shape (root_names problem c.args.tables.now c.args.paths.items c.requires.root) c.args.limit c.loop-k.invariant.within
     (least_at c.deref-in-loop-k.result.now t.nodes.items c.deref-in-loop-k-2.result.now t.fates.items None c.deref-in-loop-k.ensures.value c.deref-in-loop-k-2.ensures.value c.in_default.ensures)
-    c.in_ok-items.items.items found
+    c.in_ok-nodes.nodes.items found
 
 pub plan-requires : goal.plan-requires
 plan-requires c =
@@ -69,9 +69,9 @@ returns-in_default-first_conflict c =
     let h = whole_hand problem t.nodes.items t.fates.items t.splits least.node.total c.in-Some.k p in
     let whole = hand_whole problem t.nodes.items t.fates.items t.splits least.node.total c.in-Some.k p c.index-node.result.now here in
     let plan : c.in_ok-plan.plan ≡ h.view.paths = c.in_ok-plan.ensures.paths h.view whole in
-    let found = tree_of c.deref-in_default-first_conflict.result.now t.fates.items p.popped.state.views c.in_ok-items-2.items.items c.deref-in_default-first_conflict.ensures.value (c.in_ok-items-2.ensures p.popped.state.views (c.in_ok-lists-2.ensures p.popped.state.views p.whole)) in
-    subst (λ ps. (tree : ConstraintTree) × IsTreeOf problem c.args.limit c.in_ok-items-2.items.items tree × IsShownOptimal problem ps tree) (sym plan)
-    (answer_found problem c.requires.root.shape (root_names problem c.args.tables.now c.args.paths.items c.requires.root) p.changes t.fates.items p.rest t.splits least.node.total c.in-Some.k p.popped c.args.limit c.loop-k.invariant.within c.in_ok-items-2.items.items found h.view h.is h.is_open h.live c.requires.root.agents.0 c.requires.root.agents.1
+    let found = tree_of c.deref-in_default-first_conflict.result.now t.fates.items p.popped.state.views c.in_ok-nodes-2.nodes.items c.deref-in_default-first_conflict.ensures.value (c.in_ok-nodes-2.ensures p.popped.state.views (c.in_ok-lists-2.ensures p.popped.state.views p.whole)) in
+    subst (λ ps. (tree : ConstraintTree) × IsTreeOf problem c.args.limit c.in_ok-nodes-2.nodes.items tree × IsShownOptimal problem ps tree) (sym plan)
+    (answer_found problem c.requires.root.shape (root_names problem c.args.tables.now c.args.paths.items c.requires.root) p.changes t.fates.items p.rest t.splits least.node.total c.in-Some.k p.popped c.args.limit c.loop-k.invariant.within c.in_ok-nodes-2.nodes.items found h.view h.is h.is_open h.live c.requires.root.agents.0 c.requires.root.agents.1
     (subst (λ ps. All (λ path. length path ≤ 10000000) ps) plan c.in_ok-plan.ensures.short) (subst (λ ps. HaveSomeConflict ps → ⊥) plan c.in_default-first_conflict.ensures.none))
 
 pub returns-in-Some-cause_to_stop : goal.returns-in-Some-cause_to_stop
@@ -84,10 +84,10 @@ returns-in-Some-cause_to_stop c =
     let h = whole_hand problem t.nodes.items t.fates.items t.splits least.node.total c.in-Some.k p in
     let whole = hand_whole problem t.nodes.items t.fates.items t.splits least.node.total c.in-Some.k p c.index-node.result.now here in
     let plan : c.in_ok-plan.plan ≡ h.view.paths = c.in_ok-plan.ensures.paths h.view whole in
-    let found = tree_of c.deref-in-Some-cause_to_stop.result.now t.fates.items p.popped.state.views c.in_ok-items-3.items.items c.deref-in-Some-cause_to_stop.ensures.value (c.in_ok-items-3.ensures p.popped.state.views (c.in_ok-lists-3.ensures p.popped.state.views p.whole)) in
+    let found = tree_of c.deref-in-Some-cause_to_stop.result.now t.fates.items p.popped.state.views c.in_ok-nodes-3.nodes.items c.deref-in-Some-cause_to_stop.ensures.value (c.in_ok-nodes-3.ensures p.popped.state.views (c.in_ok-lists-3.ensures p.popped.state.views p.whole)) in
     let conflict = c.in-Some-first_conflict.conflict in
     let meet = subst (λ ps. HasConflict ps conflict × AreConflictFreeBefore ps (tick_of conflict)) plan (c.in-Some-first_conflict.ensures.some, c.in-Some-first_conflict.ensures.first) in
-    answer_limit problem c.requires.root.shape (root_names problem c.args.tables.now c.args.paths.items c.requires.root) p.changes t.fates.items p.rest t.splits least.node.total c.in-Some.k p.popped c.args.limit c.loop-k.invariant.within c.in_ok-items-3.items.items found h.view h.is h.is_open h.live c.requires.root.agents.0 c.requires.root.agents.1 (subst (λ ps. All (λ path. length path ≤ 10000000) ps) plan c.in_ok-plan.ensures.short) c.index-node.result.now.total whole.total c.requires.root.goals conflict meet.0 meet.1 c.in-Some-cause_to_stop.cause c.in-Some-cause_to_stop.ensures.some c.in_ok-items-3.items refl
+    answer_limit problem c.requires.root.shape (root_names problem c.args.tables.now c.args.paths.items c.requires.root) p.changes t.fates.items p.rest t.splits least.node.total c.in-Some.k p.popped c.args.limit c.loop-k.invariant.within c.in_ok-nodes-3.nodes.items found h.view h.is h.is_open h.live c.requires.root.agents.0 c.requires.root.agents.1 (subst (λ ps. All (λ path. length path ≤ 10000000) ps) plan c.in_ok-plan.ensures.short) c.index-node.result.now.total whole.total c.requires.root.goals conflict meet.0 meet.1 c.in-Some-cause_to_stop.cause c.in-Some-cause_to_stop.ensures.some c.in_ok-nodes-3.nodes refl
 
 pub split_whole-requires-clause-popped : goal.split_whole-requires-clause-popped
 split_whole-requires-clause-popped c =

@@ -1,11 +1,10 @@
 use Rattle.std.proofs.Common.{◌≡◌, ◌<◌, ◌+◌, ◌∷◌, [], ◌++◌, Some, All, reverse, length, slice_set, refl, sym, ◌∙◌, ap, subst, arith}
 use Rattle.std.proofs.lemmas.Option.{slice_get_read}
 use Rattle.std.proofs.lemmas.List.Elements.{All-pop, All-push}
-use Rattle.mapf_model.specs.declared.item.Item.TheVariants.{Leaf as LeafItem}
 use Rattle.mapf_cbs.specs.Search.{AreBlocksAt}
 use Rattle.mapf_model.proofs.PlaceLemmas.{length-slice_set}
 use Rattle.mapf_cbs.proofs.ItemLemmas.{Leads, AreOwed, owed_first, owed_split, owed_leaf, blocks_at, leads_first, weights, weights-leaf, weights-split, reverse_push, leads_split, leads_leaf, leads_done, no_items, end_of}
-use Rattle.mapf_cbs.proofs.written.tree_items.Goals as goal
+use Rattle.mapf_cbs.proofs.written.tree_nodes.Goals as goal
 
 pub loop-k-init : goal.loop-k-init
 loop-k-init c =
@@ -14,7 +13,7 @@ loop-k-init c =
       within = subst (λ xs. All (λ n. n < length c.args.fates.now) xs) (sym owed) (All-push (λ n. n < length c.args.fates.now) [] 0 (λ k d within. absurd (omega arith)) c.requires.some);
       count = sym c.requires.same;
       still = subst (λ xs. AreOwed c.args.fates.now c.args.lists.items c.args.lists.items (reverse xs)) (sym owed) (owed_first c.args.fates.now c.args.lists.items c.requires.one.0 c.requires.one.1);
-      leads = λ views are. subst (λ xs. Leads views c.args.fates.now c.new-items.result.items (reverse xs)) (sym owed) (subst (λ its. Leads views c.args.fates.now its (0 ∷ [])) (sym c.new-items.ensures.items) (leads_first views c.args.fates.now));
+      leads = λ views are. subst (λ xs. Leads views c.args.fates.now c.new-nodes.result.items (reverse xs)) (sym owed) (subst (λ its. Leads views c.args.fates.now its (0 ∷ [])) (sym c.new-nodes.ensures.items) (leads_first views c.args.fates.now));
     }
 
 pub index_mut-requires : goal.index_mut-requires
@@ -53,7 +52,7 @@ loop-k-preserved-in-Continue-branch-4 c =
     let there = slice_get_read c.loop-k.lists.items (length c.loop-k.lists.items) c.in-Some.k c.index_mut.result.now refl (omega (arith, inside, count)) c.index_mut.ensures.value in
     let front : reverse c.loop-k.owed.items ≡ c.in-Some.k ∷ reverse c.pop.new.self.items = ap reverse c.in-Some.ensures.items ∙ reverse_push c.pop.new.self.items c.in-Some.k in
     let still : AreOwed c.args.fates.now c.args.lists.items c.loop-k.lists.items (c.in-Some.k ∷ reverse c.pop.new.self.items) = subst (λ xs. AreOwed c.args.fates.now c.args.lists.items c.loop-k.lists.items xs) front c.loop-k.invariant.still in
-    let size = length-slice_set c.loop-k.lists.items c.in-Some.k c.replace-blocks.new.dest in
+    let size = length-slice_set c.loop-k.lists.items c.in-Some.k c.replace-bound.new.dest in
     let expanded = slice_get_read c.args.fates.now (length c.args.fates.now) c.in-Some.k c.index-fates-k.result refl popped.1 c.index-fates-k.is ∙ ap Some c.in-Expanded.is in
     let later = c.requires.later c.in-Some.k c.in-Expanded.conflict c.in-Expanded.left expanded in
     let owed : c.push-in-Expanded-3.new.self.items ≡ (c.pop.new.self.items ++ (c.in-Expanded.left + 1) ∷ []) ++ c.in-Expanded.left ∷ [] = c.in_ok-push-in-Expanded-3.ensures.items ∙ ap (λ xs. xs ++ c.in-Expanded.left ∷ []) c.in_ok-push-in-Expanded-2.ensures.items in
@@ -64,12 +63,12 @@ loop-k-preserved-in-Continue-branch-4 c =
           (All-push (λ n. n < length c.args.fates.now) (c.pop.new.self.items ++ (c.in-Expanded.left + 1) ∷ []) c.in-Expanded.left
           (All-push (λ n. n < length c.args.fates.now) c.pop.new.self.items (c.in-Expanded.left + 1) popped.0 later.1) (omega (arith, later.1)));
       count = size ∙ count;
-      still = subst (λ xs. AreOwed c.args.fates.now c.args.lists.items (slice_set c.loop-k.lists.items c.in-Some.k c.replace-blocks.new.dest) xs) (sym next)
-          (owed_split c.args.fates.now c.args.lists.items c.loop-k.lists.items c.in-Some.k (reverse c.pop.new.self.items) still c.replace-blocks.new.dest c.in-Expanded.conflict c.in-Expanded.left expanded);
+      still = subst (λ xs. AreOwed c.args.fates.now c.args.lists.items (slice_set c.loop-k.lists.items c.in-Some.k c.replace-bound.new.dest) xs) (sym next)
+          (owed_split c.args.fates.now c.args.lists.items c.loop-k.lists.items c.in-Some.k (reverse c.pop.new.self.items) still c.replace-bound.new.dest c.in-Expanded.conflict c.in-Expanded.left expanded);
       leads = λ views are.
-          let before : Leads views c.args.fates.now c.loop-k.items.items (c.in-Some.k ∷ reverse c.pop.new.self.items) = subst (λ xs. Leads views c.args.fates.now c.loop-k.items.items xs) front (c.loop-k.invariant.leads views are) in
-          let here : AreBlocksAt views c.in-Some.k c.replace-blocks.result.items = blocks_at c.args.fates.now c.args.lists.items c.loop-k.lists.items c.in-Some.k (reverse c.pop.new.self.items) still views are c.replace-blocks.result (there ∙ ap Some (sym c.replace-blocks.ensures.value)) in
-          let after = leads_split views c.args.fates.now c.loop-k.items.items c.in-Some.k (reverse c.pop.new.self.items) before c.split.result c.replace-blocks.result.items here c.in-Expanded.conflict c.in-Expanded.left expanded c.split.ensures in
+          let before : Leads views c.args.fates.now c.loop-k.nodes.items (c.in-Some.k ∷ reverse c.pop.new.self.items) = subst (λ xs. Leads views c.args.fates.now c.loop-k.nodes.items xs) front (c.loop-k.invariant.leads views are) in
+          let here : AreBlocksAt views c.in-Some.k c.replace-bound.result = blocks_at c.args.fates.now c.args.lists.items c.loop-k.lists.items c.in-Some.k (reverse c.pop.new.self.items) still views are c.replace-bound.result (there ∙ ap Some (sym c.replace-bound.ensures.value)) in
+          let after = leads_split views c.args.fates.now c.loop-k.nodes.items c.in-Some.k (reverse c.pop.new.self.items) before c.split.result c.replace-bound.result here c.in-Expanded.conflict c.in-Expanded.left expanded c.split.ensures in
           subst (λ xs. Leads views c.args.fates.now c.push-in-Expanded.new.self.items xs) (sym next)
           (subst (λ its. Leads views c.args.fates.now its (c.in-Expanded.left ∷ (c.in-Expanded.left + 1) ∷ reverse c.pop.new.self.items)) (sym c.in_ok-push-in-Expanded.ensures.items) after);
     }
@@ -87,22 +86,22 @@ loop-k-preserved c =
     let there = slice_get_read c.loop-k.lists.items (length c.loop-k.lists.items) c.in-Some.k c.index_mut.result.now refl (omega (arith, inside, count)) c.index_mut.ensures.value in
     let front : reverse c.loop-k.owed.items ≡ c.in-Some.k ∷ reverse c.pop.new.self.items = ap reverse c.in-Some.ensures.items ∙ reverse_push c.pop.new.self.items c.in-Some.k in
     let still : AreOwed c.args.fates.now c.args.lists.items c.loop-k.lists.items (c.in-Some.k ∷ reverse c.pop.new.self.items) = subst (λ xs. AreOwed c.args.fates.now c.args.lists.items c.loop-k.lists.items xs) front c.loop-k.invariant.still in
-    let size = length-slice_set c.loop-k.lists.items c.in-Some.k c.replace-blocks.new.dest in
+    let size = length-slice_set c.loop-k.lists.items c.in-Some.k c.replace-bound.new.dest in
     let fate = slice_get_read c.args.fates.now (length c.args.fates.now) c.in-Some.k c.index-fates-k.result refl popped.1 c.index-fates-k.is in
     let end = end_of c.index-fates-k.result c.in_default-fate.not-Expanded in
     record {
       within = popped.0;
       count = size ∙ count;
-      still = owed_leaf c.args.fates.now c.args.lists.items c.loop-k.lists.items c.in-Some.k (reverse c.pop.new.self.items) still c.replace-blocks.new.dest c.index-fates-k.result fate end;
+      still = owed_leaf c.args.fates.now c.args.lists.items c.loop-k.lists.items c.in-Some.k (reverse c.pop.new.self.items) still c.replace-bound.new.dest c.index-fates-k.result fate end;
       leads = λ views are.
-          let before : Leads views c.args.fates.now c.loop-k.items.items (c.in-Some.k ∷ reverse c.pop.new.self.items) = subst (λ xs. Leads views c.args.fates.now c.loop-k.items.items xs) front (c.loop-k.invariant.leads views are) in
-          let here : AreBlocksAt views c.in-Some.k c.replace-blocks.result.items = blocks_at c.args.fates.now c.args.lists.items c.loop-k.lists.items c.in-Some.k (reverse c.pop.new.self.items) still views are c.replace-blocks.result (there ∙ ap Some (sym c.replace-blocks.ensures.value)) in
-          let after = leads_leaf views c.args.fates.now c.loop-k.items.items c.in-Some.k (reverse c.pop.new.self.items) before (LeafItem c.replace-blocks.result) c.replace-blocks.result.items here c.index-fates-k.result fate end refl in
+          let before : Leads views c.args.fates.now c.loop-k.nodes.items (c.in-Some.k ∷ reverse c.pop.new.self.items) = subst (λ xs. Leads views c.args.fates.now c.loop-k.nodes.items xs) front (c.loop-k.invariant.leads views are) in
+          let here : AreBlocksAt views c.in-Some.k c.replace-bound.result = blocks_at c.args.fates.now c.args.lists.items c.loop-k.lists.items c.in-Some.k (reverse c.pop.new.self.items) still views are c.replace-bound.result (there ∙ ap Some (sym c.replace-bound.ensures.value)) in
+          let after = leads_leaf views c.args.fates.now c.loop-k.nodes.items c.in-Some.k (reverse c.pop.new.self.items) before c.leaf.result c.replace-bound.result here c.index-fates-k.result fate end c.leaf.ensures in
           subst (λ its. Leads views c.args.fates.now its (reverse c.pop.new.self.items)) (sym c.in_ok-push-in_default-fate.ensures.items) after;
     }
 
 pub returns : goal.returns
 returns c views are =
     let none : c.loop-k.owed.items ≡ [] = no_items c.loop-k.owed.items (let h = c.in_default.ensures.cases.0 in omega (arith, h, c.loop-k.owed.ok)) in
-    leads_done views c.args.fates.now c.loop-k.items.items
-    (subst (λ xs. Leads views c.args.fates.now c.loop-k.items.items xs) (ap reverse none) (c.loop-k.invariant.leads views are))
+    leads_done views c.args.fates.now c.loop-k.nodes.items
+    (subst (λ xs. Leads views c.args.fates.now c.loop-k.nodes.items xs) (ap reverse none) (c.loop-k.invariant.leads views are))

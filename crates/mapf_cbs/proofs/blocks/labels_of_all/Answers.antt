@@ -2,13 +2,13 @@ use Rattle.std.proofs.Common.{◌≡◌, ◌++◌, ◌∷◌, [], rules, map-id,
 use Rattle.std.proofs.lemmas.Iterator.Consumers.{YieldsList-end}
 use Rattle.std.proofs.lemmas.Iterator.Adapters.{YieldsList-from_vec}
 use Rattle.mapf_cbs.proofs.BlockLemmas.{ArePaired, IsOwnList, paired_more, own_lists}
-use Rattle.mapf_cbs.proofs.blocks.blocks_of_all.Goals as goal
+use Rattle.mapf_cbs.proofs.blocks.labels_of_all.Goals as goal
 
 pub loop-node-preserved : goal.loop-node-preserved
 loop-node-preserved c =
-    let pushed : c.push.new.self.items ≡ c.loop-node.lists.items ++ c.in_ok-blocks_of.field-0 ∷ [] = c.in_ok-push.ensures.items in
+    let pushed : c.push.new.self.items ≡ c.loop-node.lists.items ++ c.labels_of.result ∷ [] = c.in_ok-push.ensures.items in
     subst (λ ls. ArePaired IsOwnList (c.loop-node.yielded ++ c.in-Some.node ∷ []) ls) (sym pushed)
-    (paired_more IsOwnList c.loop-node.yielded c.loop-node.lists.items c.in-Some.node c.in_ok-blocks_of.field-0 c.loop-node.invariant (c.in_ok-blocks_of.ensures.own, c.in_ok-blocks_of.ensures.small))
+    (paired_more IsOwnList c.loop-node.yielded c.loop-node.lists.items c.in-Some.node c.labels_of.result c.loop-node.invariant (c.labels_of.ensures.own, c.labels_of.ensures.small))
 
 pub returns : goal.returns
 returns c views are =

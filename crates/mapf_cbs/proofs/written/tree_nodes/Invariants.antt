@@ -1,14 +1,14 @@
 use Rattle.std.proofs.Common.{◌≡◌, ◌<◌, List, All, length, reverse}
 use Rattle.mapf_cbs.specs.Search.{View, AreBlockLists}
 use Rattle.mapf_cbs.proofs.ItemLemmas.{Leads, AreOwed, weights}
-use Rattle.mapf_cbs.proofs.written.tree_items.Given as goal
+use Rattle.mapf_cbs.proofs.written.tree_nodes.Given as goal
 
 abbrev pub invariant-loop-k : goal.invariant-loop-k
 invariant-loop-k l = record {
   within : All (λ k. k < length l.fates) l.owed.items;
   count : length l.lists.items ≡ length l.fates;
   still : AreOwed l.fates l.fn.lists.items l.lists.items (reverse l.owed.items);
-  leads : (views : List View) → AreBlockLists views l.fn.lists.items → Leads views l.fates l.items.items (reverse l.owed.items);
+  leads : (views : List View) → AreBlockLists views l.fn.lists.items → Leads views l.fates l.nodes.items (reverse l.owed.items);
 }
 
 abbrev pub decreases-loop-k : goal.decreases-loop-k

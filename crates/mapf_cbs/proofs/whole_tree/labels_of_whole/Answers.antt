@@ -1,0 +1,12 @@
+use Rattle.std.proofs.Common.{rules, map-id}
+use Rattle.std.proofs.lemmas.Iterator.Consumers.{YieldsList-end}
+use Rattle.std.proofs.lemmas.Iterator.Adapters.{YieldsList-from_vec}
+use Rattle.mapf_cbs.proofs.BlockLemmas.{ArePaired, IsHeldList, held_lists}
+use Rattle.mapf_cbs.proofs.whole_tree.labels_of_whole.Goals as goal
+
+pub returns : goal.returns
+returns c views are =
+    let end = YieldsList-end (YieldsList-from_vec {s = c.into_iter-node-iterator.result} c.args.nodes.items (search rules) (search rules))
+    c.loop-node.yielded c.loop-node.node-iterator c.loop-node.yielded_by c.next.result c.next.new.self c.in-None.is c.next.ensures.steps in
+    let paired : ArePaired IsHeldList c.args.nodes.items c.loop-node.lists.items = rw (← end.0, map-id) c.loop-node.invariant in
+    held_lists c.args.nodes.items c.loop-node.lists.items paired views are
