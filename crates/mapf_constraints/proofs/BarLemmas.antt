@@ -7,6 +7,7 @@ use Rattle.std.specs.Option.{option_map_or}
 use Rattle.mapf_model.specs.declared.bar.Bar.{Bar}
 use Rattle.mapf_model.specs.declared.bar.Bar.TheVariants.{Cell}
 use Rattle.mapf_model.specs.Laws.{AreSameBars}
+use Rattle.mapf_model.specs.Limits.{split_ticks}
 use Rattle.mapf_constraints.proofs.SetLemmas.{Contains-cons_cases, Contains-cons_new, Contains-cons_old}
 use Rattle.mapf_constraints.specs.BarSets.{tick_of, IsHorizon, IsLastOn}
 
@@ -43,6 +44,11 @@ module _ (before after : List Bar) (bar : Bar) (same : AreSameBars after (bar �
     above = λ other held. ⊎_elim (λ new. let e : tick_of bar ≡ tick_of other = ap tick_of new in omega arith) (λ old. omega (arith, is.above other old)) (cases other held);
     least = λ bound bounds. omega (arith, bounds bar added, is.least bound (λ other held. bounds other (kept other held)));
   }
+
+  -- the horizon stays within the ticks that are split
+  pub horizon_early : (horizon later : ℕ) → IsHorizon before horizon → horizon ≤ split_ticks → tick_of bar < split_ticks → IsHorizon after later → later ≤ split_ticks
+  horizon_early horizon later is early bar_early is_later = is_later.least split_ticks
+      (λ other held. ⊎_elim (λ new. let e : tick_of bar ≡ tick_of other = ap tick_of new in omega (arith, bar_early)) (λ old. omega (arith, is.above other old, early)) (cases other held))
 
 module _ (before after : List Bar) (cell : ℕ) where
   -- the same bars

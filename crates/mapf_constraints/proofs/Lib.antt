@@ -1,3 +1,3 @@
 pub mod SetLemmas
 pub mod BarLemmas
-pub mod BarredLemmas
+pub mod ChainLemmas

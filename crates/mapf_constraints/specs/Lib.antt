@@ -1,2 +1,2 @@
 pub mod BarSets
-pub mod Barred
+pub mod Chains

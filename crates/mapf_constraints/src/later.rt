@@ -38,7 +38,7 @@ pub fn horizon_with(horizon: Tick, bar: &Bar) -> Tick
 }
 
 /// The tick at which the bar stands.
-fn tick(bar: &Bar) -> Tick
+pub fn tick(bar: &Bar) -> Tick
     ensures { result ≡ tick_of bar.now }
 {
     match bar {

@@ -2,8 +2,8 @@
 #![tactic(auto)]
 
 mod bar_table;
-mod barred;
 mod later;
+mod link;
 mod list_bars;
 mod tick_bars;
 

@@ -1,0 +1,121 @@
+-- Bars in chains: which bars the links hold, one step along a chain, and one link more.
+use Rattle.std.proofs.Common.{◌≡◌, ℕ, ◌+◌, ◌<◌, ◌≤◌, List, [], ◌∷◌, ◌++◌, length, Contains, slice_index, slice_index_or, slice_set, replicate, ⊎_elim, sym, subst, refl, ap, ◌∙◌, arith, take}
+use Rattle.std.proofs.lemmas.Bool.{cases_lt, cases_eq}
+use Rattle.std.proofs.lemmas.List.{get_or-map, length-map, length-append, get_or_push, get_or_append_left, get_or-set_same, get_or-set_other, get_or-replicate, take_more, map-append}
+use Rattle.std.proofs.lemmas.List.Elements.{Contains-get_or}
+use Rattle.mapf_model.specs.declared.bar.Bar.{Bar}
+use Rattle.mapf_model.specs.declared.bar.Bar.TheVariants.{Cell}
+use Rattle.mapf_model.specs.Laws.{AreSameBars}
+use Rattle.mapf_constraints.proofs.BarLemmas.{AreSameBars-push}
+use Rattle.mapf_constraints.specs.BarSets.{tick_of}
+use Rattle.mapf_constraints.specs.Chains.{bars_of, link_at, chain_of, chain_at, IsNewest, AreChained}
+use Rattle.mapf_constraints.specs.declared.link.Link.{Link}
+
+abbrev pub no_link : Link
+no_link = record { bar = Cell 0 0; older = 0 }
+
+module _ (links : List Link) where
+  -- the bar of a link is one of the bars
+  pub bars_of-has : (place : ℕ) → place < length links → Contains (bars_of links) (link_at links place).bar
+  bars_of-has place within =
+      let e : slice_index_or (bars_of links) place (Cell 0 0) ≡ (link_at links place).bar = get_or-map (λ (link : Link). link.bar) links place no_link (Cell 0 0) within in
+      subst (Contains (bars_of links)) e (Contains-get_or (bars_of links) place (Cell 0 0) (rw (length-map links (λ (link : Link). link.bar)) within))
+
+  -- each of the bars is that of a link
+  pub bars_of-from : (bar : Bar) → Contains (bars_of links) bar → (place : ℕ) × (place < length links) × ((link_at links place).bar ≡ bar)
+  bars_of-from bar (place, within, is) =
+      let place_within : place < length links = rw (← length-map links (λ (link : Link). link.bar)) within in
+      (place, place_within, sym (get_or-map (λ (link : Link). link.bar) links place no_link bar place_within) ∙ is)
+
+  -- one step along the chain of a bar that isn't that of the link
+  pub older_than : (newest : List ℕ) → AreChained links newest → (bar : Bar) (count place : ℕ) → place + 1 ≡ count → count ≤ length links
+      → chain_at links place ≡ chain_of (tick_of bar)
+      → ((link_at links place).bar ≡ bar → ⊥)
+      → ((k : ℕ) → k < length links → (link_at links k).bar ≡ bar → k < count)
+      → (k : ℕ) → k < length links → (link_at links k).bar ≡ bar → k < (link_at links place).older
+  older_than newest chained bar count place step within own other below k k_within is = ⊎_elim
+      (λ before. (chained.next place (omega arith)).newest k before (ap (λ (b : Bar). chain_of (tick_of b)) is ∙ sym own))
+      (λ after. absurd (let k_below = below k k_within is in
+      let same : k ≡ place = omega arith in
+      other (subst (λ (p : ℕ). (link_at links p).bar ≡ bar) same is)))
+      (cases_lt k place)
+
+  -- one link more
+  module _ (link : Link) where
+    old_link : (place : ℕ) → place < length links → link_at (links ++ link ∷ []) place ≡ link_at links place
+    old_link place within = get_or_append_left links (link ∷ []) no_link place within
+
+    old_chain : (place : ℕ) → place < length links → chain_at (links ++ link ∷ []) place ≡ chain_at links place
+    old_chain place within = ap (λ (l : Link). chain_of (tick_of l.bar)) (old_link place within)
+
+    new_link : link_at (links ++ link ∷ []) (length links) ≡ link
+    new_link = get_or_push links link no_link (length links) refl
+
+    new_chain : chain_at (links ++ link ∷ []) (length links) ≡ chain_of (tick_of link.bar)
+    new_chain = ap (λ (l : Link). chain_of (tick_of l.bar)) new_link
+
+    IsNewest-push : (end chain count : ℕ) → end ≤ length links → IsNewest links end chain count → IsNewest (links ++ link ∷ []) end chain count
+    IsNewest-push end chain count short old = record {
+      within = old.within;
+      own = λ place e. let w : place < length links = omega (arith, old.within) in old_chain place w ∙ old.own place e;
+      newest = λ place before is. let w : place < length links = omega arith in old.newest place before (sym (old_chain place w) ∙ is);
+    }
+
+    IsNewest-other : (chain count : ℕ) → (chain ≡ chain_of (tick_of link.bar) → ⊥) → IsNewest links (length links) chain count → IsNewest (links ++ link ∷ []) (length links + 1) chain count
+    IsNewest-other chain count other old =
+        let now = IsNewest-push (length links) chain count (omega arith) old in
+        record {
+          within = omega (arith, old.within);
+          own = now.own;
+          newest = λ place before is. ⊎_elim
+              (λ earlier. now.newest place earlier is)
+              (λ last. absurd (let e : place ≡ length links = omega arith in
+              other (sym (subst (λ (p : ℕ). chain_at (links ++ link ∷ []) p ≡ chain) e is) ∙ new_chain)))
+              (cases_lt place (length links));
+        }
+
+    IsNewest-own : IsNewest (links ++ link ∷ []) (length links + 1) (chain_of (tick_of link.bar)) (length links + 1)
+    IsNewest-own = record {
+      within = omega arith;
+      own = λ place e. let s : length links ≡ place = omega arith in subst (λ (p : ℕ). chain_at (links ++ link ∷ []) p ≡ chain_of (tick_of link.bar)) s new_chain;
+      newest = λ place before is. before;
+    }
+
+    AreChained-own : (newest : List ℕ) → AreChained links newest → link.older ≡ slice_index newest (chain_of (tick_of link.bar)) → length newest ≡ 64
+        → AreChained (links ++ link ∷ []) (slice_set newest (chain_of (tick_of link.bar)) (length links + 1))
+    AreChained-own newest chained is_older size = record {
+      first = λ chain small. rw (length-append links (link ∷ [])) (⊎_elim
+          (λ (same : chain ≡ chain_of (tick_of link.bar)). let within : chain_of (tick_of link.bar) < length newest = omega (arith, small) in
+          rw (same, get_or-set_same newest (chain_of (tick_of link.bar)) (length links + 1) 0 within) IsNewest-own)
+          (λ other. rw (get_or-set_other newest (chain_of (tick_of link.bar)) chain (length links + 1) 0 other) (IsNewest-other chain (slice_index newest chain) other (chained.first chain small)))
+          (cases_eq chain (chain_of (tick_of link.bar))));
+      next = λ place within. ⊎_elim
+          (λ before. rw (old_link place before) (IsNewest-push place (chain_at links place) (link_at links place).older (omega arith) (chained.next place before)))
+          (λ after. let e : place ≡ length links = let n : length (links ++ link ∷ []) ≡ length links + 1 = length-append links (link ∷ []) in omega (arith, n, within) in
+          rw (e, new_link) (subst (λ (n : ℕ). IsNewest (links ++ link ∷ []) (length links) (chain_of (tick_of link.bar)) n) (sym is_older)
+          (IsNewest-push (length links) (chain_of (tick_of link.bar)) (slice_index newest (chain_of (tick_of link.bar))) (omega arith) (chained.first (chain_of (tick_of link.bar)) (omega arith)))))
+          (cases_lt place (length links));
+    }
+
+    pub AreChained-push : (newest : List ℕ) (chain count : ℕ) → AreChained links newest → chain ≡ chain_of (tick_of link.bar) → link.older ≡ slice_index newest chain → count ≡ length links + 1 → length newest ≡ 64
+        → AreChained (links ++ link ∷ []) (slice_set newest chain count)
+    AreChained-push newest chain count chained is_chain is_older is_count size = rw (is_chain, is_count) (AreChained-own newest chained (is_older ∙ ap (slice_index newest) is_chain) size)
+
+-- one link more, as a set of bars
+pub bars_of-push : (links : List Link) (link : Link) → AreSameBars (bars_of (links ++ link ∷ [])) (link.bar ∷ bars_of links)
+bars_of-push links link = rw (map-append (λ (l : Link). l.bar) links (link ∷ [])) (AreSameBars-push (bars_of links) link.bar)
+
+-- the front of the links with the next of them
+pub bars_of-take : (links : List Link) (i : ℕ) (link : Link) → i < length links → link ≡ slice_index_or links i link → AreSameBars (bars_of (take (i + 1) links)) (link.bar ∷ bars_of (take i links))
+bars_of-take links i link within is = subst (λ (l : Link). AreSameBars (bars_of (take (i + 1) links)) (l.bar ∷ bars_of (take i links))) (sym is) (rw (take_more links i link within) (bars_of-push (take i links) (slice_index_or links i link)))
+
+-- no links
+pub AreChained-none : (links : List Link) → links ≡ [] → AreChained links (replicate 64 0)
+AreChained-none links none = record {
+  first = λ chain small. rw (get_or-replicate {A = ℕ} 64 chain 0 0 small) (let n : length links ≡ 0 = ap length none in record {
+    within = omega arith;
+    own = λ place e. absurd (omega (arith, e));
+    newest = λ place before is. absurd (omega (arith, n, before));
+  });
+  next = λ place within. absurd (let e : length links ≡ 0 = ap length none in omega (arith, within));
+}
