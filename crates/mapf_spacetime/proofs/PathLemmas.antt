@@ -22,17 +22,6 @@ at_is cells tick lt = let same : min tick (length cells - 1) ≡ tick = omega ar
 pub at_past : (cells : List ℕ) (tick : ℕ) → length cells - 1 ≤ tick → at cells tick ≡ slice_index cells (length cells - 1)
 at_past cells tick le = let same : min tick (length cells - 1) ≡ length cells - 1 = omega arith in ap (λ n. slice_index cells n) same
 
--- two neighbours on a path are a step
-pub path_step : (grid : GridMap) (cells : List ℕ) → IsPath grid cells → (tick from to : ℕ) → tick + 1 < length cells → from ≡ slice_index_or cells tick from → to ≡ slice_index_or cells (tick + 1) to → Step grid from to
-path_step grid cells path tick from to lt from_is to_is =
-    let here : at cells tick ≡ from = at_is cells tick (omega arith) ∙ get_or_default cells tick 0 from (omega arith) ∙ sym from_is in
-    let next : at cells (tick + 1) ≡ to = at_is cells (tick + 1) lt ∙ get_or_default cells (tick + 1) 0 to lt ∙ sym to_is in
-    subst (λ c. Step grid c to) here (subst (Step grid (at cells tick)) next (path.steps tick))
-
--- a path that ends at the goal violates a later bar there
-pub barred_violates : (task : Task) (cells : List ℕ) → at cells (length cells - 1) ≡ task.goal → IsBarredLater task (length cells - 1) → Satisfies task.bars cells → ⊥
-barred_violates task cells ends (later, le, barred) satisfies = satisfies (Cell task.goal later) barred (at_past cells later le ∙ sym (at_past cells (length cells - 1) (omega arith)) ∙ ends)
-
 -- the bars let an agent take each step of a path that satisfies them
 pub satisfied_step : (task : Task) (cells : List ℕ) → IsPath task.grid cells → Satisfies task.bars cells → (tick from to : ℕ) → at cells tick ≡ from → at cells (tick + 1) ≡ to → MayGo task.grid task.bars from to tick
 satisfied_step task cells path satisfies tick from to here there = record {

@@ -97,18 +97,17 @@ pub fn search_in<'a, B: BarTable>(
     if !ground.lets_start() {
         return dead(alloc, &ground, &[start]);
     }
-    let path = distances.descend(alloc, ground.start())?;
-    let lets_path = lets_path(&ground, path.cells());
-    if lets_path {
+    // Without bars the way down the distances is the path.
+    if ground.horizon() == 0 {
         return Ok(Found::Arrives {
-            path,
+            path: distances.descend(alloc, ground.start())?,
             labels: StateLabels::none(alloc),
         });
     }
     by_cost(alloc, &mut workspace.frontier, &ground, first)
 }
 
-/// What the agent can do where not every shortest path is open to it, from its distance on.
+/// What the agent can do, from its distance on.
 fn by_cost<B: BarTable>(
     alloc: Global,
     frontier: &mut Frontier,
@@ -130,31 +129,6 @@ fn by_cost<B: BarTable>(
     }
     let reached = frontier.reached();
     dead(alloc, ground, reached)
-}
-
-/// Whether the bars let the agent take the path and stay at its end.
-fn lets_path<B: BarTable>(ground: &Ground<B>, cells: &[Cell]) -> bool
-    requires some { 1 ≤ length cells.now }
-    requires short { length cells.now ≤ most_path_cells }
-    requires path { IsPath ground.now.grid cells.now }
-    requires start { at cells.now 0 ≡ ground.now.start }
-    requires goal { at cells.now (length cells.now - 1) ≡ ground.now.goal }
-    ensures yes { IsTrue result → Satisfies ground.now.bars cells.now }
-    ensures no { result ≡ false → Satisfies ground.now.bars cells.now → ⊥ }
-{
-    if !ground.lets_start() || !ground.may_rest_from(cells.len() as Tick - 1) {
-        return false;
-    }
-    for tick in 0..cells.len() - 1 {
-        let from = State {
-            tick: tick as Tick,
-            cell: cells[tick],
-        };
-        if !ground.lets(&from, cells[tick + 1]) {
-            return false;
-        }
-    }
-    true
 }
 
 /// The path and the labels of an agent that arrives at the cost of the frontier.
