@@ -12,11 +12,12 @@ ghost use Rattle.mapf_cbs.specs.Nodes.{AreNodesFor, HaveTableBars, AreViews, Hol
 ghost use Rattle.mapf_cbs.specs.GeneratedChild.{IsGeneratedChild, EndsAt, IsTotal};
 
 use crate::node::Node;
-use crate::walks::{bars_at, path_at};
+use crate::search_memory::SearchMemory;
+use crate::walks::{gather_bars, path_at};
 use mapf_constraints::BarTable;
 use mapf_distance::Distances;
 use mapf_model::{Cell, Constraint, OutOfMemory, Path, Problem};
-use mapf_spacetime::{Found, StateLabels, Workspace, search_in};
+use mapf_spacetime::{Found, StateLabels, search_in};
 use std::alloc::Global;
 
 /// What one more constraint led to, with the sum of the new costs where the agent still arrives.
@@ -26,10 +27,10 @@ pub struct GeneratedChild {
     pub total: Option<u64>,
 }
 
-/// The child of a node under one more constraint. The workspace is memory alone.
+/// The child of a node under one more constraint.
 pub fn child<B: BarTable>(
     alloc: Global,
-    workspace: &mut Workspace,
+    memory: &mut SearchMemory<B>,
     problem: &Problem,
     tables: &[Distances],
     nodes: &[Node],
@@ -52,7 +53,7 @@ pub fn child<B: BarTable>(
 {
     let agent = constraint.agent;
     let who = problem.agents()[agent as usize];
-    let found = search_with::<B>(alloc, workspace, problem, tables, nodes, k, constraint)?;
+    let found = search_with(alloc, memory, problem, tables, nodes, k, constraint)?;
     let old = cost_of(path_at(nodes, k, agent), who.goal);
     let total = new_total(&found, who.goal, total - u64::from(old));
     Ok(GeneratedChild { found, total })
@@ -61,7 +62,7 @@ pub fn child<B: BarTable>(
 // What the constraint's agent can do under its bars at the node and this one.
 fn search_with<B: BarTable>(
     alloc: Global,
-    workspace: &mut Workspace,
+    memory: &mut SearchMemory<B>,
     problem: &Problem,
     tables: &[Distances],
     nodes: &[Node],
@@ -81,14 +82,14 @@ fn search_with<B: BarTable>(
         × IsPathAnswer (task_of problem.now.grid who bars) found)) }
 {
     let who = problem.agents()[constraint.agent as usize];
-    let mut table: B = bars_at(alloc, nodes, k, constraint.agent)?;
-    table.add(constraint.bar)?;
+    gather_bars(&mut memory.bars, nodes, k, constraint.agent)?;
+    memory.bars.add(constraint.bar)?;
     search_in(
         alloc,
-        workspace,
+        &mut memory.workspace,
         problem.grid(),
         &tables[constraint.agent as usize],
-        &table,
+        &memory.bars,
         who,
     )
 }

@@ -12,6 +12,7 @@ use crate::answer::Answer;
 use crate::blocks::labels_of_all;
 use crate::child::child;
 use crate::outcome::Outcome;
+use crate::search_memory::SearchMemory;
 use crate::search_tree::{SearchTree, take_least};
 use crate::start::{Beginning, begin, total_of};
 use crate::walks::{conflict_at, plan_at};
@@ -21,7 +22,6 @@ use mapf_constraints::{BarTable, TickBars};
 use mapf_distance::Distances;
 use mapf_model::limits::SPLIT_TICKS;
 use mapf_model::{Cause, Conflict, OutOfMemory, Path, Problem};
-use mapf_spacetime::Workspace;
 use std::alloc::Global;
 
 /// Searches for a cheapest valid plan, with at most so many splits of the constraint tree: 0 to
@@ -90,7 +90,7 @@ fn search_from<B: BarTable>(
     let mut search = SearchTree::of(alloc, paths, total)?;
     let grid = problem.grid();
     let mut marks = CellMarks::new(alloc, (grid.width() * grid.height()) as usize)?;
-    let mut workspace = Workspace::new(alloc);
+    let mut memory = SearchMemory::<B>::new(alloc);
     loop {
         let Some((total, k)) = take_least(&mut search.waiting) else {
             let lists = labels_of_all(alloc, search.nodes)?;
@@ -115,7 +115,7 @@ fn search_from<B: BarTable>(
         }
         split::<B>(
             alloc,
-            &mut workspace,
+            &mut memory,
             problem,
             tables,
             &mut search,
@@ -144,7 +144,7 @@ pub fn cause_to_stop(conflict: &Conflict, splits: u32, limit: u32) -> Option<Cau
 // Splits the node on the conflict.
 fn split<B: BarTable>(
     alloc: Global,
-    workspace: &mut Workspace,
+    memory: &mut SearchMemory<B>,
     problem: &Problem,
     tables: &[Distances],
     search: &mut SearchTree,
@@ -163,9 +163,9 @@ fn split<B: BarTable>(
         search.new.nodes.items search.new.fates.items search.new.waiting.keys (search.old.splits + 1)) }
     ensures splits { OnOk result (search.new.splits ≡ search.old.splits + 1) }
 {
-    let left = child::<B>(
+    let left = child(
         alloc,
-        workspace,
+        memory,
         problem,
         tables,
         &search.nodes,
@@ -173,9 +173,9 @@ fn split<B: BarTable>(
         total,
         conflict.left(),
     )?;
-    let right = child::<B>(
+    let right = child(
         alloc,
-        workspace,
+        memory,
         problem,
         tables,
         &search.nodes,

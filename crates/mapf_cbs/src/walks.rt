@@ -41,20 +41,20 @@ pub fn path_at(nodes: &[Node], k: u32, agent: u32) -> &Path
     }
 }
 
-/// The agent's bars at a node: those of all nodes on the way up that bound it.
-pub fn bars_at<B: BarTable>(
-    alloc: Global,
+/// Makes the table hold the agent's bars at a node: those of all nodes on the way up that bound it.
+pub fn gather_bars<B: BarTable>(
+    table: &mut B,
     nodes: &[Node],
     k: u32,
     agent: u32,
-) -> Result<B, OutOfMemory>
+) -> Result<(), OutOfMemory>
     requires nodes { AreNodesFor agent nodes.now }
     requires bars { HaveTableBars nodes.now }
     requires inside { k < length nodes.now }
-    ensures { IfOk result (λ table.
-        HoldsOfNode nodes.now k (λ view. AreSameBars (view.context.bars agent) (B.bars table))) }
+    ensures { OnOk result
+        (HoldsOfNode nodes.now k (λ view. AreSameBars (view.context.bars agent) (B.bars table.new))) }
 {
-    let mut table = B::empty(alloc);
+    table.clear();
     let mut at = k;
     while let Node::Child {
         parent,
@@ -67,7 +67,7 @@ pub fn bars_at<B: BarTable>(
         }
         at = *parent;
     }
-    Ok(table)
+    Ok(())
 }
 
 /// The first conflict of the paths of a node at which each agent has one.

@@ -5,9 +5,11 @@ use Rattle.std.proofs.lemmas.List.{get_or-map, length-map, length-append, get_or
 use Rattle.std.proofs.lemmas.List.Elements.{Contains-get_or}
 use Rattle.mapf_model.specs.declared.bar.Bar.{Bar}
 use Rattle.mapf_model.specs.declared.bar.Bar.TheVariants.{Cell}
+use Rattle.mapf_model.specs.Bars.{AreBars}
 use Rattle.mapf_model.specs.Laws.{AreSameBars}
+use Rattle.mapf_model.specs.Limits.{split_ticks}
 use Rattle.mapf_constraints.proofs.BarLemmas.{AreSameBars-push}
-use Rattle.mapf_constraints.specs.BarSets.{tick_of}
+use Rattle.mapf_constraints.specs.BarSets.{tick_of, IsHorizon}
 use Rattle.mapf_constraints.specs.Chains.{bars_of, link_at, chain_of, chain_at, IsNewest, AreChained}
 use Rattle.mapf_constraints.specs.declared.link.Link.{Link}
 
@@ -110,7 +112,7 @@ pub bars_of-take : (links : List Link) (i : ℕ) (link : Link) → i < length li
 bars_of-take links i link within is = subst (λ (l : Link). AreSameBars (bars_of (take (i + 1) links)) (l.bar ∷ bars_of (take i links))) (sym is) (rw (take_more links i link within) (bars_of-push (take i links) (slice_index_or links i link)))
 
 -- no links
-pub AreChained-none : (links : List Link) → links ≡ [] → AreChained links (replicate 64 0)
+AreChained-none : (links : List Link) → links ≡ [] → AreChained links (replicate 64 0)
 AreChained-none links none = record {
   first = λ chain small. rw (get_or-replicate {A = ℕ} 64 chain 0 0 small) (let n : length links ≡ 0 = ap length none in record {
     within = omega arith;
@@ -119,3 +121,12 @@ AreChained-none links none = record {
   });
   next = λ place within. absurd (let e : length links ≡ 0 = ap length none in omega (arith, within));
 }
+
+-- a table without bars
+pub no_bars : (links : List Link) → links ≡ [] → AreBars (bars_of links) × IsHorizon (bars_of links) 0 × (0 ≤ split_ticks) × AreChained links (replicate 64 0)
+no_bars links none = rw none (
+  (λ bar held. absurd (let (place, within, is) = held in omega (arith, within))),
+  record { above = λ bar held. absurd (let (place, within, is) = held in omega (arith, within)); least = λ bound bounds. omega arith },
+  omega arith,
+  AreChained-none [] refl,
+)

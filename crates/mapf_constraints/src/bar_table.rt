@@ -42,6 +42,10 @@ pub trait BarTable: Drop {
         ensures added { OnOk result (AreSameBars (bars self.new) (bar ∷ bars self.old)) }
         ensures refused { OnErr result (AreSameBars (bars self.new) (bars self.old)) };
 
+    /// Takes all bars out. Their memory is kept for others.
+    fn clear(&mut self)
+        ensures { bars self.new ≡ [] };
+
     /// A table of the same bars.
     fn copy(&self) -> Result<Self, OutOfMemory>
         ensures { IfOk result (λ copy. AreSameBars (bars copy) (bars self.now)) };

@@ -57,6 +57,10 @@ impl BarTable for ListBars {
         Ok(())
     }
 
+    fn clear(&mut self) {
+        self.bars.clear();
+    }
+
     fn copy(&self) -> Result<ListBars, OutOfMemory> {
         Ok(ListBars {
             bars: self.bars.clone()?,

@@ -77,6 +77,12 @@ impl BarTable for TickBars {
         Ok(())
     }
 
+    fn clear(&mut self) {
+        self.links.clear();
+        self.newest = [0; 64];
+        self.horizon = 0;
+    }
+
     fn copy(&self) -> Result<TickBars, OutOfMemory> {
         Ok(TickBars {
             links: self.links.clone()?,

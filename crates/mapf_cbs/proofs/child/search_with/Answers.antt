@@ -34,7 +34,7 @@ returns g c = IfOk-weaker c.search_in.result _ _ (λ found is who known views vi
     let read = slice_get_read c.agents.result.now (length c.agents.result.now) c.args.constraint.agent c.index-agents-constraint.result refl (rw agents c.requires.known) c.index-agents-constraint.is in
     let same : c.index-agents-constraint.result ≡ who = same_Some c.index-agents-constraint.result who (sym (rw agents at read) ∙ known) in (
       g.B.BarTable.bars c.add.new.self,
-      bars_with (view.context.bars c.args.constraint.agent) (g.B.BarTable.bars c.in_ok-table.table) (g.B.BarTable.bars c.add.new.self) c.args.constraint.bar (c.in_ok-table.ensures views view are view_is) c.in_ok-add.ensures.added,
+      bars_with (view.context.bars c.args.constraint.agent) (g.B.BarTable.bars c.gather_bars.new.table) (g.B.BarTable.bars c.add.new.self) c.args.constraint.bar (c.in_ok-gather_bars.ensures views view are view_is) c.in_ok-add.ensures.added,
       subst (λ (a : Agent). IsPathAnswer (task_of c.args.problem.now.grid a (g.B.BarTable.bars c.add.new.self)) found) same
           (subst (λ (m : GridMap). IsPathAnswer (task_of m c.index-agents-constraint.result (g.B.BarTable.bars c.add.new.self)) found) c.grid.ensures is),
     ))

@@ -4,8 +4,8 @@ use Rattle.mapf_cbs.specs.declared.node.Node.TheVariants.{Child}
 use Rattle.mapf_cbs.specs.Search.{View}
 use Rattle.mapf_cbs.specs.Nodes.{AreJoined}
 use Rattle.mapf_cbs.proofs.NodeLemmas.{view_at, root_bars, bars_up, bars_more, joined_first, joined_same, joined_more, joined_done}
-use Rattle.mapf_cbs.proofs.walks.bars_at.Goals as goal
-use Rattle.mapf_cbs.proofs.walks.bars_at.Goals.{then-constraint-agent+in_ok-add, else-constraint-agent}
+use Rattle.mapf_cbs.proofs.walks.gather_bars.Goals as goal
+use Rattle.mapf_cbs.proofs.walks.gather_bars.Goals.{then-constraint-agent+in_ok-add, else-constraint-agent}
 
 pub add-requires-clause-early : goal.add-requires-clause-early
 add-requires-clause-early g c =
@@ -27,8 +27,8 @@ loop-at-init g c = record {
   inside = c.requires.inside;
   same = λ views view here are is here_is.
       let e : view ≡ here = same_Some view here (sym is ∙ here_is) in
-      subst (λ (v : View). AreJoined (view.context.bars c.args.agent) (g.B.BarTable.bars c.empty-table.result) (v.context.bars c.args.agent)) e
-      (joined_first (view.context.bars c.args.agent) (g.B.BarTable.bars c.empty-table.result) c.empty-table.ensures);
+      subst (λ (v : View). AreJoined (view.context.bars c.args.agent) (g.B.BarTable.bars c.clear.new.self) (v.context.bars c.args.agent)) e
+      (joined_first (view.context.bars c.args.agent) (g.B.BarTable.bars c.clear.new.self) c.clear.ensures);
 }
 
 pub loop-at-preserved : goal.loop-at-preserved

@@ -1,7 +1,7 @@
 use Rattle.std.proofs.Common.{◌≡◌, ◌<◌, List, Some, length, slice_get}
 use Rattle.mapf_cbs.specs.Search.{View}
 use Rattle.mapf_cbs.specs.Nodes.{AreViews, AreJoined}
-use Rattle.mapf_cbs.proofs.walks.bars_at.Given as goal
+use Rattle.mapf_cbs.proofs.walks.gather_bars.Given as goal
 
 abbrev pub invariant-loop-at : goal.invariant-loop-at
 invariant-loop-at g l = record {
