@@ -216,6 +216,54 @@ def cases_of(folder):
     return [Case(path.parent) for path in sorted(folder.glob("*/words"))]
 
 
+# Along two corridors so many cells long two agents come to one cell at one tick.
+CORRIDOR = 1800
+
+
+def made_case(folder):
+    """A case of `solve` with two texts, of which the certificate is longer than the page on which a run gathers it.
+
+    Each of two agents has one shortest path, they meet where the corridors cross, at tick CORRIDOR, and each goes
+    on to a goal of its own beside that cell. The first to be barred there waits at its start, and no other conflict
+    is left. A search at the cost that failed reached all cells before the crossing, at their ticks.
+    """
+    free, blocked = b"." * (CORRIDOR + 2) + b"\n", b"@" * CORRIDOR + b".@\n"
+    rows = [blocked, blocked, free, blocked, free]
+    across = [(x, 2) for x in range(CORRIDOR + 2)]
+    upward = [(x, 4) for x in range(2, CORRIDOR + 1)] + [(CORRIDOR, 3), (CORRIDOR, 2), (CORRIDOR, 1)]
+    cost = CORRIDOR + 1
+    texts = {
+        "words": b"solve MAP SCEN 2 1 PLAN CERT\n",
+        "map": b"type octile\nheight %d\nwidth %d\nmap\n" % (len(rows), CORRIDOR + 2) + b"".join(rows),
+        "scen": b"version 1\n" + b"".join(row_of(path, len(rows)) for path in (across, upward)),
+        "stdout": b"cost %d\n" % (2 * cost + 1),
+        "plan": b"mapf-plan 2\nagents 2\ncost %d\n" % (2 * cost + 1)
+                + path_line(0, [across[0], *across]) + path_line(1, upward) + b"end\n",
+        "cert": b"mapf-cert 2\nagents 2\nclaim cost %d\n" % (2 * cost + 1)
+                + b"vertex 0 1 %d,2 %d 0\n" % (CORRIDOR, CORRIDOR)
+                + leaf_of(0, across[:CORRIDOR], cost + 1) + leaf_of(1, upward[:CORRIDOR], cost + 1) + b"end\n",
+    }
+    place = folder / "solve-certificate-longer-than-a-page"
+    place.mkdir()
+    for name, text in texts.items():
+        (place / name).write_bytes(text)
+    return Case(place)
+
+
+def row_of(path, height):
+    return b"0 made.map %d %d %d %d %d %d 0\n" % (CORRIDOR + 2, height, *path[0], *path[-1])
+
+
+def path_line(agent, path):
+    return b"path %d %d %s\n" % (agent, len(path) - 1, b" ".join(b"%d,%d" % cell for cell in path))
+
+
+def leaf_of(agent, cells, cost):
+    """A leaf with one block, whose labels are what is left of the cost."""
+    entries = b"".join(b"at %d,%d %d %d\n" % (*cell, tick, cost - tick) for tick, cell in enumerate(cells))
+    return b"leaf 1\nagent %d %d\n" % (agent, len(cells)) + entries
+
+
 class Tally:
     """Counts what passed, and prints a line for each failure."""
 
