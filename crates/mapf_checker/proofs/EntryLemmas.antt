@@ -1,15 +1,16 @@
 -- The entry of a state, in a list that rises.
-use Rattle.std.proofs.Common.{◌≡◌, ◌⊎◌, ℕ, zero, suc, ◌+◌, ◌<◌, ◌≤◌, ◌&&◌, ◌==◌, true, false, List, [], ◌∷◌, None, Some, AllPairs, slice_index_or, length, refl, sym, ◌∙◌, ap, subst, inl, inr, ⊎_elim, eq-eqb, arith}
+use Rattle.std.proofs.Common.{◌≡◌, ◌⊎◌, ℕ, zero, suc, ◌+◌, ◌<◌, ◌&&◌, ◌==◌, true, false, List, [], ◌∷◌, None, Some, AllPairs, slice_index_or, length, refl, sym, ◌∙◌, ap, subst, inl, inr, ⊎_elim, eq-eqb, arith}
 use Rattle.std.proofs.lemmas.Bool.{cases_eq, cases_lt, ne_eqb}
 use Rattle.std.proofs.lemmas.Option.{same_Some}
-use Rattle.std.specs.declared.cmp.Ordering.TheVariants.{Less, Greater}
+use Rattle.std.specs.declared.cmp.Ordering.{Ordering}
+use Rattle.std.specs.declared.cmp.Ordering.TheVariants.{Less, Equal, Greater}
 use Rattle.mapf_model.specs.declared.label.Entry.{Entry}
 use Rattle.mapf_model.specs.declared.label.Label.{Label}
 use Rattle.mapf_model.specs.declared.bar.Bar.{Bar}
 use Rattle.mapf_model.specs.Grid.{GridMap}
 use Rattle.mapf_model.specs.Labels.{entries_of, IsSoundEntry, AreSound}
 use Rattle.mapf_model.specs.Printed.{IsBefore}
-use Rattle.mapf_checker.specs.Order.{IsOf, StandsTo}
+use Rattle.mapf_checker.specs.Order.{IsOf, StandsTo, IsNoneBelow, IsNoneFrom, IsStanding}
 
 -- an entry that stands before another which stands before a state isn't that of the state
 before_early : (a b : Entry) (cell tick : ℕ) → IsBefore a b → StandsTo cell tick b Less → IsOf cell tick a → ⊥
@@ -37,17 +38,22 @@ apart a b cell tick (inl p) is_b is_a = omega (arith, is_a.1, is_b.1)
 apart a b cell tick (inr p) is_b is_a = omega (arith, is_a.0, is_b.0, p.1)
 
 module _ (entries : List Entry) (rising : AllPairs IsBefore entries) (cell tick middle : ℕ) (within : middle < length entries) (entry : Entry) where
-  pub misses_below : ((d : Entry) → slice_index_or entries middle d ≡ entry) → StandsTo cell tick entry Less → (k : ℕ) (d : Entry) → k < middle + 1 → IsOf cell tick (slice_index_or entries k d) → ⊥
+  pub misses_below : ((d : Entry) → slice_index_or entries middle d ≡ entry) → StandsTo cell tick entry Less → IsNoneBelow entries cell tick (middle + 1)
   misses_below is stands k d less = ⊎_elim
       (λ (before : k < middle). before_early (slice_index_or entries k d) entry cell tick (subst (λ e. IsBefore (slice_index_or entries k d) e) (is d) (rising k middle d before within)) stands)
       (λ past. let same : k ≡ middle = omega arith in early (slice_index_or entries k d) cell tick (subst (λ e. StandsTo cell tick e Less) (sym (is d) ∙ ap (λ j. slice_index_or entries j d) (sym same)) stands))
       (cases_lt k middle)
 
-  pub misses_above : ((d : Entry) → slice_index_or entries middle d ≡ entry) → StandsTo cell tick entry Greater → (k : ℕ) (d : Entry) → middle ≤ k → k < length entries → IsOf cell tick (slice_index_or entries k d) → ⊥
+  pub misses_above : ((d : Entry) → slice_index_or entries middle d ≡ entry) → StandsTo cell tick entry Greater → IsNoneFrom entries cell tick middle
   misses_above is stands k d from inside = ⊎_elim
       (λ (past : middle < k). after_late (slice_index_or entries k d) entry cell tick (subst (λ e. IsBefore e (slice_index_or entries k d)) (is d) (rising middle k d past inside)) stands)
       (λ at. let same : k ≡ middle = omega arith in late (slice_index_or entries k d) cell tick (subst (λ e. StandsTo cell tick e Greater) (sym (is d) ∙ ap (λ j. slice_index_or entries j d) (sym same)) stands))
       (cases_lt middle k)
+
+  pub standing_in : ((d : Entry) → slice_index_or entries middle d ≡ entry) → (order : Ordering) → StandsTo cell tick entry order → IsStanding entries cell tick middle order
+  standing_in is Less stands = (within, misses_below is stands)
+  standing_in is Equal stands = (within, λ d. subst (IsOf cell tick) (sym (is d)) stands)
+  standing_in is Greater stands = misses_above is stands
 
 cases_of : (cell tick : ℕ) (e : Entry) → IsOf cell tick e ⊎ (IsOf cell tick e → ⊥)
 cases_of cell tick e = elim (cases_eq e.cell cell) [

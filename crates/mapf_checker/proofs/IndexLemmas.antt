@@ -1,18 +1,170 @@
 -- The index of bars while they are added and taken back.
-use Rattle.std.proofs.Common.{◌≡◌, ◌≢◌, ◌↔◌, ◌⊎◌, ℕ, suc, ◌<◌, ◌≤◌, max, Bool, true, false, List, [], ◌∷◌, Option, None, Some, IsSome, Contains, MatchBool, unwrap_or, refl, sym, ◌∙◌, ap, subst, inl, inr, eq-eqb, arith}
-use Rattle.std.proofs.lemmas.Bool.{cases_eq, cases_lt, ne_eqb}
-use Rattle.std.proofs.lemmas.Option.{same_Some}
+use Rattle.std.proofs.Common.{◌≡◌, ◌≢◌, ◌↔◌, ◌⊎◌, ℕ, suc, ◌<◌, ◌≤◌, Bool, true, false, List, ◌∷◌, Ordering, Less, Equal, Greater, nat_cmp, Contains, IsTrue, IfSome, slice_get, refl, sym, ◌∙◌, ap, subst, inl, inr, ⊎_elim, eq-eqb, arith}
+use Rattle.std.proofs.lemmas.Bool.{cases_eq, cases_order, ne_eqb, lt-ltb, le-ltb, false_from_ne_true, true≢false}
+use Rattle.std.proofs.lemmas.Cmp.{then_total, on_total, nat_cmp_total}
+use Rattle.std.proofs.lemmas.Map.Lookups.{CmpEqualImpliesEq, exact_unsigned}
+use Rattle.std.proofs.lemmas.Map.Views.{tells_apart}
+use Rattle.std.specs.BTreeMap.{is_at}
+use Rattle.std.specs.BTreeMap.Range.{IsLeBy}
+use Rattle.std.specs.BTreeSet.{BTreeSet, contains, Updates, IsKeyInRange, IsKeyRangeOf}
+use Rattle.std.specs.declared.ops.Bound.TheVariants.{Included, Unbounded}
+use Rattle.std.specs.Cmp.{IsTotalOrder}
+use Rattle.std.specs.Ordering.{ordering_then, is_gt}
 use Rattle.mapf_model.specs.declared.bar.Bar.{Bar}
 use Rattle.mapf_model.specs.declared.bar.Bar.TheVariants.{Cell, Move}
 use Rattle.mapf_model.specs.Tree.{with_bar, with_constraint}
 use Rattle.mapf_model.proofs.SplitLemmas.{Contains-cons_cases}
 use Rattle.mapf_model.specs.declared.constraint.Constraint.{Constraint}
-use Rattle.mapf_checker.specs.declared.agent_cell.AgentCell.{AgentCell}
-use Rattle.mapf_checker.specs.BarredCells.{barred_by}
-use Rattle.mapf_checker.specs.Index.{last_on, KeepsLast}
+use Rattle.mapf_checker.specs.declared.barred.BarredCell.{BarredCell}
+use Rattle.mapf_checker.specs.declared.barred.BarredMove.{BarredMove}
+use Rattle.mapf_checker.specs.declared.index.BarIndex.{BarIndex}
+use Rattle.mapf_checker.specs.Index.{Indexes, IsBarredFrom, cell_cmp, move_cmp, is_held_of}
+
+cell_total : IsTotalOrder cell_cmp
+cell_total = then_total (on_total (λ (c : BarredCell). c.agent) nat_cmp_total) (then_total (on_total (λ (c : BarredCell). c.cell) nat_cmp_total) (on_total (λ (c : BarredCell). c.tick) nat_cmp_total))
+
+move_total : IsTotalOrder move_cmp
+move_total = then_total (on_total (λ (m : BarredMove). m.agent) nat_cmp_total) (then_total (on_total (λ (m : BarredMove). m.tick) nat_cmp_total) (then_total (on_total (λ (m : BarredMove). m.from) nat_cmp_total) (on_total (λ (m : BarredMove). m.to) nat_cmp_total)))
+
+both_equal : (o p : Ordering) → ordering_then o p ≡ Equal → (o ≡ Equal) × (p ≡ Equal)
+both_equal Less p e = absurd (let f : Less ≡ Equal = e in cc)
+both_equal Equal p e = (refl, e)
+both_equal Greater p e = absurd (let f : Greater ≡ Equal = e in cc)
+
+cell_exact : CmpEqualImpliesEq cell_cmp
+cell_exact a b e =
+    let f = both_equal (nat_cmp a.agent b.agent) _ e in
+    let g = both_equal (nat_cmp a.cell b.cell) _ f.1 in
+    let agent = exact_unsigned a.agent b.agent f.0 in
+    let cell = exact_unsigned a.cell b.cell g.0 in
+    let tick = exact_unsigned a.tick b.tick g.1 in
+    λ k. record { agent = agent k; cell = cell k; tick = tick k }
+
+move_exact : CmpEqualImpliesEq move_cmp
+move_exact a b e =
+    let f = both_equal (nat_cmp a.agent b.agent) _ e in
+    let g = both_equal (nat_cmp a.tick b.tick) _ f.1 in
+    let h = both_equal (nat_cmp a.from b.from) _ g.1 in
+    let agent = exact_unsigned a.agent b.agent f.0 in
+    let tick = exact_unsigned a.tick b.tick g.0 in
+    let from = exact_unsigned a.from b.from h.0 in
+    let to = exact_unsigned a.to b.to h.1 in
+    λ k. record { agent = agent k; tick = tick k; from = from k; to = to k }
+
+-- a set whose order tells all keys apart, where one key is put in or taken out
+module _ {K : Type 0} {R : K → K → Ordering} (total : IsTotalOrder R) (exact : CmpEqualImpliesEq R) (before after : BTreeSet K) (k : K) (v : Bool) (updates : Updates R before after k v) where
+  there : (q : K) → (k ≡ q → ⊥) → contains R after q ≡ contains R before q
+  there q differ = updates.2 q (false_from_ne_true (is_at (R k) q) (λ tied. differ (tells_apart exact k q tied)))
+
+abbrev constraint_of : ℕ → Bar → Constraint
+constraint_of agent bar = record { agent = agent; bar = bar }
+
+pub cell_others : (old new : BarIndex) (agent cell tick : ℕ) (v : Bool) → Updates cell_cmp old.cells new.cells (record { agent = agent; cell = cell; tick = tick }) v → new.moves ≡ old.moves →
+    (other : Constraint) → other ≢ record { agent = agent; bar = Cell cell tick } → is_held_of new other.agent other.bar ≡ is_held_of old other.agent other.bar
+cell_others old new agent cell tick v updates kept other differ = go other.bar differ where
+  go : (bar : Bar) → (constraint_of other.agent bar ≡ constraint_of agent (Cell cell tick) → ⊥) → is_held_of new other.agent bar ≡ is_held_of old other.agent bar
+  go (Cell c t) apart = there cell_total cell_exact old.cells new.cells (record { agent = agent; cell = cell; tick = tick }) v updates (record { agent = other.agent; cell = c; tick = t })
+      (λ same. apart (λ k. constraint_of (sym same k).agent (Cell (sym same k).cell (sym same k).tick)))
+  go (Move from to t) apart = ap (λ moves. contains move_cmp moves (record { agent = other.agent; tick = t; from = from; to = to })) kept
+
+pub move_others : (old new : BarIndex) (agent from to tick : ℕ) (v : Bool) → Updates move_cmp old.moves new.moves (record { agent = agent; tick = tick; from = from; to = to }) v → new.cells ≡ old.cells →
+    (other : Constraint) → other ≢ record { agent = agent; bar = Move from to tick } → is_held_of new other.agent other.bar ≡ is_held_of old other.agent other.bar
+move_others old new agent from to tick v updates kept other differ = go other.bar differ where
+  go : (bar : Bar) → (constraint_of other.agent bar ≡ constraint_of agent (Move from to tick) → ⊥) → is_held_of new other.agent bar ≡ is_held_of old other.agent bar
+  go (Cell c t) apart = ap (λ cells. contains cell_cmp cells (record { agent = other.agent; cell = c; tick = t })) kept
+  go (Move f o t) apart = there move_total move_exact old.moves new.moves (record { agent = agent; tick = tick; from = from; to = to }) v updates (record { agent = other.agent; tick = t; from = f; to = o })
+      (λ same. apart (λ k. constraint_of (sym same k).agent (Move (sym same k).from (sym same k).to (sym same k).tick)))
+
+-- what stands between two barred cells of one agent and cell is of these too
+le_first : (a b : ℕ) (o : Ordering) → is_gt (ordering_then (nat_cmp a b) o) ≡ false → (a < b) ⊎ ((a ≡ b) × (is_gt o ≡ false))
+le_first a b o e = ⊎_elim
+    (λ (same : a ≡ b). inr (same, rw (le-ltb a b (omega arith), eq-eqb a b same) at e))
+    (λ other. ⊎_elim
+    (λ (less : a < b). inl less)
+    (λ (more : b < a). absurd (true≢false (rw (le-ltb a b (omega arith), ne_eqb a b (λ same. omega (arith, same))) at e)))
+    other)
+    (cases_order a b)
+
+le_last : (a b : ℕ) → is_gt (nat_cmp a b) ≡ false → a ≤ b
+le_last a b e = ⊎_elim
+    (λ (same : a ≡ b). omega arith)
+    (λ other. ⊎_elim
+    (λ (less : a < b). omega arith)
+    (λ (more : b < a). absurd (true≢false (rw (le-ltb a b (omega arith), ne_eqb a b (λ same. omega (arith, same))) at e)))
+    other)
+    (cases_order a b)
+
+le_between : (a b c : BarredCell) → IsLeBy cell_cmp a b → IsLeBy cell_cmp b c → a.agent ≡ c.agent → a.cell ≡ c.cell → (b.agent ≡ a.agent) × (b.cell ≡ a.cell)
+le_between a b c low high agent cell = ⊎_elim
+    (λ (less : a.agent < b.agent). ⊎_elim
+    (λ (more : b.agent < c.agent). absurd (omega arith))
+    (λ same. absurd (omega (arith, same.0)))
+    (le_first b.agent c.agent _ high))
+    (λ first. ⊎_elim
+    (λ (more : b.agent < c.agent). absurd (omega (arith, first.0)))
+    (λ second. (
+      sym first.0,
+      ⊎_elim
+          (λ (less : a.cell < b.cell). ⊎_elim
+          (λ (more : b.cell < c.cell). absurd (omega arith))
+          (λ same. absurd (omega (arith, same.0)))
+          (le_first b.cell c.cell _ second.1))
+          (λ same. sym same.0)
+          (le_first a.cell b.cell _ first.1),
+    ))
+    (le_first b.agent c.agent _ high))
+    (le_first a.agent b.agent _ low)
+
+le_tick : (a b : BarredCell) → IsLeBy cell_cmp a b → a.agent ≡ b.agent → a.cell ≡ b.cell → a.tick ≤ b.tick
+le_tick a b low agent cell = ⊎_elim
+    (λ (less : a.agent < b.agent). absurd (omega arith))
+    (λ first. ⊎_elim
+    (λ (less : a.cell < b.cell). absurd (omega arith))
+    (λ second. le_last a.tick b.tick second.1)
+    (le_first a.cell b.cell _ first.1))
+    (le_first a.agent b.agent _ low)
+
+tick_le : (a b : ℕ) → a ≤ b → is_gt (nat_cmp a b) ≡ false
+tick_le a b le = ⊎_elim
+    (λ (same : a ≡ b). rw (le-ltb a b (omega arith), eq-eqb a b same) refl)
+    (λ other. ⊎_elim
+    (λ (less : a < b). rw (lt-ltb a b less) refl)
+    (λ (more : b < a). absurd (omega arith))
+    other)
+    (cases_order a b)
+
+abbrev pub least : ℕ → ℕ → ℕ → BarredCell
+least agent cell tick = record { agent = agent; cell = cell; tick = tick }
+
+later_le : (agent cell tick later : ℕ) → tick ≤ later → IsLeBy cell_cmp (least agent cell tick) (least agent cell later)
+later_le agent cell tick later le = rw (le-ltb agent agent (omega arith), eq-eqb agent agent refl, le-ltb cell cell (omega arith), eq-eqb cell cell refl) (tick_le tick later le)
+
+module _ (bars : ℕ → List Bar) (index : BarIndex) (indexed : Indexes bars index) (agent cell tick : ℕ) where
+  -- the first barred cell from the state on
+  module _ (keys rest : List BarredCell) (next : BarredCell) (is : keys ≡ next ∷ rest) (range : IsKeyRangeOf cell_cmp (Included (least agent cell tick)) Unbounded index.cells keys) where
+    first : IsKeyInRange cell_cmp (Included (least agent cell tick)) Unbounded index.cells next
+    first = subst (λ keys. IfSome (slice_get keys 0) (IsKeyInRange cell_cmp (Included (least agent cell tick)) Unbounded index.cells)) is range.1
+
+    -- the cell is barred later where this one is of the agent and the cell
+    pub barred_from : next.agent ≡ agent → next.cell ≡ cell → IsBarredFrom (bars agent) cell tick
+    barred_from of at = (
+      next.tick,
+      le_tick (least agent cell tick) next first.0.0 (sym of) (sym at),
+      subst (λ a. Contains (bars a) (Cell cell next.tick)) of (subst (λ q. Contains (bars next.agent) (Cell q next.tick)) at ((indexed (constraint_of next.agent (Cell next.cell next.tick))).0 first.1)),
+    )
+
+    -- and only there
+    pub first_from : IsBarredFrom (bars agent) cell tick → (next.agent ≡ agent) × (next.cell ≡ cell)
+    first_from (later, late, stands) =
+        let low = later_le agent cell tick later late in
+        let high = subst (λ keys. IfSome (slice_get keys 0) (λ k. IsLeBy cell_cmp k (least agent cell later))) is (range.2 (least agent cell later) (low, tt) ((indexed (constraint_of agent (Cell cell later))).1 stands)) in
+        le_between (least agent cell tick) next (least agent cell later) first.0.0 high refl refl
+
+  pub none_from : ((q : BarredCell) → IsLeBy cell_cmp (least agent cell tick) q → contains cell_cmp index.cells q ≡ false) → IsBarredFrom (bars agent) cell tick → ⊥
+  none_from none (later, late, stands) = true≢false (sym ((indexed (constraint_of agent (Cell cell later))).1 stands) ∙ none (least agent cell later) (later_le agent cell tick later late))
 
 -- two bars are one, or they are not
-pub cases_bar : (x y : Bar) → (x ≡ y) ⊎ (x ≡ y → ⊥)
+cases_bar : (x y : Bar) → (x ≡ y) ⊎ (x ≡ y → ⊥)
 cases_bar (Cell c t) (Cell d u) = elim (cases_eq c d) [
   | inl one ↦ elim (cases_eq t u) [ inl two ↦ inl cc | inr two ↦ inr (λ e. two cc) ]
   | inr one ↦ inr (λ e. one cc)
@@ -27,16 +179,10 @@ cases_bar (Move c d t) (Move e f u) = elim (cases_eq c e) [
   | inr one ↦ inr (λ e. one cc)
 ]
 
-pub cases_constraint : (x y : Constraint) → (x ≡ y) ⊎ (x ≡ y → ⊥)
+cases_constraint : (x y : Constraint) → (x ≡ y) ⊎ (x ≡ y → ⊥)
 cases_constraint x y = elim (cases_eq x.agent y.agent) [
   | inl one ↦ elim (cases_bar x.bar y.bar) [ inl two ↦ inl (λ k. record { agent = one k; bar = two k }) | inr two ↦ inr (λ e. two (ap (λ (b : Constraint). b.bar) e)) ]
   | inr one ↦ inr (λ e. one (ap (λ (b : Constraint). b.agent) e))
-]
-
-pub cases_seen : (x y : AgentCell) → (x ≡ y) ⊎ (x ≡ y → ⊥)
-cases_seen x y = elim (cases_eq x.agent y.agent) [
-  | inl one ↦ elim (cases_eq x.cell y.cell) [ inl two ↦ inl (λ k. record { agent = one k; cell = two k }) | inr two ↦ inr (λ e. two (ap (λ (b : AgentCell). b.cell) e)) ]
-  | inr one ↦ inr (λ e. one (ap (λ (b : AgentCell). b.agent) e))
 ]
 
 with_bar-same : (bars : ℕ → List Bar) (i : ℕ) (bar : Bar) → with_bar bars i bar i ≡ bar ∷ bars i
@@ -45,62 +191,8 @@ with_bar-same bars i bar = rw (eq-eqb i i refl)
 with_bar-other : (bars : ℕ → List Bar) (i : ℕ) (bar : Bar) (agent : ℕ) → (agent ≡ i → ⊥) → with_bar bars i bar agent ≡ bars agent
 with_bar-other bars i bar agent differ = rw (ne_eqb agent i differ)
 
-last_on-same : (cell tick : ℕ) (bars : List Bar) → last_on (Cell cell tick ∷ bars) cell ≡ Some (max (unwrap_or (last_on bars cell) 0) tick)
-last_on-same cell tick bars = rw (eq-eqb cell cell refl)
-
-last_on-other : (barred tick : ℕ) (bars : List Bar) (cell : ℕ) → (barred ≡ cell → ⊥) → last_on (Cell barred tick ∷ bars) cell ≡ last_on bars cell
-last_on-other barred tick bars cell differ = rw (ne_eqb barred cell differ)
-
--- a bar on the cell is no later than the last
-pub last_on-covers : (bars : List Bar) (cell later : ℕ) → Contains bars (Cell cell later) → (last : ℕ) × (last_on bars cell ≡ Some last) × (later ≤ last)
-last_on-covers [] cell later (k, within, is) = absurd (omega arith)
-last_on-covers (Move from to tick ∷ bars) cell later there = elim (Contains-cons_cases (Move from to tick) (Cell cell later) bars there) [
-  | inl head ↦ absurd cc
-  | inr rest ↦ last_on-covers bars cell later rest
-]
-last_on-covers (Cell barred tick ∷ bars) cell later there = elim (cases_eq barred cell) [
-  | inl same ↦ elim (Contains-cons_cases (Cell barred tick) (Cell cell later) bars there) [
-    | inl head ↦
-        let now : tick ≡ later = cc in
-        (max (unwrap_or (last_on bars cell) 0) tick, subst (λ c. last_on (Cell c tick ∷ bars) cell ≡ Some (max (unwrap_or (last_on bars cell) 0) tick)) (sym same) (last_on-same cell tick bars), omega arith)
-    | inr rest ↦
-        let (last, is, late) = last_on-covers bars cell later rest in
-        let known : unwrap_or (last_on bars cell) 0 ≡ last = ap (λ o. unwrap_or o 0) is in
-        (max (unwrap_or (last_on bars cell) 0) tick, subst (λ c. last_on (Cell c tick ∷ bars) cell ≡ Some (max (unwrap_or (last_on bars cell) 0) tick)) (sym same) (last_on-same cell tick bars), omega arith)
-  ]
-  | inr differ ↦ elim (Contains-cons_cases (Cell barred tick) (Cell cell later) bars there) [
-    | inl head ↦ absurd (differ cc)
-    | inr rest ↦
-        let (last, is, late) = last_on-covers bars cell later rest in
-        (last, last_on-other barred tick bars cell differ ∙ is, late)
-  ]
-]
-
 Contains-later : {X : Type 0} (x y : X) (xs : List X) → Contains xs y → Contains (x ∷ xs) y
 Contains-later x y xs (k, within, is) = (suc k, omega arith, is)
-
-from_default : (o : Option ℕ) (n : ℕ) → 0 < n → unwrap_or o 0 ≡ n → o ≡ Some n
-from_default None n some e = absurd (omega arith)
-from_default (Some m) n some e = ap Some e
-
--- the last bar on the cell stands there
-pub last_on-stands : (bars : List Bar) (cell last : ℕ) → last_on bars cell ≡ Some last → Contains bars (Cell cell last)
-last_on-stands [] cell last is = absurd cc
-last_on-stands (Move from to tick ∷ bars) cell last is = Contains-later (Move from to tick) (Cell cell last) bars (last_on-stands bars cell last is)
-last_on-stands (Cell barred tick ∷ bars) cell last is = elim (cases_eq barred cell) [
-  | inl same ↦
-      let greatest : max (unwrap_or (last_on bars cell) 0) tick ≡ last =
-      same_Some _ _ (sym (subst (λ c. last_on (Cell c tick ∷ bars) cell ≡ Some (max (unwrap_or (last_on bars cell) 0) tick)) (sym same) (last_on-same cell tick bars)) ∙ is) in
-      elim (cases_lt tick last) [
-        | inl before ↦ Contains-later (Cell barred tick) (Cell cell last) bars (last_on-stands bars cell last (from_default (last_on bars cell) last (omega arith) (omega arith)))
-        | inr not_before ↦ (0, omega arith, (let now : tick ≡ last = omega arith in cc))
-      ]
-  | inr differ ↦ Contains-later (Cell barred tick) (Cell cell last) bars (last_on-stands bars cell last (sym (last_on-other barred tick bars cell differ) ∙ is))
-]
-
-last_on-but : (bars : List Bar) (bar : Bar) (seen : AgentCell) → ((tick : ℕ) → barred_by seen.agent bar ≡ Some (seen, tick) → ⊥) → last_on (bar ∷ bars) seen.cell ≡ last_on bars seen.cell
-last_on-but bars (Cell cell tick) seen apart = last_on-other cell tick bars seen.cell (λ same. apart tick (λ k. Some (record { agent = seen.agent; cell = same k }, tick)))
-last_on-but bars (Move from to tick) seen apart = refl
 
 module _ (bars : ℕ → List Bar) (constraint : Constraint) where
   stands_here : Contains (with_constraint bars constraint constraint.agent) constraint.bar
@@ -121,63 +213,26 @@ module _ (bars : ℕ → List Bar) (constraint : Constraint) where
     | inr apart ↦ rw (with_bar-other bars constraint.agent constraint.bar other.agent apart) (λ h. h, λ h. h)
   ]
 
-  last_there : (seen : AgentCell) → ((tick : ℕ) → barred_by constraint.agent constraint.bar ≡ Some (seen, tick) → ⊥) → last_on (with_constraint bars constraint seen.agent) seen.cell ≡ last_on (bars seen.agent) seen.cell
-  last_there seen differ = elim (cases_eq seen.agent constraint.agent) [
-    | inl same ↦
-        let one : with_constraint bars constraint seen.agent ≡ constraint.bar ∷ bars seen.agent = rw same (with_bar-same bars constraint.agent constraint.bar) in
-        rw one (last_on-but (bars seen.agent) constraint.bar seen (λ tick e. differ tick (subst (λ a. barred_by a constraint.bar ≡ Some (seen, tick)) same e)))
-    | inr apart ↦ rw (with_bar-other bars constraint.agent constraint.bar seen.agent apart) refl
-  ]
-
-  last_here : (at : AgentCell) (tick : ℕ) → barred_by constraint.agent constraint.bar ≡ Some (at, tick) → last_on (with_constraint bars constraint at.agent) at.cell ≡ Some (max (unwrap_or (last_on (bars at.agent) at.cell) 0) tick)
-  last_here at tick is = go constraint.bar is where
-    go : (bar : Bar) → barred_by constraint.agent bar ≡ Some (at, tick) → last_on (with_bar bars constraint.agent bar at.agent) at.cell ≡ Some (max (unwrap_or (last_on (bars at.agent) at.cell) 0) tick)
-    go (Cell cell t) e =
-        let start : last_on (with_bar bars constraint.agent (Cell cell t) constraint.agent) cell ≡ Some (max (unwrap_or (last_on (bars constraint.agent) cell) 0) t) = rw (with_bar-same bars constraint.agent (Cell cell t)) (last_on-same cell t (bars constraint.agent)) in
-        subst (λ (p : AgentCell × ℕ). last_on (with_bar bars constraint.agent (Cell cell t) p.0.agent) p.0.cell ≡ Some (max (unwrap_or (last_on (bars p.0.agent) p.0.cell) 0) p.1)) (same_Some (record { agent = constraint.agent; cell = cell }, t) (at, tick) e) start
-    go (Move from to t) e = absurd cc
-
-  pub stand_added : (old new : Constraint → Option (Unit {0})) → ((k : Constraint) → IsSome (old k) ↔ Contains (bars k.agent) k.bar) → IsSome (new constraint) → ((k : Constraint) → k ≢ constraint → new k ≡ old k) →
-      (k : Constraint) → IsSome (new k) ↔ Contains (with_constraint bars constraint k.agent) k.bar
+  pub stand_added : (old new : Constraint → Bool) → ((k : Constraint) → IsTrue (old k) ↔ Contains (bars k.agent) k.bar) → new constraint ≡ true → ((k : Constraint) → k ≢ constraint → new k ≡ old k) →
+      (k : Constraint) → IsTrue (new k) ↔ Contains (with_constraint bars constraint k.agent) k.bar
   stand_added old new stand here others k = elim (cases_constraint k constraint) [
-    | inl same ↦ subst (λ (x : Constraint). IsSome (new x) ↔ Contains (with_constraint bars constraint x.agent) x.bar) (sym same) (λ _. stands_here, λ _. here)
+    | inl same ↦ subst (λ (x : Constraint). IsTrue (new x) ↔ Contains (with_constraint bars constraint x.agent) x.bar) (sym same) (λ _. stands_here, λ _. here)
     | inr differ ↦ rw (others k differ) (λ h. (stands_there k differ).1 ((stand k).0 h), λ h. (stand k).1 ((stands_there k differ).0 h))
   ]
 
-  pub last_added : (at : AgentCell) (tick : ℕ) (old new : AgentCell → Option ℕ) → barred_by constraint.agent constraint.bar ≡ Some (at, tick) → ((seen : AgentCell) → old seen ≡ last_on (bars seen.agent) seen.cell) →
-      new at ≡ Some (max (unwrap_or (old at) 0) tick) → ((seen : AgentCell) → seen ≢ at → new seen ≡ old seen) →
-      (seen : AgentCell) → new seen ≡ last_on (with_constraint bars constraint seen.agent) seen.cell
-  last_added at tick old new is last here others seen = elim (cases_seen seen at) [
-    | inl same ↦ subst (λ (x : AgentCell). new x ≡ last_on (with_constraint bars constraint x.agent) x.cell) (sym same) (here ∙ ap (λ o. Some (max (unwrap_or o 0) tick)) (last at) ∙ sym (last_here at tick is))
-    | inr differ ↦ others seen differ ∙ last seen ∙ sym (last_there seen (λ t e. differ (ap (λ (p : AgentCell × ℕ). p.0) (same_Some (seen, t) (at, tick) (sym e ∙ is)))))
+  -- a bar that was new is taken away
+  pub stand_taken : (old new : Constraint → Bool) → ((k : Constraint) → IsTrue (old k) ↔ Contains (with_constraint bars constraint k.agent) k.bar) → (Contains (bars constraint.agent) constraint.bar → ⊥) →
+      new constraint ≡ false → ((k : Constraint) → k ≢ constraint → new k ≡ old k) →
+      (k : Constraint) → IsTrue (new k) ↔ Contains (bars k.agent) k.bar
+  stand_taken old new stand absent gone others k = elim (cases_constraint k constraint) [
+    | inl same ↦ subst (λ (x : Constraint). IsTrue (new x) ↔ Contains (bars x.agent) x.bar) (sym same) (λ h. absurd (true≢false (sym h ∙ gone)), λ h. absurd (absent h))
+    | inr differ ↦ rw (others k differ) (λ h. (stands_there k differ).0 ((stand k).0 h), λ h. (stand k).1 ((stands_there k differ).1 h))
   ]
 
-  pub last_unmoved : barred_by constraint.agent constraint.bar ≡ None → (seen : AgentCell) → last_on (with_constraint bars constraint seen.agent) seen.cell ≡ last_on (bars seen.agent) seen.cell
-  last_unmoved none seen = last_there seen (λ t e. absurd cc)
-
-  pub stand_taken : (is_new : Bool) (old new : Constraint → Option (Unit {0})) → ((k : Constraint) → IsSome (old k) ↔ Contains (with_constraint bars constraint k.agent) k.bar) →
-      MatchBool is_new (Contains (bars constraint.agent) constraint.bar → ⊥) (Contains (bars constraint.agent) constraint.bar) →
-      MatchBool is_new (new constraint ≡ None) (new constraint ≡ old constraint) → ((k : Constraint) → k ≢ constraint → new k ≡ old k) →
-      (k : Constraint) → IsSome (new k) ↔ Contains (bars k.agent) k.bar
-  stand_taken is_new old new stand before here others k = elim (cases_constraint k constraint) [
-    | inl same ↦ subst (λ (x : Constraint). IsSome (new x) ↔ Contains (bars x.agent) x.bar) (sym same) (go is_new before here)
-    | inr differ ↦ rw (others k differ) (λ h. (stands_there k differ).0 ((stand k).0 h), λ h. (stand k).1 ((stands_there k differ).1 h))
-  ] where
-    go : (is_new : Bool) → MatchBool is_new (Contains (bars constraint.agent) constraint.bar → ⊥) (Contains (bars constraint.agent) constraint.bar) → MatchBool is_new (new constraint ≡ None) (new constraint ≡ old constraint) → IsSome (new constraint) ↔ Contains (bars constraint.agent) constraint.bar
-    go true absent gone = rw gone (λ h. absurd cc, λ h. absurd (absent h))
-    go false present kept = rw kept (λ _. present, λ _. (stand constraint).1 stands_here)
-
-  keeps : (at : AgentCell) (tick : ℕ) (last : Option ℕ) → barred_by constraint.agent constraint.bar ≡ Some (at, tick) → KeepsLast (bars constraint.agent) constraint.bar last → last ≡ last_on (bars at.agent) at.cell
-  keeps at tick last is = go constraint.bar is where
-    go : (bar : Bar) → barred_by constraint.agent bar ≡ Some (at, tick) → KeepsLast (bars constraint.agent) bar last → last ≡ last_on (bars at.agent) at.cell
-    go (Cell cell t) e kept = subst (λ (p : AgentCell × ℕ). last ≡ last_on (bars p.0.agent) p.0.cell) (same_Some (record { agent = constraint.agent; cell = cell }, t) (at, tick) e) kept
-    go (Move from to t) e kept = absurd cc
-
-  pub last_taken : (at : AgentCell) (tick : ℕ) (before : Option ℕ) (old new : AgentCell → Option ℕ) → barred_by constraint.agent constraint.bar ≡ Some (at, tick) →
-      ((seen : AgentCell) → old seen ≡ last_on (with_constraint bars constraint seen.agent) seen.cell) → KeepsLast (bars constraint.agent) constraint.bar before →
-      (IsSome (old at) → new at ≡ before) → ((seen : AgentCell) → seen ≢ at → new seen ≡ old seen) →
-      (seen : AgentCell) → new seen ≡ last_on (bars seen.agent) seen.cell
-  last_taken at tick before old new is last kept here others seen = elim (cases_seen seen at) [
-    | inl same ↦ subst (λ (x : AgentCell). new x ≡ last_on (bars x.agent) x.cell) (sym same) (here (rw (last at ∙ last_here at tick is) refl) ∙ keeps at tick before is kept)
-    | inr differ ↦ others seen differ ∙ last seen ∙ last_there seen (λ t e. differ (ap (λ (p : AgentCell × ℕ). p.0) (same_Some (seen, t) (at, tick) (sym e ∙ is))))
+  -- a bar that stood before stays
+  pub stand_again : (old : Constraint → Bool) → ((k : Constraint) → IsTrue (old k) ↔ Contains (with_constraint bars constraint k.agent) k.bar) → Contains (bars constraint.agent) constraint.bar →
+      (k : Constraint) → IsTrue (old k) ↔ Contains (bars k.agent) k.bar
+  stand_again old stand present k = elim (cases_constraint k constraint) [
+    | inl same ↦ subst (λ (x : Constraint). IsTrue (old x) ↔ Contains (bars x.agent) x.bar) (sym same) (λ _. present, λ _. (stand constraint).1 stands_here)
+    | inr differ ↦ (λ h. (stands_there k differ).0 ((stand k).0 h), λ h. (stand k).1 ((stands_there k differ).1 h))
   ]

@@ -1,39 +1,45 @@
 -- Bars, found by agent and bar.
-use Rattle.std.specs.Prelude.{◌≡◌, ◌≢◌, ◌↔◌, ◌≤◌, ⊤, ℕ, List, [], ◌∷◌, Option, Some, None, ◌==◌, if◌then◌else◌, max, unwrap_or, Contains, IsSome, MatchBool}
-use Rattle.std.specs.HashMap.{get}
+use Rattle.std.specs.Prelude.{◌≡◌, ◌≢◌, ◌↔◌, ◌≤◌, ℕ, Bool, List, Contains, IsTrue, MatchBool}
+use Rattle.std.specs.BTreeSet.{contains}
+use Rattle.std.specs.declared.cmp.Ordering.{Ordering}
+use Rattle.std.specs.Ordering.{nat_cmp, ordering_then}
 use Rattle.mapf_model.specs.declared.bar.Bar.{Bar}
 use Rattle.mapf_model.specs.declared.bar.Bar.TheVariants.{Cell, Move}
 use Rattle.mapf_model.specs.declared.constraint.Constraint.{Constraint}
-use Rattle.mapf_checker.specs.declared.agent_cell.AgentCell.{AgentCell}
+use Rattle.mapf_checker.specs.declared.barred.BarredCell.{BarredCell}
+use Rattle.mapf_checker.specs.declared.barred.BarredMove.{BarredMove}
 use Rattle.mapf_checker.specs.declared.index.BarIndex.{BarIndex}
 use Rattle.mapf_checker.specs.declared.index.Undo.{Undo}
-use Rattle.mapf_checker.specs.Keys.{same_constraint, same_cell}
 
 -- the cell is barred at this tick or later
 abbrev pub IsBarredFrom : List Bar → ℕ → ℕ → Type 0
 IsBarredFrom bars cell tick = (later : ℕ) × (tick ≤ later) × Contains bars (Cell cell later)
 
--- all but this key are found as before
-abbrev pub AreOthersKept : {K V : Type 0} → K → (K → Option V) → (K → Option V) → Type 0
-AreOthersKept {K = K} key old new = (other : K) → other ≢ key → new other ≡ old other
+-- by the agents, then by the cells, then by the ticks
+abbrev pub cell_cmp : BarredCell → BarredCell → Ordering
+cell_cmp a b = ordering_then (nat_cmp a.agent b.agent) (ordering_then (nat_cmp a.cell b.cell) (nat_cmp a.tick b.tick))
 
--- the last tick at which the cell is barred
-abbrev pub last_on : List Bar → ℕ → Option ℕ
-last_on [] cell = None
-last_on (Cell barred tick ∷ bars) cell = if barred == cell then Some (max (unwrap_or (last_on bars cell) 0) tick) else last_on bars cell
-last_on (Move from to tick ∷ bars) cell = last_on bars cell
+-- by the agents, then by the ticks, then by the cells
+abbrev pub move_cmp : BarredMove → BarredMove → Ordering
+move_cmp a b = ordering_then (nat_cmp a.agent b.agent) (ordering_then (nat_cmp a.tick b.tick) (ordering_then (nat_cmp a.from b.from) (nat_cmp a.to b.to)))
+
+-- whether the index has the bar of the agent
+abbrev pub is_held_of : BarIndex → ℕ → Bar → Bool
+is_held_of index agent (Cell cell tick) = contains cell_cmp index.cells (record { agent = agent; cell = cell; tick = tick })
+is_held_of index agent (Move from to tick) = contains move_cmp index.moves (record { agent = agent; tick = tick; from = from; to = to })
+
+-- whether the index has the constraint
+abbrev pub is_held : BarIndex → Constraint → Bool
+is_held index constraint = is_held_of index constraint.agent constraint.bar
+
+-- all but this constraint are found as before
+abbrev pub AreOthersKept : Constraint → BarIndex → BarIndex → Type 0
+AreOthersKept constraint old new = (other : Constraint) → other ≢ constraint → is_held new other ≡ is_held old other
 
 -- the index has the bars of each agent
-pub record Indexes (bars : ℕ → List Bar) (index : BarIndex) : Type 0 where
-  pub stand : (constraint : Constraint) → IsSome (get same_constraint index.bars constraint) ↔ Contains (bars constraint.agent) constraint.bar
-  pub last : (seen : AgentCell) → get same_cell index.last seen ≡ last_on (bars seen.agent) seen.cell
-
--- what an undo keeps of the last tick
-abbrev pub KeepsLast : List Bar → Bar → Option ℕ → Type 0
-KeepsLast bars (Cell cell tick) last = last ≡ last_on bars cell
-KeepsLast bars (Move from to tick) last = ⊤
+abbrev pub Indexes : (ℕ → List Bar) → BarIndex → Type 0
+Indexes bars index = (constraint : Constraint) → IsTrue (is_held index constraint) ↔ Contains (bars constraint.agent) constraint.bar
 
 -- what these bars were before one was added
-pub record CanUndo (bars : ℕ → List Bar) (constraint : Constraint) (undo : Undo) : Type 0 where
-  pub is_new : MatchBool undo.is_new (Contains (bars constraint.agent) constraint.bar → ⊥) (Contains (bars constraint.agent) constraint.bar)
-  pub last : KeepsLast (bars constraint.agent) constraint.bar undo.last
+abbrev pub CanUndo : (ℕ → List Bar) → Constraint → Undo → Type 0
+CanUndo bars constraint undo = MatchBool undo.is_new (Contains (bars constraint.agent) constraint.bar → ⊥) (Contains (bars constraint.agent) constraint.bar)

@@ -1,8 +1,6 @@
 pub mod PathDefects
 pub mod Conflicts
 pub mod Defects
-pub mod BarredCells
-pub mod Keys
 pub mod Index
 pub mod Starts
 pub mod Branch

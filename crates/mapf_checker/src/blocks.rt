@@ -10,7 +10,7 @@ ghost use Rattle.mapf_checker.specs.NodeDefects.{HasUnsoundBlock, HasUnsoundEntr
 ghost use Rattle.mapf_checker.specs.Starts.{AreChangesBy, IsChangeBy};
 
 use crate::branch::Branch;
-use crate::judge::{AgentProblem, is_sound};
+use crate::judge::{AgentProblem, Fingers, is_sound};
 use crate::labels::entry_at;
 use crate::starts::StartChange;
 use mapf_distance::Distances;
@@ -19,7 +19,6 @@ use std::alloc::Global;
 
 /// Whether each entry of the blocks of the node in this line is sound; else the line of the first that isn't.
 pub fn judge_blocks(
-    alloc: Global,
     problem: &Problem,
     tables: &[Distances],
     branch: &Branch,
@@ -34,7 +33,7 @@ pub fn judge_blocks(
     let mut line = line;
     for block in blocks {
         line = line.saturating_add(1);
-        judge_block(alloc, problem, tables, branch, block, line)?;
+        judge_block(problem, tables, branch, block, line)?;
         line = line.saturating_add(block.entries.len() as u64);
     }
     Ok(())
@@ -43,7 +42,6 @@ pub fn judge_blocks(
 // Whether each entry of the block that begins in this line is sound; else the line of the first that
 // isn't.
 fn judge_block(
-    alloc: Global,
     problem: &Problem,
     tables: &[Distances],
     branch: &Branch,
@@ -64,7 +62,7 @@ fn judge_block(
         agent,
         goal,
     };
-    match first_unsound(alloc, &own, entries_in(block)) {
+    match first_unsound(&own, entries_in(block)) {
         Some(k) => Err(line.saturating_add(k as u64).saturating_add(1)),
         None => Ok(()),
     }
@@ -90,15 +88,16 @@ fn goal_of(problem: &Problem, agent: u32) -> Cell
 }
 
 // The place of the first entry of a block that isn't sound.
-fn first_unsound(alloc: Global, own: &AgentProblem, entries: &[Entry]) -> Option<usize>
+fn first_unsound(own: &AgentProblem, entries: &[Entry]) -> Option<usize>
     requires distances { HasGoalDistances own.now }
     requires rising { AllPairs IsBefore entries.now }
     requires ticks { All (λ entry. entry.tick ≤ greatest_cost) entries.now }
     ensures none { IfNone result (AreSound own.now.grid.now own.now.goal (bars_on own.now) (entries_of entries.now)) }
     ensures some { IfSome result (IsUnsoundAt own.now entries.now) }
 {
+    let mut fingers: Fingers = [0; 5];
     for k in 0..entries.len() {
-        if !is_sound(alloc, own, entries, &entries[k]) {
+        if !is_sound(own, entries, &mut fingers, &entries[k]) {
             return Some(k);
         }
     }

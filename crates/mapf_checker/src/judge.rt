@@ -1,5 +1,6 @@
-ghost use Rattle.std.specs.Prelude.{◌≡◌, ◌≤◌, ◌↔◌, All, AllPairs, IsTrue, Contains};
-ghost use Rattle.mapf_model.specs.Grid.{IsFree, Step};
+ghost use Rattle.std.specs.Prelude.{◌≡◌, ◌≤◌, ◌↔◌, AllPairs, IsTrue, Contains};
+ghost use Rattle.mapf_model.specs.Grid.{IsFree};
+ghost use Rattle.mapf_model.specs.Labels.{MayGo};
 ghost use Rattle.mapf_model.specs.Limits.{greatest_cost};
 ghost use Rattle.mapf_model.specs.Printed.{IsBefore};
 ghost use Rattle.mapf_checker.specs.AgentProblem.{HasGoalDistances, bars_on};
@@ -7,10 +8,9 @@ ghost use Rattle.mapf_checker.specs.AgentProblem.{IsConsistent, IsConsistentStep
 ghost use Rattle.mapf_checker.specs.Index.{IsBarredFrom};
 
 use crate::branch::Branch;
-use crate::labels::{exceeds, is_within_one, label_at};
+use crate::labels::{exceeds, is_within_one, label_from};
 use mapf_distance::Distances;
 use mapf_model::{Bar, Cell, Entry, Grid, laws};
-use std::alloc::Global;
 
 /// What the entries of one agent are judged against: its own problem at a node of the tree, with the bars
 /// on the branch to it.
@@ -24,10 +24,13 @@ pub struct AgentProblem<'a> {
     pub goal: Cell,
 }
 
+/// For each place of a neighbourhood, where the search for the entry of the cell there goes on.
+pub type Fingers = [usize; 5];
+
 /// Whether the entry can stand in the block: its label exceeds the distance; and unless the state is
 /// barred, a later bar touches the goal where the agent would rest there, and no step that isn't
 /// barred lowers the label by more than one.
-pub fn is_sound(alloc: Global, own: &AgentProblem, entries: &[Entry], entry: &Entry) -> bool
+pub fn is_sound(own: &AgentProblem, entries: &[Entry], fingers: &mut Fingers, entry: &Entry) -> bool
     requires distances { HasGoalDistances own.now }
     requires rising { AllPairs IsBefore entries.now }
     requires tick { entry.now.tick ≤ greatest_cost }
@@ -39,7 +42,8 @@ pub fn is_sound(alloc: Global, own: &AgentProblem, entries: &[Entry], entry: &En
     if !exceeds(entry.label, distance) {
         return false;
     }
-    is_barred(own, entry) || is_open_sound(alloc, own, entries, entry)
+    // Few states are barred, and labels tell more often than bars.
+    is_open_sound(own, entries, fingers, entry) || is_barred(own, entry)
 }
 
 fn is_barred(own: &AgentProblem, entry: &Entry) -> bool
@@ -53,7 +57,12 @@ fn is_barred(own: &AgentProblem, entry: &Entry) -> bool
 }
 
 // Whether a state that isn't barred can have its label.
-fn is_open_sound(alloc: Global, own: &AgentProblem, entries: &[Entry], entry: &Entry) -> bool
+fn is_open_sound(
+    own: &AgentProblem,
+    entries: &[Entry],
+    fingers: &mut Fingers,
+    entry: &Entry,
+) -> bool
     requires distances { HasGoalDistances own.now }
     requires rising { AllPairs IsBefore entries.now }
     requires tick { entry.now.tick ≤ greatest_cost }
@@ -65,61 +74,66 @@ fn is_open_sound(alloc: Global, own: &AgentProblem, entries: &[Entry], entry: &E
     if entry.cell == own.goal && !own.branch.has_from(own.agent, own.goal, entry.tick) {
         return false;
     }
-    goes_on(alloc, own, entries, entry)
+    goes_on(own, entries, fingers, entry)
 }
 
 // Whether the label is within one of that after each step that isn't barred.
-fn goes_on(alloc: Global, own: &AgentProblem, entries: &[Entry], entry: &Entry) -> bool
+fn goes_on(own: &AgentProblem, entries: &[Entry], fingers: &mut Fingers, entry: &Entry) -> bool
     requires distances { HasGoalDistances own.now }
     requires rising { AllPairs IsBefore entries.now }
     requires tick { entry.now.tick ≤ greatest_cost }
     requires free { IsFree own.now.grid.now entry.now.cell }
     ensures { IsTrue result ↔ IsConsistent own.now entries.now entry.now }
 {
-    let steps = own.grid.steps(alloc, entry.cell);
-    steps_hold(steps.as_slice(), own, entries, entry)
-}
-
-fn steps_hold(steps: &[Cell], own: &AgentProblem, entries: &[Entry], entry: &Entry) -> bool
-    requires distances { HasGoalDistances own.now }
-    requires rising { AllPairs IsBefore entries.now }
-    requires tick { entry.now.tick ≤ greatest_cost }
-    requires steps { All (λ next. Step own.now.grid.now entry.now.cell next) steps.now }
-    ensures { IsTrue result ↔ All (IsConsistentStep own.now entries.now entry.now) steps.now }
-{
-    for next in steps {
-        if !step_holds(own, entries, entry, *next) {
-            return false;
+    let places = entry.cell.neighbourhood(own.grid.width());
+    for k in 0..places.len() {
+        if let Some(next) = places[k] {
+            if !step_holds(own, entries, &mut fingers[k], entry, next) {
+                return false;
+            }
         }
     }
     true
 }
 
-// Whether the label is within one of that after this step, or the step is barred.
-fn step_holds(own: &AgentProblem, entries: &[Entry], entry: &Entry, next: Cell) -> bool
+// Whether the label is within one of that after this step, or the agent can't take the step.
+fn step_holds(
+    own: &AgentProblem,
+    entries: &[Entry],
+    finger: &mut usize,
+    entry: &Entry,
+    next: Cell,
+) -> bool
     requires distances { HasGoalDistances own.now }
     requires rising { AllPairs IsBefore entries.now }
     requires tick { entry.now.tick ≤ greatest_cost }
-    requires step { Step own.now.grid.now entry.now.cell next }
     ensures { IsTrue result ↔ IsConsistentStep own.now entries.now entry.now next }
 {
     laws::definitions_are_decided();
-    // Few steps are barred, and a label tells more often than a bar.
-    let after = label_at(entries, own.distances, next, entry.tick + 1);
+    // Few steps can't be taken, and a label tells more often than a bar.
+    let after = label_from(entries, finger, own.distances, next, entry.tick + 1);
     if is_within_one(entry.label, after) {
         return true;
+    }
+    !may_go(own, entry, next)
+}
+
+// Whether the agent may go to the cell from the entry's state.
+fn may_go(own: &AgentProblem, entry: &Entry, next: Cell) -> bool
+    requires tick { entry.now.tick ≤ greatest_cost }
+    ensures { IsTrue result ↔ MayGo own.now.grid.now (bars_on own.now) entry.now.cell next entry.now.tick }
+{
+    if !own.grid.is_step(entry.cell, next) {
+        return false;
     }
     let arrival = Bar::Cell {
         cell: next,
         tick: entry.tick + 1,
     };
-    if own.branch.has(own.agent, arrival) {
-        return true;
-    }
     let departure = Bar::Move {
         from: entry.cell,
         to: next,
         tick: entry.tick,
     };
-    own.branch.has(own.agent, departure)
+    !own.branch.has(own.agent, arrival) && !own.branch.has(own.agent, departure)
 }

@@ -2,7 +2,7 @@ ghost use Rattle.std.specs.Prelude.{◌≡◌, ◌+◌, ◌<◌, ◌≤◌, ◌�
 ghost use Rattle.mapf_model.specs.Labels.{entries_of, IsLabel, IsDistanceLabel, IsEntryOrDistance};
 ghost use Rattle.mapf_model.specs.Labels.{IsAtMost, one_more};
 ghost use Rattle.mapf_model.specs.Printed.{IsBefore};
-ghost use Rattle.mapf_checker.specs.Order.{StandsTo};
+ghost use Rattle.mapf_checker.specs.Order.{StandsTo, IsStanding, IsNoneBelow};
 
 use mapf_distance::Distances;
 use mapf_model::{Cell, Entry, Label, Tick};
@@ -23,6 +23,52 @@ pub fn entry_at(entries: &[Entry], cell: Cell, tick: Tick) -> Option<Label>
         }
     }
     None
+}
+
+/// The entry of a state in a block. It is looked for from where the finger stands, which then moves to where the
+/// entry stands or would stand, so a finger that follows rising states passes each entry once.
+pub fn entry_from(entries: &[Entry], finger: &mut usize, cell: Cell, tick: Tick) -> Option<Label>
+    requires { AllPairs IsBefore entries.now }
+    ensures { result ≡ entries_of entries.now cell tick }
+{
+    let place = first_from(entries, *finger, cell, tick);
+    *finger = place;
+    match standing(entries, place, cell, tick) {
+        Ordering::Equal => Some(entries[place].label),
+        Ordering::Greater if is_passed(entries, place, cell, tick) => None,
+        // The finger stood too far on.
+        _ => entry_at(entries, cell, tick),
+    }
+}
+
+// The first place from this one on whose entry doesn't stand before the state.
+fn first_from(entries: &[Entry], from: usize, cell: Cell, tick: Tick) -> usize
+    requires { AllPairs IsBefore entries.now }
+{
+    let mut place = from;
+    while matches!(standing(entries, place, cell, tick), Ordering::Less) {
+        place += 1;
+    }
+    place
+}
+
+// Whether the entry before this place, if there is one, stands before the state.
+fn is_passed(entries: &[Entry], place: usize, cell: Cell, tick: Tick) -> bool
+    requires { AllPairs IsBefore entries.now }
+    ensures { IsTrue result → IsNoneBelow entries.now cell tick place }
+{
+    place == 0 || matches!(standing(entries, place - 1, cell, tick), Ordering::Less)
+}
+
+// Where the entry in this place stands to a state; behind the last, as one that stands after it.
+fn standing(entries: &[Entry], place: usize, cell: Cell, tick: Tick) -> Ordering
+    requires { AllPairs IsBefore entries.now }
+    ensures { IsStanding entries.now cell tick place result }
+{
+    match entries.get(place) {
+        Some(entry) => order(entry, cell, tick),
+        None => Ordering::Greater,
+    }
 }
 
 // Where the entry stands to a state, by the ticks and then by the cells.
@@ -58,12 +104,18 @@ pub fn label_or_distance(entry: Option<Label>, distances: &Distances, cell: Cell
     }
 }
 
-/// The label of a state.
-pub fn label_at(entries: &[Entry], distances: &Distances, cell: Cell, tick: Tick) -> Label
+/// The label of a state, whose entry is looked for as `entry_from` does.
+pub fn label_from(
+    entries: &[Entry],
+    finger: &mut usize,
+    distances: &Distances,
+    cell: Cell,
+    tick: Tick,
+) -> Label
     requires { AllPairs IsBefore entries.now }
     ensures { IsLabel distances.now.grid distances.now.goal (entries_of entries.now) cell tick result }
 {
-    label_or_distance(entry_at(entries, cell, tick), distances, cell)
+    label_or_distance(entry_from(entries, finger, cell, tick), distances, cell)
 }
 
 /// Whether a label is at most one more than another.

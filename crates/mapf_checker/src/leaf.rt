@@ -17,12 +17,10 @@ use crate::fault::CheckFault;
 use crate::labels::{entry_at, label_or_distance};
 use mapf_distance::Distances;
 use mapf_model::{Block, Cell, Claim, Label, Problem, laws};
-use std::alloc::Global;
 
 /// Whether the leaf shows the claim: each entry of its blocks is sound, and the labels of the starts
 /// are enough. `line` is that of the leaf.
 pub fn judge_leaf(
-    alloc: Global,
     problem: &Problem,
     tables: &[Distances],
     branch: &Branch,
@@ -37,7 +35,7 @@ pub fn judge_leaf(
     ensures err { IfErr result (HasNodeDefect problem.now claim.now (place_of branch.now).here (LeafNode blocks.now)) }
 {
     laws::definitions_are_decided();
-    if let Err(unsound) = judge_blocks(alloc, problem, tables, branch, blocks, line) {
+    if let Err(unsound) = judge_blocks(problem, tables, branch, blocks, line) {
         return Err(CheckFault::C7(unsound));
     }
     let total = start_total(problem, tables, branch, blocks);

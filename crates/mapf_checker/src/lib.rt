@@ -2,7 +2,7 @@
 #![tactic(auto)]
 
 mod acceptance;
-mod agent_cell;
+mod barred;
 mod blocks;
 mod branch;
 mod cert_judge;

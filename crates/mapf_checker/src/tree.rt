@@ -156,14 +156,7 @@ impl Progress {
             return Ok(Vec::new(alloc));
         }
         self.see_to_tables(alloc, problem)?;
-        if let Err(unsound) = judge_blocks(
-            alloc,
-            problem,
-            &self.tables,
-            &self.branch,
-            blocks,
-            line,
-        ) {
+        if let Err(unsound) = judge_blocks(problem, &self.tables, &self.branch, blocks, line) {
             return Err(FromFault::Refused(CheckFault::C7(unsound)));
         }
         let Ok(changes) = changes_by(alloc, problem, &self.branch, blocks) else {
@@ -190,15 +183,7 @@ impl Progress {
             (HasNodeDefect problem.now claim.now (here_of self.old) (LeafNode blocks.now))) }
     {
         self.see_to_tables(alloc, problem)?;
-        if let Err(fault) = judge_leaf(
-            alloc,
-            problem,
-            &self.tables,
-            &self.branch,
-            claim,
-            blocks,
-            line,
-        ) {
+        if let Err(fault) = judge_leaf(problem, &self.tables, &self.branch, claim, blocks, line) {
             return Err(FromFault::Refused(fault));
         }
         self.end()

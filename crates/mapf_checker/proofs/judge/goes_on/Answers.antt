@@ -1,12 +1,38 @@
-use Rattle.std.proofs.Common.{slice_index_or}
-use Rattle.std.proofs.lemmas.List.Elements.{All-contains}
+use Rattle.std.proofs.Common.{◌≡◌, ◌<◌, ◌≤◌, ◌∙◌, Some, None, Contains, length, slice_index_or, refl, ap, sym, subst, ⊎_elim, arith}
+use Rattle.std.proofs.lemmas.Bool.{cases_lt}
+use Rattle.std.proofs.lemmas.List.{get_or_default}
+use Rattle.std.proofs.lemmas.Option.{same_Some}
+use Rattle.mapf_model.specs.Neighbours.{neighbourhood}
+use Rattle.mapf_model.proofs.StepLemmas.{step_neighbour}
 use Rattle.mapf_checker.specs.AgentProblem.{IsConsistentStep}
 use Rattle.mapf_checker.proofs.judge.goes_on.Goals as goal
+use Rattle.mapf_checker.proofs.judge.goes_on.Goals.{in-Some+else-not-step_holds, in_default}
+
+pub loop-k-preserved : goal.loop-k-preserved
+loop-k-preserved c = λ place next below is. ⊎_elim
+    (λ (earlier : place < c.loop-k.k). c.loop-k.invariant place next earlier is)
+    (λ (past : c.loop-k.k ≤ place).
+    let five = ap length c.neighbourhood-places.ensures in
+    let within : c.loop-k.k < length c.neighbourhood-places.result = omega (arith, c.loop-k-test.true) in
+    let same : place ≡ c.loop-k.k = omega arith in
+    let found : slice_index_or c.neighbourhood-places.result c.loop-k.k None ≡ Some next = subst (λ n. slice_index_or c.neighbourhood-places.result n None ≡ Some next) same is in
+    elim c.match-places-k.branch [
+      | in-Some+else-not-step_holds w ↦
+          let at = same_Some w.in-Some.next next (sym w.in-Some.is ∙ get_or_default c.neighbourhood-places.result c.loop-k.k _ None within ∙ found) in
+          subst (IsConsistentStep c.args.own.now c.args.entries.now c.args.entry.now) at (w.step_holds.ensures.0 w.if-not-step_holds.false)
+      | in_default w ↦ absurd (w.in_default.not-Some next (get_or_default c.neighbourhood-places.result c.loop-k.k _ None within ∙ found))
+    ])
+    (cases_lt place c.loop-k.k)
 
 pub returns : goal.returns
-returns c =
-    let own = c.args.own.now in
-    let entry = c.args.entry.now in (
-      λ yes next may. All-contains (IsConsistentStep own c.args.entries.now entry) c.steps-steps.result.items next (rw (← c.as_slice.ensures) (c.steps_hold.ensures.0 yes)) ((c.steps-steps.ensures.exact next).1 may.step) may,
-      λ holds. c.steps_hold.ensures.1 (λ k d within may. holds (slice_index_or c.as_slice.result.now k d) may),
-    )
+returns c = (
+  λ _ next may.
+      let grid = c.args.own.now.grid.now in
+      let cell = c.args.entry.now.cell in
+      let cells = c.neighbourhood-places.ensures ∙ ap (λ w. neighbourhood w cell) c.width.ensures.width in
+      let wide : 0 < grid.width = subst (λ w. 0 < w) c.width.ensures.width c.width.ensures.positive in
+      let five = ap length cells in
+      let (place, within, is) = subst (λ places. Contains places (Some next)) (sym cells) (step_neighbour grid cell wide c.requires.free next may.step) in
+      c.loop-k.invariant place next (omega arith) (get_or_default c.neighbourhood-places.result place None (Some next) within ∙ is) may,
+  λ _. refl,
+)

@@ -1,14 +1,13 @@
-use Rattle.std.proofs.Common.{ℕ, ◌-◌, ◌<◌, ◌≤◌, length, slice_index_or}
-use Rattle.mapf_model.specs.declared.label.Entry.{Entry}
-use Rattle.mapf_checker.specs.Order.{IsOf}
+use Rattle.std.proofs.Common.{◌-◌, ◌≤◌, length}
+use Rattle.mapf_checker.specs.Order.{IsNoneBelow, IsNoneFrom}
 use Rattle.mapf_checker.proofs.labels.entry_at.Given as goal
 
 abbrev pub invariant-loop-low : goal.invariant-loop-low
 invariant-loop-low l = record {
   order : l.low ≤ l.high;
   within : l.high ≤ length l.entries;
-  below : (k : ℕ) (d : Entry) → k < l.low → IsOf l.cell l.tick (slice_index_or l.entries k d) → ⊥;
-  above : (k : ℕ) (d : Entry) → l.high ≤ k → k < length l.entries → IsOf l.cell l.tick (slice_index_or l.entries k d) → ⊥;
+  below : IsNoneBelow l.entries l.cell l.tick l.low;
+  above : IsNoneFrom l.entries l.cell l.tick l.high;
 }
 
 abbrev pub decreases-loop-low : goal.decreases-loop-low
