@@ -257,6 +257,7 @@ fn tree_line(bytes: &[u8], sizes: &Sizes) -> Result<CertLine, LineFault>
 }
 
 /// Reads a line of a certificate.
+#[inline(always)]
 pub fn line_of(due: &Due, bytes: &[u8]) -> Result<CertLine, LineFault>
     // What is read is a line that is due, spelled so.
     ensures found { IfOk result (λ line. IsLine due.now line × (bytes.now ≡ words (width_of due.now) line)) }

@@ -25,8 +25,8 @@ pub fn entry_at(entries: &[Entry], cell: Cell, tick: Tick) -> Option<Label>
     None
 }
 
-/// The entry of a state in a block. It is looked for from where the finger stands, which then moves to where the
-/// entry stands or would stand, so a finger that follows rising states passes each entry once.
+/// The entry of a state in a block. It is looked for from where the finger stands, which then moves behind it, or
+/// to where it would stand. So a finger that follows rising states passes each entry once.
 pub fn entry_from(entries: &[Entry], finger: &mut usize, cell: Cell, tick: Tick) -> Option<Label>
     requires { AllPairs IsBefore entries.now }
     ensures { result ≡ entries_of entries.now cell tick }
@@ -34,7 +34,10 @@ pub fn entry_from(entries: &[Entry], finger: &mut usize, cell: Cell, tick: Tick)
     let place = first_from(entries, *finger, cell, tick);
     *finger = place;
     match standing(entries, place, cell, tick) {
-        Ordering::Equal => Some(entries[place].label),
+        Ordering::Equal => {
+            *finger = place + 1;
+            Some(entries[place].label)
+        }
         Ordering::Greater if is_passed(entries, place, cell, tick) => None,
         // The finger stood too far on.
         _ => entry_at(entries, cell, tick),

@@ -99,6 +99,7 @@ pub fn last(mark: u8, bytes: &[u8]) -> Result<Option<u64>, LineFault>
 /// Neither has leading zeros, and each is None from 2^64 on. `LineFault::Shape` where the bytes don't
 /// begin so.
 #[tactic(auto, unfolding(crate::specs::Numbers::read_pair))]
+#[inline(always)]
 pub fn pair(bytes: &[u8]) -> Result<(Option<u64>, Option<u64>, &[u8]), LineFault>
     ensures { Gives (λ p. (p.0, p.1, p.2.now)) result (read_pair bytes.entry.now) }
 {
