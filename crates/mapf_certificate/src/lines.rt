@@ -95,6 +95,7 @@ impl Lines {
     }
 
     /// Takes the next line.
+    #[inline(always)]
     pub fn next<S: Source>(&mut self, source: &mut S, due: &Due) -> Result<CertLine, LinesFault>
         requires { S.has_failed source.old ≡ false }
         ensures works { OnOk result (S.has_failed source.new ≡ false) }
