@@ -134,8 +134,8 @@ none_share problem none i j (differ, a, b, ia, jb, same) = ⊎_elim
     (cases_lt i j)
 
 -- at the root of a search the goals differ, and each can be reached
-pub root_names : (problem : Instance) (tables : List GoalMap) (paths : List (List ℕ)) → IsRootStart problem tables paths → (tree : ConstraintTree) → NamesFirstDefect problem tree
-root_names problem tables paths root_start tree = record {
+pub root_names : (problem : Instance) (paths : List (List ℕ)) → IsRootStart problem paths → (tree : ConstraintTree) → NamesFirstDefect problem tree
+root_names problem paths root_start tree = record {
   clash = λ i j pair. absurd (root_start.goals i j pair.shared);
   leaf = λ goals (i, agent, is, unreachable).
       let count = root_start.count in

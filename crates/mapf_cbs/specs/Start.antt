@@ -2,7 +2,7 @@
 use Rattle.std.specs.Prelude.{◌≡◌, ◌-◌, ◌≤◌, ℕ, List, Some, length, slice_get}
 use Rattle.mapf_model.specs.declared.problem.Agent.{Agent}
 use Rattle.mapf_model.specs.Distance.{IsDistance}
-use Rattle.mapf_distance.specs.Distances.{GoalMap, IsLeastDescent}
+use Rattle.mapf_distance.specs.Distances.{IsLeastDescent}
 use Rattle.mapf_model.specs.Grid.{GridMap, IsGridMap, free_cell_count}
 use Rattle.mapf_model.specs.Limits.{most_agents}
 use Rattle.mapf_model.specs.Path.{IsLawful, IsTight}
@@ -12,7 +12,6 @@ use Rattle.mapf_cbs.specs.declared.start.Beginning.{Beginning}
 use Rattle.mapf_cbs.specs.declared.start.Beginning.TheVariants.{Impossible as ImpossibleBeginning, Root as RootBeginning}
 use Rattle.mapf_cbs.specs.Answer.{IsTreeOf, IsShownImpossible}
 use Rattle.mapf_cbs.specs.Goals.{HaveDifferentGoals}
-use Rattle.mapf_distance.specs.Tables.{AreTables}
 
 -- these agents have one goal
 abbrev pub HaveGoal : List Agent → ℕ → ℕ → Type 0
@@ -32,16 +31,15 @@ pub record AreShortest (problem : Instance) (paths : List (List ℕ)) : Type 0 w
   pub within : length paths ≤ length problem.agents
   pub each : (i : ℕ) (agent : Agent) (path : List ℕ) → slice_get problem.agents i ≡ Some agent → slice_get paths i ≡ Some path → IsShortest problem.grid agent path
 
--- the tables and paths with which a search begins at the root: no two agents have one goal, and each has a shortest path
-pub record IsRootStart (problem : Instance) (tables : List GoalMap) (paths : List (List ℕ)) : Type 0 where
+-- the paths with which a search begins at the root: no two agents have one goal, and each has a shortest path
+pub record IsRootStart (problem : Instance) (paths : List (List ℕ)) : Type 0 where
   pub shape : IsGridMap problem.grid
   pub agents : (1 ≤ length problem.agents) × (length problem.agents ≤ most_agents)
   pub goals : HaveDifferentGoals problem
-  pub tables_are : AreTables problem tables
   pub count : length paths ≡ length problem.agents
   pub shortest : AreShortest problem paths
 
 -- a tree of no splits that shows that no plan is valid, or what a search begins with
 abbrev pub IsBeginning : Instance → Beginning → Type 0
 IsBeginning problem (ImpossibleBeginning nodes) = (limit : ℕ) → (tree : ConstraintTree) × IsTreeOf problem limit nodes.items tree × IsShownImpossible problem tree
-IsBeginning problem (RootBeginning tables paths) = IsRootStart problem tables.items paths.items
+IsBeginning problem (RootBeginning paths) = IsRootStart problem paths.items

@@ -1,4 +1,4 @@
-ghost use Rattle.std.specs.Prelude.{◌≡◌, ◌+◌, ◌-◌, ◌<◌, ◌∷◌, ◌^◌, List, Some, length, slice_get, sum, IfOk};
+ghost use Rattle.std.specs.Prelude.{◌≡◌, ◌+◌, ◌-◌, ◌<◌, ◌∷◌, ◌^◌, List, Some, length, slice_get, sum, IfOk, OnOk};
 ghost use Rattle.mapf_model.specs.Laws.{AreSameBars};
 ghost use Rattle.mapf_model.specs.Path.{at, IsCost};
 ghost use Rattle.mapf_model.specs.declared.bar.Bar.{Bar};
@@ -6,7 +6,7 @@ ghost use Rattle.mapf_model.specs.declared.problem.Agent.{Agent};
 ghost use Rattle.mapf_spacetime.specs.Answer.{IsPathAnswer};
 ghost use Rattle.mapf_spacetime.specs.Task.{task_of};
 ghost use Rattle.mapf_cbs.specs.CheapestPath.{IsTableBar};
-ghost use Rattle.mapf_distance.specs.Tables.{AreTables};
+ghost use Rattle.mapf_distance.specs.Tables.{AreMade};
 ghost use Rattle.mapf_cbs.specs.Search.{View, IsLive};
 ghost use Rattle.mapf_cbs.specs.Nodes.{AreNodesFor, HaveTableBars, AreViews, HoldsOfNode};
 ghost use Rattle.mapf_cbs.specs.GeneratedChild.{IsGeneratedChild, EndsAt, IsTotal};
@@ -15,7 +15,7 @@ use crate::node::Node;
 use crate::search_memory::SearchMemory;
 use crate::walks::{gather_bars, path_at};
 use mapf_constraints::BarTable;
-use mapf_distance::Distances;
+use mapf_distance::LazyTables;
 use mapf_model::{Cell, Constraint, OutOfMemory, Path, Problem};
 use mapf_spacetime::{Found, StateLabels, search_in};
 use std::alloc::Global;
@@ -32,13 +32,13 @@ pub fn child<B: BarTable>(
     alloc: Global,
     memory: &mut SearchMemory<B>,
     problem: &Problem,
-    tables: &[Distances],
+    tables: &mut LazyTables,
     nodes: &[Node],
     k: u32,
     total: u64,
     constraint: Constraint,
 ) -> Result<GeneratedChild, OutOfMemory>
-    requires tables { AreTables problem.now tables.now }
+    requires tables { AreMade problem.now tables.old }
     requires nodes { AreNodesFor constraint.agent nodes.now }
     requires bars { HaveTableBars nodes.now }
     requires inside { k < length nodes.now }
@@ -47,9 +47,10 @@ pub fn child<B: BarTable>(
     requires small { total + 2 ^ 32 < 2 ^ 64 }
     requires live { (views : List View) × (view : View) × AreViews nodes.now views × (slice_get views k ≡ Some view)
         × IsLive problem.now view × (total ≡ sum view.costs) }
-    ensures { IfOk result (λ generated.
+    ensures generated { IfOk result (λ generated.
         HoldsOfNode nodes.now k (λ view. IsLive problem.now view → total ≡ sum view.costs →
         IsGeneratedChild problem.now view constraint generated.found generated.total)) }
+    ensures tables { OnOk result (AreMade problem.now tables.new) }
 {
     let agent = constraint.agent;
     let who = problem.agents()[agent as usize];
@@ -64,31 +65,33 @@ fn search_with<B: BarTable>(
     alloc: Global,
     memory: &mut SearchMemory<B>,
     problem: &Problem,
-    tables: &[Distances],
+    tables: &mut LazyTables,
     nodes: &[Node],
     k: u32,
     constraint: Constraint,
 ) -> Result<Found<StateLabels>, OutOfMemory>
-    requires tables { AreTables problem.now tables.now }
+    requires tables { AreMade problem.now tables.old }
     requires nodes { AreNodesFor constraint.agent nodes.now }
     requires bars { HaveTableBars nodes.now }
     requires inside { k < length nodes.now }
     requires known { constraint.agent < length problem.now.agents }
     requires bar { IsTableBar constraint.bar }
-    ensures { IfOk result (λ found.
+    ensures found { IfOk result (λ found.
         (who : Agent) → slice_get problem.now.agents constraint.agent ≡ Some who →
         HoldsOfNode nodes.now k (λ view. (bars : List Bar)
         × AreSameBars bars (constraint.bar ∷ view.context.bars constraint.agent)
         × IsPathAnswer (task_of problem.now.grid who bars) found)) }
+    ensures tables { OnOk result (AreMade problem.now tables.new) }
 {
     let who = problem.agents()[constraint.agent as usize];
     gather_bars(&mut memory.bars, nodes, k, constraint.agent)?;
     memory.bars.add(constraint.bar)?;
+    tables.make(alloc, problem, constraint.agent)?;
     search_in(
         alloc,
         &mut memory.workspace,
         problem.grid(),
-        &tables[constraint.agent as usize],
+        tables.get(constraint.agent),
         &memory.bars,
         who,
     )

@@ -24,7 +24,7 @@ use crate::whole_tree::{WholeChild, WholeTree, labels_of_whole, least_open};
 use crate::written::tree_nodes;
 use mapf_conflicts::first_conflict;
 use mapf_constraints::{BarTable, ListBars};
-use mapf_distance::Distances;
+use mapf_distance::{Distances, goal_tables};
 use mapf_model::{Bar, Conflict, Constraint, OutOfMemory, Path, Problem};
 use mapf_spacetime::search_states;
 use std::alloc::Global;
@@ -36,7 +36,8 @@ pub fn solve_plain(alloc: Global, problem: &Problem, limit: u32) -> Result<Answe
 {
     match begin(alloc, problem)? {
         Beginning::Impossible { tree } => Outcome::Impossible { tree }.into_answer(alloc),
-        Beginning::Root { tables, paths } => {
+        Beginning::Root { paths } => {
+            let tables = goal_tables(alloc, problem)?;
             search_plain(alloc, problem, &tables, paths, limit)?.into_answer(alloc)
         }
     }
@@ -52,7 +53,8 @@ fn search_plain(
     limit: u32,
 ) -> Result<Outcome, OutOfMemory>
     requires limit { limit ≤ most_splits }
-    requires root { IsRootStart problem.now tables.now paths.items }
+    requires tables { AreTables problem.now tables.now }
+    requires root { IsRootStart problem.now paths.items }
     ensures { IfOk result (IsOutcome problem.now limit) }
 {
     let root = WholeNode::root(alloc, &paths)?;

@@ -4,7 +4,7 @@ ghost use Rattle.mapf_model.specs.Limits.{most_splits, split_ticks};
 ghost use Rattle.mapf_cbs.specs.Answer.{IsOutcome, IsSearchAnswer};
 ghost use Rattle.mapf_cbs.specs.Goals.{HaveDifferentGoals};
 ghost use Rattle.mapf_cbs.specs.Nodes.{IsFirstAt};
-ghost use Rattle.mapf_distance.specs.Tables.{AreTables};
+ghost use Rattle.mapf_distance.specs.Tables.{AreMade};
 ghost use Rattle.mapf_cbs.specs.Start.{IsRootStart};
 ghost use Rattle.mapf_cbs.specs.State.{IsPopped, IsState, IsCauseToStop};
 
@@ -19,7 +19,7 @@ use crate::walks::{conflict_at, plan_at};
 use crate::written::tree_nodes;
 use mapf_conflicts::CellMarks;
 use mapf_constraints::{BarTable, TickBars};
-use mapf_distance::Distances;
+use mapf_distance::LazyTables;
 use mapf_model::limits::SPLIT_TICKS;
 use mapf_model::{Cause, Conflict, OutOfMemory, Path, Problem};
 use std::alloc::Global;
@@ -66,9 +66,7 @@ pub fn search_with<B: BarTable>(
 {
     match begin(alloc, problem)? {
         Beginning::Impossible { tree } => Ok(Outcome::Impossible { tree }),
-        Beginning::Root { tables, paths } => {
-            search_from::<B>(alloc, problem, &tables, paths, limit)
-        }
+        Beginning::Root { paths } => search_from::<B>(alloc, problem, paths, limit),
     }
 }
 
@@ -77,12 +75,11 @@ pub fn search_with<B: BarTable>(
 fn search_from<B: BarTable>(
     alloc: Global,
     problem: &Problem,
-    tables: &[Distances],
     paths: Vec<Path>,
     limit: u32,
 ) -> Result<Outcome, OutOfMemory>
     requires limit { limit ≤ most_splits }
-    requires root { IsRootStart problem.now tables.now paths.items }
+    requires root { IsRootStart problem.now paths.items }
     ensures { IfOk result (IsOutcome problem.now limit) }
 {
     let agents = problem.agents().len() as u32;
@@ -90,6 +87,7 @@ fn search_from<B: BarTable>(
     let mut search = SearchTree::of(alloc, paths, total)?;
     let grid = problem.grid();
     let mut marks = CellMarks::new(alloc, (grid.width() * grid.height()) as usize)?;
+    let mut tables = LazyTables::of(alloc, problem)?;
     let mut memory = SearchMemory::<B>::new(alloc);
     loop {
         let Some((total, k)) = take_least(&mut search.waiting) else {
@@ -117,7 +115,7 @@ fn search_from<B: BarTable>(
             alloc,
             &mut memory,
             problem,
-            tables,
+            &mut tables,
             &mut search,
             k,
             total,
@@ -146,13 +144,13 @@ fn split<B: BarTable>(
     alloc: Global,
     memory: &mut SearchMemory<B>,
     problem: &Problem,
-    tables: &[Distances],
+    tables: &mut LazyTables,
     search: &mut SearchTree,
     k: u32,
     total: u64,
     conflict: &Conflict,
 ) -> Result<(), OutOfMemory>
-    requires tables { AreTables problem.now tables.now }
+    requires tables { AreMade problem.now tables.old }
     requires popped { IsPopped problem.now
         search.old.nodes.items search.old.fates.items search.old.waiting.keys search.old.splits total k }
     requires goals { HaveDifferentGoals problem.now }
@@ -162,6 +160,7 @@ fn split<B: BarTable>(
     ensures state { OnOk result (IsState problem.now
         search.new.nodes.items search.new.fates.items search.new.waiting.keys (search.old.splits + 1)) }
     ensures splits { OnOk result (search.new.splits ≡ search.old.splits + 1) }
+    ensures tables { OnOk result (AreMade problem.now tables.new) }
 {
     let left = child(
         alloc,

@@ -2,14 +2,13 @@ ghost use Rattle.std.specs.Prelude.{◌≡◌, ◌*◌, ◌^◌, ◌≤◌, ◌-
 ghost use Rattle.std.specs.Prelude.{IfOk, IfSome, IfNone, MatchOption};
 ghost use Rattle.mapf_model.specs.Limits.{most_agents};
 ghost use Rattle.mapf_model.specs.Distance.{IsUnreachable};
-ghost use Rattle.mapf_distance.specs.Tables.{AreTables};
 ghost use Rattle.mapf_cbs.specs.Goals.{SomeGoalIsUnreachable};
 ghost use Rattle.mapf_cbs.specs.Start.{IsBeginning, IsShortest, AreShortest};
 
 use crate::bound_labels::BoundLabels;
 use crate::clash::sharing_pair;
 use crate::tree_node::TreeNode;
-use mapf_distance::{Distances, goal_tables};
+use mapf_distance::Distances;
 use mapf_model::{Agent, Grid, OutOfMemory, Path, Problem};
 use std::alloc::Global;
 
@@ -17,14 +16,9 @@ use std::alloc::Global;
 #[derive(Debug, Drop)]
 pub enum Beginning {
     /// No plan is valid, and this tree of one node shows it.
-    Impossible {
-        tree: Vec<TreeNode>,
-    },
-    /// The distances to each agent's goal, and the paths of the root.
-    Root {
-        tables: Vec<Distances>,
-        paths: Vec<Path>,
-    },
+    Impossible { tree: Vec<TreeNode> },
+    /// The paths of the root.
+    Root { paths: Vec<Path> },
 }
 
 /// What is known before any search under bars: no plan is valid where two agents have one goal, or
@@ -39,9 +33,8 @@ pub fn begin(alloc: Global, problem: &Problem) -> Result<Beginning, OutOfMemory>
         let tree = one_node(alloc, clash)?;
         return Ok(Beginning::Impossible { tree });
     }
-    let tables = goal_tables(alloc, problem)?;
-    match shortest_paths(alloc, problem, &tables)? {
-        Some(paths) => Ok(Beginning::Root { tables, paths }),
+    match shortest_paths(alloc, problem)? {
+        Some(paths) => Ok(Beginning::Root { paths }),
         None => {
             let tree = one_node(alloc, TreeNode::leaf(BoundLabels::none(alloc)))?;
             Ok(Beginning::Impossible { tree })
@@ -58,20 +51,17 @@ fn one_node(alloc: Global, node: TreeNode) -> Result<Vec<TreeNode>, OutOfMemory>
     Ok(tree)
 }
 
-// A shortest path of each agent. None where some goal can't be reached.
-fn shortest_paths(
-    alloc: Global,
-    problem: &Problem,
-    tables: &[Distances],
-) -> Result<Option<Vec<Path>>, OutOfMemory>
-    requires { AreTables problem.now tables.now }
+// A shortest path of each agent. None where some goal can't be reached. The distances to one goal are known at
+// a time, since most agents are never bound.
+fn shortest_paths(alloc: Global, problem: &Problem) -> Result<Option<Vec<Path>>, OutOfMemory>
     ensures unreachable { IfOk result (λ found. IfNone found (SomeGoalIsUnreachable problem.now)) }
     ensures count { IfOk result (λ found. IfSome found (λ paths. length paths.items ≡ length problem.now.agents)) }
     ensures shortest { IfOk result (λ found. IfSome found (λ paths. AreShortest problem.now paths.items)) }
 {
     let mut paths = Vec::new(alloc);
-    for (i, agent) in problem.agents().iter().enumerate() {
-        match shortest_path(alloc, &tables[i], agent)? {
+    for agent in problem.agents() {
+        let distances = Distances::of(alloc, problem.grid(), agent.goal)?;
+        match shortest_path(alloc, &distances, agent)? {
             Some(path) => paths.push(path)?,
             None => return Ok(None),
         }

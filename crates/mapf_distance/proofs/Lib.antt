@@ -4,3 +4,4 @@ pub mod WaveLemmas
 pub mod ExpandLemmas
 pub mod StartLemmas
 pub mod DescentLemmas
+pub mod TableLemmas

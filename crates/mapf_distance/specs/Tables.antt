@@ -1,5 +1,5 @@
 -- A table of distances for each agent of a problem.
-use Rattle.std.specs.Prelude.{◌≡◌, ℕ, List, Some, length, slice_get}
+use Rattle.std.specs.Prelude.{◌≡◌, ℕ, List, Option, Some, length, slice_get}
 use Rattle.mapf_model.specs.declared.problem.Agent.{Agent}
 use Rattle.mapf_model.specs.Plan.{Instance}
 use Rattle.mapf_distance.specs.Distances.{GoalMap}
@@ -8,3 +8,12 @@ use Rattle.mapf_distance.specs.Distances.{GoalMap}
 pub record AreTables (problem : Instance) (tables : List GoalMap) : Type 0 where
   pub count : length tables ≡ length problem.agents
   pub each : (i : ℕ) (agent : Agent) (table : GoalMap) → slice_get problem.agents i ≡ Some agent → slice_get tables i ≡ Some table → (table.grid ≡ problem.grid) × (table.goal ≡ agent.goal)
+
+-- a place for each agent, and in it, where there is a table, that of the distances to the agent's goal
+pub record AreMade (problem : Instance) (tables : List (Option GoalMap)) : Type 0 where
+  pub places : length tables ≡ length problem.agents
+  pub made : (i : ℕ) (agent : Agent) (table : GoalMap) → slice_get problem.agents i ≡ Some agent → slice_get tables i ≡ Some (Some table) → (table.grid ≡ problem.grid) × (table.goal ≡ agent.goal)
+
+-- there is a table for this agent
+abbrev pub HasTable : List (Option GoalMap) → ℕ → Type 0
+HasTable tables agent = (table : GoalMap) × (slice_get tables agent ≡ Some (Some table))

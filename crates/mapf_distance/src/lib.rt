@@ -2,8 +2,10 @@
 #![tactic(auto)]
 
 mod distances;
+mod lazy_tables;
 mod tables;
 mod wave;
 
 pub use distances::Distances;
+pub use lazy_tables::LazyTables;
 pub use tables::goal_tables;

@@ -10,7 +10,6 @@ cost_of-old-requires g c =
     let agents = c.agents.ensures.value in
     let known = rw agents at (slice_get_read c.agents.result.now (length c.agents.result.now) c.args.constraint.agent c.index-agents-agent.result refl (rw agents c.requires.known) c.index-agents-agent.is) in
     let path = c.path_at.ensures l.0 l.1 l.2 l.3 in
-    let f = c.in_ok-found.ensures c.index-agents-agent.result known l.0 l.1 l.2 l.3 in
     ends_there c.args.problem.now l.1 l.4 c.args.constraint.agent c.index-agents-agent.result known c.path_at.result.now path
 
 pub overflow_sub-total : goal.overflow_sub-total
@@ -28,15 +27,15 @@ new_total-total-requires-clause-lawful g c =
     let l = c.requires.live in
     let agents = c.agents.ensures.value in
     let known = rw agents at (slice_get_read c.agents.result.now (length c.agents.result.now) c.args.constraint.agent c.index-agents-agent.result refl (rw agents c.requires.known) c.index-agents-agent.is) in
-    let f = c.in_ok-found.ensures c.index-agents-agent.result known l.0 l.1 l.2 l.3 in
+    let f = c.in_ok-found.ensures.found c.index-agents-agent.result known l.0 l.1 l.2 l.3 in
     found_ends c.args.problem.now c.index-agents-agent.result f.0 c.in_ok-found.found f.2
 
-pub returns : goal.returns
-returns g c views view are is live total_is =
+pub returns-clause-generated : goal.returns-clause-generated
+returns-clause-generated g c views view are is live total_is =
     let agents = c.agents.ensures.value in
     let known = rw agents at (slice_get_read c.agents.result.now (length c.agents.result.now) c.args.constraint.agent c.index-agents-agent.result refl (rw agents c.requires.known) c.index-agents-agent.is) in
     let path = c.path_at.ensures views view are is in
-    let f = c.in_ok-found.ensures c.index-agents-agent.result known views view are is in
+    let f = c.in_ok-found.ensures.found c.index-agents-agent.result known views view are is in
     let old = c.cost_of-old.result in
     let less = old_within c.args.problem.now view live c.args.constraint.agent c.index-agents-agent.result known c.path_at.result.now path old c.cost_of-old.ensures in
     let rest : c.args.total - c.from.result ≡ sum view.costs - old = (let e = c.from.ensures in rw e (rw total_is refl)) in

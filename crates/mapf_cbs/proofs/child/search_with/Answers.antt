@@ -18,18 +18,16 @@ pub search_in-requires-clause-grid : goal.search_in-requires-clause-grid
 search_in-requires-clause-grid g c =
     let agents = c.agents.ensures.value in
     let known = rw agents at (slice_get_read c.agents.result.now (length c.agents.result.now) c.args.constraint.agent c.index-agents-constraint.result refl (rw agents c.requires.known) c.index-agents-constraint.is) in
-    let table = slice_get_read c.args.tables.now (length c.args.tables.now) c.args.constraint.agent c.index-tables-constraint.result refl (let n = c.requires.tables.count in let h = c.requires.known in omega (arith, n, h)) c.index-tables-constraint.is in
-    (c.requires.tables.each c.args.constraint.agent c.index-agents-constraint.result c.index-tables-constraint.result known table).0 ∙ sym c.grid.ensures
+    (c.in_ok-make.ensures.tables.made c.args.constraint.agent c.index-agents-constraint.result c.get.result.now known c.get.ensures).0 ∙ sym c.grid.ensures
 
 pub search_in-requires-clause-goal : goal.search_in-requires-clause-goal
 search_in-requires-clause-goal g c =
     let agents = c.agents.ensures.value in
     let known = rw agents at (slice_get_read c.agents.result.now (length c.agents.result.now) c.args.constraint.agent c.index-agents-constraint.result refl (rw agents c.requires.known) c.index-agents-constraint.is) in
-    let table = slice_get_read c.args.tables.now (length c.args.tables.now) c.args.constraint.agent c.index-tables-constraint.result refl (let n = c.requires.tables.count in let h = c.requires.known in omega (arith, n, h)) c.index-tables-constraint.is in
-    (c.requires.tables.each c.args.constraint.agent c.index-agents-constraint.result c.index-tables-constraint.result known table).1
+    (c.in_ok-make.ensures.tables.made c.args.constraint.agent c.index-agents-constraint.result c.get.result.now known c.get.ensures).1
 
-pub returns : goal.returns
-returns g c = IfOk-weaker c.search_in.result _ _ (λ found is who known views view are view_is.
+pub returns-clause-found : goal.returns-clause-found
+returns-clause-found g c = IfOk-weaker c.search_in.result _ _ (λ found is who known views view are view_is.
     let agents = c.agents.ensures.value in
     let read = slice_get_read c.agents.result.now (length c.agents.result.now) c.args.constraint.agent c.index-agents-constraint.result refl (rw agents c.requires.known) c.index-agents-constraint.is in
     let same : c.index-agents-constraint.result ≡ who = same_Some c.index-agents-constraint.result who (sym (rw agents at read) ∙ known) in (

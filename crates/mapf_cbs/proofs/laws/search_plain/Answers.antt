@@ -45,7 +45,7 @@ returns-in_default c =
     let t = c.loop-k.tree in let problem = c.args.problem.now in
     let s = c.loop-k.invariant.state in
     let found = tree_of c.deref-in_default.result.now t.fates.items s.state.views c.in_ok-nodes.nodes.items c.deref-in_default.ensures.value (c.in_ok-nodes.ensures s.state.views (c.in_ok-lists.ensures s.state.views s.whole)) in
-    whole_impossible problem t.nodes.items t.fates.items t.splits s c.requires.root.shape (root_names problem c.args.tables.now c.args.paths.items c.requires.root) c.args.limit c.loop-k.invariant.within
+    whole_impossible problem t.nodes.items t.fates.items t.splits s c.requires.root.shape (root_names problem c.args.paths.items c.requires.root) c.args.limit c.loop-k.invariant.within
     (least_at c.deref-in-loop-k.result.now t.nodes.items c.deref-in-loop-k-2.result.now t.fates.items None c.deref-in-loop-k.ensures.value c.deref-in-loop-k-2.ensures.value c.in_default.ensures)
     c.in_ok-nodes.nodes.items found
 
@@ -71,7 +71,7 @@ returns-in_default-first_conflict c =
     let plan : c.in_ok-plan.plan ≡ h.view.paths = c.in_ok-plan.ensures.paths h.view whole in
     let found = tree_of c.deref-in_default-first_conflict.result.now t.fates.items p.popped.state.views c.in_ok-nodes-2.nodes.items c.deref-in_default-first_conflict.ensures.value (c.in_ok-nodes-2.ensures p.popped.state.views (c.in_ok-lists-2.ensures p.popped.state.views p.whole)) in
     subst (λ ps. (tree : ConstraintTree) × IsTreeOf problem c.args.limit c.in_ok-nodes-2.nodes.items tree × IsShownOptimal problem ps tree) (sym plan)
-    (answer_found problem c.requires.root.shape (root_names problem c.args.tables.now c.args.paths.items c.requires.root) p.changes t.fates.items p.rest t.splits least.node.total c.in-Some.k p.popped c.args.limit c.loop-k.invariant.within c.in_ok-nodes-2.nodes.items found h.view h.is h.is_open h.live c.requires.root.agents.0 c.requires.root.agents.1
+    (answer_found problem c.requires.root.shape (root_names problem c.args.paths.items c.requires.root) p.changes t.fates.items p.rest t.splits least.node.total c.in-Some.k p.popped c.args.limit c.loop-k.invariant.within c.in_ok-nodes-2.nodes.items found h.view h.is h.is_open h.live c.requires.root.agents.0 c.requires.root.agents.1
     (subst (λ ps. All (λ path. length path ≤ 10000000) ps) plan c.in_ok-plan.ensures.short) (subst (λ ps. HaveSomeConflict ps → ⊥) plan c.in_default-first_conflict.ensures.none))
 
 pub returns-in-Some-cause_to_stop : goal.returns-in-Some-cause_to_stop
@@ -87,7 +87,7 @@ returns-in-Some-cause_to_stop c =
     let found = tree_of c.deref-in-Some-cause_to_stop.result.now t.fates.items p.popped.state.views c.in_ok-nodes-3.nodes.items c.deref-in-Some-cause_to_stop.ensures.value (c.in_ok-nodes-3.ensures p.popped.state.views (c.in_ok-lists-3.ensures p.popped.state.views p.whole)) in
     let conflict = c.in-Some-first_conflict.conflict in
     let meet = subst (λ ps. HasConflict ps conflict × AreConflictFreeBefore ps (tick_of conflict)) plan (c.in-Some-first_conflict.ensures.some, c.in-Some-first_conflict.ensures.first) in
-    answer_limit problem c.requires.root.shape (root_names problem c.args.tables.now c.args.paths.items c.requires.root) p.changes t.fates.items p.rest t.splits least.node.total c.in-Some.k p.popped c.args.limit c.loop-k.invariant.within c.in_ok-nodes-3.nodes.items found h.view h.is h.is_open h.live c.requires.root.agents.0 c.requires.root.agents.1 (subst (λ ps. All (λ path. length path ≤ 10000000) ps) plan c.in_ok-plan.ensures.short) c.index-node.result.now.total whole.total c.requires.root.goals conflict meet.0 meet.1 c.in-Some-cause_to_stop.cause c.in-Some-cause_to_stop.ensures.some c.in_ok-nodes-3.nodes refl
+    answer_limit problem c.requires.root.shape (root_names problem c.args.paths.items c.requires.root) p.changes t.fates.items p.rest t.splits least.node.total c.in-Some.k p.popped c.args.limit c.loop-k.invariant.within c.in_ok-nodes-3.nodes.items found h.view h.is h.is_open h.live c.requires.root.agents.0 c.requires.root.agents.1 (subst (λ ps. All (λ path. length path ≤ 10000000) ps) plan c.in_ok-plan.ensures.short) c.index-node.result.now.total whole.total c.requires.root.goals conflict meet.0 meet.1 c.in-Some-cause_to_stop.cause c.in-Some-cause_to_stop.ensures.some c.in_ok-nodes-3.nodes refl
 
 pub split_whole-requires-clause-popped : goal.split_whole-requires-clause-popped
 split_whole-requires-clause-popped c =

@@ -1,4 +1,5 @@
 use Rattle.std.proofs.Common.{◌≤◌, ◌-◌}
+use Rattle.mapf_distance.specs.Tables.{AreMade}
 use Rattle.mapf_cbs.specs.State.{IsState}
 use Rattle.mapf_cbs.proofs.solver.search_from.Given as goal
 
@@ -6,6 +7,7 @@ abbrev pub invariant-loop-total : goal.invariant-loop-total
 invariant-loop-total g l = record {
   within : l.search.splits ≤ l.limit;
   state : IsState l.problem l.search.nodes.items l.search.fates.items l.search.waiting.keys l.search.splits;
+  tables : AreMade l.problem l.tables;
 }
 
 abbrev pub decreases-loop-total : goal.decreases-loop-total

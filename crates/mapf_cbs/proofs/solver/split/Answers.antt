@@ -113,10 +113,10 @@ returns-clause-state g c =
     let met = c.requires.meet p.state.views h.view p.state.are h.is h.live in
     let left : IsGeneratedChild c.args.problem.now h.view (left_constraint c.args.conflict.now) c.in_ok-left.left.found c.in_ok-left.left.total =
     subst (λ (t : Constraint). IsGeneratedChild c.args.problem.now h.view t c.in_ok-left.left.found c.in_ok-left.left.total) c.left.ensures
-    (c.in_ok-left.ensures p.state.views h.view (subst (λ ns. AreViews ns p.state.views) (sym c.deref.ensures.value) p.state.are) h.is h.live h.total_is) in
+    (c.in_ok-left.ensures.generated p.state.views h.view (subst (λ ns. AreViews ns p.state.views) (sym c.deref.ensures.value) p.state.are) h.is h.live h.total_is) in
     let right : IsGeneratedChild c.args.problem.now h.view (right_constraint c.args.conflict.now) c.in_ok-right.right.found c.in_ok-right.right.total =
     subst (λ (t : Constraint). IsGeneratedChild c.args.problem.now h.view t c.in_ok-right.right.found c.in_ok-right.right.total) c.right.ensures
-    (c.in_ok-right.ensures p.state.views h.view (subst (λ ns. AreViews ns p.state.views) (sym c.deref-2.ensures.value) p.state.are) h.is h.live h.total_is) in
+    (c.in_ok-right.ensures.generated p.state.views h.view (subst (λ ns. AreViews ns p.state.views) (sym c.deref-2.ensures.value) p.state.are) h.is h.live h.total_is) in
     let state = state_grown c.args.problem.now c.args.search.now.nodes.items c.args.search.now.fates.items c.args.search.now.waiting.keys c.args.search.now.splits c.args.total c.args.k p c.requires.goals h.view h.is h.is_open h.total_is c.args.conflict.now met c.requires.early
     c.in_ok-left.left.found c.in_ok-right.right.found c.in_ok-left.left.total c.in_ok-right.right.total left right in
     on_ok_three c.grow.result (λ ns fs ks. rw ns (rw fs (rw ks state))) c.grow.ensures.nodes c.grow.ensures.fates c.grow.ensures.waiting

@@ -22,7 +22,6 @@ returns-in-Some-2 c =
       shape = subst IsGridMap c.grid.ensures c.width-width.ensures.shape;
       agents = (omega (arith, size, some), omega (arith, size, few));
       goals = none_share c.args.problem.now (subst (λ xs. HoldsOfNoPair (HaveGoal xs) (length xs)) agents c.in_default.ensures.none);
-      tables_are = c.in_ok-tables.ensures;
       count = found;
       shortest = rw c.in-Some-2.is at c.in_ok-paths.ensures.shortest;
     }

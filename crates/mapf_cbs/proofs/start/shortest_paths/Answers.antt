@@ -1,20 +1,19 @@
-use Rattle.std.proofs.Common.{◌≡◌, [], ◌∷◌, ◌++◌, Some, length, length-append, slice_get, refl, ap, arith}
+use Rattle.std.proofs.Common.{◌≡◌, [], ◌∷◌, ◌++◌, Some, length, length-append, slice_get, refl, ap, ◌∙◌, arith}
 use Rattle.std.proofs.lemmas.Option.{slice_get_read}
 use Rattle.mapf_cbs.specs.Start.{IsShortest}
 use Rattle.mapf_cbs.proofs.StartLemmas.{read_through, AreShortest-more}
 use Rattle.mapf_cbs.proofs.start.shortest_paths.Goals as goal
 
-pub loop-i-preserved : goal.loop-i-preserved
-loop-i-preserved c =
-    let paths = c.loop-i.paths.items in
-    let so_many = c.loop-i.invariant.so_many in
-    let this = read_through c.agents-agent-items.result.now c.args.problem.now.agents c.loop-i.i c.agent-item.result c.agents-agent-items.ensures.value c.loop-i-test.true c.agent-item.is in
+pub loop-agent-preserved : goal.loop-agent-preserved
+loop-agent-preserved c =
+    let paths = c.loop-agent.paths.items in
+    let so_many = c.loop-agent.invariant.so_many in
+    let this = read_through c.agents-agent-items.result.now c.args.problem.now.agents c.loop-agent.agent-index c.agent-item.result c.agents-agent-items.ensures.value c.loop-agent-test.true c.agent-item.is in
     let here : slice_get c.args.problem.now.agents (length paths) ≡ Some c.agent-item.result = rw so_many this in
-    let table = slice_get_read c.args.tables.now (length c.args.tables.now) c.loop-i.i c.index-tables-i.result refl (let h = c.loop-i-test.true in let e = ap length c.agents-agent-items.ensures.value in let n = c.requires.count in omega (arith, h, e, n)) c.index-tables-i.is in
-    let of = c.requires.each c.loop-i.i c.agent-item.result c.index-tables-i.result this table in
-    let is : IsShortest c.args.problem.now.grid c.agent-item.result c.in-Some.path = rw (c.in-Some.is, of.0) at c.in_ok-path.ensures in
+    let of : c.in_ok-distances.distances.grid ≡ c.args.problem.now.grid = c.in_ok-distances.ensures.grid ∙ c.grid.ensures in
+    let is : IsShortest c.args.problem.now.grid c.agent-item.result c.in-Some.path = rw (c.in-Some.is, of) at c.in_ok-path.ensures in
     let pushed : c.push.new.self.items ≡ paths ++ c.in-Some.path ∷ [] = c.in_ok-push-in-Some.ensures.items in
     record {
       so_many = rw pushed (omega (arith, length-append paths (c.in-Some.path ∷ []), so_many));
-      shortest = rw pushed (AreShortest-more c.args.problem.now paths c.agent-item.result c.in-Some.path c.loop-i.invariant.shortest here is);
+      shortest = rw pushed (AreShortest-more c.args.problem.now paths c.agent-item.result c.in-Some.path c.loop-agent.invariant.shortest here is);
     }

@@ -1,0 +1,95 @@
+ghost use Rattle.std.specs.Prelude.{◌≡◌, ◌<◌, Some, IfOk, OnOk, length, slice_get};
+ghost use Rattle.mapf_distance.specs.Tables.{AreMade, HasTable};
+
+use crate::distances::Distances;
+use mapf_model::{OutOfMemory, Problem};
+use std::alloc::Global;
+use std::marker::Model;
+
+/// The distances to the goals of a problem's agents, each made where it is first asked for, so that agents
+/// that nobody asks for take no memory.
+#[derive(Debug, Drop)]
+pub struct LazyTables {
+    tables: Vec<Option<Distances>>,
+}
+
+impl Model for LazyTables {
+    ghost use Rattle.std.specs.Prelude.{List, Option};
+    ghost use Rattle.mapf_distance.specs.Distances.{GoalMap};
+
+    ghost Value = { List (Option GoalMap) };
+
+    ghost view = { λ tables. tables.tables.items };
+}
+
+impl LazyTables {
+    /// No table is made.
+    pub fn of(alloc: Global, problem: &Problem) -> Result<LazyTables, OutOfMemory>
+        ensures { IfOk result (AreMade problem.now) }
+    {
+        let mut tables = Vec::with_capacity(alloc, problem.agents().len())?;
+        for _ in problem.agents() {
+            tables.push(None)?;
+        }
+        Ok(LazyTables { tables })
+    }
+
+    /// Makes the agent's table, unless it is made.
+    pub fn make(&mut self, alloc: Global, problem: &Problem, agent: u32) -> Result<(), OutOfMemory>
+        requires tables { AreMade problem.now self.old }
+        requires known { agent < length problem.now.agents }
+        ensures tables { OnOk result (AreMade problem.now self.new) }
+        ensures made { OnOk result (HasTable self.new agent) }
+    {
+        let place = agent as usize;
+        if self.tables[place].is_none() {
+            let goal = problem.agents()[place].goal;
+            self.tables[place] = Some(Distances::of(alloc, problem.grid(), goal)?);
+        }
+        Ok(())
+    }
+
+    /// The table of an agent for which it is made.
+    pub fn get(&self, agent: u32) -> &Distances
+        requires { HasTable self.now agent }
+        ensures { slice_get self.now agent ≡ Some (Some result.now) }
+    {
+        match &self.tables[agent as usize] {
+            Some(distances) => distances,
+            None => unreachable!(),
+        }
+    }
+}
+
+#[cfg(test)]
+mod tests {
+    use super::*;
+    use mapf_model::{Agent, Cell, Grid};
+    use std::test::Fail;
+
+    // Three cells in a row. One agent goes to the last of them, and one to the first.
+    #[test]
+    fn a_table_is_made_for_the_agent_that_is_asked_for(rt: HostRuntime) -> Result<(), Fail> {
+        let mut free = Vec::new(rt.alloc());
+        for byte in b"..." {
+            free.push(*byte == b'.')?;
+        }
+        let grid = Grid::of(3, 1, free).ok_or("other size")?;
+        let mut agents = Vec::new(rt.alloc());
+        for (start, goal) in [(0, 2), (1, 0)] {
+            agents.push(Agent {
+                start: Cell(start),
+                goal: Cell(goal),
+            })?;
+        }
+        let problem = Problem::of(grid, agents).ok_or("no problem")?;
+        assert!(rt; 1 < problem.agents().len());
+        let mut tables = LazyTables::of(rt.alloc(), &problem)?;
+        tables.make(rt.alloc(), &problem, 1)?;
+        tables.make(rt.alloc(), &problem, 1)?;
+        let distances = tables.get(1);
+        let known = [Cell(0), Cell(1), Cell(2)].map(|cell| distances.get(cell));
+        assert_eq!(rt; known, [Some(0), Some(1), Some(2)]);
+        Ok(())
+    }
+}
