@@ -58,7 +58,7 @@ def bound(most_bytes=BYTES):
     resource.setrlimit(resource.RLIMIT_AS, (most_bytes, most_bytes))
 
 
-def run(words, places=None, environment=None, most_bytes=BYTES):
+def run(words, places=None, environment=None, most_bytes=BYTES, program=PROGRAM):
     """Runs the program. A standard stream that has a place goes there, and an output that has none is caught."""
     places = places or {}
     closed = [number for number, name in enumerate(STREAMS) if places.get(name) == "CLOSED"]
@@ -71,7 +71,7 @@ def run(words, places=None, environment=None, most_bytes=BYTES):
     with opened(places.get("stdout")) as out, opened(places.get("stderr")) as err:
         try:
             status = subprocess.run(
-                [str(PROGRAM), *words], stdin=subprocess.DEVNULL, stdout=out, stderr=err,
+                [str(program), *words], stdin=subprocess.DEVNULL, stdout=out, stderr=err,
                 env={**os.environ, **(environment or {})}, timeout=SECONDS, preexec_fn=prepare).returncode
         except subprocess.TimeoutExpired:
             status = f"none after {SECONDS} seconds"

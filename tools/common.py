@@ -25,7 +25,7 @@ class ToolError(Exception):
 
 
 def run_tool(main):
-    """Runs a tool's `main` and ends with the status that it answers. A fault is one line on standard error, status 2."""
+    """Runs a tool's `main` and ends with the status that it answers. A fault is told in one line, with status 2."""
     try:
         status = main()
         sys.stdout.flush()
@@ -39,6 +39,10 @@ def run_tool(main):
         status = 130
     except BrokenPipeError:
         os.dup2(os.open(os.devnull, os.O_WRONLY), 1)
+        status = 2
+    except OSError as error:
+        clear_progress()
+        print(f"{Path(sys.argv[0]).name}: {error}", file=sys.stderr)
         status = 2
     sys.exit(status)
 
@@ -385,12 +389,11 @@ def faults_of_path(grid, agent, task, path):
 
 
 def fault_of_step(grid, here, there):
-    """What is wrong with a step, in words; nothing, where it is good."""
-    for cell in (here, there):
-        if not (0 <= cell[0] < grid.width and 0 <= cell[1] < grid.height):
-            return f"and {shown(cell)} is outside the map"
-        if not grid.is_free(cell):
-            return f"and {shown(cell)} is blocked"
+    """What is wrong with a step, in words; nothing, where it is good. Of the cell that is left the step before tells."""
+    if not (0 <= there[0] < grid.width and 0 <= there[1] < grid.height):
+        return f"and {shown(there)} is outside the map"
+    if not grid.is_free(there):
+        return f"and {shown(there)} is blocked"
     if abs(here[0] - there[0]) + abs(here[1] - there[1]) > 1:
         return "which is further than one cell"
     return ""
@@ -406,8 +409,9 @@ def conflicts_at(paths, tick):
     moves, back = list(zip(here, there)), list(zip(there, here))
     for one, other in pairs_of(moves, back):
         if here[one] != there[one]:
+            cells = f"{shown(here[one])} and {shown(there[one])}"
             yield Fault("swap", (one, other), tick, (here[one], there[one]),
-                        f"agents {one} and {other} exchange {shown(here[one])} and {shown(there[one])} after tick {tick}")
+                        f"agents {one} and {other} exchange {cells} after tick {tick}")
 
 
 def pairs_of(values, sought):
