@@ -3,16 +3,17 @@
 
 ghost use Rattle.std.specs.Prelude.{◌≤◌};
 
-use crate::problems::{
-    CROSSING, CROSSING_PLAN, CROSSING_STOPPED_PLAN, EXCHANGE, EXCHANGE_STOPPED_CERT,
-    EXCHANGE_STOPPED_PLAN, MEETING, NICHE, NICHE_CERT, NICHE_PLAN, RESTING, RESTING_PLAN,
-};
-use crate::runs::{Given, check, check_pulled, problem_of};
-use crate::version_one::CROSSING_ONE;
 use mapf_app::{CertFault, CheckFault, Fault, Input, PlanFault, Verdict};
 use mapf_checker::{FromFault, check_from};
 use mapf_model::devices::{EndlessSource, FuseSource, Pace};
 use mapf_model::{Failed, Source};
+use mapf_rows::problems::{
+    CROSSING, CROSSING_PLAN, CROSSING_STOPPED_PLAN, EXCHANGE, EXCHANGE_STOPPED_CERT,
+    EXCHANGE_STOPPED_PLAN, MEETING, NICHE, NICHE_CERT, NICHE_PLAN, RESTING, RESTING_PLAN,
+};
+use mapf_rows::version_one::CROSSING_ONE;
+use mapf_rows::{Given, problem_of};
+use mapf_rows_runs::{check, check_pulled};
 use std::alloc::Global;
 use std::test::Fail;
 

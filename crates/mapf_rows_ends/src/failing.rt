@@ -3,16 +3,16 @@
 
 ghost use Rattle.std.specs.Prelude.{◌≡◌, ◌≤◌, false};
 
-use crate::problems::{
-    CROSSING, CROSSING_CERT, CROSSING_EVENTS, CROSSING_MAP, CROSSING_PLAN, CROSSING_SCEN,
-    CROSSING_STOPPED_CERT, CROSSING_STOPPED_PLAN, CROSSING_TOLD,
-};
-use crate::runs::dispatch_pulled;
 use mapf_app::{
     Fault, Input, Kind, Output, Verdict, run_check, run_demo, run_dispatch, run_play, run_solve,
 };
 use mapf_model::devices::{EndlessSource, FuseSink, FuseSource, Pace};
 use mapf_model::{BytesSink, BytesSource, Cause, Sink};
+use mapf_rows::problems::{
+    CROSSING, CROSSING_CERT, CROSSING_EVENTS, CROSSING_MAP, CROSSING_PLAN, CROSSING_SCEN,
+    CROSSING_STOPPED_CERT, CROSSING_STOPPED_PLAN, CROSSING_TOLD,
+};
+use mapf_rows_runs::dispatch_pulled;
 use std::alloc::Global;
 use std::process::Abort;
 use std::test::Fail;

@@ -2,9 +2,9 @@
 //! lines.
 
 use crate::checking::{Change, assert_changes, assert_judged};
-use crate::problems::{CROSSING, CROSSING_CERT, CROSSING_PLAN, NICHE, NICHE_CERT, NICHE_PLAN};
-use crate::version_one::CROSSING_ONE;
 use mapf_app::{CertFault, CheckFault, Verdict};
+use mapf_rows::problems::{CROSSING, CROSSING_CERT, CROSSING_PLAN, NICHE, NICHE_CERT, NICHE_PLAN};
+use mapf_rows::version_one::CROSSING_ONE;
 use std::test::Fail;
 
 const BLOCKS: [Change; 12] = [

@@ -3,16 +3,17 @@
 ghost use Rattle.std.specs.Prelude.{◌≤◌};
 
 use crate::checking::{Change, assert_changes, assert_judged};
-use crate::problems::{
+use mapf_app::{CertFault, CheckFault, Fault, MapFault, PlanTextFault, ScenFault};
+use mapf_checker as checker;
+use mapf_rows::problems::{
     CROSSING, CROSSING_MAP, CROSSING_PLAN, CROSSING_SCEN, CROSSING_STOPPED_CERT,
     CROSSING_STOPPED_PLAN, EXCHANGE, EXCHANGE_STOPPED_CERT, EXCHANGE_STOPPED_PLAN, NICHE,
     NICHE_CERT, NICHE_PLAN,
 };
-use crate::runs::{Given, problem_of, solve};
-use crate::texts::{line_cut, with_lines};
-use crate::version_one::CROSSING_ONE;
-use mapf_app::{CertFault, CheckFault, Fault, MapFault, PlanTextFault, ScenFault};
-use mapf_checker as checker;
+use mapf_rows::texts::{line_cut, with_lines};
+use mapf_rows::version_one::CROSSING_ONE;
+use mapf_rows::{Given, problem_of};
+use mapf_rows_runs::solve;
 use std::alloc::Global;
 use std::process::Abort;
 use std::test::Fail;

@@ -2,18 +2,19 @@
 
 ghost use Rattle.std.specs.Prelude.{◌≡◌, ◌≤◌, false};
 
-use crate::problems::{
-    AT_REST, CROSSING, CROSSING_EVENTS, CROSSING_MAP, CROSSING_PLAN, CROSSING_SCEN, CROSSING_TOLD,
-    DEARER, MEETING, NICHE, NICHE_PLAN, ROTATION, ROTATION_PLAN,
-};
-use crate::runs::{Given, dispatch, dispatch_pulled};
-use crate::texts::{line_cut, plan_in_other_version};
 use mapf_app::{
     EventFault, Fault, Input, MapFault, Output, PlanFault, PlanTextFault, PlayFault, ScenFault,
     run_dispatch, tell_run,
 };
 use mapf_model::devices::{FuseSink, FuseSource, Pace};
 use mapf_model::{BytesSink, Failed, Sink, Source};
+use mapf_rows::Given;
+use mapf_rows::problems::{
+    AT_REST, CROSSING, CROSSING_EVENTS, CROSSING_MAP, CROSSING_PLAN, CROSSING_SCEN, CROSSING_TOLD,
+    DEARER, MEETING, NICHE, NICHE_PLAN, ROTATION, ROTATION_PLAN,
+};
+use mapf_rows::texts::{line_cut, plan_in_other_version};
+use mapf_rows_runs::{dispatch, dispatch_pulled};
 use std::alloc::Global;
 use std::process::Abort;
 use std::test::Fail;

@@ -2,14 +2,14 @@
 
 ghost use Rattle.std.specs.Prelude.{◌≡◌, ◌≤◌, OnOk, false};
 
-use crate::problems::{
-    CROSSING, CROSSING_PLAN, CROSSING_TOLD, NICHE, NICHE_PLAN, ROTATION, ROTATION_PLAN,
-};
-use crate::runs::{Given, plan_of, problem_of};
-use crate::texts::event_text;
 use mapf_checker::check_plan;
 use mapf_model::{Agent, BytesSink, Cell, Grid, Path, Plan, Problem, Sink};
 use mapf_player::{Dispatch, Reply, dispatch_all, read_events};
+use mapf_rows::problems::{
+    CROSSING, CROSSING_PLAN, CROSSING_TOLD, NICHE, NICHE_PLAN, ROTATION, ROTATION_PLAN,
+};
+use mapf_rows::texts::event_text;
+use mapf_rows::{Given, plan_of, problem_of};
 use std::alloc::Global;
 use std::marker::Model;
 use std::process::Abort;

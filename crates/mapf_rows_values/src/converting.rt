@@ -1,16 +1,16 @@
 //! What becomes of certificates of version 1 in version 2.
 
-use crate::problems::{
+use mapf_certificate::{CertFault, convert_cert};
+use mapf_rows::problems::{
     AT_REST, AT_REST_CERT, CORRIDOR, CORRIDOR_CERT, CROSSING, CROSSING_CERT, NICHE, NICHE_CERT,
     ROTATION, ROTATION_CERT, SHARED_GOAL, SHARED_GOAL_CERT, SHARED_START, SHARED_START_CERT, WALL,
     WALL_CERT,
 };
-use crate::runs::{Given, problem_of};
-use crate::version_one::{
+use mapf_rows::version_one::{
     AT_REST_ONE, CORRIDOR_ONE, CROSSING_ONE, NICHE_CONVERTED, NICHE_ONE, ROTATION_ONE,
     SHARED_GOAL_ONE, SHARED_START_ONE, WALL_ONE,
 };
-use mapf_certificate::{CertFault, convert_cert};
+use mapf_rows::{Given, problem_of};
 use std::test::Fail;
 
 // A problem, a certificate of version 1, and what it is in version 2.

@@ -3,21 +3,22 @@
 
 ghost use Rattle.std.specs.Prelude.{◌≤◌};
 
-use crate::problems::{
-    AT_REST, AT_REST_PLAN, CORRIDOR, CORRIDOR_PLAN, CROSSING, CROSSING_PLAN, DEARER, EXCHANGE,
-    MEETING, NICHE, NICHE_PLAN, ROTATION, ROTATION_PLAN, SHARED_GOAL, SHARED_GOAL_PLAN,
-    SHARED_START, SHARED_START_PLAN, SWAPPING, WALL, WALL_PLAN,
-};
-use crate::runs::{Given, check, problem_of};
-use crate::texts::{plan_in_other_version, with_lines};
-use crate::version_one::{
-    AT_REST_ONE, CORRIDOR_ONE, CROSSING_ONE, NICHE_ONE, ROTATION_ONE, SHARED_GOAL_ONE,
-    SHARED_START_ONE, WALL_ONE,
-};
 use mapf_app::{CertFault, CheckFault, Fault, PlanFault, PlanTextFault, Verdict};
 use mapf_certificate::convert_cert;
 use mapf_checker as checker;
 use mapf_model::Problem;
+use mapf_rows::problems::{
+    AT_REST, AT_REST_PLAN, CORRIDOR, CORRIDOR_PLAN, CROSSING, CROSSING_PLAN, DEARER, EXCHANGE,
+    MEETING, NICHE, NICHE_PLAN, ROTATION, ROTATION_PLAN, SHARED_GOAL, SHARED_GOAL_PLAN,
+    SHARED_START, SHARED_START_PLAN, SWAPPING, WALL, WALL_PLAN,
+};
+use mapf_rows::texts::{plan_in_other_version, with_lines};
+use mapf_rows::version_one::{
+    AT_REST_ONE, CORRIDOR_ONE, CROSSING_ONE, NICHE_ONE, ROTATION_ONE, SHARED_GOAL_ONE,
+    SHARED_START_ONE, WALL_ONE,
+};
+use mapf_rows::{Given, problem_of};
+use mapf_rows_runs::check;
 use std::alloc::Global;
 use std::process::Abort;
 use std::test::Fail;

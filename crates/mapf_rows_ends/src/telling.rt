@@ -1,17 +1,18 @@
 //! What is told of each answer and of each kind of fault, where, and by which exit status.
 
-use crate::problems::{
-    CROSSING, CROSSING_CERT, CROSSING_MAP, CROSSING_PLAN, CROSSING_SCEN, EXCHANGE,
-    EXCHANGE_STOPPED_CERT, EXCHANGE_STOPPED_PLAN, SHARED_START,
-};
-use crate::runs::{Given, check, solve};
-use crate::texts::with_lines;
 use mapf_app::{
     CertFault, CheckFault, EventFault, Fault, Input, Kind, MapFault, Output, PlanFault,
     PlanTextFault, PlayFault, ScenFault, Verdict, tell_check, tell_run, tell_solve,
 };
 use mapf_model::devices::{FuseSink, Pace};
 use mapf_model::{BytesSink, Cause};
+use mapf_rows::Given;
+use mapf_rows::problems::{
+    CROSSING, CROSSING_CERT, CROSSING_MAP, CROSSING_PLAN, CROSSING_SCEN, EXCHANGE,
+    EXCHANGE_STOPPED_CERT, EXCHANGE_STOPPED_PLAN, SHARED_START,
+};
+use mapf_rows::texts::with_lines;
+use mapf_rows_runs::{check, solve};
 use std::alloc::Global;
 use std::process::Abort;
 use std::test::Fail;

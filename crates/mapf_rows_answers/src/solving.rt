@@ -2,7 +2,10 @@
 
 ghost use Rattle.std.specs.Prelude.{◌≤◌};
 
-use crate::problems::{
+use mapf_app::{Fault, Kind, Verdict, run_demo};
+use mapf_model::{BytesSink, Cause};
+use mapf_rows::Given;
+use mapf_rows::problems::{
     AT_REST, AT_REST_CERT, AT_REST_PLAN, CORRIDOR, CORRIDOR_CERT, CORRIDOR_PLAN, CROSSING,
     CROSSING_CERT, CROSSING_PLAN, CROSSING_STOPPED_CERT, CROSSING_STOPPED_PLAN, EXCHANGE,
     EXCHANGE_STOPPED_CERT, EXCHANGE_STOPPED_PLAN, NICHE, NICHE_CERT, NICHE_PLAN,
@@ -10,9 +13,7 @@ use crate::problems::{
     SHARED_GOAL_CERT, SHARED_GOAL_PLAN, SHARED_START, SHARED_START_CERT, SHARED_START_PLAN,
     SHARED_START_STOPPED_CERT, SHARED_START_STOPPED_PLAN, WALL, WALL_CERT, WALL_PLAN,
 };
-use crate::runs::{Given, Solved, check, solve};
-use mapf_app::{Fault, Kind, Verdict};
-use mapf_model::Cause;
+use mapf_rows_runs::{Solved, check, solve};
 use std::alloc::Global;
 use std::process::Abort;
 use std::test::Fail;
@@ -205,4 +206,13 @@ fn assert_bounds(
 fn tells_the_bound_that_so_many_splits_show(rt: HostRuntime) -> Result<(), Fail> {
     assert_bounds(&rt, rt.alloc(), &NICHE, &NICHE_BOUNDS)?;
     assert_bounds(&rt, rt.alloc(), &EXCHANGE, &EXCHANGE_BOUNDS)
+}
+
+#[test]
+fn writes_the_demo(rt: HostRuntime) -> Result<(), Fail> {
+    let mut out = BytesSink::with_room(rt.alloc(), 4096)?;
+    assert_eq!(rt; run_demo(rt.alloc(), &mut out), Ok(()));
+    let text = format!(in rt.alloc(); "{ROTATION_PLAN}{ROTATION_CERT}optimal 4\n")?;
+    assert_eq!(rt; out.bytes(), text.as_bytes());
+    Ok(())
 }

@@ -1,14 +1,15 @@
 //! What is shown of plans, and why others aren't.
 
-use crate::problems::{
-    AT_REST, AT_REST_PLAN, CROSSING, CROSSING_PLAN, CROSSING_STOPPED_PLAN, DEARER, EXCHANGE,
-    EXCHANGE_STOPPED_PLAN, MEETING, ROTATION, ROTATION_PLAN, SWAPPING,
-};
-use crate::runs::{Given, play};
-use crate::texts::plan_in_other_version;
 use mapf_app::{Fault, Output, PlanFault, PlanTextFault, PlayFault};
 use mapf_model::BytesSink;
 use mapf_model::devices::{FuseSink, Pace};
+use mapf_rows::Given;
+use mapf_rows::problems::{
+    AT_REST, AT_REST_PLAN, CROSSING, CROSSING_PLAN, CROSSING_STOPPED_PLAN, DEARER, EXCHANGE,
+    EXCHANGE_STOPPED_PLAN, MEETING, ROTATION, ROTATION_PLAN, SWAPPING,
+};
+use mapf_rows::texts::plan_in_other_version;
+use mapf_rows_runs::play;
 use std::test::Fail;
 
 const ROOM: usize = 4096;

@@ -2,10 +2,11 @@
 
 ghost use Rattle.std.specs.Prelude.{◌≤◌};
 
-use crate::runs::{Given, check, dispatch, play, solve};
 use crate::solving::assert_written;
 use mapf_app::{Fault, Kind, MapFault, ScenFault};
 use mapf_model::BytesSink;
+use mapf_rows::Given;
+use mapf_rows_runs::{check, dispatch, play, solve};
 use std::alloc::Global;
 use std::process::Abort;
 use std::test::Fail;

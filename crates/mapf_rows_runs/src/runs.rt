@@ -3,18 +3,9 @@
 ghost use Rattle.std.specs.Prelude.{◌≡◌, ◌≤◌, false};
 
 use mapf_app::{Fault, Kind, Verdict, run_check, run_dispatch, run_play, run_solve};
-use mapf_certificate::{PlanAnswer, PlanText, read_plan};
-use mapf_model::{BytesSink, BytesSource, OutOfMemory, Plan, Problem, Sink, Source};
-use mapf_text::{read_map, read_scen};
+use mapf_model::{BytesSink, BytesSource, OutOfMemory, Sink, Source};
+use mapf_rows::Given;
 use std::alloc::Global;
-
-/// A problem's texts and its number of agents.
-#[derive(Clone, Copy)]
-pub struct Given {
-    pub map: &'static str,
-    pub scen: &'static str,
-    pub k: u32,
-}
 
 /// What a solved run answered and wrote.
 #[derive(Drop)]
@@ -107,22 +98,4 @@ pub fn dispatch_pulled<E: Source, K: Sink>(
     let mut scen = BytesSource::of(given.scen.as_bytes());
     let mut plan = BytesSource::of(plan);
     run_dispatch(alloc, &mut map, &mut scen, given.k, &mut plan, events, sink)
-}
-
-/// The problem that the texts spell, if they spell one.
-pub fn problem_of(alloc: Global, given: &Given) -> Option<Problem>
-    requires some { 1 ≤ given.now.k }
-    requires few { given.now.k ≤ 200 }
-{
-    let grid = read_map(alloc, given.map.as_bytes()).ok()?;
-    read_scen(alloc, given.scen.as_bytes(), grid, given.k).ok()
-}
-
-/// The plan that a plan text spells for the problem's map, if it spells one.
-pub fn plan_of(alloc: Global, problem: &Problem, plan: &[u8]) -> Option<Plan> {
-    let PlanText { answer, .. } = read_plan(alloc, plan, problem.grid()).ok()?;
-    match answer {
-        PlanAnswer::Found(plan) => Some(plan),
-        _ => None,
-    }
 }

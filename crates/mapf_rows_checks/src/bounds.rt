@@ -2,16 +2,16 @@
 //! shows this bound, whatever the limit was.
 
 use crate::checking::{Change, assert_changes, assert_judged};
-use crate::problems::{
+use mapf_app::{CertFault, CheckFault, PlanTextFault, Verdict};
+use mapf_rows::Given;
+use mapf_rows::problems::{
     CROSSING, CROSSING_CERT, CROSSING_STOPPED_CERT, CROSSING_STOPPED_PLAN, EXCHANGE,
     EXCHANGE_STOPPED_CERT, EXCHANGE_STOPPED_PLAN, NICHE, NICHE_CERT, NICHE_STOPPED_CERT,
     NICHE_STOPPED_PLAN, SHARED_GOAL, SHARED_START, SHARED_START_CERT, SHARED_START_STOPPED_CERT,
     SHARED_START_STOPPED_PLAN, WALL,
 };
-use crate::runs::Given;
-use crate::texts::with_lines;
-use crate::version_one::{CROSSING_ONE, SHARED_START_ONE};
-use mapf_app::{CertFault, CheckFault, PlanTextFault, Verdict};
+use mapf_rows::texts::with_lines;
+use mapf_rows::version_one::{CROSSING_ONE, SHARED_START_ONE};
 use std::test::Fail;
 
 // A problem and a certificate, a bound that both texts are given, and the answer.

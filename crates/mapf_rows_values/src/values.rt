@@ -2,13 +2,6 @@
 
 ghost use Rattle.std.specs.Prelude.{◌≡◌, None, false, IsSome, OnSome};
 
-use crate::problems::{
-    AT_REST, CROSSING, CROSSING_CERT, CROSSING_PLAN, EXCHANGE, EXCHANGE_STOPPED_CERT,
-    ROTATION_CERT, ROTATION_PLAN,
-};
-use crate::runs::problem_of;
-use crate::version_one::CROSSING_ONE;
-use mapf_app::run_demo;
 use mapf_certificate::{
     Cert, CertLines, PlanAnswer, PlanText, Version, read_cert, read_plan, write_cert, write_plan,
 };
@@ -17,6 +10,11 @@ use mapf_model::{
     Block, BytesSink, BytesSource, Cause, Cell, Claim, Entry, Item, Label, ReadEnd, Source, Tick,
     read_all, write_all,
 };
+use mapf_rows::problem_of;
+use mapf_rows::problems::{
+    AT_REST, CROSSING, CROSSING_CERT, CROSSING_PLAN, EXCHANGE, EXCHANGE_STOPPED_CERT,
+};
+use mapf_rows::version_one::CROSSING_ONE;
 use std::test::Fail;
 
 #[test]
@@ -304,14 +302,5 @@ fn reads_the_claim_of_a_bound(rt: HostRuntime) -> Result<(), Fail> {
     let mut lines = CertLines::open(rt.alloc(), 2, 1, 300)?;
     let header = lines.header(&mut source).ok().ok_or("no header")?;
     assert_eq!(rt; header, (2, Claim::Bound(4)));
-    Ok(())
-}
-
-#[test]
-fn writes_the_demo(rt: HostRuntime) -> Result<(), Fail> {
-    let mut out = BytesSink::with_room(rt.alloc(), 4096)?;
-    assert_eq!(rt; run_demo(rt.alloc(), &mut out), Ok(()));
-    let text = format!(in rt.alloc(); "{ROTATION_PLAN}{ROTATION_CERT}optimal 4\n")?;
-    assert_eq!(rt; out.bytes(), text.as_bytes());
     Ok(())
 }
