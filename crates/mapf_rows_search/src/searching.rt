@@ -1,7 +1,9 @@
+//! What the search answers, and its trees, beside the plain search and certificates that are known.
+
 ghost use Rattle.std.specs.Prelude.{◌≤◌};
 
-use crate::laws::solve_plain;
-use crate::{Answer, Cause, solve, solve_with};
+use mapf_cbs::laws::solve_plain;
+use mapf_cbs::{Answer, Cause, solve, solve_with};
 use mapf_conflicts::{Conflict, first_conflict};
 use mapf_constraints::{BarTable, ListBars, TickBars};
 use mapf_distance::Distances;

@@ -1,4 +1,6 @@
-use super::*;
+//! Which jobs words ask for, which words are refused, and the texts of help.
+
+use mapf_words::{Job, WordsFault, job_of};
 use std::alloc::{AllocError, Global};
 use std::test::Fail;
 
