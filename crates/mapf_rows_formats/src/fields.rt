@@ -1,4 +1,6 @@
-use super::*;
+use mapf_fields::{
+    LineFault, below, cut, field, from_one_to, last, line_length, pair, strip, up_to, whole, within,
+};
 use std::test::Fail;
 
 #[test]

@@ -1,8 +1,7 @@
-use crate::cheapest::with_labels;
-use crate::{Found, Labels, Workspace, label_at, search, search_in};
 use mapf_constraints::{Bar, BarTable, ListBars, TickBars};
 use mapf_distance::Distances;
-use mapf_model::{Agent, Cell, Grid, Label, Path};
+use mapf_model::{Agent, Cell, Entry, Grid, Label, Path};
+use mapf_spacetime::{Found, StateLabels, Workspace, label_at, search, search_in};
 use std::alloc::{AllocError, Global};
 use std::process::Abort;
 use std::test::Fail;
@@ -32,9 +31,9 @@ fn path_text(alloc: Global, path: &Path) -> Result<String, AllocError> {
 }
 
 /// The entries as cell@tick=label.
-fn labels_text(alloc: Global, labels: &Labels) -> Result<String, AllocError> {
+fn labels_text(alloc: Global, entries: &[Entry]) -> Result<String, AllocError> {
     let mut text = String::from_str(alloc, ";")?;
-    for entry in labels.entries() {
+    for entry in entries {
         text.push_str(&format!(in alloc; " {}@{}=", entry.cell.0, entry.tick)?)?;
         match entry.label {
             Label::Ticks(ticks) => text.push_str(&format!(in alloc; "{ticks}")?)?,
@@ -48,15 +47,26 @@ fn found_text(alloc: Global, found: &Found) -> Result<String, AllocError> {
     match found {
         Found::Arrives { path, labels } => {
             let mut text = path_text(alloc, path)?;
-            text.push_str(&labels_text(alloc, labels)?)?;
+            text.push_str(&labels_text(alloc, labels.entries())?)?;
             Ok(text)
         }
         Found::Dead { labels } => {
             let mut text = String::from_str(alloc, "dead")?;
-            text.push_str(&labels_text(alloc, labels)?)?;
+            text.push_str(&labels_text(alloc, labels.entries())?)?;
             Ok(text)
         }
     }
+}
+
+/// The same of what a search finds that keeps its states.
+fn states_text(alloc: Global, found: Found<StateLabels>) -> Result<String, Fail> {
+    let (mut text, labels) = match found {
+        Found::Arrives { path, labels } => (path_text(alloc, &path)?, labels),
+        Found::Dead { labels } => (String::from_str(alloc, "dead")?, labels),
+    };
+    let entries = labels.into_entries(alloc)?;
+    text.push_str(&labels_text(alloc, &entries)?)?;
+    Ok(text)
 }
 
 /// Bars cells at ticks, and moves.
@@ -386,7 +396,7 @@ fn searched_in(
     let distances = Distances::of(alloc, &grid, goal)?;
     let agent = Agent { start, goal };
     let found = search_in(alloc, workspace, &grid, &distances, &bars, agent)?;
-    Ok(found_text(alloc, &with_labels(alloc, found)?)?)
+    states_text(alloc, found)
 }
 
 #[test]

@@ -2,8 +2,8 @@ use crate::samples::{
     CROSSING_CERT, CROSSING_CERT_TWO, CROSSING_PLAN, SWAPPED_CERT, crossing, length_of_lines,
     shared_goal, swapped, with_lines,
 };
-use crate::{CheckFault, FromFault, PlanFault, Verdict, check, check_from};
 use mapf_certificate::{CertFault, PlanTextFault};
+use mapf_checker::{CheckFault, FromFault, PlanFault, Verdict, check, check_from};
 use mapf_model::devices::{FuseSource, Pace};
 use mapf_model::{BytesSource, Source};
 use std::test::Fail;

@@ -1,4 +1,4 @@
-use crate::{
+use mapf_certificate::{
     CertFault, PlanAnswer, PlanTextFault, Version, convert_cert, read_cert, read_plan, write_cert,
     write_plan,
 };

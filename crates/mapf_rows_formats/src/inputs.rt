@@ -1,7 +1,7 @@
 ghost use Rattle.std.specs.Prelude.{◌≤◌};
 
-use super::*;
-use mapf_model::{Agent, Cell, Grid};
+use mapf_model::{Agent, Cell, Grid, Problem};
+use mapf_text::{MapFault, ScenFault, read_map, read_scen};
 use std::alloc::Global;
 use std::test::Fail;
 
@@ -371,35 +371,42 @@ fn scenarios(rt: HostRuntime) {
     }
 }
 
+// A scenario of one row, whose last field is this word.
+fn row_of_length(alloc: Global, word: &[u8]) -> Result<Vec<u8>, Fail> {
+    let mut text = Vec::new(alloc);
+    text.extend_from_slice(b"version 1\n0 m 3 2 0 0 0 1 ")?;
+    text.extend_from_slice(word)?;
+    text.push(b'\n')?;
+    Ok(text)
+}
+
 #[test]
-fn decimals(rt: HostRuntime) {
-    let table: [(&[u8], bool); 24] = [
-        (b"0", true),
-        (b"+1", true),
-        (b"-1", true),
-        (b"007", true),
-        (b"1.5", true),
-        (b"1e5", true),
-        (b"1E-5", true),
-        (b"1.25e+02", true),
-        (b"", false),
-        (b"+", false),
-        (b"+-1", false),
-        (b".5", false),
-        (b"1.", false),
-        (b"1.e5", false),
-        (b"1e", false),
-        (b"1e+", false),
-        (b"e5", false),
-        (b"1e5.5", false),
-        (b"1.4.1", false),
-        (b"1e5e5", false),
-        (b"1x", false),
-        (b"x1", false),
-        (b"1,5", false),
-        (b"inf", false),
+fn decimals(rt: HostRuntime) -> Result<(), Fail> {
+    let good: [&[u8]; 8] = [
+        b"0",
+        b"+1",
+        b"-1",
+        b"007",
+        b"1.5",
+        b"1e5",
+        b"1E-5",
+        b"1.25e+02",
     ];
-    for (word, want) in table {
-        assert_eq!(rt; crate::decimal::is_decimal(word), want);
+    for word in good {
+        let text = row_of_length(rt.alloc(), word)?;
+        assert_eq!(rt; scenario_fault(rt.alloc(), BLOCKED_MAP, &text, 1), None);
     }
+    let bad: [&[u8]; 15] = [
+        b"+", b"+-1", b".5", b"1.", b"1.e5", b"1e", b"1e+", b"e5", b"1e5.5", b"1.4.1", b"1e5e5",
+        b"1x", b"x1", b"1,5", b"inf",
+    ];
+    for word in bad {
+        let text = row_of_length(rt.alloc(), word)?;
+        let fault = scenario_fault(rt.alloc(), BLOCKED_MAP, &text, 1);
+        assert_eq!(rt; fault, Some(ScenFault::S6 { row: 0 }));
+    }
+    let none = row_of_length(rt.alloc(), b"")?;
+    let fault = scenario_fault(rt.alloc(), BLOCKED_MAP, &none, 1);
+    assert_eq!(rt; fault, Some(ScenFault::S2 { row: 0 }));
+    Ok(())
 }

@@ -1,6 +1,6 @@
 ghost use Rattle.std.specs.Prelude.{◌<◌};
 
-use crate::{Bar, BarTable, ListBars, TickBars};
+use mapf_constraints::{Bar, BarTable, ListBars, TickBars};
 use mapf_model::{Cell, OutOfMemory, Tick};
 use std::alloc::Global;
 use std::process::Abort;

@@ -1,7 +1,7 @@
 ghost use Rattle.std.specs.Prelude.{◌≡◌, false};
 
-use crate::tests::{CROSSING, CROSSING_TWO};
-use crate::{CertFault, CertLines, LinesFault, Version};
+use crate::certificates::{CROSSING, CROSSING_TWO};
+use mapf_certificate::{CertFault, CertLines, LinesFault, Version};
 use mapf_model::devices::{EndlessSource, FuseSource, Pace};
 use mapf_model::{Claim, Failed, OutOfMemory, Source};
 use std::alloc::Global;

@@ -1,5 +1,5 @@
 use Rattle.mapf_certificate.proofs.CertTexts.{items_of_version}
-use Rattle.mapf_certificate.proofs.tests.certificates_are_read_and_written.Goals as goal
+use Rattle.mapf_rows_formats.proofs.certificates.certificates_are_read_and_written.Goals as goal
 
 pub write_cert-requires-clause-nodes : goal.write_cert-requires-clause-nodes
 write_cert-requires-clause-nodes g c =
