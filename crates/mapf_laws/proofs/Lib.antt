@@ -1,0 +1,2 @@
+mod ImpossibleLemmas
+mod WaitingLemmas
