@@ -1,2 +1,4 @@
 mod ImpossibleLemmas
+mod ReachLemmas
+mod TrivialLemmas
 mod WaitingLemmas

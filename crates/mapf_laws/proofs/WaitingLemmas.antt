@@ -58,7 +58,7 @@ walk_path grid to (suc n) from (next, step, rest) =
     let walked = walk_path grid to n next rest in
     (from ∷ walked.0, lawful-cons grid from next to walked.0 step walked.1)
 
-walk_free : (grid : GridMap) (to n from : ℕ) → Walk grid from to n → IsFree grid from
+pub walk_free : (grid : GridMap) (to n from : ℕ) → Walk grid from to n → IsFree grid from
 walk_free grid to zero from (free, same) = free
 walk_free grid to (suc n) from (next, inl wait, rest) = wait.0
 walk_free grid to (suc n) from (next, inr move, rest) = move.from_free

@@ -24,3 +24,7 @@ pub data IsTriviallyImpossible (problem : Instance) : Type 0 where
 -- a tree shows `impossible` of such problems alone
 abbrev pub ImpossibleIsTrivial : Type 0
 ImpossibleIsTrivial = (problem : Instance) (tree : ConstraintTree) → Shows problem Impossible tree → IsTriviallyImpossible problem
+
+-- and of each of them some tree does
+abbrev pub TrivialIsShown : Type 0
+TrivialIsShown = (problem : Instance) → IsTriviallyImpossible problem → (tree : ConstraintTree) × Shows problem Impossible tree

@@ -1,4 +1,4 @@
-ghost use Rattle.mapf_laws.specs.Impossible.{ImpossibleIsTrivial};
+ghost use Rattle.mapf_laws.specs.Impossible.{ImpossibleIsTrivial, TrivialIsShown};
 
 use mapf_model::laws::label_bound;
 
@@ -10,3 +10,9 @@ pub fn impossible_is_trivial()
 {
     label_bound();
 }
+
+/// Of each such problem some tree shows `impossible`: a clash, a leaf without blocks, or a split at tick 0 on the cell in
+/// which two agents start.
+pub fn trivial_is_shown()
+    ensures { TrivialIsShown }
+{}
