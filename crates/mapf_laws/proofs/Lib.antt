@@ -1,3 +1,4 @@
+mod CauseLemmas
 mod ImpossibleLemmas
 mod ReachLemmas
 mod TrivialLemmas

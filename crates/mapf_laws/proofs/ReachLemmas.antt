@@ -1,5 +1,5 @@
 -- Whether a goal can be reached is decided.
-use Rattle.std.proofs.Common.{◌≡◌, ◌⊎◌, ℕ, zero, suc, ◌+◌, ◌<◌, ◌≤◌, Bool, true, false, List, [], ◌∷◌, Contains, length, slice_index_or, refl, sym, ◌∙◌, ap, subst, inl, inr, ⊎_elim, arith}
+use Rattle.std.proofs.Common.{◌≡◌, ◌⊎◌, ℕ, zero, suc, ◌+◌, ◌<◌, ◌≤◌, Bool, true, false, List, [], ◌∷◌, Contains, length, slice_index_or, refl, sym, subst, inl, inr, ⊎_elim, arith}
 use Rattle.std.proofs.lemmas.Bool.{cases_eq, cases_lt}
 use Rattle.mapf_model.specs.Distance.{Walk, IsDistance, IsUnreachable}
 use Rattle.mapf_model.specs.Grid.{GridMap, IsFree, DifferByOne, AreAdjacent, Step, row, column}
@@ -27,10 +27,14 @@ first_below P decide zero = inr (λ k low p. absurd (omega arith))
 first_below P decide (suc bound) = ⊎_elim
     (λ (found : (n : ℕ) × P n × ((k : ℕ) → P k → n ≤ k)). inl found)
     (λ (none : (k : ℕ) → k < bound → P k → ⊥). ⊎_elim
-    (λ (here : P bound). inl (bound, here, λ k p. ⊎_elim
-    (λ (low : k < bound). absurd (none k low p))
-    (λ (high : bound ≤ k). high)
-    (cases_lt k bound)))
+    (λ (here : P bound). inl (
+      bound,
+      here,
+      λ k p. ⊎_elim
+          (λ (low : k < bound). absurd (none k low p))
+          (λ (high : bound ≤ k). high)
+          (cases_lt k bound),
+    ))
     (λ (not_here : P bound → ⊥). inr (λ k low p. ⊎_elim
     (λ (same : k ≡ bound). not_here (subst P same p))
     (λ (other : k ≡ bound → ⊥). none k (omega arith) p)

@@ -1,5 +1,5 @@
 -- Some tree shows `impossible` of each trivially impossible problem.
-use Rattle.std.proofs.Common.{◌≡◌, ◌≢◌, ◌⊎◌, ℕ, zero, suc, ◌+◌, ◌<◌, ◌≤◌, ◌==◌, cond, Bool, true, false, List, [], ◌∷◌, Option, Some, None, Contains, length, slice_get, slice_index_or, refl, sym, ◌∙◌, ap, subst, inl, inr, ⊎_elim, nat_eq, arith}
+use Rattle.std.proofs.Common.{◌≡◌, ◌≢◌, ℕ, zero, suc, ◌<◌, List, [], ◌∷◌, Some, None, Contains, length, slice_get, slice_index_or, refl, sym, ◌∙◌, ap, ⊎_elim, arith}
 use Rattle.std.proofs.lemmas.Bool.{cases_eq, eq-eqb, ne_eqb}
 use Rattle.std.proofs.lemmas.Option.{same_Some, slice_get_within}
 use Rattle.mapf_model.specs.declared.bar.Bar.{Bar}
@@ -8,7 +8,6 @@ use Rattle.mapf_model.specs.declared.conflict.Conflict.{Conflict}
 use Rattle.mapf_model.specs.declared.conflict.Conflict.TheVariants.{Vertex}
 use Rattle.mapf_model.specs.declared.item.Claim.TheVariants.{Impossible}
 use Rattle.mapf_model.specs.declared.label.Entry.{Entry}
-use Rattle.mapf_model.specs.declared.label.Label.{Label}
 use Rattle.mapf_model.specs.declared.label.Label.TheVariants.{Never}
 use Rattle.mapf_model.specs.declared.problem.Agent.{Agent}
 use Rattle.mapf_model.specs.Blocks.{LabelBlock}
@@ -18,7 +17,8 @@ use Rattle.mapf_model.specs.Labels.{entries_of, AreSound, IsSoundEntry}
 use Rattle.mapf_model.specs.Plan.{Instance}
 use Rattle.mapf_model.specs.Tree.{ConstraintTree, Split, Leaf, Clash, NodeContext, root, left_child_context, right_child_context, block_of, AreProperBlocks, AreBlocksSound, ShareGoal, Shows, ShowsFrom}
 use Rattle.mapf_model.proofs.ListedLemmas.{listed_is_contained}
-use Rattle.mapf_laws.specs.Impossible.{ShareStart, HasUnreachableGoal, IsTriviallyImpossible, SharedStart, SharedGoal, UnreachableGoal}
+use Rattle.mapf_laws.specs.declared.impossible.TrivialCause.TheVariants.{SharedStart, SharedGoal, UnreachableGoal}
+use Rattle.mapf_laws.specs.Impossible.{ShareStart, HasUnreachableGoal, IsTriviallyImpossible}
 use Rattle.mapf_laws.proofs.ReachLemmas.{distance_or_none}
 use Rattle.mapf_laws.proofs.WaitingLemmas.{walk_free}
 
@@ -93,8 +93,7 @@ module _ (problem : Instance) where
   split_shows i j a b m n other is_a is_b one_start near_a near_b =
       let conflict : Conflict = Vertex i j a.start 0 in
       let left = barred_leaf_shows (left_child_context root conflict []) i m a is_a near_a (rw (eq-eqb i i refl) (0, omega arith, refl)) in
-      let right = barred_leaf_shows (right_child_context root conflict []) j n b is_b near_b (rw (eq-eqb j j refl) (0, omega arith, ap (λ cell. Cell cell 0) one_start)) in
-      (
+      let right = barred_leaf_shows (right_child_context root conflict []) j n b is_b near_b (rw (eq-eqb j j refl) (0, omega arith, ap (λ cell. Cell cell 0) one_start)) in (
         Split conflict [] (Leaf (infinite_block i a.start ∷ [])) (Leaf (infinite_block j b.start ∷ [])),
         record {
           proper = (
@@ -116,6 +115,6 @@ module _ (problem : Instance) where
       (distance_or_none problem.grid a.start a.goal)
 
 pub trivial_is_shown : (problem : Instance) → IsTriviallyImpossible problem → IsShownImpossible problem
-trivial_is_shown problem (SharedStart i j shared) = start_shows problem i j shared
-trivial_is_shown problem (SharedGoal i j shared) = clash_shows problem i j shared
-trivial_is_shown problem (UnreachableGoal i unreachable) = leaf_shows problem i unreachable
+trivial_is_shown problem (SharedStart i j, shared) = start_shows problem i j shared
+trivial_is_shown problem (SharedGoal i j, shared) = clash_shows problem i j shared
+trivial_is_shown problem (UnreachableGoal, (i, unreachable)) = leaf_shows problem i unreachable

@@ -5,6 +5,8 @@ use Rattle.mapf_model.specs.declared.problem.Agent.{Agent}
 use Rattle.mapf_model.specs.Distance.{IsUnreachable}
 use Rattle.mapf_model.specs.Plan.{Instance}
 use Rattle.mapf_model.specs.Tree.{ConstraintTree, ShareGoal, Shows}
+use Rattle.mapf_laws.specs.declared.impossible.TrivialCause.{TrivialCause}
+use Rattle.mapf_laws.specs.declared.impossible.TrivialCause.TheVariants.{SharedStart, SharedGoal, UnreachableGoal}
 
 -- two different agents have one start
 abbrev pub ShareStart : Instance → ℕ → ℕ → Type 0
@@ -14,12 +16,16 @@ ShareStart problem i j = (i ≢ j) × (a : Agent) × (b : Agent) × (slice_get p
 abbrev pub HasUnreachableGoal : Instance → ℕ → Type 0
 HasUnreachableGoal problem i = (agent : Agent) × (slice_get problem.agents i ≡ Some agent) × IsUnreachable problem.grid agent.goal agent.start
 
--- why no plan is valid, without any search: two agents share a start, two agents share a goal, or an agent's goal
+-- this is why no plan is valid
+abbrev pub IsTrivialCause : Instance → TrivialCause → Type 0
+IsTrivialCause problem (SharedStart i j) = ShareStart problem i j
+IsTrivialCause problem (SharedGoal i j) = ShareGoal problem i j
+IsTrivialCause problem UnreachableGoal = (i : ℕ) × HasUnreachableGoal problem i
+
+-- without any search one sees why no plan is valid: two agents share a start, two agents share a goal, or an agent's goal
 -- can't be reached from its start
-pub data IsTriviallyImpossible (problem : Instance) : Type 0 where
-  SharedStart : (i j : ℕ) → ShareStart problem i j → IsTriviallyImpossible problem
-  SharedGoal : (i j : ℕ) → ShareGoal problem i j → IsTriviallyImpossible problem
-  UnreachableGoal : (i : ℕ) → HasUnreachableGoal problem i → IsTriviallyImpossible problem
+abbrev pub IsTriviallyImpossible : Instance → Type 0
+IsTriviallyImpossible problem = (cause : TrivialCause) × IsTrivialCause problem cause
 
 -- a tree shows `impossible` of such problems alone
 abbrev pub ImpossibleIsTrivial : Type 0
