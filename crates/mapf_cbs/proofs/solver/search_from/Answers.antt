@@ -1,6 +1,5 @@
-use Rattle.std.proofs.Common.{◌≡◌, [], ◌≤◌, All, length, refl, sym, ◌∙◌, ap, subst, arith}
+use Rattle.std.proofs.Common.{length, sym, ◌∙◌, ap, subst, arith}
 use Rattle.std.proofs.lemmas.Result.{IfOk-weaker}
-use Rattle.mapf_model.specs.Earned.{HaveSomeConflict}
 use Rattle.mapf_cbs.specs.Endings.{IsExhausted, IsAtNode, IsAtPlan, IsAtCause}
 use Rattle.mapf_cbs.specs.Nodes.{AreViews}
 use Rattle.mapf_cbs.specs.State.{IsState}
