@@ -31,8 +31,9 @@ LINES = {
              "claim cost 4", "claim cost 5", "claim cost 1999999801", "claim impossible", "claim bound 4",
              "vertex 0 1 0,0 0", "vertex 0 1 0,0 0 0", "vertex 0 0 0,0 1 0", "vertex 1 0 9,9 1 0",
              "vertex 0 1 0,0 1000000", "swap 0 1 0,0 0,0 0 0", "swap 0 1 0,0 1,0 0 0", "swap 0 1 0,0 2,0 0 0",
-             "swap 0 1 0,0 1,1 0 0", "swap 0 1 0,0 1,0 0", "leaf 0", "leaf 1", "leaf 3", "clash 0 0", "clash 0 1", "clash 0 2",
-             "agent 0 0", "agent 0 1", "agent 1 1", "agent 2 1", "agent 1 18446744073709551616", "at 0,0 0 0", "at 0,0 0 1",
+             "swap 0 1 0,0 1,1 0 0", "swap 0 1 0,0 1,0 0", "leaf 0", "leaf 1", "leaf 3", "clash 0 0", "clash 0 1",
+             "clash 0 2", "agent 0 0", "agent 0 1", "agent 1 1", "agent 2 1", "agent 1 18446744073709551616",
+             "at 0,0 0 0", "at 0,0 0 1",
              "at 1,0 0 2", "at 0,1 0 3", "at 1,0 0 inf", "at 9,0 0 9", "at 0,0 10000000 1", "at 0,0 0 10000000", "end",
              "end ", "", "x" * 64, "x" * 65],
 }
