@@ -58,7 +58,7 @@ def bound(most_bytes=BYTES):
     resource.setrlimit(resource.RLIMIT_AS, (most_bytes, most_bytes))
 
 
-def run(words, places=None, environment=None, most_bytes=BYTES):
+def run(words, places=None, environment=None, most_bytes=BYTES, program=PROGRAM):
     """Runs the program. A standard stream that has a place goes there, and an output that has none is caught."""
     places = places or {}
     closed = [number for number, name in enumerate(STREAMS) if places.get(name) == "CLOSED"]
@@ -71,7 +71,7 @@ def run(words, places=None, environment=None, most_bytes=BYTES):
     with opened(places.get("stdout")) as out, opened(places.get("stderr")) as err:
         try:
             status = subprocess.run(
-                [str(PROGRAM), *words], stdin=subprocess.DEVNULL, stdout=out, stderr=err,
+                [str(program), *words], stdin=subprocess.DEVNULL, stdout=out, stderr=err,
                 env={**os.environ, **(environment or {})}, timeout=SECONDS, preexec_fn=prepare).returncode
         except subprocess.TimeoutExpired:
             status = f"none after {SECONDS} seconds"
@@ -265,11 +265,12 @@ def leaf_of(agent, cells, cost):
 
 
 class Tally:
-    """Counts what passed, and prints a line for each failure."""
+    """Counts what passed, and prints a line for each failure and for each test that was skipped."""
 
     def __init__(self):
         self.passed = 0
         self.failed = 0
+        self.skipped = 0
 
     def add(self, name, faults):
         if faults:
@@ -278,7 +279,13 @@ class Tally:
         else:
             self.passed += 1
 
+    def skip(self, name, why):
+        """Counts a test that can't be made on this machine."""
+        self.skipped += 1
+        print(f"{name}: skipped, {why}", flush=True)
+
     def end(self):
         """Prints the counts and answers the script's status."""
-        print(f"{self.passed} passed, {self.failed} failed")
+        skipped = f", {self.skipped} skipped" if self.skipped else ""
+        print(f"{self.passed} passed, {self.failed} failed{skipped}")
         return 1 if self.failed else 0

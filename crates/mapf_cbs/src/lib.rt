@@ -28,6 +28,3 @@ pub use mapf_spacetime::StateLabels;
 pub use outcome::Outcome;
 pub use solver::{search, search_with, solve, solve_with};
 pub use tree_node::{NodeKind, TreeNode};
-
-#[cfg(test)]
-mod tests;

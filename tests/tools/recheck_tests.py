@@ -1,0 +1,190 @@
+"""Compares tools/recheck with mapf: on each case of `check`, on what mapf solves, and on small edits of these texts."""
+
+import importlib.machinery
+import importlib.util
+import os
+import random
+import subprocess
+import sys
+import tempfile
+from pathlib import Path
+
+from harness import TESTS, Ended, cases_of, run, told
+
+RECHECK = TESTS.parent / "tools" / "recheck"
+EXAMPLES = TESTS.parent / "examples"
+
+# Examples of which recheck judges the certificate in a few seconds, with their number of agents.
+SOLVED = [("empty-8-8", 4), ("empty-8-8", 6), ("random-32-32", 5), ("random-32-32", 8)]
+LIMIT = "60"
+
+EDITS = 4000
+SEED = 28
+
+# How often each text of a case is edited, and what an edit may put into it.
+EDITED = {"map": 1, "scen": 1, "plan": 4, "cert": 10}
+PIECES = [b"0", b"1", b"2", b"7", b"9", b"10", b" ", b"  ", b"\t", b"\n", b"\r", b"\r\n", b",", b"-", b"+", b".", b"@",
+          b"inf", b"end\n", b"leaf 0\n", b"leaf 1\n", b"clash 0 1\n", b"agent 0 1\n", b"agent 1 2\n", b"at 0,0 0 5\n",
+          b"vertex 0 1 1,1 1 0\n", b"vertex 0 1 1,1 1\n", b"swap 0 1 0,1 1,1 1 0\n", b"path 0 0 0,0\n", b"agents 2\n",
+          b"999999", b"1000000", b"9999999", b"10000000", b"1999999800", b"1999999801", b"18446744073709551615",
+          b"18446744073709551616", b"x" * 60, b"\x00", b"\xff"]
+
+
+def tests(tally):
+    recheck = loaded()
+    for case in cases_of(TESTS / "cases"):
+        if case.words[:1] == ["check"] and case.wanted("stdout-has") is None and case.wanted("stderr-has") is None:
+            tally.add(f"recheck, {case.name}", case_faults(case))
+    with tempfile.TemporaryDirectory() as name:
+        bases = [*solved_cases(Path(name)), *solved_examples(Path(name))]
+        for title, agents, folder in bases:
+            tally.add(f"recheck, {title}", difference(recheck, agents, folder))
+        bases += accepted_cases(Path(name))
+        tally.add(f"recheck, {EDITS} edits", edits_that_differ(recheck, bases, Path(name)))
+    tally.add("recheck, words", words_faults())
+
+
+def loaded():
+    """The command as a module, so that thousands of runs don't start Python each."""
+    loader = importlib.machinery.SourceFileLoader("recheck", str(RECHECK))
+    module = importlib.util.module_from_spec(importlib.util.spec_from_loader("recheck", loader))
+    loader.exec_module(module)
+    return module
+
+
+def case_faults(case):
+    """How a run on a case differs from what is wanted of mapf."""
+    with tempfile.TemporaryDirectory() as folder:
+        words = case.prepare(Path(folder))[1:]
+        return case.faults(run(words, case.places, program=RECHECK), Path(folder))
+
+
+def solved_cases(folder):
+    for case in cases_of(TESTS / "cases"):
+        given = dict(case.inputs())
+        if case.is_solve() and case.wanted("plan") and case.wanted("cert") and None not in given.values():
+            texts = {**given, **dict(case.outputs())}
+            yield case.name, int(case.words[3]), filled(folder / case.name, texts)
+
+
+def accepted_cases(folder):
+    """The cases of `check` in which the texts are accepted."""
+    for case in cases_of(TESTS / "cases"):
+        given = dict(case.inputs())
+        if case.words[:1] == ["check"] and case.wanted_status() == 0 and len(given) == 4 and not case.places:
+            yield case.name, int(case.words[3]), filled(folder / case.name, given)
+
+
+def solved_examples(folder):
+    for name, agents in SOLVED:
+        place = filled(folder / f"{name}-{agents}", {
+            "map": (EXAMPLES / f"{name}.map").read_bytes(), "scen": (EXAMPLES / f"{name}.scen").read_bytes()})
+        subprocess.run([os.environ["MAPF"], "solve", "map", "scen", str(agents), LIMIT, "plan", "cert"], cwd=place,
+                       check=True, stdout=subprocess.DEVNULL)
+        yield f"{name} with {agents} agents", agents, place
+
+
+def filled(folder, texts):
+    folder.mkdir(exist_ok=True)
+    for name, text in texts.items():
+        (folder / name).write_bytes(text)
+    return folder
+
+
+def difference(recheck, agents, folder, edited=None):
+    """Both are asked about the texts of this folder, of which one may be in another place. Where they differ: what each
+    says.
+    """
+    files = [(edited or {}).get(name, str(folder / name)) for name in EDITED]
+    stream, line, status = recheck.answer(files, agents)
+    line = f"{line}\n".encode()
+    ours = Ended(status, line, b"") if stream == 1 else Ended(status, b"", line)
+    ended = subprocess.run([os.environ["MAPF"], "check", files[0], files[1], str(agents), *files[2:]],
+                           stdin=subprocess.DEVNULL, capture_output=True)
+    theirs = Ended(ended.returncode, ended.stdout, ended.stderr)
+    return [] if ours == theirs else [f"recheck says {told(ours)}, mapf check {told(theirs)}"]
+
+
+def edits_that_differ(recheck, bases, folder):
+    """Edits a text of one of the bases, and has both judge it. A failure tells which, and leaves the text."""
+    draw = random.Random(SEED)
+    place = folder / "edited"
+    for number in range(EDITS):
+        title, agents, base = draw.choice(bases)
+        name, = draw.choices(list(EDITED), EDITED.values())
+        text = (base / name).read_bytes()
+        for _ in range(draw.choice((1, 1, 1, 2))):
+            text = edited(text, draw)
+        place.write_bytes(text)
+        faults = difference(recheck, agents, base, {name: str(place)})
+        if faults:
+            descriptor, kept = tempfile.mkstemp(prefix="mapf-edited-")
+            os.write(descriptor, text)
+            return [f"edit {number}, the {name} of {title}, now in {kept}: {fault}" for fault in faults]
+    return []
+
+
+def edited(text, draw):
+    """The text with one small change."""
+    at = draw.randrange(len(text) + 1)
+    lines = text.splitlines(keepends=True) or [b""]
+    line = draw.randrange(len(lines))
+    kind = draw.choice(["put", "cut", "change", "word", "drop", "twice", "exchange", "end"] + ["number"] * 10)
+    if kind == "put":
+        return text[:at] + draw.choice(PIECES) + text[at:]
+    if kind == "cut":
+        return text[:at] + text[at + draw.choice((1, 1, 2, 5)):]
+    if kind == "change":
+        return text[:at] + draw.choice(PIECES) + text[at + 1:]
+    if kind in ("number", "word"):
+        return with_another_word(text, draw, kind)
+    if kind == "end":
+        return text[:at]
+    other = draw.randrange(len(lines))
+    if kind == "drop":
+        del lines[line]
+    elif kind == "twice":
+        lines.insert(other, lines[line])
+    else:
+        lines[line], lines[other] = lines[other], lines[line]
+    return b"".join(lines)
+
+
+def with_another_word(text, draw, kind):
+    """A number of the text becomes another, near it or drawn, or a word becomes another word of the text."""
+    parts = [part for part in split(text)]
+    words = [at for at, part in enumerate(parts) if part.isalnum() and (kind == "word" or part.isdigit())]
+    if not words:
+        return text + b"0"
+    at = draw.choice(words)
+    if kind == "word":
+        parts[at] = parts[draw.choice(words)]
+    else:
+        parts[at] = str(max(0, int(parts[at][:20]) + draw.choice((-2, -1, 1, 1, 2, 10)))).encode()
+    return b"".join(parts)
+
+
+def split(text):
+    """The longest parts of letters and digits, and the bytes between."""
+    part = b""
+    for byte in (bytes([byte]) for byte in text):
+        if byte.isalnum():
+            part += byte
+            continue
+        yield from (part, byte)
+        part = b""
+    yield part
+
+
+def words_faults():
+    """Wrong words end with status 2 and one line of how it is called, and --help says that it is slow."""
+    faults = []
+    for words, status, parts in (
+            (["--help"], 0, ["It is slow", "MAP SCEN K PLAN CERT"]),
+            (["a", "b", "0", "c", "d"], 2, ["the number of agents is 1 to 200"]),
+            (["a", "b", "2", "c"], 2, ["CERT"])):
+        ended = subprocess.run([sys.executable, str(RECHECK), *words], capture_output=True, text=True)
+        said = ended.stdout + ended.stderr
+        if ended.returncode != status or any(part not in said for part in parts):
+            faults.append(f"{' '.join(words)} gives status {ended.returncode} and {said!r}")
+    return faults

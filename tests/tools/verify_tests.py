@@ -1,0 +1,423 @@
+"""Tries tools/verify on answers of each kind in each format, written by hand from what `tools/verify --help` says of
+the formats, and checks by mapf alone what it leaves for others.
+"""
+
+import os
+import re
+import subprocess
+import sys
+import tempfile
+from dataclasses import dataclass, field
+from pathlib import Path
+
+from harness import TESTS
+
+VERIFY = TESTS.parent / "tools" / "verify"
+EXAMPLES = TESTS.parent / "examples"
+
+# Two agents cross on an open square. One of them has to wait, so that the least sum of costs is 5.
+CROSSING_MAP = "type octile\nheight 3\nwidth 3\nmap\n...\n...\n...\n"
+CROSSING_SCEN = "version 1\n0 c.map 3 3 0 1 2 1 2\n0 c.map 3 3 1 0 1 2 2\n"
+
+# Beside them, behind a wall, two agents that have a way round each other of the same cost. The least sum is 9, and a
+# search which may split once, on the first two, ends with the bound 9.
+ROOMS_MAP = "type octile\nheight 3\nwidth 7\nmap\n...@...\n...@...\n...@...\n"
+ROOMS_SCEN = ("version 1\n0 r.map 7 3 0 1 2 1 2\n0 r.map 7 3 1 0 1 2 2\n"
+              "0 r.map 7 3 4 0 5 1 2\n0 r.map 7 3 6 0 4 0 2\n")
+
+PATHS = {
+    "cheapest": "Agent 0: (1,0)->(1,1)->(1,2)->\nAgent 1: (0,1)->(0,1)->(1,1)->(2,1)->\n",
+    "dearer": "Agent 0: (1,0)->(1,1)->(1,2)->\nAgent 1: (0,1)->(0,1)->(0,1)->(1,1)->(2,1)->\n",
+    "vertex": "Agent 0: (1,0)->(1,1)->(1,2)->\nAgent 1: (0,1)->(1,1)->(2,1)->\n",
+    "swap": "Agent 0: (1,0)->(1,0)->(1,1)->(1,2)->\nAgent 1: (0,1)->(0,2)->(1,2)->(1,1)->(2,1)->\n",
+    "elsewhere": "Agent 0: (1,0)->(1,1)->(1,2)->\nAgent 1: (0,1)->\n",
+    "missing": "Agent 0: (1,0)->(1,1)->(1,2)->\n",
+    "cut": "Agent 0: (1,0)->(1,1)->(1,2)->\nAgent 1: (0,1)->(0,1)->(1,",
+    "empty": "",
+}
+
+LACAM_HEAD = """agents=2
+map_file=c.map
+solver=planner
+solved=1
+soc=5
+soc_lb=4
+makespan=3
+makespan_lb=2
+comp_time=0
+seed=0
+starts=(0,1),(1,0),
+goals=(2,1),(1,2),
+solution=
+"""
+
+LACAM = {
+    "cheapest": LACAM_HEAD + "0:(0,1),(1,0),\n1:(1,1),(1,0),\n2:(2,1),(1,1),\n3:(2,1),(1,2),\n",
+    "dearer": LACAM_HEAD + "0:(0,1),(1,0),\n1:(1,1),(1,0),\n2:(2,1),(1,0),\n3:(2,1),(1,1),\n4:(2,1),(1,2),\n",
+    "vertex": LACAM_HEAD + "0:(0,1),(1,0),\n1:(1,1),(1,1),\n2:(2,1),(1,2),\n",
+    "swap": LACAM_HEAD + "0:(0,1),(1,0),\n1:(0,1),(2,0),\n2:(1,1),(2,1),\n3:(2,1),(1,1),\n4:(2,1),(1,2),\n",
+    "elsewhere": LACAM_HEAD + "0:(0,1),(1,0),\n1:(1,1),(1,0),\n2:(2,1),(1,0),\n",
+    "missing": LACAM_HEAD + "0:(0,1),\n1:(1,1),\n2:(2,1),\n",
+    "cut": LACAM_HEAD + "0:(0,1),(1,0),\n1:(1,1),(1,0),\n2:(2,1),(1",
+    "empty": "\n",
+}
+
+YAML_HEAD = """statistics:
+  cost: 5
+  makespan: 3
+  runtime: 0.000123
+  highLevelExpanded: 2
+  lowLevelExpanded: 9
+"""
+
+YAML_AGENT_0 = """  agent0:
+    - x: 0
+      y: 1
+      t: 0
+    - x: 1
+      y: 1
+      t: 1
+    - x: 2
+      y: 1
+      t: 2
+"""
+
+YAML_AGENT_0_THAT_WAITS = """  agent0:
+    - x: 0
+      y: 1
+      t: 0
+    - x: 0
+      y: 1
+      t: 1
+    - x: 1
+      y: 1
+      t: 2
+    - x: 2
+      y: 1
+      t: 3
+"""
+
+YAML_AGENT_1 = """  agent1:
+    - x: 1
+      y: 0
+      t: 0
+"""
+
+YAML = {
+    "cheapest": YAML_HEAD + "schedule:\n" + YAML_AGENT_0 + YAML_AGENT_1 + """    - x: 1
+      y: 0
+      t: 1
+    - x: 1
+      y: 1
+      t: 2
+    - x: 1
+      y: 2
+      t: 3
+""",
+    "dearer": YAML_HEAD + "schedule:\n" + YAML_AGENT_0 + YAML_AGENT_1 + """    - x: 1
+      y: 0
+      t: 1
+    - x: 1
+      y: 0
+      t: 2
+    - x: 1
+      y: 1
+      t: 3
+    - x: 1
+      y: 2
+      t: 4
+""",
+    "vertex": YAML_HEAD + "schedule:\n" + YAML_AGENT_0 + YAML_AGENT_1 + """    - x: 1
+      y: 1
+      t: 1
+    - x: 1
+      y: 2
+      t: 2
+""",
+    "swap": YAML_HEAD + "schedule:\n" + YAML_AGENT_0_THAT_WAITS + YAML_AGENT_1 + """    - x: 2
+      y: 0
+      t: 1
+    - x: 2
+      y: 1
+      t: 2
+    - x: 1
+      y: 1
+      t: 3
+    - x: 1
+      y: 2
+      t: 4
+""",
+    "elsewhere": YAML_HEAD + "schedule:\n" + YAML_AGENT_0 + YAML_AGENT_1,
+    "missing": YAML_HEAD + "schedule:\n" + YAML_AGENT_0,
+    "cut": YAML_HEAD + "schedule:\n" + YAML_AGENT_0 + YAML_AGENT_1 + "    - x: 1\n      y",
+    "empty": " \n",
+}
+
+PLAN = {
+    "cheapest": "mapf-plan 2\nagents 2\ncost 5\npath 0 2 0,1 1,1 2,1\npath 1 3 1,0 1,0 1,1 1,2\nend\n",
+    "dearer": "mapf-plan 1\nagents 2\ncost 6\npath 0 2 0,1 1,1 2,1\npath 1 4 1,0 1,0 1,0 1,1 1,2\nend\n",
+    "vertex": "mapf-plan 2\nagents 2\ncost 4\npath 0 2 0,1 1,1 2,1\npath 1 2 1,0 1,1 1,2\nend\n",
+    "swap": "mapf-plan 2\nagents 2\ncost 7\npath 0 3 0,1 0,1 1,1 2,1\npath 1 4 1,0 2,0 2,1 1,1 1,2\nend\n",
+    "elsewhere": "mapf-plan 2\nagents 2\ncost 2\npath 0 2 0,1 1,1 2,1\npath 1 0 1,0\nend\n",
+    "missing": "mapf-plan 2\nagents 1\ncost 2\npath 0 2 0,1 1,1 2,1\nend\n",
+    "cut": "mapf-plan 2\nagents 2\ncost 5\npath 0 2 0,1 1,1 2,1\npath 1 3 1,0 1,0 1",
+    "empty": "",
+}
+
+FORMATS = {"paths": PATHS, "lacam": LACAM, "yaml": YAML, "plan": PLAN}
+
+# What is answered on each kind, whatever the format: the status, and the line on standard output. FOUND stands for the
+# name of the file with the cheaper plan.
+ANSWERED = {
+    "cheapest": (0, "cheapest: 5\n"),
+    "dearer": (1, "not cheapest: 6, a plan of 5 is in FOUND\n"),
+    "vertex": (1, "not valid: agents 0 and 1 are both in (1,1) at tick 1\n"),
+    "swap": (1, "not valid: agents 0 and 1 exchange (1,1) and (2,1) after tick 2\n"),
+    "elsewhere": (1, "not valid: agent 1 ends in (1,0), and its goal is (1,2)\n"),
+}
+
+# The kinds that can't be read, each with what the line on standard error has to say.
+TOLD = {
+    ("paths", "missing"): ["no path of agent 1", "K is 2", "see whether the file is whole"],
+    ("lacam", "missing"): ["no path of agent 1", "K is 2", "see whether the file is whole"],
+    ("yaml", "missing"): ["no path of agent 1", "K is 2", "see whether the file is whole"],
+    ("plan", "missing"): ["no path of agent 1", "K is 2", "see whether the file is whole"],
+    ("paths", "cut"): ["answer, line 2:", "'(1,'", "see whether the line is whole"],
+    ("lacam", "cut"): ["answer, line 16:", "'(1'", "see whether the line is whole"],
+    ("yaml", "cut"): ["answer, line 21:", "see whether the file is whole"],
+    ("plan", "cut"): ["answer, line 5:", "'path 1'"],
+    ("paths", "empty"): ["answer is empty", "let the solver write"],
+    ("lacam", "empty"): ["answer is empty", "let the solver write"],
+    ("yaml", "empty"): ["answer is empty", "let the solver write"],
+    ("plan", "empty"): ["answer is empty", "let the solver write"],
+}
+
+
+@dataclass
+class Asked:
+    """One call, and what is wanted of it: the status, the standard output, and parts of the standard error."""
+
+    name: str
+    answer: str | bytes
+    status: int
+    out: str = ""
+    told: list = field(default_factory=list)
+    more: list = field(default_factory=list)
+    agents: str = "2"
+    grid: str = CROSSING_MAP
+    scenario: str = CROSSING_SCEN
+    environment: dict = field(default_factory=dict)
+
+
+def tests(tally):
+    for name, answers in FORMATS.items():
+        if name == "yaml" and not has_yaml():
+            tally.skip("verify, the format yaml", "the package PyYAML isn't here")
+            continue
+        for kind, answer in answers.items():
+            status, out = ANSWERED.get(kind, (2, ""))
+            asked = Asked(f"verify, {name}, {kind}", answer, status, out, TOLD.get((name, kind), []))
+            tally.add(asked.name, faults_of(asked))
+    for asked in as_files_are() + that_cannot_be_read() + that_are_not_valid() + by_bound():
+        tally.add(asked.name, faults_of(asked))
+    tally.add("verify, an example", faults_of(example()))
+    tally.add("verify, no file is changed or left", files_left())
+    tally.add("verify, a folder that isn't empty", folder_kept())
+
+
+def has_yaml():
+    return subprocess.run([sys.executable, "-c", "import yaml"], stderr=subprocess.DEVNULL).returncode == 0
+
+
+def as_files_are():
+    """Answers with what real files have: other line ends, blanks, other orders."""
+    cheapest = {name: answers["cheapest"] for name, answers in FORMATS.items()}
+    paths, lacam, yaml = cheapest["paths"], cheapest["lacam"], cheapest["yaml"]
+    first, second = paths.splitlines(keepends=True)
+    schedule = yaml.removeprefix(YAML_HEAD)
+    texts = {
+        "paths with CR LF": paths.replace("\n", "\r\n"),
+        "paths without the last arrows": paths.replace("->\n", "\n"),
+        "paths without the last line end": paths.removesuffix("\n"),
+        "paths with blanks at the ends of lines": paths.replace("\n", "  \t\n"),
+        "paths without a blank behind the colon": paths.replace(": ", ":"),
+        "paths out of order": second + first,
+        "paths between blank lines": f"\n{first}\n{second}\n",
+        "paths behind a byte order mark": "\ufeff" + paths,
+        "paths with waits at the ends": paths.replace("(1,2)->\n", "(1,2)->(1,2)->(1,2)->\n"),
+        "lacam with CR LF": lacam.replace("\n", "\r\n"),
+        "lacam without the last commas": lacam.replace(",\n", "\n"),
+        "lacam with blanks": lacam.replace("),(", "), (").replace("\n", " \n"),
+        "lacam with a name behind the ticks": lacam + "\nnote=none\n",
+        "yaml with CR LF": yaml.replace("\n", "\r\n"),
+        "yaml with the statistics behind": schedule + YAML_HEAD,
+        "yaml without statistics": schedule,
+        "yaml with the agents out of order": "schedule:\n" + schedule[schedule.index("  agent1"):] + YAML_AGENT_0,
+        "yaml behind a mark and a remark": "---\n# by hand\n" + yaml,
+    }
+    return [Asked(f"verify, {name}", text, 0, "cheapest: 5\n") for name, text in texts.items()
+            if has_yaml() or not name.startswith("yaml")]
+
+
+def that_cannot_be_read():
+    paths, lacam = PATHS["cheapest"], LACAM["cheapest"]
+    third = "Agent 2: (0,0)->\n"
+    log = lacam[:lacam.index("starts=")]
+    asked = [
+        ("paths of three agents", paths + third, ["3 agents, and K is 2", "give 3 as K"]),
+        ("paths that count from 1", paths.replace("Agent 1", "Agent 2").replace("Agent 0", "Agent 1"),
+         ["no path of agent 0", "counted from 0"]),
+        ("an agent twice", paths + paths.splitlines()[1], ["line 3:", "agent 1 has a line above"]),
+        ("an agent without cells", PATHS["missing"] + "Agent 1: \n", ["line 2:", "''"]),
+        ("another line between paths", paths + "done\n", ["line 3:", "'Agent N: (row,column)"]),
+        ("a short log", log, ["no line 'solution='", "the long one"]),
+        ("a log without a plan", log.replace("solved=1", "solved=0") + "solution=\n", ["solved=0", "wrote no plan"]),
+        ("a tick left out", lacam.replace("2:(2,1),(1,1),\n", ""), ["line 16:", "tick 2 stand here"]),
+        ("a tick with a cell less", lacam.replace("2:(2,1),(1,1),", "2:(2,1),"), ["line 16:", "tick 2 has 1 cell"]),
+        ("a text of no format", "path of agent 0\n", ["line 1:", "paths, lacam, yaml, plan", "--help"]),
+        ("bytes that are no text", bytes(range(128, 256)), ["line 1:", "paths, lacam, yaml, plan"]),
+        ("a plan text that tells a limit", "mapf-plan 2\nagents 2\nlimit 0 bound 4\nend\n",
+         ["holds no plan", "'limit 0 bound 4'"]),
+        ("a plan text of which the cost isn't the sum", PLAN["cheapest"].replace("cost 5", "cost 4"),
+         ["line 3:", "add up to 5"]),
+    ]
+    calls = [Asked(f"verify, {name}", answer, 2, "", told) for name, answer, told in asked]
+    calls += [
+        Asked("verify, paths said to be lacam", paths, 2, "", ["'solution='"], ["--format", "lacam"]),
+        Asked("verify, an unknown format", paths, 2, "", ["invalid choice: 'text'"], ["--format", "text"]),
+        Asked("verify, no agents", paths, 2, "", ["number from 1 to 200"], agents="0"),
+        Asked("verify, more agents than the scenario has", paths, 2, "", ["has 2 agents", "at most 2"], agents="3"),
+        Asked("verify, a limit too great", paths, 2, "", ["number from 0 to 100,000"], ["--limit", "100001"]),
+        Asked("verify, a scenario of another map", paths, 2, "", ["scen, line 2:", "this scenario's map?"],
+              grid=ROOMS_MAP),
+        Asked("verify, a map with a bad row", paths, 2, "", ["map, line 6:", "row 1"],
+              grid=CROSSING_MAP.replace("...\n", "..\n").replace("..\n", "...\n", 1)),
+        Asked("verify, no program", paths, 2, "", ["MAPF names /nowhere", "set it"], environment={"MAPF": "/nowhere"}),
+    ]
+    return calls + yaml_that_cannot_be_read()
+
+
+def yaml_that_cannot_be_read():
+    yaml = YAML["cheapest"]
+    without = {"PYTHONPATH": str(TESTS / "tools" / "without_yaml")}
+    calls = [Asked("verify, yaml without PyYAML", yaml, 2, "", ["PyYAML", "install it"], environment=without)]
+    texts = {
+        "statistics alone": (YAML_HEAD, ["no agents under 'schedule:'"]),
+        "a schedule of nobody": (YAML_HEAD + "schedule:\n", ["no agents under 'schedule:'"]),
+        "an agent of another name": (yaml.replace("agent1", "robot1"), ["'robot1' has to be 'agentN'"]),
+        "an agent without entries": (YAML["missing"] + "  agent1:\n", ["'agent1' has to be 'agentN'"]),
+        "a tick left out": (yaml.replace("t: 3", "t: 4"), ["'agent1:', entry 4", "its t is 4, and 3 is due"]),
+        "an entry cut": (YAML["elsewhere"] + "    - x: 1\n      y: 0\n", ["'agent1:', entry 2", "whether the file"]),
+    }
+    if has_yaml():
+        calls += [Asked(f"verify, yaml, {name}", text, 2, "", told) for name, (text, told) in texts.items()]
+    return calls
+
+
+def that_are_not_valid():
+    """Plans with faults of other kinds, and with several."""
+    column_first = "Agent 0: (0,1)->(1,1)->(2,1)->\nAgent 1: (1,0)->(1,0)->(1,1)->(1,2)->\n"
+    texts = {
+        "a column before the row": (column_first, [
+            "agent 0 begins in (1,0), and its start is (0,1)", "agent 0 ends in (1,2), and its goal is (2,1)",
+            "agent 1 begins in (0,1), and its start is (1,0)", "agent 1 ends in (2,1), and its goal is (1,2)"]),
+        "a cell outside the map": (PATHS["missing"] + "Agent 1: (0,1)->(-1,1)->(0,1)->(0,1)->(1,1)->(2,1)->\n", [
+            "agent 1 goes from (1,0) to (1,-1) after tick 0, and (1,-1) is outside the map"]),
+        "a cell beyond the width": (PATHS["missing"] + "Agent 1: (0,1)->(0,2)->(0,3)->(2,1)\n", [
+            "agent 1 goes from (2,0) to (3,0) after tick 1, and (3,0) is outside the map",
+            "agent 1 goes from (3,0) to (1,2) after tick 2, which is further than one cell"]),
+        "a jump": (PATHS["missing"] + "Agent 1: (0,1)->(2,1)->\n", [
+            "agent 1 goes from (1,0) to (1,2) after tick 0, which is further than one cell"]),
+    }
+    return [Asked(f"verify, {name}", text, 1, "not valid: " + "\nand ".join(faults) + "\n")
+            for name, (text, faults) in texts.items()]
+
+
+def by_bound():
+    """Searches that meet their limit: with a bound below the cost, and with one that is the cost."""
+    rooms = {"grid": ROOMS_MAP, "scenario": ROOMS_SCEN, "agents": "4"}
+    best = PATHS["cheapest"] + "Agent 2: (0,4)->(1,4)->(1,5)->\nAgent 3: (0,6)->(0,5)->(0,4)->\n"
+    waits = PATHS["cheapest"] + "Agent 2: (0,4)->(1,4)->(1,5)->\nAgent 3: (0,6)->(0,6)->(0,5)->(0,4)->\n"
+    apart = "Agent 0: (0,4)->(0,5)->(1,5)->\n"
+    return [
+        Asked("verify, a limit of no splits", PATHS["cheapest"], 4,
+              "unknown: 5, no valid plan costs less than 4 (limit of 0 splits)\n", more=["--limit", "0"]),
+        Asked("verify, a bound that is the cost", best, 0, "cheapest: 9\n", more=["--limit", "1"], **rooms),
+        Asked("verify, a bound below the cost", waits, 4,
+              "unknown: 10, no valid plan costs less than 9 (limit of 1 splits)\n", more=["--limit", "1"], **rooms),
+        Asked("verify, a search beyond that bound", waits, 1, "not cheapest: 10, a plan of 9 is in FOUND\n", **rooms),
+        Asked("verify, one agent by its distance", apart, 0, "cheapest: 2\n", more=["--limit", "0"], agents="1",
+              grid=ROOMS_MAP, scenario="version 1\n0 r.map 7 3 4 0 5 1 2\n"),
+    ]
+
+
+def example():
+    """The answer that README.md tries."""
+    return Asked("verify, an example", (EXAMPLES / "empty-8-8-answer.txt").read_bytes(), 0, "cheapest: 43\n", agents="6",
+                 grid=(EXAMPLES / "empty-8-8.map").read_text(), scenario=(EXAMPLES / "empty-8-8.scen").read_text())
+
+
+def called(asked, folder, *more):
+    """Runs tools/verify in a folder, with the temporary files in a folder in it."""
+    for name, text in (("map", asked.grid), ("scen", asked.scenario), ("answer", asked.answer)):
+        (folder / name).write_bytes(text.encode() if isinstance(text, str) else text)
+    (folder / "tmp").mkdir(exist_ok=True)
+    words = [sys.executable, str(VERIFY), "map", "scen", asked.agents, "answer", *asked.more, *more]
+    environment = {**os.environ, "TMPDIR": str(folder / "tmp"), **asked.environment}
+    return subprocess.run(words, cwd=folder, env=environment, stdin=subprocess.DEVNULL, capture_output=True, text=True)
+
+
+def faults_of(asked):
+    """How a call, and the same with --keep, differ from what is wanted, and how what is kept does."""
+    with tempfile.TemporaryDirectory() as name:
+        folder = Path(name)
+        faults = ended_faults(asked, called(asked, folder), rf"{folder}/tmp/mapf-verify-\w+/found\.txt")
+        if asked.status != 2:
+            faults += ended_faults(asked, called(asked, folder, "--keep", "kept"), "kept/found.txt")
+            faults += kept_faults(folder / "kept", asked.out.split(",")[0].rstrip("\n"))
+        return faults
+
+
+def ended_faults(asked, ended, found):
+    wanted = re.escape(asked.out).replace("FOUND", found)
+    faults = []
+    if ended.returncode != asked.status:
+        faults.append(f"status {ended.returncode}, wanted {asked.status}")
+    if not re.fullmatch(wanted, ended.stdout):
+        faults.append(f"it says {ended.stdout!r}, wanted {asked.out!r}")
+    if asked.status != 2 and ended.stderr:
+        faults.append(f"it says {ended.stderr!r} on standard error")
+    return faults + [f"standard error has no {part!r}: {ended.stderr!r}" for part in asked.told if part not in ended.stderr]
+
+
+def kept_faults(kept, answer):
+    """What mapf check says in the folder has to be what the note says, beginning with the answer."""
+    note = (kept / "commands.txt").read_text()
+    faults = [] if note.startswith(answer) else [f"the note begins with {note[:60]!r}"]
+    checks = re.findall(r"^    mapf (check .*)\n\nprints '(.*)': ", note, re.MULTILINE)
+    for words, line in checks:
+        ended = subprocess.run([os.environ["MAPF"], *words.split(" ")], cwd=kept, capture_output=True, text=True)
+        if ended.stdout != line + "\n":
+            faults.append(f"mapf {words} prints {ended.stdout!r} of what is kept, wanted {line!r}")
+    return faults if checks else faults + ["the note has no command"]
+
+
+def files_left():
+    """A call leaves no file behind, unless it names one, and changes none."""
+    faults = []
+    for kind in ("cheapest", "vertex", "cut"):
+        with tempfile.TemporaryDirectory() as name:
+            called(Asked(kind, PATHS[kind], 0), Path(name))
+            there = sorted(str(path.relative_to(name)) for path in Path(name).rglob("*"))
+            if there != ["answer", "map", "scen", "tmp"] or (Path(name) / "answer").read_text() != PATHS[kind]:
+                faults.append(f"{kind} leaves {there}")
+    return faults
+
+
+def folder_kept():
+    with tempfile.TemporaryDirectory() as name:
+        asked = Asked("", PATHS["cheapest"], 2, "", ["kept isn't empty", "name a new folder"])
+        (Path(name) / "kept").mkdir()
+        (Path(name) / "kept" / "mine").write_text("mine")
+        faults = ended_faults(asked, called(asked, Path(name), "--keep", "kept"), "")
+        return faults + [path.name for path in (Path(name) / "kept").iterdir() if path.name != "mine"]

@@ -1,0 +1,422 @@
+"""What the tools share: the program, maps, scenarios and plan texts as docs/FORMATS.md describes them, and what is
+wrong with a plan, in words. A cell is (x, y), a path the list of an agent's cells, one for each tick from 0 on.
+"""
+
+import os
+import re
+import subprocess
+import sys
+from dataclasses import dataclass, field
+from pathlib import Path
+
+TOP = Path(__file__).resolve().parent.parent
+
+MOST_AGENTS = 200
+GREATEST_SIDE = 2048
+MOST_SPLITS = 100_000
+GREATEST_COST = 9_999_999
+GREATEST_SUM = 1_999_999_800
+
+FREE, BLOCKED = ".GS", "@OTW"
+
+
+class ToolError(Exception):
+    """What a tool's user has to mend: one line that says what to do."""
+
+
+def run_tool(main):
+    """Runs a tool's `main` and ends with the status that it answers. A fault is told in one line, with status 2."""
+    try:
+        status = main()
+        sys.stdout.flush()
+    except ToolError as error:
+        clear_progress()
+        print(f"{Path(sys.argv[0]).name}: {error}", file=sys.stderr)
+        status = 2
+    except KeyboardInterrupt:
+        clear_progress()
+        print(f"{Path(sys.argv[0]).name}: stopped", file=sys.stderr)
+        status = 130
+    except BrokenPipeError:
+        os.dup2(os.open(os.devnull, os.O_WRONLY), 1)
+        status = 2
+    except OSError as error:
+        clear_progress()
+        print(f"{Path(sys.argv[0]).name}: {error}", file=sys.stderr)
+        status = 2
+    sys.exit(status)
+
+
+# The program.
+
+def program():
+    """The command of mapf: what MAPF names, else the program of this tree, which is built first where it has to be."""
+    named = os.environ.get("MAPF")
+    if named:
+        if not os.access(named, os.X_OK) or os.path.isdir(named):
+            raise ToolError(f"MAPF names {named}, which isn't a program: set it to mapf, or unset it")
+        return str(Path(named).resolve())
+    here = TOP / "mapf"
+    if not os.access(here, os.X_OK):
+        raise ToolError(f"the program isn't at {here}: set MAPF to where it is")
+    if not is_launcher(here):
+        return str(here)
+    if subprocess.run([str(here), "--help"], stdin=subprocess.DEVNULL, stdout=subprocess.DEVNULL).returncode != 0:
+        raise ToolError(f"{here} couldn't build the program: see above, or set MAPF to a program that is built")
+    return str(TOP / "crates" / "mapf" / "out" / "mapf")
+
+
+def is_launcher(path):
+    """In a checkout `mapf` is a script that builds the program and runs it, in an archive it is the program."""
+    with open(path, "rb") as file:
+        return file.read(2) == b"#!"
+
+
+# A progress line.
+
+def progress(said):
+    """Shows a line on a terminal in place of the one before. Where standard error is none, shows nothing."""
+    if sys.stderr.isatty():
+        print(f"\r\033[K{said}", end="", file=sys.stderr, flush=True)
+
+
+def clear_progress():
+    progress("")
+
+
+# Texts.
+
+@dataclass(frozen=True)
+class Text:
+    """The lines of a file, without their ends. Each byte is one character."""
+
+    path: str
+    lines: list[str]
+
+    def line(self, number):
+        """The line of this number, counted from 1; none behind the last."""
+        return self.lines[number - 1] if number <= len(self.lines) else None
+
+    def words(self, number):
+        return words_of(self.line(number) or "")
+
+    def fault(self, number, said):
+        found = self.line(number)
+        end = "the file ends here" if found is None else f"here is {shortened(found)}"
+        return ToolError(f"{self.path}, line {number}: {said}; {end}")
+
+
+def read_bytes(path):
+    try:
+        return Path(path).read_bytes()
+    except OSError as error:
+        raise ToolError(f"{path} can't be read: {error.strerror}") from None
+
+
+def read_text(path):
+    """A file's lines. One CR before a line's end belongs to the end."""
+    lines = read_bytes(path).decode("latin-1").split("\n")
+    if lines[-1] == "":
+        lines.pop()
+    return Text(str(path), [line.removesuffix("\r") for line in lines])
+
+
+def words_of(line):
+    """The words of a line. Between them are spaces and tabs."""
+    return re.findall("[^ \t]+", line)
+
+
+def is_digits(word):
+    return re.fullmatch("[0-9]+", word) is not None
+
+
+def shortened(line):
+    return repr(line) if len(line) <= 60 else f"{line[:60]!r}.."
+
+
+def shown(cell):
+    return f"({cell[0]},{cell[1]})"
+
+
+def number_between(least, most):
+    """For argparse: the number of a word, which has to be in this range."""
+    def number(word):
+        if not is_digits(word) or not least <= int(word) <= most:
+            raise ValueError
+        return int(word)
+    number.__name__ = f"number from {least} to {most:,}"
+    return number
+
+
+agent_count = number_between(1, MOST_AGENTS)
+
+
+# Maps.
+
+@dataclass(frozen=True)
+class Grid:
+    """The cells of a map, by row."""
+
+    width: int
+    height: int
+    rows: list[str]
+
+    def is_free(self, cell):
+        x, y = cell
+        return 0 <= x < self.width and 0 <= y < self.height and self.rows[y][x] in FREE
+
+
+def read_map(path):
+    text = read_text(path)
+    if text.words(1) != ["type", "octile"]:
+        raise text.fault(1, "a map begins with 'type octile'")
+    height, width = side(text, 2, "height"), side(text, 3, "width")
+    if text.words(4) != ["map"]:
+        raise text.fault(4, "'map' stands before the rows")
+    for number in range(5, 5 + height):
+        row = text.line(number)
+        if row is None or len(row) != width or not all(cell in FREE + BLOCKED for cell in row):
+            raise text.fault(number, f"row {number - 5} has to be {width} of the characters {FREE}{BLOCKED}")
+    for number in range(5 + height, len(text.lines) + 1):
+        if text.words(number):
+            raise text.fault(number, f"only blank lines may follow the {height} rows")
+    return Grid(width, height, text.lines[4:4 + height])
+
+
+def side(text, number, name):
+    words = text.words(number)
+    if len(words) != 2 or words[0] != name or not is_digits(words[1]) or not 1 <= int(words[1]) <= GREATEST_SIDE:
+        raise text.fault(number, f"'{name}' and a number from 1 to {GREATEST_SIDE} stand here")
+    return int(words[1])
+
+
+# Scenarios.
+
+@dataclass(frozen=True)
+class Agent:
+    """Where an agent starts and where its goal is."""
+
+    start: tuple[int, int]
+    goal: tuple[int, int]
+
+
+def read_agents(path, grid, count):
+    """The first agents of a scenario, so many."""
+    agents = all_agents(path, grid, count)
+    if len(agents) < count:
+        raise ToolError(f"{path} has {len(agents)} agents, and {count} were asked for: ask for at most {len(agents)}")
+    return agents
+
+
+def all_agents(path, grid, most):
+    """The agents of a scenario, at most so many."""
+    text = read_text(path)
+    numbers = [number for number in range(1, len(text.lines) + 1) if text.words(number)]
+    if not numbers or text.words(numbers[0]) not in (["version", "1"], ["version", "1.0"]):
+        raise text.fault(numbers[0] if numbers else 1, "a scenario begins with 'version 1'")
+    return [agent_of(text, number, grid) for number in numbers[1:most + 1]]
+
+
+def agent_of(text, number, grid):
+    words = text.words(number)
+    if len(words) != 9:
+        raise text.fault(number, "an agent has nine words: bucket, map, width, height, start x y, goal x y, length")
+    if not all(is_digits(word) for word in (words[0], *words[2:8])):
+        raise text.fault(number, "all words but the second and the last are whole numbers")
+    if not re.fullmatch(r"[+-]?[0-9]+(\.[0-9]+)?([eE][+-]?[0-9]+)?", words[8]):
+        raise text.fault(number, "the last word, the length, is a decimal number")
+    width, height, *ends = map(int, words[2:8])
+    if (width, height) != (grid.width, grid.height):
+        raise text.fault(number, f"the map has {grid.width} columns and {grid.height} rows: is it this scenario's map?")
+    start, goal = tuple(ends[:2]), tuple(ends[2:])
+    for name, cell in (("start", start), ("goal", goal)):
+        if not grid.is_free(cell):
+            raise text.fault(number, f"the {name} {shown(cell)} isn't a free cell: is it this scenario's map?")
+    return Agent(start, goal)
+
+
+# Plan texts.
+
+@dataclass(frozen=True)
+class Plan:
+    """What a plan text says. Its kind is 'cost', with the sum of the costs and the paths; 'impossible'; or 'limit',
+    with the number of splits (or 'ticks'), and the bound, none in version 1.
+    """
+
+    kind: str
+    agents: int
+    cost: int | None = None
+    paths: list[list[tuple[int, int]]] = field(default_factory=list)
+    limit: int | str | None = None
+    bound: int | None = None
+
+
+NUMBER = "(0|[1-9][0-9]*)"
+PAIR = f"{NUMBER},{NUMBER}"
+LIMITS = {1: "limit N", 2: "limit N bound B"}
+
+
+def read_plan(path):
+    """A plan text. Of its cells nothing is asked but their form."""
+    data = read_bytes(path)
+    text = Text(str(path), data.decode("latin-1").split("\n"))
+    if text.lines[-1] == "":
+        text.lines.pop()
+    version = 1 + wanted(text, 1, "mapf-plan 1", "mapf-plan 2")
+    agents = number_in(text, 2, "agents ", 1, MOST_AGENTS)
+    plan = answer_of(text, version, agents)
+    last = 4 + len(plan.paths)
+    wanted(text, last, "end")
+    if len(text.lines) > last:
+        raise text.fault(last + 1, "nothing follows 'end'")
+    if not data.endswith(b"\n"):
+        raise ToolError(f"{path}, line {last}: the line has no end: put a line feed behind 'end'")
+    return plan
+
+
+def wanted(text, number, *lines):
+    """Which of these lines stands here."""
+    if text.line(number) not in lines:
+        raise text.fault(number, f"{' or '.join(map(repr, lines))} stands here")
+    return lines.index(text.line(number))
+
+
+def number_in(text, number, before, least, most):
+    line = text.line(number) or ""
+    word = line[len(before):]
+    if not line.startswith(before) or not re.fullmatch(NUMBER, word) or not least <= int(word) <= most:
+        raise text.fault(number, f"'{before}' and a number from {least} to {most:,} stand here")
+    return int(word)
+
+
+def answer_of(text, version, agents):
+    line = text.line(3) or ""
+    limit = re.fullmatch(f"limit ({NUMBER}|ticks)" + (f" bound {NUMBER}" if version == 2 else ""), line)
+    if line == "impossible":
+        return Plan("impossible", agents)
+    if limit:
+        bound = int(limit[3]) if version == 2 else None
+        return Plan("limit", agents, limit="ticks" if limit[1] == "ticks" else int(limit[1]), bound=bound)
+    if not line.startswith("cost "):
+        raise text.fault(3, f"'cost C', 'impossible' or '{LIMITS[version]}' stands here")
+    cost = number_in(text, 3, "cost ", 0, GREATEST_SUM)
+    paths = [path_of(text, 4 + agent, agent) for agent in range(agents)]
+    if sum_of(paths) != cost:
+        raise text.fault(3, f"the costs of the paths add up to {sum_of(paths)}")
+    return Plan("cost", agents, cost, paths)
+
+
+def path_of(text, number, agent):
+    line = text.line(number) or ""
+    found = re.fullmatch(f"path {agent} {NUMBER}((?: {PAIR})+)", line)
+    if not found:
+        raise text.fault(number, f"'path {agent}', the path's cost and its cells x,y stand here, between single spaces")
+    path = [tuple(map(int, pair.split(","))) for pair in found[2].split(" ")[1:]]
+    if len(path) != int(found[1]) + 1:
+        raise text.fault(number, f"a path of cost {found[1]} has {int(found[1]) + 1} cells, and {len(path)} stand here")
+    if len(path) > 1 and path[-1] == path[-2]:
+        raise text.fault(number, "the last two cells of a path differ")
+    return path
+
+
+def plan_text(paths):
+    """The plan text of these paths, of which none ends with a wait."""
+    lines = ["mapf-plan 2", f"agents {len(paths)}", f"cost {sum_of(paths)}"]
+    for agent, path in enumerate(paths):
+        lines.append(" ".join([f"path {agent} {len(path) - 1}", *("%d,%d" % cell for cell in path)]))
+    return "\n".join([*lines, "end", ""])
+
+
+# What a path costs, and what is wrong with a plan.
+
+def cut_waits(path):
+    """The path without the waits at its end."""
+    end = len(path)
+    while end > 1 and path[end - 1] == path[end - 2]:
+        end -= 1
+    return path[:end]
+
+
+def cost_of(path):
+    """The tick from which on the agent stays where its path ends."""
+    return len(cut_waits(path)) - 1
+
+
+def sum_of(paths):
+    return sum(map(cost_of, paths))
+
+
+def cell_at(path, tick):
+    """Where the agent is at a tick. It stays where its path ends."""
+    return path[min(tick, len(path) - 1)]
+
+
+@dataclass(frozen=True)
+class Fault:
+    """What is wrong with a plan. Its kind is 'start', 'step' or 'end' with one agent, 'vertex' or 'swap' with two. The
+    tick of a step and of a swap is that of leaving; the cells are those that the words name, in their order.
+    """
+
+    kind: str
+    agents: tuple[int, ...]
+    tick: int
+    cells: tuple[tuple[int, int], ...]
+    words: str
+
+
+def faults_of(grid, agents, paths):
+    """All that is wrong with a plan: first of each agent, then each conflict, by tick. None, where it is valid."""
+    found = []
+    for agent, (task, path) in enumerate(zip(agents, paths)):
+        found.extend(faults_of_path(grid, agent, task, path))
+    for tick in range(max(map(len, paths), default=0)):
+        found.extend(conflicts_at(paths, tick))
+    return found
+
+
+def faults_of_path(grid, agent, task, path):
+    if path[0] != task.start:
+        yield Fault("start", (agent,), 0, (path[0], task.start),
+                    f"agent {agent} begins in {shown(path[0])}, and its start is {shown(task.start)}")
+    for tick, (here, there) in enumerate(zip(path, path[1:])):
+        words = fault_of_step(grid, here, there)
+        if words:
+            yield Fault("step", (agent,), tick, (here, there),
+                        f"agent {agent} goes from {shown(here)} to {shown(there)} after tick {tick}, {words}")
+    if path[-1] != task.goal:
+        yield Fault("end", (agent,), len(path) - 1, (path[-1], task.goal),
+                    f"agent {agent} ends in {shown(path[-1])}, and its goal is {shown(task.goal)}")
+
+
+def fault_of_step(grid, here, there):
+    """What is wrong with a step, in words; nothing, where it is good. Of the cell that is left the step before tells."""
+    if not (0 <= there[0] < grid.width and 0 <= there[1] < grid.height):
+        return f"and {shown(there)} is outside the map"
+    if not grid.is_free(there):
+        return f"and {shown(there)} is blocked"
+    if abs(here[0] - there[0]) + abs(here[1] - there[1]) > 1:
+        return "which is further than one cell"
+    return ""
+
+
+def conflicts_at(paths, tick):
+    """The conflicts of the tick: two agents in one cell, then two that exchange their cells after it."""
+    here = [cell_at(path, tick) for path in paths]
+    there = [cell_at(path, tick + 1) for path in paths]
+    for one, other in pairs_of(here, here):
+        yield Fault("vertex", (one, other), tick, (here[one],),
+                    f"agents {one} and {other} are both in {shown(here[one])} at tick {tick}")
+    moves, back = list(zip(here, there)), list(zip(there, here))
+    for one, other in pairs_of(moves, back):
+        if here[one] != there[one]:
+            cells = f"{shown(here[one])} and {shown(there[one])}"
+            yield Fault("swap", (one, other), tick, (here[one], there[one]),
+                        f"agents {one} and {other} exchange {cells} after tick {tick}")
+
+
+def pairs_of(values, sought):
+    """The pairs of agents, the lesser first, of which the first has the value that is sought of the second."""
+    having = {}
+    for agent, value in enumerate(values):
+        having.setdefault(value, []).append(agent)
+    return sorted((one, other) for other, value in enumerate(sought) for one in having.get(value, ()) if one < other)
