@@ -237,13 +237,19 @@ def shows_on_a_phone_in_the_dark(browser, folder):
     browser.resize(320, 568, True)
     browser.prefer("dark")
     data = opened(browser, folder, VALID)
-    faults = wrong_colours(browser, data, VALID, [2])
+    faults = wrong_colours(browser, data, VALID, [2, 0])
     if browser.value("document.documentElement.scrollWidth") > 320:
         faults.append(f"the page is {browser.value('document.documentElement.scrollWidth')} pixels wide")
     light = browser.value("colour.free")
     browser.prefer("light")
     browser.settle()
     faults += [] if browser.value("colour.free") != light else ["light and dark have one ground"]
+    x, y = point_of(browser, (0, 1))
+    for kind, points in (("touchStart", [{"x": x, "y": y}]), ("touchEnd", [])):
+        browser.ask("Input.dispatchTouchEvent", type=kind, touchPoints=points)
+    browser.settle()
+    if "agent 0, cost 3" not in browser.value("element('tip').hidden ? '' : element('tip').innerText"):
+        faults.append("a tap on agent 0 doesn't tell its cost")
     browser.resize(640, 480)
     return faults
 

@@ -240,6 +240,13 @@ function release(event) {
   canvas.classList.toggle("dragged", down.size > 0 && wasMoved);
 }
 
+// A finger leaves the page after each tap; what it points at stays.
+function left(event) {
+  if (event.pointerType === "mouse") {
+    point(null);
+  }
+}
+
 // Keys.
 
 const keys = {
@@ -367,7 +374,7 @@ function listen() {
   canvas.addEventListener("pointermove", move);
   canvas.addEventListener("pointerup", release);
   canvas.addEventListener("pointercancel", release);
-  canvas.addEventListener("pointerleave", () => point(null));
+  canvas.addEventListener("pointerleave", left);
   canvas.addEventListener("dblclick", (event) => zoom(1.8, ...placeOf(event)));
   canvas.addEventListener("wheel", (event) => {
     event.preventDefault();
