@@ -2,6 +2,7 @@
 the formats, and checks by mapf alone what it leaves for others.
 """
 
+import functools
 import os
 import re
 import subprocess
@@ -184,7 +185,7 @@ TOLD = {
     ("plan", "missing"): ["no path of agent 1", "K is 2", "see whether the file is whole"],
     ("paths", "cut"): ["answer, line 2:", "'(1,'", "see whether the line is whole"],
     ("lacam", "cut"): ["answer, line 16:", "'(1'", "see whether the line is whole"],
-    ("yaml", "cut"): ["answer, line 21:", "see whether the file is whole"],
+    ("yaml", "cut"): ["answer, line 2", "see whether the file is whole"],
     ("plan", "cut"): ["answer, line 5:", "'path 1'"],
     ("paths", "empty"): ["answer is empty", "let the solver write"],
     ("lacam", "empty"): ["answer is empty", "let the solver write"],
@@ -195,7 +196,9 @@ TOLD = {
 
 @dataclass
 class Asked:
-    """One call, and what is wanted of it: the status, the standard output, and parts of the standard error."""
+    """One call, and what is wanted of it: the status, the standard output, and parts of the standard error and of the
+    note that --keep leaves.
+    """
 
     name: str
     answer: str | bytes
@@ -203,6 +206,7 @@ class Asked:
     out: str = ""
     told: list = field(default_factory=list)
     more: list = field(default_factory=list)
+    noted: str = "prints '"
     agents: str = "2"
     grid: str = CROSSING_MAP
     scenario: str = CROSSING_SCEN
@@ -225,6 +229,7 @@ def tests(tally):
     tally.add("verify, a folder that isn't empty", folder_kept())
 
 
+@functools.cache
 def has_yaml():
     return subprocess.run([sys.executable, "-c", "import yaml"], stderr=subprocess.DEVNULL).returncode == 0
 
@@ -342,7 +347,8 @@ def by_bound():
     return [
         Asked("verify, a limit of no splits", PATHS["cheapest"], 4,
               "unknown: 5, no valid plan costs less than 4 (limit of 0 splits)\n", more=["--limit", "0"]),
-        Asked("verify, a bound that is the cost", best, 0, "cheapest: 9\n", more=["--limit", "1"], **rooms),
+        Asked("verify, a bound that is the cost", best, 0, "cheapest: 9\n", more=["--limit", "1"],
+              noted="its line 'claim bound 9' was changed into 'claim cost 9'", **rooms),
         Asked("verify, a bound below the cost", waits, 4,
               "unknown: 10, no valid plan costs less than 9 (limit of 1 splits)\n", more=["--limit", "1"], **rooms),
         Asked("verify, a search beyond that bound", waits, 1, "not cheapest: 10, a plan of 9 is in FOUND\n", **rooms),
@@ -374,7 +380,7 @@ def faults_of(asked):
         faults = ended_faults(asked, called(asked, folder), rf"{folder}/tmp/mapf-verify-\w+/found\.txt")
         if asked.status != 2:
             faults += ended_faults(asked, called(asked, folder, "--keep", "kept"), "kept/found.txt")
-            faults += kept_faults(folder / "kept", asked.out.split(",")[0].rstrip("\n"))
+            faults += kept_faults(folder / "kept", asked)
         return faults
 
 
@@ -390,16 +396,18 @@ def ended_faults(asked, ended, found):
     return faults + [f"standard error has no {part!r}: {ended.stderr!r}" for part in asked.told if part not in ended.stderr]
 
 
-def kept_faults(kept, answer):
-    """What mapf check says in the folder has to be what the note says, beginning with the answer."""
+def kept_faults(kept, asked):
+    """The note begins with the answer, and mapf check says in the folder what the note says."""
+    if not (kept / "commands.txt").exists():
+        return ["no commands.txt is kept"]
     note = (kept / "commands.txt").read_text()
-    faults = [] if note.startswith(answer) else [f"the note begins with {note[:60]!r}"]
-    checks = re.findall(r"^    mapf (check .*)\n\nprints '(.*)': ", note, re.MULTILINE)
-    for words, line in checks:
+    wanted = [asked.out.replace("FOUND", "kept/found.txt"), asked.noted]
+    faults = [f"the note has no {part!r}: {note!r}" for part in wanted if part not in note]
+    for words, line in re.findall(r"^    mapf (check .*)\n\nprints '(.*)': ", note, re.MULTILINE):
         ended = subprocess.run([os.environ["MAPF"], *words.split(" ")], cwd=kept, capture_output=True, text=True)
         if ended.stdout != line + "\n":
             faults.append(f"mapf {words} prints {ended.stdout!r} of what is kept, wanted {line!r}")
-    return faults if checks else faults + ["the note has no command"]
+    return faults
 
 
 def files_left():
