@@ -75,7 +75,9 @@ def middle(rows, name):
 # Values in words.
 
 def seconds(value):
-    return "" if value is None else f"{value:.2f} s" if value < 10 else f"{value:.1f} s"
+    if value is None:
+        return ""
+    return f"{1000 * value:.0f} ms" if value < 0.9995 else f"{value:.2f} s" if value < 10 else f"{value:.1f} s"
 
 
 def count(value):
