@@ -157,8 +157,18 @@ def count_splits(path):
     """How many lines of a certificate are splits; none, where there is no certificate."""
     if size(path) is None:
         return None
+    found, rest = 0, b"\n"
     with open(path, "rb") as file:
-        return sum(line.startswith((b"vertex ", b"swap ")) for line in file)
+        while block := file.read(1 << 16):
+            # Of each block what follows its last line end is left for the next.
+            lines, end, rest = (rest + block).rpartition(b"\n")
+            found += count_in(lines)
+            rest = end + rest
+    return found + count_in(rest)
+
+
+def count_in(lines):
+    return lines.count(b"\nvertex ") + lines.count(b"\nswap ")
 
 
 if __name__ == "__main__":
