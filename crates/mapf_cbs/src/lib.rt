@@ -7,6 +7,7 @@ mod blocks;
 mod bound_labels;
 mod child;
 mod clash;
+mod endings;
 mod finders;
 pub mod laws;
 mod node;
