@@ -115,8 +115,8 @@ class Browser:
             self.requests.append(values["request"]["url"])
 
     def resize(self, width, height, is_phone=False):
-        self.ask("Emulation.setDeviceMetricsOverride", width=width, height=height, deviceScaleFactor=2 if is_phone else 1,
-                 mobile=is_phone)
+        self.ask("Emulation.setDeviceMetricsOverride", width=width, height=height,
+                 deviceScaleFactor=2 if is_phone else 1, mobile=is_phone)
 
     def prefer(self, scheme):
         """Prefers light or dark pages."""
@@ -144,8 +144,8 @@ class Browser:
 
     def press(self, key, code=None):
         text = {"text": key} if len(key) == 1 else {}
-        for kind in ("keyDown", "keyUp"):
-            self.ask("Input.dispatchKeyEvent", type=kind, key=key, code=code or key, **(text if kind == "keyDown" else {}))
+        self.ask("Input.dispatchKeyEvent", type="keyDown", key=key, code=code or key, **text)
+        self.ask("Input.dispatchKeyEvent", type="keyUp", key=key, code=code or key)
         self.settle()
 
     def mouse(self, kind, x, y, **values):
@@ -158,9 +158,10 @@ class Browser:
 
     def click_on(self, place):
         """Clicks on the element of this selector, which is brought into sight."""
+        found = f"document.querySelector({json.dumps(place)})"
+        self.value(f"{found}.scrollIntoView({{ block: 'nearest' }})")
         self.click(*self.value(
-            f"(found => {{ found.scrollIntoView({{ block: 'nearest' }}); const box = found.getBoundingClientRect();"
-            f" return [box.left + box.width / 2, box.top + box.height / 2]; }})(document.querySelector({json.dumps(place)}))"))
+            f"(box => [box.left + box.width / 2, box.top + box.height / 2])({found}.getBoundingClientRect())"))
 
     def png(self):
         self.settle()

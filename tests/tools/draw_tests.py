@@ -107,7 +107,8 @@ def colour_faults():
     for count, least in ((200, 15), (20, 60)):
         made = colours(count)
         parts = [[int(colour[at:at + 2], 16) for at in (1, 3, 5)] for colour in made]
-        nearest = min(sum(abs(a - b) for a, b in zip(one, other)) for at, one in enumerate(parts) for other in parts[:at])
+        pairs = [(one, other) for at, one in enumerate(parts) for other in parts[:at]]
+        nearest = min(sum(abs(a - b) for a, b in zip(one, other)) for one, other in pairs)
         if len(set(made)) != count or nearest < least:
             faults.append(f"{count} colours, of which two differ by {nearest} of 765")
     return faults
@@ -302,7 +303,8 @@ def shows_an_agent(browser, folder):
     browser.mouse("mouseMoved", *point_of(browser, (1, 1)))
     browser.settle()
     tip = browser.value("element('tip').hidden ? '' : element('tip').innerText")
-    faults = [f"{word!r} isn't told of agent 1: {tip}" for word in ("agent 1", "cost 2", "(1,0) → (1,2)") if word not in tip]
+    wanted = ("agent 1", "cost 2", "(1,0) → (1,2)")
+    faults = [f"{word!r} isn't told of agent 1: {tip}" for word in wanted if word not in tip]
     browser.click(*point_of(browser, (0, 1)))
     told = browser.value("element('details').innerText")
     wanted = ("tick 0: wait in (0,1)", "ticks 1 to 2: right to (2,1)")
@@ -353,8 +355,9 @@ def shows_large_maps(browser, folder):
     found = colour_in(browser, picture, paths[10][50])
     faults += [] if found == data["agents"][10]["colour"] else [f"agent 10's cell is {found}"]
     drawing = browser.value(
-        "show('paths', true); fit(); drawBehind(); (begin => { for (let at = 0; at < 20; at++) { pen.drawImage(behind, 0, 0);"
-        " drawAgents(); drawFaults(); } return (performance.now() - begin) / 20; })(performance.now())")
+        "show('paths', true); fit(); drawBehind(); (begin => { for (let at = 0; at < 20; at++) {"
+        " pen.drawImage(behind, 0, 0); drawAgents(); drawFaults(); } return (performance.now() - begin) / 20;"
+        " })(performance.now())")
     return faults + ([] if drawing < 200 else [f"a picture takes {drawing:.0f} ms"])
 
 

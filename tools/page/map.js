@@ -126,8 +126,10 @@ function drawBehind() {
 // Lines between the cells that are seen.
 function drawGrid(pen) {
   const { scale, left, top, width, height } = view;
-  const [fromX, toX] = [Math.max(0, Math.floor(-left / scale)), Math.min(data.width, Math.ceil((width - left) / scale))];
-  const [fromY, toY] = [Math.max(0, Math.floor(-top / scale)), Math.min(data.height, Math.ceil((height - top) / scale))];
+  const fromX = Math.max(0, Math.floor(-left / scale));
+  const toX = Math.min(data.width, Math.ceil((width - left) / scale));
+  const fromY = Math.max(0, Math.floor(-top / scale));
+  const toY = Math.min(data.height, Math.ceil((height - top) / scale));
   pen.strokeStyle = colour.grid;
   pen.lineWidth = 1 / scale;
   pen.beginPath();

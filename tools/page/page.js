@@ -80,7 +80,8 @@ function pick(agent) {
   if (agent) {
     agent.legs ??= legsOf(agent);
     listLegs(agent);
-    element("said").textContent = `agent ${agent.number}, cost ${agent.cost}, in ${shown(cellAt(agent, Math.floor(shows.time)))}`;
+    const at = shown(cellAt(agent, Math.floor(shows.time)));
+    element("said").textContent = `agent ${agent.number}, cost ${agent.cost}, in ${at}`;
   }
   tellTick();
   redraw("behind");
@@ -88,7 +89,10 @@ function pick(agent) {
 
 function tellFacts(agent) {
   const at = shown(cellAt(agent, Math.floor(shows.time)));
-  const facts = [["Number", agent.number], ["Cost", agent.cost], ["Start", shown(agent.start)], ["Goal", shown(agent.goal)], ["Now in", at]];
+  const facts = [
+    ["Number", agent.number], ["Cost", agent.cost], ["Start", shown(agent.start)], ["Goal", shown(agent.goal)],
+    ["Now in", at],
+  ];
   element("facts").replaceChildren(...facts.flatMap(([name, value]) => [made("dt", name), made("dd", value)]));
 }
 
@@ -140,8 +144,9 @@ function nextFault() {
 // The agent near a point, or the one whose goal is there.
 function agentNear(x, y, reach) {
   const time = drawnTime();
-  const nearest = nearestOf((agent) => placeAt(agent, time), x, y, Math.max(reach, view.scale * 0.5));
-  return nearest ?? (shows.goals ? nearestOf((agent) => agent.goal, x, y, Math.max(reach / 2, view.scale * 0.5)) : null);
+  const half = view.scale / 2;
+  const nearest = nearestOf((agent) => placeAt(agent, time), x, y, Math.max(reach, half));
+  return nearest ?? (shows.goals ? nearestOf((agent) => agent.goal, x, y, Math.max(reach / 2, half)) : null);
 }
 
 function nearestOf(place, x, y, reach) {
@@ -182,9 +187,10 @@ function placeTip() {
   tip.replaceChildren(name, made("p", `in ${shown(cellAt(agent, tick))} at tick ${tick}`), way);
   const [x, y] = placeAt(agent, drawnTime());
   const atX = view.left + (x + 1) * view.scale + 8;
-  const atY = view.top + (y + 1) * view.scale + 8;
+  const below = view.top + (y + 1) * view.scale + 8;
+  const above = view.top + y * view.scale - tip.offsetHeight - 12;
   tip.style.left = `${Math.max(4, Math.min(atX, view.width - tip.offsetWidth - 6))}px`;
-  tip.style.top = `${Math.max(4, atY + tip.offsetHeight > view.height - 6 ? atY - view.scale - tip.offsetHeight - 20 : atY)}px`;
+  tip.style.top = `${Math.max(4, below + tip.offsetHeight > view.height - 6 ? above : below)}px`;
 }
 
 // Fingers and the mouse.
@@ -307,7 +313,8 @@ function tellPlan() {
   verdict.textContent = faults.length === 0 ? "✓ valid" : `✗ not valid, ${counted()}`;
   verdict.className = faults.length === 0 ? "good" : "bad";
   element("sums").append(numbered("sum of costs", data.cost), numbered("last tick", lastTick), verdict);
-  canvas.setAttribute("aria-label", `${count} on a map of ${data.width} columns and ${data.height} rows, at the tick that is shown`);
+  const size = `${data.width} columns and ${data.height} rows`;
+  canvas.setAttribute("aria-label", `${count} on a map of ${size}, at the tick that is shown`);
 }
 
 function counted() {
