@@ -32,8 +32,8 @@ def format_of(text):
     for name, begins in BEGINNINGS.items():
         if re.match(begins, text.line(number)):
             return name
-    raise text.fault(number, f"an answer of a format that is known ({', '.join(READERS)}) doesn't begin so; "
-                             "see tools/verify --help")
+    raise text.fault(number, f"none of the formats {', '.join(READERS)} begins so: give the answer in one of them, as "
+                             "tools/verify --help shows them")
 
 
 def numbered(text, paths, count):

@@ -389,7 +389,7 @@ def faults_of_path(grid, agent, task, path):
 
 
 def fault_of_step(grid, here, there):
-    """What is wrong with a step, in words; nothing, where it is good. Of the cell that is left the step before tells."""
+    """What is wrong with a step, in words; nothing, where it is good. The cell that is left was judged before."""
     if not (0 <= there[0] < grid.width and 0 <= there[1] < grid.height):
         return f"and {shown(there)} is outside the map"
     if not grid.is_free(there):

@@ -325,17 +325,25 @@ def that_are_not_valid():
     texts = {
         "a column before the row": (column_first, [
             "agent 0 begins in (1,0), and its start is (0,1)", "agent 0 ends in (1,2), and its goal is (2,1)",
-            "agent 1 begins in (0,1), and its start is (1,0)", "agent 1 ends in (2,1), and its goal is (1,2)"]),
+            "agent 1 begins in (0,1), and its start is (1,0)", "agent 1 ends in (2,1), and its goal is (1,2)"],
+            "with x and y exchanged each agent begins at its start: see whether the format is the right one\n"),
+        "another problem": ("Agent 0: (2,2)->\nAgent 1: (0,0)->\n", [
+            "agent 0 begins in (2,2), and its start is (0,1)", "agent 0 ends in (2,2), and its goal is (2,1)",
+            "agent 1 begins in (0,0), and its start is (1,0)", "agent 1 ends in (0,0), and its goal is (1,2)"],
+            "no agent begins at its start: see whether MAP and SCEN are those of the answer\n"),
         "a cell outside the map": (PATHS["missing"] + "Agent 1: (0,1)->(-1,1)->(0,1)->(0,1)->(1,1)->(2,1)->\n", [
-            "agent 1 goes from (1,0) to (1,-1) after tick 0, and (1,-1) is outside the map"]),
+            "agent 1 goes from (1,0) to (1,-1) after tick 0, and (1,-1) is outside the map"], ""),
         "a cell beyond the width": (PATHS["missing"] + "Agent 1: (0,1)->(0,2)->(0,3)->(2,1)\n", [
             "agent 1 goes from (2,0) to (3,0) after tick 1, and (3,0) is outside the map",
-            "agent 1 goes from (3,0) to (1,2) after tick 2, which is further than one cell"]),
+            "agent 1 goes from (3,0) to (1,2) after tick 2, which is further than one cell"], ""),
+        "more faults than are told": ("Agent 0: " + "(1,0)->" * 13 + "(1,1)->(1,2)\nAgent 1: (0,1)->(0,0)->(1,0)\n", [
+            "agent 1 ends in (0,1), and its goal is (1,2)",
+            *(f"agents 0 and 1 are both in (0,1) at tick {tick}" for tick in range(2, 11))], "and 2 more\n"),
         "a jump": (PATHS["missing"] + "Agent 1: (0,1)->(2,1)->\n", [
-            "agent 1 goes from (1,0) to (1,2) after tick 0, which is further than one cell"]),
+            "agent 1 goes from (1,0) to (1,2) after tick 0, which is further than one cell"], ""),
     }
-    return [Asked(f"verify, {name}", text, 1, "not valid: " + "\nand ".join(faults) + "\n")
-            for name, (text, faults) in texts.items()]
+    return [Asked(f"verify, {name}", text, 1, "not valid: " + "\nand ".join(faults) + "\n" + advice)
+            for name, (text, faults, advice) in texts.items()]
 
 
 def by_bound():
@@ -359,8 +367,8 @@ def by_bound():
 
 def example():
     """The answer that README.md tries."""
-    return Asked("verify, an example", (EXAMPLES / "empty-8-8-answer.txt").read_bytes(), 0, "cheapest: 43\n", agents="6",
-                 grid=(EXAMPLES / "empty-8-8.map").read_text(), scenario=(EXAMPLES / "empty-8-8.scen").read_text())
+    answer, grid, scenario = [(EXAMPLES / f"empty-8-8{tail}").read_text() for tail in ("-answer.txt", ".map", ".scen")]
+    return Asked("verify, an example", answer, 0, "cheapest: 43\n", agents="6", grid=grid, scenario=scenario)
 
 
 def called(asked, folder, *more):
@@ -393,7 +401,8 @@ def ended_faults(asked, ended, found):
         faults.append(f"it says {ended.stdout!r}, wanted {asked.out!r}")
     if asked.status != 2 and ended.stderr:
         faults.append(f"it says {ended.stderr!r} on standard error")
-    return faults + [f"standard error has no {part!r}: {ended.stderr!r}" for part in asked.told if part not in ended.stderr]
+    missing = [part for part in asked.told if part not in ended.stderr]
+    return faults + [f"standard error has no {part!r}: {ended.stderr!r}" for part in missing]
 
 
 def kept_faults(kept, asked):
