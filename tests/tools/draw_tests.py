@@ -206,7 +206,7 @@ def point_of(browser, cell, dx=0.0, dy=0.0):
 def colour_in(browser, picture, cell):
     """The colour of an agent's disc in a cell, beside the number that stands in the middle."""
     ratio = browser.value("devicePixelRatio")
-    x, y = (part * ratio for part in point_of(browser, cell, 0, -0.24))
+    x, y = (part * ratio for part in point_of(browser, cell, 0, -0.28))
     return picture.at(x, y)
 
 
@@ -319,7 +319,7 @@ def hides_paths_and_goals(browser, folder):
     """A line and a ring are seen where no agent is, until they are hidden."""
     opened(browser, folder, VALID)
     faults = []
-    for what, cell, dx in (("paths", (1, 1), 0.3), ("goals", (2, 1), -0.42)):
+    for what, cell, dx in (("paths", (1, 1), 0.3), ("goals", (2, 1), -0.44)):
         for is_shown in (True, False):
             picture = browser.picture()
             x, y = point_of(browser, cell, dx)

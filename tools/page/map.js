@@ -172,7 +172,7 @@ function drawPath(pen, agent, isPicked) {
 
 function drawGoal(pen, agent, isPicked) {
   const [x, y] = agent.goal;
-  const radius = Math.max(0.42, 3.2 / view.scale);
+  const radius = Math.max(0.44, 3.2 / view.scale);
   pen.beginPath();
   pen.arc(x + 0.5, y + 0.5, radius, 0, 2 * Math.PI);
   pen.strokeStyle = isPicked ? colour.ink : agent.colour;
@@ -186,7 +186,7 @@ function drawGoal(pen, agent, isPicked) {
 }
 
 function radiusOfAgents() {
-  return Math.max(0.33, 2.6 / view.scale);
+  return Math.max(0.36, 2.6 / view.scale);
 }
 
 function drawAgents() {
@@ -212,19 +212,21 @@ function drawAgent(agent, time, isPicked) {
   pen.strokeStyle = isPicked ? colour.ink : colour.edge;
   pen.lineWidth = isPicked ? Math.max(0.1, 2.5 / view.scale) : Math.max(0.03, 0.8 / view.scale);
   pen.stroke();
-  if (view.scale >= 16) {
-    drawNumber(agent, x, y);
-  }
+  drawNumber(agent, x, y);
 }
 
-// Letters are drawn in pixels, since a font less than a pixel high isn't drawn well.
+// The number, where it can be read. It is drawn in pixels, since a font less than a pixel high isn't drawn well.
 function drawNumber(agent, x, y) {
   const text = String(agent.number);
+  const height = view.scale * [0.5, 0.43, 0.33][text.length - 1];
+  if (height < 6.5) {
+    return;
+  }
   const [red, green, blue] = [1, 3, 5].map((at) => parseInt(agent.colour.slice(at, at + 2), 16));
   const ratio = canvas.width / view.width;
   pen.save();
   pen.setTransform(ratio, 0, 0, ratio, 0, 0);
-  pen.font = `600 ${view.scale * [0.42, 0.36, 0.28][text.length - 1]}px system-ui, sans-serif`;
+  pen.font = `600 ${height}px system-ui, sans-serif`;
   pen.textAlign = "center";
   pen.textBaseline = "middle";
   pen.fillStyle = 0.3 * red + 0.59 * green + 0.11 * blue > 135 ? "#000000" : "#ffffff";
