@@ -3,7 +3,7 @@
 paths   the path files of CBSH2-RTC, EECBS, PBS and MAPF-LNS: for each agent a line
         `Agent 0: (row,column)->(row,column)->`, row before column, with or without the last arrow
 lacam   the logs of LaCAM and PIBT: lines `name=value`, among them `solution=`, and then for each tick a line
-        `0:(x,y),(x,y),` with a cell for each agent
+        `0:(x,y),(x,y),` with a cell for each agent; or these lines alone
 yaml    the schedules of libMultiRobotPlanning: `schedule:` with a list `agent0:` of `x`, `y`, `t` for each agent
 plan    plan texts of mapf
 """
@@ -13,6 +13,7 @@ import re
 from common import Text, ToolError, cut_waits, read_bytes, read_plan
 
 CELL = re.compile(r"\((-?[0-9]{1,10}),(-?[0-9]{1,10})\)")
+TICK_0 = r"\s*0\s*:\s*\("
 
 
 def read_answer(path, count, name=None):
@@ -75,10 +76,11 @@ def cells_of(text, number, listed, between):
 
 
 def read_lacam(text):
-    if "solution=" not in text.lines:
+    is_log = not any(re.match(TICK_0, line) for line in text.lines[:1])
+    if is_log and "solution=" not in text.lines:
         raise ToolError(f"{text.path} has no line 'solution=': short logs leave it out, so let the solver write the "
                         "long one")
-    begin = text.lines.index("solution=") + 1
+    begin = text.lines.index("solution=") + 1 if is_log else 0
     ticks = []
     for number, line in enumerate(text.lines[begin:], begin + 1):
         if re.match(r"\w+=", line):
@@ -153,4 +155,4 @@ def read_own(text):
 READERS = {"paths": read_paths, "lacam": read_lacam, "yaml": read_yaml, "plan": read_own}
 
 # How the first line of each format begins.
-BEGINNINGS = {"paths": r"\s*Agent\s+[0-9]+\s*:", "lacam": r"\w+=", "yaml": r"\w+:", "plan": "mapf-plan "}
+BEGINNINGS = {"paths": r"\s*Agent\s+[0-9]+\s*:", "lacam": rf"\w+=|{TICK_0}", "yaml": r"\w+:", "plan": "mapf-plan "}

@@ -253,6 +253,7 @@ def as_files_are():
         "lacam with CR LF": lacam.replace("\n", "\r\n"),
         "lacam without the last commas": lacam.replace(",\n", "\n"),
         "lacam with blanks": lacam.replace("),(", "), (").replace("\n", " \n"),
+        "lacam without a head": lacam.removeprefix(LACAM_HEAD),
         "lacam with a name behind the ticks": lacam + "\nnote=none\n",
         "yaml with CR LF": yaml.replace("\n", "\r\n"),
         "yaml with the statistics behind": schedule + YAML_HEAD,
