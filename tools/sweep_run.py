@@ -36,12 +36,12 @@ Ended = namedtuple("Ended", "status trouble note seconds kb out said")
 
 def main():
     program, folder, seconds, limit, grid, scenario, agents = sys.argv[1:]
-    own = os.path.join(folder, f"run-{os.urandom(8).hex()}")
+    own = os.path.join(os.path.abspath(folder), f"run-{os.urandom(8).hex()}")
+    problem = [os.path.abspath(grid), os.path.abspath(scenario), agents]
     os.mkdir(own)
     os.chdir(own)
     signal.pthread_sigmask(signal.SIG_BLOCK, {signal.SIGCHLD})
     try:
-        problem = [os.path.abspath(grid), os.path.abspath(scenario), agents]
         print(json.dumps(outcome(program, problem, limit, float(seconds))), flush=True)
     finally:
         remove(own)
