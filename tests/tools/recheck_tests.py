@@ -2,6 +2,7 @@
 
 import importlib.machinery
 import importlib.util
+import itertools
 import os
 import random
 import subprocess
@@ -17,6 +18,24 @@ EXAMPLES = TESTS.parent / "examples"
 # Examples of which recheck judges the certificate in a few seconds, with their number of agents.
 SOLVED = [("empty-8-8", 4), ("empty-8-8", 6), ("random-32-32", 5), ("random-32-32", 8)]
 LIMIT = "60"
+
+# Cases of which each line is replaced by each of these lines.
+CASES = ["check-crossing", "check-niche-in-version-two"]
+LINES = {
+    "plan": ["mapf-plan 1", "mapf-plan 2", "mapf-plan 3", "agents 0", "agents 2", "agents 3", "agents 201", "cost 4",
+             "cost 5", "cost 1999999801", "impossible", "limit 3", "limit 3 bound 4", "limit ticks bound 4",
+             "limit 100001 bound 4", "limit 3 bound 1999999801", "path 0 0 0,0", "path 0 0", "path 7 0", "path 7 0 0,0",
+             "path 0 10000000 0,0", "path 0 1 0,0 0,0", "path 0 1 0,0 0,9", "path 0 1 9,0 0,0", "path 1 0 1,0 ",
+             "path 1 0  1,0", "path 1 1 0,1 1,1", "end", "end ", ""],
+    "cert": ["mapf-cert 1", "mapf-cert 2", "mapf-cert 3", "agents 0", "agents 2", "agents 3", "agents 201",
+             "claim cost 4", "claim cost 5", "claim cost 1999999801", "claim impossible", "claim bound 4",
+             "vertex 0 1 0,0 0", "vertex 0 1 0,0 0 0", "vertex 0 0 0,0 1 0", "vertex 1 0 9,9 1 0",
+             "vertex 0 1 0,0 1000000", "swap 0 1 0,0 0,0 0 0", "swap 0 1 0,0 1,0 0 0", "swap 0 1 0,0 2,0 0 0",
+             "swap 0 1 0,0 1,1 0 0", "swap 0 1 0,0 1,0 0", "leaf 0", "leaf 1", "leaf 3", "clash 0 0", "clash 0 1", "clash 0 2",
+             "agent 0 0", "agent 0 1", "agent 1 1", "agent 2 1", "agent 1 18446744073709551616", "at 0,0 0 0", "at 0,0 0 1",
+             "at 1,0 0 2", "at 0,1 0 3", "at 1,0 0 inf", "at 9,0 0 9", "at 0,0 10000000 1", "at 0,0 0 10000000", "end",
+             "end ", "", "x" * 64, "x" * 65],
+}
 
 EDITS = 4000
 SEED = 28
@@ -39,6 +58,9 @@ def tests(tally):
         bases = [*solved_cases(Path(name)), *solved_examples(Path(name))]
         for title, agents, folder in bases:
             tally.add(f"recheck, {title}", difference(recheck, agents, folder))
+        for title in CASES:
+            faults = lines_that_differ(recheck, TESTS / "cases" / title, Path(name))
+            tally.add(f"recheck, other lines in {title}", faults)
         bases += accepted_cases(Path(name))
         tally.add(f"recheck, {EDITS} edits", edits_that_differ(recheck, bases, Path(name)))
     tally.add("recheck, words", words_faults())
@@ -103,6 +125,19 @@ def difference(recheck, agents, folder, edited=None):
                            stdin=subprocess.DEVNULL, capture_output=True)
     theirs = Ended(ended.returncode, ended.stdout, ended.stderr)
     return [] if ours == theirs else [f"recheck says {told(ours)}, mapf check {told(theirs)}"]
+
+
+def lines_that_differ(recheck, case, folder):
+    """Replaces each line of both texts by each of the lines above, and has both judge the text."""
+    place = folder / "replaced"
+    faults = []
+    for name, lines in LINES.items():
+        given = (case / name).read_text().split("\n")[:-1]
+        for number, line in itertools.product(range(len(given)), lines):
+            place.write_text("\n".join([*given[:number], line, *given[number + 1:], ""]))
+            differences = difference(recheck, 2, case, {name: str(place)})
+            faults += [f"{name} with {line!r} for line {number + 1}: {said}" for said in differences]
+    return faults
 
 
 def edits_that_differ(recheck, bases, folder):
