@@ -18,3 +18,4 @@ pub mod AnswerLemmas
 pub mod StartLemmas
 pub mod WholeLemmas
 pub mod PlainLemmas
+pub mod EndingLemmas

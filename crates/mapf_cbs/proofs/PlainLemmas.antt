@@ -4,9 +4,8 @@ use Rattle.std.specs.declared.cmp.Ordering.TheVariants.{Less}
 use Rattle.std.proofs.lemmas.Bool.{cases_eq, cases_lt, cond_both, eqb-true, eqb-false}
 use Rattle.std.proofs.lemmas.Option.{slice_get_within, same_Some}
 use Rattle.mapf_model.specs.declared.conflict.Conflict.{Conflict}
-use Rattle.mapf_model.specs.Grid.{IsGridMap}
 use Rattle.mapf_model.specs.Plan.{Instance}
-use Rattle.mapf_model.specs.Tree.{ConstraintTree, Node as TreeNode, nodes_of, ShareGoal, left_constraint, right_constraint}
+use Rattle.mapf_model.specs.Tree.{ShareGoal, left_constraint, right_constraint}
 use Rattle.mapf_model.specs.Earned.{tick_of}
 use Rattle.mapf_model.proofs.ClaimLemmas.{slice_get_inside}
 use Rattle.mapf_model.proofs.SplitLemmas.{Contains-cons_cases}
@@ -17,13 +16,14 @@ use Rattle.mapf_cbs.specs.declared.node.Node.TheVariants.{Root}
 use Rattle.mapf_cbs.specs.declared.whole_node.WholeNode.{WholeNode}
 use Rattle.std.specs.declared.alloc.Global.{Global}
 use Rattle.mapf_cbs.specs.FirstConflicts.{IsFirstConflict}
-use Rattle.mapf_cbs.specs.Goals.{NamesFirstDefect}
+use Rattle.mapf_cbs.specs.Endings.{IsExhausted}
 use Rattle.mapf_cbs.specs.Nodes.{IsRootView}
-use Rattle.mapf_cbs.specs.Answer.{IsTreeOf, IsShownImpossible}
-use Rattle.mapf_cbs.specs.Search.{View, IsLive, IsTreeAt}
+use Rattle.mapf_model.specs.Blocks.{LabelBlock}
+use Rattle.mapf_cbs.specs.Start.{IsRootStart}
+use Rattle.mapf_cbs.specs.Search.{View, IsLive, AreBlockLists}
 use Rattle.mapf_cbs.specs.State.{IsOpenSet, key_cmp, with_children, split_fates, with_keys}
 use Rattle.mapf_cbs.specs.Whole.{IsWhole, AreWhole, HaveAgentPaths, IsWholeChild, IsLeastOpen, IsLeastBelow, IsWholeState, IsWholePopped}
-use Rattle.mapf_cbs.proofs.AnswerLemmas.{answer_impossible, state_root, root_views}
+use Rattle.mapf_cbs.proofs.AnswerLemmas.{state_root, root_views}
 use Rattle.mapf_cbs.proofs.ChildLemmas.{Contains-later, Contains-none}
 use Rattle.mapf_cbs.proofs.OpenLemmas.{Contains-first}
 use Rattle.mapf_model.proofs.PlaceLemmas.{slice_get-front, slice_get-here}
@@ -131,21 +131,29 @@ module _ (problem : Instance) (nodes : List WholeNode) (fates : List Fate) (coun
     }
 
   -- no node is open
-  pub whole_impossible : IsGridMap problem.grid → ((tree : ConstraintTree) → NamesFirstDefect problem tree) → (limit : ℕ) → count ≤ limit → ((m : ℕ) → m < length fates → slice_get fates m ≡ Some Open → ⊥) → (listed : List TreeNode) →
-      (tree : ConstraintTree) × (listed ≡ nodes_of tree) × IsTreeAt s.state.views fates 0 tree → (tree : ConstraintTree) × IsTreeOf problem limit listed tree × IsShownImpossible problem tree
-  whole_impossible shape names limit within none listed found = answer_impossible problem shape names s.changes fates count limit within (record {
-    views = s.state.views;
-    are = s.state.are;
-    searched = s.state.searched;
-    opens = record {
-      only = λ key in_it. absurd (Contains-none key in_it);
-      each = λ m view view_is m_open. absurd (none m (slice_get_within fates m Open m_open) m_open);
+  pub whole_exhausted : (limit : ℕ) → count ≤ limit → ((m : ℕ) → m < length fates → slice_get fates m ≡ Some Open → ⊥) → (paths : List (List ℕ)) → IsRootStart problem paths → (lists : List (List LabelBlock)) → AreBlockLists s.state.views lists →
+      IsExhausted problem limit lists fates
+  whole_exhausted limit within none paths root lists blocks = record {
+    paths = paths;
+    root = root;
+    nodes = s.changes;
+    count = count;
+    state = record {
+      views = s.state.views;
+      are = s.state.are;
+      searched = s.state.searched;
+      opens = record {
+        only = λ key in_it. absurd (Contains-none key in_it);
+        each = λ m view view_is m_open. absurd (none m (slice_get_within fates m Open m_open) m_open);
+      };
+      nodes_for = s.state.nodes_for;
+      bars = s.state.bars;
+      size = s.state.size;
+      small = λ key in_it. absurd (Contains-none key in_it);
     };
-    nodes_for = s.state.nodes_for;
-    bars = s.state.bars;
-    size = s.state.size;
-    small = λ key in_it. absurd (Contains-none key in_it);
-  }) listed found
+    within = within;
+    blocks = blocks;
+  }
 
 pub least_at : (nodes others : List WholeNode) (fates more : List Fate) (found : Option ℕ) → nodes ≡ others → fates ≡ more → IsLeastBelow nodes fates (length fates) found → IsLeastBelow others more (length more) found
 least_at nodes others fates more found a b is = subst (λ fs. IsLeastBelow others fs (length fs) found) b (subst (λ ns. IsLeastBelow ns fates (length fates) found) a is)

@@ -1,12 +1,10 @@
 -- The root of a search, and the trees of one node.
-use Rattle.std.proofs.Common.{◌≡◌, ◌≢◌, ℕ, ◌-◌, ◌<◌, ◌≤◌, ◌++◌, List, [], ◌∷◌, Some, Vec, map, length, length-append, sum, sum_by, slice_get, get_or, refl, sym, ◌∙◌, ap, subst, inl, inr, ⊎_elim, arith}
-use Rattle.std.specs.declared.alloc.Global.{Global}
+use Rattle.std.proofs.Common.{◌≡◌, ◌≢◌, ℕ, ◌-◌, ◌<◌, ◌≤◌, ◌++◌, List, [], ◌∷◌, Some, map, length, length-append, sum, sum_by, slice_get, get_or, refl, sym, ◌∙◌, ap, subst, inl, inr, ⊎_elim, arith}
 use Rattle.std.proofs.lemmas.Bool.{cases_lt}
 use Rattle.std.proofs.lemmas.Option.{slice_get_read, slice_get_within, same_Some, slice_get-map}
 use Rattle.std.proofs.lemmas.List.{length-map}
 use Rattle.std.proofs.lemmas.List.Sums.{sum-map}
 use Rattle.mapf_model.specs.declared.problem.Agent.{Agent}
-use Rattle.mapf_model.specs.Blocks.{LabelBlock}
 use Rattle.mapf_model.specs.Grid.{GridMap}
 use Rattle.mapf_model.specs.Pairs.{IsFirstPair, HoldsOfNoPair}
 use Rattle.mapf_model.specs.Plan.{Instance}
@@ -20,7 +18,6 @@ use Rattle.mapf_cbs.specs.Search.{View, IsLive}
 use Rattle.mapf_cbs.specs.Start.{HaveGoal, IsShortest, AreShortest, IsRootStart}
 use Rattle.mapf_cbs.proofs.AnswerLemmas.{is_shown_impossible}
 use Rattle.mapf_cbs.proofs.CheapestPathLemmas.{cheapest_of_shortest}
-use Rattle.mapf_distance.specs.Distances.{GoalMap}
 
 -- an element of a list that is known by another name
 pub read_through : {X : Type 0} (xs ys : List X) (i : ℕ) (x : X) → xs ≡ ys → i < length xs → x ≡ get_or xs i x → slice_get ys i ≡ Some x

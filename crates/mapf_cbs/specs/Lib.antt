@@ -11,3 +11,4 @@ pub mod Start
 pub mod Answer
 pub mod TreeNodes
 pub mod Whole
+pub mod Endings

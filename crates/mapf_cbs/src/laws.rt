@@ -16,12 +16,12 @@ ghost use Rattle.mapf_cbs.specs.declared.whole_node.WholeNode.{WholeNode};
 use crate::answer::Answer;
 use crate::bound_labels::BoundLabels;
 use crate::child::{cost_of, new_total};
+use crate::endings;
 use crate::outcome::Outcome;
 use crate::solver::cause_to_stop;
 use crate::start::{Beginning, begin};
 use crate::whole_node::{WholeNode, agent_paths_with};
 use crate::whole_tree::{WholeChild, WholeTree, labels_of_whole, least_open};
-use crate::written::tree_nodes;
 use mapf_conflicts::first_conflict;
 use mapf_constraints::{BarTable, ListBars};
 use mapf_distance::{Distances, goal_tables};
@@ -62,25 +62,18 @@ fn search_plain(
     loop {
         let Some(k) = least_open(&tree.nodes, &tree.fates) else {
             let lists = labels_of_whole(alloc, tree.nodes)?;
-            let nodes = tree_nodes(alloc, lists, &tree.fates)?;
-            return Ok(Outcome::Impossible { tree: nodes });
+            return endings::impossible(alloc, lists, &tree.fates);
         };
         let node = &tree.nodes[k as usize];
         let bound = node.total;
         let plan = node.plan(alloc)?;
         let Some(conflict) = first_conflict(&plan) else {
             let lists = labels_of_whole(alloc, tree.nodes)?;
-            let nodes = tree_nodes(alloc, lists, &tree.fates)?;
-            return Ok(Outcome::Found { plan, tree: nodes });
+            return endings::found(alloc, plan, lists, &tree.fates);
         };
         if let Some(cause) = cause_to_stop(&conflict, tree.splits, limit) {
             let lists = labels_of_whole(alloc, tree.nodes)?;
-            let nodes = tree_nodes(alloc, lists, &tree.fates)?;
-            return Ok(Outcome::Limit {
-                cause,
-                bound,
-                tree: nodes,
-            });
+            return endings::stopped(alloc, cause, bound, lists, &tree.fates);
         }
         split_whole(alloc, problem, tables, &mut tree, k, &conflict)?;
     }

@@ -7,6 +7,7 @@ mod blocks;
 mod bound_labels;
 mod child;
 mod clash;
+mod endings;
 mod finders;
 pub mod laws;
 mod node;
@@ -28,6 +29,3 @@ pub use mapf_spacetime::StateLabels;
 pub use outcome::Outcome;
 pub use solver::{search, search_with, solve, solve_with};
 pub use tree_node::{NodeKind, TreeNode};
-
-#[cfg(test)]
-mod tests;

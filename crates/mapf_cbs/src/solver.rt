@@ -11,12 +11,12 @@ ghost use Rattle.mapf_cbs.specs.State.{IsPopped, IsState, IsCauseToStop};
 use crate::answer::Answer;
 use crate::blocks::labels_of_all;
 use crate::child::child;
+use crate::endings;
 use crate::outcome::Outcome;
 use crate::search_memory::SearchMemory;
 use crate::search_tree::{SearchTree, take_least};
 use crate::start::{Beginning, begin, total_of};
 use crate::walks::{conflict_at, plan_at};
-use crate::written::tree_nodes;
 use mapf_conflicts::CellMarks;
 use mapf_constraints::{BarTable, TickBars};
 use mapf_distance::LazyTables;
@@ -92,24 +92,17 @@ fn search_from<B: BarTable>(
     loop {
         let Some((total, k)) = take_least(&mut search.waiting) else {
             let lists = labels_of_all(alloc, search.nodes)?;
-            let tree = tree_nodes(alloc, lists, &search.fates)?;
-            return Ok(Outcome::Impossible { tree });
+            return endings::impossible(alloc, lists, &search.fates);
         };
-        let found = conflict_at(alloc, &mut marks, &search.nodes, k, agents)?;
-        let Some(conflict) = found else {
+        let first = conflict_at(alloc, &mut marks, &search.nodes, k, agents)?;
+        let Some(conflict) = first else {
             let plan = plan_at(alloc, &search.nodes, k, agents)?;
             let lists = labels_of_all(alloc, search.nodes)?;
-            let tree = tree_nodes(alloc, lists, &search.fates)?;
-            return Ok(Outcome::Found { plan, tree });
+            return endings::found(alloc, plan, lists, &search.fates);
         };
         if let Some(cause) = cause_to_stop(&conflict, search.splits, limit) {
             let lists = labels_of_all(alloc, search.nodes)?;
-            let tree = tree_nodes(alloc, lists, &search.fates)?;
-            return Ok(Outcome::Limit {
-                cause,
-                bound: total,
-                tree,
-            });
+            return endings::stopped(alloc, cause, total, lists, &search.fates);
         }
         split::<B>(
             alloc,

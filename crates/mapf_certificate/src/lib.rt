@@ -32,8 +32,3 @@ pub use plan_text::{PlanAnswer, PlanText, PlanTextFault};
 pub use plan_writer::write_plan;
 pub use text_writer::TextWriter;
 pub use version::Version;
-
-#[cfg(test)]
-mod stream_tests;
-#[cfg(test)]
-mod tests;

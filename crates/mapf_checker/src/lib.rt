@@ -16,11 +16,7 @@ pub mod laws;
 mod leaf;
 mod plan_fault;
 mod plan_judge;
-#[cfg(test)]
-mod samples;
 mod starts;
-#[cfg(test)]
-mod tests;
 mod tree;
 mod validity;
 

@@ -11,6 +11,3 @@ pub use bar_table::BarTable;
 pub use list_bars::ListBars;
 pub use mapf_model::Bar;
 pub use tick_bars::TickBars;
-
-#[cfg(test)]
-mod tests;

@@ -12,6 +12,3 @@ pub use fault::LineFault;
 pub use numbers::{field, last, pair, strip, whole};
 pub use page::Page;
 pub use ranges::{below, from_one_to, up_to, within};
-
-#[cfg(test)]
-mod tests;

@@ -18,6 +18,3 @@ pub use events::{EventFault, read_events};
 pub use player::play;
 pub use replies::dispatch_all;
 pub use reply::Reply;
-
-#[cfg(test)]
-mod tests;

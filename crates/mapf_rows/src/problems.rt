@@ -1,6 +1,6 @@
 //! Worked problems, with the texts that are due, certificates in version 2.
 
-use crate::runs::Given;
+use crate::given::Given;
 
 // One agent that is at its goal.
 pub const AT_REST: Given = Given {

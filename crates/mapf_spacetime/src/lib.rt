@@ -18,6 +18,3 @@ pub use found::Found;
 pub use labels::{Labels, label_at};
 pub use state_labels::StateLabels;
 pub use workspace::Workspace;
-
-#[cfg(test)]
-mod tests;

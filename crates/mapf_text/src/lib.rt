@@ -17,6 +17,3 @@ pub use map::read_map;
 pub use map_fault::MapFault;
 pub use scenario::read_scen;
 pub use scenario_fault::ScenFault;
-
-#[cfg(test)]
-mod tests;

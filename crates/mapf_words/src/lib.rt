@@ -9,6 +9,3 @@ mod words_fault;
 pub use job::Job;
 pub use words::job_of;
 pub use words_fault::WordsFault;
-
-#[cfg(test)]
-mod tests;

@@ -1,16 +1,16 @@
-use Rattle.std.proofs.Common.{◌≡◌, ◌≤◌, All, None, Some, length, refl, sym, ◌∙◌, subst, arith}
+use Rattle.std.proofs.Common.{◌≡◌, ◌≤◌, All, None, Some, length, refl, sym, ◌∙◌, ap, subst, arith}
 use Rattle.std.proofs.lemmas.Option.{slice_get_read, slice_get_within, same_Some}
-use Rattle.mapf_model.specs.Earned.{HasConflict, AreConflictFreeBefore, HaveSomeConflict, tick_of}
-use Rattle.mapf_model.specs.Tree.{ConstraintTree}
+use Rattle.std.proofs.lemmas.Result.{IfOk-weaker}
+use Rattle.mapf_model.specs.Earned.{HaveSomeConflict}
+use Rattle.mapf_model.specs.Limits.{most_path_cells}
 use Rattle.mapf_cbs.specs.declared.whole_node.WholeNode.{WholeNode}
-use Rattle.mapf_cbs.specs.Answer.{IsTreeOf, IsShownOptimal}
+use Rattle.mapf_cbs.specs.Endings.{IsExhausted, IsAtNode, IsAtPlan, IsAtCause}
 use Rattle.mapf_cbs.specs.FirstConflicts.{IsFirstConflict}
 use Rattle.mapf_cbs.specs.Nodes.{IsRootView}
-use Rattle.mapf_cbs.specs.Search.{AreChildrenLater}
 use Rattle.mapf_cbs.specs.Whole.{IsWhole, IsLeastOpen}
-use Rattle.mapf_cbs.proofs.AnswerLemmas.{tree_of, children_later, answer_found, answer_limit}
-use Rattle.mapf_cbs.proofs.PlainLemmas.{least_at, whole_first, whole_popped, whole_impossible, whole_hand, hand_whole}
-use Rattle.mapf_cbs.proofs.StartLemmas.{root_of, root_names}
+use Rattle.mapf_cbs.proofs.EndingLemmas.{can_be_drawn}
+use Rattle.mapf_cbs.proofs.PlainLemmas.{least_at, whole_first, whole_popped, whole_exhausted, whole_hand, hand_whole}
+use Rattle.mapf_cbs.proofs.StartLemmas.{root_of}
 use Rattle.mapf_cbs.proofs.laws.search_plain.Goals as goal
 
 pub loop-k-init : goal.loop-k-init
@@ -25,29 +25,21 @@ loop-k-init c =
       state = rw n (rw fs (rw ns first));
     }
 
-pub tree_nodes-requires-clause-later : goal.tree_nodes-requires-clause-later
-tree_nodes-requires-clause-later c =
+pub impossible-requires : goal.impossible-requires
+impossible-requires c =
+    let t = c.loop-k.tree in let problem = c.args.problem.now in
     let s = c.loop-k.invariant.state in
-    subst AreChildrenLater (sym c.deref-in_default.ensures.value) (children_later c.args.problem.now s.changes c.loop-k.tree.fates.items s.keys c.loop-k.tree.splits s.state (omega (arith, c.loop-k.invariant.within, c.requires.limit)))
-
-pub tree_nodes-requires-in_default-first_conflict-clause-later : goal.tree_nodes-requires-in_default-first_conflict-clause-later
-tree_nodes-requires-in_default-first_conflict-clause-later c =
-    let s = c.loop-k.invariant.state in
-    subst AreChildrenLater (sym c.deref-in_default-first_conflict.ensures.value) (children_later c.args.problem.now s.changes c.loop-k.tree.fates.items s.keys c.loop-k.tree.splits s.state (omega (arith, c.loop-k.invariant.within, c.requires.limit)))
-
-pub tree_nodes-requires-in-Some-cause_to_stop-clause-later : goal.tree_nodes-requires-in-Some-cause_to_stop-clause-later
-tree_nodes-requires-in-Some-cause_to_stop-clause-later c =
-    let s = c.loop-k.invariant.state in
-    subst AreChildrenLater (sym c.deref-in-Some-cause_to_stop.ensures.value) (children_later c.args.problem.now s.changes c.loop-k.tree.fates.items s.keys c.loop-k.tree.splits s.state (omega (arith, c.loop-k.invariant.within, c.requires.limit)))
+    let e = c.deref-in_default.ensures.value in
+    rw e (can_be_drawn problem s.changes t.fates.items s.keys t.splits s.state (omega (arith, c.loop-k.invariant.within, c.requires.limit)) c.in_ok-lists.lists.items (c.in_ok-lists.ensures s.state.views s.whole))
 
 pub returns-in_default : goal.returns-in_default
 returns-in_default c =
     let t = c.loop-k.tree in let problem = c.args.problem.now in
     let s = c.loop-k.invariant.state in
-    let found = tree_of c.deref-in_default.result.now t.fates.items s.state.views c.in_ok-nodes.nodes.items c.deref-in_default.ensures.value (c.in_ok-nodes.ensures s.state.views (c.in_ok-lists.ensures s.state.views s.whole)) in
-    whole_impossible problem t.nodes.items t.fates.items t.splits s c.requires.root.shape (root_names problem c.args.paths.items c.requires.root) c.args.limit c.loop-k.invariant.within
-    (least_at c.deref-in-loop-k.result.now t.nodes.items c.deref-in-loop-k-2.result.now t.fates.items None c.deref-in-loop-k.ensures.value c.deref-in-loop-k-2.ensures.value c.in_default.ensures)
-    c.in_ok-nodes.nodes.items found
+    let e = c.deref-in_default.ensures.value in
+    let none = least_at c.deref-in-loop-k.result.now t.nodes.items c.deref-in-loop-k-2.result.now t.fates.items None c.deref-in-loop-k.ensures.value c.deref-in-loop-k-2.ensures.value c.in_default.ensures in
+    let at_end : IsExhausted problem c.args.limit c.in_ok-lists.lists.items t.fates.items = whole_exhausted problem t.nodes.items t.fates.items t.splits s c.args.limit c.loop-k.invariant.within none c.args.paths.items c.requires.root c.in_ok-lists.lists.items (c.in_ok-lists.ensures s.state.views s.whole) in
+    IfOk-weaker c.impossible.result _ _ (λ outcome said. said problem c.args.limit (rw e at_end)) c.impossible.ensures
 
 pub plan-requires : goal.plan-requires
 plan-requires c =
@@ -59,6 +51,20 @@ plan-requires c =
     let some = c.requires.root.agents.0 in let few = c.requires.root.agents.1 in
     (omega (arith, size, some), omega (arith, size, few))
 
+pub found-requires : goal.found-requires
+found-requires c =
+    let t = c.loop-k.tree in let problem = c.args.problem.now in
+    let s = c.loop-k.invariant.state in
+    let e = c.deref-in_default-first_conflict.ensures.value in
+    rw e (can_be_drawn problem s.changes t.fates.items s.keys t.splits s.state (omega (arith, c.loop-k.invariant.within, c.requires.limit)) c.in_ok-lists-2.lists.items (c.in_ok-lists-2.ensures s.state.views s.whole))
+
+pub stopped-requires : goal.stopped-requires
+stopped-requires c =
+    let t = c.loop-k.tree in let problem = c.args.problem.now in
+    let s = c.loop-k.invariant.state in
+    let e = c.deref-in-Some-cause_to_stop.ensures.value in
+    rw e (can_be_drawn problem s.changes t.fates.items s.keys t.splits s.state (omega (arith, c.loop-k.invariant.within, c.requires.limit)) c.in_ok-lists-3.lists.items (c.in_ok-lists-3.ensures s.state.views s.whole))
+
 pub returns-in_default-first_conflict : goal.returns-in_default-first_conflict
 returns-in_default-first_conflict c =
     let t = c.loop-k.tree in let problem = c.args.problem.now in
@@ -69,10 +75,28 @@ returns-in_default-first_conflict c =
     let h = whole_hand problem t.nodes.items t.fates.items t.splits least.node.total c.in-Some.k p in
     let whole = hand_whole problem t.nodes.items t.fates.items t.splits least.node.total c.in-Some.k p c.index-node.result.now here in
     let plan : c.in_ok-plan.plan ≡ h.view.paths = c.in_ok-plan.ensures.paths h.view whole in
-    let found = tree_of c.deref-in_default-first_conflict.result.now t.fates.items p.popped.state.views c.in_ok-nodes-2.nodes.items c.deref-in_default-first_conflict.ensures.value (c.in_ok-nodes-2.ensures p.popped.state.views (c.in_ok-lists-2.ensures p.popped.state.views p.whole)) in
-    subst (λ ps. (tree : ConstraintTree) × IsTreeOf problem c.args.limit c.in_ok-nodes-2.nodes.items tree × IsShownOptimal problem ps tree) (sym plan)
-    (answer_found problem c.requires.root.shape (root_names problem c.args.paths.items c.requires.root) p.changes t.fates.items p.rest t.splits least.node.total c.in-Some.k p.popped c.args.limit c.loop-k.invariant.within c.in_ok-nodes-2.nodes.items found h.view h.is h.is_open h.live c.requires.root.agents.0 c.requires.root.agents.1
-    (subst (λ ps. All (λ path. length path ≤ 10000000) ps) plan c.in_ok-plan.ensures.short) (subst (λ ps. HaveSomeConflict ps → ⊥) plan c.in_default-first_conflict.ensures.none))
+    let e = c.deref-in_default-first_conflict.ensures.value in
+    let at_node : IsAtNode problem c.args.limit c.in_ok-lists-2.lists.items t.fates.items t.splits least.node.total h.view = record {
+      paths = c.args.paths.items;
+      root = c.requires.root;
+      nodes = p.changes;
+      rest = p.rest;
+      k = c.in-Some.k;
+      popped = p.popped;
+      is = h.is;
+      short = subst (λ ps. All (λ path. length path ≤ most_path_cells) ps) plan c.in_ok-plan.ensures.short;
+      within = c.loop-k.invariant.within;
+      blocks = c.in_ok-lists-2.ensures p.popped.state.views p.whole;
+    } in
+    let at_plan : IsAtPlan problem c.args.limit c.in_ok-lists-2.lists.items t.fates.items c.in_ok-plan.plan = record {
+      count = t.splits;
+      total = least.node.total;
+      view = h.view;
+      at_node = at_node;
+      same = plan;
+      none = subst (λ ps. HaveSomeConflict ps → ⊥) plan c.in_default-first_conflict.ensures.none;
+    } in
+    IfOk-weaker c.found.result _ _ (λ outcome said. said problem c.args.limit (rw e at_plan)) c.found.ensures
 
 pub returns-in-Some-cause_to_stop : goal.returns-in-Some-cause_to_stop
 returns-in-Some-cause_to_stop c =
@@ -84,10 +108,31 @@ returns-in-Some-cause_to_stop c =
     let h = whole_hand problem t.nodes.items t.fates.items t.splits least.node.total c.in-Some.k p in
     let whole = hand_whole problem t.nodes.items t.fates.items t.splits least.node.total c.in-Some.k p c.index-node.result.now here in
     let plan : c.in_ok-plan.plan ≡ h.view.paths = c.in_ok-plan.ensures.paths h.view whole in
-    let found = tree_of c.deref-in-Some-cause_to_stop.result.now t.fates.items p.popped.state.views c.in_ok-nodes-3.nodes.items c.deref-in-Some-cause_to_stop.ensures.value (c.in_ok-nodes-3.ensures p.popped.state.views (c.in_ok-lists-3.ensures p.popped.state.views p.whole)) in
+    let e = c.deref-in-Some-cause_to_stop.ensures.value in
     let conflict = c.in-Some-first_conflict.conflict in
-    let meet = subst (λ ps. HasConflict ps conflict × AreConflictFreeBefore ps (tick_of conflict)) plan (c.in-Some-first_conflict.ensures.some, c.in-Some-first_conflict.ensures.first) in
-    answer_limit problem c.requires.root.shape (root_names problem c.args.paths.items c.requires.root) p.changes t.fates.items p.rest t.splits least.node.total c.in-Some.k p.popped c.args.limit c.loop-k.invariant.within c.in_ok-nodes-3.nodes.items found h.view h.is h.is_open h.live c.requires.root.agents.0 c.requires.root.agents.1 (subst (λ ps. All (λ path. length path ≤ 10000000) ps) plan c.in_ok-plan.ensures.short) c.index-node.result.now.total whole.total c.requires.root.goals conflict meet.0 meet.1 c.in-Some-cause_to_stop.cause c.in-Some-cause_to_stop.ensures.some c.in_ok-nodes-3.nodes refl
+    let first = c.in-Some-first_conflict.ensures in
+    let at_node : IsAtNode problem c.args.limit c.in_ok-lists-3.lists.items t.fates.items t.splits least.node.total h.view = record {
+      paths = c.args.paths.items;
+      root = c.requires.root;
+      nodes = p.changes;
+      rest = p.rest;
+      k = c.in-Some.k;
+      popped = p.popped;
+      is = h.is;
+      short = subst (λ ps. All (λ path. length path ≤ most_path_cells) ps) plan c.in_ok-plan.ensures.short;
+      within = c.loop-k.invariant.within;
+      blocks = c.in_ok-lists-3.ensures p.popped.state.views p.whole;
+    } in
+    let at_cause : IsAtCause problem c.args.limit c.in_ok-lists-3.lists.items t.fates.items c.in-Some-cause_to_stop.cause least.node.total = record {
+      count = t.splits;
+      view = h.view;
+      at_node = at_node;
+      conflict = conflict;
+      first = subst (λ ps. IsFirstConflict ps conflict) plan (record { has = first.some; earliest = first.first; ordered = first.ordered; least = first.least });
+      met = c.in-Some-cause_to_stop.ensures.some;
+    } in
+    let bound : least.node.total ≡ c.index-node.result.now.total = ap (λ (n : WholeNode). n.total) (same_Some least.node c.index-node.result.now (sym least.is ∙ here)) in
+    IfOk-weaker c.stopped.result _ _ (λ outcome said. said problem c.args.limit (rw e (subst (λ b. IsAtCause problem c.args.limit c.in_ok-lists-3.lists.items t.fates.items c.in-Some-cause_to_stop.cause b) bound at_cause))) c.stopped.ensures
 
 pub split_whole-requires-clause-popped : goal.split_whole-requires-clause-popped
 split_whole-requires-clause-popped c =

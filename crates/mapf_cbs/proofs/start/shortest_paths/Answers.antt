@@ -1,5 +1,4 @@
-use Rattle.std.proofs.Common.{◌≡◌, [], ◌∷◌, ◌++◌, Some, length, length-append, slice_get, refl, ap, ◌∙◌, arith}
-use Rattle.std.proofs.lemmas.Option.{slice_get_read}
+use Rattle.std.proofs.Common.{◌≡◌, [], ◌∷◌, ◌++◌, Some, length, length-append, slice_get, ◌∙◌, arith}
 use Rattle.mapf_cbs.specs.Start.{IsShortest}
 use Rattle.mapf_cbs.proofs.StartLemmas.{read_through, AreShortest-more}
 use Rattle.mapf_cbs.proofs.start.shortest_paths.Goals as goal

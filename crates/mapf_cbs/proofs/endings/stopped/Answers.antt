@@ -1,0 +1,17 @@
+use Rattle.mapf_cbs.proofs.EndingLemmas.{end_limit}
+use Rattle.mapf_cbs.proofs.endings.stopped.Goals as goal
+
+pub tree_nodes-requires-clause-same : goal.tree_nodes-requires-clause-same
+tree_nodes-requires-clause-same c = c.requires.same
+
+pub tree_nodes-requires-clause-some : goal.tree_nodes-requires-clause-some
+tree_nodes-requires-clause-some c = c.requires.some
+
+pub tree_nodes-requires-clause-later : goal.tree_nodes-requires-clause-later
+tree_nodes-requires-clause-later c = c.requires.later
+
+pub tree_nodes-requires-clause-one : goal.tree_nodes-requires-clause-one
+tree_nodes-requires-clause-one c = c.requires.one
+
+pub returns : goal.returns
+returns c problem limit e = end_limit problem limit c.args.lists.items c.args.fates.now c.args.cause c.args.bound e c.in_ok-tree.tree c.in_ok-tree.ensures

@@ -1,0 +1,57 @@
+//! How a search over trees ends, by the labels of each node and what became of it.
+ghost use Rattle.std.specs.Prelude.{ℕ, IfOk};
+ghost use Rattle.mapf_model.specs.Plan.{Instance};
+ghost use Rattle.mapf_cbs.specs.Answer.{IsOutcome};
+ghost use Rattle.mapf_cbs.specs.Endings.{CanBeDrawn, IsExhausted, IsAtPlan, IsAtCause};
+
+use crate::bound_labels::BoundLabels;
+use crate::node::Fate;
+use crate::outcome::Outcome;
+use crate::written::tree_nodes;
+use mapf_model::{Cause, OutOfMemory, Plan};
+use std::alloc::Global;
+
+/// No node is open, so no plan is valid.
+pub fn impossible(
+    alloc: Global,
+    lists: Vec<BoundLabels>,
+    fates: &[Fate],
+) -> Result<Outcome, OutOfMemory>
+    requires { CanBeDrawn lists.items fates.now }
+    ensures { IfOk result (λ outcome. (problem : Instance) (limit : ℕ) →
+        IsExhausted problem limit lists.items fates.now → IsOutcome problem limit outcome) }
+{
+    let tree = tree_nodes(alloc, lists, fates)?;
+    Ok(Outcome::Impossible { tree })
+}
+
+/// The paths of the least open node are a valid plan.
+pub fn found(
+    alloc: Global,
+    plan: Plan,
+    lists: Vec<BoundLabels>,
+    fates: &[Fate],
+) -> Result<Outcome, OutOfMemory>
+    requires { CanBeDrawn lists.items fates.now }
+    ensures { IfOk result (λ outcome. (problem : Instance) (limit : ℕ) →
+        IsAtPlan problem limit lists.items fates.now plan → IsOutcome problem limit outcome) }
+{
+    let tree = tree_nodes(alloc, lists, fates)?;
+    Ok(Outcome::Found { plan, tree })
+}
+
+/// The search stops for this cause, at a least open node of this sum.
+pub fn stopped(
+    alloc: Global,
+    cause: Cause,
+    bound: u64,
+    lists: Vec<BoundLabels>,
+    fates: &[Fate],
+) -> Result<Outcome, OutOfMemory>
+    requires { CanBeDrawn lists.items fates.now }
+    ensures { IfOk result (λ outcome. (problem : Instance) (limit : ℕ) →
+        IsAtCause problem limit lists.items fates.now cause bound → IsOutcome problem limit outcome) }
+{
+    let tree = tree_nodes(alloc, lists, fates)?;
+    Ok(Outcome::Limit { cause, bound, tree })
+}

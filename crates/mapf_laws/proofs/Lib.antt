@@ -1,0 +1,5 @@
+mod CauseLemmas
+mod ImpossibleLemmas
+mod ReachLemmas
+mod TrivialLemmas
+mod WaitingLemmas

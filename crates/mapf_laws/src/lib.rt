@@ -1,0 +1,4 @@
+//! What follows from the definitions beyond what the program rests on?
+#![tactic(auto)]
+
+pub mod impossible;

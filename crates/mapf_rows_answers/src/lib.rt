@@ -1,0 +1,11 @@
+//! Do the runs give the bytes of the worked examples, and name the fault of their inputs?
+#![tactic(auto)]
+
+#[cfg(test)]
+mod dispatching;
+#[cfg(test)]
+mod faults;
+#[cfg(test)]
+mod playing;
+#[cfg(test)]
+mod solving;

@@ -1,0 +1,218 @@
+//! What is written for problems of each kind of answer.
+
+ghost use Rattle.std.specs.Prelude.{◌≤◌};
+
+use mapf_app::{Fault, Kind, Verdict, run_demo};
+use mapf_model::{BytesSink, Cause};
+use mapf_rows::Given;
+use mapf_rows::problems::{
+    AT_REST, AT_REST_CERT, AT_REST_PLAN, CORRIDOR, CORRIDOR_CERT, CORRIDOR_PLAN, CROSSING,
+    CROSSING_CERT, CROSSING_PLAN, CROSSING_STOPPED_CERT, CROSSING_STOPPED_PLAN, EXCHANGE,
+    EXCHANGE_STOPPED_CERT, EXCHANGE_STOPPED_PLAN, NICHE, NICHE_CERT, NICHE_PLAN,
+    NICHE_STOPPED_CERT, NICHE_STOPPED_PLAN, ROTATION, ROTATION_CERT, ROTATION_PLAN, SHARED_GOAL,
+    SHARED_GOAL_CERT, SHARED_GOAL_PLAN, SHARED_START, SHARED_START_CERT, SHARED_START_PLAN,
+    SHARED_START_STOPPED_CERT, SHARED_START_STOPPED_PLAN, WALL, WALL_CERT, WALL_PLAN,
+};
+use mapf_rows_runs::{Solved, check, solve};
+use std::alloc::Global;
+use std::process::Abort;
+use std::test::Fail;
+
+// A problem, the number of splits that are allowed, and the answer and the texts that are due.
+#[derive(Clone, Copy)]
+struct Row {
+    given: Given,
+    limit: u32,
+    kind: Kind,
+    plan: &'static str,
+    cert: &'static str,
+}
+
+const ROWS: [Row; 12] = [
+    Row {
+        given: AT_REST,
+        limit: 0,
+        kind: Kind::Found(0),
+        plan: AT_REST_PLAN,
+        cert: AT_REST_CERT,
+    },
+    Row {
+        given: CORRIDOR,
+        limit: 0,
+        kind: Kind::Found(2),
+        plan: CORRIDOR_PLAN,
+        cert: CORRIDOR_CERT,
+    },
+    Row {
+        given: CROSSING,
+        limit: 10,
+        kind: Kind::Found(5),
+        plan: CROSSING_PLAN,
+        cert: CROSSING_CERT,
+    },
+    Row {
+        given: NICHE,
+        limit: 5,
+        kind: Kind::Found(4),
+        plan: NICHE_PLAN,
+        cert: NICHE_CERT,
+    },
+    Row {
+        given: SHARED_START,
+        limit: 1,
+        kind: Kind::Impossible,
+        plan: SHARED_START_PLAN,
+        cert: SHARED_START_CERT,
+    },
+    Row {
+        given: SHARED_GOAL,
+        limit: 0,
+        kind: Kind::Impossible,
+        plan: SHARED_GOAL_PLAN,
+        cert: SHARED_GOAL_CERT,
+    },
+    Row {
+        given: WALL,
+        limit: 0,
+        kind: Kind::Impossible,
+        plan: WALL_PLAN,
+        cert: WALL_CERT,
+    },
+    Row {
+        given: ROTATION,
+        limit: 0,
+        kind: Kind::Found(4),
+        plan: ROTATION_PLAN,
+        cert: ROTATION_CERT,
+    },
+    // More splits are needed than are allowed.
+    Row {
+        given: CROSSING,
+        limit: 0,
+        kind: Kind::Limit {
+            cause: Cause::Splits(0),
+            bound: 4,
+        },
+        plan: CROSSING_STOPPED_PLAN,
+        cert: CROSSING_STOPPED_CERT,
+    },
+    Row {
+        given: NICHE,
+        limit: 4,
+        kind: Kind::Limit {
+            cause: Cause::Splits(4),
+            bound: 4,
+        },
+        plan: NICHE_STOPPED_PLAN,
+        cert: NICHE_STOPPED_CERT,
+    },
+    Row {
+        given: SHARED_START,
+        limit: 0,
+        kind: Kind::Limit {
+            cause: Cause::Splits(0),
+            bound: 3,
+        },
+        plan: SHARED_START_STOPPED_PLAN,
+        cert: SHARED_START_STOPPED_CERT,
+    },
+    Row {
+        given: EXCHANGE,
+        limit: 3,
+        kind: Kind::Limit {
+            cause: Cause::Splits(3),
+            bound: 4,
+        },
+        plan: EXCHANGE_STOPPED_PLAN,
+        cert: EXCHANGE_STOPPED_CERT,
+    },
+];
+
+// The run gave this answer, and wrote these texts.
+pub fn assert_written(
+    rt: &impl Abort,
+    solved: &Solved,
+    answer: Result<Kind, Fault>,
+    texts: (&str, &str),
+) {
+    assert_eq!(rt; solved.answer, answer);
+    assert_eq!(rt; solved.plan.bytes(), texts.0.as_bytes());
+    assert_eq!(rt; solved.cert.bytes(), texts.1.as_bytes());
+}
+
+fn verdict_of(kind: Kind) -> Verdict {
+    match kind {
+        Kind::Found(cost) => Verdict::Optimal(cost),
+        Kind::Impossible => Verdict::Impossible,
+        Kind::Limit { bound, .. } => Verdict::Bound(bound),
+    }
+}
+
+#[test]
+fn writes_plan_and_certificate(rt: HostRuntime) -> Result<(), Fail> {
+    for row in ROWS {
+        assert!(rt; 1 <= row.given.k && row.given.k <= 200 && row.limit <= 100_000);
+        let solved = solve(rt.alloc(), &row.given, row.limit)?;
+        assert_written(&rt, &solved, Ok(row.kind), (row.plan, row.cert));
+        let verdict = check(
+            rt.alloc(),
+            &row.given,
+            solved.plan.bytes(),
+            solved.cert.bytes(),
+        );
+        assert_eq!(rt; verdict, Ok(verdict_of(row.kind)));
+    }
+    Ok(())
+}
+
+#[test]
+fn needs_no_more_splits_than_it_makes(rt: HostRuntime) -> Result<(), Fail> {
+    let solved = solve(rt.alloc(), &CROSSING, 1)?;
+    let texts = (CROSSING_PLAN, CROSSING_CERT);
+    assert_written(&rt, &solved, Ok(Kind::Found(5)), texts);
+    Ok(())
+}
+
+// Numbers of splits that are too few, and the least sum of an open node once so many are made.
+const NICHE_BOUNDS: [(u32, u64); 5] = [(0, 2), (1, 3), (2, 4), (3, 4), (4, 4)];
+
+const EXCHANGE_BOUNDS: [(u32, u64); 4] = [(0, 2), (1, 3), (2, 3), (3, 4)];
+
+// Stopped at each of these limits the search tells that bound, and what it writes is accepted with it.
+fn assert_bounds(
+    rt: &impl Abort,
+    alloc: Global,
+    given: &Given,
+    bounds: &[(u32, u64)],
+) -> Result<(), Fail>
+    requires some { 1 ≤ given.now.k }
+    requires few { given.now.k ≤ 200 }
+{
+    for (limit, bound) in bounds {
+        assert!(rt; *limit <= 100_000);
+        let solved = solve(alloc, given, *limit)?;
+        let kind = Kind::Limit {
+            cause: Cause::Splits(*limit),
+            bound: *bound,
+        };
+        assert_eq!(rt; solved.answer, Ok(kind));
+        let verdict = check(alloc, given, solved.plan.bytes(), solved.cert.bytes());
+        assert_eq!(rt; verdict, Ok(Verdict::Bound(*bound)), "with {limit} splits");
+    }
+    Ok(())
+}
+
+#[test]
+fn tells_the_bound_that_so_many_splits_show(rt: HostRuntime) -> Result<(), Fail> {
+    assert_bounds(&rt, rt.alloc(), &NICHE, &NICHE_BOUNDS)?;
+    assert_bounds(&rt, rt.alloc(), &EXCHANGE, &EXCHANGE_BOUNDS)
+}
+
+#[test]
+fn writes_the_demo(rt: HostRuntime) -> Result<(), Fail> {
+    let mut out = BytesSink::with_room(rt.alloc(), 4096)?;
+    assert_eq!(rt; run_demo(rt.alloc(), &mut out), Ok(()));
+    let text = format!(in rt.alloc(); "{ROTATION_PLAN}{ROTATION_CERT}optimal 4\n")?;
+    assert_eq!(rt; out.bytes(), text.as_bytes());
+    Ok(())
+}

@@ -1,0 +1,7 @@
+//! How do runs end whose devices fail, and what do they tell?
+#![tactic(auto)]
+
+#[cfg(test)]
+mod failing;
+#[cfg(test)]
+mod telling;

@@ -1,0 +1,9 @@
+//! Does the checker judge the worked examples and their faults as the formats say?
+#![tactic(auto)]
+
+#[cfg(test)]
+mod checks;
+#[cfg(test)]
+mod samples;
+#[cfg(test)]
+mod validity;

@@ -1,0 +1,192 @@
+ghost use Rattle.std.specs.Prelude.{◌<◌};
+
+use mapf_constraints::{Bar, BarTable, ListBars, TickBars};
+use mapf_model::{Cell, OutOfMemory, Tick};
+use std::alloc::Global;
+use std::process::Abort;
+use std::test::Fail;
+
+/// A map of two cells, the second of them barred at tick 5.
+fn second_cell_barred<B: BarTable>(alloc: Global) -> Result<B, OutOfMemory> {
+    let mut table = B::empty(alloc);
+    table.add(Bar::Cell {
+        cell: Cell(1),
+        tick: 5,
+    })?;
+    Ok(table)
+}
+
+fn last_ticks<B: BarTable>(table: &B) -> (Option<Tick>, Option<Tick>) {
+    (table.last_on(Cell(0)), table.last_on(Cell(1)))
+}
+
+fn last_tick_is_that_of_the_bar<B: BarTable>(
+    rt: &impl Abort,
+    alloc: Global,
+) -> Result<(), OutOfMemory> {
+    let table = second_cell_barred::<B>(alloc)?;
+    assert_eq!(rt; last_ticks(&table), (None, Some(5)));
+    let copy = table.copy()?;
+    assert_eq!(rt; last_ticks(&copy), (None, Some(5)));
+    assert_eq!(rt; copy.horizon(), 6);
+    assert!(rt;
+        copy.bars_cell(Cell(1), 5) && !copy.bars_cell(Cell(1), 4) && !copy.bars_cell(Cell(0), 5)
+    );
+    Ok(())
+}
+
+#[test]
+fn both_tables_know_the_last_tick(rt: HostRuntime) -> Result<(), Fail> {
+    last_tick_is_that_of_the_bar::<ListBars>(&rt, rt.alloc())?;
+    last_tick_is_that_of_the_bar::<TickBars>(&rt, rt.alloc())?;
+    Ok(())
+}
+
+/// A few hundred bars, some of them twice.
+fn many_bars<B: BarTable>(alloc: Global) -> Result<B, OutOfMemory> {
+    let mut table = B::empty(alloc);
+    for k in 0u32..300 {
+        table.add(Bar::Cell {
+            cell: Cell(7 * k % 20),
+            tick: 13 * k % 50,
+        })?;
+        let from = 11 * k % 20;
+        table.add(Bar::Move {
+            from: Cell(from),
+            to: Cell(from + 1),
+            tick: 17 * k % 45,
+        })?;
+    }
+    table.copy()
+}
+
+fn agree_at(list: &ListBars, index: &TickBars, cell: Cell, tick: Tick) -> bool {
+    let next = Cell(cell.0.wrapping_add(1));
+    list.bars_cell(cell, tick) == index.bars_cell(cell, tick)
+        && list.bars_move(cell, next, tick) == index.bars_move(cell, next, tick)
+        && list.bars_move(next, cell, tick) == index.bars_move(next, cell, tick)
+        && list.last_on(cell) == index.last_on(cell)
+}
+
+#[test]
+fn both_tables_answer_alike(rt: HostRuntime) -> Result<(), Fail> {
+    let list = many_bars::<ListBars>(rt.alloc())?;
+    let index = many_bars::<TickBars>(rt.alloc())?;
+    assert_eq!(rt; list.horizon(), 50);
+    assert_eq!(rt; index.horizon(), 50);
+    for cell in 0..22 {
+        for tick in 0..52 {
+            assert!(rt;
+                agree_at(&list, &index, Cell(cell), tick),
+                "at {cell} {tick}"
+            );
+        }
+    }
+    Ok(())
+}
+
+/// What a table answers to each of some queries.
+#[derive(Drop)]
+struct Answers {
+    cells: [bool; 256],
+    moves: [bool; 256],
+    last: [Option<Tick>; 32],
+    horizon: Tick,
+}
+
+/// The answers on 32 cells and, of each, on 8 ticks.
+fn answers_of<B: BarTable>(table: &B) -> Answers {
+    let mut answers = Answers {
+        cells: [false; 256],
+        moves: [false; 256],
+        last: [None; 32],
+        horizon: table.horizon(),
+    };
+    for k in 0..256u32 {
+        let (cell, tick) = (k / 8, k % 8);
+        answers.cells[k as usize] = table.bars_cell(Cell(cell), tick);
+        answers.moves[k as usize] = table.bars_move(Cell(cell), Cell(cell + 1), tick);
+    }
+    for cell in 0..32u32 {
+        answers.last[cell as usize] = table.last_on(Cell(cell));
+    }
+    answers
+}
+
+/// Whether the table still answers so. It needs no memory.
+fn answers_so<B: BarTable>(table: &B, answers: &Answers) -> bool {
+    let now = answers_of(table);
+    for k in 0..256 {
+        if now.cells[k] != answers.cells[k] || now.moves[k] != answers.moves[k] {
+            return false;
+        }
+    }
+    for cell in 0..32 {
+        if now.last[cell] != answers.last[cell] {
+            return false;
+        }
+    }
+    now.horizon == answers.horizon
+}
+
+/// Bars the cell at the tick, and the move from it. Where memory is refused, the table has to answer as
+/// before, and the error is given on.
+fn adds_or_stays<B: BarTable>(
+    rt: &impl Abort,
+    table: &mut B,
+    cell: u32,
+    tick: Tick,
+) -> Result<(), OutOfMemory>
+    requires cell { cell < 31 }
+    requires tick { tick < 8 }
+{
+    let before = answers_of(table);
+    let bar = Bar::Cell {
+        cell: Cell(cell),
+        tick,
+    };
+    if let Err(refused) = table.add(bar) {
+        assert!(rt; answers_so(table, &before));
+        return Err(refused);
+    }
+    assert!(rt; table.bars_cell(Cell(cell), tick) && table.last_on(Cell(cell)) >= Some(tick));
+    let between = answers_of(table);
+    let bar = Bar::Move {
+        from: Cell(cell),
+        to: Cell(cell + 1),
+        tick,
+    };
+    if let Err(refused) = table.add(bar) {
+        assert!(rt; answers_so(table, &between));
+        return Err(refused);
+    }
+    assert!(rt; table.bars_move(Cell(cell), Cell(cell + 1), tick) && table.horizon() > tick);
+    Ok(())
+}
+
+/// Adds many bars and copies the table. Where memory is refused on the way, it has to answer as before.
+fn stays_as_it_is<B: BarTable>(rt: &impl Abort, alloc: Global) {
+    let mut table = B::empty(alloc);
+    for k in 0..60u32 {
+        if adds_or_stays(rt, &mut table, 7 * k % 31, 5 * k % 8).is_err() {
+            return;
+        }
+    }
+    let before = answers_of(&table);
+    assert_eq!(rt; (before.horizon, before.last[0]), (8, Some(3)));
+    let copy = table.copy();
+    assert!(rt; answers_so(&table, &before));
+    if let Ok(copy) = copy {
+        assert!(rt; answers_so(&copy, &before));
+    }
+}
+
+#[test]
+fn a_refused_list_answers_as_before(rt: HostRuntime) {
+    stays_as_it_is::<ListBars>(&rt, rt.alloc());
+}
+
+#[test]
+fn a_refused_index_answers_as_before(rt: HostRuntime) {
+    stays_as_it_is::<TickBars>(&rt, rt.alloc());
+}

@@ -1,0 +1,15 @@
+//! Do tables of bars and of distances, the search of one agent and the search for the first conflict give the known values?
+#![tactic(auto)]
+
+#[cfg(test)]
+mod bars;
+#[cfg(test)]
+mod conflicts;
+#[cfg(test)]
+mod distances;
+#[cfg(test)]
+mod lazy_tables;
+#[cfg(test)]
+mod searches;
+#[cfg(test)]
+mod tables;

@@ -1,0 +1,5 @@
+//! Does the search find the cheapest plans and the trees of worked problems, as the plain search does?
+#![tactic(auto)]
+
+#[cfg(test)]
+mod searching;

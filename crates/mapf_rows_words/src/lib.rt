@@ -1,0 +1,5 @@
+//! Are the words of a command line read as the help says?
+#![tactic(auto)]
+
+#[cfg(test)]
+mod words;

@@ -1,0 +1,174 @@
+"""What tools/sweep shows of its rows: the success rate of each map, as a table and as a page that stands alone."""
+
+import re
+from collections import Counter
+from dataclasses import dataclass
+from html import escape
+from pathlib import Path
+from statistics import median
+
+from sweep_plot import plot
+from sweep_rows import NO_AGENTS, NO_MAP, SOLVED, USUAL, natural
+
+STYLE = Path(__file__).resolve().with_name("sweep_report.css")
+
+# Tables of more points than this are folded when the page opens.
+MANY = 60
+
+
+@dataclass(frozen=True)
+class Point:
+    """What is known of the scenarios of one map and kind with so many agents. Medians are those of solved runs."""
+
+    map: str
+    kind: str
+    agents: int
+    tried: int
+    solved: int
+    pending: int
+    solve: float | None
+    check: float | None
+    splits: float | None
+    certificate: float | None
+    memory: int
+
+    def rate(self):
+        return self.solved / self.tried
+
+
+def kind_of(scenario):
+    """`even` or `random`, where the name of a scenario ends as those of the benchmark do."""
+    found = re.search(r"-(even|random)-[0-9]+$", scenario)
+    return found[1] if found else ""
+
+
+def points(rows, scenarios):
+    """The points of each map, by its name, its kinds and the number of agents."""
+    there = [row for row in rows if row.status not in (NO_MAP, NO_AGENTS)]
+    groups = {(row.map, kind_of(row.scenario)) for row in there}
+    found = []
+    for name, kind in sorted(groups, key=lambda group: (natural(group[0]), group[1])):
+        of_group = [row for row in there if (row.map, kind_of(row.scenario)) == (name, kind)]
+        most = {scenario.name: scenario.agents for scenario in scenarios
+                if (scenario.map, kind_of(scenario.name)) == (name, kind) and scenario.grid is not None}
+        for agents in sorted({int(row.agents) for row in of_group}):
+            found.append(point(name, kind, agents, of_group, [own for own, count in most.items() if count >= agents]))
+    return [one for one in found if one.tried]
+
+
+def point(name, kind, agents, rows, scenarios):
+    """A scenario that wasn't solved with fewer agents counts as tried, and not solved, with so many."""
+    ended = {row.scenario for row in rows if row.status != SOLVED and int(row.agents) < agents}
+    here = [row for row in rows if int(row.agents) == agents]
+    solved = [row for row in here if row.status == SOLVED]
+    tried = ended | {row.scenario for row in here}
+    return Point(name, kind, agents, len(tried), len(solved), len(set(scenarios) - tried),
+                 middle(solved, "solve_seconds"), middle(solved, "check_seconds"), middle(solved, "splits"),
+                 middle(solved, "certificate_bytes"),
+                 max((int(kb) for row in here for kb in (row.solve_kb, row.check_kb) if kb), default=0))
+
+
+def middle(rows, name):
+    return median(float(getattr(row, name)) for row in rows) if rows else None
+
+
+# Values in words.
+
+def seconds(value):
+    return "" if value is None else f"{value:.2f} s" if value < 10 else f"{value:.1f} s"
+
+
+def count(value):
+    return "" if value is None else f"{value:,.0f}"
+
+
+def size(value):
+    if value is None:
+        return ""
+    for unit in ("B", "kB", "MB"):
+        if value < 999.5:
+            break
+        value /= 1000
+    else:
+        unit = "GB"
+    return f"{value:.0f} {unit}" if value >= 9.95 or unit == "B" else f"{value:.1f} {unit}"
+
+
+HEAD = ("agents", "solved", "rate", "solve", "check", "splits", "certificate", "memory")
+
+
+def cells(one):
+    solved = f"{one.solved} of {one.tried}" + (f", {one.pending} to go" if one.pending else "")
+    return (str(one.agents), solved, f"{one.rate():.2f}", seconds(one.solve), seconds(one.check), count(one.splits),
+            size(one.certificate), size(one.memory * 1024) if one.memory else "")
+
+
+def table(found):
+    """The points as a table that can be read as it is, and that Markdown knows."""
+    lines = [("map", "scenarios", *HEAD)] + [(one.map, one.kind, *cells(one)) for one in found]
+    if not any(line[1] for line in lines[1:]):
+        lines = [(line[0], *line[2:]) for line in lines]
+    widths = [max(map(len, column)) for column in zip(*lines)]
+    lines = [[cell.ljust(width) if at == 0 else cell.rjust(width) for at, (cell, width) in enumerate(zip(line, widths))]
+             for line in lines]
+    rule = ["-" * width if at == 0 else "-" * (width - 1) + ":" for at, width in enumerate(widths)]
+    return "\n".join("| " + " | ".join(line) + " |" for line in [lines[0], rule, *lines[1:]])
+
+
+# The page.
+
+def page(found, rows, limit, most_seconds):
+    """A page of HTML: no network, no script."""
+    maps = list(dict.fromkeys(one.map for one in found))
+    of_map = {name: [one for one in found if one.map == name] for name in maps}
+    plots = "".join(plot(name, of_map[name]) for name in maps)
+    tables = "".join(table_of(name, of_map[name], len(found) <= MANY) for name in maps)
+    partly = " A hollow mark: not every scenario has come that far yet." if any(one.pending for one in found) else ""
+    return f"""<!doctype html>
+<html lang="en">
+<meta charset="utf-8">
+<meta name="viewport" content="width=device-width, initial-scale=1">
+<meta name="color-scheme" content="light dark">
+<title>Success rate of mapf</title>
+<style>
+{STYLE.read_text()}</style>
+<h1>Success rate of mapf</h1>
+<p>The share of scenarios that were solved, against the number of agents. Solved: <code>mapf solve</code> found a
+cheapest plan within {limit:,} splits and {most_seconds:g} seconds, and <code>mapf check</code> confirmed from its
+certificate that no valid plan is cheaper. After the first number of agents with which it isn't solved a scenario isn't
+tried again, and counts as not solved.{partly}</p>
+<main>{plots}</main>
+<p>{escape(ends(rows))}</p>
+<h2>Each number of agents</h2>
+<p>Seconds are processor time. Seconds, splits and sizes of certificates are medians over the scenarios that were
+solved; memory is the most that solve or check held in any run (8 MB is that of the process that started them).</p>
+{tables}{troubles([row for row in rows if row.status not in USUAL])}</html>
+"""
+
+
+def ends(rows):
+    """How many runs ended in which way, in one sentence."""
+    counts = sorted(Counter(row.status for row in rows).items())
+    return f"{len(rows):,} runs: " + ", ".join(f"{number:,} {status}" for status, number in counts) + "."
+
+
+def table_of(name, found, is_open):
+    kinds = any(one.kind for one in found)
+    lines = "".join(html_line("td", ((one.kind,) if kinds else ()) + cells(one)) for one in found)
+    head = html_line("th", (("scenarios",) if kinds else ()) + HEAD)
+    return (f"<details{' open' if is_open else ''}><summary>{escape(name)}</summary><div class=\"wide\"><table>"
+            f"<thead>{head}</thead><tbody>{lines}</tbody></table></div></details>\n")
+
+
+def html_line(tag, values):
+    return "<tr>" + "".join(f"<{tag}>{escape(value)}</{tag}>" for value in values) + "</tr>\n"
+
+
+def troubles(rows):
+    """The runs that ended otherwise than with an answer or a limit."""
+    if not rows:
+        return ""
+    lines = "".join(html_line("td", (row.scenario, row.agents, row.status, row.note, row.verdict)) for row in rows)
+    head = html_line("th", ("scenario", "agents", "status", "what was said", "verdict"))
+    return (f"<h2>Runs that failed</h2>\n<div class=\"wide\"><table class=\"words\"><thead>{head}</thead>"
+            f"<tbody>{lines}</tbody></table></div>\n")

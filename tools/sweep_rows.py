@@ -1,0 +1,110 @@
+"""The rows of a sweep and the file that keeps them, results.csv: one line for each run, appended whole."""
+
+import csv
+import io
+import os
+import re
+from dataclasses import astuple, dataclass, fields
+
+from common import ToolError
+
+# What became of a run: its answer is a cheapest plan, and the checker confirmed it. Any other status ends its scenario.
+SOLVED = "solved"
+
+# What ends a run without being a fault of the program, of its files or of the machine.
+USUAL = (SOLVED, "limit", "time-out", "impossible")
+
+# A scenario whose map isn't there, and one without agents. Such a row tells of no run, so it is made anew each time.
+NO_MAP, NO_AGENTS = "no map", "no agents"
+
+
+@dataclass(frozen=True)
+class Row:
+    """A run. Seconds are processor time. What isn't known is an empty text."""
+
+    map: str
+    scenario: str
+    agents: str
+    status: str
+    cost: str = ""
+    splits: str = ""
+    solve_seconds: str = ""
+    check_seconds: str = ""
+    certificate_bytes: str = ""
+    verdict: str = ""
+    solve_kb: str = ""
+    check_kb: str = ""
+    note: str = ""
+
+    def key(self):
+        return self.scenario, int(self.agents)
+
+    def order(self):
+        return natural(self.map), natural(self.scenario), int(self.agents)
+
+
+NAMES = [field.name for field in fields(Row)]
+
+
+def natural(name):
+    """Orders names as people do: the second before the tenth."""
+    return [(int(part), "") if part.isdigit() else (0, part) for part in re.split("([0-9]+)", name)]
+
+
+class Results:
+    """The rows that are in results.csv. Each is added to the file at once."""
+
+    def __init__(self, path):
+        self.path = path
+        self.rows = {}
+        whole = self.read()
+        with open(path, "ab") as file:
+            file.truncate(whole)
+        if whole == 0:
+            self.append(NAMES)
+
+    def read(self):
+        """Reads the rows, and answers how many bytes hold whole lines: a last line that was cut doesn't count."""
+        data = self.path.read_bytes() if self.path.exists() else b""
+        whole = data.rfind(b"\n") + 1
+        lines = list(csv.reader(io.StringIO(data[:whole].decode(errors="surrogateescape"), newline="")))
+        if lines and lines[0] != NAMES:
+            raise ToolError(f"{self.path} isn't a table of this tool: give another OUT, or move that file away")
+        for number, line in enumerate(lines[1:], 2):
+            if len(line) != len(NAMES) or not line[NAMES.index("agents")].isdigit():
+                raise ToolError(f"{self.path}, row {number} isn't a row of this tool: remove that line and call again")
+            row = Row(*line)
+            if row.status not in (NO_MAP, NO_AGENTS):
+                self.rows[row.key()] = row
+        return whole
+
+    def add(self, row):
+        self.rows[row.key()] = row
+        self.append(astuple(row))
+
+    def append(self, values):
+        """Adds a line with one write, so that whatever stops the tool cuts no line but the last."""
+        line = line_of(values)
+        with open(self.path, "ab", buffering=0) as file:
+            if file.write(line) != len(line):
+                raise ToolError(f"{self.path} can't be written: is the disk full?")
+
+    def sorted(self):
+        return sorted(self.rows.values(), key=Row.order)
+
+    def sort(self):
+        """Puts the file's rows in order, in one step."""
+        replace(self.path, b"".join(map(line_of, [NAMES, *map(astuple, self.sorted())])))
+
+
+def line_of(values):
+    text = io.StringIO()
+    csv.writer(text, lineterminator="\n").writerow(values)
+    return text.getvalue().encode(errors="surrogateescape")
+
+
+def replace(path, data):
+    """Gives a file this content in one step."""
+    beside = path.with_name(path.name + ".new")
+    beside.write_bytes(data)
+    os.replace(beside, path)

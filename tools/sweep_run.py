@@ -1,0 +1,165 @@
+"""One run of tools/sweep: solves a problem, has the answer checked, and prints what came of it as one line of JSON.
+
+    python3 -I -S tools/sweep_run.py PROGRAM FOLDER SECONDS LIMIT MAP SCEN K
+
+A run is a program of its own, so that another machine can make it, and so that it ends when tools/sweep does, however
+that ends. It keeps its files in a new folder inside FOLDER, and removes them. It imports little: the memory that the
+system counts for mapf is never below what the Python process held that started it.
+"""
+
+import json
+import os
+import re
+import signal
+import sys
+import time
+from collections import namedtuple
+
+# How often a run looks whether tools/sweep is still there, in seconds.
+LOOK = 0.5
+
+# What of a text that a program says is read, in bytes, and how much of its first line is shown.
+READ, SHOWN = 4096, 120
+
+# What `solve` may say with each exit status, how a row calls it, and what `check` has to say of it.
+ANSWERS = {
+    0: (r"cost (?P<cost>[0-9]+)\n", "solved", "optimal {cost}"),
+    3: (r"impossible\n", "impossible", "impossible"),
+    4: (r"limit (?P<splits>[0-9]+|ticks) bound (?P<bound>[0-9]+)\n", "limit", "bound {bound}"),
+}
+
+# How a run of the program ended: its exit status; what kept it from an answer (nothing, or 'killed' or 'time-out') and
+# a word on that; its processor seconds; the most memory that it held; what it wrote to standard output; and the first
+# line that it said, of the errors first.
+Ended = namedtuple("Ended", "status trouble note seconds kb out said")
+
+
+def main():
+    program, folder, seconds, limit, grid, scenario, agents = sys.argv[1:]
+    own = os.path.join(folder, f"run-{os.urandom(8).hex()}")
+    os.mkdir(own)
+    os.chdir(own)
+    signal.pthread_sigmask(signal.SIG_BLOCK, {signal.SIGCHLD})
+    try:
+        problem = [os.path.abspath(grid), os.path.abspath(scenario), agents]
+        print(json.dumps(outcome(program, problem, limit, float(seconds))), flush=True)
+    finally:
+        remove(own)
+
+
+def remove(folder):
+    """Removes a folder of files, unless tools/sweep, which stops, is doing so."""
+    try:
+        for name in os.listdir(folder):
+            os.remove(os.path.join(folder, name))
+        os.rmdir(folder)
+    except FileNotFoundError:
+        pass
+
+
+def outcome(program, problem, limit, seconds):
+    """The fields of the row of this run, but for the names of the problem."""
+    solved = run([program, "solve", *problem, limit, "plan", "cert"], seconds)
+    row = {"solve_seconds": solved.seconds, "solve_kb": solved.kb, "note": solved.note, "status": solved.trouble}
+    if solved.trouble:
+        return row
+    form, status, wanted = ANSWERS.get(solved.status, ("(?!)", None, None))
+    answer = re.fullmatch(form, solved.out)
+    if not answer:
+        return {**row, "status": "failed", "note": f"solve: status {solved.status}, {solved.said}"}
+    told = answer.groupdict()
+    row.update(status=status, cost=told.get("cost"), certificate_bytes=size("cert"), splits=told.get("splits"))
+    if row["splits"] in (None, "ticks"):
+        row["splits"] = count_splits("cert")
+    return {**row, **checked(program, problem, seconds, wanted.format(**told))}
+
+
+def checked(program, problem, seconds, wanted):
+    """The fields that `check` adds, of which the status stands only where it doesn't confirm the answer."""
+    ended = run([program, "check", *problem, "plan", "cert"], seconds)
+    row = {"check_seconds": ended.seconds, "check_kb": ended.kb}
+    if ended.status == 0 and ended.out == wanted + "\n":
+        return {**row, "verdict": wanted}
+    if ended.status == 1 and ended.out.startswith("refused "):
+        return {**row, "status": "refused", "verdict": ended.out.strip(), "note": "check refused what solve answered"}
+    note = ended.note or f"status {ended.status}, {ended.said}"
+    return {**row, "status": "unchecked", "note": f"check: {note}"}
+
+
+def run(words, seconds):
+    """Runs a program, for so many seconds by the clock at most."""
+    child = os.fork()
+    if child == 0:
+        become(words)
+    is_late = not ends_by(time.monotonic() + seconds, child)
+    kill(child)
+    _, status, usage = os.wait4(child, 0)
+    code = os.waitstatus_to_exitcode(status)
+    trouble, note = "", ""
+    if is_late:
+        trouble, note = "time-out", f"{words[1]} took more than {seconds:g} seconds"
+    elif code < 0:
+        trouble, note = "killed", f"{words[1]} was killed by signal {-code}"
+    text = first("out")
+    said = repr(((first("err") or text).splitlines() or [""])[0][:SHOWN])
+    return Ended(code, trouble, note, round(usage.ru_utime + usage.ru_stime, 3), usage.ru_maxrss, text, said)
+
+
+def become(words):
+    """Runs a program in place of this process, which is a child just made, in a process group of its own."""
+    try:
+        os.setpgid(0, 0)
+        signal.pthread_sigmask(signal.SIG_UNBLOCK, {signal.SIGCHLD})
+        for stream, place, way in ((0, os.devnull, "rb"), (1, "out", "wb"), (2, "err", "wb")):
+            with open(place, way) as file:
+                os.dup2(file.fileno(), stream)
+        os.execv(words[0], words)
+    except OSError as error:
+        os.write(2, f"{words[0]} can't be started: {error.strerror}\n".encode())
+    finally:
+        os._exit(127)
+
+
+def ends_by(end, child):
+    """Waits for the child, until this moment at most, and answers whether it has ended. It isn't reaped yet, so its
+    number is still its own. Where tools/sweep has gone, the run ends here.
+    """
+    parent = os.getppid()
+    while os.waitid(os.P_PID, child, os.WEXITED | os.WNOHANG | os.WNOWAIT) is None:
+        left = end - time.monotonic()
+        if left <= 0:
+            return False
+        if os.getppid() != parent:
+            kill(child)
+            sys.exit("tools/sweep has gone")
+        signal.sigtimedwait({signal.SIGCHLD}, min(LOOK, left))
+    return True
+
+
+def kill(child):
+    """Kills the child, if it is still at work, and all that it started."""
+    try:
+        os.killpg(child, signal.SIGKILL)
+    except (ProcessLookupError, PermissionError):
+        pass
+
+
+def first(path):
+    with open(path, "rb") as file:
+        return file.read(READ).decode(errors="replace")
+
+
+def size(path):
+    return os.path.getsize(path) if os.path.isfile(path) else None
+
+
+def count_splits(path):
+    """How many lines of a certificate are splits; none, where there is no certificate."""
+    if size(path) is None:
+        return None
+    with open(path, "rb") as file:
+        return sum(line.startswith((b"vertex ", b"swap ")) for line in file)
+
+
+if __name__ == "__main__":
+    main()
