@@ -75,7 +75,9 @@ def middle(rows, name):
 # Values in words.
 
 def seconds(value):
-    return "" if value is None else f"{value:.2f} s" if value < 10 else f"{value:.1f} s"
+    if value is None:
+        return ""
+    return f"{1000 * value:.0f} ms" if value < 0.9995 else f"{value:.2f} s" if value < 10 else f"{value:.1f} s"
 
 
 def count(value):
@@ -106,7 +108,7 @@ def cells(one):
 def table(found):
     """The points as a table that can be read as it is, and that Markdown knows."""
     lines = [("map", "scenarios", *HEAD)] + [(one.map, one.kind, *cells(one)) for one in found]
-    if not any(line[1] for line in lines[1:]):
+    if len({one.kind for one in found}) < 2:
         lines = [(line[0], *line[2:]) for line in lines]
     widths = [max(map(len, column)) for column in zip(*lines)]
     lines = [[cell.ljust(width) if at == 0 else cell.rjust(width) for at, (cell, width) in enumerate(zip(line, widths))]
@@ -148,12 +150,12 @@ solved; memory is the most that solve or check held in any run (8 MB is that of 
 
 def ends(rows):
     """How many runs ended in which way, in one sentence."""
-    counts = sorted(Counter(row.status for row in rows).items())
+    counts = sorted(Counter(row.status for row in rows).items(), key=lambda one: (-one[1], one[0]))
     return f"{len(rows):,} runs: " + ", ".join(f"{number:,} {status}" for status, number in counts) + "."
 
 
 def table_of(name, found, is_open):
-    kinds = any(one.kind for one in found)
+    kinds = len({one.kind for one in found}) > 1
     lines = "".join(html_line("td", ((one.kind,) if kinds else ()) + cells(one)) for one in found)
     head = html_line("th", (("scenarios",) if kinds else ()) + HEAD)
     return (f"<details{' open' if is_open else ''}><summary>{escape(name)}</summary><div class=\"wide\"><table>"

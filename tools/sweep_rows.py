@@ -106,5 +106,8 @@ def line_of(values):
 def replace(path, data):
     """Gives a file this content in one step."""
     beside = path.with_name(path.name + ".new")
-    beside.write_bytes(data)
+    with open(beside, "wb") as file:
+        file.write(data)
+        file.flush()
+        os.fsync(file.fileno())
     os.replace(beside, path)

@@ -36,12 +36,12 @@ Ended = namedtuple("Ended", "status trouble note seconds kb out said")
 
 def main():
     program, folder, seconds, limit, grid, scenario, agents = sys.argv[1:]
-    own = os.path.join(folder, f"run-{os.urandom(8).hex()}")
+    own = os.path.join(os.path.abspath(folder), f"run-{os.urandom(8).hex()}")
+    problem = [os.path.abspath(grid), os.path.abspath(scenario), agents]
     os.mkdir(own)
     os.chdir(own)
     signal.pthread_sigmask(signal.SIG_BLOCK, {signal.SIGCHLD})
     try:
-        problem = [os.path.abspath(grid), os.path.abspath(scenario), agents]
         print(json.dumps(outcome(program, problem, limit, float(seconds))), flush=True)
     finally:
         remove(own)
@@ -157,8 +157,18 @@ def count_splits(path):
     """How many lines of a certificate are splits; none, where there is no certificate."""
     if size(path) is None:
         return None
+    found, rest = 0, b"\n"
     with open(path, "rb") as file:
-        return sum(line.startswith((b"vertex ", b"swap ")) for line in file)
+        while block := file.read(1 << 16):
+            # Of each block what follows its last line end is left for the next.
+            lines, end, rest = (rest + block).rpartition(b"\n")
+            found += count_in(lines)
+            rest = end + rest
+    return found + count_in(rest)
+
+
+def count_in(lines):
+    return lines.count(b"\nvertex ") + lines.count(b"\nswap ")
 
 
 if __name__ == "__main__":

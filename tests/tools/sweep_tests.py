@@ -10,6 +10,7 @@ import sys
 import tempfile
 from collections import Counter
 from pathlib import Path
+from xml.etree import ElementTree
 
 from sweep_bench import NUMBERS, PATIENCE, SWEEP, Bench, awaited
 
@@ -31,7 +32,19 @@ def tests(tally):
         tally.add("a scenario whose map is missing", map_missing(bench, wanted))
         for name, faults in refusals(bench):
             tally.add(name, faults)
+        tally.add("the benchmark of examples/make_benchmark", made_benchmark(Path(folder)))
         dask(tally, bench, wanted)
+
+
+def made_benchmark(folder):
+    """A small one is solved, and one of its maps is that of the examples."""
+    made, examples = folder / "made", SWEEP.parent.parent / "examples"
+    subprocess.run([sys.executable, str(examples / "make_benchmark"), str(made), "1"], stdout=subprocess.DEVNULL)
+    words = [str(made / "maps"), str(made / "scen-random"), str(folder / "made-out"), "--agents", "2,4"]
+    ended = subprocess.run([sys.executable, str(SWEEP), *words], capture_output=True, text=True, timeout=PATIENCE)
+    faults = [] if ended.returncode == 0 and ended.stdout.count("| 1 of 1 |") == 8 else [f"{ended}"]
+    same = [path.read_bytes() for path in (made / "maps" / "random-32-32-20.map", examples / "random-32-32.map")]
+    return faults + ([] if same[0] == same[1] else ["the map isn't that of the examples"])
 
 
 def whole(bench):
@@ -54,9 +67,10 @@ def whole(bench):
             faults.append(f"{name} was tried as {made}")
     if ended.stdout.count("\n") != 2 + len({(row["map"], row["agents"]) for row in rows}):
         faults.append(f"the table that is printed is {ended.stdout}")
-    if len(bench.plots("whole")) != 3 or (bench.folder / "whole" / "runs").exists():
-        faults.append("there aren't three plots, or a folder of runs is left")
-    return faults
+    marks = sum(len(ElementTree.fromstring(plot).findall(".//title")) for plot in bench.plots("whole"))
+    if len(bench.plots("whole")) != 3 or marks != len({(row["map"], row["agents"]) for row in rows}):
+        faults.append(f"there are {len(bench.plots('whole'))} plots with {marks} marks")
+    return faults + (["a folder of runs is left"] if (bench.folder / "whole" / "runs").exists() else [])
 
 
 def row_faults(row):
@@ -120,6 +134,8 @@ TROUBLES = [
     ("hangs", "sleep 100\n", ("--seconds", "0.2"), 0, ("time-out", "", "solve took more than 0.2 seconds")),
     ("writes nonsense", "echo cost few\n", (), 1, ("failed", "", "solve: status 0, 'cost few'")),
     ("writes bytes without end", "head -c 300000 /dev/urandom\n", (), 1, ("failed", "", "solve: status 0")),
+    ("finds no plan", 'echo impossible\n[ "$1" = check ] || { : >"$6"; : >"$7"; exit 3; }\n', (), 0,
+     ("impossible", "impossible", "")),
     ("ends with a fault", "echo F6 >&2; exit 2\n", (), 1, ("failed", "", "solve: status 2, 'F6'")),
     ("is killed as it checks", '[ "$1" = solve ] || kill -9 $$\n' + REAL, (), 1,
      ("unchecked", "", "check: check was killed by signal 9")),

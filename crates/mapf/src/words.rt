@@ -14,7 +14,7 @@ pub fn all(rt: &HostRuntime) -> io::Result<Vec<String>> {
     Ok(words)
 }
 
-/// Prints the help text.
+/// Prints the text that was asked for: help, or the version.
 pub fn shown(rt: &HostRuntime, text: &str) -> ExitCode {
     let mut out = WriteSink::of(rt.stdout());
     match write_all(&mut out, text.as_bytes()) {

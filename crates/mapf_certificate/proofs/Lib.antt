@@ -9,6 +9,7 @@ pub mod OnePlan
 pub mod Windows
 pub mod LineWindows
 pub mod TakenThere
+pub mod EntryFronts
 pub mod Sequences
 pub mod Blocks
 pub mod Nodes

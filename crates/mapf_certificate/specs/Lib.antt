@@ -9,3 +9,4 @@ pub mod Reading
 pub mod CertReading
 pub mod Bounded
 pub mod Untouched
+pub mod EntryReading

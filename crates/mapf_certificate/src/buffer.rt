@@ -81,6 +81,14 @@ impl LineBuffer {
         self.len() == 0
     }
 
+    /// All bytes.
+    #[inline(always)]
+    pub fn all(&self) -> &[u8]
+        ensures { result.now ≡ self.now.bytes }
+    {
+        &self.bytes[self.taken..]
+    }
+
     /// The first bytes.
     pub fn front(&self, n: usize) -> &[u8]
         requires { n ≤ length self.now.bytes }
@@ -90,6 +98,7 @@ impl LineBuffer {
     }
 
     /// Takes the first bytes away.
+    #[inline(always)]
     pub fn take(&mut self, n: usize)
         requires { n ≤ length self.old.bytes }
         ensures { self.new ≡ record { bytes = drop n self.old.bytes; left = self.old.left } }

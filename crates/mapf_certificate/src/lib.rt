@@ -7,6 +7,7 @@ mod cert_converter;
 mod cert_lines;
 mod cert_reader;
 mod cert_writer;
+mod entry_line;
 pub mod laws;
 mod line;
 mod line_writer;

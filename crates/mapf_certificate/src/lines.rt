@@ -4,6 +4,7 @@ ghost use Rattle.mapf_certificate.specs.Bounded.{BeginsWithBlock, BeginsWithBloc
 ghost use Rattle.mapf_certificate.specs.Bounded.{BeginsWithEntry, BeginsWithLine};
 ghost use Rattle.mapf_certificate.specs.Certificates.{line_text, entry_text, entries_text, block_text, blocks_text};
 ghost use Rattle.mapf_certificate.specs.Lines.{IsLine, width_of};
+ghost use Rattle.mapf_certificate.specs.EntryReading.{BeginsWithText};
 ghost use Rattle.mapf_certificate.specs.Untouched.{HasLine, TakesThere};
 ghost use Rattle.mapf_certificate.specs.Window.{Window, Fails, IsTextFault, Tells};
 ghost use Rattle.mapf_model.specs.Printed.{IsBefore};
@@ -13,12 +14,17 @@ ghost use Rattle.std.specs.Prelude.{false};
 
 use crate::buffer::{LineBuffer, NoLine};
 use crate::cert::{CertFault, LinesFault};
+use crate::entry_line::entry_front;
 use crate::line::CertLine;
 use crate::sizes::Sizes;
 use crate::tree_line::{Due, line_of};
 use mapf_fields::LineFault;
 use mapf_model::{Block, Entry, OutOfMemory, Source};
 use std::alloc::Global;
+
+/// For how many entries or blocks room is asked for at once. Most blocks have no more entries, and where a
+/// text announces more than it has, this room is small.
+const AT_ONCE: u64 = 64;
 
 /// The lines of a certificate that comes from a source.
 #[derive(Drop)]
@@ -167,7 +173,9 @@ impl Lines {
         ensures fails { IfErr result (Fails (S.remaining source.old) (S.remaining source.new) (S.has_failed source.new)
             self.old.buffer (BeginsWithEntries sizes.now count)) }
     {
-        let mut entries = Vec::new(alloc);
+        let Ok(mut entries) = Vec::with_capacity(alloc, count.min(AT_ONCE) as usize) else {
+            return Err(LinesFault::Memory);
+        };
         for _taken in 0..count {
             let entry = self.entry(source, sizes, &entries)?;
             if entries.push(entry).is_err() {
@@ -175,6 +183,23 @@ impl Lines {
             }
         }
         Ok(entries)
+    }
+
+    /// The entry whose whole line is in the buffer, if it may come after these, and the length of the line.
+    #[inline(always)]
+    fn entry_there(&self, sizes: &Sizes, before: &[Entry]) -> Option<(Entry, usize)>
+        requires { AllPairs IsBefore before.now }
+        ensures next { IfSome result (λ p. IsNextEntry sizes.now before.now p.0) }
+        ensures text { IfSome result (λ p.
+            BeginsWithText self.now.buffer.bytes (entry_text sizes.now.width p.0) p.1) }
+    {
+        let bytes = self.buffer.all();
+        match entry_front(bytes, sizes) {
+            Ok((entry, rest)) if follows_entries(before, &entry) => {
+                Some((entry, bytes.len() - rest.len()))
+            }
+            _ => None,
+        }
     }
 
     /// The next entry after these.
@@ -196,6 +221,11 @@ impl Lines {
         ensures fails { IfErr result (Fails (S.remaining source.old) (S.remaining source.new) (S.has_failed source.new)
             self.old.buffer (BeginsWithEntry sizes.now before.now)) }
     {
+        if let Some((entry, length)) = self.entry_there(sizes, before) {
+            self.count = self.count.saturating_add(1);
+            self.buffer.take(length);
+            return Ok(entry);
+        }
         let CertLine::At(entry) = self.next(source, &Due::Tree(*sizes))? else {
             return Err(self.misfit());
         };
@@ -254,7 +284,9 @@ impl Lines {
         ensures fails { IfErr result (Fails (S.remaining source.old) (S.remaining source.new) (S.has_failed source.new)
             self.old.buffer (BeginsWithBlocks sizes.now count)) }
     {
-        let mut blocks = Vec::new(alloc);
+        let Ok(mut blocks) = Vec::with_capacity(alloc, count.min(AT_ONCE) as usize) else {
+            return Err(LinesFault::Memory);
+        };
         for _taken in 0..count {
             let block = self.block(alloc, source, sizes, &blocks)?;
             if blocks.push(block).is_err() {

@@ -1,5 +1,5 @@
-ghost use Rattle.std.specs.Prelude.{◌≡◌, ◌≤◌, ◌<◌, ◌+◌, length, take, IfOk, Ok, Err, option_map, true};
-ghost use Rattle.std.specs.Str.Parse.{AllDigits};
+ghost use Rattle.std.specs.Char.{is_ascii_digit};
+ghost use Rattle.std.specs.Prelude.{◌≡◌, length, option_map, slice_index};
 ghost use Rattle.mapf_fields.specs.Numbers.{Gives, strip, begins_well, small_value, front_digits, read_number};
 ghost use Rattle.mapf_fields.specs.Numbers.{read_field, read_last, read_pair, read_whole};
 
@@ -12,15 +12,8 @@ pub fn strip<'a>(bytes: &'a [u8], front: &[u8]) -> Option<&'a [u8]>
     bytes.strip_prefix(front)
 }
 
-/// How many digits bytes begin with.
-fn digit_count(bytes: &[u8]) -> usize
-    ensures count { result ≡ length (front_digits bytes.now) }
-    ensures within { result ≤ length bytes.now }
-{
-    bytes.iter().take_while(|b| b.is_ascii_digit()).count()
-}
-
 /// Whether it is `0`, or digits of which the first isn't `0`.
+#[inline(always)]
 fn begins_well(word: &[u8]) -> bool
     ensures { result ≡ begins_well word.now }
 {
@@ -31,35 +24,82 @@ fn begins_well(word: &[u8]) -> bool
     }
 }
 
-/// The number that digits spell, None from 2^64 on.
-fn value_of(digits: &[u8]) -> Option<u64>
-    requires { AllDigits 10 digits.now }
-    ensures { result ≡ small_value digits.now }
+/// How many digits bytes begin with.
+fn digit_count(bytes: &[u8]) -> usize
+    ensures { result ≡ length (front_digits bytes.now) }
 {
-    let mut value = 0u64;
-    for digit in digits {
-        let units = u64::from(*digit - b'0');
-        value = value.checked_mul(10)?.checked_add(units)?;
-    }
-    Some(value)
+    bytes.iter().take_while(|b| b.is_ascii_digit()).count()
 }
 
-/// The number that bytes begin with, and the bytes after it. The number is None from 2^64 on.
+/// The number that the digits spell which bytes begin with, and how many digits these are. Each byte is
+/// looked at once. The number is None from 2^64 on.
+#[inline(always)]
+fn digits(bytes: &[u8]) -> (Option<u64>, usize)
+    ensures value { result.0 ≡ small_value (front_digits bytes.now) }
+    ensures count { result.1 ≡ length (front_digits bytes.now) }
+{
+    let mut value = 0u64;
+    for (i, byte) in bytes.iter().enumerate() {
+        if !byte.is_ascii_digit() {
+            return (Some(value), i);
+        }
+        let units = u64::from(*byte - b'0');
+        let Some(tens) = value.checked_mul(10) else {
+            return (None, digit_count(bytes));
+        };
+        let Some(more) = tens.checked_add(units) else {
+            return (None, digit_count(bytes));
+        };
+        value = more;
+    }
+    (Some(value), bytes.len())
+}
+
+/// Whether bytes begin with a digit.
+#[inline(always)]
+fn begins_with_digit(bytes: &[u8]) -> bool
+    ensures { result ≡ is_ascii_digit (slice_index bytes.now 0) }
+{
+    match bytes {
+        [byte, ..] => byte.is_ascii_digit(),
+        [] => false,
+    }
+}
+
+/// The number that bytes begin with, and the bytes after it, however many digits it has. The number is None
+/// from 2^64 on.
 #[tactic(auto, unfolding(crate::specs::Numbers::read_number))]
+#[inline(never)]
+fn long_number(bytes: &[u8]) -> Result<(Option<u64>, &[u8]), LineFault>
+    ensures { Gives (λ p. (p.0, p.1.now)) result (read_number bytes.entry.now) }
+{
+    let (value, count) = digits(bytes);
+    let (word, rest) = bytes.split_at(count);
+    if begins_well(word) {
+        Ok((value, rest))
+    } else {
+        Err(LineFault::Shape)
+    }
+}
+
+/// The number that bytes begin with, and the bytes after it. The number is None from 2^64 on. Most numbers
+/// have one digit, so these are read in place.
+#[inline(always)]
 fn number(bytes: &[u8]) -> Result<(Option<u64>, &[u8]), LineFault>
     ensures { Gives (λ p. (p.0, p.1.now)) result (read_number bytes.entry.now) }
 {
-    let (word, rest) = bytes.split_at(digit_count(bytes));
-    if begins_well(word) {
-        Ok((value_of(word), rest))
-    } else {
-        Err(LineFault::Shape)
+    match bytes {
+        [digit, rest @ ..] if digit.is_ascii_digit() && !begins_with_digit(rest) => {
+            Ok((Some(u64::from(*digit - b'0')), rest))
+        }
+        _ => long_number(bytes),
     }
 }
 
 /// The number after its mark that bytes begin with, and the bytes after it. The number has no leading
 /// zeros, and is None from 2^64 on. `LineFault::Shape` where the bytes don't begin so.
 #[tactic(auto, unfolding(crate::specs::Numbers::read_field))]
+#[inline(always)]
 pub fn field(mark: u8, bytes: &[u8]) -> Result<(Option<u64>, &[u8]), LineFault>
     ensures { Gives (λ p. (p.0, p.1.now)) result (read_field mark bytes.entry.now) }
 {
@@ -72,6 +112,7 @@ pub fn field(mark: u8, bytes: &[u8]) -> Result<(Option<u64>, &[u8]), LineFault>
 /// The number that bytes are, with nothing before or after it. The number has no leading zeros, and is None
 /// from 2^64 on. `LineFault::Shape` where the bytes aren't so.
 #[tactic(auto, unfolding(crate::specs::Numbers::read_whole))]
+#[inline(always)]
 pub fn whole(bytes: &[u8]) -> Result<Option<u64>, LineFault>
     ensures { result ≡ read_whole bytes.now }
 {
@@ -86,6 +127,7 @@ pub fn whole(bytes: &[u8]) -> Result<Option<u64>, LineFault>
 /// The number after its mark that bytes are, with nothing after it. The number has no leading zeros, and
 /// is None from 2^64 on. `LineFault::Shape` where the bytes aren't so.
 #[tactic(auto, unfolding(crate::specs::Numbers::read_last))]
+#[inline(always)]
 pub fn last(mark: u8, bytes: &[u8]) -> Result<Option<u64>, LineFault>
     ensures { result ≡ read_last mark bytes.now }
 {

@@ -1,4 +1,4 @@
-//! Which jobs words ask for, which words are refused, and the texts of help.
+//! Which jobs words ask for, which words are refused, and the texts of help and of the version.
 
 use mapf_words::{Job, WordsFault, job_of};
 use std::alloc::{AllocError, Global};
@@ -102,6 +102,23 @@ fn shows_help(rt: HostRuntime) -> Result<(), Fail> {
             Err(WordsFault::Shown(message)) => {
                 assert!(rt; message.as_str().contains(status), "at {text}: {message}");
                 println!(rt; "== {text}\n{message}")?;
+            }
+            other => assert!(rt; false, "at {text}: {other:?}"),
+        }
+    }
+    Ok(())
+}
+
+#[test]
+fn shows_the_version(rt: HostRuntime) -> Result<(), Fail> {
+    let version = "mapf 1.0.0
+reads plan texts 1 and 2, certificates 1 and 2, event texts 1
+writes plan texts 2, certificates 2
+";
+    for text in ["mapf --version", "mapf -V", "mapf --version solve"] {
+        match asked(rt.alloc(), text)? {
+            Err(WordsFault::Shown(message)) => {
+                assert!(rt; message.as_str() == version, "at {text}: {message}")
             }
             other => assert!(rt; false, "at {text}: {other:?}"),
         }

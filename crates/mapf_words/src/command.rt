@@ -9,6 +9,11 @@ nothing cheaper is possible, checks such certificates, shows plans tick by tick,
 that follow a plan whether they may go on.
 Without words it solves and checks a small built-in problem.";
 
+// The program's version, which is said here alone, and below it those of the texts.
+const VERSION: &str = "1.0.0
+reads plan texts 1 and 2, certificates 1 and 2, event texts 1
+writes plan texts 2, certificates 2";
+
 const OVERVIEW: &str = "Files:
   MAP     the grid: a MovingAI map of type octile
   SCEN    the agents: a MovingAI scenario of version 1, of which the first K rows count
@@ -173,6 +178,7 @@ fn dispatch<'a>(alloc: Global) -> Result<Command<'a>, AllocError> {
 /// The words that the program takes.
 pub fn mapf<'a>(alloc: Global) -> Result<Command<'a>, AllocError> {
     Command::new(alloc, "mapf")
+        .version(VERSION)
         .about(ABOUT)
         .after_help(OVERVIEW)
         .override_usage("mapf [COMMAND]")

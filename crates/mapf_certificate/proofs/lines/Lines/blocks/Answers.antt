@@ -6,6 +6,7 @@ use Rattle.mapf_certificate.specs.Untouched.{TakesThere}
 use Rattle.mapf_certificate.specs.Window.{Fails}
 use Rattle.mapf_certificate.specs.Bounded.{BeginsWithBlock, IsBlockFor, IsOfLesserAgent, MayFollow}
 use Rattle.mapf_fields.proofs.Binds.{pushed}
+use Rattle.mapf_certificate.proofs.EntryFronts.{nothing_came}
 use Rattle.mapf_certificate.proofs.TakenThere.{there-more}
 use Rattle.mapf_certificate.proofs.Windows.{err_passed, ComesWithin-after, Fails-after, Window-within}
 use Rattle.mapf_certificate.proofs.Sequences.{goes_on, taken_more, window_more}
@@ -59,3 +60,6 @@ returns-then-is_err-clause-fails g c =
       ComesWithin-after _ _ _ _ _ _ c.loop-taken.invariant.window
           (Window-within _ _ _ _ _ c.in_ok-block.ensures.taken),
     )
+
+pub returns-in_default-clause-fails : goal.returns-in_default-clause-fails
+returns-in_default-clause-fails g c = (c.requires, nothing_came _ _)

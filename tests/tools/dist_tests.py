@@ -1,0 +1,127 @@
+"""Tries ./dist: what its archive has, and that the program and the tools run from it where nothing else is."""
+
+import gzip
+import hashlib
+import re
+import shutil
+import subprocess
+import sys
+import tarfile
+import tempfile
+from pathlib import Path
+
+from harness import TESTS
+
+TOP = TESTS.parent
+
+# What is on the path where the archive is tried, beside Python.
+COMMANDS = "env", "ls", "cat", "sha256sum"
+
+GRID, SCEN = "examples/random-32-32.map", "examples/random-32-32.scen"
+
+
+def tests(tally):
+    if not shutil.which("git") or not (TOP / ".git").exists():
+        tally.skip("dist", "this tree is no clone, or git isn't installed")
+        return
+    with tempfile.TemporaryDirectory() as name:
+        folder = Path(name)
+        archive, faults = made(folder / "one")
+        tally.add("dist", faults)
+        if faults:
+            return
+        is_same = made(folder / "two")[0].read_bytes() == archive.read_bytes()
+        tally.add("dist, always the same bytes", [] if is_same else ["two archives differ"])
+        tally.add("dist, names, owners, times", entry_faults(archive))
+        place = unpacked(archive, folder / "there")
+        tally.add("dist, checksums", sum_faults(place))
+        tally.add("dist, files of the README's commands", missing_files(place))
+        path = commands(folder / "bin")
+        for title, (words, status, said) in runs(place).items():
+            tally.add(f"dist, unpacked, {title}", run_faults(place, path, words, status, said))
+
+
+def made(folder):
+    """The archive that is made in a folder, and what is wrong with the run."""
+    folder.mkdir()
+    ended = subprocess.run([sys.executable, str(TOP / "dist"), str(folder)], stdin=subprocess.DEVNULL,
+                           capture_output=True, text=True)
+    archive = Path(ended.stdout.strip())
+    named = re.fullmatch(r"mapf-[0-9]+\.[0-9]+\.[0-9]+\.tar\.gz", archive.name)
+    is_there = ended.returncode == 0 and named and list(folder.iterdir()) == [archive]
+    return archive, [] if is_there else [f"status {ended.returncode}, {ended.stdout!r}, {ended.stderr!r}"]
+
+
+def entry_faults(archive):
+    name = archive.name.removesuffix(".tar.gz")
+    with tarfile.open(archive) as packed:
+        entries = packed.getmembers()
+    names = [entry.name for entry in entries]
+    when = int(subprocess.run(["git", "log", "-1", "--format=%ct"], cwd=TOP, check=True, capture_output=True).stdout)
+    faults = [] if names == sorted(names) else ["the names aren't sorted"]
+    for entry in entries:
+        if not entry.isfile() or not entry.name.startswith(name + "/") or (entry.uid, entry.uname) != (0, "root"):
+            faults.append(f"{entry.name} is of {entry.uname}, or in another folder")
+        if entry.mtime != when or entry.mode not in (0o644, 0o755):
+            faults.append(f"{entry.name} has the time {entry.mtime} and the mode {entry.mode:o}")
+    least = {"mapf", "README.md", "LICENSE", "SHA256SUMS", "docs/FORMATS.md", "tools/draw", GRID, SCEN}
+    return faults + [f"{part} isn't there" for part in least - {entry.removeprefix(name + "/") for entry in names}]
+
+
+def unpacked(archive, folder):
+    folder.mkdir()
+    with tarfile.open(fileobj=gzip.open(archive)) as packed:
+        packed.extractall(folder)
+    return folder / archive.name.removesuffix(".tar.gz")
+
+
+def sum_faults(place):
+    lines = [line.split("  ", 1) for line in (place / "SHA256SUMS").read_text().splitlines()]
+    sums = {name: told for told, name in lines}
+    there = {str(path.relative_to(place)): path for path in place.rglob("*") if path.is_file()}
+    faults = [f"{name} is in one of them alone" for name in sums.keys() ^ there.keys() - {"SHA256SUMS"}]
+    for name in sums.keys() & there.keys():
+        if hashlib.sha256(there[name].read_bytes()).hexdigest() != sums[name]:
+            faults.append(f"{name} has another checksum")
+    return faults
+
+
+def missing_files(place):
+    """The maps, scenarios and other inputs that commands of the README name, and that aren't in the archive."""
+    commands = re.findall(r"(?m)^    (?:\./mapf|tools/\w+) .*$", (place / "README.md").read_text())
+    named = {word for command in commands for word in command.split() if word.startswith(("examples/", "tests/"))}
+    return [f"{name} isn't there" for name in sorted(named) if not (place / name).exists()]
+
+
+def commands(folder):
+    """A folder of commands to be the whole path: some of the system's, and Python."""
+    folder.mkdir()
+    for name in COMMANDS:
+        (folder / name).symlink_to(shutil.which(name))
+    (folder / "python3").symlink_to(sys.executable)
+    return str(folder)
+
+
+def runs(place):
+    """What is run in the archive's folder: the words, the status and what standard output tells."""
+    problem = [GRID, SCEN, "5"]
+    found = {
+        "version": (["./mapf", "--version"], 0, f"mapf {place.name.removeprefix('mapf-')}\n"),
+        "solve": (["./mapf", "solve", *problem, "100", "plan.txt", "cert.txt"], 0, "cost 104\n"),
+        "check": (["./mapf", "check", *problem, "plan.txt", "cert.txt"], 0, "optimal 104\n"),
+        "checksums": (["sha256sum", "--quiet", "-c", "SHA256SUMS"], 0, ""),
+        "draw": (["tools/draw", *problem, "plan.txt"], 0, "</html>\n"),
+    }
+    if (place / "tools" / "recheck").exists():
+        found["recheck"] = (["tools/recheck", *problem, "plan.txt", "cert.txt"], 0, "optimal 104\n")
+    if (place / "tools" / "verify").exists():
+        found["verify"] = (["tools/verify", *problem, "plan.txt"], 0, "cheapest: 104\n")
+    return found
+
+
+def run_faults(place, path, words, status, said):
+    ended = subprocess.run(
+        words, cwd=place, env={"PATH": path}, stdin=subprocess.DEVNULL, capture_output=True, text=True)
+    if ended.returncode == status and said in ended.stdout:
+        return []
+    return [f"status {ended.returncode}, {ended.stdout[-200:]!r}, {ended.stderr[-300:]!r}"]

@@ -1,0 +1,318 @@
+"use strict";
+
+// What is shown now.
+
+const element = (id) => document.getElementById(id);
+const canvas = element("canvas");
+const pen = canvas.getContext("2d");
+const behind = document.createElement("canvas");
+const ground = document.createElement("canvas");
+const calm = matchMedia("(prefers-reduced-motion: reduce)");
+const dark = matchMedia("(prefers-color-scheme: dark)");
+const speeds = [0.5, 1, 2, 4, 8, 16, 32, 64];
+
+// The time in ticks; the agents that are picked and pointed at; whether the ground, and what is behind the agents, is
+// to be drawn anew.
+const shows = {
+  time: 0, plays: false, speed: 4, paths: true, goals: true, picked: null, over: null, newGround: true, newBehind: true,
+};
+
+// Where the map is: the width of a cell, and the left upper corner of the map, in pixels of the page.
+const view = { scale: 1, left: 0, top: 0, width: 1, height: 1, fitted: true };
+
+let frame = 0;
+let drawnAt = 0;
+let colour = {};
+
+function redraw(what) {
+  shows.newBehind ||= what === "behind" || what === "ground";
+  shows.newGround ||= what === "ground";
+  frame ||= requestAnimationFrame(draw);
+}
+
+function draw(at) {
+  frame = 0;
+  if (shows.plays) {
+    goOn(Math.min((at - drawnAt) / 1000, 0.25));
+    frame = requestAnimationFrame(draw);
+  }
+  drawnAt = at;
+  if (shows.newGround) {
+    drawGround();
+  }
+  if (shows.newBehind) {
+    drawBehind();
+  }
+  pen.setTransform(1, 0, 0, 1, 0, 0);
+  pen.drawImage(behind, 0, 0);
+  toCells(pen);
+  drawAgents();
+  drawFaults();
+}
+
+function goOn(seconds) {
+  const time = Math.min(shows.time + seconds * shows.speed, lastTick);
+  setTime(time, false);
+  if (time === lastTick) {
+    play(false);
+  }
+}
+
+// The time at which the agents are drawn: for whoever wants little motion, they are in their cells.
+function drawnTime() {
+  return calm.matches ? Math.floor(shows.time) : shows.time;
+}
+
+// Has a pen draw in cells: (0.5, 0.5) is the middle of the cell (0,0).
+function toCells(pen) {
+  const ratio = canvas.width / view.width;
+  const { scale, left, top } = view;
+  pen.setTransform(scale * ratio, 0, 0, scale * ratio, left * ratio, top * ratio);
+}
+
+// The map, a pixel for each cell.
+function drawGround() {
+  shows.newGround = false;
+  const style = getComputedStyle(document.documentElement);
+  for (const name of ["page", "free", "blocked", "grid", "edge", "bad", "ink", "panel"]) {
+    colour[name] = style.getPropertyValue(`--${name}`).trim();
+  }
+  ground.width = data.width;
+  ground.height = data.height;
+  const pen = ground.getContext("2d");
+  pen.fillStyle = colour.free;
+  pen.fillRect(0, 0, data.width, data.height);
+  pen.fillStyle = colour.blocked;
+  const bits = atob(data.blocked);
+  for (let cell = 0; cell < data.width * data.height; cell++) {
+    if (bits.charCodeAt(cell >> 3) & (128 >> (cell & 7))) {
+      pen.fillRect(cell % data.width, Math.floor(cell / data.width), 1, 1);
+    }
+  }
+}
+
+// What doesn't move: the map, the paths and the goals.
+function drawBehind() {
+  shows.newBehind = false;
+  behind.width = canvas.width;
+  behind.height = canvas.height;
+  const pen = behind.getContext("2d");
+  pen.fillStyle = colour.page;
+  pen.fillRect(0, 0, behind.width, behind.height);
+  toCells(pen);
+  pen.imageSmoothingEnabled = view.scale < 1;
+  pen.drawImage(ground, 0, 0);
+  if (view.scale >= 10) {
+    drawGrid(pen);
+  }
+  pen.lineJoin = pen.lineCap = "round";
+  const picked = [shows.over, shows.picked].filter((agent) => agent !== null);
+  for (const agent of agents) {
+    if (shows.paths && !picked.includes(agent)) {
+      drawPath(pen, agent, false);
+    }
+  }
+  for (const agent of agents) {
+    if (shows.goals && !picked.includes(agent)) {
+      drawGoal(pen, agent, false);
+    }
+  }
+  for (const agent of picked) {
+    drawPath(pen, agent, true);
+    drawGoal(pen, agent, true);
+  }
+}
+
+// Lines between the cells that are seen.
+function drawGrid(pen) {
+  const { scale, left, top, width, height } = view;
+  const fromX = Math.max(0, Math.floor(-left / scale));
+  const toX = Math.min(data.width, Math.ceil((width - left) / scale));
+  const fromY = Math.max(0, Math.floor(-top / scale));
+  const toY = Math.min(data.height, Math.ceil((height - top) / scale));
+  pen.strokeStyle = colour.grid;
+  pen.lineWidth = 1 / scale;
+  pen.beginPath();
+  for (let x = fromX; x <= toX; x++) {
+    pen.moveTo(x, fromY);
+    pen.lineTo(x, toY);
+  }
+  for (let y = fromY; y <= toY; y++) {
+    pen.moveTo(fromX, y);
+    pen.lineTo(toX, y);
+  }
+  pen.stroke();
+}
+
+// A path's line. Each agent's is a little beside the middle of the cells, so that paths on one way are seen apart.
+function lineOf(agent) {
+  if (!agent.line) {
+    const beside = 0.5 + ((agent.number * 5) % 11 - 5) * 0.045;
+    agent.line = new Path2D();
+    agent.line.moveTo(agent.cells[0] + beside, agent.cells[1] + beside);
+    for (let at = 2; at < agent.cells.length; at += 2) {
+      agent.line.lineTo(agent.cells[at] + beside, agent.cells[at + 1] + beside);
+    }
+  }
+  return agent.line;
+}
+
+function drawPath(pen, agent, isPicked) {
+  if (isPicked) {
+    pen.strokeStyle = colour.ink;
+    pen.lineWidth = Math.max(0.2, 4.6 / view.scale);
+    pen.stroke(lineOf(agent));
+  }
+  pen.globalAlpha = isPicked ? 1 : agents.length > 40 ? 0.5 : 0.8;
+  pen.strokeStyle = agent.colour;
+  pen.lineWidth = isPicked ? Math.max(0.13, 3 / view.scale) : Math.max(0.08, 1.4 / view.scale);
+  pen.stroke(lineOf(agent));
+  pen.globalAlpha = 1;
+}
+
+function drawGoal(pen, agent, isPicked) {
+  const [x, y] = agent.goal;
+  const radius = Math.max(0.44, 3.2 / view.scale);
+  pen.beginPath();
+  pen.arc(x + 0.5, y + 0.5, radius, 0, 2 * Math.PI);
+  pen.strokeStyle = isPicked ? colour.ink : agent.colour;
+  pen.lineWidth = Math.max(0.09, 1.5 / view.scale) * (isPicked ? 2.2 : 1);
+  pen.stroke();
+  if (isPicked) {
+    pen.strokeStyle = agent.colour;
+    pen.lineWidth = Math.max(0.09, 1.5 / view.scale);
+    pen.stroke();
+  }
+}
+
+function radiusOfAgents() {
+  return Math.max(0.36, 2.6 / view.scale);
+}
+
+function drawAgents() {
+  const picked = [shows.over, shows.picked].filter((agent) => agent !== null);
+  const time = drawnTime();
+  for (const agent of agents) {
+    if (!picked.includes(agent)) {
+      drawAgent(agent, time, false);
+    }
+  }
+  for (const agent of picked) {
+    drawAgent(agent, time, true);
+  }
+}
+
+function drawAgent(agent, time, isPicked) {
+  const [x, y] = placeAt(agent, time).map((part) => part + 0.5);
+  const radius = radiusOfAgents() * (isPicked ? 1.15 : 1);
+  pen.beginPath();
+  pen.arc(x, y, radius, 0, 2 * Math.PI);
+  pen.fillStyle = agent.colour;
+  pen.fill();
+  pen.strokeStyle = isPicked ? colour.ink : colour.edge;
+  pen.lineWidth = isPicked ? Math.max(0.1, 2.5 / view.scale) : Math.max(0.03, 0.8 / view.scale);
+  pen.stroke();
+  drawNumber(agent, x, y);
+}
+
+// The number, where it can be read. It is drawn in pixels, since a font less than a pixel high isn't drawn well.
+function drawNumber(agent, x, y) {
+  const text = String(agent.number);
+  const height = view.scale * [0.5, 0.43, 0.33][text.length - 1];
+  if (height < 6.5) {
+    return;
+  }
+  const [red, green, blue] = [1, 3, 5].map((at) => parseInt(agent.colour.slice(at, at + 2), 16));
+  const ratio = canvas.width / view.width;
+  pen.save();
+  pen.setTransform(ratio, 0, 0, ratio, 0, 0);
+  pen.font = `600 ${height}px system-ui, sans-serif`;
+  pen.textAlign = "center";
+  pen.textBaseline = "middle";
+  pen.fillStyle = 0.3 * red + 0.59 * green + 0.11 * blue > 135 ? "#000000" : "#ffffff";
+  pen.fillText(text, view.left + x * view.scale, view.top + (y + 0.02) * view.scale);
+  pen.restore();
+}
+
+// Faults: where one is at the tick that is shown, a cross in a ring; where one is at another tick, a ring of dashes.
+function drawFaults() {
+  const tick = Math.floor(shows.time);
+  pen.strokeStyle = colour.bad;
+  for (const fault of faults) {
+    if (fault.tick !== tick) {
+      drawMark(fault, false);
+    }
+  }
+  for (const fault of faults) {
+    if (fault.tick === tick) {
+      drawMark(fault, true);
+    }
+  }
+}
+
+function drawMark(fault, isNow) {
+  const [x, y] = middleOf(fault).map((part) => part + 0.5);
+  const radius = Math.max(isNow ? 0.62 : 0.5, (isNow ? 9 : 5) / view.scale);
+  const width = isNow ? Math.max(0.09, 2.5 / view.scale) : Math.max(0.04, 1 / view.scale);
+  pen.lineWidth = width;
+  pen.setLineDash(isNow ? [] : [4 * width, 3 * width]);
+  pen.beginPath();
+  pen.arc(x, y, radius, 0, 2 * Math.PI);
+  if (isNow) {
+    for (const [dx, dy] of [[1, 0], [-1, 0], [0, 1], [0, -1]]) {
+      pen.moveTo(x + dx * radius, y + dy * radius);
+      pen.lineTo(x + dx * radius * 1.5, y + dy * radius * 1.5);
+    }
+  }
+  pen.stroke();
+  pen.setLineDash([]);
+}
+
+// The place of a fault: of two agents that swap, or of a step, between the cells.
+function middleOf(fault) {
+  const cells = fault.kind === "swap" || fault.kind === "step" ? fault.cells : fault.cells.slice(0, 1);
+  return [0, 1].map((part) => cells.reduce((sum, cell) => sum + cell[part], 0) / cells.length);
+}
+
+// Moving over the map.
+
+function fit() {
+  const scale = Math.min(view.width / (data.width + 0.6), view.height / (data.height + 0.6), 120);
+  Object.assign(view, {
+    scale,
+    left: (view.width - data.width * scale) / 2,
+    top: (view.height - data.height * scale) / 2,
+    fitted: true,
+  });
+  redraw("behind");
+}
+
+function moveBy(dx, dy) {
+  view.left = Math.min(Math.max(view.left + dx, 40 - data.width * view.scale), view.width - 40);
+  view.top = Math.min(Math.max(view.top + dy, 40 - data.height * view.scale), view.height - 40);
+  view.fitted = false;
+  placeTip();
+  redraw("behind");
+}
+
+// Zooms so that what is at this point stays there.
+function zoom(factor, x = view.width / 2, y = view.height / 2) {
+  const least = 0.8 * Math.min(view.width / data.width, view.height / data.height, 120);
+  const scale = Math.min(Math.max(view.scale * factor, least), 160);
+  view.left = x - (x - view.left) * (scale / view.scale);
+  view.top = y - (y - view.top) * (scale / view.scale);
+  view.scale = scale;
+  moveBy(0, 0);
+}
+
+function resize() {
+  const ratio = devicePixelRatio || 1;
+  view.width = Math.max(canvas.clientWidth, 1);
+  view.height = Math.max(canvas.clientHeight, 1);
+  canvas.width = Math.round(view.width * ratio);
+  canvas.height = Math.round(view.height * ratio);
+  if (view.fitted) {
+    fit();
+  }
+  redraw("behind");
+}
