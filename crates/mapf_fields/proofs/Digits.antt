@@ -1,5 +1,5 @@
 -- Digits and the number that they spell.
-use Rattle.std.proofs.Common.{◌≡◌, ℕ, ◌<◌, ◌≤◌, ◌^◌, ◌+◌, ◌*◌, ◌-◌, Bool, true, false, cond, zero, suc, nat_lt, List, [], ◌∷◌, length, get_or, take, drop, Some, None, Ok, Err, arith, refl, sym, ap, ◌∙◌}
+use Rattle.std.proofs.Common.{◌≡◌, ℕ, ◌<◌, ◌≤◌, ◌^◌, ◌+◌, ◌*◌, ◌-◌, ◌==◌, Bool, true, false, not, cond, zero, suc, nat_lt, List, [], ◌∷◌, length, get_or, take, drop, Some, None, Ok, Err, arith, refl, sym, ap, ◌∙◌}
 use Rattle.std.specs.Prelude.{take_while}
 use Rattle.std.specs.Char.{is_ascii_digit, digit_value}
 use Rattle.std.specs.Str.Parse.{digits_value, AllDigits}
@@ -7,7 +7,7 @@ use Rattle.std.proofs.lemmas.Str.Parse.{digit_from_value, digits_value-take-le}
 use Rattle.std.proofs.lemmas.Int.Digits.{digits_value_more}
 use Rattle.std.proofs.lemmas.List.Sums.{take_while-cons}
 use Rattle.std.proofs.lemmas.List.{take_all}
-use Rattle.std.proofs.lemmas.Bool.{lt-ltb, ltb-true}
+use Rattle.std.proofs.lemmas.Bool.{eqb-true, lt-ltb, ltb-true}
 use Rattle.std.proofs.lemmas.Bool.Decides.{nat_tests}
 use Rattle.mapf_fields.specs.declared.fault.LineFault.TheVariants.{Shape}
 use Rattle.mapf_fields.specs.Numbers.{begins_well, small_value, front_digits, after_digits, read_number}
@@ -112,3 +112,44 @@ one_front (b ∷ bs) n rest some after digit stop is =
     let same : rest ≡ bs = after ∙ take_all (length (b ∷ bs) - 1) bs many in
     let stop' : is_ascii_digit (get_or bs 0 0) ≡ false = ap (λ r. is_ascii_digit (get_or r 0 0)) (sym same) ∙ stop in
     one_digit b bs digit stop' ∙ ap (λ v. Ok (Some v, bs)) (sym is) ∙ ap (λ r. Ok (Some n, r)) (sym same)
+
+two_all : (t u : ℕ) (rest : List ℕ) → is_ascii_digit t ≡ true → is_ascii_digit u ≡ true → AreDigits (t ∷ u ∷ rest) 2
+two_all t u rest first second zero h = first
+two_all t u rest first second (suc zero) h = second
+two_all t u rest first second (suc (suc k)) h = absurd (omega arith)
+
+-- two digits of which the first isn't `0`, and that no other follows, are read as a number
+two_digits : (t u : ℕ) (rest : List ℕ) → not (t == 48) ≡ true → is_ascii_digit t ≡ true → is_ascii_digit u ≡ true → is_ascii_digit (get_or rest 0 0) ≡ false → read_number (t ∷ u ∷ rest) ≡ Ok (Some ((t - 48) * 10 + (u - 48)), rest)
+unfolding read_number
+two_digits t u rest some first second stop =
+    let bs = t ∷ u ∷ rest in
+    let n = (t - 48) * 10 + (u - 48) in
+    let all = two_all t u rest first second in
+    let many = length-front_digits bs 2 all stop in
+    let front : front_digits bs ≡ t ∷ u ∷ [] = sym (take_all 2 (front_digits bs) (omega (arith, many))) ∙ take-front_digits bs 2 all in
+    let (low1, step1) = value_next bs 0 (omega arith) first in
+    let (low2, step2) = value_next bs 1 (omega arith) second in
+    let range1 = digit_from_value t (digit_of_test t first) in
+    let range2 = digit_from_value u (digit_of_test u second) in
+    let is : n ≡ digits_value 10 (take 2 bs) = omega (arith, step1, step2) in
+    let value : Some n ≡ small_value (front_digits bs) = front_value bs 2 n all stop is (omega (arith, range1, range2)) in
+    let begins : begins_well (front_digits bs) ≡ true = ap begins_well front ∙ some in
+    let after : after_digits bs ≡ rest = ap (λ l. drop (length l) bs) front in
+    ap (λ b. cond b (Ok (small_value (front_digits bs), after_digits bs)) (Err Shape)) begins ∙ ap (λ v. Ok (v, after_digits bs)) (sym value) ∙ ap (λ r. Ok (Some n, r)) after
+
+differs : (t : ℕ) → (t ≡ 48 → ⊥) → not (t == 48) ≡ true
+differs t other = by (t == 48) refl
+  where
+    by : (b : Bool) → (t == 48) ≡ b → not (t == 48) ≡ true
+    by true e = absurd (other (eqb-true t 48 e))
+    by false e = ap not e
+
+pub two_front : (bs : List ℕ) (n : ℕ) (rest : List ℕ) → 2 ≤ length bs → rest ≡ take (length bs - 2) (drop 2 bs) → (get_or bs 0 0 ≡ 48 → ⊥) → is_ascii_digit (get_or bs 0 0) ≡ true → is_ascii_digit (get_or bs 1 0) ≡ true → is_ascii_digit (get_or rest 0 0) ≡ false
+    → n ≡ (get_or bs 0 0 - 48) * 10 + (get_or bs 1 0 - 48) → read_number bs ≡ Ok (Some n, rest)
+two_front [] n rest many after some first second stop is = absurd (omega arith)
+two_front (t ∷ []) n rest many after some first second stop is = absurd (omega arith)
+two_front (t ∷ u ∷ bs) n rest many after some first second stop is =
+    let long : length bs ≤ length (t ∷ u ∷ bs) - 2 = omega arith in
+    let same : rest ≡ bs = after ∙ take_all (length (t ∷ u ∷ bs) - 2) bs long in
+    let stop' : is_ascii_digit (get_or bs 0 0) ≡ false = ap (λ r. is_ascii_digit (get_or r 0 0)) (sym same) ∙ stop in
+    two_digits t u bs (differs t some) first second stop' ∙ ap (λ v. Ok (Some v, bs)) (sym is) ∙ ap (λ r. Ok (Some n, r)) (sym same)

@@ -83,7 +83,7 @@ fn long_number(bytes: &[u8]) -> Result<(Option<u64>, &[u8]), LineFault>
 }
 
 /// The number that bytes begin with, and the bytes after it. The number is None from 2^64 on. Most numbers
-/// have one digit, so these are read in place.
+/// have one digit or two, so these are read in place.
 #[inline(always)]
 fn number(bytes: &[u8]) -> Result<(Option<u64>, &[u8]), LineFault>
     ensures { Gives (λ p. (p.0, p.1.now)) result (read_number bytes.entry.now) }
@@ -91,6 +91,14 @@ fn number(bytes: &[u8]) -> Result<(Option<u64>, &[u8]), LineFault>
     match bytes {
         [digit, rest @ ..] if digit.is_ascii_digit() && !begins_with_digit(rest) => {
             Ok((Some(u64::from(*digit - b'0')), rest))
+        }
+        [tens, units, rest @ ..]
+            if *tens != b'0'
+                && tens.is_ascii_digit()
+                && units.is_ascii_digit()
+                && !begins_with_digit(rest) => {
+            let number = u64::from(*tens - b'0') * 10 + u64::from(*units - b'0');
+            Ok((Some(number), rest))
         }
         _ => long_number(bytes),
     }
