@@ -8,16 +8,17 @@ use Rattle.mapf_model.specs.declared.problem.Agent.{Agent}
 use Rattle.mapf_model.specs.declared.label.Label.{Label}
 use Rattle.mapf_model.specs.declared.label.Label.TheVariants.{Ticks, Never}
 use Rattle.mapf_model.specs.Blocks.{LabelBlock}
+use Rattle.mapf_model.specs.Grid.{GridMap}
 use Rattle.mapf_model.specs.Labels.{Entries, entries_of, IsLabel, IsEntryOrDistance, label_plus, label_sum}
 use Rattle.mapf_model.specs.Plan.{Instance}
 use Rattle.mapf_model.specs.declared.item.Claim.{Claim}
 use Rattle.mapf_model.specs.declared.item.Claim.TheVariants.{Cost, Bound, Impossible}
 use Rattle.mapf_model.specs.Laws.{StartLabelsDecide, StartLabelsDecideImpossible}
 use Rattle.mapf_model.specs.Tree.{StartsReach, StartsShow, block_of, with_blocks}
-use Rattle.mapf_distance.specs.Tables.{AreTables}
+use Rattle.mapf_distance.specs.Distances.{IsDistanceOrNone}
+use Rattle.mapf_distance.specs.Tables.{AreStartDistances}
 use Rattle.mapf_checker.specs.Starts.{IsKept}
 use Rattle.mapf_checker.specs.Leaf.{IsCut, IsStartLabel, IsStartOf, IsStartTotal, IsEnough, label_of, TakesBlock, LeavesBlock}
-use Rattle.mapf_distance.specs.Distances.{GoalMap}
 
 -- labels of the first starts
 abbrev pub AreLabelsBelow : Instance → List LabelBlock → (ℕ → Entries) → List Label → Type 0
@@ -130,15 +131,13 @@ module _ (blocks : List LabelBlock) (place agent : ℕ) (rising : AllPairs (λ a
       (cases_lt place k))
 
 -- the label of an agent's start, by its entry
-module _ (problem : Instance) (blocks : List LabelBlock) (before : ℕ → Entries) (agent start : ℕ) (is_start : IsStartOf problem agent start) (tables : List GoalMap) (are : AreTables problem tables) (table : GoalMap) (is_table : slice_get tables agent ≡ Some table) (entry : Option Label) (label : Label) (is_label : IsEntryOrDistance table.grid table.goal start entry label) where
+module _ (problem : Instance) (blocks : List LabelBlock) (before : ℕ → Entries) (agent start : ℕ) (is_start : IsStartOf problem agent start) (distances : List (Option ℕ)) (are : AreStartDistances problem distances) (distance : Option ℕ) (is_distance : slice_get distances agent ≡ Some distance) (entry : Option Label) (label : Label) (is_label : (grid : GridMap) (goal cell : ℕ) → IsDistanceOrNone grid goal cell distance → IsEntryOrDistance grid goal cell entry label) where
   start_by_entry : with_blocks blocks before agent start 0 ≡ entry → IsStartLabel problem blocks before agent label
   start_by_entry same b is_b =
       let (a, is_a, at) = is_start in
-      let (on, to) = are.each agent a table is_a is_table in
+      let this : IsEntryOrDistance problem.grid a.goal a.start entry label = is_label problem.grid a.goal a.start (are.each agent a distance is_a is_distance) in
       subst (λ (x : Agent). IsLabel problem.grid x.goal (with_blocks blocks before agent) x.start 0 label) (same_Some a b (sym is_a ∙ is_b))
-      (subst (λ s. IsLabel problem.grid a.goal (with_blocks blocks before agent) s 0 label) (sym at)
-      (subst (λ (e : Option Label). IsEntryOrDistance problem.grid a.goal start e label) (sym same)
-      (subst (λ g. IsEntryOrDistance g a.goal start entry label) on (subst (λ g. IsEntryOrDistance table.grid g start entry label) to is_label))))
+      (subst (λ (e : Option Label). IsEntryOrDistance problem.grid a.goal a.start e label) (sym (ap (λ s. with_blocks blocks before agent s 0) at ∙ same)) this)
 
   pub start_by_block : (block : LabelBlock) → block_of blocks agent ≡ Some block → entry ≡ entries_of block.entries start 0 → IsStartLabel problem blocks before agent label
   start_by_block block is_block is_entry = start_by_entry (rw is_block (sym is_entry))

@@ -5,7 +5,7 @@ use Rattle.mapf_model.specs.Laws.{AreAlike}
 use Rattle.mapf_model.specs.Plan.{Instance}
 use Rattle.mapf_model.specs.Tree.{Node, SplitNode, LeafNode, ClashNode, NodeContext, left_child_context, right_child_context}
 use Rattle.mapf_checker.specs.declared.tree.Progress.{Progress}
-use Rattle.mapf_distance.specs.Tables.{AreTables}
+use Rattle.mapf_distance.specs.Tables.{AreMade, AreStartDistances}
 use Rattle.mapf_checker.specs.Branch.{Place, place_of}
 
 -- what the trees inherit that are still to come, in pre-order, after this node
@@ -36,7 +36,9 @@ owed_by progress = owed_at progress.is_over (place_of progress.branch)
 abbrev pub here_of : Progress → NodeContext
 here_of progress = (place_of progress.branch).here
 
--- the tables, once there are some, are those of the problem, and the entries are those of its agents
+-- the tables are those of the problem, and so are the distances of the starts, once there are some, and the entries are
+-- those of its agents
 pub record IsReady (problem : Instance) (progress : Progress) : Type 0 where
-  pub tables : (progress.tables.items ≡ [] → ⊥) → AreTables problem progress.tables.items
+  pub tables : AreMade problem progress.tables
+  pub distances : (progress.distances.items ≡ [] → ⊥) → AreStartDistances problem progress.distances.items
   pub agents : progress.branch.agents ≡ length problem.agents

@@ -2,7 +2,7 @@ ghost use Rattle.std.specs.Prelude.{◌≡◌, ◌<◌, ◌≤◌, All, AllPairs
 ghost use Rattle.mapf_model.specs.Labels.{entries_of, AreSound};
 ghost use Rattle.mapf_model.specs.Limits.{greatest_cost};
 ghost use Rattle.mapf_model.specs.Printed.{IsBefore, IsBlockInRange};
-ghost use Rattle.mapf_distance.specs.Tables.{AreTables};
+ghost use Rattle.mapf_distance.specs.Tables.{AreMade, HasTable};
 ghost use Rattle.mapf_checker.specs.AgentProblem.{HasGoalDistances, bars_on};
 ghost use Rattle.mapf_checker.specs.Branch.{place_of};
 ghost use Rattle.mapf_checker.specs.Leaf.{IsGoodBlock, IsGoalOf, IsStartOf};
@@ -13,19 +13,38 @@ use crate::branch::Branch;
 use crate::judge::{AgentProblem, Fingers, is_sound};
 use crate::labels::entry_at;
 use crate::starts::StartChange;
-use mapf_distance::Distances;
+use mapf_distance::LazyTables;
 use mapf_model::{Block, Cell, Entry, OutOfMemory, Problem};
 use std::alloc::Global;
+
+/// Makes the tables of the blocks' agents, unless they are made.
+pub fn make_tables(
+    alloc: Global,
+    problem: &Problem,
+    tables: &mut LazyTables,
+    blocks: &[Block],
+) -> Result<(), OutOfMemory>
+    requires tables { AreMade problem.now tables.old }
+    requires blocks { All (IsBlockInRange problem.now.grid (length problem.now.agents)) blocks.now }
+    ensures tables { OnOk result (AreMade problem.now tables.new) }
+    ensures made { OnOk result (All (λ block. HasTable tables.new block.agent) blocks.now) }
+{
+    for block in blocks {
+        tables.make(alloc, problem, agent_of(block))?;
+    }
+    Ok(())
+}
 
 /// Whether each entry of the blocks of the node in this line is sound; else the line of the first that isn't.
 pub fn judge_blocks(
     problem: &Problem,
-    tables: &[Distances],
+    tables: &LazyTables,
     branch: &Branch,
     blocks: &[Block],
     line: u64,
 ) -> Result<(), u64>
-    requires tables { AreTables problem.now tables.now }
+    requires tables { AreMade problem.now tables.now }
+    requires made { All (λ block. HasTable tables.now block.agent) blocks.now }
     requires blocks { All (IsBlockInRange problem.now.grid (length problem.now.agents)) blocks.now }
     ensures ok { OnOk result (All (IsGoodBlock problem.now (place_of branch.now).here) blocks.now) }
     ensures err { OnErr result (HasUnsoundBlock problem.now (place_of branch.now).here blocks.now) }
@@ -43,12 +62,13 @@ pub fn judge_blocks(
 // isn't.
 fn judge_block(
     problem: &Problem,
-    tables: &[Distances],
+    tables: &LazyTables,
     branch: &Branch,
     block: &Block,
     line: u64,
 ) -> Result<(), u64>
-    requires tables { AreTables problem.now tables.now }
+    requires tables { AreMade problem.now tables.now }
+    requires made { HasTable tables.now block.now.agent }
     requires block { IsBlockInRange problem.now.grid (length problem.now.agents) block.now }
     ensures ok { OnOk result (IsGoodBlock problem.now (place_of branch.now).here block.now) }
     ensures err { OnErr result (HasUnsoundEntry problem.now (place_of branch.now).here block.now) }
@@ -57,7 +77,7 @@ fn judge_block(
     let goal = goal_of(problem, agent);
     let own = AgentProblem {
         grid: problem.grid(),
-        distances: &tables[agent as usize],
+        distances: tables.get(agent),
         branch,
         agent,
         goal,

@@ -1,7 +1,9 @@
 ghost use Rattle.std.specs.Prelude.{◌≡◌, ◌+◌, ◌<◌, ◌≤◌, ◌↔◌, ℕ, AllPairs, IsTrue};
 ghost use Rattle.mapf_model.specs.Labels.{entries_of, IsLabel, IsDistanceLabel, IsEntryOrDistance};
 ghost use Rattle.mapf_model.specs.Labels.{IsAtMost, one_more};
+ghost use Rattle.mapf_model.specs.Grid.{GridMap};
 ghost use Rattle.mapf_model.specs.Printed.{IsBefore};
+ghost use Rattle.mapf_distance.specs.Distances.{IsDistanceOrNone};
 ghost use Rattle.mapf_checker.specs.Order.{StandsTo, IsStanding, IsNoneBelow};
 
 use mapf_distance::Distances;
@@ -87,23 +89,35 @@ fn order(entry: &Entry, cell: Cell, tick: Tick) -> Ordering
     entry.cell.0.cmp(&cell.0)
 }
 
-// The distance to the goal as a label.
-fn distance_label(distances: &Distances, cell: Cell) -> Label
-    ensures { IsDistanceLabel distances.now.grid distances.now.goal cell result }
+/// A distance as a label.
+fn distance_label(distance: Option<u32>) -> Label
+    ensures { (grid : GridMap) (goal cell : ℕ) → IsDistanceOrNone grid goal cell distance
+        → IsDistanceLabel grid goal cell result }
 {
-    match distances.get(cell) {
+    match distance {
         Some(distance) => Label::Ticks(distance),
         None => Label::Never,
     }
 }
 
-/// The entry, or the distance where there is none.
-pub fn label_or_distance(entry: Option<Label>, distances: &Distances, cell: Cell) -> Label
+/// The entry, or this distance where there is none.
+pub fn entry_or(entry: Option<Label>, distance: Option<u32>) -> Label
+    ensures { (grid : GridMap) (goal cell : ℕ) → IsDistanceOrNone grid goal cell distance
+        → IsEntryOrDistance grid goal cell entry result }
+{
+    match entry {
+        Some(label) => label,
+        None => distance_label(distance),
+    }
+}
+
+// The entry, or the distance of the cell where there is none.
+fn label_or_distance(entry: Option<Label>, distances: &Distances, cell: Cell) -> Label
     ensures { IsEntryOrDistance distances.now.grid distances.now.goal cell entry result }
 {
     match entry {
         Some(label) => label,
-        None => distance_label(distances, cell),
+        None => distance_label(distances.get(cell)),
     }
 }
 

@@ -1,11 +1,11 @@
-ghost use Rattle.std.specs.Prelude.{◌≡◌, ◌+◌, ◌<◌, ◌≤◌, ◌^◌, ◌↔◌, AllPairs, length, false};
+ghost use Rattle.std.specs.Prelude.{◌≡◌, ◌+◌, ◌<◌, ◌≤◌, ◌^◌, ◌↔◌, All, AllPairs, length, false};
 ghost use Rattle.std.specs.Prelude.{IsTrue, IfSome, OnOk, IfErr};
 ghost use Rattle.std.specs.Option.{ForSome};
 ghost use Rattle.mapf_model.specs.declared.item.Claim.{Claim};
 ghost use Rattle.mapf_model.specs.Labels.{label_plus};
 ghost use Rattle.mapf_model.specs.Printed.{AreBlocksInRange};
 ghost use Rattle.mapf_model.specs.Tree.{ShowsFrom, Leaf, LeafNode};
-ghost use Rattle.mapf_distance.specs.Tables.{AreTables};
+ghost use Rattle.mapf_distance.specs.Tables.{AreMade, AreStartDistances, HasTable};
 ghost use Rattle.mapf_checker.specs.Branch.{place_of};
 ghost use Rattle.mapf_checker.specs.Leaf.{IsStartTotal, IsEnough, IsStartLabel};
 ghost use Rattle.mapf_checker.specs.Leaf.{IsCut, TakesBlock, LeavesBlock, label_of};
@@ -14,21 +14,24 @@ ghost use Rattle.mapf_checker.specs.NodeDefects.{HasNodeDefect};
 use crate::blocks::{agent_of, entries_in, judge_blocks, start_of};
 use crate::branch::Branch;
 use crate::fault::CheckFault;
-use crate::labels::{entry_at, label_or_distance};
-use mapf_distance::Distances;
+use crate::labels::{entry_at, entry_or};
+use mapf_distance::LazyTables;
 use mapf_model::{Block, Cell, Claim, Label, Problem, laws};
 
 /// Whether the leaf shows the claim: each entry of its blocks is sound, and the labels of the starts
-/// are enough. `line` is that of the leaf.
+/// are enough. `line` is that of the leaf, `distances` are those of the starts.
 pub fn judge_leaf(
     problem: &Problem,
-    tables: &[Distances],
+    tables: &LazyTables,
+    distances: &[Option<u32>],
     branch: &Branch,
     claim: &Claim,
     blocks: &[Block],
     line: u64,
 ) -> Result<(), CheckFault>
-    requires tables { AreTables problem.now tables.now }
+    requires tables { AreMade problem.now tables.now }
+    requires made { All (λ block. HasTable tables.now block.agent) blocks.now }
+    requires distances { AreStartDistances problem.now distances.now }
     requires agents { branch.now.agents ≡ length problem.now.agents }
     requires blocks { AreBlocksInRange problem.now.grid (length problem.now.agents) blocks.now }
     ensures ok { OnOk result (ShowsFrom problem.now claim.now (place_of branch.now).here (Leaf blocks.now)) }
@@ -38,7 +41,7 @@ pub fn judge_leaf(
     if let Err(unsound) = judge_blocks(problem, tables, branch, blocks, line) {
         return Err(CheckFault::C7(unsound));
     }
-    let total = start_total(problem, tables, branch, blocks);
+    let total = start_total(problem, distances, branch, blocks);
     if is_enough(claim, total) {
         Ok(())
     } else {
@@ -49,11 +52,11 @@ pub fn judge_leaf(
 // The labels of the starts at tick 0, added up; None where one is infinite.
 fn start_total(
     problem: &Problem,
-    tables: &[Distances],
+    distances: &[Option<u32>],
     branch: &Branch,
     blocks: &[Block],
 ) -> Option<u64>
-    requires tables { AreTables problem.now tables.now }
+    requires distances { AreStartDistances problem.now distances.now }
     requires agents { branch.now.agents ≡ length problem.now.agents }
     requires blocks { AreBlocksInRange problem.now.grid (length problem.now.agents) blocks.now }
     ensures { IsStartTotal problem.now blocks.now (place_of branch.now).here.entries result }
@@ -62,7 +65,7 @@ fn start_total(
     let mut total = Some(0);
     let mut place = 0;
     for i in 0..count {
-        let label = start_label(problem, tables, branch, blocks, place, i);
+        let label = start_label(problem, distances, branch, blocks, place, i);
         total = plus(total, label);
         place = place_after(blocks, place, i);
     }
@@ -73,13 +76,13 @@ fn start_total(
 // blocks of the agents before stand before this place.
 fn start_label(
     problem: &Problem,
-    tables: &[Distances],
+    distances: &[Option<u32>],
     branch: &Branch,
     blocks: &[Block],
     place: usize,
     agent: usize,
 ) -> Label
-    requires tables { AreTables problem.now tables.now }
+    requires distances { AreStartDistances problem.now distances.now }
     requires agents { branch.now.agents ≡ length problem.now.agents }
     requires blocks { AreBlocksInRange problem.now.grid (length problem.now.agents) blocks.now }
     requires cut { IsCut blocks.now place agent }
@@ -92,7 +95,7 @@ fn start_label(
     } else {
         branch.start_entry(agent)
     };
-    label_or_distance(entry, &tables[agent], start)
+    entry_or(entry, distances[agent])
 }
 
 // The place up to which the blocks of this agent and those before stand.

@@ -1,4 +1,4 @@
-ghost use Rattle.std.specs.Prelude.{◌≡◌, ◌↔◌, ◌∷◌, [], false, length, IfErr, IfOk, OnOk, IsTrue};
+ghost use Rattle.std.specs.Prelude.{◌≡◌, ◌↔◌, ◌∷◌, [], All, false, length, IfErr, IfOk, OnOk, IsTrue};
 ghost use Rattle.mapf_certificate.specs.Certificates.{IsNode};
 ghost use Rattle.mapf_certificate.specs.declared.version.Version.{Version};
 ghost use Rattle.mapf_model.specs.declared.item.Claim.{Claim};
@@ -8,17 +8,17 @@ ghost use Rattle.mapf_model.specs.Tree.{SplitNode, LeafNode, ClashNode, node_of,
 ghost use Rattle.mapf_model.specs.Tree.{IsProperSplit, SplitShows, AreProperBlocks, AreBlocksSound};
 ghost use Rattle.mapf_model.specs.Tree.{AreTwoAgents, ShareGoal};
 ghost use Rattle.mapf_checker.specs.Faults.{IsOfJudging};
-ghost use Rattle.mapf_distance.specs.Tables.{AreTables};
+ghost use Rattle.mapf_distance.specs.Tables.{AreMade, AreStartDistances, HasTable};
 ghost use Rattle.mapf_checker.specs.NodeDefects.{HasNodeDefect, IsUnsoundLabel, IsGoodNode};
 ghost use Rattle.mapf_checker.specs.Starts.{AreChangesBy};
 ghost use Rattle.mapf_checker.specs.Branch.{place_of};
 
-use crate::blocks::{changes_by, judge_blocks};
+use crate::blocks::{changes_by, judge_blocks, make_tables};
 use crate::branch::Branch;
 use crate::fault::{CheckFault, FromFault};
 use crate::leaf::judge_leaf;
 use crate::starts::StartChange;
-use mapf_distance::{Distances, goal_tables};
+use mapf_distance::{LazyTables, start_distances};
 use mapf_model::{Block, Claim, Conflict, Item, OutOfMemory, Problem};
 use std::alloc::Global;
 
@@ -26,8 +26,10 @@ use std::alloc::Global;
 #[derive(Drop)]
 pub struct Progress {
     branch: Branch,
-    // The distances to each agent's goal, made where they are needed first.
-    tables: Vec<Distances>,
+    // The distances to the goals of the agents that had a block so far.
+    tables: LazyTables,
+    // Those of the starts, made at the first leaf.
+    distances: Vec<Option<u32>>,
     /// Whether the whole tree came.
     pub is_over: bool,
 }
@@ -42,7 +44,8 @@ impl Progress {
     {
         Ok(Progress {
             branch: Branch::new(alloc, problem.agents().len())?,
-            tables: Vec::new(alloc),
+            tables: LazyTables::of(alloc, problem)?,
+            distances: Vec::new(alloc),
             is_over: false,
         })
     }
@@ -155,7 +158,7 @@ impl Progress {
         if blocks.is_empty() {
             return Ok(Vec::new(alloc));
         }
-        self.see_to_tables(alloc, problem)?;
+        self.see_to_tables(alloc, problem, blocks)?;
         if let Err(unsound) = judge_blocks(problem, &self.tables, &self.branch, blocks, line) {
             return Err(FromFault::Refused(CheckFault::C7(unsound)));
         }
@@ -182,35 +185,67 @@ impl Progress {
         ensures refused { IfErr result (IsOfJudging
             (HasNodeDefect problem.now claim.now (here_of self.old) (LeafNode blocks.now))) }
     {
-        self.see_to_tables(alloc, problem)?;
-        if let Err(fault) = judge_leaf(problem, &self.tables, &self.branch, claim, blocks, line) {
+        self.see_to_tables(alloc, problem, blocks)?;
+        self.see_to_distances(alloc, problem)?;
+        if let Err(fault) = judge_leaf(
+            problem,
+            &self.tables,
+            &self.distances,
+            &self.branch,
+            claim,
+            blocks,
+            line,
+        ) {
             return Err(FromFault::Refused(fault));
         }
         self.end()
     }
 
-    // Makes the tables where there are none yet.
-    fn see_to_tables(&mut self, alloc: Global, problem: &Problem) -> Result<(), FromFault>
+    // Makes the tables of the blocks' agents, where they aren't made yet.
+    fn see_to_tables(
+        &mut self,
+        alloc: Global,
+        problem: &Problem,
+        blocks: &[Block],
+    ) -> Result<(), FromFault>
         requires ready { IsReady problem.now self.old }
+        requires blocks { AreBlocksInRange problem.now.grid (length problem.now.agents) blocks.now }
         ensures ready { OnOk result (IsReady problem.now self.new) }
-        ensures tables { OnOk result (AreTables problem.now self.new.tables.items) }
+        ensures made { OnOk result (All (λ block. HasTable self.new.tables block.agent) blocks.now) }
         ensures branch { self.new.branch ≡ self.old.branch }
         ensures over { self.new.is_over ≡ self.old.is_over }
         ensures memory { IfErr result (λ fault. fault ≡ FromFault.Memory) }
     {
-        if !self.tables.is_empty() {
-            return Ok(());
-        }
-        let Ok(tables) = goal_tables(alloc, problem) else {
+        let Ok(()) = make_tables(alloc, problem, &mut self.tables, blocks) else {
             return Err(FromFault::Memory);
         };
-        self.tables = tables;
+        Ok(())
+    }
+
+    // Makes the distances of the starts where there are none yet.
+    fn see_to_distances(&mut self, alloc: Global, problem: &Problem) -> Result<(), FromFault>
+        requires ready { IsReady problem.now self.old }
+        ensures ready { OnOk result (IsReady problem.now self.new) }
+        ensures distances { OnOk result (AreStartDistances problem.now self.new.distances.items) }
+        ensures tables { self.new.tables ≡ self.old.tables }
+        ensures branch { self.new.branch ≡ self.old.branch }
+        ensures over { self.new.is_over ≡ self.old.is_over }
+        ensures memory { IfErr result (λ fault. fault ≡ FromFault.Memory) }
+    {
+        if !self.distances.is_empty() {
+            return Ok(());
+        }
+        let Ok(distances) = start_distances(alloc, problem) else {
+            return Err(FromFault::Memory);
+        };
+        self.distances = distances;
         Ok(())
     }
 
     fn clash(&mut self, problem: &Problem, i: u32, j: u32, line: u64) -> Result<(), FromFault>
         requires going { self.old.is_over ≡ false }
-        ensures tables { self.new.tables.items ≡ self.old.tables.items }
+        ensures tables { self.new.tables ≡ self.old.tables }
+        ensures distances { self.new.distances.items ≡ self.old.distances.items }
         ensures agents { self.new.branch.agents ≡ self.old.branch.agents }
         ensures owed { OnOk result (owed_by self.new ≡ contexts_after (owed_by self.old) (ClashNode i j)) }
         ensures good { OnOk result (ShareGoal problem.now i j) }
@@ -225,7 +260,8 @@ impl Progress {
 
     // Goes on to what is owed after an end of the tree.
     fn end(&mut self) -> Result<(), FromFault>
-        ensures tables { self.new.tables.items ≡ self.old.tables.items }
+        ensures tables { self.new.tables ≡ self.old.tables }
+        ensures distances { self.new.distances.items ≡ self.old.distances.items }
         ensures agents { self.new.branch.agents ≡ self.old.branch.agents }
         ensures owed { OnOk result (owed_by self.new ≡ (place_of self.old.branch).owed) }
         ensures memory { IfErr result (λ fault. fault ≡ FromFault.Memory) }

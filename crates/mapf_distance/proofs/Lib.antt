@@ -5,3 +5,4 @@ pub mod ExpandLemmas
 pub mod StartLemmas
 pub mod DescentLemmas
 pub mod TableLemmas
+pub mod SearchLemmas

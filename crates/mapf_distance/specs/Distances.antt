@@ -1,5 +1,5 @@
 -- Tables of distances to a goal.
-use Rattle.std.specs.Prelude.{ℕ, ◌+◌, ◌-◌, ◌<◌, ◌≤◌, List, length, slice_index}
+use Rattle.std.specs.Prelude.{ℕ, ◌+◌, ◌-◌, ◌<◌, ◌≤◌, List, Option, Some, None, length, slice_index}
 use Rattle.mapf_model.specs.Distance.{Walk, IsDistance, IsUnreachable}
 use Rattle.mapf_model.specs.Grid.{GridMap, IsGridMap, Step, free_cell_count}
 use Rattle.mapf_distance.specs.declared.wave.TheConstants.{UNREACHED}
@@ -13,6 +13,11 @@ pub record GoalMap : Type 0 where
 -- some number of steps leads from the cell to the goal
 abbrev pub IsReachable : GridMap → ℕ → ℕ → Type 0
 IsReachable grid goal cell = (n : ℕ) × Walk grid cell goal n
+
+-- the least number of steps from the cell to the goal, or none where no steps lead there
+abbrev pub IsDistanceOrNone : GridMap → ℕ → ℕ → Option ℕ → Type 0
+IsDistanceOrNone grid goal cell (Some distance) = IsDistance grid goal cell distance
+IsDistanceOrNone grid goal cell None = IsUnreachable grid goal cell
 
 -- the path goes from each cell to the least cell, in number, of those that are one step from it and nearer to the goal
 abbrev pub IsLeastDescent : GridMap → ℕ → List ℕ → Type 0

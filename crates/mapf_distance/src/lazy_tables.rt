@@ -1,4 +1,4 @@
-ghost use Rattle.std.specs.Prelude.{◌≡◌, ◌<◌, Some, IfOk, OnOk, length, slice_get};
+ghost use Rattle.std.specs.Prelude.{◌≡◌, ◌<◌, ℕ, Some, IfOk, OnOk, length, slice_get};
 ghost use Rattle.mapf_distance.specs.Tables.{AreMade, HasTable};
 
 use crate::distances::Distances;
@@ -40,6 +40,7 @@ impl LazyTables {
         requires known { agent < length problem.now.agents }
         ensures tables { OnOk result (AreMade problem.now self.new) }
         ensures made { OnOk result (HasTable self.new agent) }
+        ensures kept { OnOk result ((other : ℕ) → HasTable self.old other → HasTable self.new other) }
     {
         let place = agent as usize;
         if self.tables[place].is_none() {

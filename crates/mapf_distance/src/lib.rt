@@ -3,9 +3,12 @@
 
 mod distances;
 mod lazy_tables;
+mod search;
+mod starts;
 mod tables;
 mod wave;
 
 pub use distances::Distances;
 pub use lazy_tables::LazyTables;
+pub use starts::start_distances;
 pub use tables::goal_tables;

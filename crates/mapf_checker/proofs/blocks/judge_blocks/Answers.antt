@@ -1,7 +1,9 @@
 use Rattle.std.proofs.Common.{◌≡◌, ◌<◌, Result, Ok, Err, OnErr, length, slice_index_or, refl, sym, subst, ⊎_elim, arith}
 use Rattle.std.proofs.lemmas.Bool.{cases_lt}
 use Rattle.std.proofs.lemmas.Option.{slice_get_read, get_or_from_slice_get}
+use Rattle.mapf_model.specs.Blocks.{LabelBlock}
 use Rattle.mapf_model.specs.Printed.{IsBlockInRange}
+use Rattle.mapf_distance.specs.Tables.{HasTable}
 use Rattle.mapf_checker.specs.Leaf.{IsGoodBlock}
 use Rattle.mapf_checker.specs.Branch.{place_of}
 use Rattle.mapf_checker.proofs.blocks.judge_blocks.Goals as goal
@@ -35,3 +37,7 @@ loop-block-preserved c =
 
 pub returns-clause-ok : goal.returns-clause-ok
 returns-clause-ok c k d within = c.loop-block.invariant k d (omega arith)
+
+pub judge_block-requires-clause-made : goal.judge_block-requires-clause-made
+judge_block-requires-clause-made c =
+    subst (λ (b : LabelBlock). HasTable c.args.tables.now b.agent) (sym c.block-item.is) (c.requires.made c.loop-block.block-index c.block-item.result c.loop-block-test.true)

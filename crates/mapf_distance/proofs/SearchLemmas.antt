@@ -1,0 +1,417 @@
+-- A search stays one when a cell is looked at, and at its end the start's entry is its distance.
+use Rattle.std.proofs.Common.{◌≡◌, ◌⊎◌, ℕ, zero, suc, ◌+◌, ◌-◌, ◌<◌, ◌≤◌, Option, Some, None, IfSome, IfNone, Bool, true, false, List, [], ◌∷◌, ◌++◌, All, Contains, replicate, length, slice_index_or, slice_set, sum, add-one, refl, sym, ◌∙◌, ap, subst, inl, inr, ⊎_elim, arith}
+use Rattle.std.specs.Option.{option_to_list}
+use Rattle.std.proofs.Math.ListN.{length-set}
+use Rattle.std.proofs.lemmas.Bool.{cases_lt, cases_eq}
+use Rattle.std.proofs.lemmas.List.{get_or_default, get_or_past, length_push, append-nil, get_or-replicate, length-replicate}
+use Rattle.std.proofs.lemmas.List.Elements.{All-nil, All-pop, All-push, All-weaker, All-contains, Contains-append_left, Contains-push, Contains-push_cases}
+use Rattle.std.proofs.lemmas.List.Sums.{sum_by-set}
+use Rattle.std.proofs.lemmas.Option.{same_Some}
+use Rattle.mapf_model.specs.Distance.{Walk, IsDistance, IsUnreachable}
+use Rattle.mapf_model.specs.Grid.{GridMap, IsGridMap, IsFree, DifferByOne, Step, column, row}
+use Rattle.mapf_model.specs.Neighbours.{neighbourhood}
+use Rattle.mapf_model.proofs.StepLemmas.{neighbour_step, step_neighbour, step_free}
+use Rattle.mapf_distance.specs.declared.wave.TheConstants.{BLOCKED, UNREACHED}
+use Rattle.mapf_distance.specs.Distances.{IsDistanceOrNone}
+use Rattle.mapf_distance.specs.Marks.{entry_of}
+use Rattle.mapf_distance.specs.Search.{IsSearch, IsSeen, IsTaken, IsKnown, IsSearchAt, IsSameSearch, IsPut, effort, gap, estimate, value_of}
+use Rattle.mapf_distance.specs.declared.search.Search.{Search}
+use Rattle.mapf_distance.proofs.MarkLemmas.{entry_of-set_same, entry_of-set_other, within_table}
+use Rattle.mapf_distance.proofs.StepLemmas.{Step-sym, Walk-from_free}
+
+apart_step : (a b s : ℕ) → DifferByOne a b → gap a s ≤ gap b s + 1
+apart_step a b s (inl e) = omega arith
+apart_step a b s (inr e) = omega arith
+
+-- a step brings a cell nearer by one at most
+pub estimate_step : (grid : GridMap) (from to start : ℕ) → Step grid from to → estimate grid from start ≤ estimate grid to start + 1
+estimate_step grid from to start (inl (free, same)) = let e = ap (λ cell. estimate grid cell start) same in omega arith
+estimate_step grid from to start (inr beside) = ⊎_elim
+    (λ in_row.
+    let e = ap (λ r. gap r (row grid start)) in_row.0 in
+    let a = apart_step (column grid from) (column grid to) (column grid start) in_row.1 in
+    omega arith)
+    (λ in_column.
+    let e = ap (λ r. gap r (column grid start)) in_column.0 in
+    let a = apart_step (row grid from) (row grid to) (row grid start) in_column.1 in
+    omega arith)
+    beside.apart
+
+pub estimate_self : (grid : GridMap) (start : ℕ) → estimate grid start start ≡ 0
+estimate_self grid start = omega arith
+
+none_in : (cell : ℕ) → Contains [] cell → ⊥
+none_in cell (k, within, is) = omega arith
+
+module _ (grid : GridMap) (start goal level : ℕ) (But : ℕ → Type 0) (table due later : List ℕ) (search : IsSearch grid start goal But level table due later) where
+  -- a step from a cell whose entry is so many leads to a cell whose entry is larger than by one
+  module _ (cell next distance : ℕ) (known : IsKnown table cell) (is : entry_of table cell + 1 ≡ distance) (step : Step grid cell next) (inside : next < length table) (more : distance < entry_of table next) where
+    after : List ℕ
+    after = slice_set table next distance
+
+    small : distance < UNREACHED
+    small = let t = search.top next inside in omega arith
+
+    here : entry_of after next ≡ distance
+    unfolding after
+    here = entry_of-set_same table next distance inside
+
+    other : (x : ℕ) → (x ≡ next → ⊥) → entry_of after x ≡ entry_of table x
+    unfolding after
+    other x apart = entry_of-set_other table next x distance apart
+
+    -- no entry grows
+    falls : (x : ℕ) → entry_of after x ≤ entry_of table x
+    falls x = ⊎_elim
+        (λ (same : x ≡ next). let e = ap (entry_of after) same in let f = ap (entry_of table) same in let h = here in omega arith)
+        (λ (apart : x ≡ next → ⊥). let e = other x apart in omega arith)
+        (cases_eq x next)
+
+    keeps_known : (x : ℕ) → IsKnown table x → IsKnown after x
+    keeps_known x k = let f = falls x in omega arith
+
+    taken_after : (x : ℕ) → (x ≡ next → ⊥) → IsTaken grid table x → IsTaken grid after x
+    taken_after x apart taken to go = let t = taken to go in let f = falls to in let o = other x apart in omega arith
+
+    module _ (new_due new_later : List ℕ) (opens : (x : ℕ) → Contains due x → Contains new_due x) (waits : (x : ℕ) → Contains later x → Contains new_later x)
+        (due_known : All (IsKnown after) new_due) (later_known : All (IsKnown after) new_later)
+        (put : ((level ≤ distance + estimate grid next start) × Contains new_due next) ⊎ ((level < distance + estimate grid next start) × Contains new_later next)) where
+      seen_after : (x : ℕ) → (x ≡ next → ⊥) → But x ⊎ IsSeen grid start level table due later x → But x ⊎ IsSeen grid start level after new_due new_later x
+      seen_after x apart (inl but) = inl but
+      seen_after x apart (inr (inl taken)) = inr (inl (taken_after x apart taken))
+      seen_after x apart (inr (inr (inl (low, listed)))) = inr (inr (inl ((let o = other x apart in omega arith), opens x listed)))
+      seen_after x apart (inr (inr (inr (low, listed)))) = inr (inr (inr ((let o = other x apart in omega arith), waits x listed)))
+
+      seen_here : But next ⊎ IsSeen grid start level after new_due new_later next
+      seen_here = inr (inr (⊎_elim
+          (λ p. inl ((let h = here in let a = p.0 in omega arith), p.1))
+          (λ p. inr ((let h = here in let a = p.0 in omega arith), p.1))
+          put))
+
+      reached : IsSearch grid start goal But level after new_due new_later
+      unfolding after
+      reached = record {
+        shape = search.shape;
+        free = search.free;
+        count = length-set table next distance ∙ search.count;
+        top = λ x within. (let f = falls x in let l = length-set table next distance in let t = search.top x (omega arith) in omega arith);
+        source = (let f = falls goal in let s = search.source in omega arith);
+        walks = λ x k. ⊎_elim
+            (λ (same : x ≡ next). subst (λ at. Walk grid at goal (entry_of after at)) (sym same)
+            (subst (λ n. Walk grid next goal n) (sym (here ∙ sym is ∙ add-one (entry_of table cell))) (cell, Step-sym grid cell next step, search.walks cell known)))
+            (λ (apart : x ≡ next → ⊥). let o = other x apart in subst (λ n. Walk grid x goal n) (sym o) (search.walks x (omega arith)))
+            (cases_eq x next);
+        due_known = due_known;
+        later_known = later_known;
+        seen = λ x k. ⊎_elim
+            (λ (same : x ≡ next). subst (λ at. But at ⊎ IsSeen grid start level after new_due new_later at) (sym same) seen_here)
+            (λ (apart : x ≡ next → ⊥). let o = other x apart in seen_after x apart (search.seen x (omega arith)))
+            (cases_eq x next);
+      }
+
+    known_after : All (IsKnown after) due
+    known_after = All-weaker (IsKnown table) (IsKnown after) keeps_known due search.due_known
+
+    waiting_after : All (IsKnown after) later
+    waiting_after = All-weaker (IsKnown table) (IsKnown after) keeps_known later search.later_known
+
+    next_known : IsKnown after next
+    next_known = let h = here in let s = small in omega arith
+
+    pub reach_open : level ≤ distance + estimate grid next start → IsSearch grid start goal But level (slice_set table next distance) (due ++ next ∷ []) later
+    unfolding after
+    reach_open low = reached (due ++ next ∷ []) later (λ x listed. Contains-append_left due (next ∷ []) x listed) (λ x listed. listed)
+        (All-push (IsKnown after) due next known_after next_known) waiting_after (inl (low, Contains-push due next))
+
+    pub reach_later : level < distance + estimate grid next start → IsSearch grid start goal But level (slice_set table next distance) due (later ++ next ∷ [])
+    unfolding after
+    reach_later low = reached due (later ++ next ∷ []) (λ x listed. listed) (λ x listed. Contains-append_left later (next ∷ []) x listed)
+        known_after (All-push (IsKnown after) later next waiting_after next_known) (inr (low, Contains-push later next))
+
+    pub reach_falls : sum (slice_set table next distance) + 1 ≤ sum table
+    reach_falls = let s = sum_by-set (λ x. x) table next distance BLOCKED inside in omega arith
+
+    pub reach_keeps_entry : entry_of (slice_set table next distance) cell ≡ entry_of table cell
+    unfolding after
+    reach_keeps_entry = other cell (λ same. (let e = ap (entry_of table) same in omega arith))
+
+    pub reach_lowers : (x : ℕ) → entry_of (slice_set table next distance) x ≤ entry_of table x
+    unfolding after
+    reach_lowers = falls
+
+  -- the level's cells are all looked at
+  pub risen : due ≡ [] → IsSearch grid start goal But (level + 1) table later []
+  risen swept = record {
+    shape = search.shape;
+    free = search.free;
+    count = search.count;
+    top = search.top;
+    source = search.source;
+    walks = search.walks;
+    due_known = search.later_known;
+    later_known = All-nil (IsKnown table);
+    seen = λ x k. again x (search.seen x k);
+  }
+    where
+      again : (x : ℕ) → But x ⊎ IsSeen grid start level table due later x → But x ⊎ IsSeen grid start (level + 1) table later [] x
+      again x (inl but) = inl but
+      again x (inr (inl taken)) = inr (inl taken)
+      again x (inr (inr (inl (low, listed)))) = absurd (none_in x (subst (λ list. Contains list x) swept listed))
+      again x (inr (inr (inr (low, listed)))) = inr (inr (inl (omega arith, listed)))
+
+-- what holds after a cell beside this one was reached
+pub record IsReachedAt (grid : GridMap) (cell distance next : ℕ) (old new : Search) : Type 0 where
+  pub search : IsSearchAt grid cell new
+  pub entry : entry_of new.table.items cell + 1 ≡ distance
+  pub level : value_of grid new.start new.table.items cell ≡ new.level
+  pub effort : effort new ≤ effort old
+  pub falls : (x : ℕ) → entry_of new.table.items x ≤ entry_of old.table.items x
+  pub here : entry_of new.table.items next ≤ distance
+
+pub reached_at : (grid : GridMap) (cell distance next : ℕ) (old new : Search) → IsSearchAt grid cell old → entry_of old.table.items cell + 1 ≡ distance → value_of grid old.start old.table.items cell ≡ old.level →
+    Step grid cell next → next < length old.table.items → distance < entry_of old.table.items next →
+    new.table.items ≡ slice_set old.table.items next distance → IsPut next (distance + estimate grid next old.start) old new → IsSameSearch old new → IsReachedAt grid cell distance next old new
+reached_at grid cell distance next old new (s, known) is level step inside more table put same =
+    let table_before : List ℕ = old.table.items in
+    let due : List ℕ = old.due.items in
+    let later : List ℕ = old.later.items in
+    let nearer = estimate_step grid cell next old.start step in
+    let keeps = reach_keeps_entry grid old.start old.goal old.level (λ other. other ≡ cell) table_before due later s cell next distance known is step inside more in
+    let falls = reach_falls grid old.start old.goal old.level (λ other. other ≡ cell) table_before due later s cell next distance known is step inside more in
+    let lowers = reach_lowers grid old.start old.goal old.level (λ other. other ≡ cell) table_before due later s cell next distance known is step inside more in
+    let longer = length_push due next in
+    record {
+      search = (
+        ⊎_elim
+            (λ p. rw (same.start, same.goal, same.level, table, p.1, p.2)
+            (reach_open grid old.start old.goal old.level (λ other. other ≡ cell) table_before due later s cell next distance known is step inside more (omega arith)))
+            (λ p. rw (same.start, same.goal, same.level, table, p.1, p.2)
+            (reach_later grid old.start old.goal old.level (λ other. other ≡ cell) table_before due later s cell next distance known is step inside more p.0))
+            put,
+        rw table (rw keeps known),
+      );
+      entry = rw table (rw keeps is);
+      level = rw (same.start, same.level, table) (rw keeps level);
+      effort = ⊎_elim
+          (λ p. rw (table, p.1) (omega arith))
+          (λ p. rw (table, p.1) (omega arith))
+          put;
+      falls = λ x. rw table (lowers x);
+      here = rw table (let e = entry_of-set_same table_before next distance inside in omega arith);
+    }
+
+-- a cell is taken from those of the level
+module _ (grid : GridMap) (start goal level : ℕ) (table due later : List ℕ) (cell : ℕ) where
+  abbrev At : ℕ → Type 0
+  At other = other ≡ cell
+
+  pub taken_out : IsSearch grid start goal (λ x. ⊥) level table (due ++ cell ∷ []) later →
+      IsSearch grid start goal At level table due later × IsKnown table cell × (value_of grid start table cell < level → IsTaken grid table cell)
+  taken_out search = (
+    record {
+      shape = search.shape;
+      free = search.free;
+      count = search.count;
+      top = search.top;
+      source = search.source;
+      walks = search.walks;
+      due_known = (All-pop (IsKnown table) (due ++ cell ∷ []) due (Some cell) refl search.due_known).0;
+      later_known = search.later_known;
+      seen = λ x k. out x (search.seen x k);
+    },
+    All-contains (IsKnown table) (due ++ cell ∷ []) cell search.due_known (Contains-push due cell),
+    λ low. passed low (search.seen cell (All-contains (IsKnown table) (due ++ cell ∷ []) cell search.due_known (Contains-push due cell))),
+  )
+    where
+      out : (x : ℕ) → ⊥ ⊎ IsSeen grid start level table (due ++ cell ∷ []) later x → At x ⊎ IsSeen grid start level table due later x
+      out x (inl none) = absurd none
+      out x (inr (inl taken)) = inr (inl taken)
+      out x (inr (inr (inl (low, listed)))) = ⊎_elim
+          (λ (before : Contains due x). inr (inr (inl (low, before))))
+          (λ (same : cell ≡ x). inl (sym same))
+          (Contains-push_cases due cell x listed)
+      out x (inr (inr (inr waits))) = inr (inr (inr waits))
+
+      passed : value_of grid start table cell < level → ⊥ ⊎ IsSeen grid start level table (due ++ cell ∷ []) later cell → IsTaken grid table cell
+      passed low (inl none) = absurd none
+      passed low (inr (inl taken)) = taken
+      passed low (inr (inr (inl (high, listed)))) = absurd (omega arith)
+      passed low (inr (inr (inr (high, listed)))) = absurd (omega arith)
+
+  -- the cell is seen in the end
+  module _ (search : IsSearch grid start goal At level table due later) where
+    seen_all : (new_later : List ℕ) → ((x : ℕ) → Contains later x → Contains new_later x) → All (IsKnown table) new_later → IsSeen grid start level table due new_later cell →
+        IsSearch grid start goal (λ x. ⊥) level table due new_later
+    seen_all new_later waits waiting now = record {
+      shape = search.shape;
+      free = search.free;
+      count = search.count;
+      top = search.top;
+      source = search.source;
+      walks = search.walks;
+      due_known = search.due_known;
+      later_known = waiting;
+      seen = λ x k. all x (search.seen x k);
+    }
+      where
+        all : (x : ℕ) → At x ⊎ IsSeen grid start level table due later x → ⊥ ⊎ IsSeen grid start level table due new_later x
+        all x (inl same) = inr (subst (λ at. IsSeen grid start level table due new_later at) (sym same) now)
+        all x (inr (inl taken)) = inr (inl taken)
+        all x (inr (inr (inl listed))) = inr (inr (inl listed))
+        all x (inr (inr (inr (low, listed)))) = inr (inr (inr (low, waits x listed)))
+
+    pub all_taken : IsTaken grid table cell → IsSearch grid start goal (λ x. ⊥) level table due later
+    all_taken taken = seen_all later (λ x listed. listed) search.later_known (inl taken)
+
+    pub put_later : IsKnown table cell → level < value_of grid start table cell → IsSearch grid start goal (λ x. ⊥) level table due (later ++ cell ∷ [])
+    put_later known low = seen_all (later ++ cell ∷ []) (λ x listed. Contains-append_left later (cell ∷ []) x listed)
+        (All-push (IsKnown table) later cell search.later_known known) (inr (inr (low, Contains-push later cell)))
+
+-- whatever cell is taken out
+pub popped : (grid : GridMap) (start goal level : ℕ) (table due rest later : List ℕ) (r : Option ℕ) → IsSearch grid start goal (λ x. ⊥) level table due later → due ≡ rest ++ option_to_list r →
+    IfSome r (λ cell. (IsSearch grid start goal (λ x. x ≡ cell) level table rest later × IsKnown table cell) × (value_of grid start table cell < level → IsTaken grid table cell))
+popped grid start goal level table due rest later None search is = tt
+popped grid start goal level table due rest later (Some cell) search is =
+    let t = taken_out grid start goal level table rest later cell (subst (λ list. IsSearch grid start goal (λ x. ⊥) level table list later) is search) in
+    ((t.0, t.1), t.2)
+
+pub popped_none : (grid : GridMap) (start goal level : ℕ) (table due rest later : List ℕ) (r : Option ℕ) → IsSearch grid start goal (λ x. ⊥) level table due later → due ≡ rest ++ option_to_list r →
+    IfNone r (IsSearch grid start goal (λ x. ⊥) level table rest later)
+popped_none grid start goal level table due rest later None search is = subst (λ list. IsSearch grid start goal (λ x. ⊥) level table list later) (is ∙ append-nil rest) search
+popped_none grid start goal level table due rest later (Some cell) search is = tt
+
+-- the start's entry is its distance once the level is no lower
+module _ (grid : GridMap) (start goal level : ℕ) (table due later : List ℕ) (search : IsSearch grid start goal (λ x. ⊥) level table due later) where
+  -- all steps were taken from a cell with so small a value
+  taken_below : (x : ℕ) → IsKnown table x → value_of grid start table x < level → IsTaken grid table x
+  taken_below x k low = from (search.seen x k)
+    where
+      from : ⊥ ⊎ IsSeen grid start level table due later x → IsTaken grid table x
+      from (inl none) = absurd none
+      from (inr (inl taken)) = taken
+      from (inr (inr (inl (least, listed)))) = absurd (omega arith)
+      from (inr (inr (inr (least, listed)))) = absurd (omega arith)
+
+  -- a walk that may lead the start to the goal in fewer steps bounds the entries on it
+  walk_bound : (bound : ℕ) → bound ≤ level → bound ≤ UNREACHED → (n x : ℕ) → Walk grid x goal n → n + estimate grid x start < bound → entry_of table x ≤ n
+  walk_bound bound within low zero x (free, same) less = let e = ap (entry_of table) same in let s = search.source in omega arith
+  walk_bound bound within low (suc n) x (next, step, walk) less =
+      let nearer = estimate_step grid next x start (Step-sym grid x next step) in
+      let before = walk_bound bound within low n next walk (omega arith) in
+      let taken = taken_below next (omega arith) (omega arith) x (Step-sym grid x next step) in
+      omega arith
+
+  pub start_distance : (distance : ℕ) → distance ≡ entry_of table start → distance < UNREACHED → distance ≤ level → IsDistance grid goal start distance
+  start_distance distance is known high = record {
+    walk = subst (λ n. Walk grid start goal n) (sym is) (search.walks start (omega arith));
+    least = λ n walk. ⊎_elim
+        (λ (less : n < distance).
+        let self = estimate_self grid start in
+        let b = walk_bound distance high (omega arith) n start walk (omega arith) in
+        omega arith)
+        (λ (past : distance ≤ n). past)
+        (cases_lt n distance);
+  }
+
+-- the free cells at the first `count` of the places have an entry of at most this
+abbrev pub AreTaken : GridMap → ℕ → List (Option ℕ) → ℕ → List ℕ → Type 0
+AreTaken grid distance places count table = (k next : ℕ) → k < count → slice_index_or places k None ≡ Some next → IsFree grid next → entry_of table next ≤ distance
+
+-- one place more, after which no entry is larger
+pub taken_more : (grid : GridMap) (distance count : ℕ) (places : List (Option ℕ)) (table after : List ℕ) → AreTaken grid distance places count table → ((x : ℕ) → entry_of after x ≤ entry_of table x) →
+    ((next : ℕ) → slice_index_or places count None ≡ Some next → IsFree grid next → entry_of after next ≤ distance) → AreTaken grid distance places (count + 1) after
+taken_more grid distance count places table after before falls here k next lt is free = ⊎_elim
+    (λ (earlier : k < count). let t = before k next earlier is free in let f = falls next in omega arith)
+    (λ (past : count ≤ k). let last : k ≡ count = omega arith in here next (subst (λ n. slice_index_or places n None ≡ Some next) last is) free)
+    (cases_lt k count)
+
+-- all places are those of the cell's steps
+pub taken_all : (grid : GridMap) (distance count cell : ℕ) (places : List (Option ℕ)) (table : List ℕ) → places ≡ neighbourhood grid.width cell → 0 < grid.width → IsFree grid cell → length places ≤ count →
+    AreTaken grid distance places count table → distance ≡ entry_of table cell + 1 → IsTaken grid table cell
+taken_all grid distance count cell places table beside wide free all taken is to go =
+    let (k, within, at) = subst (λ list. Contains list (Some to)) (sym beside) (step_neighbour grid cell wide free to go) in
+    let t = taken k to (omega arith) (get_or_default places k None (Some to) within ∙ at) (step_free grid cell to go) in
+    omega arith
+
+pub free_inside : (grid : GridMap) (cell : ℕ) → IsFree grid cell → cell < length grid.free
+free_inside grid cell free = ⊎_elim
+    (λ (within : cell < length grid.free). within)
+    (λ (past : length grid.free ≤ cell). let e : true ≡ false = sym free ∙ get_or_past grid.free cell false past in absurd (cc))
+    (cases_lt cell (length grid.free))
+
+-- the search that has reached nothing but its goal
+module _ (grid : GridMap) (start goal cells : ℕ) (shape : IsGridMap grid) (free_start : IsFree grid start) (free_goal : IsFree grid goal) (all : cells ≡ length grid.free) where
+  blank : List ℕ
+  blank = replicate cells UNREACHED
+
+  first : List ℕ
+  first = slice_set blank goal 0
+
+  pub goal_inside : goal < length (replicate cells UNREACHED)
+  goal_inside = let w = free_inside grid goal free_goal in let n = length-replicate cells UNREACHED in omega arith
+
+  first_here : entry_of first goal ≡ 0
+  unfolding first blank
+  first_here = entry_of-set_same (replicate cells UNREACHED) goal 0 goal_inside
+
+  blank_entry : (x : ℕ) → x < cells → entry_of blank x ≡ UNREACHED
+  unfolding blank
+  blank_entry x within = get_or-replicate cells x UNREACHED BLOCKED within
+
+  blank_past : (x : ℕ) → cells ≤ x → entry_of blank x ≡ BLOCKED
+  unfolding blank
+  blank_past x past = get_or_past (replicate cells UNREACHED) x BLOCKED (let n = length-replicate cells UNREACHED in omega arith)
+
+  blank_high : (x : ℕ) → UNREACHED ≤ entry_of blank x
+  blank_high x = ⊎_elim
+      (λ (within : x < cells). let e = blank_entry x within in omega arith)
+      (λ (past : cells ≤ x). let e = blank_past x past in omega arith)
+      (cases_lt x cells)
+
+  first_other : (x : ℕ) → (x ≡ goal → ⊥) → entry_of first x ≡ entry_of blank x
+  unfolding first
+  first_other x apart = entry_of-set_other blank goal x 0 apart
+
+  first_only : (x : ℕ) → IsKnown first x → x ≡ goal
+  first_only x k = ⊎_elim
+      (λ (same : x ≡ goal). same)
+      (λ (apart : x ≡ goal → ⊥). let o = first_other x apart in let h = blank_high x in absurd (omega arith))
+      (cases_eq x goal)
+
+  first_count : length first ≡ cells
+  unfolding first blank
+  first_count = length-set (replicate cells UNREACHED) goal 0 ∙ length-replicate cells UNREACHED
+
+  pub search_start : IsSearch grid start goal (λ x. ⊥) (estimate grid goal start) (slice_set (replicate cells UNREACHED) goal 0) (goal ∷ []) []
+  unfolding first blank
+  search_start = record {
+    shape = shape;
+    free = free_start;
+    count = first_count ∙ all;
+    top = λ x within. ⊎_elim
+        (λ (same : x ≡ goal). let e = ap (entry_of first) same in let h = first_here in omega arith)
+        (λ (apart : x ≡ goal → ⊥). let o = first_other x apart in let n = first_count in let b = blank_entry x (omega arith) in omega arith)
+        (cases_eq x goal);
+    source = first_here;
+    walks = λ x k. subst (λ at. Walk grid at goal (entry_of first at)) (sym (first_only x k)) (subst (λ n. Walk grid goal goal n) (sym first_here) (free_goal, refl));
+    due_known = All-push (IsKnown first) [] goal (All-nil (IsKnown first)) (let h = first_here in omega arith);
+    later_known = All-nil (IsKnown first);
+    seen = λ x k. subst (λ at. ⊥ ⊎ IsSeen grid start (estimate grid goal start) first (goal ∷ []) [] at) (sym (first_only x k))
+        (inr (inr (inl ((let h = first_here in omega arith), Contains-push [] goal))));
+  }
+
+-- a cell with an entry is free
+pub known_free : (grid : GridMap) (start goal level : ℕ) (But : ℕ → Type 0) (table due later : List ℕ) → IsSearch grid start goal But level table due later → (cell : ℕ) → IsKnown table cell → IsFree grid cell
+known_free grid start goal level But table due later search cell known = Walk-from_free grid cell goal (entry_of table cell) (search.walks cell known)
+
+-- a free cell at one of the places is a step away
+pub place_step : (grid : GridMap) (cell k next width : ℕ) (places : List (Option ℕ)) → places ≡ neighbourhood width cell → width ≡ grid.width → 0 < width → IsFree grid cell → k < length places → slice_index_or places k None ≡ Some next → IsFree grid next →
+    Step grid cell next
+place_step grid cell k next width places beside wide some free within at free_next =
+    let held : Contains places (Some next) = (k, within, get_or_default places k (Some next) None within ∙ at) in
+    neighbour_step grid cell (omega arith) free next (subst (λ list. Contains list (Some next)) (beside ∙ ap (λ w. neighbourhood w cell) wide) held) free_next
+
+-- what a table's answer says
+pub distance_or_none : (grid : GridMap) (goal cell : ℕ) (r : Option ℕ) → IfSome r (λ n. IsDistance grid goal cell n) → IfNone r (IsUnreachable grid goal cell) → IsDistanceOrNone grid goal cell r
+distance_or_none grid goal cell None some none = none
+distance_or_none grid goal cell (Some n) some none = some

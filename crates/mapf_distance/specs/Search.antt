@@ -1,0 +1,71 @@
+-- The search for the distance of one start.
+use Rattle.std.specs.Prelude.{◌≡◌, ◌⊎◌, ℕ, ◌+◌, ◌-◌, ◌<◌, ◌≤◌, List, [], ◌∷◌, ◌++◌, Contains, All, length, sum}
+use Rattle.mapf_model.specs.Distance.{Walk}
+use Rattle.mapf_model.specs.Grid.{GridMap, IsGridMap, IsFree, Step, column, row}
+use Rattle.mapf_distance.specs.declared.search.Search.{Search}
+use Rattle.mapf_distance.specs.declared.wave.TheConstants.{UNREACHED}
+use Rattle.mapf_distance.specs.Marks.{entry_of}
+
+-- how far two numbers are apart: one of the two differences is 0
+abbrev pub gap : ℕ → ℕ → ℕ
+gap a b = (a - b) + (b - a)
+
+-- how many steps two cells are apart at least
+abbrev pub estimate : GridMap → ℕ → ℕ → ℕ
+estimate grid from to = gap (column grid from) (column grid to) + gap (row grid from) (row grid to)
+
+-- the steps that are found from the cell, and the least that may lead to it from the start
+abbrev pub value_of : GridMap → ℕ → List ℕ → ℕ → ℕ
+value_of grid start table cell = entry_of table cell + estimate grid cell start
+
+-- all steps from the cell were taken
+abbrev pub IsTaken : GridMap → List ℕ → ℕ → Type 0
+IsTaken grid table cell = (to : ℕ) → Step grid cell to → entry_of table to ≤ entry_of table cell + 1
+
+-- all steps from the cell were taken, or it is to be looked at on this level or on a later one
+abbrev pub IsSeen : GridMap → ℕ → ℕ → List ℕ → List ℕ → List ℕ → ℕ → Type 0
+IsSeen grid start level table due later cell =
+    IsTaken grid table cell ⊎ (((level ≤ value_of grid start table cell) × Contains due cell) ⊎ ((level < value_of grid start table cell) × Contains later cell))
+
+-- a cell with an entry below `UNREACHED`
+abbrev pub IsKnown : List ℕ → ℕ → Type 0
+IsKnown table cell = entry_of table cell < UNREACHED
+
+-- of each entry a walk is known, and each cell with an entry is seen, but for some
+pub record IsSearch (grid : GridMap) (start goal : ℕ) (But : ℕ → Type 0) (level : ℕ) (table due later : List ℕ) : Type 0 where
+  pub shape : IsGridMap grid
+  pub free : IsFree grid start
+  pub count : length table ≡ length grid.free
+  pub top : (cell : ℕ) → cell < length table → entry_of table cell ≤ UNREACHED
+  pub source : entry_of table goal ≡ 0
+  pub walks : (cell : ℕ) → IsKnown table cell → Walk grid cell goal (entry_of table cell)
+  pub due_known : All (IsKnown table) due
+  pub later_known : All (IsKnown table) later
+  pub seen : (cell : ℕ) → IsKnown table cell → But cell ⊎ IsSeen grid start level table due later cell
+
+-- every cell with an entry is seen
+abbrev pub IsSearchOn : GridMap → Search → Type 0
+IsSearchOn grid search = IsSearch grid search.start search.goal (λ cell. ⊥) search.level search.table.items search.due.items search.later.items
+
+-- every cell with an entry is seen but this one, which has one
+abbrev pub IsSearchAt : GridMap → ℕ → Search → Type 0
+IsSearchAt grid cell search = IsSearch grid search.start search.goal (λ other. other ≡ cell) search.level search.table.items search.due.items search.later.items × IsKnown search.table.items cell
+
+-- all steps were taken from the cell, if it is of an earlier level
+abbrev pub IsPassed : GridMap → ℕ → Search → Type 0
+IsPassed grid cell search = value_of grid search.start search.table.items cell < search.level → IsTaken grid search.table.items cell
+
+-- what falls with each cell that is looked at
+abbrev pub effort : Search → ℕ
+effort search = sum search.table.items + length search.due.items
+
+-- the same search on the same level
+pub record IsSameSearch (old new : Search) : Type 0 where
+  pub start : new.start ≡ old.start
+  pub goal : new.goal ≡ old.goal
+  pub level : new.level ≡ old.level
+
+-- a cell of this value is put among those of the level or the later ones
+abbrev pub IsPut : ℕ → ℕ → Search → Search → Type 0
+IsPut cell value old new =
+    ((value ≤ old.level) × (new.due.items ≡ old.due.items ++ cell ∷ []) × (new.later.items ≡ old.later.items)) ⊎ ((old.level < value) × (new.due.items ≡ old.due.items) × (new.later.items ≡ old.later.items ++ cell ∷ []))

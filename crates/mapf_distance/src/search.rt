@@ -1,0 +1,274 @@
+ghost use Rattle.std.specs.Prelude.{◌≡◌, ◌+◌, ◌<◌, ◌≤◌, ◌^◌, ◌↔◌, [], IfNone, IfOk, IfSome, OnOk, OnSome, IsTrue, length, slice_set, vec_len};
+ghost use Rattle.mapf_model.specs.Distance.{IsDistance};
+ghost use Rattle.mapf_model.specs.Grid.{GridMap, IsFree};
+ghost use Rattle.mapf_distance.specs.Distances.{IsDistanceOrNone};
+ghost use Rattle.mapf_distance.specs.Marks.{entry_of};
+ghost use Rattle.mapf_distance.specs.Search.{IsPassed, IsPut, IsSameSearch, IsSearchAt, IsSearchOn};
+ghost use Rattle.mapf_distance.specs.Search.{effort, estimate, value_of};
+
+use crate::distances::Distances;
+use crate::wave::UNREACHED;
+use mapf_model::{Cell, Grid, OutOfMemory};
+use std::alloc::Global;
+use std::mem;
+
+/// The least number of steps from the start to the goal, None where no steps lead there. The search goes from the
+/// goal towards the start and ends once the start's distance is known, so it reaches few of the cells that are
+/// farther from both.
+pub fn distance_between(
+    alloc: Global,
+    grid: &Grid,
+    start: Cell,
+    goal: Cell,
+) -> Result<Option<u32>, OutOfMemory>
+    requires start { IsFree grid.now start }
+    requires goal { IsFree grid.now goal }
+    ensures { IfOk result (IsDistanceOrNone grid.now goal start) }
+{
+    let mut search = Search::of(alloc, grid, start, goal)?;
+    search.spread(grid)?;
+    match search.found() {
+        Some(distance) => Ok(Some(distance)),
+        // All cells that lead to the goal were looked at, and the table tells them from the others.
+        None => Ok(Distances::of(alloc, grid, goal)?.get(start)),
+    }
+}
+
+// What is found so far on the way from a goal to a start, by A* (Hart et al. 1968): cells are looked at by the steps that
+// lead to them and the least that may follow.
+#[derive(Drop)]
+struct Search {
+    start: Cell,
+    goal: Cell,
+    // The sum of both, for the cells that are looked at now.
+    level: u64,
+    // An entry for each cell: the steps to the goal that are found, or that there are none.
+    table: Vec<u32>,
+    // The cells to look at on this level.
+    due: Vec<Cell>,
+    // The cells to look at on a later one.
+    later: Vec<Cell>,
+}
+
+impl Search {
+    fn of(alloc: Global, grid: &Grid, start: Cell, goal: Cell) -> Result<Search, OutOfMemory>
+        requires start { IsFree grid.now start }
+        requires goal { IsFree grid.now goal }
+        ensures search { IfOk result (IsSearchOn grid.now) }
+        ensures start { IfOk result (λ search. search.start ≡ start) }
+        ensures goal { IfOk result (λ search. search.goal ≡ goal) }
+    {
+        let cells = (grid.width() * grid.height()) as usize;
+        let mut search = Search {
+            start,
+            goal,
+            level: estimate(grid, goal, start),
+            table: vec![in alloc; UNREACHED; cells]?,
+            due: Vec::new(alloc),
+            later: Vec::new(alloc),
+        };
+        search.table[goal.0 as usize] = 0;
+        search.due.push(goal)?;
+        Ok(search)
+    }
+
+    // The distance of the start, once it is known.
+    fn found(&self) -> Option<u32>
+        requires { self.now.start < vec_len self.now.table }
+        ensures { (grid : GridMap) → IsSearchOn grid self.now
+            → IfSome result (IsDistance grid self.now.goal self.now.start) }
+    {
+        let distance = self.entry(self.start);
+        if self.is_short() || distance >= UNREACHED {
+            return None;
+        }
+        Some(distance)
+    }
+
+    fn entry(&self, cell: Cell) -> u32
+        requires { cell < vec_len self.now.table }
+        ensures { result ≡ entry_of self.now.table.items cell }
+    {
+        self.table[cell.0 as usize]
+    }
+
+    // Whether the start may be nearer than what is found.
+    fn is_short(&self) -> bool
+        requires { self.now.start < vec_len self.now.table }
+        ensures { IsTrue result ↔ (self.now.level < entry_of self.now.table.items self.now.start) }
+    {
+        self.level < self.entry(self.start) as u64
+    }
+
+    // Looks at cells until the start's distance is known, or no cell is left.
+    fn spread(&mut self, grid: &Grid) -> Result<(), OutOfMemory>
+        requires { IsSearchOn grid.now self.old }
+        ensures search { OnOk result (IsSearchOn grid.now self.new) }
+        ensures start { OnOk result (self.new.start ≡ self.old.start) }
+        ensures goal { OnOk result (self.new.goal ≡ self.old.goal) }
+    {
+        while self.is_short() {
+            self.sweep(grid)?;
+            if !self.is_short() || !self.rise() {
+                return Ok(());
+            }
+        }
+        Ok(())
+    }
+
+    // Goes on to the next level, if there are cells to look at.
+    fn rise(&mut self) -> bool
+        requires low { self.old.level < 4294967296 }
+        requires swept { self.old.due.items ≡ [] }
+        ensures search { (grid : GridMap) → IsSearchOn grid self.old → IsSearchOn grid self.new }
+        ensures level { IsTrue result → self.new.level ≡ self.old.level + 1 }
+        ensures start { self.new.start ≡ self.old.start }
+        ensures goal { self.new.goal ≡ self.old.goal }
+        ensures table { self.new.table.items ≡ self.old.table.items }
+    {
+        if self.later.is_empty() {
+            return false;
+        }
+        mem::swap(&mut self.due, &mut self.later);
+        self.level += 1;
+        true
+    }
+
+    // Looks at the cells of this level, until the start's distance is known or none is left.
+    fn sweep(&mut self, grid: &Grid) -> Result<(), OutOfMemory>
+        requires { IsSearchOn grid.now self.old }
+        ensures search { OnOk result (IsSearchOn grid.now self.new) }
+        ensures same { OnOk result (IsSameSearch self.old self.new) }
+        ensures swept { OnOk result (self.new.level < entry_of self.new.table.items self.new.start
+            → self.new.due.items ≡ []) }
+    {
+        while self.is_short() {
+            let Some(cell) = self.next() else {
+                return Ok(());
+            };
+            self.look_at(grid, cell)?;
+        }
+        Ok(())
+    }
+
+    // Takes a cell out of those to look at on this level.
+    fn next(&mut self) -> Option<Cell>
+        ensures some { (grid : GridMap) → IsSearchOn grid self.old → IfSome result (λ cell.
+            IsSearchAt grid cell self.new × IsPassed grid cell self.new) }
+        ensures none { IfNone result (self.new.due.items ≡ []) }
+        ensures kept { (grid : GridMap) → IsSearchOn grid self.old → IfNone result (IsSearchOn grid self.new) }
+        ensures effort { OnSome result (effort self.new + 1 ≤ effort self.old) }
+        ensures same { IsSameSearch self.old self.new }
+    {
+        self.due.pop()
+    }
+
+    // Takes all steps from the cell, if it is of this level.
+    fn look_at(&mut self, grid: &Grid, cell: Cell) -> Result<(), OutOfMemory>
+        requires search { IsSearchAt grid.now cell self.old }
+        requires passed { IsPassed grid.now cell self.old }
+        ensures search { OnOk result (IsSearchOn grid.now self.new) }
+        ensures same { OnOk result (IsSameSearch self.old self.new) }
+        ensures effort { OnOk result (effort self.new ≤ effort self.old) }
+    {
+        let value = self.value(grid, cell, self.entry(cell));
+        if value == self.level {
+            self.expand(grid, cell)?;
+        } else if value > self.level {
+            self.later.push(cell)?;
+        }
+        Ok(())
+    }
+
+    fn expand(&mut self, grid: &Grid, cell: Cell) -> Result<(), OutOfMemory>
+        requires search { IsSearchAt grid.now cell self.old }
+        requires level { value_of grid.now self.old.start self.old.table.items cell ≡ self.old.level }
+        ensures search { OnOk result (IsSearchOn grid.now self.new) }
+        ensures same { OnOk result (IsSameSearch self.old self.new) }
+        ensures effort { OnOk result (effort self.new ≤ effort self.old) }
+    {
+        let distance = self.entry(cell) + 1;
+        for beside in cell.neighbourhood(grid.width()) {
+            if let Some(next) = beside {
+                if self.is_shorter(grid, next, distance) {
+                    self.reach(grid, next, distance)?;
+                }
+            }
+        }
+        Ok(())
+    }
+
+    // Whether the cell is free, and more steps than these are the fewest that were found from it.
+    fn is_shorter(&self, grid: &Grid, cell: Cell, distance: u32) -> bool
+        requires { vec_len self.now.table ≡ length grid.now.free }
+        ensures { IsTrue result ↔ (IsFree grid.now cell × (distance < entry_of self.now.table.items cell)) }
+    {
+        grid.is_free(cell) && distance < self.entry(cell)
+    }
+
+    fn reach(&mut self, grid: &Grid, cell: Cell, distance: u32) -> Result<(), OutOfMemory>
+        requires inside { cell < vec_len self.old.table }
+        ensures table { OnOk result (self.new.table.items ≡ slice_set self.old.table.items cell distance) }
+        ensures put { OnOk result (IsPut cell (distance + estimate grid.now cell self.old.start) self.old self.new) }
+        ensures same { IsSameSearch self.old self.new }
+    {
+        self.table[cell.0 as usize] = distance;
+        if self.value(grid, cell, distance) <= self.level {
+            self.due.push(cell)?;
+        } else {
+            self.later.push(cell)?;
+        }
+        Ok(())
+    }
+
+    // The least number of steps of a way from the start to the goal by this cell, from which so many lead to the goal.
+    fn value(&self, grid: &Grid, cell: Cell, distance: u32) -> u64
+        ensures { result ≡ distance + estimate grid.now cell self.now.start }
+    {
+        distance as u64 + estimate(grid, cell, self.start)
+    }
+}
+
+// How many steps two cells are apart at least.
+fn estimate(grid: &Grid, from: Cell, to: Cell) -> u64
+    ensures exact { result ≡ estimate grid.now from to }
+    ensures small { result < 2 ^ 33 }
+{
+    let width = grid.width();
+    let columns = (from.0 % width).abs_diff(to.0 % width);
+    let rows = (from.0 / width).abs_diff(to.0 / width);
+    columns as u64 + rows as u64
+}
+
+#[cfg(test)]
+mod tests {
+    use super::*;
+    use std::test::Fail;
+
+    // A grid whose free cells are the dots of its rows.
+    fn grid(alloc: Global, width: u32, height: u32, rows: &[u8]) -> Result<Grid, Fail> {
+        let mut free = Vec::new(alloc);
+        for byte in rows {
+            free.push(*byte == b'.')?;
+        }
+        Ok(Grid::of(width, height, free).ok_or("other size")?)
+    }
+
+    // From each cell to each other, the distance of the table.
+    #[test]
+    fn agrees_with_the_table(rt: HostRuntime) -> Result<(), Fail> {
+        let maze = grid(rt.alloc(), 6, 5, b".....@@@@.@....@..@@@.@...@...")?;
+        for goal in 0..30 {
+            if maze.is_free(Cell(goal)) {
+                let distances = Distances::of(rt.alloc(), &maze, Cell(goal))?;
+                for start in 0..30 {
+                    if maze.is_free(Cell(start)) {
+                        let found = distance_between(rt.alloc(), &maze, Cell(start), Cell(goal))?;
+                        assert_eq!(rt; found, distances.get(Cell(start)));
+                    }
+                }
+            }
+        }
+        Ok(())
+    }
+}

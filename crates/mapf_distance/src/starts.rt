@@ -1,0 +1,19 @@
+ghost use Rattle.std.specs.Prelude.{IfOk};
+ghost use Rattle.mapf_distance.specs.Tables.{AreStartDistances};
+
+use crate::search::distance_between;
+use mapf_model::{OutOfMemory, Problem};
+use std::alloc::Global;
+
+/// For each agent the least number of steps from its start to its goal, None where no steps lead there. It makes a
+/// table for an agent only in that case, and keeps none.
+pub fn start_distances(alloc: Global, problem: &Problem) -> Result<Vec<Option<u32>>, OutOfMemory>
+    ensures { IfOk result (λ distances. AreStartDistances problem.now distances.items) }
+{
+    let mut distances = Vec::new(alloc);
+    for agent in problem.agents() {
+        let distance = distance_between(alloc, problem.grid(), agent.start, agent.goal)?;
+        distances.push(distance)?;
+    }
+    Ok(distances)
+}
