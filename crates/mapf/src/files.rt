@@ -16,7 +16,7 @@ fn open(rt: &HostRuntime, path: &str, input: Input) -> Result<File, Fault> {
     }
 }
 
-// An input that is open, as a file that the words name.
+// An open input, as a file that the arguments name.
 fn placed<'a>(
     argument: &'a str,
     path: &'a str,
@@ -114,8 +114,8 @@ pub fn play(rt: &HostRuntime, map: &str, scen: &str, k: u32, plan: &str) -> Resu
     )
 }
 
-/// Tells agents that follow the plan of a plan text, for the problem of two other files, whether they may
-/// go on, on standard output.
+/// Writes the replies to agents that follow the plan of a plan text, for the problem of two other
+/// files, on standard output.
 pub fn dispatch(
     rt: &HostRuntime,
     map: &str,

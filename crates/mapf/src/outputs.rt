@@ -3,11 +3,12 @@
 //! file stays as it was. Devices and pipes are no regular files, and are never refused.
 //!
 //! 1. MAP and SCEN are open.
-//! 2. What stands under the paths of PLAN and CERT is compared with MAP, SCEN and each other. Nothing has
-//!    been opened for writing by then.
+//! 2. What is at the paths of PLAN and CERT is compared with MAP, SCEN and each other. Nothing
+//!    has been opened for writing by then.
 //! 3. PLAN is opened, and made where nothing stood, but not emptied; and then CERT.
-//! 4. The open files are compared in the same way: what stood under a path may not have been told, and
-//!    where nothing stood under either path, both may lead to one new file. What was made is removed again.
+//! 4. The open files are compared in the same way: the system may not have said what is at a
+//!    path, and where nothing stood under either path, both may lead to one new file. What was made
+//!    is removed again.
 //! 5. PLAN is emptied, and then CERT. Where CERT couldn't be opened, PLAN is emptied all the same.
 
 ghost use Rattle.std.specs.Prelude.{◌≡◌, OnOk};
@@ -26,7 +27,8 @@ pub struct Identity {
     number: u64,
 }
 
-/// A file that the words name: the name of the argument, the path, and the regular file that it leads to.
+/// A file that the arguments name: the name of the argument, the path, and the regular file that it
+/// leads to.
 #[derive(Clone, Copy)]
 pub struct Place<'a> {
     pub argument: &'a str,
@@ -114,8 +116,8 @@ fn all_apart<'a>(
     apart(cert, plan)
 }
 
-// The place of an output before it is opened, and whether nothing stands there. Where that isn't told, the
-// file is compared once it is open.
+// The place of an output before it is opened, and whether nothing stands there. If the system
+// doesn't say, the file is compared once it is open.
 fn standing<'a>(rt: &HostRuntime, argument: &'a str, path: &'a str) -> (Place<'a>, bool) {
     let (file, is_missing) = match fs::metadata(rt, path) {
         Ok(found) => (regular(&found), false),
@@ -197,7 +199,7 @@ pub fn open<'a>(
     }
 }
 
-/// Has the system store a file that was written: what a disk refuses last is told only then.
+/// Has the system store a file that was written: a full disk may be reported only then.
 pub fn store(file: &File, output: Output) -> Result<(), Fault> {
     match stored(file) {
         Ok(()) => Ok(()),

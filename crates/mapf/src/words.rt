@@ -5,7 +5,7 @@ use std::process::ExitCode;
 use std::rt::Env;
 use std::{env, io};
 
-/// The words of the command line, the program's name first.
+/// The arguments of the command line, the program's name first.
 pub fn all(rt: &HostRuntime) -> io::Result<Vec<String>> {
     let mut words = Vec::new(rt.alloc());
     for word in env::args(rt)? {
@@ -23,14 +23,14 @@ pub fn shown(rt: &HostRuntime, text: &str) -> ExitCode {
     }
 }
 
-/// Prints why the words are refused.
+/// Prints the usage error.
 pub fn refused(rt: &HostRuntime, text: &str) -> ExitCode {
     let mut err = WriteSink::of(rt.stderr());
     let _ = write_all(&mut err, text.as_bytes());
     ExitCode::from(2)
 }
 
-/// Tells of two names of one file, of which one is an output.
+/// Reports two names of one file, one of them an output.
 pub fn one_file(rt: &HostRuntime, one: &OneFile<'_>) -> ExitCode {
     let (first, second) = (one.first, one.second);
     let text = format!(in rt.alloc();
@@ -43,7 +43,7 @@ pub fn one_file(rt: &HostRuntime, one: &OneFile<'_>) -> ExitCode {
     }
 }
 
-/// Tells why the words couldn't be had: there is no memory, or one is no text.
+/// Reports why the arguments couldn't be read: out of memory, or one of them isn't text.
 pub fn unread(rt: &HostRuntime, error: &io::Error) -> ExitCode {
     if error.kind() == io::ErrorKind::OutOfMemory {
         return no_memory(rt);
@@ -51,25 +51,25 @@ pub fn unread(rt: &HostRuntime, error: &io::Error) -> ExitCode {
     refused(rt, "error: a word of the command line is no UTF-8 text\n")
 }
 
-/// Tells that a request for memory was refused.
+/// Reports that a request for memory was refused.
 pub fn no_memory(rt: &HostRuntime) -> ExitCode {
     told(rt, &Err(Fault::F6))
 }
 
-/// Tells how a run ended that writes its own output.
+/// Reports the end of a run that writes its own output.
 pub fn told(rt: &HostRuntime, answer: &Result<(), Fault>) -> ExitCode {
     let mut err = WriteSink::of(rt.stderr());
     ExitCode::from(tell_run(answer, &mut err))
 }
 
-/// Tells the verdict, or why there is none.
+/// Reports the verdict, or why there is none.
 pub fn checked(rt: &HostRuntime, answer: &Result<Verdict, Fault>) -> ExitCode {
     let mut out = WriteSink::of(rt.stdout());
     let mut err = WriteSink::of(rt.stderr());
     ExitCode::from(tell_check(answer, &mut out, &mut err))
 }
 
-/// Tells what was found, or why nothing was.
+/// Reports what was found, or why nothing was.
 pub fn solved(rt: &HostRuntime, answer: Result<Kind, Unsolved<'_>>) -> ExitCode {
     let answer = match answer {
         Ok(kind) => Ok(kind),

@@ -9,8 +9,8 @@ use Rattle.mapf_player.specs.Events.{SpellsEvents}
 use Rattle.mapf_player.specs.Replies.{IsReplyText}
 use Rattle.mapf_player.specs.declared.events.EventFault.TheVariants as event_faults
 
--- the text holds what each agent is told that asks, in the order of the events that the event text spells, while all follow
--- the valid plan that the plan text spells for the problem that the map and the scenario spell
+-- the text holds the replies to the agents that ask, in the order of the events that the event text spells, while all
+-- follow the valid plan that the plan text spells for the problem that the map and the scenario spell
 pub record DispatchesTruly (map scen plan events : Option (List ℕ)) (count : ℕ) (text : List ℕ) : Type 0 where
   pub problem : Instance
   pub paths : List (List ℕ)
@@ -19,8 +19,8 @@ pub record DispatchesTruly (map scen plan events : Option (List ℕ)) (count : �
   pub asked : IfSome events (λ event_text. SpellsEvents event_text count agents)
   pub replied : IsReplyText problem.grid.width paths agents text
 
--- all inputs are told, the plan text spells the valid plan for the problem that the map and the scenario spell, and the event
--- text spells the agents that ask
+-- the bytes of all inputs are known, the plan text spells the valid plan for the problem that the map and the scenario
+-- spell, and the event text spells the agents that ask
 pub record IsDueDispatch (map scen plan events : Option (List ℕ)) (count : ℕ) (problem : Instance) (paths : List (List ℕ)) (agents : List ℕ) : Type 0 where
   pub planned : IsDuePlan map scen plan count problem paths
   pub event_text : List ℕ
@@ -31,7 +31,8 @@ pub record IsDueDispatch (map scen plan events : Option (List ℕ)) (count : ℕ
 abbrev pub ShowsReplies : Instance → List (List ℕ) → List ℕ → Option (List ℕ) → Option (List ℕ) → Type 0
 ShowsReplies problem paths agents old new = (text : List ℕ) × IsReplyText problem.grid.width paths agents text × Appends old new text
 
--- what a fault says of the event text: it spells no events of so many agents. A fault of the plan text is none of an event text
+-- what an error says of the event text: it spells no events of so many agents. An error of the plan text isn't one of
+-- an event text
 abbrev pub HasEventsFault : Option (List ℕ) → ℕ → PlayFault → Type 0
 HasEventsFault events count (Text fault) = ⊥
 HasEventsFault events count NoPlan = ⊥
@@ -39,14 +40,15 @@ HasEventsFault events count OtherCount = ⊥
 HasEventsFault events count (Invalid fault) = ⊥
 HasEventsFault events count (Events fault) = (fault ≢ event_faults.Memory) × IfSome events (λ event_text. (agents : List ℕ) → SpellsEvents event_text count agents → ⊥)
 
--- what the fault says is so of the event text, and the plan text spells a valid plan for the problem that the map and the scenario spell
+-- what the error says is true of the event text, and the plan text spells a valid plan for the problem that the map and
+-- the scenario spell
 pub record IsEventsDefect (map scen plan events : Option (List ℕ)) (count : ℕ) (fault : PlayFault) : Type 0 where
   pub problem : Instance
   pub paths : List (List ℕ)
   pub planned : SpellsPlanned map scen plan count problem paths
   pub defect : HasEventsFault events count fault
 
--- what a fault says of the plan text or of the event text
+-- what an error says of the plan text or of the event text
 abbrev pub IsDispatchDefect : Option (List ℕ) → Option (List ℕ) → Option (List ℕ) → Option (List ℕ) → ℕ → PlayFault → Type 0
 IsDispatchDefect map scen plan events count (Text fault) = IsPlanDefect map scen plan count (Text fault)
 IsDispatchDefect map scen plan events count NoPlan = IsPlanDefect map scen plan count NoPlan

@@ -1,4 +1,4 @@
--- The line of each fault: words, and numbers in decimal, separated by single blanks.
+-- The line of each error: words, and numbers in decimal, separated by single blanks.
 use Rattle.std.specs.Prelude.{◌++◌, ◌∷◌, [], ℕ, List, codes}
 use Rattle.std.specs.Fmt.{decimal}
 use Rattle.mapf_app.specs.declared.fault.Fault.{Fault}
@@ -29,11 +29,11 @@ abbrev pub numbers : List ℕ → List ℕ
 numbers [] = 10 ∷ []
 numbers (n ∷ rest) = (32 ∷ decimal n) ++ numbers rest
 
--- want of memory
+-- out of memory
 abbrev pub memory_line : List ℕ
 memory_line = codes "F6" ++ numbers []
 
--- the line of a map's fault
+-- the line of a map's error
 abbrev pub map_fault_line : MapFault → List ℕ
 map_fault_line maps.M1 = codes "F1 M1" ++ numbers []
 map_fault_line maps.M2 = codes "F1 M2" ++ numbers []
@@ -46,7 +46,7 @@ map_fault_line (maps.M8 rows) = codes "F1 M8" ++ numbers (rows ∷ [])
 map_fault_line (maps.M9 line) = codes "F1 M9" ++ numbers (line ∷ [])
 map_fault_line maps.Memory = memory_line
 
--- the line of a scenario's fault
+-- the line of a scenario's error
 abbrev pub scenario_fault_line : ScenFault → List ℕ
 scenario_fault_line scenarios.S1 = codes "F2 S1" ++ numbers []
 scenario_fault_line (scenarios.S2 row) = codes "F2 S2" ++ numbers (row ∷ [])
@@ -65,7 +65,7 @@ plan_text_fault_line words (plans.P3 line) = words ++ (codes " P3" ++ numbers (l
 plan_text_fault_line words (plans.P4 line) = words ++ (codes " P4" ++ numbers (line ∷ []))
 plan_text_fault_line words plans.Memory = memory_line
 
--- the line of a certificate's fault
+-- the line of a certificate's error
 abbrev pub cert_fault_line : CertFault → List ℕ
 cert_fault_line (certs.K1 line) = codes "refused C2 K1" ++ numbers (line ∷ [])
 cert_fault_line (certs.K2 line) = codes "refused C2 K2" ++ numbers (line ∷ [])
@@ -94,7 +94,7 @@ refusal_line (checks.C8 line) = codes "refused C8" ++ numbers (line ∷ [])
 refusal_line (checks.C9 line) = codes "refused C9" ++ numbers (line ∷ [])
 refusal_line checks.Memory = memory_line
 
--- the line of a fault of the events
+-- the line of an error of the events
 abbrev pub event_fault_line : EventFault → List ℕ
 event_fault_line (events.E1 line) = codes "F3 E1" ++ numbers (line ∷ [])
 event_fault_line (events.E2 line) = codes "F3 E2" ++ numbers (line ∷ [])
@@ -124,7 +124,7 @@ output_line PlanText = codes "F5 plan" ++ numbers []
 output_line CertText = codes "F5 cert" ++ numbers []
 output_line Out = codes "F5 out" ++ numbers []
 
--- the line of a fault
+-- the line of an error
 abbrev pub fault_line : Fault → List ℕ
 fault_line (F1 fault) = map_fault_line fault
 fault_line (F2 fault) = scenario_fault_line fault

@@ -1,4 +1,4 @@
--- What each fault of a run says of its inputs.
+-- What each error of a run says of its inputs.
 use Rattle.std.specs.Prelude.{◌≡◌, ◌≢◌, ℕ, List, Option, ⊤}
 use Rattle.mapf_model.specs.Grid.{GridMap}
 use Rattle.mapf_model.specs.Plan.{Instance}
@@ -64,7 +64,7 @@ IsOfTexts PlanText = ⊤
 IsOfTexts CertText = ⊤
 IsOfTexts Out = ⊥
 
--- what a fault of reading a map says of its bytes
+-- what an error of reading a map says of its bytes
 abbrev pub IsReadingMap : Option (List ℕ) → Fault → Type 0
 IsReadingMap map (F1 fault) = IsMapDefect map fault
 IsReadingMap map (F2 fault) = ⊥
@@ -74,7 +74,7 @@ IsReadingMap map (F5 output) = ⊥
 IsReadingMap map F6 = ⊤
 IsReadingMap map (Refused refusal) = ⊥
 
--- what a fault of reading a scenario on a grid says of its bytes
+-- what an error of reading a scenario on a grid says of its bytes
 abbrev pub IsReadingAgents : Option (List ℕ) → GridMap → ℕ → Fault → Type 0
 IsReadingAgents scen grid count (F1 fault) = ⊥
 IsReadingAgents scen grid count (F2 fault) = IsAgentsDefect scen grid count fault
@@ -84,8 +84,8 @@ IsReadingAgents scen grid count (F5 output) = ⊥
 IsReadingAgents scen grid count F6 = ⊤
 IsReadingAgents scen grid count (Refused refusal) = ⊥
 
--- what a fault of a run says of its inputs: F1 and F2 in every run the same, F3, F4, F5 and a refusal what the run lets
--- them say. Want of memory says nothing
+-- what an error of a run says of its inputs. F1 and F2 say the same in every run; what F3, F4, F5 and a refusal say is
+-- given by the run; out of memory says nothing
 abbrev pub IsFaultOf : Option (List ℕ) → Option (List ℕ) → ℕ → (PlayFault → Type 0) → (Input → Type 0) → (Output → Type 0) → (CheckFault → Type 0) → Fault → Type 0
 IsFaultOf map scen count Plays Reads Writes Refuses (F1 fault) = IsMapDefect map fault
 IsFaultOf map scen count Plays Reads Writes Refuses (F2 fault) = IsScenarioDefect map scen count fault
@@ -95,27 +95,27 @@ IsFaultOf map scen count Plays Reads Writes Refuses (F5 output) = Writes output
 IsFaultOf map scen count Plays Reads Writes Refuses F6 = ⊤
 IsFaultOf map scen count Plays Reads Writes Refuses (Refused refusal) = Refuses refusal
 
--- what a fault of reading a problem says
+-- what an error of reading a problem says
 abbrev pub IsReading : Option (List ℕ) → Option (List ℕ) → ℕ → Fault → Type 0
 IsReading map scen count = IsFaultOf map scen count (λ _. ⊥) IsProblemInput (λ _. ⊥) (λ _. ⊥)
 
--- what a fault of solving says
+-- what an error of solving says
 abbrev pub IsSolving : Option (List ℕ) → Option (List ℕ) → ℕ → Fault → Type 0
 IsSolving map scen count = IsFaultOf map scen count (λ _. ⊥) IsProblemInput IsOfTexts (λ _. ⊥)
 
--- what a fault of checking says
+-- what an error of checking says
 abbrev pub IsChecking : Option (List ℕ) → Option (List ℕ) → Option (List ℕ) → Option (List ℕ) → ℕ → Fault → Type 0
 IsChecking map scen plan cert count = IsFaultOf map scen count (λ _. ⊥) IsCheckInput (λ _. ⊥) (IsRefusalOf map scen plan cert count)
 
--- what a fault of reading a problem and a valid plan for it says
+-- what an error of reading a problem and a valid plan for it says
 abbrev pub IsPlanning : Option (List ℕ) → Option (List ℕ) → Option (List ℕ) → ℕ → Fault → Type 0
 IsPlanning map scen plan count = IsFaultOf map scen count (IsPlanDefect map scen plan count) IsPlanInput (λ _. ⊥) (λ _. ⊥)
 
--- what a fault of playing says
+-- what an error of playing says
 abbrev pub IsPlaying : Option (List ℕ) → Option (List ℕ) → Option (List ℕ) → ℕ → Fault → Type 0
 IsPlaying map scen plan count = IsFaultOf map scen count (IsPlanDefect map scen plan count) IsPlanInput (λ output. output ≡ Out) (λ _. ⊥)
 
--- what a fault of dispatching says
+-- what an error of dispatching says
 abbrev pub IsDispatching : Option (List ℕ) → Option (List ℕ) → Option (List ℕ) → Option (List ℕ) → ℕ → Fault → Type 0
 IsDispatching map scen plan events count = IsFaultOf map scen count (IsDispatchDefect map scen plan events count) IsDispatchInput (λ output. output ≡ Out) (λ _. ⊥)
 
@@ -149,7 +149,7 @@ IsOfPlan (F5 output) = ⊥
 IsOfPlan F6 = ⊥
 IsOfPlan (Refused refusal) = ⊥
 
--- the fault comes before anything is written: it is no output's
+-- the error comes before anything is written: it isn't one of an output
 abbrev pub IsBeforeWriting : Fault → Type 0
 IsBeforeWriting (F1 fault) = ⊤
 IsBeforeWriting (F2 fault) = ⊤
@@ -159,7 +159,7 @@ IsBeforeWriting (F5 output) = ⊥
 IsBeforeWriting F6 = ⊤
 IsBeforeWriting (Refused refusal) = ⊤
 
--- what a fault of a plan text that is to be followed says of it
+-- what an error of a plan text that is to be followed says of it
 abbrev pub IsReadingPlan : Instance → List ℕ → Fault → Type 0
 IsReadingPlan problem bytes (F1 fault) = ⊥
 IsReadingPlan problem bytes (F2 fault) = ⊥
@@ -169,7 +169,7 @@ IsReadingPlan problem bytes (F5 output) = ⊥
 IsReadingPlan problem bytes F6 = ⊤
 IsReadingPlan problem bytes (Refused refusal) = ⊥
 
--- what a fault of an event text of so many agents says of it
+-- what an error of an event text of so many agents says of it
 abbrev pub IsReadingEvents : Option (List ℕ) → ℕ → Fault → Type 0
 IsReadingEvents events count (F1 fault) = ⊥
 IsReadingEvents events count (F2 fault) = ⊥
@@ -179,7 +179,7 @@ IsReadingEvents events count (F5 output) = ⊥
 IsReadingEvents events count F6 = ⊤
 IsReadingEvents events count (Refused refusal) = ⊥
 
--- an input that can't be read, an output that can't be written, or want of memory
+-- an input that can't be read, an output that can't be written, or out of memory
 abbrev pub IsOfDevices : Fault → Type 0
 IsOfDevices (F1 fault) = ⊥
 IsOfDevices (F2 fault) = ⊥
@@ -189,7 +189,7 @@ IsOfDevices (F5 output) = ⊤
 IsOfDevices F6 = ⊤
 IsOfDevices (Refused refusal) = ⊥
 
--- an input that can't be read, or want of memory
+-- an input that can't be read, or out of memory
 abbrev pub IsOfInput : Fault → Type 0
 IsOfInput (F1 fault) = ⊥
 IsOfInput (F2 fault) = ⊥
@@ -199,7 +199,7 @@ IsOfInput (F5 output) = ⊥
 IsOfInput F6 = ⊤
 IsOfInput (Refused refusal) = ⊥
 
--- want of memory is no fault of a plan text or of an event text
+-- out of memory is no error of a plan text or of an event text
 abbrev pub HasNoPlayMemory : PlayFault → Type 0
 HasNoPlayMemory (Text fault) = fault ≢ plan_faults.Memory
 HasNoPlayMemory NoPlan = ⊤
@@ -207,7 +207,7 @@ HasNoPlayMemory OtherCount = ⊤
 HasNoPlayMemory (Invalid fault) = ⊤
 HasNoPlayMemory (Events fault) = fault ≢ event_faults.Memory
 
--- want of memory is told by F6 alone, and inside no other fault
+-- out of memory is F6 alone, and inside no other error
 abbrev pub HasNoInnerMemory : Fault → Type 0
 HasNoInnerMemory (F1 fault) = fault ≢ map_faults.Memory
 HasNoInnerMemory (F2 fault) = fault ≢ scenario_faults.Memory
@@ -217,22 +217,22 @@ HasNoInnerMemory (F5 output) = ⊤
 HasNoInnerMemory F6 = ⊤
 HasNoInnerMemory (Refused refusal) = (refusal ≢ refusals.Memory) × HasNoTextMemory refusal
 
--- the fault that a reader's fault becomes
+-- the error of a run for a reader's error
 abbrev pub fault_of_map : MapFault → Fault
 fault_of_map map_faults.Memory = F6
 fault_of_map fault = F1 fault
 
--- a scenario's fault by its name among those of a run
+-- a scenario's error as an error of a run
 abbrev pub fault_of_scenario : ScenFault → Fault
 fault_of_scenario scenario_faults.Memory = F6
 fault_of_scenario fault = F2 fault
 
--- a plan text's fault by its name among those of a run that follows it
+-- a plan text's error as an error of a run that follows it
 abbrev pub fault_of_plan_text : PlanTextFault → Fault
 fault_of_plan_text plan_faults.Memory = F6
 fault_of_plan_text fault = F3 (Text fault)
 
--- an event text's fault by its name among those of a run
+-- an event text's error as an error of a run
 abbrev pub fault_of_events : EventFault → Fault
 fault_of_events event_faults.Memory = F6
 fault_of_events fault = F3 (Events fault)

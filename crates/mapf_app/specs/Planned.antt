@@ -1,5 +1,5 @@
--- The valid plan that the inputs of a run spell, and why a plan text can't be followed. Where a source doesn't tell its bytes,
--- nothing is said of them.
+-- The valid plan that the inputs of a run spell, and why a plan text can't be followed. Of the bytes of an opaque
+-- source, such as a file, nothing is said.
 use Rattle.std.specs.Prelude.{◌≡◌, ◌≢◌, ⊤, ℕ, List, Option, Some, IfSome, IsSome, length}
 use Rattle.mapf_app.specs.Problems.{IsPosed, SpellsProblem}
 use Rattle.mapf_app.specs.declared.fault.PlayFault.{PlayFault}
@@ -25,7 +25,8 @@ pub record SpellsPlanned (map scen plan : Option (List ℕ)) (count : ℕ) (prob
   pub spelled : IfSome plan (λ plan_text. SpellsValidPlan problem plan_text paths)
   pub valid : IsValid problem paths
 
--- all inputs are told, the map and the scenario spell the problem, and the plan text spells the valid plan for it
+-- the bytes of all inputs are known, the map and the scenario spell the problem, and the plan text spells the valid
+-- plan for it
 pub record IsDuePlan (map scen plan : Option (List ℕ)) (count : ℕ) (problem : Instance) (paths : List (List ℕ)) : Type 0 where
   pub map_told : IsSome map
   pub scen_told : IsSome scen
@@ -41,8 +42,8 @@ IsNoPlan answers.Impossible = ⊤
 IsNoPlan (answers.Limit cause) = ⊤
 IsNoPlan (answers.Bounded cause bound) = ⊤
 
--- what a fault says of the plan text: it spells nothing, holds no plan, is for another number of agents than the problem's,
--- or has a plan with this defect. A fault of the events is none of a plan text
+-- what an error says of the plan text: it spells nothing, holds no plan, is for another number of agents than the
+-- problem's, or has a plan with this defect. An error of the events isn't one of a plan text
 abbrev pub HasPlanFault : Instance → List ℕ → PlayFault → Type 0
 HasPlanFault problem bytes (Text fault) = (fault ≢ plan_faults.Memory) × ((version : Version) (agents : ℕ) (answer : PlanAnswer) → SpellsPlan problem.grid bytes version agents answer → ⊥)
 HasPlanFault problem bytes NoPlan = (version : Version) × (agents : ℕ) × (answer : PlanAnswer) × SpellsPlan problem.grid bytes version agents answer × IsNoPlan answer
@@ -50,7 +51,7 @@ HasPlanFault problem bytes OtherCount = (version : Version) × (agents : ℕ) ×
 HasPlanFault problem bytes (Invalid fault) = (version : Version) × (plan : List (List ℕ)) × SpellsPlan problem.grid bytes version (length problem.agents) (answers.Found plan) × HasDefect problem plan fault
 HasPlanFault problem bytes (Events fault) = ⊥
 
--- the fault is one of a plan text, not of the events
+-- the error is one of a plan text, not of the events
 abbrev pub IsOfPlanText : PlayFault → Type 0
 IsOfPlanText (Text fault) = ⊤
 IsOfPlanText NoPlan = ⊤
@@ -58,7 +59,7 @@ IsOfPlanText OtherCount = ⊤
 IsOfPlanText (Invalid fault) = ⊤
 IsOfPlanText (Events fault) = ⊥
 
--- what the fault says is so of the plan text, for the problem that the map and the scenario spell
+-- what the error says is true of the plan text, for the problem that the map and the scenario spell
 pub record IsPlanDefect (map scen plan : Option (List ℕ)) (count : ℕ) (fault : PlayFault) : Type 0 where
   pub problem : Instance
   pub read : SpellsProblem map scen count problem

@@ -5,7 +5,8 @@ use Rattle.mapf_app.specs.Planned.{SpellsPlanned}
 use Rattle.mapf_model.specs.Plan.{Instance}
 use Rattle.mapf_player.specs.Play.{IsPlayText}
 
--- the text shows, tick by tick, the valid plan that the plan text spells for the problem that the map and the scenario spell
+-- the text shows, tick by tick, the valid plan that the plan text spells for the problem that the map and the scenario
+-- spell
 pub record PlaysTruly (map scen plan : Option (List ℕ)) (count : ℕ) (text : List ℕ) : Type 0 where
   pub problem : Instance
   pub paths : List (List ℕ)

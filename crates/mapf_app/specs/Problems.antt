@@ -1,4 +1,4 @@
--- The problem that the inputs of a run spell. Where a source doesn't tell its bytes, nothing is said of them.
+-- The problem that the inputs of a run spell. Of the bytes of an opaque source, such as a file, nothing is said.
 use Rattle.std.specs.Prelude.{◌≡◌, ◌≢◌, ℕ, List, Option, IfSome, length}
 use Rattle.mapf_model.specs.Grid.{GridMap}
 use Rattle.mapf_model.specs.Plan.{Instance, IsInstance}

@@ -24,8 +24,8 @@ pub record SpellsTree (problem : Instance) (limit : ℕ) (claim : Claim) (cert_b
   pub searched : IsTreeOf problem limit nodes tree
   pub spelled : SpellsCert problem.grid cert_bytes Two (length problem.agents) claim tree
 
--- the first text spells a plan that is valid with this sum, no valid plan has a smaller sum, both texts are accepted, and the
--- second has a tree of the search
+-- the first text spells a plan that is valid with this sum, no valid plan has a smaller sum, both texts are accepted,
+-- and the second has a tree of the search
 pub record PrintsOptimal (problem : Instance) (limit cost : ℕ) (plan_bytes cert_bytes : List ℕ) : Type 0 where
   pub plan : List (List ℕ)
   pub spelled : SpellsPlan problem.grid plan_bytes Two (length problem.agents) (answers.Found plan)
@@ -33,15 +33,16 @@ pub record PrintsOptimal (problem : Instance) (limit cost : ℕ) (plan_bytes cer
   pub accepted : AreAccepted problem plan_bytes cert_bytes (Optimal cost)
   pub searched : SpellsTree problem limit (claims.Cost cost) cert_bytes
 
--- the first text spells that no plan is valid, none is, both texts are accepted, and the second has a tree of the search
+-- the first text spells that no plan is valid, none is, both texts are accepted, and the second has a tree of the
+-- search
 pub record PrintsImpossible (problem : Instance) (limit : ℕ) (plan_bytes cert_bytes : List ℕ) : Type 0 where
   pub spelled : SpellsPlan problem.grid plan_bytes Two (length problem.agents) answers.Impossible
   pub impossible : IsImpossible problem
   pub accepted : AreAccepted problem plan_bytes cert_bytes verdicts.Impossible
   pub searched : SpellsTree problem limit claims.Impossible cert_bytes
 
--- the first text spells the limit that was met and a bound, no valid plan has a smaller sum, both texts are accepted, and the
--- second has a tree of the search, with which it may stop for this cause, and which shows no greater bound
+-- the first text spells the limit that was met and a bound, no valid plan has a smaller sum, both texts are accepted,
+-- and the second has a tree of the search that justifies stopping for this cause and shows no greater bound
 pub record PrintsLimit (problem : Instance) (limit : ℕ) (cause : Cause) (bound : ℕ) (plan_bytes cert_bytes : List ℕ) : Type 0 where
   pub spelled : SpellsPlan problem.grid plan_bytes Two (length problem.agents) (answers.Bounded cause bound)
   pub accepted : AreAccepted problem plan_bytes cert_bytes (verdicts.Bound bound)

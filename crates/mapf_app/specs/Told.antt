@@ -1,4 +1,4 @@
--- What the program tells of an answer, and by which status it ends.
+-- What the program prints of an answer, and its exit status.
 use Rattle.std.specs.Prelude.{◌≡◌, ◌++◌, ◌∷◌, [], ℕ, Bool, true, false, List, Option, Some, None, codes}
 use Rattle.std.specs.Borrow.{Bor}
 use Rattle.std.specs.Fmt.{decimal}
@@ -50,12 +50,12 @@ verdict_line (verdicts.Optimal cost) = codes "optimal " ++ (decimal cost ++ (10 
 verdict_line (verdicts.Bound bound) = codes "bound " ++ (decimal bound ++ (10 ∷ []))
 verdict_line verdicts.Impossible = codes "impossible\n"
 
--- the text was written and the status is this one, or the sink failed and the status is a fault's
+-- the text was written and the status is this one, or the sink failed and the status is that of an error
 abbrev pub Tells : Bool → Option (List ℕ) → Option (List ℕ) → List ℕ → ℕ → ℕ → Type 0
 Tells true old new text wanted status = status ≡ 2
 Tells false old new text wanted status = (status ≡ wanted) × Appends old new text
 
--- whether the fault is a refusal
+-- whether the error is a refusal
 abbrev pub is_refusal : Fault → Bool
 is_refusal (F1 fault) = false
 is_refusal (F2 fault) = false

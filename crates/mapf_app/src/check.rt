@@ -44,11 +44,12 @@ pub fn run_check<M: Source, S: Source, P: Source, C: Source>(
     ensures within { OnOk result
         (IsWithin (M.remaining map.old) most_text_bytes × IsWithin (S.remaining scen.old) most_text_bytes
         × IsWithin (P.remaining plan.old) most_text_bytes × IsWithin (C.remaining cert.old) most_cert_bytes) }
-    // A fault stands where it says.
+    // Each reported error is real, and its location is correct.
     ensures fault { IfErr result
         (IsChecking (M.remaining map.old) (S.remaining scen.old) (P.remaining plan.old) (C.remaining cert.old) k) }
     ensures inner { IfErr result HasNoInnerMemory }
-    // A source's fault is told only where it has failed or gave too much, and wherever it has failed.
+    // An error of a source is reported only if it failed or gave too many bytes, and always if it
+    // failed.
     ensures map { IsErrOf result (Fault.F4 Input.Map) →
         IsUnreadable (M.has_failed map.new) (M.remaining map.old) (M.remaining map.new) most_text_bytes }
     ensures map_failed { M.has_failed map.new ≡ true → IsErrOf result (Fault.F4 Input.Map) }

@@ -38,7 +38,7 @@ pub fn run_demo<K: Sink>(alloc: Global, sink: &mut K) -> Result<(), Fault>
         × JudgesTruly (Some MAP.now) (Some SCEN.now) (Some plan_text) (Some cert_text) AGENTS verdict
         × Appends (K.contents sink.old) (K.contents sink.new) (plan_text ++ (cert_text ++ verdict_line verdict))) }
     ensures inner { IfErr result HasNoInnerMemory }
-    // The fault of the sink is told only where it has failed, and wherever it has; any other fault leaves it as it was.
+    // An error of the sink is reported exactly if it failed. After any other error it is as it was.
     ensures sink { IsErrOf result (Fault.F5 Output.Out) → K.has_failed sink.new ≡ true }
     ensures sink_failed { K.has_failed sink.new ≡ true → IsErrOf result (Fault.F5 Output.Out) }
     ensures unwritten { IfErr result (λ fault. (fault ≡ Fault.F5 Output.Out) ⊎ (sink.new ≡ sink.old)) }

@@ -18,7 +18,7 @@ use mapf_model::{Failed, OutOfMemory, Sink, Source};
 use mapf_player::{Dispatch, EventFault, dispatch_all, read_events};
 use std::alloc::Global;
 
-// The name of an event text's fault among those of a run.
+// An event text's error as an error of a run.
 fn fault_of_events(fault: EventFault) -> Fault
     ensures { result ≡ fault_of_events fault }
 {
@@ -51,9 +51,10 @@ fn read_asking<E: Source>(alloc: Global, events: &mut E, k: u32) -> Result<Vec<u
     }
 }
 
-/// Reads a map, a scenario of which the first `k` agents count, a plan text and an event text, lets the
-/// agents follow the plan, and writes for each event, in order, what the agent is told that asks to go on.
-/// Nothing is written before the plan was found valid, the events were read and all memory was taken.
+/// Reads a map, a scenario of which the first `k` agents count, a plan text and an event text, lets
+/// the agents follow the plan, and writes, for each event in order, the reply to the agent that
+/// asks to go on. Nothing is written before the plan was found valid, the events were read and all
+/// memory was allocated.
 pub fn run_dispatch<M: Source, S: Source, P: Source, E: Source, K: Sink>(
     alloc: Global,
     map: &mut M,
@@ -85,11 +86,12 @@ pub fn run_dispatch<M: Source, S: Source, P: Source, E: Source, K: Sink>(
     ensures within { OnOk result
         (IsWithin (M.remaining map.old) most_text_bytes × IsWithin (S.remaining scen.old) most_text_bytes
         × IsWithin (P.remaining plan.old) most_text_bytes × IsWithin (E.remaining events.old) most_text_bytes) }
-    // A fault stands where it says.
+    // Each reported error is real, and its location is correct.
     ensures fault { IfErr result (IsDispatching
         (M.remaining map.old) (S.remaining scen.old) (P.remaining plan.old) (E.remaining events.old) k) }
     ensures inner { IfErr result HasNoInnerMemory }
-    // A device's fault is told only where it has failed, or a source gave too much, and wherever it has failed.
+    // An error of a device is reported only if it failed or a source gave too many bytes, and
+    // always if it failed.
     ensures map { IsErrOf result (Fault.F4 Input.Map) →
         IsUnreadable (M.has_failed map.new) (M.remaining map.old) (M.remaining map.new) most_text_bytes }
     ensures map_failed { M.has_failed map.new ≡ true → IsErrOf result (Fault.F4 Input.Map) }
@@ -115,7 +117,7 @@ pub fn run_dispatch<M: Source, S: Source, P: Source, E: Source, K: Sink>(
     ensures events_order { (HasReadPlan (M.has_failed map.new) (M.remaining map.old) (M.remaining map.new)
         (S.has_failed scen.new) (S.remaining scen.old) (S.remaining scen.new)
         (P.has_failed plan.new) (P.remaining plan.old) (P.remaining plan.new) k → ⊥) → events.new ≡ events.old }
-    // What a sink that failed got is a front of such a text, and any other fault leaves it as it was.
+    // A sink that failed got a prefix of such a text. After any other error it is as it was.
     ensures front { IsErrOf result (Fault.F5 Output.Out) → (text : List ℕ) × (n : ℕ)
         × DispatchesTruly (M.remaining map.old) (S.remaining scen.old) (P.remaining plan.old)
         (E.remaining events.old) k text

@@ -19,7 +19,7 @@ pub enum Input {
 pub enum Output {
     Plan,
     Cert,
-    /// Standard output, or what stands for it.
+    /// Standard output, or what takes its place.
     Out,
 }
 
@@ -38,7 +38,7 @@ pub enum PlayFault {
     Events(EventFault),
 }
 
-/// Why a run has no answer. Want of memory is `F6`, and inside no other fault.
+/// Why a run has no answer. Out of memory is `F6`, and inside no other error.
 #[derive(Clone, Copy, Debug, PartialEq, Eq, Error)]
 pub enum Fault {
     /// The map's bytes have the defect.

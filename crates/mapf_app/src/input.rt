@@ -33,7 +33,7 @@ pub fn read_text<S: Source>(alloc: Global, source: &mut S, input: Input) -> Resu
     }
 }
 
-// The name of a map's fault among those of a run.
+// A map's error as an error of a run.
 fn fault_of_map(fault: MapFault) -> Fault
     ensures { result ≡ fault_of_map fault }
 {
@@ -43,7 +43,7 @@ fn fault_of_map(fault: MapFault) -> Fault
     }
 }
 
-// The name of a scenario's fault among those of a run.
+// A scenario's error as an error of a run.
 fn fault_of_scenario(fault: ScenFault) -> Fault
     ensures { result ≡ fault_of_scenario fault }
 {
@@ -114,10 +114,11 @@ pub fn read_problem<M: Source, S: Source>(
     ensures only { (problem : Instance) → IsSome (M.remaining map.old) → IsSome (S.remaining scen.old) →
         SpellsProblem (M.remaining map.old) (S.remaining scen.old) k problem →
         (result ≡ Ok problem) ⊎ IsErrAnd result IsOfInput }
-    // A defect stands where the fault says.
+    // The reported location is correct.
     ensures fault { IfErr result (IsReading (M.remaining map.old) (S.remaining scen.old) k) }
     ensures inner { IfErr result HasNoInnerMemory }
-    // A source's fault is told where it has failed or gave too much, and wherever it has failed.
+    // An error of a source is reported only if it failed or gave too many bytes, and always if it
+    // failed.
     ensures map { IsErrOf result (Fault.F4 Input.Map) →
         IsUnreadable (M.has_failed map.new) (M.remaining map.old) (M.remaining map.new) most_text_bytes }
     ensures map_failed { M.has_failed map.new ≡ true → IsErrOf result (Fault.F4 Input.Map) }

@@ -1,4 +1,4 @@
-//! The runs: bytes in, bytes out, each fault by its name.
+//! The runs: bytes in, bytes out, each error by its name.
 #![tactic(auto)]
 
 mod check;

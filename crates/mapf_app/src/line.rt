@@ -14,7 +14,8 @@ use mapf_model::{Failed, Sink, write_all};
 use mapf_player::EventFault;
 use mapf_text::{MapFault, ScenFault};
 
-/// A line that the program prints: words, the name of a text's or a plan's fault, numbers, and a bound.
+/// A line that the program prints: words, the name of a text's or a plan's error, numbers, and a
+/// bound.
 #[derive(Clone, Copy, Debug, PartialEq, Eq)]
 pub struct Line {
     words: &'static str,
@@ -94,7 +95,7 @@ impl Line {
         }
     }
 
-    /// The line of a fault.
+    /// The line of an error.
     pub fn of_fault(fault: Fault) -> Line
         ensures { line_text result ≡ fault_line fault }
     {

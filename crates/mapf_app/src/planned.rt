@@ -23,7 +23,7 @@ pub struct Planned {
     pub plan: Plan,
 }
 
-// The name of a plan text's fault among those of a run.
+// A plan text's error as an error of a run.
 fn fault_of_plan_text(fault: PlanTextFault) -> Fault
     ensures { result ≡ fault_of_plan_text fault }
 {
@@ -78,10 +78,11 @@ pub fn read_planned<M: Source, S: Source, P: Source>(
     ensures only { (planned : Planned) →
         IsDuePlan (M.remaining map.old) (S.remaining scen.old) (P.remaining plan.old) k planned.problem planned.plan →
         (result ≡ Ok planned) ⊎ IsErrAnd result IsOfInput }
-    // A fault stands where it says.
+    // Each reported error is real, and its location is correct.
     ensures fault { IfErr result (IsPlanning (M.remaining map.old) (S.remaining scen.old) (P.remaining plan.old) k) }
     ensures inner { IfErr result HasNoInnerMemory }
-    // A source's fault is told where it has failed or gave too much, and wherever it has failed.
+    // An error of a source is reported only if it failed or gave too many bytes, and always if it
+    // failed.
     ensures map { IsErrOf result (Fault.F4 Input.Map) →
         IsUnreadable (M.has_failed map.new) (M.remaining map.old) (M.remaining map.new) most_text_bytes }
     ensures map_failed { M.has_failed map.new ≡ true → IsErrOf result (Fault.F4 Input.Map) }

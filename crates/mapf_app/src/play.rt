@@ -44,10 +44,11 @@ pub fn run_play<M: Source, S: Source, P: Source, K: Sink>(
     ensures within { OnOk result
         (IsWithin (M.remaining map.old) most_text_bytes × IsWithin (S.remaining scen.old) most_text_bytes
         × IsWithin (P.remaining plan.old) most_text_bytes) }
-    // A fault stands where it says.
+    // Each reported error is real, and its location is correct.
     ensures fault { IfErr result (IsPlaying (M.remaining map.old) (S.remaining scen.old) (P.remaining plan.old) k) }
     ensures inner { IfErr result HasNoInnerMemory }
-    // A device's fault is told only where it has failed, or a source gave too much, and wherever it has failed.
+    // An error of a device is reported only if it failed or a source gave too many bytes, and
+    // always if it failed.
     ensures map { IsErrOf result (Fault.F4 Input.Map) →
         IsUnreadable (M.has_failed map.new) (M.remaining map.old) (M.remaining map.new) most_text_bytes }
     ensures map_failed { M.has_failed map.new ≡ true → IsErrOf result (Fault.F4 Input.Map) }
@@ -66,7 +67,7 @@ pub fn run_play<M: Source, S: Source, P: Source, K: Sink>(
     ensures plan_unpulled { IfErr result (λ fault. IsOfProblem fault → plan.new ≡ plan.old) }
     ensures plan_order { (HasReadProblem (M.has_failed map.new) (M.remaining map.old) (M.remaining map.new)
         (S.has_failed scen.new) (S.remaining scen.old) (S.remaining scen.new) k → ⊥) → plan.new ≡ plan.old }
-    // What a sink that failed got is a front of such a text, and any other fault leaves it as it was.
+    // A sink that failed got a prefix of such a text. After any other error it is as it was.
     ensures front { IsErrOf result (Fault.F5 Output.Out) → (text : List ℕ) × (n : ℕ)
         × PlaysTruly (M.remaining map.old) (S.remaining scen.old) (P.remaining plan.old) k text
         × Appends (K.contents sink.old) (K.contents sink.new) (take n text) }

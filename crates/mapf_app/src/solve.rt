@@ -20,8 +20,8 @@ use mapf_model::{Sink, Source};
 use std::alloc::Global;
 
 /// Reads a map and then a scenario, solves the problem of its first `k` agents with at most `limit`
-/// splits, and writes the plan text and then the certificate, both in version 2. Before all the memory
-/// that this takes is there, nothing is written.
+/// splits, and writes the plan text and then the certificate, both in version 2. Nothing is written
+/// before all memory was allocated.
 pub fn run_solve<M: Source, S: Source, P: Sink, C: Sink>(
     alloc: Global,
     map: &mut M,
@@ -54,10 +54,11 @@ pub fn run_solve<M: Source, S: Source, P: Sink, C: Sink>(
     // Inputs of more bytes than the limit aren't read.
     ensures within { OnOk result
         (IsWithin (M.remaining map.old) most_text_bytes × IsWithin (S.remaining scen.old) most_text_bytes) }
-    // A fault stands where it says.
+    // Each reported error is real, and its location is correct.
     ensures fault { IfErr result (IsSolving (M.remaining map.old) (S.remaining scen.old) k) }
     ensures inner { IfErr result HasNoInnerMemory }
-    // A device's fault is told only where it has failed, or a source gave too much, and wherever it has failed.
+    // An error of a device is reported only if it failed or a source gave too many bytes, and
+    // always if it failed.
     ensures map { IsErrOf result (Fault.F4 Input.Map) →
         IsUnreadable (M.has_failed map.new) (M.remaining map.old) (M.remaining map.new) most_text_bytes }
     ensures map_failed { M.has_failed map.new ≡ true → IsErrOf result (Fault.F4 Input.Map) }
@@ -73,7 +74,7 @@ pub fn run_solve<M: Source, S: Source, P: Sink, C: Sink>(
     ensures unpulled { IfErr result (λ fault. IsOfMap fault → scen.new ≡ scen.old) }
     ensures order { (HasReadGrid (M.has_failed map.new) (M.remaining map.old) (M.remaining map.new) → ⊥) →
         scen.new ≡ scen.old }
-    // What a sink that failed got is a front of such texts.
+    // A sink that failed got a prefix of such texts.
     ensures plan_front { IsErrOf result (Fault.F5 Output.Plan) →
         (kind : Kind) × (plan_text : List ℕ) × (cert_text : List ℕ) × (n : ℕ)
         × PrintsTruly (M.remaining map.old) (S.remaining scen.old) k limit kind plan_text cert_text

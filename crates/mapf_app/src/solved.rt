@@ -96,7 +96,8 @@ fn limited(problem: &Problem, cause: Cause, bound: u64, tree: Vec<TreeNode>) -> 
     }
 }
 
-/// Solves the problem with at most `limit` splits. All the memory that the two texts need is taken then.
+/// Solves the problem with at most `limit` splits. All memory that the two texts need is allocated
+/// here.
 pub fn solve_problem(alloc: Global, problem: &Problem, limit: u32) -> Result<Solved, OutOfMemory>
     requires { limit ≤ most_splits }
     ensures prints { IfOk result (λ solved. IsSolved problem.now limit solved) }

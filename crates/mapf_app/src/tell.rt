@@ -20,7 +20,7 @@ const IMPOSSIBLE: u8 = 3;
 
 const LIMIT: u8 = 4;
 
-// The status, or that of a fault where its line couldn't be written.
+// The status, or that of an error if the line couldn't be written.
 fn told(written: Result<(), Failed>, status: u8) -> u8
     ensures { result ≡ if is_err written then 2 else status }
 {
@@ -48,12 +48,13 @@ fn kind_line(kind: Kind) -> (Line, u8)
     }
 }
 
-/// Tells how a solved run ended, in one line on `out` or as a fault on `err`, and answers the exit
-/// status: 0 solved, 3 impossible, 4 a limit, 2 a fault, also where the line couldn't be written.
+/// Prints the answer of a solving run, a line on `out`, or its error, a line on `err`, and returns
+/// the exit status: 0 solved, 3 impossible, 4 a limit, 2 an error, also if the line couldn't be
+/// written.
 pub fn tell_solve<O: Sink, E: Sink>(answer: &Result<Kind, Fault>, out: &mut O, err: &mut E) -> u8
     requires out_works { O.has_failed out.old ≡ false }
     requires err_works { E.has_failed err.old ≡ false }
-    // Nothing is asked of the other sink.
+    // The other sink isn't called.
     ensures answer { IfOk answer.now (λ kind. (err.new ≡ err.old) × Tells
         (O.has_failed out.new) (O.contents out.old) (O.contents out.new) (kind_line kind) (kind_status kind) result) }
     ensures fault { IfErr answer.now (λ fault. (out.new ≡ out.old)
@@ -68,13 +69,13 @@ pub fn tell_solve<O: Sink, E: Sink>(answer: &Result<Kind, Fault>, out: &mut O, e
     }
 }
 
-/// Tells how a checked run ended, in one line: a verdict or a refusal on `out`, another fault on `err`;
-/// and answers the exit status: 0 accepted, 1 refused, 2 a fault, also where the line couldn't be
-/// written.
+/// Prints how a checking run ended: a verdict or a refusal, a line on `out`, or any other error, a
+/// line on `err`; and returns the exit status: 0 accepted, 1 refused, 2 any other error, also if
+/// the line couldn't be written.
 pub fn tell_check<O: Sink, E: Sink>(answer: &Result<Verdict, Fault>, out: &mut O, err: &mut E) -> u8
     requires out_works { O.has_failed out.old ≡ false }
     requires err_works { E.has_failed err.old ≡ false }
-    // Nothing is asked of the other sink.
+    // The other sink isn't called.
     ensures verdict { IfOk answer.now (λ verdict. (err.new ≡ err.old)
         × Tells (O.has_failed out.new) (O.contents out.old) (O.contents out.new) (verdict_line verdict) 0 result) }
     ensures fault { IfErr answer.now (λ fault. MatchBool (is_refusal fault)
@@ -95,8 +96,8 @@ pub fn tell_check<O: Sink, E: Sink>(answer: &Result<Verdict, Fault>, out: &mut O
     }
 }
 
-/// Tells a fault of a run that writes its own output, on `err`, and answers the exit status. A run that
-/// went well has nothing to tell.
+/// Prints the error of a run that writes its own output, a line on `err`, and returns the exit
+/// status. After a run without an error nothing is printed.
 pub fn tell_run<E: Sink>(answer: &Result<(), Fault>, err: &mut E) -> u8
     requires { E.has_failed err.old ≡ false }
     ensures well { OnOk answer.now ((result ≡ 0) × (err.new ≡ err.old)) }

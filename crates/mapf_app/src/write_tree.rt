@@ -9,7 +9,7 @@ use mapf_cbs::{BoundLabels, NodeKind, StateLabels, TreeNode};
 use mapf_certificate::{CertLine, TextWriter, Version};
 use mapf_model::{Claim, Failed, Sink};
 
-/// Writes a certificate of version 2 with these nodes. It takes no memory.
+/// Writes a certificate of version 2 with these nodes. Nothing is allocated.
 pub fn write_tree<K: Sink>(
     writer: &mut TextWriter,
     sink: &mut K,

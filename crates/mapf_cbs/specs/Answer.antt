@@ -17,9 +17,9 @@ use Rattle.mapf_cbs.specs.declared.answer.Answer.TheVariants.{Found as FoundAnsw
 use Rattle.mapf_cbs.specs.declared.outcome.Outcome.{Outcome}
 use Rattle.mapf_cbs.specs.declared.outcome.Outcome.TheVariants.{Found as FoundOutcome, Impossible as ImpossibleOutcome, Limit as LimitOutcome}
 
--- these are the nodes of the tree in pre-order; it has at most so many splits, each of which stands on the first conflict of cheapest
--- paths, at a node no dearer than any end; where goals alone show that no plan is valid it is one node; each node has
--- the blocks of the agent that was bound there; and it can be printed
+-- these are the nodes of the tree in pre-order; it has at most so many splits, each on the first conflict of cheapest
+-- paths, at a node with a sum of costs no greater than any leaf's. If goals alone show that no plan is valid, the tree
+-- is one node. Each node has the block of the agent that was replanned there. The tree can be printed
 pub record IsTreeOf (problem : Instance) (limit : ℕ) (nodes : List Node) (tree : ConstraintTree) : Type 0 where
   pub spelled : nodes ≡ nodes_of tree
   pub few : split_count tree ≤ limit
@@ -62,9 +62,9 @@ abbrev pub IsStoppedAtFirst : (List (List ℕ) → Type 0) → Instance → Cons
 IsStoppedAtFirst Fact problem tree =
     IsStoppedWhere (λ context paths. AreFirstPaths problem context paths × Fact paths) problem tree
 
--- a search with so many splits at most may stop for this cause, with this tree: at a leaf of it the first due paths
--- have a conflict before tick 1,000,000, and the tree has exactly the limit's splits; or they conflict but have no
--- conflict before tick 1,000,000, and one more than the splits, times the free cells, exceeds 1,000,000
+-- this tree justifies that a search with at most so many splits stops for this cause: at a leaf of it the first due
+-- paths have a conflict before tick 1,000,000, and the tree has exactly the limit's splits; or they conflict but have
+-- no conflict before tick 1,000,000, and one more than the splits, times the free cells, exceeds 1,000,000
 abbrev pub MayStop : Instance → ℕ → Cause → ConstraintTree → Type 0
 MayStop problem limit (Splits n) tree = IsStoppedAtFirst (λ paths. HaveConflictBefore paths split_ticks) problem tree
     × (n ≡ limit) × (split_count tree ≡ limit)

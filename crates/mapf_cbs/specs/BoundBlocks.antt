@@ -1,4 +1,5 @@
--- Which blocks the nodes of a tree carry: each node that of the agent that was bound when the node was made.
+-- Which blocks the nodes of a tree carry: each node has the block of the agent that was replanned when the node was
+-- made.
 use Rattle.std.specs.Prelude.{◌≡◌, ℕ, List, [], ◌∷◌, Option, None, Some, slice_get}
 use Rattle.mapf_model.specs.declared.bar.Bar.{Bar}
 use Rattle.mapf_model.specs.declared.problem.Agent.{Agent}
@@ -10,7 +11,7 @@ use Rattle.mapf_model.specs.Path.{IsLawful, IsCost}
 use Rattle.mapf_model.specs.Plan.{Instance}
 use Rattle.mapf_model.specs.Tree.{ConstraintTree, Split, Leaf, Clash, NodeContext, root, left_constraint, right_constraint, left_child_context, right_child_context}
 
--- some lawful path of the agent that satisfies the bars costs no more than its distance
+-- some lawful path of the agent that satisfies the constraints costs no more than its distance
 pub record KeepsDistance (grid : GridMap) (agent : Agent) (bars : List Bar) : Type 0 where
   pub path : List ℕ
   pub cost : ℕ
@@ -19,20 +20,20 @@ pub record KeepsDistance (grid : GridMap) (agent : Agent) (bars : List Bar) : Ty
   pub is_cost : IsCost agent.goal path cost
   pub distance : IsDistance grid agent.goal agent.start cost
 
--- one block, which is this agent's, where it can't keep its distance; none where it can
+-- a block of this agent if its least cost exceeds its distance, else none
 abbrev pub AreBlocksOfBound : GridMap → Agent → List Bar → ℕ → List LabelBlock → Type 0
 AreBlocksOfBound grid agent bars bound [] = KeepsDistance grid agent bars
 AreBlocksOfBound grid agent bars bound (block ∷ []) = (block.agent ≡ bound) × (KeepsDistance grid agent bars → ⊥)
 AreBlocksOfBound grid agent bars bound (block ∷ other ∷ blocks) = ⊥
 
--- the blocks of a node at which this agent was bound; the root, at which none was, has none
+-- the blocks of a node at which this agent was replanned; the root, at which none was, has none
 abbrev pub AreBlocksFor : Instance → NodeContext → Option ℕ → List LabelBlock → Type 0
 AreBlocksFor problem context None blocks = blocks ≡ []
 AreBlocksFor problem context (Some bound) blocks = (agent : Agent) × (slice_get problem.agents bound ≡ Some agent)
     × AreBlocksOfBound problem.grid agent (context.bars bound) bound blocks
 
--- so it is with each node of a tree at whose first node this agent was bound: each child of a split binds the agent of
--- its constraint
+-- the same of each node of a tree at whose root this agent was replanned: at each child of a split the agent of its
+-- constraint is replanned
 abbrev pub CarriesBlocksFor : Instance → NodeContext → Option ℕ → ConstraintTree → Type 0
 CarriesBlocksFor problem context bound (Split conflict blocks left right) = AreBlocksFor problem context bound blocks
     × CarriesBlocksFor problem (left_child_context context conflict blocks) (Some (left_constraint conflict).agent) left
@@ -40,6 +41,7 @@ CarriesBlocksFor problem context bound (Split conflict blocks left right) = AreB
 CarriesBlocksFor problem context bound (Leaf blocks) = AreBlocksFor problem context bound blocks
 CarriesBlocksFor problem context bound (Clash i j) = Unit {0}
 
--- each node has a block of the agent that was bound there, if its least cost exceeds its distance, and no other block
+-- each node has a block of the agent that was replanned there, if its least cost exceeds its distance, and no other
+-- block
 abbrev pub CarriesBoundBlocks : Instance → ConstraintTree → Type 0
 CarriesBoundBlocks problem tree = CarriesBlocksFor problem root None tree

@@ -1,4 +1,4 @@
--- Cheapest paths of agents under their bars.
+-- Cheapest paths of agents under their constraints.
 use Rattle.std.specs.Prelude.{ℕ, ◌+◌, ◌<◌, ◌≤◌, List}
 use Rattle.mapf_model.specs.declared.bar.Bar.{Bar}
 use Rattle.mapf_model.specs.declared.label.Label.TheVariants.{Ticks, Never}
@@ -12,12 +12,12 @@ use Rattle.mapf_constraints.specs.BarSets.{tick_of, AreBefore}
 use Rattle.mapf_spacetime.specs.Answer.{IsFirstOfCost}
 use Rattle.mapf_spacetime.specs.Task.{task_of}
 
--- a bar that a table takes
+-- a bar that a table can hold
 abbrev pub IsTableBar : Bar → Type 0
 IsTableBar bar = (tick_of bar < split_ticks) × IsBar bar
 
--- a cheapest path of an agent under its bars, the first of them by cell numbers, with its cost, which is the label of
--- its start by these entries
+-- a cheapest path of an agent under its constraints, the first of them by cell numbers, with its cost, which is the
+-- label of its start by these entries
 pub record IsCheapestPath (grid : GridMap) (agent : Agent) (bars : List Bar) (path : List ℕ) (cost : ℕ) (entries : Entries) : Type 0 where
   pub lawful : IsLawful grid agent path
   pub satisfies : Satisfies bars path
@@ -28,7 +28,7 @@ pub record IsCheapestPath (grid : GridMap) (agent : Agent) (bars : List Bar) (pa
   pub start : IsLabel grid agent.goal entries agent.start 0 (Ticks cost)
   pub below : (horizon : ℕ) → AreBefore horizon bars → cost < horizon + free_cell_count grid
 
--- no path of an agent satisfies its bars, and the label of its start by these entries says so
+-- no path of an agent satisfies its constraints, and the label of its start by these entries says so
 pub record HasNoPath (grid : GridMap) (agent : Agent) (bars : List Bar) (entries : Entries) : Type 0 where
   pub none : (path : List ℕ) → IsLawful grid agent path → Satisfies bars path → ⊥
   pub start : IsLabel grid agent.goal entries agent.start 0 Never

@@ -30,7 +30,7 @@ pub record IsExhausted (problem : Instance) (limit : ℕ) (lists : List (List La
   pub within : count ≤ limit
   pub blocks : AreBlockLists state.views lists
 
--- the least open node is in hand, with this meaning and this sum, after so many splits
+-- the least open node, which denotes this state and has this sum, is being expanded after so many splits
 pub record IsAtNode (problem : Instance) (limit : ℕ) (lists : List (List LabelBlock)) (fates : List Fate) (count total : ℕ) (view : View) : Type 0 where
   pub paths : List (List ℕ)
   pub root : IsRootStart problem paths
@@ -43,7 +43,7 @@ pub record IsAtNode (problem : Instance) (limit : ℕ) (lists : List (List Label
   pub within : count ≤ limit
   pub blocks : AreBlockLists popped.state.views lists
 
--- the paths of the node in hand have no conflict, and the plan has these paths
+-- the paths of the node that is being expanded have no conflict, and the plan has these paths
 pub record IsAtPlan (problem : Instance) (limit : ℕ) (lists : List (List LabelBlock)) (fates : List Fate) (plan : List (List ℕ)) : Type 0 where
   pub count : ℕ
   pub total : ℕ
@@ -52,7 +52,7 @@ pub record IsAtPlan (problem : Instance) (limit : ℕ) (lists : List (List Label
   pub same : plan ≡ view.paths
   pub none : HaveSomeConflict view.paths → ⊥
 
--- at the node in hand, which has this sum, the search stops for this cause
+-- at the node that is being expanded, which has this sum, the search stops for this cause
 pub record IsAtCause (problem : Instance) (limit : ℕ) (lists : List (List LabelBlock)) (fates : List Fate) (cause : Cause) (bound : ℕ) : Type 0 where
   pub count : ℕ
   pub view : View

@@ -1,4 +1,4 @@
--- Where what a node means was found.
+-- At which ancestors the paths of a node were found.
 use Rattle.std.specs.Prelude.{◌≡◌, ◌≢◌, ℕ, ◌<◌, List, Option, None, Some, length, slice_get}
 use Rattle.std.specs.Option.{unwrap_or}
 use Rattle.mapf_cbs.specs.declared.node.Node.{Node}

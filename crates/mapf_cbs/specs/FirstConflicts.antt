@@ -1,4 +1,5 @@
--- Trees whose splits stand on the first conflict of first paths, also where conflicts have one tick and paths one cost.
+-- Trees whose splits name the first conflict of the first cheapest paths. Ties are broken too: between conflicts of one
+-- tick by their order, between paths of one cost by their cells' numbers.
 use Rattle.std.specs.Prelude.{◌≡◌, ℕ, List, Some, slice_get}
 use Rattle.mapf_conflicts.specs.Pairs.{IsOrdered, IsFirstOfItsTick}
 use Rattle.mapf_model.specs.declared.conflict.Conflict.{Conflict}
@@ -18,13 +19,13 @@ pub record IsFirstConflict (paths : List (List ℕ)) (conflict : Conflict) : Typ
   pub ordered : IsOrdered conflict
   pub least : IsFirstOfItsTick paths conflict
 
--- at the node each agent's path is the first of its cost, by cell numbers, of those that satisfy its bars
+-- at the node each agent's path is the first of its cost, by cell numbers, of those that satisfy its constraints
 abbrev pub AreFirstPaths : Instance → NodeContext → List (List ℕ) → Type 0
 AreFirstPaths problem context paths = (i : ℕ) (agent : Agent) (path : List ℕ) (cost : ℕ) →
     slice_get problem.agents i ≡ Some agent → slice_get paths i ≡ Some path → IsCost agent.goal path cost →
     IsFirstOfCost (task_of problem.grid agent (context.bars i)) cost path
 
--- a split stands on the first conflict of paths that are due there, each the first of its cost
+-- a split names the first conflict of due paths, each the first of its cost
 abbrev pub IsOnFirstConflict : Instance → ConstraintTree → NodeContext → ConstraintTree → Type 0
 IsOnFirstConflict problem tree context (Split conflict blocks left right) = (paths : List (List ℕ)) × (total : ℕ)
     × AreDue problem tree context paths total × AreFirstPaths problem context paths
@@ -32,6 +33,6 @@ IsOnFirstConflict problem tree context (Split conflict blocks left right) = (pat
 IsOnFirstConflict problem tree context (Leaf blocks) = Unit {0}
 IsOnFirstConflict problem tree context (Clash i j) = Unit {0}
 
--- so it is with each split of the tree
+-- the same of each split of the tree
 abbrev pub AreOnFirstConflicts : Instance → ConstraintTree → Type 0
 AreOnFirstConflicts problem tree = AtEachNode (IsOnFirstConflict problem tree) root tree

@@ -1,4 +1,4 @@
--- Nodes that hold their change alone, and what they mean.
+-- Delta nodes, and the state that each denotes.
 use Rattle.std.specs.Prelude.{◌≡◌, ◌⊎◌, ℕ, ◌<◌, List, [], Some, length, slice_get, Contains}
 use Rattle.mapf_model.specs.declared.bar.Bar.{Bar}
 use Rattle.mapf_model.specs.declared.constraint.Constraint.{Constraint}
@@ -20,20 +20,20 @@ abbrev pub IsNodeFor : ℕ → ℕ → Node → Type 0
 IsNodeFor agent k (Root paths) = (k ≡ 0) × (agent < length paths.items)
 IsNodeFor agent k (Child parent constraint found) = parent < k
 
--- so it is with all nodes
+-- the same of all nodes
 abbrev pub AreNodesFor : ℕ → List Node → Type 0
 AreNodesFor agent nodes = (k : ℕ) (node : Node) → slice_get nodes k ≡ Some node → IsNodeFor agent k node
 
--- the bars are such as a table takes
+-- a table can hold the bar of the node
 abbrev pub HasTableBar : Node → Type 0
 HasTableBar (Root paths) = Unit {0}
 HasTableBar (Child parent constraint found) = IsTableBar constraint.bar
 
--- so it is with the bars of all nodes
+-- a table can hold the bars of all nodes
 abbrev pub HaveTableBars : List Node → Type 0
 HaveTableBars nodes = (k : ℕ) (node : Node) → slice_get nodes k ≡ Some node → HasTableBar node
 
--- what a child means, by what its parent means and what was found
+-- the state of a child, by its parent's state and what was found
 abbrev pub IsChildView : View → Constraint → Found (List Entry) → View → Type 0
 IsChildView before constraint (Arrives path labels) view = (cost : ℕ) × (view ≡ live_child before constraint path cost labels)
 IsChildView before constraint (Dead labels) view = view ≡ dead_child before constraint labels
@@ -49,17 +49,17 @@ abbrev pub IsOwnOf : Node → List LabelBlock → Type 0
 IsOwnOf (Root paths) blocks = blocks ≡ []
 IsOwnOf (Child parent constraint found) blocks = blocks ≡ bound_blocks constraint.agent (labels_of found)
 
--- what a node means, by what its parent means
+-- the state that a node denotes, by its parent's
 abbrev pub IsNodeView : List View → ℕ → Node → View → Type 0
 IsNodeView views k (Root paths) view = IsRootView paths.items view
 IsNodeView views k (Child parent constraint found) view = (parent < k) × (before : View) × (slice_get views parent ≡ Some before) × (constraint.agent < length before.paths) × IsChildView before constraint found view
 
--- these are what the nodes mean
+-- these are the states that the nodes denote
 pub record AreViews (nodes : List Node) (views : List View) : Type 0 where
   pub lengths : length views ≡ length nodes
   pub each : (k : ℕ) (node : Node) (view : View) → slice_get nodes k ≡ Some node → slice_get views k ≡ Some view → IsNodeView views k node view
 
--- the fact holds of what the node means, as the changes from the root on give it
+-- the fact holds of the state that the node denotes, as the changes along its path from the root give it
 abbrev pub HoldsOfNode : List Node → ℕ → (View → Type 0) → Type 0
 HoldsOfNode nodes k Fact = (views : List View) (view : View) → AreViews nodes views → slice_get views k ≡ Some view → Fact view
 

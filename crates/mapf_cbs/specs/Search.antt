@@ -23,7 +23,7 @@ use Rattle.mapf_cbs.specs.FirstConflicts.{IsFirstConflict}
 use Rattle.mapf_cbs.specs.declared.node.Fate.{Fate}
 use Rattle.mapf_cbs.specs.declared.node.Fate.TheVariants.{Open, Dead, Expanded}
 
--- what a node means: what it inherits, its own constraint included, the agents' paths and costs, and its own blocks
+-- the state of a node: what it inherits, its own constraint included, the agents' paths and costs, and its own blocks
 pub record View : Type 0 where
   pub context : NodeContext
   pub paths : List (List ℕ)
@@ -43,8 +43,8 @@ pub record AreCounted (problem : Instance) (view : View) : Type 0 where
   pub paths : length view.paths ≡ length problem.agents
   pub costs : length view.costs ≡ length problem.agents
 
--- the block is of an agent of the problem; its labels, of which there are some, are sound under the agent's bars, and
--- can be printed
+-- the block is of an agent of the problem; its labels, of which there are some, are sound under the agent's
+-- constraints, and can be printed
 pub record IsGoodBlock (problem : Instance) (bars : ℕ → List Bar) (block : LabelBlock) : Type 0 where
   pub agent : Agent
   pub known : slice_get problem.agents block.agent ≡ Some agent
@@ -78,7 +78,8 @@ abbrev pub labels_of : Found (List Entry) → List Entry
 labels_of (Arrives path labels) = labels
 labels_of (DeadEnd labels) = labels
 
--- the blocks of a node at which this agent was bound: one with the entries that were found, none where there are none
+-- the blocks of a node at which this agent was replanned: one with the entries that were found, none where there are
+-- none
 abbrev pub bound_blocks : ℕ → List Entry → List LabelBlock
 bound_blocks agent [] = []
 bound_blocks agent (entry ∷ entries) = record { agent = agent; entries = entry ∷ entries } ∷ []
@@ -92,7 +93,7 @@ abbrev pub live_child : View → Constraint → List ℕ → ℕ → List Entry 
 live_child view constraint path cost entries = record { context = child_context view.context view.blocks constraint; paths = slice_set view.paths constraint.agent path; costs = slice_set view.costs constraint.agent cost; blocks = bound_blocks constraint.agent entries }
 
 -- a node that was split: the conflict is the first of its paths, and its children are later nodes, the right one next
--- to the left one, each with the blocks of the agent that was bound there
+-- to the left one, each with the blocks of the agent that was replanned there
 pub record IsExpandedAt (problem : Instance) (views : List View) (k : ℕ) (view : View) (conflict : Conflict) (left : ℕ) : Type 0 where
   pub live : IsLive problem view
   pub proper : IsProperSplit problem conflict
@@ -102,7 +103,7 @@ pub record IsExpandedAt (problem : Instance) (views : List View) (k : ℕ) (view
   pub to_right : (child : View) × (slice_get views (left + 1) ≡ Some child) × (child.context ≡ right_child_context view.context conflict view.blocks) × AreBlocksFor problem child.context (Some (right_constraint conflict).agent) child.blocks
   pub later : k < left
 
--- what is so of a node by its fate
+-- what holds of a node by its fate
 abbrev pub IsFate : Instance → List View → ℕ → View → Fate → Type 0
 IsFate problem views k view Open = IsLive problem view
 IsFate problem views k view Dead = IsDead problem view

@@ -73,7 +73,7 @@ abbrev pub IsCauseToStop : Conflict → ℕ → ℕ → Cause → Type 0
 IsCauseToStop conflict splits limit Ticks = split_ticks ≤ tick_of conflict
 IsCauseToStop conflict splits limit (Splits n) = (tick_of conflict < split_ticks) × (n ≡ limit) × (splits ≡ limit)
 
--- the state while its first open node is in hand
+-- the state while its first open node is being expanded
 pub record IsPopped (problem : Instance) (nodes : List Node) (fates : List Fate) (rest : List (ℕ × ℕ)) (count total k : ℕ) : Type 0 where
   pub state : IsState problem nodes fates ((total, k) ∷ rest) count
   pub above : (key : ℕ × ℕ) → Contains rest key → key_cmp (total, k) key ≡ Less

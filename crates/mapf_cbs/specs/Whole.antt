@@ -1,4 +1,4 @@
--- Nodes that hold all that is found at them, and what they mean.
+-- Full nodes, and the state that each denotes.
 use Rattle.std.specs.Prelude.{◌≡◌, ℕ, ◌<◌, ◌≤◌, List, Option, None, Some, length, slice_get, sum}
 use Rattle.mapf_model.specs.declared.bar.Bar.{Bar}
 use Rattle.mapf_model.specs.declared.constraint.Constraint.{Constraint}
@@ -23,14 +23,14 @@ pub record IsAgentPathAt (view : View) (i : ℕ) (agent_path : AgentPath) : Type
   pub path : slice_get view.paths i ≡ Some agent_path.path
   pub bars : AreSameBars (view.context.bars i) agent_path.bars
 
--- the node holds just what is found at it
+-- the node holds this state
 pub record IsWhole (node : WholeNode) (view : View) : Type 0 where
   pub count : length node.agent_paths.items ≡ length view.paths
   pub each : (i : ℕ) (agent_path : AgentPath) → slice_get node.agent_paths.items i ≡ Some agent_path → IsAgentPathAt view i agent_path
   pub blocks : AreBlocksOf view node.bound
   pub total : node.total ≡ sum view.costs
 
--- so do all nodes
+-- each node holds the state in its place
 pub record AreWhole (nodes : List WholeNode) (views : List View) : Type 0 where
   pub lengths : length views ≡ length nodes
   pub each : (k : ℕ) (node : WholeNode) (view : View) → slice_get nodes k ≡ Some node → slice_get views k ≡ Some view → IsWhole node view
@@ -49,17 +49,17 @@ pub record IsCopy (agent_path copy : AgentPath) : Type 0 where
   pub path : copy.path ≡ agent_path.path
   pub bars : AreSameBars copy.bars agent_path.bars
 
--- so it is with each two of one place
+-- the same of each two at one index
 pub record AreCopies (agent_paths all : List AgentPath) : Type 0 where
   pub count : length all ≡ length agent_paths
   pub each : (i : ℕ) (copy : AgentPath) → slice_get all i ≡ Some copy → (agent_path : AgentPath) × (slice_get agent_paths i ≡ Some agent_path) × IsCopy agent_path copy
 
--- the path after what was found under these bars
+-- the path after what was found under these constraints
 abbrev pub IsAfter : AgentPath → Found (List Entry) → List Bar → AgentPath → Type 0
 IsAfter before (Arrives path labels) bars agent_path = (agent_path.path ≡ path) × (agent_path.bars ≡ bars)
 IsAfter before (DeadEnd labels) bars agent_path = (agent_path.path ≡ before.path) × (agent_path.bars ≡ bars)
 
--- a whole child, live with this sum or dead
+-- a full child, live with this sum or dead
 pub record IsWholeChild (problem : Instance) (view : View) (constraint : Constraint) (node : WholeNode) (total : Option ℕ) : Type 0 where
   pub found : Found (List Entry)
   pub generated : IsGeneratedChild problem view constraint found total
@@ -79,7 +79,7 @@ abbrev pub IsLeastBelow : List WholeNode → List Fate → ℕ → Option ℕ �
 IsLeastBelow nodes fates n None = (m : ℕ) → m < n → slice_get fates m ≡ Some Open → ⊥
 IsLeastBelow nodes fates n (Some k) = IsLeastOpen nodes fates n k
 
--- whole nodes and their fates after so many splits: they mean what nodes mean that hold their change alone
+-- full nodes and their outcomes after so many splits: they denote the same state as delta nodes
 pub record IsWholeState (problem : Instance) (nodes : List WholeNode) (fates : List Fate) (count : ℕ) : Type 0 where
   pub changes : List Node
   pub keys : List (ℕ × ℕ)
@@ -87,7 +87,7 @@ pub record IsWholeState (problem : Instance) (nodes : List WholeNode) (fates : L
   pub whole : AreWhole nodes state.views
   pub agent_paths : HaveAgentPaths nodes (length problem.agents)
 
--- the same while the least open node is in hand
+-- the same while the least open node is being expanded
 pub record IsWholePopped (problem : Instance) (nodes : List WholeNode) (fates : List Fate) (count total k : ℕ) : Type 0 where
   pub changes : List Node
   pub rest : List (ℕ × ℕ)

@@ -6,7 +6,7 @@ use mapf_spacetime::{Found, StateLabels};
 use std::alloc::Global;
 use std::marker::Model;
 
-/// The labels of the agent that was bound at a node: one block, none where no label exceeds its
+/// The labels of the agent that was replanned at a node: one block, none where no label exceeds its
 /// distance.
 #[derive(Debug, Drop)]
 pub struct BoundLabels {
@@ -35,7 +35,7 @@ impl BoundLabels {
         }
     }
 
-    /// What the search for this agent found, who was bound at the node.
+    /// What the search for this agent found, which was replanned at the node.
     pub fn of(agent: u32, found: Found<StateLabels>) -> BoundLabels
         ensures bound { result ≡ bound_blocks agent (labels_of found) }
         ensures small { All (λ block. length block.entries < 2 ^ 64) result }

@@ -60,7 +60,7 @@ pub fn child<B: BarTable>(
     Ok(GeneratedChild { found, total })
 }
 
-// What the constraint's agent can do under its bars at the node and this one.
+// What the constraint's agent can do under its constraints at the node and this one.
 fn search_with<B: BarTable>(
     alloc: Global,
     memory: &mut SearchMemory<B>,

@@ -1,4 +1,4 @@
-//! How a search over trees ends, by the labels of each node and what became of it.
+//! How a search over trees ends, by the labels and the outcome of each node.
 ghost use Rattle.std.specs.Prelude.{ℕ, IfOk};
 ghost use Rattle.mapf_model.specs.Plan.{Instance};
 ghost use Rattle.mapf_cbs.specs.Answer.{IsOutcome};

@@ -7,8 +7,8 @@ use crate::node::Node;
 use mapf_model::OutOfMemory;
 use std::alloc::Global;
 
-/// For each agent the nearest node on the way up that bound it, so that its path is found there.
-/// None is the root.
+/// For each agent its nearest ancestor at which it was replanned, which holds its path. None stands
+/// for the root.
 pub fn finders_at(
     alloc: Global,
     nodes: &[Node],
@@ -46,7 +46,7 @@ fn none_of(alloc: Global, agents: u32) -> Result<Vec<Option<u32>>, OutOfMemory>
     Ok(vec![in alloc; None; agents as usize]?)
 }
 
-// The node bound the agent, unless one nearer did.
+// Notes the node for its agent, unless a nearer one was noted.
 fn note(finders: &mut Vec<Option<u32>>, agent: u32, node: u32)
     ensures count { length finders.new.items ≡ length finders.old.items }
     ensures noted { IsNoted finders.old.items finders.new.items agent node }

@@ -1,10 +1,10 @@
 use mapf_model::{Conflict, Constraint, Path};
 use mapf_spacetime::{Found, StateLabels};
 
-/// A node of the constraint tree by its change: all else is found at its ancestors.
+/// A delta node of the constraint tree: all else is found at its ancestors.
 #[derive(Debug, Drop)]
 pub enum Node {
-    /// No agent has bars, and these are the agents' paths.
+    /// No agent has constraints, and these are the agents' paths.
     Root {
         paths: Vec<Path>,
     },
@@ -16,7 +16,7 @@ pub enum Node {
     },
 }
 
-/// What became of a node.
+/// The outcome of a node.
 #[derive(Clone, Copy, Debug)]
 pub enum Fate {
     /// Each agent has a path, and the node wasn't split.

@@ -11,7 +11,7 @@ use std::collections::BTreeSet;
 #[derive(Debug, Drop)]
 pub struct SearchTree {
     pub nodes: Vec<Node>,
-    // What became of each node.
+    // The outcome of each node.
     pub fates: Vec<Fate>,
     // The sum and the number of each open node.
     pub waiting: BTreeSet<(u64, u32)>,

@@ -35,7 +35,7 @@ pub fn solve(alloc: Global, problem: &Problem, limit: u32) -> Result<Answer, Out
     solve_with::<TickBars>(alloc, problem, limit)
 }
 
-/// The same, with each agent's bars in a table of this type while its path is searched.
+/// The same, with each agent's constraints in a table of this type while its path is searched.
 pub fn solve_with<B: BarTable>(
     alloc: Global,
     problem: &Problem,
@@ -55,7 +55,7 @@ pub fn search(alloc: Global, problem: &Problem, limit: u32) -> Result<Outcome, O
     search_with::<TickBars>(alloc, problem, limit)
 }
 
-/// The same, with each agent's bars in a table of this type while its path is searched.
+/// The same, with each agent's constraints in a table of this type while its path is searched.
 pub fn search_with<B: BarTable>(
     alloc: Global,
     problem: &Problem,

@@ -21,12 +21,12 @@ pub enum Beginning {
     Root { paths: Vec<Path> },
 }
 
-/// What is known before any search under bars: no plan is valid where two agents have one goal, or
-/// where a goal can't be reached.
+/// What is known before any search under constraints: no plan is valid where two agents have one
+/// goal, or where a goal can't be reached.
 pub fn begin(alloc: Global, problem: &Problem) -> Result<Beginning, OutOfMemory>
     ensures { IfOk result (IsBeginning problem.now) }
 {
-    // The width tells the shape of the grid.
+    // The contract of `width` says that the grid is well formed.
     let _width = problem.grid().width();
     if let Some((i, j)) = sharing_pair(problem.agents()) {
         let clash = TreeNode::clash(alloc, i as u32, j as u32);
@@ -51,8 +51,8 @@ fn one_node(alloc: Global, node: TreeNode) -> Result<Vec<TreeNode>, OutOfMemory>
     Ok(tree)
 }
 
-// A shortest path of each agent. None where some goal can't be reached. The distances to one goal are known at
-// a time, since most agents are never bound.
+// A shortest path of each agent. None where some goal can't be reached. Only one table of distances
+// is in memory at a time, since most agents are never replanned.
 fn shortest_paths(alloc: Global, problem: &Problem) -> Result<Option<Vec<Path>>, OutOfMemory>
     ensures unreachable { IfOk result (λ found. IfNone found (SomeGoalIsUnreachable problem.now)) }
     ensures count { IfOk result (λ found. IfSome found (λ paths. length paths.items ≡ length problem.now.agents)) }

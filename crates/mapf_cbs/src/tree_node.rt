@@ -35,7 +35,8 @@ impl Model for TreeNode {
 }
 
 impl TreeNode {
-    /// The node that is split on the conflict, with the labels of the agent that was bound at it.
+    /// The node that is split on the conflict, with the labels of the agent that was replanned at
+    /// it.
     pub fn split(conflict: Conflict, bound: BoundLabels) -> TreeNode
         ensures { result ≡ SplitNode conflict bound }
     {
@@ -65,7 +66,7 @@ impl TreeNode {
         }
     }
 
-    /// What the node is, and its labels. A clash has none, whatever stands there.
+    /// What the node is, and its labels. A clash has none, whatever the field holds.
     pub fn parts(&self) -> (NodeKind, &BoundLabels)
         ensures { self.now ≡ node_with result.0 result.1.now }
     {

@@ -14,7 +14,7 @@ use mapf_model::{Conflict, OutOfMemory, Path, Plan};
 use mapf_spacetime::Found;
 use std::alloc::Global;
 
-/// The agent's path at a node: that of the nearest node on the way up that found one.
+/// The agent's path at a node: that of the node itself or of its nearest ancestor that holds one.
 pub fn path_at(nodes: &[Node], k: u32, agent: u32) -> &Path
     requires nodes { AreNodesFor agent nodes.now }
     requires inside { k < length nodes.now }
@@ -41,7 +41,8 @@ pub fn path_at(nodes: &[Node], k: u32, agent: u32) -> &Path
     }
 }
 
-/// Makes the table hold the agent's bars at a node: those of all nodes on the way up that bound it.
+/// Makes the table hold the agent's constraints at a node: those along the node's path from the
+/// root.
 pub fn gather_bars<B: BarTable>(
     table: &mut B,
     nodes: &[Node],
@@ -125,7 +126,7 @@ fn paths_at<'a>(
     for agent in 0..agents {
         let finder = finders[agent as usize].unwrap_or(0);
         let path = path_at(nodes, finder, agent);
-        // The cells tell the bound on their number.
+        // The contract of `cells` bounds their number.
         let _cells = path.cells();
         paths.push(path)?;
     }

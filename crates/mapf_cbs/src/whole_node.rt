@@ -25,7 +25,7 @@ pub struct AgentPath {
 pub struct WholeNode {
     // One for each agent.
     pub agent_paths: Vec<AgentPath>,
-    // Of the agent that was bound when the node was made.
+    // Of the agent that was replanned when the node was made.
     pub bound: BoundLabels,
     // The sum of the paths' costs.
     pub total: u64,
@@ -41,7 +41,7 @@ impl AgentPath {
         })
     }
 
-    /// The path after a search under these bars: an agent that can't arrive keeps its path.
+    /// The path after a search under these constraints: an agent that can't arrive keeps its path.
     pub fn after(
         &self,
         alloc: Global,
@@ -89,7 +89,7 @@ fn copies(alloc: Global, agent_paths: &[AgentPath]) -> Result<Vec<AgentPath>, Ou
 }
 
 impl WholeNode {
-    /// The root of a tree: these paths, and no bars.
+    /// The root of a tree: these paths, and no constraints.
     pub fn root(alloc: Global, paths: &[Path]) -> Result<WholeNode, OutOfMemory>
         requires { length paths.now ≤ most_agents }
         ensures count { IfOk result (λ node. length node.agent_paths.items ≡ length paths.now) }

@@ -10,18 +10,18 @@ use crate::whole_node::WholeNode;
 use mapf_model::{Conflict, OutOfMemory};
 use std::alloc::Global;
 
-/// A child with all that is found at it, and with its sum where the bound agent still arrives.
+/// A full child, with its sum if the replanned agent still arrives.
 #[derive(Debug, Drop)]
 pub struct WholeChild {
     pub node: WholeNode,
     pub total: Option<u64>,
 }
 
-/// The constraint tree of a search that keeps its nodes whole, numbered as they were made.
+/// The constraint tree of a search with full nodes, numbered as they were made.
 #[derive(Debug, Drop)]
 pub struct WholeTree {
     pub nodes: Vec<WholeNode>,
-    // What became of each node.
+    // The outcome of each node.
     pub fates: Vec<Fate>,
     // How many nodes were split.
     pub splits: u32,
@@ -101,7 +101,7 @@ pub fn least_open(nodes: &[WholeNode], fates: &[Fate]) -> Option<u32>
     least
 }
 
-// The least open node of those in front and this one.
+// The least open node among those before this one and this one.
 fn least_with(nodes: &[WholeNode], fates: &[Fate], least: Option<u32>, k: u32) -> Option<u32>
     requires same { length fates.now ≡ length nodes.now }
     requires inside { k < length nodes.now }

@@ -53,7 +53,7 @@ AreEntries sizes count = AreInOrder Entry (IsEntryFor sizes) IsBefore count
 abbrev pub AreBlocks : Sizes → ℕ → List LabelBlock → Type 0
 AreBlocks sizes count = AreInOrder LabelBlock (IsBlockFor sizes) IsOfLesserAgent count
 
--- the bytes begin with a line that is due
+-- the bytes begin with an expected line
 abbrev pub BeginsWithLine : Due → List ℕ → Type 0
 BeginsWithLine due = BeginsWith CertLine (IsLine due) (line_text (width_of due))
 

@@ -25,12 +25,12 @@ trees_owed_after owed (ClashNode i j) = owed - 1
 abbrev pub HasHeader : ℕ → List ℕ → Type 0
 HasHeader width bytes = BeginsWith (Version × ℕ × Claim) (λ h. IsAgentCount h.1 × IsCertClaim h.0 h.2) (λ h. header_text h.0 width h.1 h.2) bytes
 
--- the bytes are what is still to come of a certificate: some nodes that complete the trees owed, and the end
+-- the bytes are what is still to come of a certificate: some nodes that complete the pending subtrees, and the end
 abbrev pub IsRestAt : Reading → List ℕ → Type 0
 IsRestAt reading bytes = (nodes : List Node) × IsRest reading.version (grid_at reading) (agents_at reading) reading.owed nodes bytes
 
--- what is in the buffer and then still comes from the source spells these nodes, which complete the trees owed, and the end.
--- Of a source that doesn't tell its bytes this is never so
+-- what is in the buffer and then still comes from the source spells these nodes, which complete the pending subtrees,
+-- and the end. Of an opaque source, such as a file, this is never so
 pub record Awaits (remaining : Option (List ℕ)) (reading : Reading) (nodes : List Node) : Type 0 where
   pub bytes : List ℕ
   pub known : remaining ≡ Some bytes
@@ -52,7 +52,7 @@ pub record AwaitsCert (remaining : Option (List ℕ)) (reading : Reading) (versi
   pub text : IsCertText (grid_at reading) reading.owed version agents claim nodes (reading.buffer.bytes ++ bytes)
 
 -- a header was read: its three lines were taken, of which the first gave the version, and what follows it makes a
--- certificate with it, where the source tells its bytes
+-- certificate with it, if the source reports its bytes
 pub record TakesHeader (had left : Option (List ℕ)) (old new : Reading) (agents : ℕ) (claim : Claim) : Type 0 where
   pub agents_in_range : IsAgentCount agents
   pub claim_in_range : IsClaimInRange claim
@@ -67,14 +67,14 @@ pub record CompletesNode (version : Version) (grid : GridMap) (agents : ℕ) (ha
   pub spelled : line_text grid.width line ++ taken ≡ node_text version grid.width node
   pub window : Window had left old new taken
 
--- a node was read: its lines were taken, and a tree was owed
+-- a node was read: its lines were taken, and a subtree was pending
 pub record ReadsNode (had left : Option (List ℕ)) (old new : Reading) (node : Node) : Type 0 where
   pub in_range : IsNode old.version (grid_at old) (agents_at old) node
   pub window : Window had left old.buffer new.buffer (node_text old.version old.width node)
   pub was_owed : 1 ≤ old.owed
   pub owed : new.owed ≡ trees_owed_after old.owed node
 
--- the end was read: no tree is owed, the last line was taken, and the source has ended
+-- the end was read: no subtree is pending, the last line was taken, and the source has ended
 pub record ReadsEnd (had left : Option (List ℕ)) (old new : Reading) : Type 0 where
   pub none_owed : old.owed ≡ 0
   pub window : Window had left old.buffer new.buffer (line_text old.width lines.End)
@@ -82,7 +82,7 @@ pub record ReadsEnd (had left : Option (List ℕ)) (old new : Reading) : Type 0 
   pub empty : new.buffer.bytes ≡ []
   pub owed : new.owed ≡ 0
 
--- so the node is the next one: what completes the trees owed after it makes what completes those owed before it
+-- so the node is the next one: it and what completes the subtrees pending after it complete those pending before it
 pub record TakesNode (had left : Option (List ℕ)) (old new : Reading) (node : Node) : Type 0 where
   pub read : ReadsNode had left old new node
   pub joins : (bytes : List ℕ) → had ≡ Some bytes → (nodes : List Node) → Awaits left new nodes → Awaits had old (node ∷ nodes)

@@ -34,7 +34,7 @@ block_text width block = line_text width (lines.Agent block.agent (length block.
 abbrev pub blocks_text : ℕ → List LabelBlock → List ℕ
 blocks_text width blocks = flat_map (block_text width) blocks
 
--- what the line of a split with these blocks tells of them: in version 2 their number
+-- what the line of a split with these blocks says of them: in version 2 their number
 abbrev pub count_on_split : Version → List LabelBlock → Option ℕ
 count_on_split One blocks = None
 count_on_split Two blocks = Some (length blocks)
@@ -70,13 +70,13 @@ abbrev pub MayBeOnSplit : Version → List LabelBlock → Type 0
 MayBeOnSplit One blocks = blocks ≡ []
 MayBeOnSplit Two blocks = Unit {0}
 
--- the blocks of the node may stand there: in version 1 a split has none
+-- the node may have these blocks: in version 1 a split has none
 abbrev pub IsNodeOfVersion : Version → Node → Type 0
 IsNodeOfVersion version (SplitNode conflict blocks) = MayBeOnSplit version blocks
 IsNodeOfVersion version (LeafNode blocks) = Unit {0}
 IsNodeOfVersion version (ClashNode i j) = Unit {0}
 
--- the blocks of the tree stand where they may: in version 1 at leaves alone
+-- each node of the tree may have its blocks: in version 1 leaves alone have any
 abbrev pub IsTreeOfVersion : Version → ConstraintTree → Type 0
 IsTreeOfVersion One tree = HasBlocksAtLeavesAlone tree
 IsTreeOfVersion Two tree = Unit {0}

@@ -1,4 +1,4 @@
--- What an entry's line at the front of bytes is read to.
+-- What an entry's line at the beginning of bytes is read to.
 use Rattle.std.specs.Prelude.{◌≡◌, ◌≤◌, ◌==◌, ℕ, List, [], ◌∷◌, ◌++◌, codes, length, drop, Result, Ok, Err, if◌then◌else◌}
 use Rattle.std.specs.Option.{option_map_or}
 use Rattle.mapf_model.specs.Limits.{greatest_cost}

@@ -49,7 +49,7 @@ read_claim version bs =
     if bytes_eq bs (codes "claim impossible") then Ok (lines.Claim claims.Impossible) else
     option_map_or (λ rest. read_cost rest >>= λ n. Ok (lines.Claim (claims.Cost n))) (strip (codes "claim cost") bs) (read_bound_claim version bs)
 
--- the number of blocks at the end of a split's line, which version 1 doesn't tell
+-- the number of blocks at the end of a split's line, which version 1 doesn't have
 unfoldable pub read_blocks : Version → List ℕ → Result (Option (Option ℕ)) LineFault
 read_blocks One [] = Ok None
 read_blocks One (b ∷ bs) = Err Shape
@@ -148,7 +148,7 @@ read_tree_line sizes bs =
     (option_map_or (read_clash sizes) (strip (codes "clash") bs)
     (if bytes_eq bs (codes "end") then Ok lines.End else Err Shape))))))
 
--- the line that is due
+-- the line that is expected
 abbrev pub read_line : Due → List ℕ → Result CertLine LineFault
 read_line dues.Title bs = read_title bs
 read_line dues.Agents bs = read_agents bs

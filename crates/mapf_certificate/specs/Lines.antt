@@ -32,7 +32,7 @@ abbrev pub title_words : Version → List ℕ
 title_words One = codes "mapf-cert 1"
 title_words Two = codes "mapf-cert 2"
 
--- a blank and the number of blocks on a split; nothing where the line doesn't tell it
+-- a blank and the number of blocks on a split; nothing if the line doesn't have it
 abbrev pub count_words : Option ℕ → List ℕ
 count_words None = []
 count_words (Some blocks) = field 32 blocks
@@ -68,7 +68,7 @@ grid_of width height = record { width = width; height = height; free = [] }
 abbrev pub grid_for : Sizes → GridMap
 grid_for sizes = grid_of sizes.width sizes.height
 
--- what the line of a split tells of its blocks: nothing in version 1, in version 2 their number, at most one for each
+-- what the line of a split says of its blocks: nothing in version 1, in version 2 their number, at most one for each
 -- agent
 abbrev pub IsCountOnSplit : Version → ℕ → Option ℕ → Type 0
 IsCountOnSplit One agents blocks = blocks ≡ None
@@ -113,14 +113,14 @@ abbrev pub IsAgentsLine : CertLine → Type 0
 IsAgentsLine (lines.Agents agents) = IsAgentCount agents
 IsAgentsLine _ = ⊥
 
--- a line that is due, with its numbers in their ranges
+-- an expected line, with its numbers in their ranges
 abbrev pub IsLine : Due → CertLine → Type 0
 IsLine dues.Title line = IsTitleLine line
 IsLine dues.Agents line = IsAgentsLine line
 IsLine (dues.Claim version) line = IsClaimLine version line
 IsLine (dues.Tree sizes) line = IsTreeLine sizes.version (grid_for sizes) sizes.agents line
 
--- the width by which a line's pairs are told; lines without pairs need none
+-- the grid's width, by which a line's cells are written as x,y; lines without cells need none
 abbrev pub width_of : Due → ℕ
 width_of (dues.Tree sizes) = sizes.width
 width_of _ = 1

@@ -28,7 +28,7 @@ use Rattle.mapf_certificate.specs.LineReading.{read_count, read_cost}
 abbrev pub agents_words : ℕ → List ℕ
 agents_words agents = codes "agents" ++ field 32 agents
 
--- what a limit tells of its bound: nothing, or the word and the number
+-- what a limit says of its bound: nothing, or the word and the number
 abbrev pub bound_words : Option ℕ → List ℕ
 bound_words None = []
 bound_words (Some bound) = codes " bound" ++ field 32 bound
@@ -65,7 +65,7 @@ read_agents_line bs = option_map_or read_count (strip (codes "agents") bs) (Err 
 unfoldable pub read_cause : List ℕ → Result (CauseWord × List ℕ) LineFault
 read_cause bs = option_map_or (λ rest. Ok (causes.Ticks, rest)) (strip (codes " ticks") bs) (read_field 32 bs >>= λ count. Ok (causes.Splits count.0, count.1))
 
--- the bound at the end of a limit's line, which version 1 doesn't tell
+-- the bound at the end of a limit's line, which version 1 doesn't have
 unfoldable pub read_bound : Version → List ℕ → Result (Option (Option ℕ)) LineFault
 read_bound One [] = Ok None
 read_bound One (b ∷ bs) = Err Shape
@@ -110,7 +110,7 @@ read_path_front bs = option_map_or (λ rest. read_field 32 rest >>= λ agent. re
 unfoldable pub next_line : ℕ → List ℕ → Result (List ℕ × List ℕ) PlanTextFault
 next_line n bs = option_map_or (λ p. Ok p) (cut bs) (Err (P2 n))
 
--- a line's fault by its number
+-- a line's error, with the line's number
 abbrev pub fault_at : {A : Type 0} → ℕ → Result A LineFault → Result A PlanTextFault
 fault_at n (Ok x) = Ok x
 fault_at n (Err Shape) = Err (P1 n)

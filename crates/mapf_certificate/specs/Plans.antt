@@ -98,14 +98,14 @@ abbrev pub SpellsOnePlan : Type 0
 SpellsOnePlan = (grid : GridMap) (bytes : List ℕ) (text other : PlanText) → IsGridMap grid → IsPlanText grid text → IsPlanText grid other
     → bytes ≡ plan_text grid.width text → bytes ≡ plan_text grid.width other → text ≡ other
 
--- these paths, one for each agent, stand at the front of the bytes, and this is left
+-- the bytes begin with these paths, one for each agent, and this is left
 pub record ArePaths (grid : GridMap) (agents : ℕ) (bytes : List ℕ) (paths : List (List ℕ)) (sum : ℕ) (rest : List ℕ) : Type 0 where
   pub count : length paths ≡ agents
   pub in_range : All (IsPathInRange grid) paths
   pub costs : sum ≡ cost_of paths
   pub spelled : bytes ≡ paths_text grid.width 0 paths ++ rest
 
--- these cells of the grid stand at the front of the bytes, and this is left
+-- the bytes begin with these cells of the grid, and this is left
 pub record HasCells (grid : GridMap) (bytes cells rest : List ℕ) : Type 0 where
   pub in_range : All (IsOnGrid grid) cells
   pub spelled : bytes ≡ cells_text grid.width cells ++ rest
@@ -122,7 +122,8 @@ pub record PathsGoOn (width due : ℕ) (plan paths : List (List ℕ)) (rest left
   pub same : plan ≡ paths ++ others
   pub spelled : left ≡ paths_text width due others ++ rest
 
--- the numbers of a path's line go together: its agent is due, and the cost is one less than the count of its cells
+-- the numbers of a path's line go together: its agent is the expected one, and the cost is one less than the count of
+-- its cells
 pub record IsPathOf (agents : ℕ) (agent cost : Option ℕ) (due : ℕ) (are_cells : Bool) (count : ℕ) : Type 0 where
   pub agent_is : agent ≡ Some due
   pub agent_in_range : due < agents

@@ -29,15 +29,15 @@ pub record IsReading (r : Reading) : Type 0 where
   pub bounded : r.owed + spare r.buffer ≤ 2 ^ 64
   pub faults : IfSome r.fault IsNotTextMemory
 
--- this, where no fault was answered
+-- this, where no error was answered
 abbrev pub IfUnfaulted : Reading → Type 0 → Type 0
 IfUnfaulted r P = r.fault ≡ None → P
 
--- this, where the header is due: neither it nor a fault was answered
+-- this, where the header is expected: neither it nor an error was answered
 abbrev pub IfHeaderDue : Reading → Type 0 → Type 0
 IfHeaderDue r P = r.fault ≡ None → r.header ≡ None → P
 
--- this, where an item or the end is due: neither the end nor a fault was answered
+-- this, where an item or the end is expected: neither the end nor an error was answered
 abbrev pub IfItemDue : Reading → Type 0 → Type 0
 IfItemDue r P = r.fault ≡ None → r.is_whole ≡ false → P
 

@@ -16,6 +16,6 @@ TakesThere source_old source_new old new taken = (rest : List ℕ) → old.bytes
 abbrev pub HasLine : Buffered → Type 0
 HasLine buffer = (lacks_end (take 65 buffer.bytes) ≡ false) ⊎ (64 < length buffer.bytes)
 
--- where a line is in the buffer that isn't of the kind that is due, the source is as it was
+-- where a line is in the buffer that isn't of the expected kind, the source is as it was
 abbrev pub RefusesThere : {S : Type 0} → S → S → Buffered → (List ℕ → Type 0) → Type 0
 RefusesThere source_old source_new buffer IsDue = HasLine buffer → (IsDue buffer.bytes → ⊥) → source_new ≡ source_old

@@ -52,11 +52,11 @@ Fails had left failed buffer IsText Device = (failed ≡ true) × ComesWithin ha
 Fails had left failed buffer IsText TooLong = (failed ≡ false) × Exceeds had left buffer
 Fails had left failed buffer IsText Memory = (failed ≡ false) × ComesWithin had left buffer
 
--- the fault isn't a fault of the text which only says that memory was refused
+-- the error isn't one of the text that only says that memory was refused
 abbrev pub IsNotTextMemory : LinesFault → Type 0
 IsNotTextMemory fault = fault ≢ Text texts.Memory
 
--- the fault isn't one of the text
+-- the error isn't one of the text
 abbrev pub IsNoTextFault : LinesFault → Type 0
 IsNoTextFault (Text fault) = ⊥
 IsNoTextFault _ = Unit {0}
@@ -68,13 +68,13 @@ StopsReader had left failed buffer Device = failed ≡ true
 StopsReader had left failed buffer TooLong = Exceeds had left buffer
 StopsReader had left failed buffer Memory = Unit {0}
 
--- the fault is one of the text
+-- the error is one of the text
 abbrev pub IsTextFault : LinesFault → Type 0
 IsTextFault (Text texts.Memory) = ⊥
 IsTextFault (Text _) = Unit {0}
 IsTextFault _ = ⊥
 
--- the fault that says why no line is there
+-- the error that says why no line is there
 abbrev pub Tells : NoLine → LinesFault → Type 0
 Tells stops.Ended fault = IsTextFault fault
 Tells stops.Overlong fault = IsTextFault fault

@@ -11,8 +11,8 @@ pub struct Cert {
     pub tree: Vec<Item>,
 }
 
-/// Why bytes spell no certificate, with a line counted from 1. It is proved that they spell none; that
-/// this fault is the first, in this line, is only tested.
+/// Why bytes spell no certificate, with a line counted from 1. It is proved that they spell none;
+/// that this error is the first, and its line, is only tested.
 #[derive(Clone, Copy, Debug, PartialEq, Eq)]
 pub enum CertFault {
     /// This line has a wrong shape, is longer than 64 bytes, or doesn't fit where it stands.

@@ -39,11 +39,11 @@ pub struct CertLines {
     // What the first line said, where the header was read.
     version: Version,
     header: Option<(u32, Claim)>,
-    // The fault that was answered.
+    // The error that was answered.
     fault: Option<LinesFault>,
     // Whether the whole certificate was read.
     is_whole: bool,
-    // How many trees are still to come.
+    // How many subtrees are pending.
     owed: u64,
     // The line of the first word of the item given last.
     item_line: u64,
@@ -131,7 +131,7 @@ impl CertLines {
     /// The number of agents, 1 to 200, and the claim.
     pub fn header<S: Source>(&mut self, source: &mut S) -> Result<(u32, Claim), LinesFault>
         requires works { self.old.fault ≡ None → S.has_failed source.old ≡ false }
-        // A fault is answered again, and so is the header, without a look at the source.
+        // An error is answered again, and so is the header, without a look at the source.
         ensures faulted { IfErr result (λ fault. self.new.fault ≡ Some fault) }
         ensures repeats_fault { IfSome self.old.fault (λ fault.
             (result ≡ Err fault) × IsUntouched self.old self.new source.old source.new) }
@@ -156,7 +156,8 @@ impl CertLines {
         // Nor is it touched where a line is in the buffer that isn't the first of a certificate.
         ensures refused { IfUnfaulted self.old (RefusesThere source.old source.new self.old.buffer
             (BeginsWith CertLine IsTitleLine (line_text 1))) }
-        // Whether the source failed, and how many bytes came of it; a fault of the text is never out of memory.
+        // Whether the source failed, and how many bytes came of it; an error of the text is never
+        // out of memory.
         ensures device { IfUnfaulted self.old
             (IsErrOf result LinesFault.Device ↔ (S.has_failed source.new ≡ true)) }
         ensures pulls { IfUnfaulted self.old (Pulls (S.remaining source.old) (S.remaining source.new)
@@ -193,7 +194,7 @@ impl CertLines {
     pub fn next_item<S: Source>(&mut self, source: &mut S) -> Result<Option<Item>, LinesFault>
         requires works { self.old.fault ≡ None → S.has_failed source.old ≡ false }
         requires header { self.old.fault ≡ None → IsSome self.old.header }
-        // A fault is answered again, and so is the end, without a look at the source.
+        // An error is answered again, and so is the end, without a look at the source.
         ensures faulted { IfErr result (λ fault. self.new.fault ≡ Some fault) }
         ensures repeats_fault { IfSome self.old.fault (λ fault.
             (result ≡ Err fault) × IsUntouched self.old self.new source.old source.new) }
@@ -223,7 +224,8 @@ impl CertLines {
         ensures refused { IfUnfaulted self.old (RefusesThere source.old source.new self.old.buffer
             (BeginsWith CertLine (IsTreeLine self.old.version (grid_at self.old) (agents_at self.old))
             (line_text self.old.width))) }
-        // Whether the source failed, and how many bytes came of it; a fault of the text is never out of memory.
+        // Whether the source failed, and how many bytes came of it; an error of the text is never
+        // out of memory.
         ensures device { IfUnfaulted self.old
             (IsErrOf result LinesFault.Device ↔ (S.has_failed source.new ≡ true)) }
         ensures pulls { IfUnfaulted self.old (Pulls (S.remaining source.old) (S.remaining source.new)

@@ -147,12 +147,12 @@ impl TextWriter {
         self.page.flush(sink)
     }
 
-    /// Writes a certificate: its header, its items and `end`. `read_cert` reads it back where the number of
-    /// agents, the claim and the numbers of the items are in the ranges of docs/FORMATS.md, the agents of
-    /// each node's blocks and the entries of each block rise, and the items are those of one tree. Any other
-    /// certificate is written too, and its text isn't read. In version 1 there is no place for blocks on
-    /// splits, nor is a bound claimed. `Failed` is answered only where the sink failed, and then it got a
-    /// front of that text.
+    /// Writes a certificate: its header, its items and `end`. `read_cert` reads it back where the
+    /// number of agents, the claim and the numbers of the items are in the ranges of
+    /// docs/FORMATS.md, the agents of each node's blocks and the entries of each block rise, and
+    /// the items are those of one tree. Any other certificate is written too, and its text isn't
+    /// read. In version 1 there is no place for blocks on splits, nor is a bound claimed. `Failed`
+    /// is answered only where the sink failed, and then it got a prefix of that text.
     pub fn cert<K: Sink>(&mut self, sink: &mut K, cert: &Cert) -> Result<(), Failed>
         requires works { K.has_failed sink.old ≡ false }
         requires empty { self.old.page ≡ [] }

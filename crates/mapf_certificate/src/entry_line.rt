@@ -50,8 +50,9 @@ fn entry_parts<'a>(bytes: &'a [u8], sizes: &Sizes) -> Result<(Entry, &'a [u8]), 
     Ok((entry, rest))
 }
 
-/// The entry whose line bytes begin with, and what follows the LF, in one pass from left to right. Where
-/// bytes begin with no such line, `line_of` tells what is wrong with them, and not this fault.
+/// The entry whose line bytes begin with, and what follows the LF, in one pass from left to right.
+/// Where bytes begin with no such line, `line_of` reports what is wrong with them, and not this
+/// error.
 #[tactic(auto, unfolding(crate::specs::EntryReading::read_entry_front))]
 #[inline(always)]
 pub fn entry_front<'a>(bytes: &'a [u8], sizes: &Sizes) -> Result<(Entry, &'a [u8]), LineFault>

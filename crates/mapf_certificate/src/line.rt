@@ -9,7 +9,7 @@ pub enum CertLine {
     Claim(Claim),
     Split {
         conflict: Conflict,
-        // The number of its blocks, which version 1 doesn't tell.
+        // The number of its blocks, which version 1 doesn't have.
         blocks: Option<u64>,
     },
     Leaf(u64),

@@ -17,7 +17,7 @@ pub enum AnswerLine {
     Impossible,
     Limit {
         cause: Cause,
-        // The bound, which version 1 doesn't tell.
+        // The bound, which version 1 doesn't have.
         bound: Option<u64>,
     },
 }
@@ -66,7 +66,7 @@ fn cause_word(rest: &[u8]) -> Result<(CauseWord, &[u8]), LineFault>
     Ok((CauseWord::Splits(splits), rest))
 }
 
-/// The bound at the end of a limit's line, which version 1 doesn't tell.
+/// The bound at the end of a limit's line, which version 1 doesn't have.
 #[tactic(auto, unfolding(crate::specs::PlanReading::read_bound))]
 fn bound_word(version: Version, rest: &[u8]) -> Result<Option<Option<u64>>, LineFault>
     ensures { result ≡ read_bound version rest.now }

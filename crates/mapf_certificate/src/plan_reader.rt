@@ -39,7 +39,7 @@ fn fault_of_line(number: u64, fault: LineFault) -> PlanTextFault
     }
 }
 
-/// Takes the line that is due, of these words.
+/// Takes the expected line, of these words.
 #[tactic(auto, unfolding(crate::specs::PlanReading::next_words))]
 fn take_words<'a>(number: u64, words: &[u8], bytes: &'a [u8]) -> Result<&'a [u8], PlanTextFault>
     ensures { Gives (λ r. r.now) result (next_words number words.now bytes.entry.now) }
@@ -151,7 +151,7 @@ fn pairs_of(alloc: Global, number: u64, bytes: &[u8], sizes: &Sizes) -> Result<P
     Ok(Pairs { cells, are_cells })
 }
 
-/// The path of the agent that is due.
+/// The path of the agent whose line is expected.
 fn path_of(
     alloc: Global,
     number: u64,
@@ -191,7 +191,7 @@ fn tight(cells: Vec<Cell>) -> Option<Path>
     }
 }
 
-/// Whether the agent is the one that is due, the cost goes with the number of pairs, and all are in
+/// Whether the agent is the expected one, the cost goes with the number of pairs, and all are in
 /// their ranges.
 fn judge_path(
     agent: Option<u64>,

@@ -23,8 +23,8 @@ pub struct PlanText {
     pub answer: PlanAnswer,
 }
 
-/// Why bytes spell no plan text, with a line counted from 1. It is proved that they spell none; that
-/// this fault is the first, in this line, is only tested.
+/// Why bytes spell no plan text, with a line counted from 1. It is proved that they spell none;
+/// that this error is the first, and its line, is only tested.
 #[derive(Clone, Copy, Debug, PartialEq, Eq)]
 pub enum PlanTextFault {
     /// This line has a wrong shape, or doesn't fit where it stands. Line 3 also where its cost isn't

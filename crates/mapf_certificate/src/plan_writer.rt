@@ -133,8 +133,8 @@ impl TextWriter {
         Ok(())
     }
 
-    /// Writes a plan text. `Failed` is answered only where the sink failed, and then it got a front of that
-    /// text.
+    /// Writes a plan text. `Failed` is answered only where the sink failed, and then it got a
+    /// prefix of that text.
     pub fn plan<K: Sink>(&mut self, sink: &mut K, text: &PlanText) -> Result<(), Failed>
         requires works { K.has_failed sink.old ≡ false }
         requires empty { self.old.page ≡ [] }

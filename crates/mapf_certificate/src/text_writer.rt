@@ -11,12 +11,12 @@ use mapf_model::{Entry, Failed, Grid, Sink};
 /// How many bytes a line takes at most.
 pub const LINE_ROOM: usize = 189;
 
-/// Writes the texts of a grid, a line at a time, by way of a page. It takes no memory but its own.
+/// Writes the texts of a grid, a line at a time, by way of a page. It allocates nothing.
 #[derive(Drop)]
 pub struct TextWriter {
     /// What waits to be pushed.
     pub page: Page,
-    /// The grid's, by which cells are told.
+    /// The grid's width, by which cells are written as x,y.
     pub width: u32,
     ghost some: { 0 < width },
 }

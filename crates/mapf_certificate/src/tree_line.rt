@@ -14,7 +14,7 @@ use mapf_fields::{LineFault, below, field, from_one_to, last, pair, strip, up_to
 use mapf_model::limits::{GREATEST_COST, GREATEST_SUM, LAST_SPLIT_TICK, MOST_AGENTS};
 use mapf_model::{Claim, Conflict, Entry, Label};
 
-/// Which line of a certificate is due.
+/// Which line of a certificate is expected.
 #[derive(Clone, Copy)]
 pub enum Due {
     Title,
@@ -91,7 +91,7 @@ fn claim_line(version: Version, bytes: &[u8]) -> Result<CertLine, LineFault>
     }
 }
 
-/// The number of blocks at the end of a split's line, which version 1 doesn't tell.
+/// The number of blocks at the end of a split's line, which version 1 doesn't have.
 #[tactic(auto, unfolding(crate::specs::LineReading::read_blocks))]
 fn blocks_word(version: Version, rest: &[u8]) -> Result<Option<Option<u64>>, LineFault>
     ensures { result ≡ read_blocks version rest.now }
@@ -259,7 +259,7 @@ fn tree_line(bytes: &[u8], sizes: &Sizes) -> Result<CertLine, LineFault>
 /// Reads a line of a certificate.
 #[inline(always)]
 pub fn line_of(due: &Due, bytes: &[u8]) -> Result<CertLine, LineFault>
-    // What is read is a line that is due, spelled so.
+    // What is read is an expected line, spelled so.
     ensures found { IfOk result (λ line. IsLine due.now line × (bytes.now ≡ words (width_of due.now) line)) }
     ensures some { OnOk result (0 < length bytes.now) }
     // What is spelled so is read.

@@ -1,10 +1,10 @@
 /// The version of a text.
 #[derive(Clone, Copy, Debug, PartialEq, Eq)]
 pub enum Version {
-    /// In a certificate blocks stand at leaves alone and no bound is claimed; in a plan text a limit
-    /// tells no bound.
+    /// In a certificate leaves alone have blocks and no bound is claimed; in a plan text a limit
+    /// has no bound.
     One,
-    /// In a certificate blocks may stand on splits too and a bound may be claimed; in a plan text a
-    /// limit tells a bound.
+    /// In a certificate splits may have blocks too and a bound may be claimed; in a plan text a
+    /// limit has a bound.
     Two,
 }

@@ -49,8 +49,8 @@ pub fn may_conflict(here: &[Cell], next: &[Cell]) -> bool
     false
 }
 
-// The same, of agent `i` and those above it. The loop has no way out, so that it is compiled to steps
-// over several agents at once.
+// The same, of agent `i` and those above it. The loop has no early exit, so that it is compiled to
+// instructions over several agents at once.
 fn may_conflict_after(here: &[Cell], next: &[Cell], i: usize) -> bool
     requires place { i < length here.now }
     requires size { length next.now ≡ length here.now }

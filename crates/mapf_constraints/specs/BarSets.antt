@@ -3,12 +3,12 @@ use Rattle.std.specs.Prelude.{ℕ, ◌<◌, ◌≤◌, List, Contains, Option, N
 use Rattle.mapf_model.specs.declared.bar.Bar.{Bar}
 use Rattle.mapf_model.specs.declared.bar.Bar.TheVariants.{Cell, Move}
 
--- the tick at which the bar stands
+-- the tick of the bar
 abbrev pub tick_of : Bar → ℕ
 tick_of (Cell cell tick) = tick
 tick_of (Move from to tick) = tick
 
--- each bar stands below this tick
+-- each bar's tick is below this one
 abbrev pub AreBefore : ℕ → List Bar → Type 0
 AreBefore bound bars = (bar : Bar) → Contains bars bar → tick_of bar < bound
 
@@ -17,7 +17,7 @@ pub record IsHorizon (bars : List Bar) (horizon : ℕ) : Type 0 where
   pub above : AreBefore horizon bars
   pub least : (bound : ℕ) → AreBefore bound bars → horizon ≤ bound
 
--- the greatest tick at which the cell is barred, None if it never is
+-- the greatest tick at which the cell is forbidden, None if it never is
 abbrev pub IsLastOn : List Bar → ℕ → Option ℕ → Type 0
 IsLastOn bars cell None = (tick : ℕ) → Contains bars (Cell cell tick) → ⊥
 IsLastOn bars cell (Some last) = Contains bars (Cell cell last) × ((tick : ℕ) → Contains bars (Cell cell tick) → tick ≤ last)

@@ -21,7 +21,8 @@ chain_of tick = tick % 64
 abbrev pub chain_at : List Link → ℕ → ℕ
 chain_at links place = chain_of (tick_of (link_at links place).bar)
 
--- among the first `end` links the newest of the chain is the last of the first `count`; where the count is 0, the chain has none there
+-- among the first `end` links the newest of the chain is the last of the first `count`; where the count is 0, the chain
+-- has none there
 pub record IsNewest (links : List Link) (end chain count : ℕ) : Type 0 where
   pub within : count ≤ end
   pub own : (place : ℕ) → place + 1 ≡ count → chain_at links place ≡ chain

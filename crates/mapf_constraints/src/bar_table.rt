@@ -8,7 +8,7 @@ ghost use Rattle.mapf_constraints.specs.BarSets.{tick_of, IsHorizon, IsLastOn};
 use mapf_model::{Bar, Cell, OutOfMemory, Tick};
 use std::alloc::Global;
 
-/// A finite set of bars of one agent, all of them at ticks below 1,000,000.
+/// A finite set of bars, the constraints of one agent, all of them at ticks below 1,000,000.
 pub trait BarTable: Drop {
     /// The bars. Only their membership counts.
     ghost bars: { Self → List Bar };
@@ -25,7 +25,7 @@ pub trait BarTable: Drop {
     fn bars_move(&self, from: Cell, to: Cell, tick: Tick) -> bool
         ensures { IsTrue result ↔ Contains (bars self.now) (Bar.Move from to tick) };
 
-    /// The greatest tick at which the cell is barred, None if it never is.
+    /// The greatest tick at which the cell is forbidden, None if it never is.
     fn last_on(&self, cell: Cell) -> Option<Tick>
         ensures { IsLastOn (bars self.now) cell result };
 

@@ -7,7 +7,7 @@ ghost use Rattle.mapf_constraints.specs.BarSets.{tick_of, IsHorizon, IsLastOn};
 
 use mapf_model::{Bar, Cell, Tick};
 
-/// The greatest tick at which the cell is barred, once the bar is added.
+/// The greatest tick at which the cell is forbidden, once the bar is added.
 pub fn last_with(last: Option<Tick>, bar: &Bar, cell: Cell) -> Option<Tick>
     ensures { (before after : List Bar) → IsLastOn before cell last
         → AreSameBars after (bar.now ∷ before) → IsLastOn after cell result }
@@ -37,7 +37,7 @@ pub fn horizon_with(horizon: Tick, bar: &Bar) -> Tick
     horizon.max(tick(bar) + 1)
 }
 
-/// The tick at which the bar stands.
+/// The tick of the bar.
 pub fn tick(bar: &Bar) -> Tick
     ensures { result ≡ tick_of bar.now }
 {

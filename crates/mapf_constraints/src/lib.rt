@@ -1,4 +1,4 @@
-//! Which cells and moves are barred to one agent?
+//! Which cells and moves are forbidden to one agent?
 #![tactic(auto)]
 
 mod bar_table;

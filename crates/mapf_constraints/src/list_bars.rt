@@ -68,7 +68,7 @@ impl BarTable for ListBars {
     }
 }
 
-/// The greatest tick at which one of the bars stands on the cell.
+/// The greatest tick at which one of the bars forbids the cell.
 fn last_among(bars: &[Bar], cell: Cell) -> Option<Tick>
     ensures { IsLastOn bars.now cell result }
 {

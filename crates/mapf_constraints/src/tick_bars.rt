@@ -110,7 +110,7 @@ impl TickBars {
     }
 }
 
-/// The greatest tick at which a bar of the links stands on the cell.
+/// The greatest tick at which a bar of the links forbids the cell.
 fn last_among(links: &[Link], cell: Cell) -> Option<Tick>
     ensures { IsLastOn (bars_of links.now) cell result }
 {

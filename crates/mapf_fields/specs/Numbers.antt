@@ -15,7 +15,7 @@ abbrev pub pair : ℕ → ℕ → List ℕ
 pair width cell = field 32 (cell % width) ++ field 44 (cell / width)
 
 infixl 10 ◌>>=◌
--- what follows a part that was good; else its fault
+-- what follows a part that was good; else its error
 abbrev pub ◌>>=◌ : {A B E : Type 0} → Result A E → (A → Result B E) → Result B E
 (Ok x) >>= f = f x
 (Err e) >>= f = Err e
@@ -41,11 +41,11 @@ begins_well (c ∷ cs) = not (c == 48)
 unfoldable pub small_value : List ℕ → Option ℕ
 small_value ds = if nat_lt (digits_value 10 ds) (2 ^ 64) then Some (digits_value 10 ds) else None
 
--- the digits at the front
+-- the leading digits
 abbrev pub front_digits : List ℕ → List ℕ
 front_digits bs = take_while is_ascii_digit bs
 
--- what follows the digits at the front
+-- what follows the leading digits
 abbrev pub after_digits : List ℕ → List ℕ
 after_digits bs = drop (length (front_digits bs)) bs
 

@@ -5,7 +5,7 @@ ghost use Rattle.mapf_fields.specs.Numbers.{read_field, read_last, read_pair, re
 
 use crate::fault::LineFault;
 
-/// What follows the front, where the bytes begin with it; else None.
+/// What follows this prefix if the bytes begin with it, else None.
 pub fn strip<'a>(bytes: &'a [u8], front: &[u8]) -> Option<&'a [u8]>
     ensures { option_map (λ r. r.now) result ≡ strip front.now bytes.entry.now }
 {

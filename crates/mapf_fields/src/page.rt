@@ -10,7 +10,7 @@ use std::marker::Model;
 /// How many bytes are gathered at most: thousands of lines go out by one push, and a stack has room for them.
 const ROOM: usize = 65_536;
 
-/// Bytes that wait to be pushed together. It takes no memory but its own.
+/// Bytes that wait to be pushed together. The buffer is part of the value, so nothing is allocated.
 #[derive(Drop)]
 pub struct Page {
     bytes: [u8; ROOM],

@@ -22,8 +22,8 @@ IsTrivialCause problem (SharedStart i j) = ShareStart problem i j
 IsTrivialCause problem (SharedGoal i j) = ShareGoal problem i j
 IsTrivialCause problem UnreachableGoal = (i : ℕ) × HasUnreachableGoal problem i
 
--- without any search one sees why no plan is valid: two agents share a start, two agents share a goal, or an agent's goal
--- can't be reached from its start
+-- without any search one sees why no plan is valid: two agents share a start, two agents share a goal, or an agent's
+-- goal can't be reached from its start
 abbrev pub IsTriviallyImpossible : Instance → Type 0
 IsTriviallyImpossible problem = (cause : TrivialCause) × IsTrivialCause problem cause
 

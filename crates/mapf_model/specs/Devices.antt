@@ -3,8 +3,8 @@ use Rattle.std.specs.Prelude.{ℕ, suc, zero, min, Bool, List, Option, None, Som
 use Rattle.mapf_model.specs.declared.devices.Pace.{Pace}
 use Rattle.mapf_model.specs.declared.devices.Pace.TheVariants.{ByteByByte, AllAtOnce}
 
--- a source: the bytes that are left, how many it gives in a call, how many calls it still stands (None: any
--- number), and whether it failed
+-- a source: the bytes that are left, how many it gives in a call, how many calls it still allows (None: any number),
+-- and whether it failed
 pub record FuseReads : Type 0 where
   pub remaining : List ℕ
   pub pace : Pace
@@ -24,7 +24,7 @@ abbrev pub moved : Pace → ℕ → ℕ
 moved ByteByByte bytes = min bytes 1
 moved AllAtOnce bytes = bytes
 
--- how many calls a device stands after one more
+-- how many calls a device allows after one more
 abbrev pub call_more : Option ℕ → Option ℕ
 call_more None = None
 call_more (Some zero) = Some 0

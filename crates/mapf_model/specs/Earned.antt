@@ -1,5 +1,5 @@
--- Trees whose splits stand on earliest conflicts of cheapest paths, at nodes no dearer than any end: what
--- best-first expansion makes. (Sharon et al. 2015: least sum first; the terms are own)
+-- Trees whose splits name earliest conflicts of cheapest paths, at nodes with a sum of costs no greater than any
+-- leaf's: what best-first expansion makes. (Sharon et al. 2015: least sum first; the terms are own)
 use Rattle.std.specs.Prelude.{◌≡◌, ◌≢◌, ℕ, ◌<◌, ◌≤◌, List, Some, length, slice_get}
 use Rattle.mapf_model.specs.declared.bar.Bar.TheVariants.{Cell, Move}
 use Rattle.mapf_model.specs.declared.problem.Agent.{Agent}
@@ -21,7 +21,7 @@ pub record AreCheapest (problem : Instance) (context : NodeContext) (paths : Lis
   pub least : (i : ℕ) (agent : Agent) (path other : List ℕ) (cost other_cost : ℕ) → slice_get problem.agents i ≡ Some agent → slice_get paths i ≡ Some path →
       IsConsistentPath problem context i agent other → IsCost agent.goal path cost → IsCost agent.goal other other_cost → cost ≤ other_cost
 
--- cheapest paths at this node, whose sum is at most that of any cheapest paths at an end of the tree
+-- cheapest paths at this node, with a sum of costs no greater than any leaf's
 pub record AreDue (problem : Instance) (tree : ConstraintTree) (context : NodeContext) (paths : List (List ℕ)) (total : ℕ) : Type 0 where
   pub cheapest : AreCheapest problem context paths
   pub sum : IsSumOfCosts problem.agents paths total
@@ -49,7 +49,7 @@ HaveSomeConflict paths = (i : ℕ) × (j : ℕ) × (tick : ℕ) × (p : List ℕ
 abbrev pub HaveConflictBefore : List (List ℕ) → ℕ → Type 0
 HaveConflictBefore paths end = (conflict : Conflict) × HasConflict paths conflict × (tick_of conflict < end)
 
--- a split stands on the earliest conflict of paths that are due there
+-- a split names the earliest conflict of due paths
 abbrev pub IsEarnedNode : Instance → ConstraintTree → NodeContext → ConstraintTree → Type 0
 IsEarnedNode problem tree context (Split conflict blocks left right) = (paths : List (List ℕ)) × (total : ℕ) × AreDue problem tree context paths total × HasConflict paths conflict × AreConflictFreeBefore paths (tick_of conflict)
 IsEarnedNode problem tree context (Leaf blocks) = Unit {0}

@@ -33,12 +33,12 @@ entry cell tick label = record { cell = cell; tick = tick; label = label }
 abbrev pub agent : ℕ → ℕ → Agent
 agent start goal = record { start = start; goal = goal }
 
--- an agent from the left of the square to its right that is barred from the middle at tick 1 may wait, so at
--- the start 3 ticks are left and not 4
+-- an agent from the left of the square to its right that may not be in the middle at tick 1 may wait, so at the start 3
+-- ticks are left and not 4
 abbrev pub WaitingBoundsALabel : Type 0
 WaitingBoundsALabel = AreSound open_square 5 (Cell 4 1 ∷ []) (entries_of (entry 3 0 (Ticks 4) ∷ [])) → ⊥
 
--- no label is raised at a goal that no bar touches
+-- no label is raised at a goal that no constraint forbids
 abbrev pub NoLabelIsRaisedAtAFreeGoal : Type 0
 NoLabelIsRaisedAtAFreeGoal = AreSound open_square 7 (Cell 4 1 ∷ []) (entries_of (entry 1 0 (Ticks 3) ∷ entry 7 0 (Ticks 1) ∷ [])) → ⊥
 
@@ -66,7 +66,7 @@ neighbours = record { grid = two_cells; agents = agent 0 1 ∷ agent 1 0 ∷ [] 
 abbrev pub SwappingIsNoPlan : Type 0
 SwappingIsNoPlan = IsValid neighbours ((0 ∷ 1 ∷ []) ∷ (1 ∷ 0 ∷ []) ∷ []) → ⊥
 
--- the children of a split on a swap: the first agent is barred from its move, the second from its own
+-- the children of a split on a swap: the first agent is forbidden its move, the second its own
 abbrev pub EachChildBarsItsAgent : Type 0
 EachChildBarsItsAgent =
     ((left_child_context root (Swap 0 1 3 4 5) []).bars 0 ≡ Move 3 4 5 ∷ []) × ((left_child_context root (Swap 0 1 3 4 5) []).bars 1 ≡ []) ×
@@ -99,7 +99,7 @@ ChildrenInheritLabels =
     ((right_below (left_below root (block 0 (entry 3 0 (Ticks 4)))) (block 0 (entry 3 1 (Ticks 3)))).entries 0 3 0 ≡ None) ×
     ((right_below (left_below root (block 0 (entry 3 0 (Ticks 4)))) (block 1 (entry 3 1 (Ticks 3)))).entries 0 3 0 ≡ Some (Ticks 4))
 
--- a split's block is judged without the constraints that its children add: nothing bars the first agent from the
+-- a split's block is judged without the constraints that its children add: no constraint keeps the first agent from the
 -- middle yet, so from its start no 3 ticks are left
 abbrev pub SplitsAreJudgedByTheirOwnBars : Type 0
 SplitsAreJudgedByTheirOwnBars = AreBlocksSound crossing root (block 0 (entry 3 0 (Ticks 3)) ∷ []) → ⊥

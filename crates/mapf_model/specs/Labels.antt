@@ -20,7 +20,7 @@ abbrev pub one_more : Label → Label
 one_more (Ticks n) = Ticks (n + 1)
 one_more Never = Never
 
--- what two agents take together
+-- the sum of two labels
 abbrev pub label_plus : Label → Label → Label
 label_plus (Ticks m) (Ticks n) = Ticks (m + n)
 label_plus (Ticks m) Never = Never
@@ -63,8 +63,8 @@ pub record MayGo (grid : GridMap) (bars : List Bar) (from to tick : ℕ) : Type 
 abbrev pub IsWithinOne : GridMap → ℕ → Entries → Label → ℕ → ℕ → Type 0
 IsWithinOne grid goal entries label cell tick = (after : Label) × IsLabel grid goal entries cell tick after × IsAtMost label (one_more after)
 
--- an entry above the distance which no way on contradicts: at the goal the agent is barred from it at some
--- later tick, and each step that it may take leads to a label that is lower by one at the most
+-- a sound entry: it exceeds the distance; and unless a constraint forbids the state, the goal is forbidden at this tick
+-- or later if the state is at the goal, and each allowed step leads to a label lower by at most one
 pub record IsSoundEntry (grid : GridMap) (goal : ℕ) (bars : List Bar) (entries : Entries) (cell tick : ℕ) (label : Label) : Type 0 where
   pub raised : (distance : ℕ) × IsDistance grid goal cell distance × IsAtMost (Ticks (distance + 1)) label
   pub at_goal : (Contains bars (Cell cell tick) → ⊥) → cell ≡ goal → (later : ℕ) × (tick ≤ later) × Contains bars (Cell goal later)

@@ -18,7 +18,7 @@ use Rattle.mapf_model.specs.Labels.{Entries, entries_of, AreSound, IsLabel, IsAt
 use Rattle.mapf_model.specs.Plan.{Instance, IsValid, IsSumOfCosts}
 use Rattle.mapf_model.specs.Tree.{ConstraintTree, Leaf, NodeContext, IsProper, SplitShows, HasBlocksAtLeavesAlone, AtEachNode, AtSomeEnd, AllSatisfy, root, child_context, left_child_context, right_child_context, Node, SplitNode, LeafNode, ClashNode, nodes_of, AreStartLabels, StartsReach, StartsShow, ShareGoal, ShowsFrom, NodesShow, Shows, Holds}
 
--- under sound labels each lawful path that obeys the bars costs at least the label of the start
+-- under sound labels each lawful path that satisfies the constraints costs at least the label of the start
 abbrev pub LabelBound : Type 0
 LabelBound =
     (grid : GridMap) (agent : Agent) (bars : List Bar) (entries : Entries) (path : List ℕ) (cost : ℕ) (label : Label) →
@@ -35,18 +35,18 @@ NeverMeansNone =
     IsLabel grid agent.goal entries agent.start 0 Never →
     IsLawful grid agent path → Satisfies bars path → ⊥
 
--- each valid plan obeys the constraints of some end of a proper tree: of a leaf or of a clash
+-- each valid plan satisfies the constraints of some end of a proper tree: of a leaf or of a clash
 abbrev pub SplitsLoseNoPlan : Type 0
 SplitsLoseNoPlan =
     (problem : Instance) (tree : ConstraintTree) (plan : List (List ℕ)) →
     IsProper problem tree → IsValid problem plan →
     AtSomeEnd (λ context. AllSatisfy plan context.bars) root tree
 
--- what a tree shows is so
+-- what a tree shows is true
 abbrev pub ShownClaimsHold : Type 0
 ShownClaimsHold = (problem : Instance) (claim : Claim) (tree : ConstraintTree) → Shows problem claim tree → Holds problem claim
 
--- how a reader of nodes, with a stack of the contexts of the trees that are owed, judges the node in front
+-- how nodes are judged in pre-order, with a stack of the contexts of the pending subtrees
 pub record NodesShowByFront (problem : Instance) (claim : Claim) : Type 0 where
   pub whole : (items : List Node) → NodesShow problem claim (root ∷ []) items ↔ ((tree : ConstraintTree) × (items ≡ nodes_of tree) × ShowsFrom problem claim root tree)
   pub over : NodesShow problem claim [] []
@@ -59,7 +59,7 @@ pub record NodesShowByFront (problem : Instance) (claim : Claim) : Type 0 where
   pub at_clash : (context : NodeContext) (owed : List NodeContext) (i j : ℕ) (items : List Node) →
       NodesShow problem claim (context ∷ owed) (ClashNode i j ∷ items) ↔ (ShareGoal problem i j × NodesShow problem claim owed items)
 
--- a list of items is judged from its front
+-- a list of items can be judged in pre-order
 abbrev pub FrontDecides : Type 0
 FrontDecides = (problem : Instance) (claim : Claim) → NodesShowByFront problem claim
 
@@ -86,7 +86,7 @@ pub record IsPathByNeighbours (grid : GridMap) (path : List ℕ) : Type 0 where
   pub first : IsFree grid (slice_index path 0)
   pub neighbours : (k : ℕ) → k + 1 < length path → Step grid (slice_index path k) (slice_index path (k + 1))
 
--- a path is known by the neighbours of its cells
+-- the paths are exactly these lists
 abbrev pub NeighboursMakePaths : Type 0
 NeighboursMakePaths = (grid : GridMap) (path : List ℕ) → IsPath grid path ↔ IsPathByNeighbours grid path
 
@@ -107,12 +107,12 @@ SumsAreOne = (problem : Instance) (plan : List (List ℕ)) → IsValid problem p
 abbrev pub AreSameBars : List Bar → List Bar → Type 0
 AreSameBars xs ys = (bar : Bar) → Contains xs bar ↔ Contains ys bar
 
--- what is said of a list of bars is said of the set
+-- what is said of a list of bars depends on its set alone
 pub record BarsAreASet (xs ys : List Bar) : Type 0 where
   pub obeys : (path : List ℕ) → Satisfies xs path → Satisfies ys path
   pub sound : (grid : GridMap) (goal : ℕ) (entries : Entries) → AreSound grid goal xs entries → AreSound grid goal ys entries
 
--- of two lists of the same bars, what is so under the one is so under the other
+-- of two lists of the same bars, what holds under the one holds under the other
 abbrev pub OnlyMembershipCounts : Type 0
 OnlyMembershipCounts = (xs ys : List Bar) → AreSameBars xs ys → BarsAreASet xs ys
 
@@ -124,8 +124,8 @@ TightPathsCostTheirSteps = (grid : GridMap) (agent : Agent) (path : List ℕ) �
 abbrev pub ListedLabelsAreFound : Type 0
 ListedLabelsAreFound = (entries : List Entry) → AllPairs IsBefore entries → (cell tick : ℕ) (label : Label) → (entries_of entries cell tick ≡ Some label) ↔ Contains entries (record { cell = cell; tick = tick; label = label })
 
--- contexts that no tree tells apart: the same constraints, and for each agent of the problem the same entry of its start
--- at tick 0
+-- contexts that no tree distinguishes: the same constraints, and for each agent of the problem the same entry of its
+-- start at tick 0
 pub record AreAlike (problem : Instance) (a b : NodeContext) : Type 0 where
   pub bars : a.bars ≡ b.bars
   pub starts : (i : ℕ) (agent : Agent) → slice_get problem.agents i ≡ Some agent → a.entries i agent.start 0 ≡ b.entries i agent.start 0
@@ -134,10 +134,10 @@ pub record AreAlike (problem : Instance) (a b : NodeContext) : Type 0 where
 abbrev pub OnlyStartEntriesCount : Type 0
 OnlyStartEntriesCount = (problem : Instance) (claim : Claim) (a b : NodeContext) (tree : ConstraintTree) → AreAlike problem a b → ShowsFrom problem claim a tree → ShowsFrom problem claim b tree
 
--- the children of alike contexts are alike
+-- alike contexts have alike children
 abbrev pub ChildrenAreAlike : Type 0
 ChildrenAreAlike = (problem : Instance) (a b : NodeContext) (blocks : List LabelBlock) (constraint : Constraint) → AreAlike problem a b → AreAlike problem (child_context a blocks constraint) (child_context b blocks constraint)
 
--- where no split has a block no node inherits an entry: each leaf goes by its own blocks alone
+-- where no split has a block no node inherits an entry: each leaf is judged by its own blocks alone
 abbrev pub OnlySplitsHandOnEntries : Type 0
 OnlySplitsHandOnEntries = (tree : ConstraintTree) → HasBlocksAtLeavesAlone tree → AtEachNode (λ context node. (agent cell tick : ℕ) → context.entries agent cell tick ≡ None) root tree

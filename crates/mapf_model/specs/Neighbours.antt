@@ -2,8 +2,8 @@
 use Rattle.std.specs.Prelude.{ℕ, ◌+◌, ◌-◌, ◌%◌, Option, None, Some, false, List, [], ◌∷◌, ◌++◌, nat_le, nat_lt, if◌then◌else◌, slice_index_or}
 use Rattle.mapf_model.specs.Grid.{GridMap}
 
--- the cells above and left, the cell itself, and those right and below, on a grid of this width: rising in number, as far
--- as its rows go
+-- the cells above and left, the cell itself, and those right and below, on a grid of this width: rising in number, as
+-- far as its rows go
 abbrev pub neighbourhood : ℕ → ℕ → List (Option ℕ)
 neighbourhood width cell =
     (if nat_le width cell then Some (cell - width) else None) ∷

@@ -180,7 +180,7 @@ AreOfAgents problem blocks = All (λ block. block.agent < length problem.agents)
 abbrev pub AreProperBlocks : Instance → List LabelBlock → Type 0
 AreProperBlocks problem blocks = AreOfDifferentAgents blocks × AreOfAgents problem blocks
 
--- a split stands on a proper conflict, and the blocks of a split or a leaf are proper; a clash always is
+-- a split names a proper conflict, and the blocks of a split or a leaf are proper; a clash always is
 abbrev pub IsProperNode : Instance → ConstraintTree → Type 0
 IsProperNode problem (Split conflict blocks left right) = IsProperSplit problem conflict × AreProperBlocks problem blocks
 IsProperNode problem (Leaf blocks) = AreProperBlocks problem blocks
@@ -190,7 +190,7 @@ IsProperNode problem (Clash i j) = Unit {0}
 abbrev pub IsProper : Instance → ConstraintTree → Type 0
 IsProper problem tree = AtEachNode (λ context node. IsProperNode problem node) root tree
 
--- of each agent of the problem, the block, the first if there are several, is sound under the agent's bars
+-- of each agent of the problem, the block, the first if there are several, is sound under the agent's constraints
 abbrev pub AreBlocksSound : Instance → NodeContext → List LabelBlock → Type 0
 AreBlocksSound problem context blocks = (i : ℕ) (agent : Agent) (block : LabelBlock) → slice_get problem.agents i ≡ Some agent → block_of blocks i ≡ Some block → AreSound problem.grid agent.goal (context.bars i) (entries_of block.entries)
 
@@ -244,7 +244,7 @@ Holds problem (Cost cost) = IsLowerBound problem cost
 Holds problem (Bound bound) = IsLowerBound problem bound
 Holds problem Impossible = IsImpossible problem
 
--- each agent's path obeys its bars
+-- each agent's path satisfies its constraints
 abbrev pub AllSatisfy : List (List ℕ) → (ℕ → List Bar) → Type 0
 AllSatisfy plan bars = (i : ℕ) (path : List ℕ) → slice_get plan i ≡ Some path → Satisfies (bars i) path
 

@@ -36,14 +36,14 @@ impl Pace {
     }
 }
 
-// How many calls a device stands before it fails, if it ever does.
+// How many calls a device allows before it fails, if it ever does.
 #[derive(Clone, Copy, Debug, PartialEq, Eq)]
 struct Fuse {
     calls: Option<u64>,
 }
 
 impl Fuse {
-    // Counts a call, and answers whether the device stands it.
+    // Counts a call, and answers whether the device allows it.
     fn stands(&mut self) -> bool
         ensures answer { IsTrue result ↔ (self.old.calls ≢ Some 0) }
         ensures count { self.new.calls ≡ call_more self.old.calls }
@@ -82,7 +82,7 @@ impl<'a> Model for FuseSource<'a> {
 }
 
 impl<'a> FuseSource<'a> {
-    /// A source of these bytes that fails once it stood so many calls, or never.
+    /// A source of these bytes that fails after so many calls, or never.
     pub fn of(bytes: &'a [u8], pace: Pace, calls: Option<u64>) -> FuseSource<'a>
         ensures { result ≡ record { remaining = bytes.entry.now; pace = pace; calls = calls; has_failed = false } }
     {
@@ -195,7 +195,7 @@ impl Model for FuseSink {
 }
 
 impl FuseSink {
-    /// A sink with room for `room` bytes, all of which is taken here, that fails once it stood so many
+    /// A sink with room for `room` bytes, all of which is allocated here, that fails after so many
     /// calls, or only where it is full.
     pub fn with_room(
         alloc: Global,

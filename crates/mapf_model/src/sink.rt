@@ -11,12 +11,12 @@ use std::marker::Model;
 
 /// Where bytes go.
 pub trait Sink {
-    /// The bytes that were pushed, where the sink tells them.
+    /// The bytes that were pushed, if the sink reports them.
     ghost contents: { Self → Option (List ℕ) };
     /// Whether it has failed.
     ghost has_failed: { Self → Bool };
 
-    /// Takes bytes from the front of these and answers how many, at least one.
+    /// Takes a prefix of these bytes and answers how many, at least one.
     fn push(&mut self, bytes: &[u8]) -> Result<usize, Failed>
         requires some { 0 < length bytes.now }
         requires working { has_failed self.old ≡ false }
@@ -87,7 +87,7 @@ impl Model for BytesSink {
 }
 
 impl BytesSink {
-    /// A sink with room for `room` bytes, all of which is taken here.
+    /// A sink with room for `room` bytes, all of which is allocated here.
     pub fn with_room(alloc: Global, room: usize) -> Result<BytesSink, OutOfMemory>
         ensures { IfOk result (λ s. s ≡ ([], room, false)) }
     {

@@ -12,12 +12,12 @@ pub struct Failed;
 
 /// Where bytes come from.
 pub trait Source {
-    /// The bytes that pulls give from here on, where the source tells them.
+    /// The bytes that pulls give from here on, if the source reports them.
     ghost remaining: { Self → Option (List ℕ) };
     /// Whether it has failed.
     ghost has_failed: { Self → Bool };
 
-    /// Takes some bytes to the front of the buffer and answers how many. 0 is the end.
+    /// Writes some bytes to the beginning of the buffer and answers how many. 0 is the end.
     fn pull(&mut self, buf: &mut [u8]) -> Result<usize, Failed>
         requires room { 0 < length buf.old }
         requires working { has_failed self.old ≡ false }

@@ -1,5 +1,5 @@
--- What is promised of agents that follow a plan, in whatever order and however often they ask to go on. An agent that is told
--- to go is in its next cell from then on. (Own)
+-- What is promised of agents that follow a plan, in whatever order and however often they ask to go on. An agent that
+-- is told to go is in its next cell from then on. (Own)
 use Rattle.std.specs.Prelude.{◌≡◌, ◌≢◌, ℕ, ◌+◌, ◌<◌, List, [], ◌∷◌, ◌++◌, length, if◌then◌else◌, ◌==◌, map, take, Some, slice_get}
 use Rattle.mapf_model.specs.Plan.{Instance, IsValid}
 use Rattle.mapf_player.specs.declared.visit.Visit.{Visit}

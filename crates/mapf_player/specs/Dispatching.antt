@@ -33,8 +33,8 @@ IsLeft progress agent number = (current : ℕ) × (slice_get progress.numbers ag
 abbrev pub IsBegun : Progress → ℕ → ℕ → Type 0
 IsBegun progress agent number = (current : ℕ) × (slice_get progress.numbers agent ≡ Some current) × (number ≤ current)
 
--- before this visit of the agent the other agent is awaited: it has a visit of the same cell, entered earlier in the plan, from
--- which it hasn't gone on
+-- before this visit of the agent the other agent is awaited: it has a visit of the same cell, entered earlier in the
+-- plan, from which it hasn't gone on
 abbrev pub IsAwaited : Progress → ℕ → Visit → ℕ → Type 0
 IsAwaited progress agent visit other = (other ≢ agent) × (number : ℕ) × (earlier : Visit) × IsVisit progress.visits other number earlier
     × (earlier.cell ≡ visit.cell) × (earlier.entry < visit.entry) × (IsLeft progress other number → ⊥)
@@ -48,8 +48,8 @@ IsLeastAwaited progress agent visit (Some other) = IsAwaited progress agent visi
 abbrev pub Advances : Progress → ℕ → Progress → Type 0
 Advances before agent after = (number : ℕ) × (slice_get before.numbers agent ≡ Some number) × (after ≡ record { visits = before.visits; numbers = slice_set before.numbers agent (number + 1) })
 
--- what is replied to an agent that asks to go on, and what becomes of the progress: in its last visit it is done; else it is
--- held by the least agent that is awaited before its next visit; if none is, it goes on into that visit's cell
+-- what is replied to an agent that asks to go on, and what becomes of the progress: in its last visit it is done; else
+-- it is held by the least agent that is awaited before its next visit; if none is, it goes on into that visit's cell
 abbrev pub IsReply : Progress → ℕ → Reply → Progress → Type 0
 IsReply before agent Done after = (before ≡ after) × (visit : Visit) × IsIn before agent visit × ((next : Visit) → IsNext before agent next → ⊥)
 IsReply before agent (Hold other) after = (before ≡ after) × (visit : Visit) × IsNext before agent visit × IsAwaited before agent visit other

@@ -1,4 +1,5 @@
--- The visits of agents that follow a plan. (Own, after the plan-execution literature: Ma et al. 2017, Hönig et al. 2019)
+-- The visits of agents that follow a plan. (Own, after the plan-execution literature: Ma et al. 2017, Hönig et al.
+-- 2019)
 use Rattle.std.specs.Prelude.{◌≡◌, ◌≢◌, ◌⊎◌, ℕ, ◌+◌, ◌<◌, List, length, Some, slice_get}
 use Rattle.mapf_model.specs.Path.{at}
 use Rattle.mapf_player.specs.declared.visit.Visit.{Visit}

@@ -125,7 +125,8 @@ impl Model for Dispatch {
 }
 
 impl Dispatch {
-    /// Each agent of the plan in its first visit. It takes all memory that following the plan takes.
+    /// Each agent of the plan in its first visit. Allocates all memory; later calls allocate
+    /// nothing.
     pub fn new(alloc: Global, plan: &Plan) -> Result<Dispatch, OutOfMemory>
         requires valid { (problem : Instance) × IsValid problem plan.now }
         ensures visits { IfOk result (λ dispatch. AreVisitsOfAll plan.now dispatch.visits) }
@@ -142,8 +143,8 @@ impl Dispatch {
         })
     }
 
-    /// What the agent is told when it asks to go on into its next cell. Where it is told to go, it is in
-    /// that cell from now on, and has left the one before. It takes no memory.
+    /// The reply to an agent that asks to go on into its next cell. If the reply is to go, the
+    /// agent is in that cell from now on, and has left the one before. Nothing is allocated.
     pub fn ask(&mut self, agent: u32) -> Reply
         requires { agent < length self.old.numbers }
         ensures reply { IsReply self.old agent result self.new }

@@ -9,7 +9,7 @@ use std::alloc::Global;
 /// Why a text of events can't be read. Lines are counted from 1.
 #[derive(Clone, Copy, Debug, PartialEq, Eq)]
 pub enum EventFault {
-    /// The line isn't the one that is due.
+    /// The line isn't the expected one.
     E1(u64),
     /// The text ends where this line should begin, or inside it.
     E2(u64),
@@ -21,7 +21,7 @@ pub enum EventFault {
     Memory,
 }
 
-// Takes the line that is due.
+// Takes the expected line.
 fn line_at(number: u64, bytes: &[u8]) -> Result<(&[u8], &[u8]), EventFault>
     ensures found { IfOk result (λ p. IsCut bytes.entry.now p.0.now p.1.now) }
     ensures only { lacks_end bytes.entry.now ≡ false → IsOk result }

@@ -61,11 +61,12 @@ pub fn write_text<K: Sink>(
     page.flush(sink)
 }
 
-/// Writes what the plan looks like at each tick, from 0 to its makespan, at which the last agent arrives
-/// for good: a line `tick t`, and a line for each row of the grid. Last comes a line `end m` with the
-/// makespan in ticks. A free cell is `.`, a blocked one `@`. The agents are `0` to `9`, `a` to `z`, `A` to
-/// `Z`, and from the 63rd on `*`. After its path ended an agent stays where it is. It takes no memory.
-/// `Failed` is answered only where the sink failed, and then it got a prefix of that text.
+/// Writes what the plan looks like at each tick, from 0 to its makespan, at which the last agent
+/// arrives for good: a line `tick t`, and a line for each row of the grid. Last comes a line
+/// `end m` with the makespan in ticks. A free cell is `.`, a blocked one `@`. The agents are `0` to
+/// `9`, `a` to `z`, `A` to `Z`, and from the 63rd on `*`. After its path ended an agent stays where
+/// it is. Nothing is allocated. `Failed` is answered only where the sink failed, and then it got a
+/// prefix of that text.
 pub fn play<K: Sink>(problem: &Problem, plan: &Plan, sink: &mut K) -> Result<(), Failed>
     requires works { K.has_failed sink.old ≡ false }
     requires valid { IsValid problem.now plan.now }

@@ -12,7 +12,7 @@ use crate::reply::Reply;
 use mapf_fields::Page;
 use mapf_model::{Failed, Grid, Sink};
 
-// Writes what an agent is told.
+// Writes the reply to an agent.
 fn put_reply<K: Sink>(
     page: &mut Page,
     sink: &mut K,
@@ -39,7 +39,7 @@ fn put_reply<K: Sink>(
     }
 }
 
-// Writes what each of the agents is told that ask one after another.
+// Writes the replies to agents that ask one after another.
 fn put_replies<K: Sink>(
     page: &mut Page,
     sink: &mut K,
@@ -64,10 +64,10 @@ fn put_replies<K: Sink>(
     Ok(())
 }
 
-/// Lets agents ask one after another, each of them as often as it stands in the list, and writes what they
-/// are told, a line each: `go I x,y`, `hold I by J` or `done I`, where I and J are agents and x,y is the
-/// cell by its column and row. It takes no memory. `Failed` is answered only where the sink failed, and then
-/// it got a prefix of that text, and nothing is said of where the agents are then.
+/// Lets agents ask one after another, each of them as often as it is in the list, and writes the
+/// replies, a line each: `go I x,y`, `hold I by J` or `done I`, where I and J are agents and x,y is
+/// the cell by its column and row. Nothing is allocated. `Failed` is answered only where the sink
+/// failed, and then it got a prefix of that text, and nothing is said of where the agents are then.
 pub fn dispatch_all<K: Sink>(
     dispatch: &mut Dispatch,
     grid: &Grid,

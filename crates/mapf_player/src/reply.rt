@@ -1,6 +1,6 @@
 use mapf_model::Cell;
 
-/// What an agent is told that asks to go on.
+/// The reply to an agent that asks to go on.
 #[derive(Clone, Copy, Debug, PartialEq, Eq)]
 pub enum Reply {
     /// It goes on into this cell, its next one, and is there from now on.

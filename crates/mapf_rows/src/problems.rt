@@ -1,4 +1,4 @@
-//! Worked problems, with the texts that are due, certificates in version 2.
+//! Worked problems, with the expected texts, certificates in version 2.
 
 use crate::given::Given;
 
@@ -43,7 +43,7 @@ pub const CROSSING_CERT: &str =
     "mapf-cert 2\nagents 2\nclaim cost 5\nvertex 0 1 1,1 1 0\nleaf 1\nagent 0 1\nat 0,1 0 3\n\
 leaf 1\nagent 1 1\nat 1,0 0 3\nend\n";
 
-// Agents of the crossing that ask to go on, and what they are told.
+// Agents of the crossing that ask to go on, and the replies to them.
 pub const CROSSING_EVENTS: &str = "mapf-events 1\n0\n1\n0\n1\n0\n0\n0\nend\n";
 
 pub const CROSSING_TOLD: &str =
@@ -58,7 +58,7 @@ pub const CROSSING_STOPPED_CERT: &str = "mapf-cert 2\nagents 2\nclaim bound 4\nl
 pub const MEETING: &str =
     "mapf-plan 2\nagents 2\ncost 4\npath 0 2 0,1 1,1 2,1\npath 1 2 1,0 1,1 1,2\nend\n";
 
-// A valid plan of the crossing that is dearer than need be.
+// A valid plan of the crossing that isn't optimal.
 pub const DEARER: &str =
     "mapf-plan 2\nagents 2\ncost 6\npath 0 4 0,1 0,1 0,1 1,1 2,1\npath 1 2 1,0 1,1 1,2\nend\n";
 

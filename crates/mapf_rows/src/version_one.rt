@@ -1,4 +1,4 @@
-//! Certificates of version 1 of the worked problems, in which blocks stand at leaves alone.
+//! Certificates of version 1 of the worked problems, in which leaves alone have blocks.
 
 pub const AT_REST_ONE: &str = "mapf-cert 1\nagents 1\nclaim cost 0\nleaf 0\nend\n";
 

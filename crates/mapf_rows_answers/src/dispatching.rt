@@ -23,7 +23,7 @@ const ROOM: usize = 200;
 
 const NO_EVENTS: &str = "mapf-events 1\nend\n";
 
-// A problem, a plan text, an event text, and what the agents are told.
+// A problem, a plan text, an event text, and the replies.
 const TOLD: [(Given, &str, &str, &str); 6] = [
     (CROSSING, CROSSING_PLAN, CROSSING_EVENTS, CROSSING_TOLD),
     // Who waits how long in the plan makes no difference.
@@ -146,7 +146,7 @@ fn tells_a_front_where_the_sink_is_full(rt: HostRuntime) -> Result<(), Fail> {
     Ok(())
 }
 
-// A run in which agents follow this plan text ends with this fault, and nothing is written.
+// A run in which agents follow this plan text ends with this error, and nothing is written.
 fn assert_fault(
     rt: &impl Abort,
     alloc: Global,
@@ -165,7 +165,7 @@ fn assert_fault(
     Ok(())
 }
 
-// An event text of two agents, its fault, and the line that is told.
+// An event text of two agents, its error, and the line that is printed.
 const FAULTS: [(&str, EventFault, &str); 22] = [
     ("mapf-events 1\n2\nend\n", EventFault::E3(2), "F3 E3 2\n"),
     ("mapf-events 1\n01\nend\n", EventFault::E1(2), "F3 E1 2\n"),
@@ -205,7 +205,7 @@ const FAULTS: [(&str, EventFault, &str); 22] = [
     ("mapf-events 1\n1\nx\nend\n", EventFault::E1(3), "F3 E1 3\n"),
     ("mapf-events 1\n\nend\n", EventFault::E1(2), "F3 E1 2\n"),
     ("mapf-events 1\n1 \nend\n", EventFault::E1(2), "F3 E1 2\n"),
-    // The fault that stands first.
+    // The error that comes first.
     (
         "mapf-events 1\n2\nx\nend\nend\n",
         EventFault::E3(2),
@@ -245,7 +245,8 @@ fn refuses_events_that_are_cut_short(rt: HostRuntime) -> Result<(), Fail> {
 
 const BAD_EVENTS: &str = "mapf-events 1\n2\n";
 
-// A problem, a plan text, and the fault that is told though all that is judged later is bad too.
+// A problem, a plan text, and the error that is reported though all that is judged later is bad
+// too.
 const FIRST_FAULTS: [(Given, &str, Fault); 8] = [
     (
         Given {

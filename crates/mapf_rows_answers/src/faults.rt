@@ -1,4 +1,4 @@
-//! Which fault is answered to a bad map or scenario, by every run that reads them.
+//! Which error is answered to a bad map or scenario, by every run that reads them.
 
 ghost use Rattle.std.specs.Prelude.{◌≤◌};
 
@@ -11,7 +11,7 @@ use std::alloc::Global;
 use std::process::Abort;
 use std::test::Fail;
 
-// Every run on these inputs ends with this fault, and writes nothing.
+// Every run on these inputs ends with this error, and writes nothing.
 fn assert_fault(rt: &impl Abort, alloc: Global, given: &Given, fault: Fault) -> Result<(), Fail>
     requires some { 1 ≤ given.now.k }
     requires few { given.now.k ≤ 200 }
@@ -104,7 +104,7 @@ const SCENARIOS: [(&str, u32, ScenFault); 9] = [
         1,
         ScenFault::S6 { row: 0 },
     ),
-    // The fault that stands first.
+    // The error that comes first.
     (
         "version 1\n0 a 3 2 0 0 2 0 1.4.1\n",
         1,

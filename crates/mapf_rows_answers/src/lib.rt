@@ -1,4 +1,4 @@
-//! Do the runs give the bytes of the worked examples, and name the fault of their inputs?
+//! Do the runs give the bytes of the worked examples, and name the error of their inputs?
 #![tactic(auto)]
 
 #[cfg(test)]

@@ -103,7 +103,7 @@ const NOT_SHOWN: [(Given, &str, PlayFault); 21] = [
     ),
     (EXCHANGE, EXCHANGE_STOPPED_PLAN, PlayFault::NoPlan),
     (CROSSING, CROSSING_STOPPED_PLAN, PlayFault::NoPlan),
-    // That there is no plan is told before its number of agents.
+    // That there is no plan is reported before its number of agents.
     (
         CROSSING,
         "mapf-plan 2\nagents 3\nlimit 3 bound 4\nend\n",

@@ -18,7 +18,7 @@ use std::alloc::Global;
 use std::process::Abort;
 use std::test::Fail;
 
-// A problem, the number of splits that are allowed, and the answer and the texts that are due.
+// A problem, the number of splits that are allowed, and the expected answer and texts.
 #[derive(Clone, Copy)]
 struct Row {
     given: Given,
@@ -178,7 +178,8 @@ const NICHE_BOUNDS: [(u32, u64); 5] = [(0, 2), (1, 3), (2, 4), (3, 4), (4, 4)];
 
 const EXCHANGE_BOUNDS: [(u32, u64); 4] = [(0, 2), (1, 3), (2, 3), (3, 4)];
 
-// Stopped at each of these limits the search tells that bound, and what it writes is accepted with it.
+// Stopped at each of these limits the search reports that bound, and what it writes is accepted
+// with it.
 fn assert_bounds(
     rt: &impl Abort,
     alloc: Global,

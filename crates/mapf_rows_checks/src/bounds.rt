@@ -1,5 +1,5 @@
-//! What the check answers to plan texts that tell a limit. One with a bound is accepted beside a certificate that
-//! shows this bound, whatever the limit was.
+//! What the check answers to plan texts of a limit. One with a bound is accepted beside a
+//! certificate that shows this bound, whatever the limit was.
 
 use crate::checking::{Change, assert_changes, assert_judged};
 use mapf_app::{CertFault, CheckFault, PlanTextFault, Verdict};

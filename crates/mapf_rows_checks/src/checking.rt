@@ -262,7 +262,7 @@ const PLANS: [(&str, CheckFault); 9] = [
     ),
 ];
 
-// The same, of plans in which one agent is at fault alone.
+// The same, of plans in which one agent alone has a defect.
 const PATHS: [(&str, PlanFault); 7] = [
     (
         "mapf-plan 1\nagents 2\ncost 3\npath 0 1 1,1 2,1\npath 1 2 1,0 1,1 1,2\nend\n",
@@ -276,12 +276,12 @@ const PATHS: [(&str, PlanFault); 7] = [
         "mapf-plan 1\nagents 2\ncost 4\npath 0 3 0,1 0,1 1,1 2,1\npath 1 1 1,0 1,1\nend\n",
         PlanFault::V3 { agent: 1 },
     ),
-    // The first of two agents that are at fault.
+    // The first of two agents that have a defect.
     (
         "mapf-plan 1\nagents 2\ncost 1\npath 0 1 0,1 1,1\npath 1 0 1,1\nend\n",
         PlanFault::V3 { agent: 0 },
     ),
-    // The first fault of an agent that also goes astray, and doesn't arrive.
+    // The first error of an agent that also goes astray, and doesn't arrive.
     (
         "mapf-plan 1\nagents 2\ncost 3\npath 0 1 0,0 2,2\npath 1 2 1,0 1,1 1,2\nend\n",
         PlanFault::V1 { agent: 0 },
@@ -329,7 +329,7 @@ const CROSSING_CHANGES: [Change; 15] = [
 vertex 0 1 1,1 1\nleaf 1\nagent 0 1\nat 0,1 0 3\nleaf 1\nagent 1 1\nat 1,0 0 3\n",
         Ok(Verdict::Optimal(5)),
     ),
-    // Nothing is asked of the label of a barred state.
+    // Nothing is asked of the label of a forbidden state.
     (
         6,
         7,
@@ -346,7 +346,7 @@ vertex 0 1 1,1 1\nleaf 1\nagent 0 1\nat 0,1 0 3\nleaf 1\nagent 1 1\nat 1,0 0 3\n
     (7, 7, "at 0,1 0 4\n", Err(CheckFault::C7(7))),
     // A label that is no more than the distance.
     (7, 7, "at 0,1 0 2\n", Err(CheckFault::C7(7))),
-    // A raised label at a goal that no bar touches.
+    // A raised label at a goal that no constraint forbids.
     (
         9,
         10,
@@ -365,7 +365,7 @@ vertex 0 1 1,1 1\nleaf 1\nagent 0 1\nat 0,1 0 3\nleaf 1\nagent 1 1\nat 1,0 0 3\n
     ),
 ];
 
-// Certificates with two faults, of which the first in the order of judging is answered.
+// Certificates with two errors, of which the first in the order of judging is answered.
 const ORDER_CHANGES: [Change; 10] = [
     // The first three lines come before what they say.
     (

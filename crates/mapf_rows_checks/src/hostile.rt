@@ -183,7 +183,7 @@ fn refuses_plans_of_too_many_agents(rt: HostRuntime) -> Result<(), Fail> {
     Ok(())
 }
 
-// Changes of the crossing's map and scenario, and the faults that come of them.
+// Changes of the crossing's map and scenario, and the errors that come of them.
 const FARTHER: Given = Given {
     scen: "version 1\n0\topen3.map\t3\t3\t4294967296\t1\t2\t1\t2\n0\topen3.map\t3\t3\t1\t0\t1\t2\t2\n",
     map: CROSSING_MAP,

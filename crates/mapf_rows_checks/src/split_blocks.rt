@@ -9,7 +9,7 @@ use std::test::Fail;
 
 const BLOCKS: [Change; 12] = [
     (4, 4, "vertex 0 1 1,1 1 0\n", Ok(Verdict::Optimal(5))),
-    // A block on a split is judged without what its left child bars.
+    // A block on a split is judged without its left child's constraint.
     (
         4,
         7,

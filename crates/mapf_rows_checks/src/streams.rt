@@ -247,7 +247,8 @@ struct WholeTree {
     header: bool,
     // The depth of the next node; 17 after the tree.
     depth: u32,
-    // For each depth whether the right child is the one on the way, as bits from the root on.
+    // For each depth whether the path from the root goes to the right child, as bits from the root
+    // on.
     rights: u32,
 }
 

@@ -21,8 +21,8 @@ const ROOM: usize = 200;
 
 const DEMO_ROOM: usize = 4096;
 
-// How many calls the sources of the map, of the scenario, of the plan text and of the event text stand, and how
-// many bytes they give in each.
+// How many calls the sources of the map, of the scenario, of the plan text and of the event text
+// allow, and how many bytes they give in each.
 #[derive(Clone, Copy)]
 struct Fuses {
     pace: Pace,
@@ -45,7 +45,7 @@ impl Fuses {
     }
 }
 
-// How many splits are allowed, how the search then ends, and both texts that are due.
+// How many splits are allowed, how the search then ends, and both expected texts.
 #[derive(Clone, Copy)]
 struct End {
     limit: u32,

@@ -1,4 +1,4 @@
-//! How do runs end whose devices fail, and what do they tell?
+//! How do runs end whose devices fail, and what do they report?
 #![tactic(auto)]
 
 #[cfg(test)]

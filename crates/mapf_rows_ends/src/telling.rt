@@ -1,4 +1,4 @@
-//! What is told of each answer and of each kind of fault, where, and by which exit status.
+//! What is printed for each answer and for each kind of error, where, and with which exit status.
 
 use mapf_app::{
     CertFault, CheckFault, EventFault, Fault, Input, Kind, MapFault, Output, PlanFault,
@@ -19,7 +19,7 @@ use std::test::Fail;
 
 const ROOM: usize = 80;
 
-// The status, and what the sinks of answers and of faults got.
+// The status, and what the sinks of answers and of errors got.
 fn assert_told(
     rt: &impl Abort,
     told: u8,
@@ -255,7 +255,7 @@ const FAULTS_OF_RUNS: [(Fault, &str); 9] = [
     (Fault::F6, "F6\n"),
 ];
 
-// Every call tells the fault on standard error alone.
+// Every call reports the error on standard error alone.
 fn assert_faulty(
     rt: &impl Abort,
     alloc: Global,
@@ -307,8 +307,8 @@ fn tells_nothing_of_a_run_that_went_well(rt: HostRuntime) -> Result<(), Fail> {
     Ok(())
 }
 
-// The status of a line that is told into a sink which stands so many calls of a byte each, or that of a
-// fault where it isn't written whole.
+// The status after a line is printed to a sink that allows so many calls of a byte each; that of an
+// error if the line isn't written whole.
 fn assert_status(rt: &impl Abort, told: u8, line: &str, calls: u64, status: u8) {
     let wanted = if calls < line.len() as u64 { 2 } else { status };
     assert_eq!(rt; told, wanted, "of {line} after {calls} calls");
@@ -346,7 +346,7 @@ fn ends_with_a_fault_where_nothing_can_be_told(rt: HostRuntime) -> Result<(), Fa
     Ok(())
 }
 
-// A problem, the number of splits that are allowed, and the line and the status that are due.
+// A problem, the number of splits that are allowed, and the expected line and status.
 const SOLVED: [(Given, u32, &str, u8); 3] = [
     (CROSSING, 10, "cost 5\n", 0),
     (SHARED_START, 1, "impossible\n", 3),

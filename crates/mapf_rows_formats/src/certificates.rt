@@ -193,7 +193,8 @@ fn certificates_are_converted(rt: HostRuntime) -> Result<(), Fail> {
     Ok(())
 }
 
-/// Which lines of the crossing's certificate are replaced by which text, and the fault that then comes.
+/// Which lines of the crossing's certificate are replaced by which text, and the error that then
+/// comes.
 const CERT_FAULTS: [(usize, usize, &str, Option<CertFault>); 40] = [
     (1, 1, "mapf-cert 2\n", Some(CertFault::K1(4))),
     (1, 1, "mapf-cert 3\n", Some(CertFault::K1(1))),

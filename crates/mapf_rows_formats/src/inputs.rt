@@ -14,7 +14,7 @@ fn map_fault(alloc: Global, bytes: &[u8]) -> Option<MapFault> {
     }
 }
 
-// The fault of each proper prefix of the open map, by its length.
+// The error of each proper prefix of the open map, by its length.
 fn prefix_fault(length: usize) -> Option<MapFault> {
     match length {
         0..=10 => Some(MapFault::M1),
@@ -163,7 +163,7 @@ fn cells_of_a_map(rt: HostRuntime) -> Result<(), Fail> {
     Ok(())
 }
 
-// The fault of a scenario on a map.
+// The error of a scenario on a map.
 fn scenario_fault(alloc: Global, map: &[u8], bytes: &[u8], k: u32) -> Option<ScenFault>
     requires { (1 ≤ k) × (k ≤ 200) }
 {
@@ -179,7 +179,7 @@ fn scenario_fault(alloc: Global, map: &[u8], bytes: &[u8], k: u32) -> Option<Sce
 const TWO_AGENTS: &[u8] =
     b"version 1\n0\topen3.map\t3\t3\t0\t1\t2\t1\t2\n0\topen3.map\t3\t3\t1\t0\t1\t2\t2\n";
 
-// The fault of each proper prefix of that scenario, by its length.
+// The error of each proper prefix of that scenario, by its length.
 fn scenario_prefix_fault(length: usize) -> Option<ScenFault> {
     match length {
         0..=8 => Some(ScenFault::S1),

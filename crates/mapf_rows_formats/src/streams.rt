@@ -66,7 +66,7 @@ impl<'a> Source for EndlessTree<'a> {
     }
 }
 
-/// How many items came, the line of the last, and the fault that ended them.
+/// How many items came, the line of the last, and the error that ended them.
 fn run<S: Source>(
     alloc: Global,
     source: &mut S,
@@ -89,7 +89,7 @@ fn run<S: Source>(
     Ok((count, lines.line(), None))
 }
 
-/// What the header and, after a fault of it, both calls again answer.
+/// What the header and, after an error of it, both calls again answer.
 fn run_header(
     alloc: Global,
     source: &mut FuseSource,
@@ -215,7 +215,7 @@ fn fails_at_each_pull(rt: HostRuntime) -> Result<(), Fail> {
     Ok(())
 }
 
-/// A line at fault is told before more is pulled, and not before it ends.
+/// An error of a line is reported before more is pulled, and not before the line ends.
 #[test]
 fn pulls_nothing_after_a_fault(rt: HostRuntime) -> Result<(), Fail> {
     let alloc = rt.alloc();
@@ -224,7 +224,7 @@ fn pulls_nothing_after_a_fault(rt: HostRuntime) -> Result<(), Fail> {
         if *byte != b'\n' {
             continue;
         }
-        // The line is one byte longer, and that byte makes it one that isn't due.
+        // The line is one byte longer, and with that byte it isn't the expected one.
         let text = with_fault(alloc, n)?;
         let shape = Some(LinesFault::Text(CertFault::K1(number)));
         for (more, fault) in [(2, shape), (1, Some(LinesFault::Device))] {

@@ -71,7 +71,7 @@ fn fails_at_each_pull(rt: HostRuntime) -> Result<(), Fail> {
     let crossing = crossing(alloc)?;
     let plan = CROSSING_PLAN.as_bytes();
     let cert = CROSSING_CERT.as_bytes();
-    // The bytes come in so many calls, and one more tells that they have ended.
+    // The bytes come in so many calls, and one more reports that they have ended.
     for (pace, calls) in [(Pace::ByteByByte, 112u64), (Pace::AllAtOnce, 2)] {
         for stood in 0..calls {
             let mut source = FuseSource::of(cert, pace, Some(stood));
@@ -252,7 +252,7 @@ const JUDGED_TWO: [(usize, usize, &str, Result<Verdict, CheckFault>); 14] = [
         "vertex 0 0 1,1 1 1\nagent 0 1\nat 0,1 0 3\nclash 0 1\n",
         Err(CheckFault::C6(4)),
     ),
-    // But a fault of the lines of its blocks comes before it.
+    // But an error of the lines of its blocks comes before it.
     (
         4,
         7,

@@ -1,4 +1,4 @@
-//! Does the checker judge the worked examples and their faults as the formats say?
+//! Does the checker judge the worked examples and their errors as the formats say?
 #![tactic(auto)]
 
 #[cfg(test)]

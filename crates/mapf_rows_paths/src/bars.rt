@@ -6,7 +6,7 @@ use std::alloc::Global;
 use std::process::Abort;
 use std::test::Fail;
 
-/// A map of two cells, the second of them barred at tick 5.
+/// A map of two cells, the second of them forbidden at tick 5.
 fn second_cell_barred<B: BarTable>(alloc: Global) -> Result<B, OutOfMemory> {
     let mut table = B::empty(alloc);
     table.add(Bar::Cell {
@@ -129,8 +129,8 @@ fn answers_so<B: BarTable>(table: &B, answers: &Answers) -> bool {
     now.horizon == answers.horizon
 }
 
-/// Bars the cell at the tick, and the move from it. Where memory is refused, the table has to answer as
-/// before, and the error is given on.
+/// Forbids the cell at the tick, and the move from it. Where memory is refused, the table has to
+/// answer as before, and the error is passed on.
 fn adds_or_stays<B: BarTable>(
     rt: &impl Abort,
     table: &mut B,

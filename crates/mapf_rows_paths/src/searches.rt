@@ -69,7 +69,7 @@ fn states_text(alloc: Global, found: Found<StateLabels>) -> Result<String, Fail>
     Ok(text)
 }
 
-/// Bars cells at ticks, and moves.
+/// Forbids cells at ticks, and moves.
 fn bar_all<B: BarTable>(
     table: &mut B,
     cells: &[(u32, u32)],

@@ -3,7 +3,7 @@ use mapf_player::{EventFault, read_events};
 use std::alloc::Global;
 use std::test::Fail;
 
-// Want of memory is given up, and any other fault is one of the test.
+// Out of memory is passed on, and any other error is one of the test.
 fn events_of(
     alloc: Global,
     text: &[u8],

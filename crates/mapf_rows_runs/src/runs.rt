@@ -66,7 +66,8 @@ pub fn play<K: Sink>(alloc: Global, given: &Given, plan: &[u8], sink: &mut K) ->
     run_play(alloc, &mut map, &mut scen, given.k, &mut plan, sink)
 }
 
-/// Lets agents follow a plan text in the order of an event text, and writes into this sink what they are told.
+/// Lets agents follow a plan text in the order of an event text, and writes the replies into this
+/// sink.
 pub fn dispatch<K: Sink>(
     alloc: Global,
     given: &Given,

@@ -1,4 +1,5 @@
-//! What agents are told that follow a plan, also beside a slower dispatcher, which looks at all visits of all agents.
+//! The replies to agents that follow a plan, also beside a slower dispatcher, which looks at all
+//! visits of all agents.
 
 ghost use Rattle.std.specs.Prelude.{◌≡◌, ◌≤◌, OnOk, false};
 
@@ -46,7 +47,7 @@ impl Followers {
         })
     }
 
-    // What this agent is told, None where there is no such agent.
+    // The reply to this agent, None where there is no such agent.
     fn ask(&mut self, agent: u32) -> Option<Reply> {
         if agent < self.agents {
             Some(self.dispatch.ask(agent))
@@ -55,7 +56,7 @@ impl Followers {
         }
     }
 
-    // Writes what the agents of an event text are told.
+    // Writes the replies to the agents of an event text.
     fn ask_all<K: Sink>(
         self,
         alloc: Global,
@@ -76,7 +77,7 @@ impl Followers {
     }
 }
 
-// Agents that follow a plan text are told so, each of them when it asks.
+// Agents that follow a plan text get these replies, each when it asks.
 fn assert_replies(
     rt: &impl Abort,
     alloc: Global,
@@ -219,7 +220,7 @@ fn ways_of(alloc: Global, plan: &Plan) -> Result<Vec<Way>, Fail> {
     Ok(ways)
 }
 
-// What this agent is told, None where there is no such agent.
+// The reply to this agent, None where there is no such agent.
 fn ask_slowly(ways: &mut [Way], agent: u32) -> Option<Reply> {
     let Some(stay) = ways.get(agent as usize)?.next() else {
         return Some(Reply::Done);
@@ -234,7 +235,8 @@ fn ask_slowly(ways: &mut [Way], agent: u32) -> Option<Reply> {
     Some(Reply::Go(stay.cell))
 }
 
-// How many lists of seven events of the problem's agents there are: each shorter list is a front of some of them.
+// How many lists of seven events of the problem's agents there are: each shorter list is a prefix
+// of some of them.
 const LISTS: [(Given, &str, u32); 2] = [
     (CROSSING, CROSSING_PLAN, 128),
     (ROTATION, ROTATION_PLAN, 16_384),

@@ -181,7 +181,7 @@ fn reads_the_value_of_a_plan(rt: HostRuntime) -> Result<(), Fail> {
     Ok(())
 }
 
-// Why a search was stopped, and with which bound, if the answer tells so.
+// Why a search was stopped, and with which bound, if the answer says so.
 fn stop_of(answer: &PlanAnswer) -> Option<(Cause, Option<u64>)> {
     match answer {
         PlanAnswer::Limit(cause) => Some((*cause, None)),

@@ -1,4 +1,4 @@
-//! Are the words of a command line read as the help says?
+//! Are the arguments of a command line read as the help says?
 #![tactic(auto)]
 
 #[cfg(test)]

@@ -1,4 +1,5 @@
-//! Which jobs words ask for, which words are refused, and the texts of help and of the version.
+//! Which jobs arguments ask for, which arguments are refused, and the texts of help and of the
+//! version.
 
 use mapf_words::{Job, WordsFault, job_of};
 use std::alloc::{AllocError, Global};

@@ -22,8 +22,8 @@ pub record AreGoodLabels (task : Task) (entries : List Entry) : Type 0 where
 abbrev pub AgreeBefore : ℕ → List ℕ → List ℕ → Type 0
 AgreeBefore tick path other = (earlier : ℕ) → earlier < tick → at path earlier ≡ at other earlier
 
--- no lawful path of this cost that satisfies the bars comes before this one, in the order of their cells' numbers from
--- tick 0 on
+-- no lawful path of this cost that satisfies the constraints comes before this one, in the order of their cells'
+-- numbers from tick 0 on
 abbrev pub IsFirstOfCost : Task → ℕ → List ℕ → Type 0
 IsFirstOfCost task cost path = (other : List ℕ) (tick : ℕ) → IsLawful task.grid (agent_of task) other →
     Satisfies task.bars other → IsCost task.goal other cost → AgreeBefore tick path other → at path tick ≤ at other tick
@@ -32,8 +32,8 @@ IsFirstOfCost task cost path = (other : List ℕ) (tick : ℕ) → IsLawful task
 abbrev pub IsStartNearer : Task → ℕ → Type 0
 IsStartNearer task cost = (distance : ℕ) × IsDistance task.grid task.goal task.start distance × (distance < cost)
 
--- a lawful, tight path that satisfies the bars, whose cost the labels show to be the least, and before which no path of
--- that cost comes. Where the cost is the distance there are no labels
+-- a lawful, tight path that satisfies the constraints, whose cost the labels show to be the least, and before which no
+-- path of that cost comes. Where the cost is the distance there are no labels
 pub record IsArrival (task : Task) (path : List ℕ) (entries : List Entry) : Type 0 where
   pub cost : ℕ
   pub lawful : IsLawful task.grid (agent_of task) path

@@ -21,7 +21,7 @@ with_step way to = record { cells = way.cells ++ to ∷ []; failed = way.failed 
 abbrev pub with_failure : Walked → State → Walked
 with_failure way state = record { cells = take (length way.cells - 1) way.cells; failed = way.failed ++ state ∷ [] }
 
--- so many steps that the bars let the agent take lead to the goal at this tick
+-- so many steps that the constraints allow lead to the goal at this tick
 abbrev pub CanArriveIn : Task → ℕ → ℕ → State → Type 0
 CanArriveIn task cost zero state = state ≡ state_at task.goal cost
 CanArriveIn task cost (suc n) state = (next : State) × Goes task state next × CanArriveIn task cost n next
@@ -35,7 +35,7 @@ abbrev pub IsNoWayOn : Task → ℕ → List State → State → ℕ → Type 0
 IsNoWayOn task cost failed from to = MayGo task.grid task.bars from.cell to from.tick →
     CanArrive task cost (state_at to (from.tick + 1)) → Contains failed (state_at to (from.tick + 1))
 
--- so it is with each lesser cell
+-- the same of each lesser cell
 abbrev pub AreNoWaysBelow : Task → ℕ → List State → State → ℕ → Type 0
 AreNoWaysBelow task cost failed from to = (other : ℕ) → other < to → IsNoWayOn task cost failed from other
 
@@ -43,7 +43,7 @@ AreNoWaysBelow task cost failed from to = (other : ℕ) → other < to → IsNoW
 abbrev pub state_of : List ℕ → ℕ → State
 state_of cells tick = state_at (slice_index cells tick) tick
 
--- the cells are a walk from the start, through states of at most this value
+-- the cells are a walk from the start, through states of at most this f-value
 pub record IsWalkFrom (task : Task) (cost : ℕ) (cells : List ℕ) : Type 0 where
   pub some : 1 ≤ length cells
   pub start : slice_index cells 0 ≡ task.start

@@ -7,7 +7,8 @@ use Rattle.mapf_constraints.specs.BarSets.{AreBefore}
 use Rattle.mapf_spacetime.specs.declared.state.State.{State}
 use Rattle.mapf_spacetime.specs.Task.{Task, Goes, IsValue, IsBelow, IsBarredLater, MayRestFrom, state_at, start_of}
 
--- the states that were reached, the first `below` of them below the cost being tried; the open ones at that cost, still to be reached; and those that wait for the cost after it, and for the one after that
+-- the states that were reached, the first `below` of them below the cost being tried; the open ones at that cost, still
+-- to be reached; and those that wait for the cost after it, and for the one after that
 pub record States : Type 0 where
   pub reached : List State
   pub open_states : List State
@@ -125,7 +126,7 @@ pub record IsSpent (task : Task) (states : States) : Type 0 where
   pub walked : IsWalked task states
   pub none_waits : NoneWait states
 
--- less than the first tick without bars and the number of free cells together
+-- less than the sum of the first tick from which on there is no constraint and the number of free cells
 abbrev pub IsBelowLimit : Task → ℕ → Type 0
 IsBelowLimit task cost = (bound : ℕ) → AreBefore bound task.bars → cost < bound + free_cell_count task.grid
 

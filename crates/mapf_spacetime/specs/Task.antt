@@ -8,14 +8,14 @@ use Rattle.mapf_model.specs.Grid.{GridMap, free_cell_count}
 use Rattle.mapf_model.specs.Labels.{MayGo}
 use Rattle.mapf_spacetime.specs.declared.state.State.{State}
 
--- a grid, where an agent starts and where it goes, and its bars
+-- a grid, where an agent starts and where it goes, and its constraints
 pub record Task : Type 0 where
   pub grid : GridMap
   pub start : ℕ
   pub goal : ℕ
   pub bars : List Bar
 
--- the task of an agent under these bars
+-- the task of an agent under these constraints
 abbrev pub task_of : GridMap → Agent → List Bar → Task
 task_of grid agent bars = record { grid = grid; start = agent.start; goal = agent.goal; bars = bars }
 
@@ -36,7 +36,7 @@ pub record Goes (task : Task) (from to : State) : Type 0 where
   pub may : MayGo task.grid task.bars from.cell to.cell from.tick
   pub tick : to.tick ≡ from.tick + 1
 
--- the value of a state: its tick and the distance of its cell. No step lowers it
+-- the f-value of a state: its tick plus the distance of its cell. No step lowers it
 pub record IsValue (task : Task) (state : State) (value : ℕ) : Type 0 where
   pub distance : ℕ
   pub is : IsDistance task.grid task.goal state.cell distance
@@ -44,15 +44,15 @@ pub record IsValue (task : Task) (state : State) (value : ℕ) : Type 0 where
   pub few : distance < free_cell_count task.grid
   pub small : distance < 4194304
 
--- the state has a value, and it is at most this
+-- the state has an f-value, and it is at most this
 abbrev pub IsWithin : Task → ℕ → State → Type 0
 IsWithin task cost state = (value : ℕ) × IsValue task state value × (value ≤ cost)
 
--- the state has a value, and it is less than this
+-- the state has an f-value, and it is less than this
 abbrev pub IsBelow : Task → ℕ → State → Type 0
 IsBelow task cost state = (value : ℕ) × IsValue task state value × (value < cost)
 
--- the state has a value, and it is more than this
+-- the state has an f-value, and it is more than this
 abbrev pub IsPast : Task → ℕ → State → Type 0
 IsPast task cost state = (value : ℕ) × IsValue task state value × (cost < value)
 
@@ -60,11 +60,11 @@ IsPast task cost state = (value : ℕ) × IsValue task state value × (cost < va
 abbrev pub IsOpen : Task → State → Type 0
 IsOpen task state = Contains task.bars (Cell state.cell state.tick) → ⊥
 
--- some bar stands on the goal at this tick or later
+-- some constraint forbids the goal at this tick or later
 abbrev pub IsBarredLater : Task → ℕ → Type 0
 IsBarredLater task tick = (later : ℕ) × (tick ≤ later) × Contains task.bars (Cell task.goal later)
 
--- no bar stands on the goal at this tick or later, nor on waiting there
+-- no constraint forbids the goal at this tick or later, nor waiting there
 pub record MayRestFrom (task : Task) (tick : ℕ) : Type 0 where
   pub stay : (later : ℕ) → tick ≤ later → Contains task.bars (Cell task.goal later) → ⊥
   pub wait : (later : ℕ) → tick ≤ later → Contains task.bars (Move task.goal task.goal later) → ⊥

@@ -23,9 +23,9 @@ use mapf_distance::Distances;
 use mapf_model::{Agent, Cell, Grid, OutOfMemory, Path, Tick};
 use std::alloc::Global;
 
-/// A cheapest path of the agent under its bars, with labels that show that none is cheaper, or
-/// labels that show that no path arrives. Of all cheapest paths it is the one whose cell numbers are
-/// least, compared from the first on.
+/// A cheapest path of the agent under its constraints, with labels that show that none is cheaper,
+/// or labels that show that no path arrives. Of all cheapest paths it is the one whose cell numbers
+/// are least, compared from the first on.
 pub fn search<'a, B: BarTable>(
     alloc: Global,
     grid: &'a Grid,
@@ -84,7 +84,7 @@ pub fn search_in<'a, B: BarTable>(
     requires goal { distances.now.goal ≡ agent.goal }
     ensures { IfOk result (IsPathAnswer (task_of grid.now agent (B.bars bars.now))) }
 {
-    // The width tells the shape of the grid.
+    // The contract of `width` says that the grid is well formed.
     let _width = grid.width();
     let ground = Ground::of(grid, distances, bars, agent);
     let start = State {
@@ -97,7 +97,7 @@ pub fn search_in<'a, B: BarTable>(
     if !ground.lets_start() {
         return dead(alloc, &ground, &[start]);
     }
-    // Without bars the way down the distances is the path.
+    // Without constraints the path follows the falling distances.
     if ground.horizon() == 0 {
         return Ok(Found::Arrives {
             path: distances.descend(alloc, ground.start())?,

@@ -17,12 +17,13 @@ use std::alloc::Global;
 use std::marker::Model;
 use std::mem;
 
-/// What a search has reached, in rising order of the values of states: tick and distance together.
+/// The states that a search has reached, in rising order of their f-values: tick plus distance.
 #[derive(Drop)]
 pub struct Frontier {
     reached: Reached,
     open_states: Vec<State>,
-    // The states of the next cost, and those of the cost after it: no step raises the value by more.
+    // The states of the next cost, and those of the cost after it: a step raises the f-value by at
+    // most two.
     next_states: Vec<State>,
     later_states: Vec<State>,
     cost: u32,
@@ -45,7 +46,7 @@ impl Model for Frontier {
 }
 
 impl Frontier {
-    /// Nothing is known.
+    /// No state is reached or open.
     pub fn new(alloc: Global) -> Frontier {
         Frontier {
             reached: Reached::new(alloc),
@@ -57,8 +58,8 @@ impl Frontier {
         }
     }
 
-    /// Begins anew, in the same memory: on a grid of so many cells only the start is known, and its
-    /// value is the first cost to try.
+    /// Begins anew, in the same memory: on a grid of so many cells only the start is open, and its
+    /// f-value is the first cost to try.
     pub fn begin(&mut self, start: State, value: u32, cells: usize) -> Result<(), OutOfMemory>
         ensures { OnOk result (self.new ≡ first_states start value) }
     {
@@ -85,7 +86,7 @@ impl Frontier {
         self.reached.states()
     }
 
-    /// The reached states whose value is below the cost.
+    /// The reached states whose f-value is below the cost.
     pub fn low(&self) -> &[State]
         requires { self.now.below ≤ length self.now.reached }
         ensures { result.now ≡ low_states self.now }
@@ -129,7 +130,8 @@ impl Frontier {
         self.next_states.is_empty() && self.later_states.is_empty()
     }
 
-    /// Turns to the next cost, where no state is open: those that waited for it are.
+    /// Raises the cost to the next one once no state is open, and opens the states that waited for
+    /// it.
     fn raise(&mut self)
         requires { self.old.cost < most_path_cells }
         ensures { self.old.open_states ≡ [] → self.new ≡ raised self.old }
@@ -140,7 +142,7 @@ impl Frontier {
         mem::swap(&mut self.next_states, &mut self.later_states);
     }
 
-    /// Leaves a state to be reached at its value.
+    /// Keeps a state until the cost reaches its f-value.
     #[inline(always)]
     fn place(&mut self, state: State, value: u32) -> Result<(), OutOfMemory>
         requires { self.old.cost < most_path_cells }
@@ -158,7 +160,8 @@ impl Frontier {
         Ok(())
     }
 
-    /// Takes the step to a cell beside that of the state, unless it is barred or can't lead to the goal.
+    /// Takes the step to a cell beside that of the state, unless it is forbidden or can't lead to
+    /// the goal.
     #[inline(always)]
     fn take<B: BarTable>(
         &mut self,
@@ -208,7 +211,7 @@ impl Frontier {
         Ok(())
     }
 
-    /// Reaches all open states and those of the same value behind them, until the agent arrives.
+    /// Reaches all open states and their successors of the same f-value, until the agent arrives.
     /// Answers whether it does.
     fn walk_level<B: BarTable>(&mut self, ground: &Ground<B>) -> Result<bool, OutOfMemory>
         requires small { self.old.cost < most_path_cells }

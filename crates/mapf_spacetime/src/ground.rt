@@ -14,14 +14,14 @@ use mapf_distance::Distances;
 use mapf_model::{Agent, Cell, Grid, Tick};
 use std::marker::Model;
 
-/// Where an agent goes, and what is barred to it.
+/// Where an agent goes, and what is forbidden to it.
 #[derive(Drop)]
 pub struct Ground<'a, B: BarTable> {
     grid: &'a Grid,
     distances: &'a Distances,
     bars: &'a B,
     agent: Agent,
-    // A tick from which on no bar stands.
+    // A tick from which on there is no constraint.
     horizon: Tick,
 }
 
@@ -62,8 +62,8 @@ impl<'a, B: BarTable> Ground<'a, B> {
         self.agent.start
     }
 
-    /// The cells around a cell, in rising order: those of them that are free are where the agent may be
-    /// one tick after it is there, bars aside.
+    /// The cells around a cell, in rising order: those of them that are free are where the agent
+    /// may be one tick after it is there, constraints aside.
     #[inline(always)]
     pub fn beside(&self, cell: Cell) -> [Option<Cell>; 5]
         requires { IsFree self.now.grid cell }
@@ -73,7 +73,7 @@ impl<'a, B: BarTable> Ground<'a, B> {
         cell.neighbourhood(self.grid.width())
     }
 
-    /// The tick and the distance of the cell together, None where no steps lead to the goal.
+    /// The tick plus the distance of the cell, None where no steps lead to the goal.
     #[inline(always)]
     pub fn value(&self, state: &State) -> Option<u32>
         requires { state.now.tick ≤ most_path_cells }
@@ -86,7 +86,7 @@ impl<'a, B: BarTable> Ground<'a, B> {
         }
     }
 
-    /// Whether the bars let the agent go from the state to the cell.
+    /// Whether the constraints let the agent go from the state to the cell.
     #[inline(always)]
     pub fn lets(&self, from: &State, to: Cell) -> bool
         requires small { from.now.tick ≤ most_path_cells }
@@ -137,7 +137,7 @@ impl<'a, B: BarTable> Ground<'a, B> {
         (self.grid.width() * self.grid.height()) as usize
     }
 
-    /// A tick from which on no bar stands.
+    /// A tick from which on there is no constraint.
     pub fn horizon(&self) -> Tick
         ensures above { AreBefore result self.now.bars }
         ensures early { result ≤ split_ticks }

@@ -1,4 +1,4 @@
-//! What is a cheapest path of one agent under its bars, and why is none cheaper?
+//! What is a cheapest path of one agent under its constraints, and why is none cheaper?
 #![tactic(auto)]
 
 mod cheapest;

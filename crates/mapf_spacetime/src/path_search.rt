@@ -80,7 +80,8 @@ impl PathSearch {
         Ok(())
     }
 
-    /// Whether the bars let the agent go to the cell, and it may still arrive at the cost from there.
+    /// Whether the constraints let the agent go to the cell, and it may still arrive at the cost
+    /// from there.
     fn leads<B: BarTable>(&self, ground: &Ground<B>, from: &State, to: Cell, cost: u32) -> bool
         requires small { from.now.tick < most_path_cells }
         requires free { IsFree ground.now.grid from.now.cell }

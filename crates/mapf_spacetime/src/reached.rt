@@ -10,8 +10,9 @@ use std::marker::Model;
 // By so much the base rises from one search to the next: more than the ticks of paths.
 const STAMP_TICKS: u32 = 16_777_216;
 
-/// The states that a search has reached, in the order in which they came. The states of one value have
-/// different cells, so the tick at which a cell was reached last tells whether such a state is new.
+/// The states that a search has reached, in the order in which they came. The states of one f-value
+/// have different cells, so the tick at which a cell was reached last tells whether such a state is
+/// new.
 #[derive(Drop)]
 pub struct Reached {
     states: Vec<State>,

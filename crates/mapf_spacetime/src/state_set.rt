@@ -43,7 +43,7 @@ impl StateSet {
         ensures old { IfOk result (λ new. new ≡ false → (self.new ≡ self.old) × Contains self.old state) }
     {
         let new = self.states.insert(state)?;
-        // The length tells the bound on it.
+        // The contract of `len` bounds it.
         let _count = self.states.len();
         Ok(new)
     }

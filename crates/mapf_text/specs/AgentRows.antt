@@ -1,4 +1,4 @@
--- Rows of a scenario: the agent that a row's words spell, and the faults.
+-- Rows of a scenario: the agent that a row's words spell, and the errors.
 use Rattle.std.specs.Prelude.{◌≡◌, ◌≢◌, ◌⊎◌, ℕ, ◌+◌, ◌-◌, ◌*◌, ◌^◌, ◌<◌, List, [], ◌∷◌, length, slice_index_or}
 use Rattle.mapf_model.specs.Grid.{GridMap, IsFree}
 use Rattle.mapf_model.specs.declared.problem.Agent.{Agent}
@@ -63,7 +63,7 @@ IsFirstNoNumber [] place = ⊥
 IsFirstNoNumber (p ∷ more) place =
     ((place ≡ p.0) × ((n : ℕ) → IsNumber p.1 n → ⊥)) ⊎ (((n : ℕ) × IsNumber p.1 n) × IsFirstNoNumber more place)
 
--- what each fault of a row says of its words: what is judged before is good, and there the defect stands
+-- what each error of a row says of its words: what is judged before its location is good, and its defect is there
 abbrev pub HasRowFault : GridMap → List (List ℕ) → ℕ → ScenFault → Type 0
 HasRowFault grid words row (S2 at) = (at ≡ row) × (length words ≢ 9)
 HasRowFault grid words row (S3 at place) = (at ≡ row) × (length words ≡ 9) × IsFirstNoNumber (numbered words) place

@@ -33,7 +33,7 @@ abbrev pub after_sign : List ℕ → List ℕ
 after_sign [] = []
 after_sign (b ∷ bs) = if (b == 43) || (b == 45) then bs else b ∷ bs
 
--- what follows the digits at the front
+-- what follows the leading digits
 abbrev pub drop_digits : List ℕ → List ℕ
 drop_digits [] = []
 drop_digits (b ∷ bs) = if is_ascii_digit b then drop_digits bs else b ∷ bs

@@ -1,4 +1,4 @@
--- Map texts: the grid that bytes spell, and the faults.
+-- Map texts: the grid that bytes spell, and the errors.
 use Rattle.std.specs.Prelude.{◌≡◌, ◌≢◌, ◌⊎◌, ℕ, ◌+◌, ◌==◌, ◌||◌, ◌<◌, ◌≤◌, Bool, true, false, List, [], ◌∷◌, Option, Some, None, IsSome, Result, Ok, Err, length, map, take, drop, slice_index, slice_index_or, codes, if◌then◌else◌}
 use Rattle.std.specs.List.{concat}
 use Rattle.mapf_model.specs.Grid.{GridMap}
@@ -78,18 +78,18 @@ pub record SpellsMap (bytes : List ℕ) (grid : GridMap) : Type 0 where
   pub rows : HasRows body grid.height grid.width grid.free
   pub blank : (n : ℕ) → is_blank_line (slice_index_or (drop grid.height body) n []) ≡ true
 
--- the row's first byte that is no cell stands at this place
+-- the row's first byte that is no cell is at this place
 pub record HasUnknownAt (row : List ℕ) (x : ℕ) : Type 0 where
   pub within : x < length row
   pub unknown : flag_of (slice_index row x) ≡ None
   pub first : (k : ℕ) → k < x → IsSome (flag_of (slice_index row k))
 
--- the first line that isn't blank stands at this place
+-- the first line that isn't blank is at this place
 pub record HasTextAt (lines : List (List ℕ)) (n : ℕ) : Type 0 where
   pub text : is_blank_line (slice_index_or lines n []) ≡ false
   pub first : (k : ℕ) → k < n → is_blank_line (slice_index_or lines k []) ≡ true
 
--- what each fault after the header says of the lines there; want of memory says nothing of them
+-- what each error after the header says of the lines there; out of memory says nothing of them
 abbrev pub HasBodyFault : ℕ → ℕ → List (List ℕ) → MapFault → Type 0
 HasBodyFault height width body (M6 y) =
     (y < height) × (y < length body) × ((free : List Bool) × HasRows body y width free) × (length (slice_index_or body y []) ≢ width)
@@ -102,7 +102,7 @@ HasBodyFault height width body (M9 line) =
 HasBodyFault height width body Memory = Unit {0}
 HasBodyFault height width body _ = ⊥
 
--- what each fault says of the lines of a text: the lines before its place are good, and there its defect stands
+-- what each error says of the lines of a text: the lines before its location are good, and its defect is there
 abbrev pub HasMapFault : List (List ℕ) → MapFault → Type 0
 HasMapFault lines M1 = (rest : List (List ℕ)) → AfterType lines rest → ⊥
 HasMapFault lines M2 =

@@ -1,4 +1,4 @@
--- Scenario texts: the problem that bytes spell, and the faults.
+-- Scenario texts: the problem that bytes spell, and the errors.
 use Rattle.std.specs.Prelude.{◌≡◌, ◌⊎◌, ℕ, ◌<◌, ◌≤◌, not, List, [], ◌∷◌, length, take, slice_index_or, codes}
 use Rattle.std.specs.List.{filter}
 use Rattle.mapf_model.specs.Grid.{GridMap}
@@ -42,7 +42,7 @@ pub record SpellsScenario (bytes : List ℕ) (grid : GridMap) (k : ℕ) (problem
   pub agents : HasAgents grid rows k problem.agents
   pub on_grid : problem.grid ≡ grid
 
--- what each fault of the rows says of them; want of memory says nothing
+-- what each error of the rows says of them; out of memory says nothing
 abbrev pub HasRowsFault : GridMap → List (List ℕ) → ℕ → ScenFault → Type 0
 HasRowsFault grid rows k S1 = ⊥
 HasRowsFault grid rows k (S7 count) = (count < k) × (length rows ≡ count) × ((agents : List Agent) × HasAgents grid rows count agents)
@@ -51,7 +51,8 @@ HasRowsFault grid rows k fault =
     (row : ℕ) × (row < k) × (row < length rows) × ((agents : List Agent) × HasAgents grid rows row agents)
     × HasRowFault grid (words_of (slice_index_or rows row [])) row fault
 
--- what each fault says of the lines of a text that aren't blank: the lines before its place are good, and there its defect stands
+-- what each error says of the lines of a text that aren't blank: the lines before its location are good, and its defect
+-- is there
 abbrev pub HasScenarioFault : GridMap → List (List ℕ) → ℕ → ScenFault → Type 0
 HasScenarioFault grid lines k S1 = (rows : List (List ℕ)) → AfterVersion lines rows → ⊥
 HasScenarioFault grid lines k fault = (rows : List (List ℕ)) × AfterVersion lines rows × HasRowsFault grid rows k fault

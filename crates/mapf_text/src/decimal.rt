@@ -62,7 +62,7 @@ fn after_digits(text: &[u8]) -> Option<&[u8]>
     }
 }
 
-// What follows the digits at the front.
+// What follows the leading digits.
 fn drop_digits(text: &[u8]) -> &[u8]
     ensures { result.now ≡ drop_digits text.now }
 {

@@ -24,7 +24,7 @@ pub fn read_map(alloc: Global, bytes: &[u8]) -> Result<Grid, MapFault>
     ensures found { IfOk result (SpellsMap bytes.now) }
     // What is spelled so is read, unless memory runs out.
     ensures only { (grid : GridMap) → SpellsMap bytes.now grid → (result ≡ Ok grid) ⊎ (result ≡ Err MapFault.Memory) }
-    // The lines before the fault's place are good, and there its defect stands.
+    // The lines before the reported location are good, and the defect is there.
     ensures fault { IfErr result (HasMapFault (lines_of bytes.now)) }
     // The grid has a flag for each of its cells.
     ensures grid { IfOk result IsGridMap }

@@ -1,4 +1,4 @@
-/// Why bytes are no map text: the first fault in the order of the text.
+/// Why bytes are no map text: the first error in the order of the text.
 #[derive(Clone, Copy, Debug, PartialEq, Eq)]
 pub enum MapFault {
     /// The first line isn't `type octile`.

@@ -15,7 +15,7 @@ use std::alloc::Global;
 /// Reads a scenario text on a grid: the line `version 1` or `version 1.0`, then a row for each of the
 /// `k` agents. Blank lines are skipped, and nothing is looked at after the last of these rows.
 ///
-/// After a fault the grid is dropped.
+/// After an error the grid is dropped.
 pub fn read_scen(alloc: Global, bytes: &[u8], grid: Grid, k: u32) -> Result<Problem, ScenFault>
     requires { (1 ≤ k) × (k ≤ most_agents) }
     // What is read is spelled so.
@@ -23,7 +23,7 @@ pub fn read_scen(alloc: Global, bytes: &[u8], grid: Grid, k: u32) -> Result<Prob
     // What is spelled so is read, unless memory runs out.
     ensures only { (problem : Instance) → SpellsScenario bytes.now grid k problem
         → (result ≡ Ok problem) ⊎ (result ≡ Err ScenFault.Memory) }
-    // The lines before the fault's place are good, and there its defect stands.
+    // The lines before the reported location are good, and the defect is there.
     ensures fault { IfErr result (HasScenarioFault grid (filled_lines bytes.now) k) }
     // There are 1 to 200 agents, whose starts and goals are free cells, and as many as were asked for.
     ensures problem { IfOk result IsInstance }

@@ -1,4 +1,4 @@
-/// Why bytes are no scenario text for a grid: the first fault in the order of the text.
+/// Why bytes are no scenario text for a grid: the first error in the order of the text.
 #[derive(Clone, Copy, Debug, PartialEq, Eq)]
 pub enum ScenFault {
     /// The first line that isn't blank isn't `version 1` or `version 1.0`.

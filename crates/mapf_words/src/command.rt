@@ -175,7 +175,7 @@ fn dispatch<'a>(alloc: Global) -> Result<Command<'a>, AllocError> {
         ))
 }
 
-/// The words that the program takes.
+/// The arguments that the program takes.
 pub fn mapf<'a>(alloc: Global) -> Result<Command<'a>, AllocError> {
     Command::new(alloc, "mapf")
         .version(VERSION)

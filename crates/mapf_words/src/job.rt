@@ -1,4 +1,4 @@
-/// What the words ask for. The texts are names of files.
+/// What the arguments ask for. The texts are names of files.
 #[derive(Debug, PartialEq, Eq, Drop)]
 pub enum Job {
     /// Solve and check a small built-in problem.
@@ -31,8 +31,8 @@ pub enum Job {
         k: u32,
         plan: String,
     },
-    /// Let the first `k` agents follow the plan of a plan text, and tell them whether they may go on, as
-    /// they ask for it in an event text.
+    /// Let the first `k` agents follow the plan of a plan text, and reply to each agent that asks
+    /// to go on in an event text.
     Dispatch {
         map: String,
         scen: String,

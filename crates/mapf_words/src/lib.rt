@@ -1,4 +1,4 @@
-//! What do the words of the command line ask for?
+//! What do the arguments of the command line ask for?
 #![tactic(auto)]
 
 mod command;

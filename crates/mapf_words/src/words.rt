@@ -49,7 +49,7 @@ fn apart(alloc: Global, output: (&str, &str), other: (&str, &str)) -> Result<(),
     Err(WordsFault::Bad(format!(in alloc; "error: {first} and {second} are one file: {text:?}\n")?))
 }
 
-// Refuses the words of `solve` where an input would be written over, or one output over the other.
+// Refuses `solve` if an input would be overwritten, or one output by the other.
 fn own_outputs(
     alloc: Global,
     map: &str,
@@ -158,9 +158,9 @@ fn fault_of(alloc: Global, error: &clap::Error) -> WordsFault {
     }
 }
 
-/// What the words ask for, of which the first is the program's name. No further word, and no word at
-/// all, is the demo. A job that would write over a file that it reads, or write two texts to one file, is
-/// refused as wrong words.
+/// The job of these arguments, of which the first is the program's name. Without further arguments
+/// it is the demo. A job that would overwrite a file that it reads, or write two texts to one file,
+/// is a usage error.
 pub fn job_of(alloc: Global, words: Vec<String>) -> Result<Job, WordsFault>
     ensures range { IfOk result IsInRange }
     ensures own { IfOk result HasOwnOutputs }

@@ -1,11 +1,11 @@
 use std::alloc::AllocError;
 
-/// Why words name no job.
+/// Why arguments give no job.
 #[derive(Debug, PartialEq, Eq, Drop)]
 pub enum WordsFault {
     /// They ask for this text: help, or the version.
     Shown(String),
-    /// They are wrong, and this text for the user says how.
+    /// They are a usage error, which this text reports to the user.
     Bad(String),
     /// A request for memory was refused.
     Memory,
