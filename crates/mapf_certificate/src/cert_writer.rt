@@ -3,7 +3,8 @@ ghost use Rattle.std.specs.List.{flat_map};
 ghost use Rattle.std.specs.Result.{is_err};
 ghost use Rattle.mapf_fields.specs.Pages.{PassesOrFails, WritesOrFails};
 ghost use Rattle.mapf_model.specs.Tree.{node_of};
-ghost use Rattle.mapf_certificate.specs.Certificates.{entries_text, block_text, blocks_text, first_line, item_text, line_text};
+ghost use Rattle.mapf_certificate.specs.Certificates.{entries_text, block_text, blocks_text, first_line};
+ghost use Rattle.mapf_certificate.specs.Certificates.{item_text, line_text};
 ghost use Rattle.mapf_certificate.specs.Certificates.{header_text, cert_text, IsNodeOfVersion};
 ghost use Rattle.mapf_certificate.specs.Lines.{IsClaimOfVersion};
 

@@ -1,4 +1,5 @@
-ghost use Rattle.std.specs.Prelude.{◌≡◌, ◌+◌, ◌<◌, ◌≤◌, ◌^◌, ◌↔◌, [], IfNone, IfOk, IfSome, OnOk, OnSome, IsTrue, length, slice_set, vec_len};
+ghost use Rattle.std.specs.Prelude.{◌≡◌, ◌+◌, ◌<◌, ◌≤◌, ◌^◌, ◌↔◌, [], IfNone, IfOk, IfSome};
+ghost use Rattle.std.specs.Prelude.{OnOk, OnSome, IsTrue, length, slice_set, vec_len};
 ghost use Rattle.mapf_model.specs.Distance.{IsDistance};
 ghost use Rattle.mapf_model.specs.Grid.{GridMap, IsFree};
 ghost use Rattle.mapf_distance.specs.Distances.{IsDistanceOrNone};
@@ -34,8 +35,8 @@ pub fn distance_between(
     }
 }
 
-// What is found so far on the way from a goal to a start, by A* (Hart et al. 1968): cells are looked at by the steps that
-// lead to them and the least that may follow.
+// A* from a goal towards a start (Hart et al. 1968): cells are looked at in rising f-value, the steps found between the
+// cell and the goal plus the Manhattan distance that is left.
 #[derive(Drop)]
 struct Search {
     start: Cell,

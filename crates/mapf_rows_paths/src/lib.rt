@@ -13,4 +13,6 @@ mod lazy_tables;
 #[cfg(test)]
 mod searches;
 #[cfg(test)]
+mod starts;
+#[cfg(test)]
 mod tables;

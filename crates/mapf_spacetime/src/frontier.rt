@@ -4,7 +4,8 @@ ghost use Rattle.mapf_model.specs.Limits.{most_path_cells};
 ghost use Rattle.mapf_model.specs.Neighbours.{neighbourhood};
 ghost use Rattle.mapf_spacetime.specs.declared.state.State.{State};
 ghost use Rattle.mapf_spacetime.specs.Task.{IsValue};
-ghost use Rattle.mapf_spacetime.specs.States.{first_states, with_reached, with_open, with_next, with_later, raised, low_states};
+ghost use Rattle.mapf_spacetime.specs.States.{first_states, with_reached, with_open, with_next};
+ghost use Rattle.mapf_spacetime.specs.States.{with_later, raised, low_states};
 ghost use Rattle.mapf_spacetime.specs.States.{IsFrontier, Keeps, Takes, NoneWait, HasArrived, IsWalked, IsSpent};
 ghost use Rattle.mapf_spacetime.specs.States.{IsBelowLimit};
 
