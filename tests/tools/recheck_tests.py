@@ -15,8 +15,9 @@ from harness import TESTS, Ended, cases_of, run, told
 RECHECK = TESTS.parent / "tools" / "recheck"
 EXAMPLES = TESTS.parent / "examples"
 
-# Examples of which recheck judges the certificate in a few seconds, with their number of agents.
-SOLVED = [("empty-8-8", 4), ("empty-8-8", 6), ("random-32-32", 5), ("random-32-32", 8)]
+# The examples, as run_examples solves them, each with its number of agents.
+SOLVED = [("empty-8-8", 1), ("empty-8-8", 4), ("empty-8-8", 6), ("random-32-32", 5), ("random-32-32", 6),
+          ("random-32-32", 8), ("random-32-32", 16), ("warehouse-161-63", 6), ("warehouse-161-63", 10)]
 LIMIT = "60"
 
 # Cases of which each line is replaced by each of these lines.
@@ -62,6 +63,8 @@ def tests(tally):
         for title in CASES:
             faults = lines_that_differ(recheck, TESTS / "cases" / title, Path(name))
             tally.add(f"recheck, other lines in {title}", faults)
+        # thousands of edits of a text on a large map would take minutes
+        bases = [base for base in bases if not base[0].startswith("warehouse")]
         bases += accepted_cases(Path(name))
         tally.add(f"recheck, {EDITS} edits", edits_that_differ(recheck, bases, Path(name)))
     tally.add("recheck, words", words_faults())
