@@ -253,7 +253,7 @@ class Plan:
 
 NUMBER = "(0|[1-9][0-9]*)"
 PAIR = f"{NUMBER},{NUMBER}"
-LIMITS = {1: "limit N", 2: "limit N bound B"}
+LIMITS = {1: "limit S", 2: "limit S bound B"}
 
 
 def read_plan(path):

@@ -31,7 +31,7 @@ bound_text (Some bound) = codes " bound" ++ number_text (Some bound)
 abbrev pub line_text : Line → List ℕ
 line_text line = line.words.now ++ (defect_text line.defect ++ (number_text line.numbers.0 ++ (number_text line.numbers.1 ++ (number_text line.numbers.2 ++ (bound_text line.bound ++ (10 ∷ []))))))
 
--- `cost C`, `impossible`, `limit N bound B` or `limit ticks bound B`
+-- `cost C`, `impossible`, `limit S bound B` or `limit ticks bound B`
 abbrev pub kind_line : Kind → List ℕ
 kind_line (Found cost) = codes "cost " ++ (decimal cost ++ (10 ∷ []))
 kind_line Impossible = codes "impossible\n"

@@ -52,7 +52,7 @@ nothing is written. They are made or emptied before MAP and SCEN are read.
 Standard output has one line:
   cost C               the sum of the agents' costs, in ticks
   impossible           no plan is valid
-  limit N bound B      no answer after N splits; no valid plan costs less than B
+  limit S bound B      no answer after S splits; no valid plan costs less than B
   limit ticks bound B  no answer, since the agents have a conflict too late; B as above
 
 Example:
