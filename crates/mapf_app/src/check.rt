@@ -44,7 +44,7 @@ pub fn run_check<M: Source, S: Source, P: Source, C: Source>(
     ensures within { OnOk result
         (IsWithin (M.remaining map.old) most_text_bytes × IsWithin (S.remaining scen.old) most_text_bytes
         × IsWithin (P.remaining plan.old) most_text_bytes × IsWithin (C.remaining cert.old) most_cert_bytes) }
-    // Each reported error is real, and its location is correct.
+    // Each reported error is real. Of the map, the scenario and a plan that is not valid its location is correct too.
     ensures fault { IfErr result
         (IsChecking (M.remaining map.old) (S.remaining scen.old) (P.remaining plan.old) (C.remaining cert.old) k) }
     ensures inner { IfErr result HasNoInnerMemory }

@@ -78,7 +78,7 @@ pub fn read_planned<M: Source, S: Source, P: Source>(
     ensures only { (planned : Planned) →
         IsDuePlan (M.remaining map.old) (S.remaining scen.old) (P.remaining plan.old) k planned.problem planned.plan →
         (result ≡ Ok planned) ⊎ IsErrAnd result IsOfInput }
-    // Each reported error is real, and its location is correct.
+    // Each reported error is real. Of the map, the scenario and a plan that is not valid its location is correct too.
     ensures fault { IfErr result (IsPlanning (M.remaining map.old) (S.remaining scen.old) (P.remaining plan.old) k) }
     ensures inner { IfErr result HasNoInnerMemory }
     // An error of a source is reported only if it failed or gave too many bytes, and always if it

@@ -44,7 +44,7 @@ pub fn run_play<M: Source, S: Source, P: Source, K: Sink>(
     ensures within { OnOk result
         (IsWithin (M.remaining map.old) most_text_bytes × IsWithin (S.remaining scen.old) most_text_bytes
         × IsWithin (P.remaining plan.old) most_text_bytes) }
-    // Each reported error is real, and its location is correct.
+    // Each reported error is real. Of the map, the scenario and a plan that is not valid its location is correct too.
     ensures fault { IfErr result (IsPlaying (M.remaining map.old) (S.remaining scen.old) (P.remaining plan.old) k) }
     ensures inner { IfErr result HasNoInnerMemory }
     // An error of a device is reported only if it failed or a source gave too many bytes, and
