@@ -36,7 +36,7 @@ Exit status:
   1  check refused the plan text or the certificate
   2  an error or a usage error, with a message on standard error
   3  solve found that no plan is valid
-  4  solve met a limit before it had an answer
+  4  solve reached a limit before it had an answer
 
 Errors, with details in the same line: F1 the map, F2 the scenario, F3 a plan that can't be played
 or followed, or the event text, F4 a file that can't be read, F5 one that can't be written, F6 out
@@ -63,14 +63,14 @@ Exit status:
   0  solved
   2  an error or a usage error, with a message on standard error
   3  impossible
-  4  a limit was met";
+  4  a limit was reached";
 
 const CHECK_ABOUT: &str =
     "Checks whether CERT shows what PLAN says: a plan that is optimal, none that is valid, or a bound";
 
 const CHECK_OUTPUT: &str = "Standard output has one line:
   optimal C    the plan is valid, costs C, and no valid plan costs less
-  bound B      PLAN says that a limit was met, and no valid plan costs less than B
+  bound B      PLAN says that a limit was reached, and no valid plan costs less than B
   impossible   no plan is valid
   refused ..   the texts don't show it, with the reason
 
