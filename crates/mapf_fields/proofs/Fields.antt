@@ -134,17 +134,13 @@ number_of_front bs ds rest front after begins =
     ∙ ap (λ w. Ok (small_value w, after_digits bs)) front ∙ ap (λ r. Ok (small_value ds, r)) after
 
 -- digits of which the first isn't a `0` before others are read whole
-whole_digits : (bs : List ℕ) → AllDigits 10 bs → begins_well bs ≡ true → read_whole bs ≡ Ok (small_value bs)
+pub whole_digits : (bs : List ℕ) → AllDigits 10 bs → begins_well bs ≡ true → read_whole bs ≡ Ok (small_value bs)
 unfolding read_whole
 whole_digits bs all begins =
     let front : front_digits bs ≡ bs = ap front_digits (sym (append-nil bs)) ∙ front-append bs [] all tt in
     let after : after_digits bs ≡ [] = ap (λ w. drop (length w) bs) front ∙ ap (drop (length bs)) (sym (append-nil bs)) ∙ drop-front bs [] in
     let read : read_number bs ≡ Ok (small_value bs, []) = number_of_front bs bs [] front after begins in
     rw read refl
-
--- what isn't read whole is no number
-pub whole_refused : (bs : List ℕ) (fault : LineFault) → read_whole bs ≡ Err fault → AllDigits 10 bs → begins_well bs ≡ true → ⊥
-whole_refused bs fault refused all begins = let read = whole_digits bs all begins in absurd cc
 
 number_spelled : (bs : List ℕ) (number : Option ℕ) → read_number bs ≡ Ok (number, []) → AllDigits 10 bs × (begins_well bs ≡ true) × (number ≡ small_value bs)
 unfolding read_number
