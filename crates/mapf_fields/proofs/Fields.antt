@@ -191,6 +191,7 @@ below_refused bound ds fault few e = by (nat_lt (digits_value 10 ds) (2 ^ 64)) r
     great : (b : Bool) → nat_lt (digits_value 10 ds) bound ≡ b → cond b (Ok (digits_value 10 ds)) (Err Range) ≡ Err fault → bound ≤ digits_value 10 ds
     great true t h = absurd cc
     great false t h = grind (arith, nat_tests)
+
     by : (b : Bool) → nat_lt (digits_value 10 ds) (2 ^ 64) ≡ b → below bound (cond b (Some (digits_value 10 ds)) None) ≡ Err fault → bound ≤ digits_value 10 ds
     by true t h = great (nat_lt (digits_value 10 ds) bound) refl h
     by false t h = grind (arith, nat_tests)

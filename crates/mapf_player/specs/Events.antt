@@ -49,15 +49,14 @@ pub record HasOtherTitle (bytes : List ℕ) : Type 0 where
   pub cut : IsCut bytes line rest
   pub other : line ≢ codes "mapf-events 1"
 
--- the text begins with the title and the lines of agents, each below the count, and after them, from this line on, comes
--- the rest
+-- the text begins with the title and the lines of agents, each below the count; the rest begins in this line
 pub record HasRestAt (bytes : List ℕ) (count line : ℕ) (rest : List ℕ) : Type 0 where
   pub agents : List ℕ
   pub in_range : All (λ agent. agent < count) agents
   pub spelled : bytes ≡ codes "mapf-events 1\n" ++ (asked_lines agents ++ rest)
   pub number : line ≡ 2 + length agents
 
--- the rest has a first line, and it is neither the last line nor a number
+-- the rest has a first line, and it is neither `end` nor a number
 pub record HasNoNumber (rest : List ℕ) : Type 0 where
   pub line : List ℕ
   pub after : List ℕ
@@ -77,9 +76,11 @@ pub record HasNoAgent (rest : List ℕ) (count : ℕ) : Type 0 where
 -- there; out of memory says nothing
 abbrev pub HasEventFault : List ℕ → ℕ → EventFault → Type 0
 HasEventFault bytes count (E1 line) =
-    ((line ≡ 1) × HasOtherTitle bytes) ⊎ ((rest : List ℕ) × HasRestAt bytes count line rest × HasNoNumber rest)
+    ((line ≡ 1) × HasOtherTitle bytes)
+    ⊎ ((rest : List ℕ) × HasRestAt bytes count line rest × HasNoNumber rest)
 HasEventFault bytes count (E2 line) =
-    ((line ≡ 1) × (lacks_end bytes ≡ true)) ⊎ ((rest : List ℕ) × HasRestAt bytes count line rest × (lacks_end rest ≡ true))
+    ((line ≡ 1) × (lacks_end bytes ≡ true))
+    ⊎ ((rest : List ℕ) × HasRestAt bytes count line rest × (lacks_end rest ≡ true))
 HasEventFault bytes count (E3 line) = (rest : List ℕ) × HasRestAt bytes count line rest × HasNoAgent rest count
 HasEventFault bytes count (E4 line) =
     (last : ℕ) × (rest : List ℕ) × HasRestAt bytes count last (codes "end\n" ++ rest) × (line ≡ last + 1) × (rest ≢ [])

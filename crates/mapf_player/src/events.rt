@@ -2,8 +2,7 @@ ghost use Rattle.std.specs.Prelude.{◌≡◌, ◌<◌, ◌+◌, ◌++◌, ℕ, 
 ghost use Rattle.std.specs.Prelude.{codes, length};
 ghost use Rattle.std.specs.Fmt.{decimal};
 ghost use Rattle.mapf_fields.specs.Ends.{IsCut, lacks_end};
-ghost use Rattle.mapf_player.specs.Events.{OrMemory, SpellsEvents, event_lines};
-ghost use Rattle.mapf_player.specs.Events.{HasEventFault, GivesNoAgent};
+ghost use Rattle.mapf_player.specs.Events.{GivesNoAgent, HasEventFault, OrMemory, SpellsEvents, event_lines};
 
 use mapf_fields::{below, cut, whole};
 use std::alloc::Global;
