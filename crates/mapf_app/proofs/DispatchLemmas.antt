@@ -12,7 +12,7 @@ use Rattle.mapf_app.specs.declared.fault.PlayFault.{PlayFault}
 use Rattle.mapf_app.specs.declared.fault.PlayFault.TheVariants.{Text, NoPlan, OtherCount, Invalid, Events}
 use Rattle.mapf_model.specs.Plan.{Instance}
 use Rattle.mapf_player.specs.Dispatching.{AreReplies, Progress, beginning}
-use Rattle.mapf_player.specs.Events.{SpellsEvents}
+use Rattle.mapf_player.specs.Events.{SpellsEvents, HasEventFault}
 use Rattle.mapf_player.specs.Replies.{IsReplyText, reply_text}
 use Rattle.mapf_player.specs.Visits.{AreVisitsOfAll}
 use Rattle.mapf_player.specs.declared.reply.Reply.{Reply}
@@ -28,15 +28,19 @@ memory_is_input fault is = subst (λ f. IsOfInput (fault_of_events f)) (sym is) 
 
 -- a fault of the events that were read stands in what their source told
 module _ (events : Option (List ℕ)) (count : ℕ) (text : List ℕ) (same : IfSome events (λ bytes. text ≡ bytes)) where
-  unspelled : (fault : EventFault) → ((agents : List ℕ) → SpellsEvents text count agents → fault ≡ Memory) → (fault ≡ Memory → ⊥) → HasEventsFault events count (Events fault)
-  unspelled fault none differ = (differ, told (λ bytes. (agents : List ℕ) → SpellsEvents bytes count agents → ⊥) events text same (λ agents spells. differ (none agents spells)))
+  unspelled : (fault : EventFault) → ((agents : List ℕ) → SpellsEvents text count agents → fault ≡ Memory) → HasEventFault text count fault → (fault ≡ Memory → ⊥) → HasEventsFault events count (Events fault)
+  unspelled fault none has differ = (
+    differ,
+    told (λ bytes. ((agents : List ℕ) → SpellsEvents bytes count agents → ⊥) × HasEventFault bytes count fault) events text same
+        (λ agents spells. differ (none agents spells), has),
+  )
 
-  pub events_fault_told : (fault : EventFault) → ((agents : List ℕ) → SpellsEvents text count agents → fault ≡ Memory) → IsReadingEvents events count (fault_of_events fault)
-  events_fault_told Memory none = tt
-  events_fault_told (E1 line) none = unspelled (E1 line) none (λ e. cc)
-  events_fault_told (E2 line) none = unspelled (E2 line) none (λ e. cc)
-  events_fault_told (E3 line) none = unspelled (E3 line) none (λ e. cc)
-  events_fault_told (E4 line) none = unspelled (E4 line) none (λ e. cc)
+  pub events_fault_told : (fault : EventFault) → ((agents : List ℕ) → SpellsEvents text count agents → fault ≡ Memory) → HasEventFault text count fault → IsReadingEvents events count (fault_of_events fault)
+  events_fault_told Memory none has = tt
+  events_fault_told (E1 line) none has = unspelled (E1 line) none has (λ e. cc)
+  events_fault_told (E2 line) none has = unspelled (E2 line) none has (λ e. cc)
+  events_fault_told (E3 line) none has = unspelled (E3 line) none has (λ e. cc)
+  events_fault_told (E4 line) none has = unspelled (E4 line) none has (λ e. cc)
 
 -- what a fault of the inputs says is so of a run in which agents follow a plan
 module _ (map scen plan events : Option (List ℕ)) (count : ℕ) where

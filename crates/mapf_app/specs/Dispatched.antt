@@ -5,7 +5,7 @@ use Rattle.mapf_app.specs.Planned.{SpellsPlanned, IsDuePlan, IsPlanDefect}
 use Rattle.mapf_app.specs.declared.fault.PlayFault.{PlayFault}
 use Rattle.mapf_app.specs.declared.fault.PlayFault.TheVariants.{Text, NoPlan, OtherCount, Invalid, Events}
 use Rattle.mapf_model.specs.Plan.{Instance}
-use Rattle.mapf_player.specs.Events.{SpellsEvents}
+use Rattle.mapf_player.specs.Events.{SpellsEvents, HasEventFault}
 use Rattle.mapf_player.specs.Replies.{IsReplyText}
 use Rattle.mapf_player.specs.declared.events.EventFault.TheVariants as event_faults
 
@@ -31,14 +31,15 @@ pub record IsDueDispatch (map scen plan events : Option (List ℕ)) (count : ℕ
 abbrev pub ShowsReplies : Instance → List (List ℕ) → List ℕ → Option (List ℕ) → Option (List ℕ) → Type 0
 ShowsReplies problem paths agents old new = (text : List ℕ) × IsReplyText problem.grid.width paths agents text × Appends old new text
 
--- what an error says of the event text: it spells no events of so many agents. An error of the plan text isn't one of
--- an event text
+-- what an error says of the event text: it spells no events of so many agents, and the error's defect is in its line. An
+-- error of the plan text isn't one of an event text
 abbrev pub HasEventsFault : Option (List ℕ) → ℕ → PlayFault → Type 0
 HasEventsFault events count (Text fault) = ⊥
 HasEventsFault events count NoPlan = ⊥
 HasEventsFault events count OtherCount = ⊥
 HasEventsFault events count (Invalid fault) = ⊥
-HasEventsFault events count (Events fault) = (fault ≢ event_faults.Memory) × IfSome events (λ event_text. (agents : List ℕ) → SpellsEvents event_text count agents → ⊥)
+HasEventsFault events count (Events fault) =
+    (fault ≢ event_faults.Memory) × IfSome events (λ event_text. ((agents : List ℕ) → SpellsEvents event_text count agents → ⊥) × HasEventFault event_text count fault)
 
 -- what the error says is true of the event text, and the plan text spells a valid plan for the problem that the map and
 -- the scenario spell

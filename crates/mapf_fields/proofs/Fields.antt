@@ -126,6 +126,39 @@ whole_again n fits =
     let again : read_number (decimal n) ≡ Ok (Some n, []) = ap read_number (sym (append-nil (decimal n))) ∙ number_again n [] fits tt in
     rw again refl
 
+-- what is read where these are the leading digits
+number_of_front : (bs ds rest : List ℕ) → front_digits bs ≡ ds → after_digits bs ≡ rest → begins_well ds ≡ true → read_number bs ≡ Ok (small_value ds, rest)
+unfolding read_number
+number_of_front bs ds rest front after begins =
+    ap (λ b. cond b (Ok (small_value (front_digits bs), after_digits bs)) (Err Shape)) (ap begins_well front ∙ begins)
+    ∙ ap (λ w. Ok (small_value w, after_digits bs)) front ∙ ap (λ r. Ok (small_value ds, r)) after
+
+-- digits of which the first isn't a `0` before others are read whole
+pub whole_digits : (bs : List ℕ) → AllDigits 10 bs → begins_well bs ≡ true → read_whole bs ≡ Ok (small_value bs)
+unfolding read_whole
+whole_digits bs all begins =
+    let front : front_digits bs ≡ bs = ap front_digits (sym (append-nil bs)) ∙ front-append bs [] all tt in
+    let after : after_digits bs ≡ [] = ap (λ w. drop (length w) bs) front ∙ ap (drop (length bs)) (sym (append-nil bs)) ∙ drop-front bs [] in
+    let read : read_number bs ≡ Ok (small_value bs, []) = number_of_front bs bs [] front after begins in
+    rw read refl
+
+number_spelled : (bs : List ℕ) (number : Option ℕ) → read_number bs ≡ Ok (number, []) → AllDigits 10 bs × (begins_well bs ≡ true) × (number ≡ small_value bs)
+unfolding read_number
+number_spelled bs number read =
+    let (begins, same) = guarded (begins_well (front_digits bs)) Shape _ _ read in
+    let (number_is, after) = ok_pair_parts (small_value (front_digits bs)) number (after_digits bs) [] same in
+    let front : bs ≡ front_digits bs = digits_and_rest bs ∙ ap (λ r. front_digits bs ++ r) after ∙ append-nil (front_digits bs) in
+    (subst (AllDigits 10) (sym front) (AllDigits-front_digits bs), ap begins_well front ∙ begins, sym number_is ∙ ap small_value (sym front))
+
+-- what is read whole is a number, also from 2^64 on
+pub whole_spelled : (bs : List ℕ) (number : Option ℕ) → read_whole bs ≡ Ok number → AllDigits 10 bs × (begins_well bs ≡ true) × (number ≡ small_value bs)
+unfolding read_whole
+whole_spelled bs number e = through (read_number bs) _ number e (λ p read more. by p.0 p.1 read more)
+  where
+    by : (value : Option ℕ) (rest : List ℕ) → read_number bs ≡ Ok (value, rest) → elim rest as (λ _. Result (Option ℕ) LineFault) [ [] ↦ Ok value | c ∷ cs ↦ Err Shape ] ≡ Ok number → AllDigits 10 bs × (begins_well bs ≡ true) × (number ≡ small_value bs)
+    by value [] read more = number_spelled bs number (read ∙ ap (λ v. Ok (v, [])) (same_ok value number more))
+    by value (c ∷ cs) read more = cc
+
 pub last_takes : (mark : ℕ) (bs : List ℕ) (n : ℕ) → read_last mark bs ≡ Ok (Some n) → (bs ≡ field mark n) × (n < 2 ^ 64)
 unfolding read_last
 last_takes mark [] n e = cc
@@ -149,6 +182,19 @@ below_takes bound (Some m) n e =
 
 pub below_again : (bound n : ℕ) → n < bound → below bound (Some n) ≡ Ok n
 below_again bound n h = let inside : nat_lt n bound ≡ true = lt-ltb n bound h in rw inside refl
+
+-- the number that digits spell isn't below a bound that refuses it
+pub below_refused : (bound : ℕ) (ds : List ℕ) (fault : LineFault) → bound < 2 ^ 64 → below bound (small_value ds) ≡ Err fault → bound ≤ digits_value 10 ds
+unfolding small_value
+below_refused bound ds fault few e = by (nat_lt (digits_value 10 ds) (2 ^ 64)) refl e
+  where
+    great : (b : Bool) → nat_lt (digits_value 10 ds) bound ≡ b → cond b (Ok (digits_value 10 ds)) (Err Range) ≡ Err fault → bound ≤ digits_value 10 ds
+    great true t h = absurd cc
+    great false t h = grind (arith, nat_tests)
+
+    by : (b : Bool) → nat_lt (digits_value 10 ds) (2 ^ 64) ≡ b → below bound (cond b (Some (digits_value 10 ds)) None) ≡ Err fault → bound ≤ digits_value 10 ds
+    by true t h = great (nat_lt (digits_value 10 ds) bound) refl h
+    by false t h = grind (arith, nat_tests)
 
 pub range_takes : (least most : ℕ) (v : Option ℕ) (n : ℕ) → in_range least most v ≡ Ok n → (v ≡ Some n) × (least ≤ n) × (n ≤ most)
 range_takes least most None n e = cc

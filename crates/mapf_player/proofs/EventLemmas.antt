@@ -1,11 +1,12 @@
 -- Texts of events: what is read is spelled so, and what is spelled so is read.
-use Rattle.std.proofs.Common.{◌≡◌, ◌≢◌, ◌⊎◌, inl, inr, ℕ, ◌<◌, ◌^◌, ◌==◌, Bool, true, false, not, List, [], ◌∷◌, ◌++◌, Option, Some, Ok, All, length, codes, refl, sym, ap, subst, ◌∙◌, get_or, arith, append_assoc, append-nil, length-append, suc, Result, Err}
+use Rattle.std.proofs.Common.{◌≡◌, ◌≢◌, ◌⊎◌, inl, inr, ℕ, ◌<◌, ◌^◌, ◌==◌, Bool, true, false, not, List, [], ◌∷◌, ◌++◌, Option, Some, Ok, All, length, codes, refl, sym, ap, subst, ◌∙◌, get_or, arith, append_assoc, append-nil, length-append, suc, ◌+◌, Result, Err, IfErr, IsErrAnd}
 use Rattle.std.specs.Fmt.{decimal}
 use Rattle.std.specs.Result.{IsOk}
 use Rattle.std.specs.Str.Parse.{AllDigits}
+use Rattle.mapf_fields.specs.declared.fault.LineFault.{LineFault}
 use Rattle.mapf_fields.specs.Ends.{IsCut, lacks_end}
 use Rattle.mapf_fields.specs.Numbers.{read_whole, below}
-use Rattle.mapf_fields.proofs.Fields.{whole_takes, whole_again, below_takes, below_again}
+use Rattle.mapf_fields.proofs.Fields.{whole_takes, whole_again, whole_spelled, below_takes, below_again, below_refused}
 use Rattle.mapf_fields.proofs.Binds.{same_ok}
 use Rattle.mapf_fields.proofs.Cuts.{has_end}
 use Rattle.mapf_fields.proofs.Plain.{digits_lack, same_front}
@@ -13,7 +14,9 @@ use Rattle.std.proofs.lemmas.Fmt.{decimal_is_IsNumeral}
 use Rattle.std.proofs.lemmas.Grind.{common_steps}
 use Rattle.std.proofs.lemmas.Option.{get_or_from_slice_get, same_Some}
 use Rattle.mapf_model.proofs.PlaceLemmas.{slice_get-here}
-use Rattle.mapf_player.specs.Events.{event_line, event_lines, event_text, SpellsOneListOfEvents}
+use Rattle.mapf_player.specs.Events.{event_line, event_lines, asked_lines, event_text, HasRestAt, HasEventFault, GivesNoAgent, SpellsOneListOfEvents}
+use Rattle.mapf_player.specs.declared.events.EventFault.{EventFault}
+use Rattle.mapf_player.specs.declared.events.EventFault.TheVariants.{E1, E2, E3, E4, Memory}
 
 -- a number's line is cut off whole
 pub event_cut : (n : ℕ) (bs more line rest : List ℕ) → n < 2 ^ 64 → bs ≡ event_line n ++ more → IsCut bs line rest → (line ≡ decimal n) × (rest ≡ more)
@@ -26,11 +29,6 @@ end_cut bs more line rest spelled found = same_front line (codes "end") rest mor
 -- no number is the last line
 pub no_number : (n : ℕ) → n < 2 ^ 64 → decimal n ≢ codes "end"
 no_number n fits same = let digits = subst (AllDigits 10) same ((decimal_is_IsNumeral n fits).0.1) in absurd (let first = digits.0 in omega arith)
-
--- the lines of agents that asked
-abbrev pub asked_lines : List ℕ → List ℕ
-asked_lines [] = []
-asked_lines (agent ∷ agents) = event_line agent ++ asked_lines agents
 
 -- one agent more asked
 pub asked_more : (agents : List ℕ) (agent : ℕ) → asked_lines (agents ++ agent ∷ []) ≡ asked_lines agents ++ event_line agent
@@ -211,3 +209,48 @@ title_of bytes line rest agents found spelled = (same_front line (codes "mapf-ev
 
 pub text_has_line : (bytes : List ℕ) (agents : List ℕ) → bytes ≡ event_text agents → lacks_end bytes ≡ false
 text_has_line bytes agents spelled = has_line bytes (codes "mapf-events 1") (event_lines agents) spelled
+
+-- an error that a call passed on says what it said there
+pub fault_passed : {T E : Type 0} (P : E → Type 0) (r : Result T E) (fault : E) → IsErrAnd r (λ given. given ≡ fault) → P fault → IfErr r P
+fault_passed P (Ok x) fault is says = tt
+fault_passed P (Err given) fault is says = subst P (sym is) says
+
+-- what is left to read comes after the title and the agents that were read
+pub rest_at : (bytes rest items : List ℕ) (count number : ℕ) → All (λ agent. agent < count) items → bytes ≡ asked_lines items ++ rest → number ≡ length items + 2 → HasRestAt (codes "mapf-events 1\n" ++ bytes) count number rest
+rest_at bytes rest items count number low read is = record {
+  agents = items;
+  in_range = low;
+  spelled = ap (λ bs. codes "mapf-events 1\n" ++ bs) read;
+  number = omega (arith, is);
+}
+
+-- a line that lacks its end
+pub end_fault : (bytes rest : List ℕ) (count number : ℕ) (fault : EventFault) → HasRestAt bytes count number rest → (fault ≡ E2 number) × (lacks_end rest ≡ true) → HasEventFault bytes count fault
+end_fault bytes rest count number fault has (is, lacks) = subst (HasEventFault bytes count) (sym is) (inr (rest, has, lacks))
+
+-- a line that isn't the last one and gives no agent
+pub agent_fault : (bytes rest line after : List ℕ) (count number : ℕ) (fault : EventFault) → HasRestAt bytes count number rest → IsCut rest line after → line ≢ codes "end" → GivesNoAgent line count number fault → HasEventFault bytes count fault
+agent_fault bytes rest line after count number (E1 at) has cut other (same, none) =
+    inr (rest, subst (λ n. HasRestAt bytes count n rest) (sym same) has, record { line = line; after = after; cut = cut; no_end = other; no_number = none })
+agent_fault bytes rest line after count number (E2 at) has cut other none = absurd none
+agent_fault bytes rest line after count number (E3 at) has cut other (same, is_number, great) =
+    (rest, subst (λ n. HasRestAt bytes count n rest) (sym same) has, record { line = line; after = after; cut = cut; is_number = is_number; great = great })
+agent_fault bytes rest line after count number (E4 at) has cut other none = absurd none
+agent_fault bytes rest line after count number Memory has cut other none = absurd none
+
+-- a text that begins with the title
+pub title_before : (bytes line rest : List ℕ) → IsCut bytes line rest → line ≡ codes "mapf-events 1" → bytes ≡ codes "mapf-events 1\n" ++ rest
+title_before bytes line rest found title = found.same ∙ ap (λ l. l ++ (10 ∷ rest)) title
+
+-- what follows the last line
+pub more_fault : (bytes rest after items : List ℕ) (count number : ℕ) → bytes ≡ codes "mapf-events 1\n" ++ rest → All (λ agent. agent < count) items → rest ≡ event_lines items ++ after → number ≡ length items + 3 → after ≢ [] → HasEventFault bytes count (E4 number)
+more_fault bytes rest after items count number title low read is some =
+    let lines = read ∙ ap (λ bs. bs ++ after) (lines_end items) ∙ append_assoc (asked_lines items) (codes "end\n") after in
+    let has = rest_at rest (codes "end\n" ++ after) items count (length items + 2) low lines refl in
+    (length items + 2, after, subst (λ bs. HasRestAt bs count (length items + 2) (codes "end\n" ++ after)) (sym title) has, omega (arith, is), some)
+
+-- a line of digits that isn't below the bound
+pub great_agent : (line : List ℕ) (bound number : ℕ) (read : Option ℕ) (fault : LineFault) → bound < 2 ^ 32 → read_whole line ≡ Ok read → below bound read ≡ Err fault → GivesNoAgent line bound number (E3 number)
+great_agent line bound number read fault few whole_is refused =
+    let (all, begins, value) = whole_spelled line read whole_is in
+    (refl, (all, begins), below_refused bound line fault (omega arith) (ap (below bound) (sym value) ∙ refused))

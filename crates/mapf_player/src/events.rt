@@ -1,7 +1,8 @@
-ghost use Rattle.std.specs.Prelude.{◌≡◌, ◌<◌, ◌++◌, ℕ, List, All, IfOk, IsOk, IsOkAnd, Ok, false};
+ghost use Rattle.std.specs.Prelude.{◌≡◌, ◌<◌, ◌+◌, ◌++◌, ℕ, List, All, IfOk, IfErr, IsOk, IsOkAnd, Ok, false, true};
+ghost use Rattle.std.specs.Prelude.{codes, length};
 ghost use Rattle.std.specs.Fmt.{decimal};
 ghost use Rattle.mapf_fields.specs.Ends.{IsCut, lacks_end};
-ghost use Rattle.mapf_player.specs.Events.{OrMemory, SpellsEvents, event_lines};
+ghost use Rattle.mapf_player.specs.Events.{GivesNoAgent, HasEventFault, OrMemory, SpellsEvents, event_lines};
 
 use mapf_fields::{below, cut, whole};
 use std::alloc::Global;
@@ -25,6 +26,7 @@ pub enum EventFault {
 fn line_at(number: u64, bytes: &[u8]) -> Result<(&[u8], &[u8]), EventFault>
     ensures found { IfOk result (λ p. IsCut bytes.entry.now p.0.now p.1.now) }
     ensures only { lacks_end bytes.entry.now ≡ false → IsOk result }
+    ensures fault { IfErr result (λ fault. (fault ≡ EventFault.E2 number) × (lacks_end bytes.entry.now ≡ true)) }
 {
     match cut(bytes) {
         Some(parts) => Ok(parts),
@@ -36,6 +38,7 @@ fn line_at(number: u64, bytes: &[u8]) -> Result<(&[u8], &[u8]), EventFault>
 fn agent_of(number: u64, line: &[u8], agents: u32) -> Result<u32, EventFault>
     ensures found { IfOk result (λ agent. (line.now ≡ decimal agent) × (agent < agents)) }
     ensures only { (agent : ℕ) → agent < agents → line.now ≡ decimal agent → result ≡ Ok agent }
+    ensures fault { IfErr result (GivesNoAgent line.now agents number) }
 {
     let Ok(agent) = whole(line) else {
         return Err(EventFault::E1(number));
@@ -53,6 +56,9 @@ fn agents_of(alloc: Global, bytes: &[u8], agents: u32) -> Result<(Vec<u32>, u64,
     ensures only { (events rest : List ℕ) → All (λ agent. agent < agents) events
         → bytes.entry.now ≡ event_lines events ++ rest
         → OrMemory result (IsOkAnd result (λ p. (p.0.items ≡ events) × (p.2.now ≡ rest))) }
+    ensures number { IfOk result (λ p. p.1 ≡ length p.0.items + 3) }
+    // What the error says after a title.
+    ensures fault { IfErr result (HasEventFault (codes "mapf-events 1\n" ++ bytes.entry.now) agents) }
 {
     let mut events = Vec::new(alloc);
     let mut number = 2u64;
@@ -75,6 +81,8 @@ pub fn read_events(alloc: Global, bytes: &[u8], agents: u32) -> Result<Vec<u32>,
     ensures found { IfOk result (λ events. SpellsEvents bytes.now agents events.items) }
     ensures only { (events : List ℕ) → SpellsEvents bytes.now agents events
         → OrMemory result (IsOkAnd result (λ read. read.items ≡ events)) }
+    // The lines before the reported location are good, and the defect is there.
+    ensures fault { IfErr result (HasEventFault bytes.now agents) }
 {
     let (title, rest) = line_at(1, bytes)?;
     if title != b"mapf-events 1".as_slice() {

@@ -23,4 +23,4 @@ returns-clause-fault g c =
     let events = g.E.Source.remaining c.args.events.now in
     let same = read_as events c.as_slice.ensures.value c.in_ok-text.ensures.whole in
     subst (IsReadingEvents events c.args.k) (sym c.fault_of_events.ensures)
-    (events_fault_told events c.args.k c.as_slice.result.now same c.in-Err.fault (λ agents spells. only_memory c.in-Err.fault (c.in-Err.ensures.only agents spells)))
+    (events_fault_told events c.args.k c.as_slice.result.now same c.in-Err.fault (λ agents spells. only_memory c.in-Err.fault (c.in-Err.ensures.only agents spells)) c.in-Err.ensures.fault)

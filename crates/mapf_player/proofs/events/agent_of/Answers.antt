@@ -1,5 +1,7 @@
-use Rattle.std.proofs.Common.{arith, sym, ◌∙◌, Some}
-use Rattle.mapf_player.proofs.EventLemmas.{agent_takes, agent_again}
+use Rattle.std.proofs.Common.{arith, refl, sym, ◌∙◌, Some}
+use Rattle.mapf_fields.specs.Numbers.{small_value}
+use Rattle.mapf_fields.proofs.Fields.{whole_digits}
+use Rattle.mapf_player.proofs.EventLemmas.{agent_takes, agent_again, great_agent}
 use Rattle.mapf_player.proofs.events.agent_of.Goals as goal
 
 pub returns-in_default-clause-only : goal.returns-in_default-clause-only
@@ -29,3 +31,9 @@ returns-in-Err-clause-only c = λ agent low is.
     let below_is = c.below.ensures in
     let two = c.in-Err.is in
     cc
+
+pub returns-in_default-clause-fault : goal.returns-in_default-clause-fault
+returns-in_default-clause-fault c = (refl, λ text. c.in_default.not-Ok (small_value c.args.line.now) (c.whole.ensures ∙ whole_digits c.args.line.now text.0 text.1))
+
+pub returns-in-Err-clause-fault : goal.returns-in-Err-clause-fault
+returns-in-Err-clause-fault c = great_agent c.args.line.now c.args.agents c.args.number c.in-Ok.agent c.in-Err.field-0 (omega (arith, c.ranges.agents.fits)) (sym c.whole.ensures ∙ c.in-Ok.is) (sym c.below.ensures ∙ c.in-Err.is)

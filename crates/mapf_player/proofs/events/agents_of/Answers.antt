@@ -1,8 +1,9 @@
-use Rattle.std.proofs.Common.{◌≡◌, ◌<◌, ◌++◌, All, codes, arith, sym, ap, subst, ◌∙◌, inl, ⊎_elim}
+use Rattle.std.proofs.Common.{◌≡◌, ◌<◌, ◌++◌, ◌∷◌, [], All, codes, length, length-append, arith, sym, ap, subst, ◌∙◌, inl, ⊎_elim}
 use Rattle.std.proofs.lemmas.List.Elements.{All-push}
 use Rattle.std.specs.Cmp.Lexicographic.{other_text, same_text}
 use Rattle.mapf_fields.proofs.Binds.{pushed, same_ok}
-use Rattle.mapf_player.proofs.EventLemmas.{agent_or_end, no_fault, asked_lines, lines_end_somewhere, finish_read, finish_left, step_read, step_left, shorter}
+use Rattle.mapf_player.proofs.EventLemmas.{agent_fault, agent_or_end, end_fault, fault_passed, no_fault, rest_at, lines_end_somewhere, finish_read, finish_left, step_read, step_left, shorter}
+use Rattle.mapf_player.specs.Events.{HasEventFault, asked_lines}
 use Rattle.mapf_player.proofs.events.agents_of.Goals as goal
 
 is_end : (c : goal.Then-eq) → c.in_ok-line.line.now ≡ codes "end"
@@ -45,5 +46,21 @@ loop-events-preserved c =
           let (tail, more, after_is) = step_left c.args.agents (omega (arith, c.ranges.agents.fits)) c.loop-events.events.items c.loop-events.rest.now c.in_ok-line.line.now c.in_ok-line.after.now events rest others low split still found c.in_ok-agent_of.field-0 asked.0 asked.1
           (λ agent small line_is. let this = c.in_ok-agent_of.ensures.only agent small line_is in same_ok c.in_ok-agent_of.field-0 agent this) in
           (tail, more ∙ ap (λ xs. xs ++ tail) (sym grown), after_is);
+      number = let number = c.loop-events.invariant.number in omega (arith, ap length grown, length-append c.loop-events.events.items (c.in_ok-agent_of.field-0 ∷ []));
       lines = let less = shorter c.loop-events.rest.now c.in_ok-line.line.now c.in_ok-line.after.now found in let lines = c.loop-events.invariant.lines in omega arith;
     }
+
+pub returns-in_err-line-clause-fault : goal.returns-in_err-line-clause-fault
+returns-in_err-line-clause-fault c =
+    let text = codes "mapf-events 1\n" ++ c.args.bytes.now in
+    let has = rest_at c.args.bytes.now c.loop-events.rest.now c.loop-events.events.items c.args.agents c.loop-events.number c.loop-events.invariant.low c.loop-events.invariant.read c.loop-events.invariant.number in
+    fault_passed (HasEventFault text c.args.agents) c.from_residual.result c.in_err-line.field-0.0 c.from_residual.ensures.1
+    (end_fault text c.loop-events.rest.now c.args.agents c.loop-events.number c.in_err-line.field-0.0 has c.in_err-line.ensures.fault)
+
+pub returns-in_err-agent_of-clause-fault : goal.returns-in_err-agent_of-clause-fault
+returns-in_err-agent_of-clause-fault c =
+    let text = codes "mapf-events 1\n" ++ c.args.bytes.now in
+    let has = rest_at c.args.bytes.now c.loop-events.rest.now c.loop-events.events.items c.args.agents c.loop-events.number c.loop-events.invariant.low c.loop-events.invariant.read c.loop-events.invariant.number in
+    fault_passed (HasEventFault text c.args.agents) c.from_residual-in_err-agent_of.result c.in_err-agent_of.field-0.0 c.from_residual-in_err-agent_of.ensures.1
+    (agent_fault text c.loop-events.rest.now c.in_ok-line.line.now c.in_ok-line.after.now c.args.agents c.loop-events.number c.in_err-agent_of.field-0.0 has c.in_ok-line.ensures.found
+    (λ is_end. other_text c.in_ok-line.line.now c.as_slice.result.now c.if-eq.ensures (is_end ∙ sym c.as_slice.ensures)) c.in_err-agent_of.ensures.fault)

@@ -1,7 +1,8 @@
-use Rattle.std.proofs.Common.{◌≡◌, Err, [], codes, sym, ap, ◌∙◌, inl, inr, ⊎_elim}
+use Rattle.std.proofs.Common.{◌≡◌, ◌++◌, Err, IfErr, [], codes, sym, ap, subst, ◌∙◌, inl, inr, ⊎_elim}
 use Rattle.std.proofs.lemmas.Result.{err_from_is_err_and}
 use Rattle.std.specs.Cmp.Lexicographic.{other_text, same_text}
-use Rattle.mapf_player.proofs.EventLemmas.{no_fault, something_left, told_other, text_has_line, title_of, text_read, text_again, nothing_left, not_other}
+use Rattle.mapf_player.proofs.EventLemmas.{fault_passed, more_fault, no_fault, title_before, something_left, told_other, text_has_line, title_of, text_read, text_again, nothing_left, not_other}
+use Rattle.mapf_player.specs.Events.{HasEventFault}
 use Rattle.mapf_player.specs.declared.events.EventFault.TheVariants.{Memory}
 use Rattle.mapf_player.proofs.events.read_events.Goals as goal
 
@@ -44,3 +45,17 @@ returns-else-is_empty-clause-only c = λ events spelled. ⊎_elim
     (λ read. absurd (something_left c.in_ok-events.rest.now read.1 c.if-is_empty.ensures))
     (λ e. cc)
     (c.in_ok-events.ensures.only events [] spelled.in_range (text_again c.args.bytes.now c.in_ok-title.title.now c.in_ok-title.rest.now events c.in_ok-title.ensures.found spelled.spelled))
+
+pub returns-in_err-events-clause-fault : goal.returns-in_err-events-clause-fault
+returns-in_err-events-clause-fault c =
+    let is_title = same_text c.in_ok-title.title.now c.as_slice.result.now (not_other _ c.if-ne.ensures) ∙ c.as_slice.ensures in
+    let begins = title_before c.args.bytes.now c.in_ok-title.title.now c.in_ok-title.rest.now c.in_ok-title.ensures.found is_title in
+    subst (λ bytes. IfErr c.from_residual-in_err-events.result (HasEventFault bytes c.args.agents)) (sym begins)
+    (fault_passed (HasEventFault (codes "mapf-events 1\n" ++ c.in_ok-title.rest.now) c.args.agents) c.from_residual-in_err-events.result c.in_err-events.field-0.0 c.from_residual-in_err-events.ensures.1 c.in_err-events.ensures.fault)
+
+pub returns-else-is_empty-clause-fault : goal.returns-else-is_empty-clause-fault
+returns-else-is_empty-clause-fault c =
+    let is_title = same_text c.in_ok-title.title.now c.as_slice.result.now (not_other _ c.if-ne.ensures) ∙ c.as_slice.ensures in
+    let begins = title_before c.args.bytes.now c.in_ok-title.title.now c.in_ok-title.rest.now c.in_ok-title.ensures.found is_title in
+    more_fault c.args.bytes.now c.in_ok-title.rest.now c.in_ok-events.rest.now c.in_ok-events.events.items c.args.agents c.in_ok-events.number begins c.in_ok-events.ensures.found.0 c.in_ok-events.ensures.found.1 c.in_ok-events.ensures.number
+    (λ none. something_left c.in_ok-events.rest.now none c.if-is_empty.ensures)
