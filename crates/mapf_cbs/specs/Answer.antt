@@ -50,15 +50,15 @@ pub record IsShownImpossible (problem : Instance) (tree : ConstraintTree) : Type
   pub shows : Shows problem Impossible tree
   pub impossible : IsImpossible problem
 
--- this is the sum of cheapest paths at the node and no greater than that at any leaf, and the labels of the starts add
--- up to exactly this
+-- cheapest paths at the node have this sum of costs, at no end of the tree cheapest paths have a smaller one, and the
+-- labels of the starts at the node add up to exactly this
 abbrev pub IsLeastSumAt : Instance → ConstraintTree → ℕ → NodeContext → List LabelBlock → Type 0
 IsLeastSumAt problem tree total context blocks = ((paths : List (List ℕ)) × AreDue problem tree context paths total)
     × StartsAddUpTo problem total (with_blocks blocks context.entries)
 
--- the tree shows that no valid plan has a sum below the bound, and so none has; the bound is the least of the leaves'
--- sums of cheapest paths, and the tree shows no greater one, since at a leaf with this sum the labels of the starts add
--- up to exactly this; and it can be printed
+-- the tree shows that no valid plan has a sum below the bound, and so none has; the bound is the least sum of cheapest
+-- paths at any leaf, and the tree shows no greater one, since at a leaf with this sum the labels of the starts add up
+-- to exactly this; and it can be printed
 pub record IsShownBound (problem : Instance) (bound : ℕ) (tree : ConstraintTree) : Type 0 where
   pub shows : Shows problem (Bound bound) tree
   pub holds : IsLowerBound problem bound
