@@ -42,7 +42,8 @@ pub record PrintsImpossible (problem : Instance) (limit : ℕ) (plan_bytes cert_
   pub searched : SpellsTree problem limit claims.Impossible cert_bytes
 
 -- the first text spells the limit that was met and a bound, no valid plan has a smaller sum, both texts are accepted,
--- and the second has a tree of the search that justifies stopping for this cause and shows no greater bound
+-- and the second has a tree of the search that justifies stopping for this cause; the bound is the least sum of cheapest
+-- paths at any of its leaves, and it shows no greater one
 pub record PrintsLimit (problem : Instance) (limit : ℕ) (cause : Cause) (bound : ℕ) (plan_bytes cert_bytes : List ℕ) : Type 0 where
   pub spelled : SpellsPlan problem.grid plan_bytes Two (length problem.agents) (answers.Bounded cause bound)
   pub accepted : AreAccepted problem plan_bytes cert_bytes (verdicts.Bound bound)

@@ -177,7 +177,7 @@ module _ (problem : Instance) (shape : IsGridMap problem.grid) (names : (tree : 
         record {
           shows = shows;
           holds = shown_holds problem (Bound (sum view.costs)) found.0 shows;
-          met_at_a_leaf = meets_at_a_leaf problem popped.state.views fates count popped.state.searched found.0 found.2 k view is is_open;
+          met_at_a_leaf = meets_at_a_leaf problem popped.state.views fates count popped.state.searched found.0 found.2 k view is is_open least;
           claim_in_range = sum_in_range problem shape view live short few;
         }
 

@@ -6,7 +6,7 @@ use Rattle.mapf_model.specs.declared.bar.Bar.{Bar}
 use Rattle.mapf_model.specs.declared.constraint.Constraint.{Constraint}
 use Rattle.mapf_model.specs.declared.problem.Agent.{Agent}
 use Rattle.mapf_model.specs.declared.label.Entry.{Entry}
-use Rattle.mapf_model.specs.declared.label.Label.TheVariants.{Never}
+use Rattle.mapf_model.specs.declared.label.Label.TheVariants.{Ticks, Never}
 use Rattle.mapf_model.specs.Blocks.{LabelBlock}
 use Rattle.mapf_model.specs.Distance.{IsDistance}
 use Rattle.mapf_model.specs.Grid.{GridMap}
@@ -79,11 +79,14 @@ module _ (grid : GridMap) (agent : Agent) (bars : List Bar) (bound : ℕ) where
         let low = cheapest.least kept.path kept.cost kept.lawful kept.satisfies kept.is_cost in
         let short = kept.distance.least distance is.walk in
         omega arith,
+    Ticks cost,
+    record { path = path; lawful = cheapest.lawful; satisfies = cheapest.satisfies; is_cost = cheapest.is_cost; least = cheapest.least },
+    cheapest.start,
   )
 
   dead_bound : (es : List Entry) → HasNoPath grid agent bars (entries_of es) → (es ≡ [] → ⊥) → AreBlocksOfBound grid agent bars bound (bound_blocks bound es)
   dead_bound [] blocked some = absurd (some refl)
-  dead_bound (e ∷ es) blocked some = (refl, λ kept. blocked.none kept.path kept.lawful kept.satisfies)
+  dead_bound (e ∷ es) blocked some = (refl, λ kept. blocked.none kept.path kept.lawful kept.satisfies, Never, blocked.none, blocked.start)
 
 module _ (problem : Instance) (view : View) (live : IsLive problem view) (constraint : Constraint) (agent : Agent) (known : slice_get problem.agents constraint.agent ≡ Some agent) (bars : List Bar) (same : AreSameBars bars (constraint.bar ∷ view.context.bars constraint.agent))
     (old : ℕ) (path : List ℕ) (path_is : slice_get view.paths constraint.agent ≡ Some path) (old_is : IsCost agent.goal path old)

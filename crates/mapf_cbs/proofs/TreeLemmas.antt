@@ -16,6 +16,7 @@ use Rattle.mapf_model.specs.Tree.{ConstraintTree, Split, Leaf, Clash, NodeContex
 use Rattle.mapf_model.specs.Earned.{AreCheapest, AreDue, HaveSomeConflict, IsEarnedNode, IsEarned, IsStoppedWhere}
 use Rattle.mapf_cbs.specs.declared.node.Fate.{Fate}
 use Rattle.mapf_cbs.specs.declared.node.Fate.TheVariants.{Open, Dead, Expanded}
+use Rattle.mapf_cbs.specs.Answer.{IsLeastSumAt}
 use Rattle.mapf_cbs.specs.BoundBlocks.{AreBlocksFor, CarriesBlocksFor, CarriesBoundBlocks}
 use Rattle.mapf_cbs.specs.FirstConflicts.{AreFirstPaths, IsOnFirstConflict, AreOnFirstConflicts}
 use Rattle.mapf_cbs.specs.Search.{View, entries_at, AreOwnBlocks, IsLive, IsDead, IsFate, IsCheapestOf, IsEndFate, Shape, Node, End, splits, occurrences, IsShape, IsSearched, AreBlocksAt, IsTreeAt}
@@ -321,10 +322,12 @@ module _ (problem : Instance) (views : List View) (fates : List Fate) (count : �
         subst (λ context. AtSomeLeaf P context tree) searched.first.2
         (some_leaf P j view Open is is_open tt (live_cheapest problem view live, live_first problem view live) tree searched.tree.shape 0 searched.first.0 searched.first.1 searched.tree.is_shape on_tree (omega arith))
 
-    -- the labels of the starts at an open node add up to its sum, at a leaf
-    pub meets_at_a_leaf : (j : ℕ) (view : View) → slice_get views j ≡ Some view → slice_get fates j ≡ Some Open → AtSomeLeaf (λ context blocks. StartsAddUpTo problem (sum view.costs) (with_blocks blocks context.entries)) root tree
-    meets_at_a_leaf j view is is_open =
-        let P : NodeContext → List LabelBlock → Type 0 = λ context blocks. StartsAddUpTo problem (sum view.costs) (with_blocks blocks context.entries) in
+    -- an open node of least sum is a leaf at which its paths are due and the labels of the starts add up to this sum
+    pub meets_at_a_leaf : (j : ℕ) (view : View) → slice_get views j ≡ Some view → slice_get fates j ≡ Some Open →
+        ((m : ℕ) (other : View) → slice_get views m ≡ Some other → slice_get fates m ≡ Some Open → sum view.costs ≤ sum other.costs) → AtSomeLeaf (IsLeastSumAt problem tree (sum view.costs)) root tree
+    meets_at_a_leaf j view is is_open least =
+        let P : NodeContext → List LabelBlock → Type 0 = IsLeastSumAt problem tree (sum view.costs) in
+        let live = searched.each j view Open is is_open in
         let once = searched.tree.once j (slice_get_within fates j Open is_open) in
         subst (λ context. AtSomeLeaf P context tree) searched.first.2
-        (some_leaf P j view Open is is_open tt (live_adds_up problem view (searched.each j view Open is is_open)) tree searched.tree.shape 0 searched.first.0 searched.first.1 searched.tree.is_shape on_tree (omega arith))
+        (some_leaf P j view Open is is_open tt ((view.paths, due view live least), live_adds_up problem view live) tree searched.tree.shape 0 searched.first.0 searched.first.1 searched.tree.is_shape on_tree (omega arith))

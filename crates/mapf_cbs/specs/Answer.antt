@@ -3,7 +3,8 @@ use Rattle.std.specs.Prelude.{◌≡◌, ℕ, ◌+◌, ◌*◌, ◌<◌, ◌≤�
 use Rattle.mapf_model.specs.declared.cause.Cause.{Cause}
 use Rattle.mapf_model.specs.declared.cause.Cause.TheVariants.{Splits, Ticks}
 use Rattle.mapf_model.specs.declared.item.Claim.TheVariants.{Cost, Bound, Impossible}
-use Rattle.mapf_model.specs.Earned.{AreCheapest, AreConflictFreeBefore, HaveConflictBefore, IsEarned, IsStoppedWhere}
+use Rattle.mapf_model.specs.Blocks.{LabelBlock}
+use Rattle.mapf_model.specs.Earned.{AreCheapest, AreDue, AreConflictFreeBefore, HaveConflictBefore, IsEarned, IsStoppedWhere}
 use Rattle.mapf_model.specs.Grid.{free_cell_count}
 use Rattle.mapf_model.specs.Limits.{split_ticks}
 use Rattle.mapf_model.specs.Plan.{Instance, IsOptimal, IsLowerBound, IsImpossible}
@@ -49,12 +50,19 @@ pub record IsShownImpossible (problem : Instance) (tree : ConstraintTree) : Type
   pub shows : Shows problem Impossible tree
   pub impossible : IsImpossible problem
 
--- the tree shows that no valid plan has a sum below the bound, and so none has; it shows no greater bound, since at
--- some leaf the labels of the starts add up to exactly this; and it can be printed
+-- cheapest paths at the node have this sum of costs, at no end of the tree cheapest paths have a smaller one, and the
+-- labels of the starts at the node add up to exactly this
+abbrev pub IsLeastSumAt : Instance → ConstraintTree → ℕ → NodeContext → List LabelBlock → Type 0
+IsLeastSumAt problem tree total context blocks = ((paths : List (List ℕ)) × AreDue problem tree context paths total)
+    × StartsAddUpTo problem total (with_blocks blocks context.entries)
+
+-- the tree shows that no valid plan has a sum below the bound, and so none has; the bound is the least sum of cheapest
+-- paths at any leaf, and the tree shows no greater one, since at a leaf with this sum the labels of the starts add up
+-- to exactly this; and it can be printed
 pub record IsShownBound (problem : Instance) (bound : ℕ) (tree : ConstraintTree) : Type 0 where
   pub shows : Shows problem (Bound bound) tree
   pub holds : IsLowerBound problem bound
-  pub met_at_a_leaf : AtSomeLeaf (λ context blocks. StartsAddUpTo problem bound (with_blocks blocks context.entries)) root tree
+  pub met_at_a_leaf : AtSomeLeaf (IsLeastSumAt problem tree bound) root tree
   pub claim_in_range : IsClaimInRange (Bound bound)
 
 -- an earned tree with a leaf at which due paths, each the first of its cost, conflict, and of which the fact holds

@@ -1,12 +1,15 @@
 -- Which blocks the nodes of a tree carry: each node has the block of the agent that was replanned when the node was
 -- made.
-use Rattle.std.specs.Prelude.{◌≡◌, ℕ, List, [], ◌∷◌, Option, None, Some, slice_get}
+use Rattle.std.specs.Prelude.{◌≡◌, ℕ, ◌≤◌, List, [], ◌∷◌, Option, None, Some, slice_get}
 use Rattle.mapf_model.specs.declared.bar.Bar.{Bar}
+use Rattle.mapf_model.specs.declared.label.Label.{Label}
+use Rattle.mapf_model.specs.declared.label.Label.TheVariants.{Ticks, Never}
 use Rattle.mapf_model.specs.declared.problem.Agent.{Agent}
 use Rattle.mapf_model.specs.Bars.{Satisfies}
 use Rattle.mapf_model.specs.Blocks.{LabelBlock}
 use Rattle.mapf_model.specs.Distance.{IsDistance}
 use Rattle.mapf_model.specs.Grid.{GridMap}
+use Rattle.mapf_model.specs.Labels.{IsLabel, entries_of}
 use Rattle.mapf_model.specs.Path.{IsLawful, IsCost}
 use Rattle.mapf_model.specs.Plan.{Instance}
 use Rattle.mapf_model.specs.Tree.{ConstraintTree, Split, Leaf, Clash, NodeContext, root, left_constraint, right_constraint, left_child_context, right_child_context}
@@ -20,10 +23,25 @@ pub record KeepsDistance (grid : GridMap) (agent : Agent) (bars : List Bar) : Ty
   pub is_cost : IsCost agent.goal path cost
   pub distance : IsDistance grid agent.goal agent.start cost
 
--- a block of this agent if its least cost exceeds its distance, else none
+-- some lawful path of the agent that satisfies the constraints has this cost, and none costs less
+pub record IsLeastCost (grid : GridMap) (agent : Agent) (bars : List Bar) (cost : ℕ) : Type 0 where
+  pub path : List ℕ
+  pub lawful : IsLawful grid agent path
+  pub satisfies : Satisfies bars path
+  pub is_cost : IsCost agent.goal path cost
+  pub least : (other : List ℕ) (other_cost : ℕ) → IsLawful grid agent other → Satisfies bars other → IsCost agent.goal other other_cost → cost ≤ other_cost
+
+-- the agent's least cost under the constraints as a label: infinite if no lawful path satisfies them
+abbrev pub IsLeastLabel : GridMap → Agent → List Bar → Label → Type 0
+IsLeastLabel grid agent bars (Ticks cost) = IsLeastCost grid agent bars cost
+IsLeastLabel grid agent bars Never = (path : List ℕ) → IsLawful grid agent path → Satisfies bars path → ⊥
+
+-- a block of this agent, in which the label of the start is the agent's least cost, if this exceeds its distance, else
+-- none
 abbrev pub AreBlocksOfBound : GridMap → Agent → List Bar → ℕ → List LabelBlock → Type 0
 AreBlocksOfBound grid agent bars bound [] = KeepsDistance grid agent bars
 AreBlocksOfBound grid agent bars bound (block ∷ []) = (block.agent ≡ bound) × (KeepsDistance grid agent bars → ⊥)
+    × (label : Label) × IsLeastLabel grid agent bars label × IsLabel grid agent.goal (entries_of block.entries) agent.start 0 label
 AreBlocksOfBound grid agent bars bound (block ∷ other ∷ blocks) = ⊥
 
 -- the blocks of a node at which this agent was replanned; the root, at which none was, has none
@@ -41,7 +59,7 @@ CarriesBlocksFor problem context bound (Split conflict blocks left right) = AreB
 CarriesBlocksFor problem context bound (Leaf blocks) = AreBlocksFor problem context bound blocks
 CarriesBlocksFor problem context bound (Clash i j) = Unit {0}
 
--- each node has a block of the agent that was replanned there, if its least cost exceeds its distance, and no other
--- block
+-- each node has a block of the agent that was replanned there, if its least cost exceeds its distance, with this cost as
+-- the label of the start, and no other block
 abbrev pub CarriesBoundBlocks : Instance → ConstraintTree → Type 0
 CarriesBoundBlocks problem tree = CarriesBlocksFor problem root None tree

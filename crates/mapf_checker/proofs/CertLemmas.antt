@@ -109,7 +109,7 @@ module _ (problem : Instance) (claim : Claim) (had : Option (List ℕ)) (start :
         (rest, known_mid, sym (same_bytes problem claim had start opened bytes known) ∙ subst (λ w. start.buffer.bytes ++ bytes ≡ header_text headed.version w (length problem.agents) claim ++ (headed.buffer.bytes ++ rest)) opened.width same)
 
     bad_node_in : (refusal : CheckFault) → ((bytes : List ℕ) → mid ≡ Some bytes → HasBadNode problem claim headed.version refusal (headed.buffer.bytes ++ bytes)) → IfSome had (HasBadNodeInCert problem claim refusal)
-    bad_node_in refusal bad = if_known had _ (λ bytes known. let (rest, known_mid, same) = after_header bytes known in record { version = headed.version; claim_of_version = takes.claim_of_version; nodes = headed.buffer.bytes ++ rest; spelled = same; bad = bad rest known_mid })
+    bad_node_in refusal bad = if_known had _ (λ bytes known. let (rest, known_mid, same) = after_header bytes known in record { version = headed.version; agents_in_range = takes.agents_in_range; claim_in_range = takes.claim_in_range; claim_of_version = takes.claim_of_version; nodes = headed.buffer.bytes ++ rest; spelled = same; bad = bad rest known_mid })
 
     -- so is one of the tree
     pub refusal_of_tree : ((version : Version) (agents : ℕ) (claimed : Claim) (nodes : List Node) → AwaitsCert had start version agents claimed nodes → Awaits mid headed nodes) → (refusal : CheckFault) → HasTreeRefusal problem claim mid headed refusal → HasCertRefusal problem claim had refusal

@@ -1,7 +1,7 @@
 -- A tree that is judged as it is read.
 use Rattle.std.proofs.Common.{◌≡◌, ◌↔◌, ℕ, ◌≤◌, Bool, true, false, List, [], ◌∷◌, ◌++◌, Option, Some, None, IfSome, IsSomeAnd, Result, Ok, Err, IfErr, MatchResult, length, refl, sym, ◌∙◌, ap, subst, append_assoc, inl, inr, arith}
 use Rattle.std.proofs.lemmas.List.{append-nil, flat_map_more}
-use Rattle.std.proofs.lemmas.List.Elements.{length_all_zip}
+use Rattle.std.proofs.lemmas.List.Elements.{All-nil, All-push, length_all_zip}
 use Rattle.std.proofs.lemmas.List.Sums.{fold_push}
 use Rattle.std.proofs.lemmas.Option.{same_Some}
 use Rattle.std.specs.List.{flat_map}
@@ -21,7 +21,7 @@ use Rattle.mapf_certificate.specs.declared.cert.CertFault.TheVariants as texts
 use Rattle.mapf_certificate.specs.CertReading.{Awaits, TakesNode, TakesEnd, trees_owed_after}
 use Rattle.mapf_certificate.specs.declared.line.CertLine.TheVariants as lines
 use Rattle.mapf_certificate.specs.Certificates.{IsNode, line_text, node_text}
-use Rattle.mapf_certificate.specs.Reading.{Reading, grid_at, agents_at}
+use Rattle.mapf_certificate.specs.Reading.{Reading, grid_at, agents_at, agents_in}
 use Rattle.mapf_certificate.specs.Window.{Window, ComesWithin, Fails, IsNoTextFault}
 use Rattle.mapf_certificate.proofs.CertTexts.{AreSized, tree_moved}
 use Rattle.mapf_certificate.proofs.Windows.{Window-trans, Window-known, Window-within, ComesWithin-after, Exceeds-after, refuses_within}
@@ -41,6 +41,7 @@ use Rattle.mapf_checker.proofs.TreeLemmas.{judged_good, shown_good, defect_refut
 pub read_none : (problem : Instance) (claim : Claim) (had : Option (List ℕ)) (start : Reading) (owed : List NodeContext) → owed ≡ root ∷ [] → IsReadTo problem claim had had start start owed
 read_none problem claim had start owed same = record {
   given = [];
+  in_range = All-nil (IsNode start.version problem.grid (length problem.agents));
   width = refl;
   version = refl;
   window = record { pulled = []; source = Consumes-nil had; same = append-nil start.buffer.bytes; within = omega arith };
@@ -91,6 +92,14 @@ between_after problem claim now new progress after node between some owed size h
   ready = ready;
 }
 
+-- a node that is in range on one grid is so on another of the same size
+pub node_moved : (version : Version) (g h : GridMap) (agents : ℕ) → AreSized g h → (node : Node) → IsNode version g agents node → IsNode version h agents node
+node_moved version g h agents same (SplitNode conflict blocks) is = let moved = tree_moved g h same agents (Split conflict blocks (Leaf []) (Leaf [])) (is.0, is.1, none, none) in (moved.0, moved.1, is.2) where
+  none : {grid : GridMap} → AreBlocksInRange grid agents []
+  none = record { each = λ k d within. absurd (omega arith); rising = λ i j d less within. absurd (omega arith) }
+node_moved version g h agents same (LeafNode blocks) is = tree_moved g h same agents (Leaf blocks) is
+node_moved version g h agents same (ClashNode i j) is = is
+
 -- a node more
 module _ (problem : Instance) (claim : Claim) (had mid left : Option (List ℕ)) (start now new : Reading) (progress : Progress) (between : IsBetweenItems problem claim now progress) (so_far : IsReadTo problem claim had mid start now (owed_by progress)) (node : Node) (next : IsNext mid left now new node) where
   is_owed : owed_by progress ≡ here_of progress ∷ (place_of progress.branch).owed
@@ -107,9 +116,18 @@ module _ (problem : Instance) (claim : Claim) (had mid left : Option (List ℕ))
   taken : Window had left start.buffer new.buffer (flat_map (node_text start.version start.width) so_far.given ++ node_text start.version start.width node)
   taken = Window-trans had mid left start.buffer now.buffer new.buffer (flat_map (node_text start.version start.width) so_far.given) (node_text start.version start.width node) so_far.window (rw (so_far.version, so_far.width) at next.takes.read.window)
 
+  -- it is a node of a certificate, in range
+  node_in_range : IsNode start.version problem.grid (length problem.agents) node
+  node_in_range =
+      let agents : agents_at now ≡ length problem.agents = ap agents_in between.header in
+      let counted : IsNode now.version (grid_at now) (length problem.agents) node = subst (λ n. IsNode now.version (grid_at now) n node) agents next.takes.read.in_range in
+      node_moved start.version (grid_at now) problem.grid (length problem.agents) (record { width = between.width; height = between.height }) node
+      (subst (λ v. IsNode v (grid_at now) (length problem.agents) node) so_far.version counted)
+
   pub read_more : FrontDecides → OnlyStartEntriesCount → ChildrenAreAlike → new.width ≡ now.width → new.version ≡ now.version → IsGoodNode problem claim (here_of progress) node → (after : List NodeContext) → AreAllAlike problem after (contexts_after (owed_by progress) node) → IsReadTo problem claim had left start new after
   read_more law count children same_width same_version good after is_after = record {
     given = so_far.given ++ node ∷ [];
+    in_range = All-push (IsNode start.version problem.grid (length problem.agents)) so_far.given node so_far.in_range node_in_range;
     width = same_width ∙ so_far.width;
     version = same_version ∙ so_far.version;
     window = subst (λ t. Window had left start.buffer new.buffer t) (flat_map_more (node_text start.version start.width) [] so_far.given node) taken;
@@ -149,7 +167,9 @@ module _ (problem : Instance) (claim : Claim) (had mid left : Option (List ℕ))
       let (here, owed, place, alike) = inherits (contexts_after_all (root ∷ []) so_far.given) (subst (λ os. AreAllAlike problem os (contexts_after_all (root ∷ []) so_far.given)) is_owed so_far.place) in
       record {
         before = so_far.given;
+        before_in_range = so_far.in_range;
         node = node;
+        in_range = node_in_range;
         here = here;
         owed = owed;
         place = place;
@@ -244,14 +264,6 @@ no_refusal_judging P (from.Refused refusal) is none = none refusal is
 no_refusal_judging P from.Device is none = tt
 no_refusal_judging P from.TooLong is none = tt
 no_refusal_judging P from.Memory is none = tt
-
--- a node that is in range on one grid is so on another of the same size
-pub node_moved : (version : Version) (g h : GridMap) (agents : ℕ) → AreSized g h → (node : Node) → IsNode version g agents node → IsNode version h agents node
-node_moved version g h agents same (SplitNode conflict blocks) is = let moved = tree_moved g h same agents (Split conflict blocks (Leaf []) (Leaf [])) (is.0, is.1, none, none) in (moved.0, moved.1, is.2) where
-  none : {grid : GridMap} → AreBlocksInRange grid agents []
-  none = record { each = λ k d within. absurd (omega arith); rising = λ i j d less within. absurd (omega arith) }
-node_moved version g h agents same (LeafNode blocks) is = tree_moved g h same agents (Leaf blocks) is
-node_moved version g h agents same (ClashNode i j) is = is
 
 -- where reading or judging an item ended with this fault
 pub not_read_on : (problem : Instance) (claim : Claim) (had left : Option (List ℕ)) (failed : Bool) (start reading : Reading) (owed : List NodeContext) (result : Result Bool FromFault) (fault : FromFault) → IsErrAnd result (λ given. given ≡ fault) →

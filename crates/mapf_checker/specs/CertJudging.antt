@@ -1,11 +1,11 @@
 -- What is known of a certificate while it is judged.
-use Rattle.std.specs.Prelude.{◌≡◌, ◌≢◌, ◌↔◌, ◌≤◌, ℕ, Bool, false, List, [], ◌∷◌, ◌++◌, Option, Some, None, Result, IfOk, IfErr, OnOk, MatchBool, length}
+use Rattle.std.specs.Prelude.{◌≡◌, ◌≢◌, ◌↔◌, ◌≤◌, ℕ, Bool, false, List, [], ◌∷◌, ◌++◌, Option, Some, None, Result, IfOk, IfErr, OnOk, MatchBool, All, length}
 use Rattle.std.specs.List.{flat_map}
 use Rattle.mapf_model.specs.declared.item.Claim.{Claim}
 use Rattle.mapf_model.specs.Plan.{Instance}
 use Rattle.mapf_model.specs.Tree.{Node, NodeContext, NodesShow, root}
 use Rattle.mapf_certificate.specs.declared.cert.CertFault.TheVariants as certs
-use Rattle.mapf_certificate.specs.Certificates.{node_text}
+use Rattle.mapf_certificate.specs.Certificates.{IsNode, node_text}
 use Rattle.mapf_certificate.specs.CertReading.{Awaits, AwaitsCert}
 use Rattle.mapf_certificate.specs.Reading.{Reading}
 use Rattle.mapf_certificate.specs.declared.version.Version.{Version}
@@ -70,10 +70,11 @@ pub record IsBetweenItems (problem : Instance) (claim : Claim) (reading : Readin
   pub count : reading.owed ≡ length (owed_by progress)
   pub ready : IsReady problem progress
 
--- how far a tree was read and judged: these nodes came, whether they and others show the claim goes by the others, and
+-- how far a tree was read and judged: these nodes came, which are in range; whether they and others show the claim goes by the others, and
 -- trees are owed that inherit this, as far as it counts
 pub record IsReadTo (problem : Instance) (claim : Claim) (had left : Option (List ℕ)) (start reading : Reading) (owed : List NodeContext) : Type 0 where
   pub given : List Node
+  pub in_range : All (IsNode start.version problem.grid (length problem.agents)) given
   pub width : reading.width ≡ start.width
   pub version : reading.version ≡ start.version
   pub window : Window had left start.buffer reading.buffer (flat_map (node_text start.version start.width) given)

@@ -1,5 +1,5 @@
 -- What a refusal says of the two texts.
-use Rattle.std.specs.Prelude.{◌≡◌, ◌≢◌, ◌⊎◌, ℕ, List, [], ◌∷◌, ◌++◌, Option, IfSome, length}
+use Rattle.std.specs.Prelude.{◌≡◌, ◌≢◌, ◌⊎◌, ℕ, List, [], ◌∷◌, ◌++◌, Option, IfSome, All, length}
 use Rattle.std.specs.List.{flat_map}
 use Rattle.mapf_model.specs.declared.item.Claim.{Claim}
 use Rattle.mapf_model.specs.declared.cause.Cause.{Cause}
@@ -12,7 +12,7 @@ use Rattle.mapf_certificate.specs.declared.version.Version.TheVariants.{One}
 use Rattle.mapf_certificate.specs.declared.plan_text.PlanAnswer.{PlanAnswer}
 use Rattle.mapf_certificate.specs.declared.plan_text.PlanAnswer.TheVariants.{Found, Limit}
 use Rattle.mapf_certificate.specs.declared.plan_text.PlanTextFault.TheVariants as plans
-use Rattle.mapf_certificate.specs.Certificates.{SpellsCert, header_text, node_text}
+use Rattle.mapf_certificate.specs.Certificates.{IsNode, SpellsCert, header_text, node_text}
 use Rattle.mapf_certificate.specs.Lines.{IsAgentCount, IsClaimOfVersion}
 use Rattle.mapf_certificate.specs.Plans.{SpellsPlan}
 use Rattle.mapf_checker.specs.declared.fault.CheckFault.{CheckFault}
@@ -41,10 +41,13 @@ pub record BeginsWithHeader (problem : Instance) (bytes : List ℕ) (agents : �
   pub rest : List ℕ
   pub spelled : bytes ≡ header_text version problem.grid.width agents claim ++ rest
 
--- among the nodes with which the bytes of this version begin is one with this defect
+-- among the nodes with which the bytes of this version begin is one with this defect; all nodes up to it are nodes of a
+-- certificate, in range
 pub record HasBadNode (problem : Instance) (claim : Claim) (version : Version) (fault : CheckFault) (bytes : List ℕ) : Type 0 where
   pub before : List Node
+  pub before_in_range : All (IsNode version problem.grid (length problem.agents)) before
   pub node : Node
+  pub in_range : IsNode version problem.grid (length problem.agents) node
   pub here : NodeContext
   pub owed : List NodeContext
   -- the node inherits this
@@ -53,9 +56,11 @@ pub record HasBadNode (problem : Instance) (claim : Claim) (version : Version) (
   pub rest : List ℕ
   pub spelled : bytes ≡ flat_map (node_text version problem.grid.width) before ++ (node_text version problem.grid.width node ++ rest)
 
--- after the header for the problem and the claim, which its version may make
+-- after the header for the problem and the claim, whose numbers are in their ranges, and which its version may make
 pub record HasBadNodeInCert (problem : Instance) (claim : Claim) (fault : CheckFault) (bytes : List ℕ) : Type 0 where
   pub version : Version
+  pub agents_in_range : IsAgentCount (length problem.agents)
+  pub claim_in_range : IsClaimInRange claim
   pub claim_of_version : IsClaimOfVersion version claim
   pub nodes : List ℕ
   pub spelled : bytes ≡ header_text version problem.grid.width (length problem.agents) claim ++ nodes
