@@ -1,4 +1,6 @@
-ghost use Rattle.std.specs.Prelude.{◌≡◌, ◌↔◌, ◌<◌, ◌∷◌, ◌++◌, [], Contains, IfNone, IfOk, IfSome, OnOk, IsTrue};
+ghost use Rattle.std.specs.Prelude.{◌≡◌, ◌↔◌, ◌+◌, ◌<◌, ◌∷◌, ◌++◌, [], List, Contains, length};
+ghost use Rattle.std.specs.Prelude.{IfNone, IfOk, IfSome, OnOk, IsTrue};
+ghost use Rattle.mapf_checker.specs.Branch.{IndexesFirst};
 
 use crate::index::{BarIndex, Undo};
 use crate::starts::{StartChange, Starts};
@@ -15,18 +17,19 @@ pub struct Edge {
     pub owed: Option<Constraint>,
     /// What the split's blocks change, for both children.
     pub changes: Vec<StartChange>,
-    /// What to undo of the constraint where the edge is left.
-    pub undo: Undo,
 }
 
 /// The branch of a constraint tree from its root to the node that is read next: what that node inherits,
 /// and the nodes that are owed after it. A tree is read in pre-order, so a node's right child is owed until
 /// all of its left child was read. Of the blocks on the branch the entries of the starts are kept, and
-/// nothing else.
+/// nothing else. Constraints are asked for only where a block is judged, so the index is made up to the last
+/// edge only then.
 #[derive(Drop)]
 pub struct Branch {
     edges: Vec<Edge>,
     index: BarIndex,
+    // What to undo of the index where an edge is left, for each of the first edges, whose constraints it has.
+    undos: Vec<Undo>,
     starts: Starts,
 }
 
@@ -36,29 +39,61 @@ impl Model for Branch {
 
     ghost Value = { Route };
 
-    ghost view = { λ branch. record { edges = branch.edges.items; agents = length branch.starts.entries.items } };
+    ghost view = { λ branch. record {
+      edges = branch.edges.items;
+      indexed = length branch.undos.items;
+      agents = length branch.starts.entries.items;
+    } };
 
-    ghost invariant = { λ branch. IsIndexedBranch branch.edges.items branch.index branch.starts };
+    ghost invariant = { λ branch.
+        IsIndexedBranch branch.edges.items branch.undos.items branch.index branch.starts };
 }
 
 impl Branch {
-    ghost use Rattle.mapf_checker.specs.Branch.{CanUndoEdge, NextOf, IsSplit, descended, place_of};
+    ghost use Rattle.mapf_checker.specs.Branch.{CanUndoEdge, IsIndexed, NextOf, IsSplit, descended, place_of};
     ghost use Rattle.mapf_checker.specs.Index.{IsBarredFrom};
     ghost use Rattle.mapf_checker.specs.Starts.{IsKept, AreOfFirst, KnowEntries};
 
     /// The branch at the root, with nothing owed after it.
     pub fn new(alloc: Global, agents: usize) -> Result<Branch, OutOfMemory>
-        ensures { IfOk result (λ branch. branch ≡ record { edges = []; agents = agents }) }
+        ensures { IfOk result (λ branch. branch ≡ record { edges = []; indexed = 0; agents = agents }) }
     {
         Ok(Branch {
             edges: Vec::new(alloc),
             index: BarIndex::new(alloc),
+            undos: Vec::new(alloc),
             starts: Starts::new(alloc, agents)?,
         })
     }
 
+    /// Makes the index up to the last edge.
+    pub fn index_all(&mut self) -> Result<(), OutOfMemory>
+        ensures indexed { OnOk result (IsIndexed self.new) }
+        ensures edges { self.new.edges ≡ self.old.edges }
+        ensures agents { self.new.agents ≡ self.old.agents }
+    {
+        while self.undos.len() < self.edges.len() {
+            self.index_next()?;
+        }
+        Ok(())
+    }
+
+    // Adds the constraint of one edge more to the index.
+    fn index_next(&mut self) -> Result<(), OutOfMemory>
+        requires { self.old.indexed < length self.old.edges }
+        ensures one { OnOk result (self.new.indexed ≡ self.old.indexed + 1) }
+        ensures edges { self.new.edges ≡ self.old.edges }
+        ensures agents { self.new.agents ≡ self.old.agents }
+    {
+        self.undos.reserve(1)?;
+        let undo = self.index.add(&self.edges[self.undos.len()].constraint)?;
+        self.undos.push_reserved(undo);
+        Ok(())
+    }
+
     /// Whether the bar stands for the agent.
     pub fn has(&self, agent: u32, bar: Bar) -> bool
+        requires { IsIndexed self.now }
         ensures { IsTrue result ↔ Contains ((place_of self.now).here.bars agent) bar }
     {
         self.index.has(&Constraint { agent, bar })
@@ -66,6 +101,7 @@ impl Branch {
 
     /// Whether the cell is barred to the agent at this tick or later.
     pub fn has_from(&self, agent: u32, cell: Cell, tick: Tick) -> bool
+        requires { IsIndexed self.now }
         ensures { IsTrue result ↔ IsBarredFrom ((place_of self.now).here.bars agent) cell tick }
     {
         self.index.has_from(agent, cell, tick)
@@ -116,7 +152,12 @@ impl Branch {
         ensures agents { self.new.agents ≡ self.old.agents }
     {
         let edge = self.edges.pop()?;
-        self.index.undo(&edge.constraint, &edge.undo);
+        take_out(
+            &mut self.index,
+            &mut self.undos,
+            self.edges.len(),
+            &edge.constraint,
+        );
         self.starts.undo(&edge.changes);
         Some(edge)
     }
@@ -134,15 +175,27 @@ impl Branch {
         ensures agents { self.new.agents ≡ self.old.agents }
     {
         self.edges.reserve(1)?;
-        let undo = self.index.add(&constraint)?;
         self.starts.change(&changes);
         let edge = Edge {
             constraint,
             owed,
             changes,
-            undo,
         };
         self.edges.push_reserved(edge);
         Ok(())
+    }
+}
+
+// Takes the constraint of the edge after so many edges out of the index, where the index has it.
+fn take_out(index: &mut BarIndex, undos: &mut Vec<Undo>, edges: usize, constraint: &Constraint)
+    ensures { (before : List Edge) (edge : Edge) → length before ≡ edges → edge.constraint ≡ constraint.now
+        → IndexesFirst (before ++ edge ∷ []) undos.old.items index.old
+        → IndexesFirst before undos.new.items index.new }
+{
+    if undos.len() <= edges {
+        return;
+    }
+    if let Some(undo) = undos.pop() {
+        index.undo(constraint, &undo);
     }
 }
