@@ -4,14 +4,14 @@ use Rattle.std.proofs.lemmas.List.{length_push, take_all, take_more, take-append
 use Rattle.std.proofs.lemmas.List.Sums.{fold_push}
 use Rattle.mapf_model.specs.declared.bar.Bar.{Bar}
 use Rattle.mapf_model.specs.Labels.{Entries}
-use Rattle.mapf_model.specs.Tree.{NodeContext, root, with_constraint}
+use Rattle.mapf_model.specs.Tree.{with_constraint}
 use Rattle.mapf_checker.specs.declared.branch.Edge.{Edge}
 use Rattle.mapf_checker.specs.declared.index.BarIndex.{BarIndex}
 use Rattle.mapf_checker.specs.declared.index.Undo.{Undo}
 use Rattle.mapf_checker.specs.declared.starts.Starts.{Starts}
 use Rattle.mapf_checker.specs.Index.{Indexes, CanUndo}
 use Rattle.mapf_checker.specs.Starts.{AreKept, KnowEntries, with_changes}
-use Rattle.mapf_checker.specs.Branch.{Place, along, at_root, place_after, CanUndoEdge, CanUndoAll, CanUndoFirst, IndexesFirst, IsIndexedBranch}
+use Rattle.mapf_checker.specs.Branch.{Place, along, at_root, constraint_of, place_after, CanUndoEdge, CanUndoAll, CanUndoFirst, IndexesFirst, IsIndexedBranch}
 
 pub place_after-push : (edges : List Edge) (edge : Edge) → place_after (edges ++ edge ∷ []) ≡ along (place_after edges) edge
 place_after-push edges edge = fold_push along at_root edges edge
@@ -29,14 +29,14 @@ fewer_edges place (e ∷ es) edge (u ∷ us) within can = (can.0, fewer_edges (a
 
 -- the next edge's constraint can be taken out too
 more_undos : (place : Place) (edges : List Edge) (edge : Edge) (undos : List Undo) (undo : Undo) → length undos < length edges → slice_index_or edges (length undos) edge ≡ edge →
-    CanUndo (fold along place (take (length undos) edges)).here.bars edge.constraint undo → CanUndoFirst place.here edges undos → CanUndoFirst place.here edges (undos ++ undo ∷ [])
+    CanUndo (fold along place (take (length undos) edges)).here.bars (constraint_of edge) undo → CanUndoFirst place.here edges undos → CanUndoFirst place.here edges (undos ++ undo ∷ [])
 more_undos place [] edge undos undo within at can all = absurd (omega arith)
-more_undos place (e ∷ es) edge [] undo within at can all = (subst (λ (x : Edge). CanUndo place.here.bars x.constraint undo) (sym at) can, tt)
+more_undos place (e ∷ es) edge [] undo within at can all = (subst (λ (x : Edge). CanUndo place.here.bars (constraint_of x) undo) (sym at) can, tt)
 more_undos place (e ∷ es) edge (u ∷ us) undo within at can all = (all.0, more_undos (along place e) es edge us undo (omega arith) at can all.1)
 
 -- the last edge's constraint, and then those before it
 last_undo : (place : Place) (edges : List Edge) (edge : Edge) (undos : List Undo) (undo : Undo) → length undos ≡ length edges → CanUndoFirst place.here (edges ++ edge ∷ []) (undos ++ undo ∷ []) →
-    CanUndo (fold along place edges).here.bars edge.constraint undo × CanUndoFirst place.here edges undos
+    CanUndo (fold along place edges).here.bars (constraint_of edge) undo × CanUndoFirst place.here edges undos
 last_undo place [] edge [] undo same all = (all.0, tt)
 last_undo place [] edge (u ∷ us) undo same all = absurd (omega arith)
 last_undo place (e ∷ es) edge [] undo same all = absurd (omega arith)
@@ -64,7 +64,7 @@ indexes_all edges undos index first all = subst (λ es. Indexes (place_after es)
 
 -- with one edge less, whose constraint was taken out
 pub IndexesFirst-pop : (edges : List Edge) (edge : Edge) (undos : List Undo) (undo : Undo) (index new : BarIndex) → IndexesFirst (edges ++ edge ∷ []) (undos ++ undo ∷ []) index → length edges ≤ length undos →
-    ((bars : ℕ → List Bar) → Indexes (with_constraint bars edge.constraint) index → CanUndo bars edge.constraint undo → Indexes bars new) → IndexesFirst edges undos new
+    ((bars : ℕ → List Bar) → Indexes (with_constraint bars (constraint_of edge)) index → CanUndo bars (constraint_of edge) undo → Indexes bars new) → IndexesFirst edges undos new
 IndexesFirst-pop edges edge undos undo index new first all undone =
     let same : length undos ≡ length edges = omega (arith, length_push edges edge, length_push undos undo, first.within) in
     let (last, rest) = last_undo at_root edges edge undos undo same first.undone in
@@ -77,8 +77,8 @@ IndexesFirst-pop edges edge undos undo index new first all undone =
 
 -- the next edge's constraint was added
 pub IndexesFirst-next : (edges : List Edge) (edge : Edge) (undos : List Undo) (undo : Undo) (index new : BarIndex) → length undos < length edges → slice_index_or edges (length undos) edge ≡ edge → IndexesFirst edges undos index →
-    ((bars : ℕ → List Bar) → Indexes bars index → Indexes (with_constraint bars edge.constraint) new) →
-    ((bars : ℕ → List Bar) → Indexes bars index → CanUndo bars edge.constraint undo) → IndexesFirst edges (undos ++ undo ∷ []) new
+    ((bars : ℕ → List Bar) → Indexes bars index → Indexes (with_constraint bars (constraint_of edge)) new) →
+    ((bars : ℕ → List Bar) → Indexes bars index → CanUndo bars (constraint_of edge) undo) → IndexesFirst edges (undos ++ undo ∷ []) new
 IndexesFirst-next edges edge undos undo index new within at first added can =
     let before = take (length undos) edges in
     let more : take (length (undos ++ undo ∷ [])) edges ≡ before ++ edge ∷ [] =

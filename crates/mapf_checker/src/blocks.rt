@@ -137,7 +137,7 @@ pub fn changes_by(
     ensures { IfOk result (λ changes.
         AreChangesBy problem.now (place_of branch.now).here.entries blocks.now changes.items) }
 {
-    let mut changes = Vec::new(alloc);
+    let mut changes = Vec::with_capacity(alloc, blocks.len())?;
     for block in blocks {
         changes.push(change_by(problem, branch, block))?;
     }

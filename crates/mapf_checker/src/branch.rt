@@ -8,15 +8,36 @@ use mapf_model::{Bar, Cell, Conflict, Constraint, Label, OutOfMemory, Tick};
 use std::alloc::Global;
 use std::marker::Model;
 
+/// A child of a split.
+#[derive(Clone, Copy)]
+pub enum Child {
+    Left,
+    Right,
+}
+
 /// An edge of a constraint tree, from a split to one of its children.
 #[derive(Drop)]
 pub struct Edge {
-    /// The constraint of the child.
-    pub constraint: Constraint,
-    /// The constraint of the other child, where that child is still to come.
-    pub owed: Option<Constraint>,
+    /// The split's conflict.
+    pub conflict: Conflict,
+    /// The child that the edge leads to. Where it is the left one, the right one is still to come.
+    pub child: Child,
     /// What the split's blocks change, for both children.
     pub changes: Vec<StartChange>,
+}
+
+impl Edge {
+    ghost use Rattle.mapf_checker.specs.Branch.{constraint_of};
+
+    // The constraint of the child.
+    fn constraint(&self) -> Constraint
+        ensures { result ≡ constraint_of self.now }
+    {
+        match self.child {
+            Child::Left => self.conflict.left(),
+            Child::Right => self.conflict.right(),
+        }
+    }
 }
 
 /// The branch of a constraint tree from its root to the node that is read next: what that node inherits,
@@ -86,7 +107,8 @@ impl Branch {
         ensures agents { self.new.agents ≡ self.old.agents }
     {
         self.undos.reserve(1)?;
-        let undo = self.index.add(&self.edges[self.undos.len()].constraint)?;
+        let constraint = self.edges[self.undos.len()].constraint();
+        let undo = self.index.add(&constraint)?;
         self.undos.push_reserved(undo);
         Ok(())
     }
@@ -126,7 +148,7 @@ impl Branch {
         ensures split { OnOk result (IsSplit (place_of self.old) conflict.now changes.items (place_of self.new)) }
         ensures agents { self.new.agents ≡ self.old.agents }
     {
-        self.descend(conflict.left(), Some(conflict.right()), changes)
+        self.descend(conflict, Child::Left, changes)
     }
 
     /// Goes on from an end of the tree to the node that is owed next, if one is.
@@ -135,9 +157,13 @@ impl Branch {
         ensures agents { self.new.agents ≡ self.old.agents }
     {
         while let Some(edge) = self.leave() {
-            let Edge { owed, changes, .. } = edge;
-            if let Some(other) = owed {
-                self.descend(other, None, changes)?;
+            let Edge {
+                conflict,
+                child,
+                changes,
+            } = edge;
+            if let Child::Left = child {
+                self.descend(&conflict, Child::Right, changes)?;
                 return Ok(true);
             }
         }
@@ -152,33 +178,28 @@ impl Branch {
         ensures agents { self.new.agents ≡ self.old.agents }
     {
         let edge = self.edges.pop()?;
-        take_out(
-            &mut self.index,
-            &mut self.undos,
-            self.edges.len(),
-            &edge.constraint,
-        );
+        take_out(&mut self.index, &mut self.undos, self.edges.len(), &edge);
         self.starts.undo(&edge.changes);
         Some(edge)
     }
 
     fn descend(
         &mut self,
-        constraint: Constraint,
-        owed: Option<Constraint>,
+        conflict: &Conflict,
+        child: Child,
         changes: Vec<StartChange>,
     ) -> Result<(), OutOfMemory>
         requires agents { AreOfFirst self.old.agents changes.items }
         requires entries { KnowEntries (place_of self.old).here.entries changes.items }
         ensures place { OnOk result (place_of self.new
-            ≡ descended (place_of self.old) constraint owed changes.items) }
+            ≡ descended (place_of self.old) conflict.now child changes.items) }
         ensures agents { self.new.agents ≡ self.old.agents }
     {
         self.edges.reserve(1)?;
         self.starts.change(&changes);
         let edge = Edge {
-            constraint,
-            owed,
+            conflict: *conflict,
+            child,
             changes,
         };
         self.edges.push_reserved(edge);
@@ -186,16 +207,16 @@ impl Branch {
     }
 }
 
-// Takes the constraint of the edge after so many edges out of the index, where the index has it.
-fn take_out(index: &mut BarIndex, undos: &mut Vec<Undo>, edges: usize, constraint: &Constraint)
-    ensures { (before : List Edge) (edge : Edge) → length before ≡ edges → edge.constraint ≡ constraint.now
-        → IndexesFirst (before ++ edge ∷ []) undos.old.items index.old
+// Takes the constraint of an edge, after so many others, out of the index, where the index has it.
+fn take_out(index: &mut BarIndex, undos: &mut Vec<Undo>, edges: usize, edge: &Edge)
+    ensures { (before : List Edge) → length before ≡ edges
+        → IndexesFirst (before ++ edge.now ∷ []) undos.old.items index.old
         → IndexesFirst before undos.new.items index.new }
 {
     if undos.len() <= edges {
         return;
     }
     if let Some(undo) = undos.pop() {
-        index.undo(constraint, &undo);
+        index.undo(&edge.constraint(), &undo);
     }
 }

@@ -8,6 +8,6 @@ invariant_of-self-2 c =
     let here = (place_after edges).here in
     let branch = c.self.invariant in
     rw (c.push_reserved.ensures.items, c.reserve.ensures.items)
-    (IsIndexedBranch-push edges (record { constraint = c.args.constraint; owed = c.args.owed; changes = c.args.changes }) c.self.inside.undos.items c.self.inside.index c.self.inside.starts c.change.new.self branch c.change.ensures.count
+    (IsIndexedBranch-push edges (record { conflict = c.args.conflict.now; child = c.args.child; changes = c.args.changes }) c.self.inside.undos.items c.self.inside.index c.self.inside.starts c.change.new.self branch c.change.ensures.count
     (rw c.deref.ensures.value at (c.change.ensures.entries here.entries branch.kept))
     (record { agents = rw (← c.self.view_is) at c.requires.agents; entries = rw (← c.self.view_is) at c.requires.entries }))
