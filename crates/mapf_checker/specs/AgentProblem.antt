@@ -1,10 +1,13 @@
 -- What the entries of one agent are judged against: its own problem at a node of the tree.
-use Rattle.std.specs.Prelude.{◌≡◌, ◌+◌, ℕ, List}
+use Rattle.std.specs.Prelude.{◌≡◌, ◌+◌, ℕ, List, Option}
+use Rattle.mapf_distance.specs.Distances.{GoalMap}
+use Rattle.mapf_distance.specs.Tables.{HasTable}
 use Rattle.mapf_model.specs.declared.bar.Bar.{Bar}
 use Rattle.mapf_model.specs.declared.label.Entry.{Entry}
+use Rattle.mapf_model.specs.Blocks.{LabelBlock}
 use Rattle.mapf_model.specs.Labels.{entries_of, IsSoundEntry, IsWithinOne, MayGo}
 use Rattle.mapf_checker.specs.declared.judge.AgentProblem.{AgentProblem}
-use Rattle.mapf_checker.specs.Branch.{place_of}
+use Rattle.mapf_checker.specs.Branch.{Route, IsIndexed, place_of}
 
 -- the bars of the agent
 abbrev pub bars_on : AgentProblem → List Bar
@@ -26,3 +29,8 @@ IsConsistentStep own entries entry next = MayGo own.grid.now (bars_on own) entry
 -- so it is of each cell that may be next
 abbrev pub IsConsistent : AgentProblem → List Entry → Entry → Type 0
 IsConsistent own entries entry = (next : ℕ) → IsConsistentStep own entries entry next
+
+-- what a block is judged by is there: the table of its agent's distances, and the index of the branch's constraints
+pub record CanJudge (tables : List (Option GoalMap)) (route : Route) (block : LabelBlock) : Type 0 where
+  pub table : HasTable tables block.agent
+  pub indexed : IsIndexed route

@@ -1,18 +1,23 @@
 -- The branch of a constraint tree from its root to the node that is read next.
-use Rattle.std.specs.Prelude.{◌≡◌, ℕ, Bool, List, [], ◌∷◌, Option, Some, None, fold, length, MatchBool}
+use Rattle.std.specs.Prelude.{◌≡◌, ◌≤◌, ℕ, Bool, List, [], ◌∷◌, fold, length, take, MatchBool}
 use Rattle.mapf_model.specs.declared.conflict.Conflict.{Conflict}
 use Rattle.mapf_model.specs.Tree.{NodeContext, root, with_constraint, left_constraint, right_constraint}
 use Rattle.mapf_model.specs.declared.constraint.Constraint.{Constraint}
+use Rattle.mapf_checker.specs.declared.branch.Child.{Child}
+use Rattle.mapf_checker.specs.declared.branch.Child.TheVariants.{Left, Right}
 use Rattle.mapf_checker.specs.declared.branch.Edge.{Edge}
 use Rattle.mapf_checker.specs.declared.index.BarIndex.{BarIndex}
+use Rattle.mapf_checker.specs.declared.index.Undo.{Undo}
 use Rattle.mapf_checker.specs.declared.starts.StartChange.{StartChange}
 use Rattle.mapf_checker.specs.declared.starts.Starts.{Starts}
 use Rattle.mapf_checker.specs.Index.{Indexes, CanUndo}
 use Rattle.mapf_checker.specs.Starts.{AreKept, AreOfFirst, KnowEntries, with_changes}
 
--- the edges from the root, and of how many agents the entries of the starts are kept
+-- the edges from the root, of how many of the first of them the index has the constraints, and of how many agents the
+-- entries of the starts are kept
 pub record Route : Type 0 where
   pub edges : List Edge
+  pub indexed : ℕ
   pub agents : ℕ
 
 -- what the node that is read next inherits, and what those inherit that are owed after it
@@ -24,18 +29,27 @@ pub record Place : Type 0 where
 abbrev pub child_after : NodeContext → List StartChange → Constraint → NodeContext
 child_after context changes constraint = record { bars = with_constraint context.bars constraint; entries = with_changes changes context.entries }
 
--- what is owed: the sibling, if it is still to come, then the rest
-abbrev pub with_owed : NodeContext → List StartChange → Option Constraint → List NodeContext → List NodeContext
-with_owed here changes None owed = owed
-with_owed here changes (Some other) owed = child_after here changes other ∷ owed
+-- the constraint of a child of a split on this conflict
+abbrev pub constraint_at : Child → Conflict → Constraint
+constraint_at Left conflict = left_constraint conflict
+constraint_at Right conflict = right_constraint conflict
 
--- at a child with this constraint, where its sibling with that constraint is owed
-abbrev pub descended : Place → Constraint → Option Constraint → List StartChange → Place
-descended place constraint other changes = record { here = child_after place.here changes constraint; owed = with_owed place.here changes other place.owed }
+-- the constraint of the child that the edge leads to
+abbrev pub constraint_of : Edge → Constraint
+constraint_of edge = constraint_at edge.child edge.conflict
+
+-- what is owed at a child of a split: at the left one the right one, then the rest
+abbrev pub with_owed : NodeContext → List StartChange → Conflict → Child → List NodeContext → List NodeContext
+with_owed here changes conflict Left owed = child_after here changes (right_constraint conflict) ∷ owed
+with_owed here changes conflict Right owed = owed
+
+-- at this child of a split on this conflict, which makes these changes
+abbrev pub descended : Place → Conflict → Child → List StartChange → Place
+descended place conflict child changes = record { here = child_after place.here changes (constraint_at child conflict); owed = with_owed place.here changes conflict child place.owed }
 
 -- where an edge leads to
 abbrev pub along : Place → Edge → Place
-along place edge = descended place edge.constraint edge.owed edge.changes.items
+along place edge = descended place edge.conflict edge.child edge.changes.items
 
 -- at the root, with nothing owed after it
 abbrev pub at_root : Place
@@ -49,20 +63,36 @@ place_after edges = fold along at_root edges
 abbrev pub place_of : Route → Place
 place_of route = place_after route.edges
 
--- what an edge changed can be undone: its constraint, and the entries of starts, which are those of so many agents
+-- the index has the constraints of all edges
+abbrev pub IsIndexed : Route → Type 0
+IsIndexed route = length route.edges ≤ route.indexed
+
+-- what an edge changed of the entries of the starts, which are those of so many agents, can be undone
 pub record CanUndoEdge (count : ℕ) (context : NodeContext) (edge : Edge) : Type 0 where
-  pub constraint : CanUndo context.bars edge.constraint edge.undo
   pub agents : AreOfFirst count edge.changes.items
   pub entries : KnowEntries context.entries edge.changes.items
 
 -- so it is of each edge
 abbrev pub CanUndoAll : ℕ → NodeContext → List Edge → Type 0
 CanUndoAll agents here [] = Unit {0}
-CanUndoAll agents here (edge ∷ edges) = CanUndoEdge agents here edge × CanUndoAll agents (child_after here edge.changes.items edge.constraint) edges
+CanUndoAll agents here (edge ∷ edges) = CanUndoEdge agents here edge × CanUndoAll agents (child_after here edge.changes.items (constraint_of edge)) edges
 
--- the index has the constraints of the node that the edges lead to, the starts have its entries, and both can be undone
-pub record IsIndexedBranch (edges : List Edge) (index : BarIndex) (starts : Starts) : Type 0 where
-  pub indexed : Indexes (place_after edges).here.bars index
+-- the constraints of the first edges can be taken out of an index again, as many as there are undos
+abbrev pub CanUndoFirst : NodeContext → List Edge → List Undo → Type 0
+CanUndoFirst here edges [] = Unit {0}
+CanUndoFirst here [] (undo ∷ undos) = ⊥
+CanUndoFirst here (edge ∷ edges) (undo ∷ undos) = CanUndo here.bars (constraint_of edge) undo × CanUndoFirst (child_after here edge.changes.items (constraint_of edge)) edges undos
+
+-- the index has the constraints of the first edges, as many as there are undos, which take them out again
+pub record IndexesFirst (edges : List Edge) (undos : List Undo) (index : BarIndex) : Type 0 where
+  pub within : length undos ≤ length edges
+  pub indexed : Indexes (place_after (take (length undos) edges)).here.bars index
+  pub undone : CanUndoFirst root edges undos
+
+-- the index has the constraints of the first of these edges, the starts have the entries of the node that they lead to,
+-- and both can be undone
+pub record IsIndexedBranch (edges : List Edge) (undos : List Undo) (index : BarIndex) (starts : Starts) : Type 0 where
+  pub first : IndexesFirst edges undos index
   pub kept : AreKept (place_after edges).here.entries starts.entries.items
   pub undone : CanUndoAll (length starts.entries.items) root edges
 

@@ -3,8 +3,8 @@ ghost use Rattle.mapf_model.specs.Labels.{entries_of, AreSound};
 ghost use Rattle.mapf_model.specs.Limits.{greatest_cost};
 ghost use Rattle.mapf_model.specs.Printed.{IsBefore, IsBlockInRange};
 ghost use Rattle.mapf_distance.specs.Tables.{AreMade, HasTable};
-ghost use Rattle.mapf_checker.specs.AgentProblem.{HasGoalDistances, bars_on};
-ghost use Rattle.mapf_checker.specs.Branch.{place_of};
+ghost use Rattle.mapf_checker.specs.AgentProblem.{CanJudge, HasGoalDistances, bars_on};
+ghost use Rattle.mapf_checker.specs.Branch.{IsIndexed, place_of};
 ghost use Rattle.mapf_checker.specs.Leaf.{IsGoodBlock, IsGoalOf, IsStartOf};
 ghost use Rattle.mapf_checker.specs.NodeDefects.{HasUnsoundBlock, HasUnsoundEntry, IsUnsoundAt};
 ghost use Rattle.mapf_checker.specs.Starts.{AreChangesBy, IsChangeBy};
@@ -44,7 +44,7 @@ pub fn judge_blocks(
     line: u64,
 ) -> Result<(), u64>
     requires tables { AreMade problem.now tables.now }
-    requires made { All (λ block. HasTable tables.now block.agent) blocks.now }
+    requires ready { All (CanJudge tables.now branch.now) blocks.now }
     requires blocks { All (IsBlockInRange problem.now.grid (length problem.now.agents)) blocks.now }
     ensures ok { OnOk result (All (IsGoodBlock problem.now (place_of branch.now).here) blocks.now) }
     ensures err { OnErr result (HasUnsoundBlock problem.now (place_of branch.now).here blocks.now) }
@@ -68,7 +68,7 @@ fn judge_block(
     line: u64,
 ) -> Result<(), u64>
     requires tables { AreMade problem.now tables.now }
-    requires made { HasTable tables.now block.now.agent }
+    requires ready { CanJudge tables.now branch.now block.now }
     requires block { IsBlockInRange problem.now.grid (length problem.now.agents) block.now }
     ensures ok { OnOk result (IsGoodBlock problem.now (place_of branch.now).here block.now) }
     ensures err { OnErr result (HasUnsoundEntry problem.now (place_of branch.now).here block.now) }
@@ -110,6 +110,7 @@ fn goal_of(problem: &Problem, agent: u32) -> Cell
 // The place of the first entry of a block that isn't sound.
 fn first_unsound(own: &AgentProblem, entries: &[Entry]) -> Option<usize>
     requires distances { HasGoalDistances own.now }
+    requires indexed { IsIndexed own.now.branch.now }
     requires rising { AllPairs IsBefore entries.now }
     requires ticks { All (λ entry. entry.tick ≤ greatest_cost) entries.now }
     ensures none { IfNone result (AreSound own.now.grid.now own.now.goal (bars_on own.now) (entries_of entries.now)) }
@@ -136,7 +137,7 @@ pub fn changes_by(
     ensures { IfOk result (λ changes.
         AreChangesBy problem.now (place_of branch.now).here.entries blocks.now changes.items) }
 {
-    let mut changes = Vec::new(alloc);
+    let mut changes = Vec::with_capacity(alloc, blocks.len())?;
     for block in blocks {
         changes.push(change_by(problem, branch, block))?;
     }

@@ -1,4 +1,6 @@
-ghost use Rattle.std.specs.Prelude.{◌≡◌, ◌↔◌, ◌<◌, ◌∷◌, ◌++◌, [], Contains, IfNone, IfOk, IfSome, OnOk, IsTrue};
+ghost use Rattle.std.specs.Prelude.{◌≡◌, ◌↔◌, ◌+◌, ◌<◌, ◌∷◌, ◌++◌, [], List, Contains, length};
+ghost use Rattle.std.specs.Prelude.{IfNone, IfOk, IfSome, OnOk, IsTrue};
+ghost use Rattle.mapf_checker.specs.Branch.{IndexesFirst};
 
 use crate::index::{BarIndex, Undo};
 use crate::starts::{StartChange, Starts};
@@ -6,27 +8,49 @@ use mapf_model::{Bar, Cell, Conflict, Constraint, Label, OutOfMemory, Tick};
 use std::alloc::Global;
 use std::marker::Model;
 
+/// A child of a split.
+#[derive(Clone, Copy)]
+pub enum Child {
+    Left,
+    Right,
+}
+
 /// An edge of a constraint tree, from a split to one of its children.
 #[derive(Drop)]
 pub struct Edge {
-    /// The constraint of the child.
-    pub constraint: Constraint,
-    /// The constraint of the other child, where that child is still to come.
-    pub owed: Option<Constraint>,
+    /// The split's conflict.
+    pub conflict: Conflict,
+    /// The child that the edge leads to. Where it is the left one, the right one is still to come.
+    pub child: Child,
     /// What the split's blocks change, for both children.
     pub changes: Vec<StartChange>,
-    /// What to undo of the constraint where the edge is left.
-    pub undo: Undo,
+}
+
+impl Edge {
+    ghost use Rattle.mapf_checker.specs.Branch.{constraint_of};
+
+    // The constraint of the child.
+    fn constraint(&self) -> Constraint
+        ensures { result ≡ constraint_of self.now }
+    {
+        match self.child {
+            Child::Left => self.conflict.left(),
+            Child::Right => self.conflict.right(),
+        }
+    }
 }
 
 /// The branch of a constraint tree from its root to the node that is read next: what that node inherits,
 /// and the nodes that are owed after it. A tree is read in pre-order, so a node's right child is owed until
 /// all of its left child was read. Of the blocks on the branch the entries of the starts are kept, and
-/// nothing else.
+/// nothing else. Constraints are asked for only where a block is judged, so the index is made up to the last
+/// edge only then.
 #[derive(Drop)]
 pub struct Branch {
     edges: Vec<Edge>,
     index: BarIndex,
+    // What to undo of the index where an edge is left, for each of the first edges, whose constraints it has.
+    undos: Vec<Undo>,
     starts: Starts,
 }
 
@@ -36,29 +60,62 @@ impl Model for Branch {
 
     ghost Value = { Route };
 
-    ghost view = { λ branch. record { edges = branch.edges.items; agents = length branch.starts.entries.items } };
+    ghost view = { λ branch. record {
+      edges = branch.edges.items;
+      indexed = length branch.undos.items;
+      agents = length branch.starts.entries.items;
+    } };
 
-    ghost invariant = { λ branch. IsIndexedBranch branch.edges.items branch.index branch.starts };
+    ghost invariant = { λ branch.
+        IsIndexedBranch branch.edges.items branch.undos.items branch.index branch.starts };
 }
 
 impl Branch {
-    ghost use Rattle.mapf_checker.specs.Branch.{CanUndoEdge, NextOf, IsSplit, descended, place_of};
+    ghost use Rattle.mapf_checker.specs.Branch.{CanUndoEdge, IsIndexed, NextOf, IsSplit, descended, place_of};
     ghost use Rattle.mapf_checker.specs.Index.{IsBarredFrom};
     ghost use Rattle.mapf_checker.specs.Starts.{IsKept, AreOfFirst, KnowEntries};
 
     /// The branch at the root, with nothing owed after it.
     pub fn new(alloc: Global, agents: usize) -> Result<Branch, OutOfMemory>
-        ensures { IfOk result (λ branch. branch ≡ record { edges = []; agents = agents }) }
+        ensures { IfOk result (λ branch. branch ≡ record { edges = []; indexed = 0; agents = agents }) }
     {
         Ok(Branch {
             edges: Vec::new(alloc),
             index: BarIndex::new(alloc),
+            undos: Vec::new(alloc),
             starts: Starts::new(alloc, agents)?,
         })
     }
 
+    /// Makes the index up to the last edge.
+    pub fn index_all(&mut self) -> Result<(), OutOfMemory>
+        ensures indexed { OnOk result (IsIndexed self.new) }
+        ensures edges { self.new.edges ≡ self.old.edges }
+        ensures agents { self.new.agents ≡ self.old.agents }
+    {
+        while self.undos.len() < self.edges.len() {
+            self.index_next()?;
+        }
+        Ok(())
+    }
+
+    // Adds the constraint of one edge more to the index.
+    fn index_next(&mut self) -> Result<(), OutOfMemory>
+        requires { self.old.indexed < length self.old.edges }
+        ensures one { OnOk result (self.new.indexed ≡ self.old.indexed + 1) }
+        ensures edges { self.new.edges ≡ self.old.edges }
+        ensures agents { self.new.agents ≡ self.old.agents }
+    {
+        self.undos.reserve(1)?;
+        let constraint = self.edges[self.undos.len()].constraint();
+        let undo = self.index.add(&constraint)?;
+        self.undos.push_reserved(undo);
+        Ok(())
+    }
+
     /// Whether the bar stands for the agent.
     pub fn has(&self, agent: u32, bar: Bar) -> bool
+        requires { IsIndexed self.now }
         ensures { IsTrue result ↔ Contains ((place_of self.now).here.bars agent) bar }
     {
         self.index.has(&Constraint { agent, bar })
@@ -66,6 +123,7 @@ impl Branch {
 
     /// Whether the cell is barred to the agent at this tick or later.
     pub fn has_from(&self, agent: u32, cell: Cell, tick: Tick) -> bool
+        requires { IsIndexed self.now }
         ensures { IsTrue result ↔ IsBarredFrom ((place_of self.now).here.bars agent) cell tick }
     {
         self.index.has_from(agent, cell, tick)
@@ -90,7 +148,7 @@ impl Branch {
         ensures split { OnOk result (IsSplit (place_of self.old) conflict.now changes.items (place_of self.new)) }
         ensures agents { self.new.agents ≡ self.old.agents }
     {
-        self.descend(conflict.left(), Some(conflict.right()), changes)
+        self.descend(conflict, Child::Left, changes)
     }
 
     /// Goes on from an end of the tree to the node that is owed next, if one is.
@@ -99,9 +157,13 @@ impl Branch {
         ensures agents { self.new.agents ≡ self.old.agents }
     {
         while let Some(edge) = self.leave() {
-            let Edge { owed, changes, .. } = edge;
-            if let Some(other) = owed {
-                self.descend(other, None, changes)?;
+            let Edge {
+                conflict,
+                child,
+                changes,
+            } = edge;
+            if let Child::Left = child {
+                self.descend(&conflict, Child::Right, changes)?;
                 return Ok(true);
             }
         }
@@ -116,33 +178,45 @@ impl Branch {
         ensures agents { self.new.agents ≡ self.old.agents }
     {
         let edge = self.edges.pop()?;
-        self.index.undo(&edge.constraint, &edge.undo);
+        take_out(&mut self.index, &mut self.undos, self.edges.len(), &edge);
         self.starts.undo(&edge.changes);
         Some(edge)
     }
 
     fn descend(
         &mut self,
-        constraint: Constraint,
-        owed: Option<Constraint>,
+        conflict: &Conflict,
+        child: Child,
         changes: Vec<StartChange>,
     ) -> Result<(), OutOfMemory>
         requires agents { AreOfFirst self.old.agents changes.items }
         requires entries { KnowEntries (place_of self.old).here.entries changes.items }
         ensures place { OnOk result (place_of self.new
-            ≡ descended (place_of self.old) constraint owed changes.items) }
+            ≡ descended (place_of self.old) conflict.now child changes.items) }
         ensures agents { self.new.agents ≡ self.old.agents }
     {
         self.edges.reserve(1)?;
-        let undo = self.index.add(&constraint)?;
         self.starts.change(&changes);
         let edge = Edge {
-            constraint,
-            owed,
+            conflict: *conflict,
+            child,
             changes,
-            undo,
         };
         self.edges.push_reserved(edge);
         Ok(())
+    }
+}
+
+// Takes the constraint of an edge, after so many others, out of the index, where the index has it.
+fn take_out(index: &mut BarIndex, undos: &mut Vec<Undo>, edges: usize, edge: &Edge)
+    ensures { (before : List Edge) → length before ≡ edges
+        → IndexesFirst (before ++ edge.now ∷ []) undos.old.items index.old
+        → IndexesFirst before undos.new.items index.new }
+{
+    if undos.len() <= edges {
+        return;
+    }
+    if let Some(undo) = undos.pop() {
+        index.undo(&edge.constraint(), &undo);
     }
 }

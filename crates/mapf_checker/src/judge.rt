@@ -5,6 +5,7 @@ ghost use Rattle.mapf_model.specs.Limits.{greatest_cost};
 ghost use Rattle.mapf_model.specs.Printed.{IsBefore};
 ghost use Rattle.mapf_checker.specs.AgentProblem.{HasGoalDistances, bars_on};
 ghost use Rattle.mapf_checker.specs.AgentProblem.{IsConsistent, IsConsistentStep, IsSoundAmong};
+ghost use Rattle.mapf_checker.specs.Branch.{IsIndexed};
 ghost use Rattle.mapf_checker.specs.Index.{IsBarredFrom};
 
 use crate::branch::Branch;
@@ -32,6 +33,7 @@ pub type Fingers = [usize; 5];
 /// barred lowers the label by more than one.
 pub fn is_sound(own: &AgentProblem, entries: &[Entry], fingers: &mut Fingers, entry: &Entry) -> bool
     requires distances { HasGoalDistances own.now }
+    requires indexed { IsIndexed own.now.branch.now }
     requires rising { AllPairs IsBefore entries.now }
     requires tick { entry.now.tick ≤ greatest_cost }
     ensures { IsTrue result ↔ IsSoundAmong own.now entries.now entry.now }
@@ -47,6 +49,7 @@ pub fn is_sound(own: &AgentProblem, entries: &[Entry], fingers: &mut Fingers, en
 }
 
 fn is_barred(own: &AgentProblem, entry: &Entry) -> bool
+    requires { IsIndexed own.now.branch.now }
     ensures { IsTrue result ↔ Contains (bars_on own.now) (Bar.Cell entry.now.cell entry.now.tick) }
 {
     let bar = Bar::Cell {
@@ -64,6 +67,7 @@ fn is_open_sound(
     entry: &Entry,
 ) -> bool
     requires distances { HasGoalDistances own.now }
+    requires indexed { IsIndexed own.now.branch.now }
     requires rising { AllPairs IsBefore entries.now }
     requires tick { entry.now.tick ≤ greatest_cost }
     requires free { IsFree own.now.grid.now entry.now.cell }
@@ -80,6 +84,7 @@ fn is_open_sound(
 // Whether the label is within one of that after each step that isn't barred.
 fn goes_on(own: &AgentProblem, entries: &[Entry], fingers: &mut Fingers, entry: &Entry) -> bool
     requires distances { HasGoalDistances own.now }
+    requires indexed { IsIndexed own.now.branch.now }
     requires rising { AllPairs IsBefore entries.now }
     requires tick { entry.now.tick ≤ greatest_cost }
     requires free { IsFree own.now.grid.now entry.now.cell }
@@ -105,6 +110,7 @@ fn step_holds(
     next: Cell,
 ) -> bool
     requires distances { HasGoalDistances own.now }
+    requires indexed { IsIndexed own.now.branch.now }
     requires rising { AllPairs IsBefore entries.now }
     requires tick { entry.now.tick ≤ greatest_cost }
     ensures { IsTrue result ↔ IsConsistentStep own.now entries.now entry.now next }
@@ -120,6 +126,7 @@ fn step_holds(
 
 // Whether the agent may go to the cell from the entry's state.
 fn may_go(own: &AgentProblem, entry: &Entry, next: Cell) -> bool
+    requires indexed { IsIndexed own.now.branch.now }
     requires tick { entry.now.tick ≤ greatest_cost }
     ensures { IsTrue result ↔ MayGo own.now.grid.now (bars_on own.now) entry.now.cell next entry.now.tick }
 {

@@ -5,7 +5,8 @@ ghost use Rattle.mapf_model.specs.declared.item.Claim.{Claim};
 ghost use Rattle.mapf_model.specs.Labels.{label_plus};
 ghost use Rattle.mapf_model.specs.Printed.{AreBlocksInRange};
 ghost use Rattle.mapf_model.specs.Tree.{ShowsFrom, Leaf, LeafNode};
-ghost use Rattle.mapf_distance.specs.Tables.{AreMade, AreStartDistances, HasTable};
+ghost use Rattle.mapf_distance.specs.Tables.{AreMade, AreStartDistances};
+ghost use Rattle.mapf_checker.specs.AgentProblem.{CanJudge};
 ghost use Rattle.mapf_checker.specs.Branch.{place_of};
 ghost use Rattle.mapf_checker.specs.Leaf.{IsStartTotal, IsEnough, IsStartLabel};
 ghost use Rattle.mapf_checker.specs.Leaf.{IsCut, TakesBlock, LeavesBlock, label_of};
@@ -30,7 +31,7 @@ pub fn judge_leaf(
     line: u64,
 ) -> Result<(), CheckFault>
     requires tables { AreMade problem.now tables.now }
-    requires made { All (λ block. HasTable tables.now block.agent) blocks.now }
+    requires ready { All (CanJudge tables.now branch.now) blocks.now }
     requires distances { AreStartDistances problem.now distances.now }
     requires agents { branch.now.agents ≡ length problem.now.agents }
     requires blocks { AreBlocksInRange problem.now.grid (length problem.now.agents) blocks.now }

@@ -8,7 +8,8 @@ ghost use Rattle.mapf_model.specs.Tree.{SplitNode, LeafNode, ClashNode, node_of,
 ghost use Rattle.mapf_model.specs.Tree.{IsProperSplit, SplitShows, AreProperBlocks, AreBlocksSound};
 ghost use Rattle.mapf_model.specs.Tree.{AreTwoAgents, ShareGoal};
 ghost use Rattle.mapf_checker.specs.Faults.{IsOfJudging};
-ghost use Rattle.mapf_distance.specs.Tables.{AreMade, AreStartDistances, HasTable};
+ghost use Rattle.mapf_distance.specs.Tables.{AreMade, AreStartDistances};
+ghost use Rattle.mapf_checker.specs.AgentProblem.{CanJudge};
 ghost use Rattle.mapf_checker.specs.NodeDefects.{HasNodeDefect, IsUnsoundLabel, IsGoodNode};
 ghost use Rattle.mapf_checker.specs.Starts.{AreChangesBy};
 ghost use Rattle.mapf_checker.specs.Branch.{place_of};
@@ -147,7 +148,7 @@ impl Progress {
         requires ready { IsReady problem.now self.old }
         requires blocks { AreBlocksInRange problem.now.grid (length problem.now.agents) blocks.now }
         ensures ready { OnOk result (IsReady problem.now self.new) }
-        ensures branch { self.new.branch ≡ self.old.branch }
+        ensures edges { self.new.branch.edges ≡ self.old.branch.edges }
         ensures over { self.new.is_over ≡ self.old.is_over }
         ensures changes { IfOk result (λ changes.
             AreChangesBy problem.now (here_of self.old).entries blocks.now changes.items) }
@@ -158,7 +159,7 @@ impl Progress {
         if blocks.is_empty() {
             return Ok(Vec::new(alloc));
         }
-        self.see_to_tables(alloc, problem, blocks)?;
+        self.see_to_blocks(alloc, problem, blocks)?;
         if let Err(unsound) = judge_blocks(problem, &self.tables, &self.branch, blocks, line) {
             return Err(FromFault::Refused(CheckFault::C7(unsound)));
         }
@@ -185,7 +186,7 @@ impl Progress {
         ensures refused { IfErr result (IsOfJudging
             (HasNodeDefect problem.now claim.now (here_of self.old) (LeafNode blocks.now))) }
     {
-        self.see_to_tables(alloc, problem, blocks)?;
+        self.see_to_blocks(alloc, problem, blocks)?;
         self.see_to_distances(alloc, problem)?;
         if let Err(fault) = judge_leaf(
             problem,
@@ -201,8 +202,9 @@ impl Progress {
         self.end()
     }
 
-    // Makes the tables of the blocks' agents, where they aren't made yet.
-    fn see_to_tables(
+    // Sees to what the blocks are judged by: the tables of their agents, and the index of the constraints on the
+    // branch. Without blocks none is needed.
+    fn see_to_blocks(
         &mut self,
         alloc: Global,
         problem: &Problem,
@@ -211,12 +213,18 @@ impl Progress {
         requires ready { IsReady problem.now self.old }
         requires blocks { AreBlocksInRange problem.now.grid (length problem.now.agents) blocks.now }
         ensures ready { OnOk result (IsReady problem.now self.new) }
-        ensures made { OnOk result (All (λ block. HasTable self.new.tables block.agent) blocks.now) }
-        ensures branch { self.new.branch ≡ self.old.branch }
+        ensures blocks { OnOk result (All (CanJudge self.new.tables self.new.branch) blocks.now) }
+        ensures edges { self.new.branch.edges ≡ self.old.branch.edges }
         ensures over { self.new.is_over ≡ self.old.is_over }
         ensures memory { IfErr result (λ fault. fault ≡ FromFault.Memory) }
     {
+        if blocks.is_empty() {
+            return Ok(());
+        }
         let Ok(()) = make_tables(alloc, problem, &mut self.tables, blocks) else {
+            return Err(FromFault::Memory);
+        };
+        let Ok(()) = self.branch.index_all() else {
             return Err(FromFault::Memory);
         };
         Ok(())

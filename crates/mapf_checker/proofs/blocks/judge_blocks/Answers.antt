@@ -3,7 +3,7 @@ use Rattle.std.proofs.lemmas.Bool.{cases_lt}
 use Rattle.std.proofs.lemmas.Option.{slice_get_read, get_or_from_slice_get}
 use Rattle.mapf_model.specs.Blocks.{LabelBlock}
 use Rattle.mapf_model.specs.Printed.{IsBlockInRange}
-use Rattle.mapf_distance.specs.Tables.{HasTable}
+use Rattle.mapf_checker.specs.AgentProblem.{CanJudge}
 use Rattle.mapf_checker.specs.Leaf.{IsGoodBlock}
 use Rattle.mapf_checker.specs.Branch.{place_of}
 use Rattle.mapf_checker.proofs.blocks.judge_blocks.Goals as goal
@@ -38,6 +38,6 @@ loop-block-preserved c =
 pub returns-clause-ok : goal.returns-clause-ok
 returns-clause-ok c k d within = c.loop-block.invariant k d (omega arith)
 
-pub judge_block-requires-clause-made : goal.judge_block-requires-clause-made
-judge_block-requires-clause-made c =
-    subst (λ (b : LabelBlock). HasTable c.args.tables.now b.agent) (sym c.block-item.is) (c.requires.made c.loop-block.block-index c.block-item.result c.loop-block-test.true)
+pub judge_block-requires-clause-ready : goal.judge_block-requires-clause-ready
+judge_block-requires-clause-ready c =
+    subst (λ (b : LabelBlock). CanJudge c.args.tables.now c.args.branch.now b) (sym c.block-item.is) (c.requires.ready c.loop-block.block-index c.block-item.result c.loop-block-test.true)

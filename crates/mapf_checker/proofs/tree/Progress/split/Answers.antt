@@ -1,6 +1,6 @@
 use Rattle.std.proofs.Common.{length, refl, sym, subst, inl}
 use Rattle.std.proofs.lemmas.Bool.{iff_false}
-use Rattle.mapf_checker.specs.Branch.{Route, place_of}
+use Rattle.mapf_checker.specs.Branch.{place_after, place_of}
 use Rattle.mapf_checker.specs.Progress.{here_of}
 use Rattle.mapf_checker.specs.Starts.{AreOfFirst, KnowEntries}
 use Rattle.mapf_checker.proofs.TreeLemmas.{changes_of_first, changes_know, contexts_after_split}
@@ -19,7 +19,7 @@ split-requires-clause-agents c =
 pub split-requires-clause-entries : goal.split-requires-clause-entries
 split-requires-clause-entries c =
     let changes = c.in_ok-changes.changes.items in
-    subst (λ (route : Route). KnowEntries (place_of route).here.entries changes) (sym c.changes.ensures.branch)
+    subst (λ edges. KnowEntries (place_after edges).here.entries changes) (sym c.changes.ensures.edges)
     (changes_know c.args.problem.now (here_of c.args.self.now).entries c.args.blocks.now changes c.in_ok-changes.ensures.changes)
 
 pub returns-clause-owed : goal.returns-clause-owed
@@ -27,4 +27,4 @@ returns-clause-owed c =
     let self = c.args.self.now in
     rw c.changes.ensures.over
     (contexts_after_split c.args.problem.now c.args.conflict.now c.args.blocks.now c.in_ok-changes.changes.items self.is_over (place_of self.branch) (place_of c.split.new.self) c.requires.going
-    c.in_ok-changes.ensures.changes (rw c.changes.ensures.branch at c.in-Ok.ensures.split))
+    c.in_ok-changes.ensures.changes (rw c.changes.ensures.edges at c.in-Ok.ensures.split))
