@@ -57,7 +57,7 @@ fn agents_of(alloc: Global, bytes: &[u8], agents: u32) -> Result<(Vec<u32>, u64,
         → bytes.entry.now ≡ event_lines events ++ rest
         → OrMemory result (IsOkAnd result (λ p. (p.0.items ≡ events) × (p.2.now ≡ rest))) }
     ensures number { IfOk result (λ p. p.1 ≡ length p.0.items + 3) }
-    // What the error says after a title.
+    // The error says this of the text in which these bytes follow the title.
     ensures fault { IfErr result (HasEventFault (codes "mapf-events 1\n" ++ bytes.entry.now) agents) }
 {
     let mut events = Vec::new(alloc);
