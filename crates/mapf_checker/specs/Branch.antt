@@ -13,8 +13,8 @@ use Rattle.mapf_checker.specs.declared.starts.Starts.{Starts}
 use Rattle.mapf_checker.specs.Index.{Indexes, CanUndo}
 use Rattle.mapf_checker.specs.Starts.{AreKept, AreOfFirst, KnowEntries, with_changes}
 
--- the edges from the root, of how many of the first of them the index has the constraints, and of how many agents the
--- entries of the starts are kept
+-- the edges from the root, of how many of them, counted from the root, the index has the constraints, and of how many
+-- agents the entries of the starts are kept
 pub record Route : Type 0 where
   pub edges : List Edge
   pub indexed : ℕ
@@ -89,8 +89,8 @@ pub record IndexesFirst (edges : List Edge) (undos : List Undo) (index : BarInde
   pub indexed : Indexes (place_after (take (length undos) edges)).here.bars index
   pub undone : CanUndoFirst root edges undos
 
--- the index has the constraints of the first of these edges, the starts have the entries of the node that they lead to,
--- and both can be undone
+-- the index has the constraints of the first of these edges, the starts have the entries of the node that all of them
+-- lead to, and both can be undone
 pub record IsIndexedBranch (edges : List Edge) (undos : List Undo) (index : BarIndex) (starts : Starts) : Type 0 where
   pub first : IndexesFirst edges undos index
   pub kept : AreKept (place_after edges).here.entries starts.entries.items

@@ -43,13 +43,13 @@ impl Edge {
 /// The branch of a constraint tree from its root to the node that is read next: what that node inherits,
 /// and the nodes that are owed after it. A tree is read in pre-order, so a node's right child is owed until
 /// all of its left child was read. Of the blocks on the branch the entries of the starts are kept, and
-/// nothing else. Constraints are asked for only where a block is judged, so the index is made up to the last
-/// edge only then.
+/// nothing else. Constraints are asked for only where a block is judged, so before that the index may lack those of
+/// the last edges.
 #[derive(Drop)]
 pub struct Branch {
     edges: Vec<Edge>,
     index: BarIndex,
-    // What to undo of the index where an edge is left, for each of the first edges, whose constraints it has.
+    // For each of the first edges, whose constraints the index has, what to undo of it where the edge is left.
     undos: Vec<Undo>,
     starts: Starts,
 }
@@ -87,7 +87,7 @@ impl Branch {
         })
     }
 
-    /// Makes the index up to the last edge.
+    /// Adds the constraints to the index that it lacks.
     pub fn index_all(&mut self) -> Result<(), OutOfMemory>
         ensures indexed { OnOk result (IsIndexed self.new) }
         ensures edges { self.new.edges ≡ self.old.edges }
@@ -207,7 +207,7 @@ impl Branch {
     }
 }
 
-// Takes the constraint of an edge, after so many others, out of the index, where the index has it.
+// Takes the constraint of an edge that comes after so many others out of the index, if the index has it.
 fn take_out(index: &mut BarIndex, undos: &mut Vec<Undo>, edges: usize, edge: &Edge)
     ensures { (before : List Edge) → length before ≡ edges
         → IndexesFirst (before ++ edge.now ∷ []) undos.old.items index.old
