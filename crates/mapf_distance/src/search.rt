@@ -240,36 +240,3 @@ fn estimate(grid: &Grid, from: Cell, to: Cell) -> u64
     let rows = (from.0 / width).abs_diff(to.0 / width);
     columns as u64 + rows as u64
 }
-
-#[cfg(test)]
-mod tests {
-    use super::*;
-    use std::test::Fail;
-
-    // A grid whose free cells are the dots of its rows.
-    fn grid(alloc: Global, width: u32, height: u32, rows: &[u8]) -> Result<Grid, Fail> {
-        let mut free = Vec::new(alloc);
-        for byte in rows {
-            free.push(*byte == b'.')?;
-        }
-        Ok(Grid::of(width, height, free).ok_or("other size")?)
-    }
-
-    // From each cell to each other, the distance of the table.
-    #[test]
-    fn agrees_with_the_table(rt: HostRuntime) -> Result<(), Fail> {
-        let maze = grid(rt.alloc(), 6, 5, b".....@@@@.@....@..@@@.@...@...")?;
-        for goal in 0..30 {
-            if maze.is_free(Cell(goal)) {
-                let distances = Distances::of(rt.alloc(), &maze, Cell(goal))?;
-                for start in 0..30 {
-                    if maze.is_free(Cell(start)) {
-                        let found = distance_between(rt.alloc(), &maze, Cell(start), Cell(goal))?;
-                        assert_eq!(rt; found, distances.get(Cell(start)));
-                    }
-                }
-            }
-        }
-        Ok(())
-    }
-}

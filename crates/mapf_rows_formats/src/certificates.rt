@@ -2,8 +2,9 @@ use mapf_certificate::{
     CertFault, PlanAnswer, PlanTextFault, Version, convert_cert, read_cert, read_plan, write_cert,
     write_plan,
 };
-use mapf_model::{Cause, Claim, Grid};
+use mapf_model::{Cause, Claim, Grid, OutOfMemory};
 use std::alloc::Global;
+use std::process::Abort;
 use std::test::Fail;
 
 pub const CROSSING: &str =
@@ -105,90 +106,133 @@ fn plan_fault(
     Ok(read_plan(alloc, text.as_bytes(), &grid(alloc, 3, 3)?).err())
 }
 
-#[test]
-fn certificates_are_read_and_written(rt: HostRuntime) -> Result<(), Fail> {
-    let alloc = rt.alloc();
-    for (text, version, height, items) in [
-        (CROSSING, Version::One, 3, 3),
-        (PASSING, Version::One, 2, 11),
-        (CROSSING_TWO, Version::Two, 3, 3),
-        (PASSING_TWO, Version::Two, 2, 11),
-        (STOPPED, Version::Two, 1, 7),
-    ] {
-        let grid = grid(alloc, 3, height)?;
-        let Ok(cert) = read_cert(alloc, text.as_bytes(), &grid) else {
-            return Err(Fail::from("no certificate"));
-        };
-        assert_eq!(rt; cert.version, version);
-        assert_eq!(rt; cert.tree.len(), items);
-        let bytes = write_cert(alloc, &cert, &grid)?;
-        assert_eq!(rt; bytes.as_slice(), text.as_bytes());
+/// The version and the number of items of a certificate, and the text that is written of it.
+fn written_again(
+    alloc: Global,
+    text: &str,
+    grid: &Grid,
+) -> Result<(Version, usize, Vec<u8>), Fail> {
+    let Ok(cert) = read_cert(alloc, text.as_bytes(), grid) else {
+        return Err(Fail::from("no certificate"));
+    };
+    let bytes = write_cert(alloc, &cert, grid)?;
+    Ok((cert.version, cert.tree.len(), bytes))
+}
+
+/// Certificates, and the version of each, the height of its grid, and how many items it has.
+const CERTIFICATES: [(&str, Version, u32, usize); 5] = [
+    (CROSSING, Version::One, 3, 3),
+    (PASSING, Version::One, 2, 11),
+    (CROSSING_TWO, Version::Two, 3, 3),
+    (PASSING_TWO, Version::Two, 2, 11),
+    (STOPPED, Version::Two, 1, 7),
+];
+
+fn assert_certificates(
+    rt: &impl Abort,
+    alloc: Global,
+    cases: &[(&str, Version, u32, usize)],
+) -> Result<(), Fail> {
+    for (text, version, height, items) in cases {
+        let written = written_again(alloc, text, &grid(alloc, 3, *height)?)?;
+        assert_eq!(rt; (written.0, written.1), (*version, *items));
+        assert_eq!(rt; written.2.as_slice(), text.as_bytes());
     }
     Ok(())
+}
+
+#[test]
+fn certificates_are_read_and_written(rt: HostRuntime) -> Result<(), Fail> {
+    assert_certificates(&rt, rt.alloc(), &CERTIFICATES)
+}
+
+fn claim_of(alloc: Global, text: &str, grid: &Grid) -> Result<Claim, Fail> {
+    match read_cert(alloc, text.as_bytes(), grid) {
+        Ok(cert) => Ok(cert.claim),
+        Err(_) => Err(Fail::from("no certificate")),
+    }
+}
+
+/// The version, the cause and the bound of a plan text.
+fn bound_of(alloc: Global, text: &str, grid: &Grid) -> Result<(Version, Cause, u64), Fail> {
+    let plan = read_plan(alloc, text.as_bytes(), grid)
+        .ok()
+        .ok_or("a plan text")?;
+    match plan.answer {
+        PlanAnswer::Bounded { cause, bound } => Ok((plan.version, cause, bound)),
+        _ => Err(Fail::from("another answer")),
+    }
 }
 
 #[test]
 fn bounds_are_read(rt: HostRuntime) -> Result<(), Fail> {
-    let alloc = rt.alloc();
-    let grid = grid(alloc, 2, 1)?;
-    let cert = read_cert(alloc, STOPPED.as_bytes(), &grid)
-        .ok()
-        .ok_or("a certificate")?;
-    assert_eq!(rt; cert.claim, Claim::Bound(4));
-    let plan = read_plan(alloc, STOPPED_PLAN.as_bytes(), &grid)
-        .ok()
-        .ok_or("a plan text")?;
-    assert_eq!(rt; plan.version, Version::Two);
-    let (cause, bound) = match plan.answer {
-        PlanAnswer::Bounded { cause, bound } => (cause, bound),
-        _ => return Err(Fail::from("another answer")),
-    };
-    assert_eq!(rt; (cause, bound), (Cause::Splits(3), 4));
+    let grid = grid(rt.alloc(), 2, 1)?;
+    assert_eq!(rt; claim_of(rt.alloc(), STOPPED, &grid)?, Claim::Bound(4));
+    let bound = bound_of(rt.alloc(), STOPPED_PLAN, &grid)?;
+    assert_eq!(rt; bound, (Version::Two, Cause::Splits(3), 4));
     Ok(())
 }
 
+/// A line of version 1 in version 2, in two parts.
+fn line_of_version_two(line: &str) -> (&str, &str) {
+    if line == "mapf-cert 1" {
+        ("mapf-cert 2", "")
+    } else if line.starts_with("vertex") || line.starts_with("swap") {
+        (line, " 0")
+    } else {
+        (line, "")
+    }
+}
+
 /// The text of version 1 with what version 2 adds to its lines.
-fn as_version_two(alloc: Global, text: &str) -> Result<String, Fail> {
+fn as_version_two(alloc: Global, text: &str) -> Result<String, OutOfMemory> {
     let mut changed = String::new(alloc);
     for line in text.lines() {
-        if line == "mapf-cert 1" {
-            changed.push_str("mapf-cert 2")?;
-        } else {
-            changed.push_str(line)?;
-        }
-        if line.starts_with("vertex") || line.starts_with("swap") {
-            changed.push_str(" 0")?;
-        }
-        changed.push('\n')?;
+        let (line, more) = line_of_version_two(line);
+        changed.push_str(&format!(in alloc; "{line}{more}\n")?)?;
     }
     Ok(changed)
 }
 
-#[test]
-fn certificates_are_converted(rt: HostRuntime) -> Result<(), Fail> {
-    let alloc = rt.alloc();
-    for (text, height) in [(CROSSING, 3), (PASSING, 2)] {
-        let grid = grid(alloc, 3, height)?;
-        let bytes = convert_cert(alloc, text.as_bytes(), &grid)
-            .ok()
-            .ok_or("a certificate")?;
-        let expected = as_version_two(alloc, text)?;
-        assert_eq!(rt; bytes.as_slice(), expected.as_bytes());
-        assert!(rt; read_cert(alloc, &bytes, &grid).is_ok());
-        // Nothing of version 2 is converted, be it whole or not.
-        for n in 12..bytes.len() {
-            let fault = convert_cert(alloc, &bytes[..n], &grid).err();
-            assert_eq!(rt; fault, Some(CertFault::K1(1)));
-        }
-        let fault = convert_cert(alloc, &bytes, &grid).err();
+fn converted(alloc: Global, text: &str, grid: &Grid) -> Result<Vec<u8>, Fail> {
+    let converted = convert_cert(alloc, text.as_bytes(), grid).ok();
+    Ok(converted.ok_or("a certificate")?)
+}
+
+fn conversion_fault(alloc: Global, bytes: &[u8], grid: &Grid) -> Option<CertFault> {
+    convert_cert(alloc, bytes, grid).err()
+}
+
+fn is_certificate(alloc: Global, bytes: &[u8], grid: &Grid) -> bool {
+    read_cert(alloc, bytes, grid).is_ok()
+}
+
+/// Nothing of version 2 is converted, be it whole or not.
+fn assert_not_converted(rt: &impl Abort, alloc: Global, bytes: &[u8], grid: &Grid) {
+    for n in 12..=bytes.len() {
+        let fault = conversion_fault(alloc, &bytes[..n], grid);
         assert_eq!(rt; fault, Some(CertFault::K1(1)));
     }
-    let grid = grid(alloc, 3, 3)?;
-    let bytes = convert_cert(alloc, CROSSING.as_bytes(), &grid)
-        .ok()
-        .ok_or("a certificate")?;
+}
+
+fn assert_converted(rt: &impl Abort, alloc: Global, text: &str, height: u32) -> Result<(), Fail> {
+    let grid = grid(alloc, 3, height)?;
+    let bytes = converted(alloc, text, &grid)?;
+    let expected = as_version_two(alloc, text)?;
+    assert_eq!(rt; bytes.as_slice(), expected.as_bytes());
+    assert!(rt; is_certificate(alloc, &bytes, &grid));
+    assert_not_converted(rt, alloc, &bytes, &grid);
+    Ok(())
+}
+
+#[test]
+fn certificates_are_converted(rt: HostRuntime) -> Result<(), Fail> {
+    assert_converted(&rt, rt.alloc(), CROSSING, 3)?;
+    assert_converted(&rt, rt.alloc(), PASSING, 2)?;
+    let grid = grid(rt.alloc(), 3, 3)?;
+    let bytes = converted(rt.alloc(), CROSSING, &grid)?;
     assert_eq!(rt; bytes.as_slice(), CROSSING_TWO.as_bytes());
-    let fault = convert_cert(alloc, CROSSING[..50].as_bytes(), &grid).err();
+    let fault = conversion_fault(rt.alloc(), CROSSING[..50].as_bytes(), &grid);
     assert_eq!(rt; fault, Some(CertFault::K2(4)));
     Ok(())
 }
@@ -371,48 +415,58 @@ const CERT_FAULTS_TWO: [(usize, usize, &str, Option<CertFault>); 32] = [
     (11, 11, "end\n\n", Some(CertFault::K4(12))),
 ];
 
+fn assert_cert_faults(
+    rt: &impl Abort,
+    alloc: Global,
+    text: &str,
+    cases: &[(usize, usize, &str, Option<CertFault>)],
+) -> Result<(), Fail> {
+    for (first, last, lines, fault) in cases {
+        let given = cert_fault(alloc, text, *first, *last, lines)?;
+        assert_eq!(rt; given, *fault, "{lines}");
+    }
+    Ok(())
+}
+
 #[test]
 fn certificates_are_refused(rt: HostRuntime) -> Result<(), Fail> {
-    for (first, last, lines, fault) in CERT_FAULTS {
-        assert_eq!(rt;
-            cert_fault(rt.alloc(), CROSSING, first, last, lines)?,
-            fault,
-            "{lines}"
-        );
-    }
-    for (first, last, lines, fault) in CERT_FAULTS_TWO {
-        assert_eq!(rt;
-            cert_fault(rt.alloc(), CROSSING_TWO, first, last, lines)?,
-            fault,
-            "{lines}"
-        );
+    assert_cert_faults(&rt, rt.alloc(), CROSSING, &CERT_FAULTS)?;
+    assert_cert_faults(&rt, rt.alloc(), CROSSING_TWO, &CERT_FAULTS_TWO)
+}
+
+const PLANS: [&str; 10] = [
+    CROSSING_PLAN,
+    CROSSING_PLAN_TWO,
+    STOPPED_PLAN,
+    "mapf-plan 1\nagents 1\ncost 0\npath 0 0 0,0\nend\n",
+    "mapf-plan 1\nagents 200\nimpossible\nend\n",
+    "mapf-plan 1\nagents 2\nlimit 100000\nend\n",
+    "mapf-plan 1\nagents 2\nlimit ticks\nend\n",
+    "mapf-plan 2\nagents 200\nimpossible\nend\n",
+    "mapf-plan 2\nagents 2\nlimit 100000 bound 1999999800\nend\n",
+    "mapf-plan 2\nagents 2\nlimit ticks bound 0\nend\n",
+];
+
+/// The text that is written of the plan text which is read.
+fn plan_written_again(alloc: Global, text: &str, grid: &Grid) -> Result<Vec<u8>, Fail> {
+    let plan = read_plan(alloc, text.as_bytes(), grid)
+        .ok()
+        .ok_or("a plan text")?;
+    Ok(write_plan(alloc, &plan, grid)?)
+}
+
+fn assert_plans(rt: &impl Abort, alloc: Global, texts: &[&str]) -> Result<(), Fail> {
+    let grid = grid(alloc, 3, 3)?;
+    for text in texts {
+        let bytes = plan_written_again(alloc, text, &grid)?;
+        assert_eq!(rt; bytes.as_slice(), text.as_bytes());
     }
     Ok(())
 }
 
 #[test]
 fn plans_are_read_and_written(rt: HostRuntime) -> Result<(), Fail> {
-    let alloc = rt.alloc();
-    let grid = grid(alloc, 3, 3)?;
-    for text in [
-        CROSSING_PLAN,
-        CROSSING_PLAN_TWO,
-        STOPPED_PLAN,
-        "mapf-plan 1\nagents 1\ncost 0\npath 0 0 0,0\nend\n",
-        "mapf-plan 1\nagents 200\nimpossible\nend\n",
-        "mapf-plan 1\nagents 2\nlimit 100000\nend\n",
-        "mapf-plan 1\nagents 2\nlimit ticks\nend\n",
-        "mapf-plan 2\nagents 200\nimpossible\nend\n",
-        "mapf-plan 2\nagents 2\nlimit 100000 bound 1999999800\nend\n",
-        "mapf-plan 2\nagents 2\nlimit ticks bound 0\nend\n",
-    ] {
-        let plan = read_plan(alloc, text.as_bytes(), &grid)
-            .ok()
-            .ok_or("a plan text")?;
-        let bytes = write_plan(alloc, &plan, &grid)?;
-        assert_eq!(rt; bytes.as_slice(), text.as_bytes());
-    }
-    Ok(())
+    assert_plans(&rt, rt.alloc(), &PLANS)
 }
 
 /// The same of the crossing's plan text.
@@ -532,43 +586,56 @@ const LIMIT_FAULTS: [(usize, usize, &str, Option<PlanTextFault>); 22] = [
     (4, 4, "end\n\n", Some(PlanTextFault::P4(5))),
 ];
 
-#[test]
-fn plans_are_refused(rt: HostRuntime) -> Result<(), Fail> {
-    for (first, last, lines, fault) in PLAN_FAULTS {
-        assert_eq!(rt;
-            plan_fault(rt.alloc(), CROSSING_PLAN, first, last, lines)?,
-            fault,
-            "{lines}"
-        );
-    }
-    for (first, last, lines, fault) in LIMIT_FAULTS {
-        assert_eq!(rt;
-            plan_fault(rt.alloc(), STOPPED_PLAN, first, last, lines)?,
-            fault,
-            "{lines}"
-        );
+fn assert_plan_faults(
+    rt: &impl Abort,
+    alloc: Global,
+    text: &str,
+    cases: &[(usize, usize, &str, Option<PlanTextFault>)],
+) -> Result<(), Fail> {
+    for (first, last, lines, fault) in cases {
+        let given = plan_fault(alloc, text, *first, *last, lines)?;
+        assert_eq!(rt; given, *fault, "{lines}");
     }
     Ok(())
+}
+
+#[test]
+fn plans_are_refused(rt: HostRuntime) -> Result<(), Fail> {
+    assert_plan_faults(&rt, rt.alloc(), CROSSING_PLAN, &PLAN_FAULTS)?;
+    assert_plan_faults(&rt, rt.alloc(), STOPPED_PLAN, &LIMIT_FAULTS)
+}
+
+/// The number of the line in which bytes end.
+fn line_after(bytes: &[u8]) -> u64 {
+    let mut line = 1u64;
+    for byte in bytes {
+        line = line.saturating_add((*byte == b'\n') as u64);
+    }
+    line
+}
+
+fn assert_cert_ends(rt: &impl Abort, alloc: Global, grid: &Grid, text: &[u8]) {
+    for n in 0..text.len() {
+        let fault = read_cert(alloc, &text[..n], grid).err();
+        assert_eq!(rt; fault, Some(CertFault::K2(line_after(&text[..n]))));
+    }
+}
+
+fn assert_plan_ends(rt: &impl Abort, alloc: Global, grid: &Grid, text: &[u8]) {
+    for n in 0..text.len() {
+        let fault = read_plan(alloc, &text[..n], grid).err();
+        assert_eq!(rt; fault, Some(PlanTextFault::P2(line_after(&text[..n]))));
+    }
 }
 
 #[test]
 fn each_front_ended_early(rt: HostRuntime) -> Result<(), Fail> {
     let grid = grid(rt.alloc(), 3, 3)?;
     for text in [CROSSING, CROSSING_TWO, PASSING_TWO, STOPPED] {
-        let mut line = 1u64;
-        for (n, byte) in text.as_bytes().iter().enumerate() {
-            let fault = read_cert(rt.alloc(), &text.as_bytes()[..n], &grid).err();
-            assert_eq!(rt; fault, Some(CertFault::K2(line)));
-            line = line.saturating_add((*byte == b'\n') as u64);
-        }
+        assert_cert_ends(&rt, rt.alloc(), &grid, text.as_bytes());
     }
     for text in [CROSSING_PLAN, STOPPED_PLAN] {
-        let mut line = 1u64;
-        for (n, byte) in text.as_bytes().iter().enumerate() {
-            let fault = read_plan(rt.alloc(), &text.as_bytes()[..n], &grid).err();
-            assert_eq!(rt; fault, Some(PlanTextFault::P2(line)));
-            line = line.saturating_add((*byte == b'\n') as u64);
-        }
+        assert_plan_ends(&rt, rt.alloc(), &grid, text.as_bytes());
     }
     Ok(())
 }

@@ -3,6 +3,7 @@ ghost use Rattle.std.specs.Prelude.{◌≤◌};
 use mapf_model::{Agent, Cell, Grid, Problem};
 use mapf_text::{MapFault, ScenFault, read_map, read_scen};
 use std::alloc::Global;
+use std::process::Abort;
 use std::test::Fail;
 
 const OPEN_MAP: &[u8] = b"type octile\nheight 3\nwidth 3\nmap\n...\n...\n...\n";
@@ -31,135 +32,141 @@ fn prefix_fault(length: usize) -> Option<MapFault> {
     }
 }
 
+fn assert_prefixes_of_a_map(rt: &impl Abort, alloc: Global, bytes: &[u8]) {
+    for length in 0..=bytes.len() {
+        let fault = map_fault(alloc, &bytes[..length]);
+        assert_eq!(rt; fault, prefix_fault(length), "at {length}");
+    }
+}
+
 #[test]
 fn prefixes_of_a_map(rt: HostRuntime) {
     assert_eq!(rt; OPEN_MAP.len(), 45);
-    for length in 0..=45 {
-        assert_eq!(rt;
-            map_fault(rt.alloc(), &OPEN_MAP[..length]),
-            prefix_fault(length),
-            "at {length}"
-        );
+    assert_prefixes_of_a_map(&rt, rt.alloc(), OPEN_MAP);
+}
+
+/// Texts of maps, and the error of each.
+const MAPS: [(&[u8], Option<MapFault>); 29] = [
+    (b"type octile\r\nheight 1\r\nwidth 3\r\nmap\r\n...", None),
+    (
+        b"\ttype  octile \r\nheight\t01\nwidth 0003 \n map\t\r\n...\r",
+        None,
+    ),
+    (
+        b"type octile\nheight 2\nwidth 3\nmap\n...\n..\n",
+        Some(MapFault::M6 { row: 1 }),
+    ),
+    (
+        b"type octile\nheight 2\nwidth 3\nmap\n..x\n...\n",
+        Some(MapFault::M7 { x: 2, y: 0 }),
+    ),
+    (
+        b"type octile\nheight 2\nwidth 3\nmap\n...\n",
+        Some(MapFault::M8 { rows: 1 }),
+    ),
+    (
+        b"type octile\nheight 2\nwidth 3\nmap\n...\n...\n.\n",
+        Some(MapFault::M9 { line: 7 }),
+    ),
+    (
+        b"type octile\nheight 2\nwidth 3\nmap\n...\n...\n \t\n\r\n\nx",
+        Some(MapFault::M9 { line: 10 }),
+    ),
+    (
+        b"type octile\nheight 2\nwidth 3\nmap\n...\n...\n \t\n\r\n\n",
+        None,
+    ),
+    (
+        b"type octile\nheight 2\nwidth 2049\nmap\n",
+        Some(MapFault::M4 { line: 3 }),
+    ),
+    (
+        b"type octile\nheight 2049\nwidth x\n",
+        Some(MapFault::M4 { line: 2 }),
+    ),
+    (b"type octile\nheight 0\n", Some(MapFault::M4 { line: 2 })),
+    (
+        b"type octile\nheight 4294967297\n",
+        Some(MapFault::M4 { line: 2 }),
+    ),
+    (
+        b"type octile\nheight 999999999999999999999999999999999999999999999999999999999999\n",
+        Some(MapFault::M4 { line: 2 }),
+    ),
+    (b"type octile\nheight +1\n", Some(MapFault::M2)),
+    (b"type octile\nheight 1 1\n", Some(MapFault::M2)),
+    (
+        b"type octile\nwidth 1\nheight 1\nmap\n.\n",
+        Some(MapFault::M2),
+    ),
+    (
+        b"type octile\nheight 1\nwidth -1\nmap\n.\n",
+        Some(MapFault::M3),
+    ),
+    (
+        b"type octile\nheight 1\nwidth 1\nmap map\n.\n",
+        Some(MapFault::M5),
+    ),
+    (b"type tile\n", Some(MapFault::M1)),
+    (b"\ntype octile\n", Some(MapFault::M1)),
+    (b"octile type\n", Some(MapFault::M1)),
+    // A last part of one CR alone is a line.
+    (b"type octile\nheight 1\nwidth 1\nmap\n.\n\r", None),
+    (
+        b"type octile\nheight 1\nwidth 1\nmap\n\r",
+        Some(MapFault::M6 { row: 0 }),
+    ),
+    // Only one CR belongs to a line end, and blanks in a row belong to the row.
+    (
+        b"type octile\nheight 1\nwidth 1\nmap\n.\r\r\n",
+        Some(MapFault::M6 { row: 0 }),
+    ),
+    (
+        b"type octile\nheight 1\nwidth 1\nmap\n .\n",
+        Some(MapFault::M6 { row: 0 }),
+    ),
+    (
+        b"type octile\nheight 1\nwidth 2\nmap\n .\n",
+        Some(MapFault::M7 { x: 0, y: 0 }),
+    ),
+    // A row's length comes before its bytes, and both before what follows the row.
+    (
+        b"type octile\nheight 2\nwidth 2\nmap\n.x.\n",
+        Some(MapFault::M6 { row: 0 }),
+    ),
+    (
+        b"type octile\nheight 2\nwidth 2\nmap\nxy\n",
+        Some(MapFault::M7 { x: 0, y: 0 }),
+    ),
+    (
+        b"type octile\nheight 1\nwidth 2\nmap\n.y\nx\n",
+        Some(MapFault::M7 { x: 1, y: 0 }),
+    ),
+];
+
+fn assert_maps(rt: &impl Abort, alloc: Global, cases: &[(&[u8], Option<MapFault>)]) {
+    for (bytes, fault) in cases {
+        assert_eq!(rt; map_fault(alloc, bytes), *fault);
     }
 }
 
 #[test]
 fn maps(rt: HostRuntime) {
-    let table: [(&[u8], Option<MapFault>); 29] = [
-        (b"type octile\r\nheight 1\r\nwidth 3\r\nmap\r\n...", None),
-        (
-            b"\ttype  octile \r\nheight\t01\nwidth 0003 \n map\t\r\n...\r",
-            None,
-        ),
-        (
-            b"type octile\nheight 2\nwidth 3\nmap\n...\n..\n",
-            Some(MapFault::M6 { row: 1 }),
-        ),
-        (
-            b"type octile\nheight 2\nwidth 3\nmap\n..x\n...\n",
-            Some(MapFault::M7 { x: 2, y: 0 }),
-        ),
-        (
-            b"type octile\nheight 2\nwidth 3\nmap\n...\n",
-            Some(MapFault::M8 { rows: 1 }),
-        ),
-        (
-            b"type octile\nheight 2\nwidth 3\nmap\n...\n...\n.\n",
-            Some(MapFault::M9 { line: 7 }),
-        ),
-        (
-            b"type octile\nheight 2\nwidth 3\nmap\n...\n...\n \t\n\r\n\nx",
-            Some(MapFault::M9 { line: 10 }),
-        ),
-        (
-            b"type octile\nheight 2\nwidth 3\nmap\n...\n...\n \t\n\r\n\n",
-            None,
-        ),
-        (
-            b"type octile\nheight 2\nwidth 2049\nmap\n",
-            Some(MapFault::M4 { line: 3 }),
-        ),
-        (
-            b"type octile\nheight 2049\nwidth x\n",
-            Some(MapFault::M4 { line: 2 }),
-        ),
-        (b"type octile\nheight 0\n", Some(MapFault::M4 { line: 2 })),
-        (
-            b"type octile\nheight 4294967297\n",
-            Some(MapFault::M4 { line: 2 }),
-        ),
-        (
-            b"type octile\nheight 999999999999999999999999999999999999999999999999999999999999\n",
-            Some(MapFault::M4 { line: 2 }),
-        ),
-        (b"type octile\nheight +1\n", Some(MapFault::M2)),
-        (b"type octile\nheight 1 1\n", Some(MapFault::M2)),
-        (
-            b"type octile\nwidth 1\nheight 1\nmap\n.\n",
-            Some(MapFault::M2),
-        ),
-        (
-            b"type octile\nheight 1\nwidth -1\nmap\n.\n",
-            Some(MapFault::M3),
-        ),
-        (
-            b"type octile\nheight 1\nwidth 1\nmap map\n.\n",
-            Some(MapFault::M5),
-        ),
-        (b"type tile\n", Some(MapFault::M1)),
-        (b"\ntype octile\n", Some(MapFault::M1)),
-        (b"octile type\n", Some(MapFault::M1)),
-        // A last part of one CR alone is a line.
-        (b"type octile\nheight 1\nwidth 1\nmap\n.\n\r", None),
-        (
-            b"type octile\nheight 1\nwidth 1\nmap\n\r",
-            Some(MapFault::M6 { row: 0 }),
-        ),
-        // Only one CR belongs to a line end, and blanks in a row belong to the row.
-        (
-            b"type octile\nheight 1\nwidth 1\nmap\n.\r\r\n",
-            Some(MapFault::M6 { row: 0 }),
-        ),
-        (
-            b"type octile\nheight 1\nwidth 1\nmap\n .\n",
-            Some(MapFault::M6 { row: 0 }),
-        ),
-        (
-            b"type octile\nheight 1\nwidth 2\nmap\n .\n",
-            Some(MapFault::M7 { x: 0, y: 0 }),
-        ),
-        // A row's length comes before its bytes, and both before what follows the row.
-        (
-            b"type octile\nheight 2\nwidth 2\nmap\n.x.\n",
-            Some(MapFault::M6 { row: 0 }),
-        ),
-        (
-            b"type octile\nheight 2\nwidth 2\nmap\nxy\n",
-            Some(MapFault::M7 { x: 0, y: 0 }),
-        ),
-        (
-            b"type octile\nheight 1\nwidth 2\nmap\n.y\nx\n",
-            Some(MapFault::M7 { x: 1, y: 0 }),
-        ),
-    ];
-    for (bytes, want) in table {
-        assert_eq!(rt; map_fault(rt.alloc(), bytes), want);
-    }
+    assert_maps(&rt, rt.alloc(), &MAPS);
+}
+
+// The width and the height of the grid of a map, and which of its first eight cells are free.
+fn grid_of_map(alloc: Global, bytes: &[u8]) -> Result<(u32, u32, [bool; 8]), Fail> {
+    let grid = read_map(alloc, bytes).ok().ok_or("a fault")?;
+    let free = [0, 1, 2, 3, 4, 5, 6, 7].map(|cell| grid.is_free(Cell(cell)));
+    Ok((grid.width(), grid.height(), free))
 }
 
 #[test]
 fn cells_of_a_map(rt: HostRuntime) -> Result<(), Fail> {
-    let grid = read_map(
-        rt.alloc(),
-        b"type octile\nheight 2\nwidth 4\nmap\n.WSG\n@OT.\n",
-    )
-    .map_err(|_| "a fault")?;
-    assert_eq!(rt; grid.width(), 4);
-    assert_eq!(rt; grid.height(), 2);
+    let bytes = b"type octile\nheight 2\nwidth 4\nmap\n.WSG\n@OT.\n";
     let free = [true, false, true, true, false, false, false, true];
-    for cell in 0..8 {
-        assert_eq!(rt; grid.is_free(Cell(cell)), free[cell as usize], "at {cell}");
-    }
+    assert_eq!(rt; grid_of_map(rt.alloc(), bytes)?, (4, 2, free));
     Ok(())
 }
 
@@ -191,184 +198,187 @@ fn scenario_prefix_fault(length: usize) -> Option<ScenFault> {
     }
 }
 
-#[test]
-fn prefixes_of_a_scenario(rt: HostRuntime) {
-    assert_eq!(rt; TWO_AGENTS.len(), 62);
-    for length in 0..=62 {
-        assert_eq!(rt;
-            scenario_fault(rt.alloc(), OPEN_MAP, &TWO_AGENTS[..length], 2),
-            scenario_prefix_fault(length),
-            "at {length}"
-        );
+fn assert_prefixes_of_a_scenario(rt: &impl Abort, alloc: Global, bytes: &[u8]) {
+    for length in 0..=bytes.len() {
+        let fault = scenario_fault(alloc, OPEN_MAP, &bytes[..length], 2);
+        assert_eq!(rt; fault, scenario_prefix_fault(length), "at {length}");
     }
 }
 
 #[test]
+fn prefixes_of_a_scenario(rt: HostRuntime) {
+    assert_eq!(rt; TWO_AGENTS.len(), 62);
+    assert_prefixes_of_a_scenario(&rt, rt.alloc(), TWO_AGENTS);
+}
+
+// The problem of a scenario on a map.
+fn problem_of(alloc: Global, map: &[u8], bytes: &[u8], k: u32) -> Result<Problem, Fail>
+    requires { (1 ≤ k) × (k ≤ 200) }
+{
+    let grid = read_map(alloc, map).ok().ok_or("a fault of the map")?;
+    Ok(read_scen(alloc, bytes, grid, k).ok().ok_or("a fault")?)
+}
+
+#[test]
 fn agents_of_a_scenario(rt: HostRuntime) -> Result<(), Fail> {
-    let grid = read_map(rt.alloc(), OPEN_MAP).map_err(|_| "a fault of the map")?;
-    let problem = read_scen(rt.alloc(), TWO_AGENTS, grid, 2).map_err(|_| "a fault")?;
-    let agents = problem.agents();
-    assert_eq!(rt; agents.len(), 2);
-    assert_eq!(rt;
-        agents[0],
-        Agent {
-            start: Cell(3),
-            goal: Cell(5)
-        }
-    );
-    assert_eq!(rt;
-        agents[1],
-        Agent {
-            start: Cell(1),
-            goal: Cell(7)
-        }
-    );
+    let problem = problem_of(rt.alloc(), OPEN_MAP, TWO_AGENTS, 2)?;
+    let expected = [(3, 5), (1, 7)].map(|(start, goal)| Agent {
+        start: Cell(start),
+        goal: Cell(goal),
+    });
+    assert_eq!(rt; problem.agents(), expected.as_slice());
     assert_eq!(rt; problem.grid().width(), 3);
     Ok(())
 }
 
 const BLOCKED_MAP: &[u8] = b"type octile\nheight 2\nwidth 3\nmap\n..T\n...\n";
 
+/// Texts of scenarios, the number of agents that are read, and the error of each.
+const SCENARIOS: [(&[u8], u32, Option<ScenFault>); 33] = [
+    (
+        b"version 1\n0 m 3 2 0 0 0 1 1\n0 m 3 2 0 0 0 1 1\n",
+        3,
+        Some(ScenFault::S7 { rows: 2 }),
+    ),
+    (
+        b"version 1\n0 m 3 2 0 0 2 0 1\n",
+        1,
+        Some(ScenFault::S5 { row: 0 }),
+    ),
+    (
+        b"version 1\n0 m 3 2 0 0 0 1 1.4.1\n",
+        1,
+        Some(ScenFault::S6 { row: 0 }),
+    ),
+    (b"version 1\n0 m 3 2 0 0 0 1 1e+02\n", 1, None),
+    (
+        b"version 1\n0 m 3 2 0 0 2 0 1.4.1\n",
+        1,
+        Some(ScenFault::S5 { row: 0 }),
+    ),
+    (b"version 1.0\r\n0\tm 3  2 0 0 0 1 1.50\r", 1, None),
+    (
+        b"\n \t\r\n version  1 \n\n007 m 03 2 00 0 0 1 -1.5E-7\n\n\r\n0 m 3 2 0 0 0 1 +0",
+        2,
+        None,
+    ),
+    // Nothing after the rows is looked at.
+    (b"version 1\n0 m 3 2 0 0 0 1 1\nx\n", 1, None),
+    (b"", 1, Some(ScenFault::S1)),
+    (b"\n\n", 1, Some(ScenFault::S1)),
+    (b"version 1.00\n", 1, Some(ScenFault::S1)),
+    (b"version 01\n", 1, Some(ScenFault::S1)),
+    (b"version 1 x\n", 1, Some(ScenFault::S1)),
+    (b"0 m 3 2 0 0 0 1 1\n", 1, Some(ScenFault::S1)),
+    (
+        b"version 1\n0 m 3 2 0 0 0 1\n",
+        1,
+        Some(ScenFault::S2 { row: 0 }),
+    ),
+    (
+        b"version 1\n0 m 3 2 0 0 0 1 1\n0 m 3 2 0 0 0 1 1 1\n",
+        2,
+        Some(ScenFault::S2 { row: 1 }),
+    ),
+    // A row's words are counted before they are read, and its fields come in their order.
+    (
+        b"version 1\nx m x 9 9 9 9 x\n",
+        1,
+        Some(ScenFault::S2 { row: 0 }),
+    ),
+    (
+        b"version 1\nx m x 2 0 0 0 1 x\n",
+        1,
+        Some(ScenFault::S3 { row: 0, field: 1 }),
+    ),
+    (
+        b"version 1\n0 m 9 2 0 0 0 x 1\n",
+        1,
+        Some(ScenFault::S3 { row: 0, field: 8 }),
+    ),
+    // The rows come one after the other.
+    (
+        b"version 1\n0 m 3 2 0 0 0 1 x\n0 m\n",
+        2,
+        Some(ScenFault::S6 { row: 0 }),
+    ),
+    (
+        b"version 1\n0 m +3 2 0 0 0 1 1\n",
+        1,
+        Some(ScenFault::S3 { row: 0, field: 3 }),
+    ),
+    (
+        b"version 1\n0 m 9 -2 0 0 0 1 1\n",
+        1,
+        Some(ScenFault::S3 { row: 0, field: 4 }),
+    ),
+    (
+        b"version 1\n0 m 3 2 4294967296 0 0 1 1\n",
+        1,
+        Some(ScenFault::S3 { row: 0, field: 5 }),
+    ),
+    (
+        b"version 1\n0 m 3 2 4294967295 0 0 1 1\n",
+        1,
+        Some(ScenFault::S5 { row: 0 }),
+    ),
+    (
+        b"version 1\n0 m 3 2 0 y 0 1 1\n",
+        1,
+        Some(ScenFault::S3 { row: 0, field: 6 }),
+    ),
+    (
+        b"version 1\n0 m 3 2 0 0 1. 1 1\n",
+        1,
+        Some(ScenFault::S3 { row: 0, field: 7 }),
+    ),
+    (
+        b"version 1\n0 m 3 2 0 0 0 99999999999999999999 1\n",
+        1,
+        Some(ScenFault::S3 { row: 0, field: 8 }),
+    ),
+    (
+        b"version 1\n0 m 2 3 5 5 5 5 x\n",
+        1,
+        Some(ScenFault::S4 { row: 0 }),
+    ),
+    (
+        b"version 1\n0 m 3 3 0 0 0 1 1\n",
+        1,
+        Some(ScenFault::S4 { row: 0 }),
+    ),
+    (
+        b"version 1\n0 m 3 2 2 0 0 0 1\n",
+        1,
+        Some(ScenFault::S5 { row: 0 }),
+    ),
+    (
+        b"version 1\n0 m 3 2 0 0 0 2 1\n",
+        1,
+        Some(ScenFault::S5 { row: 0 }),
+    ),
+    (
+        b"version 1\n0 m 3 2 0 0 3 0 1\n",
+        1,
+        Some(ScenFault::S5 { row: 0 }),
+    ),
+    (
+        b"version 1\n0 m 3 2 0 0 0 1 1\n0 m 3 2 0 0 1 1 1\n0 m 3 2 2 0 1 1 1",
+        3,
+        Some(ScenFault::S5 { row: 2 }),
+    ),
+];
+
+fn assert_scenarios(rt: &impl Abort, alloc: Global, cases: &[(&[u8], u32, Option<ScenFault>)]) {
+    for (bytes, k, fault) in cases {
+        assert!(rt; 1 <= *k && *k <= 200);
+        assert_eq!(rt; scenario_fault(alloc, BLOCKED_MAP, bytes, *k), *fault);
+    }
+}
+
 #[test]
 fn scenarios(rt: HostRuntime) {
-    let table: [(&[u8], u32, Option<ScenFault>); 33] = [
-        (
-            b"version 1\n0 m 3 2 0 0 0 1 1\n0 m 3 2 0 0 0 1 1\n",
-            3,
-            Some(ScenFault::S7 { rows: 2 }),
-        ),
-        (
-            b"version 1\n0 m 3 2 0 0 2 0 1\n",
-            1,
-            Some(ScenFault::S5 { row: 0 }),
-        ),
-        (
-            b"version 1\n0 m 3 2 0 0 0 1 1.4.1\n",
-            1,
-            Some(ScenFault::S6 { row: 0 }),
-        ),
-        (b"version 1\n0 m 3 2 0 0 0 1 1e+02\n", 1, None),
-        (
-            b"version 1\n0 m 3 2 0 0 2 0 1.4.1\n",
-            1,
-            Some(ScenFault::S5 { row: 0 }),
-        ),
-        (b"version 1.0\r\n0\tm 3  2 0 0 0 1 1.50\r", 1, None),
-        (
-            b"\n \t\r\n version  1 \n\n007 m 03 2 00 0 0 1 -1.5E-7\n\n\r\n0 m 3 2 0 0 0 1 +0",
-            2,
-            None,
-        ),
-        // Nothing after the rows is looked at.
-        (b"version 1\n0 m 3 2 0 0 0 1 1\nx\n", 1, None),
-        (b"", 1, Some(ScenFault::S1)),
-        (b"\n\n", 1, Some(ScenFault::S1)),
-        (b"version 1.00\n", 1, Some(ScenFault::S1)),
-        (b"version 01\n", 1, Some(ScenFault::S1)),
-        (b"version 1 x\n", 1, Some(ScenFault::S1)),
-        (b"0 m 3 2 0 0 0 1 1\n", 1, Some(ScenFault::S1)),
-        (
-            b"version 1\n0 m 3 2 0 0 0 1\n",
-            1,
-            Some(ScenFault::S2 { row: 0 }),
-        ),
-        (
-            b"version 1\n0 m 3 2 0 0 0 1 1\n0 m 3 2 0 0 0 1 1 1\n",
-            2,
-            Some(ScenFault::S2 { row: 1 }),
-        ),
-        // A row's words are counted before they are read, and its fields come in their order.
-        (
-            b"version 1\nx m x 9 9 9 9 x\n",
-            1,
-            Some(ScenFault::S2 { row: 0 }),
-        ),
-        (
-            b"version 1\nx m x 2 0 0 0 1 x\n",
-            1,
-            Some(ScenFault::S3 { row: 0, field: 1 }),
-        ),
-        (
-            b"version 1\n0 m 9 2 0 0 0 x 1\n",
-            1,
-            Some(ScenFault::S3 { row: 0, field: 8 }),
-        ),
-        // The rows come one after the other.
-        (
-            b"version 1\n0 m 3 2 0 0 0 1 x\n0 m\n",
-            2,
-            Some(ScenFault::S6 { row: 0 }),
-        ),
-        (
-            b"version 1\n0 m +3 2 0 0 0 1 1\n",
-            1,
-            Some(ScenFault::S3 { row: 0, field: 3 }),
-        ),
-        (
-            b"version 1\n0 m 9 -2 0 0 0 1 1\n",
-            1,
-            Some(ScenFault::S3 { row: 0, field: 4 }),
-        ),
-        (
-            b"version 1\n0 m 3 2 4294967296 0 0 1 1\n",
-            1,
-            Some(ScenFault::S3 { row: 0, field: 5 }),
-        ),
-        (
-            b"version 1\n0 m 3 2 4294967295 0 0 1 1\n",
-            1,
-            Some(ScenFault::S5 { row: 0 }),
-        ),
-        (
-            b"version 1\n0 m 3 2 0 y 0 1 1\n",
-            1,
-            Some(ScenFault::S3 { row: 0, field: 6 }),
-        ),
-        (
-            b"version 1\n0 m 3 2 0 0 1. 1 1\n",
-            1,
-            Some(ScenFault::S3 { row: 0, field: 7 }),
-        ),
-        (
-            b"version 1\n0 m 3 2 0 0 0 99999999999999999999 1\n",
-            1,
-            Some(ScenFault::S3 { row: 0, field: 8 }),
-        ),
-        (
-            b"version 1\n0 m 2 3 5 5 5 5 x\n",
-            1,
-            Some(ScenFault::S4 { row: 0 }),
-        ),
-        (
-            b"version 1\n0 m 3 3 0 0 0 1 1\n",
-            1,
-            Some(ScenFault::S4 { row: 0 }),
-        ),
-        (
-            b"version 1\n0 m 3 2 2 0 0 0 1\n",
-            1,
-            Some(ScenFault::S5 { row: 0 }),
-        ),
-        (
-            b"version 1\n0 m 3 2 0 0 0 2 1\n",
-            1,
-            Some(ScenFault::S5 { row: 0 }),
-        ),
-        (
-            b"version 1\n0 m 3 2 0 0 3 0 1\n",
-            1,
-            Some(ScenFault::S5 { row: 0 }),
-        ),
-        (
-            b"version 1\n0 m 3 2 0 0 0 1 1\n0 m 3 2 0 0 1 1 1\n0 m 3 2 2 0 1 1 1",
-            3,
-            Some(ScenFault::S5 { row: 2 }),
-        ),
-    ];
-    for (bytes, k, want) in table {
-        assert!(rt; 1 <= k && k <= 200);
-        assert_eq!(rt; scenario_fault(rt.alloc(), BLOCKED_MAP, bytes, k), want);
-    }
+    assert_scenarios(&rt, rt.alloc(), &SCENARIOS);
 }
 
 // A scenario of one row, whose last field is this word.
@@ -380,33 +390,41 @@ fn row_of_length(alloc: Global, word: &[u8]) -> Result<Vec<u8>, Fail> {
     Ok(text)
 }
 
+// The error of a scenario of one row, whose last field is this word.
+fn length_fault(alloc: Global, word: &str) -> Result<Option<ScenFault>, Fail> {
+    let text = row_of_length(alloc, word.as_bytes())?;
+    Ok(scenario_fault(alloc, BLOCKED_MAP, &text, 1))
+}
+
+fn assert_lengths(
+    rt: &impl Abort,
+    alloc: Global,
+    words: &[&str],
+    fault: Option<ScenFault>,
+) -> Result<(), Fail> {
+    for word in words {
+        assert_eq!(rt; length_fault(alloc, word)?, fault, "{word}");
+    }
+    Ok(())
+}
+
+/// Words that are lengths.
+const DECIMALS: [&str; 8] = ["0", "+1", "-1", "007", "1.5", "1e5", "1E-5", "1.25e+02"];
+
+/// Words that aren't.
+const OTHER_WORDS: [&str; 15] = [
+    "+", "+-1", ".5", "1.", "1.e5", "1e", "1e+", "e5", "1e5.5", "1.4.1", "1e5e5", "1x", "x1",
+    "1,5", "inf",
+];
+
 #[test]
 fn decimals(rt: HostRuntime) -> Result<(), Fail> {
-    let good: [&[u8]; 8] = [
-        b"0",
-        b"+1",
-        b"-1",
-        b"007",
-        b"1.5",
-        b"1e5",
-        b"1E-5",
-        b"1.25e+02",
-    ];
-    for word in good {
-        let text = row_of_length(rt.alloc(), word)?;
-        assert_eq!(rt; scenario_fault(rt.alloc(), BLOCKED_MAP, &text, 1), None);
-    }
-    let bad: [&[u8]; 15] = [
-        b"+", b"+-1", b".5", b"1.", b"1.e5", b"1e", b"1e+", b"e5", b"1e5.5", b"1.4.1", b"1e5e5",
-        b"1x", b"x1", b"1,5", b"inf",
-    ];
-    for word in bad {
-        let text = row_of_length(rt.alloc(), word)?;
-        let fault = scenario_fault(rt.alloc(), BLOCKED_MAP, &text, 1);
-        assert_eq!(rt; fault, Some(ScenFault::S6 { row: 0 }));
-    }
-    let none = row_of_length(rt.alloc(), b"")?;
-    let fault = scenario_fault(rt.alloc(), BLOCKED_MAP, &none, 1);
-    assert_eq!(rt; fault, Some(ScenFault::S2 { row: 0 }));
-    Ok(())
+    assert_lengths(&rt, rt.alloc(), &DECIMALS, None)?;
+    assert_lengths(
+        &rt,
+        rt.alloc(),
+        &OTHER_WORDS,
+        Some(ScenFault::S6 { row: 0 }),
+    )?;
+    assert_lengths(&rt, rt.alloc(), &[""], Some(ScenFault::S2 { row: 0 }))
 }

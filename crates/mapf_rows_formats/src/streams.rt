@@ -1,10 +1,11 @@
-ghost use Rattle.std.specs.Prelude.{◌≡◌, false};
+ghost use Rattle.std.specs.Prelude.{◌≡◌, ◌≤◌, false, length};
 
 use crate::certificates::{CROSSING, CROSSING_TWO};
 use mapf_certificate::{CertFault, CertLines, LinesFault, Version};
 use mapf_model::devices::{EndlessSource, FuseSource, Pace};
-use mapf_model::{Claim, Failed, OutOfMemory, Source};
+use mapf_model::{Claim, Failed, Item, OutOfMemory, Source};
 use std::alloc::Global;
+use std::process::Abort;
 use std::test::Fail;
 
 /// Gives bytes in two pieces, of which the first has a given length.
@@ -67,11 +68,9 @@ impl<'a> Source for EndlessTree<'a> {
 }
 
 /// How many items came, the line of the last, and the error that ended them.
-fn run<S: Source>(
-    alloc: Global,
-    source: &mut S,
-    limit: u64,
-) -> Result<(u64, u64, Option<LinesFault>), OutOfMemory>
+type Came = (u64, u64, Option<LinesFault>);
+
+fn run<S: Source>(alloc: Global, source: &mut S, limit: u64) -> Result<Came, OutOfMemory>
     requires { S.has_failed source.old ≡ false }
 {
     let mut lines = CertLines::open(alloc, 3, 3, limit)?;
@@ -108,109 +107,237 @@ fn run_header(
     Ok(answer)
 }
 
-/// The items of the crossing's certificate, and the lines in which they begin.
-const ITEMS: [(&str, u64); 3] = [
-    (
-        "Vertex { i: 0, j: 1, cell: Cell(4), tick: 1, blocks: [] }",
-        4,
-    ),
-    (
-        "Leaf([Block { agent: 0, entries: [Entry { cell: Cell(3), tick: 0, label: Ticks(3) }] }])",
-        5,
-    ),
-    (
-        "Leaf([Block { agent: 1, entries: [Entry { cell: Cell(1), tick: 0, label: Ticks(3) }] }])",
-        8,
-    ),
-];
+/// The items of the crossing's certificate behind the lines in which they begin.
+const ITEMS: &str = "4: Vertex { i: 0, j: 1, cell: Cell(4), tick: 1, blocks: [] }
+5: Leaf([Block { agent: 0, entries: [Entry { cell: Cell(3), tick: 0, label: Ticks(3) }] }])
+8: Leaf([Block { agent: 1, entries: [Entry { cell: Cell(1), tick: 0, label: Ticks(3) }] }])
+";
+
+/// The header, the version, and the text of the items that come before the end.
+fn read_whole(
+    alloc: Global,
+    cert: &str,
+    pace: Pace,
+) -> Result<((u32, Claim), Version, String), Fail> {
+    let mut source = FuseSource::of(cert.as_bytes(), pace, None);
+    let mut lines = CertLines::open(alloc, 3, 3, 113)?;
+    let Ok(header) = lines.header(&mut source) else {
+        return Err(Fail::from("no header"));
+    };
+    let mut items = String::new(alloc);
+    for _ in 0..4 {
+        match lines.next_item(&mut source) {
+            Ok(Some(item)) => items.push_str(&item_line(alloc, lines.line(), &item)?)?,
+            Ok(None) => return Ok((header, lines.version(), items)),
+            Err(_) => return Err(Fail::from("no item")),
+        }
+    }
+    Err(Fail::from("no end"))
+}
+
+fn item_line(alloc: Global, line: u64, item: &Item) -> Result<String, OutOfMemory> {
+    Ok(format!(in alloc; "{line}: {item:?}\n")?)
+}
+
+fn assert_read(rt: &impl Abort, alloc: Global, cert: &str, version: Version) -> Result<(), Fail> {
+    for pace in [Pace::ByteByByte, Pace::AllAtOnce] {
+        let read = read_whole(alloc, cert, pace)?;
+        assert_eq!(rt; (read.0, read.1), ((2, Claim::Cost(5)), version));
+        assert_eq!(rt; read.2.as_str(), ITEMS);
+    }
+    Ok(())
+}
 
 #[test]
 fn gives_the_header_and_the_items(rt: HostRuntime) -> Result<(), Fail> {
-    for (cert, version, pace) in [
-        (CROSSING, Version::One, Pace::ByteByByte),
-        (CROSSING, Version::One, Pace::AllAtOnce),
-        (CROSSING_TWO, Version::Two, Pace::ByteByByte),
-        (CROSSING_TWO, Version::Two, Pace::AllAtOnce),
-    ] {
-        let mut source = FuseSource::of(cert.as_bytes(), pace, None);
-        let mut lines = CertLines::open(rt.alloc(), 3, 3, 113)?;
-        let Ok(header) = lines.header(&mut source) else {
-            return Err(Fail::from("no header"));
-        };
-        assert_eq!(rt; header, (2, Claim::Cost(5)));
-        assert_eq!(rt; lines.version(), version);
-        for (text, line) in ITEMS {
-            let Ok(Some(item)) = lines.next_item(&mut source) else {
-                return Err(Fail::from("no item"));
-            };
-            assert_eq!(rt; format!(in rt.alloc(); "{item:?}")?.as_str(), text);
-            assert_eq!(rt; lines.line(), line);
-        }
-        assert!(rt; matches!(lines.next_item(&mut source), Ok(None)));
+    assert_read(&rt, rt.alloc(), CROSSING, Version::One)?;
+    assert_read(&rt, rt.alloc(), CROSSING_TWO, Version::Two)
+}
+
+/// What comes of bytes in two pieces.
+fn run_pieces(alloc: Global, bytes: &[u8], first: usize) -> Result<Came, OutOfMemory> {
+    let mut source = TwoPieces { bytes, first };
+    run(alloc, &mut source, 111)
+}
+
+/// What comes of bytes from a source that fails after so many calls.
+fn run_fuse(
+    alloc: Global,
+    bytes: &[u8],
+    pace: Pace,
+    calls: Option<u64>,
+    limit: u64,
+) -> Result<Came, OutOfMemory> {
+    let mut source = FuseSource::of(bytes, pace, calls);
+    run(alloc, &mut source, limit)
+}
+
+fn assert_pieces(rt: &impl Abort, alloc: Global, bytes: &[u8]) -> Result<(), OutOfMemory> {
+    for first in 1..bytes.len() {
+        assert_eq!(rt; run_pieces(alloc, bytes, first)?, (3, 8, None));
+    }
+    Ok(())
+}
+
+/// The three items come of the bytes under this limit, and then this error.
+fn assert_limit(
+    rt: &impl Abort,
+    alloc: Global,
+    bytes: &[u8],
+    limit: u64,
+    fault: Option<LinesFault>,
+) -> Result<(), OutOfMemory> {
+    for pace in [Pace::ByteByByte, Pace::AllAtOnce] {
+        assert_eq!(rt; run_fuse(alloc, bytes, pace, None, limit)?, (3, 8, fault));
     }
     Ok(())
 }
 
 #[test]
 fn pieces_and_limits(rt: HostRuntime) -> Result<(), Fail> {
-    let alloc = rt.alloc();
     let bytes = CROSSING.as_bytes();
-    for first in 1..bytes.len() {
-        let mut source = TwoPieces { bytes, first };
-        assert_eq!(rt; run(alloc, &mut source, 111)?, (3, 8, None));
-    }
-    let mut longer = bytes.to_vec(alloc)?;
-    longer.push(b'x')?;
+    assert_pieces(&rt, rt.alloc(), bytes)?;
+    assert_limit(&rt, rt.alloc(), bytes, 111, None)?;
+    assert_limit(&rt, rt.alloc(), bytes, 110, Some(LinesFault::TooLong))?;
+    let longer = with_byte(rt.alloc(), bytes, bytes.len(), b'x')?;
+    assert_limit(&rt, rt.alloc(), &longer, 111, Some(LinesFault::TooLong))?;
     let more = Some(LinesFault::Text(CertFault::K4(12)));
-    for pace in [Pace::ByteByByte, Pace::AllAtOnce] {
-        for (bytes, limit, fault) in [
-            (bytes, 111, None),
-            (bytes, 110, Some(LinesFault::TooLong)),
-            (longer.as_slice(), 111, Some(LinesFault::TooLong)),
-            (longer.as_slice(), 112, more),
-        ] {
-            let mut source = FuseSource::of(bytes, pace, None);
-            assert_eq!(rt; run(alloc, &mut source, limit)?, (3, 8, fault));
-        }
+    assert_limit(&rt, rt.alloc(), &longer, 112, more)?;
+    Ok(())
+}
+
+/// How many whole lines there are.
+fn lines_of(bytes: &[u8]) -> u64 {
+    let mut count = 0u64;
+    for byte in bytes {
+        count = count.saturating_add((*byte == b'\n') as u64);
+    }
+    count
+}
+
+/// The header of a source that fails after so many whole lines of the crossing's certificate.
+fn header_after(lines: u64) -> Result<(u32, Claim), LinesFault> {
+    if lines < 3 {
+        Err(LinesFault::Device)
+    } else {
+        Ok((2, Claim::Cost(5)))
+    }
+}
+
+/// What comes of such a source.
+fn items_after(lines: u64) -> Came {
+    let (items, line) = match lines {
+        0..=3 => (0, 0),
+        4..=6 => (1, 4),
+        7..=9 => (2, 5),
+        _ => (3, 8),
+    };
+    (items, line, Some(LinesFault::Device))
+}
+
+fn header_of(
+    alloc: Global,
+    bytes: &[u8],
+    calls: u64,
+) -> Result<Result<(u32, Claim), LinesFault>, Fail> {
+    run_header(
+        alloc,
+        &mut FuseSource::of(bytes, Pace::ByteByByte, Some(calls)),
+    )
+}
+
+/// Each byte is a call, and each call fails once.
+fn assert_failures(rt: &impl Abort, alloc: Global, bytes: &[u8]) -> Result<(), Fail> {
+    for n in 0..bytes.len() {
+        let lines = lines_of(&bytes[..n]);
+        let header = header_of(alloc, bytes, n as u64)?;
+        assert_eq!(rt; header, header_after(lines), "{n}");
+        let came = run_fuse(alloc, bytes, Pace::ByteByByte, Some(n as u64), 111)?;
+        assert_eq!(rt; came, items_after(lines), "{n}");
+    }
+    Ok(())
+}
+
+/// How the bytes come, how many calls succeed, and what comes of them. The end of the bytes is a call of its own.
+const LAST_CALLS: [(Pace, u64, Came); 5] = [
+    (Pace::ByteByByte, 111, (3, 8, Some(LinesFault::Device))),
+    (Pace::ByteByByte, 112, (3, 8, None)),
+    (Pace::AllAtOnce, 0, (0, 0, Some(LinesFault::Device))),
+    (Pace::AllAtOnce, 1, (3, 8, Some(LinesFault::Device))),
+    (Pace::AllAtOnce, 2, (3, 8, None)),
+];
+
+fn assert_last_calls(
+    rt: &impl Abort,
+    alloc: Global,
+    cases: &[(Pace, u64, Came)],
+) -> Result<(), OutOfMemory> {
+    for (pace, calls, came) in cases {
+        let given = run_fuse(alloc, CROSSING.as_bytes(), *pace, Some(*calls), 111)?;
+        assert_eq!(rt; given, *came);
     }
     Ok(())
 }
 
 #[test]
 fn fails_at_each_pull(rt: HostRuntime) -> Result<(), Fail> {
-    let alloc = rt.alloc();
-    let bytes = CROSSING.as_bytes();
-    let device = Some(LinesFault::Device);
-    // How many whole lines came before the source fails.
-    let mut came = 0u64;
-    for (n, byte) in bytes.iter().enumerate() {
-        let mut source = FuseSource::of(bytes, Pace::ByteByByte, Some(n as u64));
-        let header = if came < 3 {
-            Err(LinesFault::Device)
-        } else {
-            Ok((2, Claim::Cost(5)))
-        };
-        assert_eq!(rt; run_header(alloc, &mut source)?, header, "{n}");
-        let (items, line) = match came {
-            0..=3 => (0, 0),
-            4..=6 => (1, 4),
-            7..=9 => (2, 5),
-            _ => (3, 8),
-        };
-        let mut source = FuseSource::of(bytes, Pace::ByteByByte, Some(n as u64));
-        assert_eq!(rt; run(alloc, &mut source, 111)?, (items, line, device), "{n}");
-        came = came.saturating_add((*byte == b'\n') as u64);
-    }
-    // The end of the bytes is a call of its own.
-    for (pace, stood, answer) in [
-        (Pace::ByteByByte, 111, (3, 8, device)),
-        (Pace::ByteByByte, 112, (3, 8, None)),
-        (Pace::AllAtOnce, 0, (0, 0, device)),
-        (Pace::AllAtOnce, 1, (3, 8, device)),
-        (Pace::AllAtOnce, 2, (3, 8, None)),
+    assert_failures(&rt, rt.alloc(), CROSSING.as_bytes())?;
+    assert_last_calls(&rt, rt.alloc(), &LAST_CALLS)?;
+    Ok(())
+}
+
+/// The bytes with one more before the byte of this number.
+fn with_byte(alloc: Global, bytes: &[u8], place: usize, byte: u8) -> Result<Vec<u8>, OutOfMemory>
+    requires { place ≤ length bytes.now }
+{
+    let mut longer = Vec::new(alloc);
+    longer.extend_from_slice(&bytes[..place])?;
+    longer.push(byte)?;
+    longer.extend_from_slice(&bytes[place..])?;
+    Ok(longer)
+}
+
+/// The error that ends what comes.
+fn fault_of(
+    alloc: Global,
+    bytes: &[u8],
+    pace: Pace,
+    calls: u64,
+) -> Result<Option<LinesFault>, OutOfMemory> {
+    let (_, _, fault) = run_fuse(alloc, bytes, pace, Some(calls), 999)?;
+    Ok(fault)
+}
+
+/// The line is one byte longer, and with that byte it isn't the expected one.
+fn assert_fault_of_line(
+    rt: &impl Abort,
+    alloc: Global,
+    longer: &[u8],
+    end: u64,
+    number: u64,
+) -> Result<(), OutOfMemory> {
+    let shape = Some(LinesFault::Text(CertFault::K1(number)));
+    for (pace, calls, fault) in [
+        (Pace::ByteByByte, end.saturating_add(2), shape),
+        (
+            Pace::ByteByByte,
+            end.saturating_add(1),
+            Some(LinesFault::Device),
+        ),
+        (Pace::AllAtOnce, 1, shape),
     ] {
-        let mut source = FuseSource::of(bytes, pace, Some(stood));
-        assert_eq!(rt; run(alloc, &mut source, 111)?, answer);
+        assert_eq!(rt; fault_of(alloc, longer, pace, calls)?, fault, "{number}");
+    }
+    Ok(())
+}
+
+fn assert_faults_of_lines(rt: &impl Abort, alloc: Global, bytes: &[u8]) -> Result<(), OutOfMemory> {
+    for n in 0..bytes.len() {
+        if bytes[n] == b'\n' {
+            let number = lines_of(&bytes[..n]).saturating_add(1);
+            let longer = with_byte(alloc, bytes, n, b'x')?;
+            assert_fault_of_line(rt, alloc, &longer, n as u64, number)?;
+        }
     }
     Ok(())
 }
@@ -218,52 +345,27 @@ fn fails_at_each_pull(rt: HostRuntime) -> Result<(), Fail> {
 /// An error of a line is reported before more is pulled, and not before the line ends.
 #[test]
 fn pulls_nothing_after_a_fault(rt: HostRuntime) -> Result<(), Fail> {
-    let alloc = rt.alloc();
-    let mut number = 1u64;
-    for (n, byte) in CROSSING.as_bytes().iter().enumerate() {
-        if *byte != b'\n' {
-            continue;
-        }
-        // The line is one byte longer, and with that byte it isn't the expected one.
-        let text = with_fault(alloc, n)?;
-        let shape = Some(LinesFault::Text(CertFault::K1(number)));
-        for (more, fault) in [(2, shape), (1, Some(LinesFault::Device))] {
-            let calls = (n as u64).saturating_add(more);
-            let mut source = FuseSource::of(text.as_bytes(), Pace::ByteByByte, Some(calls));
-            let (_, _, given) = run(alloc, &mut source, 999)?;
-            assert_eq!(rt; given, fault, "{number}");
-        }
-        let mut source = FuseSource::of(text.as_bytes(), Pace::AllAtOnce, Some(1));
-        let (_, _, given) = run(alloc, &mut source, 999)?;
-        assert_eq!(rt; given, shape, "{number}");
-        number = number.saturating_add(1);
-    }
+    assert_faults_of_lines(&rt, rt.alloc(), CROSSING.as_bytes())?;
     Ok(())
 }
 
-/// The crossing's certificate with an `x` before the byte of this number.
-fn with_fault(alloc: Global, place: usize) -> Result<String, OutOfMemory> {
-    let mut text = String::new(alloc);
-    for (n, letter) in CROSSING.chars().enumerate() {
-        if n == place {
-            text.push('x')?;
-        }
-        text.push(letter)?;
-    }
-    Ok(text)
+fn run_endless(alloc: Global) -> Result<Came, OutOfMemory> {
+    run(alloc, &mut EndlessSource::of(b'x'), u64::MAX)
 }
 
-#[test]
-fn sources_that_never_end(rt: HostRuntime) -> Result<(), Fail> {
-    let mut source = EndlessSource::of(b'x');
-    let fault = Some(LinesFault::Text(CertFault::K1(1)));
-    assert_eq!(rt; run(rt.alloc(), &mut source, u64::MAX)?, (0, 0, fault));
+fn run_endless_tree(alloc: Global) -> Result<Came, OutOfMemory> {
     let mut source = EndlessTree {
         front: b"mapf-cert 1\nagents 2\nclaim cost 0\n",
         line: b"vertex 0 1 0,0 0\n",
     };
-    let (items, line, fault) = run(rt.alloc(), &mut source, 10_000)?;
-    assert_eq!(rt; (items, line), (586, 589));
-    assert_eq!(rt; fault, Some(LinesFault::TooLong));
+    run(alloc, &mut source, 10_000)
+}
+
+#[test]
+fn sources_that_never_end(rt: HostRuntime) -> Result<(), Fail> {
+    let fault = Some(LinesFault::Text(CertFault::K1(1)));
+    assert_eq!(rt; run_endless(rt.alloc())?, (0, 0, fault));
+    let too_long = (586, 589, Some(LinesFault::TooLong));
+    assert_eq!(rt; run_endless_tree(rt.alloc())?, too_long);
     Ok(())
 }

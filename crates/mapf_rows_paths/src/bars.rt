@@ -1,4 +1,6 @@
 ghost use Rattle.std.specs.Prelude.{◌<◌};
+ghost use Rattle.mapf_model.specs.Bars.{IsBar};
+ghost use Rattle.mapf_constraints.specs.BarSets.{tick_of};
 
 use mapf_constraints::{Bar, BarTable, ListBars, TickBars};
 use mapf_model::{Cell, OutOfMemory, Tick};
@@ -16,8 +18,15 @@ fn second_cell_barred<B: BarTable>(alloc: Global) -> Result<B, OutOfMemory> {
     Ok(table)
 }
 
-fn last_ticks<B: BarTable>(table: &B) -> (Option<Tick>, Option<Tick>) {
-    (table.last_on(Cell(0)), table.last_on(Cell(1)))
+/// The last ticks of both cells, the horizon, and whether the second cell is forbidden at 5 and at 4, and
+/// the first at 5.
+fn seen<B: BarTable>(table: &B) -> ([Option<Tick>; 2], Tick, [bool; 3]) {
+    let bars = [(1, 5), (1, 4), (0, 5)].map(|(cell, tick)| table.bars_cell(Cell(cell), tick));
+    (
+        [table.last_on(Cell(0)), table.last_on(Cell(1))],
+        table.horizon(),
+        bars,
+    )
 }
 
 fn last_tick_is_that_of_the_bar<B: BarTable>(
@@ -25,13 +34,10 @@ fn last_tick_is_that_of_the_bar<B: BarTable>(
     alloc: Global,
 ) -> Result<(), OutOfMemory> {
     let table = second_cell_barred::<B>(alloc)?;
-    assert_eq!(rt; last_ticks(&table), (None, Some(5)));
     let copy = table.copy()?;
-    assert_eq!(rt; last_ticks(&copy), (None, Some(5)));
-    assert_eq!(rt; copy.horizon(), 6);
-    assert!(rt;
-        copy.bars_cell(Cell(1), 5) && !copy.bars_cell(Cell(1), 4) && !copy.bars_cell(Cell(0), 5)
-    );
+    let expected = ([None, Some(5)], 6, [true, false, false]);
+    assert_eq!(rt; seen(&table), expected);
+    assert_eq!(rt; seen(&copy), expected);
     Ok(())
 }
 
@@ -42,20 +48,34 @@ fn both_tables_know_the_last_tick(rt: HostRuntime) -> Result<(), Fail> {
     Ok(())
 }
 
+/// Forbids a cell at a tick.
+fn forbid_cell<B: BarTable>(table: &mut B, cell: u32, tick: Tick) -> Result<(), OutOfMemory>
+    requires { tick < 50 }
+{
+    table.add(Bar::Cell {
+        cell: Cell(cell),
+        tick,
+    })
+}
+
+/// Forbids the move to the next cell at a tick.
+fn forbid_move<B: BarTable>(table: &mut B, from: u32, tick: Tick) -> Result<(), OutOfMemory>
+    requires from { from < 31 }
+    requires tick { tick < 50 }
+{
+    table.add(Bar::Move {
+        from: Cell(from),
+        to: Cell(from + 1),
+        tick,
+    })
+}
+
 /// A few hundred bars, some of them twice.
 fn many_bars<B: BarTable>(alloc: Global) -> Result<B, OutOfMemory> {
     let mut table = B::empty(alloc);
     for k in 0u32..300 {
-        table.add(Bar::Cell {
-            cell: Cell(7 * k % 20),
-            tick: 13 * k % 50,
-        })?;
-        let from = 11 * k % 20;
-        table.add(Bar::Move {
-            from: Cell(from),
-            to: Cell(from + 1),
-            tick: 17 * k % 45,
-        })?;
+        forbid_cell(&mut table, 7 * k % 20, 13 * k % 50)?;
+        forbid_move(&mut table, 11 * k % 20, 17 * k % 45)?;
     }
     table.copy()
 }
@@ -68,19 +88,19 @@ fn agree_at(list: &ListBars, index: &TickBars, cell: Cell, tick: Tick) -> bool {
         && list.last_on(cell) == index.last_on(cell)
 }
 
+fn assert_agreement(rt: &impl Abort, list: &ListBars, index: &TickBars, cell: u32) {
+    for tick in 0..52 {
+        assert!(rt; agree_at(list, index, Cell(cell), tick), "at {cell} {tick}");
+    }
+}
+
 #[test]
 fn both_tables_answer_alike(rt: HostRuntime) -> Result<(), Fail> {
     let list = many_bars::<ListBars>(rt.alloc())?;
     let index = many_bars::<TickBars>(rt.alloc())?;
-    assert_eq!(rt; list.horizon(), 50);
-    assert_eq!(rt; index.horizon(), 50);
+    assert_eq!(rt; (list.horizon(), index.horizon()), (50, 50));
     for cell in 0..22 {
-        for tick in 0..52 {
-            assert!(rt;
-                agree_at(&list, &index, Cell(cell), tick),
-                "at {cell} {tick}"
-            );
-        }
+        assert_agreement(&rt, &list, &index, cell);
     }
     Ok(())
 }
@@ -129,9 +149,57 @@ fn answers_so<B: BarTable>(table: &B, answers: &Answers) -> bool {
     now.horizon == answers.horizon
 }
 
-/// Forbids the cell at the tick, and the move from it. Where memory is refused, the table has to
-/// answer as before, and the error is passed on.
-fn adds_or_stays<B: BarTable>(
+/// Adds the bar. Where memory is refused, the table has to answer as before, and the error is passed on.
+fn adds_or_stays<B: BarTable>(rt: &impl Abort, table: &mut B, bar: Bar) -> Result<(), OutOfMemory>
+    requires early { tick_of bar < 1000000 }
+    requires bar { IsBar bar }
+{
+    let before = answers_of(table);
+    let added = table.add(bar);
+    if added.is_err() {
+        assert!(rt; answers_so(table, &before));
+    }
+    added
+}
+
+fn adds_cell<B: BarTable>(
+    rt: &impl Abort,
+    table: &mut B,
+    cell: u32,
+    tick: Tick,
+) -> Result<(), OutOfMemory>
+    requires { tick < 8 }
+{
+    let bar = Bar::Cell {
+        cell: Cell(cell),
+        tick,
+    };
+    adds_or_stays(rt, table, bar)?;
+    assert!(rt; table.bars_cell(Cell(cell), tick) && table.last_on(Cell(cell)) >= Some(tick));
+    Ok(())
+}
+
+fn adds_move<B: BarTable>(
+    rt: &impl Abort,
+    table: &mut B,
+    from: u32,
+    tick: Tick,
+) -> Result<(), OutOfMemory>
+    requires from { from < 31 }
+    requires tick { tick < 8 }
+{
+    let bar = Bar::Move {
+        from: Cell(from),
+        to: Cell(from + 1),
+        tick,
+    };
+    adds_or_stays(rt, table, bar)?;
+    assert!(rt; table.bars_move(Cell(from), Cell(from + 1), tick) && table.horizon() > tick);
+    Ok(())
+}
+
+/// Forbids the cell at the tick, and the move from it.
+fn adds_both<B: BarTable>(
     rt: &impl Abort,
     table: &mut B,
     cell: u32,
@@ -140,35 +208,15 @@ fn adds_or_stays<B: BarTable>(
     requires cell { cell < 31 }
     requires tick { tick < 8 }
 {
-    let before = answers_of(table);
-    let bar = Bar::Cell {
-        cell: Cell(cell),
-        tick,
-    };
-    if let Err(refused) = table.add(bar) {
-        assert!(rt; answers_so(table, &before));
-        return Err(refused);
-    }
-    assert!(rt; table.bars_cell(Cell(cell), tick) && table.last_on(Cell(cell)) >= Some(tick));
-    let between = answers_of(table);
-    let bar = Bar::Move {
-        from: Cell(cell),
-        to: Cell(cell + 1),
-        tick,
-    };
-    if let Err(refused) = table.add(bar) {
-        assert!(rt; answers_so(table, &between));
-        return Err(refused);
-    }
-    assert!(rt; table.bars_move(Cell(cell), Cell(cell + 1), tick) && table.horizon() > tick);
-    Ok(())
+    adds_cell(rt, table, cell, tick)?;
+    adds_move(rt, table, cell, tick)
 }
 
 /// Adds many bars and copies the table. Where memory is refused on the way, it has to answer as before.
 fn stays_as_it_is<B: BarTable>(rt: &impl Abort, alloc: Global) {
     let mut table = B::empty(alloc);
     for k in 0..60u32 {
-        if adds_or_stays(rt, &mut table, 7 * k % 31, 5 * k % 8).is_err() {
+        if adds_both(rt, &mut table, 7 * k % 31, 5 * k % 8).is_err() {
             return;
         }
     }

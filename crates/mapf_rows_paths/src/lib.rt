@@ -11,6 +11,8 @@ mod distances;
 #[cfg(test)]
 mod lazy_tables;
 #[cfg(test)]
+mod samples;
+#[cfg(test)]
 mod searches;
 #[cfg(test)]
 mod starts;

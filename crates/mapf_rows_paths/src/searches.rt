@@ -1,26 +1,12 @@
+use crate::distances::distances_to;
+use crate::samples::grid_of;
 use mapf_constraints::{Bar, BarTable, ListBars, TickBars};
 use mapf_distance::Distances;
 use mapf_model::{Agent, Cell, Entry, Grid, Label, Path};
-use mapf_spacetime::{Found, StateLabels, Workspace, label_at, search, search_in};
+use mapf_spacetime::{Found, Labels, StateLabels, Workspace, label_at, search, search_in};
 use std::alloc::{AllocError, Global};
 use std::process::Abort;
 use std::test::Fail;
-
-/// The grid of these rows, in which a dot is a free cell.
-fn grid_of(alloc: Global, rows: &str) -> Result<Grid, Fail> {
-    let mut free = Vec::new(alloc);
-    let mut width = 0;
-    let mut height = 0;
-    for row in rows.split_whitespace() {
-        width = row.len();
-        height = u32::checked_add(height, 1).ok_or("too high")?;
-        for byte in row.as_bytes() {
-            free.push(*byte == b'.')?;
-        }
-    }
-    let width = u32::try_from(width).ok().ok_or("too wide")?;
-    Ok(Grid::of(width, height, free).ok_or("no grid")?)
-}
 
 fn path_text(alloc: Global, path: &Path) -> Result<String, AllocError> {
     let mut text = String::from_str(alloc, "path")?;
@@ -44,18 +30,12 @@ fn labels_text(alloc: Global, entries: &[Entry]) -> Result<String, AllocError> {
 }
 
 fn found_text(alloc: Global, found: &Found) -> Result<String, AllocError> {
-    match found {
-        Found::Arrives { path, labels } => {
-            let mut text = path_text(alloc, path)?;
-            text.push_str(&labels_text(alloc, labels.entries())?)?;
-            Ok(text)
-        }
-        Found::Dead { labels } => {
-            let mut text = String::from_str(alloc, "dead")?;
-            text.push_str(&labels_text(alloc, labels.entries())?)?;
-            Ok(text)
-        }
-    }
+    let (mut text, labels) = match found {
+        Found::Arrives { path, labels } => (path_text(alloc, path)?, labels),
+        Found::Dead { labels } => (String::from_str(alloc, "dead")?, labels),
+    };
+    text.push_str(&labels_text(alloc, labels.entries())?)?;
+    Ok(text)
 }
 
 /// The same of what a search finds that keeps its states.
@@ -235,100 +215,108 @@ fn steps_aside_in_a_corridor(rt: HostRuntime) -> Result<(), Fail> {
     )
 }
 
+/// Where an agent goes, the forbidden cells and moves with their ticks, and what the search finds.
+struct Case<'a> {
+    ends: (u32, u32),
+    cells: &'a [(u32, u32)],
+    moves: &'a [(u32, u32, u32)],
+    wanted: &'a str,
+}
+
+fn finds_each(rt: &impl Abort, alloc: Global, rows: &str, cases: &[Case<'_>]) -> Result<(), Fail> {
+    for case in cases {
+        finds(
+            rt,
+            alloc,
+            rows,
+            case.ends,
+            case.cells,
+            case.moves,
+            case.wanted,
+        )?;
+    }
+    Ok(())
+}
+
+/// On "... @.@".
+const AT_ITS_GOAL: [Case<'static>; 3] = [
+    Case {
+        ends: (1, 1),
+        cells: &[(1, 3)],
+        moves: &[],
+        wanted: "path 1 0 0 0 1; 1@0=4 0@1=3 1@1=3 2@1=3 4@1=3 0@2=2 1@2=2 2@2=2 4@2=2",
+    },
+    Case {
+        ends: (1, 1),
+        cells: &[(1, 2)],
+        moves: &[],
+        wanted: "path 1 0 0 1; 1@0=3 0@1=2 1@1=2 2@1=2 4@1=2",
+    },
+    Case {
+        ends: (1, 1),
+        cells: &[(1, 1)],
+        moves: &[(1, 0, 0), (2, 1, 1)],
+        wanted: "path 1 4 1; 1@0=2",
+    },
+];
+
 #[test]
 fn leaves_its_goal_and_returns(rt: HostRuntime) -> Result<(), Fail> {
-    let rows = "... @.@";
-    finds(
-        &rt,
-        rt.alloc(),
-        rows,
-        (1, 1),
-        &[(1, 3)],
-        &[],
-        "path 1 0 0 0 1; 1@0=4 0@1=3 1@1=3 2@1=3 4@1=3 0@2=2 1@2=2 2@2=2 4@2=2",
-    )?;
-    finds(
-        &rt,
-        rt.alloc(),
-        rows,
-        (1, 1),
-        &[(1, 2)],
-        &[],
-        "path 1 0 0 1; 1@0=3 0@1=2 1@1=2 2@1=2 4@1=2",
-    )?;
-    finds(
-        &rt,
-        rt.alloc(),
-        rows,
-        (1, 1),
-        &[(1, 1)],
-        &[(1, 0, 0), (2, 1, 1)],
-        "path 1 4 1; 1@0=2",
-    )
+    finds_each(&rt, rt.alloc(), "... @.@", &AT_ITS_GOAL)
 }
+
+/// On "... @.@".
+const PASSING: [Case<'static>; 4] = [
+    Case {
+        ends: (0, 2),
+        cells: &[(1, 1), (1, 2), (1, 3)],
+        moves: &[],
+        wanted: "path 0 0 0 0 1 2; 0@0=5 0@1=4 0@2=3",
+    },
+    Case {
+        ends: (0, 2),
+        cells: &[(1, 1), (1, 2)],
+        moves: &[],
+        wanted: "path 0 0 0 1 2; 0@0=4 0@1=3",
+    },
+    Case {
+        ends: (0, 2),
+        cells: &[],
+        moves: &[(0, 1, 0)],
+        wanted: "path 0 0 1 2; 0@0=3",
+    },
+    Case {
+        ends: (0, 2),
+        cells: &[],
+        moves: &[(1, 2, 1)],
+        wanted: "path 0 0 1 2; 0@0=3 1@1=2",
+    },
+];
 
 #[test]
 fn labels_are_those_of_known_certificates(rt: HostRuntime) -> Result<(), Fail> {
-    let rows = "... @.@";
-    finds(
-        &rt,
-        rt.alloc(),
-        rows,
-        (0, 2),
-        &[(1, 1), (1, 2), (1, 3)],
-        &[],
-        "path 0 0 0 0 1 2; 0@0=5 0@1=4 0@2=3",
-    )?;
-    finds(
-        &rt,
-        rt.alloc(),
-        rows,
-        (0, 2),
-        &[(1, 1), (1, 2)],
-        &[],
-        "path 0 0 0 1 2; 0@0=4 0@1=3",
-    )?;
-    finds(
-        &rt,
-        rt.alloc(),
-        rows,
-        (0, 2),
-        &[],
-        &[(0, 1, 0)],
-        "path 0 0 1 2; 0@0=3",
-    )?;
-    finds(
-        &rt,
-        rt.alloc(),
-        rows,
-        (0, 2),
-        &[],
-        &[(1, 2, 1)],
-        "path 0 0 1 2; 0@0=3 1@1=2",
-    )
+    finds_each(&rt, rt.alloc(), "... @.@", &PASSING)
 }
+
+/// On "... ... ...".
+const CROSSING: [Case<'static>; 2] = [
+    Case {
+        ends: (3, 5),
+        cells: &[(4, 1)],
+        moves: &[],
+        wanted: "path 3 3 4 5; 3@0=3",
+    },
+    Case {
+        ends: (1, 7),
+        cells: &[(4, 1)],
+        moves: &[],
+        wanted: "path 1 1 4 7; 1@0=3",
+    },
+];
 
 #[test]
 fn labels_of_crossing_agents_are_those_of_a_known_certificate(rt: HostRuntime) -> Result<(), Fail> {
-    let rows = "... ... ...";
-    finds(
-        &rt,
-        rt.alloc(),
-        rows,
-        (3, 5),
-        &[(4, 1)],
-        &[],
-        "path 3 3 4 5; 3@0=3",
-    )?;
-    finds(
-        &rt,
-        rt.alloc(),
-        rows,
-        (1, 7),
-        &[(4, 1)],
-        &[],
-        "path 1 1 4 7; 1@0=3",
-    )
+    finds_each(&rt, rt.alloc(), "... ... ...", &CROSSING)
 }
 
 /// A square of free cells.
@@ -340,41 +328,48 @@ fn open_square(alloc: Global, side: u32) -> Result<Grid, Fail> {
     Ok(Grid::of(side, side, free).ok_or("no grid")?)
 }
 
+/// The path that is found, and its labels.
+fn arrival(found: Found) -> Result<(Path, Labels), Fail> {
+    match found {
+        Found::Arrives { path, labels } => Ok((path, labels)),
+        Found::Dead { labels: _ } => Err(Fail::from("dead")),
+    }
+}
+
+/// The path along the first row of 64 cells, where a cell of the last row is forbidden late, and
+/// whether it has no labels.
+fn path_beside_a_late_bar(alloc: Global) -> Result<(Path, bool), Fail> {
+    let grid = open_square(alloc, 64)?;
+    let mut bars = TickBars::empty(alloc);
+    bar_all(&mut bars, &[(4032, 900_000)], &[])?;
+    let found = found_on(alloc, &grid, Cell(0), Cell(63), &bars)?;
+    let (path, labels) = arrival(found)?;
+    Ok((path, labels.is_empty()))
+}
+
 #[test]
 fn a_late_bar_elsewhere_costs_nothing(rt: HostRuntime) -> Result<(), Fail> {
-    let grid = open_square(rt.alloc(), 64)?;
-    let mut bars = TickBars::empty(rt.alloc());
-    bar_all(&mut bars, &[(4032, 900_000)], &[])?;
-    let found = found_on(rt.alloc(), &grid, Cell(0), Cell(63), &bars)?;
-    match &found {
-        Found::Arrives { path, labels } => {
-            let cells = path.cells();
-            assert!(rt; cells.len() == 64 && labels.entries().is_empty());
-            for tick in 0..64u32 {
-                assert_eq!(rt; path.at(tick).0, tick);
-            }
-        }
-        Found::Dead { labels: _ } => return Err(Fail::from("dead")),
-    }
+    let (path, is_unlabelled) = path_beside_a_late_bar(rt.alloc())?;
+    assert!(rt; is_unlabelled);
+    assert!(rt; path.cells().iter().map(|cell| cell.0).eq(0..64));
     Ok(())
+}
+
+/// The labels of two cells that the search labels and of one that can't reach the goal.
+fn some_labels(alloc: Global) -> Result<[Label; 3], Fail> {
+    let rows = "...@.";
+    let mut bars = ListBars::empty(alloc);
+    bar_all(&mut bars, &[(1, 1)], &[])?;
+    let found = found_on(alloc, &grid_of(alloc, rows)?, Cell(0), Cell(2), &bars)?;
+    let (_, labels) = arrival(found)?;
+    let distances = distances_to(alloc, rows, 2)?;
+    Ok([(0, 0), (0, 1), (4, 0)].map(|(cell, tick)| label_at(&labels, &distances, Cell(cell), tick)))
 }
 
 #[test]
 fn a_label_is_the_entry_else_the_distance(rt: HostRuntime) -> Result<(), Fail> {
-    let grid = grid_of(rt.alloc(), "...@.")?;
-    assert!(rt; grid.is_free(Cell(2)));
-    let distances = Distances::of(rt.alloc(), &grid, Cell(2))?;
-    let mut bars = ListBars::empty(rt.alloc());
-    bar_all(&mut bars, &[(1, 1)], &[])?;
-    let found = found_on(rt.alloc(), &grid, Cell(0), Cell(2), &bars)?;
-    match &found {
-        Found::Arrives { path: _, labels } => {
-            assert_eq!(rt; label_at(labels, &distances, Cell(0), 0), Label::Ticks(3));
-            assert_eq!(rt; label_at(labels, &distances, Cell(0), 1), Label::Ticks(2));
-            assert_eq!(rt; label_at(labels, &distances, Cell(4), 0), Label::Never);
-        }
-        Found::Dead { labels: _ } => return Err(Fail::from("dead")),
-    }
+    let expected = [Label::Ticks(3), Label::Ticks(2), Label::Never];
+    assert_eq!(rt; some_labels(rt.alloc())?, expected);
     Ok(())
 }
 
@@ -399,18 +394,22 @@ fn searched_in(
     states_text(alloc, found)
 }
 
+fn assert_round(rt: &impl Abort, alloc: Global, workspace: &mut Workspace) -> Result<(), Fail> {
+    let row = searched_in(alloc, workspace, "...", (0, 2), &[(1, 1)])?;
+    assert_eq!(rt; row.as_str(), "path 0 0 1 2; 0@0=3");
+    let bars = [(1, 1), (1, 2), (1, 3)];
+    let bay = searched_in(alloc, workspace, "... @.@", (0, 2), &bars)?;
+    assert_eq!(rt; bay.as_str(), "path 0 0 0 0 1 2; 0@0=5 0@1=4 0@2=3");
+    let alone = searched_in(alloc, workspace, ".", (0, 0), &[(0, 3)])?;
+    assert_eq!(rt; alone.as_str(), "dead; 0@0=never 0@1=never 0@2=never");
+    Ok(())
+}
+
 #[test]
 fn a_workspace_serves_one_search_after_the_other(rt: HostRuntime) -> Result<(), Fail> {
-    let alloc = rt.alloc();
-    let mut workspace = Workspace::new(alloc);
+    let mut workspace = Workspace::new(rt.alloc());
     for _round in 0..300 {
-        let row = searched_in(alloc, &mut workspace, "...", (0, 2), &[(1, 1)])?;
-        assert_eq!(rt; row.as_str(), "path 0 0 1 2; 0@0=3");
-        let bars = [(1, 1), (1, 2), (1, 3)];
-        let bay = searched_in(alloc, &mut workspace, "... @.@", (0, 2), &bars)?;
-        assert_eq!(rt; bay.as_str(), "path 0 0 0 0 1 2; 0@0=5 0@1=4 0@2=3");
-        let alone = searched_in(alloc, &mut workspace, ".", (0, 0), &[(0, 3)])?;
-        assert_eq!(rt; alone.as_str(), "dead; 0@0=never 0@1=never 0@2=never");
+        assert_round(&rt, rt.alloc(), &mut workspace)?;
     }
     Ok(())
 }

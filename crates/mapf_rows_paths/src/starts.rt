@@ -1,52 +1,81 @@
+use crate::distances::distances_to;
+use crate::samples::{grid_of, problem_of};
 use mapf_distance::start_distances;
-use mapf_model::{Agent, Cell, Grid, Problem};
+use mapf_model::Cell;
+use std::alloc::Global;
+use std::process::Abort;
 use std::test::Fail;
+
+fn distances_of(alloc: Global, rows: &str, ends: &[(u32, u32)]) -> Result<Vec<Option<u32>>, Fail> {
+    let problem = problem_of(alloc, rows, ends)?;
+    Ok(start_distances(alloc, &problem)?)
+}
 
 // Three cells in a row, one below the first, and one that walls part from these.
 #[test]
 fn each_start_has_its_distance(rt: HostRuntime) -> Result<(), Fail> {
-    let mut free = Vec::new(rt.alloc());
-    for byte in b"...@.@@@@@." {
-        free.push(*byte == b'.')?;
-    }
-    free.push(false)?;
-    let grid = Grid::of(4, 3, free).ok_or("other size")?;
-    let mut agents = Vec::new(rt.alloc());
-    for (start, goal) in [(4, 2), (2, 4), (1, 1), (0, 10), (10, 0)] {
-        agents.push(Agent {
-            start: Cell(start),
-            goal: Cell(goal),
-        })?;
-    }
-    let problem = Problem::of(grid, agents).ok_or("no problem")?;
-    let distances = start_distances(rt.alloc(), &problem)?;
-    assert_eq!(rt;
-        distances.as_slice(),
-        [Some(3), Some(3), Some(0), None, None].as_slice()
-    );
+    let ends = [(4, 2), (2, 4), (1, 1), (0, 10), (10, 0)];
+    let distances = distances_of(rt.alloc(), "...@ .@@@ @@.@", &ends)?;
+    let expected = [Some(3), Some(3), Some(0), None, None];
+    assert_eq!(rt; distances.as_slice(), expected.as_slice());
     Ok(())
 }
 
 // On a spiral the search has to turn away from the start.
 #[test]
 fn goes_round_a_wall(rt: HostRuntime) -> Result<(), Fail> {
-    let mut free = Vec::new(rt.alloc());
-    for byte in b".....@@@@....@..@@@......" {
-        free.push(*byte == b'.')?;
-    }
-    let grid = Grid::of(5, 5, free).ok_or("other size")?;
-    let mut agents = Vec::new(rt.alloc());
-    for (start, goal) in [(0, 12), (12, 0), (10, 0)] {
-        agents.push(Agent {
-            start: Cell(start),
-            goal: Cell(goal),
-        })?;
-    }
-    let problem = Problem::of(grid, agents).ok_or("no problem")?;
-    let distances = start_distances(rt.alloc(), &problem)?;
+    let spiral = "..... @@@@. ...@. .@@@. .....";
+    let distances = distances_of(rt.alloc(), spiral, &[(0, 12), (12, 0), (10, 0)])?;
     assert_eq!(rt;
         distances.as_slice(),
         [Some(16), Some(16), Some(14)].as_slice()
     );
+    Ok(())
+}
+
+const MAZE: &str = ".....@ @@@.@. ...@.. @@@.@. ..@...";
+
+// Each free cell of the maze with this goal.
+fn ends_at(alloc: Global, goal: u32) -> Result<Vec<(u32, u32)>, Fail> {
+    let maze = grid_of(alloc, MAZE)?;
+    let mut ends = Vec::new(alloc);
+    for start in 0..30 {
+        if maze.is_free(Cell(start)) {
+            ends.push((start, goal))?;
+        }
+    }
+    Ok(ends)
+}
+
+// What the table holds for each start.
+fn distances_in_table(
+    alloc: Global,
+    ends: &[(u32, u32)],
+    goal: u32,
+) -> Result<Vec<Option<u32>>, Fail> {
+    let table = distances_to(alloc, MAZE, goal)?;
+    let mut distances = Vec::new(alloc);
+    for (start, _) in ends {
+        distances.push(table.get(Cell(*start)))?;
+    }
+    Ok(distances)
+}
+
+fn assert_same_distances(rt: &impl Abort, alloc: Global, goal: u32) -> Result<(), Fail> {
+    let ends = ends_at(alloc, goal)?;
+    let distances = distances_of(alloc, MAZE, &ends)?;
+    let in_table = distances_in_table(alloc, &ends, goal)?;
+    assert_eq!(rt; distances.as_slice(), in_table.as_slice());
+    Ok(())
+}
+
+// From each free cell of the maze to each other.
+#[test]
+fn agrees_with_the_table(rt: HostRuntime) -> Result<(), Fail> {
+    for (goal, byte) in (0u32..).zip(b".....@@@@.@....@..@@@.@...@...") {
+        if *byte == b'.' {
+            assert_same_distances(&rt, rt.alloc(), goal)?;
+        }
+    }
     Ok(())
 }
