@@ -92,8 +92,8 @@ fn refuses_words(rt: HostRuntime) -> Result<(), Fail> {
 #[test]
 fn shows_help(rt: HostRuntime) -> Result<(), Fail> {
     for (text, status) in [
-        ("mapf --help", "\n  4  solve met a limit"),
-        ("mapf solve --help", "\n  4  a limit was met"),
+        ("mapf --help", "\n  4  solve reached a limit"),
+        ("mapf solve --help", "\n  4  a limit was reached"),
         ("mapf check --help", "\n  1  refused"),
         ("mapf help check", "\n  1  refused"),
         ("mapf play --help", "\n  0  shown"),
