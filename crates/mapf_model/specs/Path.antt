@@ -7,7 +7,7 @@ use Rattle.mapf_model.specs.Grid.{GridMap, Step}
 abbrev pub at : List ℕ → ℕ → ℕ
 at path tick = slice_index path (min tick (length path - 1))
 
--- a nonempty list of cells along which each tick is a step
+-- a nonempty list of cells in which each two consecutive cells are a step
 pub record IsPath (grid : GridMap) (path : List ℕ) : Type 0 where
   pub nonempty : path ≢ []
   pub steps : (tick : ℕ) → Step grid (at path tick) (at path (tick + 1))
