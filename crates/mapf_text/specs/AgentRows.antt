@@ -52,18 +52,18 @@ pub record SpellsAgent (grid : GridMap) (words : List (List ℕ)) (agent : Agent
   pub cells : HasCells grid words agent
   pub length_text : IsDecimal (field words 9)
 
--- the fields that have to be numbers, each with its place
+-- the fields that have to be numbers, each with its index
 abbrev pub numbered : List (List ℕ) → List (ℕ × List ℕ)
 numbered words =
     (1, field words 1) ∷ (3, field words 3) ∷ (4, field words 4) ∷ (5, field words 5) ∷ (6, field words 6) ∷ (7, field words 7) ∷ (8, field words 8) ∷ []
 
--- the first of these words that is no number has this place
+-- the first of these words that isn't a number has this index
 abbrev pub IsFirstNoNumber : List (ℕ × List ℕ) → ℕ → Type 0
 IsFirstNoNumber [] place = ⊥
 IsFirstNoNumber (p ∷ more) place =
     ((place ≡ p.0) × ((n : ℕ) → IsNumber p.1 n → ⊥)) ⊎ (((n : ℕ) × IsNumber p.1 n) × IsFirstNoNumber more place)
 
--- what each error of a row says of its words: what is judged before its location is good, and its defect is there
+-- what each error of a row says of its words: what is judged before its location is correct, and its defect is there
 abbrev pub HasRowFault : GridMap → List (List ℕ) → ℕ → ScenFault → Type 0
 HasRowFault grid words row (S2 at) = (at ≡ row) × (length words ≢ 9)
 HasRowFault grid words row (S3 at place) = (at ≡ row) × (length words ≡ 9) × IsFirstNoNumber (numbered words) place
