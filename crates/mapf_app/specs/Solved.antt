@@ -32,7 +32,7 @@ pub record PrintsOptimal (problem : Instance) (limit cost : ℕ) (plan_bytes cer
   pub accepted : AreAccepted problem plan_bytes cert_bytes (Optimal cost)
   pub searched : SpellsTree problem limit (claims.Cost cost) cert_bytes
 
--- the first text spells that no plan is valid, none is, both texts are accepted, and the second has a tree of the
+-- the first text spells `impossible`, no plan is valid, both texts are accepted, and the second has a tree of the
 -- search
 pub record PrintsImpossible (problem : Instance) (limit : ℕ) (plan_bytes cert_bytes : List ℕ) : Type 0 where
   pub spelled : SpellsPlan problem.grid plan_bytes Two (length problem.agents) answers.Impossible

@@ -114,7 +114,7 @@ pub fn read_problem<M: Source, S: Source>(
     ensures only { (problem : Instance) → IsSome (M.remaining map.old) → IsSome (S.remaining scen.old) →
         SpellsProblem (M.remaining map.old) (S.remaining scen.old) k problem →
         (result ≡ Ok problem) ⊎ IsErrAnd result IsOfInput }
-    // The reported location is correct.
+    // Each reported error is one that the inputs have, and its location is correct.
     ensures fault { IfErr result (IsReading (M.remaining map.old) (S.remaining scen.old) k) }
     ensures inner { IfErr result HasNoInnerMemory }
     // An error of a source is reported only if the source failed or gave too many bytes, and always if it failed.

@@ -53,7 +53,8 @@ HasTreeRefusal problem claim had reading (C8 line) = (bytes : List ℕ) → had 
 HasTreeRefusal problem claim had reading (C9 line) = (bytes : List ℕ) → had ≡ Some bytes → HasBadNode problem claim reading.version (C9 line) (reading.buffer.bytes ++ bytes)
 HasTreeRefusal problem claim had reading fault = ⊥
 
--- the nodes show the claim, they are what the reader had before it, and no more bytes came than were left of the limit
+-- the nodes show the claim, the text from the reader's place on spells them, and no more bytes came than were left of
+-- the limit
 pub record IsJudgedTree (problem : Instance) (claim : Claim) (had : Option (List ℕ)) (reading : Reading) : Type 0 where
   pub nodes : List Node
   pub shows : NodesShow problem claim (root ∷ []) nodes

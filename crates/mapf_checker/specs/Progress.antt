@@ -15,7 +15,7 @@ contexts_after (here ∷ owed) (SplitNode conflict blocks) = left_child_context 
 contexts_after (here ∷ owed) (LeafNode blocks) = owed
 contexts_after (here ∷ owed) (ClashNode i j) = owed
 
--- after all of these nodes
+-- what the trees that are still expected inherit after all of these nodes
 abbrev pub contexts_after_all : List NodeContext → List Node → List NodeContext
 contexts_after_all owed nodes = fold contexts_after owed nodes
 

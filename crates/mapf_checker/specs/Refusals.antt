@@ -41,8 +41,7 @@ pub record BeginsWithHeader (problem : Instance) (bytes : List ℕ) (agents : �
   pub rest : List ℕ
   pub spelled : bytes ≡ header_text version problem.grid.width agents claim ++ rest
 
--- among the nodes with which the bytes of this version begin is one with this defect; all nodes up to it are nodes of a
--- certificate, in range
+-- the bytes of this version begin with nodes, each in range, of which the last has this defect
 pub record HasBadNode (problem : Instance) (claim : Claim) (version : Version) (fault : CheckFault) (bytes : List ℕ) : Type 0 where
   pub before : List Node
   pub before_in_range : All (IsNode version problem.grid (length problem.agents)) before

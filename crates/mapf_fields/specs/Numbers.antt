@@ -49,11 +49,11 @@ front_digits bs = take_while is_ascii_digit bs
 abbrev pub after_digits : List ℕ → List ℕ
 after_digits bs = drop (length (front_digits bs)) bs
 
--- a number, None where it is greater than any that is printed, and what follows it
+-- a number, None from 2^64 on, and what follows it
 unfoldable pub read_number : List ℕ → Result (Option ℕ × List ℕ) LineFault
 read_number bs = if begins_well (front_digits bs) then Ok (small_value (front_digits bs), after_digits bs) else Err Shape
 
--- a number alone
+-- a number with nothing after it
 unfoldable pub read_whole : List ℕ → Result (Option ℕ) LineFault
 read_whole bs = read_number bs >>= at_end
   where

@@ -21,7 +21,7 @@ pub fn line_length(bytes: &[u8]) -> Option<usize>
 pub fn cut(bytes: &[u8]) -> Option<(&[u8], &[u8])>
     ensures first { MatchOption result (lacks_end bytes.entry.now ≡ true)
         (λ p. IsCut bytes.entry.now p.0.now p.1.now) }
-    // The same as a value.
+    // The result is that of the definition.
     ensures value { option_map (λ p. (p.0.now, p.1.now)) result ≡ cut bytes.entry.now }
 {
     match line_length(bytes) {

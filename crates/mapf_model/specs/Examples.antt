@@ -81,7 +81,7 @@ crossing = record { grid = open_square; agents = agent 3 5 ∷ agent 1 7 ∷ [] 
 abbrev pub block : ℕ → Entry → LabelBlock
 block agent entry = record { agent = agent; entries = entry ∷ [] }
 
--- what the left child of a split on a swap of agents 0 and 1 inherits, where the split has this block
+-- what the left child of a split on a swap of agents 0 and 1 inherits from the split, which has this block
 abbrev pub left_below : NodeContext → LabelBlock → NodeContext
 left_below context block = left_child_context context (Swap 0 1 3 4 5) (block ∷ [])
 

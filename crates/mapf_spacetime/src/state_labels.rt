@@ -12,7 +12,7 @@ use std::marker::Model;
 #[derive(Debug, Drop)]
 pub struct StateLabels {
     states: Vec<State>,
-    // The cost at which the agent arrives, None where it can't.
+    // The cost at which the agent arrives, None if it can't.
     cost: Option<u32>,
 }
 

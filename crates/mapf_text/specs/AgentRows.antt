@@ -27,7 +27,7 @@ pub record HasNumbers (words : List (List ℕ)) (numbers : Numbers) : Type 0 whe
   pub goal_x : IsNumber (field words 7) numbers.goal_x
   pub goal_y : IsNumber (field words 8) numbers.goal_y
 
--- and the width and the height are the grid's
+-- the same, and the width and the height are the grid's
 pub record HasSize (grid : GridMap) (words : List (List ℕ)) (numbers : Numbers) : Type 0 where
   pub has_numbers : HasNumbers words numbers
   pub width : numbers.width ≡ grid.width
@@ -40,14 +40,14 @@ pub record IsCellAt (grid : GridMap) (x y cell : ℕ) : Type 0 where
   pub number : cell ≡ y * grid.width + x
   pub free : IsFree grid cell
 
--- and the start and the goal are free cells of the grid
+-- the same, and the start and the goal are free cells of the grid
 pub record HasCells (grid : GridMap) (words : List (List ℕ)) (agent : Agent) : Type 0 where
   pub numbers : Numbers
   pub size : HasSize grid words numbers
   pub start : IsCellAt grid numbers.start_x numbers.start_y agent.start
   pub goal : IsCellAt grid numbers.goal_x numbers.goal_y agent.goal
 
--- and field 9 is decimal text; field 2 is any word
+-- the same, and field 9 is decimal text; field 2 is any word
 pub record SpellsAgent (grid : GridMap) (words : List (List ℕ)) (agent : Agent) : Type 0 where
   pub cells : HasCells grid words agent
   pub length_text : IsDecimal (field words 9)
