@@ -65,7 +65,7 @@ pub record IsShownBound (problem : Instance) (bound : ℕ) (tree : ConstraintTre
   pub met_at_a_leaf : AtSomeLeaf (IsLeastSumAt problem tree bound) root tree
   pub claim_in_range : IsClaimInRange (Bound bound)
 
--- an earned tree with a leaf at which due paths, each the first of its cost, conflict and have the property
+-- an earned tree with a leaf at which due paths, each the first of its cost, conflict and have a given property
 abbrev pub IsStoppedAtFirst : (List (List ℕ) → Type 0) → Instance → ConstraintTree → Type 0
 IsStoppedAtFirst Fact problem tree =
     IsStoppedWhere (λ context paths. AreFirstPaths problem context paths × Fact paths) problem tree

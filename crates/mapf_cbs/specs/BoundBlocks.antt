@@ -14,7 +14,7 @@ use Rattle.mapf_model.specs.Path.{IsLawful, IsCost}
 use Rattle.mapf_model.specs.Plan.{Instance}
 use Rattle.mapf_model.specs.Tree.{ConstraintTree, Split, Leaf, Clash, NodeContext, root, left_constraint, right_constraint, left_child_context, right_child_context}
 
--- some lawful path of the agent that satisfies the constraints costs no more than its distance
+-- some lawful path of the agent that satisfies the constraints costs its distance
 pub record KeepsDistance (grid : GridMap) (agent : Agent) (bars : List Bar) : Type 0 where
   pub path : List ℕ
   pub cost : ℕ

@@ -21,7 +21,7 @@ abbrev pub IsTotal : Found (List Entry) → ℕ → ℕ → Option ℕ → Type 
 IsTotal (Arrives path labels) goal rest total = (cost : ℕ) × IsCost goal path cost × (cost < 2 ^ 32) × (total ≡ Some (rest + cost))
 IsTotal (Dead labels) goal rest total = total ≡ None
 
--- a child without a sum is dead; one with a sum is live, and its sum is no smaller than its parent's
+-- a child without a sum is dead; one with a sum is live, and its sum is at least its parent's and at most 2^32 more
 abbrev pub IsGeneratedState : Instance → View → View → Option ℕ → Type 0
 IsGeneratedState problem view child None = IsDead problem child
 IsGeneratedState problem view child (Some total) = IsLive problem child × (total ≡ sum child.costs) × (sum view.costs ≤ total) × (total ≤ sum view.costs + 2 ^ 32)

@@ -26,7 +26,7 @@ pub record IsShortest (grid : GridMap) (agent : Agent) (path : List ℕ) : Type 
   pub short : IsDistance grid agent.goal agent.start (length path - 1)
   pub least : IsLeastDescent grid agent.goal path
 
--- the same of the paths of all agents before this one
+-- the same of each of these paths, which are those of the first agents
 pub record AreShortest (problem : Instance) (paths : List (List ℕ)) : Type 0 where
   pub within : length paths ≤ length problem.agents
   pub each : (i : ℕ) (agent : Agent) (path : List ℕ) → slice_get problem.agents i ≡ Some agent → slice_get paths i ≡ Some path → IsShortest problem.grid agent path

@@ -24,7 +24,7 @@ impl Model for BoundLabels {
 }
 
 impl BoundLabels {
-    /// Returns no block.
+    /// Returns the labels of a node without a block.
     pub fn none(alloc: Global) -> BoundLabels
         ensures { result ≡ [] }
     {

@@ -37,7 +37,7 @@ pub fn finders_at(
     Ok(finders)
 }
 
-// Returns no node for each agent.
+// Returns a list with None for each agent.
 fn none_of(alloc: Global, agents: u32) -> Result<Vec<Option<u32>>, OutOfMemory>
     ensures count { IfOk result (λ finders. length finders.items ≡ agents) }
     ensures none { IfOk result (λ finders. AreNone finders.items) }

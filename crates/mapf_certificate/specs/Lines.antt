@@ -108,7 +108,7 @@ abbrev pub IsClaimLine : Version → CertLine → Type 0
 IsClaimLine version (lines.Claim claim) = IsCertClaim version claim
 IsClaimLine version _ = ⊥
 
--- a number of agents in range
+-- the line of a number of agents in range
 abbrev pub IsAgentsLine : CertLine → Type 0
 IsAgentsLine (lines.Agents agents) = IsAgentCount agents
 IsAgentsLine _ = ⊥

@@ -26,7 +26,7 @@ IsSoundAmong own entries entry = IsSoundEntry own.grid.now own.goal (bars_on own
 abbrev pub IsConsistentStep : AgentProblem → List Entry → Entry → ℕ → Type 0
 IsConsistentStep own entries entry next = MayGo own.grid.now (bars_on own) entry.cell next entry.tick → IsWithinOne own.grid.now own.goal (entries_of entries) entry.label next (entry.tick + 1)
 
--- this holds for each cell of the neighbourhood
+-- this holds for each cell
 abbrev pub IsConsistent : AgentProblem → List Entry → Entry → Type 0
 IsConsistent own entries entry = (next : ℕ) → IsConsistentStep own entries entry next
 

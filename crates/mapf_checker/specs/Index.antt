@@ -40,6 +40,6 @@ AreOthersKept constraint old new = (other : Constraint) → other ≢ constraint
 abbrev pub Indexes : (ℕ → List Bar) → BarIndex → Type 0
 Indexes bars index = (constraint : Constraint) → IsTrue (is_held index constraint) ↔ Contains (bars constraint.agent) constraint.bar
 
--- what these constraints were before one was added
+-- the undo says whether these constraints lacked the one that was added
 abbrev pub CanUndo : (ℕ → List Bar) → Constraint → Undo → Type 0
 CanUndo bars constraint undo = MatchBool undo.is_new (Contains (bars constraint.agent) constraint.bar → ⊥) (Contains (bars constraint.agent) constraint.bar)

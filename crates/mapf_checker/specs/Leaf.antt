@@ -47,13 +47,13 @@ pub record IsCut (blocks : List LabelBlock) (place agent : ℕ) : Type 0 where
   pub before : (k : ℕ) (d : LabelBlock) → k < place → (slice_index_or blocks k d).agent < agent
   pub from : (k : ℕ) (d : LabelBlock) → place ≤ k → k < length blocks → agent ≤ (slice_index_or blocks k d).agent
 
--- the block at the index is the agent's
+-- the block at the index is the agent's, and those after it are of greater agents
 pub record TakesBlock (blocks : List LabelBlock) (place agent : ℕ) : Type 0 where
   pub inside : place < length blocks
   pub is : (d : LabelBlock) → block_of blocks agent ≡ Some (slice_index_or blocks place d)
   pub cut : IsCut blocks (place + 1) (agent + 1)
 
--- the agent has no block
+-- the agent has no block, and the blocks from the index on are of greater agents
 pub record LeavesBlock (blocks : List LabelBlock) (place agent : ℕ) : Type 0 where
   pub none : block_of blocks agent ≡ None
   pub cut : IsCut blocks place (agent + 1)

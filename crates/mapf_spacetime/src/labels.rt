@@ -29,7 +29,7 @@ impl Labels {
         Labels { entries }
     }
 
-    /// Returns no labels.
+    /// Returns an empty list of entries.
     pub fn none(alloc: Global) -> Labels
         ensures { result ≡ [] }
     {

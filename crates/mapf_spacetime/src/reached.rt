@@ -35,7 +35,7 @@ impl Model for Reached {
 }
 
 impl Reached {
-    /// Returns no state, of a grid without cells.
+    /// Returns a list of no states, of a grid without cells.
     pub fn new(alloc: Global) -> Reached
         ensures { result ≡ [] }
     {

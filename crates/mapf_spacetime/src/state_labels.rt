@@ -27,7 +27,7 @@ impl Model for StateLabels {
 }
 
 impl StateLabels {
-    /// Returns no labels.
+    /// Returns labels of no state.
     pub fn none(alloc: Global) -> StateLabels
         ensures { result ≡ [] }
     {
