@@ -52,12 +52,12 @@ pub record SpellsAgent (grid : GridMap) (words : List (List ℕ)) (agent : Agent
   pub cells : HasCells grid words agent
   pub length_text : IsDecimal (field words 9)
 
--- the fields that have to be numbers, each with its index
+-- the fields that have to be numbers, each with its place in the row, counted from 1
 abbrev pub numbered : List (List ℕ) → List (ℕ × List ℕ)
 numbered words =
     (1, field words 1) ∷ (3, field words 3) ∷ (4, field words 4) ∷ (5, field words 5) ∷ (6, field words 6) ∷ (7, field words 7) ∷ (8, field words 8) ∷ []
 
--- the first of these words that isn't a number has this index
+-- the first of these words that isn't a number has this place
 abbrev pub IsFirstNoNumber : List (ℕ × List ℕ) → ℕ → Type 0
 IsFirstNoNumber [] place = ⊥
 IsFirstNoNumber (p ∷ more) place =
