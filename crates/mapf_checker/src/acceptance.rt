@@ -14,8 +14,8 @@ use crate::plan_judge::judge_plan;
 use mapf_model::{BytesSource, Claim, Problem, Source};
 use std::alloc::Global;
 
-/// Returns the verdict on two texts that are accepted for the problem. Judges the plan text first, then the certificate
-/// line by line.
+/// Checks a plan text and a certificate for the problem. Returns the verdict, or why they are not accepted: the plan
+/// text is judged first, then the certificate line by line.
 pub fn check(
     alloc: Global,
     problem: &Problem,
@@ -44,8 +44,8 @@ pub fn check(
     }
 }
 
-/// Returns the verdict on two texts that are accepted for the problem, where the certificate is read from a source and
-/// has at most `limit` bytes. The source is not read before the plan text is accepted.
+/// Checks a plan text and a certificate for the problem, where the certificate is read from a source and has at most
+/// `limit` bytes. Returns the verdict, or why there is none. The source is not read before the plan text is accepted.
 pub fn check_from<S: Source>(
     alloc: Global,
     problem: &Problem,
