@@ -313,7 +313,7 @@ fn answer_of(
 pub fn read_plan(alloc: Global, bytes: &[u8], grid: &Grid) -> Result<PlanText, PlanTextFault>
     // If a plan text is returned, the bytes spell it.
     ensures found { IfOk result (λ p. IsPlanText grid.now p × (bytes.now ≡ plan_text grid.now.width p)) }
-    // A plan text that the bytes spell is returned.
+    // A plan text that the bytes spell is returned, unless memory runs out.
     ensures only { (p : PlanText) → IsPlanText grid.now p → bytes.now ≡ plan_text grid.now.width p
         → OrMemory result (result ≡ Ok p) }
 {
