@@ -1,7 +1,7 @@
--- Which files are one.
+-- When two files are the same.
 use Rattle.std.specs.Prelude.{◌≡◌, Option, Some}
 use Rattle.mapf.specs.declared.outputs.Identity.{Identity}
 
--- the first isn't a regular file, or the second is another one
+-- the first isn't a regular file, or the second isn't, or it is another one
 abbrev pub AreApart : Option Identity → Option Identity → Type 0
 AreApart output other = (identity : Identity) → output ≡ Some identity → other ≡ Some identity → ⊥

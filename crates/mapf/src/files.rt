@@ -16,7 +16,7 @@ fn open(rt: &HostRuntime, path: &str, input: Input) -> Result<File, Fault> {
     }
 }
 
-// An open input, as a file that the arguments name.
+// Returns an open input, as a file that an argument names.
 fn placed<'a>(
     argument: &'a str,
     path: &'a str,
@@ -33,7 +33,7 @@ fn placed<'a>(
     }
 }
 
-/// Solves the problem of two files and writes the plan text and the certificate to two others.
+/// Solves the problem in two files, and writes the plan text and the certificate to two others.
 pub fn solve<'a>(
     rt: &HostRuntime,
     map: &'a str,
@@ -70,7 +70,7 @@ pub fn solve<'a>(
     Ok(kind)
 }
 
-/// Checks the plan text and the certificate of two files for the problem of two others.
+/// Checks the plan text and the certificate in two files for the problem in two others.
 pub fn check(
     rt: &HostRuntime,
     map: &str,
@@ -96,7 +96,7 @@ pub fn check(
     )
 }
 
-/// Shows the plan of a plan text for the problem of two other files on standard output.
+/// Writes the plan of a plan text, for the problem in two other files, to standard output.
 pub fn play(rt: &HostRuntime, map: &str, scen: &str, k: u32, plan: &str) -> Result<(), Fault>
     requires some { 1 ≤ k }
     requires few { k ≤ most_agents }
@@ -114,8 +114,8 @@ pub fn play(rt: &HostRuntime, map: &str, scen: &str, k: u32, plan: &str) -> Resu
     )
 }
 
-/// Writes the replies to agents that follow the plan of a plan text, for the problem of two other
-/// files, on standard output.
+/// Writes the replies to agents that follow the plan of a plan text, for the problem in two other files, to standard
+/// output.
 pub fn dispatch(
     rt: &HostRuntime,
     map: &str,

@@ -1,15 +1,14 @@
-//! The two files that `solve` writes, opened so that nothing of a user's is lost by a slip: where PLAN or
-//! CERT is one regular file with MAP, SCEN or each other, under whatever paths, nothing is solved and every
-//! file stays as it was. Devices and pipes are no regular files, and are never refused.
+//! The two files that `solve` writes, opened so that no file of the user is overwritten by mistake: if PLAN or CERT is
+//! the same regular file as MAP, SCEN or each other, under whatever paths, nothing is solved and every file stays as it
+//! was. Devices and pipes are not regular files, and are never refused.
 //!
 //! 1. MAP and SCEN are open.
-//! 2. What is at the paths of PLAN and CERT is compared with MAP, SCEN and each other. Nothing
-//!    has been opened for writing by then.
-//! 3. PLAN is opened, and made where nothing stood, but not emptied; and then CERT.
-//! 4. The open files are compared in the same way: the system may not have said what is at a
-//!    path, and where nothing stood under either path, both may lead to one new file. What was made
-//!    is removed again.
-//! 5. PLAN is emptied, and then CERT. Where CERT couldn't be opened, PLAN is emptied all the same.
+//! 2. What is at the paths of PLAN and CERT is compared with MAP, SCEN and each other. Nothing has been opened for
+//!    writing by then.
+//! 3. PLAN is opened, and created if it didn't exist, but not emptied; and then CERT.
+//! 4. The open files are compared in the same way: the system may not have reported what is at a path, and if nothing
+//!    existed at either path, both may lead to one new file. What was created is removed again.
+//! 5. PLAN is emptied, and then CERT. If CERT couldn't be opened, PLAN is emptied all the same.
 
 ghost use Rattle.std.specs.Prelude.{◌≡◌, OnOk};
 ghost use Rattle.mapf.specs.Files.{AreApart};
@@ -20,15 +19,14 @@ use std::os::unix::fs::MetadataExt;
 use std::rt::Files;
 use std::{fs, io};
 
-/// A regular file, whatever leads to it: the number of its device, and its own there.
+/// A regular file, whatever path leads to it: the number of its device, and its number there.
 #[derive(Clone, Copy, Debug, PartialEq, Eq)]
 pub struct Identity {
     device: u64,
     number: u64,
 }
 
-/// A file that the arguments name: the name of the argument, the path, and the regular file that it
-/// leads to.
+/// A file that an argument names: the name of the argument, the path, and the regular file that the path leads to.
 #[derive(Clone, Copy)]
 pub struct Place<'a> {
     pub argument: &'a str,
@@ -36,7 +34,7 @@ pub struct Place<'a> {
     pub file: Option<Identity>,
 }
 
-/// Two paths of one regular file, of which one is an output.
+/// Two paths of the same regular file, one of them of an output.
 #[derive(Clone, Copy)]
 pub struct OneFile<'a> {
     pub first: Place<'a>,
@@ -70,7 +68,7 @@ pub struct Outputs {
     pub cert: File,
 }
 
-/// The regular file that is open.
+/// Returns the identity of an open file, None if it isn't a regular file.
 pub fn identity_of(file: &File) -> io::Result<Option<Identity>> {
     Ok(regular(&file.metadata()?))
 }
@@ -85,7 +83,7 @@ fn regular(found: &Metadata) -> Option<Identity> {
     })
 }
 
-// Refuses an output that is the other file too.
+// Refuses an output that is the same file as the other.
 fn apart<'a>(output: Place<'a>, other: Place<'a>) -> Result<(), OneFile<'a>>
     ensures { OnOk result (AreApart output.entry.file other.entry.file) }
 {
@@ -116,8 +114,8 @@ fn all_apart<'a>(
     apart(cert, plan)
 }
 
-// The place of an output before it is opened, and whether nothing stands there. If the system
-// doesn't say, the file is compared once it is open.
+// Returns the place of an output before it is opened, and whether nothing exists there. If the system doesn't report
+// it, the file is compared once it is open.
 fn standing<'a>(rt: &HostRuntime, argument: &'a str, path: &'a str) -> (Place<'a>, bool) {
     let (file, is_missing) = match fs::metadata(rt, path) {
         Ok(found) => (regular(&found), false),
@@ -131,8 +129,8 @@ fn standing<'a>(rt: &HostRuntime, argument: &'a str, path: &'a str) -> (Place<'a
     (place, is_missing)
 }
 
-// Opens an output, and makes it where there is none, but leaves what it holds. Answers the same place, by
-// the file that was opened there.
+// Opens an output, and creates it if it doesn't exist, but keeps its contents. Returns the same place, with the file
+// that was opened.
 fn open_as_it_is<'a>(rt: &HostRuntime, place: Place<'a>) -> io::Result<(File, Place<'a>)> {
     let file = OpenOptions::new()
         .write(true)
@@ -153,7 +151,7 @@ fn empty(file: &File) -> io::Result<()> {
     Ok(())
 }
 
-// Removes a file that was made here. Its path may lead over a link.
+// Removes a file that was created here. Its path may be a link.
 fn remove_made(rt: &HostRuntime, path: &str, was_missing: bool) {
     if !was_missing {
         return;
@@ -163,7 +161,7 @@ fn remove_made(rt: &HostRuntime, path: &str, was_missing: bool) {
     }
 }
 
-/// Opens the two outputs beside the inputs that are open, each empty.
+/// Opens the two outputs after the inputs, each empty.
 pub fn open<'a>(
     rt: &HostRuntime,
     map: Place<'a>,
@@ -199,7 +197,7 @@ pub fn open<'a>(
     }
 }
 
-/// Has the system store a file that was written: a full disk may be reported only then.
+/// Makes the system store a file that was written, since a full disk may be reported only then.
 pub fn store(file: &File, output: Output) -> Result<(), Fault> {
     match stored(file) {
         Ok(()) => Ok(()),

@@ -5,7 +5,7 @@ use std::process::ExitCode;
 use std::rt::Env;
 use std::{env, io};
 
-/// The arguments of the command line, the program's name first.
+/// Returns the arguments of the command line, the program's name first.
 pub fn all(rt: &HostRuntime) -> io::Result<Vec<String>> {
     let mut words = Vec::new(rt.alloc());
     for word in env::args(rt)? {
@@ -14,7 +14,7 @@ pub fn all(rt: &HostRuntime) -> io::Result<Vec<String>> {
     Ok(words)
 }
 
-/// Prints the text that was asked for: help, or the version.
+/// Prints the text that was asked for: the help, or the version.
 pub fn shown(rt: &HostRuntime, text: &str) -> ExitCode {
     let mut out = WriteSink::of(rt.stdout());
     match write_all(&mut out, text.as_bytes()) {
@@ -30,7 +30,7 @@ pub fn refused(rt: &HostRuntime, text: &str) -> ExitCode {
     ExitCode::from(2)
 }
 
-/// Reports two names of one file, one of them an output.
+/// Reports two paths of the same file, one of them of an output.
 pub fn one_file(rt: &HostRuntime, one: &OneFile<'_>) -> ExitCode {
     let (first, second) = (one.first, one.second);
     let text = format!(in rt.alloc();
@@ -51,25 +51,25 @@ pub fn unread(rt: &HostRuntime, error: &io::Error) -> ExitCode {
     refused(rt, "error: a word of the command line is no UTF-8 text\n")
 }
 
-/// Reports that a request for memory was refused.
+/// Reports out of memory.
 pub fn no_memory(rt: &HostRuntime) -> ExitCode {
     told(rt, &Err(Fault::F6))
 }
 
-/// Reports the end of a run that writes its own output.
+/// Reports how a run ended that writes its own output.
 pub fn told(rt: &HostRuntime, answer: &Result<(), Fault>) -> ExitCode {
     let mut err = WriteSink::of(rt.stderr());
     ExitCode::from(tell_run(answer, &mut err))
 }
 
-/// Reports the verdict, or why there is none.
+/// Reports the verdict, or the error.
 pub fn checked(rt: &HostRuntime, answer: &Result<Verdict, Fault>) -> ExitCode {
     let mut out = WriteSink::of(rt.stdout());
     let mut err = WriteSink::of(rt.stderr());
     ExitCode::from(tell_check(answer, &mut out, &mut err))
 }
 
-/// Reports what was found, or why nothing was.
+/// Reports the answer, or why there is none.
 pub fn solved(rt: &HostRuntime, answer: Result<Kind, Unsolved<'_>>) -> ExitCode {
     let answer = match answer {
         Ok(kind) => Ok(kind),

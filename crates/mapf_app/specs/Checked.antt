@@ -1,4 +1,4 @@
--- What a run that checks two texts refuses, and when it pulls the certificate.
+-- What a run that checks two texts refuses, and when it reads the certificate.
 use Rattle.std.specs.Prelude.{ℕ, List, Option, IfSome}
 use Rattle.mapf_app.specs.Problems.{SpellsProblem}
 use Rattle.mapf_checker.specs.Refusals.{HasRefusal}
@@ -13,7 +13,7 @@ pub record IsRefusalOf (map scen plan cert : Option (List ℕ)) (count : ℕ) (r
   pub read : SpellsProblem map scen count problem
   pub defect : IfSome plan (λ plan_text. HasRefusal problem plan_text cert refusal)
 
--- the plan text is good for some verdict on the problem that the map and the scenario spell
+-- the plan text is accepted with some verdict for the problem that the map and the scenario spell
 pub record HasGoodPlan (map scen plan : Option (List ℕ)) (count : ℕ) : Type 0 where
   pub problem : Instance
   pub read : SpellsProblem map scen count problem

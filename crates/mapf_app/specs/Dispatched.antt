@@ -1,4 +1,4 @@
--- What a run that dispatches agents writes, and why an event text can't be answered.
+-- What a run that dispatches agents writes, and why it has no reply to an event text.
 use Rattle.std.specs.Prelude.{◌≡◌, ◌≢◌, ℕ, List, Option, Some, IfSome}
 use Rattle.std.specs.Io.KnownBytes.{Appends}
 use Rattle.mapf_app.specs.Planned.{SpellsPlanned, IsDuePlan, IsPlanDefect}
@@ -27,12 +27,12 @@ pub record IsDueDispatch (map scen plan events : Option (List ℕ)) (count : ℕ
   pub events_told : events ≡ Some event_text
   pub asked : SpellsEvents event_text count agents
 
--- the replies to these agents, who ask one after another while all follow the plan, were written
+-- the replies to these agents, which ask one after another while all follow the plan, were written
 abbrev pub ShowsReplies : Instance → List (List ℕ) → List ℕ → Option (List ℕ) → Option (List ℕ) → Type 0
 ShowsReplies problem paths agents old new = (text : List ℕ) × IsReplyText problem.grid.width paths agents text × Appends old new text
 
--- what an error says of the event text: it spells no events of so many agents, and the error's defect is in its line. An
--- error of the plan text isn't one of an event text
+-- what an error says of the event text: it spells no events of so many agents, and the error's defect is in its line.
+-- An error of the plan text isn't one of an event text
 abbrev pub HasEventsFault : Option (List ℕ) → ℕ → PlayFault → Type 0
 HasEventsFault events count (Text fault) = ⊥
 HasEventsFault events count NoPlan = ⊥

@@ -57,7 +57,7 @@ scenario_fault_line (scenarios.S6 row) = codes "F2 S6" ++ numbers (row ∷ [])
 scenario_fault_line (scenarios.S7 rows) = codes "F2 S7" ++ numbers (rows ∷ [])
 scenario_fault_line scenarios.Memory = memory_line
 
--- after these words
+-- the line of a plan text's error, after these words
 abbrev pub plan_text_fault_line : List ℕ → PlanTextFault → List ℕ
 plan_text_fault_line words (plans.P1 line) = words ++ (codes " P1" ++ numbers (line ∷ []))
 plan_text_fault_line words (plans.P2 line) = words ++ (codes " P2" ++ numbers (line ∷ []))
@@ -73,7 +73,7 @@ cert_fault_line (certs.K3 line) = codes "refused C2 K3" ++ numbers (line ∷ [])
 cert_fault_line (certs.K4 line) = codes "refused C2 K4" ++ numbers (line ∷ [])
 cert_fault_line certs.Memory = memory_line
 
--- after these words
+-- the line of an error of a plan, after these words
 abbrev pub plan_fault_line : List ℕ → PlanFault → List ℕ
 plan_fault_line words (V1 agent) = words ++ (codes " V1" ++ numbers (agent ∷ []))
 plan_fault_line words (V2 agent tick) = words ++ (codes " V2" ++ numbers (agent ∷ tick ∷ []))

@@ -84,8 +84,8 @@ IsReadingAgents scen grid count (F5 output) = ⊥
 IsReadingAgents scen grid count F6 = ⊤
 IsReadingAgents scen grid count (Refused refusal) = ⊥
 
--- what an error of a run says of its inputs. F1 and F2 say the same in every run; what F3, F4, F5 and a refusal say is
--- given by the run; out of memory says nothing
+-- what an error of a run says of its inputs. F1 and F2 say the same in every run; what F3, F4, F5 and a refusal say
+-- depends on the run; out of memory says nothing
 abbrev pub IsFaultOf : Option (List ℕ) → Option (List ℕ) → ℕ → (PlayFault → Type 0) → (Input → Type 0) → (Output → Type 0) → (CheckFault → Type 0) → Fault → Type 0
 IsFaultOf map scen count Plays Reads Writes Refuses (F1 fault) = IsMapDefect map fault
 IsFaultOf map scen count Plays Reads Writes Refuses (F2 fault) = IsScenarioDefect map scen count fault
@@ -199,7 +199,7 @@ IsOfInput (F5 output) = ⊥
 IsOfInput F6 = ⊤
 IsOfInput (Refused refusal) = ⊥
 
--- out of memory is no error of a plan text or of an event text
+-- the error isn't out of memory inside an error of a plan text or of an event text
 abbrev pub HasNoPlayMemory : PlayFault → Type 0
 HasNoPlayMemory (Text fault) = fault ≢ plan_faults.Memory
 HasNoPlayMemory NoPlan = ⊤
@@ -207,7 +207,7 @@ HasNoPlayMemory OtherCount = ⊤
 HasNoPlayMemory (Invalid fault) = ⊤
 HasNoPlayMemory (Events fault) = fault ≢ event_faults.Memory
 
--- out of memory is F6 alone, and inside no other error
+-- out of memory is F6, and inside no other error
 abbrev pub HasNoInnerMemory : Fault → Type 0
 HasNoInnerMemory (F1 fault) = fault ≢ map_faults.Memory
 HasNoInnerMemory (F2 fault) = fault ≢ scenario_faults.Memory
@@ -217,7 +217,7 @@ HasNoInnerMemory (F5 output) = ⊤
 HasNoInnerMemory F6 = ⊤
 HasNoInnerMemory (Refused refusal) = (refusal ≢ refusals.Memory) × HasNoTextMemory refusal
 
--- the error of a run for a reader's error
+-- a map's error as an error of a run
 abbrev pub fault_of_map : MapFault → Fault
 fault_of_map map_faults.Memory = F6
 fault_of_map fault = F1 fault

@@ -1,7 +1,7 @@
 -- For every map text, scenario text, number of agents and limit that the readers accept, a printed plan is valid and no
--- valid plan has a smaller sum of costs; 'impossible' is printed only where no plan is valid; the checker accepts the
--- certificate printed with either; and whatever the checker accepts as optimal or as impossible truly is so, whoever
--- wrote it.
+-- valid plan has a smaller sum of costs; 'impossible' is printed only where no valid plan exists; the checker accepts
+-- the certificate printed with either; and whatever the checker accepts as optimal or as impossible truly is so,
+-- whoever wrote it.
 --
 -- Where a bound is printed or accepted, no valid plan has a smaller sum of costs, whoever wrote the texts; and the
 -- checker accepts the certificate printed with a bound.
@@ -20,19 +20,19 @@ use Rattle.mapf_checker.specs.declared.fault.Verdict.{Verdict}
 use Rattle.mapf_checker.specs.declared.fault.Verdict.TheVariants as verdicts
 use Rattle.mapf_model.specs.Plan.{Instance}
 
--- what is printed for the problem that the map and the scenario spell: a plan that is valid and than which no valid
--- plan has a smaller sum of costs, or 'impossible' where no plan is valid, or a limit that was met with a bound below
--- which no valid plan has its sum, each with a certificate by which both texts are accepted
+-- what is printed for the problem that the map and the scenario spell: an optimal plan, or 'impossible' if no plan is
+-- valid, or a limit that was reached, with a bound such that no valid plan has a smaller sum of costs; each with a
+-- certificate with which both texts are accepted
 pub record PrintsTruly (map scen : Option (List ℕ)) (count limit : ℕ) (kind : Kind) (plan_bytes cert_bytes : List ℕ) : Type 0 where
   pub problem : Instance
   pub posed : IsPosed count problem
   pub read : SpellsProblem map scen count problem
   pub printed : Prints problem limit kind plan_bytes cert_bytes
 
--- what is answered of two texts, whoever wrote them: for the problem that the map and the scenario spell, the plan of
--- the plan text is optimal with the verdict's sum, or the text says that no plan is valid and none is, or it says that
--- a limit was met with the verdict's bound and every valid plan has at least this sum; and the texts are accepted for
--- it with the verdict
+-- what a verdict on two texts says, whoever wrote them: for the problem that the map and the scenario spell, the plan
+-- of the plan text is optimal with the verdict's sum, or the text says that no plan is valid and none is, or it says
+-- that a limit was reached with the verdict's bound and every valid plan has at least this sum; and the texts are
+-- accepted for the problem with the verdict
 pub record JudgesTruly (map scen plan cert : Option (List ℕ)) (count : ℕ) (verdict : Verdict) : Type 0 where
   pub problem : Instance
   pub posed : IsPosed count problem
@@ -43,7 +43,7 @@ pub record JudgesTruly (map scen plan cert : Option (List ℕ)) (count : ℕ) (v
   pub is_true : IsTrueOf problem says verdict
   pub accepted : IfSome plan (λ plan_text. IfSome cert (λ cert_text. AreAccepted problem plan_text cert_text verdict))
 
--- what has to be answered, of printed texts and of any others: the bytes of all inputs are known, and the texts are
+-- the verdict that has to be returned on texts, printed or not: the bytes of all inputs are known, and the texts are
 -- accepted with the verdict for the problem that the map and the scenario spell
 pub record IsDueVerdict (map scen plan cert : Option (List ℕ)) (count : ℕ) (verdict : Verdict) : Type 0 where
   pub map_told : IsSome map
@@ -56,7 +56,7 @@ pub record IsDueVerdict (map scen plan cert : Option (List ℕ)) (count : ℕ) (
   pub cert_told : cert ≡ Some cert_text
   pub accepted : AreAccepted problem plan_text cert_text verdict
 
--- the verdict that an answer asks for
+-- the verdict that belongs to an answer
 abbrev pub IsVerdictOn : Kind → Verdict → Type 0
 IsVerdictOn (Found cost) verdict = verdict ≡ verdicts.Optimal cost
 IsVerdictOn Impossible verdict = verdict ≡ verdicts.Impossible

@@ -1,4 +1,4 @@
--- What was read before an input is pulled: those before it, each whole, and they spell what they must.
+-- What was read before an input is read: those before it, each whole and accepted.
 use Rattle.std.specs.Prelude.{◌≡◌, ℕ, Bool, false, List, Option}
 use Rattle.std.specs.Io.KnownBytes.{IsAtEnd}
 use Rattle.mapf_app.specs.Planned.{SpellsPlanned}

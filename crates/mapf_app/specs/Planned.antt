@@ -1,5 +1,5 @@
--- The valid plan that the inputs of a run spell, and why a plan text can't be followed. Of the bytes of an opaque
--- source, such as a file, nothing is said.
+-- The valid plan that the inputs of a run spell, and why a plan text can't be followed. These definitions say nothing
+-- of the bytes of an opaque source, such as a file.
 use Rattle.std.specs.Prelude.{◌≡◌, ◌≢◌, ⊤, ℕ, List, Option, Some, IfSome, IsSome, length}
 use Rattle.mapf_app.specs.Problems.{IsPosed, SpellsProblem}
 use Rattle.mapf_app.specs.declared.fault.PlayFault.{PlayFault}
@@ -42,8 +42,8 @@ IsNoPlan answers.Impossible = ⊤
 IsNoPlan (answers.Limit cause) = ⊤
 IsNoPlan (answers.Bounded cause bound) = ⊤
 
--- what an error says of the plan text: it spells nothing, holds no plan, is for another number of agents than the
--- problem's, or has a plan with this defect. An error of the events isn't one of a plan text
+-- what an error says of the plan text: it spells nothing, has no plan, is for another number of agents than the problem
+-- has, or has a plan with this defect. An error of the events isn't one of a plan text
 abbrev pub HasPlanFault : Instance → List ℕ → PlayFault → Type 0
 HasPlanFault problem bytes (Text fault) = (fault ≢ plan_faults.Memory) × ((version : Version) (agents : ℕ) (answer : PlanAnswer) → SpellsPlan problem.grid bytes version agents answer → ⊥)
 HasPlanFault problem bytes NoPlan = (version : Version) × (agents : ℕ) × (answer : PlanAnswer) × SpellsPlan problem.grid bytes version agents answer × IsNoPlan answer

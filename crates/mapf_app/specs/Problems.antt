@@ -1,4 +1,5 @@
--- The problem that the inputs of a run spell. Of the bytes of an opaque source, such as a file, nothing is said.
+-- The problem that the inputs of a run spell. These definitions say nothing of the bytes of an opaque source, such as a
+-- file.
 use Rattle.std.specs.Prelude.{◌≡◌, ◌≢◌, ℕ, List, Option, IfSome, length}
 use Rattle.mapf_model.specs.Grid.{GridMap}
 use Rattle.mapf_model.specs.Plan.{Instance, IsInstance}
@@ -23,7 +24,7 @@ pub record SpellsProblem (map scen : Option (List ℕ)) (count : ℕ) (problem :
   pub grid : SpellsGrid map problem.grid
   pub agents : SpellsAgents scen problem.grid count problem
 
--- a problem of the benchmark's kind, of so many agents
+-- a problem of so many agents
 pub record IsPosed (count : ℕ) (problem : Instance) : Type 0 where
   pub is_instance : IsInstance problem
   pub many : length problem.agents ≡ count

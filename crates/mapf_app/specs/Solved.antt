@@ -17,15 +17,14 @@ use Rattle.mapf_model.specs.declared.item.Claim.TheVariants as claims
 use Rattle.mapf_model.specs.Plan.{Instance, IsOptimal, IsImpossible}
 use Rattle.mapf_model.specs.Tree.{ConstraintTree, Node}
 
--- the bytes spell a certificate of version 2 of the claim, with a tree of at most so many splits that the search earned
+-- the bytes spell a certificate of version 2 with the claim and with a tree of the search, of at most so many splits
 pub record SpellsTree (problem : Instance) (limit : ℕ) (claim : Claim) (cert_bytes : List ℕ) : Type 0 where
   pub nodes : List Node
   pub tree : ConstraintTree
   pub searched : IsTreeOf problem limit nodes tree
   pub spelled : SpellsCert problem.grid cert_bytes Two (length problem.agents) claim tree
 
--- the first text spells a plan that is valid with this sum, no valid plan has a smaller sum, both texts are accepted,
--- and the second has a tree of the search
+-- the first text spells an optimal plan with this sum, both texts are accepted, and the second has a tree of the search
 pub record PrintsOptimal (problem : Instance) (limit cost : ℕ) (plan_bytes cert_bytes : List ℕ) : Type 0 where
   pub plan : List (List ℕ)
   pub spelled : SpellsPlan problem.grid plan_bytes Two (length problem.agents) (answers.Found plan)
@@ -33,7 +32,7 @@ pub record PrintsOptimal (problem : Instance) (limit cost : ℕ) (plan_bytes cer
   pub accepted : AreAccepted problem plan_bytes cert_bytes (Optimal cost)
   pub searched : SpellsTree problem limit (claims.Cost cost) cert_bytes
 
--- the first text spells that no plan is valid, none is, both texts are accepted, and the second has a tree of the
+-- the first text spells `impossible`, no plan is valid, both texts are accepted, and the second has a tree of the
 -- search
 pub record PrintsImpossible (problem : Instance) (limit : ℕ) (plan_bytes cert_bytes : List ℕ) : Type 0 where
   pub spelled : SpellsPlan problem.grid plan_bytes Two (length problem.agents) answers.Impossible
@@ -41,9 +40,9 @@ pub record PrintsImpossible (problem : Instance) (limit : ℕ) (plan_bytes cert_
   pub accepted : AreAccepted problem plan_bytes cert_bytes verdicts.Impossible
   pub searched : SpellsTree problem limit claims.Impossible cert_bytes
 
--- the first text spells the limit that was met and a bound, no valid plan has a smaller sum, both texts are accepted,
--- and the second has a tree of the search that justifies stopping for this cause; the bound is the least sum of cheapest
--- paths at any of its leaves, and it shows no greater one
+-- the first text spells the limit that was reached and a bound, no valid plan has a smaller sum, both texts are
+-- accepted, and the second has a tree of the search that justifies stopping for this cause; the bound is the least sum
+-- of cheapest paths at any of its terminal nodes, and it shows no greater one
 pub record PrintsLimit (problem : Instance) (limit : ℕ) (cause : Cause) (bound : ℕ) (plan_bytes cert_bytes : List ℕ) : Type 0 where
   pub spelled : SpellsPlan problem.grid plan_bytes Two (length problem.agents) (answers.Bounded cause bound)
   pub accepted : AreAccepted problem plan_bytes cert_bytes (verdicts.Bound bound)
@@ -65,6 +64,6 @@ plan_bytes problem solved = plan_text problem.grid.width solved.text
 abbrev pub cert_bytes : Instance → Solved → List ℕ
 cert_bytes problem solved = cert_text Two problem.grid.width (length problem.agents) solved.claim solved.tree.items
 
--- what these two texts are
+-- the two texts of a solved problem are as its answer says
 abbrev pub IsSolved : Instance → ℕ → Solved → Type 0
 IsSolved problem limit solved = Prints problem limit solved.kind (plan_bytes problem solved) (cert_bytes problem solved)

@@ -1,4 +1,4 @@
--- What the program prints of an answer, and its exit status.
+-- What the program prints for an answer, and its exit status.
 use Rattle.std.specs.Prelude.{◌≡◌, ◌++◌, ◌∷◌, [], ℕ, Bool, true, false, List, Option, Some, None, codes}
 use Rattle.std.specs.Borrow.{Bor}
 use Rattle.std.specs.Fmt.{decimal}
@@ -38,7 +38,7 @@ kind_line Impossible = codes "impossible\n"
 kind_line (Limit (Splits splits) bound) = codes "limit " ++ (decimal splits ++ (codes " bound " ++ (decimal bound ++ (10 ∷ []))))
 kind_line (Limit Ticks bound) = codes "limit ticks bound " ++ (decimal bound ++ (10 ∷ []))
 
--- 0 solved, 3 impossible, 4 a limit was met
+-- 0 solved, 3 impossible, 4 a limit was reached
 abbrev pub kind_status : Kind → ℕ
 kind_status (Found cost) = 0
 kind_status Impossible = 3

@@ -16,9 +16,8 @@ use mapf_model::Source;
 use mapf_model::limits::MOST_CERT_BYTES;
 use std::alloc::Global;
 
-/// Reads a map, a scenario of which the first `k` agents count, a plan text and a certificate, and
-/// judges whether the certificate shows the plan optimal or the problem impossible. The certificate is
-/// pulled only after the plan text was judged.
+/// Checks a plan text and a certificate for the problem of the first `k` agents of a scenario, and returns the verdict.
+/// Reads the map, the scenario and the plan text; the certificate is read only after the plan text was accepted.
 pub fn run_check<M: Source, S: Source, P: Source, C: Source>(
     alloc: Global,
     map: &mut M,
@@ -36,20 +35,20 @@ pub fn run_check<M: Source, S: Source, P: Source, C: Source>(
     // The verdict is true of the problem that was read, and both texts are accepted for it.
     ensures verdict { IfOk result
         (JudgesTruly (M.remaining map.old) (S.remaining scen.old) (P.remaining plan.old) (C.remaining cert.old) k) }
-    // What is to be accepted is accepted, unless a device or memory prevents it.
+    // What has to be accepted is accepted, unless a device or memory prevents it.
     ensures accepted { (verdict : Verdict) → IsDueVerdict
         (M.remaining map.old) (S.remaining scen.old) (P.remaining plan.old) (C.remaining cert.old) k verdict →
         MatchResult result (λ given. given ≡ verdict) IsOfInput }
-    // Inputs of more bytes than the limit aren't read.
+    // An input with more bytes than its limit is not accepted.
     ensures within { OnOk result
         (IsWithin (M.remaining map.old) most_text_bytes × IsWithin (S.remaining scen.old) most_text_bytes
         × IsWithin (P.remaining plan.old) most_text_bytes × IsWithin (C.remaining cert.old) most_cert_bytes) }
-    // Each reported error is real. Of the map, the scenario and a plan that is not valid its location is correct too.
+    // Each reported error is one that the inputs have. For the map, the scenario and an invalid plan its location is
+    // correct too.
     ensures fault { IfErr result
         (IsChecking (M.remaining map.old) (S.remaining scen.old) (P.remaining plan.old) (C.remaining cert.old) k) }
     ensures inner { IfErr result HasNoInnerMemory }
-    // An error of a source is reported only if it failed or gave too many bytes, and always if it
-    // failed.
+    // An error of a source is reported only if the source failed or gave too many bytes, and always if it failed.
     ensures map { IsErrOf result (Fault.F4 Input.Map) →
         IsUnreadable (M.has_failed map.new) (M.remaining map.old) (M.remaining map.new) most_text_bytes }
     ensures map_failed { M.has_failed map.new ≡ true → IsErrOf result (Fault.F4 Input.Map) }
@@ -62,8 +61,7 @@ pub fn run_check<M: Source, S: Source, P: Source, C: Source>(
     ensures cert { IsErrOf result (Fault.F4 Input.Cert) →
         IsUnreadable (C.has_failed cert.new) (C.remaining cert.old) (C.remaining cert.new) most_cert_bytes }
     ensures cert_failed { C.has_failed cert.new ≡ true → IsErrOf result (Fault.F4 Input.Cert) }
-    // Each input is pulled only after those before it were read whole and spelled what they must, the certificate only
-    // after the plan text was found good.
+    // Each input is read only after those before it were read whole and accepted.
     ensures scen_unpulled { IfErr result (λ fault. IsOfMap fault → scen.new ≡ scen.old) }
     ensures scen_order { (HasReadGrid (M.has_failed map.new) (M.remaining map.old) (M.remaining map.new) → ⊥) →
         scen.new ≡ scen.old }

@@ -14,7 +14,7 @@ use mapf_checker::Verdict;
 use mapf_model::{BytesSink, BytesSource, Failed, OutOfMemory, Sink, write_all};
 use std::alloc::Global;
 
-// Four agents on an open square, each of which goes to its neighbour's place.
+// Four agents on an open square, each of which goes to its neighbour's cell.
 const MAP: &[u8] = b"type octile\nheight 2\nwidth 2\nmap\n..\n..\n";
 
 const SCEN: &[u8] = b"version 1\n\
@@ -25,20 +25,20 @@ const SCEN: &[u8] = b"version 1\n\
 
 const AGENTS: u32 = 4;
 
-// Room for each of the two texts.
+// The size of the memory for each of the two texts.
 const ROOM: usize = 4096;
 
-/// Solves and checks a small problem over memory, and writes its plan text, its certificate and the
-/// verdict: four agents that rotate on an open square of four cells.
+/// Solves and checks a small problem in memory, four agents that rotate on an open square of four cells, and writes its
+/// plan text, its certificate and the verdict.
 pub fn run_demo<K: Sink>(alloc: Global, sink: &mut K) -> Result<(), Fault>
     requires { K.has_failed sink.old ≡ false }
-    // What is written is a plan text, a certificate and the verdict, by which both texts are accepted for the
-    // built-in problem.
+    // What is written is a plan text, a certificate and the verdict with which both texts are accepted for the built-in
+    // problem.
     ensures text { OnOk result ((plan_text : List ℕ) × (cert_text : List ℕ) × (verdict : Verdict)
         × JudgesTruly (Some MAP.now) (Some SCEN.now) (Some plan_text) (Some cert_text) AGENTS verdict
         × Appends (K.contents sink.old) (K.contents sink.new) (plan_text ++ (cert_text ++ verdict_line verdict))) }
     ensures inner { IfErr result HasNoInnerMemory }
-    // An error of the sink is reported exactly if it failed. After any other error it is as it was.
+    // An error of the sink is reported if and only if the sink failed. After any other error it is as it was.
     ensures sink { IsErrOf result (Fault.F5 Output.Out) → K.has_failed sink.new ≡ true }
     ensures sink_failed { K.has_failed sink.new ≡ true → IsErrOf result (Fault.F5 Output.Out) }
     ensures unwritten { IfErr result (λ fault. (fault ≡ Fault.F5 Output.Out) ⊎ (sink.new ≡ sink.old)) }

@@ -18,7 +18,7 @@ use mapf_model::{Failed, OutOfMemory, Sink, Source};
 use mapf_player::{Dispatch, EventFault, dispatch_all, read_events};
 use std::alloc::Global;
 
-// An event text's error as an error of a run.
+// Returns an event text's error as an error of a run.
 fn fault_of_events(fault: EventFault) -> Fault
     ensures { result ≡ fault_of_events fault }
 {
@@ -28,7 +28,7 @@ fn fault_of_events(fault: EventFault) -> Fault
     }
 }
 
-// The agents that ask, one after another, as the event text spells them.
+// Returns the agents that ask, one after another, in the order of the event text.
 fn read_asking<E: Source>(alloc: Global, events: &mut E, k: u32) -> Result<Vec<u32>, Fault>
     requires works { E.has_failed events.old ≡ false }
     requires few { k ≤ most_agents }
@@ -51,10 +51,9 @@ fn read_asking<E: Source>(alloc: Global, events: &mut E, k: u32) -> Result<Vec<u
     }
 }
 
-/// Reads a map, a scenario of which the first `k` agents count, a plan text and an event text, lets
-/// the agents follow the plan, and writes, for each event in order, the reply to the agent that
-/// asks to go on. Nothing is written before the plan was found valid, the events were read and all
-/// memory was allocated.
+/// Lets the first `k` agents of a scenario follow a plan, and writes for each event in order the reply to the agent
+/// that asks to move on. Reads the map, the scenario, the plan text and the event text. Nothing is written before the
+/// plan was found valid, the events were read and all memory was allocated.
 pub fn run_dispatch<M: Source, S: Source, P: Source, E: Source, K: Sink>(
     alloc: Global,
     map: &mut M,
@@ -71,27 +70,27 @@ pub fn run_dispatch<M: Source, S: Source, P: Source, E: Source, K: Sink>(
     requires sink_works { K.has_failed sink.old ≡ false }
     requires some { 1 ≤ k }
     requires few { k ≤ most_agents }
-    // What is written are the replies to the events that were read, while all follow the valid plan that was read.
+    // What is written are the replies to the events that were read, while all agents follow the valid plan that was
+    // read.
     ensures text { OnOk result ((text : List ℕ)
         × DispatchesTruly (M.remaining map.old) (S.remaining scen.old) (P.remaining plan.old)
         (E.remaining events.old) k text
         × Appends (K.contents sink.old) (K.contents sink.new) text) }
-    // Events that are spelled beside a valid plan are answered, unless a device or memory prevents it.
+    // If the texts spell events and a valid plan, the replies are written, unless a device or memory prevents it.
     ensures due { (problem : Instance) (paths : List (List ℕ)) (agents : List ℕ) →
         IsDueDispatch (M.remaining map.old) (S.remaining scen.old) (P.remaining plan.old) (E.remaining events.old) k
         problem paths agents →
         MatchResult result
         (λ _. ShowsReplies problem paths agents (K.contents sink.old) (K.contents sink.new)) IsOfDevices }
-    // Inputs of more bytes than the limit aren't read.
+    // An input with more bytes than its limit is not accepted.
     ensures within { OnOk result
         (IsWithin (M.remaining map.old) most_text_bytes × IsWithin (S.remaining scen.old) most_text_bytes
         × IsWithin (P.remaining plan.old) most_text_bytes × IsWithin (E.remaining events.old) most_text_bytes) }
-    // Each reported error is real, and its location is correct.
+    // Each reported error is one that the inputs have, and its location is correct.
     ensures fault { IfErr result (IsDispatching
         (M.remaining map.old) (S.remaining scen.old) (P.remaining plan.old) (E.remaining events.old) k) }
     ensures inner { IfErr result HasNoInnerMemory }
-    // An error of a device is reported only if it failed or a source gave too many bytes, and
-    // always if it failed.
+    // An error of a device is reported only if it failed or a source gave too many bytes, and always if it failed.
     ensures map { IsErrOf result (Fault.F4 Input.Map) →
         IsUnreadable (M.has_failed map.new) (M.remaining map.old) (M.remaining map.new) most_text_bytes }
     ensures map_failed { M.has_failed map.new ≡ true → IsErrOf result (Fault.F4 Input.Map) }
@@ -106,7 +105,7 @@ pub fn run_dispatch<M: Source, S: Source, P: Source, E: Source, K: Sink>(
     ensures events_failed { E.has_failed events.new ≡ true → IsErrOf result (Fault.F4 Input.Events) }
     ensures sink { IsErrOf result (Fault.F5 Output.Out) → K.has_failed sink.new ≡ true }
     ensures sink_failed { K.has_failed sink.new ≡ true → IsErrOf result (Fault.F5 Output.Out) }
-    // Each input is pulled only after those before it were read whole and spelled what they must.
+    // Each input is read only after those before it were read whole and accepted.
     ensures scen_unpulled { IfErr result (λ fault. IsOfMap fault → scen.new ≡ scen.old) }
     ensures scen_order { (HasReadGrid (M.has_failed map.new) (M.remaining map.old) (M.remaining map.new) → ⊥) →
         scen.new ≡ scen.old }

@@ -19,45 +19,45 @@ pub enum Input {
 pub enum Output {
     Plan,
     Cert,
-    /// Standard output, or what takes its place.
+    /// Standard output, or what is used in its place.
     Out,
 }
 
 /// Why a plan can't be played or followed, or events can't be read.
 #[derive(Clone, Copy, Debug, PartialEq, Eq)]
 pub enum PlayFault {
-    /// The bytes of the plan text spell no plan text. The variant `Memory` is never in here.
+    /// The plan text does not follow the grammar. The variant `Memory` never occurs in here.
     Text(PlanTextFault),
-    /// The text says that no plan is valid, or that a limit was met.
+    /// The text says that no plan is valid, or that a limit was reached.
     NoPlan,
-    /// The plan is for another number of agents than the problem's.
+    /// The plan is for another number of agents than the problem has.
     OtherCount,
     /// The plan isn't valid.
     Invalid(PlanFault),
-    /// The bytes of the event text spell no events. The variant `Memory` is never in here.
+    /// The event text does not follow the grammar. The variant `Memory` never occurs in here.
     Events(EventFault),
 }
 
-/// Why a run has no answer. Out of memory is `F6`, and inside no other error.
+/// Why a run ends with an error. Out of memory is `F6`, and inside no other error.
 #[derive(Clone, Copy, Debug, PartialEq, Eq, Error)]
 pub enum Fault {
-    /// The map's bytes have the defect.
+    /// The map has this error.
     #[error("map: {0:?}")]
     F1(MapFault),
-    /// The scenario's bytes have the defect.
+    /// The scenario has this error.
     #[error("scenario: {0:?}")]
     F2(ScenFault),
     /// The plan can't be played or followed, or the events can't be read.
     #[error("plan or events: {0:?}")]
     F3(PlayFault),
-    /// The input couldn't be read: its source failed, or gave more than `MOST_TEXT_BYTES`
-    /// bytes, of a certificate more than `MOST_CERT_BYTES`.
+    /// The input could not be read: its source failed, or gave more than `MOST_TEXT_BYTES` bytes, or of a certificate
+    /// more than `MOST_CERT_BYTES`.
     #[error("read of {0:?}")]
     F4(Input),
-    /// The output couldn't be written: its sink failed.
+    /// The output could not be written: its sink failed.
     #[error("write of {0:?}")]
     F5(Output),
-    /// A request for memory was refused.
+    /// Out of memory.
     #[error("out of memory")]
     F6,
     /// The check refused the plan text or the certificate.

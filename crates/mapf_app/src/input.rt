@@ -15,7 +15,7 @@ use mapf_model::{Grid, Problem, ReadEnd, Source, read_all};
 use mapf_text::{MapFault, ScenFault, read_map, read_scen};
 use std::alloc::Global;
 
-/// All that the source of a text gives.
+/// Returns all bytes that the source of a text gives.
 pub fn read_text<S: Source>(alloc: Global, source: &mut S, input: Input) -> Result<Vec<u8>, Fault>
     requires { S.has_failed source.old ≡ false }
     ensures whole { IfOk result (λ text. IfSome (S.remaining source.old) (λ bytes. text.items ≡ bytes)) }
@@ -33,7 +33,7 @@ pub fn read_text<S: Source>(alloc: Global, source: &mut S, input: Input) -> Resu
     }
 }
 
-// A map's error as an error of a run.
+// Returns a map's error as an error of a run.
 fn fault_of_map(fault: MapFault) -> Fault
     ensures { result ≡ fault_of_map fault }
 {
@@ -43,7 +43,7 @@ fn fault_of_map(fault: MapFault) -> Fault
     }
 }
 
-// A scenario's error as an error of a run.
+// Returns a scenario's error as an error of a run.
 fn fault_of_scenario(fault: ScenFault) -> Fault
     ensures { result ≡ fault_of_scenario fault }
 {
@@ -53,7 +53,7 @@ fn fault_of_scenario(fault: ScenFault) -> Fault
     }
 }
 
-// The grid that a map spells.
+// Reads the grid that a map spells.
 fn read_grid<M: Source>(alloc: Global, map: &mut M) -> Result<Grid, Fault>
     requires { M.has_failed map.old ≡ false }
     ensures found { IfOk result (SpellsGrid (M.remaining map.old)) }
@@ -72,7 +72,7 @@ fn read_grid<M: Source>(alloc: Global, map: &mut M) -> Result<Grid, Fault>
     }
 }
 
-// The problem of the `k` agents that a scenario spells on the grid.
+// Reads the problem of the `k` agents that a scenario spells on the grid.
 fn read_agents<S: Source>(alloc: Global, scen: &mut S, grid: Grid, k: u32) -> Result<Problem, Fault>
     requires works { S.has_failed scen.old ≡ false }
     requires some { 1 ≤ k }
@@ -96,7 +96,7 @@ fn read_agents<S: Source>(alloc: Global, scen: &mut S, grid: Grid, k: u32) -> Re
     }
 }
 
-/// The problem that a map and a scenario spell. The map is parsed before the scenario is pulled.
+/// Returns the problem that a map and a scenario spell. The scenario is read only after the map was accepted.
 pub fn read_problem<M: Source, S: Source>(
     alloc: Global,
     map: &mut M,
@@ -107,18 +107,17 @@ pub fn read_problem<M: Source, S: Source>(
     requires scen_works { S.has_failed scen.old ≡ false }
     requires some { 1 ≤ k }
     requires few { k ≤ most_agents }
-    // What is read is spelled so.
+    // If a problem is returned, the map and the scenario spell it.
     ensures found { IfOk result (SpellsProblem (M.remaining map.old) (S.remaining scen.old) k) }
     ensures posed { IfOk result (IsPosed k) }
-    // What is spelled so is read, unless a device or memory prevents it.
+    // A problem that they spell is returned, unless a device or memory prevents it.
     ensures only { (problem : Instance) → IsSome (M.remaining map.old) → IsSome (S.remaining scen.old) →
         SpellsProblem (M.remaining map.old) (S.remaining scen.old) k problem →
         (result ≡ Ok problem) ⊎ IsErrAnd result IsOfInput }
-    // The reported location is correct.
+    // Each reported error is one that the inputs have, and its location is correct.
     ensures fault { IfErr result (IsReading (M.remaining map.old) (S.remaining scen.old) k) }
     ensures inner { IfErr result HasNoInnerMemory }
-    // An error of a source is reported only if it failed or gave too many bytes, and always if it
-    // failed.
+    // An error of a source is reported only if the source failed or gave too many bytes, and always if it failed.
     ensures map { IsErrOf result (Fault.F4 Input.Map) →
         IsUnreadable (M.has_failed map.new) (M.remaining map.old) (M.remaining map.new) most_text_bytes }
     ensures map_failed { M.has_failed map.new ≡ true → IsErrOf result (Fault.F4 Input.Map) }
@@ -128,7 +127,7 @@ pub fn read_problem<M: Source, S: Source>(
     // Both are read whole, and neither has more bytes than the limit.
     ensures whole { OnOk result (HasReadProblem (M.has_failed map.new) (M.remaining map.old) (M.remaining map.new)
         (S.has_failed scen.new) (S.remaining scen.old) (S.remaining scen.new) k) }
-    // The scenario is pulled only after the map was read whole and spelled a grid.
+    // The scenario is read only after the map was read whole and accepted.
     ensures unpulled { IfErr result (λ fault. IsOfMap fault → scen.new ≡ scen.old) }
     ensures order { (HasReadGrid (M.has_failed map.new) (M.remaining map.old) (M.remaining map.new) → ⊥) →
         scen.new ≡ scen.old }

@@ -1,6 +1,6 @@
 ghost use Rattle.mapf_app.specs.Headline.{PrintedIsDue};
 
-/// What is printed beside a plan or 'impossible' has to be accepted by a check of it.
+/// What is printed with a plan, with 'impossible' or with a bound has to be accepted by `check`.
 pub fn printed_is_due()
     ensures { PrintedIsDue }
 {}

@@ -1,4 +1,4 @@
-//! The runs: bytes in, bytes out, each error by its name.
+//! The runs: bytes in, bytes out, errors named.
 #![tactic(auto)]
 
 mod check;

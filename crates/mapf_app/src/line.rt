@@ -14,8 +14,7 @@ use mapf_model::{Failed, Sink, write_all};
 use mapf_player::EventFault;
 use mapf_text::{MapFault, ScenFault};
 
-/// A line that the program prints: words, the name of a text's or a plan's error, numbers, and a
-/// bound.
+/// A line that the program prints: words, the name of an error of a text or a plan, numbers, and a bound.
 #[derive(Clone, Copy, Debug, PartialEq, Eq)]
 pub struct Line {
     words: &'static str,
@@ -25,7 +24,7 @@ pub struct Line {
 }
 
 impl Line {
-    /// The line with these words alone.
+    /// Returns the line with these words only.
     pub fn of(words: &'static str) -> Line
         ensures { result ≡ record { words = words.entry; defect = None; numbers = (None, None, None); bound = None } }
     {
@@ -46,7 +45,7 @@ impl Line {
         }
     }
 
-    /// The line with one number.
+    /// Returns the line with this number.
     pub fn with(self, number: u64) -> Line
         ensures { result ≡ record self { numbers = (Some number, None, None) } }
     {
@@ -56,7 +55,7 @@ impl Line {
         }
     }
 
-    /// The line with a bound.
+    /// Returns the line with a bound.
     pub fn bounded(self, bound: u64) -> Line
         ensures { result ≡ record self { bound = Some bound } }
     {
@@ -84,7 +83,7 @@ impl Line {
         }
     }
 
-    /// The line of a verdict.
+    /// Returns the line of a verdict.
     pub fn of_verdict(verdict: Verdict) -> Line
         ensures { line_text result ≡ verdict_line verdict }
     {
@@ -95,7 +94,7 @@ impl Line {
         }
     }
 
-    /// The line of an error.
+    /// Returns the line of an error.
     pub fn of_fault(fault: Fault) -> Line
         ensures { line_text result ≡ fault_line fault }
     {

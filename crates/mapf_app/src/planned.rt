@@ -23,7 +23,7 @@ pub struct Planned {
     pub plan: Plan,
 }
 
-// A plan text's error as an error of a run.
+// Returns a plan text's error as an error of a run.
 fn fault_of_plan_text(fault: PlanTextFault) -> Fault
     ensures { result ≡ fault_of_plan_text fault }
 {
@@ -33,7 +33,7 @@ fn fault_of_plan_text(fault: PlanTextFault) -> Fault
     }
 }
 
-// The valid plan that a plan text spells for the problem.
+// Returns the valid plan that a plan text spells for the problem.
 fn valid_plan(alloc: Global, problem: &Problem, bytes: &[u8]) -> Result<Plan, Fault>
     ensures found { IfOk result (SpellsValidPlan problem.now bytes.now) }
     ensures only { (plan : List (List ℕ)) → SpellsValidPlan problem.now bytes.now plan →
@@ -57,8 +57,8 @@ fn valid_plan(alloc: Global, problem: &Problem, bytes: &[u8]) -> Result<Plan, Fa
     }
 }
 
-/// The problem that a map and a scenario spell, of which the first `k` agents count, and the valid plan
-/// that a plan text spells for it. Each input is parsed before the next one is pulled.
+/// Returns the problem of the first `k` agents that a map and a scenario spell, and the valid plan that a plan text
+/// spells for it. Each input is read only after the one before it was accepted.
 pub fn read_planned<M: Source, S: Source, P: Source>(
     alloc: Global,
     map: &mut M,
@@ -71,18 +71,18 @@ pub fn read_planned<M: Source, S: Source, P: Source>(
     requires plan_works { P.has_failed plan.old ≡ false }
     requires some { 1 ≤ k }
     requires few { k ≤ most_agents }
-    // What is read is spelled so.
+    // If a problem and a plan are returned, the inputs spell them.
     ensures found { IfOk result (λ planned. SpellsPlanned
         (M.remaining map.old) (S.remaining scen.old) (P.remaining plan.old) k planned.problem planned.plan) }
-    // What is spelled so is read, unless a device or memory prevents it.
+    // A problem and a valid plan that the inputs spell are returned, unless a device or memory prevents it.
     ensures only { (planned : Planned) →
         IsDuePlan (M.remaining map.old) (S.remaining scen.old) (P.remaining plan.old) k planned.problem planned.plan →
         (result ≡ Ok planned) ⊎ IsErrAnd result IsOfInput }
-    // Each reported error is real. Of the map, the scenario and a plan that is not valid its location is correct too.
+    // Each reported error is one that the inputs have. For the map, the scenario and an invalid plan its location is
+    // correct too.
     ensures fault { IfErr result (IsPlanning (M.remaining map.old) (S.remaining scen.old) (P.remaining plan.old) k) }
     ensures inner { IfErr result HasNoInnerMemory }
-    // An error of a source is reported only if it failed or gave too many bytes, and always if it
-    // failed.
+    // An error of a source is reported only if the source failed or gave too many bytes, and always if it failed.
     ensures map { IsErrOf result (Fault.F4 Input.Map) →
         IsUnreadable (M.has_failed map.new) (M.remaining map.old) (M.remaining map.new) most_text_bytes }
     ensures map_failed { M.has_failed map.new ≡ true → IsErrOf result (Fault.F4 Input.Map) }
@@ -96,7 +96,7 @@ pub fn read_planned<M: Source, S: Source, P: Source>(
     ensures whole { OnOk result (HasReadPlan (M.has_failed map.new) (M.remaining map.old) (M.remaining map.new)
         (S.has_failed scen.new) (S.remaining scen.old) (S.remaining scen.new)
         (P.has_failed plan.new) (P.remaining plan.old) (P.remaining plan.new) k) }
-    // Each input is pulled only after those before it were read whole and spelled what they must.
+    // Each input is read only after those before it were read whole and accepted.
     ensures scen_unpulled { IfErr result (λ fault. IsOfMap fault → scen.new ≡ scen.old) }
     ensures scen_order { (HasReadGrid (M.has_failed map.new) (M.remaining map.old) (M.remaining map.new) → ⊥) →
         scen.new ≡ scen.old }

@@ -16,8 +16,8 @@ use mapf_model::{Failed, Sink, Source};
 use mapf_player::play;
 use std::alloc::Global;
 
-/// Reads a map, a scenario of which the first `k` agents count, and a plan text, and writes what its plan
-/// looks like at each tick. Nothing is written before the plan was found valid.
+/// Writes where the first `k` agents of a scenario are at each tick of a plan. Reads the map, the scenario and the plan
+/// text. Nothing is written before the plan was found valid.
 pub fn run_play<M: Source, S: Source, P: Source, K: Sink>(
     alloc: Global,
     map: &mut M,
@@ -32,23 +32,23 @@ pub fn run_play<M: Source, S: Source, P: Source, K: Sink>(
     requires sink_works { K.has_failed sink.old ≡ false }
     requires some { 1 ≤ k }
     requires few { k ≤ most_agents }
-    // What is written plays the valid plan that was read, for the problem that was read.
+    // What is written shows the valid plan that was read, for the problem that was read.
     ensures text { OnOk result ((text : List ℕ)
         × PlaysTruly (M.remaining map.old) (S.remaining scen.old) (P.remaining plan.old) k text
         × Appends (K.contents sink.old) (K.contents sink.new) text) }
-    // A valid plan that is spelled is the one that is played, unless a device or memory prevents it.
+    // If the plan text spells a valid plan, this plan is written, unless a device or memory prevents it.
     ensures due { (problem : Instance) (paths : List (List ℕ)) →
         IsDuePlan (M.remaining map.old) (S.remaining scen.old) (P.remaining plan.old) k problem paths →
         MatchResult result (λ _. ShowsPlan problem paths (K.contents sink.old) (K.contents sink.new)) IsOfDevices }
-    // Inputs of more bytes than the limit aren't read.
+    // An input with more bytes than its limit is not accepted.
     ensures within { OnOk result
         (IsWithin (M.remaining map.old) most_text_bytes × IsWithin (S.remaining scen.old) most_text_bytes
         × IsWithin (P.remaining plan.old) most_text_bytes) }
-    // Each reported error is real. Of the map, the scenario and a plan that is not valid its location is correct too.
+    // Each reported error is one that the inputs have. For the map, the scenario and an invalid plan its location is
+    // correct too.
     ensures fault { IfErr result (IsPlaying (M.remaining map.old) (S.remaining scen.old) (P.remaining plan.old) k) }
     ensures inner { IfErr result HasNoInnerMemory }
-    // An error of a device is reported only if it failed or a source gave too many bytes, and
-    // always if it failed.
+    // An error of a device is reported only if it failed or a source gave too many bytes, and always if it failed.
     ensures map { IsErrOf result (Fault.F4 Input.Map) →
         IsUnreadable (M.has_failed map.new) (M.remaining map.old) (M.remaining map.new) most_text_bytes }
     ensures map_failed { M.has_failed map.new ≡ true → IsErrOf result (Fault.F4 Input.Map) }
@@ -60,7 +60,7 @@ pub fn run_play<M: Source, S: Source, P: Source, K: Sink>(
     ensures plan_failed { P.has_failed plan.new ≡ true → IsErrOf result (Fault.F4 Input.Plan) }
     ensures sink { IsErrOf result (Fault.F5 Output.Out) → K.has_failed sink.new ≡ true }
     ensures sink_failed { K.has_failed sink.new ≡ true → IsErrOf result (Fault.F5 Output.Out) }
-    // Each input is pulled only after those before it were read whole and spelled what they must.
+    // Each input is read only after those before it were read whole and accepted.
     ensures scen_unpulled { IfErr result (λ fault. IsOfMap fault → scen.new ≡ scen.old) }
     ensures scen_order { (HasReadGrid (M.has_failed map.new) (M.remaining map.old) (M.remaining map.new) → ⊥) →
         scen.new ≡ scen.old }

@@ -19,9 +19,9 @@ use mapf_certificate::TextWriter;
 use mapf_model::{Sink, Source};
 use std::alloc::Global;
 
-/// Reads a map and then a scenario, solves the problem of its first `k` agents with at most `limit`
-/// splits, and writes the plan text and then the certificate, both in version 2. Nothing is written
-/// before all memory was allocated.
+/// Solves the problem of the first `k` agents of a scenario with at most `limit` splits, and writes the plan text and
+/// then the certificate, both in version 2. Reads the map and then the scenario. Nothing is written before all memory
+/// was allocated.
 pub fn run_solve<M: Source, S: Source, P: Sink, C: Sink>(
     alloc: Global,
     map: &mut M,
@@ -38,27 +38,26 @@ pub fn run_solve<M: Source, S: Source, P: Sink, C: Sink>(
     requires some { 1 ≤ k }
     requires few { k ≤ most_agents }
     requires limit { limit ≤ most_splits }
-    // A plan that is printed is cheapest, 'impossible' is printed only where no plan is valid, a bound only where
-    // no valid plan has a smaller sum, and both texts are accepted for the problem that was read.
+    // A printed plan is optimal, 'impossible' is printed only if no plan is valid, a bound only if no valid plan has a
+    // smaller sum of costs, and both texts are accepted for the problem that was read.
     ensures printed { IfOk result (λ kind. (plan_text : List ℕ) × (cert_text : List ℕ)
         × PrintsTruly (M.remaining map.old) (S.remaining scen.old) k limit kind plan_text cert_text
         × Appends (P.contents plan_sink.old) (P.contents plan_sink.new) plan_text
         × Appends (C.contents cert_sink.old) (C.contents cert_sink.new) cert_text) }
-    // A problem that is spelled is the one that is solved, unless a device or memory prevents it.
+    // If the map and the scenario spell a problem, it is solved, unless a device or memory prevents it.
     ensures due { (problem : Instance) → IsSome (M.remaining map.old) → IsSome (S.remaining scen.old) →
         SpellsProblem (M.remaining map.old) (S.remaining scen.old) k problem →
         MatchResult result (λ kind. (plan_text : List ℕ) × (cert_text : List ℕ)
         × Prints problem limit kind plan_text cert_text
         × Appends (P.contents plan_sink.old) (P.contents plan_sink.new) plan_text
         × Appends (C.contents cert_sink.old) (C.contents cert_sink.new) cert_text) IsOfDevices }
-    // Inputs of more bytes than the limit aren't read.
+    // An input with more bytes than its limit is not accepted.
     ensures within { OnOk result
         (IsWithin (M.remaining map.old) most_text_bytes × IsWithin (S.remaining scen.old) most_text_bytes) }
-    // Each reported error is real, and its location is correct.
+    // Each reported error is one that the inputs have, and its location is correct.
     ensures fault { IfErr result (IsSolving (M.remaining map.old) (S.remaining scen.old) k) }
     ensures inner { IfErr result HasNoInnerMemory }
-    // An error of a device is reported only if it failed or a source gave too many bytes, and
-    // always if it failed.
+    // An error of a device is reported only if it failed or a source gave too many bytes, and always if it failed.
     ensures map { IsErrOf result (Fault.F4 Input.Map) →
         IsUnreadable (M.has_failed map.new) (M.remaining map.old) (M.remaining map.new) most_text_bytes }
     ensures map_failed { M.has_failed map.new ≡ true → IsErrOf result (Fault.F4 Input.Map) }
@@ -70,7 +69,7 @@ pub fn run_solve<M: Source, S: Source, P: Sink, C: Sink>(
     ensures plan_failed { P.has_failed plan_sink.new ≡ true → IsErrOf result (Fault.F5 Output.Plan) }
     ensures cert { IsErrOf result (Fault.F5 Output.Cert) → C.has_failed cert_sink.new ≡ true }
     ensures cert_failed { C.has_failed cert_sink.new ≡ true → IsErrOf result (Fault.F5 Output.Cert) }
-    // The scenario is pulled only after the map was read whole and spelled a grid.
+    // The scenario is read only after the map was read whole and accepted.
     ensures unpulled { IfErr result (λ fault. IsOfMap fault → scen.new ≡ scen.old) }
     ensures order { (HasReadGrid (M.has_failed map.new) (M.remaining map.old) (M.remaining map.new) → ⊥) →
         scen.new ≡ scen.old }

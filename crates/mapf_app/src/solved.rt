@@ -13,8 +13,8 @@ use mapf_certificate::{PlanAnswer, PlanText, Version};
 use mapf_model::{Cause, Claim, OutOfMemory, Plan, Problem, laws};
 use std::alloc::Global;
 
-/// What a run prints of a problem that it solved: what the plan text says, and the claim and the tree of
-/// the certificate. Both texts are of version 2.
+/// What a run prints of a problem that it solved: the answer of the plan text, and the claim and the tree of the
+/// certificate. Both texts are of version 2.
 #[derive(Debug, Drop)]
 pub struct Solved {
     pub kind: Kind,
@@ -37,7 +37,7 @@ fn text_of(problem: &Problem, answer: PlanAnswer) -> PlanText
     }
 }
 
-// The sum of costs of a valid plan.
+// Returns the sum of costs of a valid plan.
 fn sum_of(problem: &Problem, plan: &Plan) -> u64
     requires { IsValid problem.now plan.now }
     ensures { IsSumOfCosts problem.now.agents plan.now result }
@@ -96,8 +96,7 @@ fn limited(problem: &Problem, cause: Cause, bound: u64, tree: Vec<TreeNode>) -> 
     }
 }
 
-/// Solves the problem with at most `limit` splits. All memory that the two texts need is allocated
-/// here.
+/// Solves the problem with at most `limit` splits. All memory that the two texts need is allocated here.
 pub fn solve_problem(alloc: Global, problem: &Problem, limit: u32) -> Result<Solved, OutOfMemory>
     requires { limit ≤ most_splits }
     ensures prints { IfOk result (λ solved. IsSolved problem.now limit solved) }

@@ -20,7 +20,7 @@ const IMPOSSIBLE: u8 = 3;
 
 const LIMIT: u8 = 4;
 
-// The status, or that of an error if the line couldn't be written.
+// Returns the status, or that of an error if the line could not be written.
 fn told(written: Result<(), Failed>, status: u8) -> u8
     ensures { result ≡ if is_err written then 2 else status }
 {
@@ -48,9 +48,8 @@ fn kind_line(kind: Kind) -> (Line, u8)
     }
 }
 
-/// Prints the answer of a solving run, a line on `out`, or its error, a line on `err`, and returns
-/// the exit status: 0 solved, 3 impossible, 4 a limit, 2 an error, also if the line couldn't be
-/// written.
+/// Prints the answer of a solving run as a line on `out`, or its error as a line on `err`. Returns the exit status: 0
+/// solved, 3 impossible, 4 a limit, 2 an error, also if the line could not be written.
 pub fn tell_solve<O: Sink, E: Sink>(answer: &Result<Kind, Fault>, out: &mut O, err: &mut E) -> u8
     requires out_works { O.has_failed out.old ≡ false }
     requires err_works { E.has_failed err.old ≡ false }
@@ -69,9 +68,8 @@ pub fn tell_solve<O: Sink, E: Sink>(answer: &Result<Kind, Fault>, out: &mut O, e
     }
 }
 
-/// Prints how a checking run ended: a verdict or a refusal, a line on `out`, or any other error, a
-/// line on `err`; and returns the exit status: 0 accepted, 1 refused, 2 any other error, also if
-/// the line couldn't be written.
+/// Prints the verdict or the refusal of a checking run as a line on `out`, or any other error as a line on `err`.
+/// Returns the exit status: 0 accepted, 1 refused, 2 any other error, also if the line could not be written.
 pub fn tell_check<O: Sink, E: Sink>(answer: &Result<Verdict, Fault>, out: &mut O, err: &mut E) -> u8
     requires out_works { O.has_failed out.old ≡ false }
     requires err_works { E.has_failed err.old ≡ false }
@@ -96,8 +94,8 @@ pub fn tell_check<O: Sink, E: Sink>(answer: &Result<Verdict, Fault>, out: &mut O
     }
 }
 
-/// Prints the error of a run that writes its own output, a line on `err`, and returns the exit
-/// status. After a run without an error nothing is printed.
+/// Prints the error of a run that writes its own output, as a line on `err`, and returns the exit status. After a run
+/// without an error nothing is printed.
 pub fn tell_run<E: Sink>(answer: &Result<(), Fault>, err: &mut E) -> u8
     requires { E.has_failed err.old ≡ false }
     ensures well { OnOk answer.now ((result ≡ 0) × (err.new ≡ err.old)) }

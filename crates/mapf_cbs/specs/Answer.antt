@@ -1,4 +1,4 @@
--- What an answer of the search says.
+-- What a result of the search says.
 use Rattle.std.specs.Prelude.{◌≡◌, ℕ, ◌+◌, ◌*◌, ◌<◌, ◌≤◌, List, length, map}
 use Rattle.mapf_model.specs.declared.cause.Cause.{Cause}
 use Rattle.mapf_model.specs.declared.cause.Cause.TheVariants.{Splits, Ticks}
@@ -19,8 +19,8 @@ use Rattle.mapf_cbs.specs.declared.outcome.Outcome.{Outcome}
 use Rattle.mapf_cbs.specs.declared.outcome.Outcome.TheVariants.{Found as FoundOutcome, Impossible as ImpossibleOutcome, Limit as LimitOutcome}
 
 -- these are the nodes of the tree in pre-order; it has at most so many splits, each on the first conflict of cheapest
--- paths, at a node with a sum of costs no greater than any leaf's. If goals alone show that no plan is valid, the tree
--- is one node. Each node has the block of the agent that was replanned there. The tree can be printed
+-- paths, at a node with a sum of costs no greater than that of any terminal node. If goals alone show that no plan is
+-- valid, the tree is one node. Each node has the block of the agent that was replanned there. The tree can be printed
 pub record IsTreeOf (problem : Instance) (limit : ℕ) (nodes : List Node) (tree : ConstraintTree) : Type 0 where
   pub spelled : nodes ≡ nodes_of tree
   pub few : split_count tree ≤ limit
@@ -35,8 +35,8 @@ abbrev pub AreFirstCheapest : Instance → List (List ℕ) → NodeContext → T
 AreFirstCheapest problem paths context =
     AreCheapest problem context paths × AreFirstPaths problem context paths
 
--- the plan is valid, the tree shows that no valid plan is cheaper, and so none is; at a leaf of the tree its paths are
--- the first of the cheapest ones; they are tight, and the plan and its sum can be printed
+-- the plan is optimal, and the tree shows that no valid plan is cheaper; at a leaf of the tree its paths are the first
+-- of the cheapest ones; they have no trailing waits, and the plan and its sum can be printed
 pub record IsShownOptimal (problem : Instance) (plan : List (List ℕ)) (tree : ConstraintTree) : Type 0 where
   pub total : ℕ
   pub optimal : IsOptimal problem plan total
@@ -45,27 +45,27 @@ pub record IsShownOptimal (problem : Instance) (plan : List (List ℕ)) (tree : 
   pub plan_in_range : IsPlanInRange problem.grid plan
   pub claim_in_range : IsClaimInRange (Cost total)
 
--- the tree shows that no plan is valid, and so none is
+-- no plan is valid, and the tree shows it
 pub record IsShownImpossible (problem : Instance) (tree : ConstraintTree) : Type 0 where
   pub shows : Shows problem Impossible tree
   pub impossible : IsImpossible problem
 
--- cheapest paths at the node have this sum of costs, at no end of the tree cheapest paths have a smaller one, and the
--- labels of the starts at the node add up to exactly this
+-- cheapest paths at the node have this sum of costs, cheapest paths at no terminal node of the tree have a smaller one,
+-- and the labels of the starts at the node add up to exactly this
 abbrev pub IsLeastSumAt : Instance → ConstraintTree → ℕ → NodeContext → List LabelBlock → Type 0
 IsLeastSumAt problem tree total context blocks = ((paths : List (List ℕ)) × AreDue problem tree context paths total)
     × StartsAddUpTo problem total (with_blocks blocks context.entries)
 
--- the tree shows that no valid plan has a sum below the bound, and so none has; the bound is the least sum of cheapest
--- paths at any leaf, and the tree shows no greater one, since at a leaf with this sum the labels of the starts add up
--- to exactly this; and it can be printed
+-- no valid plan has a sum below the bound, and the tree shows it; the bound is the least sum of cheapest paths at any
+-- terminal node, and the tree shows no greater one, since at a leaf with this sum the labels of the starts add up to
+-- exactly this; and it can be printed
 pub record IsShownBound (problem : Instance) (bound : ℕ) (tree : ConstraintTree) : Type 0 where
   pub shows : Shows problem (Bound bound) tree
   pub holds : IsLowerBound problem bound
   pub met_at_a_leaf : AtSomeLeaf (IsLeastSumAt problem tree bound) root tree
   pub claim_in_range : IsClaimInRange (Bound bound)
 
--- an earned tree with a leaf at which due paths, each the first of its cost, conflict, and of which the fact holds
+-- an earned tree with a leaf at which due paths, each the first of its cost, conflict and have a given property
 abbrev pub IsStoppedAtFirst : (List (List ℕ) → Type 0) → Instance → ConstraintTree → Type 0
 IsStoppedAtFirst Fact problem tree =
     IsStoppedWhere (λ context paths. AreFirstPaths problem context paths × Fact paths) problem tree
@@ -79,7 +79,7 @@ MayStop problem limit (Splits n) tree = IsStoppedAtFirst (λ paths. HaveConflict
 MayStop problem limit Ticks tree = IsStoppedAtFirst (λ paths. AreConflictFreeBefore paths split_ticks) problem tree
     × (split_ticks < (split_count tree + 1) * free_cell_count problem.grid)
 
--- a plan or impossibility with a tree that shows it, or a limit that was met, with the bound that the tree shows
+-- a plan or `impossible`, with a tree that shows it, or a limit that was reached, with the bound that the tree shows
 abbrev pub IsSearchAnswer : Instance → ℕ → Answer → Type 0
 IsSearchAnswer problem limit (FoundAnswer plan items) = (tree : ConstraintTree) × IsTreeOf problem limit (map node_of items.items) tree × IsShownOptimal problem plan tree
 IsSearchAnswer problem limit (ImpossibleAnswer items) = (tree : ConstraintTree) × IsTreeOf problem limit (map node_of items.items) tree × IsShownImpossible problem tree

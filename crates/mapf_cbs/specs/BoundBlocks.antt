@@ -1,4 +1,4 @@
--- Which blocks the nodes of a tree carry: each node has the block of the agent that was replanned when the node was
+-- Which blocks the nodes of a tree have: each node has the block of the agent that was replanned when the node was
 -- made.
 use Rattle.std.specs.Prelude.{◌≡◌, ℕ, ◌≤◌, List, [], ◌∷◌, Option, None, Some, slice_get}
 use Rattle.mapf_model.specs.declared.bar.Bar.{Bar}
@@ -14,7 +14,7 @@ use Rattle.mapf_model.specs.Path.{IsLawful, IsCost}
 use Rattle.mapf_model.specs.Plan.{Instance}
 use Rattle.mapf_model.specs.Tree.{ConstraintTree, Split, Leaf, Clash, NodeContext, root, left_constraint, right_constraint, left_child_context, right_child_context}
 
--- some lawful path of the agent that satisfies the constraints costs no more than its distance
+-- some lawful path of the agent that satisfies the constraints costs its distance
 pub record KeepsDistance (grid : GridMap) (agent : Agent) (bars : List Bar) : Type 0 where
   pub path : List ℕ
   pub cost : ℕ
@@ -36,8 +36,8 @@ abbrev pub IsLeastLabel : GridMap → Agent → List Bar → Label → Type 0
 IsLeastLabel grid agent bars (Ticks cost) = IsLeastCost grid agent bars cost
 IsLeastLabel grid agent bars Never = (path : List ℕ) → IsLawful grid agent path → Satisfies bars path → ⊥
 
--- a block of this agent, in which the label of the start is the agent's least cost, if this exceeds its distance, else
--- none
+-- a block of this agent, in which the label of the start is the agent's least cost, if this is greater than its
+-- distance; else none
 abbrev pub AreBlocksOfBound : GridMap → Agent → List Bar → ℕ → List LabelBlock → Type 0
 AreBlocksOfBound grid agent bars bound [] = KeepsDistance grid agent bars
 AreBlocksOfBound grid agent bars bound (block ∷ []) = (block.agent ≡ bound) × (KeepsDistance grid agent bars → ⊥)
@@ -59,7 +59,7 @@ CarriesBlocksFor problem context bound (Split conflict blocks left right) = AreB
 CarriesBlocksFor problem context bound (Leaf blocks) = AreBlocksFor problem context bound blocks
 CarriesBlocksFor problem context bound (Clash i j) = Unit {0}
 
--- each node has a block of the agent that was replanned there, if its least cost exceeds its distance, with this cost as
--- the label of the start, and no other block
+-- each node has a block of the agent that was replanned there, if its least cost is greater than its distance, with
+-- this cost as the label of the start, and no other block
 abbrev pub CarriesBoundBlocks : Instance → ConstraintTree → Type 0
 CarriesBoundBlocks problem tree = CarriesBlocksFor problem root None tree

@@ -12,7 +12,7 @@ use Rattle.mapf_constraints.specs.BarSets.{tick_of, AreBefore}
 use Rattle.mapf_spacetime.specs.Answer.{IsFirstOfCost}
 use Rattle.mapf_spacetime.specs.Task.{task_of}
 
--- a bar that a table can hold
+-- a constraint that a table can hold
 abbrev pub IsTableBar : Bar → Type 0
 IsTableBar bar = (tick_of bar < split_ticks) × IsBar bar
 
@@ -28,7 +28,7 @@ pub record IsCheapestPath (grid : GridMap) (agent : Agent) (bars : List Bar) (pa
   pub start : IsLabel grid agent.goal entries agent.start 0 (Ticks cost)
   pub below : (horizon : ℕ) → AreBefore horizon bars → cost < horizon + free_cell_count grid
 
--- no path of an agent satisfies its constraints, and the label of its start by these entries says so
+-- no path of an agent satisfies its constraints, and the label of its start by these entries is infinite
 pub record HasNoPath (grid : GridMap) (agent : Agent) (bars : List Bar) (entries : Entries) : Type 0 where
   pub none : (path : List ℕ) → IsLawful grid agent path → Satisfies bars path → ⊥
   pub start : IsLabel grid agent.goal entries agent.start 0 Never

@@ -30,7 +30,7 @@ pub record IsExhausted (problem : Instance) (limit : ℕ) (lists : List (List La
   pub within : count ≤ limit
   pub blocks : AreBlockLists state.views lists
 
--- the least open node, which denotes this state and has this sum, is being expanded after so many splits
+-- the least open node, which denotes this state and has this sum, is being expanded, after so many splits
 pub record IsAtNode (problem : Instance) (limit : ℕ) (lists : List (List LabelBlock)) (fates : List Fate) (count total : ℕ) (view : View) : Type 0 where
   pub paths : List (List ℕ)
   pub root : IsRootStart problem paths

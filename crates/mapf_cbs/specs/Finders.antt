@@ -24,7 +24,7 @@ AreFinders views view finders = (i : ℕ) (finder : Option ℕ) → slice_get fi
 abbrev pub AreNone : List (Option ℕ) → Type 0
 AreNone finders = (i : ℕ) (finder : Option ℕ) → slice_get finders i ≡ Some finder → finder ≡ None
 
--- the agent, if it had no node, has this one
+-- the agent has this node if it had none, and all else is as it was
 pub record IsNoted (old new : List (Option ℕ)) (agent node : ℕ) : Type 0 where
   pub others : (i : ℕ) → i ≢ agent → slice_get new i ≡ slice_get old i
   pub first : slice_get old agent ≡ Some None → slice_get new agent ≡ Some (Some node)

@@ -11,8 +11,8 @@ use Rattle.mapf_model.specs.Tree.{ConstraintTree, Split, Leaf, Clash, NodeContex
 use Rattle.mapf_spacetime.specs.Answer.{IsFirstOfCost}
 use Rattle.mapf_spacetime.specs.Task.{task_of}
 
--- the first conflict of the paths: of the least tick, then a vertex conflict before a swapping one, then by the agents'
--- numbers, of which the first is the smaller
+-- the first conflict of the paths: of the least tick, then a vertex conflict before a swapping conflict, then by the
+-- agents' numbers, of which the first is the smaller
 pub record IsFirstConflict (paths : List (List ℕ)) (conflict : Conflict) : Type 0 where
   pub has : HasConflict paths conflict
   pub earliest : AreConflictFreeBefore paths (tick_of conflict)

@@ -1,4 +1,4 @@
--- A generated child, as it is found.
+-- A child as it is generated.
 use Rattle.std.specs.Prelude.{◌≡◌, ℕ, ◌+◌, ◌-◌, ◌<◌, ◌≤◌, ◌^◌, List, Option, Some, None, length, sum}
 use Rattle.mapf_model.specs.declared.constraint.Constraint.{Constraint}
 use Rattle.mapf_model.specs.Path.{at, IsCost}
@@ -16,12 +16,12 @@ abbrev pub EndsAt : Found (List Entry) → ℕ → Type 0
 EndsAt (Arrives path labels) goal = at path (length path - 1) ≡ goal
 EndsAt (Dead labels) goal = Unit {0}
 
--- the sum with the cost of the path that was found
+-- the sum of costs with the path that was found
 abbrev pub IsTotal : Found (List Entry) → ℕ → ℕ → Option ℕ → Type 0
 IsTotal (Arrives path labels) goal rest total = (cost : ℕ) × IsCost goal path cost × (cost < 2 ^ 32) × (total ≡ Some (rest + cost))
 IsTotal (Dead labels) goal rest total = total ≡ None
 
--- a child without a sum is dead; one with a sum is live, and no cheaper than its parent
+-- a child without a sum is dead; one with a sum is live, and its sum is at least its parent's and at most 2^32 more
 abbrev pub IsGeneratedState : Instance → View → View → Option ℕ → Type 0
 IsGeneratedState problem view child None = IsDead problem child
 IsGeneratedState problem view child (Some total) = IsLive problem child × (total ≡ sum child.costs) × (sum view.costs ≤ total) × (total ≤ sum view.costs + 2 ^ 32)

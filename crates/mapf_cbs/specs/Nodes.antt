@@ -24,12 +24,12 @@ IsNodeFor agent k (Child parent constraint found) = parent < k
 abbrev pub AreNodesFor : ℕ → List Node → Type 0
 AreNodesFor agent nodes = (k : ℕ) (node : Node) → slice_get nodes k ≡ Some node → IsNodeFor agent k node
 
--- a table can hold the bar of the node
+-- a table can hold the constraint of the node
 abbrev pub HasTableBar : Node → Type 0
 HasTableBar (Root paths) = Unit {0}
 HasTableBar (Child parent constraint found) = IsTableBar constraint.bar
 
--- a table can hold the bars of all nodes
+-- a table can hold the constraints of all nodes
 abbrev pub HaveTableBars : List Node → Type 0
 HaveTableBars nodes = (k : ℕ) (node : Node) → slice_get nodes k ≡ Some node → HasTableBar node
 
@@ -44,7 +44,7 @@ pub record IsRootView (paths : List (List ℕ)) (view : View) : Type 0 where
   pub same_paths : view.paths ≡ paths
   pub blocks : view.blocks ≡ []
 
--- the blocks of the node's own change
+-- the node's own blocks
 abbrev pub IsOwnOf : Node → List LabelBlock → Type 0
 IsOwnOf (Root paths) blocks = blocks ≡ []
 IsOwnOf (Child parent constraint found) blocks = blocks ≡ bound_blocks constraint.agent (labels_of found)
@@ -59,7 +59,7 @@ pub record AreViews (nodes : List Node) (views : List View) : Type 0 where
   pub lengths : length views ≡ length nodes
   pub each : (k : ℕ) (node : Node) (view : View) → slice_get nodes k ≡ Some node → slice_get views k ≡ Some view → IsNodeView views k node view
 
--- the fact holds of the state that the node denotes, as the changes along its path from the root give it
+-- the property holds of the state that the node denotes, as the changes along its path from the root give it
 abbrev pub HoldsOfNode : List Node → ℕ → (View → Type 0) → Type 0
 HoldsOfNode nodes k Fact = (views : List View) (view : View) → AreViews nodes views → slice_get views k ≡ Some view → Fact view
 
@@ -67,7 +67,7 @@ HoldsOfNode nodes k Fact = (views : List View) (view : View) → AreViews nodes 
 abbrev pub IsFirstAt : Instance → List Node → ℕ → Conflict → Type 0
 IsFirstAt problem nodes k conflict = HoldsOfNode nodes k (λ view. IsLive problem view → IsFirstConflict view.paths conflict)
 
--- the bars of one list are those of two others
+-- the constraints of one list are those of two others
 pub record AreJoined (all front rest : List Bar) : Type 0 where
   pub apart : (bar : Bar) → Contains all bar → Contains front bar ⊎ Contains rest bar
   pub from_front : (bar : Bar) → Contains front bar → Contains all bar

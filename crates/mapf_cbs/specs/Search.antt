@@ -43,15 +43,15 @@ pub record AreCounted (problem : Instance) (view : View) : Type 0 where
   pub paths : length view.paths ≡ length problem.agents
   pub costs : length view.costs ≡ length problem.agents
 
--- the block is of an agent of the problem; its labels, of which there are some, are sound under the agent's
--- constraints, and can be printed
+-- the block is of an agent of the problem; it has labels, and these are sound under the agent's constraints and can be
+-- printed
 pub record IsGoodBlock (problem : Instance) (bars : ℕ → List Bar) (block : LabelBlock) : Type 0 where
   pub agent : Agent
   pub known : slice_get problem.agents block.agent ≡ Some agent
   pub labels : AreGoodLabels (task_of problem.grid agent (bars block.agent)) block.entries
   pub some : 1 ≤ length block.entries
 
--- no block, or one, which is good
+-- no block, or one such block
 abbrev pub AreOwnBlocks : Instance → (ℕ → List Bar) → List LabelBlock → Type 0
 AreOwnBlocks problem bars [] = Unit {0}
 AreOwnBlocks problem bars (block ∷ []) = IsGoodBlock problem bars block
@@ -63,7 +63,7 @@ pub record IsLive (problem : Instance) (view : View) : Type 0 where
   pub own : AreOwnBlocks problem view.context.bars view.blocks
   pub each : (i : ℕ) (agent : Agent) (path : List ℕ) (cost : ℕ) → slice_get problem.agents i ≡ Some agent → slice_get view.paths i ≡ Some path → slice_get view.costs i ≡ Some cost → IsCheapestOf problem view i agent path cost
 
--- one agent has no path, each other one has a cheapest
+-- one agent has no path, each other agent has a cheapest one
 pub record IsDead (problem : Instance) (view : View) : Type 0 where
   pub counted : AreCounted problem view
   pub own : AreOwnBlocks problem view.context.bars view.blocks
@@ -78,13 +78,12 @@ abbrev pub labels_of : Found (List Entry) → List Entry
 labels_of (Arrives path labels) = labels
 labels_of (DeadEnd labels) = labels
 
--- the blocks of a node at which this agent was replanned: one with the entries that were found, none where there are
--- none
+-- the blocks of a node at which this agent was replanned: one with the entries that were found, none if there are none
 abbrev pub bound_blocks : ℕ → List Entry → List LabelBlock
 bound_blocks agent [] = []
 bound_blocks agent (entry ∷ entries) = record { agent = agent; entries = entry ∷ entries } ∷ []
 
--- the child under one more constraint whose agent has no path: its blocks show it
+-- the child under one more constraint whose agent has no path; its blocks show it
 abbrev pub dead_child : View → Constraint → List Entry → View
 dead_child view constraint entries = record { context = child_context view.context view.blocks constraint; paths = view.paths; costs = view.costs; blocks = bound_blocks constraint.agent entries }
 
@@ -103,7 +102,7 @@ pub record IsExpandedAt (problem : Instance) (views : List View) (k : ℕ) (view
   pub to_right : (child : View) × (slice_get views (left + 1) ≡ Some child) × (child.context ≡ right_child_context view.context conflict view.blocks) × AreBlocksFor problem child.context (Some (right_constraint conflict).agent) child.blocks
   pub later : k < left
 
--- what holds of a node by its fate
+-- what holds of a node by its outcome
 abbrev pub IsFate : Instance → List View → ℕ → View → Fate → Type 0
 IsFate problem views k view Open = IsLive problem view
 IsFate problem views k view Dead = IsDead problem view
@@ -115,41 +114,41 @@ IsExpandedFate Open = ⊥
 IsExpandedFate Dead = ⊥
 IsExpandedFate (Expanded conflict left) = Unit {0}
 
--- the node is an end of the tree
+-- the node is terminal
 abbrev pub IsEndFate : Fate → Type 0
 IsEndFate Open = Unit {0}
 IsEndFate Dead = Unit {0}
 IsEndFate (Expanded conflict left) = ⊥
 
--- the form of a tree, with the numbers of its nodes
+-- the shape of a tree, with the numbers of its nodes
 pub data Shape : Type 0 where
   Node : (k : ℕ) → (left right : Shape) → Shape
   End : (k : ℕ) → Shape
 
--- how many splits a form has
+-- the number of splits of a shape
 abbrev pub splits : Shape → ℕ
 splits (Node k left right) = 1 + (splits left + splits right)
 splits (End k) = 0
 
--- how often a node has this number
+-- how many nodes have this number
 abbrev pub occurrences : ℕ → Shape → ℕ
 occurrences m (Node k left right) = (if m == k then 1 else 0) + (occurrences m left + occurrences m right)
 occurrences m (End k) = if m == k then 1 else 0
 
--- the node with its descendants has this form
+-- the subtree of the node has this shape
 abbrev pub IsShape : List Fate → ℕ → Shape → Type 0
 IsShape fates k (Node m left right) = (same : k ≡ m) × (conflict : Conflict) × (a : ℕ) × (slice_get fates k ≡ Some (Expanded conflict a)) × IsShape fates a left × IsShape fates (a + 1) right
 IsShape fates k (End m) = (same : k ≡ m) × (fate : Fate) × (slice_get fates k ≡ Some fate) × IsEndFate fate
 
--- the nodes form one tree with so many splits, in which each node stands once
+-- the nodes form one tree with so many splits, in which each node occurs once
 pub record IsOneTree (fates : List Fate) (count : ℕ) : Type 0 where
   pub shape : Shape
   pub is_shape : IsShape fates 0 shape
   pub exact : splits shape ≡ count
   pub once : (k : ℕ) → k < length fates → occurrences k shape ≡ 1
 
--- what holds of the nodes of a search after so many splits: each is as its fate says, and no open node is
--- cheaper than one that was split
+-- what holds of the nodes of a search after so many splits: each is as its outcome says, and no open node is cheaper
+-- than one that was split
 pub record IsSearched (problem : Instance) (views : List View) (fates : List Fate) (count : ℕ) : Type 0 where
   pub lengths : length views ≡ length fates
   pub first : (view : View) × (slice_get views 0 ≡ Some view) × (view.context ≡ root) × (view.blocks ≡ [])
@@ -171,7 +170,7 @@ pub record AreBlockLists (views : List View) (lists : List (List LabelBlock)) : 
 abbrev pub AreBlocksAt : List View → ℕ → List LabelBlock → Type 0
 AreBlocksAt views k blocks = (view : View) → slice_get views k ≡ Some view → AreBlocksOf view blocks
 
--- the node with its descendants is this tree: each split and each leaf has its node's own blocks
+-- the subtree of the node is this tree: each split and each leaf has its node's own blocks
 abbrev pub IsTreeAt : List View → List Fate → ℕ → ConstraintTree → Type 0
 IsTreeAt views fates k (Split conflict blocks left right) = AreBlocksAt views k blocks × (a : ℕ) × (slice_get fates k ≡ Some (Expanded conflict a)) × IsTreeAt views fates a left × IsTreeAt views fates (a + 1) right
 IsTreeAt views fates k (Leaf blocks) = AreBlocksAt views k blocks × (fate : Fate) × (slice_get fates k ≡ Some fate) × IsEndFate fate

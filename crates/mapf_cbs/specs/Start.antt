@@ -13,12 +13,12 @@ use Rattle.mapf_cbs.specs.declared.start.Beginning.TheVariants.{Impossible as Im
 use Rattle.mapf_cbs.specs.Answer.{IsTreeOf, IsShownImpossible}
 use Rattle.mapf_cbs.specs.Goals.{HaveDifferentGoals}
 
--- these agents have one goal
+-- these agents have the same goal
 abbrev pub HaveGoal : List Agent → ℕ → ℕ → Type 0
 HaveGoal agents i j = (a : Agent) × (b : Agent) × (slice_get agents i ≡ Some a) × (slice_get agents j ≡ Some b) × (a.goal ≡ b.goal)
 
--- the agent's path is lawful, ends as it arrives, has no more steps than it must and goes to the least cell at each
--- step
+-- the agent's path is lawful, has no trailing waits and no more steps than its distance, and each step goes to the
+-- nearer cell of the least number
 pub record IsShortest (grid : GridMap) (agent : Agent) (path : List ℕ) : Type 0 where
   pub lawful : IsLawful grid agent path
   pub tight : IsTight path
@@ -26,12 +26,12 @@ pub record IsShortest (grid : GridMap) (agent : Agent) (path : List ℕ) : Type 
   pub short : IsDistance grid agent.goal agent.start (length path - 1)
   pub least : IsLeastDescent grid agent.goal path
 
--- the same of the paths of all agents before this one
+-- the same of each of these paths, which are those of the first agents
 pub record AreShortest (problem : Instance) (paths : List (List ℕ)) : Type 0 where
   pub within : length paths ≤ length problem.agents
   pub each : (i : ℕ) (agent : Agent) (path : List ℕ) → slice_get problem.agents i ≡ Some agent → slice_get paths i ≡ Some path → IsShortest problem.grid agent path
 
--- the paths with which a search begins at the root: no two agents have one goal, and each has a shortest path
+-- the paths with which a search begins at the root: no two agents have the same goal, and each has a shortest path
 pub record IsRootStart (problem : Instance) (paths : List (List ℕ)) : Type 0 where
   pub shape : IsGridMap problem.grid
   pub agents : (1 ≤ length problem.agents) × (length problem.agents ≤ most_agents)
@@ -39,7 +39,7 @@ pub record IsRootStart (problem : Instance) (paths : List (List ℕ)) : Type 0 w
   pub count : length paths ≡ length problem.agents
   pub shortest : AreShortest problem paths
 
--- a tree of no splits that shows that no plan is valid, or what a search begins with
+-- a tree without splits that shows that no plan is valid, or the paths with which a search begins
 abbrev pub IsBeginning : Instance → Beginning → Type 0
 IsBeginning problem (ImpossibleBeginning nodes) = (limit : ℕ) → (tree : ConstraintTree) × IsTreeOf problem limit nodes.items tree × IsShownImpossible problem tree
 IsBeginning problem (RootBeginning paths) = IsRootStart problem paths.items

@@ -29,11 +29,11 @@ fate_of (Some total) = Open
 abbrev pub with_children : List Node → ℕ → Conflict → Found (List Entry) → Found (List Entry) → List Node
 with_children nodes k conflict left right = (nodes ++ Child k (left_constraint conflict) left ∷ []) ++ Child k (right_constraint conflict) right ∷ []
 
--- the fates after a node is split: it names its left child, and the fates of the two children come last
+-- the outcomes after a node is split: it names its left child, and the outcomes of the two children come last
 abbrev pub split_fates : List Fate → ℕ → Conflict → Option ℕ → Option ℕ → List Fate
 split_fates fates k conflict left right = slice_set ((fates ++ fate_of left ∷ []) ++ fate_of right ∷ []) k (Expanded conflict (length fates))
 
--- the order of sums, then of numbers
+-- by sum, then by number
 abbrev pub key_cmp : ℕ × ℕ → ℕ × ℕ → Ordering
 key_cmp a b = ordering_then (nat_cmp a.0 b.0) (nat_cmp a.1 b.1)
 
@@ -56,8 +56,8 @@ pub record IsOpenSet (keys : List (ℕ × ℕ)) (views : List View) (fates : Lis
   pub only : (key : ℕ × ℕ) → Contains keys key → (view : View) × (slice_get views key.1 ≡ Some view) × (slice_get fates key.1 ≡ Some Open) × (key.0 ≡ sum view.costs)
   pub each : (m : ℕ) (view : View) → slice_get views m ≡ Some view → slice_get fates m ≡ Some Open → Contains keys (sum view.costs, m)
 
--- the nodes, their fates and the open ones' keys after so many splits; the sum of each open node is at most 2^32 times
--- the splits and the agents that a problem may have, so that no sum overflows
+-- the nodes, their outcomes and the keys of the open nodes after so many splits; the sum of each open node is at most
+-- 2^32 times (splits + greatest number of agents), so no sum overflows
 pub record IsState (problem : Instance) (nodes : List Node) (fates : List Fate) (keys : List (ℕ × ℕ)) (count : ℕ) : Type 0 where
   pub views : List View
   pub are : AreViews nodes views

@@ -1,4 +1,4 @@
--- The nodes of a tree, as a search hands them out.
+-- The nodes of a tree, as a search returns them.
 use Rattle.std.specs.Prelude.{List}
 use Rattle.mapf_model.specs.Blocks.{LabelBlock}
 use Rattle.mapf_model.specs.Tree.{Node, SplitNode, LeafNode, ClashNode}

@@ -18,7 +18,7 @@ use Rattle.mapf_cbs.specs.GeneratedChild.{IsGeneratedChild}
 use Rattle.mapf_cbs.specs.Search.{View, AreBlocksOf}
 use Rattle.mapf_cbs.specs.State.{IsState, IsPopped}
 
--- the agent's path and bars
+-- the agent's path and constraints
 pub record IsAgentPathAt (view : View) (i : ℕ) (agent_path : AgentPath) : Type 0 where
   pub path : slice_get view.paths i ≡ Some agent_path.path
   pub bars : AreSameBars (view.context.bars i) agent_path.bars
@@ -30,7 +30,7 @@ pub record IsWhole (node : WholeNode) (view : View) : Type 0 where
   pub blocks : AreBlocksOf view node.bound
   pub total : node.total ≡ sum view.costs
 
--- each node holds the state in its place
+-- each node holds the state at its index
 pub record AreWhole (nodes : List WholeNode) (views : List View) : Type 0 where
   pub lengths : length views ≡ length nodes
   pub each : (k : ℕ) (node : WholeNode) (view : View) → slice_get nodes k ≡ Some node → slice_get views k ≡ Some view → IsWhole node view
@@ -44,7 +44,7 @@ IsFirstAtWhole nodes k conflict = (node : WholeNode) (view : View) → slice_get
 abbrev pub HaveAgentPaths : List WholeNode → ℕ → Type 0
 HaveAgentPaths nodes agents = (k : ℕ) (node : WholeNode) → slice_get nodes k ≡ Some node → length node.agent_paths.items ≡ agents
 
--- the same path and bars
+-- the same path and constraints
 pub record IsCopy (agent_path copy : AgentPath) : Type 0 where
   pub path : copy.path ≡ agent_path.path
   pub bars : AreSameBars copy.bars agent_path.bars

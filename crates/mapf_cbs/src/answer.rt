@@ -1,9 +1,9 @@
 use mapf_model::{Cause, Item, Plan};
 
-/// What a search answers, with the items of its constraint tree in pre-order.
+/// The result of a search, with the items of its constraint tree in pre-order.
 #[derive(Debug, Drop)]
 pub enum Answer {
-    /// A cheapest valid plan, and a tree that shows that none is cheaper.
+    /// An optimal plan, and a tree that shows that no valid plan is cheaper.
     Found {
         plan: Plan,
         tree: Vec<Item>,
@@ -12,8 +12,8 @@ pub enum Answer {
     Impossible {
         tree: Vec<Item>,
     },
-    /// The search was stopped, at a leaf of the tree whose paths conflict. The tree shows that no valid
-    /// plan has a sum of costs below the bound, in ticks, and shows no greater bound.
+    /// The search stopped at its limit, at a leaf of the tree whose paths conflict. The tree shows that no valid plan
+    /// has a sum of costs below the bound, in ticks, and shows no greater bound.
     Limit {
         cause: Cause,
         bound: u64,

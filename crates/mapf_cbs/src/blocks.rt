@@ -7,7 +7,7 @@ use crate::node::Node;
 use mapf_model::OutOfMemory;
 use std::alloc::Global;
 
-/// The labels of each node's own. They are moved out of the nodes.
+/// Moves the labels of each node out of the nodes.
 pub fn labels_of_all(alloc: Global, nodes: Vec<Node>) -> Result<Vec<BoundLabels>, OutOfMemory>
     ensures { IfOk result (λ lists.
         (views : List View) → AreViews nodes.items views → AreBlockLists views lists.items) }
@@ -19,7 +19,7 @@ pub fn labels_of_all(alloc: Global, nodes: Vec<Node>) -> Result<Vec<BoundLabels>
     Ok(lists)
 }
 
-// The labels of the node: none at the root.
+// Returns the labels of the node: none at the root.
 fn labels_of(alloc: Global, node: Node) -> BoundLabels
     ensures own { IsOwnOf node result }
     ensures small { All (λ block. length block.entries < 2 ^ 64) result }

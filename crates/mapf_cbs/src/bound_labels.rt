@@ -6,8 +6,7 @@ use mapf_spacetime::{Found, StateLabels};
 use std::alloc::Global;
 use std::marker::Model;
 
-/// The labels of the agent that was replanned at a node: one block, none where no label exceeds its
-/// distance.
+/// The labels of the agent that was replanned at a node: one block, or none if no label is greater than its distance.
 #[derive(Debug, Drop)]
 pub struct BoundLabels {
     agent: u32,
@@ -25,7 +24,7 @@ impl Model for BoundLabels {
 }
 
 impl BoundLabels {
-    /// No block.
+    /// Returns the labels of a node without a block.
     pub fn none(alloc: Global) -> BoundLabels
         ensures { result ≡ [] }
     {
@@ -35,7 +34,7 @@ impl BoundLabels {
         }
     }
 
-    /// What the search for this agent found, which was replanned at the node.
+    /// Returns the labels that the search for this agent, which was replanned at the node, found.
     pub fn of(agent: u32, found: Found<StateLabels>) -> BoundLabels
         ensures bound { result ≡ bound_blocks agent (labels_of found) }
         ensures small { All (λ block. length block.entries < 2 ^ 64) result }
@@ -46,14 +45,14 @@ impl BoundLabels {
         }
     }
 
-    /// How many blocks there are.
+    /// Returns the number of blocks.
     pub fn count(&self) -> u64
         ensures { result ≡ length self.now }
     {
         u64::from(!self.labels.is_empty())
     }
 
-    /// The agent and its labels, None where there is no block.
+    /// Returns the agent and its labels, None if there is no block.
     pub fn block(&self) -> Option<(u32, &StateLabels)>
         ensures some { IfSome result (λ block. self.now ≡ record { agent = block.0; entries = block.1.now } ∷ []) }
         ensures none { IfNone result (self.now ≡ []) }
@@ -64,7 +63,7 @@ impl BoundLabels {
         Some((self.agent, &self.labels))
     }
 
-    /// The blocks, in memory of their own.
+    /// Returns the blocks, in memory of their own.
     pub fn into_blocks(self, alloc: Global) -> Result<Vec<Block>, OutOfMemory>
         ensures { IfOk result (λ blocks. blocks.items ≡ self) }
     {
@@ -78,7 +77,7 @@ impl BoundLabels {
     }
 }
 
-// The labels that were found.
+// Returns the labels that were found.
 fn labels_of(found: Found<StateLabels>) -> StateLabels
     ensures labels { result ≡ labels_of found }
     ensures small { length result < 2 ^ 64 }

@@ -20,14 +20,14 @@ use mapf_model::{Cell, Constraint, OutOfMemory, Path, Problem};
 use mapf_spacetime::{Found, StateLabels, search_in};
 use std::alloc::Global;
 
-/// What one more constraint led to, with the sum of the new costs where the agent still arrives.
+/// What one more constraint led to, with the new sum of costs if the agent still arrives.
 #[derive(Debug, Drop)]
 pub struct GeneratedChild {
     pub found: Found<StateLabels>,
     pub total: Option<u64>,
 }
 
-/// The child of a node under one more constraint.
+/// Returns the child of a node under one more constraint.
 pub fn child<B: BarTable>(
     alloc: Global,
     memory: &mut SearchMemory<B>,
@@ -60,7 +60,7 @@ pub fn child<B: BarTable>(
     Ok(GeneratedChild { found, total })
 }
 
-// What the constraint's agent can do under its constraints at the node and this one.
+// Searches for a path of the constraint's agent under its constraints at the node and this one.
 fn search_with<B: BarTable>(
     alloc: Global,
     memory: &mut SearchMemory<B>,
@@ -97,7 +97,7 @@ fn search_with<B: BarTable>(
     )
 }
 
-/// The cost of a path that ends at the goal.
+/// Returns the cost of a path that ends at the goal.
 pub fn cost_of(path: &Path, goal: Cell) -> u32
     requires { at path.now (length path.now - 1) ≡ goal }
     ensures { IsCost goal path.now result }
@@ -108,7 +108,7 @@ pub fn cost_of(path: &Path, goal: Cell) -> u32
     }
 }
 
-/// The sum with the cost of the path that was found, None where none was.
+/// Returns the sum of costs with the path that was found, None if none was.
 pub fn new_total(found: &Found<StateLabels>, goal: Cell, rest: u64) -> Option<u64>
     requires lawful { EndsAt found.now goal }
     requires small { rest + 2 ^ 32 < 2 ^ 64 }

@@ -4,7 +4,8 @@ ghost use Rattle.mapf_cbs.specs.Start.{HaveGoal};
 
 use mapf_model::{Agent, first_pair};
 
-/// The first two agents that have one goal: the least first one, and with it the least second one.
+/// Returns the first two agents with the same goal: the pair of the least first agent, and of these the one of the
+/// least second agent.
 pub fn sharing_pair(agents: &[Agent]) -> Option<(usize, usize)>
     ensures some { IfSome result (IsFirstPair (HaveGoal agents.now) (length agents.now)) }
     ensures none { IfNone result (HoldsOfNoPair (HaveGoal agents.now) (length agents.now)) }

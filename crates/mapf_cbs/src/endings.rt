@@ -11,7 +11,7 @@ use crate::written::tree_nodes;
 use mapf_model::{Cause, OutOfMemory, Plan};
 use std::alloc::Global;
 
-/// No node is open, so no plan is valid.
+/// Returns the outcome if no node is open, so that no plan is valid.
 pub fn impossible(
     alloc: Global,
     lists: Vec<BoundLabels>,
@@ -25,7 +25,7 @@ pub fn impossible(
     Ok(Outcome::Impossible { tree })
 }
 
-/// The paths of the least open node are a valid plan.
+/// Returns the outcome if the paths of the least open node are a valid plan.
 pub fn found(
     alloc: Global,
     plan: Plan,
@@ -40,7 +40,7 @@ pub fn found(
     Ok(Outcome::Found { plan, tree })
 }
 
-/// The search stops for this cause, at a least open node of this sum.
+/// Returns the outcome if the search stops for this cause, at the least open node, of this sum.
 pub fn stopped(
     alloc: Global,
     cause: Cause,

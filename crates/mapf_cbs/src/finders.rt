@@ -7,8 +7,7 @@ use crate::node::Node;
 use mapf_model::OutOfMemory;
 use std::alloc::Global;
 
-/// For each agent its nearest ancestor at which it was replanned, which holds its path. None stands
-/// for the root.
+/// Returns for each agent its nearest ancestor at which it was replanned, which holds its path. None means the root.
 pub fn finders_at(
     alloc: Global,
     nodes: &[Node],
@@ -38,7 +37,7 @@ pub fn finders_at(
     Ok(finders)
 }
 
-// No node for any agent.
+// Returns a list with None for each agent.
 fn none_of(alloc: Global, agents: u32) -> Result<Vec<Option<u32>>, OutOfMemory>
     ensures count { IfOk result (λ finders. length finders.items ≡ agents) }
     ensures none { IfOk result (λ finders. AreNone finders.items) }
@@ -46,7 +45,7 @@ fn none_of(alloc: Global, agents: u32) -> Result<Vec<Option<u32>>, OutOfMemory>
     Ok(vec![in alloc; None; agents as usize]?)
 }
 
-// Notes the node for its agent, unless a nearer one was noted.
+// Enters the node for its agent, unless a nearer one is entered.
 fn note(finders: &mut Vec<Option<u32>>, agent: u32, node: u32)
     ensures count { length finders.new.items ≡ length finders.old.items }
     ensures noted { IsNoted finders.old.items finders.new.items agent node }

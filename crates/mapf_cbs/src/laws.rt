@@ -1,5 +1,5 @@
-//! A plain search: the same order of expansion and the same tie-breaking as the fast one, with full
-//! nodes and a scan in place of the open list.
+//! A plain search: the same order of expansion and the same tie-breaking as the fast one, with full nodes, and a scan
+//! in place of the open list.
 ghost use Rattle.std.specs.Prelude.{◌≡◌, ◌+◌, ◌^◌, ◌<◌, ◌≤◌, ◌∷◌, ℕ, length, IfOk, OnOk};
 ghost use Rattle.mapf_model.specs.Earned.{tick_of};
 ghost use Rattle.mapf_model.specs.Laws.{AreSameBars};
@@ -29,7 +29,7 @@ use mapf_model::{Bar, Conflict, Constraint, OutOfMemory, Path, Problem};
 use mapf_spacetime::search_states;
 use std::alloc::Global;
 
-/// Answers what `solve` answers, by the plainest means.
+/// Returns what `solve` returns, by the simplest means.
 pub fn solve_plain(alloc: Global, problem: &Problem, limit: u32) -> Result<Answer, OutOfMemory>
     requires { limit ≤ most_splits }
     ensures { IfOk result (IsSearchAnswer problem.now limit) }
@@ -43,8 +43,8 @@ pub fn solve_plain(alloc: Global, problem: &Problem, limit: u32) -> Result<Answe
     }
 }
 
-// Splits nodes from a root with these paths on, least sum first, until a plan is found, no node is
-// open or a limit is met.
+// Splits nodes, beginning with a root with these paths, least sum first, until a plan is found, no node is open or a
+// limit is reached.
 fn search_plain(
     alloc: Global,
     problem: &Problem,
@@ -116,7 +116,7 @@ fn split_whole(
     tree.grow(k, conflict, left, right)
 }
 
-// The child of a node under one more constraint.
+// Returns the child of a node under one more constraint.
 fn child_of(
     alloc: Global,
     problem: &Problem,
@@ -165,7 +165,7 @@ fn child_of(
     })
 }
 
-// The bars and one more.
+// Returns the constraints and one more.
 fn with_bar(bars: &ListBars, bar: Bar) -> Result<ListBars, OutOfMemory>
     requires { IsTableBar bar }
     ensures { IfOk result (λ all. AreSameBars all (bar ∷ bars.now)) }

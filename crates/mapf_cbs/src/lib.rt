@@ -1,5 +1,4 @@
-//! Which plan is cheapest, and which constraint tree shows it? Conflict-based search (Sharon et al.
-//! 2015).
+//! Which plan is optimal, and which constraint tree shows it? Conflict-based search (Sharon et al. 2015).
 #![tactic(auto)]
 
 mod answer;

@@ -1,14 +1,14 @@
 use mapf_model::{Conflict, Constraint, Path};
 use mapf_spacetime::{Found, StateLabels};
 
-/// A delta node of the constraint tree: all else is found at its ancestors.
+/// A delta node of the constraint tree: the rest of its state is found at its ancestors.
 #[derive(Debug, Drop)]
 pub enum Node {
     /// No agent has constraints, and these are the agents' paths.
     Root {
         paths: Vec<Path>,
     },
-    /// The node has one constraint more than the parent, and this is what the search for its agent found.
+    /// The node has one more constraint than its parent, and this is what the search for its agent found.
     Child {
         parent: u32,
         constraint: Constraint,
@@ -23,6 +23,6 @@ pub enum Fate {
     Open,
     /// Some agent can't arrive.
     Dead,
-    /// The node was split on the conflict: this is the number of its left child, and the right one is next.
+    /// The node was split on the conflict. This is the number of its left child, and the next is that of the right one.
     Expanded { conflict: Conflict, left: u32 },
 }

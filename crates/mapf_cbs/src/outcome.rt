@@ -8,11 +8,10 @@ use crate::tree_node::TreeNode;
 use mapf_model::{Cause, Item, OutOfMemory, Plan};
 use std::alloc::Global;
 
-/// What a search found, with the nodes of its constraint tree in pre-order. It says what an `Answer`
-/// says, in less memory.
+/// What a search found, with the nodes of its constraint tree in pre-order: an `Answer` that takes less memory.
 #[derive(Debug, Drop)]
 pub enum Outcome {
-    /// A cheapest valid plan, and a tree that shows that none is cheaper.
+    /// An optimal plan, and a tree that shows that no valid plan is cheaper.
     Found {
         plan: Plan,
         tree: Vec<TreeNode>,
@@ -21,8 +20,8 @@ pub enum Outcome {
     Impossible {
         tree: Vec<TreeNode>,
     },
-    /// The search was stopped, at a leaf of the tree whose paths conflict. The tree shows that no valid
-    /// plan has a sum of costs below the bound, in ticks, and shows no greater bound.
+    /// The search stopped at its limit, at a leaf of the tree whose paths conflict. The tree shows that no valid plan
+    /// has a sum of costs below the bound, in ticks, and shows no greater bound.
     Limit {
         cause: Cause,
         bound: u64,
@@ -31,7 +30,7 @@ pub enum Outcome {
 }
 
 impl Outcome {
-    /// The same as an answer, whose tree is a list of items.
+    /// Returns the same as an answer, whose tree is a list of items.
     pub fn into_answer(self, alloc: Global) -> Result<Answer, OutOfMemory>
         ensures { IfOk result (λ answer. (problem : Instance) (limit : ℕ) → IsOutcome problem limit self →
             IsSearchAnswer problem limit answer) }
@@ -53,7 +52,7 @@ impl Outcome {
     }
 }
 
-// An item for each of the nodes.
+// Returns an item for each of the nodes.
 fn items_of(alloc: Global, nodes: Vec<TreeNode>) -> Result<Vec<Item>, OutOfMemory>
     ensures { IfOk result (λ items. map node_of items.items ≡ nodes.items) }
 {

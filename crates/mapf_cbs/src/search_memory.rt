@@ -2,8 +2,8 @@ use mapf_constraints::BarTable;
 use mapf_spacetime::Workspace;
 use std::alloc::Global;
 
-/// The memory of searches for one agent each, which the next one uses again: a table for the
-/// agent's constraints, and a workspace. What they hold has no meaning between searches.
+/// The memory of single-agent searches, which the next search reuses: a table for the agent's constraints, and a
+/// workspace. Its contents have no meaning between searches.
 #[derive(Drop)]
 pub struct SearchMemory<B: BarTable> {
     pub bars: B,

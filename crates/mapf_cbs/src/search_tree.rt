@@ -7,20 +7,20 @@ use mapf_model::{Conflict, OutOfMemory, Path};
 use std::alloc::Global;
 use std::collections::BTreeSet;
 
-/// The constraint tree of a search. Nodes are numbered as they were made, the root has number 0.
+/// The constraint tree of a search. Nodes are numbered in the order in which they were made; the root has number 0.
 #[derive(Debug, Drop)]
 pub struct SearchTree {
     pub nodes: Vec<Node>,
     // The outcome of each node.
     pub fates: Vec<Fate>,
-    // The sum and the number of each open node.
+    // The open list: the sum and the number of each open node.
     pub waiting: BTreeSet<(u64, u32)>,
     // How many nodes were split.
     pub splits: u32,
 }
 
 impl SearchTree {
-    /// The tree of a root with these paths, whose costs have this sum.
+    /// Returns the tree of a root with these paths, whose costs have this sum.
     pub fn of(alloc: Global, paths: Vec<Path>, total: u64) -> Result<SearchTree, OutOfMemory>
         ensures nodes { IfOk result (λ tree. tree.nodes.items ≡ Node.Root paths ∷ []) }
         ensures fates { IfOk result (λ tree. tree.fates.items ≡ Fate.Open ∷ []) }
@@ -47,7 +47,7 @@ impl SearchTree {
         ensures waiting { OnOk result (self.new.waiting.keys ≡ (total, 0) ∷ []) }
         ensures splits { OnOk result (self.new.splits ≡ self.old.splits) }
     {
-        // The prover finds the type of a fate's conflict only where it is named.
+        // The prover finds the type of a fate's conflict only if it is named.
         let _conflict: Option<Conflict> = None;
         self.waiting.insert((total, 0))?;
         self.nodes.push(Node::Root { paths })?;
@@ -92,7 +92,7 @@ impl SearchTree {
         Ok(())
     }
 
-    // Notes a node that is open, where it has a sum.
+    // Adds a node to the open list, if it has a sum.
     fn add_open(&mut self, total: Option<u64>, number: u32) -> Result<(), OutOfMemory>
         ensures waiting { OnOk result (self.new.waiting.keys ≡ with_key self.old.waiting.keys number total) }
         ensures nodes { OnOk result (self.new.nodes ≡ self.old.nodes) }
@@ -106,7 +106,7 @@ impl SearchTree {
     }
 }
 
-/// Takes the key of the open node of least sum, the oldest of these. None where no node is open.
+/// Removes and returns the key of the open node of least sum, of these the oldest. None if no node is open.
 pub fn take_least(waiting: &mut BTreeSet<(u64, u32)>) -> Option<(u64, u32)>
     ensures some { IfSome result (λ key. IsLeastKey key waiting.old.keys waiting.new.keys) }
     ensures none { IfNone result (waiting.old.keys ≡ []) }
@@ -114,8 +114,7 @@ pub fn take_least(waiting: &mut BTreeSet<(u64, u32)>) -> Option<(u64, u32)>
     waiting.pop_first()
 }
 
-/// Splits a node on the conflict: its children are the next two nodes. Answers the number of the left
-/// one.
+/// Splits a node on the conflict: its children are the next two nodes. Returns the number of the left one.
 pub fn expand(
     fates: &mut Vec<Fate>,
     k: u32,
@@ -138,7 +137,7 @@ pub fn expand(
     Ok(number)
 }
 
-// A child is open where it has a sum.
+// Returns the outcome of a child: it is open if it has a sum.
 fn fate_of(total: &Option<u64>) -> Fate
     ensures { result ≡ fate_of total.now }
 {

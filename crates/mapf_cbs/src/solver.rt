@@ -24,10 +24,9 @@ use mapf_model::limits::SPLIT_TICKS;
 use mapf_model::{Cause, Conflict, OutOfMemory, Path, Problem};
 use std::alloc::Global;
 
-/// Searches for a cheapest valid plan, with at most so many splits of the constraint tree: 0 to
-/// 100,000. Of the open nodes the one of least sum of costs is split next, the oldest of these, on its
-/// first conflict. Where two agents have one goal, or a goal can't be reached, no node is split.
-/// Answers `OutOfMemory` where a request for memory was refused.
+/// Searches for an optimal plan, with at most `limit` splits of the constraint tree: 0 to 100,000. Of the open nodes
+/// the one of least sum of costs, of these the oldest, is split next, on its first conflict. If two agents have the
+/// same goal, or a goal can't be reached, no node is split. Out of memory is the only error.
 pub fn solve(alloc: Global, problem: &Problem, limit: u32) -> Result<Answer, OutOfMemory>
     requires { limit ≤ most_splits }
     ensures { IfOk result (IsSearchAnswer problem.now limit) }
@@ -35,7 +34,7 @@ pub fn solve(alloc: Global, problem: &Problem, limit: u32) -> Result<Answer, Out
     solve_with::<TickBars>(alloc, problem, limit)
 }
 
-/// The same, with each agent's constraints in a table of this type while its path is searched.
+/// Searches as `solve` does, with each agent's constraints in a table of this type while its path is searched.
 pub fn solve_with<B: BarTable>(
     alloc: Global,
     problem: &Problem,
@@ -47,7 +46,7 @@ pub fn solve_with<B: BarTable>(
     search_with::<B>(alloc, problem, limit)?.into_answer(alloc)
 }
 
-/// Searches as `solve` does, and answers with the nodes of the tree in place of its items.
+/// Searches as `solve` does, and returns the nodes of the tree instead of its items.
 pub fn search(alloc: Global, problem: &Problem, limit: u32) -> Result<Outcome, OutOfMemory>
     requires { limit ≤ most_splits }
     ensures { IfOk result (IsOutcome problem.now limit) }
@@ -55,7 +54,7 @@ pub fn search(alloc: Global, problem: &Problem, limit: u32) -> Result<Outcome, O
     search_with::<TickBars>(alloc, problem, limit)
 }
 
-/// The same, with each agent's constraints in a table of this type while its path is searched.
+/// Searches as `search` does, with each agent's constraints in a table of this type while its path is searched.
 pub fn search_with<B: BarTable>(
     alloc: Global,
     problem: &Problem,
@@ -70,8 +69,8 @@ pub fn search_with<B: BarTable>(
     }
 }
 
-// Splits nodes from a root with these paths on, least sum first, until a plan is found, no node is
-// open or a limit is met.
+// Splits nodes, beginning with a root with these paths, least sum first, until a plan is found, no node is open or a
+// limit is reached.
 fn search_from<B: BarTable>(
     alloc: Global,
     problem: &Problem,
@@ -117,7 +116,7 @@ fn search_from<B: BarTable>(
     }
 }
 
-/// Why the conflict isn't split after so many splits, None where it is.
+/// Returns why the conflict isn't split after so many splits, None if it is.
 pub fn cause_to_stop(conflict: &Conflict, splits: u32, limit: u32) -> Option<Cause>
     ensures some { IfSome result (IsCauseToStop conflict.now splits limit) }
     ensures early { IfNone result (tick_of conflict.now < split_ticks) }

@@ -17,16 +17,16 @@ use std::alloc::Global;
 pub enum Beginning {
     /// No plan is valid, and this tree of one node shows it.
     Impossible { tree: Vec<TreeNode> },
-    /// The paths of the root.
+    /// The paths of the root, as the search begins.
     Root { paths: Vec<Path> },
 }
 
-/// What is known before any search under constraints: no plan is valid where two agents have one
-/// goal, or where a goal can't be reached.
+/// Returns what is known before any search under constraints: no plan is valid if two agents have the same goal, or if
+/// a goal can't be reached; else the paths of the root.
 pub fn begin(alloc: Global, problem: &Problem) -> Result<Beginning, OutOfMemory>
     ensures { IfOk result (IsBeginning problem.now) }
 {
-    // The contract of `width` says that the grid is well formed.
+    // Calling `width` lets the prover use its contract, which says that the grid is well formed.
     let _width = problem.grid().width();
     if let Some((i, j)) = sharing_pair(problem.agents()) {
         let clash = TreeNode::clash(alloc, i as u32, j as u32);
@@ -51,8 +51,8 @@ fn one_node(alloc: Global, node: TreeNode) -> Result<Vec<TreeNode>, OutOfMemory>
     Ok(tree)
 }
 
-// A shortest path of each agent. None where some goal can't be reached. Only one table of distances
-// is in memory at a time, since most agents are never replanned.
+// Returns a shortest path of each agent, None if some goal can't be reached. Only one table of distances is in memory
+// at a time, since most agents are never replanned.
 fn shortest_paths(alloc: Global, problem: &Problem) -> Result<Option<Vec<Path>>, OutOfMemory>
     ensures unreachable { IfOk result (λ found. IfNone found (SomeGoalIsUnreachable problem.now)) }
     ensures count { IfOk result (λ found. IfSome found (λ paths. length paths.items ≡ length problem.now.agents)) }
@@ -69,7 +69,7 @@ fn shortest_paths(alloc: Global, problem: &Problem) -> Result<Option<Vec<Path>>,
     Ok(Some(paths))
 }
 
-// A shortest path of the agent, None where its goal can't be reached.
+// Returns a shortest path of the agent, None if its goal can't be reached.
 fn shortest_path(
     alloc: Global,
     distances: &Distances,
@@ -86,7 +86,7 @@ fn shortest_path(
     Ok(Some(distances.descend(alloc, agent.start)?))
 }
 
-/// The sum of the paths' lengths in ticks.
+/// Returns the sum of the paths' lengths in ticks.
 pub fn total_of(paths: &[Path]) -> u64
     requires { length paths.now ≤ most_agents }
     ensures sum { result ≡ sum_by (λ path. length path - 1) paths.now }

@@ -7,18 +7,18 @@ use mapf_model::{Conflict, Item, OutOfMemory};
 use std::alloc::Global;
 use std::marker::Model;
 
-/// What a node of a tree is, its labels aside.
+/// The kind of a node of a tree, without its labels.
 #[derive(Clone, Copy, Debug)]
 pub enum NodeKind {
     /// The node is split on the conflict.
     Split(Conflict),
-    /// An end of the tree.
+    /// A leaf.
     Leaf,
-    /// An end of the tree: the two agents have one goal.
+    /// A terminal node that names two agents with the same goal.
     Clash { i: u32, j: u32 },
 }
 
-/// A node of the tree of a search that has ended. A list of nodes in pre-order spells the tree.
+/// A node of the tree of a search that has ended. A tree is spelled by the list of its nodes in pre-order.
 #[derive(Debug, Drop)]
 pub struct TreeNode {
     kind: NodeKind,
@@ -35,8 +35,7 @@ impl Model for TreeNode {
 }
 
 impl TreeNode {
-    /// The node that is split on the conflict, with the labels of the agent that was replanned at
-    /// it.
+    /// Returns the split on the conflict, with the labels of the agent that was replanned at the node.
     pub fn split(conflict: Conflict, bound: BoundLabels) -> TreeNode
         ensures { result ≡ SplitNode conflict bound }
     {
@@ -46,7 +45,7 @@ impl TreeNode {
         }
     }
 
-    /// The end of the tree with these labels.
+    /// Returns the leaf with these labels.
     pub fn leaf(bound: BoundLabels) -> TreeNode
         ensures { result ≡ LeafNode bound }
     {
@@ -56,7 +55,7 @@ impl TreeNode {
         }
     }
 
-    /// The end of the tree that says that the two agents have one goal.
+    /// Returns the clash of the two agents.
     pub fn clash(alloc: Global, i: u32, j: u32) -> TreeNode
         ensures { result ≡ ClashNode i j }
     {
@@ -66,14 +65,14 @@ impl TreeNode {
         }
     }
 
-    /// What the node is, and its labels. A clash has none, whatever the field holds.
+    /// Returns the node's kind and its labels. A clash has none, whatever the field holds.
     pub fn parts(&self) -> (NodeKind, &BoundLabels)
         ensures { self.now ≡ node_with result.0 result.1.now }
     {
         (self.kind, &self.bound)
     }
 
-    /// The node as an item, whose blocks are in memory of their own.
+    /// Returns the node as an item, whose blocks are in memory of their own.
     pub fn into_item(self, alloc: Global) -> Result<Item, OutOfMemory>
         ensures { IfOk result (λ item. node_of item ≡ self) }
     {

@@ -14,7 +14,7 @@ use mapf_model::{Conflict, OutOfMemory, Path, Plan};
 use mapf_spacetime::Found;
 use std::alloc::Global;
 
-/// The agent's path at a node: that of the node itself or of its nearest ancestor that holds one.
+/// Returns the agent's path at a node: that of the node itself or of its nearest ancestor that holds one.
 pub fn path_at(nodes: &[Node], k: u32, agent: u32) -> &Path
     requires nodes { AreNodesFor agent nodes.now }
     requires inside { k < length nodes.now }
@@ -41,8 +41,7 @@ pub fn path_at(nodes: &[Node], k: u32, agent: u32) -> &Path
     }
 }
 
-/// Makes the table hold the agent's constraints at a node: those along the node's path from the
-/// root.
+/// Makes the table hold the agent's constraints at a node: those along the path from the root.
 pub fn gather_bars<B: BarTable>(
     table: &mut B,
     nodes: &[Node],
@@ -71,7 +70,7 @@ pub fn gather_bars<B: BarTable>(
     Ok(())
 }
 
-/// The first conflict of the paths of a node at which each agent has one.
+/// Returns the first conflict of the paths of a node at which each agent has one.
 pub fn conflict_at(
     alloc: Global,
     marks: &mut CellMarks,
@@ -93,7 +92,7 @@ pub fn conflict_at(
     Ok(first_conflict_in(marks, &paths))
 }
 
-/// The plan of the paths of a node at which each agent has one.
+/// Returns the plan of the paths of a node at which each agent has one.
 pub fn plan_at(alloc: Global, nodes: &[Node], k: u32, agents: u32) -> Result<Plan, OutOfMemory>
     requires nodes { (agent : ℕ) → agent < agents → AreNodesFor agent nodes.now }
     requires inside { k < length nodes.now }
@@ -106,7 +105,7 @@ pub fn plan_at(alloc: Global, nodes: &[Node], k: u32, agents: u32) -> Result<Pla
     plan_of(alloc, &paths)
 }
 
-// The path of each agent at the node, where it was found.
+// Returns the path of each agent at the node, from the node at which it was found.
 fn paths_at<'a>(
     alloc: Global,
     nodes: &'a [Node],
@@ -126,14 +125,14 @@ fn paths_at<'a>(
     for agent in 0..agents {
         let finder = finders[agent as usize].unwrap_or(0);
         let path = path_at(nodes, finder, agent);
-        // The contract of `cells` bounds their number.
+        // Calling `cells` lets the prover use its contract, which bounds their number.
         let _cells = path.cells();
         paths.push(path)?;
     }
     Ok(paths)
 }
 
-// A plan of copies of the paths.
+// Returns a plan of copies of the paths.
 fn plan_of(alloc: Global, paths: &[&Path]) -> Result<Plan, OutOfMemory>
     requires few { (1 ≤ length paths.now) × (length paths.now ≤ most_agents) }
     ensures same { IfOk result (λ plan. plan ≡ paths_behind paths.now) }
@@ -149,7 +148,7 @@ fn plan_of(alloc: Global, paths: &[&Path]) -> Result<Plan, OutOfMemory>
     }
 }
 
-/// A copy of the path.
+/// Returns a copy of the path.
 pub fn copied(alloc: Global, path: &Path) -> Result<Path, OutOfMemory>
     ensures same { IfOk result (λ copy. copy ≡ path.now) }
     ensures short { IfOk result (λ copy. length copy ≤ most_path_cells) }

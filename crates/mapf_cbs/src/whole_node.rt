@@ -20,12 +20,12 @@ pub struct AgentPath {
     pub bars: ListBars,
 }
 
-/// A node of the constraint tree with all that is found at it.
+/// A full node of the constraint tree: it holds all that is known of it.
 #[derive(Debug, Drop)]
 pub struct WholeNode {
     // One for each agent.
     pub agent_paths: Vec<AgentPath>,
-    // Of the agent that was replanned when the node was made.
+    // The labels of the agent that was replanned when the node was made.
     pub bound: BoundLabels,
     // The sum of the paths' costs.
     pub total: u64,
@@ -41,7 +41,7 @@ impl AgentPath {
         })
     }
 
-    /// The path after a search under these constraints: an agent that can't arrive keeps its path.
+    /// Returns the path after a search under these constraints: an agent that can't arrive keeps its path.
     pub fn after(
         &self,
         alloc: Global,
@@ -63,7 +63,7 @@ impl AgentPath {
     }
 }
 
-/// The paths with another one of the agent.
+/// Returns the paths with another one of the agent.
 pub fn agent_paths_with(
     alloc: Global,
     agent_paths: &[AgentPath],
@@ -89,7 +89,7 @@ fn copies(alloc: Global, agent_paths: &[AgentPath]) -> Result<Vec<AgentPath>, Ou
 }
 
 impl WholeNode {
-    /// The root of a tree: these paths, and no constraints.
+    /// Returns the root of a tree: these paths, and no constraints.
     pub fn root(alloc: Global, paths: &[Path]) -> Result<WholeNode, OutOfMemory>
         requires { length paths.now ≤ most_agents }
         ensures count { IfOk result (λ node. length node.agent_paths.items ≡ length paths.now) }
@@ -113,7 +113,7 @@ impl WholeNode {
         })
     }
 
-    /// The paths of the node.
+    /// Returns the paths of the node as a plan.
     pub fn plan(&self, alloc: Global) -> Result<Plan, OutOfMemory>
         requires { (1 ≤ length self.now.agent_paths.items) × (length self.now.agent_paths.items ≤ most_agents) }
         ensures paths { IfOk result (λ plan. (view : View) → IsWhole self.now view → plan ≡ view.paths) }

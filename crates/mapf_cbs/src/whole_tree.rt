@@ -17,7 +17,7 @@ pub struct WholeChild {
     pub total: Option<u64>,
 }
 
-/// The constraint tree of a search with full nodes, numbered as they were made.
+/// The constraint tree of a search with full nodes, numbered in the order in which they were made.
 #[derive(Debug, Drop)]
 pub struct WholeTree {
     pub nodes: Vec<WholeNode>,
@@ -28,13 +28,13 @@ pub struct WholeTree {
 }
 
 impl WholeTree {
-    /// The tree of this root alone.
+    /// Returns the tree of this root alone.
     pub fn of(alloc: Global, root: WholeNode) -> Result<WholeTree, OutOfMemory>
         ensures nodes { IfOk result (λ tree. tree.nodes.items ≡ root ∷ []) }
         ensures fates { IfOk result (λ tree. tree.fates.items ≡ Fate.Open ∷ []) }
         ensures splits { IfOk result (λ tree. tree.splits ≡ 0) }
     {
-        // The prover finds the type of a fate's conflict only where it is named.
+        // The prover finds the type of a fate's conflict only if it is named.
         let _conflict: Option<Conflict> = None;
         let mut nodes = Vec::new(alloc);
         nodes.push(root)?;
@@ -73,7 +73,7 @@ impl WholeTree {
     }
 }
 
-/// The labels of each node, moved out of the nodes.
+/// Moves the labels of each node out of the nodes.
 pub fn labels_of_whole(
     alloc: Global,
     nodes: Vec<WholeNode>,
@@ -88,7 +88,7 @@ pub fn labels_of_whole(
     Ok(lists)
 }
 
-/// The open node of least sum, the oldest of these. None where no node is open.
+/// Returns the open node of least sum, of these the oldest. None if no node is open.
 pub fn least_open(nodes: &[WholeNode], fates: &[Fate]) -> Option<u32>
     requires same { length fates.now ≡ length nodes.now }
     requires few { length nodes.now < 2 ^ 32 }
@@ -101,7 +101,7 @@ pub fn least_open(nodes: &[WholeNode], fates: &[Fate]) -> Option<u32>
     least
 }
 
-// The least open node among those before this one and this one.
+// Returns the least open node among this one and those before it.
 fn least_with(nodes: &[WholeNode], fates: &[Fate], least: Option<u32>, k: u32) -> Option<u32>
     requires same { length fates.now ≡ length nodes.now }
     requires inside { k < length nodes.now }

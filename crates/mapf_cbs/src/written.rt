@@ -9,8 +9,7 @@ use mapf_model::OutOfMemory;
 use std::alloc::Global;
 use std::mem;
 
-/// The nodes of a search's tree in pre-order, by the labels of each node. The labels are moved into
-/// them.
+/// Returns the nodes of a search's tree in pre-order, by the labels of each node, which are moved into them.
 pub fn tree_nodes(
     alloc: Global,
     lists: Vec<BoundLabels>,

@@ -11,13 +11,13 @@ use Rattle.mapf_certificate.specs.Lines.{IsLine, grid_for, width_of}
 use Rattle.mapf_certificate.specs.Certificates.{IsNode, line_text, entry_text, entries_text, block_text, blocks_text, node_text}
 use Rattle.mapf_certificate.specs.Window.{BeginsWith}
 
--- so many values in this order, each of this kind
+-- so many values of this kind, in this order
 pub record AreInOrder (A : Type 0) (Is : A → Type 0) (Precedes : A → A → Type 0) (count : ℕ) (values : List A) : Type 0 where
   pub many : length values ≡ count
   pub each : All Is values
   pub rising : AllPairs Precedes values
 
--- a value of this kind that may come after these
+-- a value of this kind that may follow these
 abbrev pub MayFollow : (A : Type 0) → (A → Type 0) → (A → A → Type 0) → List A → A → Type 0
 MayFollow A Is Precedes before value = Is value × All (λ b. Precedes b value) before
 
@@ -33,23 +33,23 @@ IsBlockFor sizes = IsBlockInRange (grid_for sizes) sizes.agents
 abbrev pub IsNodeFor : Sizes → Node → Type 0
 IsNodeFor sizes = IsNode sizes.version (grid_for sizes) sizes.agents
 
--- the first block is of a lesser agent
+-- the first block is of a smaller agent
 abbrev pub IsOfLesserAgent : LabelBlock → LabelBlock → Type 0
 IsOfLesserAgent a b = a.agent < b.agent
 
--- an entry that may come after these
+-- an entry that may follow these
 abbrev pub IsNextEntry : Sizes → List Entry → Entry → Type 0
 IsNextEntry sizes before = MayFollow Entry (IsEntryFor sizes) IsBefore before
 
--- a block that may come after these
+-- a block that may follow these
 abbrev pub IsNextBlock : Sizes → List LabelBlock → LabelBlock → Type 0
 IsNextBlock sizes before = MayFollow LabelBlock (IsBlockFor sizes) IsOfLesserAgent before
 
--- so many entries, which rise
+-- so many entries, in rising order
 abbrev pub AreEntries : Sizes → ℕ → List Entry → Type 0
 AreEntries sizes count = AreInOrder Entry (IsEntryFor sizes) IsBefore count
 
--- so many blocks, the agents of which rise
+-- so many blocks, whose agents rise
 abbrev pub AreBlocks : Sizes → ℕ → List LabelBlock → Type 0
 AreBlocks sizes count = AreInOrder LabelBlock (IsBlockFor sizes) IsOfLesserAgent count
 
@@ -57,7 +57,7 @@ AreBlocks sizes count = AreInOrder LabelBlock (IsBlockFor sizes) IsOfLesserAgent
 abbrev pub BeginsWithLine : Due → List ℕ → Type 0
 BeginsWithLine due = BeginsWith CertLine (IsLine due) (line_text (width_of due))
 
--- they begin with an entry that may come after these
+-- they begin with an entry that may follow these
 abbrev pub BeginsWithEntry : Sizes → List Entry → List ℕ → Type 0
 BeginsWithEntry sizes before = BeginsWith Entry (IsNextEntry sizes before) (entry_text sizes.width)
 
@@ -65,7 +65,7 @@ BeginsWithEntry sizes before = BeginsWith Entry (IsNextEntry sizes before) (entr
 abbrev pub BeginsWithEntries : Sizes → ℕ → List ℕ → Type 0
 BeginsWithEntries sizes count = BeginsWith (List Entry) (AreEntries sizes count) (entries_text sizes.width)
 
--- they begin with a block that may come after these
+-- they begin with a block that may follow these
 abbrev pub BeginsWithBlock : Sizes → List LabelBlock → List ℕ → Type 0
 BeginsWithBlock sizes before = BeginsWith LabelBlock (IsNextBlock sizes before) (block_text sizes.width)
 

@@ -1,4 +1,4 @@
--- What the answers of a reader of certificates say of the bytes that its source gave.
+-- What the results of a reader of certificates say of the bytes that its source gave.
 use Rattle.std.specs.Prelude.{◌≡◌, ℕ, ◌+◌, ◌-◌, ◌≤◌, true, List, [], ◌∷◌, ◌++◌, Option, Some}
 use Rattle.std.specs.Io.KnownBytes.{IsAtEnd}
 use Rattle.mapf_model.specs.declared.item.Claim.{Claim}
@@ -25,12 +25,12 @@ trees_owed_after owed (ClashNode i j) = owed - 1
 abbrev pub HasHeader : ℕ → List ℕ → Type 0
 HasHeader width bytes = BeginsWith (Version × ℕ × Claim) (λ h. IsAgentCount h.1 × IsCertClaim h.0 h.2) (λ h. header_text h.0 width h.1 h.2) bytes
 
--- the bytes are what is still to come of a certificate: some nodes that complete the pending subtrees, and the end
+-- the bytes are what is left of a certificate: nodes that complete the pending subtrees, and the end
 abbrev pub IsRestAt : Reading → List ℕ → Type 0
 IsRestAt reading bytes = (nodes : List Node) × IsRest reading.version (grid_at reading) (agents_at reading) reading.owed nodes bytes
 
 -- what is in the buffer and then still comes from the source spells these nodes, which complete the pending subtrees,
--- and the end. Of an opaque source, such as a file, this is never so
+-- and the end. Of an opaque source, such as a file, this never holds
 pub record Awaits (remaining : Option (List ℕ)) (reading : Reading) (nodes : List Node) : Type 0 where
   pub bytes : List ℕ
   pub known : remaining ≡ Some bytes
@@ -51,8 +51,8 @@ pub record AwaitsCert (remaining : Option (List ℕ)) (reading : Reading) (versi
   pub known : remaining ≡ Some bytes
   pub text : IsCertText (grid_at reading) reading.owed version agents claim nodes (reading.buffer.bytes ++ bytes)
 
--- a header was read: its three lines were taken, of which the first gave the version, and what follows it makes a
--- certificate with it, if the source reports its bytes
+-- a header was read: its three lines were taken, of which the first gave the version; and it and what follows make a
+-- certificate, if the source reports its bytes
 pub record TakesHeader (had left : Option (List ℕ)) (old new : Reading) (agents : ℕ) (claim : Claim) : Type 0 where
   pub agents_in_range : IsAgentCount agents
   pub claim_in_range : IsClaimInRange claim
@@ -82,18 +82,19 @@ pub record ReadsEnd (had left : Option (List ℕ)) (old new : Reading) : Type 0 
   pub empty : new.buffer.bytes ≡ []
   pub owed : new.owed ≡ 0
 
--- so the node is the next one: it and what completes the subtrees pending after it complete those pending before it
+-- a node was read, and it is the next one: it and what completes the subtrees pending after it complete those pending
+-- before it
 pub record TakesNode (had left : Option (List ℕ)) (old new : Reading) (node : Node) : Type 0 where
   pub read : ReadsNode had left old new node
   pub joins : (bytes : List ℕ) → had ≡ Some bytes → (nodes : List Node) → Awaits left new nodes → Awaits had old (node ∷ nodes)
 
--- so nothing was left but the end
+-- the end was read, and nothing else was left
 pub record TakesEnd (had left : Option (List ℕ)) (old new : Reading) : Type 0 where
   pub read : ReadsEnd had left old new
   pub whole : new.is_whole ≡ true
   pub joins : (bytes : List ℕ) → had ≡ Some bytes → Awaits had old []
 
--- the bytes spell a certificate that has the same items
+-- the bytes spell the certificate, with the same items
 abbrev pub IsSpelled : GridMap → List ℕ → Cert → Type 0
 IsSpelled grid bytes cert = (tree : ConstraintTree) × SpellsCert grid bytes cert.version cert.agents cert.claim tree × Spell cert.tree.items tree
 

@@ -34,7 +34,7 @@ block_text width block = line_text width (lines.Agent block.agent (length block.
 abbrev pub blocks_text : ℕ → List LabelBlock → List ℕ
 blocks_text width blocks = flat_map (block_text width) blocks
 
--- what the line of a split with these blocks says of them: in version 2 their number
+-- what the line of a split says of these blocks: in version 2 their number
 abbrev pub count_on_split : Version → List LabelBlock → Option ℕ
 count_on_split One blocks = None
 count_on_split Two blocks = Some (length blocks)
@@ -65,7 +65,7 @@ rest_text version width nodes = flat_map (node_text version width) nodes ++ line
 abbrev pub cert_text : Version → ℕ → ℕ → Claim → List Node → List ℕ
 cert_text version width agents claim nodes = header_text version width agents claim ++ rest_text version width nodes
 
--- the blocks that a split may carry: none in version 1
+-- the blocks that a split may have: none in version 1
 abbrev pub MayBeOnSplit : Version → List LabelBlock → Type 0
 MayBeOnSplit One blocks = blocks ≡ []
 MayBeOnSplit Two blocks = Unit {0}
@@ -76,7 +76,7 @@ IsNodeOfVersion version (SplitNode conflict blocks) = MayBeOnSplit version block
 IsNodeOfVersion version (LeafNode blocks) = Unit {0}
 IsNodeOfVersion version (ClashNode i j) = Unit {0}
 
--- each node of the tree may have its blocks: in version 1 leaves alone have any
+-- each node of the tree may have its blocks: in version 1 only leaves have any
 abbrev pub IsTreeOfVersion : Version → ConstraintTree → Type 0
 IsTreeOfVersion One tree = HasBlocksAtLeavesAlone tree
 IsTreeOfVersion Two tree = Unit {0}
@@ -100,7 +100,7 @@ IsNode version grid agents (ClashNode i j) = (i < agents) × (j < agents)
 abbrev pub IsCertTree : Version → GridMap → ℕ → ConstraintTree → Type 0
 IsCertTree version grid agents tree = IsTreeInRange grid agents tree × IsTreeOfVersion version tree
 
--- what is still to come of a certificate: nodes that complete so many trees, and the end
+-- what is left of a certificate: nodes that complete so many trees, and the end
 pub record IsRest (version : Version) (grid : GridMap) (agents owed : ℕ) (nodes : List Node) (bytes : List ℕ) : Type 0 where
   pub trees : List ConstraintTree
   pub count : length trees ≡ owed

@@ -1,4 +1,4 @@
--- What an entry's line at the beginning of bytes is read to.
+-- What the line of an entry, at the beginning of bytes, is read as.
 use Rattle.std.specs.Prelude.{◌≡◌, ◌≤◌, ◌==◌, ℕ, List, [], ◌∷◌, ◌++◌, codes, length, drop, Result, Ok, Err, if◌then◌else◌}
 use Rattle.std.specs.Option.{option_map_or}
 use Rattle.mapf_model.specs.Limits.{greatest_cost}
@@ -10,7 +10,7 @@ use Rattle.mapf_fields.specs.declared.fault.LineFault.{LineFault}
 use Rattle.mapf_fields.specs.declared.fault.LineFault.TheVariants.{Shape}
 use Rattle.mapf_certificate.specs.declared.sizes.Sizes.{Sizes}
 
--- the label after a blank that bytes begin with, and what follows it
+-- the label after the blank that bytes begin with, and what follows it
 unfoldable pub read_label_front : List ℕ → Result (Label × List ℕ) LineFault
 read_label_front bs = option_map_or (λ rest. Ok (labels.Never, rest)) (strip (codes " inf") bs) (read_field 32 bs >>= λ ticks. in_range 1 greatest_cost ticks.0 >>= λ n. Ok (labels.Ticks n, ticks.1))
 
@@ -34,7 +34,7 @@ read_entry_parts sizes bs = do
 unfoldable pub read_entry_front : Sizes → List ℕ → Result (Entry × List ℕ) LineFault
 read_entry_front sizes bs = option_map_or (read_entry_parts sizes) (strip (codes "at") bs) (Err Shape)
 
--- the bytes begin with this text, which is so long
+-- the bytes begin with this text, of this length
 pub record BeginsWithText (bytes text : List ℕ) (long : ℕ) : Type 0 where
   pub within : long ≤ length bytes
   pub same : bytes ≡ text ++ drop long bytes

@@ -1,4 +1,4 @@
--- What the lines of a certificate are read to.
+-- What the lines of a certificate are read as.
 use Rattle.std.specs.Prelude.{ℕ, ◌^◌, ◌-◌, List, [], ◌∷◌, codes, Option, Some, None, Result, Ok, Err, if◌then◌else◌}
 use Rattle.std.specs.Str.{bytes_eq}
 use Rattle.std.specs.Option.{option_map_or}
@@ -38,7 +38,7 @@ read_cost bs = read_last 32 bs >>= in_range 0 greatest_sum
 unfoldable pub read_agents : List ℕ → Result CertLine LineFault
 read_agents bs = option_map_or (λ rest. read_count rest >>= λ n. Ok (lines.Agents n)) (strip (codes "agents") bs) (Err Shape)
 
--- the line of a bound, which version 1 doesn't claim
+-- the line of a bound, which version 1 can't claim
 unfoldable pub read_bound_claim : Version → List ℕ → Result CertLine LineFault
 read_bound_claim One bs = Err Shape
 read_bound_claim Two bs = option_map_or (λ rest. read_cost rest >>= λ n. Ok (lines.Claim (claims.Bound n))) (strip (codes "claim bound") bs) (Err Shape)

@@ -18,7 +18,7 @@ use Rattle.mapf_certificate.specs.declared.sizes.Sizes.{Sizes}
 use Rattle.mapf_certificate.specs.declared.tree_line.Due.{Due}
 use Rattle.mapf_certificate.specs.declared.tree_line.Due.TheVariants as dues
 
--- how many bytes a line takes at most with its LF: a word, and eight fields
+-- the greatest number of bytes of a line with its LF: a word, and eight fields
 abbrev pub line_room : ℕ
 line_room = 189
 
@@ -60,7 +60,7 @@ words width lines.End = codes "end"
 abbrev pub IsAgentCount : ℕ → Type 0
 IsAgentCount agents = (1 ≤ agents) × (agents ≤ most_agents)
 
--- a grid of these dimensions, only to bound cells by: its list of free cells is empty
+-- a grid of these dimensions, used only to bound cells: its list of free cells is empty
 abbrev pub grid_of : ℕ → ℕ → GridMap
 grid_of width height = record { width = width; height = height; free = [] }
 
@@ -92,7 +92,7 @@ abbrev pub IsTitleLine : CertLine → Type 0
 IsTitleLine (lines.Title version) = ⊤
 IsTitleLine _ = ⊥
 
--- what may be claimed: a bound in version 2 alone
+-- what may be claimed: a bound in version 2 only
 abbrev pub IsClaimOfVersion : Version → Claim → Type 0
 IsClaimOfVersion One (claims.Cost cost) = Unit {0}
 IsClaimOfVersion One (claims.Bound bound) = ⊥
@@ -108,7 +108,7 @@ abbrev pub IsClaimLine : Version → CertLine → Type 0
 IsClaimLine version (lines.Claim claim) = IsCertClaim version claim
 IsClaimLine version _ = ⊥
 
--- a number of agents in range
+-- the line of a number of agents in range
 abbrev pub IsAgentsLine : CertLine → Type 0
 IsAgentsLine (lines.Agents agents) = IsAgentCount agents
 IsAgentsLine _ = ⊥

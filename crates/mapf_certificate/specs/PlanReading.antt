@@ -1,4 +1,4 @@
--- The lines of a plan text, and what they are read to.
+-- The lines of a plan text, and what they are read as.
 use Rattle.std.specs.Prelude.{◌≡◌, ◌≤◌, ◌⊎◌, ℕ, ◌+◌, ◌++◌, List, [], ◌∷◌, codes, Option, Some, None, Result, Ok, Err, if◌then◌else◌}
 use Rattle.std.specs.Result.{result_ok}
 use Rattle.std.specs.Str.{bytes_eq}
@@ -76,7 +76,7 @@ abbrev pub cause_in_range : CauseWord → Result Cause LineFault
 cause_in_range causes.Ticks = Ok Ticks
 cause_in_range (causes.Splits count) = in_range 0 most_splits count >>= λ n. Ok (Splits n)
 
--- this bound in its range
+-- the bound, in its range
 abbrev pub bound_in_range : Option (Option ℕ) → Result (Option ℕ) LineFault
 bound_in_range None = Ok None
 bound_in_range (Some bound) = in_range 0 greatest_sum bound >>= λ n. Ok (Some n)
@@ -97,16 +97,16 @@ read_answer_line version bs =
     option_map_or (λ rest. read_cost rest >>= λ n. Ok (answers.Cost n)) (strip (codes "cost") bs)
     (option_map_or (read_limit version) (strip (codes "limit") bs) (Err Shape))
 
--- a value that has to be followed by something
+-- a value that something has to follow
 abbrev pub something : {A : Type 0} → A → List ℕ → Result A LineFault
 something x [] = Err Shape
 something x (b ∷ bs) = Ok x
 
--- what stands before the pairs of a path's line, of which there is one at least
+-- what comes before the pairs of a path's line, which has at least one pair
 unfoldable pub read_path_front : List ℕ → Result (Option ℕ × Option ℕ × List ℕ) LineFault
 read_path_front bs = option_map_or (λ rest. read_field 32 rest >>= λ agent. read_field 32 agent.1 >>= λ cost. something (agent.0, cost.0, cost.1) cost.1) (strip (codes "path") bs) (Err Shape)
 
--- the next line and what follows it; P2 where the text ends before
+-- the next line and what follows it; P2 if the text ends before it does
 unfoldable pub next_line : ℕ → List ℕ → Result (List ℕ × List ℕ) PlanTextFault
 next_line n bs = option_map_or (λ p. Ok p) (cut bs) (Err (P2 n))
 
@@ -116,7 +116,7 @@ fault_at n (Ok x) = Ok x
 fault_at n (Err Shape) = Err (P1 n)
 fault_at n (Err Range) = Err (P3 n)
 
--- what follows a line of just these words
+-- what follows a line that consists of these words
 unfoldable pub next_words : ℕ → List ℕ → List ℕ → Result (List ℕ) PlanTextFault
 next_words n words bs = next_line n bs >>= λ p. if bytes_eq p.0 words then Ok p.1 else Err (P1 n)
 
@@ -137,15 +137,15 @@ abbrev pub nothing_after : ℕ → List ℕ → Result (Unit {0}) PlanTextFault
 nothing_after n [] = Ok tt
 nothing_after n (b ∷ bs) = Err (P4 (n + 1))
 
--- the last line and nothing after it
+-- the last line, with nothing after it
 unfoldable pub read_end : ℕ → List ℕ → Result (Unit {0}) PlanTextFault
 read_end n bs = next_words n (codes "end") bs >>= nothing_after n
 
--- a pair, and the cell that it is
+-- a pair, and its cell
 unfoldable pub read_pair_cell : Sizes → List ℕ → Result (Option ℕ × List ℕ) LineFault
 read_pair_cell sizes bs = read_pair bs >>= λ p. Ok (result_ok (read_cell sizes.width sizes.height p.0 p.1), p.2)
 
--- a value, or a refused allocation
+-- a value, or out of memory
 abbrev pub OrMemory : {A : Type 0} → Result A PlanTextFault → Type 0 → Type 0
 OrMemory result P = P ⊎ (result ≡ Err Memory)
 

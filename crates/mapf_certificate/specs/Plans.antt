@@ -14,7 +14,7 @@ use Rattle.mapf_certificate.specs.declared.version.Version.{Version}
 use Rattle.mapf_certificate.specs.declared.version.Version.TheVariants.{One, Two}
 use Rattle.mapf_certificate.specs.Lines.{IsAgentCount}
 
--- a path's cost is its length in ticks
+-- the cost of a path: its length in ticks
 abbrev pub ticks_of : List ℕ → ℕ
 ticks_of path = length path - 1
 
@@ -35,7 +35,7 @@ abbrev pub paths_text : ℕ → ℕ → List (List ℕ) → List ℕ
 paths_text width agent [] = []
 paths_text width agent (path ∷ paths) = path_text width agent path ++ paths_text width (agent + 1) paths
 
--- the sum of these numbers, over a plan
+-- the sum of the costs of a plan's paths
 abbrev pub cost_of : List (List ℕ) → ℕ
 cost_of plan = sum_by ticks_of plan
 
@@ -72,7 +72,7 @@ IsAnswerInRange grid agents Impossible = Unit {0}
 IsAnswerInRange grid agents (Limit cause) = IsCauseInRange cause
 IsAnswerInRange grid agents (Bounded cause bound) = IsCauseInRange cause × (bound ≤ greatest_sum)
 
--- what may be answered: a limit without a bound in version 1 alone, and one with a bound in version 2 alone
+-- the answers of a version: a limit without a bound in version 1 only, and one with a bound in version 2 only
 abbrev pub IsAnswerOfVersion : Version → PlanAnswer → Type 0
 IsAnswerOfVersion version (Found plan) = Unit {0}
 IsAnswerOfVersion version Impossible = Unit {0}
@@ -98,31 +98,31 @@ abbrev pub SpellsOnePlan : Type 0
 SpellsOnePlan = (grid : GridMap) (bytes : List ℕ) (text other : PlanText) → IsGridMap grid → IsPlanText grid text → IsPlanText grid other
     → bytes ≡ plan_text grid.width text → bytes ≡ plan_text grid.width other → text ≡ other
 
--- the bytes begin with these paths, one for each agent, and this is left
+-- the bytes begin with these paths, one for each agent, followed by this rest
 pub record ArePaths (grid : GridMap) (agents : ℕ) (bytes : List ℕ) (paths : List (List ℕ)) (sum : ℕ) (rest : List ℕ) : Type 0 where
   pub count : length paths ≡ agents
   pub in_range : All (IsPathInRange grid) paths
   pub costs : sum ≡ cost_of paths
   pub spelled : bytes ≡ paths_text grid.width 0 paths ++ rest
 
--- the bytes begin with these cells of the grid, and this is left
+-- the bytes begin with these cells of the grid, followed by this rest
 pub record HasCells (grid : GridMap) (bytes cells rest : List ℕ) : Type 0 where
   pub in_range : All (IsOnGrid grid) cells
   pub spelled : bytes ≡ cells_text grid.width cells ++ rest
 
--- a path begins with these cells, and what is left spells the others
+-- a path begins with these cells, and the rest spells its other cells
 pub record GoesOn (width : ℕ) (path cells rest : List ℕ) : Type 0 where
   pub others : List ℕ
   pub same : path ≡ cells ++ others
   pub spelled : rest ≡ cells_text width others
 
--- a plan begins with these paths, and what is left spells the others before the rest
+-- a plan begins with these paths, and what is left spells the others, followed by the rest
 pub record PathsGoOn (width due : ℕ) (plan paths : List (List ℕ)) (rest left : List ℕ) : Type 0 where
   pub others : List (List ℕ)
   pub same : plan ≡ paths ++ others
   pub spelled : left ≡ paths_text width due others ++ rest
 
--- the numbers of a path's line go together: its agent is the expected one, and the cost is one less than the count of
+-- the numbers of a path's line fit together: its agent is the expected one, and the cost is one less than the number of
 -- its cells
 pub record IsPathOf (agents : ℕ) (agent cost : Option ℕ) (due : ℕ) (are_cells : Bool) (count : ℕ) : Type 0 where
   pub agent_is : agent ≡ Some due

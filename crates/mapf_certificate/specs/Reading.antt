@@ -9,8 +9,8 @@ use Rattle.mapf_certificate.specs.Lines.{IsAgentCount, grid_of}
 use Rattle.mapf_certificate.specs.Buffered.{Buffered, spare}
 use Rattle.mapf_certificate.specs.Window.{IsNotTextMemory}
 
--- how far a certificate was read: the grid's sizes, what is left in the buffer, and what the header said, the version
--- too: it means nothing before the header was read
+-- how far a certificate was read: the grid's sizes, what is left in the buffer, and what the header said, including the
+-- version, which means nothing before the header was read
 pub record Reading : Type 0 where
   pub width : ℕ
   pub height : ℕ
@@ -21,7 +21,7 @@ pub record Reading : Type 0 where
   pub is_whole : Bool
   pub owed : ℕ
 
--- what is so at any time
+-- what holds at any time
 pub record IsReading (r : Reading) : Type 0 where
   pub columns : (1 ≤ r.width) × (r.width ≤ greatest_side)
   pub rows : (1 ≤ r.height) × (r.height ≤ greatest_side)
@@ -29,19 +29,19 @@ pub record IsReading (r : Reading) : Type 0 where
   pub bounded : r.owed + spare r.buffer ≤ 2 ^ 64
   pub faults : IfSome r.fault IsNotTextMemory
 
--- this, where no error was answered
+-- this holds, if no error was returned
 abbrev pub IfUnfaulted : Reading → Type 0 → Type 0
 IfUnfaulted r P = r.fault ≡ None → P
 
--- this, where the header is expected: neither it nor an error was answered
+-- this holds, if the header is expected: neither it nor an error was returned
 abbrev pub IfHeaderDue : Reading → Type 0 → Type 0
 IfHeaderDue r P = r.fault ≡ None → r.header ≡ None → P
 
--- this, where an item or the end is expected: neither the end nor an error was answered
+-- this holds, if an item or the end is expected: neither the end nor an error was returned
 abbrev pub IfItemDue : Reading → Type 0 → Type 0
 IfItemDue r P = r.fault ≡ None → r.is_whole ≡ false → P
 
--- the size of the grid; which cells are free plays no part
+-- a grid of this size; which cells are free doesn't matter
 abbrev pub grid_at : Reading → GridMap
 grid_at r = grid_of r.width r.height
 
@@ -50,6 +50,6 @@ abbrev pub agents_in : Option (ℕ × Claim) → ℕ
 agents_in (Some (agents, claim)) = agents
 agents_in None = 0
 
--- the number of agents that the header said
+-- the number of agents in the header
 abbrev pub agents_at : Reading → ℕ
 agents_at r = agents_in r.header

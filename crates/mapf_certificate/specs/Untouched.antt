@@ -7,7 +7,7 @@ use Rattle.mapf_certificate.specs.Buffered.{Buffered}
 abbrev pub IsUntouched : {R S : Type 0} → R → R → S → S → Type 0
 IsUntouched old new source_old source_new = (new ≡ old) × (source_new ≡ source_old)
 
--- where the text that was taken was all in the buffer, the source is as it was, and what followed the text is left
+-- if the text that was taken was all in the buffer, the source is as it was, and what followed the text is left
 abbrev pub TakesThere : {S : Type 0} → S → S → Buffered → Buffered → List ℕ → Type 0
 TakesThere source_old source_new old new taken = (rest : List ℕ) → old.bytes ≡ taken ++ rest
     → (source_new ≡ source_old) × (new ≡ record { bytes = rest; left = old.left })
@@ -16,6 +16,6 @@ TakesThere source_old source_new old new taken = (rest : List ℕ) → old.bytes
 abbrev pub HasLine : Buffered → Type 0
 HasLine buffer = (lacks_end (take 65 buffer.bytes) ≡ false) ⊎ (64 < length buffer.bytes)
 
--- where a line is in the buffer that isn't of the expected kind, the source is as it was
+-- if a line is in the buffer that isn't of the expected kind, the source is as it was
 abbrev pub RefusesThere : {S : Type 0} → S → S → Buffered → (List ℕ → Type 0) → Type 0
 RefusesThere source_old source_new buffer IsDue = HasLine buffer → (IsDue buffer.bytes → ⊥) → source_new ≡ source_old

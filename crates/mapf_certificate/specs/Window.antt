@@ -9,7 +9,7 @@ use Rattle.mapf_certificate.specs.declared.cert.LinesFault.{LinesFault}
 use Rattle.mapf_certificate.specs.declared.cert.LinesFault.TheVariants.{Text, Device, TooLong, Memory}
 use Rattle.mapf_certificate.specs.Buffered.{Buffered}
 
--- the old bytes and then those that were pulled are those that were taken and then the new ones
+-- the old bytes, followed by those that were read, are those that were taken, followed by the new ones
 pub record Window (had left : Option (List ℕ)) (old new : Buffered) (taken : List ℕ) : Type 0 where
   pub pulled : List ℕ
   pub source : Consumes had left pulled
@@ -29,22 +29,23 @@ pub record Exceeds (had left : Option (List ℕ)) (buffer : Buffered) : Type 0 w
   pub beyond : buffer.left < length pulled
   pub few : length pulled ≤ buffer.left + 1
 
--- at most one byte more came than so many, and more than these came just where this is so
+-- at most one byte more than so many was read, and that byte was read if and only if this holds
 pub record Pulls (had left : Option (List ℕ)) (most : ℕ) (TooMany : Type 0) : Type 0 where
   pub came : List ℕ
   pub source : Consumes had left came
   pub few : length came ≤ most + 1
   pub beyond : TooMany ↔ (most < length came)
 
--- no text of this kind begins with what was in the buffer and then came; or nothing more comes, and that is none
+-- no text of this kind begins with what was in the buffer, followed by what came; or nothing more comes, and that is no
+-- such text
 pub record Refuses (had left : Option (List ℕ)) (buffer : Buffered) (IsText : List ℕ → Type 0) : Type 0 where
   pub pulled : List ℕ
   pub source : Consumes had left pulled
   pub within : length pulled ≤ buffer.left
   pub wrong : ((more : List ℕ) → IsText ((buffer.bytes ++ pulled) ++ more) → ⊥) ⊎ (IsAtEnd left × (IsText (buffer.bytes ++ pulled) → ⊥))
 
--- why a text of this kind isn't read: it isn't one, or the source failed, or too many bytes came, or memory was
--- refused. The source has failed in the second case alone
+-- why no text of this kind is read: there is none, or the source failed, or too many bytes came, or out of memory. The
+-- source failed in the second case and in no other
 abbrev pub Fails : Option (List ℕ) → Option (List ℕ) → Bool → Buffered → (List ℕ → Type 0) → LinesFault → Type 0
 Fails had left failed buffer IsText (Text texts.Memory) = ⊥
 Fails had left failed buffer IsText (Text _) = (failed ≡ false) × Refuses had left buffer IsText
@@ -52,7 +53,7 @@ Fails had left failed buffer IsText Device = (failed ≡ true) × ComesWithin ha
 Fails had left failed buffer IsText TooLong = (failed ≡ false) × Exceeds had left buffer
 Fails had left failed buffer IsText Memory = (failed ≡ false) × ComesWithin had left buffer
 
--- the error isn't one of the text that only says that memory was refused
+-- the error isn't an error of the text that means out of memory
 abbrev pub IsNotTextMemory : LinesFault → Type 0
 IsNotTextMemory fault = fault ≢ Text texts.Memory
 
@@ -61,7 +62,7 @@ abbrev pub IsNoTextFault : LinesFault → Type 0
 IsNoTextFault (Text fault) = ⊥
 IsNoTextFault _ = Unit {0}
 
--- what stops a reader other than the text: the source failed, or too many bytes came, or memory was refused
+-- what stops a reader apart from the text: the source failed, or too many bytes came, or out of memory
 abbrev pub StopsReader : Option (List ℕ) → Option (List ℕ) → Bool → Buffered → LinesFault → Type 0
 StopsReader had left failed buffer (Text fault) = Unit {0}
 StopsReader had left failed buffer Device = failed ≡ true
@@ -74,7 +75,7 @@ IsTextFault (Text texts.Memory) = ⊥
 IsTextFault (Text _) = Unit {0}
 IsTextFault _ = ⊥
 
--- the error that says why no line is there
+-- the error that reports why there is no line
 abbrev pub Tells : NoLine → LinesFault → Type 0
 Tells stops.Ended fault = IsTextFault fault
 Tells stops.Overlong fault = IsTextFault fault
@@ -94,13 +95,13 @@ pub record EndsEarly (had left : Option (List ℕ)) (old new : Buffered) : Type 
   pub ended : IsAtEnd left
   pub lacking : lacks_end new.bytes ≡ true
 
--- more than 64 bytes stand before the end of a line
+-- more than 64 bytes come before the end of a line
 pub record IsOverlong (had left : Option (List ℕ)) (old new : Buffered) : Type 0 where
   pub window : Window had left old new []
   pub many : 64 < length new.bytes
   pub lacking : lacks_end (take 65 new.bytes) ≡ true
 
--- why no line is there
+-- why there is no line
 abbrev pub LacksLine : Option (List ℕ) → Option (List ℕ) → Bool → Buffered → Buffered → NoLine → Type 0
 LacksLine had left failed old new stops.Ended = (failed ≡ false) × EndsEarly had left old new
 LacksLine had left failed old new stops.Overlong = (failed ≡ false) × IsOverlong had left old new

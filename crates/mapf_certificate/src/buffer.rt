@@ -11,7 +11,7 @@ use mapf_model::{Failed, OutOfMemory, Source};
 use std::alloc::Global;
 use std::marker::Model;
 
-/// How many bytes one pull asks for at most.
+/// The greatest number of bytes that one read asks for.
 const PIECE: usize = 4096;
 
 /// The bytes that came from a source and weren't taken yet.
@@ -35,7 +35,7 @@ impl Model for LineBuffer {
     ghost invariant = { λ b. (b.taken ≤ vec_len b.bytes) × (4160 ≤ vec_capacity b.bytes) × (vec_len b.bytes ≤ 4160) };
 }
 
-/// Why no line is there.
+/// Why there is no line.
 #[derive(Clone, Copy)]
 pub enum NoLine {
     /// The source ended.
@@ -44,11 +44,11 @@ pub enum NoLine {
     Overlong,
     /// The source failed.
     Device,
-    /// A byte came past the limit.
+    /// A byte came beyond the limit.
     PastLimit,
 }
 
-/// The length of the line that bytes begin with. It is at most 64.
+/// Returns the length of the line that bytes begin with, at most 64. None if they don't begin with a line.
 fn line_end(bytes: &[u8]) -> Option<usize>
     ensures line { IfSome result (λ n.
         (n < length bytes.now) × IsCut bytes.now (take n bytes.now) (drop (n + 1) bytes.now)) }
@@ -58,7 +58,7 @@ fn line_end(bytes: &[u8]) -> Option<usize>
 }
 
 impl LineBuffer {
-    /// An empty buffer, to which at most `limit` bytes may come.
+    /// Returns an empty buffer, into which at most `limit` bytes may come.
     pub fn open(alloc: Global, limit: u64) -> Result<LineBuffer, OutOfMemory>
         ensures { IfOk result (λ b. b ≡ record { bytes = []; left = limit }) }
     {
@@ -81,7 +81,7 @@ impl LineBuffer {
         self.len() == 0
     }
 
-    /// All bytes.
+    /// Returns all bytes.
     #[inline(always)]
     pub fn all(&self) -> &[u8]
         ensures { result.now ≡ self.now.bytes }
@@ -89,7 +89,7 @@ impl LineBuffer {
         &self.bytes[self.taken..]
     }
 
-    /// The first bytes.
+    /// Returns the first bytes.
     pub fn front(&self, n: usize) -> &[u8]
         requires { n ≤ length self.now.bytes }
         ensures { result.now ≡ take n self.now.bytes }
@@ -97,7 +97,7 @@ impl LineBuffer {
         &self.bytes[self.taken..self.taken + n]
     }
 
-    /// Takes the first bytes away.
+    /// Takes the first bytes out of the buffer.
     #[inline(always)]
     pub fn take(&mut self, n: usize)
         requires { n ≤ length self.old.bytes }
@@ -106,7 +106,7 @@ impl LineBuffer {
         self.taken += n;
     }
 
-    /// Pulls once, and answers whether bytes came.
+    /// Reads once from the source. Returns whether bytes came.
     pub fn fill<S: Source>(&mut self, source: &mut S) -> Result<bool, NoLine>
         requires works { S.has_failed source.old ≡ false }
         requires room { length self.old.bytes ≤ 64 }
@@ -145,7 +145,7 @@ impl LineBuffer {
         self.bytes.extend_from_slice(piece).unwrap();
     }
 
-    /// Pulls until a whole line is there, and answers its length without LF.
+    /// Reads until a whole line is in the buffer. Returns its length without LF.
     pub fn ready<S: Source>(&mut self, source: &mut S) -> Result<usize, NoLine>
         requires { S.has_failed source.old ≡ false }
         ensures window { OnOk result (Window (S.remaining source.old) (S.remaining source.new) self.old self.new []) }
@@ -153,7 +153,7 @@ impl LineBuffer {
             × IsCut self.new.bytes (take n self.new.bytes) (drop (n + 1) self.new.bytes)) }
         ensures stopped { IfErr result
             (LacksLine (S.remaining source.old) (S.remaining source.new) (S.has_failed source.new) self.old self.new) }
-        // Nothing is pulled where a line is there, or too long.
+        // If a line is in the buffer, or one that is too long, the source is not read.
         ensures there { HasLine self.old → IsUntouched self.old self.new source.old source.new }
         ensures works { OnOk result (S.has_failed source.new ≡ false) }
         ensures spare { spare self.new ≡ spare self.old }

@@ -1,8 +1,8 @@
 use crate::version::Version;
 use mapf_model::{Claim, Item};
 
-/// A certificate: the version of its text, for how many agents it is, 1 to 200, what it claims, and the
-/// items of a constraint tree in pre-order. In version 1 no split has blocks, and no bound is claimed.
+/// A certificate: the version of its text, for how many agents it is, 1 to 200, what it claims, and the items of its
+/// constraint tree in pre-order. In version 1 no split has blocks, and no bound is claimed.
 #[derive(Debug, Drop)]
 pub struct Cert {
     pub version: Version,
@@ -11,11 +11,11 @@ pub struct Cert {
     pub tree: Vec<Item>,
 }
 
-/// Why bytes spell no certificate, with a line counted from 1. It is proved that they spell none;
-/// that this error is the first, and its line, is only tested.
+/// Why bytes are not a certificate, with a line counted from 1. It is proved that they are none; that this error is the
+/// first, and its line, is only tested.
 #[derive(Clone, Copy, Debug, PartialEq, Eq)]
 pub enum CertFault {
-    /// This line has a wrong shape, is longer than 64 bytes, or doesn't fit where it stands.
+    /// This line has a wrong shape, is longer than 64 bytes, or is out of place.
     K1(u64),
     /// The text ended before this line, or in it.
     K2(u64),
@@ -23,19 +23,19 @@ pub enum CertFault {
     K3(u64),
     /// There is text after `end`, in this line.
     K4(u64),
-    /// A request for memory was refused.
+    /// Out of memory.
     Memory,
 }
 
-/// Why a certificate that comes from a source isn't read on.
+/// Why reading a certificate from a source ends.
 #[derive(Clone, Copy, Debug, PartialEq, Eq)]
 pub enum LinesFault {
-    /// The bytes spell no certificate.
+    /// The bytes are not a certificate.
     Text(CertFault),
     /// The source failed.
     Device,
     /// More bytes came than the limit allows.
     TooLong,
-    /// A request for memory was refused.
+    /// Out of memory.
     Memory,
 }

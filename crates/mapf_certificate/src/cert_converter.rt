@@ -12,18 +12,17 @@ use crate::version::Version;
 use mapf_model::Grid;
 use std::alloc::Global;
 
-/// The text of version 2 that has the agents, the claim and the tree of this text of version 1. A
-/// text that begins as one of version 2 has an error in line 1.
+/// Returns the text of version 2 that has the agents, the claim and the tree of this text of version 1. A text that
+/// begins as one of version 2 has an error in line 1.
 pub fn convert_cert(alloc: Global, bytes: &[u8], grid: &Grid) -> Result<Vec<u8>, CertFault>
-    // What is converted is spelled in version 1, and what comes spells the same in version 2.
+    // If a text is returned, the bytes spell a certificate of version 1, and the text spells the same in version 2.
     ensures found { IfOk result (λ out. IsConverted grid.now bytes.now out.items) }
-    // What is spelled in version 1 is converted, unless memory runs out.
+    // A text of version 1 is converted, unless memory runs out.
     ensures only { (agents : ℕ) (claim : Claim) (tree : ConstraintTree)
         → SpellsCert grid.now bytes.now One agents claim tree
         → MatchResult result (λ out. SpellsCert grid.now out.items Two agents claim tree)
         (λ fault. fault ≡ CertFault.Memory) }
-    // A text that begins with the first line of version 2 has an error in line 1, unless memory
-    // runs out.
+    // A text that begins with the first line of version 2 has an error in line 1, unless memory runs out.
     ensures later { (rest : List ℕ) → bytes.now ≡ title_words Two ++ (10 ∷ rest)
         → MatchResult result (λ out. ⊥) (λ fault. (fault ≡ CertFault.K1 1) ⊎ (fault ≡ CertFault.Memory)) }
 {

@@ -28,24 +28,24 @@ use mapf_model::{Claim, Item, OutOfMemory, Source};
 use std::alloc::Global;
 use std::marker::Model;
 
-/// A reader of a certificate that comes from a source, item by item. It holds a buffer and no source:
-/// every call is to be lent the same source.
+/// Reads a certificate from a source, item by item. It holds a buffer and not the source: pass the same source to every
+/// call.
 #[derive(Drop)]
 pub struct CertLines {
     alloc: Global,
     width: u32,
     height: u32,
     lines: Lines,
-    // What the first line said, where the header was read.
+    // What the first line said, if the header was read.
     version: Version,
     header: Option<(u32, Claim)>,
-    // The error that was answered.
+    // The error that was returned.
     fault: Option<LinesFault>,
     // Whether the whole certificate was read.
     is_whole: bool,
     // How many subtrees are pending.
     owed: u64,
-    // The line of the first word of the item given last.
+    // The line of the first word of the last item.
     item_line: u64,
 }
 
@@ -78,7 +78,7 @@ impl Model for CertLines {
 }
 
 impl CertLines {
-    /// Allocates the buffer; later only blocks allocate. At most `limit` bytes may come from the source.
+    /// Allocates the buffer; later only blocks are allocated. At most `limit` bytes may come from the source.
     pub fn open(
         alloc: Global,
         width: u32,
@@ -114,13 +114,13 @@ impl CertLines {
         })
     }
 
-    /// The line in which the item given last begins, counted from 1, or 0 before the first. No contract
-    /// says which line it is; it is tested.
+    /// Returns the line in which the last item begins, counted from 1, or 0 before the first. No contract says which
+    /// line it is; it is tested.
     pub fn line(&self) -> u64 {
         self.item_line
     }
 
-    /// The version of the text, where the header was read.
+    /// Returns the version of the text, if the header was read.
     pub fn version(&self) -> Version
         requires { IsSome self.now.header }
         ensures { result ≡ self.now.version }
@@ -128,17 +128,17 @@ impl CertLines {
         self.version
     }
 
-    /// The number of agents, 1 to 200, and the claim.
+    /// Returns the number of agents, 1 to 200, and the claim.
     pub fn header<S: Source>(&mut self, source: &mut S) -> Result<(u32, Claim), LinesFault>
         requires works { self.old.fault ≡ None → S.has_failed source.old ≡ false }
-        // An error is answered again, and so is the header, without a look at the source.
+        // An error is returned again, and so is the header, without reading from the source.
         ensures faulted { IfErr result (λ fault. self.new.fault ≡ Some fault) }
         ensures repeats_fault { IfSome self.old.fault (λ fault.
             (result ≡ Err fault) × IsUntouched self.old self.new source.old source.new) }
         ensures repeats_header { IfUnfaulted self.old (IfSome self.old.header (λ h.
             (result ≡ Ok h) × IsUntouched self.old self.new source.old source.new)) }
 
-        // What the bytes say.
+        // How the result depends on the bytes.
         ensures header { IfHeaderDue self.old (IfOk result (λ h.
             TakesHeader (S.remaining source.old) (S.remaining source.new) self.old self.new h.0 h.1)) }
         ensures fails { IfUnfaulted self.old (IfErr result
@@ -149,15 +149,14 @@ impl CertLines {
             → MatchResult result (λ h. (self.new.version ≡ version) × (h.0 ≡ agents) × (h.1 ≡ claim)
             × Awaits (S.remaining source.new) self.new nodes) IsNoTextFault) }
 
-        // Where the header's lines were all in the buffer, the source is as it was.
+        // If the header's lines were all in the buffer, the source is not read.
         ensures there { IfHeaderDue self.old (IfOk result (λ h.
             TakesThere source.old source.new self.old.buffer self.new.buffer
             (header_text self.new.version self.old.width h.0 h.1))) }
-        // Nor is it touched where a line is in the buffer that isn't the first of a certificate.
+        // Nor is it read if a line is in the buffer that isn't the first of a certificate.
         ensures refused { IfUnfaulted self.old (RefusesThere source.old source.new self.old.buffer
             (BeginsWith CertLine IsTitleLine (line_text 1))) }
-        // Whether the source failed, and how many bytes came of it; an error of the text is never
-        // out of memory.
+        // Whether the source failed, and how many bytes came from it. An error of the text is never out of memory.
         ensures device { IfUnfaulted self.old
             (IsErrOf result LinesFault.Device ↔ (S.has_failed source.new ≡ true)) }
         ensures pulls { IfUnfaulted self.old (Pulls (S.remaining source.old) (S.remaining source.new)
@@ -190,18 +189,18 @@ impl CertLines {
         }
     }
 
-    /// The next item of the tree, or None where the whole certificate was read.
+    /// Returns the next item of the tree, or None if the whole certificate was read.
     pub fn next_item<S: Source>(&mut self, source: &mut S) -> Result<Option<Item>, LinesFault>
         requires works { self.old.fault ≡ None → S.has_failed source.old ≡ false }
         requires header { self.old.fault ≡ None → IsSome self.old.header }
-        // An error is answered again, and so is the end, without a look at the source.
+        // An error is returned again, and so is the end, without reading from the source.
         ensures faulted { IfErr result (λ fault. self.new.fault ≡ Some fault) }
         ensures repeats_fault { IfSome self.old.fault (λ fault.
             (result ≡ Err fault) × IsUntouched self.old self.new source.old source.new) }
         ensures repeats_end { IfUnfaulted self.old (self.old.is_whole ≡ true
             → (result ≡ Ok None) × IsUntouched self.old self.new source.old source.new) }
 
-        // What the bytes say.
+        // How the result depends on the bytes.
         ensures item { IfItemDue self.old (IfOk result (λ o. IfSome o (λ item.
             TakesNode (S.remaining source.old) (S.remaining source.new) self.old self.new (node_of item)))) }
         ensures end { IfItemDue self.old (IfOk result (λ o. o ≡ None
@@ -216,16 +215,15 @@ impl CertLines {
         ensures only_end { IfItemDue self.old (Awaits (S.remaining source.old) self.old []
             → MatchResult result (λ o. o ≡ None) IsNoTextFault) }
 
-        // Where the item's lines were all in the buffer, the source is as it was.
+        // If the item's lines were all in the buffer, the source is not read.
         ensures there { IfUnfaulted self.old (IfOk result (λ o. IfSome o (λ item.
             TakesThere source.old source.new self.old.buffer self.new.buffer
             (node_text self.old.version self.old.width (node_of item))))) }
-        // Nor is it touched where a line is in the buffer that is none of a tree, nor `end`.
+        // Nor is it read if a line is in the buffer that is neither a line of a tree nor `end`.
         ensures refused { IfUnfaulted self.old (RefusesThere source.old source.new self.old.buffer
             (BeginsWith CertLine (IsTreeLine self.old.version (grid_at self.old) (agents_at self.old))
             (line_text self.old.width))) }
-        // Whether the source failed, and how many bytes came of it; an error of the text is never
-        // out of memory.
+        // Whether the source failed, and how many bytes came from it. An error of the text is never out of memory.
         ensures device { IfUnfaulted self.old
             (IsErrOf result LinesFault.Device ↔ (S.has_failed source.new ≡ true)) }
         ensures pulls { IfUnfaulted self.old (Pulls (S.remaining source.old) (S.remaining source.new)
@@ -303,7 +301,7 @@ impl CertLines {
     }
 }
 
-/// How many subtrees are pending after this item.
+/// Returns how many subtrees are pending after this item.
 fn trees_owed_after(owed: u64, item: &Item) -> u64
     requires some { 1 ≤ owed }
     requires few { owed + 1 < 2 ^ 64 }
@@ -315,7 +313,7 @@ fn trees_owed_after(owed: u64, item: &Item) -> u64
     }
 }
 
-/// The line is `end`, and nothing follows it.
+/// Checks that the line is `end`, and that nothing follows it.
 fn take_end<S: Source>(lines: &mut Lines, source: &mut S, line: &CertLine) -> Result<(), LinesFault>
     requires { S.has_failed source.old ≡ false }
     ensures works { OnOk result (S.has_failed source.new ≡ false) }
@@ -334,7 +332,7 @@ fn take_end<S: Source>(lines: &mut Lines, source: &mut S, line: &CertLine) -> Re
     }
 }
 
-/// The item that begins with this line.
+/// Reads the item that begins with this line.
 fn item_of<S: Source>(
     alloc: Global,
     lines: &mut Lines,

@@ -11,7 +11,7 @@ use crate::cert_lines::CertLines;
 use mapf_model::{BytesSource, Grid, Source};
 use std::alloc::Global;
 
-/// The certificate that a source gives.
+/// Returns the certificate that a source gives.
 fn collect<S: Source>(
     alloc: Global,
     lines: &mut CertLines,
@@ -50,9 +50,9 @@ fn collect<S: Source>(
 
 /// Reads a certificate for a grid of this size.
 pub fn read_cert(alloc: Global, bytes: &[u8], grid: &Grid) -> Result<Cert, CertFault>
-    // What is read is spelled so, in range.
+    // If a certificate is returned, the bytes spell it, in range.
     ensures found { IfOk result (IsSpelled grid.now bytes.now) }
-    // What is spelled so is read, unless memory runs out.
+    // A certificate that the bytes spell is returned, unless memory runs out.
     ensures only { (version : Version) (agents : ℕ) (claim : Claim) (tree : ConstraintTree)
         → SpellsCert grid.now bytes.now version agents claim tree
         → MatchResult result (IsCertOf version agents claim tree) (λ fault. fault ≡ CertFault.Memory) }

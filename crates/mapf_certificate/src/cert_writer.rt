@@ -52,7 +52,7 @@ impl TextWriter {
         self.line(sink, &CertLine::Claim(claim))
     }
 
-    /// Writes the line of a block, that of its agent and of how many entries it has.
+    /// Writes the line of a block: its agent and how many entries it has.
     pub fn block<K: Sink>(&mut self, sink: &mut K, agent: u32, entries: u64) -> Result<(), Failed>
         requires { K.has_failed sink.old ≡ false }
         ensures text { PassesOrFails (K.contents sink.old) (K.contents sink.new) self.old.page self.new.page
@@ -135,7 +135,7 @@ impl TextWriter {
         Ok(())
     }
 
-    /// Writes the last line of a certificate, and pushes what is held.
+    /// Writes the last line of a certificate, and what is left on the page.
     pub fn finish<K: Sink>(&mut self, sink: &mut K) -> Result<(), Failed>
         requires { K.has_failed sink.old ≡ false }
         ensures text { WritesOrFails (K.contents sink.old) (K.contents sink.new)
@@ -148,12 +148,11 @@ impl TextWriter {
         self.page.flush(sink)
     }
 
-    /// Writes a certificate: its header, its items and `end`. `read_cert` reads it back where the
-    /// number of agents, the claim and the numbers of the items are in the ranges of
-    /// docs/FORMATS.md, the agents of each node's blocks and the entries of each block rise, and
-    /// the items are those of one tree. Any other certificate is written too, and its text isn't
-    /// read. In version 1 there is no place for blocks on splits, nor is a bound claimed. `Failed`
-    /// is answered only where the sink failed, and then it got a prefix of that text.
+    /// Writes a certificate: its header, its items and `end`. `read_cert` reads it back if the number of agents, the
+    /// claim and the numbers of the items are in the ranges of docs/FORMATS.md, the agents of each node's blocks and
+    /// the entries of each block rise, and the items are those of one tree. Any other certificate is written too, and
+    /// `read_cert` refuses its text. In version 1 blocks on splits and a bound have no spelling. `Failed` is returned
+    /// only if the sink failed; it then got a prefix of that text.
     pub fn cert<K: Sink>(&mut self, sink: &mut K, cert: &Cert) -> Result<(), Failed>
         requires works { K.has_failed sink.old ≡ false }
         requires empty { self.old.page ≡ [] }
@@ -172,7 +171,7 @@ impl TextWriter {
     }
 }
 
-/// The text of a certificate for a grid of this size, as `TextWriter::cert` writes it.
+/// Returns the text of a certificate for a grid of this size, as `TextWriter::cert` writes it.
 pub fn write_cert(alloc: Global, cert: &Cert, grid: &Grid) -> Result<Vec<u8>, OutOfMemory>
     requires claim { IsClaimOfVersion cert.now.version cert.now.claim }
     requires nodes { All (λ item. IsNodeOfVersion cert.now.version (node_of item)) cert.now.tree.items }

@@ -7,7 +7,7 @@ use mapf_fields::{LineFault, field, from_one_to, pair, strip, up_to};
 use mapf_model::limits::GREATEST_COST;
 use mapf_model::{Entry, Label};
 
-/// The label after a blank that bytes begin with, and what follows it.
+/// Reads the label after the blank that bytes begin with. Returns it and what follows.
 #[tactic(auto, unfolding(crate::specs::EntryReading::read_label_front))]
 #[inline(always)]
 fn label_front(bytes: &[u8]) -> Result<(Label, &[u8]), LineFault>
@@ -20,7 +20,7 @@ fn label_front(bytes: &[u8]) -> Result<(Label, &[u8]), LineFault>
     Ok((Label::Ticks(from_one_to(GREATEST_COST, ticks)?), rest))
 }
 
-/// What follows the LF that bytes begin with.
+/// Returns what follows the LF that bytes begin with.
 #[tactic(auto, unfolding(crate::specs::EntryReading::read_line_end))]
 #[inline(always)]
 fn line_end(bytes: &[u8]) -> Result<&[u8], LineFault>
@@ -32,7 +32,7 @@ fn line_end(bytes: &[u8]) -> Result<&[u8], LineFault>
     }
 }
 
-/// The entry whose line bytes begin with, without its first word, and what follows the LF.
+/// Reads the line of an entry that bytes begin with, without its first word. Returns the entry and what follows the LF.
 #[tactic(auto, unfolding(crate::specs::EntryReading::read_entry_parts))]
 #[inline(always)]
 fn entry_parts<'a>(bytes: &'a [u8], sizes: &Sizes) -> Result<(Entry, &'a [u8]), LineFault>
@@ -50,9 +50,8 @@ fn entry_parts<'a>(bytes: &'a [u8], sizes: &Sizes) -> Result<(Entry, &'a [u8]), 
     Ok((entry, rest))
 }
 
-/// The entry whose line bytes begin with, and what follows the LF, in one pass from left to right.
-/// Where bytes begin with no such line, `line_of` reports what is wrong with them, and not this
-/// error.
+/// Reads the line of an entry that bytes begin with, in one pass from left to right. Returns the entry and what follows
+/// the LF. If bytes begin with no such line, `line_of` reports what is wrong with them, and not this error.
 #[tactic(auto, unfolding(crate::specs::EntryReading::read_entry_front))]
 #[inline(always)]
 pub fn entry_front<'a>(bytes: &'a [u8], sizes: &Sizes) -> Result<(Entry, &'a [u8]), LineFault>

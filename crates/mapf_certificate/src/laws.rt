@@ -6,8 +6,8 @@ pub fn certificates_are_spelled_apart()
     ensures { SpellsOneCert }
 {}
 
-/// On one grid no text spells two plan texts: neither in two versions, nor for two numbers of agents, nor
-/// with two answers.
+/// On one grid no text spells two plan texts: neither in two versions, nor for two numbers of agents, nor with two
+/// answers.
 pub fn plans_are_spelled_apart()
     ensures { SpellsOnePlan }
 {}

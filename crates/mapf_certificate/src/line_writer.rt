@@ -9,7 +9,7 @@ use crate::version::Version;
 use mapf_fields::Page;
 use mapf_model::{Cell, Claim, Conflict, Entry, Label};
 
-/// Adds the column and the row of a cell, each after its mark.
+/// Adds the column and the row of a cell, each after its separator.
 #[inline]
 pub fn push_cell(page: &mut Page, cell: Cell, width: u32)
     requires wide { 0 < width }

@@ -22,11 +22,11 @@ use mapf_fields::LineFault;
 use mapf_model::{Block, Entry, OutOfMemory, Source};
 use std::alloc::Global;
 
-/// For how many entries or blocks room is asked for at once. Most blocks have no more entries, and where a
-/// text announces more than it has, this room is small.
+/// For how many entries or blocks memory is requested at once. Most blocks have no more entries; and if a text
+/// announces more than it has, this is little memory.
 const AT_ONCE: u64 = 64;
 
-/// The lines of a certificate that comes from a source.
+/// The lines of a certificate that is read from a source.
 #[derive(Drop)]
 pub struct Lines {
     buffer: LineBuffer,
@@ -34,14 +34,14 @@ pub struct Lines {
     pub count: u64,
 }
 
-/// Whether the second entry may follow the first in a block.
+/// Returns whether the second entry may follow the first in a block.
 fn are_rising(a: &Entry, b: &Entry) -> bool
     ensures { IsTrue result ↔ IsBefore a.now b.now }
 {
     a.tick < b.tick || (a.tick == b.tick && a.cell.0 < b.cell.0)
 }
 
-/// Whether the entry may come after these.
+/// Returns whether the entry may follow these.
 fn follows_entries(before: &[Entry], entry: &Entry) -> bool
     requires { AllPairs IsBefore before.now }
     ensures { IsTrue result ↔ All (λ b. IsBefore b entry.now) before.now }
@@ -52,7 +52,7 @@ fn follows_entries(before: &[Entry], entry: &Entry) -> bool
     }
 }
 
-/// Whether a block of this agent may come after these.
+/// Returns whether a block of this agent may follow these.
 fn follows_blocks(before: &[Block], agent: u32) -> bool
     requires { AllPairs IsOfLesserAgent before.now }
     ensures { IsTrue result ↔ All (λ b. b.agent < agent) before.now }
@@ -93,7 +93,7 @@ impl Lines {
         })
     }
 
-    /// The line that was taken last doesn't fit where it stands.
+    /// Returns the error that the line taken last is out of place.
     pub fn misfit(&self) -> LinesFault
         ensures { IsTextFault result }
     {
@@ -131,7 +131,7 @@ impl Lines {
         }
     }
 
-    /// Answers Ok where nothing is left.
+    /// Checks that nothing is left.
     pub fn end<S: Source>(&mut self, source: &mut S) -> Result<(), LinesFault>
         requires { S.has_failed source.old ≡ false }
         ensures works { OnOk result (S.has_failed source.new ≡ false) }
@@ -154,7 +154,7 @@ impl Lines {
         }
     }
 
-    /// The entries of a block, which rise by their ticks and cells.
+    /// Reads the entries of a block, which rise by tick and cell.
     fn entries<S: Source>(
         &mut self,
         alloc: Global,
@@ -185,7 +185,7 @@ impl Lines {
         Ok(entries)
     }
 
-    /// The entry whose whole line is in the buffer, if it may come after these, and the length of the line.
+    /// Returns the entry whose whole line is in the buffer, if it may follow these, and the length of the line.
     #[inline(always)]
     fn entry_there(&self, sizes: &Sizes, before: &[Entry]) -> Option<(Entry, usize)>
         requires { AllPairs IsBefore before.now }
@@ -202,7 +202,7 @@ impl Lines {
         }
     }
 
-    /// The next entry after these.
+    /// Reads the next entry after these.
     fn entry<S: Source>(
         &mut self,
         source: &mut S,
@@ -235,7 +235,7 @@ impl Lines {
         Ok(entry)
     }
 
-    /// The next block after these.
+    /// Reads the next block after these.
     fn block<S: Source>(
         &mut self,
         alloc: Global,
@@ -265,7 +265,7 @@ impl Lines {
         Ok(Block { agent, entries })
     }
 
-    /// The blocks of a node, whose agents rise.
+    /// Reads the blocks of a node, whose agents rise.
     pub fn blocks<S: Source>(
         &mut self,
         alloc: Global,

@@ -4,7 +4,7 @@ use mapf_model::{Failed, Sink};
 use std::alloc::Global;
 use std::marker::Model;
 
-/// Bytes in memory as a sink that grows. It fails where memory is refused.
+/// Bytes in memory as a sink that grows. It fails if memory runs out.
 #[derive(Drop)]
 pub struct MemorySink {
     bytes: Vec<u8>,
@@ -29,7 +29,7 @@ impl MemorySink {
         }
     }
 
-    /// What was pushed.
+    /// Returns the bytes that were written.
     pub fn into_bytes(self) -> Vec<u8>
         ensures { result.items ≡ self.0 }
     {

@@ -29,7 +29,7 @@ enum CauseWord {
     Ticks,
 }
 
-/// The version of line 1.
+/// Reads line 1. Returns the version.
 #[tactic(auto, unfolding(crate::specs::PlanReading::read_plan_title))]
 pub fn title_line(line: &[u8]) -> Result<Version, LineFault>
     ensures { result ≡ read_plan_title line.now }
@@ -43,7 +43,7 @@ pub fn title_line(line: &[u8]) -> Result<Version, LineFault>
     Err(LineFault::Shape)
 }
 
-/// The number of agents of line 2.
+/// Reads line 2. Returns the number of agents.
 #[tactic(auto, unfolding(crate::specs::PlanReading::read_agents_line))]
 pub fn agents_line(line: &[u8]) -> Result<u32, LineFault>
     ensures { result ≡ read_agents_line line.now }
@@ -54,7 +54,7 @@ pub fn agents_line(line: &[u8]) -> Result<u32, LineFault>
     }
 }
 
-/// Why the search ended, and what follows.
+/// Reads why the search ended. Returns it and what follows.
 #[tactic(auto, unfolding(crate::specs::PlanReading::read_cause))]
 fn cause_word(rest: &[u8]) -> Result<(CauseWord, &[u8]), LineFault>
     ensures { Gives (λ p. (p.0, p.1.now)) result (read_cause rest.entry.now) }
@@ -66,7 +66,7 @@ fn cause_word(rest: &[u8]) -> Result<(CauseWord, &[u8]), LineFault>
     Ok((CauseWord::Splits(splits), rest))
 }
 
-/// The bound at the end of a limit's line, which version 1 doesn't have.
+/// Reads the bound at the end of a limit's line, which version 1 doesn't have.
 #[tactic(auto, unfolding(crate::specs::PlanReading::read_bound))]
 fn bound_word(version: Version, rest: &[u8]) -> Result<Option<Option<u64>>, LineFault>
     ensures { result ≡ read_bound version rest.now }
@@ -113,7 +113,7 @@ fn limit(version: Version, rest: &[u8]) -> Result<AnswerLine, LineFault>
     })
 }
 
-/// Line 3.
+/// Reads line 3.
 #[tactic(auto, unfolding(crate::specs::PlanReading::read_answer_line))]
 pub fn answer_line(version: Version, line: &[u8]) -> Result<AnswerLine, LineFault>
     ensures { result ≡ read_answer_line version line.now }
@@ -130,7 +130,7 @@ pub fn answer_line(version: Version, line: &[u8]) -> Result<AnswerLine, LineFaul
     Err(LineFault::Shape)
 }
 
-/// The agent and the cost of a path's line as they were read, and its pairs.
+/// Reads the agent and the cost of a path's line, whose ranges aren't checked yet. Returns them and the pairs.
 #[tactic(auto, unfolding(crate::specs::PlanReading::read_path_front))]
 pub fn path_front(line: &[u8]) -> Result<(Option<u64>, Option<u64>, &[u8]), LineFault>
     ensures { Gives (λ p. (p.0, p.1, p.2.now)) result (read_path_front line.entry.now) }

@@ -39,7 +39,7 @@ fn fault_of_line(number: u64, fault: LineFault) -> PlanTextFault
     }
 }
 
-/// Takes the expected line, of these words.
+/// Takes the next line, which has to consist of these words.
 #[tactic(auto, unfolding(crate::specs::PlanReading::next_words))]
 fn take_words<'a>(number: u64, words: &[u8], bytes: &'a [u8]) -> Result<&'a [u8], PlanTextFault>
     ensures { Gives (λ r. r.now) result (next_words number words.now bytes.entry.now) }
@@ -91,7 +91,7 @@ fn take_answer(version: Version, bytes: &[u8]) -> Result<(AnswerLine, &[u8]), Pl
     }
 }
 
-/// `end`, and nothing after it.
+/// Checks that the line is `end`, and that nothing follows it.
 #[tactic(auto, unfolding(crate::specs::PlanReading::read_end))]
 fn end(number: u64, bytes: &[u8]) -> Result<(), PlanTextFault>
     requires { number < 1000 }
@@ -105,7 +105,7 @@ fn end(number: u64, bytes: &[u8]) -> Result<(), PlanTextFault>
     }
 }
 
-/// The cell of the pair that bytes begin with, None where it isn't one of the grid, and what follows.
+/// Reads the pair that bytes begin with. Returns its cell, None if it isn't on the grid, and what follows.
 #[tactic(auto, unfolding(crate::specs::PlanReading::read_pair_cell))]
 fn pair_cell<'a>(bytes: &'a [u8], sizes: &Sizes) -> Result<(Option<Cell>, &'a [u8]), LineFault>
     ensures { Gives (λ p. (p.0, p.1.now)) result (read_pair_cell sizes.now bytes.entry.now) }
@@ -114,8 +114,7 @@ fn pair_cell<'a>(bytes: &'a [u8], sizes: &Sizes) -> Result<(Option<Cell>, &'a [u
     Ok((sizes.cell(x, y).ok(), rest))
 }
 
-/// The pairs of a path's line: whether each is a cell of the grid, and the cells up to the first that
-/// isn't.
+/// The pairs of a path's line: whether each is a cell of the grid, and the cells before the first that isn't.
 #[derive(Drop)]
 struct Pairs {
     cells: Vec<Cell>,
@@ -151,7 +150,7 @@ fn pairs_of(alloc: Global, number: u64, bytes: &[u8], sizes: &Sizes) -> Result<P
     Ok(Pairs { cells, are_cells })
 }
 
-/// The path of the agent whose line is expected.
+/// Reads the next line, the path of this agent.
 fn path_of(
     alloc: Global,
     number: u64,
@@ -179,7 +178,7 @@ fn path_of(
     }
 }
 
-/// The path of these cells, None where the last two are one.
+/// Returns the path of these cells, None if the last two are equal.
 fn tight(cells: Vec<Cell>) -> Option<Path>
     ensures tight { IsSome result
         ↔ ((1 ≤ length cells.items) × (length cells.items ≤ most_path_cells) × IsTight cells.items) }
@@ -191,7 +190,7 @@ fn tight(cells: Vec<Cell>) -> Option<Path>
     }
 }
 
-/// Whether the agent is the expected one, the cost goes with the number of pairs, and all are in
+/// Checks that the agent is the expected one, that the cost is one less than the number of pairs, and that all are in
 /// their ranges.
 fn judge_path(
     agent: Option<u64>,
@@ -215,7 +214,7 @@ fn judge_path(
     }
 }
 
-/// The paths of all agents, the sum of their costs, and what follows.
+/// Reads the paths of all agents. Returns them, the sum of their costs, and what follows.
 fn paths_of<'a>(
     alloc: Global,
     bytes: &'a [u8],
@@ -280,7 +279,7 @@ fn limit_of(cause: Cause, bound: Option<u64>) -> PlanAnswer
     }
 }
 
-/// The answer whose line was read, from what follows it.
+/// Reads the rest of the answer whose line was read.
 fn answer_of(
     alloc: Global,
     line: &AnswerLine,
@@ -312,9 +311,9 @@ fn answer_of(
 
 /// Reads a plan text for a grid of this size.
 pub fn read_plan(alloc: Global, bytes: &[u8], grid: &Grid) -> Result<PlanText, PlanTextFault>
-    // What is read is spelled so.
+    // If a plan text is returned, the bytes spell it.
     ensures found { IfOk result (λ p. IsPlanText grid.now p × (bytes.now ≡ plan_text grid.now.width p)) }
-    // What is spelled so is read.
+    // A plan text that the bytes spell is returned, unless memory runs out.
     ensures only { (p : PlanText) → IsPlanText grid.now p → bytes.now ≡ plan_text grid.now.width p
         → OrMemory result (result ≡ Ok p) }
 {

@@ -1,17 +1,17 @@
 use crate::version::Version;
 use mapf_model::{Cause, Plan};
 
-/// What a plan text says.
+/// The answer of a plan text.
 #[derive(Debug, Drop)]
 pub enum PlanAnswer {
-    /// A plan, whose text says the sum of the paths' lengths in ticks as its cost.
+    /// A plan. Its text gives the sum of the paths' lengths in ticks as its cost.
     Found(Plan),
     /// No plan is valid.
     Impossible,
-    /// The search ended without an answer. Of version 1 alone.
+    /// The search reached this limit, without a bound. In version 1 only.
     Limit(Cause),
-    /// The search ended without an answer, and no valid plan has a sum below this bound. Of version 2
-    /// alone.
+    /// The search reached this limit, and no valid plan has a sum of costs below this bound, in ticks. In version 2
+    /// only.
     Bounded { cause: Cause, bound: u64 },
 }
 
@@ -23,12 +23,11 @@ pub struct PlanText {
     pub answer: PlanAnswer,
 }
 
-/// Why bytes spell no plan text, with a line counted from 1. It is proved that they spell none;
-/// that this error is the first, and its line, is only tested.
+/// Why bytes are not a plan text, with a line counted from 1. It is proved that they are none; that this error is the
+/// first, and its line, is only tested.
 #[derive(Clone, Copy, Debug, PartialEq, Eq)]
 pub enum PlanTextFault {
-    /// This line has a wrong shape, or doesn't fit where it stands. Line 3 also where its cost isn't
-    /// the sum of the paths' costs.
+    /// This line has a wrong shape, or is out of place; line 3 also if its cost isn't the sum of the paths' costs.
     P1(u64),
     /// The text ended before this line, or in it.
     P2(u64),
@@ -36,6 +35,6 @@ pub enum PlanTextFault {
     P3(u64),
     /// There is text after `end`, in this line.
     P4(u64),
-    /// A request for memory was refused.
+    /// Out of memory.
     Memory,
 }

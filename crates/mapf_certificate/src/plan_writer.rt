@@ -16,7 +16,7 @@ use mapf_fields::Page;
 use mapf_model::{Cause, Cell, Failed, Grid, OutOfMemory, Path, Plan, Sink};
 use std::alloc::Global;
 
-/// The sum of the paths' costs.
+/// Returns the sum of the paths' costs.
 fn cost_of(paths: &[Path]) -> u64
     requires { length paths.now ≤ most_agents }
     ensures { result ≡ cost_of paths.now }
@@ -51,7 +51,7 @@ fn push_head(page: &mut Page, version: Version, agents: u32)
     push_number_line(page, b"agents", agents as u64);
 }
 
-/// Adds `limit` and what stopped the search.
+/// Adds `limit` and why the search ended.
 fn push_limit(page: &mut Page, cause: Cause)
     requires { length page.old + 2 * field_room ≤ page_room }
     ensures text { page.new ≡ page.old ++ (codes "limit" ++ cause_words cause) }
@@ -133,8 +133,7 @@ impl TextWriter {
         Ok(())
     }
 
-    /// Writes a plan text. `Failed` is answered only where the sink failed, and then it got a
-    /// prefix of that text.
+    /// Writes a plan text. `Failed` is returned only if the sink failed; it then got a prefix of that text.
     pub fn plan<K: Sink>(&mut self, sink: &mut K, text: &PlanText) -> Result<(), Failed>
         requires works { K.has_failed sink.old ≡ false }
         requires empty { self.old.page ≡ [] }
@@ -153,7 +152,7 @@ impl TextWriter {
     }
 }
 
-/// The plan text for a grid of this size.
+/// Returns the plan text for a grid of this size.
 pub fn write_plan(alloc: Global, text: &PlanText, grid: &Grid) -> Result<Vec<u8>, OutOfMemory>
     requires { IsPlanText grid.now text.now }
     ensures { IfOk result (λ bytes. bytes.items ≡ plan_text grid.now.width text.now) }

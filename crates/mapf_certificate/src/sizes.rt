@@ -35,7 +35,7 @@ impl Sizes {
         }
     }
 
-    /// The cell in this column and row.
+    /// Returns the cell in this column and row.
     #[tactic(auto, unfolding(mapf_fields::specs::Numbers::read_cell))]
     pub fn cell(&self, x: Option<u64>, y: Option<u64>) -> Result<Cell, LineFault>
         ensures { result ≡ read_cell self.now.width self.now.height x y }

@@ -8,13 +8,13 @@ use crate::line_writer::{push_entry_line, push_line};
 use mapf_fields::Page;
 use mapf_model::{Entry, Failed, Grid, Sink};
 
-/// How many bytes a line takes at most.
+/// The greatest number of bytes of a line.
 pub const LINE_ROOM: usize = 189;
 
-/// Writes the texts of a grid, a line at a time, by way of a page. It allocates nothing.
+/// Writes the texts of a grid line by line, through a page. It allocates nothing.
 #[derive(Drop)]
 pub struct TextWriter {
-    /// What waits to be pushed.
+    /// What was not yet written to the sink.
     pub page: Page,
     /// The grid's width, by which cells are written as x,y.
     pub width: u32,
@@ -22,7 +22,7 @@ pub struct TextWriter {
 }
 
 impl TextWriter {
-    /// A writer that holds nothing.
+    /// Returns a writer with an empty page.
     pub fn of(grid: &Grid) -> TextWriter
         ensures page { result.page ≡ [] }
         ensures width { result.width ≡ grid.now.width }

@@ -38,7 +38,7 @@ fn title_line(bytes: &[u8]) -> Result<CertLine, LineFault>
     Err(LineFault::Shape)
 }
 
-/// The number of agents, after `agents`.
+/// Reads the number of agents, after `agents`.
 #[tactic(auto, unfolding(crate::specs::LineReading::read_count))]
 pub fn agent_count(rest: &[u8]) -> Result<u32, LineFault>
     ensures { result ≡ read_count rest.now }
@@ -46,7 +46,7 @@ pub fn agent_count(rest: &[u8]) -> Result<u32, LineFault>
     from_one_to(MOST_AGENTS, last(b' ', rest)?)
 }
 
-/// A sum of costs, after its word.
+/// Reads a sum of costs, after its word.
 #[tactic(auto, unfolding(crate::specs::LineReading::read_cost))]
 pub fn cost(rest: &[u8]) -> Result<u64, LineFault>
     ensures { result ≡ read_cost rest.now }
@@ -64,7 +64,7 @@ fn agents_line(bytes: &[u8]) -> Result<CertLine, LineFault>
     }
 }
 
-/// The line of a bound, which version 1 doesn't claim.
+/// Reads the line of a claimed bound, which version 1 doesn't have.
 #[tactic(auto, unfolding(crate::specs::LineReading::read_bound_claim))]
 fn bound_line(version: Version, bytes: &[u8]) -> Result<CertLine, LineFault>
     ensures { result ≡ read_bound_claim version bytes.now }
@@ -91,7 +91,7 @@ fn claim_line(version: Version, bytes: &[u8]) -> Result<CertLine, LineFault>
     }
 }
 
-/// The number of blocks at the end of a split's line, which version 1 doesn't have.
+/// Reads the number of blocks at the end of a split's line, which version 1 doesn't have.
 #[tactic(auto, unfolding(crate::specs::LineReading::read_blocks))]
 fn blocks_word(version: Version, rest: &[u8]) -> Result<Option<Option<u64>>, LineFault>
     ensures { result ≡ read_blocks version rest.now }
@@ -259,10 +259,10 @@ fn tree_line(bytes: &[u8], sizes: &Sizes) -> Result<CertLine, LineFault>
 /// Reads a line of a certificate.
 #[inline(always)]
 pub fn line_of(due: &Due, bytes: &[u8]) -> Result<CertLine, LineFault>
-    // What is read is an expected line, spelled so.
+    // If a line is returned, it is an expected one and the bytes spell it.
     ensures found { IfOk result (λ line. IsLine due.now line × (bytes.now ≡ words (width_of due.now) line)) }
     ensures some { OnOk result (0 < length bytes.now) }
-    // What is spelled so is read.
+    // An expected line that the bytes spell is returned.
     ensures only { (line : CertLine) → IsLine due.now line
         → bytes.now ≡ words (width_of due.now) line → result ≡ Ok line }
 {

@@ -1,10 +1,8 @@
 /// The version of a text.
 #[derive(Clone, Copy, Debug, PartialEq, Eq)]
 pub enum Version {
-    /// In a certificate leaves alone have blocks and no bound is claimed; in a plan text a limit
-    /// has no bound.
+    /// In a certificate only leaves have blocks, and no bound is claimed; in a plan text a limit has no bound.
     One,
-    /// In a certificate splits may have blocks too and a bound may be claimed; in a plan text a
-    /// limit has a bound.
+    /// In a certificate splits may have blocks too, and a bound may be claimed; in a plan text a limit has a bound.
     Two,
 }

@@ -1,4 +1,4 @@
--- The branch of a constraint tree from its root to the node that is read next.
+-- The path of a constraint tree from its root to the node that is read next.
 use Rattle.std.specs.Prelude.{◌≡◌, ◌≤◌, ℕ, Bool, List, [], ◌∷◌, fold, length, take, MatchBool}
 use Rattle.mapf_model.specs.declared.conflict.Conflict.{Conflict}
 use Rattle.mapf_model.specs.Tree.{NodeContext, root, with_constraint, left_constraint, right_constraint}
@@ -13,14 +13,14 @@ use Rattle.mapf_checker.specs.declared.starts.Starts.{Starts}
 use Rattle.mapf_checker.specs.Index.{Indexes, CanUndo}
 use Rattle.mapf_checker.specs.Starts.{AreKept, AreOfFirst, KnowEntries, with_changes}
 
--- the edges from the root, of how many of them, counted from the root, the index has the constraints, and of how many
+-- the edges from the root; of how many of them, counted from the root, the index has the constraints; and of how many
 -- agents the entries of the starts are kept
 pub record Route : Type 0 where
   pub edges : List Edge
   pub indexed : ℕ
   pub agents : ℕ
 
--- what the node that is read next inherits, and what those inherit that are owed after it
+-- what the node that is read next inherits, and what the nodes inherit that are to be read after its subtree
 pub record Place : Type 0 where
   pub here : NodeContext
   pub owed : List NodeContext
@@ -38,28 +38,28 @@ constraint_at Right conflict = right_constraint conflict
 abbrev pub constraint_of : Edge → Constraint
 constraint_of edge = constraint_at edge.child edge.conflict
 
--- what is owed at a child of a split: at the left one the right one, then the rest
+-- what is to be read after a child of a split: after the left child the right one, then the rest
 abbrev pub with_owed : NodeContext → List StartChange → Conflict → Child → List NodeContext → List NodeContext
 with_owed here changes conflict Left owed = child_after here changes (right_constraint conflict) ∷ owed
 with_owed here changes conflict Right owed = owed
 
--- at this child of a split on this conflict, which makes these changes
+-- the place at this child of a split on this conflict, whose blocks make these changes
 abbrev pub descended : Place → Conflict → Child → List StartChange → Place
 descended place conflict child changes = record { here = child_after place.here changes (constraint_at child conflict); owed = with_owed place.here changes conflict child place.owed }
 
--- where an edge leads to
+-- the place at the end of an edge
 abbrev pub along : Place → Edge → Place
 along place edge = descended place edge.conflict edge.child edge.changes.items
 
--- at the root, with nothing owed after it
+-- the root, with nothing to be read after it
 abbrev pub at_root : Place
 at_root = record { here = root; owed = [] }
 
--- where edges lead to from the root
+-- the place at the end of these edges from the root
 abbrev pub place_after : List Edge → Place
 place_after edges = fold along at_root edges
 
--- where a route leads to
+-- the place at the end of a route
 abbrev pub place_of : Route → Place
 place_of route = place_after route.edges
 
@@ -72,18 +72,18 @@ pub record CanUndoEdge (count : ℕ) (context : NodeContext) (edge : Edge) : Typ
   pub agents : AreOfFirst count edge.changes.items
   pub entries : KnowEntries context.entries edge.changes.items
 
--- so it is of each edge
+-- this holds for each edge
 abbrev pub CanUndoAll : ℕ → NodeContext → List Edge → Type 0
 CanUndoAll agents here [] = Unit {0}
 CanUndoAll agents here (edge ∷ edges) = CanUndoEdge agents here edge × CanUndoAll agents (child_after here edge.changes.items (constraint_of edge)) edges
 
--- the constraints of the first edges can be taken out of an index again, as many as there are undos
+-- the constraints of the first edges, as many as there are undos, can be removed from an index again
 abbrev pub CanUndoFirst : NodeContext → List Edge → List Undo → Type 0
 CanUndoFirst here edges [] = Unit {0}
 CanUndoFirst here [] (undo ∷ undos) = ⊥
 CanUndoFirst here (edge ∷ edges) (undo ∷ undos) = CanUndo here.bars (constraint_of edge) undo × CanUndoFirst (child_after here edge.changes.items (constraint_of edge)) edges undos
 
--- the index has the constraints of the first edges, as many as there are undos, which take them out again
+-- the index has the constraints of the first edges, as many as there are undos, and the undos remove them again
 pub record IndexesFirst (edges : List Edge) (undos : List Undo) (index : BarIndex) : Type 0 where
   pub within : length undos ≤ length edges
   pub indexed : Indexes (place_after (take (length undos) edges)).here.bars index
@@ -96,11 +96,11 @@ pub record IsIndexedBranch (edges : List Edge) (undos : List Undo) (index : BarI
   pub kept : AreKept (place_after edges).here.entries starts.entries.items
   pub undone : CanUndoAll (length starts.entries.items) root edges
 
--- on to the left child of a split that makes these changes
+-- the move to the left child of a split whose blocks make these changes
 pub record IsSplit (old : Place) (conflict : Conflict) (changes : List StartChange) (new : Place) : Type 0 where
   pub here : new.here ≡ child_after old.here changes (left_constraint conflict)
   pub owed : new.owed ≡ child_after old.here changes (right_constraint conflict) ∷ old.owed
 
--- on to what is owed next, if something is
+-- the move to the next node in pre-order, if there is one
 abbrev pub NextOf : Place → Place → Bool → Type 0
 NextOf old new more = MatchBool more (old.owed ≡ new.here ∷ new.owed) (old.owed ≡ [])

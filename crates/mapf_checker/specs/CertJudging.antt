@@ -53,14 +53,15 @@ HasTreeRefusal problem claim had reading (C8 line) = (bytes : List ℕ) → had 
 HasTreeRefusal problem claim had reading (C9 line) = (bytes : List ℕ) → had ≡ Some bytes → HasBadNode problem claim reading.version (C9 line) (reading.buffer.bytes ++ bytes)
 HasTreeRefusal problem claim had reading fault = ⊥
 
--- the nodes show the claim, they are what the reader had before it, and no more bytes came than were left of the limit
+-- the nodes show the claim, the text from the reader's place on spells them, and no more bytes came than were left of
+-- the limit
 pub record IsJudgedTree (problem : Instance) (claim : Claim) (had : Option (List ℕ)) (reading : Reading) : Type 0 where
   pub nodes : List Node
   pub shows : NodesShow problem claim (root ∷ []) nodes
   pub read : (bytes : List ℕ) → had ≡ Some bytes → Awaits had reading nodes
   pub within : (bytes : List ℕ) → had ≡ Some bytes → length bytes ≤ reading.buffer.left
 
--- the header was read, and the reader and the judge wait for the same trees
+-- the header was read, and the reader and the judge expect the same number of trees
 pub record IsBetweenItems (problem : Instance) (claim : Claim) (reading : Reading) (progress : Progress) : Type 0 where
   pub width : reading.width ≡ problem.grid.width
   pub height : reading.height ≡ problem.grid.height
@@ -70,8 +71,8 @@ pub record IsBetweenItems (problem : Instance) (claim : Claim) (reading : Readin
   pub count : reading.owed ≡ length (owed_by progress)
   pub ready : IsReady problem progress
 
--- how far a tree was read and judged: these nodes came, which are in range; whether they and others show the claim goes by the others, and
--- trees are owed that inherit this, as far as it counts
+-- how far a tree was read and judged: these nodes, which are in range, were read; whether they and others show the
+-- claim depends on the others alone, and the trees still expected inherit these contexts, as far as it matters
 pub record IsReadTo (problem : Instance) (claim : Claim) (had left : Option (List ℕ)) (start reading : Reading) (owed : List NodeContext) : Type 0 where
   pub given : List Node
   pub in_range : All (IsNode start.version problem.grid (length problem.agents)) given
@@ -83,8 +84,9 @@ pub record IsReadTo (problem : Instance) (claim : Claim) (had left : Option (Lis
   pub place : AreAllAlike problem owed (contexts_after_all (root ∷ []) given)
   pub shows : (rest : List Node) → NodesShow problem claim (root ∷ []) (given ++ rest) ↔ NodesShow problem claim owed rest
 
--- what one more call says: `true`, one item more was read and judged; `false`, the whole tree was; no more bytes came than
--- are allowed; nothing is refused where the text from its start on spells nodes that show the claim; and what a fault says
+-- what one more call means: `true`, one more item was read and judged; `false`, the whole tree was; no more bytes came
+-- than are allowed; if the text from its start on spells nodes that show the claim, nothing is refused; and what an
+-- error means
 pub record IsReadOn (problem : Instance) (claim : Claim) (had left : Option (List ℕ)) (failed : Bool) (start reading : Reading) (owed : List NodeContext) (result : Result Bool FromFault) : Type 0 where
   pub read : IfOk result (λ more. MatchBool more (IsReadTo problem claim had left start reading owed) (IsJudgedTree problem claim had start))
   pub came : OnOk result (ComesWithin had left start.buffer)

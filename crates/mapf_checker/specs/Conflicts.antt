@@ -21,7 +21,7 @@ pub record ExchangeCells (paths : List (List ℕ)) (tick i j : ℕ) : Type 0 whe
   pub there : at second tick ≡ at first (tick + 1)
   pub back : at second (tick + 1) ≡ at first tick
 
--- the fact holds of these two numbers below the count, of which the first is less
+-- the relation holds of these two numbers below the count, of which the first is smaller
 abbrev pub IsPairWith : (ℕ → ℕ → Type 0) → ℕ → ℕ × ℕ → Type 0
 IsPairWith Fact count pair = (pair.0 < pair.1) × (pair.1 < count) × Fact pair.0 pair.1
 

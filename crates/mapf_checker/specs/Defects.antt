@@ -1,4 +1,4 @@
--- What makes a plan not valid.
+-- What makes a plan invalid.
 use Rattle.std.specs.Prelude.{◌≡◌, ℕ, ◌<◌, List, Some, slice_get}
 use Rattle.mapf_model.specs.declared.problem.Agent.{Agent}
 use Rattle.mapf_model.specs.Path.{IsLawful}
@@ -14,7 +14,7 @@ use Rattle.mapf_checker.specs.Conflicts.{AreInOneCell, ExchangeCells}
 abbrev pub IsUnlawful : Instance → List (List ℕ) → ℕ → PathFault → Type 0
 IsUnlawful problem plan i fault = (agent : Agent) × (path : List ℕ) × (slice_get problem.agents i ≡ Some agent) × (slice_get plan i ≡ Some path) × HasPathDefect problem.grid agent path fault
 
--- what each fault says of the plan
+-- what each error says of the plan
 abbrev pub HasDefect : Instance → List (List ℕ) → PlanFault → Type 0
 HasDefect problem plan (V1 i) = IsUnlawful problem plan i WrongStart
 HasDefect problem plan (V2 i tick) = IsUnlawful problem plan i (BadStep tick)
@@ -26,7 +26,7 @@ HasDefect problem plan (V5 i j tick) = (i < j) × ExchangeCells plan tick i j
 abbrev pub AreLawful : Instance → List (List ℕ) → ℕ → Type 0
 AreLawful problem paths count = (i : ℕ) (agent : Agent) (path : List ℕ) → i < count → slice_get problem.agents i ≡ Some agent → slice_get paths i ≡ Some path → IsLawful problem.grid agent path
 
--- the names of the faults
+-- the error of a plan that an error of one agent's path is
 abbrev pub path_fault_of : ℕ → PathFault → PlanFault
 path_fault_of agent WrongStart = V1 agent
 path_fault_of agent (BadStep tick) = V2 agent tick

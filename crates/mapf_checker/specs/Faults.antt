@@ -1,4 +1,4 @@
--- Which fault of a check a fault of reading is, and what faults say.
+-- Which error of a check an error of reading is, and what errors say.
 use Rattle.std.specs.Prelude.{◌≡◌, ◌≢◌, ⊤, ℕ, Bool, true, false, List, Option}
 use Rattle.mapf_certificate.specs.declared.cert.LinesFault.{LinesFault}
 use Rattle.mapf_certificate.specs.declared.cert.LinesFault.TheVariants as lines
@@ -13,12 +13,12 @@ use Rattle.mapf_checker.specs.declared.fault.CheckFault.TheVariants as refusals
 use Rattle.mapf_checker.specs.declared.fault.FromFault.{FromFault}
 use Rattle.mapf_checker.specs.declared.fault.FromFault.TheVariants.{Refused, Device, TooLong, Memory}
 
--- a plan text's fault by its name among those of a check
+-- the error of a check that an error of a plan text is
 abbrev pub of_plan : PlanTextFault → FromFault
 of_plan plans.Memory = Memory
 of_plan fault = Refused (C1 fault)
 
--- a certificate's fault by its name among those of a check
+-- the error of a check that an error of a certificate is
 abbrev pub of_cert : LinesFault → FromFault
 of_cert (lines.Text certs.Memory) = Memory
 of_cert (lines.Text fault) = Refused (C2 fault)
@@ -26,15 +26,15 @@ of_cert lines.Device = Device
 of_cert lines.TooLong = TooLong
 of_cert lines.Memory = Memory
 
--- a fault that comes of judging: a refusal that says this, or want of memory
+-- an error of judging: a refusal that says this, or out of memory
 abbrev pub IsOfJudging : (CheckFault → Type 0) → FromFault → Type 0
 IsOfJudging Says (Refused fault) = Says fault
 IsOfJudging Says Device = ⊥
 IsOfJudging Says TooLong = ⊥
 IsOfJudging Says Memory = ⊤
 
--- a fault that comes of reading and judging: a refusal that says this, or the source failed, or it gave more than was
--- allowed, or want of memory. The source has failed in the second case alone
+-- an error of reading and judging: a refusal that says this, or the source failed, or it gave more bytes than allowed,
+-- or out of memory. The source failed in the second case and in no other
 abbrev pub IsOfChecking : Option (List ℕ) → Option (List ℕ) → Bool → Buffered → (CheckFault → Type 0) → FromFault → Type 0
 IsOfChecking had left failed buffer Says (Refused fault) = (failed ≡ false) × ComesWithin had left buffer × Says fault
 IsOfChecking had left failed buffer Says Device = (failed ≡ true) × ComesWithin had left buffer
@@ -48,14 +48,14 @@ IfRefused Says Device = ⊤
 IfRefused Says TooLong = ⊤
 IfRefused Says Memory = ⊤
 
--- the fault is no refusal
+-- the error isn't a refusal
 abbrev pub IsNoRefusal : FromFault → Type 0
 IsNoRefusal (Refused fault) = ⊥
 IsNoRefusal Device = ⊤
 IsNoRefusal TooLong = ⊤
 IsNoRefusal Memory = ⊤
 
--- the refusal isn't a fault of one of the texts which only says that memory was refused
+-- the refusal isn't an error of one of the texts that means out of memory
 abbrev pub HasNoTextMemory : CheckFault → Type 0
 HasNoTextMemory (C1 fault) = fault ≢ plans.Memory
 HasNoTextMemory (C2 fault) = fault ≢ certs.Memory
@@ -68,7 +68,7 @@ HasNoTextMemory (C8 line) = ⊤
 HasNoTextMemory (C9 line) = ⊤
 HasNoTextMemory refusals.Memory = ⊤
 
--- the fault isn't a refusal which only says that memory was refused
+-- the error isn't a refusal that means out of memory
 abbrev pub IsNoMemoryRefusal : FromFault → Type 0
 IsNoMemoryRefusal (Refused fault) = (fault ≢ refusals.Memory) × HasNoTextMemory fault
 IsNoMemoryRefusal Device = ⊤

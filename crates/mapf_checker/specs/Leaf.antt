@@ -18,11 +18,11 @@ IsGoalOf problem i goal = (agent : Agent) × (slice_get problem.agents i ≡ Som
 abbrev pub IsStartOf : Instance → ℕ → ℕ → Type 0
 IsStartOf problem i start = (agent : Agent) × (slice_get problem.agents i ≡ Some agent) × (agent.start ≡ start)
 
--- a block of an agent of the problem, sound under the agent's bars
+-- a block of an agent of the problem, sound under the agent's constraints
 abbrev pub IsGoodBlock : Instance → NodeContext → LabelBlock → Type 0
 IsGoodBlock problem here block = (agent : Agent) × (slice_get problem.agents block.agent ≡ Some agent) × AreSound problem.grid agent.goal (here.bars block.agent) (entries_of block.entries)
 
--- a sum of labels, None where it is infinite
+-- a sum of labels, None if it is infinite
 abbrev pub label_of : Option ℕ → Label
 label_of (Some total) = Ticks total
 label_of None = Never
@@ -42,18 +42,18 @@ IsEnough (Cost cost) (Some total) = cost ≤ total
 IsEnough (Bound bound) (Some total) = bound ≤ total
 IsEnough Impossible (Some total) = ⊥
 
--- the blocks before the place are of agents below this one, the others of this one or later ones
+-- the blocks before the index are of agents smaller than this one, the others of this one or greater ones
 pub record IsCut (blocks : List LabelBlock) (place agent : ℕ) : Type 0 where
   pub before : (k : ℕ) (d : LabelBlock) → k < place → (slice_index_or blocks k d).agent < agent
   pub from : (k : ℕ) (d : LabelBlock) → place ≤ k → k < length blocks → agent ≤ (slice_index_or blocks k d).agent
 
--- the block in the place is the agent's
+-- the block at the index is the agent's, and those after it are of greater agents
 pub record TakesBlock (blocks : List LabelBlock) (place agent : ℕ) : Type 0 where
   pub inside : place < length blocks
   pub is : (d : LabelBlock) → block_of blocks agent ≡ Some (slice_index_or blocks place d)
   pub cut : IsCut blocks (place + 1) (agent + 1)
 
--- the agent has no block
+-- the agent has no block, and the blocks from the index on are of greater agents
 pub record LeavesBlock (blocks : List LabelBlock) (place agent : ℕ) : Type 0 where
   pub none : block_of blocks agent ≡ None
   pub cut : IsCut blocks place (agent + 1)

@@ -1,4 +1,4 @@
--- What is good, or wrong, with a node of a certificate's tree.
+-- What is right, or wrong, with a node of a certificate's tree.
 use Rattle.std.specs.Prelude.{◌≡◌, ◌⊎◌, ℕ, List, Some, Contains, slice_get}
 use Rattle.mapf_model.specs.declared.item.Claim.{Claim}
 use Rattle.mapf_model.specs.declared.label.Entry.{Entry}
@@ -12,13 +12,13 @@ use Rattle.mapf_checker.specs.declared.fault.CheckFault.TheVariants.{C6, C7, C8,
 use Rattle.mapf_checker.specs.declared.judge.AgentProblem.{AgentProblem}
 use Rattle.mapf_checker.specs.AgentProblem.{IsSoundAmong}
 
--- the entry in this place isn't sound
+-- the entry at this index isn't sound
 pub record IsUnsoundAt (own : AgentProblem) (entries : List Entry) (place : ℕ) : Type 0 where
   pub entry : Entry
   pub is_entry : slice_get entries place ≡ Some entry
   pub unsound : IsSoundAmong own entries entry → ⊥
 
--- an entry of the block isn't sound under the bars of its agent
+-- an entry of the block isn't sound under the constraints of its agent
 pub record HasUnsoundEntry (problem : Instance) (here : NodeContext) (block : LabelBlock) : Type 0 where
   pub agent : Agent
   pub is_agent : slice_get problem.agents block.agent ≡ Some agent
@@ -36,9 +36,9 @@ pub record HasUnsoundBlock (problem : Instance) (here : NodeContext) (blocks : L
 abbrev pub IsUnsoundLabel : Instance → NodeContext → List LabelBlock → CheckFault → Type 0
 IsUnsoundLabel problem here blocks fault = (line : ℕ) × (fault ≡ C7 line) × HasUnsoundBlock problem here blocks
 
--- what a refusal says of the node, where it inherits this: C6 that a split's conflict isn't proper, C7 that a label of
--- its blocks isn't sound, C8 that the labels of the starts don't show the claim, C9 that the agents of a clash don't
--- share a goal
+-- what a refusal says of the node, which inherits this: C6 that a split's conflict isn't proper, C7 that a label of its
+-- blocks isn't sound, C8 that the labels of the starts don't show the claim, C9 that the agents of a clash are equal or
+-- don't share a goal
 abbrev pub HasNodeDefect : Instance → Claim → NodeContext → Node → CheckFault → Type 0
 HasNodeDefect problem claim here (SplitNode conflict blocks) fault = ((line : ℕ) × (fault ≡ C6 line) × (IsProperSplit problem conflict → ⊥)) ⊎ IsUnsoundLabel problem here blocks fault
 HasNodeDefect problem claim here (LeafNode blocks) fault = IsUnsoundLabel problem here blocks fault ⊎ ((line : ℕ) × (fault ≡ C8 line) × (StartsShow problem claim (with_blocks blocks here.entries) → ⊥))

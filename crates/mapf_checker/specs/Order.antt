@@ -1,4 +1,4 @@
--- The order of entries and states: by the ticks and then by the cells.
+-- The order of entries and states: by tick and then by cell.
 use Rattle.std.specs.Prelude.{◌≡◌, ◌⊎◌, ℕ, ◌+◌, ◌<◌, ◌≤◌, List, length, slice_index_or}
 use Rattle.std.specs.declared.cmp.Ordering.{Ordering}
 use Rattle.std.specs.declared.cmp.Ordering.TheVariants.{Less, Equal, Greater}
@@ -8,22 +8,22 @@ use Rattle.mapf_model.specs.declared.label.Entry.{Entry}
 abbrev pub IsOf : ℕ → ℕ → Entry → Type 0
 IsOf cell tick entry = (entry.cell ≡ cell) × (entry.tick ≡ tick)
 
--- the entry stands before the state, at it or after it
+-- the entry precedes the state, is that of the state, or follows it
 abbrev pub StandsTo : ℕ → ℕ → Entry → Ordering → Type 0
 StandsTo cell tick entry Less = (entry.tick < tick) ⊎ ((entry.tick ≡ tick) × (entry.cell < cell))
 StandsTo cell tick entry Equal = IsOf cell tick entry
 StandsTo cell tick entry Greater = (tick < entry.tick) ⊎ ((entry.tick ≡ tick) × (cell < entry.cell))
 
--- no entry before the place is that of the state
+-- no entry before the index is that of the state
 abbrev pub IsNoneBelow : List Entry → ℕ → ℕ → ℕ → Type 0
 IsNoneBelow entries cell tick place = (k : ℕ) (d : Entry) → k < place → IsOf cell tick (slice_index_or entries k d) → ⊥
 
--- no entry from the place on is that of the state
+-- no entry from the index on is that of the state
 abbrev pub IsNoneFrom : List Entry → ℕ → ℕ → ℕ → Type 0
 IsNoneFrom entries cell tick place = (k : ℕ) (d : Entry) → place ≤ k → k < length entries → IsOf cell tick (slice_index_or entries k d) → ⊥
 
--- the entry in the place and those before it stand before the state, it is that of the state, or the entries from the
--- place on stand after it
+-- `Less`: neither the entry at the index nor one before it is that of the state; `Equal`: the entry at the index is;
+-- `Greater`: no entry from the index on is
 abbrev pub IsStanding : List Entry → ℕ → ℕ → ℕ → Ordering → Type 0
 IsStanding entries cell tick place Less = (place < length entries) × IsNoneBelow entries cell tick (place + 1)
 IsStanding entries cell tick place Equal = (place < length entries) × ((d : Entry) → IsOf cell tick (slice_index_or entries place d))

@@ -8,35 +8,35 @@ use Rattle.mapf_checker.specs.declared.tree.Progress.{Progress}
 use Rattle.mapf_distance.specs.Tables.{AreMade, AreStartDistances}
 use Rattle.mapf_checker.specs.Branch.{Place, place_of}
 
--- what the trees inherit that are still to come, in pre-order, after this node
+-- what the trees that are still expected, in pre-order, inherit after this node
 abbrev pub contexts_after : List NodeContext → Node → List NodeContext
 contexts_after [] node = []
 contexts_after (here ∷ owed) (SplitNode conflict blocks) = left_child_context here conflict blocks ∷ right_child_context here conflict blocks ∷ owed
 contexts_after (here ∷ owed) (LeafNode blocks) = owed
 contexts_after (here ∷ owed) (ClashNode i j) = owed
 
--- after all of these nodes
+-- what the trees that are still expected inherit after all of these nodes
 abbrev pub contexts_after_all : List NodeContext → List Node → List NodeContext
 contexts_after_all owed nodes = fold contexts_after owed nodes
 
--- no trees tell these contexts from those
+-- no trees distinguish these contexts from those
 abbrev pub AreAllAlike : Instance → List NodeContext → List NodeContext → Type 0
 AreAllAlike problem these those = AllZip (AreAlike problem) these those
 
--- what the trees inherit that are still to come, as far as it is kept
+-- what the trees that are still expected inherit, as far as it is kept
 abbrev pub owed_at : Bool → Place → List NodeContext
 owed_at true place = []
 owed_at false place = place.here ∷ place.owed
 
--- of a tree that was judged so far
+-- the same of a tree that was judged so far
 abbrev pub owed_by : Progress → List NodeContext
 owed_by progress = owed_at progress.is_over (place_of progress.branch)
 
--- what the node inherits that is judged next, as far as it is kept
+-- what the node that is judged next inherits, as far as it is kept
 abbrev pub here_of : Progress → NodeContext
 here_of progress = (place_of progress.branch).here
 
--- the tables are those of the problem, and so are the distances of the starts, once there are some, and the entries are
+-- the tables are those of the problem; the distances are those of its starts, once there are any; and the entries are
 -- those of its agents
 pub record IsReady (problem : Instance) (progress : Progress) : Type 0 where
   pub tables : AreMade problem progress.tables

@@ -23,8 +23,8 @@ use Rattle.mapf_checker.specs.NodeDefects.{HasNodeDefect}
 use Rattle.mapf_checker.specs.Progress.{contexts_after_all}
 use Rattle.mapf_checker.specs.Verdict.{IsGoodPlan, claim_of}
 
--- what a refusal says of the plan text: it spells nothing, is for another number of agents, says that a limit was met
--- and has no bound, or has a plan with this defect
+-- what a refusal says of the plan text: it spells nothing, is for another number of agents, says that a limit was
+-- reached and has no bound, or has a plan with this defect
 abbrev pub HasPlanRefusal : Instance → List ℕ → CheckFault → Type 0
 HasPlanRefusal problem bytes (C1 fault) = (fault ≢ plans.Memory) × ((version : Version) (agents : ℕ) (says : PlanAnswer) → SpellsPlan problem.grid bytes version agents says → ⊥)
 HasPlanRefusal problem bytes C3 = (version : Version) × (agents : ℕ) × (says : PlanAnswer) × SpellsPlan problem.grid bytes version agents says × (agents ≢ length problem.agents)
@@ -41,8 +41,7 @@ pub record BeginsWithHeader (problem : Instance) (bytes : List ℕ) (agents : �
   pub rest : List ℕ
   pub spelled : bytes ≡ header_text version problem.grid.width agents claim ++ rest
 
--- among the nodes with which the bytes of this version begin is one with this defect; all nodes up to it are nodes of a
--- certificate, in range
+-- the bytes of this version begin with nodes, each in range, of which the last has this defect
 pub record HasBadNode (problem : Instance) (claim : Claim) (version : Version) (fault : CheckFault) (bytes : List ℕ) : Type 0 where
   pub before : List Node
   pub before_in_range : All (IsNode version problem.grid (length problem.agents)) before
@@ -50,13 +49,14 @@ pub record HasBadNode (problem : Instance) (claim : Claim) (version : Version) (
   pub in_range : IsNode version problem.grid (length problem.agents) node
   pub here : NodeContext
   pub owed : List NodeContext
-  -- the node inherits this
+  -- what the node inherits
   pub place : contexts_after_all (root ∷ []) before ≡ here ∷ owed
   pub defect : HasNodeDefect problem claim here node fault
   pub rest : List ℕ
   pub spelled : bytes ≡ flat_map (node_text version problem.grid.width) before ++ (node_text version problem.grid.width node ++ rest)
 
--- after the header for the problem and the claim, whose numbers are in their ranges, and which its version may make
+-- the same after the header, which is for the problem and the claim, whose numbers are in their ranges, and whose
+-- version may make the claim
 pub record HasBadNodeInCert (problem : Instance) (claim : Claim) (fault : CheckFault) (bytes : List ℕ) : Type 0 where
   pub version : Version
   pub agents_in_range : IsAgentCount (length problem.agents)
@@ -66,8 +66,8 @@ pub record HasBadNodeInCert (problem : Instance) (claim : Claim) (fault : CheckF
   pub spelled : bytes ≡ header_text version problem.grid.width (length problem.agents) claim ++ nodes
   pub bad : HasBadNode problem claim version fault nodes
 
--- what a refusal says of the certificate, where it is known and has to show this claim: it spells nothing, is for
--- another number of agents, claims something else, or has a node with this defect
+-- what a refusal says of the certificate, whose bytes may be unknown and which has to show this claim: it spells
+-- nothing, is for another number of agents, claims something else, or has a node with this defect
 abbrev pub HasCertRefusal : Instance → Claim → Option (List ℕ) → CheckFault → Type 0
 HasCertRefusal problem claim known (C2 fault) = (fault ≢ certs.Memory) × IfSome known (λ bytes. (version : Version) (agents : ℕ) (claimed : Claim) (tree : ConstraintTree) → SpellsCert problem.grid bytes version agents claimed tree → ⊥)
 HasCertRefusal problem claim known C3 = IfSome known (λ bytes. (agents : ℕ) × (claimed : Claim) × BeginsWithHeader problem bytes agents claimed × (agents ≢ length problem.agents))
@@ -78,7 +78,7 @@ HasCertRefusal problem claim known (C8 line) = IfSome known (HasBadNodeInCert pr
 HasCertRefusal problem claim known (C9 line) = IfSome known (HasBadNodeInCert problem claim (C9 line))
 HasCertRefusal problem claim known fault = ⊥
 
--- what a refusal says of two texts, where the certificate's bytes may be unknown. The certificate counts only where
--- the plan text is good
+-- what a refusal says of two texts, where the certificate's bytes may be unknown. The certificate counts only if the
+-- plan text is accepted
 abbrev pub HasRefusal : Instance → List ℕ → Option (List ℕ) → CheckFault → Type 0
 HasRefusal problem plan known fault = HasPlanRefusal problem plan fault ⊎ ((verdict : Verdict) × IsGoodPlan problem plan verdict × HasCertRefusal problem (claim_of verdict) known fault)

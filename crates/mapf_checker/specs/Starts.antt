@@ -1,4 +1,4 @@
--- The entries of the agents' starts at tick 0: of the blocks above a node they are all that is kept.
+-- The entries of the agents' starts at tick 0. Of the blocks above a node nothing else is kept.
 use Rattle.std.specs.Prelude.{◌≡◌, ℕ, ◌<◌, ◌==◌, List, Option, Some, None, All, find, slice_get}
 use Rattle.std.specs.List.{AllZip}
 use Rattle.mapf_model.specs.declared.label.Label.{Label}
@@ -8,7 +8,7 @@ use Rattle.mapf_model.specs.Labels.{Entries, entries_of}
 use Rattle.mapf_model.specs.Plan.{Instance}
 use Rattle.mapf_checker.specs.declared.starts.StartChange.{StartChange}
 
--- the agent has this entry, whatever the state: that of its start at tick 0 stands for all, as no other is asked for
+-- the agent has this entry, whatever the state: that of its start at tick 0 stands for all, as no other is looked up
 abbrev pub IsKept : (ℕ → Entries) → ℕ → Option Label → Type 0
 IsKept entries agent entry = (cell tick : ℕ) → entries agent cell tick ≡ entry
 
@@ -33,11 +33,11 @@ with_changes changes before agent = changed (change_of changes agent) (before ag
 abbrev pub AreOfFirst : ℕ → List StartChange → Type 0
 AreOfFirst agents changes = All (λ change. change.agent < agents) changes
 
--- the changes know the entries before them
+-- the changes hold the entries before them
 abbrev pub KnowEntries : (ℕ → Entries) → List StartChange → Type 0
 KnowEntries entries changes = All (λ change. IsKept entries change.agent change.before) changes
 
--- the change that a block makes: its agent's entry is that of the start at tick 0 in the block, or none
+-- the change that a block makes: its agent's entry becomes that of the start at tick 0 in the block, or none
 pub record IsChangeBy (problem : Instance) (entries : ℕ → Entries) (block : LabelBlock) (change : StartChange) : Type 0 where
   pub agent : change.agent ≡ block.agent
   pub before : IsKept entries block.agent change.before

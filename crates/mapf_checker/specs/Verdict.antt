@@ -1,4 +1,4 @@
--- What an answer of the checker says.
+-- What a result of the checker says.
 use Rattle.std.specs.Prelude.{◌≡◌, ℕ, List, length}
 use Rattle.mapf_model.specs.declared.item.Claim.{Claim}
 use Rattle.mapf_model.specs.declared.item.Claim.TheVariants as claim
@@ -14,7 +14,7 @@ use Rattle.mapf_checker.specs.declared.fault.Verdict.TheVariants.{Optimal, Bound
 
 -- what a verdict says of the problem and the answer of a plan text: the answer is a plan that is optimal with the
 -- verdict's sum, or the answer and the verdict are `impossible` and no plan is valid, or the answer is a limit with the
--- verdict's bound and every valid plan has at least this sum. Of a limit without a bound no verdict is true
+-- verdict's bound and every valid plan has at least this sum. No verdict is true of a limit without a bound
 abbrev pub IsTrueOf : Instance → PlanAnswer → Verdict → Type 0
 IsTrueOf problem (answers.Found plan) (Optimal sum) = IsOptimal problem plan sum
 IsTrueOf problem (answers.Found plan) _ = ⊥
@@ -31,8 +31,8 @@ pub record IsTrueText (problem : Instance) (bytes : List ℕ) (verdict : Verdict
   pub spelled : SpellsPlan problem.grid bytes version (length problem.agents) says
   pub is_true : IsTrueOf problem says verdict
 
--- the answer of a plan text fits the verdict: a valid plan with its sum, `impossible` for `impossible`, or a limit with the
--- verdict's bound; the last two only a certificate shows
+-- the answer of a plan text fits the verdict: a valid plan with its sum, `impossible` for `impossible`, or a limit with
+-- the verdict's bound; only a certificate shows the last two
 abbrev pub IsGoodFor : Instance → PlanAnswer → Verdict → Type 0
 IsGoodFor problem (answers.Found plan) (Optimal sum) = IsValid problem plan × IsSumOfCosts problem.agents plan sum
 IsGoodFor problem (answers.Found plan) _ = ⊥
@@ -62,8 +62,7 @@ pub record IsGoodCert (problem : Instance) (claimed : Claim) (bytes : List ℕ) 
   pub spelled : SpellsCert problem.grid bytes version (length problem.agents) claimed tree
   pub shows : Shows problem claimed tree
 
--- the two texts are accepted with the verdict: the plan text is good for it, and the certificate shows what has to be
--- claimed
+-- the two texts are accepted with the verdict: the plan text fits it, and the certificate shows what has to be claimed
 pub record AreAccepted (problem : Instance) (plan_text cert_text : List ℕ) (verdict : Verdict) : Type 0 where
   pub plan : IsGoodPlan problem plan_text verdict
   pub cert : IsGoodCert problem (claim_of verdict) cert_text
@@ -72,7 +71,7 @@ pub record AreAccepted (problem : Instance) (plan_text cert_text : List ℕ) (ve
 abbrev pub IsShown : Instance → Claim → Type 0
 IsShown problem claimed = (tree : ConstraintTree) × Shows problem claimed tree
 
--- whatever is accepted is so: what is good for a verdict, with a tree that shows what has to be claimed, is as the
--- verdict says
+-- whatever is accepted is true: if an answer fits a verdict, and a tree shows what has to be claimed, the verdict is
+-- true of it
 abbrev pub AcceptedIsTrue : Type 0
 AcceptedIsTrue = (problem : Instance) (says : PlanAnswer) (verdict : Verdict) → IsGoodFor problem says verdict → IsShown problem (claim_of verdict) → IsTrueOf problem says verdict

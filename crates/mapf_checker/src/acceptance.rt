@@ -14,24 +14,24 @@ use crate::plan_judge::judge_plan;
 use mapf_model::{BytesSource, Claim, Problem, Source};
 use std::alloc::Global;
 
-/// The verdict of two texts that are accepted for the problem. The plan text is judged first, then
-/// the certificate line after line.
+/// Checks a plan text and a certificate for the problem. Returns the verdict, or why they are not accepted: the plan
+/// text is judged first, then the certificate line by line.
 pub fn check(
     alloc: Global,
     problem: &Problem,
     plan_text: &[u8],
     cert_text: &[u8],
 ) -> Result<Verdict, CheckFault>
-    // What the plan text says is true: its plan is optimal with that sum, or no plan is valid, or none has a sum
-    // below its bound.
+    // What the verdict says is true: the plan is optimal with that sum, or no plan is valid, or no valid plan has a sum
+    // below the bound.
     ensures truth { IfOk result (IsTrueText problem.now plan_text.now) }
-    // What is accepted is accepted by definition, and what is so is accepted, unless memory is refused.
+    // A pair of texts is accepted if and only if it meets the specification, unless memory runs out.
     ensures accepted { IfOk result (AreAccepted problem.now plan_text.now cert_text.now) }
     ensures only { (verdict : Verdict) → AreAccepted problem.now plan_text.now cert_text.now verdict
         → MatchResult result (λ given. given ≡ verdict) (λ fault. fault ≡ CheckFault.Memory) }
     ensures refused { IfErr result (λ fault. (fault ≡ CheckFault.Memory)
         ⊎ HasRefusal problem.now plan_text.now (Some cert_text.now) fault) }
-    // Want of memory is told by `CheckFault::Memory` alone.
+    // Out of memory is reported as `CheckFault::Memory` and in no other way.
     ensures inner { IfErr result HasNoTextMemory }
 {
     let mut source = BytesSource::of(cert_text);
@@ -44,8 +44,8 @@ pub fn check(
     }
 }
 
-/// The verdict of two texts that are accepted for the problem, where the certificate comes from a
-/// source and has at most `limit` bytes. Nothing is pulled before the plan text was judged.
+/// Checks a plan text and a certificate for the problem, where the certificate is read from a source and has at most
+/// `limit` bytes. Returns the verdict, or why there is none. The source is not read before the plan text is accepted.
 pub fn check_from<S: Source>(
     alloc: Global,
     problem: &Problem,
@@ -54,26 +54,26 @@ pub fn check_from<S: Source>(
     limit: u64,
 ) -> Result<Verdict, FromFault>
     requires { S.has_failed source.old ≡ false }
-    // What the plan text says is true: its plan is optimal with that sum, or no plan is valid, or none has a sum
-    // below its bound.
+    // What the verdict says is true: the plan is optimal with that sum, or no plan is valid, or no valid plan has a sum
+    // below the bound.
     ensures truth { IfOk result (IsTrueText problem.now plan_text.now) }
-    // Where the source tells its bytes: what is accepted is accepted by definition, and what is so is accepted,
-    // unless memory is refused, the source fails or too many bytes come.
+    // If the source reports its bytes: a pair of texts is accepted if and only if it meets the specification, unless
+    // memory runs out, the source fails or it gives too many bytes.
     ensures accepted { (bytes : List ℕ) → S.remaining source.old ≡ Some bytes
         → IfOk result (AreAccepted problem.now plan_text.now bytes) }
     ensures only { (bytes : List ℕ) (verdict : Verdict) → S.remaining source.old ≡ Some bytes
         → AreAccepted problem.now plan_text.now bytes verdict
         → MatchResult result (λ given. given ≡ verdict) IsNoRefusal }
     ensures refused { IfErr result (IfRefused (HasRefusal problem.now plan_text.now (S.remaining source.old))) }
-    // Want of memory is told by `FromFault::Memory` alone.
+    // Out of memory is reported as `FromFault::Memory` and in no other way.
     ensures inner { IfErr result IsNoMemoryRefusal }
-    // A certificate that has more bytes than are allowed is never accepted.
+    // A certificate with more bytes than the limit is never accepted.
     ensures within { (bytes : List ℕ) → S.remaining source.old ≡ Some bytes → OnOk result (length bytes ≤ limit) }
-    // Nothing is pulled where the plan text isn't good.
+    // If the plan text is not accepted, the source is not read.
     ensures unpulled { ((verdict : Verdict) → IsGoodPlan problem.now plan_text.now verdict → ⊥)
         → source.new ≡ source.old }
     ensures device { IsErrOf result FromFault.Device ↔ (S.has_failed source.new ≡ true) }
-    // At most one byte more than the limit is pulled, and `TooLong` is answered just where it came.
+    // At most one byte more than the limit is read, and `TooLong` is returned if and only if that byte was read.
     ensures pulls { Pulls (S.remaining source.old) (S.remaining source.new) limit (IsErrOf result FromFault.TooLong) }
     ensures too_long { IsErrOf result FromFault.TooLong → (came : List ℕ)
         × Consumes (S.remaining source.old) (S.remaining source.new) came × (limit < length came) }
@@ -84,7 +84,7 @@ pub fn check_from<S: Source>(
     Ok(verdict)
 }
 
-// What a certificate has to claim.
+// Returns the claim that a certificate has to make for the verdict.
 fn claimed_by(verdict: Verdict) -> Claim
     ensures { result ≡ claim_of verdict }
 {

@@ -1,7 +1,6 @@
 use mapf_model::{Cell, Tick};
 
-/// A cell that is barred to an agent at a tick. In their order those of one agent and cell stand together, by
-/// their ticks.
+/// A vertex constraint of an agent. The order puts those of one agent and cell next to each other, by tick.
 #[derive(Clone, Copy, PartialEq, Eq, PartialOrd, Ord)]
 pub struct BarredCell {
     pub agent: u32,
@@ -9,7 +8,7 @@ pub struct BarredCell {
     pub tick: Tick,
 }
 
-/// A move that is barred to an agent at a tick.
+/// An edge constraint of an agent.
 #[derive(Clone, Copy, PartialEq, Eq, PartialOrd, Ord)]
 pub struct BarredMove {
     pub agent: u32,

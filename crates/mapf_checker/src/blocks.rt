@@ -17,7 +17,7 @@ use mapf_distance::LazyTables;
 use mapf_model::{Block, Cell, Entry, OutOfMemory, Problem};
 use std::alloc::Global;
 
-/// Makes the tables of the blocks' agents, unless they are made.
+/// Makes the distance tables of the blocks' agents that aren't made yet.
 pub fn make_tables(
     alloc: Global,
     problem: &Problem,
@@ -35,7 +35,7 @@ pub fn make_tables(
     Ok(())
 }
 
-/// Whether each entry of the blocks of the node in this line is sound; else the line of the first that isn't.
+/// Checks that each entry of the blocks of the node in this line is sound. Returns the line of the first that isn't.
 pub fn judge_blocks(
     problem: &Problem,
     tables: &LazyTables,
@@ -58,8 +58,7 @@ pub fn judge_blocks(
     Ok(())
 }
 
-// Whether each entry of the block that begins in this line is sound; else the line of the first that
-// isn't.
+// Checks that each entry of the block that begins in this line is sound. Returns the line of the first that isn't.
 fn judge_block(
     problem: &Problem,
     tables: &LazyTables,
@@ -107,7 +106,7 @@ fn goal_of(problem: &Problem, agent: u32) -> Cell
     problem.agents()[agent as usize].goal
 }
 
-// The place of the first entry of a block that isn't sound.
+// Returns the index of the first entry of a block that isn't sound.
 fn first_unsound(own: &AgentProblem, entries: &[Entry]) -> Option<usize>
     requires distances { HasGoalDistances own.now }
     requires indexed { IsIndexed own.now.branch.now }
@@ -125,7 +124,7 @@ fn first_unsound(own: &AgentProblem, entries: &[Entry]) -> Option<usize>
     None
 }
 
-/// What the blocks change of the entries of the starts.
+/// Returns how the blocks change the entries of the starts.
 pub fn changes_by(
     alloc: Global,
     problem: &Problem,

@@ -20,16 +20,16 @@ pub enum Child {
 pub struct Edge {
     /// The split's conflict.
     pub conflict: Conflict,
-    /// The child that the edge leads to. Where it is the left one, the right one is still to come.
+    /// The child that the edge leads to. If it is the left child, the right child has not been read yet.
     pub child: Child,
-    /// What the split's blocks change, for both children.
+    /// How the split's blocks change the entries of the starts, for both children.
     pub changes: Vec<StartChange>,
 }
 
 impl Edge {
     ghost use Rattle.mapf_checker.specs.Branch.{constraint_of};
 
-    // The constraint of the child.
+    // Returns the constraint that the child adds.
     fn constraint(&self) -> Constraint
         ensures { result ≡ constraint_of self.now }
     {
@@ -40,16 +40,15 @@ impl Edge {
     }
 }
 
-/// The branch of a constraint tree from its root to the node that is read next: what that node inherits,
-/// and the nodes that are owed after it. A tree is read in pre-order, so a node's right child is owed until
-/// all of its left child was read. Of the blocks on the branch the entries of the starts are kept, and
-/// nothing else. Constraints are asked for only where a block is judged, so before that the index may lack those of
-/// the last edges.
+/// The path of a constraint tree from its root to the node that is read next: what that node inherits, and which nodes
+/// are to be read after it. A tree is read in pre-order, so the right child of a split is read after the whole subtree
+/// of the left child. Of the blocks along the path only the entries of the starts are kept. Constraints are looked up
+/// only when a block is judged, so before that the index may lack those of the last edges.
 #[derive(Drop)]
 pub struct Branch {
     edges: Vec<Edge>,
     index: BarIndex,
-    // For each of the first edges, whose constraints the index has, what to undo of it where the edge is left.
+    // For each of the first edges, whose constraints are in the index, how to remove its constraint again.
     undos: Vec<Undo>,
     starts: Starts,
 }
@@ -75,7 +74,7 @@ impl Branch {
     ghost use Rattle.mapf_checker.specs.Index.{IsBarredFrom};
     ghost use Rattle.mapf_checker.specs.Starts.{IsKept, AreOfFirst, KnowEntries};
 
-    /// The branch at the root, with nothing owed after it.
+    /// Returns the path that ends at the root, with nothing to be read after it.
     pub fn new(alloc: Global, agents: usize) -> Result<Branch, OutOfMemory>
         ensures { IfOk result (λ branch. branch ≡ record { edges = []; indexed = 0; agents = agents }) }
     {
@@ -87,7 +86,7 @@ impl Branch {
         })
     }
 
-    /// Adds the constraints to the index that it lacks.
+    /// Adds to the index the constraints that it lacks.
     pub fn index_all(&mut self) -> Result<(), OutOfMemory>
         ensures indexed { OnOk result (IsIndexed self.new) }
         ensures edges { self.new.edges ≡ self.old.edges }
@@ -99,7 +98,7 @@ impl Branch {
         Ok(())
     }
 
-    // Adds the constraint of one edge more to the index.
+    // Adds the constraint of the next edge to the index.
     fn index_next(&mut self) -> Result<(), OutOfMemory>
         requires { self.old.indexed < length self.old.edges }
         ensures one { OnOk result (self.new.indexed ≡ self.old.indexed + 1) }
@@ -113,7 +112,7 @@ impl Branch {
         Ok(())
     }
 
-    /// Whether the bar stands for the agent.
+    /// Returns whether the agent has the constraint.
     pub fn has(&self, agent: u32, bar: Bar) -> bool
         requires { IsIndexed self.now }
         ensures { IsTrue result ↔ Contains ((place_of self.now).here.bars agent) bar }
@@ -121,7 +120,7 @@ impl Branch {
         self.index.has(&Constraint { agent, bar })
     }
 
-    /// Whether the cell is barred to the agent at this tick or later.
+    /// Returns whether a vertex constraint forbids the cell to the agent at this tick or later.
     pub fn has_from(&self, agent: u32, cell: Cell, tick: Tick) -> bool
         requires { IsIndexed self.now }
         ensures { IsTrue result ↔ IsBarredFrom ((place_of self.now).here.bars agent) cell tick }
@@ -129,7 +128,7 @@ impl Branch {
         self.index.has_from(agent, cell, tick)
     }
 
-    /// The entry of the agent's start at tick 0 in the nearest block above.
+    /// Returns the entry of the agent's start at tick 0 in the nearest block above.
     pub fn start_entry(&self, agent: usize) -> Option<Label>
         requires { agent < self.now.agents }
         ensures { IsKept (place_of self.now).here.entries agent result }
@@ -137,7 +136,7 @@ impl Branch {
         self.starts.get(agent)
     }
 
-    /// Goes on from a split, whose blocks make these changes, to its left child.
+    /// Moves from a split, whose blocks make these changes, to its left child.
     pub fn split(
         &mut self,
         conflict: &Conflict,
@@ -151,7 +150,7 @@ impl Branch {
         self.descend(conflict, Child::Left, changes)
     }
 
-    /// Goes on from an end of the tree to the node that is owed next, if one is.
+    /// Moves from a terminal node to the next node in pre-order. Returns false if there is none.
     pub fn backtrack(&mut self) -> Result<bool, OutOfMemory>
         ensures next { IfOk result (NextOf (place_of self.old) (place_of self.new)) }
         ensures agents { self.new.agents ≡ self.old.agents }
@@ -170,7 +169,7 @@ impl Branch {
         Ok(false)
     }
 
-    // Goes back over the last edge, if there is one, and undoes what it changed.
+    // Removes the last edge, if there is one, and undoes its changes.
     fn leave(&mut self) -> Option<Edge>
         ensures last { IfSome result (λ edge. self.old.edges ≡ self.new.edges ++ edge ∷ []) }
         ensures root { IfNone result (self.old.edges ≡ []) }
@@ -207,7 +206,7 @@ impl Branch {
     }
 }
 
-// Takes the constraint of an edge that comes after so many others out of the index, if the index has it.
+// Removes from the index the constraint of the edge that comes after so many others, if the index has it.
 fn take_out(index: &mut BarIndex, undos: &mut Vec<Undo>, edges: usize, edge: &Edge)
     ensures { (before : List Edge) → length before ≡ edges
         → IndexesFirst (before ++ edge.now ∷ []) undos.old.items index.old

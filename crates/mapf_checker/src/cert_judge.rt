@@ -20,7 +20,7 @@ use mapf_certificate::CertLines;
 use mapf_model::{Claim, Problem, Source, laws};
 use std::alloc::Global;
 
-/// Whether the source gives a certificate for the problem that shows the claim.
+/// Checks that the source gives a certificate for the problem that shows the claim. Returns the first error otherwise.
 pub fn judge_cert<S: Source>(
     alloc: Global,
     problem: &Problem,
@@ -50,7 +50,7 @@ pub fn judge_cert<S: Source>(
     judge_tree(alloc, problem, claim, &mut lines, source)
 }
 
-// Whether the header is for the problem's number of agents and makes the claim.
+// Checks that the header is for the problem's number of agents and makes the claim.
 fn judge_header<S: Source>(
     problem: &Problem,
     claim: &Claim,
@@ -93,7 +93,7 @@ fn are_one_claim(a: &Claim, b: &Claim) -> bool
     }
 }
 
-// Whether the items of the certificate's tree show the claim.
+// Checks that the items of the certificate's tree show the claim.
 fn judge_tree<S: Source>(
     alloc: Global,
     problem: &Problem,
@@ -117,7 +117,7 @@ fn judge_tree<S: Source>(
     Ok(())
 }
 
-// Judges the next item of the certificate's tree; false where its end came.
+// Judges the next item of the certificate's tree. Returns false at its end.
 fn judge_next<S: Source>(
     alloc: Global,
     problem: &Problem,
@@ -131,7 +131,7 @@ fn judge_next<S: Source>(
     ensures works { OnOk result (S.has_failed source.new ≡ false) }
     ensures between { IfOk result (λ came. IsTrue came → IsBetweenItems problem.now claim.now lines.new progress.new) }
     ensures nearer { IfOk result (λ came. IsTrue came → spare lines.new.buffer < spare lines.old.buffer) }
-    // Whatever was read and judged before it.
+    // This holds whatever was read and judged before.
     ensures judged { (had : Option (List ℕ)) (start : Reading)
         → IsReadTo problem.now claim.now had (S.remaining source.old) start lines.old (owed_by progress.old)
         → IsReadOn problem.now claim.now had (S.remaining source.new) (S.has_failed source.new) start lines.new

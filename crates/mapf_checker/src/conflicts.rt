@@ -9,8 +9,8 @@ ghost use Rattle.mapf_checker.specs.Defects.{HasDefect};
 use crate::plan_fault::PlanFault;
 use mapf_model::{Path, Tick, first_pair};
 
-/// The first conflict of the paths: the least tick, a vertex conflict before a swapping one, then the
-/// least agents. None where no two of them are ever in conflict.
+/// Returns the first conflict of the paths: the least tick, at a tick vertex conflicts before swapping conflicts, then
+/// the least agents. None if and only if no two agents are in conflict at any tick.
 pub fn first_conflict(paths: &[Path]) -> Option<PlanFault>
     requires { length paths.now ≤ most_agents }
     ensures some { (problem : Instance) → IfSome result (HasDefect problem paths.now) }
@@ -24,7 +24,7 @@ pub fn first_conflict(paths: &[Path]) -> Option<PlanFault>
     None
 }
 
-// The number of cells of the longest path.
+// Returns the number of cells of the longest path.
 fn longest(paths: &[Path]) -> Tick
     ensures longest { All (λ path. length path ≤ result) paths.now }
     ensures positive { 1 ≤ result }
@@ -37,7 +37,7 @@ fn longest(paths: &[Path]) -> Tick
     longest as Tick
 }
 
-// The first conflict at the tick.
+// Returns the first conflict at the tick.
 fn conflict_at(paths: &[Path], tick: Tick) -> Option<PlanFault>
     requires few { length paths.now ≤ most_agents }
     requires early { tick < most_path_cells }
@@ -59,7 +59,7 @@ fn conflict_at(paths: &[Path], tick: Tick) -> Option<PlanFault>
     })
 }
 
-// The first two agents that are in one cell at the tick.
+// Returns the first two agents that are in one cell at the tick.
 fn sharing_pair(paths: &[Path], tick: Tick) -> Option<(usize, usize)>
     requires { tick < most_path_cells }
     ensures some { IfSome result (IsPairWith (AreInOneCell paths.now tick) (length paths.now)) }
@@ -74,7 +74,7 @@ fn sharing_pair(paths: &[Path], tick: Tick) -> Option<(usize, usize)>
     )
 }
 
-// The first two agents that exchange cells between the tick and the next.
+// Returns the first two agents that exchange their cells between the tick and the next.
 fn exchanging_pair(paths: &[Path], tick: Tick) -> Option<(usize, usize)>
     requires { tick < most_path_cells }
     ensures some { IfSome result (IsPairWith (ExchangeCells paths.now tick) (length paths.now)) }

@@ -2,48 +2,48 @@ use crate::plan_fault::PlanFault;
 use mapf_certificate::{CertFault, LinesFault, PlanTextFault};
 use mapf_model::OutOfMemory;
 
-/// What two texts that are accepted show.
+/// The verdict on two texts that are accepted.
 #[derive(Clone, Copy, Debug, PartialEq, Eq)]
 pub enum Verdict {
-    /// The plan is valid, its sum of costs in ticks is this, and no valid plan has a smaller one.
+    /// The plan is valid and has this sum of costs, in ticks, and no valid plan has a smaller one.
     Optimal(u64),
-    /// The plan text says that a limit was met, with this bound, and no valid plan has a smaller sum of
-    /// costs, in ticks.
+    /// The plan text says that a limit was reached, with this bound: no valid plan has a smaller sum of costs, in
+    /// ticks.
     Bound(u64),
     /// No plan is valid.
     Impossible,
 }
 
-/// Why two texts are not accepted. Lines are counted from 1. The variant `Memory` of a text's fault is
-/// never in here. It is proved that the texts are at fault so; that this fault is the first, in this
-/// line, is only tested.
+/// Why two texts are not accepted. Lines are counted from 1. The variant `Memory` of a text's error never occurs in
+/// here. It is proved that the reported error is one that the texts have; that it is the first error, and that the line
+/// is right, is only tested.
 #[derive(Clone, Copy, Debug, PartialEq, Eq)]
 pub enum CheckFault {
-    /// The plan text spells nothing.
+    /// The plan text does not follow the grammar.
     C1(PlanTextFault),
-    /// The certificate text spells nothing.
+    /// The certificate does not follow the grammar.
     C2(CertFault),
-    /// One of the texts is for another number of agents than the problem's.
+    /// One of the texts is for another number of agents than the problem has.
     C3,
-    /// The answer and the claim differ, or the answer is a limit without a bound.
+    /// The certificate's claim does not fit the plan text's answer, or the answer is a limit without a bound.
     C4,
     /// The plan isn't valid.
     C5(PlanFault),
-    /// A bad split in this line: the agents are equal, a cell is blocked, or the cells of a swap are
-    /// not adjacent.
+    /// The split in this line is wrong: its agents are equal, a cell is blocked, or the cells of a swap are not
+    /// adjacent.
     C6(u64),
-    /// An unsound label in this line.
+    /// The label in this line is not sound.
     C7(u64),
-    /// The labels of the leaf that begins in this line are too weak for the claim.
+    /// The labels of the starts at the leaf that begins in this line don't show the claim.
     C8(u64),
-    /// A false clash in this line: the agents are equal, or their goals differ.
+    /// The clash in this line is wrong: its agents are equal, or their goals differ.
     C9(u64),
-    /// A request for memory was refused.
+    /// Out of memory.
     Memory,
 }
 
-/// Why a check of a certificate that comes from a source ends without a verdict. The variant `Memory`
-/// of `CheckFault` is never in here.
+/// Why checking a certificate that is read from a source ends without a verdict. The variant `Memory` of `CheckFault`
+/// never occurs in here.
 #[derive(Clone, Copy, Debug, PartialEq, Eq)]
 pub enum FromFault {
     /// The texts are not accepted.
@@ -52,7 +52,7 @@ pub enum FromFault {
     Device,
     /// The source gave more bytes than the limit allows.
     TooLong,
-    /// A request for memory was refused.
+    /// Out of memory.
     Memory,
 }
 

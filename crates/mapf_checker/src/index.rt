@@ -9,16 +9,16 @@ use mapf_model::{Bar, Cell, Constraint, OutOfMemory, Tick};
 use std::alloc::Global;
 use std::collections::BTreeSet;
 
-/// What an index had before a bar was added.
+/// How to remove a constraint that was added to an index.
 #[derive(Clone, Copy)]
 pub struct Undo {
-    /// Whether the bar wasn't there.
+    /// Whether the index lacked the constraint before.
     pub is_new: bool,
 }
 
-/// The bars of each agent, found without walking them. Whatever bars there are, the time to find, add or take
-/// away one grows with the logarithm of their number. Bars are taken away in the order from the last that was
-/// added.
+/// The constraints of each agent, in ordered sets. Finding, adding and removing a constraint takes time that grows with
+/// the logarithm of their number, whatever they are. Constraints are removed in the reverse of the order in which they
+/// were added.
 #[derive(Drop)]
 pub struct BarIndex {
     cells: BTreeSet<BarredCell>,
@@ -28,7 +28,7 @@ pub struct BarIndex {
 impl BarIndex {
     ghost use Rattle.mapf_checker.specs.Index.{Indexes, CanUndo, IsBarredFrom};
 
-    /// No bars.
+    /// Returns an index without constraints.
     pub fn new(alloc: Global) -> BarIndex
         ensures { Indexes (λ agent. []) result }
     {
@@ -54,7 +54,7 @@ impl BarIndex {
         }
     }
 
-    /// Whether the cell is barred to the agent at this tick or later.
+    /// Returns whether a vertex constraint forbids the cell to the agent at this tick or later.
     pub fn has_from(&self, agent: u32, cell: Cell, tick: Tick) -> bool
         ensures { (bars : ℕ → List Bar) → Indexes bars self.now → IsTrue result ↔ IsBarredFrom (bars agent) cell tick }
     {
@@ -65,7 +65,7 @@ impl BarIndex {
         }
     }
 
-    /// Adds a bar.
+    /// Adds a constraint.
     pub fn add(&mut self, constraint: &Constraint) -> Result<Undo, OutOfMemory>
         ensures added { OnOk result ((bars : ℕ → List Bar) → Indexes bars self.old
             → Indexes (with_constraint bars constraint.now) self.new) }
@@ -77,7 +77,7 @@ impl BarIndex {
         Ok(Undo { is_new })
     }
 
-    /// Takes the bar away that was added last.
+    /// Removes the constraint that was added last.
     pub fn undo(&mut self, constraint: &Constraint, undo: &Undo)
         ensures { (bars : ℕ → List Bar) → Indexes (with_constraint bars constraint.now) self.old
             → CanUndo bars constraint.now undo.now → Indexes bars self.new }
@@ -87,7 +87,7 @@ impl BarIndex {
         }
     }
 
-    // Adds a bar, and answers whether it is new.
+    // Adds a constraint. Returns whether it is new.
     fn insert(&mut self, constraint: &Constraint) -> Result<bool, OutOfMemory>
         ensures is_new { IfOk result (λ is_new. is_new ≡ not (is_held self.old constraint.now)) }
         ensures here { OnOk result (is_held self.new constraint.now ≡ true) }
@@ -113,7 +113,7 @@ impl BarIndex {
         }
     }
 
-    // Takes a bar away.
+    // Removes a constraint.
     fn remove(&mut self, constraint: &Constraint)
         ensures here { is_held self.new constraint.now ≡ false }
         ensures others { AreOthersKept constraint.now self.old self.new }

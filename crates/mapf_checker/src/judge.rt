@@ -13,8 +13,7 @@ use crate::labels::{exceeds, is_within_one, label_from};
 use mapf_distance::Distances;
 use mapf_model::{Bar, Cell, Entry, Grid, laws};
 
-/// What the entries of one agent are judged against: its own problem at a node of the tree, with the bars
-/// on the branch to it.
+/// What the entries of one agent are judged by: its distances, and its constraints at a node of the tree.
 #[derive(Drop)]
 pub struct AgentProblem<'a> {
     pub grid: &'a Grid,
@@ -25,12 +24,12 @@ pub struct AgentProblem<'a> {
     pub goal: Cell,
 }
 
-/// For each place of a neighbourhood, where the search for the entry of the cell there goes on.
+/// For each place of a neighbourhood, where the search for the entry of its cell continues.
 pub type Fingers = [usize; 5];
 
-/// Whether the entry can stand in the block: its label exceeds the distance; and unless the state is
-/// barred, a later bar touches the goal where the agent would rest there, and no step that isn't
-/// barred lowers the label by more than one.
+/// Returns whether the entry is sound in the block: its label is greater than the distance; and, unless the state is
+/// forbidden, no step that the constraints allow lowers the label by more than one, and if the cell is the goal, some
+/// vertex constraint forbids it at this tick or later.
 pub fn is_sound(own: &AgentProblem, entries: &[Entry], fingers: &mut Fingers, entry: &Entry) -> bool
     requires distances { HasGoalDistances own.now }
     requires indexed { IsIndexed own.now.branch.now }
@@ -44,7 +43,7 @@ pub fn is_sound(own: &AgentProblem, entries: &[Entry], fingers: &mut Fingers, en
     if !exceeds(entry.label, distance) {
         return false;
     }
-    // Few states are barred, and labels tell more often than bars.
+    // Few states are forbidden, so the labels, which decide more often than the constraints, are compared first.
     is_open_sound(own, entries, fingers, entry) || is_barred(own, entry)
 }
 
@@ -59,7 +58,7 @@ fn is_barred(own: &AgentProblem, entry: &Entry) -> bool
     own.branch.has(own.agent, bar)
 }
 
-// Whether a state that isn't barred can have its label.
+// Returns whether the label is sound for a state that isn't forbidden.
 fn is_open_sound(
     own: &AgentProblem,
     entries: &[Entry],
@@ -81,7 +80,7 @@ fn is_open_sound(
     goes_on(own, entries, fingers, entry)
 }
 
-// Whether the label is within one of that after each step that isn't barred.
+// Returns whether the label is at most one more than the label after each step that the constraints allow.
 fn goes_on(own: &AgentProblem, entries: &[Entry], fingers: &mut Fingers, entry: &Entry) -> bool
     requires distances { HasGoalDistances own.now }
     requires indexed { IsIndexed own.now.branch.now }
@@ -101,7 +100,7 @@ fn goes_on(own: &AgentProblem, entries: &[Entry], fingers: &mut Fingers, entry: 
     true
 }
 
-// Whether the label is within one of that after this step, or the agent can't take the step.
+// Returns whether the label is at most one more than the label after this step, or the agent may not take the step.
 fn step_holds(
     own: &AgentProblem,
     entries: &[Entry],
@@ -116,7 +115,7 @@ fn step_holds(
     ensures { IsTrue result ↔ IsConsistentStep own.now entries.now entry.now next }
 {
     laws::definitions_are_decided();
-    // Few steps can't be taken, and a label tells more often than a bar.
+    // Few steps are forbidden, so the labels are compared before the constraints.
     let after = label_from(entries, finger, own.distances, next, entry.tick + 1);
     if is_within_one(entry.label, after) {
         return true;
@@ -124,7 +123,7 @@ fn step_holds(
     !may_go(own, entry, next)
 }
 
-// Whether the agent may go to the cell from the entry's state.
+// Returns whether the agent may go to the cell from the entry's state.
 fn may_go(own: &AgentProblem, entry: &Entry, next: Cell) -> bool
     requires indexed { IsIndexed own.now.branch.now }
     requires tick { entry.now.tick ≤ greatest_cost }

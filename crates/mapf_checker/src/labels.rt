@@ -10,7 +10,7 @@ use mapf_distance::Distances;
 use mapf_model::{Cell, Entry, Label, Tick};
 use std::cmp::Ordering;
 
-/// The entry of a state in a block.
+/// Returns the entry of a state in a block. Searches by bisection.
 pub fn entry_at(entries: &[Entry], cell: Cell, tick: Tick) -> Option<Label>
     requires { AllPairs IsBefore entries.now }
     ensures { result ≡ entries_of entries.now cell tick }
@@ -27,8 +27,8 @@ pub fn entry_at(entries: &[Entry], cell: Cell, tick: Tick) -> Option<Label>
     None
 }
 
-/// The entry of a state in a block. It is looked for from where the finger stands, which then moves behind it, or
-/// to where it would stand. So a finger that follows rising states passes each entry once.
+/// Returns the entry of a state in a block. Searches from the index `finger`, and leaves it after the entry, or where
+/// the entry would be. So for states in rising order each entry is passed once.
 pub fn entry_from(entries: &[Entry], finger: &mut usize, cell: Cell, tick: Tick) -> Option<Label>
     requires { AllPairs IsBefore entries.now }
     ensures { result ≡ entries_of entries.now cell tick }
@@ -41,12 +41,12 @@ pub fn entry_from(entries: &[Entry], finger: &mut usize, cell: Cell, tick: Tick)
             Some(entries[place].label)
         }
         Ordering::Greater if is_passed(entries, place, cell, tick) => None,
-        // The finger stood too far on.
+        // `finger` was beyond the place of the state.
         _ => entry_at(entries, cell, tick),
     }
 }
 
-// The first place from this one on whose entry doesn't stand before the state.
+// Returns the first index from this one on whose entry doesn't precede the state.
 fn first_from(entries: &[Entry], from: usize, cell: Cell, tick: Tick) -> usize
     requires { AllPairs IsBefore entries.now }
 {
@@ -57,7 +57,7 @@ fn first_from(entries: &[Entry], from: usize, cell: Cell, tick: Tick) -> usize
     place
 }
 
-// Whether the entry before this place, if there is one, stands before the state.
+// Returns whether the entry before this index, if there is one, precedes the state.
 fn is_passed(entries: &[Entry], place: usize, cell: Cell, tick: Tick) -> bool
     requires { AllPairs IsBefore entries.now }
     ensures { IsTrue result → IsNoneBelow entries.now cell tick place }
@@ -65,7 +65,7 @@ fn is_passed(entries: &[Entry], place: usize, cell: Cell, tick: Tick) -> bool
     place == 0 || matches!(standing(entries, place - 1, cell, tick), Ordering::Less)
 }
 
-// Where the entry in this place stands to a state; behind the last, as one that stands after it.
+// Compares the entry at this index with a state. After the last entry the result is `Greater`.
 fn standing(entries: &[Entry], place: usize, cell: Cell, tick: Tick) -> Ordering
     requires { AllPairs IsBefore entries.now }
     ensures { IsStanding entries.now cell tick place result }
@@ -76,7 +76,7 @@ fn standing(entries: &[Entry], place: usize, cell: Cell, tick: Tick) -> Ordering
     }
 }
 
-// Where the entry stands to a state, by the ticks and then by the cells.
+// Compares the entry with a state, by tick and then by cell.
 fn order(entry: &Entry, cell: Cell, tick: Tick) -> Ordering
     ensures { StandsTo cell tick entry.now result }
 {
@@ -89,7 +89,7 @@ fn order(entry: &Entry, cell: Cell, tick: Tick) -> Ordering
     entry.cell.0.cmp(&cell.0)
 }
 
-/// A distance as a label.
+/// Returns a distance as a label.
 fn distance_label(distance: Option<u32>) -> Label
     ensures { (grid : GridMap) (goal cell : ℕ) → IsDistanceOrNone grid goal cell distance
         → IsDistanceLabel grid goal cell result }
@@ -100,7 +100,7 @@ fn distance_label(distance: Option<u32>) -> Label
     }
 }
 
-/// The entry, or this distance where there is none.
+/// Returns the entry, or this distance if there is none.
 pub fn entry_or(entry: Option<Label>, distance: Option<u32>) -> Label
     ensures { (grid : GridMap) (goal cell : ℕ) → IsDistanceOrNone grid goal cell distance
         → IsEntryOrDistance grid goal cell entry result }
@@ -111,7 +111,7 @@ pub fn entry_or(entry: Option<Label>, distance: Option<u32>) -> Label
     }
 }
 
-// The entry, or the distance of the cell where there is none.
+// Returns the entry, or the distance of the cell if there is none.
 fn label_or_distance(entry: Option<Label>, distances: &Distances, cell: Cell) -> Label
     ensures { IsEntryOrDistance distances.now.grid distances.now.goal cell entry result }
 {
@@ -121,7 +121,7 @@ fn label_or_distance(entry: Option<Label>, distances: &Distances, cell: Cell) ->
     }
 }
 
-/// The label of a state, whose entry is looked for as `entry_from` does.
+/// Returns the label of a state, whose entry is looked up as in `entry_from`.
 pub fn label_from(
     entries: &[Entry],
     finger: &mut usize,
@@ -135,7 +135,7 @@ pub fn label_from(
     label_or_distance(entry_from(entries, finger, cell, tick), distances, cell)
 }
 
-/// Whether a label is at most one more than another.
+/// Returns whether a label is at most one more than another.
 pub fn is_within_one(label: Label, after: Label) -> bool
     ensures { IsTrue result ↔ IsAtMost label (one_more after) }
 {
@@ -146,7 +146,7 @@ pub fn is_within_one(label: Label, after: Label) -> bool
     }
 }
 
-/// Whether a label exceeds a distance.
+/// Returns whether a label is greater than a distance.
 pub fn exceeds(label: Label, distance: u32) -> bool
     ensures { IsTrue result ↔ IsAtMost (Label.Ticks (distance + 1)) label }
 {

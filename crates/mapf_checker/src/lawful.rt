@@ -14,7 +14,7 @@ pub enum PathFault {
     WrongGoal,
 }
 
-/// Whether the path is lawful for the agent, or the first fault from its front on.
+/// Checks that the path is lawful for the agent. Returns the first error along the path otherwise.
 pub fn check_path(grid: &Grid, agent: &Agent, path: &Path) -> Result<(), PathFault>
     requires { IsFree grid.now agent.now.start }
     ensures lawful { OnOk result (IsLawful grid.now agent.now path.now) }
@@ -34,7 +34,7 @@ pub fn check_path(grid: &Grid, agent: &Agent, path: &Path) -> Result<(), PathFau
     Ok(())
 }
 
-// The least place from which there is no step to the next.
+// Returns the least index from which there is no step to the next cell.
 fn first_bad_step(grid: &Grid, cells: &[Cell]) -> Option<Tick>
     requires { length cells.now ≤ most_path_cells }
     ensures some { IfSome result (λ k. k + 1 < length cells.now) }

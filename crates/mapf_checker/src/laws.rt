@@ -2,8 +2,8 @@ ghost use Rattle.mapf_checker.specs.Verdict.{AcceptedIsTrue};
 
 use mapf_model::laws::shown_claims_hold;
 
-/// What is accepted as optimal is optimal, what is accepted as impossible is impossible, and no valid plan
-/// has a sum below a bound that is accepted.
+/// What is accepted as optimal is optimal, what is accepted as impossible is impossible, and no valid plan has a sum
+/// below an accepted bound.
 pub fn accepted_is_true()
     ensures { AcceptedIsTrue }
 {

@@ -19,8 +19,8 @@ use crate::labels::{entry_at, entry_or};
 use mapf_distance::LazyTables;
 use mapf_model::{Block, Cell, Claim, Label, Problem, laws};
 
-/// Whether the leaf shows the claim: each entry of its blocks is sound, and the labels of the starts
-/// are enough. `line` is that of the leaf, `distances` are those of the starts.
+/// Checks that the leaf shows the claim: each entry of its blocks is sound, and the labels of the starts add up to
+/// enough. `line` is the line of the leaf, `distances` are those of the starts.
 pub fn judge_leaf(
     problem: &Problem,
     tables: &LazyTables,
@@ -50,7 +50,7 @@ pub fn judge_leaf(
     }
 }
 
-// The labels of the starts at tick 0, added up; None where one is infinite.
+// Returns the sum of the labels of the starts at tick 0, None if one is infinite.
 fn start_total(
     problem: &Problem,
     distances: &[Option<u32>],
@@ -73,8 +73,8 @@ fn start_total(
     total
 }
 
-// The label of an agent's start, by its block at the leaf or, if it has none, by the nearest above. The
-// blocks of the agents before stand before this place.
+// Returns the label of an agent's start, by its block at the leaf or, if it has none, by the nearest block above. The
+// blocks of smaller agents are before `place`.
 fn start_label(
     problem: &Problem,
     distances: &[Option<u32>],
@@ -99,7 +99,7 @@ fn start_label(
     entry_or(entry, distances[agent])
 }
 
-// The place up to which the blocks of this agent and those before stand.
+// Returns the index up to which the blocks of this agent and of smaller agents are.
 fn place_after(blocks: &[Block], place: usize, agent: usize) -> usize
     requires rising { AllPairs (λ a b. a.agent < b.agent) blocks.now }
     requires cut { IsCut blocks.now place agent }
@@ -112,7 +112,7 @@ fn place_after(blocks: &[Block], place: usize, agent: usize) -> usize
     }
 }
 
-// Whether the block in this place, where those of the agents before stand before it, is the agent's.
+// Returns whether the block at this index, before which are the blocks of smaller agents, is the agent's.
 fn is_block_of(blocks: &[Block], place: usize, agent: usize) -> bool
     requires rising { AllPairs (λ a b. a.agent < b.agent) blocks.now }
     requires cut { IsCut blocks.now place agent }
@@ -136,7 +136,7 @@ fn plus(total: Option<u64>, label: Label) -> Option<u64>
     }
 }
 
-// Whether starts with labels of this sum show the claim.
+// Returns whether starts with labels of this sum show the claim.
 fn is_enough(claim: &Claim, total: Option<u64>) -> bool
     ensures { IsTrue result ↔ IsEnough claim.now total }
 {

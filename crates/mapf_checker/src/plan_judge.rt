@@ -10,8 +10,8 @@ use mapf_certificate::{PlanAnswer, PlanText, read_plan};
 use mapf_model::{Problem, laws};
 use std::alloc::Global;
 
-/// The verdict that the plan text asks for, if it is good for the problem: its plan is valid, or it says
-/// that none is, or it has a bound.
+/// Returns the verdict that the certificate has to show, if the plan text is valid for the problem: its plan is valid,
+/// or it says `impossible`, or it has a bound.
 pub fn judge_plan(alloc: Global, problem: &Problem, plan_text: &[u8]) -> Result<Verdict, FromFault>
     ensures good { IfOk result (IsGoodPlan problem.now plan_text.now) }
     ensures only { (verdict : Verdict) → IsGoodPlan problem.now plan_text.now verdict

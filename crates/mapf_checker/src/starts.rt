@@ -5,17 +5,17 @@ ghost use Rattle.mapf_model.specs.Tree.{no_entries};
 use mapf_model::{Label, OutOfMemory};
 use std::alloc::Global;
 
-/// What a block does to the entry of its agent's start at tick 0.
+/// How a block changes the entry of its agent's start at tick 0.
 #[derive(Clone, Copy)]
 pub struct StartChange {
     pub agent: u32,
-    /// The entry by the nearest block above.
+    /// The entry in the nearest block above.
     pub before: Option<Label>,
-    /// The entry in the block. Where it lists none, the distance holds.
+    /// The entry in the block. If the block doesn't list it, the label is the distance.
     pub now: Option<Label>,
 }
 
-/// For each agent the entry of its start at tick 0, as its nearest block above a node lists it.
+/// For each agent the entry of its start at tick 0, in its nearest block above a node.
 #[derive(Drop)]
 pub struct Starts {
     entries: Vec<Option<Label>>,
@@ -24,7 +24,7 @@ pub struct Starts {
 impl Starts {
     ghost use Rattle.mapf_checker.specs.Starts.{IsKept, AreKept, AreOfFirst, KnowEntries, with_changes};
 
-    /// Without blocks.
+    /// Returns the entries at the root: none.
     pub fn new(alloc: Global, agents: usize) -> Result<Starts, OutOfMemory>
         ensures count { IfOk result (λ starts. length starts.entries.items ≡ agents) }
         ensures none { IfOk result (λ starts. AreKept no_entries starts.entries.items) }
@@ -41,7 +41,7 @@ impl Starts {
         self.entries[agent]
     }
 
-    /// Sees to these changes; of two of one agent the first counts.
+    /// Makes these changes. If several are of one agent, the first counts.
     pub fn change(&mut self, changes: &[StartChange])
         requires agents { AreOfFirst (length self.old.entries.items) changes.now }
         ensures entries { (entries : ℕ → Entries) → AreKept entries self.old.entries.items
@@ -55,7 +55,7 @@ impl Starts {
         }
     }
 
-    /// The entries are again what they were before these changes.
+    /// Restores the entries before these changes.
     pub fn undo(&mut self, changes: &[StartChange])
         requires agents { AreOfFirst (length self.old.entries.items) changes.now }
         ensures entries { (entries : ℕ → Entries) → AreKept (with_changes changes.now entries) self.old.entries.items

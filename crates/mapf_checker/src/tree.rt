@@ -23,22 +23,22 @@ use mapf_distance::{LazyTables, start_distances};
 use mapf_model::{Block, Claim, Conflict, Item, OutOfMemory, Problem};
 use std::alloc::Global;
 
-/// How far a tree was judged whose items come in pre-order.
+/// How far a tree, whose items come in pre-order, was judged.
 #[derive(Drop)]
 pub struct Progress {
     branch: Branch,
     // The distances to the goals of the agents that had a block so far.
     tables: LazyTables,
-    // Those of the starts, made at the first leaf.
+    // The distances of the starts, made at the first leaf.
     distances: Vec<Option<u32>>,
-    /// Whether the whole tree came.
+    /// Whether the whole tree was judged.
     pub is_over: bool,
 }
 
 impl Progress {
     ghost use Rattle.mapf_checker.specs.Progress.{owed_by, contexts_after, here_of, AreAllAlike, IsReady};
 
-    /// Before the root.
+    /// Returns the state before the root is judged.
     pub fn new(alloc: Global, problem: &Problem) -> Result<Progress, OutOfMemory>
         ensures ready { IfOk result (IsReady problem.now) }
         ensures owed { IfOk result (λ progress. owed_by progress ≡ root ∷ []) }
@@ -137,7 +137,7 @@ impl Progress {
         Ok(())
     }
 
-    // Judges the blocks of a split, and answers what they change.
+    // Judges the blocks of a split. Returns how they change the entries of the starts.
     fn changes(
         &mut self,
         alloc: Global,
@@ -202,8 +202,8 @@ impl Progress {
         self.end()
     }
 
-    // Sees to what the blocks are judged by: the tables of their agents, and the index of the constraints on the
-    // branch. Without blocks none is needed.
+    // Makes what the blocks are judged by: the tables of their agents, and the index of the constraints along the path.
+    // Without blocks none is needed.
     fn see_to_blocks(
         &mut self,
         alloc: Global,
@@ -230,7 +230,7 @@ impl Progress {
         Ok(())
     }
 
-    // Makes the distances of the starts where there are none yet.
+    // Makes the distances of the starts if they aren't made yet.
     fn see_to_distances(&mut self, alloc: Global, problem: &Problem) -> Result<(), FromFault>
         requires ready { IsReady problem.now self.old }
         ensures ready { OnOk result (IsReady problem.now self.new) }
@@ -266,7 +266,7 @@ impl Progress {
         self.end()
     }
 
-    // Goes on to what is owed after an end of the tree.
+    // Moves to the next node after a terminal node.
     fn end(&mut self) -> Result<(), FromFault>
         ensures tables { self.new.tables ≡ self.old.tables }
         ensures distances { self.new.distances.items ≡ self.old.distances.items }

@@ -7,9 +7,9 @@ use crate::lawful::{PathFault, check_path};
 use crate::plan_fault::PlanFault;
 use mapf_model::{Path, Plan, Problem};
 
-/// The sum of the costs of a valid plan, in ticks; else the first fault. The paths are judged in the
-/// order of the agents, each by its start, its steps and its end; then the first conflict counts: the
-/// least tick, vertex conflicts before swapping ones, then the least agents.
+/// Returns the sum of costs of a valid plan, in ticks, or the first error. The paths are checked in the order of the
+/// agents, each by its start, its steps and its end. Then comes the first conflict: the least tick, at a tick vertex
+/// conflicts before swapping conflicts, then the least agents.
 pub fn check_plan(problem: &Problem, plan: &Plan) -> Result<u64, PlanFault>
     requires { length plan.now ≡ length problem.now.agents }
     ensures valid { IsOk result ↔ IsValid problem.now plan.now }
@@ -26,7 +26,7 @@ pub fn check_plan(problem: &Problem, plan: &Plan) -> Result<u64, PlanFault>
     }
 }
 
-// Whether each agent's path is lawful, or the first fault of the first path that isn't.
+// Checks that each agent's path is lawful. Returns the first error of the first path that isn't.
 fn check_paths(problem: &Problem, paths: &[Path]) -> Result<(), PlanFault>
     requires { length paths.now ≡ length problem.now.agents }
     ensures lawful { OnOk result (AreLawful problem.now paths.now (length paths.now)) }

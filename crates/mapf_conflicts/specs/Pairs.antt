@@ -15,23 +15,23 @@ cells_at paths tick = map (λ path. at path tick) paths
 abbrev pub paths_behind : List (Bor (List ℕ)) → List (List ℕ)
 paths_behind paths = map (λ path. path.now) paths
 
--- each agent is marked at its own cell
+-- the mark of each agent's cell names this agent
 abbrev pub ArePlaced : List ℕ → List ℕ → Type 0
 ArePlaced marks here = (i : ℕ) → i < length here → slice_index marks (slice_index here i) ≡ i
 
--- the agents at two places are in one cell
+-- the two agents are in one cell
 abbrev pub ShareCell : List ℕ → ℕ → ℕ → Type 0
 ShareCell here i j = slice_index here i ≡ slice_index here j
 
--- each of them goes to the cell of the other
+-- each of the two agents goes to the cell of the other
 abbrev pub ExchangeCells : List ℕ → List ℕ → ℕ → ℕ → Type 0
 ExchangeCells here next i j = (slice_index here j ≡ slice_index next i) × (slice_index next j ≡ slice_index here i)
 
--- the fact holds of an agent and a later one
+-- the relation holds of an agent and a greater one
 abbrev pub HoldsOfSomePair : (ℕ → ℕ → Type 0) → ℕ → Type 0
 HoldsOfSomePair Fact count = (i : ℕ) × (j : ℕ) × (i < j) × (j < count) × Fact i j
 
--- two agents share a cell or exchange their cells
+-- the two agents share a cell or exchange their cells
 abbrev pub ShareOrExchangeCells : List ℕ → List ℕ → ℕ → ℕ → Type 0
 ShareOrExchangeCells here next i j = ShareCell here i j ⊎ ExchangeCells here next i j
 
@@ -52,11 +52,11 @@ abbrev pub IsOrdered : Conflict → Type 0
 IsOrdered (Vertex i j cell tick) = i < j
 IsOrdered (Swap i j from to tick) = i < j
 
--- the first agents are less, or they are one agent and the second agents are less
+-- the first agent is smaller, or the first agents are equal and the second agent is smaller
 abbrev pub AreLess : ℕ → ℕ → ℕ → ℕ → Type 0
 AreLess i j k l = (i < k) ⊎ ((i ≡ k) × (j < l))
 
--- of two conflicts of one tick: a vertex conflict comes before a swapping one, then the one of the lesser agents
+-- of two conflicts of one tick: a vertex conflict comes before a swapping conflict, then the one of the smaller agents
 abbrev pub ComesBefore : Conflict → Conflict → Type 0
 ComesBefore (Vertex i j cell tick) (Vertex k l other_cell other_tick) = AreLess i j k l
 ComesBefore (Vertex i j cell tick) (Swap k l from to other_tick) = Unit {0}

@@ -5,8 +5,8 @@ ghost use Rattle.mapf_conflicts.specs.Pairs.{ArePlaced, ShareCell, ExchangeCells
 
 use mapf_model::Cell;
 
-/// A quick test, which marks the agents' cells: true only where no two agents are in one cell or go to
-/// each other's cells. A cell without a mark makes it false.
+/// Marks the agents' cells. Returns true only if no two agents are in one cell or go to each other's cells. A cell
+/// without a mark makes it false.
 pub fn are_apart(marks: &mut [u8], here: &[Cell], next: &[Cell]) -> bool
     requires size { length next.now ≡ length here.now }
     requires few { length here.now ≤ most_agents }
@@ -16,7 +16,7 @@ pub fn are_apart(marks: &mut [u8], here: &[Cell], next: &[Cell]) -> bool
     place_all(marks, here) && none_exchange(marks, here, next)
 }
 
-// Marks each agent's cell. False where two agents are in one cell, or a cell has no mark.
+// Marks each agent's cell. Returns false if two agents are in one cell, or a cell has no mark.
 fn place_all(marks: &mut [u8], here: &[Cell]) -> bool
     requires { length here.now ≤ most_agents }
     ensures { IsTrue result → ArePlaced marks.new here.now }
@@ -35,7 +35,7 @@ fn place_all(marks: &mut [u8], here: &[Cell]) -> bool
     true
 }
 
-// Whether no two agents go to each other's cells. False too where a cell has no mark.
+// Returns whether no two agents go to each other's cells; false also if a cell has no mark.
 fn none_exchange(marks: &[u8], here: &[Cell], next: &[Cell]) -> bool
     requires size { length next.now ≡ length here.now }
     requires placed { ArePlaced marks.now here.now }

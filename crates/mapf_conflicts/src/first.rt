@@ -10,9 +10,9 @@ use crate::pairs::{exchanging_pair, may_conflict, sharing_pair};
 use mapf_model::limits::MOST_AGENTS;
 use mapf_model::{Cell, Conflict, Path, Plan, Tick};
 
-/// The first conflict of the paths: of least tick, a vertex conflict before a swapping conflict, then
-/// of the least agent `i`, then of the least agent `j` above it. None where no two agents ever conflict,
-/// however long they rest at the ends of their paths.
+/// Returns the first conflict of the paths: of the least tick, at a tick a vertex conflict before a swapping conflict,
+/// then of the least agent `i`, then of the least agent `j` greater than `i`. None if and only if no two agents are in
+/// conflict at any tick, also after the ends of their paths.
 pub fn first_conflict(plan: &Plan) -> Option<Conflict>
     ensures some { IfSome result (HasConflict plan.now) }
     ensures first { IfSome result (λ conflict. AreConflictFreeBefore plan.now (tick_of conflict)) }
@@ -28,7 +28,7 @@ pub fn first_conflict(plan: &Plan) -> Option<Conflict>
     first_among(&mut [], &behind[..paths.len()])
 }
 
-/// The same of paths that stand elsewhere, with marks of some cells, or of none.
+/// Returns the first conflict of these paths, with marks for some cells, or for none.
 pub fn first_among(marks: &mut [u8], paths: &[&Path]) -> Option<Conflict>
     requires { length paths.now ≤ most_agents }
     ensures some { IfSome result (HasConflict (paths_behind paths.now)) }
@@ -51,7 +51,7 @@ pub fn first_among(marks: &mut [u8], paths: &[&Path]) -> Option<Conflict>
     None
 }
 
-// The number of cells of the longest path.
+// Returns the number of cells of the longest path.
 fn longest(paths: &[&Path]) -> Tick
     ensures longest { All (λ path. length path ≤ result) (paths_behind paths.now) }
     ensures positive { 1 ≤ result }
@@ -74,7 +74,7 @@ fn write_cells(paths: &[&Path], tick: Tick, cells: &mut [Cell])
     }
 }
 
-// The first conflict of agents that are in these cells at the tick, and in those at the next.
+// Returns the first conflict of agents that are in these cells at the tick, and in those at the next.
 fn conflict_of(marks: &mut [u8], here: &[Cell], next: &[Cell], tick: Tick) -> Option<Conflict>
     requires size { length next.now ≡ length here.now }
     requires few { length here.now ≤ most_agents }

@@ -8,12 +8,11 @@ use mapf_model::{Conflict, OutOfMemory, Path};
 use std::alloc::Global;
 use std::marker::Model;
 
-/// For each cell the agent that was marked there last. A mark is never taken away: an agent is in a
-/// cell where it is marked there and its own cell is this one. So one value serves every tick of every
-/// plan on a grid.
+/// For each cell the agent that was marked there last. Marks are never cleared: a mark counts only if the agent that it
+/// names is in the marked cell. So one value serves for every tick of every plan on a grid.
 #[derive(Debug, Drop)]
 pub struct CellMarks {
-    // A number of an agent fits a byte, as there are at most 200.
+    // The number of an agent fits in a byte, as there are at most 200.
     agents: Vec<u8>,
 }
 
@@ -24,7 +23,7 @@ impl Model for CellMarks {
 }
 
 impl CellMarks {
-    /// Marks of the cells below this number.
+    /// Returns marks for the cells below this number.
     pub fn new(alloc: Global, cells: usize) -> Result<CellMarks, OutOfMemory>
         ensures { IfOk result (λ marks. marks ≡ cells) }
     {
@@ -34,8 +33,8 @@ impl CellMarks {
     }
 }
 
-/// The first conflict of these paths, in the order of `first_conflict`. A tick takes time linear in
-/// the number of agents where no two of them conflict and each cell has a mark.
+/// Returns the first conflict of these paths, in the order of `first_conflict`. A tick takes time linear in the number
+/// of agents if no two of them are in conflict and each cell has a mark.
 pub fn first_conflict_in(marks: &mut CellMarks, paths: &[&Path]) -> Option<Conflict>
     requires { length paths.now ≤ most_agents }
     ensures some { IfSome result (HasConflict (paths_behind paths.now)) }

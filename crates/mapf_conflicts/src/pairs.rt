@@ -4,7 +4,7 @@ ghost use Rattle.mapf_conflicts.specs.Pairs.{ShareCell, ExchangeCells, HoldsOfSo
 
 use mapf_model::{Cell, first_pair};
 
-/// The first two agents that are in one cell.
+/// Returns the first two agents that are in one cell.
 pub fn sharing_pair(here: &[Cell]) -> Option<(usize, usize)>
     ensures some { IfSome result (IsFirstPair (ShareCell here.now) (length here.now)) }
     ensures none { IfNone result (HoldsOfNoPair (ShareCell here.now) (length here.now)) }
@@ -18,7 +18,7 @@ pub fn sharing_pair(here: &[Cell]) -> Option<(usize, usize)>
     )
 }
 
-/// The first two agents that go to each other's cells.
+/// Returns the first two agents that go to each other's cells.
 pub fn exchanging_pair(here: &[Cell], next: &[Cell]) -> Option<(usize, usize)>
     requires { length next.now ≡ length here.now }
     ensures some { IfSome result (IsFirstPair (ExchangeCells here.now next.now) (length here.now)) }
@@ -34,7 +34,7 @@ pub fn exchanging_pair(here: &[Cell], next: &[Cell]) -> Option<(usize, usize)>
     )
 }
 
-/// A quick test: whether two of the agents are in one cell or go to each other's cells.
+/// Returns whether two of the agents are in one cell or go to each other's cells.
 pub fn may_conflict(here: &[Cell], next: &[Cell]) -> bool
     requires { length next.now ≡ length here.now }
     ensures share { result ≡ false → HoldsOfNoPair (ShareCell here.now) (length here.now) }
@@ -49,8 +49,8 @@ pub fn may_conflict(here: &[Cell], next: &[Cell]) -> bool
     false
 }
 
-// The same, of agent `i` and those above it. The loop has no early exit, so that it is compiled to
-// instructions over several agents at once.
+// Returns the same of agent `i` and those above it. The loop has no early exit, so that it is compiled to instructions
+// on several agents at once.
 fn may_conflict_after(here: &[Cell], next: &[Cell], i: usize) -> bool
     requires place { i < length here.now }
     requires size { length next.now ≡ length here.now }

@@ -1,18 +1,18 @@
--- What a set of bars says at a cell and of all ticks.
+-- What a set of constraints says of a cell and of all ticks.
 use Rattle.std.specs.Prelude.{ℕ, ◌<◌, ◌≤◌, List, Contains, Option, None, Some}
 use Rattle.mapf_model.specs.declared.bar.Bar.{Bar}
 use Rattle.mapf_model.specs.declared.bar.Bar.TheVariants.{Cell, Move}
 
--- the tick of the bar
+-- the tick of the constraint
 abbrev pub tick_of : Bar → ℕ
 tick_of (Cell cell tick) = tick
 tick_of (Move from to tick) = tick
 
--- each bar's tick is below this one
+-- each constraint's tick is below this one
 abbrev pub AreBefore : ℕ → List Bar → Type 0
 AreBefore bound bars = (bar : Bar) → Contains bars bar → tick_of bar < bound
 
--- the least tick that exceeds the ticks of all bars
+-- the least tick greater than the ticks of all constraints
 pub record IsHorizon (bars : List Bar) (horizon : ℕ) : Type 0 where
   pub above : AreBefore horizon bars
   pub least : (bound : ℕ) → AreBefore bound bars → horizon ≤ bound

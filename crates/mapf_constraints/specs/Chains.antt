@@ -1,15 +1,15 @@
--- Bars in chains, one for each remainder of their ticks.
+-- Constraints in chains, one for each remainder of their ticks.
 use Rattle.std.specs.Prelude.{◌≡◌, ℕ, ◌+◌, ◌%◌, ◌<◌, ◌≤◌, List, length, map, slice_index, slice_index_or}
 use Rattle.mapf_model.specs.declared.bar.Bar.{Bar}
 use Rattle.mapf_model.specs.declared.bar.Bar.TheVariants.{Cell}
 use Rattle.mapf_constraints.specs.BarSets.{tick_of}
 use Rattle.mapf_constraints.specs.declared.link.Link.{Link}
 
--- the bars that links hold
+-- the constraints of the links
 abbrev pub bars_of : List Link → List Bar
 bars_of = map (λ link. link.bar)
 
--- the link at this place of a list, where there is one
+-- the link at this index of a list, if there is one
 abbrev pub link_at : List Link → ℕ → Link
 link_at links place = slice_index_or links place (record { bar = Cell 0 0; older = 0 })
 
@@ -17,11 +17,11 @@ link_at links place = slice_index_or links place (record { bar = Cell 0 0; older
 abbrev pub chain_of : ℕ → ℕ
 chain_of tick = tick % 64
 
--- the chain of the link at this place
+-- the chain of the link at this index
 abbrev pub chain_at : List Link → ℕ → ℕ
 chain_at links place = chain_of (tick_of (link_at links place).bar)
 
--- among the first `end` links the newest of the chain is the last of the first `count`; where the count is 0, the chain
+-- among the first `end` links the newest of the chain is the last of the first `count`; if the count is 0, the chain
 -- has none there
 pub record IsNewest (links : List Link) (end chain count : ℕ) : Type 0 where
   pub within : count ≤ end

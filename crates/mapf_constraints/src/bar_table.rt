@@ -8,45 +8,46 @@ ghost use Rattle.mapf_constraints.specs.BarSets.{tick_of, IsHorizon, IsLastOn};
 use mapf_model::{Bar, Cell, OutOfMemory, Tick};
 use std::alloc::Global;
 
-/// A finite set of bars, the constraints of one agent, all of them at ticks below 1,000,000.
+/// A finite set of constraints of one agent, all of them at ticks below 1,000,000.
 pub trait BarTable: Drop {
-    /// The bars. Only their membership counts.
+    /// The constraints. Only which they are matters, not their order.
     ghost bars: { Self → List Bar };
 
-    /// No bars. The table keeps the allocator.
+    /// Returns a table without constraints. The table keeps the allocator.
     fn empty(alloc: Global) -> Self
         ensures { bars result ≡ [] };
 
-    /// Whether the agent may not be in the cell at the tick.
+    /// Returns whether a vertex constraint forbids the cell at the tick.
     fn bars_cell(&self, cell: Cell, tick: Tick) -> bool
         ensures { IsTrue result ↔ Contains (bars self.now) (Bar.Cell cell tick) };
 
-    /// Whether the agent may not leave `from` at the tick and be at `to` one tick later.
+    /// Returns whether an edge constraint forbids the move that leaves `from` at the tick and is at `to` one tick
+    /// later.
     fn bars_move(&self, from: Cell, to: Cell, tick: Tick) -> bool
         ensures { IsTrue result ↔ Contains (bars self.now) (Bar.Move from to tick) };
 
-    /// The greatest tick at which the cell is forbidden, None if it never is.
+    /// Returns the greatest tick at which the cell is forbidden, None if it never is.
     fn last_on(&self, cell: Cell) -> Option<Tick>
         ensures { IsLastOn (bars self.now) cell result };
 
-    /// The least tick that exceeds the ticks of all bars, 0 for none. It is at most 1,000,000.
+    /// Returns the least tick greater than the ticks of all constraints, 0 if there are none. It is at most 1,000,000.
     fn horizon(&self) -> Tick
         ensures horizon { IsHorizon (bars self.now) result }
         ensures early { result ≤ split_ticks }
         ensures bars { AreBars (bars self.now) };
 
-    /// Adds a bar. One that is there leaves the set as it is, and so does a refusal.
+    /// Adds a constraint. If the set has it already, or memory runs out, the set is as before.
     fn add(&mut self, bar: Bar) -> Result<(), OutOfMemory>
         requires early { tick_of bar < split_ticks }
         requires bar { IsBar bar }
         ensures added { OnOk result (AreSameBars (bars self.new) (bar ∷ bars self.old)) }
         ensures refused { OnErr result (AreSameBars (bars self.new) (bars self.old)) };
 
-    /// Takes all bars out. Their memory is kept for others.
+    /// Removes all constraints. Their memory is reused.
     fn clear(&mut self)
         ensures { bars self.new ≡ [] };
 
-    /// A table of the same bars.
+    /// Returns a table of the same constraints.
     fn copy(&self) -> Result<Self, OutOfMemory>
         ensures { IfOk result (λ copy. AreSameBars (bars copy) (bars self.now)) };
 }

@@ -7,7 +7,7 @@ ghost use Rattle.mapf_constraints.specs.BarSets.{tick_of, IsHorizon, IsLastOn};
 
 use mapf_model::{Bar, Cell, Tick};
 
-/// The greatest tick at which the cell is forbidden, once the bar is added.
+/// Returns the greatest tick at which the cell is forbidden, once the constraint is added.
 pub fn last_with(last: Option<Tick>, bar: &Bar, cell: Cell) -> Option<Tick>
     ensures { (before after : List Bar) → IsLastOn before cell last
         → AreSameBars after (bar.now ∷ before) → IsLastOn after cell result }
@@ -18,7 +18,7 @@ pub fn last_with(last: Option<Tick>, bar: &Bar, cell: Cell) -> Option<Tick>
     }
 }
 
-/// The tick or the one before, whichever is greater.
+/// Returns the greater of the tick and the one before, if there is one.
 pub fn latest(last: Option<Tick>, tick: Tick) -> Tick
     ensures { result ≡ option_map_or (λ n. max n tick) last tick }
 {
@@ -28,7 +28,7 @@ pub fn latest(last: Option<Tick>, tick: Tick) -> Tick
     }
 }
 
-/// The least tick that exceeds those of all bars, once the bar is added.
+/// Returns the least tick greater than those of all constraints, once the constraint is added.
 pub fn horizon_with(horizon: Tick, bar: &Bar) -> Tick
     requires { tick_of bar.now < split_ticks }
     ensures { (before after : List Bar) → IsHorizon before horizon
@@ -37,7 +37,7 @@ pub fn horizon_with(horizon: Tick, bar: &Bar) -> Tick
     horizon.max(tick(bar) + 1)
 }
 
-/// The tick of the bar.
+/// Returns the tick of the constraint.
 pub fn tick(bar: &Bar) -> Tick
     ensures { result ≡ tick_of bar.now }
 {

@@ -7,7 +7,7 @@ use mapf_model::{Bar, Cell, OutOfMemory, Tick};
 use std::alloc::Global;
 use std::marker::Model;
 
-/// A plain list of bars: each query walks all of them.
+/// A plain list of constraints: each query scans all of them.
 #[derive(Debug, Drop)]
 pub struct ListBars {
     bars: Vec<Bar>,
@@ -68,7 +68,7 @@ impl BarTable for ListBars {
     }
 }
 
-/// The greatest tick at which one of the bars forbids the cell.
+/// Returns the greatest tick at which one of the constraints forbids the cell.
 fn last_among(bars: &[Bar], cell: Cell) -> Option<Tick>
     ensures { IsLastOn bars.now cell result }
 {
@@ -79,7 +79,7 @@ fn last_among(bars: &[Bar], cell: Cell) -> Option<Tick>
     last
 }
 
-/// The least tick that exceeds those of the bars.
+/// Returns the least tick greater than those of the constraints.
 fn horizon_of(bars: &[Bar]) -> Tick
     requires { AreBefore split_ticks bars.now }
     ensures { IsHorizon bars.now result }

@@ -9,13 +9,13 @@ use mapf_model::{Bar, Cell, OutOfMemory, Tick};
 use std::alloc::Global;
 use std::marker::Model;
 
-/// Bars in chains: one for each remainder by 64 of their ticks. A query walks the chain of its tick, which
-/// mostly is empty or short.
+/// Constraints in chains: one for each remainder of their ticks modulo 64. A query scans the chain of its tick, which
+/// is mostly empty or short.
 #[derive(Debug, Drop)]
 pub struct TickBars {
     // In the order in which they were added.
     links: Vec<Link>,
-    // For each remainder, how many links there are up to the newest one of its chain, 0 if it is empty.
+    // For each remainder, the number of links up to and including the newest one of its chain, 0 if it is empty.
     newest: [usize; 64],
     horizon: Tick,
 }
@@ -93,7 +93,7 @@ impl BarTable for TickBars {
 }
 
 impl TickBars {
-    /// Whether the bar is there.
+    /// Returns whether the set has the constraint.
     #[inline(always)]
     fn has(&self, bar: &Bar) -> bool
         ensures { IsTrue result ↔ Contains self.now bar.now }
@@ -110,7 +110,7 @@ impl TickBars {
     }
 }
 
-/// The greatest tick at which a bar of the links forbids the cell.
+/// Returns the greatest tick at which a constraint of the links forbids the cell.
 fn last_among(links: &[Link], cell: Cell) -> Option<Tick>
     ensures { IsLastOn (bars_of links.now) cell result }
 {

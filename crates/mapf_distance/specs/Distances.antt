@@ -14,12 +14,12 @@ pub record GoalMap : Type 0 where
 abbrev pub IsReachable : GridMap → ℕ → ℕ → Type 0
 IsReachable grid goal cell = (n : ℕ) × Walk grid cell goal n
 
--- the least number of steps from the cell to the goal, or none where no steps lead there
+-- the least number of steps from the cell to the goal, or none if no steps lead there
 abbrev pub IsDistanceOrNone : GridMap → ℕ → ℕ → Option ℕ → Type 0
 IsDistanceOrNone grid goal cell (Some distance) = IsDistance grid goal cell distance
 IsDistanceOrNone grid goal cell None = IsUnreachable grid goal cell
 
--- the path goes from each cell to the least cell, in number, of those that are one step from it and nearer to the goal
+-- each step of the path goes to the cell of the least number among those that are one step away and nearer to the goal
 abbrev pub IsLeastDescent : GridMap → ℕ → List ℕ → Type 0
 IsLeastDescent grid goal path =
     (k other : ℕ) → k + 1 < length path → Step grid (slice_index path k) other → IsDistance grid goal other (length path - 1 - (k + 1)) → slice_index path (k + 1) ≤ other

@@ -10,19 +10,19 @@ use Rattle.mapf_distance.specs.Marks.{entry_of}
 abbrev pub gap : ℕ → ℕ → ℕ
 gap a b = (a - b) + (b - a)
 
--- how many steps two cells are apart at least
+-- the Manhattan distance of two cells
 abbrev pub estimate : GridMap → ℕ → ℕ → ℕ
 estimate grid from to = gap (column grid from) (column grid to) + gap (row grid from) (row grid to)
 
--- the steps that are found from the cell, and the least that may lead to it from the start
+-- the f-value of a cell: the steps found from it to the goal, and its Manhattan distance from the start
 abbrev pub value_of : GridMap → ℕ → List ℕ → ℕ → ℕ
 value_of grid start table cell = entry_of table cell + estimate grid cell start
 
--- all steps from the cell were taken
+-- the cell was expanded: all steps from it were taken
 abbrev pub IsTaken : GridMap → List ℕ → ℕ → Type 0
 IsTaken grid table cell = (to : ℕ) → Step grid cell to → entry_of table to ≤ entry_of table cell + 1
 
--- all steps from the cell were taken, or it is to be looked at on this level or on a later one
+-- the cell was expanded, or it is open, on this level or on a later one
 abbrev pub IsSeen : GridMap → ℕ → ℕ → List ℕ → List ℕ → List ℕ → ℕ → Type 0
 IsSeen grid start level table due later cell =
     IsTaken grid table cell ⊎ (((level ≤ value_of grid start table cell) × Contains due cell) ⊎ ((level < value_of grid start table cell) × Contains later cell))
@@ -31,7 +31,7 @@ IsSeen grid start level table due later cell =
 abbrev pub IsKnown : List ℕ → ℕ → Type 0
 IsKnown table cell = entry_of table cell < UNREACHED
 
--- of each entry a walk is known, and each cell with an entry is seen, but for some
+-- for each entry a walk is known, and each cell with an entry is expanded or open, except some cells
 pub record IsSearch (grid : GridMap) (start goal : ℕ) (But : ℕ → Type 0) (level : ℕ) (table due later : List ℕ) : Type 0 where
   pub shape : IsGridMap grid
   pub free : IsFree grid start
@@ -43,19 +43,19 @@ pub record IsSearch (grid : GridMap) (start goal : ℕ) (But : ℕ → Type 0) (
   pub later_known : All (IsKnown table) later
   pub seen : (cell : ℕ) → IsKnown table cell → But cell ⊎ IsSeen grid start level table due later cell
 
--- every cell with an entry is seen
+-- every cell with an entry is expanded or open
 abbrev pub IsSearchOn : GridMap → Search → Type 0
 IsSearchOn grid search = IsSearch grid search.start search.goal (λ cell. ⊥) search.level search.table.items search.due.items search.later.items
 
--- every cell with an entry is seen but this one, which has one
+-- every cell with an entry is expanded or open except this one, which has an entry
 abbrev pub IsSearchAt : GridMap → ℕ → Search → Type 0
 IsSearchAt grid cell search = IsSearch grid search.start search.goal (λ other. other ≡ cell) search.level search.table.items search.due.items search.later.items × IsKnown search.table.items cell
 
--- all steps were taken from the cell, if it is of an earlier level
+-- the cell was expanded, if it is of an earlier level
 abbrev pub IsPassed : GridMap → ℕ → Search → Type 0
 IsPassed grid cell search = value_of grid search.start search.table.items cell < search.level → IsTaken grid search.table.items cell
 
--- what falls with each cell that is looked at
+-- a number that decreases with each cell that is expanded
 abbrev pub effort : Search → ℕ
 effort search = sum search.table.items + length search.due.items
 
@@ -65,7 +65,7 @@ pub record IsSameSearch (old new : Search) : Type 0 where
   pub goal : new.goal ≡ old.goal
   pub level : new.level ≡ old.level
 
--- a cell of this value is put among those of the level or the later ones
+-- a cell of this f-value is added to the open cells of the level or to the later ones
 abbrev pub IsPut : ℕ → ℕ → Search → Search → Type 0
 IsPut cell value old new =
     ((value ≤ old.level) × (new.due.items ≡ old.due.items ++ cell ∷ []) × (new.later.items ≡ old.later.items)) ⊎ ((old.level < value) × (new.due.items ≡ old.due.items) × (new.later.items ≡ old.later.items ++ cell ∷ []))

@@ -9,7 +9,7 @@ pub record AreTables (problem : Instance) (tables : List GoalMap) : Type 0 where
   pub count : length tables ≡ length problem.agents
   pub each : (i : ℕ) (agent : Agent) (table : GoalMap) → slice_get problem.agents i ≡ Some agent → slice_get tables i ≡ Some table → (table.grid ≡ problem.grid) × (table.goal ≡ agent.goal)
 
--- a place for each agent, and in it, where there is a table, that of the distances to the agent's goal
+-- an element for each agent: the table of the distances to the agent's goal, or none
 pub record AreMade (problem : Instance) (tables : List (Option GoalMap)) : Type 0 where
   pub places : length tables ≡ length problem.agents
   pub made : (i : ℕ) (agent : Agent) (table : GoalMap) → slice_get problem.agents i ≡ Some agent → slice_get tables i ≡ Some (Some table) → (table.grid ≡ problem.grid) × (table.goal ≡ agent.goal)

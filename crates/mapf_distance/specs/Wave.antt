@@ -1,19 +1,19 @@
--- A wave that spreads from a goal and enters the distance of each cell that it reaches.
+-- Breadth-first search from a goal, which enters the distance of each cell that it reaches.
 use Rattle.std.specs.Prelude.{◌≡◌, ℕ, ◌+◌, ◌<◌, ◌≤◌, List, Contains, length, map, slice_index, count_by}
 use Rattle.mapf_model.specs.Distance.{Walk}
 use Rattle.mapf_model.specs.Grid.{GridMap, IsGridMap, Step, free_cell_count}
 use Rattle.mapf_distance.specs.declared.wave.TheConstants.{UNREACHED}
 use Rattle.mapf_distance.specs.Marks.{entry_of, is_open, is_unreached}
 
--- the first cell that was reached, from which the wave spreads
+-- the first cell that was reached, from which the search began
 abbrev pub source_of : List ℕ → ℕ
 source_of reached = slice_index reached 0
 
--- the entry of the cell at this place of the reached ones
+-- the entry of the cell at this index of the reached ones
 abbrev pub entry_at : List ℕ → List ℕ → ℕ → ℕ
 entry_at table reached place = entry_of table (slice_index reached place)
 
--- the cells were reached in this order, and all steps from the first `done` of them were taken
+-- the cells were reached in this order, and the first `done` of them were expanded
 pub record IsWave (grid : GridMap) (done : ℕ) (table reached : List ℕ) : Type 0 where
   pub shape : IsGridMap grid
   pub free : map is_open table ≡ grid.free

@@ -12,14 +12,14 @@ use mapf_model::{Cell, Grid, OutOfMemory, Path};
 use std::alloc::Global;
 use std::marker::Model;
 
-/// How many steps it is from each cell of a grid to one goal.
+/// The least number of steps from each cell of a grid to one goal.
 #[derive(Debug, Drop)]
 pub struct Distances {
-    // The table's shape and its goal, which say what the numbers in it are.
+    // The width and the goal, which give the numbers of the table their meaning.
     width: u32,
     height: u32,
     goal: Cell,
-    // An entry for each cell: its distance, or that it is blocked or not joined to the goal.
+    // An entry for each cell: its distance, or that it is blocked, or that the goal can't be reached from it.
     table: Vec<u32>,
 }
 
@@ -35,7 +35,7 @@ impl Model for Distances {
 }
 
 impl Distances {
-    /// The distances of all cells to the goal.
+    /// Returns the distances of all cells to the goal.
     pub fn of(alloc: Global, grid: &Grid, goal: Cell) -> Result<Distances, OutOfMemory>
         requires { IsFree grid.now goal }
         ensures grid { IfOk result (λ distances. distances.grid ≡ grid.now) }
@@ -49,8 +49,8 @@ impl Distances {
         })
     }
 
-    /// The least number of steps from the cell to the goal. None where no steps lead there, as from
-    /// a blocked cell and from outside the grid.
+    /// Returns the least number of steps from the cell to the goal. None if no steps lead there, as from a blocked cell
+    /// and from outside the grid.
     pub fn get(&self, cell: Cell) -> Option<u32>
         ensures some { IfSome result (λ distance. IsDistance self.now.grid self.now.goal cell distance) }
         ensures small { IfSome result (λ distance. distance < free_cell_count self.now.grid) }
@@ -64,8 +64,8 @@ impl Distances {
         }
     }
 
-    /// A shortest path from the cell to the goal: of all these the one whose cell numbers are least,
-    /// compared from the first on. So it goes to the least cell that is nearer at each step.
+    /// Returns a shortest path from the cell to the goal: of all these the lexicographically least by cell numbers. So
+    /// each step goes to the nearer cell of the least number.
     pub fn descend(&self, alloc: Global, cell: Cell) -> Result<Path, OutOfMemory>
         requires { IsReachable self.now.grid self.now.goal cell }
         ensures path { IfOk result (IsPath self.now.grid) }
@@ -90,7 +90,7 @@ impl Distances {
         Ok(Path::of(cells).unwrap())
     }
 
-    // The least cell in number that is one step from this one and nearer to the goal.
+    // Returns the cell of the least number that is one step from this one and nearer to the goal.
     fn nearer(&self, cell: Cell, distance: u32) -> Cell
         requires { IsDistance self.now.grid self.now.goal cell (distance + 1) }
         ensures step { Step self.now.grid cell result }

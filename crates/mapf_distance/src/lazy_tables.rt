@@ -6,8 +6,8 @@ use mapf_model::{OutOfMemory, Problem};
 use std::alloc::Global;
 use std::marker::Model;
 
-/// The distances to the goals of a problem's agents, each made where it is first asked for, so that agents
-/// that nobody asks for take no memory.
+/// The distances to the goals of a problem's agents. The table of an agent is made when it is first needed, so agents
+/// that don't need one take no memory.
 #[derive(Debug, Drop)]
 pub struct LazyTables {
     tables: Vec<Option<Distances>>,
@@ -23,7 +23,7 @@ impl Model for LazyTables {
 }
 
 impl LazyTables {
-    /// No table is made.
+    /// Returns the tables with none made yet.
     pub fn of(alloc: Global, problem: &Problem) -> Result<LazyTables, OutOfMemory>
         ensures { IfOk result (AreMade problem.now) }
     {
@@ -34,7 +34,7 @@ impl LazyTables {
         Ok(LazyTables { tables })
     }
 
-    /// Makes the agent's table, unless it is made.
+    /// Makes the agent's table if it isn't made yet.
     pub fn make(&mut self, alloc: Global, problem: &Problem, agent: u32) -> Result<(), OutOfMemory>
         requires tables { AreMade problem.now self.old }
         requires known { agent < length problem.now.agents }
@@ -50,7 +50,7 @@ impl LazyTables {
         Ok(())
     }
 
-    /// The table of an agent for which it is made.
+    /// Returns the table of an agent, which must have been made.
     pub fn get(&self, agent: u32) -> &Distances
         requires { HasTable self.now agent }
         ensures { slice_get self.now agent ≡ Some (Some result.now) }

@@ -13,9 +13,9 @@ use mapf_model::{Cell, Grid, OutOfMemory};
 use std::alloc::Global;
 use std::mem;
 
-/// The least number of steps from the start to the goal, None where no steps lead there. The search goes from the
-/// goal towards the start and ends once the start's distance is known, so it reaches few of the cells that are
-/// farther from both.
+/// Returns the least number of steps from the start to the goal, None if no steps lead there. The search runs from the
+/// goal towards the start and ends once the start's distance is known, so it reaches few cells that are farther from
+/// both.
 pub fn distance_between(
     alloc: Global,
     grid: &Grid,
@@ -30,24 +30,24 @@ pub fn distance_between(
     search.spread(grid)?;
     match search.found() {
         Some(distance) => Ok(Some(distance)),
-        // All cells that lead to the goal were looked at, and the table tells them from the others.
+        // All cells that lead to the goal were expanded. The table shows whether the start is one of them.
         None => Ok(Distances::of(alloc, grid, goal)?.get(start)),
     }
 }
 
-// A* from a goal towards a start (Hart et al. 1968): cells are looked at in rising f-value, the steps found between the
-// cell and the goal plus the Manhattan distance that is left.
+// A* from a goal towards a start (Hart et al. 1968): cells are expanded by rising f-value, that is, the steps found
+// between the cell and the goal, plus the Manhattan distance from the start.
 #[derive(Drop)]
 struct Search {
     start: Cell,
     goal: Cell,
-    // The sum of both, for the cells that are looked at now.
+    // The f-value of the cells that are expanded now.
     level: u64,
-    // An entry for each cell: the steps to the goal that are found, or that there are none.
+    // An entry for each cell: the least number of steps to the goal found so far, or that none was found.
     table: Vec<u32>,
-    // The cells to look at on this level.
+    // The open cells of this f-value.
     due: Vec<Cell>,
-    // The cells to look at on a later one.
+    // The open cells of a greater one.
     later: Vec<Cell>,
 }
 
@@ -73,7 +73,7 @@ impl Search {
         Ok(search)
     }
 
-    // The distance of the start, once it is known.
+    // Returns the distance of the start, once it is known.
     fn found(&self) -> Option<u32>
         requires { self.now.start < vec_len self.now.table }
         ensures { (grid : GridMap) → IsSearchOn grid self.now
@@ -93,7 +93,7 @@ impl Search {
         self.table[cell.0 as usize]
     }
 
-    // Whether the start may be nearer than what is found.
+    // Returns whether the start may be nearer than what was found.
     fn is_short(&self) -> bool
         requires { self.now.start < vec_len self.now.table }
         ensures { IsTrue result ↔ (self.now.level < entry_of self.now.table.items self.now.start) }
@@ -101,7 +101,7 @@ impl Search {
         self.level < self.entry(self.start) as u64
     }
 
-    // Looks at cells until the start's distance is known, or no cell is left.
+    // Expands cells until the start's distance is known, or no cell is open.
     fn spread(&mut self, grid: &Grid) -> Result<(), OutOfMemory>
         requires { IsSearchOn grid.now self.old }
         ensures search { OnOk result (IsSearchOn grid.now self.new) }
@@ -117,7 +117,7 @@ impl Search {
         Ok(())
     }
 
-    // Goes on to the next level, if there are cells to look at.
+    // Moves to the next f-value, if a cell is open. Returns false otherwise.
     fn rise(&mut self) -> bool
         requires low { self.old.level < 4294967296 }
         requires swept { self.old.due.items ≡ [] }
@@ -135,7 +135,7 @@ impl Search {
         true
     }
 
-    // Looks at the cells of this level, until the start's distance is known or none is left.
+    // Expands the cells of this f-value, until the start's distance is known or none is left.
     fn sweep(&mut self, grid: &Grid) -> Result<(), OutOfMemory>
         requires { IsSearchOn grid.now self.old }
         ensures search { OnOk result (IsSearchOn grid.now self.new) }
@@ -152,7 +152,7 @@ impl Search {
         Ok(())
     }
 
-    // Takes a cell out of those to look at on this level.
+    // Removes and returns an open cell of this f-value.
     fn next(&mut self) -> Option<Cell>
         ensures some { (grid : GridMap) → IsSearchOn grid self.old → IfSome result (λ cell.
             IsSearchAt grid cell self.new × IsPassed grid cell self.new) }
@@ -164,7 +164,7 @@ impl Search {
         self.due.pop()
     }
 
-    // Takes all steps from the cell, if it is of this level.
+    // Expands the cell, if it is of this f-value.
     fn look_at(&mut self, grid: &Grid, cell: Cell) -> Result<(), OutOfMemory>
         requires search { IsSearchAt grid.now cell self.old }
         requires passed { IsPassed grid.now cell self.old }
@@ -199,7 +199,7 @@ impl Search {
         Ok(())
     }
 
-    // Whether the cell is free, and more steps than these are the fewest that were found from it.
+    // Returns whether the cell is free, and each number of steps found from it so far is greater than this one.
     fn is_shorter(&self, grid: &Grid, cell: Cell, distance: u32) -> bool
         requires { vec_len self.now.table ≡ length grid.now.free }
         ensures { IsTrue result ↔ (IsFree grid.now cell × (distance < entry_of self.now.table.items cell)) }
@@ -222,7 +222,8 @@ impl Search {
         Ok(())
     }
 
-    // The least number of steps of a way from the start to the goal by this cell, from which so many lead to the goal.
+    // Returns a lower bound on the steps of a path from the start to the goal through this cell, from which so many
+    // lead to the goal.
     fn value(&self, grid: &Grid, cell: Cell, distance: u32) -> u64
         ensures { result ≡ distance + estimate grid.now cell self.now.start }
     {
@@ -230,7 +231,7 @@ impl Search {
     }
 }
 
-// How many steps two cells are apart at least.
+// Returns the Manhattan distance, a lower bound on the steps between two cells.
 fn estimate(grid: &Grid, from: Cell, to: Cell) -> u64
     ensures exact { result ≡ estimate grid.now from to }
     ensures small { result < 2 ^ 33 }

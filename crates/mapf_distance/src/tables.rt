@@ -5,7 +5,7 @@ use crate::distances::Distances;
 use mapf_model::{OutOfMemory, Problem};
 use std::alloc::Global;
 
-/// The distances to each agent's goal.
+/// Returns the distances to each agent's goal.
 pub fn goal_tables(alloc: Global, problem: &Problem) -> Result<Vec<Distances>, OutOfMemory>
     ensures { IfOk result (λ tables. AreTables problem.now tables.items) }
 {

@@ -8,20 +8,21 @@ ghost use Rattle.mapf_distance.specs.Wave.{IsWave, source_of};
 use mapf_model::{Cell, Grid, OutOfMemory};
 use std::alloc::Global;
 
-/// The entry of a blocked cell. No distance is as large.
+/// The entry of a blocked cell. Every distance is smaller.
 pub const BLOCKED: u32 = u32::MAX;
 
-/// The entry of a free cell from which no steps lead to the goal. No distance is as large.
+/// The entry of a free cell from which no steps lead to the goal. Every distance is smaller.
 pub const UNREACHED: u32 = u32::MAX - 1;
 
-/// The table of the distances found so far, and the cells that were reached, nearest first.
+/// Breadth-first search from the goal: the table of the distances found so far, and the cells that were reached,
+/// nearest first.
 #[derive(Drop)]
 struct Wave {
     table: Vec<u32>,
     reached: Vec<Cell>,
 }
 
-/// The entries of all cells, by their number: the distances to the goal.
+/// Returns the entries of all cells, by their number: the distances to the goal.
 pub fn table(alloc: Global, grid: &Grid, goal: Cell) -> Result<Vec<u32>, OutOfMemory>
     requires { IsFree grid.now goal }
     ensures open { IfOk result (λ table. map is_open table.items ≡ grid.now.free) }
@@ -37,7 +38,7 @@ pub fn table(alloc: Global, grid: &Grid, goal: Cell) -> Result<Vec<u32>, OutOfMe
     Ok(wave.table)
 }
 
-// The table before any cell is reached.
+// Returns the table before any cell is reached.
 fn unreached(alloc: Global, grid: &Grid) -> Result<Vec<u32>, OutOfMemory>
     ensures entries { IfOk result (λ table. table.items ≡ map first_entry grid.now.free) }
     ensures shape { IsGridMap grid.now }
@@ -79,7 +80,7 @@ impl Wave {
         self.table.get(cell.0 as usize) == Some(&UNREACHED)
     }
 
-    // Takes all steps from the cell at this place of the reached ones.
+    // Expands the cell at this index of the reached ones.
     fn expand(&mut self, grid: &Grid, place: usize)
         requires wave { IsWave grid.now place self.old.table.items self.old.reached.items }
         requires place { place < vec_len self.old.reached }
@@ -99,7 +100,7 @@ impl Wave {
         }
     }
 
-    // Takes all steps from all cells that are reached.
+    // Expands all cells that are reached.
     fn spread(&mut self, grid: &Grid)
         requires wave { IsWave grid.now 0 self.old.table.items self.old.reached.items }
         requires room { free_cell_count grid.now ≤ vec_capacity self.old.reached }

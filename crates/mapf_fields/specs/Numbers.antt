@@ -1,4 +1,4 @@
--- Numbers in a line: how they are spelled, and what they are read to.
+-- Numbers in a line: how they are spelled, and what they are read as.
 use Rattle.std.specs.Prelude.{◌≡◌, ℕ, ◌==◌, ◌&&◌, ◌^◌, ◌+◌, ◌*◌, ◌/◌, ◌%◌, Bool, true, false, not, nat_lt, nat_le, List, [], ◌∷◌, ◌++◌, length, drop, take_while, Option, Some, None, Result, Ok, Err, if◌then◌else◌}
 use Rattle.std.specs.Char.{is_ascii_digit}
 use Rattle.std.specs.Fmt.{decimal}
@@ -6,7 +6,7 @@ use Rattle.std.specs.Str.Parse.{digits_value}
 use Rattle.mapf_fields.specs.declared.fault.LineFault.{LineFault}
 use Rattle.mapf_fields.specs.declared.fault.LineFault.TheVariants.{Shape, Range}
 
--- a number after its mark, which is a blank or a comma
+-- a number after its separator, which is a blank or a comma
 abbrev pub field : ℕ → ℕ → List ℕ
 field mark n = mark ∷ decimal n
 
@@ -15,12 +15,12 @@ abbrev pub pair : ℕ → ℕ → List ℕ
 pair width cell = field 32 (cell % width) ++ field 44 (cell / width)
 
 infixl 10 ◌>>=◌
--- what follows a part that was good; else its error
+-- reads on with what was read; an error ends the reading
 abbrev pub ◌>>=◌ : {A B E : Type 0} → Result A E → (A → Result B E) → Result B E
 (Ok x) >>= f = f x
 (Err e) >>= f = Err e
 
--- what a function returned, seen by view, is what reading gives
+-- the result of a function, seen by view, is what reading gives
 abbrev pub Gives : {X Y E : Type 0} → (X → Y) → Result X E → Result Y E → Type 0
 Gives view (Ok x) read = read ≡ Ok (view x)
 Gives view (Err e) read = read ≡ Err e
@@ -31,7 +31,7 @@ strip [] xs = Some xs
 strip (c ∷ p) [] = None
 strip (c ∷ p) (x ∷ xs) = if c == x then strip p xs else None
 
--- `0`, or digits of which the first isn't `0`
+-- not empty, and without a leading zero: one byte, or a first byte that isn't `0`
 abbrev pub begins_well : List ℕ → Bool
 begins_well [] = false
 begins_well (c ∷ []) = true
@@ -49,11 +49,11 @@ front_digits bs = take_while is_ascii_digit bs
 abbrev pub after_digits : List ℕ → List ℕ
 after_digits bs = drop (length (front_digits bs)) bs
 
--- a number, None where it is greater than any that is printed, and what follows it
+-- a number, None from 2^64 on, and what follows it
 unfoldable pub read_number : List ℕ → Result (Option ℕ × List ℕ) LineFault
 read_number bs = if begins_well (front_digits bs) then Ok (small_value (front_digits bs), after_digits bs) else Err Shape
 
--- a number alone
+-- a number with nothing after it
 unfoldable pub read_whole : List ℕ → Result (Option ℕ) LineFault
 read_whole bs = read_number bs >>= at_end
   where

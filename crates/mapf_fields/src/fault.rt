@@ -1,8 +1,8 @@
 /// What is wrong with a line.
 #[derive(Clone, Copy, Debug, PartialEq, Eq)]
 pub enum LineFault {
-    /// Its words.
+    /// Its words don't have the expected form.
     Shape,
-    /// The range of a number.
+    /// A number is out of its range.
     Range,
 }

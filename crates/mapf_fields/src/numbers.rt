@@ -5,14 +5,14 @@ ghost use Rattle.mapf_fields.specs.Numbers.{read_field, read_last, read_pair, re
 
 use crate::fault::LineFault;
 
-/// What follows this prefix if the bytes begin with it, else None.
+/// Returns what follows this prefix if the bytes begin with it, else None.
 pub fn strip<'a>(bytes: &'a [u8], front: &[u8]) -> Option<&'a [u8]>
     ensures { option_map (λ r. r.now) result ≡ strip front.now bytes.entry.now }
 {
     bytes.strip_prefix(front)
 }
 
-/// Whether it is `0`, or digits of which the first isn't `0`.
+/// Returns whether the word isn't empty and has no leading zero: it has one byte, or its first byte isn't `0`.
 #[inline(always)]
 fn begins_well(word: &[u8]) -> bool
     ensures { result ≡ begins_well word.now }
@@ -24,15 +24,15 @@ fn begins_well(word: &[u8]) -> bool
     }
 }
 
-/// How many digits bytes begin with.
+/// Returns how many digits bytes begin with.
 fn digit_count(bytes: &[u8]) -> usize
     ensures { result ≡ length (front_digits bytes.now) }
 {
     bytes.iter().take_while(|b| b.is_ascii_digit()).count()
 }
 
-/// The number that the digits spell which bytes begin with, and how many digits these are. Each byte is
-/// looked at once. The number is None from 2^64 on.
+/// Reads the digits that bytes begin with, in one pass. Returns the number that they spell, None from 2^64 on, and how
+/// many digits there are.
 #[inline(always)]
 fn digits(bytes: &[u8]) -> (Option<u64>, usize)
     ensures value { result.0 ≡ small_value (front_digits bytes.now) }
@@ -55,7 +55,7 @@ fn digits(bytes: &[u8]) -> (Option<u64>, usize)
     (Some(value), bytes.len())
 }
 
-/// Whether bytes begin with a digit.
+/// Returns whether bytes begin with a digit.
 #[inline(always)]
 fn begins_with_digit(bytes: &[u8]) -> bool
     ensures { result ≡ is_ascii_digit (slice_index bytes.now 0) }
@@ -66,8 +66,8 @@ fn begins_with_digit(bytes: &[u8]) -> bool
     }
 }
 
-/// The number that bytes begin with, and the bytes after it, however many digits it has. The number is None
-/// from 2^64 on.
+/// Reads the number that bytes begin with, whatever the count of its digits. Returns it, None from 2^64 on, and what
+/// follows.
 #[tactic(auto, unfolding(crate::specs::Numbers::read_number))]
 #[inline(never)]
 fn long_number(bytes: &[u8]) -> Result<(Option<u64>, &[u8]), LineFault>
@@ -82,8 +82,8 @@ fn long_number(bytes: &[u8]) -> Result<(Option<u64>, &[u8]), LineFault>
     }
 }
 
-/// The number that bytes begin with, and the bytes after it. The number is None from 2^64 on. Most numbers
-/// have one digit or two, so these are read in place.
+/// Reads the number that bytes begin with. Returns it, None from 2^64 on, and what follows. Most numbers have one digit
+/// or two, so these are read without a loop.
 #[inline(always)]
 fn number(bytes: &[u8]) -> Result<(Option<u64>, &[u8]), LineFault>
     ensures { Gives (λ p. (p.0, p.1.now)) result (read_number bytes.entry.now) }
@@ -104,8 +104,8 @@ fn number(bytes: &[u8]) -> Result<(Option<u64>, &[u8]), LineFault>
     }
 }
 
-/// The number after its mark that bytes begin with, and the bytes after it. The number has no leading
-/// zeros, and is None from 2^64 on. `LineFault::Shape` where the bytes don't begin so.
+/// Reads the separator `mark` and the number, without leading zeros, that bytes begin with. Returns the number, None
+/// from 2^64 on, and what follows. `LineFault::Shape` if the bytes don't begin so.
 #[tactic(auto, unfolding(crate::specs::Numbers::read_field))]
 #[inline(always)]
 pub fn field(mark: u8, bytes: &[u8]) -> Result<(Option<u64>, &[u8]), LineFault>
@@ -117,8 +117,8 @@ pub fn field(mark: u8, bytes: &[u8]) -> Result<(Option<u64>, &[u8]), LineFault>
     }
 }
 
-/// The number that bytes are, with nothing before or after it. The number has no leading zeros, and is None
-/// from 2^64 on. `LineFault::Shape` where the bytes aren't so.
+/// Reads a number without leading zeros, with nothing before or after it. Returns it, None from 2^64 on.
+/// `LineFault::Shape` if the bytes are no such number.
 #[tactic(auto, unfolding(crate::specs::Numbers::read_whole))]
 #[inline(always)]
 pub fn whole(bytes: &[u8]) -> Result<Option<u64>, LineFault>
@@ -132,8 +132,8 @@ pub fn whole(bytes: &[u8]) -> Result<Option<u64>, LineFault>
     }
 }
 
-/// The number after its mark that bytes are, with nothing after it. The number has no leading zeros, and
-/// is None from 2^64 on. `LineFault::Shape` where the bytes aren't so.
+/// Reads the separator `mark` and a number without leading zeros, with nothing after it. Returns the number, None from
+/// 2^64 on. `LineFault::Shape` if the bytes aren't so.
 #[tactic(auto, unfolding(crate::specs::Numbers::read_last))]
 #[inline(always)]
 pub fn last(mark: u8, bytes: &[u8]) -> Result<Option<u64>, LineFault>
@@ -145,9 +145,8 @@ pub fn last(mark: u8, bytes: &[u8]) -> Result<Option<u64>, LineFault>
     }
 }
 
-/// The column after a blank and the row after a comma that bytes begin with, and the bytes after them.
-/// Neither has leading zeros, and each is None from 2^64 on. `LineFault::Shape` where the bytes don't
-/// begin so.
+/// Reads the column after a blank and the row after a comma that bytes begin with, both without leading zeros. Returns
+/// them, each None from 2^64 on, and what follows. `LineFault::Shape` if the bytes don't begin so.
 #[tactic(auto, unfolding(crate::specs::Numbers::read_pair))]
 #[inline(always)]
 pub fn pair(bytes: &[u8]) -> Result<(Option<u64>, Option<u64>, &[u8]), LineFault>

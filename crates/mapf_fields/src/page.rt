@@ -7,10 +7,10 @@ use itoa::Buffer;
 use mapf_model::{Failed, Sink, write_all};
 use std::marker::Model;
 
-/// How many bytes are gathered at most: thousands of lines go out by one push, and a stack has room for them.
+/// The size of a page, in bytes. It holds thousands of lines, and fits on the stack.
 const ROOM: usize = 65_536;
 
-/// Bytes that wait to be pushed together. The buffer is part of the value, so nothing is allocated.
+/// Bytes that are written to a sink together. The buffer is part of the value, so nothing is allocated.
 #[derive(Drop)]
 pub struct Page {
     bytes: [u8; ROOM],
@@ -44,7 +44,7 @@ impl Page {
         count <= ROOM - self.used
     }
 
-    /// Adds bytes, for which there is room.
+    /// Adds bytes, for which there has to be room.
     #[inline]
     pub fn push_bytes(&mut self, bytes: &[u8])
         requires { length self.old + length bytes.now ≤ page_room }
@@ -55,7 +55,7 @@ impl Page {
         self.used = end;
     }
 
-    /// Adds a byte, for which there is room.
+    /// Adds a byte, for which there has to be room.
     #[inline]
     pub fn push_byte(&mut self, byte: u8)
         requires { length self.old < page_room }
@@ -64,7 +64,7 @@ impl Page {
         self.push_bytes(&[byte]);
     }
 
-    /// Adds a number after its mark.
+    /// Adds the separator `mark` and a number.
     #[inline]
     pub fn push_field(&mut self, mark: u8, number: u64)
         requires { length self.old + field_room ≤ page_room }
@@ -102,7 +102,7 @@ impl Page {
         &self.bytes[..self.used]
     }
 
-    /// Pushes what is held, and holds nothing then, also where the sink failed.
+    /// Writes the bytes of the page to the sink. The page is empty then, also if the sink failed.
     #[tactic(auto, using(crate::proofs::Prefixes::written))]
     pub fn flush<K: Sink>(&mut self, sink: &mut K) -> Result<(), Failed>
         requires { K.has_failed sink.old ≡ false }
@@ -115,7 +115,7 @@ impl Page {
         pushed
     }
 
-    /// Makes room for so many bytes: pushes what is held where they don't fit.
+    /// Makes room for so many bytes: writes the page to the sink if they don't fit.
     #[inline]
     pub fn reserve<K: Sink>(&mut self, sink: &mut K, count: usize) -> Result<(), Failed>
         requires works { K.has_failed sink.old ≡ false }
@@ -130,7 +130,7 @@ impl Page {
         self.flush(sink)
     }
 
-    /// Adds bytes to those that are held, and pushes where they don't fit.
+    /// Adds bytes to the page, and writes it to the sink if they don't fit.
     pub fn put<K: Sink>(&mut self, sink: &mut K, bytes: &[u8]) -> Result<(), Failed>
         requires { K.has_failed sink.old ≡ false }
         ensures text { PassesOrFails (K.contents sink.old) (K.contents sink.new) self.old self.new bytes.now result }

@@ -3,8 +3,8 @@ ghost use Rattle.mapf_fields.specs.Numbers.{in_range, below};
 
 use crate::fault::LineFault;
 
-/// The number, where it is at least `least` and at most `most`. `LineFault::Range` for any other, and for
-/// None, which stands for one from 2^64 on.
+/// Returns the number if it is at least `least` and at most `most`. `LineFault::Range` for any other, and for None,
+/// which means 2^64 or more.
 pub fn within(least: u64, most: u64, number: Option<u64>) -> Result<u64, LineFault>
     ensures { result ≡ in_range least most number }
 {
@@ -14,8 +14,8 @@ pub fn within(least: u64, most: u64, number: Option<u64>) -> Result<u64, LineFau
     }
 }
 
-/// The number, where it is at most `most`. `LineFault::Range` for any other, and for None, which stands
-/// for one from 2^64 on.
+/// Returns the number if it is at most `most`. `LineFault::Range` for any other, and for None, which means 2^64 or
+/// more.
 pub fn up_to(most: u32, number: Option<u64>) -> Result<u32, LineFault>
     ensures { result ≡ in_range 0 most number }
 {
@@ -25,8 +25,8 @@ pub fn up_to(most: u32, number: Option<u64>) -> Result<u32, LineFault>
     }
 }
 
-/// The number, where it is at least 1 and at most `most`. `LineFault::Range` for any other, and for None,
-/// which stands for one from 2^64 on.
+/// Returns the number if it is at least 1 and at most `most`. `LineFault::Range` for any other, and for None, which
+/// means 2^64 or more.
 pub fn from_one_to(most: u32, number: Option<u64>) -> Result<u32, LineFault>
     ensures { result ≡ in_range 1 most number }
 {
@@ -36,8 +36,7 @@ pub fn from_one_to(most: u32, number: Option<u64>) -> Result<u32, LineFault>
     }
 }
 
-/// The number, where it is below `bound`. `LineFault::Range` for any other, and for None, which stands
-/// for one from 2^64 on.
+/// Returns the number if it is below `bound`. `LineFault::Range` for any other, and for None, which means 2^64 or more.
 pub fn below(bound: u32, number: Option<u64>) -> Result<u32, LineFault>
     ensures { result ≡ below bound number }
 {

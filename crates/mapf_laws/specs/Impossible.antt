@@ -8,7 +8,7 @@ use Rattle.mapf_model.specs.Tree.{ConstraintTree, ShareGoal, Shows}
 use Rattle.mapf_laws.specs.declared.impossible.TrivialCause.{TrivialCause}
 use Rattle.mapf_laws.specs.declared.impossible.TrivialCause.TheVariants.{SharedStart, SharedGoal, UnreachableGoal}
 
--- two different agents have one start
+-- two different agents have the same start
 abbrev pub ShareStart : Instance → ℕ → ℕ → Type 0
 ShareStart problem i j = (i ≢ j) × (a : Agent) × (b : Agent) × (slice_get problem.agents i ≡ Some a) × (slice_get problem.agents j ≡ Some b) × (a.start ≡ b.start)
 
@@ -22,15 +22,15 @@ IsTrivialCause problem (SharedStart i j) = ShareStart problem i j
 IsTrivialCause problem (SharedGoal i j) = ShareGoal problem i j
 IsTrivialCause problem UnreachableGoal = (i : ℕ) × HasUnreachableGoal problem i
 
--- without any search one sees why no plan is valid: two agents share a start, two agents share a goal, or an agent's
+-- no search is needed to see that no plan is valid: two agents share a start, two agents share a goal, or an agent's
 -- goal can't be reached from its start
 abbrev pub IsTriviallyImpossible : Instance → Type 0
 IsTriviallyImpossible problem = (cause : TrivialCause) × IsTrivialCause problem cause
 
--- a tree shows `impossible` of such problems alone
+-- a tree shows `impossible` only for such problems
 abbrev pub ImpossibleIsTrivial : Type 0
 ImpossibleIsTrivial = (problem : Instance) (tree : ConstraintTree) → Shows problem Impossible tree → IsTriviallyImpossible problem
 
--- and of each of them some tree does
+-- for each of them some tree shows it
 abbrev pub TrivialIsShown : Type 0
 TrivialIsShown = (problem : Instance) → IsTriviallyImpossible problem → (tree : ConstraintTree) × Shows problem Impossible tree

@@ -6,7 +6,7 @@ ghost use Rattle.mapf_laws.specs.Impossible.{ImpossibleIsTrivial, IsTrivialCause
 use mapf_model::laws::label_bound;
 use mapf_model::{Problem, first_pair};
 
-/// Why no plan is valid, where that is seen without a search.
+/// Why no plan is valid, if no search is needed to see it.
 #[derive(Clone, Copy, Debug, PartialEq, Eq)]
 pub enum TrivialCause {
     /// These two agents share a start.
@@ -17,8 +17,8 @@ pub enum TrivialCause {
     UnreachableGoal,
 }
 
-/// A tree shows `impossible` just where there is such a cause. Elsewhere all agents can wait at their starts until
-/// every split of the tree is past and walk then, and some leaf allows that.
+/// A tree shows `impossible` if and only if there is such a cause. If there is none, all agents can wait at their
+/// starts until the tick of every split has passed and walk then, and some leaf allows that.
 pub fn impossible_is_trivial()
     ensures only { ImpossibleIsTrivial }
     ensures shown { TrivialIsShown }
@@ -26,7 +26,7 @@ pub fn impossible_is_trivial()
     label_bound();
 }
 
-/// The cause, where a tree shows `impossible`.
+/// Returns the cause. Some tree has to show `impossible`.
 pub fn trivial_cause(problem: &Problem) -> TrivialCause
     requires { (tree : ConstraintTree) × Shows problem.now Impossible tree }
     ensures { IsTrivialCause problem.now result }

@@ -1,4 +1,4 @@
--- Blocks of labels, as a reader sees them.
+-- Blocks of labels.
 use Rattle.std.specs.Prelude.{ℕ, List}
 use Rattle.mapf_model.specs.declared.label.Entry.{Entry}
 

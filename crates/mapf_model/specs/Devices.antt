@@ -1,4 +1,4 @@
--- What devices for tests are, seen from outside, and what they do in a call.
+-- The states of devices for tests, and what they do in a call.
 use Rattle.std.specs.Prelude.{ℕ, suc, zero, min, Bool, List, Option, None, Some}
 use Rattle.mapf_model.specs.declared.devices.Pace.{Pace}
 use Rattle.mapf_model.specs.declared.devices.Pace.TheVariants.{ByteByByte, AllAtOnce}
@@ -11,7 +11,7 @@ pub record FuseReads : Type 0 where
   pub calls : Option ℕ
   pub has_failed : Bool
 
--- a sink: what was pushed, for how many bytes more there is room, and the same of its calls
+-- a sink: what was written, for how many more bytes there is room, and the same of its calls
 pub record FuseWrites : Type 0 where
   pub contents : List ℕ
   pub room : ℕ

@@ -1,4 +1,4 @@
--- Distances on a grid. (The usual ones)
+-- Distances on a grid. (Usual)
 use Rattle.std.specs.Prelude.{◌≡◌, ℕ, zero, suc, ◌≤◌}
 use Rattle.mapf_model.specs.Grid.{GridMap, IsFree, Step}
 

@@ -1,5 +1,5 @@
--- Trees whose splits name earliest conflicts of cheapest paths, at nodes with a sum of costs no greater than any
--- leaf's: what best-first expansion makes. (Sharon et al. 2015: least sum first; the terms are own)
+-- Trees whose splits name earliest conflicts of cheapest paths, at nodes with a sum of costs no greater than that of
+-- any terminal node: what best-first expansion makes. (Sharon et al. 2015: least sum first; the terms are own)
 use Rattle.std.specs.Prelude.{◌≡◌, ◌≢◌, ℕ, ◌<◌, ◌≤◌, List, Some, length, slice_get}
 use Rattle.mapf_model.specs.declared.bar.Bar.TheVariants.{Cell, Move}
 use Rattle.mapf_model.specs.declared.problem.Agent.{Agent}
@@ -21,13 +21,13 @@ pub record AreCheapest (problem : Instance) (context : NodeContext) (paths : Lis
   pub least : (i : ℕ) (agent : Agent) (path other : List ℕ) (cost other_cost : ℕ) → slice_get problem.agents i ≡ Some agent → slice_get paths i ≡ Some path →
       IsConsistentPath problem context i agent other → IsCost agent.goal path cost → IsCost agent.goal other other_cost → cost ≤ other_cost
 
--- cheapest paths at this node, with a sum of costs no greater than any leaf's
+-- cheapest paths at this node, with a sum of costs no greater than that of any terminal node
 pub record AreDue (problem : Instance) (tree : ConstraintTree) (context : NodeContext) (paths : List (List ℕ)) (total : ℕ) : Type 0 where
   pub cheapest : AreCheapest problem context paths
   pub sum : IsSumOfCosts problem.agents paths total
   pub least : AtEachEnd (λ end_context. (others : List (List ℕ)) (other_total : ℕ) → AreCheapest problem end_context others → IsSumOfCosts problem.agents others other_total → total ≤ other_total) root tree
 
--- when the conflict is
+-- the tick of the conflict
 abbrev pub tick_of : Conflict → ℕ
 tick_of (Vertex i j cell tick) = tick
 tick_of (Swap i j from to tick) = tick
@@ -60,7 +60,7 @@ pub record IsEarned (problem : Instance) (tree : ConstraintTree) : Type 0 where
   pub proper : IsProper problem tree
   pub splits : AtEachNode (IsEarnedNode problem tree) root tree
 
--- an earned tree with a leaf at which some due paths conflict and the fact holds of them
+-- an earned tree with a leaf at which some due paths have a conflict and the property holds
 pub record IsStoppedWhere (Fact : NodeContext → List (List ℕ) → Type 0) (problem : Instance) (tree : ConstraintTree) : Type 0 where
   pub earned : IsEarned problem tree
   pub leaf : AtSomeLeaf (λ context blocks. (paths : List (List ℕ)) × (total : ℕ)

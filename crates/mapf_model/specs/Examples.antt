@@ -1,4 +1,4 @@
--- Small problems on which the definitions can be tried.
+-- Examples of the definitions on small problems.
 use Rattle.std.specs.Prelude.{◌≡◌, ℕ, true, List, [], ◌∷◌, Some, None}
 use Rattle.mapf_model.specs.declared.bar.Bar.TheVariants.{Cell, Move}
 use Rattle.mapf_model.specs.declared.conflict.Conflict.TheVariants.{Swap}
@@ -33,8 +33,8 @@ entry cell tick label = record { cell = cell; tick = tick; label = label }
 abbrev pub agent : ℕ → ℕ → Agent
 agent start goal = record { start = start; goal = goal }
 
--- an agent from the left of the square to its right that may not be in the middle at tick 1 may wait, so at the start 3
--- ticks are left and not 4
+-- an agent from the left of the square to its right that may not be in the middle at tick 1 can wait and arrive after 3
+-- ticks, so 4 is not a sound label at its start
 abbrev pub WaitingBoundsALabel : Type 0
 WaitingBoundsALabel = AreSound open_square 5 (Cell 4 1 ∷ []) (entries_of (entry 3 0 (Ticks 4) ∷ [])) → ⊥
 
@@ -42,19 +42,19 @@ WaitingBoundsALabel = AreSound open_square 5 (Cell 4 1 ∷ []) (entries_of (entr
 abbrev pub NoLabelIsRaisedAtAFreeGoal : Type 0
 NoLabelIsRaisedAtAFreeGoal = AreSound open_square 7 (Cell 4 1 ∷ []) (entries_of (entry 1 0 (Ticks 3) ∷ entry 7 0 (Ticks 1) ∷ [])) → ⊥
 
--- two agents with one goal can't both stay there
+-- two agents with the same goal can't both stay there
 abbrev pub one_goal : Instance
 one_goal = record { grid = three_cells; agents = agent 0 1 ∷ agent 2 1 ∷ [] }
 
--- a clash of two agents with one goal shows that no plan is valid
+-- a clash of two agents with the same goal shows that no plan is valid
 abbrev pub AClashShowsImpossibility : Type 0
 AClashShowsImpossibility = Shows one_goal Impossible (Clash 0 1)
 
--- two agents with one start are in one cell at tick 0
+-- two agents with the same start are in one cell at tick 0
 abbrev pub one_start : Instance
 one_start = record { grid = three_cells; agents = agent 0 1 ∷ agent 0 2 ∷ [] }
 
--- two agents with one start have no valid plan
+-- two agents with the same start have no valid plan
 abbrev pub OneStartIsNoPlan : Type 0
 OneStartIsNoPlan = (plan : List (List ℕ)) → IsValid one_start plan → ⊥
 
@@ -66,7 +66,7 @@ neighbours = record { grid = two_cells; agents = agent 0 1 ∷ agent 1 0 ∷ [] 
 abbrev pub SwappingIsNoPlan : Type 0
 SwappingIsNoPlan = IsValid neighbours ((0 ∷ 1 ∷ []) ∷ (1 ∷ 0 ∷ []) ∷ []) → ⊥
 
--- the children of a split on a swap: the first agent is forbidden its move, the second its own
+-- in the children of a split on a swap, the first agent is forbidden its move, the second its own
 abbrev pub EachChildBarsItsAgent : Type 0
 EachChildBarsItsAgent =
     ((left_child_context root (Swap 0 1 3 4 5) []).bars 0 ≡ Move 3 4 5 ∷ []) × ((left_child_context root (Swap 0 1 3 4 5) []).bars 1 ≡ []) ×
@@ -81,7 +81,7 @@ crossing = record { grid = open_square; agents = agent 3 5 ∷ agent 1 7 ∷ [] 
 abbrev pub block : ℕ → Entry → LabelBlock
 block agent entry = record { agent = agent; entries = entry ∷ [] }
 
--- what the left child of a split on a swap of agents 0 and 1 inherits, where the split has this block
+-- what the left child of a split on a swap of agents 0 and 1 inherits from the split, which has this block
 abbrev pub left_below : NodeContext → LabelBlock → NodeContext
 left_below context block = left_child_context context (Swap 0 1 3 4 5) (block ∷ [])
 
@@ -89,8 +89,8 @@ left_below context block = left_child_context context (Swap 0 1 3 4 5) (block �
 abbrev pub right_below : NodeContext → LabelBlock → NodeContext
 right_below context block = right_child_context context (Swap 0 1 3 4 5) (block ∷ [])
 
--- both children inherit the labels of a split's block; they are its agent's alone; a block further down
--- replaces all labels of its agent, and none of another
+-- both children inherit the labels of a split's block; they are those of its agent alone; a block below replaces all
+-- labels of its agent, and none of another
 abbrev pub ChildrenInheritLabels : Type 0
 ChildrenInheritLabels =
     ((left_below root (block 0 (entry 3 0 (Ticks 4)))).entries 0 3 0 ≡ Some (Ticks 4)) ×
@@ -99,7 +99,7 @@ ChildrenInheritLabels =
     ((right_below (left_below root (block 0 (entry 3 0 (Ticks 4)))) (block 0 (entry 3 1 (Ticks 3)))).entries 0 3 0 ≡ None) ×
     ((right_below (left_below root (block 0 (entry 3 0 (Ticks 4)))) (block 1 (entry 3 1 (Ticks 3)))).entries 0 3 0 ≡ Some (Ticks 4))
 
--- a split's block is judged without the constraints that its children add: no constraint keeps the first agent from the
--- middle yet, so from its start no 3 ticks are left
+-- a split's block is judged without the constraints that its children add: no constraint forbids the first agent the
+-- middle yet, so 3 ticks is not a sound label at its start
 abbrev pub SplitsAreJudgedByTheirOwnBars : Type 0
 SplitsAreJudgedByTheirOwnBars = AreBlocksSound crossing root (block 0 (entry 3 0 (Ticks 3)) ∷ []) → ⊥

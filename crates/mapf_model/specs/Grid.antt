@@ -2,7 +2,7 @@
 use Rattle.std.specs.Prelude.{◌≡◌, ◌⊎◌, ℕ, ◌+◌, ◌*◌, ◌≤◌, ◌/◌, ◌%◌, Bool, true, false, List, length, slice_index_or, count_by}
 use Rattle.mapf_model.specs.Limits.{greatest_side}
 
--- a rectangle of cells, row after row, and which of them are free
+-- a rectangle of cells, row by row, and which of them are free
 pub record GridMap : Type 0 where
   pub width : ℕ
   pub height : ℕ
@@ -12,7 +12,7 @@ pub record GridMap : Type 0 where
 abbrev pub IsGridMap : GridMap → Type 0
 IsGridMap grid = (1 ≤ grid.width) × (grid.width ≤ greatest_side) × (1 ≤ grid.height) × (grid.height ≤ greatest_side) × (length grid.free ≡ grid.width * grid.height)
 
--- a cell has the number row * width + column
+-- the column of a cell, whose number is row * width + column
 abbrev pub column : GridMap → ℕ → ℕ
 column grid cell = cell % grid.width
 
@@ -28,7 +28,7 @@ IsFree grid cell = slice_index_or grid.free cell false ≡ true
 abbrev pub free_cell_count : GridMap → ℕ
 free_cell_count grid = count_by (λ free. free) grid.free
 
--- two numbers that differ by one
+-- the two numbers differ by one
 abbrev pub DifferByOne : ℕ → ℕ → Type 0
 DifferByOne a b = (a ≡ b + 1) ⊎ (b ≡ a + 1)
 

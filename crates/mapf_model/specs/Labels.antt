@@ -1,5 +1,5 @@
--- Labels: claimed lower bounds on the ticks left until an agent's last arrival at its goal. Sound labels are
--- a consistent heuristic on the time-expanded graph, states being cells at ticks. (Own)
+-- Labels: claimed lower bounds on the ticks left until an agent's last arrival at its goal. Sound labels are a
+-- consistent heuristic on the time-expanded graph, whose states are cells at ticks. (Own)
 use Rattle.std.specs.Prelude.{◌≡◌, ℕ, ◌+◌, ◌≤◌, ⊤, ◌&&◌, ◌==◌, List, [], ◌∷◌, Option, Some, None, Contains, find, option_map}
 use Rattle.mapf_model.specs.declared.bar.Bar.{Bar}
 use Rattle.mapf_model.specs.declared.bar.Bar.TheVariants.{Cell, Move}
@@ -9,7 +9,7 @@ use Rattle.mapf_model.specs.declared.label.Label.TheVariants.{Ticks, Never}
 use Rattle.mapf_model.specs.Grid.{GridMap, Step}
 use Rattle.mapf_model.specs.Distance.{IsDistance, IsUnreachable}
 
--- the order of labels: `Never` is above every number
+-- the order of labels: `Never` is greater than every number
 abbrev pub IsAtMost : Label → Label → Type 0
 IsAtMost label Never = ⊤
 IsAtMost (Ticks m) (Ticks n) = m ≤ n
@@ -26,7 +26,7 @@ label_plus (Ticks m) (Ticks n) = Ticks (m + n)
 label_plus (Ticks m) Never = Never
 label_plus Never other = Never
 
--- the sum of labels, infinite where one is
+-- the sum of labels, infinite if one is
 abbrev pub label_sum : List Label → Label
 label_sum [] = Ticks 0
 label_sum (label ∷ labels) = label_plus label (label_sum labels)
@@ -36,7 +36,7 @@ abbrev pub IsDistanceLabel : GridMap → ℕ → ℕ → Label → Type 0
 IsDistanceLabel grid goal cell (Ticks n) = IsDistance grid goal cell n
 IsDistanceLabel grid goal cell Never = IsUnreachable grid goal cell
 
--- entries give some states, a cell at a tick, a label
+-- a label for some of the states, that is, of the cells at ticks
 abbrev pub Entries : Type 0
 Entries = ℕ → ℕ → Option Label
 
@@ -53,7 +53,7 @@ IsEntryOrDistance grid goal cell None label = IsDistanceLabel grid goal cell lab
 abbrev pub IsLabel : GridMap → ℕ → Entries → ℕ → ℕ → Label → Type 0
 IsLabel grid goal entries cell tick label = IsEntryOrDistance grid goal cell (entries cell tick) label
 
--- an agent may go from a cell to the next at this tick
+-- the agent may go from the cell to the next at this tick
 pub record MayGo (grid : GridMap) (bars : List Bar) (from to tick : ℕ) : Type 0 where
   pub step : Step grid from to
   pub arrival : Contains bars (Cell to (tick + 1)) → ⊥
@@ -63,8 +63,8 @@ pub record MayGo (grid : GridMap) (bars : List Bar) (from to tick : ℕ) : Type 
 abbrev pub IsWithinOne : GridMap → ℕ → Entries → Label → ℕ → ℕ → Type 0
 IsWithinOne grid goal entries label cell tick = (after : Label) × IsLabel grid goal entries cell tick after × IsAtMost label (one_more after)
 
--- a sound entry: it exceeds the distance; and unless a constraint forbids the state, the goal is forbidden at this tick
--- or later if the state is at the goal, and each allowed step leads to a label lower by at most one
+-- a sound entry: it is greater than the distance; and unless a constraint forbids the state, the goal is forbidden at
+-- this tick or later if the state is at the goal, and on each allowed step the label falls by one at most
 pub record IsSoundEntry (grid : GridMap) (goal : ℕ) (bars : List Bar) (entries : Entries) (cell tick : ℕ) (label : Label) : Type 0 where
   pub raised : (distance : ℕ) × IsDistance grid goal cell distance × IsAtMost (Ticks (distance + 1)) label
   pub at_goal : (Contains bars (Cell cell tick) → ⊥) → cell ≡ goal → (later : ℕ) × (tick ≤ later) × Contains bars (Cell goal later)

@@ -27,7 +27,7 @@ LabelBound =
     IsLawful grid agent path → Satisfies bars path → IsCost agent.goal path cost →
     IsAtMost label (Ticks cost)
 
--- where that label is `Never` there is no such path
+-- if that label is `Never` there is no such path
 abbrev pub NeverMeansNone : Type 0
 NeverMeansNone =
     (grid : GridMap) (agent : Agent) (bars : List Bar) (entries : Entries) (path : List ℕ) →
@@ -35,7 +35,7 @@ NeverMeansNone =
     IsLabel grid agent.goal entries agent.start 0 Never →
     IsLawful grid agent path → Satisfies bars path → ⊥
 
--- each valid plan satisfies the constraints of some end of a proper tree: of a leaf or of a clash
+-- each valid plan satisfies the constraints of some terminal node of a proper tree: of a leaf or of a clash
 abbrev pub SplitsLoseNoPlan : Type 0
 SplitsLoseNoPlan =
     (problem : Instance) (tree : ConstraintTree) (plan : List (List ℕ)) →
@@ -46,7 +46,7 @@ SplitsLoseNoPlan =
 abbrev pub ShownClaimsHold : Type 0
 ShownClaimsHold = (problem : Instance) (claim : Claim) (tree : ConstraintTree) → Shows problem claim tree → Holds problem claim
 
--- how nodes are judged in pre-order, with a stack of the contexts of the pending subtrees
+-- how nodes are judged in pre-order, with a stack of the contexts of the subtrees that are still to come
 pub record NodesShowByFront (problem : Instance) (claim : Claim) : Type 0 where
   pub whole : (items : List Node) → NodesShow problem claim (root ∷ []) items ↔ ((tree : ConstraintTree) × (items ≡ nodes_of tree) × ShowsFrom problem claim root tree)
   pub over : NodesShow problem claim [] []
@@ -63,7 +63,7 @@ pub record NodesShowByFront (problem : Instance) (claim : Claim) : Type 0 where
 abbrev pub FrontDecides : Type 0
 FrontDecides = (problem : Instance) (claim : Claim) → NodesShowByFront problem claim
 
--- a list of items is that of one tree at most
+-- a list of items spells at most one tree
 abbrev pub TreeIsUnique : Type 0
 TreeIsUnique = (s t : ConstraintTree) → nodes_of s ≡ nodes_of t → s ≡ t
 
@@ -71,16 +71,15 @@ TreeIsUnique = (s t : ConstraintTree) → nodes_of s ≡ nodes_of t → s ≡ t
 abbrev pub LabelIsUnique : Type 0
 LabelIsUnique = (grid : GridMap) (goal : ℕ) (entries : Entries) (cell tick : ℕ) (a b : Label) → IsLabel grid goal entries cell tick a → IsLabel grid goal entries cell tick b → a ≡ b
 
--- so the labels of the starts, once they are known, decide whether they add up to at least a number, which is how a
--- cost or a bound is shown
+-- so the labels of the starts decide whether they add up to at least a number, which is how a cost or a bound is shown
 abbrev pub StartLabelsDecide : Type 0
 StartLabelsDecide = (problem : Instance) (entries : ℕ → Entries) (labels : List Label) (total : ℕ) → AreStartLabels problem entries labels → StartsReach problem total entries ↔ IsAtMost (Ticks total) (label_sum labels)
 
--- and whether they show that no plan is valid
+-- and they decide whether they show that no plan is valid
 abbrev pub StartLabelsDecideImpossible : Type 0
 StartLabelsDecideImpossible = (problem : Instance) (entries : ℕ → Entries) (labels : List Label) → AreStartLabels problem entries labels → StartsShow problem Impossible entries ↔ Contains labels Never
 
--- a nonempty list of free cells of which each two neighbours are a step
+-- a nonempty list of free cells in which each two consecutive cells are a step
 pub record IsPathByNeighbours (grid : GridMap) (path : List ℕ) : Type 0 where
   pub nonempty : path ≢ []
   pub first : IsFree grid (slice_index path 0)
@@ -103,24 +102,24 @@ pub record ValidPlansHaveOneSum (problem : Instance) (plan : List (List ℕ)) : 
 abbrev pub SumsAreOne : Type 0
 SumsAreOne = (problem : Instance) (plan : List (List ℕ)) → IsValid problem plan → ValidPlansHaveOneSum problem plan
 
--- the same bars, in any order
+-- the two lists have the same constraints, in any order
 abbrev pub AreSameBars : List Bar → List Bar → Type 0
 AreSameBars xs ys = (bar : Bar) → Contains xs bar ↔ Contains ys bar
 
--- what is said of a list of bars depends on its set alone
+-- what is said of a list of constraints depends on its set alone
 pub record BarsAreASet (xs ys : List Bar) : Type 0 where
   pub obeys : (path : List ℕ) → Satisfies xs path → Satisfies ys path
   pub sound : (grid : GridMap) (goal : ℕ) (entries : Entries) → AreSound grid goal xs entries → AreSound grid goal ys entries
 
--- of two lists of the same bars, what holds under the one holds under the other
+-- of two lists of the same constraints, what holds under the one holds under the other
 abbrev pub OnlyMembershipCounts : Type 0
 OnlyMembershipCounts = (xs ys : List Bar) → AreSameBars xs ys → BarsAreASet xs ys
 
--- a path that ends as it arrives costs its steps
+-- a path without trailing waits costs its steps
 abbrev pub TightPathsCostTheirSteps : Type 0
 TightPathsCostTheirSteps = (grid : GridMap) (agent : Agent) (path : List ℕ) → IsLawful grid agent path → IsTight path → IsCost agent.goal path (length path - 1)
 
--- in a list that rises, the label of a state is the one with which the list has it
+-- in a list in rising order, the label of a state is the one that the list gives it
 abbrev pub ListedLabelsAreFound : Type 0
 ListedLabelsAreFound = (entries : List Entry) → AllPairs IsBefore entries → (cell tick : ℕ) (label : Label) → (entries_of entries cell tick ≡ Some label) ↔ Contains entries (record { cell = cell; tick = tick; label = label })
 
@@ -130,7 +129,7 @@ pub record AreAlike (problem : Instance) (a b : NodeContext) : Type 0 where
   pub bars : a.bars ≡ b.bars
   pub starts : (i : ℕ) (agent : Agent) → slice_get problem.agents i ≡ Some agent → a.entries i agent.start 0 ≡ b.entries i agent.start 0
 
--- of the entries that a node inherits only those of the starts at tick 0 count
+-- of the entries that a node inherits only those of the starts at tick 0 matter
 abbrev pub OnlyStartEntriesCount : Type 0
 OnlyStartEntriesCount = (problem : Instance) (claim : Claim) (a b : NodeContext) (tree : ConstraintTree) → AreAlike problem a b → ShowsFrom problem claim a tree → ShowsFrom problem claim b tree
 
@@ -138,6 +137,6 @@ OnlyStartEntriesCount = (problem : Instance) (claim : Claim) (a b : NodeContext)
 abbrev pub ChildrenAreAlike : Type 0
 ChildrenAreAlike = (problem : Instance) (a b : NodeContext) (blocks : List LabelBlock) (constraint : Constraint) → AreAlike problem a b → AreAlike problem (child_context a blocks constraint) (child_context b blocks constraint)
 
--- where no split has a block no node inherits an entry: each leaf is judged by its own blocks alone
+-- if no split has a block no node inherits an entry: each leaf is judged by its own blocks alone
 abbrev pub OnlySplitsHandOnEntries : Type 0
 OnlySplitsHandOnEntries = (tree : ConstraintTree) → HasBlocksAtLeavesAlone tree → AtEachNode (λ context node. (agent cell tick : ℕ) → context.entries agent cell tick ≡ None) root tree

@@ -29,7 +29,7 @@ most_splits = 100000
 abbrev pub last_split_tick : ℕ
 last_split_tick = 999999
 
--- the first tick at which a conflict isn't split any more
+-- the first tick whose conflicts aren't split any more
 abbrev pub split_ticks : ℕ
 split_ticks = 1000000
 

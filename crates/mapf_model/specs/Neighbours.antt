@@ -2,8 +2,8 @@
 use Rattle.std.specs.Prelude.{ℕ, ◌+◌, ◌-◌, ◌%◌, Option, None, Some, false, List, [], ◌∷◌, ◌++◌, nat_le, nat_lt, if◌then◌else◌, slice_index_or}
 use Rattle.mapf_model.specs.Grid.{GridMap}
 
--- the cells above and left, the cell itself, and those right and below, on a grid of this width: rising in number, as
--- far as its rows go
+-- the cells above and left, the cell itself, and those right and below, in rising order, on a grid of this width; None
+-- for a cell that would be outside its row or above row 0
 abbrev pub neighbourhood : ℕ → ℕ → List (Option ℕ)
 neighbourhood width cell =
     (if nat_le width cell then Some (cell - width) else None) ∷
@@ -17,7 +17,7 @@ abbrev pub free_cell : GridMap → Option ℕ → List ℕ
 free_cell grid None = []
 free_cell grid (Some cell) = if slice_index_or grid.free cell false then cell ∷ [] else []
 
--- the free cells at these places
+-- the free cells among these
 abbrev pub free_cells : GridMap → List (Option ℕ) → List ℕ
 free_cells grid [] = []
 free_cells grid (place ∷ places) = free_cell grid place ++ free_cells grid places

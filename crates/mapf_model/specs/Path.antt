@@ -7,7 +7,7 @@ use Rattle.mapf_model.specs.Grid.{GridMap, Step}
 abbrev pub at : List ℕ → ℕ → ℕ
 at path tick = slice_index path (min tick (length path - 1))
 
--- a nonempty list of cells along which each tick is a step
+-- a nonempty list of cells in which each two consecutive cells are a step
 pub record IsPath (grid : GridMap) (path : List ℕ) : Type 0 where
   pub nonempty : path ≢ []
   pub steps : (tick : ℕ) → Step grid (at path tick) (at path (tick + 1))
@@ -27,6 +27,6 @@ pub record IsCost (goal : ℕ) (path : List ℕ) (cost : ℕ) : Type 0 where
   pub rests : RestsFrom goal path cost
   pub least : (from : ℕ) → RestsFrom goal path from → cost ≤ from
 
--- one cell, or the last two differ
+-- no trailing waits: the path has one cell, or its last two cells differ
 abbrev pub IsTight : List ℕ → Type 0
 IsTight path = (length path ≡ 1) ⊎ (slice_index path (length path - 1) ≢ slice_index path (length path - 2))

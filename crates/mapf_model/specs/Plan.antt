@@ -14,7 +14,7 @@ pub record Instance : Type 0 where
 abbrev pub AreAgentsOn : GridMap → List Agent → Type 0
 AreAgentsOn grid agents = (1 ≤ length agents) × (length agents ≤ most_agents) × All (λ agent. IsFree grid agent.start × IsFree grid agent.goal) agents
 
--- a problem of the benchmark's kind: a grid and agents on it
+-- a problem whose sizes are within the limits, and whose agents are on its grid
 pub record IsInstance (problem : Instance) : Type 0 where
   pub grid : IsGridMap problem.grid
   pub agents : AreAgentsOn problem.grid problem.agents

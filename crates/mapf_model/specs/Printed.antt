@@ -17,7 +17,7 @@ use Rattle.mapf_model.specs.Tree.{ConstraintTree, Split, Leaf, Clash}
 abbrev pub IsOnGrid : GridMap → ℕ → Type 0
 IsOnGrid grid cell = cell < grid.width * grid.height
 
--- rising by tick, then by the cell's number
+-- the first precedes the second, by tick and then by the cell's number
 abbrev pub IsBefore : Entry → Entry → Type 0
 IsBefore a b = (a.tick < b.tick) ⊎ ((a.tick ≡ b.tick) × (a.cell < b.cell))
 
@@ -30,7 +30,7 @@ IsLabelInRange Never = ⊤
 abbrev pub IsEntryInRange : GridMap → Entry → Type 0
 IsEntryInRange grid entry = IsOnGrid grid entry.cell × (entry.tick ≤ greatest_cost) × IsLabelInRange entry.label
 
--- the entries of one agent: at least one, rising strictly
+-- the entries of one agent: at least one, in strictly rising order
 pub record IsBlockInRange (grid : GridMap) (agents : ℕ) (block : LabelBlock) : Type 0 where
   pub agent : block.agent < agents
   pub some : 1 ≤ length block.entries
@@ -38,7 +38,7 @@ pub record IsBlockInRange (grid : GridMap) (agents : ℕ) (block : LabelBlock) :
   pub entries : All (IsEntryInRange grid) block.entries
   pub rising : AllPairs IsBefore block.entries
 
--- the blocks of a node, the agents of which rise strictly
+-- the blocks of a node, in strictly rising order of their agents
 pub record AreBlocksInRange (grid : GridMap) (agents : ℕ) (blocks : List LabelBlock) : Type 0 where
   pub each : All (IsBlockInRange grid agents) blocks
   pub rising : AllPairs (λ a b. a.agent < b.agent) blocks
@@ -60,7 +60,7 @@ IsClaimInRange (Cost cost) = cost ≤ greatest_sum
 IsClaimInRange (Bound bound) = bound ≤ greatest_sum
 IsClaimInRange Impossible = ⊤
 
--- 1 to 10,000,000 cells, and no waiting at the end
+-- 1 to 10,000,000 cells, and no trailing waits
 pub record IsPathInRange (grid : GridMap) (path : List ℕ) : Type 0 where
   pub some : 1 ≤ length path
   pub short : length path ≤ most_path_cells

@@ -19,8 +19,8 @@ use Rattle.mapf_model.specs.Bars.{Satisfies}
 use Rattle.mapf_model.specs.Labels.{Entries, entries_of, AreSound, IsLabel, IsAtMost, label_sum}
 use Rattle.mapf_model.specs.Plan.{Instance, IsLowerBound, IsImpossible}
 
--- a split on a conflict with blocks of labels and two children, a leaf with blocks of labels, or an end that
--- claims that two agents have one goal
+-- a split on a conflict with blocks of labels and two children, a leaf with blocks of labels, or a terminal node that
+-- names two agents with the same goal
 pub data ConstraintTree : Type 0 where
   Split : (conflict : Conflict) → (blocks : List LabelBlock) → (left right : ConstraintTree) → ConstraintTree
   Leaf : (blocks : List LabelBlock) → ConstraintTree
@@ -42,7 +42,7 @@ blocks_of (ClashNode i j) = []
 abbrev pub IsSplitOn : Node → Conflict → Type 0
 IsSplitOn node conflict = node ≡ SplitNode conflict (blocks_of node)
 
--- the node is an end of its tree: a leaf or a clash
+-- the node is terminal: a leaf or a clash
 abbrev pub IsEndNode : Node → Type 0
 IsEndNode (SplitNode conflict blocks) = ⊥
 IsEndNode (LeafNode blocks) = Unit {0}
@@ -82,8 +82,8 @@ with_blocks blocks before agent = entries_or (block_of blocks agent) (before age
 abbrev pub no_entries : ℕ → Entries
 no_entries agent cell tick = None
 
--- what a node inherits: each agent's constraints, the one with which this node was made included, and the
--- entries of each agent's nearest block above it, none where there is no block
+-- what a node inherits: each agent's constraints, the one with which this node was made included, and the entries of
+-- each agent's nearest block above it, none if there is no block
 pub record NodeContext : Type 0 where
   pub bars : ℕ → List Bar
   pub entries : ℕ → Entries
@@ -92,26 +92,26 @@ pub record NodeContext : Type 0 where
 abbrev pub root : NodeContext
 root = record { bars = λ agent. []; entries = no_entries }
 
--- the bars with one more for this agent
+-- the constraints, with one more for this agent
 abbrev pub with_bar : (ℕ → List Bar) → ℕ → Bar → ℕ → List Bar
 with_bar bars i bar agent = if agent == i then bar ∷ bars agent else bars agent
 
--- the bars with one constraint more
+-- the constraints, with one more
 abbrev pub with_constraint : (ℕ → List Bar) → Constraint → ℕ → List Bar
 with_constraint bars constraint = with_bar bars constraint.agent constraint.bar
 
--- the constraint of a split's left child: the first agent's part of the conflict
+-- the constraint of a split's left child: the first agent may not take part in the conflict
 abbrev pub left_constraint : Conflict → Constraint
 left_constraint (Vertex i j cell tick) = record { agent = i; bar = Cell cell tick }
 left_constraint (Swap i j from to tick) = record { agent = i; bar = Move from to tick }
 
--- the constraint of its right child: the second agent's part
+-- the constraint of its right child: the second agent may not take part
 abbrev pub right_constraint : Conflict → Constraint
 right_constraint (Vertex i j cell tick) = record { agent = j; bar = Cell cell tick }
 right_constraint (Swap i j from to tick) = record { agent = j; bar = Move to from tick }
 
--- what a child of a split inherits: one constraint more, and the split's blocks in place of those above of the
--- same agents
+-- what a child of a split inherits: one more constraint, and the split's blocks in place of those of the same agents
+-- above
 abbrev pub child_context : NodeContext → List LabelBlock → Constraint → NodeContext
 child_context context blocks constraint = record { bars = with_constraint context.bars constraint; entries = with_blocks blocks context.entries }
 
@@ -123,25 +123,25 @@ left_child_context context conflict blocks = child_context context blocks (left_
 abbrev pub right_child_context : NodeContext → Conflict → List LabelBlock → NodeContext
 right_child_context context conflict blocks = child_context context blocks (right_constraint conflict)
 
--- a fact holds at each node of a tree, with the node's context
+-- a property holds at each node of a tree, of the node's context
 abbrev pub AtEachNode : (NodeContext → ConstraintTree → Type 0) → NodeContext → ConstraintTree → Type 0
 AtEachNode P context (Split conflict blocks left right) = P context (Split conflict blocks left right) × AtEachNode P (left_child_context context conflict blocks) left × AtEachNode P (right_child_context context conflict blocks) right
 AtEachNode P context (Leaf blocks) = P context (Leaf blocks)
 AtEachNode P context (Clash i j) = P context (Clash i j)
 
--- a fact holds of the context of each end: each leaf and each clash
+-- a property holds of the context of each terminal node: each leaf and each clash
 abbrev pub AtEachEnd : (NodeContext → Type 0) → NodeContext → ConstraintTree → Type 0
 AtEachEnd P context (Split conflict blocks left right) = AtEachEnd P (left_child_context context conflict blocks) left × AtEachEnd P (right_child_context context conflict blocks) right
 AtEachEnd P context (Leaf blocks) = P context
 AtEachEnd P context (Clash i j) = P context
 
--- a fact holds of the context of some end
+-- a property holds of the context of some terminal node
 abbrev pub AtSomeEnd : (NodeContext → Type 0) → NodeContext → ConstraintTree → Type 0
 AtSomeEnd P context (Split conflict blocks left right) = AtSomeEnd P (left_child_context context conflict blocks) left ⊎ AtSomeEnd P (right_child_context context conflict blocks) right
 AtSomeEnd P context (Leaf blocks) = P context
 AtSomeEnd P context (Clash i j) = P context
 
--- a fact holds of the context and the blocks of some leaf
+-- a property holds of the context and the blocks of some leaf
 abbrev pub AtSomeLeaf : (NodeContext → List LabelBlock → Type 0) → NodeContext → ConstraintTree → Type 0
 AtSomeLeaf P context (Split conflict blocks left right) = AtSomeLeaf P (left_child_context context conflict blocks) left ⊎ AtSomeLeaf P (right_child_context context conflict blocks) right
 AtSomeLeaf P context (Leaf blocks) = P context blocks
@@ -176,11 +176,11 @@ AreOfDifferentAgents blocks = AllPairs (λ a b. a.agent ≢ b.agent) blocks
 abbrev pub AreOfAgents : Instance → List LabelBlock → Type 0
 AreOfAgents problem blocks = All (λ block. block.agent < length problem.agents) blocks
 
--- each agent of the problem has at most one block, and nobody else has one
+-- each agent of the problem has at most one block, and no other agent has one
 abbrev pub AreProperBlocks : Instance → List LabelBlock → Type 0
 AreProperBlocks problem blocks = AreOfDifferentAgents blocks × AreOfAgents problem blocks
 
--- a split names a proper conflict, and the blocks of a split or a leaf are proper; a clash always is
+-- a split names a proper conflict, and the blocks of a split or a leaf are proper; a clash always is proper
 abbrev pub IsProperNode : Instance → ConstraintTree → Type 0
 IsProperNode problem (Split conflict blocks left right) = IsProperSplit problem conflict × AreProperBlocks problem blocks
 IsProperNode problem (Leaf blocks) = AreProperBlocks problem blocks
@@ -213,23 +213,23 @@ StartsShow problem (Cost cost) entries = StartsReach problem cost entries
 StartsShow problem (Bound bound) entries = StartsReach problem bound entries
 StartsShow problem Impossible entries = (i : ℕ) × (agent : Agent) × (slice_get problem.agents i ≡ Some agent) × IsLabel problem.grid agent.goal (entries i) agent.start 0 Never
 
--- two different agents have one goal
+-- two different agents have the same goal
 abbrev pub ShareGoal : Instance → ℕ → ℕ → Type 0
 ShareGoal problem i j = (i ≢ j) × (a : Agent) × (b : Agent) × (slice_get problem.agents i ≡ Some a) × (slice_get problem.agents j ≡ Some b) × (a.goal ≡ b.goal)
 
--- the blocks of a split or a leaf are sound under the node's own constraints, without those that its children
--- add; at a leaf the labels of the starts show the claim, each by the agent's nearest block, the leaf's
--- included; the agents of a clash share their goal
+-- the blocks of a split or a leaf are sound under the node's own constraints, without those that its children add; at a
+-- leaf the labels of the starts show the claim, each by the agent's nearest block, the leaf's included; the agents of a
+-- clash share their goal
 abbrev pub NodeShows : Instance → Claim → NodeContext → ConstraintTree → Type 0
 NodeShows problem claim context (Split conflict blocks left right) = AreBlocksSound problem context blocks
 NodeShows problem claim context (Leaf blocks) = AreBlocksSound problem context blocks × StartsShow problem claim (with_blocks blocks context.entries)
 NodeShows problem claim context (Clash i j) = ShareGoal problem i j
 
--- what is asked of a split, its children aside: its conflict and its blocks are proper, and the blocks are sound
+-- what a split has to meet apart from its children: its conflict and its blocks are proper, and the blocks are sound
 abbrev pub SplitShows : Instance → NodeContext → Conflict → List LabelBlock → Type 0
 SplitShows problem context conflict blocks = (IsProperSplit problem conflict × AreProperBlocks problem blocks) × AreBlocksSound problem context blocks
 
--- the tree shows the claim where its root has this context
+-- the tree shows the claim if its root has this context
 pub record ShowsFrom (problem : Instance) (claim : Claim) (context : NodeContext) (tree : ConstraintTree) : Type 0 where
   pub proper : AtEachNode (λ context node. IsProperNode problem node) context tree
   pub nodes : AtEachNode (NodeShows problem claim) context tree

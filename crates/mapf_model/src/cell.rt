@@ -3,7 +3,7 @@ ghost use Rattle.mapf_model.specs.Neighbours.{neighbourhood};
 
 use std::marker::Model;
 
-/// The number of a cell of a grid: `y * width + x`, with (0, 0) at the top left.
+/// A cell by its number on a grid, `y * width + x`, with (0, 0) at the top left.
 #[derive(Clone, Copy, Debug, Default, PartialEq, Eq, PartialOrd, Ord, Hash)]
 pub struct Cell(pub u32);
 
@@ -18,8 +18,8 @@ impl Model for Cell {
 }
 
 impl Cell {
-    /// The cells above and left, the cell itself, and those right and below, on a grid of this width:
-    /// rising in number, as far as its rows go.
+    /// Returns the cells above and left, the cell itself, and those right and below, in rising order, on a grid of this
+    /// width. None for a cell that would be outside its row or above row 0.
     pub fn neighbourhood(self, width: u32) -> [Option<Cell>; 5]
         requires wide { 0 < width }
         requires small { self + width < 2 ^ 32 }
@@ -37,5 +37,5 @@ impl Cell {
     }
 }
 
-/// A moment, counted from 0. In one tick each agent waits or moves to an adjacent cell.
+/// A time step, counted from 0. In one tick each agent waits or moves to an adjacent cell.
 pub type Tick = u32;

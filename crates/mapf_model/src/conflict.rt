@@ -6,7 +6,7 @@ use crate::bar::Bar;
 use crate::cell::{Cell, Tick};
 use crate::constraint::Constraint;
 
-/// What two agents do that they may not do both (Stern et al. 2019).
+/// A conflict of two agents (Stern et al. 2019).
 #[derive(Clone, Copy, Debug, PartialEq, Eq)]
 pub enum Conflict {
     /// A vertex conflict: agents `i` and `j` are in the cell at the tick.
@@ -28,7 +28,7 @@ pub enum Conflict {
 }
 
 impl Conflict {
-    /// The tick of a vertex conflict, or the tick at which the two moves of a swapping conflict begin.
+    /// Returns the tick of a vertex conflict, or the tick at which the two moves of a swapping conflict begin.
     pub fn tick(&self) -> Tick
         ensures { result ≡ tick_of self.now }
     {
@@ -38,7 +38,7 @@ impl Conflict {
         }
     }
 
-    /// The constraint of the left child where a node is split on the conflict: agent `i`'s part of it.
+    /// Returns the constraint of the left child of a split on the conflict: agent `i` may not take part in it.
     pub fn left(&self) -> Constraint
         ensures { result ≡ left_constraint self.now }
     {
@@ -60,7 +60,7 @@ impl Conflict {
         }
     }
 
-    /// The constraint of the right child: agent `j`'s part of the conflict.
+    /// Returns the constraint of the right child: agent `j` may not take part in the conflict.
     pub fn right(&self) -> Constraint
         ensures { result ≡ right_constraint self.now }
     {

@@ -1,5 +1,5 @@
-//! Devices for tests: they move bytes of memory, one at a time or as many as they can, and fail at a
-//! call that is chosen; and a source that never ends.
+//! Devices for tests: they move bytes of memory, one at a time or as many as they can, and fail at a chosen call; and a
+//! source that never ends.
 
 ghost use Rattle.std.specs.Prelude.{◌≡◌, ◌≢◌, ◌↔◌, ◌⊎◌, ◌<◌, ◌≤◌, ◌+◌, [], None, Some, false, length, min, replicate};
 ghost use Rattle.std.specs.Prelude.{IfOk, IsErr, IsTrue};
@@ -23,7 +23,7 @@ pub enum Pace {
 }
 
 impl Pace {
-    // How many of so many bytes are moved.
+    // Returns how many of so many bytes are moved.
     fn moved(self, bytes: usize) -> usize
         ensures value { result ≡ moved self bytes }
         ensures within { result ≤ bytes }
@@ -43,7 +43,7 @@ struct Fuse {
 }
 
 impl Fuse {
-    // Counts a call, and answers whether the device allows it.
+    // Counts a call. Returns whether the device allows it.
     fn stands(&mut self) -> bool
         ensures answer { IsTrue result ↔ (self.old.calls ≢ Some 0) }
         ensures count { self.new.calls ≡ call_more self.old.calls }
@@ -59,7 +59,7 @@ impl Fuse {
     }
 }
 
-/// Bytes in memory as a source that fails at a call that is chosen.
+/// Bytes in memory as a source that fails at a chosen call.
 #[derive(Drop)]
 pub struct FuseSource<'a> {
     source: BytesSource<'a>,
@@ -82,7 +82,7 @@ impl<'a> Model for FuseSource<'a> {
 }
 
 impl<'a> FuseSource<'a> {
-    /// A source of these bytes that fails after so many calls, or never.
+    /// Returns a source of these bytes that fails after so many calls, or never.
     pub fn of(bytes: &'a [u8], pace: Pace, calls: Option<u64>) -> FuseSource<'a>
         ensures { result ≡ record { remaining = bytes.entry.now; pace = pace; calls = calls; has_failed = false } }
     {
@@ -100,7 +100,7 @@ impl<'a> Source for FuseSource<'a> {
 
     ghost has_failed = { λ s. s.has_failed };
 
-    /// Fails exactly where no call is left.
+    /// Fails if and only if no call is left.
     fn pull(&mut self, buf: &mut [u8]) -> Result<usize, Failed>
         requires room { 0 < length buf.old }
         requires working { self.old.has_failed ≡ false }
@@ -125,7 +125,7 @@ impl<'a> Source for FuseSource<'a> {
     }
 }
 
-/// A source that gives one byte for ever. It never fails.
+/// A source that gives one byte without end. It never fails.
 #[derive(Drop)]
 pub struct EndlessSource {
     byte: u8,
@@ -140,7 +140,7 @@ impl Model for EndlessSource {
 }
 
 impl EndlessSource {
-    /// A source of this byte.
+    /// Returns a source of this byte.
     pub fn of(byte: u8) -> EndlessSource
         ensures { result ≡ byte }
     {
@@ -168,7 +168,7 @@ impl Source for EndlessSource {
     }
 }
 
-/// Bytes in memory as a sink that fails at a call that is chosen, and where it is full.
+/// Bytes in memory as a sink that fails at a chosen call, and when it is full.
 #[derive(Drop)]
 pub struct FuseSink {
     sink: BytesSink,
@@ -195,8 +195,8 @@ impl Model for FuseSink {
 }
 
 impl FuseSink {
-    /// A sink with room for `room` bytes, all of which is allocated here, that fails after so many
-    /// calls, or only where it is full.
+    /// Returns a sink with room for `room` bytes, all of which is allocated here, that fails after so many calls, or
+    /// only when it is full. Out of memory is the only error.
     pub fn with_room(
         alloc: Global,
         room: usize,
@@ -214,7 +214,7 @@ impl FuseSink {
         })
     }
 
-    /// What was pushed.
+    /// Returns the bytes that were written.
     pub fn bytes(&self) -> &[u8]
         ensures value { result.now ≡ self.now.contents }
         ensures contents { ⟦<FuseSink as Sink>⟧.contents self.now ≡ Some result.now }
@@ -228,7 +228,7 @@ impl Sink for FuseSink {
 
     ghost has_failed = { λ s. s.has_failed };
 
-    /// Fails exactly where no call is left or it is full.
+    /// Fails if and only if no call is left or the sink is full.
     fn push(&mut self, bytes: &[u8]) -> Result<usize, Failed>
         requires some { 0 < length bytes.now }
         requires working { self.old.has_failed ≡ false }

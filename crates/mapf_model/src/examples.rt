@@ -3,19 +3,19 @@ ghost use Rattle.mapf_model.specs.Examples.{AClashShowsImpossibility, OneStartIs
 ghost use Rattle.mapf_model.specs.Examples.{EachChildBarsItsAgent, ChildrenInheritLabels};
 ghost use Rattle.mapf_model.specs.Examples.{SplitsAreJudgedByTheirOwnBars};
 
-/// What the definitions of labels say on small problems.
+/// The definitions of labels on small problems.
 pub fn labels_by_example()
     ensures waiting { WaitingBoundsALabel }
     ensures raised { NoLabelIsRaisedAtAFreeGoal }
 {}
 
-/// What the definitions of plans say on small problems.
+/// The definitions of plans on small problems.
 pub fn plans_by_example()
     ensures one_start { OneStartIsNoPlan }
     ensures swap { SwappingIsNoPlan }
 {}
 
-/// What the definitions of constraint trees say on small problems.
+/// The definitions of constraint trees on small problems.
 pub fn trees_by_example()
     ensures clash { AClashShowsImpossibility }
     ensures children { EachChildBarsItsAgent }

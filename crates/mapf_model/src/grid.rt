@@ -9,7 +9,7 @@ use smallvec::SmallVec;
 use std::alloc::Global;
 use std::marker::Model;
 
-/// A rectangle of cells, some of them free.
+/// A rectangular grid of cells, some of them free.
 #[derive(Debug, Drop)]
 pub struct Grid {
     width: u32,
@@ -26,8 +26,8 @@ impl Model for Grid {
 }
 
 impl Grid {
-    /// The grid of these sizes, in cells, with a flag for each cell by its number: `true` is free.
-    /// None where a size isn't 1 to 2,048 or there aren't `width * height` flags.
+    /// Returns the grid of these sizes, in cells, with a flag for each cell by its number: `true` means free. None
+    /// unless both sizes are 1 to 2,048 and there are `width * height` flags.
     pub fn of(width: u32, height: u32, free: Vec<bool>) -> Option<Grid>
         ensures good { IsSome result ↔ IsGridMap (record { width = width; height = height; free = free.items }) }
         ensures value { IfSome result (λ grid. grid ≡ record { width = width; height = height; free = free.items }) }
@@ -45,7 +45,7 @@ impl Grid {
         })
     }
 
-    /// Its columns, 1 to 2,048.
+    /// Returns the number of its columns, 1 to 2,048.
     pub fn width(&self) -> u32
         ensures width { result ≡ self.now.width }
         ensures positive { 0 < result }
@@ -55,7 +55,7 @@ impl Grid {
         self.width
     }
 
-    /// Its rows, 1 to 2,048.
+    /// Returns the number of its rows, 1 to 2,048.
     pub fn height(&self) -> u32
         ensures height { result ≡ self.now.height }
         ensures positive { 0 < result }
@@ -64,14 +64,14 @@ impl Grid {
         self.height
     }
 
-    /// Whether the cell is free. It isn't outside the grid.
+    /// Returns whether the cell is free. Outside the grid no cell is.
     pub fn is_free(&self, cell: Cell) -> bool
         ensures { IsTrue result ↔ IsFree self.now cell }
     {
         matches!(self.free.get(cell.0 as usize), Some(true))
     }
 
-    /// The column and the row of a cell.
+    /// Returns the column and the row of a cell, counted from 0.
     pub fn xy(&self, cell: Cell) -> (u32, u32)
         requires { cell < self.now.width * self.now.height }
         ensures column { result.0 ≡ column self.now cell }
@@ -80,7 +80,7 @@ impl Grid {
         (cell.0 % self.width, cell.0 / self.width)
     }
 
-    /// The cell in this column and row, None outside the grid.
+    /// Returns the cell in this column and row, None outside the grid.
     pub fn cell(&self, x: u32, y: u32) -> Option<Cell>
         ensures inside { IsSome result ↔ ((x < self.now.width) × (y < self.now.height)) }
         ensures number { IfSome result (λ cell. cell ≡ y * self.now.width + x) }
@@ -92,7 +92,7 @@ impl Grid {
         }
     }
 
-    /// Where an agent may be one tick after it is in the cell: there or in a free cell beside it.
+    /// Returns where an agent may be one tick after it is in the cell: there, or in an adjacent free cell.
     pub fn steps(&self, alloc: Global, cell: Cell) -> SmallVec<Cell, 5>
         requires { IsFree self.now cell }
         ensures exact { (to : ℕ) → Contains result.items to ↔ Step self.now cell to }
@@ -109,7 +109,7 @@ impl Grid {
         steps
     }
 
-    /// Whether an agent may be in the second cell one tick after it is in the first.
+    /// Returns whether an agent may be in the second cell one tick after it is in the first.
     pub fn is_step(&self, from: Cell, to: Cell) -> bool
         ensures { IsTrue result ↔ Step self.now from to }
     {
@@ -119,7 +119,7 @@ impl Grid {
         self.is_free(to) && from.neighbourhood(self.width()).contains(&Some(to))
     }
 
-    /// Whether the two cells are free and differ by one in exactly one coordinate.
+    /// Returns whether the two cells are free and differ by one in exactly one coordinate.
     pub fn are_adjacent(&self, from: Cell, to: Cell) -> bool
         ensures { IsTrue result ↔ AreAdjacent self.now from to }
     {

@@ -5,15 +5,14 @@ use crate::cell::{Cell, Tick};
 use crate::conflict::Conflict;
 use crate::label::Block;
 
-/// A node of a constraint tree (Sharon et al. 2015). A list of items in pre-order spells the tree: a
-/// split is followed by the items of its left child, then by those of its right child.
+/// A node of a constraint tree (Sharon et al. 2015). A tree is spelled by the list of its items in pre-order: a split
+/// is followed by the items of its left child, then by those of its right child.
 ///
-/// Splits and leaves carry blocks of labels; a proper tree has at most one for each agent at a node. A
-/// block gives its agent's labels at its node and everywhere below, until a block of the same agent
-/// replaces it.
+/// Splits and leaves have blocks of labels; in a proper tree a node has at most one for each agent. A block gives its
+/// agent's labels at its node and in the whole subtree below, until a block of the same agent replaces it.
 #[derive(Debug, Drop)]
 pub enum Item {
-    /// The left child bars agent `i` from the cell at the tick, the right child bars agent `j` from it.
+    /// A split on a vertex conflict. The left child forbids agent `i` the cell at the tick, the right child agent `j`.
     Vertex {
         i: u32,
         j: u32,
@@ -21,8 +20,8 @@ pub enum Item {
         tick: Tick,
         blocks: Vec<Block>,
     },
-    /// The left child bars agent `i` from the move `from` to `to` at the tick, the right child bars
-    /// agent `j` from the move `to` to `from`.
+    /// A split on a swapping conflict. The left child forbids agent `i` the move from `from` to `to` at the tick, the
+    /// right child forbids agent `j` the move from `to` to `from`.
     Swap {
         i: u32,
         j: u32,
@@ -31,9 +30,9 @@ pub enum Item {
         tick: Tick,
         blocks: Vec<Block>,
     },
-    /// An end of the tree, with blocks of labels.
+    /// A leaf, with blocks of labels.
     Leaf(Vec<Block>),
-    /// An end of the tree: the two agents have one goal.
+    /// A terminal node that names two agents with the same goal.
     Clash {
         i: u32,
         j: u32,
@@ -41,7 +40,7 @@ pub enum Item {
 }
 
 impl Item {
-    /// The node that is split on the conflict, with these blocks.
+    /// Returns the split on the conflict, with these blocks.
     pub fn split(conflict: Conflict, blocks: Vec<Block>) -> Item
         ensures { node_of result ≡ SplitNode conflict blocks.items }
     {
@@ -70,7 +69,7 @@ impl Item {
         }
     }
 
-    /// The conflict on which the node is split, None where it is an end of the tree.
+    /// Returns the conflict on which the node is split, None if it is terminal.
     pub fn conflict(&self) -> Option<Conflict>
         ensures split { IfSome result (λ conflict. IsSplitOn (node_of self.now) conflict) }
         ensures end { IfNone result (IsEndNode (node_of self.now)) }
@@ -101,7 +100,7 @@ impl Item {
         }
     }
 
-    /// The blocks of the node. A clash has none.
+    /// Returns the blocks of the node. A clash has none.
     pub fn blocks(&self) -> &[Block]
         ensures { result.now ≡ blocks_of (node_of self.now) }
     {
@@ -114,12 +113,12 @@ impl Item {
     }
 }
 
-/// What a certificate shows.
+/// What a certificate claims.
 #[derive(Clone, Copy, Debug, PartialEq, Eq)]
 pub enum Claim {
-    /// No valid plan has a smaller sum of costs than this, in ticks. It goes with a plan of this sum.
+    /// No valid plan has a smaller sum of costs than this, in ticks. It comes with a plan of this sum.
     Cost(u64),
-    /// No valid plan has a smaller sum of costs than this, in ticks. It goes with a limit.
+    /// No valid plan has a smaller sum of costs than this, in ticks. It comes with a limit.
     Bound(u64),
     /// No plan is valid.
     Impossible,

@@ -3,16 +3,16 @@ ghost use Rattle.mapf_model.specs.Blocks.{LabelBlock};
 use crate::cell::{Cell, Tick};
 use std::marker::Model;
 
-/// A lower bound on the ticks from a state to its agent's last arrival at its goal.
+/// A lower bound on the ticks from a state until its agent's last arrival at its goal.
 #[derive(Clone, Copy, Debug, PartialEq, Eq)]
 pub enum Label {
     /// At least so many ticks.
     Ticks(u32),
-    /// The agent can't arrive.
+    /// Infinite: the agent can't arrive.
     Never,
 }
 
-/// The label of a state: of an agent that is in the cell at the tick.
+/// A state, that is, a cell at a tick, with its label.
 #[derive(Clone, Copy, Debug, PartialEq, Eq)]
 pub struct Entry {
     pub cell: Cell,
@@ -20,8 +20,8 @@ pub struct Entry {
     pub label: Label,
 }
 
-/// The entries of one agent at a split or a leaf of a constraint tree. Every state that has no entry
-/// has the distance of its cell as its label.
+/// The entries of one agent at a split or a leaf of a constraint tree. The label of a state without an entry is the
+/// distance of its cell.
 #[derive(Debug, Drop)]
 pub struct Block {
     pub agent: u32,

@@ -3,7 +3,7 @@ ghost use Rattle.mapf_model.specs.Limits.{most_agents, greatest_side, most_path_
 ghost use Rattle.mapf_model.specs.Limits.{most_splits, last_split_tick, split_ticks, most_text_bytes};
 ghost use Rattle.mapf_model.specs.Limits.{most_cert_bytes};
 
-/// The number of `MOST_AGENTS`, alone or at the end of a text.
+/// The number `MOST_AGENTS`, alone or at the end of a text.
 #[macro_export]
 macro_rules! most_agents {
     () => {
@@ -14,13 +14,13 @@ macro_rules! most_agents {
     };
 }
 
-/// The most agents of a problem.
+/// The greatest number of agents of a problem.
 pub const MOST_AGENTS: u32 = most_agents!();
 
-/// The most columns of a grid, and the most rows.
+/// The greatest number of columns of a grid, and of rows.
 pub const GREATEST_SIDE: u32 = 2048;
 
-/// The most cells of a path.
+/// The greatest number of cells of a path.
 pub const MOST_PATH_CELLS: usize = 10_000_000;
 
 /// The greatest cost of one path, the greatest label, and the greatest tick of an entry, in ticks.
@@ -29,7 +29,7 @@ pub const GREATEST_COST: u32 = 9_999_999;
 /// The greatest sum of costs, in ticks.
 pub const GREATEST_SUM: u64 = 1_999_999_800;
 
-/// The number of `MOST_SPLITS`, alone or at the end of a text.
+/// The number `MOST_SPLITS`, alone or at the end of a text.
 #[macro_export]
 macro_rules! most_splits {
     () => {
@@ -40,22 +40,22 @@ macro_rules! most_splits {
     };
 }
 
-/// The most splits that a search may be allowed.
+/// The greatest number of splits that a search may be allowed.
 pub const MOST_SPLITS: u32 = most_splits!();
 
 /// The last tick of a conflict that may be split.
 pub const LAST_SPLIT_TICK: u32 = 999_999;
 
-/// The first tick at which a conflict isn't split any more.
+/// The first tick whose conflicts aren't split any more.
 pub const SPLIT_TICKS: u32 = 1_000_000;
 
-/// The most bytes of a map, a scenario, a plan text or an event text.
+/// The greatest number of bytes of a map, a scenario, a plan text or an event text.
 pub const MOST_TEXT_BYTES: u64 = 67_108_864;
 
-/// The most bytes of a certificate.
+/// The greatest number of bytes of a certificate.
 pub const MOST_CERT_BYTES: u64 = 1_099_511_627_776;
 
-/// The constants are the numbers of the definitions.
+/// The constants equal the numbers of the definitions.
 pub fn limits_are_defined()
     ensures agents { MOST_AGENTS ≡ most_agents }
     ensures side { GREATEST_SIDE ≡ greatest_side }

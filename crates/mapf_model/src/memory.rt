@@ -1,6 +1,6 @@
 use std::alloc::{AllocError, AllocFailed};
 
-/// A request for memory was refused.
+/// Out of memory: a request was refused.
 #[derive(Clone, Copy, Debug, PartialEq, Eq)]
 pub struct OutOfMemory;
 

@@ -1,8 +1,8 @@
 ghost use Rattle.std.specs.Prelude.{◌<◌, ℕ, false, true, IfNone, IfSome};
 ghost use Rattle.mapf_model.specs.Pairs.{EachPair, EachPairBefore};
 
-/// The first pair `(i, j)` of numbers below `count`, `i` less than `j`, for which the test is true:
-/// the one of the least `i`, and with it of the least `j`. None where it is true for no pair.
+/// Returns the first pair `(i, j)` of numbers below `count`, `i` less than `j`, for which the test is true: the one of
+/// the least `i`, and of these the one of the least `j`. None if the test is true for no pair.
 pub fn first_pair<F: Fn(usize, usize) -> bool>(count: usize, test: F) -> Option<(usize, usize)>
     requires { EachPair (F.pre test) count }
     ensures pair { IfSome result (λ pair. (pair.0 < pair.1) × (pair.1 < count)) }

@@ -7,8 +7,8 @@ use crate::cell::{Cell, Tick};
 use crate::limits::MOST_PATH_CELLS;
 use std::marker::Model;
 
-/// 1 to 10,000,000 cells, one for each tick from 0 on. After its end the agent stays at the last.
-/// Whether each two neighbours are a step isn't asked here.
+/// A path of 1 to 10,000,000 cells, one for each tick from 0 on. After its end the agent stays at the last cell.
+/// Consecutive cells need not be a step.
 #[derive(Debug, Drop)]
 pub struct Path {
     cells: Vec<Cell>,
@@ -23,7 +23,7 @@ impl Model for Path {
 }
 
 impl Path {
-    /// None for no cell or more than 10,000,000.
+    /// Returns the path of these cells. None unless there are 1 to 10,000,000.
     pub fn of(cells: Vec<Cell>) -> Option<Path>
         ensures size { IsSome result ↔ ((1 ≤ length cells.items) × (length cells.items ≤ most_path_cells)) }
         ensures value { IfSome result (λ path. path ≡ cells.items) }
@@ -34,7 +34,7 @@ impl Path {
         Some(Path { cells })
     }
 
-    /// The cells, one for each tick from 0 on.
+    /// Returns the cells, one for each tick from 0 on.
     pub fn cells(&self) -> &[Cell]
         ensures value { result.now ≡ self.now }
         ensures some { 1 ≤ length result.now }
@@ -43,14 +43,14 @@ impl Path {
         &self.cells
     }
 
-    /// The cell at this tick, also after the path's end.
+    /// Returns the cell at this tick, also after the path's end.
     pub fn at(&self, tick: Tick) -> Cell
         ensures { result ≡ at self.now tick }
     {
         self.cells[(tick as usize).min(self.cells.len() - 1)]
     }
 
-    /// The least tick from which on the agent is at the goal. None where the last cell isn't the goal.
+    /// Returns the least tick from which on the agent is at the goal. None if the last cell isn't the goal.
     pub fn cost(&self, goal: Cell) -> Option<u32>
         ensures cost { IfSome result (λ cost. IsCost goal self.now cost) }
         ensures none { IfNone result (at self.now (length self.now - 1) ≢ goal) }
@@ -65,7 +65,7 @@ impl Path {
         Some(cost as u32)
     }
 
-    /// Whether the path ends as it arrives: it has one cell, or its last two differ.
+    /// Returns whether the path has no trailing waits: it has one cell, or its last two cells differ.
     pub fn is_tight(&self) -> bool
         ensures { IsTrue result ↔ IsTight self.now }
     {

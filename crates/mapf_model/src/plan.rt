@@ -7,7 +7,7 @@ use crate::path::Path;
 use crate::problem::Problem;
 use std::marker::Model;
 
-/// 1 to 200 paths, one for each agent.
+/// A plan of 1 to 200 paths, one for each agent. It need not be valid.
 #[derive(Debug, Drop)]
 pub struct Plan {
     paths: Vec<Path>,
@@ -22,7 +22,7 @@ impl Model for Plan {
 }
 
 impl Plan {
-    /// None where there aren't 1 to 200 paths.
+    /// Returns the plan of these paths. None unless there are 1 to 200.
     pub fn of(paths: Vec<Path>) -> Option<Plan>
         ensures size { IsSome result ↔ ((1 ≤ length paths.items) × (length paths.items ≤ most_agents)) }
         ensures value { IfSome result (λ plan. plan ≡ paths.items) }
@@ -33,7 +33,7 @@ impl Plan {
         Some(Plan { paths })
     }
 
-    /// The paths, each at the place of its agent.
+    /// Returns the paths, in the order of their agents.
     pub fn paths(&self) -> &[Path]
         ensures value { result.now ≡ self.now }
         ensures some { 1 ≤ length result.now }
@@ -42,8 +42,7 @@ impl Plan {
         &self.paths
     }
 
-    /// The sum of the costs of the agents' paths, in ticks. None where a path doesn't end at its
-    /// agent's goal.
+    /// Returns the sum of the costs of the agents' paths, in ticks. None if a path doesn't end at its agent's goal.
     pub fn sum(&self, problem: &Problem) -> Option<u64>
         requires { length self.now ≡ length problem.now.agents }
         ensures sum { IfSome result (IsSumOfCosts problem.now.agents self.now) }

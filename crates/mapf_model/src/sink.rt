@@ -9,14 +9,14 @@ use std::alloc::Global;
 use std::io::Write;
 use std::marker::Model;
 
-/// Where bytes go.
+/// A device that bytes are written to.
 pub trait Sink {
-    /// The bytes that were pushed, if the sink reports them.
+    /// The bytes that were written, if the sink reports them.
     ghost contents: { Self → Option (List ℕ) };
     /// Whether it has failed.
     ghost has_failed: { Self → Bool };
 
-    /// Takes a prefix of these bytes and answers how many, at least one.
+    /// Writes a prefix of these bytes and returns its length, at least one.
     fn push(&mut self, bytes: &[u8]) -> Result<usize, Failed>
         requires some { 0 < length bytes.now }
         requires working { has_failed self.old ≡ false }
@@ -29,7 +29,7 @@ pub trait Sink {
         ensures { result ≡ has_failed self.now };
 }
 
-/// A writer of the standard library as a sink. Any error is a failure, and so is a write of no byte.
+/// A writer of the standard library as a sink. Any error is a failure, and so is a write of no bytes.
 #[derive(Drop)]
 pub struct WriteSink<W: Write> {
     inner: W,
@@ -68,7 +68,7 @@ impl<W: Write> Sink for WriteSink<W> {
     }
 }
 
-/// Bytes in memory as a sink, with room for a number of bytes.
+/// Bytes in memory as a sink of limited size.
 #[derive(Drop)]
 pub struct BytesSink {
     bytes: Vec<u8>,
@@ -87,7 +87,7 @@ impl Model for BytesSink {
 }
 
 impl BytesSink {
-    /// A sink with room for `room` bytes, all of which is allocated here.
+    /// Returns a sink with room for `room` bytes, all of which is allocated here.
     pub fn with_room(alloc: Global, room: usize) -> Result<BytesSink, OutOfMemory>
         ensures { IfOk result (λ s. s ≡ ([], room, false)) }
     {
@@ -98,7 +98,7 @@ impl BytesSink {
         })
     }
 
-    /// What was pushed.
+    /// Returns the bytes that were written.
     pub fn bytes(&self) -> &[u8]
         ensures value { result.now ≡ self.now.0 }
         ensures contents { ⟦<BytesSink as Sink>⟧.contents self.now ≡ Some result.now }
@@ -112,7 +112,7 @@ impl Sink for BytesSink {
 
     ghost has_failed = { λ s. s.2 };
 
-    /// Takes as many as there is room for, and fails exactly where there is none.
+    /// Writes as many bytes as there is room for, and fails if and only if there is none.
     fn push(&mut self, bytes: &[u8]) -> Result<usize, Failed>
         requires some { 0 < length bytes.now }
         requires working { self.old.2 ≡ false }
@@ -137,7 +137,7 @@ impl Sink for BytesSink {
     }
 }
 
-/// Writes all of the bytes.
+/// Writes all of the bytes, or fails if the sink does.
 pub fn write_all<K: Sink>(sink: &mut K, bytes: &[u8]) -> Result<(), Failed>
     requires { K.has_failed sink.old ≡ false }
     ensures ok { OnOk result (Appends (K.contents sink.old) (K.contents sink.new) bytes.now) }

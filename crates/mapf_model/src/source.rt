@@ -10,14 +10,14 @@ use std::io::Read;
 #[derive(Clone, Copy, Debug, PartialEq, Eq)]
 pub struct Failed;
 
-/// Where bytes come from.
+/// A device that bytes are read from.
 pub trait Source {
-    /// The bytes that pulls give from here on, if the source reports them.
+    /// The bytes that are still to be read, if the source reports them.
     ghost remaining: { Self → Option (List ℕ) };
     /// Whether it has failed.
     ghost has_failed: { Self → Bool };
 
-    /// Writes some bytes to the beginning of the buffer and answers how many. 0 is the end.
+    /// Reads some bytes into the beginning of the buffer and returns how many. 0 means the end.
     fn pull(&mut self, buf: &mut [u8]) -> Result<usize, Failed>
         requires room { 0 < length buf.old }
         requires working { has_failed self.old ≡ false }
@@ -87,7 +87,7 @@ impl<'a> Source for BytesSource<'a> {
 
     ghost has_failed = { λ _. false };
 
-    /// Gives as many as there are and the buffer has room for.
+    /// Reads as many bytes as are left and fit into the buffer.
     fn pull(&mut self, buf: &mut [u8]) -> Result<usize, Failed>
         requires { 0 < length buf.old }
         ensures bound { IfOk result (λ n. n ≤ length buf.new) }
@@ -107,7 +107,7 @@ impl<'a> Source for BytesSource<'a> {
     }
 }
 
-/// Why not all of a source was read.
+/// Why a source was not read to its end.
 #[derive(Clone, Copy, Debug, PartialEq, Eq)]
 pub enum ReadEnd {
     Device,
@@ -115,7 +115,7 @@ pub enum ReadEnd {
     Memory,
 }
 
-/// Reads all that a source gives, at most `limit` bytes.
+/// Reads all bytes of a source, at most `limit`.
 pub fn read_all<S: Source>(alloc: Global, source: &mut S, limit: u64) -> Result<Vec<u8>, ReadEnd>
     requires { S.has_failed source.old ≡ false }
     ensures all { IfOk result (λ v. Consumes (S.remaining source.old) (S.remaining source.new) v.items) }

@@ -1,5 +1,5 @@
--- What is promised of agents that follow a plan, in whatever order and however often they ask to go on. An agent that
--- is told to go is in its next cell from then on. (Own)
+-- What holds of agents that follow a plan, in whatever order and however often they ask to move on. An agent whose
+-- reply is `Go` is in its next cell from then on. (Own)
 use Rattle.std.specs.Prelude.{◌≡◌, ◌≢◌, ℕ, ◌+◌, ◌<◌, List, [], ◌∷◌, ◌++◌, length, if◌then◌else◌, ◌==◌, map, take, Some, slice_get}
 use Rattle.mapf_model.specs.Plan.{Instance, IsValid}
 use Rattle.mapf_player.specs.declared.visit.Visit.{Visit}
@@ -17,12 +17,12 @@ abbrev pub NoTwoAgentsMeet : Type 0
 NoTwoAgentsMeet = (problem : Instance) (plan : List (List ℕ)) (progress : Progress) → IsValid problem plan → IsReached plan progress →
     (i j : ℕ) (a b : Visit) → i ≢ j → IsIn progress i a → IsIn progress j b → a.cell ≢ b.cell
 
--- no agent that follows a valid plan is told to go into a cell in which another agent is
+-- no agent that follows a valid plan gets the reply to move to a cell in which another agent is
 abbrev pub NobodyEntersAnOccupiedCell : Type 0
 NobodyEntersAnOccupiedCell = (problem : Instance) (plan : List (List ℕ)) (before after : Progress) (agent cell : ℕ) → IsValid problem plan → IsReached plan before →
     IsReply before agent (Go cell) after → (other : ℕ) (visit : Visit) → other ≢ agent → IsIn before other visit → visit.cell ≢ cell
 
--- the cells into which an agent went on, as it was told
+-- the cells to which an agent moved, by its replies
 abbrev pub cells_entered : ℕ → List ℕ → List Reply → List ℕ
 cells_entered agent [] replies = []
 cells_entered agent (asked ∷ agents) [] = []
@@ -30,7 +30,7 @@ cells_entered agent (asked ∷ agents) (Go cell ∷ replies) = (if asked == agen
 cells_entered agent (asked ∷ agents) (Hold other ∷ replies) = cells_entered agent agents replies
 cells_entered agent (asked ∷ agents) (Done ∷ replies) = cells_entered agent agents replies
 
--- the cells in which an agent was are those of its visits so far, in their order
+-- the cells in which an agent was are those of its visits so far, in order
 abbrev pub CellsAreAPrefix : Type 0
 CellsAreAPrefix = (visits : List (List Visit)) (agents : List ℕ) (replies : List Reply) (progress : Progress) → AreReplies (beginning visits) agents replies progress →
     (agent : ℕ) (own : List Visit) (first : Visit) (number : ℕ) → slice_get visits agent ≡ Some own → slice_get own 0 ≡ Some first → slice_get progress.numbers agent ≡ Some number →
@@ -40,7 +40,7 @@ CellsAreAPrefix = (visits : List (List Visit)) (agents : List ℕ) (replies : Li
 abbrev pub RepliesAreOne : Type 0
 RepliesAreOne = (before : Progress) (agent : ℕ) (a b : Reply) (after other : Progress) → IsReply before agent a after → IsReply before agent b other → (a ≡ b) × (after ≡ other)
 
--- every agent that asks is answered
+-- every agent that asks gets a reply
 abbrev pub EveryAgentIsAnswered : Type 0
 EveryAgentIsAnswered = (progress : Progress) (agent : ℕ) → IsOfValidPlan progress → agent < length progress.numbers → (reply : Reply) × (after : Progress) × IsReply progress agent reply after
 

@@ -1,4 +1,4 @@
--- Event texts: the agents that ask to go on, one after another, and the errors. (Own)
+-- Event texts: the agents that ask to move on, one after another, and the errors. (Own)
 use Rattle.std.specs.Prelude.{◌≡◌, ◌≢◌, ◌⊎◌, ℕ, ◌+◌, ◌<◌, ◌≤◌, ◌^◌, true, List, [], ◌∷◌, ◌++◌, All, codes, length, Result, Err}
 use Rattle.std.specs.Fmt.{decimal}
 use Rattle.std.specs.Str.Parse.{AllDigits, digits_value}
@@ -30,15 +30,15 @@ pub record SpellsEvents (bytes : List ℕ) (count : ℕ) (agents : List ℕ) : T
   pub in_range : All (λ agent. agent < count) agents
   pub spelled : bytes ≡ event_text agents
 
--- no bytes spell two lists of events of so many agents
+-- for so many agents no bytes spell two lists of events
 abbrev pub SpellsOneListOfEvents : Type 0
 SpellsOneListOfEvents = (bytes : List ℕ) (count : ℕ) (a b : List ℕ) → count < 2 ^ 32 → SpellsEvents bytes count a → SpellsEvents bytes count b → a ≡ b
 
--- the answer is as it has to be, or that a request for memory was refused
+-- the result is as it has to be, or it is out of memory
 abbrev pub OrMemory : {T : Type 0} → Result T EventFault → Type 0 → Type 0
 OrMemory result is = is ⊎ (result ≡ Err Memory)
 
--- `0`, or digits of which the first isn't `0`, however many
+-- `0`, or any number of digits of which the first isn't `0`
 abbrev pub IsNumberText : List ℕ → Type 0
 IsNumberText line = AllDigits 10 line × (begins_well line ≡ true)
 
@@ -72,7 +72,7 @@ pub record HasNoAgent (rest : List ℕ) (count : ℕ) : Type 0 where
   pub is_number : IsNumberText line
   pub great : count ≤ digits_value 10 line
 
--- what each error says of an event text of so many agents: the lines before its location are good, and its defect is
+-- what each error says of an event text of so many agents: the lines before its location are correct, and its defect is
 -- there; out of memory says nothing
 abbrev pub HasEventFault : List ℕ → ℕ → EventFault → Type 0
 HasEventFault bytes count (E1 line) =
@@ -86,7 +86,7 @@ HasEventFault bytes count (E4 line) =
     (last : ℕ) × (rest : List ℕ) × HasRestAt bytes count last (codes "end\n" ++ rest) × (line ≡ last + 1) × (rest ≢ [])
 HasEventFault bytes count Memory = Unit {0}
 
--- why a line gives no agent below the count: it isn't a number, or one that isn't below
+-- why a line names no agent below the count: it isn't a number, or the number isn't below the count
 abbrev pub GivesNoAgent : List ℕ → ℕ → ℕ → EventFault → Type 0
 GivesNoAgent line count number (E1 at) = (at ≡ number) × (IsNumberText line → ⊥)
 GivesNoAgent line count number (E3 at) = (at ≡ number) × IsNumberText line × (count ≤ digits_value 10 line)

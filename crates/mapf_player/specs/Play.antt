@@ -1,4 +1,4 @@
--- The text of a plan that is played: one frame for each tick.
+-- The text of a played plan: one frame for each tick.
 use Rattle.std.specs.Prelude.{◌≡◌, ◌≢◌, ◌≤◌, ℕ, ◌+◌, ◌-◌, ◌*◌, if◌then◌else◌, ◌==◌, nat_lt, false, Option, Some, option_map, unwrap_or, List, [], ◌∷◌, ◌++◌, map, codes, position, flat_map, slice_get, slice_index_or}
 use Rattle.std.specs.List.{range_with_len}
 use Rattle.std.specs.Fmt.{decimal}
@@ -11,7 +11,7 @@ use Rattle.mapf_model.specs.Plan.{Instance, IsValid}
 abbrev pub mark : ℕ → ℕ
 mark agent = if nat_lt agent 10 then 48 + agent else (if nat_lt agent 36 then 97 + (agent - 10) else (if nat_lt agent 62 then 65 + (agent - 36) else 42))
 
--- the byte of a cell in which nobody stands: `.` where it is free, else `@`
+-- the byte of a cell in which no agent is: `.` if it is free, else `@`
 abbrev pub terrain : GridMap → ℕ → ℕ
 terrain grid cell = if slice_index_or grid.free cell false then 46 else 64
 
@@ -19,7 +19,7 @@ terrain grid cell = if slice_index_or grid.free cell false then 46 else 64
 abbrev pub agent_in : List (List ℕ) → ℕ → ℕ → Option ℕ
 agent_in plan tick cell = position (λ path. at path tick == cell) plan
 
--- the byte of a cell: the mark of the first agent that stands in it, else the terrain
+-- the byte of a cell: the mark of the first agent that is in it, else the terrain
 abbrev pub cell_byte : GridMap → List (List ℕ) → ℕ → ℕ → ℕ
 cell_byte grid plan tick cell = unwrap_or (option_map mark (agent_in plan tick cell)) (terrain grid cell)
 
@@ -47,23 +47,23 @@ frame grid plan tick = line (codes "tick ") tick ++ rows grid plan tick
 abbrev pub play_text : GridMap → List (List ℕ) → ℕ → List ℕ
 play_text grid plan last = flat_map (frame grid plan) (range_with_len 0 (last + 1)) ++ line (codes "end ") last
 
--- the makespan, the tick at which the last agent arrives for good: some agent's path costs this, and none costs more
+-- the makespan: some agent's path costs this, and none costs more
 pub record IsMakespan (agents : List Agent) (plan : List (List ℕ)) (makespan : ℕ) : Type 0 where
   pub some : (i : ℕ) × (agent : Agent) × (path : List ℕ) × (slice_get agents i ≡ Some agent) × (slice_get plan i ≡ Some path) × IsCost agent.goal path makespan
   pub most : (i : ℕ) (agent : Agent) (path : List ℕ) (cost : ℕ) → slice_get agents i ≡ Some agent → slice_get plan i ≡ Some path → IsCost agent.goal path cost → cost ≤ makespan
 
--- the text that plays the plan, up to its makespan
+-- the text of the plan, up to its makespan
 abbrev pub IsPlayText : Instance → List (List ℕ) → List ℕ → Type 0
 IsPlayText problem plan text = (makespan : ℕ) × IsMakespan problem.agents plan makespan × (text ≡ play_text problem.grid plan makespan)
 
--- a plan has one such text at most
+-- a plan has at most one such text
 abbrev pub PlaysAreOne : Type 0
 PlaysAreOne = (problem : Instance) (plan : List (List ℕ)) (a b : List ℕ) → IsPlayText problem plan a → IsPlayText problem plan b → a ≡ b
 
--- in a valid plan each agent is seen where it stands, at every tick
+-- in a valid plan each agent is shown where it is, at every tick
 abbrev pub AgentsAreSeen : Type 0
 AgentsAreSeen = (problem : Instance) (plan : List (List ℕ)) → IsValid problem plan → (i tick : ℕ) (path : List ℕ) → slice_get plan i ≡ Some path → cell_byte problem.grid plan tick (at path tick) ≡ mark i
 
--- where no agent stands the terrain is seen
+-- where no agent is the terrain is shown
 abbrev pub TerrainIsSeen : Type 0
 TerrainIsSeen = (grid : GridMap) (plan : List (List ℕ)) (tick cell : ℕ) → ((i : ℕ) (path : List ℕ) → slice_get plan i ≡ Some path → at path tick ≢ cell) → cell_byte grid plan tick cell ≡ terrain grid cell

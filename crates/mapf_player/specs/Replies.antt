@@ -13,7 +13,7 @@ reply_line width agent (Go cell) = codes "go " ++ (decimal agent ++ (32 ∷ (dec
 reply_line width agent (Hold other) = codes "hold " ++ (decimal agent ++ (codes " by " ++ (decimal other ++ (10 ∷ []))))
 reply_line width agent Done = codes "done " ++ (decimal agent ++ (10 ∷ []))
 
--- the lines of all replies, in the order in which they were asked for
+-- the lines of all replies, in the order in which the agents asked
 abbrev pub reply_text : ℕ → List ℕ → List Reply → List ℕ
 reply_text width [] replies = []
 reply_text width (agent ∷ agents) [] = []

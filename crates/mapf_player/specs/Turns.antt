@@ -1,4 +1,4 @@
--- The order in which cells are visited, as a list.
+-- The order in which agents visit cells, as a list.
 use Rattle.std.specs.Prelude.{◌≡◌, ℕ, ◌+◌, ◌*◌, ◌≤◌, ◌<◌, List, [], ◌∷◌, Contains}
 use Rattle.std.specs.List.Sorted.{IsNonDecreasingBy}
 use Rattle.mapf_model.specs.Limits.{most_path_cells}
@@ -7,11 +7,11 @@ use Rattle.mapf_player.specs.declared.dispatch.Turn.{Turn}
 use Rattle.mapf_player.specs.Dispatching.{Progress, IsLeft}
 use Rattle.mapf_player.specs.Visits.{IsVisit}
 
--- the cell and the tick of entry as one number, by which visits stand by cell and then by entry
+-- the cell and the tick of entry as one number, which orders visits by cell and then by entry
 abbrev pub key_of : Visit → ℕ
 key_of visit = visit.cell * most_path_cells + visit.entry
 
--- the turn is this visit, entered at a tick that the longest path has
+-- the turn is this visit, entered at a tick below the greatest number of cells of a path
 abbrev pub IsTurnOf : List (List Visit) → Turn → Visit → Type 0
 IsTurnOf visits turn visit = IsVisit visits turn.agent turn.number visit × (turn.key ≡ key_of visit) × (visit.entry < most_path_cells)
 
@@ -34,6 +34,6 @@ own_turns agent number (visit ∷ visits) = record { key = key_of visit; agent =
 abbrev pub IsTurn : Progress → Turn → Type 0
 IsTurn progress turn = (visit : Visit) × IsTurnOf progress.visits turn visit
 
--- the turn has at least this key, and its agent hasn't gone on from it
+-- the turn has at least this key, and its agent hasn't left it
 abbrev pub IsDue : Progress → Turn → ℕ → Type 0
 IsDue progress turn from = (from ≤ turn.key) × (IsLeft progress turn.agent turn.number → ⊥)

@@ -15,7 +15,7 @@ use mapf_model::{OutOfMemory, Plan};
 use std::alloc::Global;
 use std::marker::Model;
 
-// A visit in the order in which its cell is visited.
+// A visit in the list of all visits, which is ordered by cell and tick of entry.
 #[derive(Clone, Copy, Debug)]
 struct Turn {
     // The cell and the tick of entry as one number.
@@ -32,7 +32,7 @@ fn key_of(visit: &Visit) -> u64
     first_key(visit) + visit.entry as u64
 }
 
-// The key of a visit of the same cell from the plan's beginning on.
+// Returns the least key that a visit of the same cell can have.
 fn first_key(visit: &Visit) -> u64
     ensures key { result ≡ visit.now.cell * most_path_cells }
     ensures small { result < 2 ^ 32 * most_path_cells }
@@ -40,7 +40,7 @@ fn first_key(visit: &Visit) -> u64
     visit.cell.0 as u64 * MOST_PATH_CELLS as u64
 }
 
-// The lesser of two agents, of which one may be missing.
+// Returns the smaller of two agents, of which one may be missing.
 fn lesser(least: Option<u32>, agent: u32) -> u32
     ensures { MatchOption least (result ≡ agent) (λ other. result ≡ min other agent) }
 {
@@ -50,7 +50,7 @@ fn lesser(least: Option<u32>, agent: u32) -> u32
     }
 }
 
-// The visits of each agent's path.
+// Returns the visits of each agent's path.
 fn visits_of(alloc: Global, plan: &Plan) -> Result<Vec<Visits>, OutOfMemory>
     ensures visits { IfOk result (λ visits. AreVisitsOfAll plan.now visits.items) }
     ensures few { IfOk result (λ visits. length visits.items ≤ most_agents) }
@@ -78,7 +78,7 @@ fn add_turns(turns: &mut Vec<Turn>, agent: u32, visits: &Visits) -> Result<(), O
     Ok(())
 }
 
-// All visits by cell and then by entry.
+// Returns all visits by cell and then by tick of entry.
 fn turns_of(alloc: Global, visits: &[Visits]) -> Result<Vec<Turn>, OutOfMemory>
     requires { length visits.now ≤ most_agents }
     ensures { IfOk result (λ turns. AreSortedTurns visits.now turns.items) }
@@ -91,7 +91,7 @@ fn turns_of(alloc: Global, visits: &[Visits]) -> Result<Vec<Turn>, OutOfMemory>
     Ok(turns)
 }
 
-// How many turns have a lesser key.
+// Returns how many turns have a smaller key.
 fn place_of(turns: &[Turn], key: u64) -> usize
     requires { IsNonDecreasingBy (λ turn. turn.key) turns.now }
     ensures bound { result ≤ length turns.now }
@@ -101,12 +101,11 @@ fn place_of(turns: &[Turn], key: u64) -> usize
     turns.partition_point(|turn| turn.key < key)
 }
 
-/// Agents that follow a valid plan, each at its own pace: how far each is, and who goes first where two
-/// of them visit one cell.
+/// Agents that follow a valid plan, each at its own pace: how far each is, and in which order they visit each cell.
 #[derive(Debug, Drop)]
 pub struct Dispatch {
     visits: Vec<Visits>,
-    // All visits by cell and then by entry.
+    // All visits by cell and then by tick of entry.
     turns: Vec<Turn>,
     // The number of the visit in which each agent is.
     numbers: Vec<u32>,
@@ -125,8 +124,8 @@ impl Model for Dispatch {
 }
 
 impl Dispatch {
-    /// Each agent of the plan in its first visit. Allocates all memory; later calls allocate
-    /// nothing.
+    /// Returns the state in which each agent of the plan is in its first visit. Allocates all memory; later calls
+    /// allocate nothing.
     pub fn new(alloc: Global, plan: &Plan) -> Result<Dispatch, OutOfMemory>
         requires valid { (problem : Instance) × IsValid problem plan.now }
         ensures visits { IfOk result (λ dispatch. AreVisitsOfAll plan.now dispatch.visits) }
@@ -143,12 +142,13 @@ impl Dispatch {
         })
     }
 
-    /// The reply to an agent that asks to go on into its next cell. If the reply is to go, the
-    /// agent is in that cell from now on, and has left the one before. Nothing is allocated.
+    /// Returns the reply to an agent that asks to move on to its next cell. If the reply is `Go`, the agent is in that
+    /// cell from now on, and has left the one before. Nothing is allocated.
     pub fn ask(&mut self, agent: u32) -> Reply
         requires { agent < length self.old.numbers }
         ensures reply { IsReply self.old agent result self.new }
-        // What agents that follow a valid plan may reach: so no two of them are in one cell.
+        // The agents' progress is one that agents that follow a valid plan can reach, so no two of them are in one
+        // cell.
         ensures valid { IsOfValidPlan self.new }
         ensures agents { length self.new.numbers ≡ length self.old.numbers }
     {
@@ -163,7 +163,7 @@ impl Dispatch {
         Reply::Go(next.cell)
     }
 
-    // The agent's visit after this one, in which it is.
+    // Returns the agent's next visit after this one, in which it is.
     fn next(&self, agent: u32, number: u32) -> Option<Visit>
         requires { slice_get self.now.numbers agent ≡ Some number }
         ensures next { MatchOption result ((visit : Visit) → IsNext self.now agent visit → ⊥) (IsNext self.now agent) }
@@ -182,7 +182,7 @@ impl Dispatch {
         }
     }
 
-    // Takes the agent from this visit to its next one.
+    // Moves the agent from this visit to its next one.
     fn advance(&mut self, agent: u32, number: u32)
         requires number { slice_get self.old.numbers agent ≡ Some number }
         requires small { number < most_path_cells }
@@ -193,7 +193,7 @@ impl Dispatch {
         self.numbers[agent as usize] = number + 1;
     }
 
-    // The number of the visit in which the agent is.
+    // Returns the number of the visit in which the agent is.
     fn number(&self, agent: u32) -> u32
         requires { agent < length self.now.numbers }
         ensures { slice_get self.now.numbers agent ≡ Some result }
@@ -201,7 +201,7 @@ impl Dispatch {
         self.numbers[agent as usize]
     }
 
-    // Whether a turn of a visit, from this key on, is of an agent that hasn't left it.
+    // Returns whether the turn has at least this key and its agent hasn't left it.
     fn is_due(&self, turn: &Turn, from: u64) -> bool
         requires progress { IsProgress self.now }
         requires turn { IsTurn self.now turn.now }
@@ -210,7 +210,7 @@ impl Dispatch {
         from <= turn.key && self.number(turn.agent) <= turn.number
     }
 
-    // The least agent that visits the cell earlier in the plan and hasn't left it.
+    // Returns the least other agent that visits the cell earlier in the plan and hasn't left it.
     fn awaited(&self, visit: &Visit) -> Option<u32>
         requires { visit.now.entry < most_path_cells }
         ensures { (agent : ℕ) → IsNext self.now agent visit.now → IsLeastAwaited self.now agent visit.now result }

@@ -7,22 +7,22 @@ ghost use Rattle.mapf_player.specs.Events.{GivesNoAgent, HasEventFault, OrMemory
 use mapf_fields::{below, cut, whole};
 use std::alloc::Global;
 
-/// Why a text of events can't be read. Lines are counted from 1.
+/// Why an event text can't be read. Lines are counted from 1.
 #[derive(Clone, Copy, Debug, PartialEq, Eq)]
 pub enum EventFault {
     /// The line isn't the expected one.
     E1(u64),
-    /// The text ends where this line should begin, or inside it.
+    /// The text ends where this line would begin, or inside it.
     E2(u64),
-    /// The agent of this line isn't one of the problem's.
+    /// The agent of this line isn't one of the problem's agents.
     E3(u64),
-    /// Something follows the last line, from this line on.
+    /// There is text after the last line, from this line on.
     E4(u64),
-    /// A request for memory was refused.
+    /// Out of memory.
     Memory,
 }
 
-// Takes the expected line.
+// Takes the next line.
 fn line_at(number: u64, bytes: &[u8]) -> Result<(&[u8], &[u8]), EventFault>
     ensures found { IfOk result (λ p. IsCut bytes.entry.now p.0.now p.1.now) }
     ensures only { lacks_end bytes.entry.now ≡ false → IsOk result }
@@ -34,7 +34,7 @@ fn line_at(number: u64, bytes: &[u8]) -> Result<(&[u8], &[u8]), EventFault>
     }
 }
 
-// The agent of a line.
+// Returns the agent of a line.
 fn agent_of(number: u64, line: &[u8], agents: u32) -> Result<u32, EventFault>
     ensures found { IfOk result (λ agent. (line.now ≡ decimal agent) × (agent < agents)) }
     ensures only { (agent : ℕ) → agent < agents → line.now ≡ decimal agent → result ≡ Ok agent }
@@ -49,7 +49,7 @@ fn agent_of(number: u64, line: &[u8], agents: u32) -> Result<u32, EventFault>
     }
 }
 
-// The agents of the lines up to `end`, the number of the line after it, and what follows.
+// Returns the agents of the lines up to `end`, the number of the line after it, and what follows.
 fn agents_of(alloc: Global, bytes: &[u8], agents: u32) -> Result<(Vec<u32>, u64, &[u8]), EventFault>
     ensures found { IfOk result (λ p. All (λ agent. agent < agents) p.0.items
         × (bytes.entry.now ≡ event_lines p.0.items ++ p.2.now)) }
@@ -76,12 +76,12 @@ fn agents_of(alloc: Global, bytes: &[u8], agents: u32) -> Result<(Vec<u32>, u64,
     }
 }
 
-/// The agents that ask to go on, one after another, as a text of events of so many agents spells them.
+/// Returns the agents that ask to move on, one after another, as an event text for so many agents spells them.
 pub fn read_events(alloc: Global, bytes: &[u8], agents: u32) -> Result<Vec<u32>, EventFault>
     ensures found { IfOk result (λ events. SpellsEvents bytes.now agents events.items) }
     ensures only { (events : List ℕ) → SpellsEvents bytes.now agents events
         → OrMemory result (IsOkAnd result (λ read. read.items ≡ events)) }
-    // The lines before the reported location are good, and the defect is there.
+    // The lines before the reported location are correct, and the error is there.
     ensures fault { IfErr result (HasEventFault bytes.now agents) }
 {
     let (title, rest) = line_at(1, bytes)?;

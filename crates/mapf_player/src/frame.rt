@@ -9,7 +9,7 @@ use mapf_fields::Page;
 use mapf_model::limits::GREATEST_SIDE;
 use mapf_model::{Failed, Grid, Path, Sink, Tick};
 
-// Writes a row of the grid and LF, by way of a buffer for a row.
+// Writes a row of the grid and LF, through a buffer for a row.
 fn put_row<K: Sink>(
     page: &mut Page,
     sink: &mut K,

@@ -5,12 +5,12 @@ ghost use Rattle.mapf_player.specs.Events.{SpellsOneListOfEvents};
 ghost use Rattle.mapf_player.specs.Visits.{VisitsAreOne};
 ghost use Rattle.mapf_player.specs.Play.{AgentsAreSeen, TerrainIsSeen, PlaysAreOne};
 
-/// A plan is played by one text.
+/// A plan has at most one played text.
 pub fn plays_are_one()
     ensures { PlaysAreOne }
 {}
 
-/// What stands in a cell is seen there.
+/// In a played text each cell shows the agent that is in it.
 pub fn cells_are_seen()
     ensures agents { AgentsAreSeen }
     ensures terrain { TerrainIsSeen }
@@ -21,7 +21,7 @@ pub fn visits_are_one()
     ensures { VisitsAreOne }
 {}
 
-/// Agents that follow a valid plan never meet, in whatever order and however often they ask.
+/// Agents that follow a valid plan are never in one cell, in whatever order and however often they ask.
 pub fn agents_stay_apart()
     ensures order { ProgressStaysInOrder }
     ensures apart { NoTwoAgentsMeet }
@@ -33,14 +33,14 @@ pub fn cells_are_a_prefix()
     ensures { CellsAreAPrefix }
 {}
 
-/// Every agent that asks is answered, by one reply.
+/// Every agent that asks gets exactly one reply.
 pub fn replies_are_one()
     ensures some { EveryAgentIsAnswered }
     ensures one { RepliesAreOne }
     ensures text { ReplyTextsAreOne }
 {}
 
-/// A text of events is one of one list.
+/// An event text spells at most one list of events.
 pub fn events_are_spelled_apart()
     ensures { SpellsOneListOfEvents }
 {}

@@ -3,7 +3,7 @@ ghost use Rattle.mapf_player.specs.Play.{terrain, mark};
 
 use mapf_model::{Cell, Grid};
 
-/// The byte of an agent, by its number.
+/// Returns the byte of an agent, by its number.
 pub fn mark_of(agent: usize) -> u8
     ensures { result ≡ mark agent }
 {
@@ -15,7 +15,7 @@ pub fn mark_of(agent: usize) -> u8
     }
 }
 
-/// The byte of a cell in which nobody stands.
+/// Returns the byte of a cell in which no agent is.
 pub fn terrain_of(grid: &Grid, cell: Cell) -> u8
     ensures { result ≡ terrain grid.now cell }
 {

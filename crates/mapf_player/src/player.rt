@@ -11,7 +11,7 @@ use crate::line::put_line;
 use mapf_fields::Page;
 use mapf_model::{Failed, Grid, Path, Plan, Problem, Sink, Tick};
 
-// The tick at which the last agent arrives for good.
+// Returns the makespan, the greatest cost of a path.
 fn makespan_of(problem: &Problem, plan: &Plan) -> Tick
     requires { IsValid problem.now plan.now }
     ensures { IsMakespan problem.now.agents plan.now result }
@@ -61,12 +61,10 @@ pub fn write_text<K: Sink>(
     page.flush(sink)
 }
 
-/// Writes what the plan looks like at each tick, from 0 to its makespan, at which the last agent
-/// arrives for good: a line `tick t`, and a line for each row of the grid. Last comes a line
-/// `end m` with the makespan in ticks. A free cell is `.`, a blocked one `@`. The agents are `0` to
-/// `9`, `a` to `z`, `A` to `Z`, and from the 63rd on `*`. After its path ended an agent stays where
-/// it is. Nothing is allocated. `Failed` is answered only where the sink failed, and then it got a
-/// prefix of that text.
+/// Writes the plan tick by tick, from 0 to its makespan: a line `tick t`, and a line for each row of the grid. The last
+/// line is `end m` with the makespan in ticks. A free cell is `.`, a blocked one `@`. The agents are `0` to `9`, `a` to
+/// `z`, `A` to `Z`, and from the 63rd on `*`. After the end of its path an agent stays at its last cell. Nothing is
+/// allocated. `Failed` is returned only if the sink failed; it then got a prefix of that text.
 pub fn play<K: Sink>(problem: &Problem, plan: &Plan, sink: &mut K) -> Result<(), Failed>
     requires works { K.has_failed sink.old ≡ false }
     requires valid { IsValid problem.now plan.now }

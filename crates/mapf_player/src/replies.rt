@@ -64,10 +64,10 @@ fn put_replies<K: Sink>(
     Ok(())
 }
 
-/// Lets agents ask one after another, each of them as often as it is in the list, and writes the
-/// replies, a line each: `go I x,y`, `hold I by J` or `done I`, where I and J are agents and x,y is
-/// the cell by its column and row. Nothing is allocated. `Failed` is answered only where the sink
-/// failed, and then it got a prefix of that text, and nothing is said of where the agents are then.
+/// Lets agents ask one after another, each as often as it is in the list, and writes the replies, a line each:
+/// `go I x,y`, `hold I by J` or `done I`, where I and J are agents and x,y is the cell by its column and row. Nothing
+/// is allocated. `Failed` is returned only if the sink failed; it then got a prefix of that text, and the contract
+/// doesn't say where the agents are.
 pub fn dispatch_all<K: Sink>(
     dispatch: &mut Dispatch,
     grid: &Grid,

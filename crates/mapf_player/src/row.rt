@@ -4,7 +4,7 @@ ghost use Rattle.mapf_player.specs.Play.{agent_in, terrain, mark, row_cells};
 use crate::marks::{mark_of, terrain_of};
 use mapf_model::{Cell, Grid, Path, Tick};
 
-// Fills a row as if nobody stood in it.
+// Fills a row as if no agent were in it.
 fn fill_terrain(row: &mut [u8], grid: &Grid, y: u32)
     requires whole { length row.old ≡ grid.now.width }
     requires inside { y < grid.now.height }
@@ -16,7 +16,7 @@ fn fill_terrain(row: &mut [u8], grid: &Grid, y: u32)
     }
 }
 
-// Marks the cells of a row in which agents stand. The first of several in one cell is seen.
+// Marks the cells of a row in which agents are. If several are in one cell, the first one is shown.
 fn mark_agents(row: &mut [u8], grid: &Grid, paths: &[Path], tick: Tick, y: u32)
     requires { length row.old ≡ grid.now.width }
     ensures { (x : ℕ) → x < grid.now.width → slice_index row.new x

@@ -6,14 +6,14 @@ use mapf_model::{Cell, OutOfMemory, Path, Tick};
 use std::alloc::Global;
 use std::marker::Model;
 
-/// A stay in a cell: the cell, and the tick of the plan at which the agent enters it.
+/// A visit of a cell: the cell, and the tick of the plan at which the agent enters it.
 #[derive(Clone, Copy, Debug, PartialEq, Eq)]
 pub struct Visit {
     pub cell: Cell,
     pub entry: Tick,
 }
 
-// Whether an agent on the path of these cells enters a cell at this tick.
+// Returns whether an agent on the path of these cells enters a cell at this tick.
 fn is_entry(cells: &[Cell], tick: usize) -> bool
     requires { tick < length cells.now }
     ensures { IsTrue result ↔ IsEntry cells.now tick }
@@ -21,7 +21,7 @@ fn is_entry(cells: &[Cell], tick: usize) -> bool
     tick == 0 || cells[tick] != cells[tick - 1]
 }
 
-/// The visits of one path, in their order.
+/// The visits of one path, in order.
 #[derive(Debug, Drop)]
 pub struct Visits {
     visits: Vec<Visit>,
@@ -41,7 +41,7 @@ impl Model for Visits {
 }
 
 impl Visits {
-    /// The visits of this path.
+    /// Returns the visits of this path.
     pub fn of(alloc: Global, path: &Path) -> Result<Visits, OutOfMemory>
         ensures { IfOk result (λ visits. AreVisitsOf path.now visits) }
     {

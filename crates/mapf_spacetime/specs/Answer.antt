@@ -1,4 +1,4 @@
--- What an answer of the search means.
+-- What a result of the search means.
 use Rattle.std.specs.Prelude.{◌≡◌, ℕ, ◌<◌, ◌≤◌, List, length, All, AllPairs}
 use Rattle.mapf_model.specs.declared.label.Entry.{Entry}
 use Rattle.mapf_model.specs.declared.label.Label.TheVariants.{Ticks, Never}
@@ -12,7 +12,7 @@ use Rattle.mapf_spacetime.specs.declared.found.Found.TheVariants.{Arrives, Dead}
 use Rattle.mapf_spacetime.specs.Task.{Task, agent_of}
 use Rattle.mapf_spacetime.specs.States.{IsBelowLimit}
 
--- the labels are sound, rise by tick and cell and can be printed
+-- the labels are sound, rise by tick and cell, and can be printed
 pub record AreGoodLabels (task : Task) (entries : List Entry) : Type 0 where
   pub sound : AreSound task.grid task.goal task.bars (entries_of entries)
   pub rising : AllPairs IsBefore entries
@@ -22,8 +22,8 @@ pub record AreGoodLabels (task : Task) (entries : List Entry) : Type 0 where
 abbrev pub AgreeBefore : ℕ → List ℕ → List ℕ → Type 0
 AgreeBefore tick path other = (earlier : ℕ) → earlier < tick → at path earlier ≡ at other earlier
 
--- no lawful path of this cost that satisfies the constraints comes before this one, in the order of their cells'
--- numbers from tick 0 on
+-- no lawful path of this cost that satisfies the constraints comes before this one, in the lexicographic order of cell
+-- numbers
 abbrev pub IsFirstOfCost : Task → ℕ → List ℕ → Type 0
 IsFirstOfCost task cost path = (other : List ℕ) (tick : ℕ) → IsLawful task.grid (agent_of task) other →
     Satisfies task.bars other → IsCost task.goal other cost → AgreeBefore tick path other → at path tick ≤ at other tick
@@ -32,8 +32,8 @@ IsFirstOfCost task cost path = (other : List ℕ) (tick : ℕ) → IsLawful task
 abbrev pub IsStartNearer : Task → ℕ → Type 0
 IsStartNearer task cost = (distance : ℕ) × IsDistance task.grid task.goal task.start distance × (distance < cost)
 
--- a lawful, tight path that satisfies the constraints, whose cost the labels show to be the least, and before which no
--- path of that cost comes. Where the cost is the distance there are no labels
+-- a lawful path without trailing waits that satisfies the constraints, whose cost the labels show to be the least, and
+-- before which no path of that cost comes. If the cost is the distance there are no labels
 pub record IsArrival (task : Task) (path : List ℕ) (entries : List Entry) : Type 0 where
   pub cost : ℕ
   pub lawful : IsLawful task.grid (agent_of task) path

@@ -7,7 +7,7 @@ use Rattle.mapf_model.specs.Printed.{IsBefore}
 use Rattle.mapf_spacetime.specs.declared.state.State.{State}
 use Rattle.mapf_spacetime.specs.Task.{state_at}
 
--- the ticks that are left of the cost, or `Never` where there is none
+-- the ticks that are left of the cost, or `Never` if there is no cost
 abbrev pub label_of : Option ℕ → ℕ → Label
 label_of (Some cost) tick = Ticks (cost - tick)
 label_of None tick = Never

@@ -1,4 +1,4 @@
--- What a search has reached, and what is left for it to reach.
+-- What a search has reached, and what it has yet to reach.
 use Rattle.std.specs.Prelude.{Bool, ◌==◌, ◌&&◌, ◌≡◌, ◌⊎◌, ℕ, ◌+◌, ◌<◌, ◌≤◌, List, [], ◌∷◌, ◌++◌, length, take, Some, slice_get, Contains}
 use Rattle.mapf_model.specs.Distance.{IsUnreachable}
 use Rattle.mapf_model.specs.Grid.{free_cell_count}
@@ -7,8 +7,8 @@ use Rattle.mapf_constraints.specs.BarSets.{AreBefore}
 use Rattle.mapf_spacetime.specs.declared.state.State.{State}
 use Rattle.mapf_spacetime.specs.Task.{Task, Goes, IsValue, IsBelow, IsBarredLater, MayRestFrom, state_at, start_of}
 
--- the states that were reached, the first `below` of them below the cost being tried; the open ones at that cost, still
--- to be reached; and those that wait for the cost after it, and for the one after that
+-- the states that were reached, the first `below` of them with an f-value below the cost that is tried; the open ones
+-- at that cost; and those that wait for the next cost, and for the one after that
 pub record States : Type 0 where
   pub reached : List State
   pub open_states : List State
@@ -17,7 +17,7 @@ pub record States : Type 0 where
   pub cost : ℕ
   pub below : ℕ
 
--- more than the ticks of paths
+-- more than the ticks of any path
 abbrev pub stamp_ticks : ℕ
 stamp_ticks = 16777216
 
@@ -25,7 +25,7 @@ stamp_ticks = 16777216
 abbrev pub IsBase : ℕ → Type 0
 IsBase base = (0 < base) × (base + stamp_ticks ≤ 4294967295)
 
--- for each cell a stamp: where it is the base and a tick together, the cell was reached at that tick
+-- for each cell a stamp: if it is the sum of the base and a tick, the cell was reached at that tick
 abbrev pub AreLast : ℕ → List ℕ → List State → Type 0
 AreLast base stamps reached = (cell tick : ℕ) → slice_get stamps cell ≡ Some (base + tick) → Contains reached (state_at cell tick)
 
@@ -33,7 +33,7 @@ AreLast base stamps reached = (cell tick : ℕ) → slice_get stamps cell ≡ So
 abbrev pub AreOfBase : ℕ → List ℕ → Type 0
 AreOfBase base stamps = (cell stamp : ℕ) → slice_get stamps cell ≡ Some stamp → stamp < base + stamp_ticks
 
--- only the start, to be reached at the cost
+-- no state is reached, and only the start is open, at the cost
 abbrev pub first_states : State → ℕ → States
 first_states start cost = record { reached = []; open_states = start ∷ []; next_states = []; later_states = []; cost = cost; below = 0 }
 
@@ -69,15 +69,15 @@ IsWaiting states state = Contains states.next_states state ⊎ Contains states.l
 abbrev pub NoneWait : States → Type 0
 NoneWait states = (states.next_states ≡ []) × (states.later_states ≡ [])
 
--- the state was reached, or it is left to be reached
+-- the state was reached, is open or waits
 abbrev pub IsKnown : States → State → Type 0
 IsKnown states state = Contains states.reached state ⊎ (Contains states.open_states state ⊎ IsWaiting states state)
 
--- the state can be stepped into from a reached one
+-- the agent can go to the state from a reached one
 abbrev pub IsEntered : Task → List State → State → Type 0
 IsEntered task reached state = (from : State) × Contains reached from × Goes task from state
 
--- a state to which the agent may go is known, or can't lead to the goal
+-- if the agent may go to this state, it is known, or the goal can't be reached from it
 abbrev pub IsTaken : Task → States → State → ℕ → Type 0
 IsTaken task states from to = MayGo task.grid task.bars from.cell to from.tick → IsKnown states (state_at to (from.tick + 1)) ⊎ IsUnreachable task.grid task.goal to
 
@@ -85,7 +85,7 @@ IsTaken task states from to = MayGo task.grid task.bars from.cell to from.tick �
 abbrev pub IsClosed : Task → States → State → Type 0
 IsClosed task states from = (to : ℕ) → IsTaken task states from to
 
--- what holds of the states of a search while the steps from these few are being taken
+-- what holds of the states of a search while the steps from these states are taken
 pub record IsFrontier (task : Task) (busy : List State) (states : States) : Type 0 where
   pub start : Contains states.reached (start_of task) ⊎ Contains states.open_states (start_of task)
   pub low : (s : State) → Contains (low_states states) s → IsBelow task states.cost s
@@ -98,7 +98,7 @@ pub record IsFrontier (task : Task) (busy : List State) (states : States) : Type
   pub closed : (s : State) → Contains states.reached s → Contains busy s ⊎ IsClosed task states s
   pub quiet : (tick : ℕ) → Contains states.reached (state_at task.goal tick) → IsBarredLater task tick
 
--- nothing that was known is forgotten, and nothing is reached
+-- no known state is forgotten, and none is reached
 pub record Keeps (old new : States) : Type 0 where
   pub reached : new.reached ≡ old.reached
   pub cost : new.cost ≡ old.cost
@@ -111,7 +111,7 @@ pub record Takes (task : Task) (busy : List State) (from : State) (to : ℕ) (ol
   pub keeps : Keeps old new
   pub taken : IsTaken task new from to
 
--- the goal at the cost was taken from the open states: the agent can arrive then, and not earlier
+-- the goal at the cost was removed from the open states: the agent can arrive then, and not earlier
 pub record HasArrived (task : Task) (states : States) : Type 0 where
   pub frontier : IsFrontier task [] (with_open states (state_at task.goal states.cost))
   pub rest : MayRestFrom task states.cost
@@ -126,10 +126,10 @@ pub record IsSpent (task : Task) (states : States) : Type 0 where
   pub walked : IsWalked task states
   pub none_waits : NoneWait states
 
--- less than the sum of the first tick from which on there is no constraint and the number of free cells
+-- less than the number of free cells plus any tick from which on there are no constraints
 abbrev pub IsBelowLimit : Task → ℕ → Type 0
 IsBelowLimit task cost = (bound : ℕ) → AreBefore bound task.bars → cost < bound + free_cell_count task.grid
 
--- two states are one
+-- the two states are equal
 abbrev pub same_state : State → State → Bool
 same_state a b = (a.tick == b.tick) && (a.cell == b.cell)

@@ -8,7 +8,7 @@ use Rattle.mapf_model.specs.Grid.{GridMap, free_cell_count}
 use Rattle.mapf_model.specs.Labels.{MayGo}
 use Rattle.mapf_spacetime.specs.declared.state.State.{State}
 
--- a grid, where an agent starts and where it goes, and its constraints
+-- a grid, an agent's start and goal on it, and its constraints
 pub record Task : Type 0 where
   pub grid : GridMap
   pub start : ℕ
@@ -19,7 +19,7 @@ pub record Task : Type 0 where
 abbrev pub task_of : GridMap → Agent → List Bar → Task
 task_of grid agent bars = record { grid = grid; start = agent.start; goal = agent.goal; bars = bars }
 
--- whose task it is
+-- the agent of the task
 abbrev pub agent_of : Task → Agent
 agent_of task = record { start = task.start; goal = task.goal }
 
@@ -31,7 +31,7 @@ state_at cell tick = record { tick = tick; cell = cell }
 abbrev pub start_of : Task → State
 start_of task = state_at task.start 0
 
--- from one state the agent may go to the other
+-- the agent may go from one state to the other
 pub record Goes (task : Task) (from to : State) : Type 0 where
   pub may : MayGo task.grid task.bars from.cell to.cell from.tick
   pub tick : to.tick ≡ from.tick + 1
@@ -56,7 +56,7 @@ IsBelow task cost state = (value : ℕ) × IsValue task state value × (value < 
 abbrev pub IsPast : Task → ℕ → State → Type 0
 IsPast task cost state = (value : ℕ) × IsValue task state value × (cost < value)
 
--- the agent isn't forbidden to be in the state
+-- no constraint forbids the state
 abbrev pub IsOpen : Task → State → Type 0
 IsOpen task state = Contains task.bars (Cell state.cell state.tick) → ⊥
 

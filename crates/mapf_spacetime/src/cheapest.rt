@@ -23,9 +23,8 @@ use mapf_distance::Distances;
 use mapf_model::{Agent, Cell, Grid, OutOfMemory, Path, Tick};
 use std::alloc::Global;
 
-/// A cheapest path of the agent under its constraints, with labels that show that none is cheaper,
-/// or labels that show that no path arrives. Of all cheapest paths it is the one whose cell numbers
-/// are least, compared from the first on.
+/// Returns a cheapest path of the agent under its constraints, with labels that show that none is cheaper; or labels
+/// that show that no path arrives. Of all cheapest paths it is the lexicographically least by cell numbers.
 pub fn search<'a, B: BarTable>(
     alloc: Global,
     grid: &'a Grid,
@@ -40,7 +39,7 @@ pub fn search<'a, B: BarTable>(
     with_labels(alloc, search_states(alloc, grid, distances, bars, agent)?)
 }
 
-// The same with labels in memory of their own.
+// Returns the same with labels in memory of their own.
 pub(crate) fn with_labels(alloc: Global, found: Found<StateLabels>) -> Result<Found, OutOfMemory>
     ensures { (task : Task) → IsPathAnswer task found → IfOk result (IsPathAnswer task) }
 {
@@ -55,7 +54,7 @@ pub(crate) fn with_labels(alloc: Global, found: Found<StateLabels>) -> Result<Fo
     }
 }
 
-/// The same in less memory.
+/// Searches as `search` does, and returns the labels in less memory.
 pub fn search_states<'a, B: BarTable>(
     alloc: Global,
     grid: &'a Grid,
@@ -71,7 +70,7 @@ pub fn search_states<'a, B: BarTable>(
     search_in(alloc, &mut workspace, grid, distances, bars, agent)
 }
 
-/// The same in the memory of earlier searches, whatever these were.
+/// Searches as `search_states` does, in the memory of earlier searches, of whatever problems.
 pub fn search_in<'a, B: BarTable>(
     alloc: Global,
     workspace: &mut Workspace,
@@ -84,7 +83,7 @@ pub fn search_in<'a, B: BarTable>(
     requires goal { distances.now.goal ≡ agent.goal }
     ensures { IfOk result (IsPathAnswer (task_of grid.now agent (B.bars bars.now))) }
 {
-    // The contract of `width` says that the grid is well formed.
+    // Calling `width` lets the prover use its contract, which says that the grid is well formed.
     let _width = grid.width();
     let ground = Ground::of(grid, distances, bars, agent);
     let start = State {
@@ -97,7 +96,7 @@ pub fn search_in<'a, B: BarTable>(
     if !ground.lets_start() {
         return dead(alloc, &ground, &[start]);
     }
-    // Without constraints the path follows the falling distances.
+    // Without constraints the path is a shortest path.
     if ground.horizon() == 0 {
         return Ok(Found::Arrives {
             path: distances.descend(alloc, ground.start())?,
@@ -107,7 +106,7 @@ pub fn search_in<'a, B: BarTable>(
     by_cost(alloc, &mut workspace.frontier, &ground, first)
 }
 
-/// What the agent can do, from its distance on.
+/// Searches by rising cost, from the agent's distance on.
 fn by_cost<B: BarTable>(
     alloc: Global,
     frontier: &mut Frontier,
@@ -131,7 +130,7 @@ fn by_cost<B: BarTable>(
     dead(alloc, ground, reached)
 }
 
-/// The path and the labels of an agent that arrives at the cost of the frontier.
+/// Returns the path and the labels of an agent that arrives at the cost of the frontier.
 fn arrive<B: BarTable>(
     alloc: Global,
     ground: &Ground<B>,
@@ -154,7 +153,7 @@ fn arrive<B: BarTable>(
     })
 }
 
-/// The labels `Never` of these states.
+/// Returns the labels `Never` of these states.
 fn dead<B: BarTable>(
     alloc: Global,
     ground: &Ground<B>,

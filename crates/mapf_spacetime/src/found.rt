@@ -1,7 +1,7 @@
 use crate::labels::Labels;
 use mapf_model::Path;
 
-/// What a search found.
+/// The result of a single-agent search.
 #[derive(Debug, Drop)]
 pub enum Found<L = Labels> {
     /// A cheapest path, and labels that show that none is cheaper.

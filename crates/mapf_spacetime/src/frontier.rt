@@ -23,8 +23,7 @@ use std::mem;
 pub struct Frontier {
     reached: Reached,
     open_states: Vec<State>,
-    // The states of the next cost, and those of the cost after it: a step raises the f-value by at
-    // most two.
+    // The states of the next cost, and those of the cost after it: a step raises the f-value by at most two.
     next_states: Vec<State>,
     later_states: Vec<State>,
     cost: u32,
@@ -47,7 +46,7 @@ impl Model for Frontier {
 }
 
 impl Frontier {
-    /// No state is reached or open.
+    /// Returns a frontier with no state.
     pub fn new(alloc: Global) -> Frontier {
         Frontier {
             reached: Reached::new(alloc),
@@ -59,8 +58,8 @@ impl Frontier {
         }
     }
 
-    /// Begins anew, in the same memory: on a grid of so many cells only the start is open, and its
-    /// f-value is the first cost to try.
+    /// Starts a new search in the same memory: on a grid of so many cells only the start is open, and its f-value is
+    /// the first cost to try.
     pub fn begin(&mut self, start: State, value: u32, cells: usize) -> Result<(), OutOfMemory>
         ensures { OnOk result (self.new ≡ first_states start value) }
     {
@@ -87,7 +86,7 @@ impl Frontier {
         self.reached.states()
     }
 
-    /// The reached states whose f-value is below the cost.
+    /// Returns the reached states whose f-value is below the cost.
     pub fn low(&self) -> &[State]
         requires { self.now.below ≤ length self.now.reached }
         ensures { result.now ≡ low_states self.now }
@@ -104,7 +103,7 @@ impl Frontier {
         self.open_states.pop()
     }
 
-    /// Reaches a state, and answers whether it is new.
+    /// Reaches a state. Returns whether it is new.
     #[inline(always)]
     fn reach(&mut self, state: State) -> Result<bool, OutOfMemory>
         requires { state.tick ≤ most_path_cells }
@@ -116,7 +115,7 @@ impl Frontier {
         Ok(new)
     }
 
-    /// Whether the state is the one in which its cell was reached last.
+    /// Returns whether the state is the one in which its cell was reached last.
     #[inline(always)]
     fn was_reached(&self, state: &State) -> bool
         requires { state.now.tick ≤ most_path_cells }
@@ -131,8 +130,7 @@ impl Frontier {
         self.next_states.is_empty() && self.later_states.is_empty()
     }
 
-    /// Raises the cost to the next one once no state is open, and opens the states that waited for
-    /// it.
+    /// Raises the cost by one when no state is open, and opens the states that waited for it.
     fn raise(&mut self)
         requires { self.old.cost < most_path_cells }
         ensures { self.old.open_states ≡ [] → self.new ≡ raised self.old }
@@ -143,7 +141,7 @@ impl Frontier {
         mem::swap(&mut self.next_states, &mut self.later_states);
     }
 
-    /// Keeps a state until the cost reaches its f-value.
+    /// Keeps a state until the cost equals its f-value.
     #[inline(always)]
     fn place(&mut self, state: State, value: u32) -> Result<(), OutOfMemory>
         requires { self.old.cost < most_path_cells }
@@ -161,8 +159,8 @@ impl Frontier {
         Ok(())
     }
 
-    /// Takes the step to a cell beside that of the state, unless it is forbidden or can't lead to
-    /// the goal.
+    /// Takes the step from the state to a cell of its neighbourhood, unless it is forbidden or the goal can't be
+    /// reached from there.
     #[inline(always)]
     fn take<B: BarTable>(
         &mut self,
@@ -212,8 +210,8 @@ impl Frontier {
         Ok(())
     }
 
-    /// Reaches all open states and their successors of the same f-value, until the agent arrives.
-    /// Answers whether it does.
+    /// Reaches all open states and their successors of the same f-value, until the agent arrives. Returns whether it
+    /// does.
     fn walk_level<B: BarTable>(&mut self, ground: &Ground<B>) -> Result<bool, OutOfMemory>
         requires small { self.old.cost < most_path_cells }
         requires frontier { IsFrontier ground.now [] self.old }
@@ -232,8 +230,7 @@ impl Frontier {
         Ok(false)
     }
 
-    /// Raises the cost until the agent arrives, or no state is left to reach. Answers whether it
-    /// arrives.
+    /// Raises the cost until the agent arrives, or no state is left to reach. Returns whether it arrives.
     pub fn grow<B: BarTable>(&mut self, ground: &Ground<B>) -> Result<bool, OutOfMemory>
         requires small { self.old.cost < 4194304 }
         requires limit { IsBelowLimit ground.now self.old.cost }

@@ -14,14 +14,14 @@ use mapf_distance::Distances;
 use mapf_model::{Agent, Cell, Grid, Tick};
 use std::marker::Model;
 
-/// Where an agent goes, and what is forbidden to it.
+/// The task of a single-agent search: the grid, the agent's start and goal, and its constraints.
 #[derive(Drop)]
 pub struct Ground<'a, B: BarTable> {
     grid: &'a Grid,
     distances: &'a Distances,
     bars: &'a B,
     agent: Agent,
-    // A tick from which on there is no constraint.
+    // A tick from which on there are no constraints.
     horizon: Tick,
 }
 
@@ -62,8 +62,8 @@ impl<'a, B: BarTable> Ground<'a, B> {
         self.agent.start
     }
 
-    /// The cells around a cell, in rising order: those of them that are free are where the agent
-    /// may be one tick after it is there, constraints aside.
+    /// Returns the neighbourhood of a cell, in rising order. Where its cells are free, the agent may be there one tick
+    /// after it is in the cell, constraints aside.
     #[inline(always)]
     pub fn beside(&self, cell: Cell) -> [Option<Cell>; 5]
         requires { IsFree self.now.grid cell }
@@ -73,7 +73,7 @@ impl<'a, B: BarTable> Ground<'a, B> {
         cell.neighbourhood(self.grid.width())
     }
 
-    /// The tick plus the distance of the cell, None where no steps lead to the goal.
+    /// Returns the f-value: the tick plus the distance of the cell. None if no steps lead to the goal.
     #[inline(always)]
     pub fn value(&self, state: &State) -> Option<u32>
         requires { state.now.tick ≤ most_path_cells }
@@ -86,7 +86,7 @@ impl<'a, B: BarTable> Ground<'a, B> {
         }
     }
 
-    /// Whether the constraints let the agent go from the state to the cell.
+    /// Returns whether the constraints allow the agent to go from the state to the cell.
     #[inline(always)]
     pub fn lets(&self, from: &State, to: Cell) -> bool
         requires small { from.now.tick ≤ most_path_cells }
@@ -100,7 +100,7 @@ impl<'a, B: BarTable> Ground<'a, B> {
         !self.bars.bars_move(from.cell, to, from.tick)
     }
 
-    /// Whether the agent may be in its start at tick 0.
+    /// Returns whether the agent may be in its start at tick 0.
     pub fn lets_start(&self) -> bool
         ensures yes { IsTrue result → IsOpen self.now (start_of self.now) }
         ensures no { result ≡ false → Contains self.now.bars (Bar.Cell self.now.start 0) }
@@ -108,7 +108,7 @@ impl<'a, B: BarTable> Ground<'a, B> {
         !self.bars.bars_cell(self.agent.start, 0)
     }
 
-    /// Whether the agent may stay at its goal from the tick on.
+    /// Returns whether the agent may stay at its goal from the tick on.
     pub fn may_rest_from(&self, tick: Tick) -> bool
         ensures yes { IsTrue result → MayRestFrom self.now tick }
         ensures no { result ≡ false → IsBarredLater self.now tick }
@@ -119,7 +119,7 @@ impl<'a, B: BarTable> Ground<'a, B> {
         }
     }
 
-    /// Whether the agent arrives in this state and may stay.
+    /// Returns whether the agent is at its goal in this state and may stay.
     #[inline(always)]
     pub fn is_arrival(&self, state: &State) -> bool
         ensures goal { IsTrue result → state.now.cell ≡ self.now.goal }
@@ -132,12 +132,12 @@ impl<'a, B: BarTable> Ground<'a, B> {
         self.may_rest_from(state.tick)
     }
 
-    /// How many cells the grid has.
+    /// Returns how many cells the grid has.
     pub fn cells(&self) -> usize {
         (self.grid.width() * self.grid.height()) as usize
     }
 
-    /// A tick from which on there is no constraint.
+    /// Returns a tick from which on there are no constraints.
     pub fn horizon(&self) -> Tick
         ensures above { AreBefore result self.now.bars }
         ensures early { result ≤ split_ticks }

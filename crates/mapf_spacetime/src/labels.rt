@@ -6,8 +6,8 @@ use mapf_model::{Cell, Entry, Label, Tick};
 use std::alloc::Global;
 use std::marker::Model;
 
-/// The entries of one agent, sorted by tick and then by the number of the cell. A state that has
-/// no entry has the distance of its cell as its label.
+/// The entries of one agent, sorted by tick and then by the number of the cell. The label of a state without an entry
+/// is the distance of its cell.
 #[derive(Debug, Drop)]
 pub struct Labels {
     entries: Vec<Entry>,
@@ -29,7 +29,7 @@ impl Labels {
         Labels { entries }
     }
 
-    /// No labels.
+    /// Returns an empty list of entries.
     pub fn none(alloc: Global) -> Labels
         ensures { result ≡ [] }
     {
@@ -50,7 +50,7 @@ impl Labels {
         self.entries.is_empty()
     }
 
-    /// The entry in this place.
+    /// Returns the entry at this index.
     pub fn entry(&self, place: usize) -> Entry
         requires { place < length self.now }
         ensures { slice_get self.now place ≡ Some result }
@@ -64,7 +64,7 @@ impl Labels {
         self.entries.as_slice()
     }
 
-    /// The entries, moved out of the labels.
+    /// Returns the entries, moved out of the labels.
     pub fn into_entries(self) -> Vec<Entry>
         ensures { result.items ≡ self }
     {
@@ -72,8 +72,8 @@ impl Labels {
     }
 }
 
-/// The label of the agent that is in the cell at the tick: that of its entry, else the distance of
-/// the cell, `Never` where no steps lead to the goal.
+/// Returns the label of the agent that is in the cell at the tick: that of its entry, else the distance of the cell,
+/// `Never` if no steps lead to the goal.
 pub fn label_at(labels: &Labels, distances: &Distances, cell: Cell, tick: Tick) -> Label
     ensures { IsLabel distances.now.grid distances.now.goal (entries_of labels.now) cell tick result }
 {
@@ -86,7 +86,7 @@ pub fn label_at(labels: &Labels, distances: &Distances, cell: Cell, tick: Tick) 
     }
 }
 
-/// The first entry of the state.
+/// Returns the first entry of the state.
 fn entry_at(entries: &[Entry], cell: Cell, tick: Tick) -> Option<Entry>
     ensures { result ≡ find (λ entry. (entry.cell == cell) && (entry.tick == tick)) entries.now }
 {

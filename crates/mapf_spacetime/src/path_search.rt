@@ -16,7 +16,7 @@ use mapf_model::{Cell, OutOfMemory, Tick};
 use std::alloc::Global;
 use std::marker::Model;
 
-/// A walk from the start, one cell for each tick, and the states from which it had to turn back.
+/// Depth-first search: a walk from the start, one cell for each tick, and the states from which it had to backtrack.
 #[derive(Drop)]
 pub struct PathSearch {
     cells: Vec<Cell>,
@@ -49,7 +49,7 @@ impl PathSearch {
         self.cells.len()
     }
 
-    /// Where the walk has come.
+    /// Returns the last state of the walk.
     fn last(&self) -> State
         requires some { 1 ≤ length self.now.cells }
         requires short { length self.now.cells ≤ most_path_cells }
@@ -69,7 +69,7 @@ impl PathSearch {
         Ok(())
     }
 
-    /// Turns back from the last state.
+    /// Backtracks from the last state.
     fn turn_back(&mut self, state: State) -> Result<(), OutOfMemory>
         requires { Contains self.old.failed state → ⊥ }
         ensures turned { OnOk result (self.new ≡ with_failure self.old state) }
@@ -80,8 +80,8 @@ impl PathSearch {
         Ok(())
     }
 
-    /// Whether the constraints let the agent go to the cell, and it may still arrive at the cost
-    /// from there.
+    /// Returns whether the constraints allow the agent to go to the cell, and it may still arrive at the cost from
+    /// there.
     fn leads<B: BarTable>(&self, ground: &Ground<B>, from: &State, to: Cell, cost: u32) -> bool
         requires small { from.now.tick < most_path_cells }
         requires free { IsFree ground.now.grid from.now.cell }
@@ -105,7 +105,7 @@ impl PathSearch {
         !self.failed.has(&next)
     }
 
-    /// The least of the cells beside that of the state from which the agent may still arrive.
+    /// Returns the least cell of the state's neighbourhood from which the agent may still arrive.
     fn next<B: BarTable>(&self, ground: &Ground<B>, from: &State, cost: u32) -> Option<Cell>
         requires small { from.now.tick < most_path_cells }
         requires free { IsFree ground.now.grid from.now.cell }
@@ -125,7 +125,7 @@ impl PathSearch {
         None
     }
 
-    /// Goes one step on, or turns back where no step leads on.
+    /// Takes one step, or backtracks if no step may lead to the goal.
     fn go_on<B: BarTable>(&mut self, ground: &Ground<B>, cost: u32) -> Result<(), OutOfMemory>
         requires small { cost < 9000000 }
         requires arrives { CanArrive ground.now cost (start_of ground.now) }
@@ -143,7 +143,7 @@ impl PathSearch {
         Ok(())
     }
 
-    /// The cells of the walk.
+    /// Returns the cells of the walk.
     fn into_cells(self) -> Vec<Cell>
         ensures { result.items ≡ self.cells }
     {
@@ -152,7 +152,7 @@ impl PathSearch {
     }
 }
 
-/// Whether the tick and the distance of the cell together are at most the cost.
+/// Returns whether the f-value, the tick plus the distance of the cell, is at most the cost.
 fn is_within<B: BarTable>(ground: &Ground<B>, state: &State, cost: u32) -> bool
     requires small { state.now.tick ≤ most_path_cells }
     ensures within { IsTrue result → IsWithin ground.now cost state.now }
@@ -164,8 +164,7 @@ fn is_within<B: BarTable>(ground: &Ground<B>, state: &State, cost: u32) -> bool
     }
 }
 
-/// The walk of the cost from the start to the goal whose cell numbers are least, compared from the
-/// first on.
+/// Returns the walk of the cost from the start to the goal that is the lexicographically least by cell numbers.
 pub fn least_walk<B: BarTable>(
     alloc: Global,
     ground: &Ground<B>,

@@ -7,16 +7,15 @@ use mapf_model::{Cell, OutOfMemory, Tick};
 use std::alloc::Global;
 use std::marker::Model;
 
-// By so much the base rises from one search to the next: more than the ticks of paths.
+// How much the base rises from one search to the next: more than the ticks of any path.
 const STAMP_TICKS: u32 = 16_777_216;
 
-/// The states that a search has reached, in the order in which they came. The states of one f-value
-/// have different cells, so the tick at which a cell was reached last tells whether such a state is
-/// new.
+/// The states that a search has reached, in the order in which they were reached. The states of one f-value have
+/// different cells, so the tick at which a cell was reached last shows whether such a state is new.
 #[derive(Drop)]
 pub struct Reached {
     states: Vec<State>,
-    // For each cell the base and the tick at which it was reached last together. The stamps of earlier
+    // For each cell the sum of the base and of the tick at which the cell was reached last. The stamps of earlier
     // searches are below the base, so they needn't be cleared.
     stamps: Vec<u32>,
     base: u32,
@@ -36,7 +35,7 @@ impl Model for Reached {
 }
 
 impl Reached {
-    /// No state, of a grid without cells.
+    /// Returns a list of no states, of a grid without cells.
     pub fn new(alloc: Global) -> Reached
         ensures { result ≡ [] }
     {
@@ -47,7 +46,7 @@ impl Reached {
         }
     }
 
-    /// Forgets all states.
+    /// Removes all states.
     pub fn clear(&mut self)
         ensures { self.new ≡ [] }
     {
@@ -60,7 +59,7 @@ impl Reached {
         }
     }
 
-    /// Makes room for the states of a grid of so many cells.
+    /// Allocates memory for the states of a grid of so many cells.
     pub fn make_room(&mut self, cells: usize) -> Result<(), OutOfMemory>
         ensures { OnOk result (self.new ≡ self.old) }
     {
@@ -82,7 +81,7 @@ impl Reached {
         self.states.as_slice()
     }
 
-    /// Whether the state is the one in which its cell was reached last.
+    /// Returns whether the state is the one in which its cell was reached last.
     #[inline(always)]
     pub fn is_last(&self, state: &State) -> bool
         requires { state.now.tick ≤ most_path_cells }
@@ -94,7 +93,7 @@ impl Reached {
         }
     }
 
-    /// Notes the tick at which a cell was reached.
+    /// Enters the tick at which a cell was reached.
     #[inline(always)]
     fn note(&mut self, cell: Cell, tick: Tick)
         requires small { tick ≤ most_path_cells }
@@ -107,8 +106,7 @@ impl Reached {
         }
     }
 
-    /// Adds a state, unless it is the one in which its cell was reached last. Answers whether it was
-    /// added.
+    /// Adds a state, unless it is the one in which its cell was reached last. Returns whether it was added.
     pub fn add(&mut self, state: State) -> Result<bool, OutOfMemory>
         requires { state.tick ≤ most_path_cells }
         ensures new { IfOk result (λ new. IsTrue new → self.new ≡ self.old ++ state ∷ []) }

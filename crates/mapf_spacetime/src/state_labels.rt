@@ -6,13 +6,13 @@ use mapf_model::{Entry, Label, OutOfMemory};
 use std::alloc::Global;
 use std::marker::Model;
 
-/// The labels of one agent as a search leaves them: the states that have one, in rising order of tick
-/// and cell. Each label is what is left of one cost, or each is `Never`. They say what `Labels` say, in
-/// half the memory.
+/// The labels of one agent as a search returns them: the states that have one, in rising order of tick and cell, and
+/// one cost. The label of a state is that cost less its tick, or `Never` if there is no cost. These are the entries of
+/// `Labels` in half the memory.
 #[derive(Debug, Drop)]
 pub struct StateLabels {
     states: Vec<State>,
-    // The cost at which the agent arrives, None where it can't.
+    // The cost at which the agent arrives, None if it can't.
     cost: Option<u32>,
 }
 
@@ -27,7 +27,7 @@ impl Model for StateLabels {
 }
 
 impl StateLabels {
-    /// No labels.
+    /// Returns labels of no state.
     pub fn none(alloc: Global) -> StateLabels
         ensures { result ≡ [] }
     {
@@ -37,7 +37,7 @@ impl StateLabels {
         }
     }
 
-    /// The labels of these states at the cost.
+    /// Returns the labels of these states at the cost.
     pub(crate) fn of(
         alloc: Global,
         states: &[State],
@@ -54,7 +54,7 @@ impl StateLabels {
         })
     }
 
-    /// How many labels there are.
+    /// Returns how many labels there are.
     pub fn len(&self) -> usize
         ensures count { result ≡ length self.now }
         ensures small { length self.now < 2 ^ 64 }
@@ -68,7 +68,7 @@ impl StateLabels {
         self.states.is_empty()
     }
 
-    /// The entry in this place.
+    /// Returns the entry at this index.
     pub fn entry(&self, place: usize) -> Entry
         requires { place < length self.now }
         ensures { slice_get self.now place ≡ Some result }
@@ -76,7 +76,7 @@ impl StateLabels {
         entry_of(&self.states[place], self.cost)
     }
 
-    /// The entries, in memory of their own.
+    /// Returns the entries, in memory of their own.
     pub fn into_entries(self, alloc: Global) -> Result<Vec<Entry>, OutOfMemory>
         ensures { IfOk result (λ entries. entries.items ≡ self) }
     {
@@ -84,7 +84,7 @@ impl StateLabels {
     }
 }
 
-// An entry for each of the states.
+// Returns an entry for each of the states.
 fn entries_of(alloc: Global, states: &[State], cost: Option<u32>) -> Result<Vec<Entry>, OutOfMemory>
     ensures { IfOk result (λ entries. entries.items ≡ map (entry_for cost) states.now) }
 {
@@ -95,7 +95,7 @@ fn entries_of(alloc: Global, states: &[State], cost: Option<u32>) -> Result<Vec<
     Ok(entries)
 }
 
-// The entry of a state: the ticks that are left of the cost, `Never` where there is none.
+// Returns the entry of a state: the cost less its tick, `Never` if there is no cost.
 fn entry_of(state: &State, cost: Option<u32>) -> Entry
     ensures { result ≡ entry_for cost state.now }
 {

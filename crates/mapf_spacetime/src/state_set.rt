@@ -6,7 +6,7 @@ use mapf_model::OutOfMemory;
 use std::alloc::Global;
 use std::marker::Model;
 
-/// A set of states, in the order in which they came.
+/// A set of states, in the order in which they were added.
 #[derive(Drop)]
 pub struct StateSet {
     states: IndexSet<State>,
@@ -36,14 +36,14 @@ impl StateSet {
         self.states.contains(state)
     }
 
-    /// Adds a state, and answers whether it is new.
+    /// Adds a state. Returns whether it is new.
     pub fn add(&mut self, state: State) -> Result<bool, OutOfMemory>
         ensures new { IfOk result (λ new. IsTrue new → self.new ≡ self.old ++ state ∷ []) }
         ensures small { OnOk result (length self.new < 2 ^ 63) }
         ensures old { IfOk result (λ new. new ≡ false → (self.new ≡ self.old) × Contains self.old state) }
     {
         let new = self.states.insert(state)?;
-        // The contract of `len` bounds it.
+        // Calling `len` lets the prover use its contract, which bounds it.
         let _count = self.states.len();
         Ok(new)
     }

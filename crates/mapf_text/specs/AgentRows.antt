@@ -27,7 +27,7 @@ pub record HasNumbers (words : List (List ℕ)) (numbers : Numbers) : Type 0 whe
   pub goal_x : IsNumber (field words 7) numbers.goal_x
   pub goal_y : IsNumber (field words 8) numbers.goal_y
 
--- and the width and the height are the grid's
+-- the same, and the width and the height are the grid's
 pub record HasSize (grid : GridMap) (words : List (List ℕ)) (numbers : Numbers) : Type 0 where
   pub has_numbers : HasNumbers words numbers
   pub width : numbers.width ≡ grid.width
@@ -40,30 +40,30 @@ pub record IsCellAt (grid : GridMap) (x y cell : ℕ) : Type 0 where
   pub number : cell ≡ y * grid.width + x
   pub free : IsFree grid cell
 
--- and the start and the goal are free cells of the grid
+-- the same, and the start and the goal are free cells of the grid
 pub record HasCells (grid : GridMap) (words : List (List ℕ)) (agent : Agent) : Type 0 where
   pub numbers : Numbers
   pub size : HasSize grid words numbers
   pub start : IsCellAt grid numbers.start_x numbers.start_y agent.start
   pub goal : IsCellAt grid numbers.goal_x numbers.goal_y agent.goal
 
--- and field 9 is decimal text; field 2 is any word
+-- the same, and field 9 is decimal text; field 2 is any word
 pub record SpellsAgent (grid : GridMap) (words : List (List ℕ)) (agent : Agent) : Type 0 where
   pub cells : HasCells grid words agent
   pub length_text : IsDecimal (field words 9)
 
--- the fields that have to be numbers, each with its place
+-- the fields that have to be numbers, each with its place in the row, counted from 1
 abbrev pub numbered : List (List ℕ) → List (ℕ × List ℕ)
 numbered words =
     (1, field words 1) ∷ (3, field words 3) ∷ (4, field words 4) ∷ (5, field words 5) ∷ (6, field words 6) ∷ (7, field words 7) ∷ (8, field words 8) ∷ []
 
--- the first of these words that is no number has this place
+-- the first of these words that isn't a number has this place
 abbrev pub IsFirstNoNumber : List (ℕ × List ℕ) → ℕ → Type 0
 IsFirstNoNumber [] place = ⊥
 IsFirstNoNumber (p ∷ more) place =
     ((place ≡ p.0) × ((n : ℕ) → IsNumber p.1 n → ⊥)) ⊎ (((n : ℕ) × IsNumber p.1 n) × IsFirstNoNumber more place)
 
--- what each error of a row says of its words: what is judged before its location is good, and its defect is there
+-- what each error of a row says of its words: what is judged before its location is correct, and its defect is there
 abbrev pub HasRowFault : GridMap → List (List ℕ) → ℕ → ScenFault → Type 0
 HasRowFault grid words row (S2 at) = (at ≡ row) × (length words ≢ 9)
 HasRowFault grid words row (S3 at place) = (at ≡ row) × (length words ≡ 9) × IsFirstNoNumber (numbered words) place

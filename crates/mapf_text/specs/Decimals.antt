@@ -53,6 +53,6 @@ abbrev pub after_exponent : List ℕ → Option (List ℕ)
 after_exponent [] = Some []
 after_exponent (b ∷ bs) = if (b == 101) || (b == 69) then after_digits (after_sign bs) else Some (b ∷ bs)
 
--- what follows decimal text, as much of it as there is
+-- what follows the longest decimal text
 unfoldable pub after_decimal : List ℕ → Option (List ℕ)
 after_decimal text = option_and_then (λ a. option_and_then after_exponent (after_fraction a)) (after_digits (after_sign text))

@@ -1,7 +1,7 @@
 -- The lines of a text.
 use Rattle.std.specs.Prelude.{ℕ, ◌==◌, List, [], ◌∷◌, map, if◌then◌else◌}
 
--- a byte before the first line
+-- the lines after a byte is put before the first one
 abbrev pub before_line : ℕ → List (List ℕ) → List (List ℕ)
 before_line b [] = (b ∷ []) ∷ []
 before_line b (line ∷ lines) = (b ∷ line) ∷ lines

@@ -65,26 +65,26 @@ flag_of b =
     if (b == 46) || (b == 71) || (b == 83) then Some true
     else (if (b == 64) || (b == 79) || (b == 84) || (b == 87) then Some false else None)
 
--- the first lines are so many rows of this width, and the flags of their bytes, row after row, are these
+-- the first lines are so many rows of this width, and these are the flags of their bytes, row by row
 pub record HasRows (lines : List (List ℕ)) (height width : ℕ) (free : List Bool) : Type 0 where
   pub enough : height ≤ length lines
   pub widths : (y : ℕ) → y < height → length (slice_index_or lines y []) ≡ width
   pub flags : map flag_of (concat (take height lines)) ≡ map Some free
 
--- the header and the rows of the grid, and after them blank lines alone
+-- the header and the rows of the grid, and then only blank lines
 pub record SpellsMap (bytes : List ℕ) (grid : GridMap) : Type 0 where
   pub body : List (List ℕ)
   pub header : IsHeader (lines_of bytes) grid.height grid.width body
   pub rows : HasRows body grid.height grid.width grid.free
   pub blank : (n : ℕ) → is_blank_line (slice_index_or (drop grid.height body) n []) ≡ true
 
--- the row's first byte that is no cell is at this place
+-- the row's first byte that isn't a cell has this index
 pub record HasUnknownAt (row : List ℕ) (x : ℕ) : Type 0 where
   pub within : x < length row
   pub unknown : flag_of (slice_index row x) ≡ None
   pub first : (k : ℕ) → k < x → IsSome (flag_of (slice_index row k))
 
--- the first line that isn't blank is at this place
+-- the first line that isn't blank has this index
 pub record HasTextAt (lines : List (List ℕ)) (n : ℕ) : Type 0 where
   pub text : is_blank_line (slice_index_or lines n []) ≡ false
   pub first : (k : ℕ) → k < n → is_blank_line (slice_index_or lines k []) ≡ true
@@ -102,7 +102,7 @@ HasBodyFault height width body (M9 line) =
 HasBodyFault height width body Memory = Unit {0}
 HasBodyFault height width body _ = ⊥
 
--- what each error says of the lines of a text: the lines before its location are good, and its defect is there
+-- what each error says of the lines of a text: the lines before its location are correct, and its defect is there
 abbrev pub HasMapFault : List (List ℕ) → MapFault → Type 0
 HasMapFault lines M1 = (rest : List (List ℕ)) → AfterType lines rest → ⊥
 HasMapFault lines M2 =
@@ -124,11 +124,11 @@ SizeIn name line (Ok size) = IsSizeLine name line size × IsSize size
 SizeIn name line (Err Absent) = (size : ℕ) → IsSizeLine name line size → ⊥
 SizeIn name line (Err OutOfRange) = (size : ℕ) × IsSizeLine name line size × (IsSize size → ⊥)
 
--- why the first of the lines gives no size
+-- why the first of the lines has no size
 abbrev pub HasNoSize : List ℕ → List (List ℕ) → NotSize → Type 0
 HasNoSize name lines Absent = (size : ℕ) (rest : List (List ℕ)) → AfterSize name lines size rest → ⊥
 HasNoSize name lines OutOfRange = (size : ℕ) × (rest : List (List ℕ)) × AfterSize name lines size rest × (IsSize size → ⊥)
 
--- bytes spell one grid at most
+-- bytes spell at most one grid
 abbrev pub SpellsOneMap : Type 0
 SpellsOneMap = (bytes : List ℕ) (grid other : GridMap) → SpellsMap bytes grid → SpellsMap bytes other → grid ≡ other

@@ -24,7 +24,7 @@ pub record AfterVersion (lines rows : List (List ℕ)) : Type 0 where
   pub first : lines ≡ line ∷ rows
   pub is_version : IsVersionLine line
 
--- each row spells the agent in its place
+-- each row spells the agent at its index
 abbrev pub SpellAgents : GridMap → List (List ℕ) → List Agent → Type 0
 SpellAgents grid [] [] = Unit {0}
 SpellAgents grid (row ∷ rows) (agent ∷ agents) = SpellsAgent grid (words_of row) agent × SpellAgents grid rows agents
@@ -51,12 +51,12 @@ HasRowsFault grid rows k fault =
     (row : ℕ) × (row < k) × (row < length rows) × ((agents : List Agent) × HasAgents grid rows row agents)
     × HasRowFault grid (words_of (slice_index_or rows row [])) row fault
 
--- what each error says of the lines of a text that aren't blank: the lines before its location are good, and its defect
--- is there
+-- what each error says of the lines of a text that aren't blank: the lines before its location are correct, and its
+-- defect is there
 abbrev pub HasScenarioFault : GridMap → List (List ℕ) → ℕ → ScenFault → Type 0
 HasScenarioFault grid lines k S1 = (rows : List (List ℕ)) → AfterVersion lines rows → ⊥
 HasScenarioFault grid lines k fault = (rows : List (List ℕ)) × AfterVersion lines rows × HasRowsFault grid rows k fault
 
--- on a grid, bytes spell one problem of so many agents at most
+-- on a grid, bytes spell at most one problem of so many agents
 abbrev pub SpellsOneScenario : Type 0
 SpellsOneScenario = (bytes : List ℕ) (grid : GridMap) (k : ℕ) (problem other : Instance) → SpellsScenario bytes grid k problem → SpellsScenario bytes grid k other → problem ≡ other

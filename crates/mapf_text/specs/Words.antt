@@ -11,8 +11,8 @@ is_blank b = (b == 32) || (b == 9)
 abbrev pub is_blank_line : List ℕ → Bool
 is_blank_line line = list_all is_blank line
 
--- the longest parts of a line without blanks: a byte that is no blank begins a word where a blank or the end follows
--- it, and else goes before the first word of what follows
+-- the longest parts of a line without blanks: a byte that isn't a blank is a word of its own if a blank or the end
+-- follows it; else it is put before the first word of what follows
 unfoldable pub words_of : List ℕ → List (List ℕ)
 words_of [] = []
 words_of (b ∷ []) = if is_blank b then [] else (b ∷ []) ∷ []

@@ -23,7 +23,7 @@ struct Fields<'a> {
     length: &'a [u8],
 }
 
-// The numbers of a row that say something of the map and the agent.
+// The numbers of a row, for the map and the agent.
 #[derive(Clone, Copy)]
 struct Numbers {
     width: u32,
@@ -34,7 +34,7 @@ struct Numbers {
     goal_y: u32,
 }
 
-/// The agent of a row of a scenario, which is agent number `row`.
+/// Returns the agent of a row of a scenario, which is agent number `row`.
 pub fn read_row(line: &[u8], grid: &Grid, row: u32) -> Result<Agent, ScenFault>
     ensures { MatchResult result (SpellsAgent grid.now (words_of line.now))
         (HasRowFault grid.now (words_of line.now) row) }
@@ -91,7 +91,7 @@ fn fields_of(line: &[u8]) -> Option<Fields<'_>>
     })
 }
 
-// The numbers of a row, or the first field that is none, counted from 1.
+// Returns the numbers of a row, or the first field that isn't a number, counted from 1.
 fn numbers_of(fields: &Fields) -> Result<Numbers, u32>
     ensures { let f = fields.now in
         let words = f.bucket.now ∷ f.map_name.now ∷ f.width.now ∷ f.height.now ∷ f.start_x.now ∷ f.start_y.now
@@ -115,7 +115,7 @@ fn numbers_of(fields: &Fields) -> Result<Numbers, u32>
     })
 }
 
-// The number in a field, or the field.
+// Returns the number in a field, or the field.
 fn number_in(word: &[u8], field: u32) -> Result<u32, u32>
     ensures { MatchResult result (IsNumber word.now) (λ at. (at ≡ field) × ((n : ℕ) → IsNumber word.now n → ⊥)) }
 {

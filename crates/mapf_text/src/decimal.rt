@@ -4,8 +4,8 @@ ghost use Rattle.std.specs.List.{position_from};
 ghost use Rattle.mapf_text.specs.Decimals.{IsDecimal, after_sign, drop_digits, after_digits};
 ghost use Rattle.mapf_text.specs.Decimals.{after_fraction, after_exponent, after_decimal};
 
-/// Whether a word is decimal text: an optional sign, digits, optionally a point and digits, and
-/// optionally `e` or `E`, an optional sign and digits.
+/// Returns whether a word is decimal text: an optional sign, digits, optionally a point and digits, and optionally `e`
+/// or `E`, an optional sign and digits.
 pub fn is_decimal(word: &[u8]) -> bool
     ensures { IsTrue result ↔ IsDecimal word.now }
 {
@@ -15,7 +15,7 @@ pub fn is_decimal(word: &[u8]) -> bool
     }
 }
 
-// What follows decimal text, as much of it as there is.
+// Returns what follows the longest decimal text.
 #[tactic(auto, unfolding(crate::specs::Decimals::after_decimal))]
 fn after_decimal(text: &[u8]) -> Option<&[u8]>
     ensures { option_map (λ rest. rest.now) result ≡ after_decimal text.now }
@@ -52,7 +52,7 @@ fn after_exponent(text: &[u8]) -> Option<&[u8]>
     }
 }
 
-// What follows one or more digits.
+// Returns what follows one or more digits.
 fn after_digits(text: &[u8]) -> Option<&[u8]>
     ensures { option_map (λ rest. rest.now) result ≡ after_digits text.now }
 {
@@ -62,7 +62,7 @@ fn after_digits(text: &[u8]) -> Option<&[u8]>
     }
 }
 
-// What follows the leading digits.
+// Returns what follows the leading digits.
 fn drop_digits(text: &[u8]) -> &[u8]
     ensures { result.now ≡ drop_digits text.now }
 {
@@ -72,7 +72,7 @@ fn drop_digits(text: &[u8]) -> &[u8]
     }
 }
 
-// The place of the first byte that is no digit.
+// Returns the index of the first byte that isn't a digit.
 fn first_no_digit(text: &[u8]) -> Option<usize>
     ensures place { result ≡ position_from (λ b. not (is_ascii_digit b)) 0 text.now }
     ensures within { IfSome result (λ at. at < length text.now) }

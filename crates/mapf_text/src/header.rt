@@ -16,7 +16,7 @@ pub struct Size {
     pub height: u32,
 }
 
-// Why a line gives no size.
+// Why a line has no size.
 #[derive(Clone, Copy)]
 enum NotSize {
     // It isn't the name and a number.
@@ -25,7 +25,7 @@ enum NotSize {
     OutOfRange,
 }
 
-/// Reads the four lines at the head of a map text, and gives the text after them.
+/// Reads the first four lines of a map text. Returns the size, and the text after them.
 pub fn read_header(text: &[u8]) -> Result<(Size, &[u8]), MapFault>
     ensures found { MatchResult result (λ p. IsHeader (lines_of text.now) p.0.height p.0.width (lines_of p.1.now))
         (HasMapFault (lines_of text.now)) }
@@ -51,7 +51,7 @@ pub fn read_header(text: &[u8]) -> Result<(Size, &[u8]), MapFault>
     Ok((Size { width, height }, text))
 }
 
-// The text after the line `type octile`.
+// Returns the text after the line `type octile`.
 fn type_line(text: &[u8]) -> Option<&[u8]>
     ensures { MatchOption result ((rest : List (List ℕ)) → AfterType (lines_of text.now) rest → ⊥)
         (λ rest. AfterType (lines_of text.now) (lines_of rest.now)) }
@@ -65,7 +65,7 @@ fn type_line(text: &[u8]) -> Option<&[u8]>
     }
 }
 
-// The size in a line of this name, and the text after it.
+// Returns the size in a line of this name, and the text after it.
 fn size_line<'a>(text: &'a [u8], name: &[u8]) -> Result<(u32, &'a [u8]), NotSize>
     ensures { MatchResult result (λ p. AfterSize name.now (lines_of text.now) p.0 (lines_of p.1.now) × IsSize p.0)
         (HasNoSize name.now (lines_of text.now)) }
@@ -96,7 +96,7 @@ fn size_in(line: &[u8], name: &[u8]) -> Result<u32, NotSize>
     }
 }
 
-// The text after the line `map`.
+// Returns the text after the line `map`.
 fn map_line(text: &[u8]) -> Option<&[u8]>
     ensures found { MatchOption result ((rest : List (List ℕ)) → AfterMap (lines_of text.now) rest → ⊥)
         (λ rest. AfterMap (lines_of text.now) (lines_of rest.now)) }

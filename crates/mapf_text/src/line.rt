@@ -2,7 +2,7 @@ ghost use Rattle.std.specs.Prelude.{◌≡◌, ◌==◌, ◌<◌, ◌^◌, [], �
 ghost use Rattle.std.specs.List.{position_from};
 ghost use Rattle.mapf_text.specs.Lines.{lines_of, without_return};
 
-/// The first line of a text without its line end, and the text after it. None at the end of the text.
+/// Returns the first line of a text without its line end, and the text after it. None at the end of the text.
 pub fn next_line(text: &[u8]) -> Option<(&[u8], &[u8])>
     ensures lines { MatchOption result (lines_of text.now ≡ []) (λ p. lines_of text.now ≡ p.0.now ∷ lines_of p.1.now) }
     ensures shorter { IfSome result (λ p. length p.1.now < length text.now) }
@@ -17,7 +17,7 @@ pub fn next_line(text: &[u8]) -> Option<(&[u8], &[u8])>
     }
 }
 
-// The place of the first LF.
+// Returns the index of the first LF.
 fn line_feed(text: &[u8]) -> Option<usize>
     ensures place { result ≡ position_from (λ b. b == 10) 0 text.now }
     ensures within { IfSome result (λ at. at < length text.now) }
@@ -25,7 +25,7 @@ fn line_feed(text: &[u8]) -> Option<usize>
     text.iter().position(|byte| *byte == b'\n')
 }
 
-// A line without one CR at its end.
+// Returns a line without one CR at its end.
 fn without_return(line: &[u8]) -> &[u8]
     ensures { result.now ≡ without_return line.now }
 {

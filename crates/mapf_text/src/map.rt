@@ -14,17 +14,17 @@ use crate::word::is_blank_line;
 use mapf_model::Grid;
 use std::alloc::Global;
 
-/// Reads a map text: the lines `type octile`, `height` and a number, `width` and a number, and `map`,
-/// then the rows from the top, and after them blank lines alone.
+/// Reads a map text: the lines `type octile`, `height` and a number, `width` and a number, and `map`, then the rows
+/// from the top, and then only blank lines.
 ///
-/// `.`, `G` and `S` are free, `@`, `O`, `T` and `W` are blocked. A line ends with LF or CR LF, the last
-/// one with or without.
+/// `.`, `G` and `S` are free, `@`, `O`, `T` and `W` are blocked. A line ends with LF or CR LF; the last line may lack
+/// its end.
 pub fn read_map(alloc: Global, bytes: &[u8]) -> Result<Grid, MapFault>
-    // What is read is spelled so.
+    // If a grid is returned, the bytes spell it.
     ensures found { IfOk result (SpellsMap bytes.now) }
-    // What is spelled so is read, unless memory runs out.
+    // A grid that the bytes spell is returned, unless memory runs out.
     ensures only { (grid : GridMap) → SpellsMap bytes.now grid → (result ≡ Ok grid) ⊎ (result ≡ Err MapFault.Memory) }
-    // The lines before the reported location are good, and the defect is there.
+    // The lines before the reported location are correct, and the error is there.
     ensures fault { IfErr result (HasMapFault (lines_of bytes.now)) }
     // The grid has a flag for each of its cells.
     ensures grid { IfOk result IsGridMap }
@@ -70,7 +70,7 @@ fn read_rows(alloc: Global, size: Size, text: &[u8]) -> Result<(Vec<bool>, &[u8]
     Ok((free, rest))
 }
 
-// Adds the flags of a row's bytes. An error is the place of the first byte that is unknown.
+// Adds the flags of a row's bytes. The error is the index of the first unknown byte.
 fn push_row(free: &mut Vec<bool>, row: &[u8]) -> Result<(), usize>
     requires { vec_len free.old + length row.now ≤ vec_capacity free.old }
     ensures flags { OnOk result (map Some free.new.items ≡ map Some free.old.items ++ map flag_of row.now) }
@@ -88,7 +88,7 @@ fn push_row(free: &mut Vec<bool>, row: &[u8]) -> Result<(), usize>
     Ok(())
 }
 
-// Whether a byte is a free cell or a blocked one. None for other bytes.
+// Returns whether the cell of a byte is free. None for a byte that isn't a cell.
 fn flag_of(byte: u8) -> Option<bool>
     ensures { result ≡ flag_of byte }
 {
@@ -99,7 +99,7 @@ fn flag_of(byte: u8) -> Option<bool>
     }
 }
 
-// The text has only blank lines. Its first line has the number `first`.
+// Checks that the text has only blank lines. Its first line has the number `first`.
 fn only_blank_lines(first: u64, text: &[u8]) -> Result<(), MapFault>
     requires { first + length text.now < 2 ^ 64 }
     ensures blank { OnOk result ((n : ℕ) → is_blank_line (slice_index_or (lines_of text.now) n []) ≡ true) }

@@ -1,4 +1,4 @@
-/// Why bytes are no map text: the first error in the order of the text.
+/// Why bytes are not a map text: the first error in the order of the text.
 #[derive(Clone, Copy, Debug, PartialEq, Eq)]
 pub enum MapFault {
     /// The first line isn't `type octile`.
@@ -11,7 +11,7 @@ pub enum MapFault {
     M4 { line: u32 },
     /// The fourth line isn't `map`.
     M5,
-    /// This row, counted from 0, hasn't as many bytes as the map is wide.
+    /// The number of bytes of this row, counted from 0, isn't the map's width.
     M6 { row: u32 },
     /// The byte in this column and row is none of `.`, `G`, `S`, `@`, `O`, `T` and `W`.
     M7 { x: u32, y: u32 },
@@ -19,6 +19,6 @@ pub enum MapFault {
     M8 { rows: u32 },
     /// This line, counted from 1, comes after the rows and isn't blank.
     M9 { line: u64 },
-    /// A request for memory was refused.
+    /// Out of memory.
     Memory,
 }

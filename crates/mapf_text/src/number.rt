@@ -3,7 +3,7 @@ ghost use Rattle.std.specs.Char.{is_ascii_digit};
 ghost use Rattle.std.specs.List.{list_all};
 ghost use Rattle.mapf_text.specs.Numbers.{AreDigits, NumberOf};
 
-/// Why a word is no number of 32 bits.
+/// Why a word isn't a number of 32 bits.
 #[derive(Clone, Copy, Debug, PartialEq, Eq)]
 pub enum NotNumber {
     /// It isn't one or more digits.
@@ -12,7 +12,7 @@ pub enum NotNumber {
     TooLarge,
 }
 
-/// The number that a word spells: one or more digits, leading zeros allowed.
+/// Reads the number that a word spells: one or more digits, with or without leading zeros.
 pub fn read_number(word: &[u8]) -> Result<u32, NotNumber>
     ensures { NumberOf word.now result }
 {
@@ -28,7 +28,7 @@ pub fn read_number(word: &[u8]) -> Result<u32, NotNumber>
     }
 }
 
-// Whether a word is one or more digits.
+// Returns whether a word is one or more digits.
 fn are_digits(word: &[u8]) -> bool
     ensures { IsTrue result ↔ AreDigits word.now }
 {

@@ -12,20 +12,20 @@ use crate::word::{is_blank_line, two_words};
 use mapf_model::{Agent, Grid, Problem};
 use std::alloc::Global;
 
-/// Reads a scenario text on a grid: the line `version 1` or `version 1.0`, then a row for each of the
-/// `k` agents. Blank lines are skipped, and nothing is looked at after the last of these rows.
+/// Reads a scenario text on a grid: the line `version 1` or `version 1.0`, then a row for each of the `k` agents. Blank
+/// lines are skipped, and what follows the last of these rows is not read.
 ///
 /// After an error the grid is dropped.
 pub fn read_scen(alloc: Global, bytes: &[u8], grid: Grid, k: u32) -> Result<Problem, ScenFault>
     requires { (1 ≤ k) × (k ≤ most_agents) }
-    // What is read is spelled so.
+    // If a problem is returned, the bytes spell it.
     ensures found { IfOk result (SpellsScenario bytes.now grid k) }
-    // What is spelled so is read, unless memory runs out.
+    // A problem that the bytes spell is returned, unless memory runs out.
     ensures only { (problem : Instance) → SpellsScenario bytes.now grid k problem
         → (result ≡ Ok problem) ⊎ (result ≡ Err ScenFault.Memory) }
-    // The lines before the reported location are good, and the defect is there.
+    // The lines before the reported location are correct, and the error is there.
     ensures fault { IfErr result (HasScenarioFault grid (filled_lines bytes.now) k) }
-    // There are 1 to 200 agents, whose starts and goals are free cells, and as many as were asked for.
+    // There are `k` agents, 1 to 200, whose starts and goals are free cells.
     ensures problem { IfOk result IsInstance }
     ensures count { IfOk result (λ problem. length problem.agents ≡ k) }
 {
@@ -45,7 +45,7 @@ fn problem_of(alloc: Global, bytes: &[u8], grid: Grid, k: u32) -> Result<Problem
     Ok(Problem::of(grid, agents).unwrap())
 }
 
-// The text after the version line.
+// Returns the text after the version line.
 fn after_version(text: &[u8]) -> Option<&[u8]>
     ensures { MatchOption result ((rows : List (List ℕ)) → AfterVersion (filled_lines text.now) rows → ⊥)
         (λ rows. AfterVersion (filled_lines text.now) (filled_lines rows.now)) }
@@ -67,7 +67,7 @@ fn is_version_line(line: &[u8]) -> bool
     first == b"version".as_slice() && (second == b"1".as_slice() || second == b"1.0".as_slice())
 }
 
-// The first line that isn't blank, and the text after it.
+// Returns the first line that isn't blank, and the text after it.
 fn next_filled_line(text: &[u8]) -> Option<(&[u8], &[u8])>
     ensures { MatchOption result (filled_lines text.now ≡ [])
         (λ p. filled_lines text.now ≡ p.0.now ∷ filled_lines p.1.now) }

@@ -1,9 +1,9 @@
-/// Why bytes are no scenario text for a grid: the first error in the order of the text.
+/// Why bytes are not a scenario text for a grid: the first error in the order of the text.
 #[derive(Clone, Copy, Debug, PartialEq, Eq)]
 pub enum ScenFault {
     /// The first line that isn't blank isn't `version 1` or `version 1.0`.
     S1,
-    /// This row, counted from 0, hasn't nine words.
+    /// This row, counted from 0, doesn't have nine words.
     S2 { row: u32 },
     /// This field of the row, counted from 1, isn't a number of at most 4,294,967,295.
     S3 { row: u32, field: u32 },
@@ -13,8 +13,8 @@ pub enum ScenFault {
     S5 { row: u32 },
     /// The length in this row isn't decimal text.
     S6 { row: u32 },
-    /// The text ends after so many rows, fewer than there are to be agents.
+    /// The text ends after so many rows, fewer than the number of agents.
     S7 { rows: u32 },
-    /// A request for memory was refused.
+    /// Out of memory.
     Memory,
 }

@@ -8,14 +8,14 @@ fn is_blank(byte: u8) -> bool
     byte == b' ' || byte == b'\t'
 }
 
-/// Whether a line has only blanks.
+/// Returns whether a line has only blanks.
 pub fn is_blank_line(line: &[u8]) -> bool
     ensures { result ≡ is_blank_line line.now }
 {
     line.iter().all(|byte| is_blank(*byte))
 }
 
-/// The first word of a line, and the line after it. None where the line is blank.
+/// Returns the first word of a line, and the line after it. None if the line is blank.
 pub fn next_word(line: &[u8]) -> Option<(&[u8], &[u8])>
     ensures { MatchOption result (words_of line.now ≡ []) (λ p. words_of line.now ≡ p.0.now ∷ words_of p.1.now) }
 {
@@ -27,7 +27,7 @@ pub fn next_word(line: &[u8]) -> Option<(&[u8], &[u8])>
     Some(filled.split_at(end))
 }
 
-// The place of the first byte that is no blank.
+// Returns the index of the first byte that isn't a blank.
 fn first_filled(line: &[u8]) -> Option<usize>
     ensures place { result ≡ position_from (λ b. not (is_blank b)) 0 line.now }
     ensures within { IfSome result (λ at. at < length line.now) }
@@ -35,7 +35,7 @@ fn first_filled(line: &[u8]) -> Option<usize>
     line.iter().position(|byte| !is_blank(*byte))
 }
 
-// The place of the first blank.
+// Returns the index of the first blank.
 fn first_blank(line: &[u8]) -> Option<usize>
     ensures place { result ≡ position_from is_blank 0 line.now }
     ensures within { IfSome result (λ at. at < length line.now) }
@@ -43,7 +43,7 @@ fn first_blank(line: &[u8]) -> Option<usize>
     line.iter().position(|byte| is_blank(*byte))
 }
 
-/// The word of a line that has just one.
+/// Returns the word of a line of exactly one.
 pub fn one_word(line: &[u8]) -> Option<&[u8]>
     ensures { MatchOption result ((word : List ℕ) → words_of line.now ≡ word ∷ [] → ⊥)
         (λ word. words_of line.now ≡ word.now ∷ []) }
@@ -55,7 +55,7 @@ pub fn one_word(line: &[u8]) -> Option<&[u8]>
     Some(word)
 }
 
-/// The words of a line that has just two.
+/// Returns the words of a line of exactly two.
 pub fn two_words(line: &[u8]) -> Option<(&[u8], &[u8])>
     ensures { MatchOption result ((first second : List ℕ) → words_of line.now ≡ first ∷ second ∷ [] → ⊥)
         (λ p. words_of line.now ≡ p.0.now ∷ p.1.now ∷ []) }

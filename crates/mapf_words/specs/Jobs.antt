@@ -15,11 +15,11 @@ IsInRange (Check map scen k plan cert) = (1 ≤ k) × (k ≤ most_agents)
 IsInRange (Play map scen k plan) = (1 ≤ k) × (k ≤ most_agents)
 IsInRange (Dispatch map scen k plan events) = (1 ≤ k) × (k ≤ most_agents)
 
--- two names of files differ, or both are the null device's, where what is written is kept nowhere
+-- two names of files differ, or both are the null device's, where what is written is discarded
 abbrev pub AreApart : List ℕ → List ℕ → Type 0
 AreApart name other = name ≡ other → name ≡ codes "/dev/null"
 
--- no output has the name of an input or of another output, the null device aside
+-- no output has the name of an input or of another output, except that of the null device
 abbrev pub HasOwnOutputs : Job → Type 0
 HasOwnOutputs Demo = ⊤
 HasOwnOutputs (Solve map scen k limit plan cert) =
@@ -30,11 +30,11 @@ HasOwnOutputs (Check map scen k plan cert) = ⊤
 HasOwnOutputs (Play map scen k plan) = ⊤
 HasOwnOutputs (Dispatch map scen k plan events) = ⊤
 
--- the text that was found under a name
+-- the text of the argument of that name
 abbrev pub named : Found → List ℕ → List ℕ
 named found name = unwrap_or (first_value found name) []
 
--- the job of this command, whose files are those that were found under their names
+-- the job of this command, whose files are those of the arguments
 abbrev pub IsJobOf : List ℕ → Found → Job → Type 0
 IsJobOf command found Demo = ⊥
 IsJobOf command found (Solve map scen k limit plan cert) =

@@ -9,7 +9,7 @@ costs, and writes a certificate which shows that no valid plan costs less. It al
 certificates, shows plans tick by tick, and dispatches agents along a plan.
 Without arguments it solves and checks a small built-in problem.";
 
-// The program's version, which is said here alone, and below it those of the texts.
+// The program's version, and below it those of the texts. Both are defined here only.
 const VERSION: &str = "1.0.0
 reads plan texts 1 and 2, certificates 1 and 2, event texts 1
 writes plan texts 2, certificates 2";
@@ -197,7 +197,7 @@ fn dispatch<'a>(alloc: Global) -> Result<Command<'a>, AllocError> {
         ))
 }
 
-/// The arguments that the program takes.
+/// Returns the description of the arguments that the program takes.
 pub fn mapf<'a>(alloc: Global) -> Result<Command<'a>, AllocError> {
     Command::new(alloc, "mapf")
         .version(VERSION)

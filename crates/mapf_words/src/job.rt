@@ -1,9 +1,9 @@
-/// What the arguments ask for. The texts are names of files.
+/// What the arguments ask for. Strings are names of files.
 #[derive(Debug, PartialEq, Eq, Drop)]
 pub enum Job {
     /// Solve and check a small built-in problem.
     Demo,
-    /// Find a cheapest plan for the first `k` agents with at most `limit` splits.
+    /// Search for an optimal plan for the first `k` agents with at most `limit` splits.
     Solve {
         map: String,
         scen: String,
@@ -14,7 +14,7 @@ pub enum Job {
         plan: String,
         cert: String,
     },
-    /// Judge a plan text of the first `k` agents by its certificate.
+    /// Check a plan text and a certificate for the first `k` agents.
     Check {
         map: String,
         scen: String,
@@ -31,8 +31,8 @@ pub enum Job {
         k: u32,
         plan: String,
     },
-    /// Let the first `k` agents follow the plan of a plan text, and reply to each agent that asks
-    /// to go on in an event text.
+    /// Let the first `k` agents follow the plan of a plan text, and write the reply to each agent that asks to move on
+    /// in an event text.
     Dispatch {
         map: String,
         scen: String,

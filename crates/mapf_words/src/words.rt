@@ -11,15 +11,15 @@ use clap::error::ErrorKind;
 use mapf_model::limits::{MOST_AGENTS, MOST_SPLITS};
 use std::alloc::{AllocError, Global};
 
-// The text of the argument of that name.
+// Returns the text of the argument of that name.
 fn text_of(alloc: Global, given: &ArgMatches<'_>, name: &str) -> Result<String, AllocError>
     ensures { IfOk result (λ text. string_bytes text ≡ named (found_of given.now) name.now) }
 {
     String::from_str(alloc, given.get_str(name).unwrap_or(""))
 }
 
-// The number of the argument of that name. The command line has the same range for the user's sake; this
-// test is the one that counts.
+// Returns the number of the argument of that name, and checks its range. The parser of the command line checks the same
+// range for its message; the contract rests on this check.
 fn number_of(
     alloc: Global,
     given: &ArgMatches<'_>,
@@ -37,8 +37,8 @@ fn number_of(
     }
 }
 
-// Refuses an output under the name of another file, each with the name of its argument. What is written to
-// the null device is kept nowhere, so there nothing can be lost.
+// Refuses an output with the name of another file, each with the name of its argument. What is written to the null
+// device is discarded, so two arguments may name it.
 fn apart(alloc: Global, output: (&str, &str), other: (&str, &str)) -> Result<(), WordsFault>
     ensures { OnOk result (AreApart output.entry.1.now other.entry.1.now) }
 {
@@ -49,7 +49,7 @@ fn apart(alloc: Global, output: (&str, &str), other: (&str, &str)) -> Result<(),
     Err(WordsFault::Bad(format!(in alloc; "error: {first} and {second} are one file: {text:?}\n")?))
 }
 
-// Refuses `solve` if an input would be overwritten, or one output by the other.
+// Refuses `solve` if it would overwrite an input, or one output by the other.
 fn own_outputs(
     alloc: Global,
     map: &str,
@@ -132,7 +132,7 @@ fn dispatch_of(alloc: Global, given: &ArgMatches<'_>) -> Result<Job, WordsFault>
     })
 }
 
-// The job of a command, by what was found under its names.
+// Returns the job of a command, from the arguments by their names.
 fn job_in(alloc: Global, command: &str, given: &ArgMatches<'_>) -> Result<Job, WordsFault>
     ensures range { IfOk result IsInRange }
     ensures named { IfOk result (IsJobOf command.now (found_of given.now)) }
@@ -158,9 +158,8 @@ fn fault_of(alloc: Global, error: &clap::Error) -> WordsFault {
     }
 }
 
-/// The job of these arguments, of which the first is the program's name. Without further arguments
-/// it is the demo. A job that would overwrite a file that it reads, or write two texts to one file,
-/// is a usage error.
+/// Returns the job of these arguments, of which the first is the program's name. Without further arguments it is the
+/// demo. A job that would overwrite a file that it reads, or write two texts to one file, is a usage error.
 pub fn job_of(alloc: Global, words: Vec<String>) -> Result<Job, WordsFault>
     ensures range { IfOk result IsInRange }
     ensures own { IfOk result HasOwnOutputs }

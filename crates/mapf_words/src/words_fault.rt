@@ -3,11 +3,11 @@ use std::alloc::AllocError;
 /// Why arguments give no job.
 #[derive(Debug, PartialEq, Eq, Drop)]
 pub enum WordsFault {
-    /// They ask for this text: help, or the version.
+    /// They ask for this text: the help, or the version.
     Shown(String),
-    /// They are a usage error, which this text reports to the user.
+    /// They are a usage error, reported by this text.
     Bad(String),
-    /// A request for memory was refused.
+    /// Out of memory.
     Memory,
 }
 
