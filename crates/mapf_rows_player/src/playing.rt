@@ -152,8 +152,7 @@ fn shows_walls_and_agents_beside_them(rt: HostRuntime) -> Result<(), Fail> {
 fn resting_agents(alloc: Global, count: u32) -> Result<Problem, Fail> {
     let mut agents = Vec::new(alloc);
     for number in 0..count {
-        let (start, goal) = (Cell(number), Cell(number));
-        agents.push(Agent { start, goal })?;
+        agents.push(agent_of(&[number]).ok_or("no agent")?)?;
     }
     let grid = grid_of(alloc, count, 1, &[])?;
     Ok(Problem::of(grid, agents).ok_or("a problem")?)
@@ -220,28 +219,32 @@ fn shows_the_same_byte_by_byte(rt: HostRuntime) -> Result<(), Fail> {
     assert_shown_at(&rt, rt.alloc(), Pace::ByteByByte)
 }
 
-// The sink takes a prefix of so many bytes where the crossing is played into it.
+// The crossing is played into the sink, which takes a prefix of so many bytes.
 fn assert_taken(
     rt: &impl Abort,
     alloc: Global,
-    sink: &mut FuseSink,
+    mut sink: FuseSink,
     taken: usize,
 ) -> Result<(), Fail> {
-    let is_whole = is_played(alloc, &CROSSING, sink)?;
+    let is_whole = is_played(alloc, &CROSSING, &mut sink)?;
     assert!(rt; is_whole == (taken == CROSSING_TEXT.len()));
     assert!(rt; sink.bytes().len() == taken);
     assert!(rt; CROSSING_TEXT.as_bytes().starts_with(sink.bytes()));
     Ok(())
 }
 
+// A sink that fails takes a prefix of so many bytes, be it after so many calls or where it is full.
+fn assert_prefix(rt: &impl Abort, alloc: Global, taken: usize) -> Result<(), Fail> {
+    let slow = sink_of(alloc, 200, Pace::ByteByByte, Some(taken as u64))?;
+    assert_taken(rt, alloc, slow, taken)?;
+    let full = sink_of(alloc, taken, Pace::AllAtOnce, None)?;
+    assert_taken(rt, alloc, full, taken)
+}
+
 #[test]
 fn leaves_a_prefix_in_a_sink_that_fails(rt: HostRuntime) -> Result<(), Fail> {
-    let alloc = rt.alloc();
     for taken in 0..=CROSSING_TEXT.len() {
-        let mut slow = sink_of(alloc, 200, Pace::ByteByByte, Some(taken as u64))?;
-        assert_taken(&rt, alloc, &mut slow, taken)?;
-        let mut full = sink_of(alloc, taken, Pace::AllAtOnce, None)?;
-        assert_taken(&rt, alloc, &mut full, taken)?;
+        assert_prefix(&rt, rt.alloc(), taken)?;
     }
     Ok(())
 }
