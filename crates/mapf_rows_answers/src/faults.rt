@@ -1,37 +1,31 @@
 //! Which error is answered to a bad map or scenario, by every run that reads them.
 
-ghost use Rattle.std.specs.Prelude.{◌≤◌};
-
-use crate::solving::assert_written;
+use crate::runs::{
+    assert_kind, assert_run, assert_solved, assert_verdict, checked, dispatched, played, solved,
+};
 use mapf_app::{Fault, Kind, MapFault, ScenFault};
-use mapf_model::BytesSink;
 use mapf_rows::Given;
-use mapf_rows_runs::{check, dispatch, play, solve};
 use std::alloc::Global;
 use std::process::Abort;
 use std::test::Fail;
 
+const ROOM: usize = 80;
+
 // Every run on these inputs ends with this error, and writes nothing.
-fn assert_fault(rt: &impl Abort, alloc: Global, given: &Given, fault: Fault) -> Result<(), Fail>
-    requires some { 1 ≤ given.now.k }
-    requires few { given.now.k ≤ 200 }
-{
-    let solved = solve(alloc, given, 0)?;
-    assert_written(rt, &solved, Err(fault), ("", ""));
-    let verdict = check(alloc, given, b"", b"");
-    assert_eq!(rt; verdict, Err(fault), "of {} and {}", given.map, given.scen);
-    let mut sink = BytesSink::with_room(alloc, 80)?;
-    let shown = play(alloc, given, b"", &mut sink);
-    assert_eq!(rt; shown, Err(fault), "of {} and {}", given.map, given.scen);
-    assert_eq!(rt; sink.bytes(), b"".as_slice());
-    let mut sink = BytesSink::with_room(alloc, 80)?;
-    let told = dispatch(alloc, given, b"", b"", &mut sink);
-    assert_eq!(rt; told, Err(fault), "of {} and {}", given.map, given.scen);
-    assert_eq!(rt; sink.bytes(), b"".as_slice());
+fn assert_fault(rt: &impl Abort, alloc: Global, given: &Given, fault: Fault) -> Result<(), Fail> {
+    assert_solved(rt, &solved(alloc, given, 0)?, Err(fault), "", "");
+    assert_verdict(rt, checked(alloc, given, b"", b"")?, Err(fault));
+    assert_run(rt, &played(alloc, given, "", ROOM)?, Err(fault), "");
+    assert_run(
+        rt,
+        &dispatched(alloc, given, "", b"", ROOM)?,
+        Err(fault),
+        "",
+    );
     Ok(())
 }
 
-const MAPS: [(&str, MapFault); 10] = [
+const MAPS: &[(&str, MapFault)] = &[
     ("type tile\n", MapFault::M1),
     ("type octile\nheight two\n", MapFault::M2),
     ("type octile\nheight 2\nheight 2\n", MapFault::M3),
@@ -70,14 +64,14 @@ fn names_the_fault_of_a_map(rt: HostRuntime) -> Result<(), Fail> {
             scen: "",
             k: 1,
         };
-        assert_fault(&rt, rt.alloc(), &given, Fault::F1(fault))?;
+        assert_fault(&rt, rt.alloc(), &given, Fault::F1(*fault))?;
     }
     Ok(())
 }
 
 const CORNER: &str = "type octile\nheight 2\nwidth 3\nmap\n..T\n...\n";
 
-const SCENARIOS: [(&str, u32, ScenFault); 9] = [
+const SCENARIOS: &[(&str, u32, ScenFault)] = &[
     ("version 2\n", 1, ScenFault::S1),
     (
         "version 1\n0 a 3 2 0 0 1 0 1\n0 a 3 2 0 1 1 1\n",
@@ -121,42 +115,42 @@ const SCENARIOS: [(&str, u32, ScenFault); 9] = [
 #[test]
 fn names_the_fault_of_a_scenario(rt: HostRuntime) -> Result<(), Fail> {
     for (scen, k, fault) in SCENARIOS {
-        assert!(rt; 1 <= k && k <= 200);
         let given = Given {
             map: CORNER,
             scen,
-            k,
+            k: *k,
         };
-        assert_fault(&rt, rt.alloc(), &given, Fault::F2(fault))?;
+        assert_fault(&rt, rt.alloc(), &given, Fault::F2(*fault))?;
     }
+    Ok(())
+}
+
+// A run without splits of one agent on these texts gives this answer.
+fn assert_taken(
+    rt: &impl Abort,
+    alloc: Global,
+    map: &'static str,
+    scen: &'static str,
+    answer: Result<Kind, Fault>,
+) -> Result<(), Fail> {
+    let solved = solved(alloc, &Given { map, scen, k: 1 }, 0)?;
+    assert_kind(rt, &solved, answer);
     Ok(())
 }
 
 #[test]
 fn takes_a_length_with_an_exponent(rt: HostRuntime) -> Result<(), Fail> {
-    let given = Given {
-        map: CORNER,
-        scen: "version 1\n0 a 3 2 0 0 1 0 1e+02\n",
-        k: 1,
-    };
-    let solved = solve(rt.alloc(), &given, 0)?;
-    assert_eq!(rt; solved.answer, Ok(Kind::Found(1)));
-    Ok(())
+    let scen = "version 1\n0 a 3 2 0 0 1 0 1e+02\n";
+    assert_taken(&rt, rt.alloc(), CORNER, scen, Ok(Kind::Found(1)))
 }
+
+const MARSH: &str = "type octile\nheight 2\nwidth 3\nmap\n.WS\n...\n";
 
 #[test]
 fn tells_swamp_from_water(rt: HostRuntime) -> Result<(), Fail> {
-    let map = "type octile\nheight 2\nwidth 3\nmap\n.WS\n...\n";
-    for (scen, answer) in [
-        ("version 1\n0 a 3 2 0 0 2 0 2\n", Ok(Kind::Found(4))),
-        (
-            "version 1\n0 a 3 2 0 0 1 0 1\n",
-            Err(Fault::F2(ScenFault::S5 { row: 0 })),
-        ),
-    ] {
-        let given = Given { map, scen, k: 1 };
-        let solved = solve(rt.alloc(), &given, 0)?;
-        assert_eq!(rt; solved.answer, answer, "of {scen}");
-    }
-    Ok(())
+    let to_swamp = "version 1\n0 a 3 2 0 0 2 0 2\n";
+    assert_taken(&rt, rt.alloc(), MARSH, to_swamp, Ok(Kind::Found(4)))?;
+    let to_water = "version 1\n0 a 3 2 0 0 1 0 1\n";
+    let fault = Fault::F2(ScenFault::S5 { row: 0 });
+    assert_taken(&rt, rt.alloc(), MARSH, to_water, Err(fault))
 }

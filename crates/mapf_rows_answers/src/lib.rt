@@ -8,4 +8,6 @@ mod faults;
 #[cfg(test)]
 mod playing;
 #[cfg(test)]
+mod runs;
+#[cfg(test)]
 mod solving;

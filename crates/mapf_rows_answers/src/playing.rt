@@ -1,7 +1,7 @@
 //! What is shown of plans, and why others aren't.
 
-use mapf_app::{Fault, Output, PlanFault, PlanTextFault, PlayFault};
-use mapf_model::BytesSink;
+use crate::runs::{assert_answer, assert_prefix, assert_run, assert_text, played};
+use mapf_app::{Fault, PlanFault, PlanTextFault, PlayFault};
 use mapf_model::devices::{FuseSink, Pace};
 use mapf_rows::Given;
 use mapf_rows::problems::{
@@ -10,6 +10,8 @@ use mapf_rows::problems::{
 };
 use mapf_rows::texts::plan_in_other_version;
 use mapf_rows_runs::play;
+use std::alloc::Global;
+use std::process::Abort;
 use std::test::Fail;
 
 const ROOM: usize = 4096;
@@ -18,7 +20,7 @@ const CROSSING_SHOWN: &str =
     "tick 0\n.1.\n0..\n...\ntick 1\n...\n01.\n...\ntick 2\n...\n.0.\n.1.\ntick 3\n...\n..0\n.1.\nend 3\n";
 
 // A problem, a plan text, and what is shown.
-const SHOWN: [(Given, &str, &str); 4] = [
+const SHOWN: &[(Given, &str, &str)] = &[
     (AT_REST, AT_REST_PLAN, "tick 0\n0\nend 0\n"),
     (CROSSING, CROSSING_PLAN, CROSSING_SHOWN),
     // The first agent waits for two ticks, and the second stays where it arrived.
@@ -35,57 +37,90 @@ const SHOWN: [(Given, &str, &str); 4] = [
     ),
 ];
 
+// Plays a plan text into a sink of this pace that fails after so many calls, or never.
+fn played_at(
+    alloc: Global,
+    given: &Given,
+    plan: &str,
+    pace: Pace,
+    calls: Option<u64>,
+) -> Result<(Result<(), Fault>, FuseSink), Fail> {
+    if given.k < 1 || 200 < given.k {
+        return Err("no number of agents")?;
+    }
+    let mut sink = FuseSink::with_room(alloc, ROOM, pace, calls)?;
+    let answer = play(alloc, given, plan.as_bytes(), &mut sink);
+    Ok((answer, sink))
+}
+
+// This is shown at this pace.
+fn assert_shown_at(
+    rt: &impl Abort,
+    alloc: Global,
+    given: &Given,
+    plan: &str,
+    shown: &str,
+    pace: Pace,
+) -> Result<(), Fail> {
+    let (answer, sink) = played_at(alloc, given, plan, pace, None)?;
+    assert_answer(rt, answer, Ok(()));
+    assert_text(rt, sink.bytes(), shown);
+    Ok(())
+}
+
+// This is shown, and of the plan text in the other version too.
+fn assert_shown(
+    rt: &impl Abort,
+    alloc: Global,
+    given: &Given,
+    plan: &str,
+    shown: &str,
+) -> Result<(), Fail> {
+    assert_shown_at(rt, alloc, given, plan, shown, Pace::AllAtOnce)?;
+    assert_shown_at(rt, alloc, given, plan, shown, Pace::ByteByByte)?;
+    let other = plan_in_other_version(alloc, plan)?;
+    let other = other.ok_or("no other version")?;
+    assert_run(
+        rt,
+        &played(alloc, given, other.as_str(), ROOM)?,
+        Ok(()),
+        shown,
+    );
+    Ok(())
+}
+
 #[test]
 fn shows_plans(rt: HostRuntime) -> Result<(), Fail> {
     for (given, plan, shown) in SHOWN {
-        assert!(rt; 1 <= given.k && given.k <= 200);
-        for pace in [Pace::AllAtOnce, Pace::ByteByByte] {
-            let mut sink = FuseSink::with_room(rt.alloc(), ROOM, pace, None)?;
-            let answer = play(rt.alloc(), &given, plan.as_bytes(), &mut sink);
-            assert_eq!(rt; answer, Ok(()), "of {plan}");
-            assert_eq!(rt; sink.bytes(), shown.as_bytes());
-        }
-        let other = plan_in_other_version(rt.alloc(), plan)?;
-        let other = other.ok_or("no other version")?;
-        let mut sink = BytesSink::with_room(rt.alloc(), ROOM)?;
-        let answer = play(rt.alloc(), &given, other.as_bytes(), &mut sink);
-        assert_eq!(rt; answer, Ok(()), "of {other}");
-        assert_eq!(rt; sink.bytes(), shown.as_bytes());
+        assert_shown(&rt, rt.alloc(), given, plan, shown)?;
     }
+    Ok(())
+}
+
+// A sink of this pace that fails after so many calls takes a prefix of what is shown.
+fn assert_shown_before(
+    rt: &impl Abort,
+    alloc: Global,
+    pace: Pace,
+    calls: usize,
+) -> Result<(), Fail> {
+    let fuse = Some(calls as u64);
+    let (answer, sink) = played_at(alloc, &CROSSING, CROSSING_PLAN, pace, fuse)?;
+    assert_prefix(rt, answer, sink.bytes(), CROSSING_SHOWN, pace, calls);
     Ok(())
 }
 
 #[test]
 fn shows_a_front_where_the_sink_fails(rt: HostRuntime) -> Result<(), Fail> {
-    let shown = CROSSING_SHOWN.as_bytes();
-    for pace in [Pace::AllAtOnce, Pace::ByteByByte] {
-        for calls in 0..=shown.len() {
-            let fuse = Some(calls as u64);
-            let mut sink = FuseSink::with_room(rt.alloc(), ROOM, pace, fuse)?;
-            let answer = play(rt.alloc(), &CROSSING, CROSSING_PLAN.as_bytes(), &mut sink);
-            let is_whole = sink.bytes().len() == shown.len();
-            let wanted = if is_whole {
-                Ok(())
-            } else {
-                Err(Fault::F5(Output::Out))
-            };
-            assert_eq!(rt; answer, wanted, "after {calls} calls");
-            assert!(rt; shown.starts_with(sink.bytes()), "after {calls} calls");
-            let is_slow = matches!(pace, Pace::ByteByByte);
-            assert!(rt;
-                if is_slow {
-                    sink.bytes().len() == calls
-                } else {
-                    is_whole || calls < shown.len()
-                }
-            );
-        }
+    for calls in 0..=CROSSING_SHOWN.len() {
+        assert_shown_before(&rt, rt.alloc(), Pace::AllAtOnce, calls)?;
+        assert_shown_before(&rt, rt.alloc(), Pace::ByteByByte, calls)?;
     }
     Ok(())
 }
 
 // A problem, a plan text, and why it isn't shown.
-const NOT_SHOWN: [(Given, &str, PlayFault); 21] = [
+const NOT_SHOWN: &[(Given, &str, PlayFault)] = &[
     (
         EXCHANGE,
         "mapf-plan 1\nagents 2\nlimit 3\nend\n",
@@ -187,14 +222,23 @@ const NOT_SHOWN: [(Given, &str, PlayFault); 21] = [
     ),
 ];
 
+// Nothing is shown of the plan text, for this reason.
+fn assert_not_shown(
+    rt: &impl Abort,
+    alloc: Global,
+    given: &Given,
+    plan: &str,
+    fault: PlayFault,
+) -> Result<(), Fail> {
+    let run = played(alloc, given, plan, ROOM)?;
+    assert_run(rt, &run, Err(Fault::F3(fault)), "");
+    Ok(())
+}
+
 #[test]
 fn shows_nothing_of_other_plans(rt: HostRuntime) -> Result<(), Fail> {
     for (given, plan, fault) in NOT_SHOWN {
-        assert!(rt; 1 <= given.k && given.k <= 200);
-        let mut sink = BytesSink::with_room(rt.alloc(), ROOM)?;
-        let answer = play(rt.alloc(), &given, plan.as_bytes(), &mut sink);
-        assert_eq!(rt; answer, Err(Fault::F3(fault)), "of {plan}");
-        assert_eq!(rt; sink.bytes(), b"".as_slice());
+        assert_not_shown(&rt, rt.alloc(), given, plan, *fault)?;
     }
     Ok(())
 }

@@ -1,7 +1,8 @@
 //! What is written for problems of each kind of answer.
 
-ghost use Rattle.std.specs.Prelude.{◌≤◌};
-
+use crate::runs::{
+    assert_answer, assert_kind, assert_solved, assert_text, assert_verdict, checked, solved,
+};
 use mapf_app::{Fault, Kind, Verdict, run_demo};
 use mapf_model::{BytesSink, Cause};
 use mapf_rows::Given;
@@ -13,13 +14,12 @@ use mapf_rows::problems::{
     SHARED_GOAL_CERT, SHARED_GOAL_PLAN, SHARED_START, SHARED_START_CERT, SHARED_START_PLAN,
     SHARED_START_STOPPED_CERT, SHARED_START_STOPPED_PLAN, WALL, WALL_CERT, WALL_PLAN,
 };
-use mapf_rows_runs::{Solved, check, solve};
+use mapf_rows_runs::Solved;
 use std::alloc::Global;
 use std::process::Abort;
 use std::test::Fail;
 
 // A problem, the number of splits that are allowed, and the expected answer and texts.
-#[derive(Clone, Copy)]
 struct Row {
     given: Given,
     limit: u32,
@@ -28,7 +28,7 @@ struct Row {
     cert: &'static str,
 }
 
-const ROWS: [Row; 12] = [
+const ROWS: &[Row] = &[
     Row {
         given: AT_REST,
         limit: 0,
@@ -128,18 +128,6 @@ const ROWS: [Row; 12] = [
     },
 ];
 
-// The run gave this answer, and wrote these texts.
-pub fn assert_written(
-    rt: &impl Abort,
-    solved: &Solved,
-    answer: Result<Kind, Fault>,
-    texts: (&str, &str),
-) {
-    assert_eq!(rt; solved.answer, answer);
-    assert_eq!(rt; solved.plan.bytes(), texts.0.as_bytes());
-    assert_eq!(rt; solved.cert.bytes(), texts.1.as_bytes());
-}
-
 fn verdict_of(kind: Kind) -> Verdict {
     match kind {
         Kind::Found(cost) => Verdict::Optimal(cost),
@@ -148,72 +136,91 @@ fn verdict_of(kind: Kind) -> Verdict {
     }
 }
 
+// What the run wrote is accepted with the verdict of its answer.
+fn assert_accepted(
+    rt: &impl Abort,
+    alloc: Global,
+    given: &Given,
+    solved: &Solved,
+    kind: Kind,
+) -> Result<(), Fail> {
+    let verdict = checked(alloc, given, solved.plan.bytes(), solved.cert.bytes())?;
+    assert_verdict(rt, verdict, Ok(verdict_of(kind)));
+    Ok(())
+}
+
+fn assert_row(rt: &impl Abort, alloc: Global, row: &Row) -> Result<(), Fail> {
+    let solved = solved(alloc, &row.given, row.limit)?;
+    assert_solved(rt, &solved, Ok(row.kind), row.plan, row.cert);
+    assert_accepted(rt, alloc, &row.given, &solved, row.kind)
+}
+
 #[test]
 fn writes_plan_and_certificate(rt: HostRuntime) -> Result<(), Fail> {
     for row in ROWS {
-        assert!(rt; 1 <= row.given.k && row.given.k <= 200 && row.limit <= 100_000);
-        let solved = solve(rt.alloc(), &row.given, row.limit)?;
-        assert_written(&rt, &solved, Ok(row.kind), (row.plan, row.cert));
-        let verdict = check(
-            rt.alloc(),
-            &row.given,
-            solved.plan.bytes(),
-            solved.cert.bytes(),
-        );
-        assert_eq!(rt; verdict, Ok(verdict_of(row.kind)));
+        assert_row(&rt, rt.alloc(), row)?;
     }
     Ok(())
 }
 
 #[test]
 fn needs_no_more_splits_than_it_makes(rt: HostRuntime) -> Result<(), Fail> {
-    let solved = solve(rt.alloc(), &CROSSING, 1)?;
-    let texts = (CROSSING_PLAN, CROSSING_CERT);
-    assert_written(&rt, &solved, Ok(Kind::Found(5)), texts);
+    let solved = solved(rt.alloc(), &CROSSING, 1)?;
+    assert_solved(
+        &rt,
+        &solved,
+        Ok(Kind::Found(5)),
+        CROSSING_PLAN,
+        CROSSING_CERT,
+    );
     Ok(())
 }
 
 // Numbers of splits that are too few, and the least sum of an open node once so many are made.
-const NICHE_BOUNDS: [(u32, u64); 5] = [(0, 2), (1, 3), (2, 4), (3, 4), (4, 4)];
+const NICHE_BOUNDS: &[(u32, u64)] = &[(0, 2), (1, 3), (2, 4), (3, 4), (4, 4)];
 
-const EXCHANGE_BOUNDS: [(u32, u64); 4] = [(0, 2), (1, 3), (2, 3), (3, 4)];
+const EXCHANGE_BOUNDS: &[(u32, u64)] = &[(0, 2), (1, 3), (2, 3), (3, 4)];
 
-// Stopped at each of these limits the search reports that bound, and what it writes is accepted
-// with it.
-fn assert_bounds(
+// Stopped at this limit the search reports that bound, and what it writes is accepted with it.
+fn assert_bound(
     rt: &impl Abort,
     alloc: Global,
     given: &Given,
-    bounds: &[(u32, u64)],
-) -> Result<(), Fail>
-    requires some { 1 ≤ given.now.k }
-    requires few { given.now.k ≤ 200 }
-{
-    for (limit, bound) in bounds {
-        assert!(rt; *limit <= 100_000);
-        let solved = solve(alloc, given, *limit)?;
-        let kind = Kind::Limit {
-            cause: Cause::Splits(*limit),
-            bound: *bound,
-        };
-        assert_eq!(rt; solved.answer, Ok(kind));
-        let verdict = check(alloc, given, solved.plan.bytes(), solved.cert.bytes());
-        assert_eq!(rt; verdict, Ok(Verdict::Bound(*bound)), "with {limit} splits");
-    }
-    Ok(())
+    limit: u32,
+    bound: u64,
+) -> Result<(), Fail> {
+    let solved = solved(alloc, given, limit)?;
+    let kind = Kind::Limit {
+        cause: Cause::Splits(limit),
+        bound,
+    };
+    assert_kind(rt, &solved, Ok(kind));
+    assert_accepted(rt, alloc, given, &solved, kind)
 }
 
 #[test]
 fn tells_the_bound_that_so_many_splits_show(rt: HostRuntime) -> Result<(), Fail> {
-    assert_bounds(&rt, rt.alloc(), &NICHE, &NICHE_BOUNDS)?;
-    assert_bounds(&rt, rt.alloc(), &EXCHANGE, &EXCHANGE_BOUNDS)
+    for (limit, bound) in NICHE_BOUNDS {
+        assert_bound(&rt, rt.alloc(), &NICHE, *limit, *bound)?;
+    }
+    for (limit, bound) in EXCHANGE_BOUNDS {
+        assert_bound(&rt, rt.alloc(), &EXCHANGE, *limit, *bound)?;
+    }
+    Ok(())
+}
+
+// What the demo answers, and what it writes.
+fn demo(alloc: Global) -> Result<(Result<(), Fault>, BytesSink), Fail> {
+    let mut out = BytesSink::with_room(alloc, 4096)?;
+    let answer = run_demo(alloc, &mut out);
+    Ok((answer, out))
 }
 
 #[test]
 fn writes_the_demo(rt: HostRuntime) -> Result<(), Fail> {
-    let mut out = BytesSink::with_room(rt.alloc(), 4096)?;
-    assert_eq!(rt; run_demo(rt.alloc(), &mut out), Ok(()));
+    let (answer, out) = demo(rt.alloc())?;
+    assert_answer(&rt, answer, Ok(()));
     let text = format!(in rt.alloc(); "{ROTATION_PLAN}{ROTATION_CERT}optimal 4\n")?;
-    assert_eq!(rt; out.bytes(), text.as_bytes());
+    assert_text(&rt, out.bytes(), text.as_str());
     Ok(())
 }

@@ -1,10 +1,9 @@
-ghost use Rattle.std.specs.Prelude.{◌≡◌, false};
-
 use mapf_checker::check_plan;
 use mapf_model::devices::{FuseSink, Pace};
-use mapf_model::{Agent, BytesSink, Cell, Grid, Path, Plan, Problem, Sink};
+use mapf_model::{Agent, BytesSink, Cell, Grid, OutOfMemory, Path, Plan, Problem, Sink};
 use mapf_player::{Dispatch, Reply, play};
 use std::alloc::Global;
+use std::process::Abort;
 use std::test::Fail;
 
 // An open grid of nine cells, and two agents that cross on it, one of which waits first.
@@ -43,47 +42,62 @@ struct Given<'a> {
     paths: &'a [&'a [u32]],
 }
 
+// The grid of these sides with these blocked cells.
+fn grid_of(alloc: Global, width: u32, height: u32, blocked: &[u32]) -> Result<Grid, Fail> {
+    let mut free = Vec::new(alloc);
+    for number in 0..width.saturating_mul(height) {
+        free.push(!blocked.contains(&number))?;
+    }
+    Ok(Grid::of(width, height, free).ok_or("a grid")?)
+}
+
+// An agent that goes from the first of these cells to the last.
+fn agent_of(numbers: &[u32]) -> Option<Agent> {
+    Some(Agent {
+        start: Cell(*numbers.first()?),
+        goal: Cell(*numbers.last()?),
+    })
+}
+
 // The problem in which each agent goes from the first cell of its path to the last.
 fn problem_of(alloc: Global, given: &Given) -> Result<Problem, Fail> {
-    let mut free = Vec::new(alloc);
-    for number in 0..given.width.saturating_mul(given.height) {
-        free.push(!given.blocked.contains(&number))?;
-    }
     let mut agents = Vec::new(alloc);
-    for path in given.paths {
-        let start = Cell(*path.first().ok_or("no start")?);
-        let goal = Cell(*path.last().ok_or("no goal")?);
-        agents.push(Agent { start, goal })?;
+    for numbers in given.paths {
+        agents.push(agent_of(numbers).ok_or("no agent")?)?;
     }
-    let grid = Grid::of(given.width, given.height, free).ok_or("a grid")?;
+    let grid = grid_of(alloc, given.width, given.height, given.blocked)?;
     Ok(Problem::of(grid, agents).ok_or("a problem")?)
+}
+
+// The path through these cells.
+fn path_of(alloc: Global, numbers: &[u32]) -> Result<Path, Fail> {
+    let mut cells = Vec::new(alloc);
+    for number in numbers {
+        cells.push(Cell(*number))?;
+    }
+    Ok(Path::of(cells).ok_or("a path")?)
 }
 
 // The plan of the paths.
 fn plan_of(alloc: Global, given: &Given) -> Result<Plan, Fail> {
     let mut paths = Vec::new(alloc);
     for numbers in given.paths {
-        let mut cells = Vec::new(alloc);
-        for number in *numbers {
-            cells.push(Cell(*number))?;
-        }
-        paths.push(Path::of(cells).ok_or("a path")?)?;
+        paths.push(path_of(alloc, numbers)?)?;
     }
     Ok(Plan::of(paths).ok_or("a plan")?)
 }
 
 // Plays the plan, which has to be valid, into the sink. Answers whether the sink took it whole.
-fn is_played<S: Sink>(alloc: Global, given: &Given, sink: &mut S) -> Result<bool, Fail>
-    requires { S.has_failed sink.old ≡ false }
-{
+fn is_played<S: Sink>(alloc: Global, given: &Given, sink: &mut S) -> Result<bool, Fail> {
     let problem = problem_of(alloc, given)?;
     let plan = plan_of(alloc, given)?;
     is_plan_played(&problem, &plan, sink)
 }
 
-fn is_plan_played<S: Sink>(problem: &Problem, plan: &Plan, sink: &mut S) -> Result<bool, Fail>
-    requires { S.has_failed sink.old ≡ false }
-{
+fn is_plan_played<S: Sink>(problem: &Problem, plan: &Plan, sink: &mut S) -> Result<bool, Fail> {
+    if sink.failed() {
+        return Err("a failed sink")?;
+    }
     if plan.paths().len() != problem.agents().len() {
         return Err("another number of agents")?;
     }
@@ -100,93 +114,156 @@ fn text_of(alloc: Global, given: &Given) -> Result<BytesSink, Fail> {
     Ok(sink)
 }
 
+// The bytes are the expected ones.
+fn assert_bytes(rt: &impl Abort, bytes: &[u8], expected: &[u8]) {
+    assert_eq!(rt; bytes, expected);
+}
+
 #[test]
 fn plays_an_agent_at_rest(rt: HostRuntime) -> Result<(), Fail> {
     let sink = text_of(rt.alloc(), &ONE_CELL)?;
-    assert_eq!(rt; sink.bytes(), b"tick 0\n0\nend 0\n".as_slice());
+    assert_bytes(&rt, sink.bytes(), b"tick 0\n0\nend 0\n");
     Ok(())
 }
 
 #[test]
 fn shows_agents_that_cross(rt: HostRuntime) -> Result<(), Fail> {
     let sink = text_of(rt.alloc(), &CROSSING)?;
-    assert_eq!(rt; sink.bytes(), CROSSING_TEXT.as_bytes());
+    assert_bytes(&rt, sink.bytes(), CROSSING_TEXT.as_bytes());
     Ok(())
 }
 
+// Two agents that rest beside blocked cells.
+const WALLED: Given = Given {
+    width: 3,
+    height: 2,
+    blocked: &[1, 3],
+    paths: &[&[0], &[5]],
+};
+
 #[test]
 fn shows_walls_and_agents_beside_them(rt: HostRuntime) -> Result<(), Fail> {
-    let walled = Given {
-        width: 3,
-        height: 2,
-        blocked: &[1, 3],
-        paths: &[&[0], &[5]],
-    };
-    let sink = text_of(rt.alloc(), &walled)?;
-    assert_eq!(rt; sink.bytes(), b"tick 0\n0@.\n@.1\nend 0\n".as_slice());
+    let sink = text_of(rt.alloc(), &WALLED)?;
+    assert_bytes(&rt, sink.bytes(), b"tick 0\n0@.\n@.1\nend 0\n");
     Ok(())
+}
+
+// Agents that rest in the cells of a row, one in each.
+fn resting_agents(alloc: Global, count: u32) -> Result<Problem, Fail> {
+    let mut agents = Vec::new(alloc);
+    for number in 0..count {
+        agents.push(agent_of(&[number]).ok_or("no agent")?)?;
+    }
+    let grid = grid_of(alloc, count, 1, &[])?;
+    Ok(Problem::of(grid, agents).ok_or("a problem")?)
+}
+
+// The plan in which they rest.
+fn resting_plan(alloc: Global, count: u32) -> Result<Plan, Fail> {
+    let mut paths = Vec::new(alloc);
+    for number in 0..count {
+        paths.push(path_of(alloc, &[number])?)?;
+    }
+    Ok(Plan::of(paths).ok_or("a plan")?)
 }
 
 #[test]
 fn marks_sixty_three_agents(rt: HostRuntime) -> Result<(), Fail> {
-    let mut free = Vec::new(rt.alloc());
-    let mut agents = Vec::new(rt.alloc());
-    let mut paths = Vec::new(rt.alloc());
-    for number in 0..63 {
-        let (start, goal) = (Cell(number), Cell(number));
-        free.push(true)?;
-        agents.push(Agent { start, goal })?;
-        let mut cells = Vec::new(rt.alloc());
-        cells.push(start)?;
-        paths.push(Path::of(cells).ok_or("a path")?)?;
-    }
-    let grid = Grid::of(63, 1, free).ok_or("a grid")?;
-    let problem = Problem::of(grid, agents).ok_or("a problem")?;
-    let plan = Plan::of(paths).ok_or("a plan")?;
+    let problem = resting_agents(rt.alloc(), 63)?;
+    let plan = resting_plan(rt.alloc(), 63)?;
     let mut sink = BytesSink::with_room(rt.alloc(), 200)?;
     assert!(rt; is_plan_played(&problem, &plan, &mut sink)?);
     let shown = "tick 0\n0123456789abcdefghijklmnopqrstuvwxyzABCDEFGHIJKLMNOPQRSTUVWXYZ*\nend 0\n";
-    assert_eq!(rt; sink.bytes(), shown.as_bytes());
+    assert_bytes(&rt, sink.bytes(), shown.as_bytes());
     Ok(())
+}
+
+// What is shown of the agent that rests on the large grid.
+fn large_text(alloc: Global) -> Result<Vec<u8>, Fail> {
+    let mut shown = Vec::from_slice(alloc, b"tick 0\n0")?;
+    for place in 1..9090u32 {
+        shown.push(if place % 101 == 100 { b'\n' } else { b'.' })?;
+    }
+    shown.extend_from_slice(b"end 0\n")?;
+    Ok(shown)
 }
 
 #[test]
 fn shows_a_grid_that_no_page_holds(rt: HostRuntime) -> Result<(), Fail> {
     let sink = text_of(rt.alloc(), &LARGE)?;
-    let mut shown = Vec::new(rt.alloc());
-    shown.extend_from_slice(b"tick 0\n0")?;
-    for place in 1..9090u32 {
-        shown.push(if place % 101 == 100 { b'\n' } else { b'.' })?;
-    }
-    shown.extend_from_slice(b"end 0\n")?;
-    assert_eq!(rt; sink.bytes(), shown.as_slice());
+    let shown = large_text(rt.alloc())?;
+    assert_bytes(&rt, sink.bytes(), &shown);
+    Ok(())
+}
+
+// A sink with so much room that fails after so many calls, or only where it is full.
+fn sink_of(
+    alloc: Global,
+    room: usize,
+    pace: Pace,
+    calls: Option<u64>,
+) -> Result<FuseSink, OutOfMemory> {
+    FuseSink::with_room(alloc, room, pace, calls)
+}
+
+fn assert_shown_at(rt: &impl Abort, alloc: Global, pace: Pace) -> Result<(), Fail> {
+    let mut sink = sink_of(alloc, 200, pace, None)?;
+    assert!(rt; is_played(alloc, &CROSSING, &mut sink)?);
+    assert_bytes(rt, sink.bytes(), CROSSING_TEXT.as_bytes());
     Ok(())
 }
 
 #[test]
 fn shows_the_same_byte_by_byte(rt: HostRuntime) -> Result<(), Fail> {
-    for pace in [Pace::AllAtOnce, Pace::ByteByByte] {
-        let mut sink = FuseSink::with_room(rt.alloc(), 200, pace, None)?;
-        assert!(rt; is_played(rt.alloc(), &CROSSING, &mut sink)?);
-        assert_eq!(rt; sink.bytes(), CROSSING_TEXT.as_bytes());
-    }
+    assert_shown_at(&rt, rt.alloc(), Pace::AllAtOnce)?;
+    assert_shown_at(&rt, rt.alloc(), Pace::ByteByByte)
+}
+
+// The crossing is played into the sink, which takes a prefix of so many bytes.
+fn assert_taken(
+    rt: &impl Abort,
+    alloc: Global,
+    mut sink: FuseSink,
+    taken: usize,
+) -> Result<(), Fail> {
+    let is_whole = is_played(alloc, &CROSSING, &mut sink)?;
+    assert!(rt; is_whole == (taken == CROSSING_TEXT.len()));
+    assert!(rt; sink.bytes().len() == taken);
+    assert!(rt; CROSSING_TEXT.as_bytes().starts_with(sink.bytes()));
     Ok(())
+}
+
+// A sink that fails takes a prefix of so many bytes, be it after so many calls or where it is full.
+fn assert_prefix(rt: &impl Abort, alloc: Global, taken: usize) -> Result<(), Fail> {
+    let slow = sink_of(alloc, 200, Pace::ByteByByte, Some(taken as u64))?;
+    assert_taken(rt, alloc, slow, taken)?;
+    let full = sink_of(alloc, taken, Pace::AllAtOnce, None)?;
+    assert_taken(rt, alloc, full, taken)
 }
 
 #[test]
 fn leaves_a_prefix_in_a_sink_that_fails(rt: HostRuntime) -> Result<(), Fail> {
-    let whole = CROSSING_TEXT.as_bytes();
-    for taken in 0..=whole.len() {
-        let fuse = Some(taken as u64);
-        let mut slow = FuseSink::with_room(rt.alloc(), 200, Pace::ByteByByte, fuse)?;
-        let is_whole = is_played(rt.alloc(), &CROSSING, &mut slow)?;
-        assert_eq!(rt; is_whole, taken == whole.len());
-        assert_eq!(rt; slow.bytes(), &whole[..taken]);
-        let mut full = FuseSink::with_room(rt.alloc(), taken, Pace::AllAtOnce, None)?;
-        let is_whole = is_played(rt.alloc(), &CROSSING, &mut full)?;
-        assert_eq!(rt; is_whole, taken == whole.len());
-        assert_eq!(rt; full.bytes(), &whole[..taken]);
+    for taken in 0..=CROSSING_TEXT.len() {
+        assert_prefix(&rt, rt.alloc(), taken)?;
     }
+    Ok(())
+}
+
+// A sink that fails after so many calls takes a prefix of this text, nothing before the first call and all of it in
+// three.
+fn assert_large_prefix(
+    rt: &impl Abort,
+    alloc: Global,
+    whole: &[u8],
+    calls: u64,
+) -> Result<(), Fail> {
+    let mut sink = sink_of(alloc, 20000, Pace::AllAtOnce, Some(calls))?;
+    let is_played = is_played(alloc, &LARGE, &mut sink)?;
+    let is_whole = sink.bytes().len() == whole.len();
+    assert!(rt; is_played == is_whole);
+    assert!(rt; whole.starts_with(sink.bytes()));
+    assert!(rt; 0 < calls || sink.bytes().is_empty());
+    assert!(rt; is_whole || calls < 3);
     Ok(())
 }
 
@@ -194,31 +271,27 @@ fn leaves_a_prefix_in_a_sink_that_fails(rt: HostRuntime) -> Result<(), Fail> {
 fn leaves_a_prefix_of_more_than_a_page(rt: HostRuntime) -> Result<(), Fail> {
     let whole = text_of(rt.alloc(), &LARGE)?;
     for calls in 0..4 {
-        let mut sink = FuseSink::with_room(rt.alloc(), 20000, Pace::AllAtOnce, Some(calls))?;
-        let is_played = is_played(rt.alloc(), &LARGE, &mut sink)?;
-        let is_whole = sink.bytes().len() == whole.bytes().len();
-        assert_eq!(rt; is_played, is_whole, "after {calls} calls");
-        assert!(rt;
-            whole.bytes().starts_with(sink.bytes()),
-            "after {calls} calls"
-        );
-        assert!(rt; 0 < calls || sink.bytes().is_empty());
-        assert!(rt; is_whole || calls < 3);
+        assert_large_prefix(&rt, rt.alloc(), whole.bytes(), calls)?;
     }
     Ok(())
+}
+
+// The replies to an agent that asks twice, the first of a plan, which has to be valid.
+fn replies_of(alloc: Global, problem: &Problem, plan: &Plan) -> Result<(Reply, Reply), Fail> {
+    let count = plan.paths().len();
+    if count == 0 || count != problem.agents().len() {
+        return Err("another number of agents")?;
+    }
+    check_plan(problem, plan).or(Err("no valid plan"))?;
+    let mut dispatch = Dispatch::new(alloc, plan)?;
+    Ok((dispatch.ask(0), dispatch.ask(0)))
 }
 
 #[test]
 fn dispatches_an_agent_at_rest(rt: HostRuntime) -> Result<(), Fail> {
     let problem = problem_of(rt.alloc(), &ONE_CELL)?;
     let plan = plan_of(rt.alloc(), &ONE_CELL)?;
-    let count = plan.paths().len();
-    if count == 0 || count != problem.agents().len() {
-        return Err("another number of agents")?;
-    }
-    check_plan(&problem, &plan).or(Err("no valid plan"))?;
-    let mut dispatch = Dispatch::new(rt.alloc(), &plan)?;
-    assert_eq!(rt; dispatch.ask(0), Reply::Done);
-    assert_eq!(rt; dispatch.ask(0), Reply::Done);
+    let replies = replies_of(rt.alloc(), &problem, &plan)?;
+    assert!(rt; replies == (Reply::Done, Reply::Done));
     Ok(())
 }

@@ -3,10 +3,11 @@
 
 ghost use Rattle.std.specs.Prelude.{◌≤◌, IfOk};
 
-use mapf_model::{Failed, ReadEnd, ReadSource, Sink, Source, WriteSink, read_all, write_all};
+use mapf_model::{ReadEnd, ReadSource, Sink, Source, WriteSink, read_all, write_all};
 use std::alloc::Global;
 use std::io;
 use std::io::{ErrorKind, Read, Write};
+use std::process::Abort;
 use std::test::Fail;
 
 // What a call does: it moves at most so many bytes, or goes wrong.
@@ -69,8 +70,30 @@ impl<'a> Write for Scripted<'a> {
     }
 }
 
+// How many bytes a pull gives, None where it fails.
+fn pulled<S: Source>(source: &mut S, buffer: &mut [u8; 8]) -> Option<usize> {
+    if source.failed() {
+        return None;
+    }
+    source.pull(buffer).ok()
+}
+
+// How many bytes a push takes, None where it fails.
+fn pushed<K: Sink>(sink: &mut K, bytes: &[u8]) -> Option<usize> {
+    if sink.failed() || bytes.is_empty() {
+        return None;
+    }
+    sink.push(bytes).ok()
+}
+
+// So many calls were made, and these bytes were written.
+fn assert_called(rt: &impl Abort, device: &Scripted, calls: usize, written: &[u8]) {
+    assert!(rt; device.calls == calls);
+    assert!(rt; device.written.as_slice() == written);
+}
+
 // In each the second call would go well.
-const WRONG: [[Step; 2]; 6] = [
+const WRONG: &[[Step; 2]] = &[
     [GoesWrong(ErrorKind::Interrupted), Moves(8)],
     [GoesWrong(ErrorKind::WouldBlock), Moves(8)],
     [GoesWrong(ErrorKind::TimedOut), Moves(8)],
@@ -79,100 +102,142 @@ const WRONG: [[Step; 2]; 6] = [
     [GoesWrong(ErrorKind::Other), Moves(8)],
 ];
 
-#[test]
-fn fails_where_a_read_goes_wrong(rt: HostRuntime) -> Result<(), Fail> {
-    for steps in &WRONG {
-        let mut reader = Scripted::of(rt.alloc(), steps);
-        let mut source = ReadSource::of(&mut reader);
-        assert!(rt; !source.failed());
-        let mut buffer = [b'.'; 8];
-        assert_eq!(rt; source.pull(&mut buffer), Err(Failed));
-        assert!(rt; source.failed());
-        assert!(rt; source.failed());
-        assert_eq!(rt; buffer.as_slice(), b"........".as_slice());
-        assert_eq!(rt; reader.calls, 1);
-    }
-    Ok(())
-}
-
-#[test]
-fn fails_where_a_write_goes_wrong(rt: HostRuntime) -> Result<(), Fail> {
-    let nothing = [[Moves(0), Moves(8)]];
-    for steps in WRONG.iter().chain(&nothing) {
-        let mut writer = Scripted::of(rt.alloc(), steps);
-        let mut sink = WriteSink::of(&mut writer);
-        assert!(rt; !sink.failed());
-        assert_eq!(rt; sink.push(b"abc"), Err(Failed));
-        assert!(rt; sink.failed());
-        assert!(rt; sink.failed());
-        assert_eq!(rt; writer.calls, 1);
-        assert!(rt; writer.written.is_empty());
-    }
-    Ok(())
-}
-
-#[test]
-fn passes_short_calls_on(rt: HostRuntime) -> Result<(), Fail> {
-    let steps = [Moves(3), Moves(8), Moves(0)];
-    let mut reader = Scripted::of(rt.alloc(), &steps);
-    let mut source = ReadSource::of(&mut reader);
-    let mut buffer = [b'.'; 8];
-    assert_eq!(rt; source.pull(&mut buffer), Ok(3));
-    assert_eq!(rt; buffer.as_slice(), b"xxx.....".as_slice());
-    assert_eq!(rt; source.pull(&mut buffer), Ok(8));
-    assert_eq!(rt; source.pull(&mut buffer), Ok(0));
+// The source works until its first pull, which fails, and stays failed.
+fn assert_fails_to_pull<S: Source>(rt: &impl Abort, source: &mut S, buffer: &mut [u8; 8]) {
     assert!(rt; !source.failed());
-    assert_eq!(rt; reader.calls, 3);
+    assert!(rt; pulled(source, buffer).is_none());
+    assert!(rt; source.failed());
+    assert!(rt; source.failed());
+}
 
-    let mut writer = Scripted::of(rt.alloc(), &steps);
-    let mut sink = WriteSink::of(&mut writer);
-    assert_eq!(rt; sink.push(b"abcdefgh"), Ok(3));
-    assert_eq!(rt; sink.push(b"defgh"), Ok(5));
+fn assert_read_goes_wrong(rt: &impl Abort, alloc: Global, steps: &[Step]) {
+    let mut reader = Scripted::of(alloc, steps);
+    let mut buffer = [b'.'; 8];
+    assert_fails_to_pull(rt, &mut ReadSource::of(&mut reader), &mut buffer);
+    assert!(rt; buffer.as_slice() == b"........".as_slice());
+    assert_called(rt, &reader, 1, b"");
+}
+
+#[test]
+fn fails_where_a_read_goes_wrong(rt: HostRuntime) {
+    for steps in WRONG {
+        assert_read_goes_wrong(&rt, rt.alloc(), steps);
+    }
+}
+
+// The sink works until its first push, which fails, and stays failed.
+fn assert_fails_to_push<K: Sink>(rt: &impl Abort, sink: &mut K) {
     assert!(rt; !sink.failed());
-    assert_eq!(rt; writer.calls, 2);
-    assert_eq!(rt; writer.written.as_slice(), b"abcdefgh".as_slice());
+    assert!(rt; pushed(sink, b"abc").is_none());
+    assert!(rt; sink.failed());
+    assert!(rt; sink.failed());
+}
+
+fn assert_write_goes_wrong(rt: &impl Abort, alloc: Global, steps: &[Step]) {
+    let mut writer = Scripted::of(alloc, steps);
+    assert_fails_to_push(rt, &mut WriteSink::of(&mut writer));
+    assert_called(rt, &writer, 1, b"");
+}
+
+#[test]
+fn fails_where_a_write_goes_wrong(rt: HostRuntime) {
+    for steps in WRONG {
+        assert_write_goes_wrong(&rt, rt.alloc(), steps);
+    }
+    assert_write_goes_wrong(&rt, rt.alloc(), &[Moves(0), Moves(8)]);
+}
+
+// A device that moves fewer bytes than it is asked to, and then all, and then none.
+const SHORT: &[Step] = &[Moves(3), Moves(8), Moves(0)];
+
+fn assert_pulls_in_parts<S: Source>(rt: &impl Abort, source: &mut S) {
+    let mut buffer = [b'.'; 8];
+    assert!(rt; pulled(source, &mut buffer) == Some(3));
+    assert!(rt; buffer.as_slice() == b"xxx.....".as_slice());
+    assert!(rt; pulled(source, &mut buffer) == Some(8));
+    assert!(rt; pulled(source, &mut buffer) == Some(0));
+    assert!(rt; !source.failed());
+}
+
+fn assert_pushes_in_parts<K: Sink>(rt: &impl Abort, sink: &mut K) {
+    assert!(rt; pushed(sink, b"abcdefgh") == Some(3));
+    assert!(rt; pushed(sink, b"defgh") == Some(5));
+    assert!(rt; !sink.failed());
+}
+
+#[test]
+fn passes_short_calls_on(rt: HostRuntime) {
+    let mut reader = Scripted::of(rt.alloc(), SHORT);
+    assert_pulls_in_parts(&rt, &mut ReadSource::of(&mut reader));
+    assert_called(&rt, &reader, 3, b"");
+    let mut writer = Scripted::of(rt.alloc(), SHORT);
+    assert_pushes_in_parts(&rt, &mut WriteSink::of(&mut writer));
+    assert_called(&rt, &writer, 2, b"abcdefgh");
+}
+
+// All that a reader gives, where that is no more than so many bytes, and whether the source failed.
+fn read_whole(
+    alloc: Global,
+    reader: &mut Scripted,
+    limit: u64,
+) -> (Result<Vec<u8>, ReadEnd>, bool) {
+    let mut source = ReadSource::of(reader);
+    let read = read_all(alloc, &mut source, limit);
+    (read, source.failed())
+}
+
+fn assert_reads_all(rt: &impl Abort, alloc: Global) -> Result<(), Fail> {
+    let mut reader = Scripted::of(alloc, &[Moves(3), Moves(1), Moves(0), Moves(5)]);
+    let (read, _) = read_whole(alloc, &mut reader, 4);
+    let bytes = read?;
+    assert!(rt; bytes.as_slice() == b"xxxx".as_slice());
+    assert_called(rt, &reader, 3, b"");
     Ok(())
+}
+
+fn assert_fails_to_read_all(rt: &impl Abort, alloc: Global) {
+    let steps = [Moves(3), GoesWrong(ErrorKind::Interrupted), Moves(5)];
+    let mut reader = Scripted::of(alloc, &steps);
+    let (read, is_failed) = read_whole(alloc, &mut reader, 100);
+    assert!(rt; read.err() == Some(ReadEnd::Device));
+    assert!(rt; is_failed);
+    assert_called(rt, &reader, 2, b"");
 }
 
 #[test]
 fn reads_all_or_fails(rt: HostRuntime) -> Result<(), Fail> {
-    let ends = [Moves(3), Moves(1), Moves(0), Moves(5)];
-    let mut reader = Scripted::of(rt.alloc(), &ends);
-    let bytes = read_all(rt.alloc(), &mut ReadSource::of(&mut reader), 4)?;
-    assert_eq!(rt; bytes.as_slice(), b"xxxx".as_slice());
-    assert_eq!(rt; reader.calls, 3);
-
-    let fails = [Moves(3), GoesWrong(ErrorKind::Interrupted), Moves(5)];
-    let mut reader = Scripted::of(rt.alloc(), &fails);
-    let mut source = ReadSource::of(&mut reader);
-    assert_eq!(rt;
-        read_all(rt.alloc(), &mut source, 100).err(),
-        Some(ReadEnd::Device)
-    );
-    assert!(rt; source.failed());
-    assert_eq!(rt; reader.calls, 2);
+    assert_reads_all(&rt, rt.alloc())?;
+    assert_fails_to_read_all(&rt, rt.alloc());
     Ok(())
 }
 
-#[test]
-fn writes_all_or_fails(rt: HostRuntime) -> Result<(), Fail> {
-    let short = [Moves(3), Moves(1), Moves(9)];
-    let mut writer = Scripted::of(rt.alloc(), &short);
-    assert_eq!(rt;
-        write_all(&mut WriteSink::of(&mut writer), b"abcdefgh"),
-        Ok(())
-    );
-    assert_eq!(rt; writer.written.as_slice(), b"abcdefgh".as_slice());
-    assert_eq!(rt; writer.calls, 3);
+// Whether all is written, and whether the sink failed.
+fn write_whole(writer: &mut Scripted, bytes: &[u8]) -> (bool, bool) {
+    let mut sink = WriteSink::of(writer);
+    let is_written = write_all(&mut sink, bytes).is_ok();
+    (is_written, sink.failed())
+}
 
-    for wrong in [GoesWrong(ErrorKind::Interrupted), Moves(0)] {
-        let steps = [Moves(3), wrong, Moves(9)];
-        let mut writer = Scripted::of(rt.alloc(), &steps);
-        let mut sink = WriteSink::of(&mut writer);
-        assert_eq!(rt; write_all(&mut sink, b"abcdefgh"), Err(Failed));
-        assert!(rt; sink.failed());
-        assert_eq!(rt; writer.written.as_slice(), b"abc".as_slice());
-        assert_eq!(rt; writer.calls, 2);
-    }
-    Ok(())
+fn assert_writes_all(rt: &impl Abort, alloc: Global) {
+    let mut writer = Scripted::of(alloc, &[Moves(3), Moves(1), Moves(9)]);
+    let (is_written, _) = write_whole(&mut writer, b"abcdefgh");
+    assert!(rt; is_written);
+    assert_called(rt, &writer, 3, b"abcdefgh");
+}
+
+// After a first call that goes well the second goes wrong.
+fn assert_fails_to_write_all(rt: &impl Abort, alloc: Global, wrong: Step) {
+    let steps = [Moves(3), wrong, Moves(9)];
+    let mut writer = Scripted::of(alloc, &steps);
+    let (is_written, is_failed) = write_whole(&mut writer, b"abcdefgh");
+    assert!(rt; !is_written);
+    assert!(rt; is_failed);
+    assert_called(rt, &writer, 2, b"abc");
+}
+
+#[test]
+fn writes_all_or_fails(rt: HostRuntime) {
+    assert_writes_all(&rt, rt.alloc());
+    assert_fails_to_write_all(&rt, rt.alloc(), GoesWrong(ErrorKind::Interrupted));
+    assert_fails_to_write_all(&rt, rt.alloc(), Moves(0));
 }

@@ -1,16 +1,17 @@
 //! The replies to agents that follow a plan, also beside a slower dispatcher, which looks at all
 //! visits of all agents.
 
-ghost use Rattle.std.specs.Prelude.{◌≡◌, ◌≤◌, OnOk, false};
+ghost use Rattle.std.specs.Prelude.{◌≡◌, false};
 
+use crate::given::{assert_text, given_plan, given_problem};
 use mapf_checker::check_plan;
 use mapf_model::{Agent, BytesSink, Cell, Grid, Path, Plan, Problem, Sink};
 use mapf_player::{Dispatch, Reply, dispatch_all, read_events};
+use mapf_rows::Given;
 use mapf_rows::problems::{
     CROSSING, CROSSING_PLAN, CROSSING_TOLD, NICHE, NICHE_PLAN, ROTATION, ROTATION_PLAN,
 };
 use mapf_rows::texts::event_text;
-use mapf_rows::{Given, plan_of, problem_of};
 use std::alloc::Global;
 use std::marker::Model;
 use std::process::Abort;
@@ -56,25 +57,31 @@ impl Followers {
         }
     }
 
-    // Writes the replies to the agents of an event text.
-    fn ask_all<K: Sink>(
+    // Adds the replies to these agents to a sink that hasn't failed.
+    fn ask_all(
         self,
         alloc: Global,
         grid: &Grid,
-        events: &str,
-        sink: &mut K,
-    ) -> Result<Followers, Fail>
-        requires { K.has_failed sink.old ≡ false }
-        ensures { OnOk result (K.has_failed sink.new ≡ false) }
-    {
+        agents: &[u32],
+        sink: &mut BytesSink,
+    ) -> Result<Followers, Fail> {
+        if sink.failed() {
+            return Err("a failed sink")?;
+        }
+        let events = event_text(alloc, agents)?;
+        let asking = read_events(alloc, events.as_bytes(), self.agents).or(Err("no events"))?;
         let Followers {
             mut dispatch,
             agents,
         } = self;
-        let asking = read_events(alloc, events.as_bytes(), agents).or(Err("no events"))?;
         dispatch_all(&mut dispatch, grid, asking.as_slice(), sink)?;
         Ok(Followers { dispatch, agents })
     }
+}
+
+// This is the reply.
+fn assert_reply(rt: &impl Abort, reply: Option<Reply>, expected: Option<Reply>) {
+    assert_eq!(rt; reply, expected);
 }
 
 // Agents that follow a plan text get these replies, each when it asks.
@@ -84,73 +91,86 @@ fn assert_replies(
     given: &Given,
     plan: &str,
     replies: &[(u32, Reply)],
-) -> Result<(), Fail>
-    requires some { 1 ≤ given.now.k }
-    requires few { given.now.k ≤ 200 }
-{
-    let problem = problem_of(alloc, given).ok_or("no problem")?;
-    let plan = plan_of(alloc, &problem, plan.as_bytes()).ok_or("no plan")?;
+) -> Result<(), Fail> {
+    let problem = given_problem(alloc, given)?;
+    let plan = given_plan(alloc, &problem, plan)?;
     let mut followers = Followers::of(alloc, &problem, &plan)?;
     for (agent, reply) in replies {
-        assert_eq!(rt; followers.ask(*agent), Some(*reply));
+        assert_reply(rt, followers.ask(*agent), Some(*reply));
     }
     Ok(())
 }
 
+const CROSSING_REPLIES: [(u32, Reply); 7] = [
+    (0, Reply::Hold { other: 1 }),
+    (1, Reply::Go(Cell(4))),
+    (0, Reply::Hold { other: 1 }),
+    (1, Reply::Go(Cell(7))),
+    (0, Reply::Go(Cell(4))),
+    (0, Reply::Go(Cell(5))),
+    (0, Reply::Done),
+];
+
 #[test]
 fn replies_to_agents_that_cross(rt: HostRuntime) -> Result<(), Fail> {
-    let replies = [
-        (0, Reply::Hold { other: 1 }),
-        (1, Reply::Go(Cell(4))),
-        (0, Reply::Hold { other: 1 }),
-        (1, Reply::Go(Cell(7))),
-        (0, Reply::Go(Cell(4))),
-        (0, Reply::Go(Cell(5))),
-        (0, Reply::Done),
-    ];
-    assert_replies(&rt, rt.alloc(), &CROSSING, CROSSING_PLAN, &replies)
+    assert_replies(&rt, rt.alloc(), &CROSSING, CROSSING_PLAN, &CROSSING_REPLIES)
 }
+
+const ROTATION_REPLIES: [(u32, Reply); 4] = [
+    (0, Reply::Hold { other: 1 }),
+    (1, Reply::Hold { other: 2 }),
+    (2, Reply::Hold { other: 3 }),
+    (3, Reply::Hold { other: 0 }),
+];
 
 #[test]
 fn holds_agents_that_rotate(rt: HostRuntime) -> Result<(), Fail> {
-    let replies = [
-        (0, Reply::Hold { other: 1 }),
-        (1, Reply::Hold { other: 2 }),
-        (2, Reply::Hold { other: 3 }),
-        (3, Reply::Hold { other: 0 }),
-    ];
-    assert_replies(&rt, rt.alloc(), &ROTATION, ROTATION_PLAN, &replies)
+    assert_replies(&rt, rt.alloc(), &ROTATION, ROTATION_PLAN, &ROTATION_REPLIES)
 }
+
+const NICHE_REPLIES: [(u32, Reply); 8] = [
+    (1, Reply::Go(Cell(4))),
+    (1, Reply::Hold { other: 0 }),
+    (0, Reply::Go(Cell(1))),
+    (1, Reply::Hold { other: 0 }),
+    (0, Reply::Go(Cell(2))),
+    (1, Reply::Go(Cell(1))),
+    (0, Reply::Done),
+    (1, Reply::Done),
+];
 
 #[test]
 fn replies_to_an_agent_that_steps_aside(rt: HostRuntime) -> Result<(), Fail> {
-    let replies = [
-        (1, Reply::Go(Cell(4))),
-        (1, Reply::Hold { other: 0 }),
-        (0, Reply::Go(Cell(1))),
-        (1, Reply::Hold { other: 0 }),
-        (0, Reply::Go(Cell(2))),
-        (1, Reply::Go(Cell(1))),
-        (0, Reply::Done),
-        (1, Reply::Done),
-    ];
-    assert_replies(&rt, rt.alloc(), &NICHE, NICHE_PLAN, &replies)
+    assert_replies(&rt, rt.alloc(), &NICHE, NICHE_PLAN, &NICHE_REPLIES)
+}
+
+// The agents of the crossing that ask in turn.
+const ASKING: &[u32] = &[0, 1, 0, 1, 0, 0, 0];
+
+// The replies are those of the crossing where the agents before this place ask in one event text, and the others in
+// another.
+fn assert_told_in_parts(
+    rt: &impl Abort,
+    alloc: Global,
+    problem: &Problem,
+    plan: &Plan,
+    place: usize,
+) -> Result<(), Fail> {
+    let (first, second) = ASKING.split_at(place.min(ASKING.len()));
+    let mut sink = BytesSink::with_room(alloc, 200)?;
+    let followers = Followers::of(alloc, problem, plan)?;
+    let followers = followers.ask_all(alloc, problem.grid(), first, &mut sink)?;
+    followers.ask_all(alloc, problem.grid(), second, &mut sink)?;
+    assert_text(rt, sink.bytes(), CROSSING_TOLD);
+    Ok(())
 }
 
 #[test]
 fn tells_the_same_in_two_parts(rt: HostRuntime) -> Result<(), Fail> {
-    let alloc = rt.alloc();
-    let asking = [0u32, 1, 0, 1, 0, 0, 0];
-    let problem = problem_of(alloc, &CROSSING).ok_or("no problem")?;
-    let plan = plan_of(alloc, &problem, CROSSING_PLAN.as_bytes()).ok_or("no plan")?;
-    for place in 0..=asking.len() {
-        let first = event_text(alloc, &asking[..place])?;
-        let second = event_text(alloc, &asking[place..])?;
-        let mut sink = BytesSink::with_room(alloc, 200)?;
-        let followers = Followers::of(alloc, &problem, &plan)?;
-        let followers = followers.ask_all(alloc, problem.grid(), first.as_str(), &mut sink)?;
-        followers.ask_all(alloc, problem.grid(), second.as_str(), &mut sink)?;
-        assert_eq!(rt; sink.bytes(), CROSSING_TOLD.as_bytes(), "at {place}");
+    let problem = given_problem(rt.alloc(), &CROSSING)?;
+    let plan = given_plan(rt.alloc(), &problem, CROSSING_PLAN)?;
+    for place in 0..=ASKING.len() {
+        assert_told_in_parts(&rt, rt.alloc(), &problem, &plan, place)?;
     }
     Ok(())
 }
@@ -235,9 +255,22 @@ fn ask_slowly(ways: &mut [Way], agent: u32) -> Option<Reply> {
     Some(Reply::Go(stay.cell))
 }
 
+// The reply to this agent, which both dispatchers give.
+fn reply_of_both(
+    rt: &impl Abort,
+    followers: &mut Followers,
+    ways: &mut [Way],
+    agent: u32,
+) -> Option<Reply> {
+    let reply = followers.ask(agent);
+    assert!(rt; reply.is_some());
+    assert_reply(rt, reply, ask_slowly(ways, agent));
+    reply
+}
+
 // How many lists of seven events of the problem's agents there are: each shorter list is a prefix
 // of some of them.
-const LISTS: [(Given, &str, u32); 2] = [
+const LISTS: &[(Given, &str, u32)] = &[
     (CROSSING, CROSSING_PLAN, 128),
     (ROTATION, ROTATION_PLAN, 16_384),
 ];
@@ -255,25 +288,31 @@ fn assert_alike(
     let agents = followers.agents.max(1);
     let mut rest = list;
     for _ in 0..7 {
-        let agent = rest % agents;
+        reply_of_both(rt, &mut followers, &mut ways, rest % agents);
         rest /= agents;
-        let reply = ask_slowly(&mut ways, agent);
-        assert!(rt; reply.is_some());
-        assert_eq!(rt; followers.ask(agent), reply, "in list {list}");
+    }
+    Ok(())
+}
+
+fn assert_lists_alike(
+    rt: &impl Abort,
+    alloc: Global,
+    given: &Given,
+    plan: &str,
+    lists: u32,
+) -> Result<(), Fail> {
+    let problem = given_problem(alloc, given)?;
+    let plan = given_plan(alloc, &problem, plan)?;
+    for list in 0..lists {
+        assert_alike(rt, alloc, &problem, &plan, list)?;
     }
     Ok(())
 }
 
 #[test]
 fn replies_to_each_short_list(rt: HostRuntime) -> Result<(), Fail> {
-    let alloc = rt.alloc();
     for (given, plan, lists) in LISTS {
-        assert!(rt; 1 <= given.k && given.k <= 200);
-        let problem = problem_of(alloc, &given).ok_or("no problem")?;
-        let plan = plan_of(alloc, &problem, plan.as_bytes()).ok_or("no plan")?;
-        for list in 0..lists {
-            assert_alike(&rt, alloc, &problem, &plan, list)?;
-        }
+        assert_lists_alike(&rt, rt.alloc(), given, plan, *lists)?;
     }
     Ok(())
 }
@@ -300,7 +339,7 @@ fn path_of(alloc: Global, stretches: &[Stretch]) -> Result<Path, Fail> {
 
 // Agents that go down a column before those in the rows cross it, that wait until all have crossed it and then rest
 // on the way, and two by turns in one cell of the first row.
-const COLUMNS: [&[Stretch]; 8] = [
+const COLUMNS: &[&[Stretch]] = &[
     &[(17, 20, 18)],
     &[(18, 20, 18)],
     &[(19, 20, 18)],
@@ -379,8 +418,8 @@ fn follow(cells: &mut [u32], agent: u32, to: Option<u32>) {
 fn assert_done(rt: &impl Abort, followers: &mut Followers, problem: &Problem, cells: &[u32]) {
     let mut number = 0u32;
     for (agent, cell) in problem.agents().iter().zip(cells) {
-        assert_eq!(rt; followers.ask(number), Some(Reply::Done));
-        assert_eq!(rt; *cell, agent.goal.0);
+        assert_reply(rt, followers.ask(number), Some(Reply::Done));
+        assert!(rt; *cell == agent.goal.0);
         number = number.saturating_add(1);
     }
 }
@@ -388,24 +427,31 @@ fn assert_done(rt: &impl Abort, followers: &mut Followers, problem: &Problem, ce
 // How often some agent asks.
 const EVENTS: u32 = 4000;
 
-#[test]
-fn keeps_many_agents_apart(rt: HostRuntime) -> Result<(), Fail> {
-    let alloc = rt.alloc();
-    let plan = crowd(alloc)?;
-    let problem = posed(alloc, &plan)?;
-    let mut followers = Followers::of(alloc, &problem, &plan)?;
-    let mut ways = ways_of(alloc, &plan)?;
-    let mut cells = starts(alloc, &problem)?;
+// Agents that ask by chance, 24 in number, are told the same by both dispatchers, and are never in one cell.
+fn assert_kept_apart(
+    rt: &impl Abort,
+    alloc: Global,
+    problem: &Problem,
+    plan: &Plan,
+) -> Result<(), Fail> {
+    let mut followers = Followers::of(alloc, problem, plan)?;
+    let mut ways = ways_of(alloc, plan)?;
+    let mut cells = starts(alloc, problem)?;
     let mut chance = 1u32;
     for _ in 0..EVENTS {
         chance = chance.wrapping_mul(1_664_525).wrapping_add(1_013_904_223);
         let agent = (chance >> 16) % 24;
-        let reply = followers.ask(agent);
-        assert!(rt; reply.is_some());
-        assert_eq!(rt; reply, ask_slowly(&mut ways, agent));
+        let reply = reply_of_both(rt, &mut followers, &mut ways, agent);
         follow(&mut cells, agent, sent(reply));
         assert!(rt; are_apart(&cells));
     }
-    assert_done(&rt, &mut followers, &problem, &cells);
+    assert_done(rt, &mut followers, problem, &cells);
     Ok(())
+}
+
+#[test]
+fn keeps_many_agents_apart(rt: HostRuntime) -> Result<(), Fail> {
+    let plan = crowd(rt.alloc())?;
+    let problem = posed(rt.alloc(), &plan)?;
+    assert_kept_apart(&rt, rt.alloc(), &problem, &plan)
 }

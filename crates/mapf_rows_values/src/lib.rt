@@ -8,4 +8,6 @@ mod converting;
 #[cfg(test)]
 mod following;
 #[cfg(test)]
+mod given;
+#[cfg(test)]
 mod values;

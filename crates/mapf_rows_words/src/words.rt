@@ -3,8 +3,11 @@
 
 use mapf_words::{Job, WordsFault, job_of};
 use std::alloc::{AllocError, Global};
+use std::io;
+use std::process::Abort;
 use std::test::Fail;
 
+// What the words of this line ask for.
 fn asked(alloc: Global, text: &str) -> Result<Result<Job, WordsFault>, AllocError> {
     let mut words = Vec::new(alloc);
     for word in text.split(' ') {
@@ -13,116 +16,167 @@ fn asked(alloc: Global, text: &str) -> Result<Result<Job, WordsFault>, AllocErro
     Ok(job_of(alloc, words))
 }
 
+// The line asks for this job.
+fn assert_job(rt: &impl Abort, alloc: Global, text: &str, job: Job) -> Result<(), AllocError> {
+    let asked = asked(alloc, text)?;
+    assert!(rt; asked == Ok(job));
+    Ok(())
+}
+
+fn owned(alloc: Global, text: &str) -> Result<String, AllocError> {
+    String::from_str(alloc, text)
+}
+
+fn solve(alloc: Global) -> Result<Job, AllocError> {
+    Ok(Job::Solve {
+        map: owned(alloc, "m")?,
+        scen: owned(alloc, "s")?,
+        k: 200,
+        limit: 100_000,
+        plan: owned(alloc, "p")?,
+        cert: owned(alloc, "c")?,
+    })
+}
+
+fn check(alloc: Global) -> Result<Job, AllocError> {
+    Ok(Job::Check {
+        map: owned(alloc, "m")?,
+        scen: owned(alloc, "s")?,
+        k: 1,
+        plan: owned(alloc, "p")?,
+        cert: owned(alloc, "c")?,
+    })
+}
+
+fn play(alloc: Global) -> Result<Job, AllocError> {
+    Ok(Job::Play {
+        map: owned(alloc, "m")?,
+        scen: owned(alloc, "s")?,
+        k: 2,
+        plan: owned(alloc, "p")?,
+    })
+}
+
+fn dispatch(alloc: Global) -> Result<Job, AllocError> {
+    Ok(Job::Dispatch {
+        map: owned(alloc, "m")?,
+        scen: owned(alloc, "s")?,
+        k: 2,
+        plan: owned(alloc, "p")?,
+        events: owned(alloc, "e")?,
+    })
+}
+
+// Whether no words at all ask for the demo.
+fn is_demo_without_words(alloc: Global) -> bool {
+    job_of(alloc, Vec::new(alloc)) == Ok(Job::Demo)
+}
+
 #[test]
 fn reads_jobs(rt: HostRuntime) -> Result<(), Fail> {
     let alloc = rt.alloc();
-    let solve = Job::Solve {
-        map: String::from_str(alloc, "m")?,
-        scen: String::from_str(alloc, "s")?,
-        k: 200,
-        limit: 100_000,
-        plan: String::from_str(alloc, "p")?,
-        cert: String::from_str(alloc, "c")?,
-    };
-    assert_eq!(rt; asked(alloc, "mapf solve m s 200 100000 p c")?, Ok(solve));
-    let check = Job::Check {
-        map: String::from_str(alloc, "m")?,
-        scen: String::from_str(alloc, "s")?,
-        k: 1,
-        plan: String::from_str(alloc, "p")?,
-        cert: String::from_str(alloc, "c")?,
-    };
-    assert_eq!(rt; asked(alloc, "mapf check m s 1 p c")?, Ok(check));
-    let play = Job::Play {
-        map: String::from_str(alloc, "m")?,
-        scen: String::from_str(alloc, "s")?,
-        k: 2,
-        plan: String::from_str(alloc, "p")?,
-    };
-    assert_eq!(rt; asked(alloc, "mapf play m s 2 p")?, Ok(play));
-    let dispatch = Job::Dispatch {
-        map: String::from_str(alloc, "m")?,
-        scen: String::from_str(alloc, "s")?,
-        k: 2,
-        plan: String::from_str(alloc, "p")?,
-        events: String::from_str(alloc, "e")?,
-    };
-    assert_eq!(rt; asked(alloc, "mapf dispatch m s 2 p e")?, Ok(dispatch));
-    assert_eq!(rt; asked(alloc, "mapf")?, Ok(Job::Demo));
-    assert_eq!(rt; job_of(alloc, Vec::new(alloc)), Ok(Job::Demo));
+    assert_job(&rt, alloc, "mapf solve m s 200 100000 p c", solve(alloc)?)?;
+    assert_job(&rt, alloc, "mapf check m s 1 p c", check(alloc)?)?;
+    assert_job(&rt, alloc, "mapf play m s 2 p", play(alloc)?)?;
+    assert_job(&rt, alloc, "mapf dispatch m s 2 p e", dispatch(alloc)?)?;
+    assert_job(&rt, alloc, "mapf", Job::Demo)?;
+    assert!(rt; is_demo_without_words(alloc));
     Ok(())
 }
+
+fn print(rt: &HostRuntime, mark: &str, text: &str) -> io::Result<()> {
+    println!(rt; "{mark}{text}")
+}
+
+fn bad(alloc: Global, text: &str) -> Result<String, Fail> {
+    match asked(alloc, text)? {
+        Err(WordsFault::Bad(message)) => Ok(message),
+        _ => Err("not refused")?,
+    }
+}
+
+// The message with which the line is refused. Both are printed.
+fn refusal(rt: &HostRuntime, text: &str) -> Result<String, Fail> {
+    print(rt, "== ", text)?;
+    let message = bad(rt.alloc(), text)?;
+    print(rt, "", message.as_str())?;
+    Ok(message)
+}
+
+const REFUSED: &[&str] = &[
+    "mapf solve m s 0 10 p c",
+    "mapf solve m s 201 10 p c",
+    "mapf solve m s x 10 p c",
+    "mapf solve m s 2 100001 p c",
+    "mapf solve m s 2 10 p",
+    "mapf check m s 201 p c",
+    "mapf check m s 2 p c d",
+    "mapf play m s 2",
+    "mapf play m s 0 p",
+    "mapf play m s 201 p",
+    "mapf dispatch m s 2 p",
+    "mapf dispatch m s 0 p e",
+    "mapf dispatch m s 201 p e",
+    "mapf dispatch m s 2 p e f",
+    "mapf --",
+    "mapf solve m s 2 10 m c",
+    "mapf solve m s 2 10 p s",
+    "mapf solve m s 2 10 p p",
+];
 
 #[test]
 fn refuses_words(rt: HostRuntime) -> Result<(), Fail> {
-    for text in [
-        "mapf solve m s 0 10 p c",
-        "mapf solve m s 201 10 p c",
-        "mapf solve m s x 10 p c",
-        "mapf solve m s 2 100001 p c",
-        "mapf solve m s 2 10 p",
-        "mapf check m s 201 p c",
-        "mapf check m s 2 p c d",
-        "mapf play m s 2",
-        "mapf play m s 0 p",
-        "mapf play m s 201 p",
-        "mapf dispatch m s 2 p",
-        "mapf dispatch m s 0 p e",
-        "mapf dispatch m s 201 p e",
-        "mapf dispatch m s 2 p e f",
-        "mapf --",
-        "mapf solve m s 2 10 m c",
-        "mapf solve m s 2 10 p s",
-        "mapf solve m s 2 10 p p",
-    ] {
-        match asked(rt.alloc(), text)? {
-            Err(WordsFault::Bad(message)) => {
-                assert!(rt;
-                    message.as_str().starts_with("error: "),
-                    "at {text}: {message}"
-                );
-                println!(rt; "== {text}\n{message}")?;
-            }
-            other => assert!(rt; false, "at {text}: {other:?}"),
-        }
+    for text in REFUSED {
+        let message = refusal(&rt, text)?;
+        assert!(rt; message.as_str().starts_with("error: "));
     }
     Ok(())
 }
+
+fn shown(alloc: Global, text: &str) -> Result<String, Fail> {
+    match asked(alloc, text)? {
+        Err(WordsFault::Shown(message)) => Ok(message),
+        _ => Err("not shown")?,
+    }
+}
+
+// The help that the line asks for. Both are printed.
+fn help(rt: &HostRuntime, text: &str) -> Result<String, Fail> {
+    print(rt, "== ", text)?;
+    let message = shown(rt.alloc(), text)?;
+    print(rt, "", message.as_str())?;
+    Ok(message)
+}
+
+// A line that asks for help, and a part of what it gets.
+const HELPS: &[(&str, &str)] = &[
+    ("mapf --help", "\n  4  solve reached a limit"),
+    ("mapf solve --help", "\n  4  a limit was reached"),
+    ("mapf check --help", "\n  1  refused"),
+    ("mapf help check", "\n  1  refused"),
+    ("mapf play --help", "\n  0  shown"),
+    ("mapf dispatch --help", "\n  0  dispatched"),
+];
 
 #[test]
 fn shows_help(rt: HostRuntime) -> Result<(), Fail> {
-    for (text, status) in [
-        ("mapf --help", "\n  4  solve reached a limit"),
-        ("mapf solve --help", "\n  4  a limit was reached"),
-        ("mapf check --help", "\n  1  refused"),
-        ("mapf help check", "\n  1  refused"),
-        ("mapf play --help", "\n  0  shown"),
-        ("mapf dispatch --help", "\n  0  dispatched"),
-    ] {
-        match asked(rt.alloc(), text)? {
-            Err(WordsFault::Shown(message)) => {
-                assert!(rt; message.as_str().contains(status), "at {text}: {message}");
-                println!(rt; "== {text}\n{message}")?;
-            }
-            other => assert!(rt; false, "at {text}: {other:?}"),
-        }
+    for (text, part) in HELPS {
+        let message = help(&rt, text)?;
+        assert!(rt; message.as_str().contains(part));
     }
     Ok(())
 }
 
-#[test]
-fn shows_the_version(rt: HostRuntime) -> Result<(), Fail> {
-    let version = "mapf 1.0.0
+const VERSION: &str = "mapf 1.0.0
 reads plan texts 1 and 2, certificates 1 and 2, event texts 1
 writes plan texts 2, certificates 2
 ";
+
+#[test]
+fn shows_the_version(rt: HostRuntime) -> Result<(), Fail> {
     for text in ["mapf --version", "mapf -V", "mapf --version solve"] {
-        match asked(rt.alloc(), text)? {
-            Err(WordsFault::Shown(message)) => {
-                assert!(rt; message.as_str() == version, "at {text}: {message}")
-            }
-            other => assert!(rt; false, "at {text}: {other:?}"),
-        }
+        let message = shown(rt.alloc(), text)?;
+        assert!(rt; message.as_str() == VERSION);
     }
     Ok(())
 }
