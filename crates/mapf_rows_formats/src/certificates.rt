@@ -1,9 +1,10 @@
+use crate::expect::expect_same;
 use mapf_certificate::{
     CertFault, PlanAnswer, PlanTextFault, Version, convert_cert, read_cert, read_plan, write_cert,
     write_plan,
 };
-use mapf_model::{Cause, Claim, Grid, OutOfMemory};
-use std::alloc::Global;
+use mapf_model::{Cause, Claim, Grid};
+use std::alloc::{AllocError, Global};
 use std::process::Abort;
 use std::test::Fail;
 
@@ -68,7 +69,7 @@ fn with_lines(
     first: usize,
     last: usize,
     lines: &str,
-) -> Result<String, Fail> {
+) -> Result<String, AllocError> {
     let mut changed = String::new(alloc);
     let mut number = 0usize;
     for line in text.lines() {
@@ -78,49 +79,47 @@ fn with_lines(
         }
         if number < first || last < number {
             changed.push_str(line)?;
-            changed.push('\n')?;
+            changed.push_str("\n")?;
         }
     }
     Ok(changed)
 }
 
-fn cert_fault(
-    alloc: Global,
-    text: &str,
-    first: usize,
-    last: usize,
-    lines: &str,
-) -> Result<Option<CertFault>, Fail> {
-    let text = with_lines(alloc, text, first, last, lines)?;
-    Ok(read_cert(alloc, text.as_bytes(), &grid(alloc, 3, 3)?).err())
+/// The error of bytes that are to spell a certificate.
+fn certificate_fault(alloc: Global, bytes: &[u8], grid: &Grid) -> Option<CertFault> {
+    read_cert(alloc, bytes, grid).err()
 }
 
-fn plan_fault(
-    alloc: Global,
-    text: &str,
-    first: usize,
-    last: usize,
-    lines: &str,
-) -> Result<Option<PlanTextFault>, Fail> {
-    let text = with_lines(alloc, text, first, last, lines)?;
-    Ok(read_plan(alloc, text.as_bytes(), &grid(alloc, 3, 3)?).err())
+/// The error of bytes that are to spell a plan text.
+fn plan_fault(alloc: Global, bytes: &[u8], grid: &Grid) -> Option<PlanTextFault> {
+    read_plan(alloc, bytes, grid).err()
 }
 
-/// The version and the number of items of a certificate, and the text that is written of it.
-fn written_again(
-    alloc: Global,
-    text: &str,
-    grid: &Grid,
-) -> Result<(Version, usize, Vec<u8>), Fail> {
+/// What a certificate says besides its items, how many of these there are, and the text that is written
+/// of it.
+#[derive(Drop)]
+struct Written {
+    version: Version,
+    claim: Claim,
+    items: usize,
+    bytes: Vec<u8>,
+}
+
+fn written_again(alloc: Global, text: &str, grid: &Grid) -> Result<Written, Fail> {
     let Ok(cert) = read_cert(alloc, text.as_bytes(), grid) else {
         return Err(Fail::from("no certificate"));
     };
     let bytes = write_cert(alloc, &cert, grid)?;
-    Ok((cert.version, cert.tree.len(), bytes))
+    Ok(Written {
+        version: cert.version,
+        claim: cert.claim,
+        items: cert.tree.len(),
+        bytes,
+    })
 }
 
 /// Certificates, and the version of each, the height of its grid, and how many items it has.
-const CERTIFICATES: [(&str, Version, u32, usize); 5] = [
+const CERTIFICATES: &[(&str, Version, u32, usize)] = &[
     (CROSSING, Version::One, 3, 3),
     (PASSING, Version::One, 2, 11),
     (CROSSING_TWO, Version::Two, 3, 3),
@@ -128,29 +127,19 @@ const CERTIFICATES: [(&str, Version, u32, usize); 5] = [
     (STOPPED, Version::Two, 1, 7),
 ];
 
-fn assert_certificates(
-    rt: &impl Abort,
-    alloc: Global,
-    cases: &[(&str, Version, u32, usize)],
-) -> Result<(), Fail> {
-    for (text, version, height, items) in cases {
+fn expect_certificates(rt: &impl Abort, alloc: Global) -> Result<(), Fail> {
+    for (text, version, height, items) in CERTIFICATES {
         let written = written_again(alloc, text, &grid(alloc, 3, *height)?)?;
-        assert_eq!(rt; (written.0, written.1), (*version, *items));
-        assert_eq!(rt; written.2.as_slice(), text.as_bytes());
+        expect_same(rt, text, &written.version, version);
+        expect_same(rt, text, &written.items, items);
+        expect_same(rt, text, &written.bytes.as_slice(), &text.as_bytes());
     }
     Ok(())
 }
 
 #[test]
 fn certificates_are_read_and_written(rt: HostRuntime) -> Result<(), Fail> {
-    assert_certificates(&rt, rt.alloc(), &CERTIFICATES)
-}
-
-fn claim_of(alloc: Global, text: &str, grid: &Grid) -> Result<Claim, Fail> {
-    match read_cert(alloc, text.as_bytes(), grid) {
-        Ok(cert) => Ok(cert.claim),
-        Err(_) => Err(Fail::from("no certificate")),
-    }
+    expect_certificates(&rt, rt.alloc())
 }
 
 /// The version, the cause and the bound of a plan text.
@@ -167,9 +156,15 @@ fn bound_of(alloc: Global, text: &str, grid: &Grid) -> Result<(Version, Cause, u
 #[test]
 fn bounds_are_read(rt: HostRuntime) -> Result<(), Fail> {
     let grid = grid(rt.alloc(), 2, 1)?;
-    assert_eq!(rt; claim_of(rt.alloc(), STOPPED, &grid)?, Claim::Bound(4));
+    let claim = written_again(rt.alloc(), STOPPED, &grid)?.claim;
+    expect_same(&rt, &"claim", &claim, &Claim::Bound(4));
     let bound = bound_of(rt.alloc(), STOPPED_PLAN, &grid)?;
-    assert_eq!(rt; bound, (Version::Two, Cause::Splits(3), 4));
+    expect_same(
+        &rt,
+        &"plan text",
+        &bound,
+        &(Version::Two, Cause::Splits(3), 4),
+    );
     Ok(())
 }
 
@@ -185,7 +180,7 @@ fn line_of_version_two(line: &str) -> (&str, &str) {
 }
 
 /// The text of version 1 with what version 2 adds to its lines.
-fn as_version_two(alloc: Global, text: &str) -> Result<String, OutOfMemory> {
+fn as_version_two(alloc: Global, text: &str) -> Result<String, AllocError> {
     let mut changed = String::new(alloc);
     for line in text.lines() {
         let (line, more) = line_of_version_two(line);
@@ -195,51 +190,53 @@ fn as_version_two(alloc: Global, text: &str) -> Result<String, OutOfMemory> {
 }
 
 fn converted(alloc: Global, text: &str, grid: &Grid) -> Result<Vec<u8>, Fail> {
-    let converted = convert_cert(alloc, text.as_bytes(), grid).ok();
-    Ok(converted.ok_or("a certificate")?)
+    match convert_cert(alloc, text.as_bytes(), grid) {
+        Ok(converted) => Ok(converted),
+        Err(_) => Err(Fail::from("no certificate")),
+    }
 }
 
 fn conversion_fault(alloc: Global, bytes: &[u8], grid: &Grid) -> Option<CertFault> {
     convert_cert(alloc, bytes, grid).err()
 }
 
-fn is_certificate(alloc: Global, bytes: &[u8], grid: &Grid) -> bool {
-    read_cert(alloc, bytes, grid).is_ok()
-}
-
 /// Nothing of version 2 is converted, be it whole or not.
-fn assert_not_converted(rt: &impl Abort, alloc: Global, bytes: &[u8], grid: &Grid) {
+fn expect_not_converted(rt: &impl Abort, alloc: Global, bytes: &[u8], grid: &Grid) {
     for n in 12..=bytes.len() {
         let fault = conversion_fault(alloc, &bytes[..n], grid);
-        assert_eq!(rt; fault, Some(CertFault::K1(1)));
+        expect_same(rt, &n, &fault, &Some(CertFault::K1(1)));
     }
 }
 
-fn assert_converted(rt: &impl Abort, alloc: Global, text: &str, height: u32) -> Result<(), Fail> {
+fn expect_converted(rt: &impl Abort, alloc: Global, text: &str, height: u32) -> Result<(), Fail> {
     let grid = grid(alloc, 3, height)?;
     let bytes = converted(alloc, text, &grid)?;
     let expected = as_version_two(alloc, text)?;
-    assert_eq!(rt; bytes.as_slice(), expected.as_bytes());
-    assert!(rt; is_certificate(alloc, &bytes, &grid));
-    assert_not_converted(rt, alloc, &bytes, &grid);
+    expect_same(rt, &text, &bytes.as_slice(), &expected.as_bytes());
+    expect_same(rt, &text, &certificate_fault(alloc, &bytes, &grid), &None);
+    expect_not_converted(rt, alloc, &bytes, &grid);
+    Ok(())
+}
+
+fn expect_crossing_converted(rt: &impl Abort, alloc: Global) -> Result<(), Fail> {
+    let grid = grid(alloc, 3, 3)?;
+    let bytes = converted(alloc, CROSSING, &grid)?;
+    expect_same(rt, &CROSSING, &bytes.as_slice(), &CROSSING_TWO.as_bytes());
+    let fault = conversion_fault(alloc, CROSSING[..50].as_bytes(), &grid);
+    expect_same(rt, &"a prefix", &fault, &Some(CertFault::K2(4)));
     Ok(())
 }
 
 #[test]
 fn certificates_are_converted(rt: HostRuntime) -> Result<(), Fail> {
-    assert_converted(&rt, rt.alloc(), CROSSING, 3)?;
-    assert_converted(&rt, rt.alloc(), PASSING, 2)?;
-    let grid = grid(rt.alloc(), 3, 3)?;
-    let bytes = converted(rt.alloc(), CROSSING, &grid)?;
-    assert_eq!(rt; bytes.as_slice(), CROSSING_TWO.as_bytes());
-    let fault = conversion_fault(rt.alloc(), CROSSING[..50].as_bytes(), &grid);
-    assert_eq!(rt; fault, Some(CertFault::K2(4)));
-    Ok(())
+    expect_converted(&rt, rt.alloc(), CROSSING, 3)?;
+    expect_converted(&rt, rt.alloc(), PASSING, 2)?;
+    expect_crossing_converted(&rt, rt.alloc())
 }
 
 /// Which lines of the crossing's certificate are replaced by which text, and the error that then
 /// comes.
-const CERT_FAULTS: [(usize, usize, &str, Option<CertFault>); 40] = [
+const CERT_FAULTS: &[(usize, usize, &str, Option<CertFault>)] = &[
     (1, 1, "mapf-cert 2\n", Some(CertFault::K1(4))),
     (1, 1, "mapf-cert 3\n", Some(CertFault::K1(1))),
     (4, 4, "vertex 0 1 1,1 1 0\n", Some(CertFault::K1(4))),
@@ -338,7 +335,7 @@ const CERT_FAULTS: [(usize, usize, &str, Option<CertFault>); 40] = [
 ];
 
 /// The same of its certificate in version 2.
-const CERT_FAULTS_TWO: [(usize, usize, &str, Option<CertFault>); 32] = [
+const CERT_FAULTS_TWO: &[(usize, usize, &str, Option<CertFault>)] = &[
     (1, 1, "mapf-cert 1\n", Some(CertFault::K1(4))),
     (
         1,
@@ -415,26 +412,28 @@ const CERT_FAULTS_TWO: [(usize, usize, &str, Option<CertFault>); 32] = [
     (11, 11, "end\n\n", Some(CertFault::K4(12))),
 ];
 
-fn assert_cert_faults(
+fn expect_certificate_faults(
     rt: &impl Abort,
     alloc: Global,
     text: &str,
     cases: &[(usize, usize, &str, Option<CertFault>)],
 ) -> Result<(), Fail> {
+    let grid = grid(alloc, 3, 3)?;
     for (first, last, lines, fault) in cases {
-        let given = cert_fault(alloc, text, *first, *last, lines)?;
-        assert_eq!(rt; given, *fault, "{lines}");
+        let changed = with_lines(alloc, text, *first, *last, lines)?;
+        let given = certificate_fault(alloc, changed.as_bytes(), &grid);
+        expect_same(rt, lines, &given, fault);
     }
     Ok(())
 }
 
 #[test]
 fn certificates_are_refused(rt: HostRuntime) -> Result<(), Fail> {
-    assert_cert_faults(&rt, rt.alloc(), CROSSING, &CERT_FAULTS)?;
-    assert_cert_faults(&rt, rt.alloc(), CROSSING_TWO, &CERT_FAULTS_TWO)
+    expect_certificate_faults(&rt, rt.alloc(), CROSSING, CERT_FAULTS)?;
+    expect_certificate_faults(&rt, rt.alloc(), CROSSING_TWO, CERT_FAULTS_TWO)
 }
 
-const PLANS: [&str; 10] = [
+const PLANS: &[&str] = &[
     CROSSING_PLAN,
     CROSSING_PLAN_TWO,
     STOPPED_PLAN,
@@ -449,28 +448,28 @@ const PLANS: [&str; 10] = [
 
 /// The text that is written of the plan text which is read.
 fn plan_written_again(alloc: Global, text: &str, grid: &Grid) -> Result<Vec<u8>, Fail> {
-    let plan = read_plan(alloc, text.as_bytes(), grid)
-        .ok()
-        .ok_or("a plan text")?;
+    let Ok(plan) = read_plan(alloc, text.as_bytes(), grid) else {
+        return Err(Fail::from("no plan text"));
+    };
     Ok(write_plan(alloc, &plan, grid)?)
 }
 
-fn assert_plans(rt: &impl Abort, alloc: Global, texts: &[&str]) -> Result<(), Fail> {
+fn expect_plans(rt: &impl Abort, alloc: Global) -> Result<(), Fail> {
     let grid = grid(alloc, 3, 3)?;
-    for text in texts {
+    for text in PLANS {
         let bytes = plan_written_again(alloc, text, &grid)?;
-        assert_eq!(rt; bytes.as_slice(), text.as_bytes());
+        expect_same(rt, text, &bytes.as_slice(), &text.as_bytes());
     }
     Ok(())
 }
 
 #[test]
 fn plans_are_read_and_written(rt: HostRuntime) -> Result<(), Fail> {
-    assert_plans(&rt, rt.alloc(), &PLANS)
+    expect_plans(&rt, rt.alloc())
 }
 
 /// The same of the crossing's plan text.
-const PLAN_FAULTS: [(usize, usize, &str, Option<PlanTextFault>); 27] = [
+const PLAN_FAULTS: &[(usize, usize, &str, Option<PlanTextFault>)] = &[
     (1, 1, "mapf-plan 2\n", None),
     (1, 1, "mapf-plan 3\n", Some(PlanTextFault::P1(1))),
     (1, 1, "mapf-plan 02\n", Some(PlanTextFault::P1(1))),
@@ -546,7 +545,7 @@ const PLAN_FAULTS: [(usize, usize, &str, Option<PlanTextFault>); 27] = [
 ];
 
 /// The same of the plan text of a search that was stopped.
-const LIMIT_FAULTS: [(usize, usize, &str, Option<PlanTextFault>); 22] = [
+const LIMIT_FAULTS: &[(usize, usize, &str, Option<PlanTextFault>)] = &[
     (1, 1, "mapf-plan 1\n", Some(PlanTextFault::P1(3))),
     (3, 3, "limit 3\n", Some(PlanTextFault::P1(3))),
     (3, 3, "limit ticks\n", Some(PlanTextFault::P1(3))),
@@ -586,23 +585,25 @@ const LIMIT_FAULTS: [(usize, usize, &str, Option<PlanTextFault>); 22] = [
     (4, 4, "end\n\n", Some(PlanTextFault::P4(5))),
 ];
 
-fn assert_plan_faults(
+fn expect_plan_faults(
     rt: &impl Abort,
     alloc: Global,
     text: &str,
     cases: &[(usize, usize, &str, Option<PlanTextFault>)],
 ) -> Result<(), Fail> {
+    let grid = grid(alloc, 3, 3)?;
     for (first, last, lines, fault) in cases {
-        let given = plan_fault(alloc, text, *first, *last, lines)?;
-        assert_eq!(rt; given, *fault, "{lines}");
+        let changed = with_lines(alloc, text, *first, *last, lines)?;
+        let given = plan_fault(alloc, changed.as_bytes(), &grid);
+        expect_same(rt, lines, &given, fault);
     }
     Ok(())
 }
 
 #[test]
 fn plans_are_refused(rt: HostRuntime) -> Result<(), Fail> {
-    assert_plan_faults(&rt, rt.alloc(), CROSSING_PLAN, &PLAN_FAULTS)?;
-    assert_plan_faults(&rt, rt.alloc(), STOPPED_PLAN, &LIMIT_FAULTS)
+    expect_plan_faults(&rt, rt.alloc(), CROSSING_PLAN, PLAN_FAULTS)?;
+    expect_plan_faults(&rt, rt.alloc(), STOPPED_PLAN, LIMIT_FAULTS)
 }
 
 /// The number of the line in which bytes end.
@@ -614,28 +615,30 @@ fn line_after(bytes: &[u8]) -> u64 {
     line
 }
 
-fn assert_cert_ends(rt: &impl Abort, alloc: Global, grid: &Grid, text: &[u8]) {
+fn expect_certificate_ends(rt: &impl Abort, alloc: Global, grid: &Grid, text: &[u8]) {
     for n in 0..text.len() {
-        let fault = read_cert(alloc, &text[..n], grid).err();
-        assert_eq!(rt; fault, Some(CertFault::K2(line_after(&text[..n]))));
+        let front = &text[..n];
+        let expected = Some(CertFault::K2(line_after(front)));
+        expect_same(rt, &n, &certificate_fault(alloc, front, grid), &expected);
     }
 }
 
-fn assert_plan_ends(rt: &impl Abort, alloc: Global, grid: &Grid, text: &[u8]) {
+fn expect_plan_ends(rt: &impl Abort, alloc: Global, grid: &Grid, text: &[u8]) {
     for n in 0..text.len() {
-        let fault = read_plan(alloc, &text[..n], grid).err();
-        assert_eq!(rt; fault, Some(PlanTextFault::P2(line_after(&text[..n]))));
+        let front = &text[..n];
+        let expected = Some(PlanTextFault::P2(line_after(front)));
+        expect_same(rt, &n, &plan_fault(alloc, front, grid), &expected);
     }
 }
 
 #[test]
 fn each_front_ended_early(rt: HostRuntime) -> Result<(), Fail> {
     let grid = grid(rt.alloc(), 3, 3)?;
-    for text in [CROSSING, CROSSING_TWO, PASSING_TWO, STOPPED] {
-        assert_cert_ends(&rt, rt.alloc(), &grid, text.as_bytes());
+    for text in &[CROSSING, CROSSING_TWO, PASSING_TWO, STOPPED] {
+        expect_certificate_ends(&rt, rt.alloc(), &grid, text.as_bytes());
     }
-    for text in [CROSSING_PLAN, STOPPED_PLAN] {
-        assert_plan_ends(&rt, rt.alloc(), &grid, text.as_bytes());
+    for text in &[CROSSING_PLAN, STOPPED_PLAN] {
+        expect_plan_ends(&rt, rt.alloc(), &grid, text.as_bytes());
     }
     Ok(())
 }

@@ -1,18 +1,16 @@
 ghost use Rattle.std.specs.Prelude.{◌≤◌};
 
+use crate::expect::expect_same;
 use mapf_model::{Agent, Cell, Grid, Problem};
 use mapf_text::{MapFault, ScenFault, read_map, read_scen};
-use std::alloc::Global;
+use std::alloc::{AllocError, Global};
 use std::process::Abort;
 use std::test::Fail;
 
 const OPEN_MAP: &[u8] = b"type octile\nheight 3\nwidth 3\nmap\n...\n...\n...\n";
 
 fn map_fault(alloc: Global, bytes: &[u8]) -> Option<MapFault> {
-    match read_map(alloc, bytes) {
-        Ok(_grid) => None,
-        Err(fault) => Some(fault),
-    }
+    read_map(alloc, bytes).err()
 }
 
 // The error of each proper prefix of the open map, by its length.
@@ -32,21 +30,21 @@ fn prefix_fault(length: usize) -> Option<MapFault> {
     }
 }
 
-fn assert_prefixes_of_a_map(rt: &impl Abort, alloc: Global, bytes: &[u8]) {
+fn expect_faults_of_prefixes(rt: &impl Abort, alloc: Global, bytes: &[u8]) {
     for length in 0..=bytes.len() {
         let fault = map_fault(alloc, &bytes[..length]);
-        assert_eq!(rt; fault, prefix_fault(length), "at {length}");
+        expect_same(rt, &length, &fault, &prefix_fault(length));
     }
 }
 
 #[test]
 fn prefixes_of_a_map(rt: HostRuntime) {
-    assert_eq!(rt; OPEN_MAP.len(), 45);
-    assert_prefixes_of_a_map(&rt, rt.alloc(), OPEN_MAP);
+    expect_same(&rt, &"length", &OPEN_MAP.len(), &45);
+    expect_faults_of_prefixes(&rt, rt.alloc(), OPEN_MAP);
 }
 
 /// Texts of maps, and the error of each.
-const MAPS: [(&[u8], Option<MapFault>); 29] = [
+const MAPS: &[(&[u8], Option<MapFault>)] = &[
     (b"type octile\r\nheight 1\r\nwidth 3\r\nmap\r\n...", None),
     (
         b"\ttype  octile \r\nheight\t01\nwidth 0003 \n map\t\r\n...\r",
@@ -144,43 +142,57 @@ const MAPS: [(&[u8], Option<MapFault>); 29] = [
     ),
 ];
 
-fn assert_maps(rt: &impl Abort, alloc: Global, cases: &[(&[u8], Option<MapFault>)]) {
-    for (bytes, fault) in cases {
-        assert_eq!(rt; map_fault(alloc, bytes), *fault);
+fn expect_maps(rt: &impl Abort, alloc: Global) {
+    for (bytes, fault) in MAPS {
+        expect_same(rt, bytes, &map_fault(alloc, bytes), fault);
     }
 }
 
 #[test]
 fn maps(rt: HostRuntime) {
-    assert_maps(&rt, rt.alloc(), &MAPS);
+    expect_maps(&rt, rt.alloc());
 }
 
-// The width and the height of the grid of a map, and which of its first eight cells are free.
-fn grid_of_map(alloc: Global, bytes: &[u8]) -> Result<(u32, u32, [bool; 8]), Fail> {
-    let grid = read_map(alloc, bytes).ok().ok_or("a fault")?;
-    let free = [0, 1, 2, 3, 4, 5, 6, 7].map(|cell| grid.is_free(Cell(cell)));
-    Ok((grid.width(), grid.height(), free))
+fn grid_of_map(alloc: Global, bytes: &[u8]) -> Result<Grid, Fail> {
+    match read_map(alloc, bytes) {
+        Ok(grid) => Ok(grid),
+        Err(_) => Err(Fail::from("a fault")),
+    }
+}
+
+// The width and the height of a grid, and which of its first eight cells are free.
+fn cells_of(grid: &Grid) -> (u32, u32, [bool; 8]) {
+    let mut free = [false; 8];
+    for cell in 0..8u32 {
+        free[cell as usize] = grid.is_free(Cell(cell));
+    }
+    (grid.width(), grid.height(), free)
 }
 
 #[test]
 fn cells_of_a_map(rt: HostRuntime) -> Result<(), Fail> {
     let bytes = b"type octile\nheight 2\nwidth 4\nmap\n.WSG\n@OT.\n";
+    let grid = grid_of_map(rt.alloc(), bytes)?;
     let free = [true, false, true, true, false, false, false, true];
-    assert_eq!(rt; grid_of_map(rt.alloc(), bytes)?, (4, 2, free));
+    expect_same(&rt, &"cells", &cells_of(&grid), &(4, 2, free));
     Ok(())
+}
+
+// The problem of a scenario on a map.
+fn problem_of(alloc: Global, map: &[u8], bytes: &[u8], k: u32) -> Result<Problem, ScenFault>
+    requires { (1 ≤ k) × (k ≤ 200) }
+{
+    match read_map(alloc, map) {
+        Ok(grid) => read_scen(alloc, bytes, grid, k),
+        Err(_) => Err(ScenFault::Memory),
+    }
 }
 
 // The error of a scenario on a map.
 fn scenario_fault(alloc: Global, map: &[u8], bytes: &[u8], k: u32) -> Option<ScenFault>
     requires { (1 ≤ k) × (k ≤ 200) }
 {
-    let Ok(grid) = read_map(alloc, map) else {
-        return Some(ScenFault::Memory);
-    };
-    match read_scen(alloc, bytes, grid, k) {
-        Ok(_problem) => None,
-        Err(fault) => Some(fault),
-    }
+    problem_of(alloc, map, bytes, k).err()
 }
 
 const TWO_AGENTS: &[u8] =
@@ -198,43 +210,39 @@ fn scenario_prefix_fault(length: usize) -> Option<ScenFault> {
     }
 }
 
-fn assert_prefixes_of_a_scenario(rt: &impl Abort, alloc: Global, bytes: &[u8]) {
+fn expect_scenario_faults_of_prefixes(rt: &impl Abort, alloc: Global, bytes: &[u8]) {
     for length in 0..=bytes.len() {
         let fault = scenario_fault(alloc, OPEN_MAP, &bytes[..length], 2);
-        assert_eq!(rt; fault, scenario_prefix_fault(length), "at {length}");
+        expect_same(rt, &length, &fault, &scenario_prefix_fault(length));
     }
 }
 
 #[test]
 fn prefixes_of_a_scenario(rt: HostRuntime) {
-    assert_eq!(rt; TWO_AGENTS.len(), 62);
-    assert_prefixes_of_a_scenario(&rt, rt.alloc(), TWO_AGENTS);
+    expect_same(&rt, &"length", &TWO_AGENTS.len(), &62);
+    expect_scenario_faults_of_prefixes(&rt, rt.alloc(), TWO_AGENTS);
 }
 
-// The problem of a scenario on a map.
-fn problem_of(alloc: Global, map: &[u8], bytes: &[u8], k: u32) -> Result<Problem, Fail>
-    requires { (1 ≤ k) × (k ≤ 200) }
-{
-    let grid = read_map(alloc, map).ok().ok_or("a fault of the map")?;
-    Ok(read_scen(alloc, bytes, grid, k).ok().ok_or("a fault")?)
+fn agent(start: u32, goal: u32) -> Agent {
+    Agent {
+        start: Cell(start),
+        goal: Cell(goal),
+    }
 }
 
 #[test]
 fn agents_of_a_scenario(rt: HostRuntime) -> Result<(), Fail> {
     let problem = problem_of(rt.alloc(), OPEN_MAP, TWO_AGENTS, 2)?;
-    let expected = [(3, 5), (1, 7)].map(|(start, goal)| Agent {
-        start: Cell(start),
-        goal: Cell(goal),
-    });
-    assert_eq!(rt; problem.agents(), expected.as_slice());
-    assert_eq!(rt; problem.grid().width(), 3);
+    let expected = [agent(3, 5), agent(1, 7)];
+    expect_same(&rt, &"agents", &problem.agents(), &expected.as_slice());
+    expect_same(&rt, &"width", &problem.grid().width(), &3);
     Ok(())
 }
 
 const BLOCKED_MAP: &[u8] = b"type octile\nheight 2\nwidth 3\nmap\n..T\n...\n";
 
 /// Texts of scenarios, the number of agents that are read, and the error of each.
-const SCENARIOS: [(&[u8], u32, Option<ScenFault>); 33] = [
+const SCENARIOS: &[(&[u8], u32, Option<ScenFault>)] = &[
     (
         b"version 1\n0 m 3 2 0 0 0 1 1\n0 m 3 2 0 0 0 1 1\n",
         3,
@@ -369,62 +377,66 @@ const SCENARIOS: [(&[u8], u32, Option<ScenFault>); 33] = [
     ),
 ];
 
-fn assert_scenarios(rt: &impl Abort, alloc: Global, cases: &[(&[u8], u32, Option<ScenFault>)]) {
-    for (bytes, k, fault) in cases {
-        assert!(rt; 1 <= *k && *k <= 200);
-        assert_eq!(rt; scenario_fault(alloc, BLOCKED_MAP, bytes, *k), *fault);
+fn expect_scenario(
+    rt: &impl Abort,
+    alloc: Global,
+    bytes: &[u8],
+    k: u32,
+    fault: &Option<ScenFault>,
+) {
+    assert!(rt; 1 <= k && k <= 200);
+    expect_same(
+        rt,
+        &bytes,
+        &scenario_fault(alloc, BLOCKED_MAP, bytes, k),
+        fault,
+    );
+}
+
+fn expect_scenarios(rt: &impl Abort, alloc: Global) {
+    for (bytes, k, fault) in SCENARIOS {
+        expect_scenario(rt, alloc, bytes, *k, fault);
     }
 }
 
 #[test]
 fn scenarios(rt: HostRuntime) {
-    assert_scenarios(&rt, rt.alloc(), &SCENARIOS);
+    expect_scenarios(&rt, rt.alloc());
 }
 
 // A scenario of one row, whose last field is this word.
-fn row_of_length(alloc: Global, word: &[u8]) -> Result<Vec<u8>, Fail> {
-    let mut text = Vec::new(alloc);
-    text.extend_from_slice(b"version 1\n0 m 3 2 0 0 0 1 ")?;
-    text.extend_from_slice(word)?;
-    text.push(b'\n')?;
-    Ok(text)
+fn row_of_length(alloc: Global, word: &str) -> Result<String, AllocError> {
+    Ok(format!(in alloc; "version 1\n0 m 3 2 0 0 0 1 {word}\n")?)
 }
 
-// The error of a scenario of one row, whose last field is this word.
-fn length_fault(alloc: Global, word: &str) -> Result<Option<ScenFault>, Fail> {
-    let text = row_of_length(alloc, word.as_bytes())?;
-    Ok(scenario_fault(alloc, BLOCKED_MAP, &text, 1))
-}
-
-fn assert_lengths(
+// The error of a scenario of one row, whose last field is one of these words.
+fn expect_lengths(
     rt: &impl Abort,
     alloc: Global,
     words: &[&str],
     fault: Option<ScenFault>,
-) -> Result<(), Fail> {
+) -> Result<(), AllocError> {
     for word in words {
-        assert_eq!(rt; length_fault(alloc, word)?, fault, "{word}");
+        let text = row_of_length(alloc, word)?;
+        let given = scenario_fault(alloc, BLOCKED_MAP, text.as_bytes(), 1);
+        expect_same(rt, word, &given, &fault);
     }
     Ok(())
 }
 
 /// Words that are lengths.
-const DECIMALS: [&str; 8] = ["0", "+1", "-1", "007", "1.5", "1e5", "1E-5", "1.25e+02"];
+const DECIMALS: &[&str] = &["0", "+1", "-1", "007", "1.5", "1e5", "1E-5", "1.25e+02"];
 
 /// Words that aren't.
-const OTHER_WORDS: [&str; 15] = [
+const OTHER_WORDS: &[&str] = &[
     "+", "+-1", ".5", "1.", "1.e5", "1e", "1e+", "e5", "1e5.5", "1.4.1", "1e5e5", "1x", "x1",
     "1,5", "inf",
 ];
 
 #[test]
-fn decimals(rt: HostRuntime) -> Result<(), Fail> {
-    assert_lengths(&rt, rt.alloc(), &DECIMALS, None)?;
-    assert_lengths(
-        &rt,
-        rt.alloc(),
-        &OTHER_WORDS,
-        Some(ScenFault::S6 { row: 0 }),
-    )?;
-    assert_lengths(&rt, rt.alloc(), &[""], Some(ScenFault::S2 { row: 0 }))
+fn decimals(rt: HostRuntime) -> Result<(), AllocError> {
+    let alloc = rt.alloc();
+    expect_lengths(&rt, alloc, DECIMALS, None)?;
+    expect_lengths(&rt, alloc, OTHER_WORDS, Some(ScenFault::S6 { row: 0 }))?;
+    expect_lengths(&rt, alloc, &[""], Some(ScenFault::S2 { row: 0 }))
 }

@@ -4,6 +4,8 @@
 #[cfg(test)]
 mod certificates;
 #[cfg(test)]
+mod expect;
+#[cfg(test)]
 mod fields;
 #[cfg(test)]
 mod inputs;

@@ -1,12 +1,16 @@
-ghost use Rattle.std.specs.Prelude.{◌≡◌, ◌≤◌, false, length};
+ghost use Rattle.std.specs.Prelude.{◌≡◌, ◌≤◌, false, length, None, IsSome};
 
 use crate::certificates::{CROSSING, CROSSING_TWO};
+use crate::expect::expect_same;
 use mapf_certificate::{CertFault, CertLines, LinesFault, Version};
 use mapf_model::devices::{EndlessSource, FuseSource, Pace};
-use mapf_model::{Claim, Failed, Item, OutOfMemory, Source};
+use mapf_model::{Claim, Failed, OutOfMemory, Source};
 use std::alloc::Global;
+use std::fmt::Debug;
 use std::process::Abort;
 use std::test::Fail;
+
+const PACES: &[Pace] = &[Pace::ByteByByte, Pace::AllAtOnce];
 
 /// Gives bytes in two pieces, of which the first has a given length.
 #[derive(Drop)]
@@ -74,18 +78,26 @@ fn run<S: Source>(alloc: Global, source: &mut S, limit: u64) -> Result<Came, Out
     requires { S.has_failed source.old ≡ false }
 {
     let mut lines = CertLines::open(alloc, 3, 3, limit)?;
-    if let Err(fault) = lines.header(source) {
-        return Ok((0, 0, Some(fault)));
+    match lines.header(source) {
+        Ok(_) => Ok(run_items(&mut lines, source)),
+        Err(fault) => Ok((0, 0, Some(fault))),
     }
+}
+
+fn run_items<S: Source>(lines: &mut CertLines, source: &mut S) -> Came
+    requires works { S.has_failed source.old ≡ false }
+    requires unfaulted { lines.old.fault ≡ None }
+    requires read { IsSome lines.old.header }
+{
     let mut count = 0u64;
     for _ in 0..1000 {
         match lines.next_item(source) {
             Ok(Some(_)) => count = count.saturating_add(1),
             Ok(None) => break,
-            Err(fault) => return Ok((count, lines.line(), Some(fault))),
+            Err(fault) => return (count, lines.line(), Some(fault)),
         }
     }
-    Ok((count, lines.line(), None))
+    (count, lines.line(), None)
 }
 
 /// What the header and, after an error of it, both calls again answer.
@@ -135,23 +147,24 @@ fn read_whole(
     Err(Fail::from("no end"))
 }
 
-fn item_line(alloc: Global, line: u64, item: &Item) -> Result<String, OutOfMemory> {
+fn item_line(alloc: Global, line: u64, item: &impl Debug) -> Result<String, OutOfMemory> {
     Ok(format!(in alloc; "{line}: {item:?}\n")?)
 }
 
-fn assert_read(rt: &impl Abort, alloc: Global, cert: &str, version: Version) -> Result<(), Fail> {
-    for pace in [Pace::ByteByByte, Pace::AllAtOnce] {
-        let read = read_whole(alloc, cert, pace)?;
-        assert_eq!(rt; (read.0, read.1), ((2, Claim::Cost(5)), version));
-        assert_eq!(rt; read.2.as_str(), ITEMS);
+fn expect_items(rt: &impl Abort, alloc: Global, cert: &str, version: Version) -> Result<(), Fail> {
+    for pace in PACES {
+        let (header, read_version, items) = read_whole(alloc, cert, *pace)?;
+        expect_same(rt, &cert, &header, &(2, Claim::Cost(5)));
+        expect_same(rt, &cert, &read_version, &version);
+        expect_same(rt, &cert, &items.as_str(), &ITEMS);
     }
     Ok(())
 }
 
 #[test]
 fn gives_the_header_and_the_items(rt: HostRuntime) -> Result<(), Fail> {
-    assert_read(&rt, rt.alloc(), CROSSING, Version::One)?;
-    assert_read(&rt, rt.alloc(), CROSSING_TWO, Version::Two)
+    expect_items(&rt, rt.alloc(), CROSSING, Version::One)?;
+    expect_items(&rt, rt.alloc(), CROSSING_TWO, Version::Two)
 }
 
 /// What comes of bytes in two pieces.
@@ -172,38 +185,40 @@ fn run_fuse(
     run(alloc, &mut source, limit)
 }
 
-fn assert_pieces(rt: &impl Abort, alloc: Global, bytes: &[u8]) -> Result<(), OutOfMemory> {
+fn expect_all_of_pieces(rt: &impl Abort, alloc: Global, bytes: &[u8]) -> Result<(), OutOfMemory> {
     for first in 1..bytes.len() {
-        assert_eq!(rt; run_pieces(alloc, bytes, first)?, (3, 8, None));
+        let came = run_pieces(alloc, bytes, first)?;
+        expect_same(rt, &first, &came, &(3, 8, None));
     }
     Ok(())
 }
 
 /// The three items come of the bytes under this limit, and then this error.
-fn assert_limit(
+fn expect_end(
     rt: &impl Abort,
     alloc: Global,
     bytes: &[u8],
     limit: u64,
     fault: Option<LinesFault>,
 ) -> Result<(), OutOfMemory> {
-    for pace in [Pace::ByteByByte, Pace::AllAtOnce] {
-        assert_eq!(rt; run_fuse(alloc, bytes, pace, None, limit)?, (3, 8, fault));
+    for pace in PACES {
+        let came = run_fuse(alloc, bytes, *pace, None, limit)?;
+        expect_same(rt, &limit, &came, &(3, 8, fault));
     }
     Ok(())
 }
 
 #[test]
-fn pieces_and_limits(rt: HostRuntime) -> Result<(), Fail> {
+fn pieces_and_limits(rt: HostRuntime) -> Result<(), OutOfMemory> {
+    let alloc = rt.alloc();
     let bytes = CROSSING.as_bytes();
-    assert_pieces(&rt, rt.alloc(), bytes)?;
-    assert_limit(&rt, rt.alloc(), bytes, 111, None)?;
-    assert_limit(&rt, rt.alloc(), bytes, 110, Some(LinesFault::TooLong))?;
-    let longer = with_byte(rt.alloc(), bytes, bytes.len(), b'x')?;
-    assert_limit(&rt, rt.alloc(), &longer, 111, Some(LinesFault::TooLong))?;
+    expect_all_of_pieces(&rt, alloc, bytes)?;
+    expect_end(&rt, alloc, bytes, 111, None)?;
+    expect_end(&rt, alloc, bytes, 110, Some(LinesFault::TooLong))?;
+    let longer = with_byte(alloc, bytes, bytes.len(), b'x')?;
+    expect_end(&rt, alloc, &longer, 111, Some(LinesFault::TooLong))?;
     let more = Some(LinesFault::Text(CertFault::K4(12)));
-    assert_limit(&rt, rt.alloc(), &longer, 112, more)?;
-    Ok(())
+    expect_end(&rt, alloc, &longer, 112, more)
 }
 
 /// How many whole lines there are.
@@ -247,19 +262,19 @@ fn header_of(
 }
 
 /// Each byte is a call, and each call fails once.
-fn assert_failures(rt: &impl Abort, alloc: Global, bytes: &[u8]) -> Result<(), Fail> {
+fn expect_failures(rt: &impl Abort, alloc: Global, bytes: &[u8]) -> Result<(), Fail> {
     for n in 0..bytes.len() {
         let lines = lines_of(&bytes[..n]);
         let header = header_of(alloc, bytes, n as u64)?;
-        assert_eq!(rt; header, header_after(lines), "{n}");
+        expect_same(rt, &n, &header, &header_after(lines));
         let came = run_fuse(alloc, bytes, Pace::ByteByByte, Some(n as u64), 111)?;
-        assert_eq!(rt; came, items_after(lines), "{n}");
+        expect_same(rt, &n, &came, &items_after(lines));
     }
     Ok(())
 }
 
 /// How the bytes come, how many calls succeed, and what comes of them. The end of the bytes is a call of its own.
-const LAST_CALLS: [(Pace, u64, Came); 5] = [
+const LAST_CALLS: &[(Pace, u64, Came)] = &[
     (Pace::ByteByByte, 111, (3, 8, Some(LinesFault::Device))),
     (Pace::ByteByByte, 112, (3, 8, None)),
     (Pace::AllAtOnce, 0, (0, 0, Some(LinesFault::Device))),
@@ -267,22 +282,18 @@ const LAST_CALLS: [(Pace, u64, Came); 5] = [
     (Pace::AllAtOnce, 2, (3, 8, None)),
 ];
 
-fn assert_last_calls(
-    rt: &impl Abort,
-    alloc: Global,
-    cases: &[(Pace, u64, Came)],
-) -> Result<(), OutOfMemory> {
-    for (pace, calls, came) in cases {
+fn expect_last_calls(rt: &impl Abort, alloc: Global) -> Result<(), OutOfMemory> {
+    for (pace, calls, came) in LAST_CALLS {
         let given = run_fuse(alloc, CROSSING.as_bytes(), *pace, Some(*calls), 111)?;
-        assert_eq!(rt; given, *came);
+        expect_same(rt, calls, &given, came);
     }
     Ok(())
 }
 
 #[test]
 fn fails_at_each_pull(rt: HostRuntime) -> Result<(), Fail> {
-    assert_failures(&rt, rt.alloc(), CROSSING.as_bytes())?;
-    assert_last_calls(&rt, rt.alloc(), &LAST_CALLS)?;
+    expect_failures(&rt, rt.alloc(), CROSSING.as_bytes())?;
+    expect_last_calls(&rt, rt.alloc())?;
     Ok(())
 }
 
@@ -290,53 +301,47 @@ fn fails_at_each_pull(rt: HostRuntime) -> Result<(), Fail> {
 fn with_byte(alloc: Global, bytes: &[u8], place: usize, byte: u8) -> Result<Vec<u8>, OutOfMemory>
     requires { place ≤ length bytes.now }
 {
-    let mut longer = Vec::new(alloc);
-    longer.extend_from_slice(&bytes[..place])?;
-    longer.push(byte)?;
-    longer.extend_from_slice(&bytes[place..])?;
+    let mut longer = bytes.to_vec(alloc)?;
+    longer.insert(place, byte)?;
     Ok(longer)
 }
 
-/// The error that ends what comes.
-fn fault_of(
+fn expect_fault(
+    rt: &impl Abort,
     alloc: Global,
     bytes: &[u8],
-    pace: Pace,
-    calls: u64,
-) -> Result<Option<LinesFault>, OutOfMemory> {
+    source: (Pace, u64),
+    expected: LinesFault,
+) -> Result<(), OutOfMemory> {
+    let (pace, calls) = source;
     let (_, _, fault) = run_fuse(alloc, bytes, pace, Some(calls), 999)?;
-    Ok(fault)
+    expect_same(rt, &calls, &fault, &Some(expected));
+    Ok(())
 }
 
-/// The line is one byte longer, and with that byte it isn't the expected one.
-fn assert_fault_of_line(
+/// The line of this number, which ends there, is one byte longer, and with that byte it isn't the
+/// expected one.
+fn expect_fault_of_line(
     rt: &impl Abort,
     alloc: Global,
     longer: &[u8],
     end: u64,
     number: u64,
 ) -> Result<(), OutOfMemory> {
-    let shape = Some(LinesFault::Text(CertFault::K1(number)));
-    for (pace, calls, fault) in [
-        (Pace::ByteByByte, end.saturating_add(2), shape),
-        (
-            Pace::ByteByByte,
-            end.saturating_add(1),
-            Some(LinesFault::Device),
-        ),
-        (Pace::AllAtOnce, 1, shape),
-    ] {
-        assert_eq!(rt; fault_of(alloc, longer, pace, calls)?, fault, "{number}");
-    }
-    Ok(())
+    let shape = LinesFault::Text(CertFault::K1(number));
+    let whole_line = (Pace::ByteByByte, end.saturating_add(2));
+    expect_fault(rt, alloc, longer, whole_line, shape)?;
+    let without_end = (Pace::ByteByByte, end.saturating_add(1));
+    expect_fault(rt, alloc, longer, without_end, LinesFault::Device)?;
+    expect_fault(rt, alloc, longer, (Pace::AllAtOnce, 1), shape)
 }
 
-fn assert_faults_of_lines(rt: &impl Abort, alloc: Global, bytes: &[u8]) -> Result<(), OutOfMemory> {
+fn expect_faults_of_lines(rt: &impl Abort, alloc: Global, bytes: &[u8]) -> Result<(), OutOfMemory> {
     for n in 0..bytes.len() {
         if bytes[n] == b'\n' {
             let number = lines_of(&bytes[..n]).saturating_add(1);
             let longer = with_byte(alloc, bytes, n, b'x')?;
-            assert_fault_of_line(rt, alloc, &longer, n as u64, number)?;
+            expect_fault_of_line(rt, alloc, &longer, n as u64, number)?;
         }
     }
     Ok(())
@@ -344,9 +349,8 @@ fn assert_faults_of_lines(rt: &impl Abort, alloc: Global, bytes: &[u8]) -> Resul
 
 /// An error of a line is reported before more is pulled, and not before the line ends.
 #[test]
-fn pulls_nothing_after_a_fault(rt: HostRuntime) -> Result<(), Fail> {
-    assert_faults_of_lines(&rt, rt.alloc(), CROSSING.as_bytes())?;
-    Ok(())
+fn pulls_nothing_after_a_fault(rt: HostRuntime) -> Result<(), OutOfMemory> {
+    expect_faults_of_lines(&rt, rt.alloc(), CROSSING.as_bytes())
 }
 
 fn run_endless(alloc: Global) -> Result<Came, OutOfMemory> {
@@ -362,10 +366,10 @@ fn run_endless_tree(alloc: Global) -> Result<Came, OutOfMemory> {
 }
 
 #[test]
-fn sources_that_never_end(rt: HostRuntime) -> Result<(), Fail> {
+fn sources_that_never_end(rt: HostRuntime) -> Result<(), OutOfMemory> {
     let fault = Some(LinesFault::Text(CertFault::K1(1)));
-    assert_eq!(rt; run_endless(rt.alloc())?, (0, 0, fault));
+    expect_same(&rt, &"a byte", &run_endless(rt.alloc())?, &(0, 0, fault));
     let too_long = (586, 589, Some(LinesFault::TooLong));
-    assert_eq!(rt; run_endless_tree(rt.alloc())?, too_long);
+    expect_same(&rt, &"a tree", &run_endless_tree(rt.alloc())?, &too_long);
     Ok(())
 }

@@ -1,3 +1,6 @@
+ghost use Rattle.std.specs.Prelude.{◌≡◌, false};
+
+use crate::expect::expect_same;
 use crate::samples::{
     CROSSING_CERT, CROSSING_CERT_TWO, CROSSING_PLAN, SWAPPED_CERT, crossing, length_of_lines,
     shared_goal, swapped, with_lines,
@@ -5,91 +8,133 @@ use crate::samples::{
 use mapf_certificate::{CertFault, PlanTextFault};
 use mapf_checker::{CheckFault, FromFault, PlanFault, Verdict, check, check_from};
 use mapf_model::devices::{FuseSource, Pace};
-use mapf_model::{BytesSource, Source};
+use mapf_model::{BytesSource, Problem, Source};
+use std::alloc::{AllocError, Global};
+use std::process::Abort;
 use std::test::Fail;
 
-#[test]
-fn accepts_the_crossing(rt: HostRuntime) -> Result<(), Fail> {
-    let alloc = rt.alloc();
-    let crossing = crossing(alloc)?;
-    assert_eq!(rt;
-        check(
-            alloc,
-            &crossing,
-            CROSSING_PLAN.as_bytes(),
-            CROSSING_CERT.as_bytes()
-        ),
-        Ok(Verdict::Optimal(5))
-    );
-    Ok(())
+fn judged(alloc: Global, problem: &Problem, plan: &str, cert: &str) -> Result<Verdict, CheckFault> {
+    check(alloc, problem, plan.as_bytes(), cert.as_bytes())
+}
+
+// The answer where the certificate comes from a source, and whether the source has failed then.
+type FromSource = (Result<Verdict, FromFault>, bool);
+
+fn judged_from<S: Source>(
+    alloc: Global,
+    problem: &Problem,
+    plan: &str,
+    source: &mut S,
+    limit: u64,
+) -> FromSource
+    requires { S.has_failed source.old ≡ false }
+{
+    let answer = check_from(alloc, problem, plan.as_bytes(), source, limit);
+    (answer, source.failed())
+}
+
+// The same of the crossing's plan where the source gives the bytes of this text and never fails.
+fn judged_from_bytes(alloc: Global, problem: &Problem, cert: &str, limit: u64) -> FromSource {
+    let mut source = BytesSource::of(cert.as_bytes());
+    judged_from(alloc, problem, CROSSING_PLAN, &mut source, limit)
+}
+
+// The same where it fails after so many calls.
+fn judged_from_fuse(
+    alloc: Global,
+    problem: &Problem,
+    cert: &str,
+    (pace, calls): (Pace, u64),
+    limit: u64,
+) -> FromSource {
+    let mut source = FuseSource::of(cert.as_bytes(), pace, Some(calls));
+    judged_from(alloc, problem, CROSSING_PLAN, &mut source, limit)
 }
 
 #[test]
-fn keeps_the_limit(rt: HostRuntime) -> Result<(), Fail> {
-    let alloc = rt.alloc();
-    let crossing = crossing(alloc)?;
-    let plan = CROSSING_PLAN.as_bytes();
-    let longer = format!(in alloc; "{CROSSING_CERT}x")?;
-    let after_end = CheckFault::C2(CertFault::K4(12));
-    for (cert, limit, answer) in [
-        (CROSSING_CERT, 111, Ok(Verdict::Optimal(5))),
-        (CROSSING_CERT, 110, Err(FromFault::TooLong)),
-        (longer.as_str(), 111, Err(FromFault::TooLong)),
-        (longer.as_str(), 112, Err(FromFault::Refused(after_end))),
-    ] {
-        let mut source = BytesSource::of(cert.as_bytes());
-        assert_eq!(rt;
-            check_from(alloc, &crossing, plan, &mut source, limit),
-            answer
-        );
-    }
+fn accepts_the_crossing(rt: HostRuntime) -> Result<(), Fail> {
+    let crossing = crossing(rt.alloc())?;
+    let answer = judged(rt.alloc(), &crossing, CROSSING_PLAN, CROSSING_CERT);
+    expect_same(&rt, &"the crossing", &answer, &Ok(Verdict::Optimal(5)));
     Ok(())
+}
+
+fn expect_within(
+    rt: &impl Abort,
+    alloc: Global,
+    problem: &Problem,
+    cert: &str,
+    cases: &[(u64, Result<Verdict, FromFault>)],
+) {
+    for (limit, expected) in cases {
+        let (answer, _) = judged_from_bytes(alloc, problem, cert, *limit);
+        expect_same(rt, limit, &answer, expected);
+    }
+}
+
+// Limits of the crossing's certificate, and the answers.
+const LIMITS: &[(u64, Result<Verdict, FromFault>)] = &[
+    (111, Ok(Verdict::Optimal(5))),
+    (110, Err(FromFault::TooLong)),
+];
+
+// The same of a text that has a byte more.
+const LIMITS_OF_LONGER: &[(u64, Result<Verdict, FromFault>)] = &[
+    (111, Err(FromFault::TooLong)),
+    (
+        112,
+        Err(FromFault::Refused(CheckFault::C2(CertFault::K4(12)))),
+    ),
+];
+
+#[test]
+fn keeps_the_limit(rt: HostRuntime) -> Result<(), Fail> {
+    let crossing = crossing(rt.alloc())?;
+    expect_within(&rt, rt.alloc(), &crossing, CROSSING_CERT, LIMITS);
+    let longer = format!(in rt.alloc(); "{CROSSING_CERT}x")?;
+    expect_within(&rt, rt.alloc(), &crossing, &longer, LIMITS_OF_LONGER);
+    Ok(())
+}
+
+fn expect_pulled_after_a_good_plan(rt: &impl Abort, alloc: Global, problem: &Problem) {
+    let mut source = FuseSource::of(CROSSING_CERT.as_bytes(), Pace::AllAtOnce, Some(0));
+    let limit = "mapf-plan 1\nagents 2\nlimit 3\nend\n";
+    let (answer, _) = judged_from(alloc, problem, limit, &mut source, 999);
+    let refused = FromFault::Refused(CheckFault::C4);
+    expect_same(rt, &"a limit", &answer, &Err(refused));
+    assert!(rt; !source.failed());
+    let (answer, _) = judged_from(alloc, problem, CROSSING_PLAN, &mut source, 999);
+    expect_same(rt, &"a plan", &answer, &Err(FromFault::Device));
 }
 
 #[test]
 fn pulls_only_after_a_good_plan(rt: HostRuntime) -> Result<(), Fail> {
-    let alloc = rt.alloc();
-    let crossing = crossing(alloc)?;
-    let cert = CROSSING_CERT.as_bytes();
-    let mut source = FuseSource::of(cert, Pace::AllAtOnce, Some(0));
-    let limit = b"mapf-plan 1\nagents 2\nlimit 3\nend\n";
-    assert_eq!(rt;
-        check_from(alloc, &crossing, limit, &mut source, 999),
-        Err(FromFault::Refused(CheckFault::C4))
-    );
-    assert!(rt; !source.failed());
-    assert_eq!(rt;
-        check_from(alloc, &crossing, CROSSING_PLAN.as_bytes(), &mut source, 999),
-        Err(FromFault::Device)
-    );
+    let crossing = crossing(rt.alloc())?;
+    expect_pulled_after_a_good_plan(&rt, rt.alloc(), &crossing);
     Ok(())
+}
+
+// The bytes come in so many calls, and one more reports that they have ended.
+fn expect_calls(rt: &impl Abort, alloc: Global, problem: &Problem, pace: Pace, calls: u64) {
+    for stood in 0..calls {
+        let failed = judged_from_fuse(alloc, problem, CROSSING_CERT, (pace, stood), 111);
+        expect_same(rt, &stood, &failed, &(Err(FromFault::Device), true));
+    }
+    let whole = judged_from_fuse(alloc, problem, CROSSING_CERT, (pace, calls), 111);
+    expect_same(rt, &calls, &whole, &(Ok(Verdict::Optimal(5)), false));
 }
 
 #[test]
 fn fails_at_each_pull(rt: HostRuntime) -> Result<(), Fail> {
-    let alloc = rt.alloc();
-    let crossing = crossing(alloc)?;
-    let plan = CROSSING_PLAN.as_bytes();
-    let cert = CROSSING_CERT.as_bytes();
-    // The bytes come in so many calls, and one more reports that they have ended.
-    for (pace, calls) in [(Pace::ByteByByte, 112u64), (Pace::AllAtOnce, 2)] {
-        for stood in 0..calls {
-            let mut source = FuseSource::of(cert, pace, Some(stood));
-            let answer = check_from(alloc, &crossing, plan, &mut source, 111);
-            assert_eq!(rt; answer, Err(FromFault::Device), "{stood}");
-            assert!(rt; source.failed());
-        }
-        let mut source = FuseSource::of(cert, pace, Some(calls));
-        let answer = check_from(alloc, &crossing, plan, &mut source, 111);
-        assert_eq!(rt; answer, Ok(Verdict::Optimal(5)));
-        assert!(rt; !source.failed());
-    }
+    let crossing = crossing(rt.alloc())?;
+    expect_calls(&rt, rt.alloc(), &crossing, Pace::ByteByByte, 112);
+    expect_calls(&rt, rt.alloc(), &crossing, Pace::AllAtOnce, 2);
     Ok(())
 }
 
 // Which lines of the crossing's certificate are replaced by which text, the line with which the refusal
 // is known, and the refusal.
-const REFUSED: [(usize, usize, &str, usize, CheckFault); 13] = [
+const REFUSED: &[(usize, usize, &str, usize, CheckFault)] = &[
     (2, 2, "agents 3\n", 3, CheckFault::C3),
     (3, 3, "claim cost 4\n", 3, CheckFault::C4),
     (3, 3, "claim impossible\n", 3, CheckFault::C4),
@@ -123,45 +168,85 @@ const REFUSED: [(usize, usize, &str, usize, CheckFault); 13] = [
     (8, 10, "clash 0 1\n", 8, CheckFault::C9(8)),
 ];
 
-#[test]
-fn pulls_nothing_after_a_refusal(rt: HostRuntime) -> Result<(), Fail> {
-    let alloc = rt.alloc();
-    let crossing = crossing(alloc)?;
-    let plan = CROSSING_PLAN.as_bytes();
+// The answer where the certificate comes from a source that fails after so many calls.
+fn expect_fault(
+    rt: &impl Abort,
+    alloc: Global,
+    problem: &Problem,
+    cert: &str,
+    calls: (Pace, u64),
+    expected: FromFault,
+) {
+    let (answer, _) = judged_from_fuse(alloc, problem, cert, calls, 999);
+    expect_same(rt, &cert, &answer, &Err(expected));
+}
+
+// The source fails right behind the line with which the refusal is known, or before its LF, or it has
+// given all at once.
+fn expect_refusal_known(
+    rt: &impl Abort,
+    alloc: Global,
+    problem: &Problem,
+    cert: &str,
+    known: usize,
+    refusal: CheckFault,
+) {
+    let needed = length_of_lines(cert, known);
+    let with_line = (Pace::ByteByByte, needed);
+    let refused = FromFault::Refused(refusal);
+    expect_fault(rt, alloc, problem, cert, with_line, refused);
+    let without_end = (Pace::ByteByByte, needed.saturating_sub(1));
+    expect_fault(rt, alloc, problem, cert, without_end, FromFault::Device);
+    expect_fault(rt, alloc, problem, cert, (Pace::AllAtOnce, 1), refused);
+}
+
+fn expect_refusals(rt: &impl Abort, alloc: Global, problem: &Problem) -> Result<(), AllocError> {
     for (first, last, lines, known, refusal) in REFUSED {
-        let cert = with_lines(alloc, CROSSING_CERT, first, last, lines)?;
-        let needed = length_of_lines(&cert, known);
-        // The source fails right behind the line with which the refusal is known, or before its LF.
-        for (stood, answer) in [
-            (needed, FromFault::Refused(refusal)),
-            (needed.saturating_sub(1), FromFault::Device),
-        ] {
-            let mut source = FuseSource::of(cert.as_bytes(), Pace::ByteByByte, Some(stood));
-            let given = check_from(alloc, &crossing, plan, &mut source, 999);
-            assert_eq!(rt; given, Err(answer), "{lines}");
-        }
-        let mut source = FuseSource::of(cert.as_bytes(), Pace::AllAtOnce, Some(1));
-        let given = check_from(alloc, &crossing, plan, &mut source, 999);
-        assert_eq!(rt; given, Err(FromFault::Refused(refusal)), "{lines}");
+        let cert = with_lines(alloc, CROSSING_CERT, *first, *last, lines)?;
+        expect_refusal_known(rt, alloc, problem, &cert, *known, *refusal);
     }
     Ok(())
 }
 
 #[test]
-fn refuses_certificates_that_end_wrongly(rt: HostRuntime) -> Result<(), Fail> {
-    let alloc = rt.alloc();
-    let crossing = crossing(alloc)?;
-    let plan = CROSSING_PLAN.as_bytes();
-    for (lines, fault) in [("", CertFault::K2(11)), ("end\nx", CertFault::K4(12))] {
-        let cert = with_lines(alloc, CROSSING_CERT, 11, 11, lines)?;
-        let given = check(alloc, &crossing, plan, cert.as_bytes());
-        assert_eq!(rt; given, Err(CheckFault::C2(fault)));
+fn pulls_nothing_after_a_refusal(rt: HostRuntime) -> Result<(), Fail> {
+    let crossing = crossing(rt.alloc())?;
+    expect_refusals(&rt, rt.alloc(), &crossing)?;
+    Ok(())
+}
+
+// Which lines of a text are replaced by which text, and the answer.
+type Change<'a> = (usize, usize, &'a str, Result<Verdict, CheckFault>);
+
+fn expect_judged(
+    rt: &impl Abort,
+    alloc: Global,
+    problem: &Problem,
+    cert: &str,
+    changes: &[Change],
+) -> Result<(), AllocError> {
+    for (first, last, lines, expected) in changes {
+        let changed = with_lines(alloc, cert, *first, *last, lines)?;
+        let answer = judged(alloc, problem, CROSSING_PLAN, &changed);
+        expect_same(rt, lines, &answer, expected);
     }
+    Ok(())
+}
+
+const WRONG_ENDS: &[Change] = &[
+    (11, 11, "", Err(CheckFault::C2(CertFault::K2(11)))),
+    (11, 11, "end\nx", Err(CheckFault::C2(CertFault::K4(12)))),
+];
+
+#[test]
+fn refuses_certificates_that_end_wrongly(rt: HostRuntime) -> Result<(), Fail> {
+    let crossing = crossing(rt.alloc())?;
+    expect_judged(&rt, rt.alloc(), &crossing, CROSSING_CERT, WRONG_ENDS)?;
     Ok(())
 }
 
 // Which lines of the crossing's plan text are replaced by which text, and the refusal.
-const REFUSED_PLANS: [(usize, usize, &str, CheckFault); 10] = [
+const REFUSED_PLANS: &[(usize, usize, &str, CheckFault)] = &[
     (3, 3, "cost 4\n", CheckFault::C1(PlanTextFault::P1(3))),
     (6, 6, "", CheckFault::C1(PlanTextFault::P2(6))),
     (2, 2, "agents 201\n", CheckFault::C1(PlanTextFault::P3(2))),
@@ -207,34 +292,41 @@ const REFUSED_PLANS: [(usize, usize, &str, CheckFault); 10] = [
     ),
 ];
 
+fn expect_refused_plans(
+    rt: &impl Abort,
+    alloc: Global,
+    problem: &Problem,
+) -> Result<(), AllocError> {
+    for (first, last, lines, refusal) in REFUSED_PLANS {
+        let plan = with_lines(alloc, CROSSING_PLAN, *first, *last, lines)?;
+        let answer = judged(alloc, problem, &plan, CROSSING_CERT);
+        expect_same(rt, lines, &answer, &Err(*refusal));
+    }
+    Ok(())
+}
+
 #[test]
 fn refuses_plans(rt: HostRuntime) -> Result<(), Fail> {
-    let alloc = rt.alloc();
-    let crossing = crossing(alloc)?;
-    let cert = CROSSING_CERT.as_bytes();
-    for (first, last, lines, refusal) in REFUSED_PLANS {
-        let plan = with_lines(alloc, CROSSING_PLAN, first, last, lines)?;
-        let given = check(alloc, &crossing, plan.as_bytes(), cert);
-        assert_eq!(rt; given, Err(refusal), "{lines}");
-    }
+    let crossing = crossing(rt.alloc())?;
+    expect_refused_plans(&rt, rt.alloc(), &crossing)?;
     let other = "mapf-plan 1\nagents 1\nimpossible\nend\n";
-    let given = check(alloc, &crossing, other.as_bytes(), cert);
-    assert_eq!(rt; given, Err(CheckFault::C3));
+    let answer = judged(rt.alloc(), &crossing, other, CROSSING_CERT);
+    expect_same(&rt, &other, &answer, &Err(CheckFault::C3));
     Ok(())
 }
 
 #[test]
 fn accepts_that_none_is_possible(rt: HostRuntime) -> Result<(), Fail> {
-    let alloc = rt.alloc();
-    let problem = shared_goal(alloc)?;
-    let plan = b"mapf-plan 1\nagents 2\nimpossible\nend\n";
-    let cert = b"mapf-cert 1\nagents 2\nclaim impossible\nclash 0 1\nend\n";
-    assert_eq!(rt; check(alloc, &problem, plan, cert), Ok(Verdict::Impossible));
+    let problem = shared_goal(rt.alloc())?;
+    let plan = "mapf-plan 1\nagents 2\nimpossible\nend\n";
+    let cert = "mapf-cert 1\nagents 2\nclaim impossible\nclash 0 1\nend\n";
+    let answer = judged(rt.alloc(), &problem, plan, cert);
+    expect_same(&rt, &plan, &answer, &Ok(Verdict::Impossible));
     Ok(())
 }
 
 // Which lines of the crossing's certificate in version 2 are replaced by which text, and the answer.
-const JUDGED_TWO: [(usize, usize, &str, Result<Verdict, CheckFault>); 14] = [
+const JUDGED_TWO: &[Change] = &[
     (1, 1, "mapf-cert 2\n", Ok(Verdict::Optimal(5))),
     (8, 10, "leaf 0\n", Err(CheckFault::C8(8))),
     (5, 7, "leaf 0\n", Err(CheckFault::C8(5))),
@@ -321,23 +413,14 @@ const JUDGED_TWO: [(usize, usize, &str, Result<Verdict, CheckFault>); 14] = [
 
 #[test]
 fn judges_version_two(rt: HostRuntime) -> Result<(), Fail> {
-    let alloc = rt.alloc();
-    let crossing = crossing(alloc)?;
-    let plan = CROSSING_PLAN.as_bytes();
-    for (first, last, lines, answer) in JUDGED_TWO {
-        let cert = with_lines(alloc, CROSSING_CERT_TWO, first, last, lines)?;
-        assert_eq!(rt;
-            check(alloc, &crossing, plan, cert.as_bytes()),
-            answer,
-            "{lines}"
-        );
-    }
+    let crossing = crossing(rt.alloc())?;
+    expect_judged(&rt, rt.alloc(), &crossing, CROSSING_CERT_TWO, JUDGED_TWO)?;
     Ok(())
 }
 
 // The version and the answer of a plan text for the agents that are to change places, the claim of the
 // certificate, and what is judged of both.
-const BOUNDS: [(u32, &str, &str, Result<Verdict, CheckFault>); 9] = [
+const BOUNDS: &[(u32, &str, &str, Result<Verdict, CheckFault>)] = &[
     (2, "limit 3 bound 4", "bound 4", Ok(Verdict::Bound(4))),
     (2, "limit 3 bound 3", "bound 3", Ok(Verdict::Bound(3))),
     (2, "limit 3 bound 5", "bound 5", Err(CheckFault::C8(11))),
@@ -349,19 +432,28 @@ const BOUNDS: [(u32, &str, &str, Result<Verdict, CheckFault>); 9] = [
     (2, "impossible", "bound 4", Err(CheckFault::C4)),
 ];
 
+fn plan_that_says(alloc: Global, version: u32, says: &str) -> Result<String, AllocError> {
+    Ok(format!(in alloc; "mapf-plan {version}\nagents 2\n{says}\nend\n")?)
+}
+
+fn cert_that_claims(alloc: Global, claims: &str) -> Result<String, AllocError> {
+    let line = format!(in alloc; "claim {claims}\n")?;
+    with_lines(alloc, SWAPPED_CERT, 3, 3, &line)
+}
+
+fn expect_bounds(rt: &impl Abort, alloc: Global, problem: &Problem) -> Result<(), AllocError> {
+    for (version, says, claims, expected) in BOUNDS {
+        let plan = plan_that_says(alloc, *version, says)?;
+        let cert = cert_that_claims(alloc, claims)?;
+        let answer = judged(alloc, problem, &plan, &cert);
+        expect_same(rt, &(says, claims), &answer, expected);
+    }
+    Ok(())
+}
+
 #[test]
 fn judges_bounds(rt: HostRuntime) -> Result<(), Fail> {
-    let alloc = rt.alloc();
-    let swapped = swapped(alloc)?;
-    for (version, says, claims, answer) in BOUNDS {
-        let plan = format!(in alloc; "mapf-plan {version}\nagents 2\n{says}\nend\n")?;
-        let claim = format!(in alloc; "claim {claims}\n")?;
-        let cert = with_lines(alloc, SWAPPED_CERT, 3, 3, &claim)?;
-        assert_eq!(rt;
-            check(alloc, &swapped, plan.as_bytes(), cert.as_bytes()),
-            answer,
-            "{says}, {claims}"
-        );
-    }
+    let swapped = swapped(rt.alloc())?;
+    expect_bounds(&rt, rt.alloc(), &swapped)?;
     Ok(())
 }

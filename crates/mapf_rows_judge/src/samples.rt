@@ -1,7 +1,7 @@
 // Two agents whose shortest paths cross: on an open 3x3 grid one goes from (0,1) to (2,1), the other
 // from (1,0) to (1,2).
 use mapf_model::{Agent, Cell, Grid, Path, Plan, Problem};
-use std::alloc::Global;
+use std::alloc::{AllocError, Global};
 use std::test::Fail;
 
 pub fn crossing(alloc: Global) -> Result<Problem, Fail> {
@@ -88,7 +88,7 @@ pub fn with_lines(
     first: usize,
     last: usize,
     lines: &str,
-) -> Result<String, Fail> {
+) -> Result<String, AllocError> {
     let mut changed = String::new(alloc);
     let mut number = 0usize;
     for line in text.lines() {

@@ -1,3 +1,4 @@
+use crate::expect::expect_same;
 use crate::samples::{crossing, crossing_plan};
 use mapf_checker::check_plan;
 use std::test::Fail;
@@ -10,6 +11,6 @@ fn adds_up_the_costs(rt: HostRuntime) -> Result<(), Fail> {
     if plan.paths().len() != crossing.agents().len() {
         return Err(Fail::from("not one path for each agent"));
     }
-    assert_eq!(rt; check_plan(&crossing, &plan), Ok(5));
+    expect_same(&rt, &"costs", &check_plan(&crossing, &plan), &Ok(5));
     Ok(())
 }

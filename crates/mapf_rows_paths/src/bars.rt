@@ -2,6 +2,7 @@ ghost use Rattle.std.specs.Prelude.{◌<◌};
 ghost use Rattle.mapf_model.specs.Bars.{IsBar};
 ghost use Rattle.mapf_constraints.specs.BarSets.{tick_of};
 
+use crate::expect::expect_same;
 use mapf_constraints::{Bar, BarTable, ListBars, TickBars};
 use mapf_model::{Cell, OutOfMemory, Tick};
 use std::alloc::Global;
@@ -20,32 +21,33 @@ fn second_cell_barred<B: BarTable>(alloc: Global) -> Result<B, OutOfMemory> {
 
 /// The last ticks of both cells, the horizon, and whether the second cell is forbidden at 5 and at 4, and
 /// the first at 5.
-fn seen<B: BarTable>(table: &B) -> ([Option<Tick>; 2], Tick, [bool; 3]) {
-    let bars = [(1, 5), (1, 4), (0, 5)].map(|(cell, tick)| table.bars_cell(Cell(cell), tick));
-    (
-        [table.last_on(Cell(0)), table.last_on(Cell(1))],
-        table.horizon(),
-        bars,
-    )
+type Seen = ([Option<Tick>; 2], Tick, [bool; 3]);
+
+fn seen<B: BarTable>(table: &B) -> Seen {
+    let last = [table.last_on(Cell(0)), table.last_on(Cell(1))];
+    let bars = [
+        table.bars_cell(Cell(1), 5),
+        table.bars_cell(Cell(1), 4),
+        table.bars_cell(Cell(0), 5),
+    ];
+    (last, table.horizon(), bars)
 }
 
-fn last_tick_is_that_of_the_bar<B: BarTable>(
+fn expect_last_tick_of_the_bar<B: BarTable>(
     rt: &impl Abort,
     alloc: Global,
 ) -> Result<(), OutOfMemory> {
     let table = second_cell_barred::<B>(alloc)?;
-    let copy = table.copy()?;
-    let expected = ([None, Some(5)], 6, [true, false, false]);
-    assert_eq!(rt; seen(&table), expected);
-    assert_eq!(rt; seen(&copy), expected);
+    let expected: Seen = ([None, Some(5)], 6, [true, false, false]);
+    expect_same(rt, &"table", &seen(&table), &expected);
+    expect_same(rt, &"copy", &seen(&table.copy()?), &expected);
     Ok(())
 }
 
 #[test]
-fn both_tables_know_the_last_tick(rt: HostRuntime) -> Result<(), Fail> {
-    last_tick_is_that_of_the_bar::<ListBars>(&rt, rt.alloc())?;
-    last_tick_is_that_of_the_bar::<TickBars>(&rt, rt.alloc())?;
-    Ok(())
+fn both_tables_know_the_last_tick(rt: HostRuntime) -> Result<(), OutOfMemory> {
+    expect_last_tick_of_the_bar::<ListBars>(&rt, rt.alloc())?;
+    expect_last_tick_of_the_bar::<TickBars>(&rt, rt.alloc())
 }
 
 /// Forbids a cell at a tick.
@@ -105,48 +107,52 @@ fn both_tables_answer_alike(rt: HostRuntime) -> Result<(), Fail> {
     Ok(())
 }
 
-/// What a table answers to each of some queries.
+/// What a table answers: on each of 32 cells and 8 ticks, whether the cell is forbidden and whether the
+/// move to the next one is; of each cell the last tick; and the horizon.
 #[derive(Drop)]
 struct Answers {
-    cells: [bool; 256],
-    moves: [bool; 256],
+    bars: [(bool, bool); 256],
     last: [Option<Tick>; 32],
     horizon: Tick,
 }
 
-/// The answers on 32 cells and, of each, on 8 ticks.
-fn answers_of<B: BarTable>(table: &B) -> Answers {
-    let mut answers = Answers {
-        cells: [false; 256],
-        moves: [false; 256],
-        last: [None; 32],
-        horizon: table.horizon(),
-    };
+/// Whether the cell and the move from it are forbidden at the tick.
+fn bars_at<B: BarTable>(table: &B, cell: u32, tick: Tick) -> (bool, bool)
+    requires { cell < 32 }
+{
+    let bars_cell = table.bars_cell(Cell(cell), tick);
+    (bars_cell, table.bars_move(Cell(cell), Cell(cell + 1), tick))
+}
+
+fn bars_of<B: BarTable>(table: &B) -> [(bool, bool); 256] {
+    let mut bars = [(false, false); 256];
     for k in 0..256u32 {
-        let (cell, tick) = (k / 8, k % 8);
-        answers.cells[k as usize] = table.bars_cell(Cell(cell), tick);
-        answers.moves[k as usize] = table.bars_move(Cell(cell), Cell(cell + 1), tick);
+        bars[k as usize] = bars_at(table, k / 8, k % 8);
     }
+    bars
+}
+
+fn last_ticks_of<B: BarTable>(table: &B) -> [Option<Tick>; 32] {
+    let mut last = [None; 32];
     for cell in 0..32u32 {
-        answers.last[cell as usize] = table.last_on(Cell(cell));
+        last[cell as usize] = table.last_on(Cell(cell));
     }
-    answers
+    last
+}
+
+fn answers_of<B: BarTable>(table: &B) -> Answers {
+    Answers {
+        bars: bars_of(table),
+        last: last_ticks_of(table),
+        horizon: table.horizon(),
+    }
 }
 
 /// Whether the table still answers so. It needs no memory.
 fn answers_so<B: BarTable>(table: &B, answers: &Answers) -> bool {
-    let now = answers_of(table);
-    for k in 0..256 {
-        if now.cells[k] != answers.cells[k] || now.moves[k] != answers.moves[k] {
-            return false;
-        }
-    }
-    for cell in 0..32 {
-        if now.last[cell] != answers.last[cell] {
-            return false;
-        }
-    }
-    now.horizon == answers.horizon
+    bars_of(table) == answers.bars
+        && last_ticks_of(table) == answers.last
+        && table.horizon() == answers.horizon
 }
 
 /// Adds the bar. Where memory is refused, the table has to answer as before, and the error is passed on.

@@ -1,5 +1,7 @@
 ghost use Rattle.std.specs.Prelude.{◌≤◌, length};
 
+use crate::expect::expect_same;
+use crate::samples::path_of;
 use mapf_conflicts::{CellMarks, Conflict, first_conflict, first_conflict_in};
 use mapf_model::{Cell, OutOfMemory, Path, Plan, Tick};
 use std::alloc::Global;
@@ -7,16 +9,12 @@ use std::process::Abort;
 use std::test::Fail;
 
 // A plan of these paths, each a list of cell numbers.
-fn plan(alloc: Global, paths: &[&[u32]]) -> Result<Plan, Fail> {
+fn plan_of(alloc: Global, paths: &[&[u32]]) -> Option<Plan> {
     let mut all = Vec::new(alloc);
-    for path in paths {
-        let mut cells = Vec::new(alloc);
-        for number in *path {
-            cells.push(Cell(*number))?;
-        }
-        all.push(Path::of(cells).ok_or("no path")?)?;
+    for numbers in paths {
+        all.push(path_of(alloc, numbers)?).ok()?;
     }
-    Ok(Plan::of(all).ok_or("no plan")?)
+    Plan::of(all)
 }
 
 // Whether this is the first conflict whatever the marks of so many cells hold from earlier.
@@ -34,18 +32,23 @@ fn is_first_with_marks(
     Ok(first == conflict && again == conflict)
 }
 
+fn path_references(alloc: Global, plan: &Plan) -> Option<Vec<&Path>> {
+    let mut paths = Vec::new(alloc);
+    for path in plan.paths() {
+        paths.push(path).ok()?;
+    }
+    Some(paths)
+}
+
 // The first conflict of the plan, which is the same whatever cells have marks.
 fn found(alloc: Global, plan: &Plan) -> Result<Option<Conflict>, Fail> {
     let conflict = first_conflict(plan);
-    let mut behind = Vec::new(alloc);
-    for path in plan.paths() {
-        behind.push(path)?;
-    }
-    if behind.len() > 200 {
+    let paths = path_references(alloc, plan).ok_or("no memory")?;
+    if paths.len() > 200 {
         return Err(Fail::from("too many paths"));
     }
-    for cells in [0, 3, 256] {
-        if !is_first_with_marks(alloc, cells, &behind, conflict)? {
+    for cells in &[0, 3, 256] {
+        if !is_first_with_marks(alloc, *cells, &paths, conflict)? {
             return Err(Fail::from("another conflict with marks"));
         }
     }
@@ -53,14 +56,14 @@ fn found(alloc: Global, plan: &Plan) -> Result<Option<Conflict>, Fail> {
 }
 
 // The paths, each a list of cell numbers, have this first conflict.
-fn assert_first(
+fn expect_conflict(
     rt: &impl Abort,
     alloc: Global,
     paths: &[&[u32]],
     conflict: Option<Conflict>,
 ) -> Result<(), Fail> {
-    let plan = plan(alloc, paths)?;
-    assert_eq!(rt; found(alloc, &plan)?, conflict);
+    let plan = plan_of(alloc, paths).ok_or("no plan")?;
+    expect_same(rt, &paths, &found(alloc, &plan)?, &conflict);
     Ok(())
 }
 
@@ -83,57 +86,66 @@ fn swap(i: u32, j: u32, from: u32, to: u32, tick: Tick) -> Option<Conflict> {
     })
 }
 
+const VERTEX_BEFORE_SWAP: &[&[u32]] = &[&[0, 1], &[1, 0], &[2], &[2], &[2]];
+
+const LEAST_AGENTS: &[&[u32]] = &[&[4], &[3], &[3], &[4]];
+
+const LEAST_AGENTS_OF_SWAPS: &[&[u32]] = &[&[0, 1], &[4, 5], &[5, 4], &[1, 0]];
+
 #[test]
 fn takes_vertex_before_swap_then_least_agents(rt: HostRuntime) -> Result<(), Fail> {
     let alloc = rt.alloc();
-    assert_first(
-        &rt,
-        alloc,
-        &[&[0, 1], &[1, 0], &[2], &[2], &[2]],
-        vertex(2, 3, 2, 0),
-    )?;
-    assert_first(&rt, alloc, &[&[4], &[3], &[3], &[4]], vertex(0, 3, 4, 0))?;
-    assert_first(
-        &rt,
-        alloc,
-        &[&[0, 1], &[4, 5], &[5, 4], &[1, 0]],
-        swap(0, 3, 0, 1, 0),
-    )
+    expect_conflict(&rt, alloc, VERTEX_BEFORE_SWAP, vertex(2, 3, 2, 0))?;
+    expect_conflict(&rt, alloc, LEAST_AGENTS, vertex(0, 3, 4, 0))?;
+    expect_conflict(&rt, alloc, LEAST_AGENTS_OF_SWAPS, swap(0, 3, 0, 1, 0))
 }
+
+const AT_SEVERAL_TICKS: &[&[u32]] = &[&[6, 7, 8], &[8, 8, 8], &[3, 0, 1], &[4, 1, 0]];
 
 #[test]
 fn takes_the_least_tick(rt: HostRuntime) -> Result<(), Fail> {
-    let paths: [&[u32]; 4] = [&[6, 7, 8], &[8, 8, 8], &[3, 0, 1], &[4, 1, 0]];
-    assert_first(&rt, rt.alloc(), &paths, swap(2, 3, 0, 1, 1))
+    expect_conflict(&rt, rt.alloc(), AT_SEVERAL_TICKS, swap(2, 3, 0, 1, 1))
 }
+
+const AT_REST: &[&[u32]] = &[&[2], &[0, 1, 2]];
 
 #[test]
 fn meets_an_agent_at_rest(rt: HostRuntime) -> Result<(), Fail> {
-    assert_first(&rt, rt.alloc(), &[&[2], &[0, 1, 2]], vertex(0, 1, 2, 2))
+    expect_conflict(&rt, rt.alloc(), AT_REST, vertex(0, 1, 2, 2))
 }
+
+const FOLLOWING: &[&[u32]] = &[&[0, 1, 2], &[1, 2, 3]];
+
+const ROTATING: &[&[u32]] = &[&[0, 1], &[1, 3], &[3, 2], &[2, 0]];
 
 #[test]
 fn lets_agents_follow_and_rotate(rt: HostRuntime) -> Result<(), Fail> {
-    assert_first(&rt, rt.alloc(), &[&[0, 1, 2], &[1, 2, 3]], None)?;
-    assert_first(&rt, rt.alloc(), &[&[0, 1], &[1, 3], &[3, 2], &[2, 0]], None)
+    expect_conflict(&rt, rt.alloc(), FOLLOWING, None)?;
+    expect_conflict(&rt, rt.alloc(), ROTATING, None)
 }
 
 // 200 agents, each in the cell of its number, but none behind the last of these cells.
-fn plan_of_200(alloc: Global, last: u32) -> Result<Plan, Fail> {
+fn plan_of_200(alloc: Global, last: u32) -> Option<Plan> {
     let mut paths = Vec::new(alloc);
     for agent in 0..200u32 {
-        let mut cells = Vec::new(alloc);
-        cells.push(Cell(agent.min(last)))?;
-        paths.push(Path::of(cells).ok_or("no path")?)?;
+        paths.push(path_of(alloc, &[agent.min(last)])?).ok()?;
     }
-    Ok(Plan::of(paths).ok_or("no plan")?)
+    Plan::of(paths)
+}
+
+fn expect_conflict_of_200(
+    rt: &impl Abort,
+    alloc: Global,
+    last: u32,
+    conflict: Option<Conflict>,
+) -> Result<(), Fail> {
+    let plan = plan_of_200(alloc, last).ok_or("no plan")?;
+    expect_same(rt, &last, &found(alloc, &plan)?, &conflict);
+    Ok(())
 }
 
 #[test]
 fn looks_at_each_of_200_agents(rt: HostRuntime) -> Result<(), Fail> {
-    for (last, conflict) in [(198, vertex(198, 199, 198, 0)), (199, None)] {
-        let plan = plan_of_200(rt.alloc(), last)?;
-        assert_eq!(rt; found(rt.alloc(), &plan)?, conflict);
-    }
-    Ok(())
+    expect_conflict_of_200(&rt, rt.alloc(), 198, vertex(198, 199, 198, 0))?;
+    expect_conflict_of_200(&rt, rt.alloc(), 199, None)
 }

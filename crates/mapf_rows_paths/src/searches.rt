@@ -1,8 +1,9 @@
 use crate::distances::distances_to;
+use crate::expect::expect_same;
 use crate::samples::grid_of;
 use mapf_constraints::{Bar, BarTable, ListBars, TickBars};
 use mapf_distance::Distances;
-use mapf_model::{Agent, Cell, Entry, Grid, Label, Path};
+use mapf_model::{Agent, Cell, Entry, Grid, Label, OutOfMemory, Path};
 use mapf_spacetime::{Found, Labels, StateLabels, Workspace, label_at, search, search_in};
 use std::alloc::{AllocError, Global};
 use std::process::Abort;
@@ -39,7 +40,7 @@ fn found_text(alloc: Global, found: &Found) -> Result<String, AllocError> {
 }
 
 /// The same of what a search finds that keeps its states.
-fn states_text(alloc: Global, found: Found<StateLabels>) -> Result<String, Fail> {
+fn states_text(alloc: Global, found: Found<StateLabels>) -> Result<String, OutOfMemory> {
     let (mut text, labels) = match found {
         Found::Arrives { path, labels } => (path_text(alloc, &path)?, labels),
         Found::Dead { labels } => (String::from_str(alloc, "dead")?, labels),
@@ -49,23 +50,21 @@ fn states_text(alloc: Global, found: Found<StateLabels>) -> Result<String, Fail>
     Ok(text)
 }
 
-/// Forbids cells at ticks, and moves.
-fn bar_all<B: BarTable>(
-    table: &mut B,
-    cells: &[(u32, u32)],
-    moves: &[(u32, u32, u32)],
-) -> Result<(), Fail> {
+/// Forbids cells at ticks.
+fn bar_cells<B: BarTable>(table: &mut B, cells: &[(u32, u32)]) -> Result<(), OutOfMemory> {
     for (cell, tick) in cells {
-        let cell = Cell(*cell);
-        let tick = *tick;
+        let (cell, tick) = (Cell(*cell), *tick);
         if tick < 1_000_000 {
             table.add(Bar::Cell { cell, tick })?;
         }
     }
+    Ok(())
+}
+
+/// Forbids moves at ticks.
+fn bar_moves<B: BarTable>(table: &mut B, moves: &[(u32, u32, u32)]) -> Result<(), OutOfMemory> {
     for (from, to, tick) in moves {
-        let from = Cell(*from);
-        let to = Cell(*to);
-        let tick = *tick;
+        let (from, to, tick) = (Cell(*from), Cell(*to), *tick);
         if tick < 1_000_000 && from != to {
             table.add(Bar::Move { from, to, tick })?;
         }
@@ -73,186 +72,189 @@ fn bar_all<B: BarTable>(
     Ok(())
 }
 
-fn found_on<B: BarTable>(
+/// A table that forbids these cells and moves.
+fn table_of<B: BarTable>(
     alloc: Global,
-    grid: &Grid,
-    start: Cell,
-    goal: Cell,
-    table: &B,
-) -> Result<Found, Fail> {
-    if !grid.is_free(goal) {
-        return Err(Fail::from("no goal"));
-    }
-    let distances = Distances::of(alloc, grid, goal)?;
-    Ok(search(alloc, grid, &distances, table, Agent { start, goal })?)
-}
-
-/// What the search finds under these bars.
-fn searched<B: BarTable>(
-    alloc: Global,
-    rows: &str,
-    ends: (u32, u32),
     cells: &[(u32, u32)],
     moves: &[(u32, u32, u32)],
-) -> Result<String, Fail> {
-    let grid = grid_of(alloc, rows)?;
+) -> Result<B, OutOfMemory> {
     let mut table = B::empty(alloc);
-    bar_all(&mut table, cells, moves)?;
-    let found = found_on(alloc, &grid, Cell(ends.0), Cell(ends.1), &table)?;
-    Ok(found_text(alloc, &found)?)
+    bar_cells(&mut table, cells)?;
+    bar_moves(&mut table, moves)?;
+    Ok(table)
 }
 
-/// Both tables lead to the same answer.
-fn finds(
-    rt: &impl Abort,
-    alloc: Global,
-    rows: &str,
-    ends: (u32, u32),
-    cells: &[(u32, u32)],
-    moves: &[(u32, u32, u32)],
-    wanted: &str,
-) -> Result<(), Fail> {
-    let by_list = searched::<ListBars>(alloc, rows, ends, cells, moves)?;
-    assert_eq!(rt; by_list.as_str(), wanted);
-    let by_index = searched::<TickBars>(alloc, rows, ends, cells, moves)?;
-    assert_eq!(rt; by_index.as_str(), wanted);
-    Ok(())
+/// What the search finds, if the goal is free.
+fn found_on<B: BarTable>(alloc: Global, grid: &Grid, agent: Agent, table: &B) -> Option<Found> {
+    if !grid.is_free(agent.goal) {
+        return None;
+    }
+    let distances = Distances::of(alloc, grid, agent.goal).ok()?;
+    search(alloc, grid, &distances, table, agent).ok()
 }
 
-#[test]
-fn waits_before_a_barred_cell(rt: HostRuntime) -> Result<(), Fail> {
-    finds(
-        &rt,
-        rt.alloc(),
-        "...",
-        (0, 2),
-        &[(1, 1)],
-        &[],
-        "path 0 0 1 2; 0@0=3",
-    )
+fn agent((start, goal): (u32, u32)) -> Agent {
+    Agent {
+        start: Cell(start),
+        goal: Cell(goal),
+    }
 }
 
-#[test]
-fn waits_for_a_goal_that_is_barred_later(rt: HostRuntime) -> Result<(), Fail> {
-    finds(
-        &rt,
-        rt.alloc(),
-        "..",
-        (0, 1),
-        &[(1, 5)],
-        &[],
-        "path 0 0 0 0 0 0 1; 0@0=6 0@1=5 1@1=5 0@2=4 1@2=4 0@3=3 1@3=3 0@4=2 1@4=2",
-    )
-}
-
-#[test]
-fn is_dead_where_its_only_cell_is_barred(rt: HostRuntime) -> Result<(), Fail> {
-    finds(
-        &rt,
-        rt.alloc(),
-        ".",
-        (0, 0),
-        &[(0, 3)],
-        &[],
-        "dead; 0@0=never 0@1=never 0@2=never",
-    )
-}
-
-#[test]
-fn waits_before_a_barred_move(rt: HostRuntime) -> Result<(), Fail> {
-    finds(
-        &rt,
-        rt.alloc(),
-        "..",
-        (0, 1),
-        &[],
-        &[(0, 1, 0)],
-        "path 0 0 1; 0@0=2",
-    )
-}
-
-#[test]
-fn is_dead_where_its_start_is_barred(rt: HostRuntime) -> Result<(), Fail> {
-    finds(
-        &rt,
-        rt.alloc(),
-        "..",
-        (0, 1),
-        &[(0, 0)],
-        &[],
-        "dead; 0@0=never",
-    )
-}
-
-#[test]
-fn is_dead_without_labels_where_no_steps_lead(rt: HostRuntime) -> Result<(), Fail> {
-    finds(&rt, rt.alloc(), ".@.", (0, 2), &[], &[], "dead;")
-}
-
-#[test]
-fn takes_another_shortest_path_without_labels(rt: HostRuntime) -> Result<(), Fail> {
-    finds(
-        &rt,
-        rt.alloc(),
-        "... ... ...",
-        (0, 8),
-        &[(2, 2)],
-        &[],
-        "path 0 1 4 5 8;",
-    )
-}
-
-#[test]
-fn steps_aside_in_a_corridor(rt: HostRuntime) -> Result<(), Fail> {
-    finds(
-        &rt,
-        rt.alloc(),
-        "... @.@",
-        (0, 2),
-        &[(0, 1), (0, 2), (1, 2), (2, 2)],
-        &[],
-        "path 0 1 4 1 2; 0@0=4 1@1=3",
-    )
-}
-
-/// Where an agent goes, the forbidden cells and moves with their ticks, and what the search finds.
+/// A grid's rows, where an agent goes on it, the forbidden cells and moves with their ticks, and what the
+/// search finds.
 struct Case<'a> {
+    rows: &'a str,
     ends: (u32, u32),
     cells: &'a [(u32, u32)],
     moves: &'a [(u32, u32, u32)],
     wanted: &'a str,
 }
 
-fn finds_each(rt: &impl Abort, alloc: Global, rows: &str, cases: &[Case<'_>]) -> Result<(), Fail> {
+/// What the search finds under the bars in a table of this type.
+fn searched<B: BarTable>(alloc: Global, case: &Case) -> Option<String> {
+    let grid = grid_of(alloc, case.rows)?;
+    let table = table_of::<B>(alloc, case.cells, case.moves).ok()?;
+    let found = found_on(alloc, &grid, agent(case.ends), &table)?;
+    found_text(alloc, &found).ok()
+}
+
+/// Both tables lead to the same answer.
+fn expect_found(rt: &impl Abort, alloc: Global, case: &Case) -> Result<(), Fail> {
+    let by_list = searched::<ListBars>(alloc, case).ok_or("no search")?;
+    expect_same(rt, &case.rows, &by_list.as_str(), &case.wanted);
+    let by_index = searched::<TickBars>(alloc, case).ok_or("no search")?;
+    expect_same(rt, &case.rows, &by_index.as_str(), &case.wanted);
+    Ok(())
+}
+
+const BARRED_CELL: &Case = &Case {
+    rows: "...",
+    ends: (0, 2),
+    cells: &[(1, 1)],
+    moves: &[],
+    wanted: "path 0 0 1 2; 0@0=3",
+};
+
+#[test]
+fn waits_before_a_barred_cell(rt: HostRuntime) -> Result<(), Fail> {
+    expect_found(&rt, rt.alloc(), BARRED_CELL)
+}
+
+const GOAL_BARRED_LATER: &Case = &Case {
+    rows: "..",
+    ends: (0, 1),
+    cells: &[(1, 5)],
+    moves: &[],
+    wanted: "path 0 0 0 0 0 0 1; 0@0=6 0@1=5 1@1=5 0@2=4 1@2=4 0@3=3 1@3=3 0@4=2 1@4=2",
+};
+
+#[test]
+fn waits_for_a_goal_that_is_barred_later(rt: HostRuntime) -> Result<(), Fail> {
+    expect_found(&rt, rt.alloc(), GOAL_BARRED_LATER)
+}
+
+const ONLY_CELL_BARRED: &Case = &Case {
+    rows: ".",
+    ends: (0, 0),
+    cells: &[(0, 3)],
+    moves: &[],
+    wanted: "dead; 0@0=never 0@1=never 0@2=never",
+};
+
+#[test]
+fn is_dead_where_its_only_cell_is_barred(rt: HostRuntime) -> Result<(), Fail> {
+    expect_found(&rt, rt.alloc(), ONLY_CELL_BARRED)
+}
+
+const BARRED_MOVE: &Case = &Case {
+    rows: "..",
+    ends: (0, 1),
+    cells: &[],
+    moves: &[(0, 1, 0)],
+    wanted: "path 0 0 1; 0@0=2",
+};
+
+#[test]
+fn waits_before_a_barred_move(rt: HostRuntime) -> Result<(), Fail> {
+    expect_found(&rt, rt.alloc(), BARRED_MOVE)
+}
+
+const START_BARRED: &Case = &Case {
+    rows: "..",
+    ends: (0, 1),
+    cells: &[(0, 0)],
+    moves: &[],
+    wanted: "dead; 0@0=never",
+};
+
+#[test]
+fn is_dead_where_its_start_is_barred(rt: HostRuntime) -> Result<(), Fail> {
+    expect_found(&rt, rt.alloc(), START_BARRED)
+}
+
+const NO_STEPS_LEAD: &Case = &Case {
+    rows: ".@.",
+    ends: (0, 2),
+    cells: &[],
+    moves: &[],
+    wanted: "dead;",
+};
+
+#[test]
+fn is_dead_without_labels_where_no_steps_lead(rt: HostRuntime) -> Result<(), Fail> {
+    expect_found(&rt, rt.alloc(), NO_STEPS_LEAD)
+}
+
+const OTHER_SHORTEST_PATH: &Case = &Case {
+    rows: "... ... ...",
+    ends: (0, 8),
+    cells: &[(2, 2)],
+    moves: &[],
+    wanted: "path 0 1 4 5 8;",
+};
+
+#[test]
+fn takes_another_shortest_path_without_labels(rt: HostRuntime) -> Result<(), Fail> {
+    expect_found(&rt, rt.alloc(), OTHER_SHORTEST_PATH)
+}
+
+const CORRIDOR: &Case = &Case {
+    rows: "... @.@",
+    ends: (0, 2),
+    cells: &[(0, 1), (0, 2), (1, 2), (2, 2)],
+    moves: &[],
+    wanted: "path 0 1 4 1 2; 0@0=4 1@1=3",
+};
+
+#[test]
+fn steps_aside_in_a_corridor(rt: HostRuntime) -> Result<(), Fail> {
+    expect_found(&rt, rt.alloc(), CORRIDOR)
+}
+
+fn expect_each_found(rt: &impl Abort, alloc: Global, cases: &[Case]) -> Result<(), Fail> {
     for case in cases {
-        finds(
-            rt,
-            alloc,
-            rows,
-            case.ends,
-            case.cells,
-            case.moves,
-            case.wanted,
-        )?;
+        expect_found(rt, alloc, case)?;
     }
     Ok(())
 }
 
-/// On "... @.@".
-const AT_ITS_GOAL: [Case<'static>; 3] = [
+const AT_ITS_GOAL: &[Case] = &[
     Case {
+        rows: "... @.@",
         ends: (1, 1),
         cells: &[(1, 3)],
         moves: &[],
         wanted: "path 1 0 0 0 1; 1@0=4 0@1=3 1@1=3 2@1=3 4@1=3 0@2=2 1@2=2 2@2=2 4@2=2",
     },
     Case {
+        rows: "... @.@",
         ends: (1, 1),
         cells: &[(1, 2)],
         moves: &[],
         wanted: "path 1 0 0 1; 1@0=3 0@1=2 1@1=2 2@1=2 4@1=2",
     },
     Case {
+        rows: "... @.@",
         ends: (1, 1),
         cells: &[(1, 1)],
         moves: &[(1, 0, 0), (2, 1, 1)],
@@ -262,30 +264,33 @@ const AT_ITS_GOAL: [Case<'static>; 3] = [
 
 #[test]
 fn leaves_its_goal_and_returns(rt: HostRuntime) -> Result<(), Fail> {
-    finds_each(&rt, rt.alloc(), "... @.@", &AT_ITS_GOAL)
+    expect_each_found(&rt, rt.alloc(), AT_ITS_GOAL)
 }
 
-/// On "... @.@".
-const PASSING: [Case<'static>; 4] = [
+const PASSING: &[Case] = &[
     Case {
+        rows: "... @.@",
         ends: (0, 2),
         cells: &[(1, 1), (1, 2), (1, 3)],
         moves: &[],
         wanted: "path 0 0 0 0 1 2; 0@0=5 0@1=4 0@2=3",
     },
     Case {
+        rows: "... @.@",
         ends: (0, 2),
         cells: &[(1, 1), (1, 2)],
         moves: &[],
         wanted: "path 0 0 0 1 2; 0@0=4 0@1=3",
     },
     Case {
+        rows: "... @.@",
         ends: (0, 2),
         cells: &[],
         moves: &[(0, 1, 0)],
         wanted: "path 0 0 1 2; 0@0=3",
     },
     Case {
+        rows: "... @.@",
         ends: (0, 2),
         cells: &[],
         moves: &[(1, 2, 1)],
@@ -295,18 +300,19 @@ const PASSING: [Case<'static>; 4] = [
 
 #[test]
 fn labels_are_those_of_known_certificates(rt: HostRuntime) -> Result<(), Fail> {
-    finds_each(&rt, rt.alloc(), "... @.@", &PASSING)
+    expect_each_found(&rt, rt.alloc(), PASSING)
 }
 
-/// On "... ... ...".
-const CROSSING: [Case<'static>; 2] = [
+const CROSSING: &[Case] = &[
     Case {
+        rows: "... ... ...",
         ends: (3, 5),
         cells: &[(4, 1)],
         moves: &[],
         wanted: "path 3 3 4 5; 3@0=3",
     },
     Case {
+        rows: "... ... ...",
         ends: (1, 7),
         cells: &[(4, 1)],
         moves: &[],
@@ -316,92 +322,125 @@ const CROSSING: [Case<'static>; 2] = [
 
 #[test]
 fn labels_of_crossing_agents_are_those_of_a_known_certificate(rt: HostRuntime) -> Result<(), Fail> {
-    finds_each(&rt, rt.alloc(), "... ... ...", &CROSSING)
+    expect_each_found(&rt, rt.alloc(), CROSSING)
 }
 
 /// A square of free cells.
-fn open_square(alloc: Global, side: u32) -> Result<Grid, Fail> {
+fn open_square(alloc: Global, side: u32) -> Option<Grid> {
     let mut free = Vec::new(alloc);
     for _cell in 0..u64::from(side) * u64::from(side) {
-        free.push(true)?;
+        free.push(true).ok()?;
     }
-    Ok(Grid::of(side, side, free).ok_or("no grid")?)
+    Grid::of(side, side, free)
 }
 
 /// The path that is found, and its labels.
-fn arrival(found: Found) -> Result<(Path, Labels), Fail> {
+fn arrival(found: Found) -> Option<(Path, Labels)> {
     match found {
-        Found::Arrives { path, labels } => Ok((path, labels)),
-        Found::Dead { labels: _ } => Err(Fail::from("dead")),
+        Found::Arrives { path, labels } => Some((path, labels)),
+        Found::Dead { labels: _ } => None,
     }
 }
 
 /// The path along the first row of 64 cells, where a cell of the last row is forbidden late, and
 /// whether it has no labels.
-fn path_beside_a_late_bar(alloc: Global) -> Result<(Path, bool), Fail> {
+fn path_beside_a_late_bar(alloc: Global) -> Option<(Path, bool)> {
     let grid = open_square(alloc, 64)?;
-    let mut bars = TickBars::empty(alloc);
-    bar_all(&mut bars, &[(4032, 900_000)], &[])?;
-    let found = found_on(alloc, &grid, Cell(0), Cell(63), &bars)?;
+    let bars = table_of::<TickBars>(alloc, &[(4032, 900_000)], &[]).ok()?;
+    let found = found_on(alloc, &grid, agent((0, 63)), &bars)?;
     let (path, labels) = arrival(found)?;
-    Ok((path, labels.is_empty()))
+    Some((path, labels.is_empty()))
+}
+
+/// The path leads along the first 64 cells.
+fn expect_first_row(rt: &impl Abort, path: &Path) {
+    expect_same(rt, &"length", &path.cells().len(), &64);
+    for (cell, number) in path.cells().iter().zip(0..64) {
+        expect_same(rt, &"cell", &cell.0, &number);
+    }
 }
 
 #[test]
 fn a_late_bar_elsewhere_costs_nothing(rt: HostRuntime) -> Result<(), Fail> {
-    let (path, is_unlabelled) = path_beside_a_late_bar(rt.alloc())?;
+    let (path, is_unlabelled) = path_beside_a_late_bar(rt.alloc()).ok_or("no path")?;
     assert!(rt; is_unlabelled);
-    assert!(rt; path.cells().iter().map(|cell| cell.0).eq(0..64));
+    expect_first_row(&rt, &path);
     Ok(())
 }
 
 /// The labels of two cells that the search labels and of one that can't reach the goal.
-fn some_labels(alloc: Global) -> Result<[Label; 3], Fail> {
+fn some_labels(alloc: Global) -> Option<[Label; 3]> {
     let rows = "...@.";
-    let mut bars = ListBars::empty(alloc);
-    bar_all(&mut bars, &[(1, 1)], &[])?;
-    let found = found_on(alloc, &grid_of(alloc, rows)?, Cell(0), Cell(2), &bars)?;
+    let bars = table_of::<ListBars>(alloc, &[(1, 1)], &[]).ok()?;
+    let found = found_on(alloc, &grid_of(alloc, rows)?, agent((0, 2)), &bars)?;
     let (_, labels) = arrival(found)?;
     let distances = distances_to(alloc, rows, 2)?;
-    Ok([(0, 0), (0, 1), (4, 0)].map(|(cell, tick)| label_at(&labels, &distances, Cell(cell), tick)))
+    Some([
+        label_at(&labels, &distances, Cell(0), 0),
+        label_at(&labels, &distances, Cell(0), 1),
+        label_at(&labels, &distances, Cell(4), 0),
+    ])
 }
 
 #[test]
-fn a_label_is_the_entry_else_the_distance(rt: HostRuntime) -> Result<(), Fail> {
-    let expected = [Label::Ticks(3), Label::Ticks(2), Label::Never];
-    assert_eq!(rt; some_labels(rt.alloc())?, expected);
-    Ok(())
+fn a_label_is_the_entry_else_the_distance(rt: HostRuntime) {
+    let labels = some_labels(rt.alloc());
+    let expected = Some([Label::Ticks(3), Label::Ticks(2), Label::Never]);
+    expect_same(&rt, &"labels", &labels, &expected);
+}
+
+fn found_in(
+    alloc: Global,
+    workspace: &mut Workspace,
+    grid: &Grid,
+    agent: Agent,
+    bars: &TickBars,
+) -> Option<Found<StateLabels>> {
+    if !grid.is_free(agent.goal) {
+        return None;
+    }
+    let distances = Distances::of(alloc, grid, agent.goal).ok()?;
+    search_in(alloc, workspace, grid, &distances, bars, agent).ok()
 }
 
 /// What the search finds in this workspace.
-fn searched_in(
-    alloc: Global,
-    workspace: &mut Workspace,
-    rows: &str,
-    ends: (u32, u32),
-    cells: &[(u32, u32)],
-) -> Result<String, Fail> {
-    let grid = grid_of(alloc, rows)?;
-    let mut bars = TickBars::empty(alloc);
-    bar_all(&mut bars, cells, &[])?;
-    let (start, goal) = (Cell(ends.0), Cell(ends.1));
-    if !grid.is_free(goal) {
-        return Err(Fail::from("no goal"));
-    }
-    let distances = Distances::of(alloc, &grid, goal)?;
-    let agent = Agent { start, goal };
-    let found = search_in(alloc, workspace, &grid, &distances, &bars, agent)?;
-    states_text(alloc, found)
+fn searched_in(alloc: Global, workspace: &mut Workspace, case: &Case) -> Option<String> {
+    let grid = grid_of(alloc, case.rows)?;
+    let bars = table_of(alloc, case.cells, case.moves).ok()?;
+    let found = found_in(alloc, workspace, &grid, agent(case.ends), &bars)?;
+    states_text(alloc, found).ok()
 }
 
-fn assert_round(rt: &impl Abort, alloc: Global, workspace: &mut Workspace) -> Result<(), Fail> {
-    let row = searched_in(alloc, workspace, "...", (0, 2), &[(1, 1)])?;
-    assert_eq!(rt; row.as_str(), "path 0 0 1 2; 0@0=3");
-    let bars = [(1, 1), (1, 2), (1, 3)];
-    let bay = searched_in(alloc, workspace, "... @.@", (0, 2), &bars)?;
-    assert_eq!(rt; bay.as_str(), "path 0 0 0 0 1 2; 0@0=5 0@1=4 0@2=3");
-    let alone = searched_in(alloc, workspace, ".", (0, 0), &[(0, 3)])?;
-    assert_eq!(rt; alone.as_str(), "dead; 0@0=never 0@1=never 0@2=never");
+/// Searches on grids of different sizes.
+const ROUND: &[Case] = &[
+    Case {
+        rows: "...",
+        ends: (0, 2),
+        cells: &[(1, 1)],
+        moves: &[],
+        wanted: "path 0 0 1 2; 0@0=3",
+    },
+    Case {
+        rows: "... @.@",
+        ends: (0, 2),
+        cells: &[(1, 1), (1, 2), (1, 3)],
+        moves: &[],
+        wanted: "path 0 0 0 0 1 2; 0@0=5 0@1=4 0@2=3",
+    },
+    Case {
+        rows: ".",
+        ends: (0, 0),
+        cells: &[(0, 3)],
+        moves: &[],
+        wanted: "dead; 0@0=never 0@1=never 0@2=never",
+    },
+];
+
+fn expect_round(rt: &impl Abort, alloc: Global, workspace: &mut Workspace) -> Result<(), Fail> {
+    for case in ROUND {
+        let found = searched_in(alloc, workspace, case).ok_or("no search")?;
+        expect_same(rt, &case.rows, &found.as_str(), &case.wanted);
+    }
     Ok(())
 }
 
@@ -409,7 +448,7 @@ fn assert_round(rt: &impl Abort, alloc: Global, workspace: &mut Workspace) -> Re
 fn a_workspace_serves_one_search_after_the_other(rt: HostRuntime) -> Result<(), Fail> {
     let mut workspace = Workspace::new(rt.alloc());
     for _round in 0..300 {
-        assert_round(&rt, rt.alloc(), &mut workspace)?;
+        expect_round(&rt, rt.alloc(), &mut workspace)?;
     }
     Ok(())
 }

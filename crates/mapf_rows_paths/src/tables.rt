@@ -1,31 +1,38 @@
+use crate::expect::expect_same;
 use crate::samples::problem_of;
-use mapf_distance::goal_tables;
+use mapf_distance::{Distances, goal_tables};
 use mapf_model::Cell;
 use std::alloc::Global;
 use std::test::Fail;
 
+// What a table holds for each of six cells.
+fn distances_in(table: &Distances) -> [Option<u32>; 6] {
+    let mut distances = [None; 6];
+    for cell in 0..6u32 {
+        distances[cell as usize] = table.get(Cell(cell));
+    }
+    distances
+}
+
 // What the tables hold for each of six cells.
-fn distances_of(
-    alloc: Global,
-    rows: &str,
-    ends: &[(u32, u32)],
-) -> Result<Vec<[Option<u32>; 6]>, Fail> {
+fn distances_of(alloc: Global, rows: &str, ends: &[(u32, u32)]) -> Option<Vec<[Option<u32>; 6]>> {
     let problem = problem_of(alloc, rows, ends)?;
     let mut distances = Vec::new(alloc);
-    for table in &goal_tables(alloc, &problem)? {
-        distances.push([0, 1, 2, 3, 4, 5].map(|cell| table.get(Cell(cell))))?;
+    for table in &goal_tables(alloc, &problem).ok()? {
+        distances.push(distances_in(table)).ok()?;
     }
-    Ok(distances)
+    Some(distances)
 }
+
+const DISTANCES: &[[Option<u32>; 6]] = &[
+    [Some(2), Some(1), Some(0), Some(3), None, Some(1)],
+    [Some(1), Some(2), Some(3), Some(0), None, Some(4)],
+];
 
 // Three cells in a row, and one below the first and one below the last.
 #[test]
 fn each_agent_has_the_distances_to_its_goal(rt: HostRuntime) -> Result<(), Fail> {
-    let distances = distances_of(rt.alloc(), "... .@.", &[(0, 2), (5, 3)])?;
-    let expected = [
-        [Some(2), Some(1), Some(0), Some(3), None, Some(1)],
-        [Some(1), Some(2), Some(3), Some(0), None, Some(4)],
-    ];
-    assert_eq!(rt; distances.as_slice(), expected.as_slice());
+    let distances = distances_of(rt.alloc(), "... .@.", &[(0, 2), (5, 3)]).ok_or("no tables")?;
+    expect_same(&rt, &"distances", &distances.as_slice(), &DISTANCES);
     Ok(())
 }
