@@ -1,65 +1,55 @@
-// Two agents whose shortest paths cross: on an open 3x3 grid one goes from (0,1) to (2,1), the other
-// from (1,0) to (1,2).
 use mapf_model::{Agent, Cell, Grid, Path, Plan, Problem};
 use std::alloc::{AllocError, Global};
 use std::test::Fail;
 
+/// Two agents whose shortest paths cross: on an open 3x3 grid one goes from (0,1) to (2,1), the other
+/// from (1,0) to (1,2).
 pub fn crossing(alloc: Global) -> Result<Problem, Fail> {
-    let mut free = Vec::new(alloc);
-    for _ in 0..9 {
-        free.push(true)?;
-    }
-    let grid = Grid::of(3, 3, free).ok_or("no grid")?;
-    let mut agents = Vec::new(alloc);
-    for (start, goal) in [(3, 5), (1, 7)] {
-        agents.push(Agent {
-            start: Cell(start),
-            goal: Cell(goal),
-        })?;
-    }
-    Ok(Problem::of(grid, agents).ok_or("no problem")?)
+    Ok(problem_of(alloc, 3, 3, &[(3, 5), (1, 7)]).ok_or("no problem")?)
 }
 
 /// Two agents with one goal, on two cells side by side.
 pub fn shared_goal(alloc: Global) -> Result<Problem, Fail> {
-    side_by_side(alloc, [1, 1])
+    Ok(problem_of(alloc, 2, 1, &[(0, 1), (1, 1)]).ok_or("no problem")?)
 }
 
 /// Two agents that are to change places, on two cells side by side.
 pub fn swapped(alloc: Global) -> Result<Problem, Fail> {
-    side_by_side(alloc, [1, 0])
+    Ok(problem_of(alloc, 2, 1, &[(0, 1), (1, 0)]).ok_or("no problem")?)
 }
 
-// Two agents on two cells side by side, with these goals.
-fn side_by_side(alloc: Global, goals: [u32; 2]) -> Result<Problem, Fail> {
+// Agents that go from one cell to another on a free grid of this size.
+fn problem_of(alloc: Global, width: u32, height: u32, ends: &[(u32, u32)]) -> Option<Problem> {
     let mut free = Vec::new(alloc);
-    free.push(true)?;
-    free.push(true)?;
-    let grid = Grid::of(2, 1, free).ok_or("no grid")?;
-    let mut agents = Vec::new(alloc);
-    for (start, goal) in [(0, goals[0]), (1, goals[1])] {
-        agents.push(Agent {
-            start: Cell(start),
-            goal: Cell(goal),
-        })?;
+    for _ in 0..width.saturating_mul(height) {
+        free.push(true).ok()?;
     }
-    Ok(Problem::of(grid, agents).ok_or("no problem")?)
+    Problem::of(Grid::of(width, height, free)?, agents_of(alloc, ends)?)
+}
+
+fn agents_of(alloc: Global, ends: &[(u32, u32)]) -> Option<Vec<Agent>> {
+    let mut agents = Vec::new(alloc);
+    for (start, goal) in ends {
+        let (start, goal) = (Cell(*start), Cell(*goal));
+        agents.push(Agent { start, goal }).ok()?;
+    }
+    Some(agents)
 }
 
 /// The first agent waits for a tick.
-pub fn crossing_plan(alloc: Global) -> Result<Plan, Fail> {
+pub fn crossing_plan(alloc: Global) -> Option<Plan> {
     let mut paths = Vec::new(alloc);
-    paths.push(path(alloc, &[3, 3, 4, 5])?)?;
-    paths.push(path(alloc, &[1, 4, 7])?)?;
-    Ok(Plan::of(paths).ok_or("no plan")?)
+    paths.push(path_of(alloc, &[3, 3, 4, 5])?).ok()?;
+    paths.push(path_of(alloc, &[1, 4, 7])?).ok()?;
+    Plan::of(paths)
 }
 
-fn path(alloc: Global, numbers: &[u32]) -> Result<Path, Fail> {
+fn path_of(alloc: Global, numbers: &[u32]) -> Option<Path> {
     let mut cells = Vec::new(alloc);
     for number in numbers {
-        cells.push(Cell(*number))?;
+        cells.push(Cell(*number)).ok()?;
     }
-    Ok(Path::of(cells).ok_or("no path")?)
+    Path::of(cells)
 }
 
 pub const CROSSING_PLAN: &str =
@@ -98,7 +88,7 @@ pub fn with_lines(
         }
         if number < first || last < number {
             changed.push_str(line)?;
-            changed.push('\n')?;
+            changed.push_str("\n")?;
         }
     }
     Ok(changed)

@@ -7,7 +7,7 @@ use std::test::Fail;
 fn adds_up_the_costs(rt: HostRuntime) -> Result<(), Fail> {
     let alloc = rt.alloc();
     let crossing = crossing(alloc)?;
-    let plan = crossing_plan(alloc)?;
+    let plan = crossing_plan(alloc).ok_or("no plan")?;
     if plan.paths().len() != crossing.agents().len() {
         return Err(Fail::from("not one path for each agent"));
     }
