@@ -1,7 +1,7 @@
 ghost use Rattle.std.specs.Prelude.{◌≤◌, length};
 
 use crate::expect::expect_same;
-use crate::samples::path_of;
+use crate::samples::{Missing, path_of};
 use mapf_conflicts::{CellMarks, Conflict, first_conflict, first_conflict_in};
 use mapf_model::{Cell, OutOfMemory, Path, Plan, Tick};
 use std::alloc::Global;
@@ -9,12 +9,12 @@ use std::process::Abort;
 use std::test::Fail;
 
 // A plan of these paths, each a list of cell numbers.
-fn plan_of(alloc: Global, paths: &[&[u32]]) -> Option<Plan> {
+fn plan_of(alloc: Global, paths: &[&[u32]]) -> Result<Plan, Missing> {
     let mut all = Vec::new(alloc);
     for numbers in paths {
-        all.push(path_of(alloc, numbers)?).ok()?;
+        all.push(path_of(alloc, numbers)?)?;
     }
-    Plan::of(all)
+    Plan::of(all).ok_or(Missing::Value)
 }
 
 // Whether this is the first conflict whatever the marks of so many cells hold from earlier.
@@ -32,18 +32,18 @@ fn is_first_with_marks(
     Ok(first == conflict && again == conflict)
 }
 
-fn path_references(alloc: Global, plan: &Plan) -> Option<Vec<&Path>> {
+fn path_references(alloc: Global, plan: &Plan) -> Result<Vec<&Path>, Missing> {
     let mut paths = Vec::new(alloc);
     for path in plan.paths() {
-        paths.push(path).ok()?;
+        paths.push(path)?;
     }
-    Some(paths)
+    Ok(paths)
 }
 
 // The first conflict of the plan, which is the same whatever cells have marks.
 fn found(alloc: Global, plan: &Plan) -> Result<Option<Conflict>, Fail> {
     let conflict = first_conflict(plan);
-    let paths = path_references(alloc, plan).ok_or("no memory")?;
+    let paths = path_references(alloc, plan)?;
     if paths.len() > 200 {
         return Err(Fail::from("too many paths"));
     }
@@ -62,7 +62,7 @@ fn expect_conflict(
     paths: &[&[u32]],
     conflict: Option<Conflict>,
 ) -> Result<(), Fail> {
-    let plan = plan_of(alloc, paths).ok_or("no plan")?;
+    let plan = plan_of(alloc, paths)?;
     expect_same(rt, &paths, &found(alloc, &plan)?, &conflict);
     Ok(())
 }
@@ -125,12 +125,12 @@ fn lets_agents_follow_and_rotate(rt: HostRuntime) -> Result<(), Fail> {
 }
 
 // 200 agents, each in the cell of its number, but none behind the last of these cells.
-fn plan_of_200(alloc: Global, last: u32) -> Option<Plan> {
+fn plan_of_200(alloc: Global, last: u32) -> Result<Plan, Missing> {
     let mut paths = Vec::new(alloc);
     for agent in 0..200u32 {
-        paths.push(path_of(alloc, &[agent.min(last)])?).ok()?;
+        paths.push(path_of(alloc, &[agent.min(last)])?)?;
     }
-    Plan::of(paths)
+    Plan::of(paths).ok_or(Missing::Value)
 }
 
 fn expect_conflict_of_200(
@@ -139,7 +139,7 @@ fn expect_conflict_of_200(
     last: u32,
     conflict: Option<Conflict>,
 ) -> Result<(), Fail> {
-    let plan = plan_of_200(alloc, last).ok_or("no plan")?;
+    let plan = plan_of_200(alloc, last)?;
     expect_same(rt, &last, &found(alloc, &plan)?, &conflict);
     Ok(())
 }

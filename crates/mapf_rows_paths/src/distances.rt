@@ -1,5 +1,5 @@
 use crate::expect::expect_same;
-use crate::samples::grid_of;
+use crate::samples::{Missing, grid_of};
 use mapf_distance::Distances;
 use mapf_model::{Cell, Path};
 use std::alloc::Global;
@@ -7,20 +7,20 @@ use std::process::Abort;
 use std::test::Fail;
 
 /// The distances to this cell, if it is free, on the grid of these rows.
-pub fn distances_to(alloc: Global, rows: &str, goal: u32) -> Option<Distances> {
+pub fn distances_to(alloc: Global, rows: &str, goal: u32) -> Result<Distances, Missing> {
     let grid = grid_of(alloc, rows)?;
     if !grid.is_free(Cell(goal)) {
-        return None;
+        return Err(Missing::Value);
     }
-    Distances::of(alloc, &grid, Cell(goal)).ok()
+    Ok(Distances::of(alloc, &grid, Cell(goal))?)
 }
 
 // The distance of this cell, and the path from it.
-fn descent(alloc: Global, rows: &str, start: u32, goal: u32) -> Option<(u32, Path)> {
+fn descent(alloc: Global, rows: &str, start: u32, goal: u32) -> Result<(u32, Path), Missing> {
     let distances = distances_to(alloc, rows, goal)?;
-    let distance = distances.get(Cell(start))?;
-    let path = distances.descend(alloc, Cell(start)).ok()?;
-    Some((distance, path))
+    let distance = distances.get(Cell(start)).ok_or(Missing::Value)?;
+    let path = distances.descend(alloc, Cell(start))?;
+    Ok((distance, path))
 }
 
 // The cells of the path have these numbers.
@@ -40,7 +40,7 @@ fn expect_descent(
 ) -> Result<(), Fail> {
     let start = *numbers.first().ok_or("no start")?;
     let goal = *numbers.last().ok_or("no goal")?;
-    let (found, path) = descent(alloc, rows, start, goal).ok_or("no descent")?;
+    let (found, path) = descent(alloc, rows, start, goal)?;
     expect_same(rt, &rows, &found, &distance);
     expect_cells(rt, &path, numbers);
     Ok(())
@@ -74,7 +74,7 @@ const PAST_A_WALL: &[(u32, Option<u32>)] = &[
 
 #[test]
 fn finds_no_way_past_a_wall(rt: HostRuntime) -> Result<(), Fail> {
-    let distances = distances_to(rt.alloc(), ".@.", 2).ok_or("no table")?;
+    let distances = distances_to(rt.alloc(), ".@.", 2)?;
     expect_distances(&rt, &distances, PAST_A_WALL);
     Ok(())
 }
@@ -94,7 +94,7 @@ fn expect_distances_on_the_way(rt: &impl Abort, distances: &Distances) {
 
 #[test]
 fn follows_a_spiral(rt: HostRuntime) -> Result<(), Fail> {
-    let distances = distances_to(rt.alloc(), SPIRAL, 12).ok_or("no table")?;
+    let distances = distances_to(rt.alloc(), SPIRAL, 12)?;
     expect_distances_on_the_way(&rt, &distances);
     expect_descent(&rt, rt.alloc(), SPIRAL, 16, WAY)
 }

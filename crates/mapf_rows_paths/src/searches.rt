@@ -1,6 +1,6 @@
 use crate::distances::distances_to;
 use crate::expect::expect_same;
-use crate::samples::grid_of;
+use crate::samples::{Missing, grid_of};
 use mapf_constraints::{Bar, BarTable, ListBars, TickBars};
 use mapf_distance::Distances;
 use mapf_model::{Agent, Cell, Entry, Grid, Label, OutOfMemory, Path};
@@ -85,12 +85,17 @@ fn table_of<B: BarTable>(
 }
 
 /// What the search finds, if the goal is free.
-fn found_on<B: BarTable>(alloc: Global, grid: &Grid, agent: Agent, table: &B) -> Option<Found> {
+fn found_on<B: BarTable>(
+    alloc: Global,
+    grid: &Grid,
+    agent: Agent,
+    table: &B,
+) -> Result<Found, Missing> {
     if !grid.is_free(agent.goal) {
-        return None;
+        return Err(Missing::Value);
     }
-    let distances = Distances::of(alloc, grid, agent.goal).ok()?;
-    search(alloc, grid, &distances, table, agent).ok()
+    let distances = Distances::of(alloc, grid, agent.goal)?;
+    Ok(search(alloc, grid, &distances, table, agent)?)
 }
 
 fn agent((start, goal): (u32, u32)) -> Agent {
@@ -111,18 +116,18 @@ struct Case<'a> {
 }
 
 /// What the search finds under the bars in a table of this type.
-fn searched<B: BarTable>(alloc: Global, case: &Case) -> Option<String> {
+fn searched<B: BarTable>(alloc: Global, case: &Case) -> Result<String, Missing> {
     let grid = grid_of(alloc, case.rows)?;
-    let table = table_of::<B>(alloc, case.cells, case.moves).ok()?;
+    let table = table_of::<B>(alloc, case.cells, case.moves)?;
     let found = found_on(alloc, &grid, agent(case.ends), &table)?;
-    found_text(alloc, &found).ok()
+    Ok(found_text(alloc, &found)?)
 }
 
 /// Both tables lead to the same answer.
 fn expect_found(rt: &impl Abort, alloc: Global, case: &Case) -> Result<(), Fail> {
-    let by_list = searched::<ListBars>(alloc, case).ok_or("no search")?;
+    let by_list = searched::<ListBars>(alloc, case)?;
     expect_same(rt, &case.rows, &by_list.as_str(), &case.wanted);
-    let by_index = searched::<TickBars>(alloc, case).ok_or("no search")?;
+    let by_index = searched::<TickBars>(alloc, case)?;
     expect_same(rt, &case.rows, &by_index.as_str(), &case.wanted);
     Ok(())
 }
@@ -326,12 +331,12 @@ fn labels_of_crossing_agents_are_those_of_a_known_certificate(rt: HostRuntime) -
 }
 
 /// A square of free cells.
-fn open_square(alloc: Global, side: u32) -> Option<Grid> {
+fn open_square(alloc: Global, side: u32) -> Result<Grid, Missing> {
     let mut free = Vec::new(alloc);
     for _cell in 0..u64::from(side) * u64::from(side) {
-        free.push(true).ok()?;
+        free.push(true)?;
     }
-    Grid::of(side, side, free)
+    Grid::of(side, side, free).ok_or(Missing::Value)
 }
 
 /// The path that is found, and its labels.
@@ -344,12 +349,12 @@ fn arrival(found: Found) -> Option<(Path, Labels)> {
 
 /// The path along the first row of 64 cells, where a cell of the last row is forbidden late, and
 /// whether it has no labels.
-fn path_beside_a_late_bar(alloc: Global) -> Option<(Path, bool)> {
+fn path_beside_a_late_bar(alloc: Global) -> Result<(Path, bool), Missing> {
     let grid = open_square(alloc, 64)?;
-    let bars = table_of::<TickBars>(alloc, &[(4032, 900_000)], &[]).ok()?;
+    let bars = table_of::<TickBars>(alloc, &[(4032, 900_000)], &[])?;
     let found = found_on(alloc, &grid, agent((0, 63)), &bars)?;
-    let (path, labels) = arrival(found)?;
-    Some((path, labels.is_empty()))
+    let (path, labels) = arrival(found).ok_or(Missing::Value)?;
+    Ok((path, labels.is_empty()))
 }
 
 /// The path leads along the first 64 cells.
@@ -362,20 +367,20 @@ fn expect_first_row(rt: &impl Abort, path: &Path) {
 
 #[test]
 fn a_late_bar_elsewhere_costs_nothing(rt: HostRuntime) -> Result<(), Fail> {
-    let (path, is_unlabelled) = path_beside_a_late_bar(rt.alloc()).ok_or("no path")?;
+    let (path, is_unlabelled) = path_beside_a_late_bar(rt.alloc())?;
     assert!(rt; is_unlabelled);
     expect_first_row(&rt, &path);
     Ok(())
 }
 
 /// The labels of two cells that the search labels and of one that can't reach the goal.
-fn some_labels(alloc: Global) -> Option<[Label; 3]> {
+fn some_labels(alloc: Global) -> Result<[Label; 3], Missing> {
     let rows = "...@.";
-    let bars = table_of::<ListBars>(alloc, &[(1, 1)], &[]).ok()?;
+    let bars = table_of::<ListBars>(alloc, &[(1, 1)], &[])?;
     let found = found_on(alloc, &grid_of(alloc, rows)?, agent((0, 2)), &bars)?;
-    let (_, labels) = arrival(found)?;
+    let (_, labels) = arrival(found).ok_or(Missing::Value)?;
     let distances = distances_to(alloc, rows, 2)?;
-    Some([
+    Ok([
         label_at(&labels, &distances, Cell(0), 0),
         label_at(&labels, &distances, Cell(0), 1),
         label_at(&labels, &distances, Cell(4), 0),
@@ -383,10 +388,11 @@ fn some_labels(alloc: Global) -> Option<[Label; 3]> {
 }
 
 #[test]
-fn a_label_is_the_entry_else_the_distance(rt: HostRuntime) {
-    let labels = some_labels(rt.alloc());
-    let expected = Some([Label::Ticks(3), Label::Ticks(2), Label::Never]);
+fn a_label_is_the_entry_else_the_distance(rt: HostRuntime) -> Result<(), Fail> {
+    let labels = some_labels(rt.alloc())?;
+    let expected = [Label::Ticks(3), Label::Ticks(2), Label::Never];
     expect_same(&rt, &"labels", &labels, &expected);
+    Ok(())
 }
 
 fn found_in(
@@ -395,20 +401,20 @@ fn found_in(
     grid: &Grid,
     agent: Agent,
     bars: &TickBars,
-) -> Option<Found<StateLabels>> {
+) -> Result<Found<StateLabels>, Missing> {
     if !grid.is_free(agent.goal) {
-        return None;
+        return Err(Missing::Value);
     }
-    let distances = Distances::of(alloc, grid, agent.goal).ok()?;
-    search_in(alloc, workspace, grid, &distances, bars, agent).ok()
+    let distances = Distances::of(alloc, grid, agent.goal)?;
+    Ok(search_in(alloc, workspace, grid, &distances, bars, agent)?)
 }
 
 /// What the search finds in this workspace.
-fn searched_in(alloc: Global, workspace: &mut Workspace, case: &Case) -> Option<String> {
+fn searched_in(alloc: Global, workspace: &mut Workspace, case: &Case) -> Result<String, Missing> {
     let grid = grid_of(alloc, case.rows)?;
-    let bars = table_of(alloc, case.cells, case.moves).ok()?;
+    let bars = table_of(alloc, case.cells, case.moves)?;
     let found = found_in(alloc, workspace, &grid, agent(case.ends), &bars)?;
-    states_text(alloc, found).ok()
+    Ok(states_text(alloc, found)?)
 }
 
 /// Searches on grids of different sizes.
@@ -438,7 +444,7 @@ const ROUND: &[Case] = &[
 
 fn expect_round(rt: &impl Abort, alloc: Global, workspace: &mut Workspace) -> Result<(), Fail> {
     for case in ROUND {
-        let found = searched_in(alloc, workspace, case).ok_or("no search")?;
+        let found = searched_in(alloc, workspace, case)?;
         expect_same(rt, &case.rows, &found.as_str(), &case.wanted);
     }
     Ok(())

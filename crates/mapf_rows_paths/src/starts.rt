@@ -1,15 +1,19 @@
 use crate::distances::distances_to;
 use crate::expect::expect_same;
-use crate::samples::{grid_of, problem_of};
+use crate::samples::{Missing, grid_of, problem_of};
 use mapf_distance::start_distances;
 use mapf_model::Cell;
 use std::alloc::Global;
 use std::process::Abort;
 use std::test::Fail;
 
-fn distances_of(alloc: Global, rows: &str, ends: &[(u32, u32)]) -> Option<Vec<Option<u32>>> {
+fn distances_of(
+    alloc: Global,
+    rows: &str,
+    ends: &[(u32, u32)],
+) -> Result<Vec<Option<u32>>, Missing> {
     let problem = problem_of(alloc, rows, ends)?;
-    start_distances(alloc, &problem).ok()
+    Ok(start_distances(alloc, &problem)?)
 }
 
 // The agents' starts have these distances.
@@ -20,7 +24,7 @@ fn expect_distances(
     ends: &[(u32, u32)],
     expected: &[Option<u32>],
 ) -> Result<(), Fail> {
-    let distances = distances_of(alloc, rows, ends).ok_or("no distances")?;
+    let distances = distances_of(alloc, rows, ends)?;
     expect_same(rt, &rows, &distances.as_slice(), &expected);
     Ok(())
 }
@@ -54,30 +58,34 @@ fn goes_round_a_wall(rt: HostRuntime) -> Result<(), Fail> {
 const MAZE: &str = ".....@ @@@.@. ...@.. @@@.@. ..@...";
 
 // Each free cell of the maze with this goal.
-fn ends_at(alloc: Global, goal: u32) -> Option<Vec<(u32, u32)>> {
+fn ends_at(alloc: Global, goal: u32) -> Result<Vec<(u32, u32)>, Missing> {
     let maze = grid_of(alloc, MAZE)?;
     let mut ends = Vec::new(alloc);
     for start in 0..30 {
         if maze.is_free(Cell(start)) {
-            ends.push((start, goal)).ok()?;
+            ends.push((start, goal))?;
         }
     }
-    Some(ends)
+    Ok(ends)
 }
 
 // What the table holds for each start.
-fn distances_in_table(alloc: Global, ends: &[(u32, u32)], goal: u32) -> Option<Vec<Option<u32>>> {
+fn distances_in_table(
+    alloc: Global,
+    ends: &[(u32, u32)],
+    goal: u32,
+) -> Result<Vec<Option<u32>>, Missing> {
     let table = distances_to(alloc, MAZE, goal)?;
     let mut distances = Vec::new(alloc);
     for (start, _) in ends {
-        distances.push(table.get(Cell(*start))).ok()?;
+        distances.push(table.get(Cell(*start)))?;
     }
-    Some(distances)
+    Ok(distances)
 }
 
 fn expect_same_distances(rt: &impl Abort, alloc: Global, goal: u32) -> Result<(), Fail> {
-    let ends = ends_at(alloc, goal).ok_or("no ends")?;
-    let in_table = distances_in_table(alloc, &ends, goal).ok_or("no table")?;
+    let ends = ends_at(alloc, goal)?;
+    let in_table = distances_in_table(alloc, &ends, goal)?;
     expect_distances(rt, alloc, MAZE, &ends, &in_table)
 }
 

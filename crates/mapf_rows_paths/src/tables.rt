@@ -1,5 +1,5 @@
 use crate::expect::expect_same;
-use crate::samples::problem_of;
+use crate::samples::{Missing, problem_of};
 use mapf_distance::{Distances, goal_tables};
 use mapf_model::Cell;
 use std::alloc::Global;
@@ -15,13 +15,17 @@ fn distances_in(table: &Distances) -> [Option<u32>; 6] {
 }
 
 // What the tables hold for each of six cells.
-fn distances_of(alloc: Global, rows: &str, ends: &[(u32, u32)]) -> Option<Vec<[Option<u32>; 6]>> {
+fn distances_of(
+    alloc: Global,
+    rows: &str,
+    ends: &[(u32, u32)],
+) -> Result<Vec<[Option<u32>; 6]>, Missing> {
     let problem = problem_of(alloc, rows, ends)?;
     let mut distances = Vec::new(alloc);
-    for table in &goal_tables(alloc, &problem).ok()? {
-        distances.push(distances_in(table)).ok()?;
+    for table in &goal_tables(alloc, &problem)? {
+        distances.push(distances_in(table))?;
     }
-    Some(distances)
+    Ok(distances)
 }
 
 const DISTANCES: &[[Option<u32>; 6]] = &[
@@ -32,7 +36,7 @@ const DISTANCES: &[[Option<u32>; 6]] = &[
 // Three cells in a row, and one below the first and one below the last.
 #[test]
 fn each_agent_has_the_distances_to_its_goal(rt: HostRuntime) -> Result<(), Fail> {
-    let distances = distances_of(rt.alloc(), "... .@.", &[(0, 2), (5, 3)]).ok_or("no tables")?;
+    let distances = distances_of(rt.alloc(), "... .@.", &[(0, 2), (5, 3)])?;
     expect_same(&rt, &"distances", &distances.as_slice(), &DISTANCES);
     Ok(())
 }
