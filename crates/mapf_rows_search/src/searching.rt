@@ -7,26 +7,24 @@ use mapf_cbs::{Answer, Cause, solve, solve_with};
 use mapf_conflicts::{Conflict, first_conflict};
 use mapf_constraints::{BarTable, ListBars, TickBars};
 use mapf_distance::Distances;
-use mapf_model::{Agent, Block, Cell, Entry, Grid, Item, Label, Path, Plan, Problem};
+use mapf_model::{Agent, Block, Cell, Entry, Grid, Item, Label, OutOfMemory, Path, Plan, Problem};
 use std::alloc::{AllocError, Global};
 use std::process::Abort;
 use std::test::Fail;
 
-/// The problem on the grid of these rows, in which a dot is a free cell, with agents that go from
-/// one cell to another.
-fn problem_of(alloc: Global, rows: &str, ends: &[(u32, u32)]) -> Result<Problem, Fail> {
+/// The grid of this width and height with these rows, in which a dot is a free cell.
+fn grid_of(alloc: Global, size: (u32, u32), rows: &str) -> Result<Grid, Fail> {
     let mut free = Vec::new(alloc);
-    let mut width = 0;
-    let mut height = 0;
-    for row in rows.split_whitespace() {
-        width = row.len();
-        height = u32::checked_add(height, 1).ok_or("too high")?;
-        for byte in row.as_bytes() {
+    for byte in rows.as_bytes() {
+        if *byte != b' ' {
             free.push(*byte == b'.')?;
         }
     }
-    let width = u32::try_from(width).ok().ok_or("too wide")?;
-    let grid = Grid::of(width, height, free).ok_or("no grid")?;
+    Ok(Grid::of(size.0, size.1, free).ok_or("no grid")?)
+}
+
+/// Agents that go from one cell to another.
+fn agents_of(alloc: Global, ends: &[(u32, u32)]) -> Result<Vec<Agent>, AllocError> {
     let mut agents = Vec::new(alloc);
     for (start, goal) in ends {
         agents.push(Agent {
@@ -34,40 +32,64 @@ fn problem_of(alloc: Global, rows: &str, ends: &[(u32, u32)]) -> Result<Problem,
             goal: Cell(*goal),
         })?;
     }
-    Ok(Problem::of(grid, agents).ok_or("no problem")?)
+    Ok(agents)
 }
 
-/// The cells of each path after a colon.
-fn plan_text(alloc: Global, plan: &Plan) -> Result<String, AllocError> {
-    let mut text = String::from_str(alloc, "found")?;
-    for path in plan.paths() {
-        text.push_str(&path_text(alloc, path)?)?;
+fn push_number(
+    alloc: Global,
+    text: &mut String,
+    front: &str,
+    number: u64,
+) -> Result<(), AllocError> {
+    let number = format!(in alloc; "{front}{number}")?;
+    text.push_str(&number)
+}
+
+/// The numbers, each after a blank.
+fn push_numbers(alloc: Global, text: &mut String, numbers: &[u32]) -> Result<(), AllocError> {
+    for number in numbers {
+        push_number(alloc, text, " ", u64::from(*number))?;
     }
-    Ok(text)
+    Ok(())
 }
 
-fn path_text(alloc: Global, path: &Path) -> Result<String, AllocError> {
-    let mut text = String::from_str(alloc, ":")?;
+/// The cells of a path after a colon.
+fn push_path(alloc: Global, text: &mut String, path: &Path) -> Result<(), AllocError> {
+    text.push_str(":")?;
     for cell in path.cells() {
-        text.push_str(&format!(in alloc; " {}", cell.0)?)?;
+        push_number(alloc, text, " ", u64::from(cell.0))?;
     }
-    Ok(text)
+    Ok(())
+}
+
+fn push_plan(alloc: Global, text: &mut String, plan: &Plan) -> Result<(), AllocError> {
+    text.push_str("found")?;
+    for path in plan.paths() {
+        push_path(alloc, text, path)?;
+    }
+    Ok(())
+}
+
+fn push_label(alloc: Global, text: &mut String, label: Label) -> Result<(), AllocError> {
+    match label {
+        Label::Ticks(ticks) => push_number(alloc, text, "=", u64::from(ticks)),
+        Label::Never => text.push_str("=inf"),
+    }
 }
 
 /// The entries as cell@tick=label.
-fn block_text(alloc: Global, block: &Block) -> Result<String, AllocError> {
-    let mut text = format!(in alloc; " {}:", block.agent)?;
+fn push_block(alloc: Global, text: &mut String, block: &Block) -> Result<(), AllocError> {
+    push_number(alloc, text, " ", u64::from(block.agent))?;
+    text.push_str(":")?;
     for entry in &block.entries {
-        text.push_str(&format!(in alloc; " {}@{}=", entry.cell.0, entry.tick)?)?;
-        match entry.label {
-            Label::Ticks(ticks) => text.push_str(&format!(in alloc; "{ticks}")?)?,
-            Label::Never => text.push_str("inf")?,
-        }
+        push_number(alloc, text, " ", u64::from(entry.cell.0))?;
+        push_number(alloc, text, "@", u64::from(entry.tick))?;
+        push_label(alloc, text, entry.label)?;
     }
-    Ok(text)
+    Ok(())
 }
 
-fn node_text(alloc: Global, item: &Item) -> Result<String, AllocError> {
+fn push_node(alloc: Global, text: &mut String, item: &Item) -> Result<(), AllocError> {
     match item {
         Item::Vertex {
             i,
@@ -75,7 +97,10 @@ fn node_text(alloc: Global, item: &Item) -> Result<String, AllocError> {
             cell,
             tick,
             ..
-        } => format!(in alloc; "vertex {i} {j} {} {tick}", cell.0),
+        } => {
+            text.push_str("vertex")?;
+            push_numbers(alloc, text, &[*i, *j, cell.0, *tick])
+        }
         Item::Swap {
             i,
             j,
@@ -83,121 +108,238 @@ fn node_text(alloc: Global, item: &Item) -> Result<String, AllocError> {
             to,
             tick,
             ..
-        } => format!(in alloc; "swap {i} {j} {} {} {tick}", from.0, to.0),
-        Item::Leaf(_) => String::from_str(alloc, "leaf"),
-        Item::Clash { i, j } => format!(in alloc; "clash {i} {j}"),
+        } => {
+            text.push_str("swap")?;
+            push_numbers(alloc, text, &[*i, *j, from.0, to.0, *tick])
+        }
+        Item::Leaf(_) => text.push_str("leaf"),
+        Item::Clash { i, j } => {
+            text.push_str("clash")?;
+            push_numbers(alloc, text, &[*i, *j])
+        }
     }
 }
 
 /// The node and its blocks.
-fn item_text(alloc: Global, item: &Item) -> Result<String, AllocError> {
-    let mut text = node_text(alloc, item)?;
+fn push_item(alloc: Global, text: &mut String, item: &Item) -> Result<(), AllocError> {
+    push_node(alloc, text, item)?;
     for block in item.blocks() {
-        text.push_str(&block_text(alloc, block)?)?;
+        push_block(alloc, text, block)?;
     }
-    Ok(text)
+    Ok(())
 }
 
-fn tree_text(alloc: Global, tree: &[Item]) -> Result<String, AllocError> {
-    let mut text = String::new(alloc);
+fn push_tree(alloc: Global, text: &mut String, tree: &[Item]) -> Result<(), AllocError> {
     for item in tree {
         text.push_str(" / ")?;
-        text.push_str(&item_text(alloc, item)?)?;
+        push_item(alloc, text, item)?;
     }
-    Ok(text)
+    Ok(())
+}
+
+fn push_limit(
+    alloc: Global,
+    text: &mut String,
+    cause: Cause,
+    bound: u64,
+) -> Result<(), AllocError> {
+    match cause {
+        Cause::Ticks => text.push_str("limit ticks")?,
+        Cause::Splits(n) => push_number(alloc, text, "limit ", u64::from(n))?,
+    }
+    push_number(alloc, text, " bound ", bound)
+}
+
+fn tree_of(answer: &Answer) -> &[Item] {
+    match answer {
+        Answer::Found { tree, .. } | Answer::Impossible { tree } | Answer::Limit { tree, .. } =>
+            tree,
+    }
+}
+
+/// The answer without its tree.
+fn push_head(alloc: Global, text: &mut String, answer: &Answer) -> Result<(), AllocError> {
+    match answer {
+        Answer::Found { plan, .. } => push_plan(alloc, text, plan),
+        Answer::Impossible { .. } => text.push_str("impossible"),
+        Answer::Limit { cause, bound, .. } => push_limit(alloc, text, *cause, *bound),
+    }
 }
 
 fn answer_text(alloc: Global, answer: &Answer) -> Result<String, AllocError> {
-    let (mut text, tree) = match answer {
-        Answer::Found { plan, tree } => (plan_text(alloc, plan)?, tree),
-        Answer::Impossible { tree } => (String::from_str(alloc, "impossible")?, tree),
-        Answer::Limit {
-            cause: Cause::Ticks,
-            bound,
-            tree,
-        } => (format!(in alloc; "limit ticks bound {bound}")?, tree),
-        Answer::Limit {
-            cause: Cause::Splits(n),
-            bound,
-            tree,
-        } => (format!(in alloc; "limit {n} bound {bound}")?, tree),
-    };
-    text.push_str(&tree_text(alloc, tree)?)?;
+    let mut text = String::new(alloc);
+    push_head(alloc, &mut text, answer)?;
+    push_tree(alloc, &mut text, tree_of(answer))?;
     Ok(text)
 }
 
-/// The answer that all searches give: with either table of bars, as it is called without naming one,
-/// and the plain one.
+/// The searches: as it is called without naming a table of bars, with either table, and the plain one.
+#[derive(Clone, Copy)]
+enum Search {
+    Unnamed,
+    ByTick,
+    ByList,
+    Plain,
+}
+
+fn answer_of(
+    alloc: Global,
+    search: Search,
+    problem: &Problem,
+    limit: u32,
+) -> Result<Answer, OutOfMemory>
+    requires { limit ≤ 100000 }
+{
+    match search {
+        Search::Unnamed => solve(alloc, problem, limit),
+        Search::ByTick => solve_with::<TickBars>(alloc, problem, limit),
+        Search::ByList => solve_with::<ListBars>(alloc, problem, limit),
+        Search::Plain => solve_plain(alloc, problem, limit),
+    }
+}
+
+fn text_of(
+    alloc: Global,
+    search: Search,
+    problem: &Problem,
+    limit: u32,
+) -> Result<String, OutOfMemory>
+    requires { limit ≤ 100000 }
+{
+    let answer = answer_of(alloc, search, problem, limit)?;
+    Ok(answer_text(alloc, &answer)?)
+}
+
+fn assert_text(rt: &impl Abort, text: &str, expected: &str) {
+    assert_eq!(rt; text, expected);
+}
+
+/// The answer that all searches give.
 fn common_text(
     rt: &impl Abort,
     alloc: Global,
     problem: &Problem,
     limit: u32,
-) -> Result<String, Fail>
+) -> Result<String, OutOfMemory>
     requires { limit ≤ 100000 }
 {
-    let by_tick = solve_with::<TickBars>(alloc, problem, limit)?;
-    let text = answer_text(alloc, &by_tick)?;
-    let by_list = solve_with::<ListBars>(alloc, problem, limit)?;
-    assert_eq!(rt; answer_text(alloc, &by_list)?.as_str(), text.as_str());
-    let unnamed = solve(alloc, problem, limit)?;
-    assert_eq!(rt; answer_text(alloc, &unnamed)?.as_str(), text.as_str());
-    let plain = solve_plain(alloc, problem, limit)?;
-    assert_eq!(rt; answer_text(alloc, &plain)?.as_str(), text.as_str());
+    let text = text_of(alloc, Search::ByTick, problem, limit)?;
+    for search in [Search::ByList, Search::Unnamed, Search::Plain] {
+        assert_text(rt, &text_of(alloc, search, problem, limit)?, &text);
+    }
     Ok(text)
 }
 
-/// All searches give this answer.
-fn solves(
-    rt: &impl Abort,
-    alloc: Global,
-    rows: &str,
-    ends: &[(u32, u32)],
+/// A grid's width and height and its rows, the agents' starts and goals, how many splits are allowed, and the
+/// answer.
+#[derive(Clone, Copy)]
+struct Case {
+    size: (u32, u32),
+    rows: &'static str,
+    ends: &'static [(u32, u32)],
     limit: u32,
-    expected: &str,
-) -> Result<(), Fail>
-    requires { limit ≤ 100000 }
-{
-    let problem = problem_of(alloc, rows, ends)?;
-    let text = common_text(rt, alloc, &problem, limit)?;
-    assert_eq!(rt; text.as_str(), expected);
+    answer: &'static str,
+}
+
+fn problem_of(alloc: Global, case: &Case) -> Result<Problem, Fail> {
+    let grid = grid_of(alloc, case.size, case.rows)?;
+    let agents = agents_of(alloc, case.ends)?;
+    Ok(Problem::of(grid, agents).ok_or("no problem")?)
+}
+
+/// All searches give these answers.
+fn assert_answers(rt: &impl Abort, alloc: Global, cases: &[Case]) -> Result<(), Fail> {
+    for case in cases {
+        assert!(rt; case.limit <= 100_000);
+        let problem = problem_of(alloc, case)?;
+        let text = common_text(rt, alloc, &problem, case.limit)?;
+        assert_text(rt, &text, case.answer);
+    }
     Ok(())
 }
 
+const ONE_AGENT: &[Case] = &[
+    Case {
+        size: (1, 1),
+        rows: ".",
+        ends: &[(0, 0)],
+        limit: 0,
+        answer: "found: 0 / leaf",
+    },
+    Case {
+        size: (3, 1),
+        rows: "...",
+        ends: &[(0, 2)],
+        limit: 0,
+        answer: "found: 0 1 2 / leaf",
+    },
+];
+
 #[test]
 fn lets_one_agent_go_its_way(rt: HostRuntime) -> Result<(), Fail> {
-    let stays = [(0, 0)].as_slice();
-    solves(&rt, rt.alloc(), ".", stays, 0, "found: 0 / leaf")?;
-    let goes = [(0, 2)].as_slice();
-    solves(&rt, rt.alloc(), "...", goes, 0, "found: 0 1 2 / leaf")
+    assert_answers(&rt, rt.alloc(), ONE_AGENT)
 }
+
+const CROSSING: Case = Case {
+    size: (3, 3),
+    rows: "... ... ...",
+    ends: &[(3, 5), (1, 7)],
+    limit: 10,
+    answer: "found: 3 3 4 5: 1 4 7 / vertex 0 1 4 1 / leaf 0: 3@0=3 / leaf 1: 1@0=3",
+};
+
+const CROSSINGS: &[Case] = &[
+    CROSSING,
+    Case {
+        limit: 1,
+        ..CROSSING
+    },
+    Case {
+        limit: 0,
+        answer: "limit 0 bound 4 / leaf",
+        ..CROSSING
+    },
+];
 
 #[test]
 fn lets_one_agent_wait_for_another(rt: HostRuntime) -> Result<(), Fail> {
-    let rows = "... ... ...";
-    let ends = [(3, 5), (1, 7)].as_slice();
-    let expected = "found: 3 3 4 5: 1 4 7 / vertex 0 1 4 1 / leaf 0: 3@0=3 / leaf 1: 1@0=3";
-    solves(&rt, rt.alloc(), rows, ends, 10, expected)?;
-    solves(&rt, rt.alloc(), rows, ends, 1, expected)?;
-    solves(&rt, rt.alloc(), rows, ends, 0, "limit 0 bound 4 / leaf")
+    assert_answers(&rt, rt.alloc(), CROSSINGS)
 }
 
 // Agent 1 has to leave its goal for agent 0 and to return.
-const PASSING: &str = "found: 0 1 2: 1 4 1 / vertex 0 1 1 1 / vertex 0 1 1 2 0: 0@0=3 \
+const PASSING: Case = Case {
+    size: (3, 2),
+    rows: "... @.@",
+    ends: &[(0, 2), (1, 1)],
+    limit: 5,
+    answer: "found: 0 1 2: 1 4 1 / vertex 0 1 1 1 / vertex 0 1 1 2 0: 0@0=3 \
     / vertex 0 1 1 3 0: 0@0=4 0@1=3 / leaf 0: 0@0=5 0@1=4 0@2=3 \
     / leaf 1: 1@0=4 0@1=3 1@1=3 2@1=3 4@1=3 0@2=2 1@2=2 2@2=2 4@2=2 \
     / leaf 1: 1@0=3 0@1=2 1@1=2 2@1=2 4@1=2 \
     / swap 0 1 0 1 0 1: 1@0=2 / leaf 0: 0@0=3 / swap 0 1 1 2 1 1: 1@0=2 / leaf 0: 0@0=3 1@1=2 \
-    / leaf 1: 1@0=2";
+    / leaf 1: 1@0=2",
+};
+
+const PASSINGS: &[Case] = &[PASSING];
 
 #[test]
 fn lets_an_agent_pass(rt: HostRuntime) -> Result<(), Fail> {
-    let ends = [(0, 2), (1, 1)].as_slice();
-    solves(&rt, rt.alloc(), "... @.@", ends, 5, PASSING)?;
-    let problem = problem_of(rt.alloc(), "... @.@", ends)?;
+    assert_answers(&rt, rt.alloc(), PASSINGS)?;
+    let problem = problem_of(rt.alloc(), &PASSING)?;
     let text = common_text(&rt, rt.alloc(), &problem, 4)?;
     assert!(rt; text.starts_with("limit 4 bound 4 / vertex 0 1 1 1 / "));
     Ok(())
+}
+
+/// The label of a block's entry at tick 0, else the distance.
+fn first_label(block: &Block, distance: u32) -> u32 {
+    let Some(entry) = block.entries.first() else {
+        return distance;
+    };
+    match entry.label {
+        Label::Ticks(ticks) if entry.tick == 0 => ticks,
+        _ => distance,
+    }
 }
 
 /// The label of an agent's start at a node: its block's entry at tick 0, else its distance, and where
@@ -205,171 +347,213 @@ fn lets_an_agent_pass(rt: HostRuntime) -> Result<(), Fail> {
 fn start_label(blocks: &[Block], agent: u32, distance: u32, above: u32) -> u32 {
     for block in blocks {
         if block.agent == agent {
-            return match block.entries.first() {
-                Some(
-                    Entry {
-                        tick: 0,
-                        label: Label::Ticks(ticks),
-                        ..
-                    },
-                ) => *ticks,
-                _ => distance,
-            };
+            return first_label(block, distance);
         }
     }
     above
 }
 
-/// The sums of costs of the leaves, for the agent that goes two cells and the one that is at its goal.
+/// The same of the agent that goes two cells and of the one that is at its goal.
+fn start_labels(item: &Item, above: (u32, u32)) -> (u32, u32) {
+    let passing = start_label(item.blocks(), 0, 2, above.0);
+    let waiting = start_label(item.blocks(), 1, 0, above.1);
+    (passing, waiting)
+}
+
+fn is_split(item: &Item) -> bool {
+    item.conflict().is_some()
+}
+
+/// The sums of costs of the leaves, for these two agents.
 fn leaf_sums(alloc: Global, tree: &[Item]) -> Result<String, AllocError> {
     let mut text = String::new(alloc);
     let mut owed = Vec::new(alloc);
     owed.push((2, 0))?;
     for item in tree {
-        let (passing_above, waiting_above) = owed.pop().unwrap_or((0, 0));
-        let passing = start_label(item.blocks(), 0, 2, passing_above);
-        let waiting = start_label(item.blocks(), 1, 0, waiting_above);
-        if item.conflict().is_some() {
-            owed.push((passing, waiting))?;
-            owed.push((passing, waiting))?;
+        let above = owed.pop().unwrap_or((0, 0));
+        let labels = start_labels(item, above);
+        if is_split(item) {
+            owed.push(labels)?;
+            owed.push(labels)?;
         } else {
-            let sum = u64::from(passing) + u64::from(waiting);
-            text.push_str(&format!(in alloc; " {sum}")?)?;
+            let sum = u64::from(labels.0) + u64::from(labels.1);
+            push_number(alloc, &mut text, " ", sum)?;
         }
     }
     Ok(text)
 }
 
-fn has_sums(
+/// How many splits are allowed, how the answer begins, and the sums of the leaves.
+type Sums = (u32, &'static str, &'static str);
+
+/// All searches give an answer of this beginning, and its leaves have these sums.
+fn assert_sums(
     rt: &impl Abort,
     alloc: Global,
     problem: &Problem,
-    limit: u32,
-    head: &str,
-    sums: &str,
-) -> Result<(), Fail>
-    requires { limit ≤ 100000 }
-{
-    let text = common_text(rt, alloc, problem, limit)?;
-    assert!(rt; text.starts_with(head));
-    let answer = solve(alloc, problem, limit)?;
-    let (Answer::Found { tree, .. } | Answer::Impossible { tree } | Answer::Limit { tree, .. }) =
-        &answer;
-    assert_eq!(rt; leaf_sums(alloc, tree)?.as_str(), sums);
+    expected: &Sums,
+) -> Result<(), Fail> {
+    let (limit, head, sums) = *expected;
+    assert!(rt; limit <= 100_000);
+    assert!(rt; common_text(rt, alloc, problem, limit)?.starts_with(head));
+    let answer = answer_of(alloc, Search::Unnamed, problem, limit)?;
+    assert_text(rt, &leaf_sums(alloc, tree_of(&answer))?, sums);
     Ok(())
 }
+
+const PASSING_SUMS: &[Sums] = &[
+    (0, "limit 0 bound 2 /", " 2"),
+    (1, "limit 1 bound 3 /", " 3 4"),
+    (2, "limit 2 bound 4 /", " 4 6 4"),
+    (3, "limit 3 bound 4 /", " 4 6 5 4"),
+    (4, "limit 4 bound 4 /", " 5 8 6 5 4"),
+    (5, "found:", " 5 8 6 5 5 4"),
+];
 
 // Each node is an end before it is split, so that the sum of each is seen with some limit. The bound is
 // the sum of the node that is taken next: the least of the ends'.
 #[test]
 fn finds_the_sum_of_each_node(rt: HostRuntime) -> Result<(), Fail> {
-    let problem = problem_of(rt.alloc(), "... @.@", [(0, 2), (1, 1)].as_slice())?;
-    has_sums(&rt, rt.alloc(), &problem, 0, "limit 0 bound 2 /", " 2")?;
-    has_sums(&rt, rt.alloc(), &problem, 1, "limit 1 bound 3 /", " 3 4")?;
-    has_sums(&rt, rt.alloc(), &problem, 2, "limit 2 bound 4 /", " 4 6 4")?;
-    has_sums(
-        &rt,
-        rt.alloc(),
-        &problem,
-        3,
-        "limit 3 bound 4 /",
-        " 4 6 5 4",
-    )?;
-    has_sums(
-        &rt,
-        rt.alloc(),
-        &problem,
-        4,
-        "limit 4 bound 4 /",
-        " 5 8 6 5 4",
-    )?;
-    has_sums(&rt, rt.alloc(), &problem, 5, "found:", " 5 8 6 5 5 4")
+    let problem = problem_of(rt.alloc(), &PASSING)?;
+    for sums in PASSING_SUMS {
+        assert_sums(&rt, rt.alloc(), &problem, sums)?;
+    }
+    Ok(())
 }
+
+const EXCHANGE: &[Case] = &[Case {
+    size: (2, 1),
+    rows: "..",
+    ends: &[(0, 1), (1, 0)],
+    limit: 3,
+    answer: "limit 3 bound 4 / swap 0 1 0 1 0 / vertex 0 1 0 1 0: 0@0=2 / leaf 0: 0@0=inf \
+        / leaf 1: 1@0=2 / vertex 0 1 1 1 1: 1@0=2 / leaf 0: 0@0=2 / leaf 1: 1@0=inf",
+}];
 
 #[test]
 fn stops_where_two_agents_block_each_other(rt: HostRuntime) -> Result<(), Fail> {
-    let ends = [(0, 1), (1, 0)].as_slice();
-    let expected = "limit 3 bound 4 / swap 0 1 0 1 0 / vertex 0 1 0 1 0: 0@0=2 / leaf 0: 0@0=inf \
-        / leaf 1: 1@0=2 / vertex 0 1 1 1 1: 1@0=2 / leaf 0: 0@0=2 / leaf 1: 1@0=inf";
-    solves(&rt, rt.alloc(), "..", ends, 3, expected)
+    assert_answers(&rt, rt.alloc(), EXCHANGE)
 }
+
+const IMPOSSIBLE: &[Case] = &[
+    // One start.
+    Case {
+        size: (3, 1),
+        rows: "...",
+        ends: &[(0, 1), (0, 2)],
+        limit: 1,
+        answer: "impossible / vertex 0 1 0 0 / leaf 0: 0@0=inf / leaf 1: 0@0=inf",
+    },
+    Case {
+        size: (3, 1),
+        rows: "...",
+        ends: &[(0, 1), (0, 2)],
+        limit: 0,
+        answer: "limit 0 bound 3 / leaf",
+    },
+    // One goal.
+    Case {
+        size: (3, 1),
+        rows: "...",
+        ends: &[(0, 1), (2, 1)],
+        limit: 0,
+        answer: "impossible / clash 0 1",
+    },
+    // Two pairs of agents with one goal each.
+    Case {
+        size: (4, 1),
+        rows: "....",
+        ends: &[(0, 2), (1, 3), (2, 3), (3, 2)],
+        limit: 0,
+        answer: "impossible / clash 0 3",
+    },
+    // A wall.
+    Case {
+        size: (3, 1),
+        rows: ".@.",
+        ends: &[(0, 2)],
+        limit: 0,
+        answer: "impossible / leaf",
+    },
+];
 
 #[test]
 fn shows_that_no_plan_is_valid(rt: HostRuntime) -> Result<(), Fail> {
-    let one_start = [(0, 1), (0, 2)].as_slice();
-    let expected = "impossible / vertex 0 1 0 0 / leaf 0: 0@0=inf / leaf 1: 0@0=inf";
-    solves(&rt, rt.alloc(), "...", one_start, 1, expected)?;
-    solves(
-        &rt,
-        rt.alloc(),
-        "...",
-        one_start,
-        0,
-        "limit 0 bound 3 / leaf",
-    )?;
-    let one_goal = [(0, 1), (2, 1)].as_slice();
-    solves(
-        &rt,
-        rt.alloc(),
-        "...",
-        one_goal,
-        0,
-        "impossible / clash 0 1",
-    )?;
-    let two_pairs = [(0, 2), (1, 3), (2, 3), (3, 2)].as_slice();
-    solves(
-        &rt,
-        rt.alloc(),
-        "....",
-        two_pairs,
-        0,
-        "impossible / clash 0 3",
-    )?;
-    let walled = [(0, 2)].as_slice();
-    solves(&rt, rt.alloc(), ".@.", walled, 0, "impossible / leaf")
+    assert_answers(&rt, rt.alloc(), IMPOSSIBLE)
 }
 
 // Agent 0 can't reach its goal, and agents 1 and 2 have one goal.
+const SHARED_AND_UNREACHABLE: &[Case] = &[Case {
+    size: (4, 1),
+    rows: "..@.",
+    ends: &[(0, 3), (0, 1), (1, 1)],
+    limit: 0,
+    answer: "impossible / clash 1 2",
+}];
+
 #[test]
 fn names_a_shared_goal_before_an_unreachable_one(rt: HostRuntime) -> Result<(), Fail> {
-    let both = [(0, 3), (0, 1), (1, 1)].as_slice();
-    solves(&rt, rt.alloc(), "..@.", both, 0, "impossible / clash 1 2")
+    assert_answers(&rt, rt.alloc(), SHARED_AND_UNREACHABLE)
 }
+
+const AGAINST: Case = Case {
+    size: (2, 2),
+    rows: ".. ..",
+    ends: &[(0, 3), (1, 1)],
+    limit: 1,
+    answer: "found: 0 2 3: 1 / vertex 0 1 1 1 / leaf / leaf 1: 1@0=2",
+};
+
+const LEAST_PATHS: &[Case] = &[
+    Case {
+        size: (2, 2),
+        rows: ".. ..",
+        ends: &[(0, 3), (2, 2)],
+        limit: 0,
+        answer: "found: 0 1 3: 2 / leaf",
+    },
+    Case {
+        limit: 0,
+        answer: "limit 0 bound 2 / leaf",
+        ..AGAINST
+    },
+    AGAINST,
+];
 
 // Of an agent's cheapest paths the one of least cell numbers is taken, also where it conflicts and
 // another one doesn't.
 #[test]
 fn takes_the_least_of_the_cheapest_paths(rt: HostRuntime) -> Result<(), Fail> {
-    let past = [(0, 3), (2, 2)].as_slice();
-    solves(&rt, rt.alloc(), ".. ..", past, 0, "found: 0 1 3: 2 / leaf")?;
-    let against = [(0, 3), (1, 1)].as_slice();
-    solves(
-        &rt,
-        rt.alloc(),
-        ".. ..",
-        against,
-        0,
-        "limit 0 bound 2 / leaf",
-    )?;
-    let expected = "found: 0 2 3: 1 / vertex 0 1 1 1 / leaf / leaf 1: 1@0=2";
-    solves(&rt, rt.alloc(), ".. ..", against, 1, expected)
+    assert_answers(&rt, rt.alloc(), LEAST_PATHS)
 }
+
+const ROTATION: &[Case] = &[Case {
+    size: (2, 2),
+    rows: ".. ..",
+    ends: &[(0, 1), (1, 3), (3, 2), (2, 0)],
+    limit: 0,
+    answer: "found: 0 1: 1 3: 3 2: 2 0 / leaf",
+}];
 
 #[test]
 fn lets_four_agents_rotate(rt: HostRuntime) -> Result<(), Fail> {
-    let ends = [(0, 1), (1, 3), (3, 2), (2, 0)].as_slice();
-    let expected = "found: 0 1: 1 3: 3 2: 2 0 / leaf";
-    solves(&rt, rt.alloc(), ".. ..", ends, 0, expected)
+    assert_answers(&rt, rt.alloc(), ROTATION)
+}
+
+/// Every second row is open, and each row between two of them has a gap at one end.
+fn push_corridor_row(free: &mut Vec<bool>, row: u32) -> Result<(), AllocError> {
+    let gap = if row % 4 == 1 { 2047 } else { 0 };
+    for column in 0..2048 {
+        free.push(row % 2 == 0 || column == gap)?;
+    }
+    Ok(())
 }
 
 /// A corridor that winds through 2,047 rows.
 fn corridor(alloc: Global) -> Result<Grid, Fail> {
     let mut free = Vec::new(alloc);
     for row in 0u32..2047 {
-        let gap = if row % 4 == 1 { 2047 } else { 0 };
-        for column in 0..2048 {
-            free.push(row % 2 == 0 || column == gap)?;
-        }
+        push_corridor_row(&mut free, row)?;
     }
     Ok(Grid::of(2048, 2047, free).ok_or("no grid")?)
 }
@@ -377,13 +561,7 @@ fn corridor(alloc: Global) -> Result<Grid, Fail> {
 /// Two agents that meet in the middle of the corridor.
 fn late_meeting(alloc: Global) -> Result<Problem, Fail> {
     let last = 2046 * 2048;
-    let mut agents = Vec::new(alloc);
-    for (start, goal) in [(0, last), (last, 0)] {
-        agents.push(Agent {
-            start: Cell(start),
-            goal: Cell(goal),
-        })?;
-    }
+    let agents = agents_of(alloc, &[(0, last), (last, 0)])?;
     Ok(Problem::of(corridor(alloc)?, agents).ok_or("no problem")?)
 }
 
@@ -398,17 +576,32 @@ fn free_cells(grid: &Grid) -> u32 {
     count
 }
 
+/// The agent's cheapest path of least cell numbers.
+fn cheapest_path(
+    rt: &impl Abort,
+    alloc: Global,
+    grid: &Grid,
+    agent: &Agent,
+) -> Result<Path, OutOfMemory> {
+    assert!(rt; grid.is_free(agent.goal));
+    let distances = Distances::of(alloc, grid, agent.goal)?;
+    assert!(rt; distances.get(agent.start).is_some());
+    distances.descend(alloc, agent.start)
+}
+
+fn cheapest_paths(rt: &impl Abort, alloc: Global, problem: &Problem) -> Result<Plan, Fail> {
+    let mut paths = Vec::new(alloc);
+    for agent in problem.agents() {
+        paths.push(cheapest_path(rt, alloc, problem.grid(), agent)?)?;
+    }
+    Ok(Plan::of(paths).ok_or("no plan")?)
+}
+
 #[test]
 fn the_corridor_has_its_cells_and_its_agents_meet_late(rt: HostRuntime) -> Result<(), Fail> {
     let problem = late_meeting(rt.alloc())?;
-    assert_eq!(rt; free_cells(problem.grid()), 2_098_175);
-    let mut paths = Vec::new(rt.alloc());
-    for agent in problem.agents() {
-        let distances = Distances::of(rt.alloc(), problem.grid(), agent.goal)?;
-        assert!(rt; distances.get(agent.start).is_some());
-        paths.push(distances.descend(rt.alloc(), agent.start)?)?;
-    }
-    let plan = Plan::of(paths).ok_or("no plan")?;
+    assert!(rt; free_cells(problem.grid()) == 2_098_175);
+    let plan = cheapest_paths(&rt, rt.alloc(), &problem)?;
     let middle = Conflict::Vertex {
         i: 0,
         j: 1,
@@ -419,74 +612,73 @@ fn the_corridor_has_its_cells_and_its_agents_meet_late(rt: HostRuntime) -> Resul
     Ok(())
 }
 
-// One test for each search, since the paths are long.
+// There this search stops at a conflict that is too late. One test for each search, since the paths are long.
+fn assert_stop(rt: &impl Abort, alloc: Global, search: Search) -> Result<(), Fail> {
+    let problem = late_meeting(alloc)?;
+    let text = text_of(alloc, search, &problem, 0)?;
+    assert_text(rt, &text, "limit ticks bound 4196348 / leaf");
+    Ok(())
+}
+
 #[test]
 fn stops_at_a_conflict_that_is_too_late(rt: HostRuntime) -> Result<(), Fail> {
-    let problem = late_meeting(rt.alloc())?;
-    let answer = solve(rt.alloc(), &problem, 0)?;
-    let text = answer_text(rt.alloc(), &answer)?;
-    assert_eq!(rt; text.as_str(), "limit ticks bound 4196348 / leaf");
-    Ok(())
+    assert_stop(&rt, rt.alloc(), Search::Unnamed)
 }
 
 #[test]
 fn stops_there_with_bars_by_tick(rt: HostRuntime) -> Result<(), Fail> {
-    let problem = late_meeting(rt.alloc())?;
-    let answer = solve_with::<TickBars>(rt.alloc(), &problem, 0)?;
-    let text = answer_text(rt.alloc(), &answer)?;
-    assert_eq!(rt; text.as_str(), "limit ticks bound 4196348 / leaf");
-    Ok(())
+    assert_stop(&rt, rt.alloc(), Search::ByTick)
 }
 
 #[test]
 fn stops_there_with_bars_in_a_list(rt: HostRuntime) -> Result<(), Fail> {
-    let problem = late_meeting(rt.alloc())?;
-    let answer = solve_with::<ListBars>(rt.alloc(), &problem, 0)?;
-    let text = answer_text(rt.alloc(), &answer)?;
-    assert_eq!(rt; text.as_str(), "limit ticks bound 4196348 / leaf");
-    Ok(())
+    assert_stop(&rt, rt.alloc(), Search::ByList)
 }
 
 #[test]
 fn stops_there_in_the_plain_search(rt: HostRuntime) -> Result<(), Fail> {
-    let problem = late_meeting(rt.alloc())?;
-    let answer = solve_plain(rt.alloc(), &problem, 0)?;
-    let text = answer_text(rt.alloc(), &answer)?;
-    assert_eq!(rt; text.as_str(), "limit ticks bound 4196348 / leaf");
+    assert_stop(&rt, rt.alloc(), Search::Plain)
+}
+
+/// A row of 2,048 cells, of which the first so many are free.
+fn push_row(free: &mut Vec<bool>, cells: u32) -> Result<(), AllocError> {
+    for column in 0..2048 {
+        free.push(column < cells)?;
+    }
     Ok(())
 }
 
 /// Eighteen open rows of 2,048 cells, and below a wall a row of two cells alone.
 fn lanes(alloc: Global) -> Result<Grid, Fail> {
     let mut free = Vec::new(alloc);
-    for row in 0u32..20 {
-        for column in 0..2048 {
-            free.push(row < 18 || row == 19 && column < 2)?;
-        }
+    for _ in 0..18 {
+        push_row(&mut free, 2048)?;
     }
+    push_row(&mut free, 0)?;
+    push_row(&mut free, 2)?;
     Ok(Grid::of(2048, 20, free).ok_or("no grid")?)
 }
 
-// Of the nodes one has the sum 2 for the two agents that block each other, and 2^n each have the sums
-// 2n + 1 and 2n + 2: 4,093 have at most 22, so that the 5,001st has 23. Each lane adds 2,047.
-#[test]
-fn keeps_the_cost_of_a_split(rt: HostRuntime) -> Result<(), Fail> {
-    let mut agents = Vec::new(rt.alloc());
-    for (start, goal) in [(19 * 2048, 19 * 2048 + 1), (19 * 2048 + 1, 19 * 2048)] {
-        agents.push(Agent {
-            start: Cell(start),
-            goal: Cell(goal),
-        })?;
-    }
+/// Two agents that block each other in the row of two cells, and one that goes along each lane.
+fn lane_agents(alloc: Global) -> Result<Vec<Agent>, AllocError> {
+    let row = 19 * 2048;
+    let mut agents = agents_of(alloc, &[(row, row + 1), (row + 1, row)])?;
     for lane in 0..18 {
         agents.push(Agent {
             start: Cell(lane * 2048),
             goal: Cell(lane * 2048 + 2047),
         })?;
     }
+    Ok(agents)
+}
+
+// Of the nodes one has the sum 2 for the two agents that block each other, and 2^n each have the sums
+// 2n + 1 and 2n + 2: 4,093 have at most 22, so that the 5,001st has 23. Each lane adds 2,047.
+#[test]
+fn keeps_the_cost_of_a_split(rt: HostRuntime) -> Result<(), Fail> {
+    let agents = lane_agents(rt.alloc())?;
     let problem = Problem::of(lanes(rt.alloc())?, agents).ok_or("no problem")?;
-    let answer = solve(rt.alloc(), &problem, 5000)?;
-    let text = answer_text(rt.alloc(), &answer)?;
+    let text = text_of(rt.alloc(), Search::Unnamed, &problem, 5000)?;
     assert!(rt; text.starts_with("limit 5000 bound 36869 / "));
     Ok(())
 }
