@@ -212,6 +212,9 @@ fn assert_named(
             assert_unsolved(rt, alloc, &mut map, &mut scen, input)?;
         }
     }
+    // With one call more the check succeeds, so no source is read past its end.
+    let fuses = Fuses::of(pace, input, most.saturating_add(1));
+    assert_eq!(rt; check_with(alloc, fuses), Ok(Verdict::Optimal(5)));
     Ok(())
 }
 
