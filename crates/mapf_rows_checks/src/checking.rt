@@ -1,8 +1,6 @@
 //! What the check answers to given texts: verdicts, and each kind of refusal. The certificates are of
 //! version 1, and what they become in version 2 is judged alike. A plan text is judged alike in both versions.
 
-ghost use Rattle.std.specs.Prelude.{◌≤◌};
-
 use mapf_app::{CertFault, CheckFault, Fault, PlanFault, PlanTextFault, Verdict};
 use mapf_certificate::convert_cert;
 use mapf_checker as checker;
@@ -23,27 +21,61 @@ use std::alloc::Global;
 use std::process::Abort;
 use std::test::Fail;
 
+// What the check over memory answers, as a run says it.
+pub fn judged(
+    alloc: Global,
+    problem: &Problem,
+    plan: &[u8],
+    cert: &[u8],
+) -> Result<Verdict, Fault> {
+    checker::check(alloc, problem, plan, cert).map_err(Fault::Refused)
+}
+
+// What a certificate of version 1 becomes in version 2.
+fn converted(alloc: Global, problem: &Problem, cert: &str) -> Option<Vec<u8>> {
+    convert_cert(alloc, cert.as_bytes(), problem.grid()).ok()
+}
+
+fn assert_answer(
+    rt: &impl Abort,
+    given: Result<Verdict, Fault>,
+    expected: Result<Verdict, Fault>,
+    texts: (&str, &str),
+    way: &str,
+) {
+    assert_eq!(rt; given, expected, "of {} and {} {way}", texts.0, texts.1);
+}
+
 // Over memory this is the answer, and also beside what a certificate of version 1 becomes in version 2.
 fn assert_judged_in_memory(
     rt: &impl Abort,
     alloc: Global,
     problem: &Problem,
     texts: (&str, &str),
-    answer: Result<Verdict, CheckFault>,
+    answer: Result<Verdict, Fault>,
 ) {
     let plan = texts.0.as_bytes();
-    let cert = texts.1.as_bytes();
-    let verdict = checker::check(alloc, problem, plan, cert);
-    assert_eq!(rt; verdict, answer, "of {} and {}", texts.0, texts.1);
-    if let Ok(two) = convert_cert(alloc, cert, problem.grid()) {
-        let verdict = checker::check(alloc, problem, plan, &two);
-        assert_eq!(rt;
-            verdict,
-            answer,
-            "of {} and {} in version 2",
-            texts.0, texts.1
-        );
+    let given = judged(alloc, problem, plan, texts.1.as_bytes());
+    assert_answer(rt, given, answer, texts, "over memory");
+    if let Some(two) = converted(alloc, problem, texts.1) {
+        let given = judged(alloc, problem, plan, &two);
+        assert_answer(rt, given, answer, texts, "in version 2");
     }
+}
+
+// The same with the plan text in each version that it has.
+fn assert_judged_in_each_version(
+    rt: &impl Abort,
+    alloc: Global,
+    problem: &Problem,
+    texts: (&str, &str),
+    answer: Result<Verdict, Fault>,
+) -> Result<(), Fail> {
+    assert_judged_in_memory(rt, alloc, problem, texts, answer);
+    if let Some(other) = plan_in_other_version(alloc, texts.0)? {
+        assert_judged_in_memory(rt, alloc, problem, (other.as_str(), texts.1), answer);
+    }
+    Ok(())
 }
 
 // Over sources and over memory this is the answer, with the plan text in each version that it has and with the
@@ -54,23 +86,13 @@ pub fn assert_judged(
     given: &Given,
     texts: (&str, &str),
     answer: Result<Verdict, CheckFault>,
-) -> Result<(), Fail>
-    requires some { 1 ≤ given.now.k }
-    requires few { given.now.k ≤ 200 }
-{
+) -> Result<(), Fail> {
+    let answer = answer.map_err(Fault::Refused);
+    assert!(rt; 1 <= given.k && given.k <= 200);
     let problem = problem_of(alloc, given).ok_or("no problem")?;
-    assert_judged_in_memory(rt, alloc, &problem, texts, answer);
-    if let Some(other) = plan_in_other_version(alloc, texts.0)? {
-        assert_judged_in_memory(rt, alloc, &problem, (other.as_str(), texts.1), answer);
-    }
+    assert_judged_in_each_version(rt, alloc, &problem, texts, answer)?;
     let verdict = check(alloc, given, texts.0.as_bytes(), texts.1.as_bytes());
-    assert_eq!(rt;
-        verdict,
-        answer.map_err(Fault::Refused),
-        "of {} and {}",
-        texts.0,
-        texts.1
-    );
+    assert_answer(rt, verdict, answer, texts, "over sources");
     Ok(())
 }
 
@@ -85,10 +107,7 @@ pub fn assert_changes(
     given: &Given,
     texts: (&str, &str),
     changes: &[Change],
-) -> Result<(), Fail>
-    requires some { 1 ≤ given.now.k }
-    requires few { given.now.k ≤ 200 }
-{
+) -> Result<(), Fail> {
     for (first, last, lines, answer) in changes {
         let cert = with_lines(alloc, texts.1, *first, *last, lines)?;
         assert_judged(rt, alloc, given, (texts.0, cert.as_str()), *answer)?;
@@ -97,7 +116,6 @@ pub fn assert_changes(
 }
 
 // A problem, its two texts, and what the check answers to them.
-#[derive(Clone, Copy)]
 struct Row {
     given: Given,
     plan: &'static str,
@@ -202,7 +220,7 @@ agent 1 1\nat 1,0 0 3\nend\n",
     answer: Err(CheckFault::C8(5)),
 };
 
-const ROWS: [Row; 13] = [
+const ROWS: &[Row] = &[
     OF_ONE_AT_REST,
     OF_THE_CORRIDOR,
     OF_THE_CROSSING,
@@ -221,7 +239,6 @@ const ROWS: [Row; 13] = [
 #[test]
 fn judges_given_texts(rt: HostRuntime) -> Result<(), Fail> {
     for row in ROWS {
-        assert!(rt; 1 <= row.given.k && row.given.k <= 200);
         let texts = (row.plan, row.cert);
         assert_judged(&rt, rt.alloc(), &row.given, texts, row.answer)?;
     }
@@ -229,7 +246,7 @@ fn judges_given_texts(rt: HostRuntime) -> Result<(), Fail> {
 }
 
 // Plan texts of the crossing, each beside its certificate, and why they are refused.
-const PLANS: [(&str, CheckFault); 9] = [
+const PLANS: &[(&str, CheckFault)] = &[
     // Another sum than that of the paths.
     (
         "mapf-plan 1\nagents 2\ncost 4\npath 0 3 0,1 0,1 1,1 2,1\npath 1 2 1,0 1,1 1,2\nend\n",
@@ -263,64 +280,68 @@ const PLANS: [(&str, CheckFault); 9] = [
 ];
 
 // The same, of plans in which one agent alone has a defect.
-const PATHS: [(&str, PlanFault); 7] = [
+const PATHS: &[(&str, CheckFault)] = &[
     (
         "mapf-plan 1\nagents 2\ncost 3\npath 0 1 1,1 2,1\npath 1 2 1,0 1,1 1,2\nend\n",
-        PlanFault::V1 { agent: 0 },
+        CheckFault::C5(PlanFault::V1 { agent: 0 }),
     ),
     (
         "mapf-plan 1\nagents 2\ncost 5\npath 0 3 0,1 0,1 1,1 2,1\npath 1 2 1,0 1,0 1,2\nend\n",
-        PlanFault::V2 { agent: 1, tick: 1 },
+        CheckFault::C5(PlanFault::V2 { agent: 1, tick: 1 }),
     ),
     (
         "mapf-plan 1\nagents 2\ncost 4\npath 0 3 0,1 0,1 1,1 2,1\npath 1 1 1,0 1,1\nend\n",
-        PlanFault::V3 { agent: 1 },
+        CheckFault::C5(PlanFault::V3 { agent: 1 }),
     ),
     // The first of two agents that have a defect.
     (
         "mapf-plan 1\nagents 2\ncost 1\npath 0 1 0,1 1,1\npath 1 0 1,1\nend\n",
-        PlanFault::V3 { agent: 0 },
+        CheckFault::C5(PlanFault::V3 { agent: 0 }),
     ),
     // The first error of an agent that also goes astray, and doesn't arrive.
     (
         "mapf-plan 1\nagents 2\ncost 3\npath 0 1 0,0 2,2\npath 1 2 1,0 1,1 1,2\nend\n",
-        PlanFault::V1 { agent: 0 },
+        CheckFault::C5(PlanFault::V1 { agent: 0 }),
     ),
     // They meet at ticks 1 and 2.
     (
         "mapf-plan 1\nagents 2\ncost 6\npath 0 3 0,1 1,1 1,1 2,1\npath 1 3 1,0 1,1 1,1 1,2\nend\n",
-        PlanFault::V4 {
+        CheckFault::C5(PlanFault::V4 {
             i: 0,
             j: 1,
             tick: 1,
-        },
+        }),
     ),
     // They exchange their places after tick 1, and meet at tick 3.
     (
         "mapf-plan 1\nagents 2\ncost 8\npath 0 4 0,1 1,1 1,0 1,1 2,1\npath 1 4 1,0 1,0 1,1 1,1 1,2\nend\n",
-        PlanFault::V5 {
+        CheckFault::C5(PlanFault::V5 {
             i: 0,
             j: 1,
             tick: 1,
-        },
+        }),
     ),
 ];
 
-#[test]
-fn refuses_plans(rt: HostRuntime) -> Result<(), Fail> {
-    for (plan, fault) in PLANS {
-        let texts = (plan, CROSSING_ONE);
-        assert_judged(&rt, rt.alloc(), &CROSSING, texts, Err(fault))?;
-    }
-    for (plan, fault) in PATHS {
-        let texts = (plan, CROSSING_ONE);
-        let refusal = Err(CheckFault::C5(fault));
-        assert_judged(&rt, rt.alloc(), &CROSSING, texts, refusal)?;
+fn assert_refused_plans(
+    rt: &impl Abort,
+    alloc: Global,
+    plans: &[(&str, CheckFault)],
+) -> Result<(), Fail> {
+    for (plan, refusal) in plans {
+        let texts = (*plan, CROSSING_ONE);
+        assert_judged(rt, alloc, &CROSSING, texts, Err(*refusal))?;
     }
     Ok(())
 }
 
-const CROSSING_CHANGES: [Change; 15] = [
+#[test]
+fn refuses_plans(rt: HostRuntime) -> Result<(), Fail> {
+    assert_refused_plans(&rt, rt.alloc(), PLANS)?;
+    assert_refused_plans(&rt, rt.alloc(), PATHS)
+}
+
+const CROSSING_CHANGES: &[Change] = &[
     // A split that nothing asks for, and below it the tree twice.
     (
         4,
@@ -366,7 +387,7 @@ vertex 0 1 1,1 1\nleaf 1\nagent 0 1\nat 0,1 0 3\nleaf 1\nagent 1 1\nat 1,0 0 3\n
 ];
 
 // Certificates with two errors, of which the first in the order of judging is answered.
-const ORDER_CHANGES: [Change; 10] = [
+const ORDER_CHANGES: &[Change] = &[
     // The first three lines come before what they say.
     (
         2,
@@ -404,7 +425,7 @@ const ORDER_CHANGES: [Change; 10] = [
 ];
 
 // Splits on a blocked cell and of one agent, and a label of a blocked cell.
-const NICHE_CHANGES: [Change; 4] = [
+const NICHE_CHANGES: &[Change] = &[
     (4, 4, "vertex 0 1 0,1 1\n", Err(CheckFault::C6(4))),
     (4, 4, "swap 0 1 0,0 0,1 1\n", Err(CheckFault::C6(4))),
     (4, 4, "swap 1 1 0,0 1,0 1\n", Err(CheckFault::C6(4))),
@@ -412,10 +433,10 @@ const NICHE_CHANGES: [Change; 4] = [
 ];
 
 // A leaf at which both agents may arrive.
-const SHARED_START_CHANGES: [Change; 1] = [(5, 7, "leaf 0\n", Err(CheckFault::C8(5)))];
+const SHARED_START_CHANGES: &[Change] = &[(5, 7, "leaf 0\n", Err(CheckFault::C8(5)))];
 
 // A label of a cell from which no steps lead to the goal.
-const WALL_CHANGES: [Change; 1] = [(
+const WALL_CHANGES: &[Change] = &[(
     4,
     4,
     "leaf 1\nagent 0 1\nat 0,0 0 inf\n",
@@ -424,19 +445,13 @@ const WALL_CHANGES: [Change; 1] = [(
 
 #[test]
 fn judges_changed_certificates(rt: HostRuntime) -> Result<(), Fail> {
+    let alloc = rt.alloc();
     let crossing = (CROSSING_PLAN, CROSSING_ONE);
-    assert_changes(&rt, rt.alloc(), &CROSSING, crossing, &CROSSING_CHANGES)?;
-    assert_changes(&rt, rt.alloc(), &CROSSING, crossing, &ORDER_CHANGES)?;
+    assert_changes(&rt, alloc, &CROSSING, crossing, CROSSING_CHANGES)?;
+    assert_changes(&rt, alloc, &CROSSING, crossing, ORDER_CHANGES)?;
     let niche = (NICHE_PLAN, NICHE_ONE);
-    assert_changes(&rt, rt.alloc(), &NICHE, niche, &NICHE_CHANGES)?;
+    assert_changes(&rt, alloc, &NICHE, niche, NICHE_CHANGES)?;
     let shared = (SHARED_START_PLAN, SHARED_START_ONE);
-    assert_changes(
-        &rt,
-        rt.alloc(),
-        &SHARED_START,
-        shared,
-        &SHARED_START_CHANGES,
-    )?;
-    let wall = (WALL_PLAN, WALL_ONE);
-    assert_changes(&rt, rt.alloc(), &WALL, wall, &WALL_CHANGES)
+    assert_changes(&rt, alloc, &SHARED_START, shared, SHARED_START_CHANGES)?;
+    assert_changes(&rt, alloc, &WALL, (WALL_PLAN, WALL_ONE), WALL_CHANGES)
 }

@@ -7,7 +7,7 @@ use mapf_rows::problems::{CROSSING, CROSSING_CERT, CROSSING_PLAN, NICHE, NICHE_C
 use mapf_rows::version_one::CROSSING_ONE;
 use std::test::Fail;
 
-const BLOCKS: [Change; 12] = [
+const BLOCKS: &[Change] = &[
     (4, 4, "vertex 0 1 1,1 1 0\n", Ok(Verdict::Optimal(5))),
     // A block on a split is judged without its left child's constraint.
     (
@@ -81,7 +81,7 @@ leaf 1\nagent 0 1\nat 0,1 0 3\nleaf 1\nagent 0 1\nat 0,1 0 3\nleaf 0\n",
     ),
 ];
 
-const LINES: [Change; 15] = [
+const LINES: &[Change] = &[
     (1, 1, "mapf-cert 3\n", Err(CheckFault::C2(CertFault::K1(1)))),
     (1, 1, "mapf-cert 1\n", Err(CheckFault::C2(CertFault::K1(4)))),
     // A bound is no claim beside a plan.
@@ -158,7 +158,7 @@ const LINES: [Change; 15] = [
     ),
 ];
 
-const LINES_OF_VERSION_ONE: [Change; 5] = [
+const LINES_OF_VERSION_ONE: &[Change] = &[
     (1, 1, "mapf-cert 2\n", Err(CheckFault::C2(CertFault::K1(4)))),
     (
         3,
@@ -187,7 +187,7 @@ const LINES_OF_VERSION_ONE: [Change; 5] = [
 ];
 
 // Labels on splits that are a tick too high, and a blocked cell.
-const OF_THE_NICHE: [Change; 3] = [
+const OF_THE_NICHE: &[Change] = &[
     (7, 7, "at 0,0 0 4\n", Err(CheckFault::C7(7))),
     (5, 5, "vertex 0 1 0,1 2 1\n", Err(CheckFault::C6(5))),
     (37, 37, "at 1,0 0 3\n", Err(CheckFault::C7(37))),
@@ -197,11 +197,11 @@ const OF_THE_NICHE: [Change; 3] = [
 fn judges_blocks_on_splits(rt: HostRuntime) -> Result<(), Fail> {
     let alloc = rt.alloc();
     let crossing = (CROSSING_PLAN, CROSSING_CERT);
-    assert_changes(&rt, alloc, &CROSSING, crossing, &BLOCKS)?;
-    assert_changes(&rt, alloc, &CROSSING, crossing, &LINES)?;
+    assert_changes(&rt, alloc, &CROSSING, crossing, BLOCKS)?;
+    assert_changes(&rt, alloc, &CROSSING, crossing, LINES)?;
     let before = (CROSSING_PLAN, CROSSING_ONE);
-    assert_changes(&rt, alloc, &CROSSING, before, &LINES_OF_VERSION_ONE)?;
+    assert_changes(&rt, alloc, &CROSSING, before, LINES_OF_VERSION_ONE)?;
     let niche = (NICHE_PLAN, NICHE_CERT);
     assert_judged(&rt, alloc, &NICHE, niche, Ok(Verdict::Optimal(4)))?;
-    assert_changes(&rt, alloc, &NICHE, niche, &OF_THE_NICHE)
+    assert_changes(&rt, alloc, &NICHE, niche, OF_THE_NICHE)
 }

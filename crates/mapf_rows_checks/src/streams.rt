@@ -1,12 +1,12 @@
 //! Certificates that come in pieces, that are too long or never end, that break off, or that are made as
 //! they are pulled.
 
-ghost use Rattle.std.specs.Prelude.{◌≤◌};
+ghost use Rattle.std.specs.Prelude.{◌≡◌, false};
 
 use mapf_app::{CertFault, CheckFault, Fault, Input, PlanFault, Verdict};
 use mapf_checker::{FromFault, check_from};
 use mapf_model::devices::{EndlessSource, FuseSource, Pace};
-use mapf_model::{Failed, Source};
+use mapf_model::{Failed, Problem, Source};
 use mapf_rows::problems::{
     CROSSING, CROSSING_PLAN, CROSSING_STOPPED_PLAN, EXCHANGE, EXCHANGE_STOPPED_CERT,
     EXCHANGE_STOPPED_PLAN, MEETING, NICHE, NICHE_CERT, NICHE_PLAN, RESTING, RESTING_PLAN,
@@ -14,7 +14,8 @@ use mapf_rows::problems::{
 use mapf_rows::version_one::CROSSING_ONE;
 use mapf_rows::{Given, problem_of};
 use mapf_rows_runs::{check, check_pulled};
-use std::alloc::Global;
+use std::alloc::{AllocError, Global};
+use std::process::Abort;
 use std::test::Fail;
 
 // Bytes that come in pieces: the first of this length, and the others of at most this one.
@@ -46,49 +47,73 @@ impl<'a> Source for Pieces<'a> {
     }
 }
 
-// The answer to a plan text and a certificate that comes in such pieces.
-fn check_pieces(
-    alloc: Global,
-    given: &Given,
-    texts: (&str, &str),
-    first: usize,
-    others: usize,
-) -> Result<Verdict, Fault>
-    requires some { 1 ≤ given.now.k }
-    requires few { given.now.k ≤ 200 }
-{
+// A plan text and a certificate that comes in such pieces are answered by this verdict.
+fn assert_pieces(rt: &impl Abort, alloc: Global, row: &Row, first: usize, others: usize) {
+    assert!(rt; 1 <= row.given.k && row.given.k <= 200);
     let mut source = Pieces {
-        bytes: texts.1.as_bytes(),
+        bytes: row.cert.as_bytes(),
         first,
         others,
     };
-    check_pulled(alloc, given, texts.0.as_bytes(), &mut source)
+    let answer = check_pulled(alloc, &row.given, row.plan.as_bytes(), &mut source);
+    assert_eq!(rt; answer, Ok(row.verdict), "{first} and then {others} each");
 }
+
+// A problem, its two texts, and the verdict on them.
+struct Row {
+    given: Given,
+    plan: &'static str,
+    cert: &'static str,
+    verdict: Verdict,
+}
+
+const ROWS: &[Row] = &[
+    Row {
+        given: CROSSING,
+        plan: CROSSING_PLAN,
+        cert: CROSSING_ONE,
+        verdict: Verdict::Optimal(5),
+    },
+    Row {
+        given: NICHE,
+        plan: NICHE_PLAN,
+        cert: NICHE_CERT,
+        verdict: Verdict::Optimal(4),
+    },
+    Row {
+        given: EXCHANGE,
+        plan: EXCHANGE_STOPPED_PLAN,
+        cert: EXCHANGE_STOPPED_CERT,
+        verdict: Verdict::Bound(4),
+    },
+];
 
 #[test]
 fn reads_pieces(rt: HostRuntime) {
-    let crossing = (CROSSING_PLAN, CROSSING_ONE);
-    let niche = (NICHE_PLAN, NICHE_CERT);
-    let exchange = (EXCHANGE_STOPPED_PLAN, EXCHANGE_STOPPED_CERT);
-    for (given, texts, verdict) in [
-        (CROSSING, crossing, Verdict::Optimal(5)),
-        (NICHE, niche, Verdict::Optimal(4)),
-        (EXCHANGE, exchange, Verdict::Bound(4)),
-    ] {
-        assert!(rt; 1 <= given.k && given.k <= 200);
-        for first in 1..texts.1.len() {
-            let answer = check_pieces(rt.alloc(), &given, texts, first, 999);
-            assert_eq!(rt; answer, Ok(verdict), "{first} and the others");
+    for row in ROWS {
+        for first in 1..row.cert.len() {
+            assert_pieces(&rt, rt.alloc(), row, first, 999);
         }
-        for others in [1, 2] {
-            let answer = check_pieces(rt.alloc(), &given, texts, 1, others);
-            assert_eq!(rt; answer, Ok(verdict), "1 and then {others} each");
-        }
+        assert_pieces(&rt, rt.alloc(), row, 1, 1);
+        assert_pieces(&rt, rt.alloc(), row, 1, 2);
     }
 }
 
+// What the check answers to a certificate that comes from this source, of which so many bytes may come.
+fn check_within<S: Source>(
+    alloc: Global,
+    problem: &Problem,
+    plan: &str,
+    source: &mut S,
+    limit: u64,
+) -> Result<Verdict, FromFault>
+    requires { S.has_failed source.old ≡ false }
+{
+    check_from(alloc, problem, plan.as_bytes(), source, limit)
+}
+
 // How many bytes may come, how many come after the certificate of 111 bytes, and the answer.
-const LENGTHS: [(u64, &str, Result<Verdict, FromFault>); 4] = [
+const LENGTHS: &[(u64, &str, Result<Verdict, FromFault>)] = &[
     (111, "", Ok(Verdict::Optimal(5))),
     (110, "", Err(FromFault::TooLong)),
     (111, "x", Err(FromFault::TooLong)),
@@ -99,72 +124,92 @@ const LENGTHS: [(u64, &str, Result<Verdict, FromFault>); 4] = [
     ),
 ];
 
-#[test]
-fn keeps_its_limit(rt: HostRuntime) -> Result<(), Fail> {
-    let problem = problem_of(rt.alloc(), &CROSSING).ok_or("no problem")?;
-    let plan = CROSSING_PLAN.as_bytes();
+fn assert_limits(
+    rt: &impl Abort,
+    alloc: Global,
+    problem: &Problem,
+    pace: Pace,
+) -> Result<(), Fail> {
     for (limit, more, answer) in LENGTHS {
-        let cert = format!(in rt.alloc(); "{}{more}", CROSSING_ONE)?;
-        for pace in [Pace::AllAtOnce, Pace::ByteByByte] {
-            let mut source = FuseSource::of(cert.as_bytes(), pace, None);
-            let verdict = check_from(rt.alloc(), &problem, plan, &mut source, limit);
-            assert_eq!(rt; verdict, answer, "{more} within {limit}");
-        }
+        let cert = format!(in alloc; "{CROSSING_ONE}{more}")?;
+        let mut source = FuseSource::of(cert.as_bytes(), pace, None);
+        let verdict = check_within(alloc, problem, CROSSING_PLAN, &mut source, *limit);
+        assert_eq!(rt; verdict, *answer, "{more} within {limit}");
     }
     Ok(())
 }
 
+#[test]
+fn keeps_its_limit(rt: HostRuntime) -> Result<(), Fail> {
+    let problem = problem_of(rt.alloc(), &CROSSING).ok_or("no problem")?;
+    assert_limits(&rt, rt.alloc(), &problem, Pace::AllAtOnce)?;
+    assert_limits(&rt, rt.alloc(), &problem, Pace::ByteByByte)
+}
+
 // How many bytes the crossing's certificate has up to the end of its first line `leaf 1`.
-const FIRST_LEAF: usize = 58;
+const FIRST_LEAF: u64 = 58;
 
 const LIMIT_ONE: &str = "mapf-plan 1\nagents 2\nlimit 0\nend\n";
 
+const THEY_MEET: Fault = Fault::Refused(CheckFault::C5(PlanFault::V4 {
+    i: 0,
+    j: 1,
+    tick: 1,
+}));
+
+// A plan text, how many calls the certificate's source allows, and the answer. A plan that isn't valid and a limit
+// without a bound are refused before the certificate is pulled, and a bound beside a cost after three lines.
+const BREAKS: &[(&str, u64, Fault)] = &[
+    (CROSSING_PLAN, FIRST_LEAF, Fault::F4(Input::Cert)),
+    (MEETING, FIRST_LEAF, THEY_MEET),
+    (MEETING, 0, THEY_MEET),
+    (LIMIT_ONE, 0, Fault::Refused(CheckFault::C4)),
+    (CROSSING_STOPPED_PLAN, 0, Fault::F4(Input::Cert)),
+    (
+        CROSSING_STOPPED_PLAN,
+        FIRST_LEAF,
+        Fault::Refused(CheckFault::C4),
+    ),
+];
+
+// The answer beside the crossing's certificate whose source fails after so many calls, and whether it failed.
+fn check_broken(
+    alloc: Global,
+    plan: &str,
+    pace: Pace,
+    calls: u64,
+) -> (Result<Verdict, Fault>, bool) {
+    let mut source = FuseSource::of(CROSSING_ONE.as_bytes(), pace, Some(calls));
+    let answer = check_pulled(alloc, &CROSSING, plan.as_bytes(), &mut source);
+    (answer, source.failed())
+}
+
 #[test]
 fn breaks_off_where_the_source_fails(rt: HostRuntime) {
-    let cert = CROSSING_ONE.as_bytes();
-    assert!(rt; cert[..FIRST_LEAF].ends_with(b"\nleaf 1\n"));
-    let meet = PlanFault::V4 {
-        i: 0,
-        j: 1,
-        tick: 1,
-    };
-    // A plan that isn't valid and a limit without a bound are refused before the certificate is pulled, and a bound
-    // beside a cost after three lines.
-    for (plan, calls, fault) in [
-        (CROSSING_PLAN, FIRST_LEAF, Fault::F4(Input::Cert)),
-        (MEETING, FIRST_LEAF, Fault::Refused(CheckFault::C5(meet))),
-        (MEETING, 0, Fault::Refused(CheckFault::C5(meet))),
-        (LIMIT_ONE, 0, Fault::Refused(CheckFault::C4)),
-        (CROSSING_STOPPED_PLAN, 0, Fault::F4(Input::Cert)),
-        (
-            CROSSING_STOPPED_PLAN,
-            FIRST_LEAF,
-            Fault::Refused(CheckFault::C4),
-        ),
-    ] {
-        let mut source = FuseSource::of(cert, Pace::ByteByByte, Some(calls as u64));
-        let verdict = check_pulled(rt.alloc(), &CROSSING, plan.as_bytes(), &mut source);
-        assert_eq!(rt; verdict, Err(fault), "of {plan}");
+    assert!(rt; CROSSING_ONE.as_bytes()[..FIRST_LEAF as usize].ends_with(b"\nleaf 1\n"));
+    for (plan, calls, fault) in BREAKS {
+        let (answer, _) = check_broken(rt.alloc(), plan, Pace::ByteByByte, *calls);
+        assert_eq!(rt; answer, Err(*fault), "of {plan}");
+    }
+}
+
+// The source fails after up to so many calls, and else the certificate is accepted.
+fn assert_broken(rt: &impl Abort, alloc: Global, pace: Pace, most: u64) {
+    for calls in 0..113 {
+        let expected = if calls <= most {
+            (Err(Fault::F4(Input::Cert)), true)
+        } else {
+            (Ok(Verdict::Optimal(5)), false)
+        };
+        let given = check_broken(alloc, CROSSING_PLAN, pace, calls);
+        assert_eq!(rt; given, expected, "after {calls} calls");
     }
 }
 
 #[test]
 fn ends_where_the_source_fails_at_any_call(rt: HostRuntime) {
-    let failed = Err(Fault::F4(Input::Cert));
-    for (pace, most) in [(Pace::AllAtOnce, 1), (Pace::ByteByByte, 111)] {
-        for calls in 0..113 {
-            let mut source = FuseSource::of(CROSSING_ONE.as_bytes(), pace, Some(calls));
-            let plan = CROSSING_PLAN.as_bytes();
-            let verdict = check_pulled(rt.alloc(), &CROSSING, plan, &mut source);
-            let wanted = if calls <= most {
-                failed
-            } else {
-                Ok(Verdict::Optimal(5))
-            };
-            assert_eq!(rt; verdict, wanted, "after {calls} calls");
-            assert_eq!(rt; source.failed(), calls <= most, "after {calls} calls");
-        }
-    }
+    assert_broken(&rt, rt.alloc(), Pace::AllAtOnce, 1);
+    assert_broken(&rt, rt.alloc(), Pace::ByteByByte, 111);
 }
 
 #[test]
@@ -209,35 +254,43 @@ fn gives_up_on_a_tree_that_never_ends(rt: HostRuntime) -> Result<(), Fail> {
         front: b"mapf-cert 1\nagents 2\nclaim cost 0\n",
         line: b"vertex 0 1 0,0 0\n",
     };
-    let plan = RESTING_PLAN.as_bytes();
-    let verdict = check_from(rt.alloc(), &problem, plan, &mut source, 10_000);
+    let verdict = check_within(rt.alloc(), &problem, RESTING_PLAN, &mut source, 10_000);
     assert_eq!(rt; verdict, Err(FromFault::TooLong));
     Ok(())
 }
 
-// A tree as deep as it has splits, without its last line.
-fn deep_tree(alloc: Global) -> Result<Vec<u8>, Fail> {
-    let mut cert = Vec::from_slice(alloc, b"mapf-cert 1\nagents 2\nclaim cost 0\n")?;
-    for tick in 0..20_000u32 {
+// Splits at these ticks, each below the one before.
+fn push_splits(cert: &mut Vec<u8>, alloc: Global, ticks: u32) -> Result<(), AllocError> {
+    for tick in 0..ticks {
         let split = format!(in alloc; "vertex 0 1 0,0 {tick}\n")?;
         cert.extend_from_slice(split.as_bytes())?;
     }
+    Ok(())
+}
+
+// A tree as deep as it has splits, without its last line.
+fn deep_tree(alloc: Global) -> Result<Vec<u8>, AllocError> {
+    let mut cert = Vec::from_slice(alloc, b"mapf-cert 1\nagents 2\nclaim cost 0\n")?;
+    push_splits(&mut cert, alloc, 20_000)?;
     for _ in 0..20_001 {
         cert.extend_from_slice(b"leaf 0\n")?;
     }
     Ok(cert)
 }
 
+// The certificate of two agents at rest is answered so.
+fn assert_resting(rt: &impl Abort, alloc: Global, cert: &[u8], answer: Result<Verdict, Fault>) {
+    let given = check(alloc, &RESTING, RESTING_PLAN.as_bytes(), cert);
+    assert_eq!(rt; given, answer);
+}
+
 #[test]
 fn judges_deep_trees(rt: HostRuntime) -> Result<(), Fail> {
-    let plan = RESTING_PLAN.as_bytes();
     let mut cert = deep_tree(rt.alloc())?;
-    let verdict = check(rt.alloc(), &RESTING, plan, &cert);
     let refusal = CheckFault::C2(CertFault::K2(40_005));
-    assert_eq!(rt; verdict, Err(Fault::Refused(refusal)));
+    assert_resting(&rt, rt.alloc(), &cert, Err(Fault::Refused(refusal)));
     cert.extend_from_slice(b"end\n")?;
-    let verdict = check(rt.alloc(), &RESTING, plan, &cert);
-    assert_eq!(rt; verdict, Ok(Verdict::Optimal(0)));
+    assert_resting(&rt, rt.alloc(), &cert, Ok(Verdict::Optimal(0)));
     Ok(())
 }
 

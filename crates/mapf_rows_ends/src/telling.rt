@@ -1,11 +1,13 @@
 //! What is printed for each answer and for each kind of error, where, and with which exit status.
 
+ghost use Rattle.std.specs.Prelude.{◌≡◌, false};
+
 use mapf_app::{
     CertFault, CheckFault, EventFault, Fault, Input, Kind, MapFault, Output, PlanFault,
     PlanTextFault, PlayFault, ScenFault, Verdict, tell_check, tell_run, tell_solve,
 };
 use mapf_model::devices::{FuseSink, Pace};
-use mapf_model::{BytesSink, Cause};
+use mapf_model::{BytesSink, Cause, OutOfMemory, Sink};
 use mapf_rows::Given;
 use mapf_rows::problems::{
     CROSSING, CROSSING_CERT, CROSSING_MAP, CROSSING_PLAN, CROSSING_SCEN, EXCHANGE,
@@ -19,21 +21,61 @@ use std::test::Fail;
 
 const ROOM: usize = 80;
 
-// The status, and what the sinks of answers and of errors got.
-fn assert_told(
-    rt: &impl Abort,
-    told: u8,
-    out: &BytesSink,
-    err: &BytesSink,
-    wanted: (u8, &'static str, &'static str),
-) {
-    let (status, answer, fault) = wanted;
-    assert_eq!(rt; told, status, "of {answer}{fault}");
-    assert_eq!(rt; out.bytes(), answer.as_bytes());
-    assert_eq!(rt; err.bytes(), fault.as_bytes());
+// The answer of a search, of a check, or of a run that writes its own output.
+#[derive(Clone, Copy)]
+enum Answer {
+    Search(Result<Kind, Fault>),
+    Check(Result<Verdict, Fault>),
+    Run(Result<(), Fault>),
 }
 
-const KINDS: [(Kind, &str, u8); 7] = [
+// Prints the answer, and returns the status.
+fn tell<O: Sink, E: Sink>(answer: &Answer, out: &mut O, err: &mut E) -> u8
+    requires out_works { O.has_failed out.old ≡ false }
+    requires err_works { E.has_failed err.old ≡ false }
+{
+    match answer {
+        Answer::Search(answer) => tell_solve(answer, out, err),
+        Answer::Check(answer) => tell_check(answer, out, err),
+        Answer::Run(answer) => tell_run(answer, err),
+    }
+}
+
+// The status, and what the sinks of answers and of errors got.
+#[derive(Drop)]
+struct Told {
+    status: u8,
+    out: BytesSink,
+    err: BytesSink,
+}
+
+fn tell_into_memory(alloc: Global, answer: &Answer) -> Result<Told, OutOfMemory> {
+    let mut out = BytesSink::with_room(alloc, ROOM)?;
+    let mut err = BytesSink::with_room(alloc, ROOM)?;
+    let status = tell(answer, &mut out, &mut err);
+    Ok(Told { status, out, err })
+}
+
+// The expected status, and the texts on both sinks.
+type Expected = (u8, &'static str, &'static str);
+
+fn assert_told(
+    rt: &impl Abort,
+    alloc: Global,
+    answer: &Answer,
+    expected: Expected,
+) -> Result<(), Fail> {
+    let told = tell_into_memory(alloc, answer)?;
+    let (status, line, fault) = expected;
+    assert_eq!(rt;
+        (told.status, told.out.bytes(), told.err.bytes()),
+        (status, line.as_bytes(), fault.as_bytes()),
+        "of {line}{fault}"
+    );
+    Ok(())
+}
+
+const KINDS: &[(Kind, &str, u8)] = &[
     (Kind::Found(0), "cost 0\n", 0),
     (Kind::Found(1_999_999_800), "cost 1999999800\n", 0),
     (Kind::Impossible, "impossible\n", 3),
@@ -74,15 +116,13 @@ const KINDS: [(Kind, &str, u8); 7] = [
 #[test]
 fn tells_how_a_search_ended(rt: HostRuntime) -> Result<(), Fail> {
     for (kind, line, status) in KINDS {
-        let mut out = BytesSink::with_room(rt.alloc(), ROOM)?;
-        let mut err = BytesSink::with_room(rt.alloc(), ROOM)?;
-        let told = tell_solve(&Ok(kind), &mut out, &mut err);
-        assert_told(&rt, told, &out, &err, (status, line, ""));
+        let answer = Answer::Search(Ok(*kind));
+        assert_told(&rt, rt.alloc(), &answer, (*status, line, ""))?;
     }
     Ok(())
 }
 
-const VERDICTS: [(Verdict, &str); 4] = [
+const VERDICTS: &[(Verdict, &str)] = &[
     (Verdict::Optimal(5), "optimal 5\n"),
     (Verdict::Bound(0), "bound 0\n"),
     (Verdict::Bound(1_999_999_800), "bound 1999999800\n"),
@@ -92,15 +132,13 @@ const VERDICTS: [(Verdict, &str); 4] = [
 #[test]
 fn tells_verdicts(rt: HostRuntime) -> Result<(), Fail> {
     for (verdict, line) in VERDICTS {
-        let mut out = BytesSink::with_room(rt.alloc(), ROOM)?;
-        let mut err = BytesSink::with_room(rt.alloc(), ROOM)?;
-        let told = tell_check(&Ok(verdict), &mut out, &mut err);
-        assert_told(&rt, told, &out, &err, (0, line, ""));
+        let answer = Answer::Check(Ok(*verdict));
+        assert_told(&rt, rt.alloc(), &answer, (0, line, ""))?;
     }
     Ok(())
 }
 
-const REFUSALS: [(CheckFault, &str); 19] = [
+const REFUSALS: &[(CheckFault, &str)] = &[
     (CheckFault::C1(PlanTextFault::P1(3)), "refused C1 P1 3\n"),
     (CheckFault::C1(PlanTextFault::P2(4)), "refused C1 P2 4\n"),
     (CheckFault::C1(PlanTextFault::P3(2)), "refused C1 P3 2\n"),
@@ -157,15 +195,13 @@ const REFUSALS: [(CheckFault, &str); 19] = [
 #[test]
 fn tells_refusals_as_answers(rt: HostRuntime) -> Result<(), Fail> {
     for (refusal, line) in REFUSALS {
-        let mut out = BytesSink::with_room(rt.alloc(), ROOM)?;
-        let mut err = BytesSink::with_room(rt.alloc(), ROOM)?;
-        let told = tell_check(&Err(Fault::Refused(refusal)), &mut out, &mut err);
-        assert_told(&rt, told, &out, &err, (1, line, ""));
+        let answer = Answer::Check(Err(Fault::Refused(*refusal)));
+        assert_told(&rt, rt.alloc(), &answer, (1, line, ""))?;
     }
     Ok(())
 }
 
-const FAULTS_OF_INPUTS: [(Fault, &str); 16] = [
+const FAULTS_OF_INPUTS: &[(Fault, &str)] = &[
     (Fault::F1(MapFault::M1), "F1 M1\n"),
     (Fault::F1(MapFault::M2), "F1 M2\n"),
     (Fault::F1(MapFault::M3), "F1 M3\n"),
@@ -187,7 +223,7 @@ const FAULTS_OF_INPUTS: [(Fault, &str); 16] = [
     (Fault::F2(ScenFault::S7 { rows: 0 }), "F2 S7 0\n"),
 ];
 
-const FAULTS_OF_PLANS: [(Fault, &str); 15] = [
+const FAULTS_OF_PLANS: &[(Fault, &str)] = &[
     (
         Fault::F3(PlayFault::Text(PlanTextFault::P1(3))),
         "F3 P1 3\n",
@@ -243,7 +279,7 @@ const FAULTS_OF_PLANS: [(Fault, &str); 15] = [
     (Fault::F3(PlayFault::Events(EventFault::E4(3))), "F3 E4 3\n"),
 ];
 
-const FAULTS_OF_RUNS: [(Fault, &str); 9] = [
+const FAULTS_OF_RUNS: &[(Fault, &str)] = &[
     (Fault::F4(Input::Map), "F4 map\n"),
     (Fault::F4(Input::Scen), "F4 scen\n"),
     (Fault::F4(Input::Plan), "F4 plan\n"),
@@ -255,146 +291,146 @@ const FAULTS_OF_RUNS: [(Fault, &str); 9] = [
     (Fault::F6, "F6\n"),
 ];
 
-// Every call reports the error on standard error alone.
-fn assert_faulty(
+// Every call reports each of these errors on standard error alone.
+fn assert_faults(
     rt: &impl Abort,
     alloc: Global,
-    fault: Fault,
-    line: &'static str,
+    faults: &[(Fault, &'static str)],
 ) -> Result<(), Fail> {
-    let mut out = BytesSink::with_room(alloc, ROOM)?;
-    let mut err = BytesSink::with_room(alloc, ROOM)?;
-    let told = tell_solve(&Err(fault), &mut out, &mut err);
-    assert_told(rt, told, &out, &err, (2, "", line));
-    let mut err = BytesSink::with_room(alloc, ROOM)?;
-    let told = tell_check(&Err(fault), &mut out, &mut err);
-    assert_told(rt, told, &out, &err, (2, "", line));
-    let mut err = BytesSink::with_room(alloc, ROOM)?;
-    let told = tell_run(&Err(fault), &mut err);
-    assert_told(rt, told, &out, &err, (2, "", line));
+    for (fault, line) in faults {
+        let expected = (2, "", *line);
+        assert_told(rt, alloc, &Answer::Search(Err(*fault)), expected)?;
+        assert_told(rt, alloc, &Answer::Check(Err(*fault)), expected)?;
+        assert_told(rt, alloc, &Answer::Run(Err(*fault)), expected)?;
+    }
     Ok(())
 }
 
 #[test]
 fn tells_faults_of_inputs(rt: HostRuntime) -> Result<(), Fail> {
-    for (fault, line) in FAULTS_OF_INPUTS {
-        assert_faulty(&rt, rt.alloc(), fault, line)?;
-    }
-    Ok(())
+    assert_faults(&rt, rt.alloc(), FAULTS_OF_INPUTS)
 }
 
 #[test]
 fn tells_faults_of_plans(rt: HostRuntime) -> Result<(), Fail> {
-    for (fault, line) in FAULTS_OF_PLANS {
-        assert_faulty(&rt, rt.alloc(), fault, line)?;
-    }
-    Ok(())
+    assert_faults(&rt, rt.alloc(), FAULTS_OF_PLANS)
 }
 
 #[test]
 fn tells_faults_of_runs(rt: HostRuntime) -> Result<(), Fail> {
-    for (fault, line) in FAULTS_OF_RUNS {
-        assert_faulty(&rt, rt.alloc(), fault, line)?;
+    assert_faults(&rt, rt.alloc(), FAULTS_OF_RUNS)
+}
+
+#[test]
+fn tells_nothing_of_a_run_that_went_well(rt: HostRuntime) -> Result<(), Fail> {
+    assert_told(&rt, rt.alloc(), &Answer::Run(Ok(())), (0, "", ""))
+}
+
+// The status after the answer is printed to a sink that allows so many calls of a byte each, and whether
+// the other sink got nothing.
+fn told_within(alloc: Global, answer: &Answer, calls: u64) -> Result<(u8, bool), OutOfMemory> {
+    let mut short = FuseSink::with_room(alloc, ROOM, Pace::ByteByByte, Some(calls))?;
+    let mut other = BytesSink::with_room(alloc, ROOM)?;
+    let status = if matches!(answer, Answer::Run(_)) {
+        tell(answer, &mut other, &mut short)
+    } else {
+        tell(answer, &mut short, &mut other)
+    };
+    Ok((status, other.bytes().is_empty()))
+}
+
+// Answers, the line that is printed of each, and the status where that line is written whole.
+const LINES: &[(Answer, &str, u8)] = &[
+    (Answer::Search(Ok(Kind::Found(5))), "cost 5\n", 0),
+    (
+        Answer::Search(Ok(Kind::Limit {
+            cause: Cause::Splits(3),
+            bound: 4,
+        })),
+        "limit 3 bound 4\n",
+        4,
+    ),
+    (Answer::Check(Ok(Verdict::Bound(4))), "bound 4\n", 0),
+    (Answer::Check(Ok(Verdict::Optimal(5))), "optimal 5\n", 0),
+    (
+        Answer::Check(Err(Fault::Refused(CheckFault::C3))),
+        "refused C3\n",
+        1,
+    ),
+    (Answer::Run(Err(Fault::F6)), "F6\n", 2),
+];
+
+// The status is that of an error if the line isn't written whole.
+fn assert_statuses(rt: &impl Abort, alloc: Global, calls: u64) -> Result<(), Fail> {
+    for (answer, line, whole) in LINES {
+        let status = if calls < line.len() as u64 { 2 } else { *whole };
+        let told = told_within(alloc, answer, calls)?;
+        assert_eq!(rt; told, (status, true), "of {line} after {calls} calls");
     }
     Ok(())
 }
 
 #[test]
-fn tells_nothing_of_a_run_that_went_well(rt: HostRuntime) -> Result<(), Fail> {
-    let mut err = BytesSink::with_room(rt.alloc(), ROOM)?;
-    assert_eq!(rt; tell_run(&Ok(()), &mut err), 0);
-    assert_eq!(rt; err.bytes(), b"".as_slice());
-    Ok(())
-}
-
-// The status after a line is printed to a sink that allows so many calls of a byte each; that of an
-// error if the line isn't written whole.
-fn assert_status(rt: &impl Abort, told: u8, line: &str, calls: u64, status: u8) {
-    let wanted = if calls < line.len() as u64 { 2 } else { status };
-    assert_eq!(rt; told, wanted, "of {line} after {calls} calls");
-}
-
-#[test]
 fn ends_with_a_fault_where_nothing_can_be_told(rt: HostRuntime) -> Result<(), Fail> {
-    let alloc = rt.alloc();
     for calls in 0..20 {
-        let mut err = BytesSink::with_room(alloc, ROOM)?;
-        let mut out = FuseSink::with_room(alloc, ROOM, Pace::ByteByByte, Some(calls))?;
-        let told = tell_solve(&Ok(Kind::Found(5)), &mut out, &mut err);
-        assert_status(&rt, told, "cost 5\n", calls, 0);
-        let limit = Kind::Limit {
-            cause: Cause::Splits(3),
-            bound: 4,
-        };
-        let mut out = FuseSink::with_room(alloc, ROOM, Pace::ByteByByte, Some(calls))?;
-        let told = tell_solve(&Ok(limit), &mut out, &mut err);
-        assert_status(&rt, told, "limit 3 bound 4\n", calls, 4);
-        let mut out = FuseSink::with_room(alloc, ROOM, Pace::ByteByByte, Some(calls))?;
-        let told = tell_check(&Ok(Verdict::Bound(4)), &mut out, &mut err);
-        assert_status(&rt, told, "bound 4\n", calls, 0);
-        let mut out = FuseSink::with_room(alloc, ROOM, Pace::ByteByByte, Some(calls))?;
-        let told = tell_check(&Ok(Verdict::Optimal(5)), &mut out, &mut err);
-        assert_status(&rt, told, "optimal 5\n", calls, 0);
-        let mut out = FuseSink::with_room(alloc, ROOM, Pace::ByteByByte, Some(calls))?;
-        let told = tell_check(&Err(Fault::Refused(CheckFault::C3)), &mut out, &mut err);
-        assert_status(&rt, told, "refused C3\n", calls, 1);
-        let mut out = FuseSink::with_room(alloc, ROOM, Pace::ByteByByte, Some(calls))?;
-        let told = tell_run(&Err(Fault::F6), &mut out);
-        assert_status(&rt, told, "F6\n", calls, 2);
-        assert!(rt; err.bytes().is_empty());
+        assert_statuses(&rt, rt.alloc(), calls)?;
     }
     Ok(())
 }
 
 // A problem, the number of splits that are allowed, and the expected line and status.
-const SOLVED: [(Given, u32, &str, u8); 3] = [
+const SOLVED: &[(Given, u32, &str, u8)] = &[
     (CROSSING, 10, "cost 5\n", 0),
     (SHARED_START, 1, "impossible\n", 3),
     (EXCHANGE, 3, "limit 3 bound 4\n", 4),
 ];
 
+// What is told of a search with so many splits.
+fn assert_search_told(
+    rt: &impl Abort,
+    alloc: Global,
+    given: &Given,
+    limit: u32,
+    expected: Expected,
+) -> Result<(), Fail> {
+    assert!(rt; 1 <= given.k && given.k <= 200 && limit <= 100_000);
+    let solved = solve(alloc, given, limit)?;
+    assert_told(rt, alloc, &Answer::Search(solved.answer), expected)
+}
+
 #[test]
 fn ends_solved_runs(rt: HostRuntime) -> Result<(), Fail> {
     for (given, limit, line, status) in SOLVED {
-        assert!(rt; 1 <= given.k && given.k <= 200 && limit <= 100_000);
-        let mut out = BytesSink::with_room(rt.alloc(), ROOM)?;
-        let mut err = BytesSink::with_room(rt.alloc(), ROOM)?;
-        let solved = solve(rt.alloc(), &given, limit)?;
-        let told = tell_solve(&solved.answer, &mut out, &mut err);
-        assert_told(&rt, told, &out, &err, (status, line, ""));
+        assert_search_told(&rt, rt.alloc(), given, *limit, (*status, line, ""))?;
     }
     Ok(())
 }
 
+// What is told of a check of a plan text and a certificate.
+fn assert_check_told(
+    rt: &impl Abort,
+    alloc: Global,
+    given: &Given,
+    texts: (&str, &str),
+    expected: Expected,
+) -> Result<(), Fail> {
+    assert!(rt; 1 <= given.k && given.k <= 200);
+    let answer = check(alloc, given, texts.0.as_bytes(), texts.1.as_bytes());
+    assert_told(rt, alloc, &Answer::Check(answer), expected)
+}
+
 #[test]
 fn ends_checked_runs_of_a_limit(rt: HostRuntime) -> Result<(), Fail> {
-    let mut out = BytesSink::with_room(rt.alloc(), ROOM)?;
-    let mut err = BytesSink::with_room(rt.alloc(), ROOM)?;
-    let verdict = check(
-        rt.alloc(),
-        &EXCHANGE,
-        EXCHANGE_STOPPED_PLAN.as_bytes(),
-        EXCHANGE_STOPPED_CERT.as_bytes(),
-    );
-    let told = tell_check(&verdict, &mut out, &mut err);
-    assert_told(&rt, told, &out, &err, (0, "bound 4\n", ""));
-    Ok(())
+    let texts = (EXCHANGE_STOPPED_PLAN, EXCHANGE_STOPPED_CERT);
+    assert_check_told(&rt, rt.alloc(), &EXCHANGE, texts, (0, "bound 4\n", ""))
 }
 
 #[test]
 fn ends_refused_runs(rt: HostRuntime) -> Result<(), Fail> {
-    let mut out = BytesSink::with_room(rt.alloc(), ROOM)?;
-    let mut err = BytesSink::with_room(rt.alloc(), ROOM)?;
     let cert = with_lines(rt.alloc(), CROSSING_CERT, 7, 7, "at 0,1 0 4\n")?;
-    let verdict = check(
-        rt.alloc(),
-        &CROSSING,
-        CROSSING_PLAN.as_bytes(),
-        cert.as_bytes(),
-    );
-    let told = tell_check(&verdict, &mut out, &mut err);
-    assert_told(&rt, told, &out, &err, (1, "refused C7 7\n", ""));
-    Ok(())
+    let texts = (CROSSING_PLAN, cert.as_str());
+    let expected = (1, "refused C7 7\n", "");
+    assert_check_told(&rt, rt.alloc(), &CROSSING, texts, expected)
 }
 
 // A scenario of two rows for three agents.
@@ -406,10 +442,5 @@ const TOO_FEW_ROWS: Given = Given {
 
 #[test]
 fn ends_faulty_runs(rt: HostRuntime) -> Result<(), Fail> {
-    let mut out = BytesSink::with_room(rt.alloc(), ROOM)?;
-    let mut err = BytesSink::with_room(rt.alloc(), ROOM)?;
-    let solved = solve(rt.alloc(), &TOO_FEW_ROWS, 10)?;
-    let told = tell_solve(&solved.answer, &mut out, &mut err);
-    assert_told(&rt, told, &out, &err, (2, "", "F2 S7 2\n"));
-    Ok(())
+    assert_search_told(&rt, rt.alloc(), &TOO_FEW_ROWS, 10, (2, "", "F2 S7 2\n"))
 }
