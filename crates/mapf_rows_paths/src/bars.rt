@@ -45,9 +45,10 @@ fn expect_last_tick_of_the_bar<B: BarTable>(
 }
 
 #[test]
-fn both_tables_know_the_last_tick(rt: HostRuntime) -> Result<(), OutOfMemory> {
+fn both_tables_know_the_last_tick(rt: HostRuntime) -> Result<(), Fail> {
     expect_last_tick_of_the_bar::<ListBars>(&rt, rt.alloc())?;
-    expect_last_tick_of_the_bar::<TickBars>(&rt, rt.alloc())
+    expect_last_tick_of_the_bar::<TickBars>(&rt, rt.alloc())?;
+    Ok(())
 }
 
 /// Forbids a cell at a tick.
