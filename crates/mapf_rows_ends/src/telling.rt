@@ -326,6 +326,25 @@ fn tells_nothing_of_a_run_that_went_well(rt: HostRuntime) -> Result<(), Fail> {
     assert_told(&rt, rt.alloc(), &Answer::Run(Ok(())), (0, "", ""))
 }
 
+const DISPLAYED: &[(Fault, &str)] = &[
+    (Fault::F1(MapFault::M4 { line: 2 }), "map: M4 { line: 2 }"),
+    (Fault::F2(ScenFault::S1), "scenario: S1"),
+    (Fault::F3(PlayFault::NoPlan), "plan or events: NoPlan"),
+    (Fault::F4(Input::Cert), "read of Cert"),
+    (Fault::F5(Output::Plan), "write of Plan"),
+    (Fault::F6, "out of memory"),
+    (Fault::Refused(CheckFault::C3), "refused: C3"),
+];
+
+#[test]
+fn displays_each_kind_of_error(rt: HostRuntime) -> Result<(), Fail> {
+    for (fault, text) in DISPLAYED {
+        let displayed = format!(in rt.alloc(); "{fault}")?;
+        assert_eq!(rt; displayed.as_str(), *text);
+    }
+    Ok(())
+}
+
 // The status after the answer is printed to a sink that allows so many calls of a byte each, and whether
 // the other sink got nothing.
 fn told_within(alloc: Global, answer: &Answer, calls: u64) -> Result<(u8, bool), OutOfMemory> {
