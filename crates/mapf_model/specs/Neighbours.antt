@@ -3,7 +3,7 @@ use Rattle.std.specs.Prelude.{ℕ, ◌+◌, ◌-◌, ◌%◌, Option, None, Some
 use Rattle.mapf_model.specs.Grid.{GridMap}
 
 -- the cells above and left, the cell itself, and those right and below, in rising order, on a grid of this width; None
--- for a cell that would be outside its row or above row 0
+-- for a cell that would be outside its row or above the first row
 abbrev pub neighbourhood : ℕ → ℕ → List (Option ℕ)
 neighbourhood width cell =
     (if nat_le width cell then Some (cell - width) else None) ∷

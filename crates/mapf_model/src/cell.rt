@@ -19,7 +19,7 @@ impl Model for Cell {
 
 impl Cell {
     /// Returns the cells above and left, the cell itself, and those right and below, in rising order, on a grid of this
-    /// width. None for a cell that would be outside its row or above row 0.
+    /// width. None for a cell that would be outside its row or above the first row.
     pub fn neighbourhood(self, width: u32) -> [Option<Cell>; 5]
         requires wide { 0 < width }
         requires small { self + width < 2 ^ 32 }
