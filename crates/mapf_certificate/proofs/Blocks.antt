@@ -12,10 +12,10 @@ use Rattle.mapf_certificate.specs.Certificates.{line_text, entry_text, entries_t
 use Rattle.mapf_certificate.specs.declared.cert.LinesFault.{LinesFault}
 use Rattle.mapf_certificate.specs.Buffered.{Buffered}
 use Rattle.mapf_certificate.specs.Window.{Window, Fails, IsTextFault}
-use Rattle.mapf_certificate.specs.Bounded.{BeginsWithBlock, BeginsWithEntries, BeginsWithEntry, BeginsWithLine, IsBlockFor, IsEntryFor, IsOfLesserAgent, MayFollow}
+use Rattle.mapf_certificate.specs.Bounded.{AreSpelledApart, BeginsWithBlock, BeginsWithEntries, BeginsWithEntry, BeginsWithLine, IsBlockFor, IsEntryFor, IsOfLesserAgent, MayFollow}
 use Rattle.mapf_certificate.proofs.PlainLines.{same_line}
 use Rattle.mapf_certificate.proofs.Windows.{Window-trans, Refuses-taken, Fails-text, Fails-after}
-use Rattle.mapf_certificate.proofs.Sequences.{AreSpelledApart, same_list}
+use Rattle.mapf_certificate.proofs.Sequences.{same_list}
 
 at_same : (a b : Entry) → lines.At a ≡ lines.At b → a ≡ b
 at_same a b e = cc

@@ -16,10 +16,10 @@ use Rattle.mapf_certificate.specs.Buffered.{Buffered}
 use Rattle.mapf_certificate.specs.Lines.{IsLine, IsCountOnSplit, grid_for}
 use Rattle.mapf_certificate.specs.Certificates.{line_text, blocks_text, block_text, count_on_split, first_line, node_text, MayBeOnSplit}
 use Rattle.mapf_certificate.specs.Window.{Fails, IsTextFault}
-use Rattle.mapf_certificate.specs.Bounded.{BeginsWithBlocks, BeginsWithLine, BeginsWithNode, IsBlockFor, IsNodeFor, IsOfLesserAgent}
+use Rattle.mapf_certificate.specs.Bounded.{AreSpelledApart, BeginsWithBlocks, BeginsWithLine, BeginsWithNode, IsBlockFor, IsNodeFor, IsOfLesserAgent}
 use Rattle.mapf_certificate.proofs.PlainLines.{same_line}
 use Rattle.mapf_certificate.proofs.Windows.{Fails-weaker, Fails-text}
-use Rattle.mapf_certificate.proofs.Sequences.{AreSpelledApart, same_list}
+use Rattle.mapf_certificate.proofs.Sequences.{same_list}
 use Rattle.mapf_certificate.proofs.Blocks.{blocks_apart}
 
 -- the lines after the first of a node

@@ -9,14 +9,10 @@ use Rattle.std.proofs.lemmas.List.{append-nil}
 use Rattle.std.proofs.lemmas.Option.{get_or_from_slice_get, slice_get_within}
 use Rattle.std.proofs.Math.ListN.{get_or-append}
 use Rattle.std.proofs.Math.Seq.{get_or-append_seam}
-use Rattle.mapf_certificate.specs.Bounded.{AreInOrder, MayFollow}
+use Rattle.mapf_certificate.specs.Bounded.{AreInOrder, AreSpelledApart, MayFollow}
 use Rattle.mapf_certificate.specs.Buffered.{Buffered}
 use Rattle.mapf_certificate.specs.Window.{Window, BeginsWith}
 use Rattle.mapf_certificate.proofs.Windows.{Window-trans}
-
--- two texts of which one begins the other begin with one value
-pub record AreSpelledApart (A : Type 0) (Is : A → Type 0) (text : A → List ℕ) : Type 0 where
-  pub apart : (a b : A) (s t : List ℕ) → Is a → Is b → text a ++ s ≡ text b ++ t → (a ≡ b) × (s ≡ t)
 
 module _ {A : Type 0} (Is : A → Type 0) (text : A → List ℕ) (spelled : AreSpelledApart A Is text) where
   first : (a b : A) (as' bs : List A) (s t : List ℕ) → All Is (a ∷ as') → All Is (b ∷ bs) → flat_map text (a ∷ as') ++ s ≡ flat_map text (b ∷ bs) ++ t → (a ≡ b) × (flat_map text as' ++ s ≡ flat_map text bs ++ t)

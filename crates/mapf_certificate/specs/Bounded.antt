@@ -1,5 +1,5 @@
 -- Entries, blocks and nodes whose numbers are bounded by the size of a grid and a number of agents.
-use Rattle.std.specs.Prelude.{◌≡◌, ◌<◌, ℕ, List, All, AllPairs, length}
+use Rattle.std.specs.Prelude.{◌≡◌, ◌<◌, ◌++◌, ℕ, List, All, AllPairs, length}
 use Rattle.mapf_model.specs.declared.label.Entry.{Entry}
 use Rattle.mapf_model.specs.Blocks.{LabelBlock}
 use Rattle.mapf_model.specs.Printed.{IsBefore, IsEntryInRange, IsBlockInRange}
@@ -16,6 +16,10 @@ pub record AreInOrder (A : Type 0) (Is : A → Type 0) (Precedes : A → A → T
   pub many : length values ≡ count
   pub each : All Is values
   pub rising : AllPairs Precedes values
+
+-- two texts of which one begins the other begin with one value
+pub record AreSpelledApart (A : Type 0) (Is : A → Type 0) (text : A → List ℕ) : Type 0 where
+  pub apart : (a b : A) (s t : List ℕ) → Is a → Is b → text a ++ s ≡ text b ++ t → (a ≡ b) × (s ≡ t)
 
 -- a value of this kind that may follow these
 abbrev pub MayFollow : (A : Type 0) → (A → Type 0) → (A → A → Type 0) → List A → A → Type 0

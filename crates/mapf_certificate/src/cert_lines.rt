@@ -355,10 +355,13 @@ fn item_of<S: Source>(
 {
     match *line {
         CertLine::Split { conflict, blocks } => {
-            let blocks = lines.blocks(alloc, source, sizes, blocks.unwrap_or(0))?;
+            let blocks = lines.list(alloc, source, sizes, blocks.unwrap_or(0))?;
             Ok(Item::split(conflict, blocks))
         }
-        CertLine::Leaf(count) => Ok(Item::Leaf(lines.blocks(alloc, source, sizes, count)?)),
+        CertLine::Leaf(count) => {
+            let blocks = lines.list(alloc, source, sizes, count)?;
+            Ok(Item::Leaf(blocks))
+        }
         CertLine::Clash { i, j } => Ok(Item::Clash { i, j }),
         _ => Err(lines.misfit()),
     }

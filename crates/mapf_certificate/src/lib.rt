@@ -12,6 +12,7 @@ pub mod laws;
 mod line;
 mod line_writer;
 mod lines;
+mod listed;
 mod memory_sink;
 mod plan_lines;
 mod plan_reader;

@@ -1,66 +1,33 @@
 ghost use Rattle.mapf_certificate.specs.Buffered.{spare};
-ghost use Rattle.mapf_certificate.specs.Bounded.{AreBlocks, AreEntries, IsNextBlock, IsNextEntry, IsOfLesserAgent};
-ghost use Rattle.mapf_certificate.specs.Bounded.{BeginsWithBlock, BeginsWithBlocks, BeginsWithEntries};
-ghost use Rattle.mapf_certificate.specs.Bounded.{BeginsWithEntry, BeginsWithLine};
-ghost use Rattle.mapf_certificate.specs.Certificates.{line_text, entry_text, entries_text, block_text, blocks_text};
+ghost use Rattle.mapf_certificate.specs.Bounded.{AreInOrder, AreSpelledApart, BeginsWithLine};
+ghost use Rattle.mapf_certificate.specs.Certificates.{line_text};
 ghost use Rattle.mapf_certificate.specs.Lines.{IsLine, width_of};
-ghost use Rattle.mapf_certificate.specs.EntryReading.{BeginsWithText};
 ghost use Rattle.mapf_certificate.specs.Untouched.{HasLine, TakesThere};
-ghost use Rattle.mapf_certificate.specs.Window.{Window, Fails, IsTextFault, Tells};
-ghost use Rattle.mapf_model.specs.Printed.{IsBefore};
+ghost use Rattle.mapf_certificate.specs.Window.{Window, BeginsWith, Fails, IsTextFault, Tells};
 ghost use Rattle.std.specs.Io.KnownBytes.{IsAtEnd};
-ghost use Rattle.std.specs.Prelude.{◌≡◌, ◌<◌, ◌≤◌, ◌+◌, ◌↔◌, IsTrue, All, AllPairs, IfOk, IfErr, IfSome, OnOk, []};
-ghost use Rattle.std.specs.Prelude.{false};
+ghost use Rattle.std.specs.List.{flat_map};
+ghost use Rattle.std.specs.Prelude.{◌≡◌, ◌≤◌, ◌+◌, List, IfOk, IfErr, OnOk, [], false};
 
 use crate::buffer::{LineBuffer, NoLine};
 use crate::cert::{CertFault, LinesFault};
-use crate::entry_line::entry_front;
 use crate::line::CertLine;
+use crate::listed::Listed;
 use crate::sizes::Sizes;
 use crate::tree_line::{Due, line_of};
 use mapf_fields::LineFault;
-use mapf_model::{Block, Entry, OutOfMemory, Source};
+use mapf_model::{OutOfMemory, Source};
 use std::alloc::Global;
 
-/// For how many entries or blocks memory is requested at once. Most blocks have no more entries; and if a text
-/// announces more than it has, this is little memory.
+/// For how many values of a list memory is requested at once. Most blocks have no more entries; and if a text announces
+/// more than it has, this is little memory.
 const AT_ONCE: u64 = 64;
 
 /// The lines of a certificate that is read from a source.
 #[derive(Drop)]
 pub struct Lines {
-    buffer: LineBuffer,
+    pub buffer: LineBuffer,
     // How many were taken: the number of the line that was taken last, counted from 1.
     pub count: u64,
-}
-
-/// Returns whether the second entry may follow the first in a block.
-fn are_rising(a: &Entry, b: &Entry) -> bool
-    ensures { IsTrue result ↔ IsBefore a.now b.now }
-{
-    a.tick < b.tick || (a.tick == b.tick && a.cell.0 < b.cell.0)
-}
-
-/// Returns whether the entry may follow these.
-fn follows_entries(before: &[Entry], entry: &Entry) -> bool
-    requires { AllPairs IsBefore before.now }
-    ensures { IsTrue result ↔ All (λ b. IsBefore b entry.now) before.now }
-{
-    match before.last() {
-        Some(last) => are_rising(last, entry),
-        None => true,
-    }
-}
-
-/// Returns whether a block of this agent may follow these.
-fn follows_blocks(before: &[Block], agent: u32) -> bool
-    requires { AllPairs IsOfLesserAgent before.now }
-    ensures { IsTrue result ↔ All (λ b. b.agent < agent) before.now }
-{
-    match before.last() {
-        Some(last) => last.agent < agent,
-        None => true,
-    }
 }
 
 fn fault_of_line(line: u64, fault: LineFault) -> LinesFault
@@ -154,145 +121,37 @@ impl Lines {
         }
     }
 
-    /// Reads the entries of a block, which rise by tick and cell.
-    fn entries<S: Source>(
+    /// Reads so many values, which rise.
+    pub fn list<T: Listed, S: Source>(
         &mut self,
         alloc: Global,
         source: &mut S,
         sizes: &Sizes,
         count: u64,
-    ) -> Result<Vec<Entry>, LinesFault>
-        requires { S.has_failed source.old ≡ false }
+    ) -> Result<Vec<T>, LinesFault>
+        requires works { S.has_failed source.old ≡ false }
+        requires apart { AreSpelledApart T (T.is_for sizes.now) (T.text sizes.now.width) }
         ensures works { OnOk result (S.has_failed source.new ≡ false) }
         ensures spare { spare self.new.buffer ≤ spare self.old.buffer }
-        ensures entries { IfOk result (λ entries. AreEntries sizes.now count entries.items) }
-        ensures there { IfOk result (λ entries. TakesThere source.old source.new self.old.buffer self.new.buffer
-            (entries_text sizes.now.width entries.items)) }
-        ensures taken { IfOk result (λ entries. Window (S.remaining source.old) (S.remaining source.new)
-            self.old.buffer self.new.buffer (entries_text sizes.now.width entries.items)) }
+        ensures values { IfOk result (λ values.
+            AreInOrder T (T.is_for sizes.now) T.precedes count values.items) }
+        ensures there { IfOk result (λ values. TakesThere source.old source.new self.old.buffer self.new.buffer
+            (flat_map (T.text sizes.now.width) values.items)) }
+        ensures taken { IfOk result (λ values. Window (S.remaining source.old) (S.remaining source.new)
+            self.old.buffer self.new.buffer (flat_map (T.text sizes.now.width) values.items)) }
         ensures fails { IfErr result (Fails (S.remaining source.old) (S.remaining source.new) (S.has_failed source.new)
-            self.old.buffer (BeginsWithEntries sizes.now count)) }
+            self.old.buffer (BeginsWith (List T) (AreInOrder T (T.is_for sizes.now) T.precedes count)
+            (flat_map (T.text sizes.now.width)))) }
     {
-        let Ok(mut entries) = Vec::with_capacity(alloc, count.min(AT_ONCE) as usize) else {
+        let Ok(mut values) = Vec::with_capacity(alloc, count.min(AT_ONCE) as usize) else {
             return Err(LinesFault::Memory);
         };
         for _taken in 0..count {
-            let entry = self.entry(source, sizes, &entries)?;
-            if entries.push(entry).is_err() {
+            let value = T::next_after(self, alloc, source, sizes, &values)?;
+            if values.push(value).is_err() {
                 return Err(LinesFault::Memory);
             }
         }
-        Ok(entries)
-    }
-
-    /// Returns the entry whose whole line is in the buffer, if it may follow these, and the length of the line.
-    #[inline(always)]
-    fn entry_there(&self, sizes: &Sizes, before: &[Entry]) -> Option<(Entry, usize)>
-        requires { AllPairs IsBefore before.now }
-        ensures next { IfSome result (λ p. IsNextEntry sizes.now before.now p.0) }
-        ensures text { IfSome result (λ p.
-            BeginsWithText self.now.buffer.bytes (entry_text sizes.now.width p.0) p.1) }
-    {
-        let bytes = self.buffer.all();
-        match entry_front(bytes, sizes) {
-            Ok((entry, rest)) if follows_entries(before, &entry) => {
-                Some((entry, bytes.len() - rest.len()))
-            }
-            _ => None,
-        }
-    }
-
-    /// Reads the next entry after these.
-    fn entry<S: Source>(
-        &mut self,
-        source: &mut S,
-        sizes: &Sizes,
-        before: &[Entry],
-    ) -> Result<Entry, LinesFault>
-        requires works { S.has_failed source.old ≡ false }
-        requires rising { AllPairs IsBefore before.now }
-        ensures works { OnOk result (S.has_failed source.new ≡ false) }
-        ensures spare { spare self.new.buffer ≤ spare self.old.buffer }
-        ensures entry { IfOk result (λ entry. IsNextEntry sizes.now before.now entry) }
-        ensures there { IfOk result (λ entry. TakesThere source.old source.new self.old.buffer self.new.buffer
-            (entry_text sizes.now.width entry)) }
-        ensures taken { IfOk result (λ entry. Window (S.remaining source.old) (S.remaining source.new)
-            self.old.buffer self.new.buffer (entry_text sizes.now.width entry)) }
-        ensures fails { IfErr result (Fails (S.remaining source.old) (S.remaining source.new) (S.has_failed source.new)
-            self.old.buffer (BeginsWithEntry sizes.now before.now)) }
-    {
-        if let Some((entry, length)) = self.entry_there(sizes, before) {
-            self.count = self.count.saturating_add(1);
-            self.buffer.take(length);
-            return Ok(entry);
-        }
-        let CertLine::At(entry) = self.next(source, &Due::Tree(*sizes))? else {
-            return Err(self.misfit());
-        };
-        if !follows_entries(before, &entry) {
-            return Err(self.misfit());
-        }
-        Ok(entry)
-    }
-
-    /// Reads the next block after these.
-    fn block<S: Source>(
-        &mut self,
-        alloc: Global,
-        source: &mut S,
-        sizes: &Sizes,
-        before: &[Block],
-    ) -> Result<Block, LinesFault>
-        requires works { S.has_failed source.old ≡ false }
-        requires rising { AllPairs IsOfLesserAgent before.now }
-        ensures works { OnOk result (S.has_failed source.new ≡ false) }
-        ensures spare { spare self.new.buffer ≤ spare self.old.buffer }
-        ensures block { IfOk result (λ block. IsNextBlock sizes.now before.now block) }
-        ensures there { IfOk result (λ block. TakesThere source.old source.new self.old.buffer self.new.buffer
-            (block_text sizes.now.width block)) }
-        ensures taken { IfOk result (λ block. Window (S.remaining source.old) (S.remaining source.new)
-            self.old.buffer self.new.buffer (block_text sizes.now.width block)) }
-        ensures fails { IfErr result (Fails (S.remaining source.old) (S.remaining source.new) (S.has_failed source.new)
-            self.old.buffer (BeginsWithBlock sizes.now before.now)) }
-    {
-        let CertLine::Agent { agent, entries } = self.next(source, &Due::Tree(*sizes))? else {
-            return Err(self.misfit());
-        };
-        if !follows_blocks(before, agent) {
-            return Err(self.misfit());
-        }
-        let entries = self.entries(alloc, source, sizes, entries)?;
-        Ok(Block { agent, entries })
-    }
-
-    /// Reads the blocks of a node, whose agents rise.
-    pub fn blocks<S: Source>(
-        &mut self,
-        alloc: Global,
-        source: &mut S,
-        sizes: &Sizes,
-        count: u64,
-    ) -> Result<Vec<Block>, LinesFault>
-        requires { S.has_failed source.old ≡ false }
-        ensures works { OnOk result (S.has_failed source.new ≡ false) }
-        ensures spare { spare self.new.buffer ≤ spare self.old.buffer }
-        ensures blocks { IfOk result (λ blocks. AreBlocks sizes.now count blocks.items) }
-        ensures there { IfOk result (λ blocks. TakesThere source.old source.new self.old.buffer self.new.buffer
-            (blocks_text sizes.now.width blocks.items)) }
-        ensures taken { IfOk result (λ blocks. Window (S.remaining source.old) (S.remaining source.new)
-            self.old.buffer self.new.buffer (blocks_text sizes.now.width blocks.items)) }
-        ensures fails { IfErr result (Fails (S.remaining source.old) (S.remaining source.new) (S.has_failed source.new)
-            self.old.buffer (BeginsWithBlocks sizes.now count)) }
-    {
-        let Ok(mut blocks) = Vec::with_capacity(alloc, count.min(AT_ONCE) as usize) else {
-            return Err(LinesFault::Memory);
-        };
-        for _taken in 0..count {
-            let block = self.block(alloc, source, sizes, &blocks)?;
-            if blocks.push(block).is_err() {
-                return Err(LinesFault::Memory);
-            }
-        }
-        Ok(blocks)
+        Ok(values)
     }
 }

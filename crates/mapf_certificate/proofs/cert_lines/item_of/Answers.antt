@@ -6,6 +6,7 @@ use Rattle.mapf_certificate.specs.Certificates.{blocks_text, line_text, node_tex
 use Rattle.mapf_certificate.specs.Untouched.{TakesThere}
 use Rattle.mapf_certificate.specs.declared.line.CertLine.{CertLine}
 use Rattle.mapf_certificate.specs.declared.line.CertLine.TheVariants as lines
+use Rattle.mapf_certificate.proofs.Blocks.{blocks_apart}
 use Rattle.mapf_certificate.proofs.PlainLines.{same_line}
 use Rattle.mapf_certificate.proofs.Windows.{err_passed}
 use Rattle.mapf_certificate.proofs.Nodes.{split_rest, fails_in_blocks, fails_in_split_blocks, begins_no_node, first_kinds}
@@ -30,11 +31,11 @@ returns-in_default g c =
 pub returns-in_ok-blocks-in-Leaf-clause-there : goal.returns-in_ok-blocks-in-Leaf-clause-there
 returns-in_ok-blocks-in-Leaf-clause-there g c = λ taken e.
     let sizes = c.args.sizes.now in
-    let blocks = c.in_ok-blocks-in-Leaf.field-0.items in
+    let blocks = c.in_ok-blocks-in-Leaf.blocks.items in
     let is : IsLine (dues.Tree sizes) (lines.Leaf c.in-Leaf.count) = subst (IsLine (dues.Tree sizes)) c.in-Leaf.is c.requires.line in
-    let is' : IsLine (dues.Tree sizes) (lines.Leaf (length blocks)) = subst (λ n. IsLine (dues.Tree sizes) (lines.Leaf n)) (sym c.in_ok-blocks-in-Leaf.ensures.blocks.many) is in
+    let is' : IsLine (dues.Tree sizes) (lines.Leaf (length blocks)) = subst (λ n. IsLine (dues.Tree sizes) (lines.Leaf n)) (sym c.in_ok-blocks-in-Leaf.ensures.values.many) is in
     let (same, rest) = same_line (dues.Tree sizes) (lines.Leaf c.in-Leaf.count) (lines.Leaf (length blocks)) taken (blocks_text sizes.width blocks) is is' (ap (λ (l : CertLine). line_text sizes.width l ++ taken) (sym c.in-Leaf.is) ∙ e) in
-    subst (TakesThere c.args.source.now c.blocks-in-Leaf.new.source c.args.lines.now.buffer c.blocks-in-Leaf.new.self.buffer) (sym rest) c.in_ok-blocks-in-Leaf.ensures.there
+    subst (TakesThere c.args.source.now c.list-in-Leaf.new.source c.args.lines.now.buffer c.list-in-Leaf.new.self.buffer) (sym rest) c.in_ok-blocks-in-Leaf.ensures.there
 
 pub returns-in_err-blocks-in-Split-clause-fails : goal.returns-in_err-blocks-in-Split-clause-fails
 returns-in_err-blocks-in-Split-clause-fails g c =
@@ -48,5 +49,11 @@ returns-in_ok-blocks-in-Split-clause-there g c = λ taken e.
     let here = c.in_ok-blocks-in-Split in
     let blocks = here.blocks.items in
     let spelled = e ∙ ap (node_text sizes.version sizes.width) c.split.ensures in
-    let rest = split_rest sizes c.args.line.now c.in-Split.conflict c.in-Split.blocks _ blocks taken c.in-Split.is c.requires.line c.unwrap_or.ensures here.ensures.blocks.many spelled in
-    subst (TakesThere c.args.source.now c.blocks-in-Split.new.source c.args.lines.now.buffer c.blocks-in-Split.new.self.buffer) (sym rest) here.ensures.there
+    let rest = split_rest sizes c.args.line.now c.in-Split.conflict c.in-Split.blocks _ blocks taken c.in-Split.is c.requires.line c.unwrap_or.ensures here.ensures.values.many spelled in
+    subst (TakesThere c.args.source.now c.list.new.source c.args.lines.now.buffer c.list.new.self.buffer) (sym rest) here.ensures.there
+
+pub list-requires-clause-apart : goal.list-requires-clause-apart
+list-requires-clause-apart g c = blocks_apart c.args.sizes.now
+
+pub list-requires-in-Leaf-clause-apart : goal.list-requires-in-Leaf-clause-apart
+list-requires-in-Leaf-clause-apart g c = blocks_apart c.args.sizes.now

@@ -1,4 +1,4 @@
-use Rattle.std.proofs.Common.{rules, ap, sym}
+use Rattle.std.proofs.Common.{rules, ap}
 use Rattle.mapf_fields.proofs.Prefixes.{fails}
 use Rattle.mapf_fields.proofs.ListPieces.{list_more, list_prefix}
 use Rattle.mapf_certificate.specs.Certificates.{entry_text}

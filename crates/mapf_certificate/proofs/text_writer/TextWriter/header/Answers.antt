@@ -1,7 +1,7 @@
 use Rattle.std.proofs.Common.{ap, ◌++◌, ◌∙◌}
 use Rattle.mapf_fields.proofs.Prefixes.{fails_before, fails_after, passes_then, prefix_held, same_prefix, same_passes, same_or}
 use Rattle.mapf_certificate.specs.declared.line.CertLine.TheVariants as lines
-use Rattle.mapf_certificate.specs.Certificates.{line_text, header_text}
+use Rattle.mapf_certificate.specs.Certificates.{line_text}
 use Rattle.mapf_certificate.proofs.text_writer.TextWriter.header.Goals as goal
 
 pub returns-in_err-line-clause-text : goal.returns-in_err-line-clause-text

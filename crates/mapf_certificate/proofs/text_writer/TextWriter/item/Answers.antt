@@ -1,4 +1,4 @@
-use Rattle.std.proofs.Common.{ap, ◌∙◌, subst}
+use Rattle.std.proofs.Common.{ap, ◌∙◌}
 use Rattle.mapf_fields.proofs.Prefixes.{fails_before, passes_then, same_prefix, same_passes, same_or}
 use Rattle.mapf_model.specs.Tree.{blocks_of, node_of}
 use Rattle.mapf_certificate.specs.Certificates.{line_text, blocks_text, first_line}

@@ -1,4 +1,4 @@
-use Rattle.std.proofs.Common.{◌≡◌, codes, ◌++◌, ◌∷◌, [], append_assoc}
+use Rattle.std.proofs.Common.{codes, ◌++◌, ◌∷◌, [], append_assoc}
 use Rattle.mapf_fields.specs.Numbers.{field}
 use Rattle.mapf_fields.proofs.Prefixes.{start_fails, middle_fails, write_fails, finish, then_pushed, passes_trans, prefix_after, same_text, passes_from_none, prefix_from_none}
 use Rattle.mapf_certificate.specs.Plans.{plan_title, plan_text, answer_text}

@@ -2,7 +2,7 @@ use Rattle.std.proofs.Common.{ℕ, List, ◌-◌, length, subst}
 use Rattle.mapf_certificate.specs.Certificates.{entry_text}
 use Rattle.mapf_certificate.specs.EntryReading.{BeginsWithText}
 use Rattle.mapf_certificate.proofs.EntryFronts.{entry_begins, front_shorter}
-use Rattle.mapf_certificate.proofs.lines.Lines.entry_there.Goals as goal
+use Rattle.mapf_certificate.proofs.listed.entry_there.Goals as goal
 
 pub overflow_sub-result : goal.overflow_sub-result
 overflow_sub-result c = front_shorter c.args.sizes.now c.all-bytes.result.now c.in-Ok.rest.now c.in-Ok.entry c.in-Ok.ensures

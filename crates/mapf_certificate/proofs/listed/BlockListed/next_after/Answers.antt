@@ -7,8 +7,8 @@ use Rattle.mapf_certificate.specs.declared.line.CertLine.{CertLine}
 use Rattle.mapf_certificate.specs.declared.line.CertLine.TheVariants as lines
 use Rattle.mapf_certificate.proofs.TakenThere.{there-trans}
 use Rattle.mapf_certificate.proofs.Windows.{err_passed, Fails-weaker}
-use Rattle.mapf_certificate.proofs.Blocks.{block_is_line, misfit_block, fails_in_entries, block_window}
-use Rattle.mapf_certificate.proofs.lines.Lines.block.Goals as goal
+use Rattle.mapf_certificate.proofs.Blocks.{entries_apart, block_is_line, misfit_block, fails_in_entries, block_window}
+use Rattle.mapf_certificate.proofs.listed.BlockListed.next_after.Goals as goal
 
 pub returns-in_err-agent-clause-fails : goal.returns-in_err-agent-clause-fails
 returns-in_err-agent-clause-fails g c =
@@ -32,12 +32,15 @@ returns-in_err-entries-clause-fails g c =
 pub returns-clause-taken : goal.returns-clause-taken
 returns-clause-taken g c =
     block_window c.args.sizes.now _ _ _ _ _ _ _ _ _ _
-    c.in_ok-agent.ensures.taken c.in-Agent.is c.in_ok-entries.ensures.entries.many c.in_ok-entries.ensures.taken
+    c.in_ok-agent.ensures.taken c.in-Agent.is c.in_ok-entries.ensures.values.many c.in_ok-entries.ensures.taken
 
 pub returns-clause-there : goal.returns-clause-there
 returns-clause-there g c =
     let width = c.args.sizes.now.width in
     let entries = c.in_ok-entries.entries.items in
-    let whole : c.in_ok-agent.field-0 ≡ lines.Agent c.in-Agent.agent (length entries) = c.in-Agent.is ∙ ap (lines.Agent c.in-Agent.agent) (sym c.in_ok-entries.ensures.entries.many) in
-    let first = subst (λ (l : CertLine). TakesThere c.args.source.now c.next.new.source c.args.self.now.buffer c.next.new.self.buffer (line_text width l)) whole c.in_ok-agent.ensures.there in
-    there-trans c.args.source.now c.next.new.source c.entries.new.source c.args.self.now.buffer c.next.new.self.buffer c.entries.new.self.buffer (line_text width (lines.Agent c.in-Agent.agent (length entries))) (entries_text width entries) first c.in_ok-entries.ensures.there
+    let whole : c.in_ok-agent.field-0 ≡ lines.Agent c.in-Agent.agent (length entries) = c.in-Agent.is ∙ ap (lines.Agent c.in-Agent.agent) (sym c.in_ok-entries.ensures.values.many) in
+    let first = subst (λ (l : CertLine). TakesThere c.args.source.now c.next.new.source c.args.lines.now.buffer c.next.new.self.buffer (line_text width l)) whole c.in_ok-agent.ensures.there in
+    there-trans c.args.source.now c.next.new.source c.list.new.source c.args.lines.now.buffer c.next.new.self.buffer c.list.new.self.buffer (line_text width (lines.Agent c.in-Agent.agent (length entries))) (entries_text width entries) first c.in_ok-entries.ensures.there
+
+pub list-requires-clause-apart : goal.list-requires-clause-apart
+list-requires-clause-apart g c = entries_apart c.args.sizes.now

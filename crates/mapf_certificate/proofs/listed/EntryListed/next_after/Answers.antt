@@ -7,7 +7,7 @@ use Rattle.mapf_certificate.specs.declared.line.CertLine.{CertLine}
 use Rattle.mapf_certificate.proofs.Windows.{err_passed, Fails-weaker}
 use Rattle.mapf_certificate.proofs.Blocks.{entry_is_line, misfit_entry}
 use Rattle.mapf_certificate.proofs.EntryFronts.{there_window, there_taken, there_spare}
-use Rattle.mapf_certificate.proofs.lines.Lines.entry.Goals as goal
+use Rattle.mapf_certificate.proofs.listed.EntryListed.next_after.Goals as goal
 
 pub returns-in_err-entry-clause-fails : goal.returns-in_err-entry-clause-fails
 returns-in_err-entry-clause-fails g c =
@@ -25,13 +25,13 @@ returns-then-not-follows_entries-clause-fails g c =
 pub returns-clause-there : goal.returns-clause-there
 returns-clause-there g c =
     let buffer = c.next.new.self.buffer in
-    subst (λ (l : CertLine). TakesThere c.args.source.now c.next.new.source c.args.self.now.buffer buffer (line_text c.args.sizes.now.width l)) c.in-At.is c.in_ok-entry.ensures.there
+    subst (λ (l : CertLine). TakesThere c.args.source.now c.next.new.source c.args.lines.now.buffer buffer (line_text c.args.sizes.now.width l)) c.in-At.is c.in_ok-entry.ensures.there
 
 pub returns-in-Some-clause-spare : goal.returns-in-Some-clause-spare
-returns-in-Some-clause-spare g c = there_spare c.args.self.now.buffer c.take.new.self c.in-Some.length c.take.ensures
+returns-in-Some-clause-spare g c = there_spare c.args.lines.now.buffer c.take.new.self c.in-Some.length c.take.ensures
 
 pub returns-in-Some-clause-taken : goal.returns-in-Some-clause-taken
-returns-in-Some-clause-taken g c = there_window (g.S.Source.remaining c.args.source.now) c.args.self.now.buffer c.take.new.self _ c.in-Some.length c.in-Some.ensures.text c.take.ensures
+returns-in-Some-clause-taken g c = there_window (g.S.Source.remaining c.args.source.now) c.args.lines.now.buffer c.take.new.self _ c.in-Some.length c.in-Some.ensures.text c.take.ensures
 
 pub returns-in-Some-clause-there : goal.returns-in-Some-clause-there
-returns-in-Some-clause-there g c = there_taken c.args.source.now c.args.self.now.buffer c.take.new.self _ c.in-Some.length c.in-Some.ensures.text c.take.ensures
+returns-in-Some-clause-there g c = there_taken c.args.source.now c.args.lines.now.buffer c.take.new.self _ c.in-Some.length c.in-Some.ensures.text c.take.ensures

@@ -2,7 +2,7 @@ use Rattle.std.proofs.Common.{sym}
 use Rattle.mapf_model.specs.Printed.{IsBefore}
 use Rattle.mapf_certificate.proofs.Sequences.{last_decides}
 use Rattle.mapf_certificate.proofs.Blocks.{before_trans}
-use Rattle.mapf_certificate.proofs.lines.follows_entries.Goals as goal
+use Rattle.mapf_certificate.proofs.listed.follows_entries.Goals as goal
 
 pub returns-in-Some : goal.returns-in-Some
 returns-in-Some c =

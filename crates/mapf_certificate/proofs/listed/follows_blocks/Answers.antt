@@ -3,7 +3,7 @@ use Rattle.std.proofs.lemmas.Bool.{ltb-true, lt-ltb}
 use Rattle.mapf_model.specs.Blocks.{LabelBlock}
 use Rattle.mapf_certificate.specs.Bounded.{IsOfLesserAgent}
 use Rattle.mapf_certificate.proofs.Sequences.{last_decides}
-use Rattle.mapf_certificate.proofs.lines.follows_blocks.Goals as goal
+use Rattle.mapf_certificate.proofs.listed.follows_blocks.Goals as goal
 
 pub returns-in-Some : goal.returns-in-Some
 returns-in-Some c =
