@@ -45,18 +45,6 @@ IsOfLesserAgent a b = a.agent < b.agent
 abbrev pub IsNextEntry : Sizes → List Entry → Entry → Type 0
 IsNextEntry sizes before = MayFollow Entry (IsEntryFor sizes) IsBefore before
 
--- a block that may follow these
-abbrev pub IsNextBlock : Sizes → List LabelBlock → LabelBlock → Type 0
-IsNextBlock sizes before = MayFollow LabelBlock (IsBlockFor sizes) IsOfLesserAgent before
-
--- so many entries, in rising order
-abbrev pub AreEntries : Sizes → ℕ → List Entry → Type 0
-AreEntries sizes count = AreInOrder Entry (IsEntryFor sizes) IsBefore count
-
--- so many blocks, whose agents rise
-abbrev pub AreBlocks : Sizes → ℕ → List LabelBlock → Type 0
-AreBlocks sizes count = AreInOrder LabelBlock (IsBlockFor sizes) IsOfLesserAgent count
-
 -- the bytes begin with an expected line
 abbrev pub BeginsWithLine : Due → List ℕ → Type 0
 BeginsWithLine due = BeginsWith CertLine (IsLine due) (line_text (width_of due))
@@ -67,15 +55,15 @@ BeginsWithEntry sizes before = BeginsWith Entry (IsNextEntry sizes before) (entr
 
 -- they begin with so many entries
 abbrev pub BeginsWithEntries : Sizes → ℕ → List ℕ → Type 0
-BeginsWithEntries sizes count = BeginsWith (List Entry) (AreEntries sizes count) (entries_text sizes.width)
+BeginsWithEntries sizes count = BeginsWith (List Entry) (AreInOrder Entry (IsEntryFor sizes) IsBefore count) (entries_text sizes.width)
 
 -- they begin with a block that may follow these
 abbrev pub BeginsWithBlock : Sizes → List LabelBlock → List ℕ → Type 0
-BeginsWithBlock sizes before = BeginsWith LabelBlock (IsNextBlock sizes before) (block_text sizes.width)
+BeginsWithBlock sizes before = BeginsWith LabelBlock (MayFollow LabelBlock (IsBlockFor sizes) IsOfLesserAgent before) (block_text sizes.width)
 
 -- they begin with so many blocks
 abbrev pub BeginsWithBlocks : Sizes → ℕ → List ℕ → Type 0
-BeginsWithBlocks sizes count = BeginsWith (List LabelBlock) (AreBlocks sizes count) (blocks_text sizes.width)
+BeginsWithBlocks sizes count = BeginsWith (List LabelBlock) (AreInOrder LabelBlock (IsBlockFor sizes) IsOfLesserAgent count) (blocks_text sizes.width)
 
 -- they begin with a node
 abbrev pub BeginsWithNode : Sizes → List ℕ → Type 0

@@ -1,5 +1,6 @@
 -- A reader and its source stay as they were.
-use Rattle.std.specs.Prelude.{◌≡◌, ◌⊎◌, ◌<◌, ℕ, false, List, ◌++◌, length, take}
+use Rattle.std.specs.Prelude.{◌≡◌, ◌⊎◌, ◌<◌, ◌+◌, ℕ, false, List, ◌++◌, length, take}
+use Rattle.mapf_model.specs.Limits.{longest_cert_line}
 use Rattle.mapf_fields.specs.Ends.{lacks_end}
 use Rattle.mapf_certificate.specs.Buffered.{Buffered}
 
@@ -14,7 +15,7 @@ TakesThere source_old source_new old new taken = (rest : List ℕ) → old.bytes
 
 -- a whole line is in the buffer, or more than a line can hold
 abbrev pub HasLine : Buffered → Type 0
-HasLine buffer = (lacks_end (take 65 buffer.bytes) ≡ false) ⊎ (64 < length buffer.bytes)
+HasLine buffer = (lacks_end (take (longest_cert_line + 1) buffer.bytes) ≡ false) ⊎ (longest_cert_line < length buffer.bytes)
 
 -- if a line is in the buffer that isn't of the expected kind, the source is as it was
 abbrev pub RefusesThere : {S : Type 0} → S → S → Buffered → (List ℕ → Type 0) → Type 0

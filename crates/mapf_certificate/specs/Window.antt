@@ -1,6 +1,7 @@
 -- What a call takes from a buffer and the source behind it, and why it takes nothing.
 use Rattle.std.specs.Prelude.{◌≡◌, ◌≢◌, ◌↔◌, ◌⊎◌, ◌+◌, ◌<◌, ◌≤◌, ℕ, Bool, true, false, List, [], ◌++◌, length, take, Option}
 use Rattle.std.specs.Io.KnownBytes.{Consumes, IsAtEnd}
+use Rattle.mapf_model.specs.Limits.{longest_cert_line}
 use Rattle.mapf_fields.specs.Ends.{lacks_end}
 use Rattle.mapf_certificate.specs.declared.buffer.NoLine.{NoLine}
 use Rattle.mapf_certificate.specs.declared.buffer.NoLine.TheVariants as stops
@@ -95,11 +96,11 @@ pub record EndsEarly (had left : Option (List ℕ)) (old new : Buffered) : Type 
   pub ended : IsAtEnd left
   pub lacking : lacks_end new.bytes ≡ true
 
--- more than 64 bytes come before the end of a line
+-- more bytes come before the end of a line than a line may have
 pub record IsOverlong (had left : Option (List ℕ)) (old new : Buffered) : Type 0 where
   pub window : Window had left old new []
-  pub many : 64 < length new.bytes
-  pub lacking : lacks_end (take 65 new.bytes) ≡ true
+  pub many : longest_cert_line < length new.bytes
+  pub lacking : lacks_end (take (longest_cert_line + 1) new.bytes) ≡ true
 
 -- why there is no line
 abbrev pub LacksLine : Option (List ℕ) → Option (List ℕ) → Bool → Buffered → Buffered → NoLine → Type 0

@@ -1,13 +1,15 @@
 ghost use Rattle.std.specs.Io.KnownBytes.{IsAtEnd};
+ghost use Rattle.mapf_model.specs.Limits.{longest_cert_line};
 ghost use Rattle.mapf_fields.specs.Ends.{IsCut, lacks_end};
 ghost use Rattle.mapf_certificate.specs.Buffered.{spare};
 ghost use Rattle.mapf_certificate.specs.Untouched.{HasLine, IsUntouched};
 ghost use Rattle.mapf_certificate.specs.Window.{Window, LacksLine, LacksBytes};
-ghost use Rattle.std.specs.Prelude.{[], ◌++◌, take, ◌≡◌, ◌<◌, ◌≤◌, ◌+◌, ◌==◌, List, ℕ, length, drop, IfOk, IfErr};
-ghost use Rattle.std.specs.Prelude.{IfSome, IfNone, OnOk, OnErr, vec_len, vec_capacity, false, true};
+ghost use Rattle.std.specs.Prelude.{[], ◌++◌, take, ◌≡◌, ◌<◌, ◌≤◌, ◌+◌, ◌==◌, length, drop, IfOk, IfErr};
+ghost use Rattle.std.specs.Prelude.{IfSome, IfNone, OnOk, vec_len, vec_capacity, false, true};
 
 use mapf_fields::line_length;
-use mapf_model::{Failed, OutOfMemory, Source};
+use mapf_model::limits::LONGEST_CERT_LINE;
+use mapf_model::{OutOfMemory, Source};
 use std::alloc::Global;
 use std::marker::Model;
 
@@ -26,13 +28,14 @@ pub struct LineBuffer {
 
 impl Model for LineBuffer {
     ghost use Rattle.std.specs.Prelude.{◌≤◌, ◌+◌, drop, vec_len, vec_capacity};
-    ghost use Rattle.mapf_certificate.specs.Buffered.{Buffered};
+    ghost use Rattle.mapf_certificate.specs.Buffered.{Buffered, most_buffered};
 
     ghost Value = { Buffered };
 
     ghost view = { λ b. record { bytes = drop b.taken b.bytes.items; left = b.left } };
 
-    ghost invariant = { λ b. (b.taken ≤ vec_len b.bytes) × (4160 ≤ vec_capacity b.bytes) × (vec_len b.bytes ≤ 4160) };
+    ghost invariant = { λ b. (b.taken ≤ vec_len b.bytes) × (most_buffered ≤ vec_capacity b.bytes)
+        × (vec_len b.bytes ≤ most_buffered) };
 }
 
 /// Why there is no line.
@@ -52,9 +55,9 @@ pub enum NoLine {
 fn line_end(bytes: &[u8]) -> Option<usize>
     ensures line { IfSome result (λ n.
         (n < length bytes.now) × IsCut bytes.now (take n bytes.now) (drop (n + 1) bytes.now)) }
-    ensures none { IfNone result (lacks_end (take 65 bytes.now) ≡ true) }
+    ensures none { IfNone result (lacks_end (take (longest_cert_line + 1) bytes.now) ≡ true) }
 {
-    line_length(&bytes[..bytes.len().min(65)])
+    line_length(&bytes[..bytes.len().min(LONGEST_CERT_LINE + 1)])
 }
 
 impl LineBuffer {
@@ -63,7 +66,7 @@ impl LineBuffer {
         ensures { IfOk result (λ b. b ≡ record { bytes = []; left = limit }) }
     {
         Ok(LineBuffer {
-            bytes: Vec::with_capacity(alloc, 64 + PIECE)?,
+            bytes: Vec::with_capacity(alloc, LONGEST_CERT_LINE + PIECE)?,
             taken: 0,
             left: limit,
         })
@@ -109,7 +112,7 @@ impl LineBuffer {
     /// Reads once from the source. Returns whether bytes came.
     pub fn fill<S: Source>(&mut self, source: &mut S) -> Result<bool, NoLine>
         requires works { S.has_failed source.old ≡ false }
-        requires room { length self.old.bytes ≤ 64 }
+        requires room { length self.old.bytes ≤ longest_cert_line }
         ensures window { OnOk result (Window (S.remaining source.old) (S.remaining source.new) self.old self.new []) }
         ensures grows { IfOk result (λ more. more ≡ true → length self.old.bytes < length self.new.bytes) }
         ensures end { IfOk result (λ more. more ≡ false
@@ -133,8 +136,8 @@ impl LineBuffer {
 
     /// Adds bytes that came.
     fn keep(&mut self, piece: &[u8])
-        requires room { length self.old.bytes ≤ 64 }
-        requires some { length piece.now ≤ 4096 }
+        requires room { length self.old.bytes ≤ longest_cert_line }
+        requires some { length piece.now ≤ PIECE }
         requires limit { length piece.now ≤ self.old.left }
         ensures bytes { self.new.bytes ≡ self.old.bytes ++ piece.now }
         ensures left { self.old.left ≡ self.new.left + length piece.now }
@@ -162,7 +165,7 @@ impl LineBuffer {
             if let Some(n) = line_end(self.front(self.len())) {
                 return Ok(n);
             }
-            if self.len() > 64 {
+            if self.len() > LONGEST_CERT_LINE {
                 return Err(NoLine::Overlong);
             }
             if !self.fill(source)? {

@@ -16,7 +16,7 @@ ghost use Rattle.mapf_model.specs.declared.item.Claim.{Claim};
 ghost use Rattle.mapf_model.specs.Tree.{Node, node_of};
 ghost use Rattle.std.specs.Io.KnownBytes.{IsAtEnd};
 ghost use Rattle.std.specs.Prelude.{[], ◌∷◌, ◌++◌, ℕ, List, Some, true, IfErr, IsErrOf, ◌^◌, ◌≡◌, ◌↔◌, ◌<◌, ◌≤◌, ◌+◌};
-ghost use Rattle.std.specs.Prelude.{IfOk, IfSome, IsSome, IsSomeAnd, OnOk, None, false, MatchOption, MatchResult};
+ghost use Rattle.std.specs.Prelude.{IfOk, IfSome, IsSome, IsSomeAnd, OnOk, None, false, MatchResult};
 
 use crate::cert::LinesFault;
 use crate::line::CertLine;

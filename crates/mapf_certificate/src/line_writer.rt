@@ -1,4 +1,4 @@
-ghost use Rattle.std.specs.Prelude.{◌≡◌, ◌<◌, ◌≤◌, ◌+◌, ◌*◌, ◌++◌, ◌∷◌, [], length};
+ghost use Rattle.std.specs.Prelude.{◌≡◌, ◌<◌, ◌≤◌, ◌+◌, ◌*◌, ◌++◌, length};
 ghost use Rattle.mapf_fields.specs.Numbers.{field, pair};
 ghost use Rattle.mapf_fields.specs.Pages.{field_room, page_room};
 ghost use Rattle.mapf_certificate.specs.Lines.{words, title_words, split_words, count_words, label_words, line_room};

@@ -1,5 +1,5 @@
-ghost use Rattle.std.specs.Prelude.{◌≡◌, ◌⊎◌, ◌<◌, ◌≤◌, ◌+◌, ◌++◌, ◌∷◌, ℕ, List, All, Ok, Err, true, codes, length};
-ghost use Rattle.std.specs.Prelude.{vec_len, ◌↔◌, IsOk, IsSome, IfSome, IfOk, IsOkAnd, OnOk};
+ghost use Rattle.std.specs.Prelude.{◌≡◌, ◌<◌, ◌≤◌, ◌+◌, ◌++◌, ℕ, List, All, Ok, Err, true, codes, length};
+ghost use Rattle.std.specs.Prelude.{◌↔◌, IsOk, IsSome, IfSome, IfOk, IsOkAnd};
 ghost use Rattle.mapf_model.specs.Printed.{IsOnGrid, IsPathInRange};
 ghost use Rattle.mapf_model.specs.Limits.{most_path_cells};
 ghost use Rattle.mapf_model.specs.Path.{IsTight};
@@ -60,8 +60,7 @@ fn take_title(bytes: &[u8]) -> Result<(Version, &[u8]), PlanTextFault>
     let (line, rest) = line_at(1, bytes)?;
     match title_line(line) {
         Ok(version) => Ok((version, rest)),
-        Err(LineFault::Shape) => Err(PlanTextFault::P1(1)),
-        Err(LineFault::Range) => Err(PlanTextFault::P3(1)),
+        Err(fault) => Err(fault_of_line(1, fault)),
     }
 }
 
@@ -73,8 +72,7 @@ fn take_agents(bytes: &[u8]) -> Result<(u32, &[u8]), PlanTextFault>
     let (line, rest) = line_at(2, bytes)?;
     match agents_line(line) {
         Ok(agents) => Ok((agents, rest)),
-        Err(LineFault::Shape) => Err(PlanTextFault::P1(2)),
-        Err(LineFault::Range) => Err(PlanTextFault::P3(2)),
+        Err(fault) => Err(fault_of_line(2, fault)),
     }
 }
 
@@ -86,8 +84,7 @@ fn take_answer(version: Version, bytes: &[u8]) -> Result<(AnswerLine, &[u8]), Pl
     let (line, rest) = line_at(3, bytes)?;
     match answer_line(version, line) {
         Ok(answer) => Ok((answer, rest)),
-        Err(LineFault::Shape) => Err(PlanTextFault::P1(3)),
-        Err(LineFault::Range) => Err(PlanTextFault::P3(3)),
+        Err(fault) => Err(fault_of_line(3, fault)),
     }
 }
 

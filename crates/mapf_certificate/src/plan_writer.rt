@@ -1,4 +1,4 @@
-ghost use Rattle.std.specs.Prelude.{◌≡◌, ◌<◌, ◌≤◌, ◌+◌, ◌*◌, ◌++◌, ◌∷◌, [], codes, OnOk, IfOk, All, length, false};
+ghost use Rattle.std.specs.Prelude.{◌≡◌, ◌<◌, ◌≤◌, ◌+◌, ◌*◌, ◌++◌, ◌∷◌, [], codes, OnOk, IfOk, length, false};
 ghost use Rattle.std.specs.Result.{is_err};
 ghost use Rattle.mapf_model.specs.Limits.{most_agents};
 ghost use Rattle.mapf_fields.specs.Numbers.{field};
@@ -13,7 +13,7 @@ use crate::plan_text::{PlanAnswer, PlanText};
 use crate::text_writer::{LINE_ROOM, TextWriter};
 use crate::version::Version;
 use mapf_fields::Page;
-use mapf_model::{Cause, Cell, Failed, Grid, OutOfMemory, Path, Plan, Sink};
+use mapf_model::{Cause, Cell, Failed, Grid, OutOfMemory, Path, Sink};
 use std::alloc::Global;
 
 /// Returns the sum of the paths' costs.

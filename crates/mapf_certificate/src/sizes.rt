@@ -1,4 +1,4 @@
-ghost use Rattle.std.specs.Prelude.{◌≡◌, ◌≤◌, ◌<◌, ◌+◌, ◌*◌, ℕ};
+ghost use Rattle.std.specs.Prelude.{◌≡◌, ◌≤◌, ◌<◌, ◌+◌, ◌*◌};
 ghost use Rattle.mapf_model.specs.Limits.{most_agents, greatest_side};
 ghost use Rattle.mapf_fields.specs.Numbers.{read_cell};
 

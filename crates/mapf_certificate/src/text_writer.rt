@@ -1,6 +1,6 @@
-ghost use Rattle.std.specs.Prelude.{◌≡◌, ◌<◌, ◌++◌, [], false};
+ghost use Rattle.std.specs.Prelude.{◌≡◌, ◌<◌, [], false};
 ghost use Rattle.std.specs.Result.{is_err};
-ghost use Rattle.mapf_fields.specs.Pages.{PassesOrFails, WritesOrFails};
+ghost use Rattle.mapf_fields.specs.Pages.{PassesOrFails};
 ghost use Rattle.mapf_certificate.specs.Certificates.{line_text, entry_text};
 
 use crate::line::CertLine;

@@ -6,6 +6,7 @@ use Rattle.mapf_model.specs.declared.label.Entry.{Entry}
 use Rattle.mapf_model.specs.declared.label.Label.{Label}
 use Rattle.mapf_model.specs.Labels.{entries_of}
 use Rattle.mapf_model.specs.Printed.{IsBefore}
+use Rattle.mapf_model.proofs.ContainsLemmas.{Contains-cons_new, Contains-cons_old}
 
 -- an entry is of the state, or the test of both numbers fails
 of_state : (a b c d : ℕ) → ((a ≡ b) × (c ≡ d) × (((a == b) && (c == d)) ≡ true)) ⊎ (((a == b) && (c == d)) ≡ false)
@@ -17,12 +18,6 @@ of_state a b c d = ⊎_elim
     (λ (other : a ≡ b → ⊥). inr (rw (ne_eqb a b other) refl))
     (cases_eq a b)
 
-Contains-here : {X : Type 0} (x : X) (xs : List X) → Contains (x ∷ xs) x
-Contains-here x xs = (0, omega arith, refl)
-
-Contains-later : {X : Type 0} (y x : X) (xs : List X) → Contains xs x → Contains (y ∷ xs) x
-Contains-later y x xs (k, within, is) = (suc k, omega arith, is)
-
 -- the state of the entry
 at_state : (entry : Entry) (cell tick : ℕ) (label : Label) → entry.cell ≡ cell → entry.tick ≡ tick → entry.label ≡ label → entry ≡ record { cell = cell; tick = tick; label = label }
 at_state entry cell tick label a b c = rw (← a, ← b, ← c) refl
@@ -32,10 +27,10 @@ listed_is_contained [] cell tick label found = absurd cc
 listed_is_contained (entry ∷ entries) cell tick label found = ⊎_elim
     (λ (here : (entry.cell ≡ cell) × (entry.tick ≡ tick) × (((entry.cell == cell) && (entry.tick == tick)) ≡ true)).
     let first : Some entry.label ≡ Some label = rw here.2 at found in
-    rw (← at_state entry cell tick label here.0 here.1 (same_Some entry.label label first)) (Contains-here entry entries))
+    rw (← at_state entry cell tick label here.0 here.1 (same_Some entry.label label first)) (Contains-cons_new entry entries))
     (λ (other : ((entry.cell == cell) && (entry.tick == tick)) ≡ false).
     let later : entries_of entries cell tick ≡ Some label = rw other at found in
-    Contains-later entry (record { cell = cell; tick = tick; label = label }) entries (listed_is_contained entries cell tick label later))
+    Contains-cons_old entry (record { cell = cell; tick = tick; label = label }) entries (listed_is_contained entries cell tick label later))
     (of_state entry.cell cell entry.tick tick)
 
 not_before : (a b : Entry) → IsBefore a b → a.cell ≡ b.cell → a.tick ≡ b.tick → ⊥

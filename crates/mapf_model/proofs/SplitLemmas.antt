@@ -1,5 +1,5 @@
 -- A split loses no valid plan.
-use Rattle.std.proofs.Common.{◌≡◌, ◌⊎◌, ℕ, zero, suc, ◌+◌, List, ◌∷◌, Option, Some, None, Contains, slice_get, refl, sym, ◌∙◌, subst, inl, inr, ⊎_elim, nat_eq, arith}
+use Rattle.std.proofs.Common.{◌≡◌, ◌⊎◌, ℕ, ◌+◌, List, ◌∷◌, Option, Some, None, Contains, slice_get, refl, sym, ◌∙◌, subst, inl, inr, ⊎_elim, nat_eq, arith}
 use Rattle.std.proofs.lemmas.Bool.{cases_eq, cond_both, eqb-true}
 use Rattle.std.proofs.lemmas.Option.{same_Some}
 use Rattle.mapf_model.specs.declared.bar.Bar.{Bar}
@@ -10,10 +10,7 @@ use Rattle.mapf_model.specs.Path.{at}
 use Rattle.mapf_model.specs.Bars.{Violates, Satisfies}
 use Rattle.mapf_model.specs.Plan.{Instance, IsValid}
 use Rattle.mapf_model.specs.Tree.{ConstraintTree, Split, Leaf, Clash, NodeContext, root, with_bar, with_constraint, left_constraint, right_constraint, left_child_context, right_child_context, AtEachNode, AtSomeEnd, IsProperSplit, IsProperNode, AllSatisfy}
-
-pub Contains-cons_cases : {X : Type 0} (x y : X) (xs : List X) → Contains (x ∷ xs) y → (x ≡ y) ⊎ Contains xs y
-Contains-cons_cases x y xs (zero, within, is) = inl is
-Contains-cons_cases x y xs (suc k, within, is) = inr (k, omega arith, is)
+use Rattle.mapf_model.proofs.ContainsLemmas.{Contains-cons_cases}
 
 decide_meets : (bar : Bar) (path : List ℕ) → Violates bar path ⊎ (Violates bar path → ⊥)
 decide_meets (Cell cell tick) path = cases_eq (at path tick) cell

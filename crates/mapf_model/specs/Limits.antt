@@ -9,6 +9,10 @@ most_agents = 200
 abbrev pub greatest_side : ℕ
 greatest_side = 2048
 
+-- cells of a grid: the most columns times the most rows
+abbrev pub most_cells : ℕ
+most_cells = 4194304
+
 -- cells of a path
 abbrev pub most_path_cells : ℕ
 most_path_cells = 10000000
@@ -40,3 +44,7 @@ most_text_bytes = 67108864
 -- bytes of a certificate: one tebibyte
 abbrev pub most_cert_bytes : ℕ
 most_cert_bytes = 1099511627776
+
+-- bytes of a line of a certificate, without its LF
+abbrev pub longest_cert_line : ℕ
+longest_cert_line = 64

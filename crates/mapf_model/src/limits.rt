@@ -1,7 +1,7 @@
 ghost use Rattle.std.specs.Prelude.{◌≡◌};
 ghost use Rattle.mapf_model.specs.Limits.{most_agents, greatest_side, most_path_cells, greatest_cost, greatest_sum};
 ghost use Rattle.mapf_model.specs.Limits.{most_splits, last_split_tick, split_ticks, most_text_bytes};
-ghost use Rattle.mapf_model.specs.Limits.{most_cert_bytes};
+ghost use Rattle.mapf_model.specs.Limits.{most_cert_bytes, longest_cert_line};
 
 /// The number `MOST_AGENTS`, alone or at the end of a text.
 #[macro_export]
@@ -55,6 +55,9 @@ pub const MOST_TEXT_BYTES: u64 = 67_108_864;
 /// The greatest number of bytes of a certificate.
 pub const MOST_CERT_BYTES: u64 = 1_099_511_627_776;
 
+/// The greatest number of bytes of a line of a certificate, without its LF.
+pub const LONGEST_CERT_LINE: usize = 64;
+
 /// The constants equal the numbers of the definitions.
 pub fn limits_are_defined()
     ensures agents { MOST_AGENTS ≡ most_agents }
@@ -67,4 +70,5 @@ pub fn limits_are_defined()
     ensures ticks { SPLIT_TICKS ≡ split_ticks }
     ensures text_bytes { MOST_TEXT_BYTES ≡ most_text_bytes }
     ensures cert_bytes { MOST_CERT_BYTES ≡ most_cert_bytes }
+    ensures cert_line { LONGEST_CERT_LINE ≡ longest_cert_line }
 {}

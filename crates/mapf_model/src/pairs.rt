@@ -1,4 +1,4 @@
-ghost use Rattle.std.specs.Prelude.{◌<◌, ℕ, false, true, IfNone, IfSome};
+ghost use Rattle.std.specs.Prelude.{◌<◌, false, true, IfNone, IfSome};
 ghost use Rattle.mapf_model.specs.Pairs.{EachPair, EachPairBefore};
 
 /// Returns the first pair `(i, j)` of numbers below `count`, `i` less than `j`, for which the test is true: the one of
