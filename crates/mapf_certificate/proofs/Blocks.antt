@@ -23,7 +23,7 @@ at_same a b e = cc
 agent_same : (a b m n : ℕ) → lines.Agent a m ≡ lines.Agent b n → (a ≡ b) × (m ≡ n)
 agent_same a b m n e = (cc, cc)
 
--- entries are told apart
+-- two texts that begin with an entry, and of which one begins the other, begin with the same entry
 pub entries_apart : (sizes : Sizes) → AreSpelledApart Entry (IsEntryFor sizes) (entry_text sizes.width)
 entries_apart sizes = record { apart = λ a b s t p q e. let (same, rest) = same_line (dues.Tree sizes) (lines.At a) (lines.At b) s t p q e in (at_same a b same, rest) }
 
@@ -31,7 +31,7 @@ entries_apart sizes = record { apart = λ a b s t p q e. let (same, rest) = same
 pub agent_line : (sizes : Sizes) (block : LabelBlock) → IsBlockFor sizes block → IsLine (dues.Tree sizes) (lines.Agent block.agent (length block.entries))
 agent_line sizes block is = (is.agent, is.some, is.few)
 
--- blocks are told apart
+-- likewise for blocks
 pub blocks_apart : (sizes : Sizes) → AreSpelledApart LabelBlock (IsBlockFor sizes) (block_text sizes.width)
 blocks_apart sizes = record { apart = by }
   where
@@ -47,11 +47,11 @@ blocks_apart sizes = record { apart = by }
         let (entries, rest) = same_list (IsEntryFor sizes) (entry_text w) (entries_apart sizes) a.entries b.entries s t p.entries q.entries count more in
         (ap (λ (n : ℕ). let c : LabelBlock = record { agent = n; entries = a.entries } in c) agent ∙ ap (λ (es : List Entry). let c : LabelBlock = record { agent = b.agent; entries = es } in c) entries, rest)
 
--- the line that is due where an entry is due
+-- where an entry is expected, a line of the tree is
 pub entry_is_line : (sizes : Sizes) (before : List Entry) (t : List ℕ) → BeginsWithEntry sizes before t → BeginsWithLine (dues.Tree sizes) t
 entry_is_line sizes before t begins = record { value = lines.At begins.value; is = begins.is.0; rest = begins.rest; spelled = begins.spelled }
 
--- where an entry is due the line that comes is that of one that may follow
+-- if the bytes begin with an entry that may follow, their first line is that entry's
 pub entry_fits : (sizes : Sizes) (before : List Entry) (line : CertLine) (more : List ℕ) → IsLine (dues.Tree sizes) line → BeginsWithEntry sizes before (line_text sizes.width line ++ more)
     → (entry : Entry) × (line ≡ lines.At entry) × MayFollow Entry (IsEntryFor sizes) IsBefore before entry
 entry_fits sizes before line more is begins =
@@ -86,7 +86,7 @@ block_fits sizes before line more is begins =
       },
     )
 
--- after a block's line its entries are due
+-- a block's line is followed by its entries
 pub entries_due : (sizes : Sizes) (before : List LabelBlock) (agent count : ℕ) (more : List ℕ) → IsLine (dues.Tree sizes) (lines.Agent agent count) → BeginsWithBlock sizes before (line_text sizes.width (lines.Agent agent count) ++ more)
     → BeginsWithEntries sizes count more
 entries_due sizes before agent count more is begins =

@@ -97,7 +97,7 @@ entry_begins sizes bs rest entry e =
     let (ranged, text) = front_takes_entry sizes bs (entry, rest) e in
     (ranged, begins_with bs (entry_text sizes.width entry) rest text)
 
--- what follows the front isn't longer
+-- what follows an entry's line isn't longer than the whole
 pub front_shorter : (sizes : Sizes) (bs rest : List ℕ) (entry : Entry) → read_entry_front sizes bs ≡ Ok (entry, rest) → length rest ≤ length bs
 front_shorter sizes bs rest entry e =
     let (ranged, text) = front_takes_entry sizes bs (entry, rest) e in

@@ -110,7 +110,7 @@ agents_same a b e = cc
 claim_same : (a b : Claim) → lines.Claim a ≡ lines.Claim b → a ≡ b
 claim_same a b e = cc
 
--- headers are told apart
+-- two texts that begin with a header, and of which one begins the other, begin with the same header
 pub same_header : (version version' : Version) (width agents agents' : ℕ) (claim claim' : Claim) (s t : List ℕ) → IsAgentCount agents → IsAgentCount agents' → IsCertClaim version claim → IsCertClaim version' claim' → header_text version width agents claim ++ s ≡ header_text version' width agents' claim' ++ t
     → (version ≡ version') × (agents ≡ agents') × (claim ≡ claim') × (s ≡ t)
 same_header version version' width agents agents' claim claim' s t p q r u e =

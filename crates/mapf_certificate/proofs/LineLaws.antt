@@ -185,7 +185,7 @@ pub cost_takes : (bs : List ℕ) (n : ℕ) → read_cost bs ≡ Ok n → (bs ≡
 unfolding read_cost
 cost_takes bs n e = through (read_last 32 bs) _ n e (λ v read is. let (text, low, high) = last_range 32 0 1999999800 bs v n read is in (text, high))
 
--- what a line that is due is read to
+-- the line is of the expected kind, and the bytes are its words
 abbrev TakesDue : Due → List ℕ → CertLine → Type 0
 TakesDue due bs line = IsLine due line × (bs ≡ words (width_of due) line)
 
@@ -239,7 +239,7 @@ title_takes bs line e =
           subst (TakesDue dues.Title bs) (same_ok (lines.Title Two) line same) (tt, (bytes_eq-Decides bs (codes "mapf-cert 2")).0 found)
     ]
 
--- what a line is read to is a line that is due, and is spelled so
+-- what a line is read as is of the expected kind, and is spelled so
 pub line_takes : (due : Due) (bs : List ℕ) (line : CertLine) → read_line due bs ≡ Ok line → IsLine due line × (bs ≡ words (width_of due) line)
 line_takes dues.Title bs line e = title_takes bs line e
 line_takes dues.Agents bs line e = agents_takes bs line e
@@ -405,7 +405,7 @@ unfolding read_title
 title_again One = refl
 title_again Two = refl
 
--- a line that is due is read from its spelling
+-- a line of the expected kind is read from its text
 pub line_again : (due : Due) (line : CertLine) → IsLine due line → read_line due (words (width_of due) line) ≡ Ok line
 line_again dues.Title (lines.Title version) is = title_again version
 line_again dues.Title _ is = absurd is

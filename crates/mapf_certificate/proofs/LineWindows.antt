@@ -1,4 +1,4 @@
--- What refuses a line that is due.
+-- Why a line isn't one of the expected kind.
 use Rattle.std.proofs.Common.{◌≡◌, ℕ, ◌<◌, ◌≤◌, ◌+◌, Bool, true, List, [], ◌∷◌, ◌++◌, length, take, drop, Option, Some, None, MatchOption, IfNone, min, sym, ap, subst, ◌∙◌, arith, inl, inr, append_assoc}
 use Rattle.std.specs.Io.KnownBytes.{IsAtEnd}
 use Rattle.std.proofs.lemmas.Bool.{cases_lt}
@@ -44,7 +44,7 @@ refused_overlong due a b x y long = record {
       has_end_soon word is.rest 65 (omega arith) (ap (λ l. lacks_end (take 65 l)) (sym all) ∙ ap lacks_end (take-append-le 65 y.bytes more many) ∙ long.lacking));
 }
 
--- the first line is none that is due
+-- the first line isn't of the expected kind
 pub refused_line : (due : Due) (a b : Option (List ℕ)) (x y : Buffered) (line rest : List ℕ) → Window a b x y [] → IsCut y.bytes line rest → ((l : CertLine) → IsLine due l → line ≡ words (width_of due) l → ⊥) → Refuses a b x (BeginsWithLine due)
 refused_line due a b x y line rest window found never = record {
   pulled = window.pulled;
@@ -68,7 +68,7 @@ stopped a b c failed x y z stops.Overlong first lacks = absurd lacks
 stopped a b c failed x y z stops.Device first lacks = (lacks.0, ComesWithin-after a b c x y [] first lacks.1)
 stopped a b c failed x y z stops.PastLimit first lacks = (lacks.0, Exceeds-after a b c x y [] first lacks.1)
 
--- why no line is there is why none that is due is there
+-- why there is no line is why there is none of the expected kind
 pub lacking : (due : Due) (a b : Option (List ℕ)) (failed : Bool) (x y : Buffered) (why : NoLine) (fault : LinesFault) → LacksLine a b failed x y why → Tells why fault → Fails a b failed x (BeginsWithLine due) fault
 lacking due a b failed x y stops.Ended fault early is = Fails-text a b failed x (BeginsWithLine due) fault is early.0 (refused_early due a b x y early.1)
 lacking due a b failed x y stops.Overlong fault long is = Fails-text a b failed x (BeginsWithLine due) fault is long.0 (refused_overlong due a b x y long.1)

@@ -45,7 +45,7 @@ few_blocks sizes (block ∷ blocks) are =
     let low : (get_or all (length blocks) block).agent < sizes.agents = (are.each (length blocks) block (omega arith)).agent in
     omega arith
 
--- what the line of a split tells of its blocks, and how many they are
+-- the count in a split's line, and how many blocks there are
 
 count_fits : (version : Version) (agents : ℕ) (blocks : List LabelBlock) → length blocks ≤ agents → IsCountOnSplit version agents (count_on_split version blocks)
 count_fits One agents blocks few = refl
@@ -92,7 +92,7 @@ node_fits sizes line more is begins =
     let (same, rest) = same_line (dues.Tree sizes) line (first_line sizes.version node) more (after_first sizes.width node ++ begins.rest) is (node_line sizes node begins.is) (begins.spelled ∙ node_cut sizes.version sizes.width node begins.rest) in
     (node, same, begins.is, begins.rest, rest)
 
--- nodes are told apart
+-- two texts that begin with a node, and of which one begins the other, begin with the same node
 pub nodes_apart : (sizes : Sizes) → AreSpelledApart Node (IsNodeFor sizes) (node_text sizes.version sizes.width)
 nodes_apart sizes = record {
   apart = λ a b s t p q e.

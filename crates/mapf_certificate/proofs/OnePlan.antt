@@ -18,7 +18,7 @@ use Rattle.mapf_certificate.proofs.PathsLaws.{path_lacks}
 use Rattle.mapf_certificate.proofs.PlanParts.{pair_cell_is_read}
 use Rattle.mapf_certificate.proofs.PlanTexts.{answer_moved, limits_same, header_of}
 
--- cells that are spelled alike
+-- cells with the same text are the same
 cells_same : (sizes : Sizes) (xs ys : List ℕ) → All (IsOnGrid (grid_for sizes)) xs → All (IsOnGrid (grid_for sizes)) ys → cells_text sizes.width xs ≡ cells_text sizes.width ys → xs ≡ ys
 cells_same sizes [] [] p q e = refl
 cells_same sizes [] (y ∷ ys) p q e = cc
@@ -32,7 +32,7 @@ cells_same sizes (x ∷ xs) (y ∷ ys) p q e =
     let more : xs ≡ ys = cells_same sizes xs ys (All-tail On x xs p) (All-tail On y ys q) rest in
     cc
 
--- a path whose line is spelled alike
+-- paths with the same line are the same
 path_same : (sizes : Sizes) (due : ℕ) (p q : List ℕ) → due < sizes.agents → IsPathInRange (grid_for sizes) p → IsPathInRange (grid_for sizes) q → path_words sizes.width due p ≡ path_words sizes.width due q → p ≡ q
 path_same sizes due p q less is_p is_q e =
     let width = sizes.width in
@@ -41,7 +41,7 @@ path_same sizes due p q less is_p is_q e =
     let (agent, cost, cells) = ok_triple_parts {E = LineFault} (Some due) (Some due) (Some (ticks_of p)) (Some (ticks_of q)) (cells_text width p) (cells_text width q) (sym first ∙ ap read_path_front e ∙ second) in
     cells_same sizes p q is_p.on_grid is_q.on_grid cells
 
--- paths that are spelled alike
+-- lists of paths with the same lines are the same
 paths_same : (sizes : Sizes) (due : ℕ) (ps qs : List (List ℕ)) (s t : List ℕ) → due + length ps ≡ sizes.agents → length ps ≡ length qs → All (IsPathInRange (grid_for sizes)) ps → All (IsPathInRange (grid_for sizes)) qs
     → paths_text sizes.width due ps ++ s ≡ paths_text sizes.width due qs ++ t → ps ≡ qs
 paths_same sizes due [] [] s t whole many all_p all_q e = refl
@@ -63,7 +63,7 @@ paths_same sizes due (p ∷ ps) (q ∷ qs) s t whole many all_p all_q e =
     cut x xs u =
         append_assoc (path_words sizes.width due x ++ (10 ∷ [])) (paths_text sizes.width (due + 1) xs) u ∙ append_assoc (path_words sizes.width due x) (10 ∷ []) (paths_text sizes.width (due + 1) xs ++ u)
 
--- answers whose lines are spelled alike
+-- answers with the same lines are the same
 answers_same : (sizes : Sizes) (a b : PlanAnswer) → IsAnswerInRange (grid_for sizes) sizes.agents a → IsAnswerInRange (grid_for sizes) sizes.agents b → line_of a ≡ line_of b → rest_of sizes.width a ≡ rest_of sizes.width b → a ≡ b
 answers_same sizes (texts.Found p) (texts.Found q) is_a is_b line rest = ap texts.Found (paths_same sizes 0 p q _ _ (omega (arith, is_a.0)) (omega (arith, is_a.0, is_b.0)) is_a.1 is_b.1 rest)
 answers_same sizes (texts.Found p) texts.Impossible is_a is_b line rest = cc

@@ -1,4 +1,4 @@
--- Where a line ends: no line has an LF in it, and none of a certificate is longer than 64 bytes.
+-- Where a line ends: no line has an LF in it, and none of a certificate is longer than the limit.
 use Rattle.std.proofs.Common.{◌≡◌, ℕ, ◌<◌, ◌≤◌, List, [], ◌∷◌, ◌++◌, Option, Some, None, codes, length, refl, sym, ap, ◌∙◌, arith, append_assoc}
 use Rattle.mapf_model.specs.declared.conflict.Conflict.TheVariants as conflicts
 use Rattle.mapf_model.specs.declared.item.Claim.TheVariants as claims
@@ -83,7 +83,7 @@ plain_claim version (lines.Claim (claims.Bound bound)) (few, may) =
     plain-more 22 64 _ (omega arith) (plain-append 11 11 _ _ (plain-word (codes "claim bound") 11 refl refl) (plain-field 32 10 bound refl (omega arith) (omega arith) (omega arith)))
 plain_claim version _ is = absurd is
 
--- a line that is due has no LF in it, and at most 64 bytes
+-- a line of the expected kind has no LF in it, and no more bytes than the limit
 pub plain_line : (due : Due) (line : CertLine) → IsLine due line → IsPlain 64 (words (width_of due) line)
 plain_line dues.Title (lines.Title version) is = plain_title version
 plain_line dues.Title _ is = absurd is

@@ -102,7 +102,7 @@ end_of width line texts.Impossible other same = refl
 end_of width line (texts.Limit cause) other same = refl
 end_of width line (texts.Bounded cause bound) other same = refl
 
--- a bound that a line tells is in its range, and of version 2
+-- a bound in a line is in its range, and of version 2
 bound_in_text : (version : Version) (bound : ℕ) → IsBoundOfVersion version (Some bound) → (bound ≤ 1999999800) × (version ≡ Two)
 bound_in_text One bound is = cc
 bound_in_text Two bound is = (is, refl)
@@ -131,7 +131,7 @@ causes_same a b x y e = cc
 bounds_same : (a b : Cause) (x y : ℕ) → answers.Limit a (Some x) ≡ answers.Limit b (Some y) → x ≡ y
 bounds_same a b x y e = cc
 
--- limits whose lines are alike
+-- limits with the same line are the same
 pub limits_same : (a b : PlanAnswer) → ((cost : ℕ) → line_of a ≢ answers.Cost cost) → line_of a ≡ line_of b → a ≡ b
 limits_same (texts.Found p) b other line = absurd (other (cost_of p) refl)
 limits_same texts.Impossible (texts.Found q) other line = cc

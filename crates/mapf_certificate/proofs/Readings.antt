@@ -60,13 +60,13 @@ node_moved version version' grid other agents agents' node one same count is =
 to_bounds : (sizes : Sizes) (r : Reading) (nodes : List Node) (t : List ℕ) → Bounds sizes r → IsRest r.version (grid_at r) (agents_at r) r.owed nodes t → IsRest sizes.version (grid_for sizes) sizes.agents r.owed nodes t
 to_bounds sizes r nodes t bounds rest = rest_moved r.version sizes.version (grid_at r) (grid_for sizes) (agents_at r) sizes.agents r.owed nodes t bounds.version bounds.grid bounds.agents rest
 
--- a rest with a tree owed begins with a node
+-- if a subtree is pending, the rest begins with a node
 pub node_next : (sizes : Sizes) (r : Reading) (t : List ℕ) → Bounds sizes r → 1 ≤ r.owed → IsRestAt r t → BeginsWithNode sizes t
 node_next sizes r t bounds some (nodes, rest) =
     let starts = rest_starts sizes.version (grid_for sizes) sizes.agents r.owed nodes t (to_bounds sizes r nodes t bounds rest) some in
     record { value = starts.node; is = starts.in_range; rest = starts.after; spelled = starts.spelled }
 
--- a rest with none owed is the end
+-- if none is pending, the rest is the end
 pub end_next : (sizes : Sizes) (r : Reading) (t : List ℕ) → Bounds sizes r → r.owed ≡ 0 → IsRestAt r t → t ≡ line_text sizes.width lines.End
 end_next sizes r t bounds none (nodes, rest) = (rest_ends sizes.version (grid_for sizes) sizes.agents r.owed nodes t (to_bounds sizes r nodes t bounds rest) none).1
 
@@ -148,7 +148,7 @@ end_joins had left old new reads bytes known =
     let all : old.buffer.bytes ++ bytes ≡ line_text old.width lines.End = same ∙ ap (λ l. line_text old.width lines.End ++ (l ++ rest)) reads.empty ∙ ap (λ l. line_text old.width lines.End ++ l) none ∙ append-nil (line_text old.width lines.End) in
     record { bytes = bytes; known = known; rest = subst (IsRest old.version (grid_at old) (agents_at old) old.owed []) (sym all) (end_is_rest old.version (grid_at old) (agents_at old) old.owed reads.none_owed) }
 
--- no node comes where none is owed, and no end where one is
+-- no node comes if no subtree is pending, and no end if one is
 pub no_node : (had : Option (List ℕ)) (r : Reading) (node : Node) (nodes : List Node) → Awaits had r (node ∷ nodes) → r.owed ≡ 0 → ⊥
 no_node had r node nodes awaits none = by (rest_ends r.version (grid_at r) (agents_at r) r.owed (node ∷ nodes) (r.buffer.bytes ++ awaits.bytes) awaits.rest none).0
   where

@@ -12,7 +12,7 @@ use Rattle.mapf_certificate.specs.declared.line.CertLine.TheVariants as lines
 use Rattle.mapf_certificate.specs.Certificates.{line_text, node_text, rest_text, IsNode, IsCertTree, IsRest}
 use Rattle.mapf_certificate.specs.CertReading.{trees_owed_after}
 
--- a rest with a tree owed begins with a node, and what follows is the rest after it
+-- if a subtree is pending, the rest begins with a node, and what follows is the rest after it
 pub record StartsRest (version : Version) (grid : GridMap) (agents owed : ℕ) (nodes : List Node) (bytes : List ℕ) : Type 0 where
   pub node : Node
   pub others : List Node
@@ -87,7 +87,7 @@ rest_starts version grid agents owed nodes bytes rest some = by rest.trees rest.
       rest = record { trees = trees; count = omega arith; in_range = All-tail (IsCertTree version grid agents) (Clash i j) trees all; same = refl; spelled = refl };
     }
 
--- where no tree is owed only the end comes
+-- if no subtree is pending, only the end comes
 pub rest_ends : (version : Version) (grid : GridMap) (agents owed : ℕ) (nodes : List Node) (bytes : List ℕ) → IsRest version grid agents owed nodes bytes → owed ≡ 0 → (nodes ≡ []) × (bytes ≡ line_text grid.width lines.End)
 rest_ends version grid agents owed nodes bytes rest none = by rest.trees rest.count rest.same
   where

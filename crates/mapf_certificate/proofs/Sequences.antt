@@ -44,7 +44,7 @@ All-later : {A : Type 0} (P : A → Type 0) (xs ys : List A) → All P (xs ++ ys
 All-later P [] ys h = h
 All-later P (x ∷ xs) ys h = All-later P xs ys (All-tail P x (xs ++ ys) h)
 
--- what may follow a front of a list in order
+-- what follows a prefix of a list in order may follow it
 pub follows : {A : Type 0} (Is : A → Type 0) (R : A → A → Type 0) (front others : List A) (x : A) → All Is (front ++ (x ∷ others)) → AllPairs R (front ++ (x ∷ others)) → MayFollow A Is R front x
 follows {A = A} Is R front others x each rising = (
   All-head Is x others (All-later Is front (x ∷ others) each),
@@ -67,7 +67,7 @@ taken_more A Is R values new x taken (is, after) grown = subst (Taken A Is R) (s
   rising = all_pairs_push R values x taken.rising after;
 })
 
--- where not all that are due were taken, the text goes on with one that may follow
+-- if fewer values were taken than the list has, the text goes on with one that may follow
 pub goes_on : (A : Type 0) (Is : A → Type 0) (R : A → A → Type 0) (text : A → List ℕ) (spelled : AreSpelledApart A Is text) (count : ℕ) (values : List A) (more : List ℕ) → Taken A Is R values → length values < count
     → BeginsWith (List A) (AreInOrder A Is R count) (flat_map text) (flat_map text values ++ more) → BeginsWith A (MayFollow A Is R values) text more
 goes_on A Is R text spelled count values more taken less begins = by (begun Is text spelled values begins.value more begins.rest taken.each begins.is.each (omega (arith, begins.is.many)) begins.spelled)

@@ -91,7 +91,7 @@ Fails-weaker a b failed x Is Wider (Text texts.Memory) wider refused = refused
 Fails-weaker a b failed x Is Wider (Text _) wider refused = (refused.0, Refuses-weaker a b x Is Wider wider refused.1)
 Fails-weaker a b failed x Is Wider _ wider refused = refused
 
--- what a source tells, it tells on
+-- a source that reports its bytes still reports them after a read
 pub Window-known : (a b : Option (List ℕ)) (x y : Buffered) (t bytes : List ℕ) → Window a b x y t → a ≡ Some bytes → (rest : List ℕ) × (b ≡ Some rest) × (x.bytes ++ bytes ≡ t ++ (y.bytes ++ rest)) × (length bytes + y.left ≡ length rest + x.left)
 Window-known a b x y t bytes first known = by b (subst (λ o. Consumes o b first.pulled) known first.source)
   where

@@ -1,4 +1,4 @@
--- Contexts that no tree tells apart.
+-- Contexts in which each tree shows the same.
 use Rattle.std.proofs.Common.{◌≡◌, ℕ, List, Option, Some, None, slice_get, refl, subst, ap}
 use Rattle.mapf_model.specs.declared.bar.Bar.{Bar}
 use Rattle.mapf_model.specs.declared.constraint.Constraint.{Constraint}

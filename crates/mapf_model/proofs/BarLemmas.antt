@@ -1,4 +1,4 @@
--- A list of bars stands for its set.
+-- A list of constraints denotes its set.
 use Rattle.std.proofs.Common.{ℕ, ◌+◌, List}
 use Rattle.mapf_model.specs.declared.bar.Bar.{Bar}
 use Rattle.mapf_model.specs.declared.bar.Bar.TheVariants.{Cell, Move}

@@ -39,7 +39,7 @@ module _
     free : (tick : ℕ) → Contains bars (Cell (at path tick) tick) → ⊥
     free tick h = obeys (Cell (at path tick) tick) h refl
 
-    -- backwards from the last arrival, where no entry stands
+    -- backwards from the last arrival, if the state has no entry
     pub label_left : (k tick : ℕ) → tick + k ≡ cost → (entry : Option Label) → entries (at path tick) tick ≡ entry → (label : Label) → IsEntryOrDistance grid goal (at path tick) entry label → IsAtMost label (Ticks k)
     label_left k tick e None is label d = distance_left k tick e label d
     label_left zero tick e (Some entry) is label same =

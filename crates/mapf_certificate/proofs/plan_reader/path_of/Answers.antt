@@ -14,7 +14,7 @@ use Rattle.mapf_certificate.proofs.PathLaws.{front_read}
 use Rattle.mapf_certificate.proofs.PlanParts.{path_front_takes}
 use Rattle.mapf_certificate.proofs.plan_reader.path_of.Goals as goal
 
--- what the front of a path's line is read to
+-- what the beginning of a path's line is read as
 front : (sizes : Sizes) (due : ℕ) (line path : List ℕ) → IsPathInRange (grid_for sizes) path → due < sizes.agents → line ≡ path_words sizes.width due path
     → read_path_front line ≡ Ok (Some due, Some (ticks_of path), cells_text sizes.width path)
 front sizes due line path is less e =

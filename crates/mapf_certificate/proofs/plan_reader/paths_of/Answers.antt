@@ -18,7 +18,7 @@ returns-in_err-line-clause-only c plan rest whole all e =
     let failed : next_line (4 + c.loop-due.due) c.loop-due.rest.now ≡ Err c.in_err-line.field-0.0 = c.in_err-line.ensures in
     cc
 
--- the line that is read is that of the path that is due
+-- the line that is read is that of the next path
 lined : (sizes : Sizes) (due n : ℕ) (plan paths : List (List ℕ)) (rest left line after : List ℕ) (step : GoesOnWith sizes due plan paths rest left) → next_line n left ≡ Ok (line, after) → (line ≡ path_words sizes.width due step.path) × (after ≡ step.after)
 lined sizes due n plan paths rest left line after step e = ok_pair_parts line (path_words sizes.width due step.path) after step.after (sym e ∙ step.read n)
 
