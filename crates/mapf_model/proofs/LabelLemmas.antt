@@ -1,19 +1,16 @@
 -- Sound labels bound what is left of a path that obeys the bars.
-use Rattle.std.proofs.Common.{◌≡◌, ℕ, zero, suc, ◌+◌, ◌-◌, min, length, List, Option, Some, None, Contains, refl, inl, inr, arith}
+use Rattle.std.proofs.Common.{◌≡◌, ℕ, zero, suc, ◌+◌, ◌-◌, min, length, List, Option, Some, None, Contains, refl, arith}
 use Rattle.mapf_model.specs.declared.bar.Bar.{Bar}
 use Rattle.mapf_model.specs.declared.bar.Bar.TheVariants.{Cell, Move}
 use Rattle.mapf_model.specs.declared.label.Label.{Label}
 use Rattle.mapf_model.specs.declared.label.Label.TheVariants.{Ticks, Never}
-use Rattle.mapf_model.specs.Grid.{GridMap, IsFree, Step}
+use Rattle.mapf_model.specs.Grid.{GridMap, Step}
 use Rattle.mapf_model.specs.Path.{at, RestsFrom, IsLawful}
 use Rattle.mapf_model.specs.declared.problem.Agent.{Agent}
 use Rattle.mapf_model.specs.Distance.{Walk}
 use Rattle.mapf_model.specs.Bars.{Satisfies}
 use Rattle.mapf_model.specs.Labels.{Entries, AreSound, IsLabel, IsAtMost, IsDistanceLabel, MayGo, IsEntryOrDistance, one_more}
-
-step_free : {grid : GridMap} (u v : ℕ) → Step grid u v → IsFree grid u
-step_free u v (inl wait) = wait.0
-step_free u v (inr move) = move.from_free
+use Rattle.mapf_model.proofs.StepLemmas.{step_start}
 
 pub one_more_bound : (a b : Label) (k : ℕ) → IsAtMost a (one_more b) → IsAtMost b (Ticks k) → IsAtMost a (Ticks (suc k))
 one_more_bound a Never k p q = absurd q
@@ -29,7 +26,7 @@ module _
   where
     -- what is left of the path is a walk to the goal
     pub walk_left : (k tick : ℕ) → tick + k ≡ cost → Walk grid (at path tick) goal k
-    walk_left zero tick e = (step_free (at path tick) (at path (tick + 1)) (steps tick), rests tick (omega arith))
+    walk_left zero tick e = (step_start grid (at path tick) (at path (tick + 1)) (steps tick), rests tick (omega arith))
     walk_left (suc k) tick e = (at path (tick + 1), steps tick, walk_left k (tick + 1) (omega arith))
 
     pub distance_left : (k tick : ℕ) → tick + k ≡ cost → (label : Label) → IsDistanceLabel grid goal (at path tick) label → IsAtMost label (Ticks k)

@@ -214,6 +214,11 @@ module _ (grid : GridMap) where
       ap (λ cells. cells ++ free_cell grid place) before ∙ ap (λ place. free_cells grid (take index places) ++ free_cell grid place) (sym is)
       ∙ sym (ap (free_cells grid) (take_more places index default within) ∙ free_cells_push (take index places) (slice_index_or places index default))
 
-pub step_free : (grid : GridMap) (from to : ℕ) → Step grid from to → IsFree grid to
-step_free grid from to (inl (free, same)) = subst (λ cell. IsFree grid cell) same free
-step_free grid from to (inr move) = move.to_free
+-- a step begins in a free cell, and ends in one
+pub step_start : (grid : GridMap) (from to : ℕ) → Step grid from to → IsFree grid from
+step_start grid from to (inl (free, same)) = free
+step_start grid from to (inr move) = move.from_free
+
+pub step_end : (grid : GridMap) (from to : ℕ) → Step grid from to → IsFree grid to
+step_end grid from to (inl (free, same)) = subst (λ cell. IsFree grid cell) same free
+step_end grid from to (inr move) = move.to_free
