@@ -96,10 +96,6 @@ children_later problem nodes fates keys count state few k conflict a is =
     let in_b = slice_get_within state.views (a + 1) expanded.to_right.0 expanded.to_right.1 in
     (expanded.later, omega arith, omega arith)
 
--- a tree of lists that are known by other names
-pub tree_of : (fates more : List Fate) (views : List View) (listed : List TreeNode) → fates ≡ more → (tree : ConstraintTree) × (listed ≡ nodes_of tree) × IsTreeAt views fates 0 tree → (tree : ConstraintTree) × (listed ≡ nodes_of tree) × IsTreeAt views more 0 tree
-tree_of fates more views listed same (tree, spell, is) = (tree, spell, subst (λ fs. IsTreeAt views fs 0 tree) same is)
-
 pub popped_of : (problem : Instance) (nodes : List Node) (fates : List Fate) (keys rest : List (ℕ × ℕ)) (count total k : ℕ) → IsState problem nodes fates keys count → IsLeastKey (total, k) keys rest → IsPopped problem nodes fates rest count total k
 popped_of problem nodes fates keys rest count total k state least = record { state = subst (λ ks. IsState problem nodes fates ks count) least.removal state; above = least.above }
 

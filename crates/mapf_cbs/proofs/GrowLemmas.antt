@@ -67,9 +67,6 @@ module _ (problem : Instance) (goals : (i j : ℕ) → ShareGoal problem i j →
     live : IsLive problem view
     live = searched.each j view Open is was_open
 
-    more : List View
-    more = views ++ x ∷ y ∷ []
-
     -- a place of the longer list
     data Place (k : ℕ) (v : View) (fate : Fate) : Type 0 where
       Old : k < length fates → k ≢ j → slice_get views k ≡ Some v → slice_get fates k ≡ Some fate → Place k v fate

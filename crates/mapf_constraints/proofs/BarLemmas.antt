@@ -22,13 +22,6 @@ AreSameBars-push bars bar other = (
 pub AreSameBars-take : (bars : List Bar) (i : ℕ) (bar : Bar) → i < length bars → bar ≡ slice_index_or bars i bar → AreSameBars (take (i + 1) bars) (bar ∷ take i bars)
 AreSameBars-take bars i bar within is = subst (λ b. AreSameBars (take (i + 1) bars) (b ∷ take i bars)) (sym is) (rw (take_more bars i bar within) (AreSameBars-push (take i bars) (slice_index_or bars i bar)))
 
--- a bar that is there adds nothing
-pub AreSameBars-again : (bars : List Bar) (bar : Bar) → Contains bars bar → AreSameBars bars (bar ∷ bars)
-AreSameBars-again bars bar there other = (
-  (λ held. Contains-cons_old bar other bars held),
-  (λ held. ⊎_elim (λ same. subst (Contains bars) same there) (λ old. old) (Contains-cons_cases bar other bars held)),
-)
-
 module _ (before after : List Bar) (bar : Bar) (same : AreSameBars after (bar ∷ before)) where
   kept : (other : Bar) → Contains before other → Contains after other
   kept other held = (same other).1 (Contains-cons_old bar other before held)
@@ -51,11 +44,6 @@ module _ (before after : List Bar) (bar : Bar) (same : AreSameBars after (bar �
       (λ other held. ⊎_elim (λ new. let e : tick_of bar ≡ tick_of other = ap tick_of new in omega (arith, bar_early)) (λ old. omega (arith, is.above other old, early)) (cases other held))
 
 module _ (before after : List Bar) (cell : ℕ) where
-  -- the same bars
-  pub IsLastOn-same : AreSameBars after before → (last : Option ℕ) → IsLastOn before cell last → IsLastOn after cell last
-  IsLastOn-same same None is = λ tick held. is tick ((same (Cell cell tick)).0 held)
-  IsLastOn-same same (Some last) is = ((same (Cell cell last)).1 is.0, λ tick held. is.1 tick ((same (Cell cell tick)).0 held))
-
   -- a bar that isn't one of the cell
   pub IsLastOn-other : (bar : Bar) → AreSameBars after (bar ∷ before) → ((tick : ℕ) → bar ≡ Cell cell tick → ⊥) → (last : Option ℕ) → IsLastOn before cell last → IsLastOn after cell last
   IsLastOn-other bar same other None is = λ tick held. ⊎_elim (λ new. other tick new) (λ old. is tick old) (cases before after bar same (Cell cell tick) held)

@@ -29,19 +29,6 @@ module _ (links : List Link) where
       let place_within : place < length links = rw (← length-map links (λ (link : Link). link.bar)) within in
       (place, place_within, sym (get_or-map (λ (link : Link). link.bar) links place no_link bar place_within) ∙ is)
 
-  -- one step along the chain of a bar that isn't that of the link
-  pub older_than : (newest : List ℕ) → AreChained links newest → (bar : Bar) (count place : ℕ) → place + 1 ≡ count → count ≤ length links
-      → chain_at links place ≡ chain_of (tick_of bar)
-      → ((link_at links place).bar ≡ bar → ⊥)
-      → ((k : ℕ) → k < length links → (link_at links k).bar ≡ bar → k < count)
-      → (k : ℕ) → k < length links → (link_at links k).bar ≡ bar → k < (link_at links place).older
-  older_than newest chained bar count place step within own other below k k_within is = ⊎_elim
-      (λ before. (chained.next place (omega arith)).newest k before (ap (λ (b : Bar). chain_of (tick_of b)) is ∙ sym own))
-      (λ after. absurd (let k_below = below k k_within is in
-      let same : k ≡ place = omega arith in
-      other (subst (λ (p : ℕ). (link_at links p).bar ≡ bar) same is)))
-      (cases_lt k place)
-
   -- one link more
   module _ (link : Link) where
     old_link : (place : ℕ) → place < length links → link_at (links ++ link ∷ []) place ≡ link_at links place
