@@ -1,4 +1,4 @@
-ghost use Rattle.std.specs.Prelude.{◌≡◌, ◌^◌, ◌<◌, List, length, All, IfOk};
+ghost use Rattle.std.specs.Prelude.{◌^◌, ◌<◌, List, length, All, IfOk};
 ghost use Rattle.mapf_cbs.specs.Search.{View, AreBlockLists};
 ghost use Rattle.mapf_cbs.specs.Nodes.{AreViews, IsOwnOf};
 

@@ -1,7 +1,7 @@
 ghost use Rattle.std.specs.Prelude.{◌≡◌, ◌<◌, ◌^◌, [], ◌∷◌, All, length, IfOk, IfSome, IfNone};
 ghost use Rattle.mapf_cbs.specs.Search.{bound_blocks, labels_of};
 
-use mapf_model::{Block, Entry, OutOfMemory};
+use mapf_model::{Block, OutOfMemory};
 use mapf_spacetime::{Found, StateLabels};
 use std::alloc::Global;
 use std::marker::Model;

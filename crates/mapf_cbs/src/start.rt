@@ -9,7 +9,7 @@ use crate::bound_labels::BoundLabels;
 use crate::clash::sharing_pair;
 use crate::tree_node::TreeNode;
 use mapf_distance::Distances;
-use mapf_model::{Agent, Grid, OutOfMemory, Path, Problem};
+use mapf_model::{Agent, OutOfMemory, Path, Problem};
 use std::alloc::Global;
 
 /// How a search begins.

@@ -1,5 +1,4 @@
-ghost use Rattle.std.specs.Prelude.{◌≡◌, ◌*◌, ◌-◌, ◌^◌, ◌<◌, ◌≤◌, ◌∷◌, [], length, slice_set, sum, sum_by, All, IfOk};
-ghost use Rattle.mapf_model.specs.Laws.{AreSameBars};
+ghost use Rattle.std.specs.Prelude.{◌≡◌, ◌*◌, ◌-◌, ◌^◌, ◌<◌, ◌≤◌, length, slice_set, sum, sum_by, All, IfOk};
 ghost use Rattle.mapf_model.specs.Limits.{most_agents, most_path_cells};
 ghost use Rattle.mapf_cbs.specs.Nodes.{IsRootView};
 ghost use Rattle.mapf_cbs.specs.Search.{View};

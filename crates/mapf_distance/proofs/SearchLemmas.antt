@@ -1,12 +1,11 @@
 -- A search stays one when a cell is looked at, and at its end the start's entry is its distance.
-use Rattle.std.proofs.Common.{◌≡◌, ◌⊎◌, ℕ, zero, suc, ◌+◌, ◌-◌, ◌<◌, ◌≤◌, Option, Some, None, IfSome, IfNone, Bool, true, false, List, [], ◌∷◌, ◌++◌, All, Contains, replicate, length, slice_index_or, slice_set, sum, add-one, refl, sym, ◌∙◌, ap, subst, inl, inr, ⊎_elim, arith}
+use Rattle.std.proofs.Common.{◌≡◌, ◌⊎◌, ℕ, zero, suc, ◌+◌, ◌<◌, ◌≤◌, Option, Some, None, IfSome, IfNone, true, false, List, [], ◌∷◌, ◌++◌, All, Contains, replicate, length, slice_index_or, slice_set, sum, add-one, refl, sym, ◌∙◌, ap, subst, inl, inr, ⊎_elim, arith}
 use Rattle.std.specs.Option.{option_to_list}
 use Rattle.std.proofs.Math.ListN.{length-set}
 use Rattle.std.proofs.lemmas.Bool.{cases_lt, cases_eq}
 use Rattle.std.proofs.lemmas.List.{get_or_default, get_or_past, length_push, append-nil, get_or-replicate, length-replicate}
 use Rattle.std.proofs.lemmas.List.Elements.{All-nil, All-pop, All-push, All-weaker, All-contains, Contains-append_left, Contains-push, Contains-push_cases}
 use Rattle.std.proofs.lemmas.List.Sums.{sum_by-set}
-use Rattle.std.proofs.lemmas.Option.{same_Some}
 use Rattle.mapf_model.specs.Distance.{Walk, IsDistance, IsUnreachable}
 use Rattle.mapf_model.specs.Grid.{GridMap, IsGridMap, IsFree, DifferByOne, Step, column, row}
 use Rattle.mapf_model.specs.Neighbours.{neighbourhood}
@@ -16,7 +15,7 @@ use Rattle.mapf_distance.specs.Distances.{IsDistanceOrNone}
 use Rattle.mapf_distance.specs.Marks.{entry_of}
 use Rattle.mapf_distance.specs.Search.{IsSearch, IsSeen, IsTaken, IsKnown, IsSearchAt, IsSameSearch, IsPut, effort, gap, estimate, value_of}
 use Rattle.mapf_distance.specs.declared.search.Search.{Search}
-use Rattle.mapf_distance.proofs.MarkLemmas.{entry_of-set_same, entry_of-set_other, within_table}
+use Rattle.mapf_distance.proofs.MarkLemmas.{entry_of-set_same, entry_of-set_other}
 use Rattle.mapf_distance.proofs.StepLemmas.{Step-sym, Walk-from_free}
 
 apart_step : (a b s : ℕ) → DifferByOne a b → gap a s ≤ gap b s + 1

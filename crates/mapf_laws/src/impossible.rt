@@ -1,4 +1,4 @@
-ghost use Rattle.std.specs.Prelude.{◌≡◌, ◌↔◌, ◌<◌, ℕ, length, IfNone, IfSome, IsTrue};
+ghost use Rattle.std.specs.Prelude.{◌↔◌, ◌<◌, ℕ, length, IfNone, IfSome, IsTrue};
 ghost use Rattle.mapf_model.specs.declared.item.Claim.TheVariants.{Impossible};
 ghost use Rattle.mapf_model.specs.Tree.{ConstraintTree, ShareGoal, Shows};
 ghost use Rattle.mapf_laws.specs.Impossible.{ImpossibleIsTrivial, IsTrivialCause, ShareStart, TrivialIsShown};

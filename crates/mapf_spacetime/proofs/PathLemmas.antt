@@ -1,8 +1,7 @@
 -- Walks of states as paths.
-use Rattle.std.proofs.Common.{◌≡◌, ◌≢◌, inl, inr, ⊎_elim, ℕ, zero, suc, ◌+◌, ◌-◌, ◌<◌, ◌≤◌, min, List, [], length, slice_index, slice_index_or, Contains, sym, ap, subst, ◌∙◌, arith}
+use Rattle.std.proofs.Common.{◌≡◌, ◌≢◌, inl, inr, ⊎_elim, ℕ, zero, suc, ◌+◌, ◌-◌, ◌<◌, ◌≤◌, min, List, [], length, slice_index, Contains, sym, ap, subst, ◌∙◌, arith}
 use Rattle.std.proofs.lemmas.Bool.{cases_lt}
-use Rattle.std.proofs.lemmas.List.{get_or_default}
-use Rattle.mapf_model.specs.Grid.{GridMap, Step}
+use Rattle.mapf_model.specs.Grid.{Step}
 use Rattle.mapf_model.specs.declared.bar.Bar.TheVariants.{Cell, Move}
 use Rattle.mapf_model.specs.Bars.{Satisfies}
 use Rattle.mapf_model.specs.Distance.{Walk}
@@ -10,7 +9,7 @@ use Rattle.mapf_model.specs.Labels.{MayGo}
 use Rattle.mapf_model.specs.Laws.{NeighboursMakePaths}
 use Rattle.mapf_model.specs.Path.{at, IsPath, IsLawful, IsCost, IsTight}
 use Rattle.mapf_model.proofs.PathLemmas.{IsCost-from_end}
-use Rattle.mapf_spacetime.specs.Task.{Task, Goes, IsValue, IsOpen, IsBarredLater, MayRestFrom, agent_of, state_at, start_of}
+use Rattle.mapf_spacetime.specs.Task.{Task, Goes, IsValue, IsOpen, MayRestFrom, agent_of, state_at, start_of}
 use Rattle.mapf_spacetime.specs.States.{States, with_open, HasArrived}
 use Rattle.mapf_spacetime.specs.PathSearch.{state_of, IsWholeWalk}
 use Rattle.mapf_spacetime.proofs.ValueLemmas.{value_free, value_unique, value_none, no_lower}

@@ -1,7 +1,5 @@
-ghost use Rattle.std.specs.Prelude.{◌≡◌, ◌-◌, ◌<◌, ◌≤◌, [], ◌∷◌, List, None, length, false, IfOk, IsTrue, Contains};
-ghost use Rattle.mapf_model.specs.Bars.{Satisfies};
-ghost use Rattle.mapf_model.specs.Limits.{greatest_cost, most_path_cells};
-ghost use Rattle.mapf_model.specs.Path.{IsPath, at};
+ghost use Rattle.std.specs.Prelude.{◌≡◌, ◌<◌, [], List, None, IfOk, Contains};
+ghost use Rattle.mapf_model.specs.Limits.{greatest_cost};
 ghost use Rattle.mapf_model.specs.Grid.{IsGridMap};
 ghost use Rattle.mapf_model.specs.declared.label.Entry.{Entry};
 ghost use Rattle.mapf_spacetime.specs.declared.state.State.{State};
@@ -20,7 +18,7 @@ use crate::state_labels::StateLabels;
 use crate::workspace::Workspace;
 use mapf_constraints::BarTable;
 use mapf_distance::Distances;
-use mapf_model::{Agent, Cell, Grid, OutOfMemory, Path, Tick};
+use mapf_model::{Agent, Grid, OutOfMemory, Path};
 use std::alloc::Global;
 
 /// Returns a cheapest path of the agent under its constraints, with labels that show that none is cheaper; or labels

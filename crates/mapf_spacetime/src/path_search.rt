@@ -1,4 +1,4 @@
-ghost use Rattle.std.specs.Prelude.{◌≡◌, ◌+◌, ◌-◌, ◌<◌, ◌≤◌, ◌^◌, [], ◌∷◌, ◌++◌, ℕ, Some, length, slice_index};
+ghost use Rattle.std.specs.Prelude.{◌≡◌, ◌+◌, ◌-◌, ◌<◌, ◌≤◌, ◌^◌, ℕ, Some, length, slice_index};
 ghost use Rattle.std.specs.Prelude.{false, IfOk, IfSome, IfNone, OnOk, IsTrue, Contains};
 ghost use Rattle.mapf_model.specs.Grid.{IsFree};
 ghost use Rattle.mapf_model.specs.Labels.{MayGo};

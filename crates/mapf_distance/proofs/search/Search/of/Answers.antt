@@ -1,4 +1,4 @@
-use Rattle.std.proofs.Common.{◌≡◌, ◌*◌, ◌++◌, ◌∷◌, [], length, sym, ◌∙◌, ap, arith, rules}
+use Rattle.std.proofs.Common.{◌≡◌, ◌*◌, ◌++◌, ◌∷◌, [], length, sym, ◌∙◌, ap, rules}
 use Rattle.mapf_distance.proofs.SearchLemmas.{search_start}
 use Rattle.mapf_distance.proofs.search.Search.of.Goals as goal
 

@@ -1,4 +1,3 @@
-use Rattle.std.proofs.Common.{arith}
 use Rattle.mapf_distance.proofs.search.Search.sweep.Goals as goal
 
 pub look_at-requires-clause-search : goal.look_at-requires-clause-search
