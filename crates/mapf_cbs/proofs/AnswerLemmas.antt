@@ -1,4 +1,4 @@
--- What the state of a search says of its answers.
+-- The answers of a search, by its state.
 use Rattle.std.proofs.Common.{◌≡◌, All, ℕ, zero, suc, ◌+◌, ◌*◌, ◌^◌, ◌<◌, ◌≤◌, List, [], ◌∷◌, Some, Vec, Contains, length, sum, slice_get, refl, sym, ◌∙◌, ap, subst, inl, inr, arith}
 use Rattle.std.specs.declared.alloc.Global.{Global}
 use Rattle.mapf_model.proofs.ClaimLemmas.{slice_get_inside, holds_of_plans, shown_at_root}
@@ -33,7 +33,7 @@ use Rattle.mapf_cbs.proofs.RangeLemmas.{tree_in_range, plan_in_range, sum_in_ran
 use Rattle.mapf_cbs.proofs.OpenLemmas.{Contains-first}
 use Rattle.mapf_cbs.proofs.StateLemmas.{least_popped}
 
--- the state as it begins
+-- the state at the beginning
 pub state_root : (problem : Instance) (paths : Vec (List ℕ) Global) (total : ℕ) (view : View) → IsRootView paths.items view → IsLive problem view → total ≡ sum view.costs → total ≤ 200 * 2 ^ 32 → IsState problem (Root paths ∷ []) (Open ∷ []) ((total, 0) ∷ []) 0
 state_root problem paths total view root_view live total_is small = record {
   views = view ∷ [];
@@ -86,7 +86,7 @@ pub state_first : (problem : Instance) (paths : Vec (List ℕ) Global) (total : 
     (nodes : List Node) → nodes ≡ Root paths ∷ [] → IsState problem nodes (Open ∷ []) ((total, 0) ∷ []) 0
 state_first problem paths total view root_view live total_is small nodes nodes_is = subst (λ ns. IsState problem ns (Open ∷ []) ((total, 0) ∷ []) 0) (sym nodes_is) (state_root problem paths total view root_view live total_is small)
 
--- children come later
+-- children come later than their parents
 pub children_later : (problem : Instance) (nodes : List Node) (fates : List Fate) (keys : List (ℕ × ℕ)) (count : ℕ) → IsState problem nodes fates keys count → count ≤ most_splits → AreChildrenLater fates
 children_later problem nodes fates keys count state few k conflict a is =
     let size = state.searched.lengths in let sizes = state.are.lengths in let all = state.size in
@@ -115,7 +115,7 @@ is_tree_of problem shape names views fates count limit within searched listed tr
   in_range = tree_in_range problem shape views fates count searched tree 0 on_tree;
 }
 
--- what a tree shows is so
+-- what a tree shows holds
 shown_holds : (problem : Instance) (claim : Claim) (tree : ConstraintTree) → Shows problem claim tree → Holds problem claim
 shown_holds problem claim tree shows = holds_of_plans problem claim (λ plan valid. shown_at_root problem plan valid claim tree shows)
 

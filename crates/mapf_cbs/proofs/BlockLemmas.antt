@@ -11,7 +11,7 @@ use Rattle.mapf_cbs.specs.Search.{View, AreBlocksOf, AreBlockLists}
 use Rattle.mapf_cbs.specs.Whole.{AreWhole}
 use Rattle.mapf_cbs.proofs.NodeLemmas.{own_blocks}
 
--- each list belongs to the node of its place
+-- each list belongs to the node at its index
 pub record ArePaired {X : Type 0} (P : X → List LabelBlock → Type 0) (nodes : List X) (lists : List (List LabelBlock)) : Type 0 where
   pub so_many : length lists ≡ length nodes
   pub each : (k : ℕ) (node : X) (blocks : List LabelBlock) → slice_get nodes k ≡ Some node → slice_get lists k ≡ Some blocks → P node blocks
@@ -49,7 +49,7 @@ own_lists nodes lists paired views are =
           (own_blocks views k node.0 view (are.each k node.0 view node.1 view_is) blocks own.0, own.1);
     }
 
--- the blocks are those that a whole node holds
+-- the blocks are those that a full node holds
 abbrev pub IsHeldList : WholeNode → List LabelBlock → Type 0
 IsHeldList node blocks = blocks ≡ node.bound
 

@@ -1,4 +1,4 @@
--- What the search for one agent found, and a shortest path, are cheapest under its bars.
+-- The path that the search for one agent found, and a shortest path, are cheapest under the agent's constraints.
 use Rattle.std.proofs.Common.{ℕ, ◌-◌, ◌≤◌, List, [], None, length, arith}
 use Rattle.mapf_model.specs.declared.bar.Bar.{Bar}
 use Rattle.mapf_model.specs.declared.label.Entry.{Entry}
@@ -39,12 +39,12 @@ module _ (grid : GridMap) (agent : Agent) (bars : List Bar) where
 none_sound : (grid : GridMap) (goal : ℕ) (bars : List Bar) → AreSound grid goal bars (entries_of [])
 none_sound grid goal bars cell tick label is = absurd cc
 
--- where no state is listed, the label of the start is no more than the cost of a path
+-- if no state is listed, the label of the start is at most the cost of a path
 pub distance_bound : (grid : GridMap) (agent : Agent) (bars : List Bar) (path : List ℕ) (cost : ℕ) (label : Label) → IsLawful grid agent path → Satisfies bars path → IsCost agent.goal path cost →
     IsLabel grid agent.goal (entries_of []) agent.start 0 label → IsAtMost label (Ticks cost)
 distance_bound grid agent bars path cost label lawful satisfies is at_start = lawful_bound grid agent bars (entries_of []) path cost (none_sound grid agent.goal bars) lawful satisfies is.rests label at_start
 
--- the label of the start is all that is asked of the entries
+-- a cheapest path is one by any entries with the same label of the start
 pub cheapest_with : (grid : GridMap) (agent : Agent) (bars : List Bar) (path : List ℕ) (cost : ℕ) (entries others : Entries) → IsCheapestPath grid agent bars path cost entries → IsLabel grid agent.goal others agent.start 0 (Ticks cost) → IsCheapestPath grid agent bars path cost others
 cheapest_with grid agent bars path cost entries others cheapest start = record {
   lawful = cheapest.lawful;
@@ -61,7 +61,7 @@ cheapest_with grid agent bars path cost entries others cheapest start = record {
 abbrev pub no_entry : Entries
 no_entry cell tick = None
 
--- without bars a shortest path is a cheapest one
+-- without constraints a shortest path is a cheapest one
 pub cheapest_of_shortest : (grid : GridMap) (agent : Agent) (path : List ℕ) → IsShortest grid agent path → 1 ≤ length path → IsCheapestPath grid agent [] path (length path - 1) no_entry
 cheapest_of_shortest grid agent path short some = record {
   lawful = short.lawful;

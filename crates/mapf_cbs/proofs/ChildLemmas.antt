@@ -1,4 +1,4 @@
--- Children of a node: more bars, no cheaper path, conflicts before a bound.
+-- Children of a node: more constraints, no cheaper path, conflicts before a bound.
 use Rattle.std.proofs.Common.{◌≡◌, ◌≢◌, ◌⊎◌, ℕ, suc, ◌+◌, ◌<◌, ◌≤◌, Bool, true, false, List, [], ◌∷◌, Option, Some, None, Contains, length, sum, slice_get, slice_set, refl, sym, ◌∙◌, subst, inl, inr, ⊎_elim, arith, nat_eq, cond, eq-eqb}
 use Rattle.std.proofs.lemmas.Bool.{cases_eq, cases_lt, cond_both, eqb-true}
 use Rattle.std.proofs.lemmas.Option.{slice_get_within, same_Some}
@@ -37,7 +37,7 @@ Contains-none x (k, within, is) = omega arith
 pub Contains-later : {X : Type 0} (x y : X) (xs : List X) → Contains xs y → Contains (x ∷ xs) y
 Contains-later x y xs (k, within, is) = (suc k, omega arith, is)
 
--- a list of bars stands for its set
+-- good labels are good under a list of the same constraints
 pub good_same : (grid : GridMap) (agent : Agent) (xs ys : List Bar) (entries : List Entry) → AreSameBars xs ys → AreGoodLabels (task_of grid agent xs) entries → AreGoodLabels (task_of grid agent ys) entries
 good_same grid agent xs ys entries same good = record { sound = AreSound-same xs ys same grid agent.goal (entries_of entries) good.sound; rising = good.rising; ranges = good.ranges }
 
@@ -64,7 +64,7 @@ bound_other : (bound : ℕ) (es : List Entry) (i : ℕ) → i ≢ bound → bloc
 bound_other bound [] i differ = refl
 bound_other bound (e ∷ es) i differ = cond_both (nat_eq bound i) (Some (record { agent = bound; entries = e ∷ es })) None (λ (o : Option LabelBlock). o ≡ None) (λ same. absurd (differ (sym (eqb-true bound i same)))) (λ f. refl)
 
--- the label of the bound agent's start is that of the entries that were found, and where there are none that from above
+-- the label of the replanned agent's start is that of the entries that were found; if there are none, that of the entries of the parent
 bound_start : (grid : GridMap) (agent : Agent) (bound : ℕ) (es : List Entry) (above : Entries) (label : Label) → IsLabel grid agent.goal (entries_of es) agent.start 0 label → (es ≡ [] → IsLabel grid agent.goal above agent.start 0 label) →
     IsLabel grid agent.goal (entries_or (block_of (bound_blocks bound es) bound) above) agent.start 0 label
 bound_start grid agent bound [] above label here none = none refl
@@ -81,14 +81,14 @@ module _ (problem : Instance) (view : View) (live : IsLive problem view) (constr
     own : AreOwnBlocks problem (with_constraint view.context.bars constraint) (bound_blocks constraint.agent es)
     own = bound_own problem (with_constraint view.context.bars constraint) constraint.agent agent known es (let here : nat_eq constraint.agent constraint.agent ≡ true = eq-eqb constraint.agent constraint.agent refl in rw here good)
 
-    -- an agent that isn't bound keeps its path
+    -- an agent that isn't replanned keeps its path
     kept : (k : ℕ) (other : Agent) (path : List ℕ) (cost : ℕ) → k ≢ constraint.agent → slice_get problem.agents k ≡ Some other → slice_get view.paths k ≡ Some path → slice_get view.costs k ≡ Some cost →
         (b : Bool) → nat_eq k constraint.agent ≡ b → IsCheapestPath problem.grid other (cond b (constraint.bar ∷ view.context.bars k) (view.context.bars k)) path cost (entries_or (block_of (bound_blocks constraint.agent es) k) (entries_at view k))
     kept k other path cost differ a p c true is = absurd (differ (eqb-true k constraint.agent is))
     kept k other path cost differ a p c false is =
         subst (λ (o : Option LabelBlock). IsCheapestPath problem.grid other (view.context.bars k) path cost (entries_or o (entries_at view k))) (sym (bound_other constraint.agent es k differ)) (live.each k other path cost a p c)
 
-    -- the bound agent's path at the parent
+    -- the replanned agent's path at the parent
     old : (path : List ℕ) × (cost : ℕ) × IsCheapestPath problem.grid agent (view.context.bars constraint.agent) path cost (entries_at view constraint.agent)
     old = let r = agent_path_of problem view live.counted constraint.agent agent known in (r.0, r.1, live.each constraint.agent agent r.0 r.1 known r.2 r.3)
 
@@ -115,7 +115,7 @@ module _ (problem : Instance) (view : View) (live : IsLive problem view) (constr
       old_no_dearer : old.1 ≤ cost'
       old_no_dearer = old.2.least path' cost' agent_path.lawful (λ b in_it. agent_path.satisfies b (Contains-later constraint.bar b (view.context.bars constraint.agent) in_it)) agent_path.is_cost
 
-      -- where nothing was found the cost is the distance, and so the cost at the parent
+      -- if there are no entries the cost is the distance, and so it is the cost at the parent
       same_above : es ≡ [] → IsLabel problem.grid agent.goal (entries_at view constraint.agent) agent.start 0 (Ticks cost')
       same_above none =
           let high : cost' ≤ old.1 = distance_bound problem.grid agent (view.context.bars constraint.agent) old.0 old.1 (Ticks cost') old.2.lawful old.2.satisfies old.2.is_cost (subst (λ xs. IsLabel problem.grid agent.goal (entries_of xs) agent.start 0 (Ticks cost')) none agent_path.start) in
@@ -157,7 +157,7 @@ module _ (problem : Instance) (view : View) (live : IsLive problem view) (constr
           let before = live.each constraint.agent agent r.0 cost known r.2 is in
           (sum-set view.costs constraint.agent cost cost' is, before.least path' cost' agent_path.lawful (λ b in_it. agent_path.satisfies b (Contains-later constraint.bar b (view.context.bars constraint.agent) in_it)) agent_path.is_cost)
 
--- the bars of a child, one of which is new, are below a later bound
+-- the constraints of a child, one of which is new, are before a later bound
 pub AreBefore-with_constraint : (bars : ℕ → List Bar) (constraint : Constraint) (horizon later : ℕ) → horizon ≤ later → bar_tick constraint.bar < later → ((k : ℕ) → AreBefore horizon (bars k)) → (k : ℕ) → AreBefore later (with_constraint bars constraint k)
 AreBefore-with_constraint bars constraint horizon later more this each k =
     cond_both (nat_eq k constraint.agent) (constraint.bar ∷ bars k) (bars k) (λ bs. AreBefore later bs)
@@ -167,7 +167,7 @@ AreBefore-with_constraint bars constraint horizon later more this each k =
     (Contains-cons_cases constraint.bar b (bars k) in_it))
     (λ other b in_it. let low = each k b in_it in omega arith)
 
--- the bars of both constraints of a conflict are at its tick
+-- both constraints of a conflict are at its tick
 pub left_tick : (conflict : Conflict) → bar_tick (left_constraint conflict).bar ≡ tick_of conflict
 left_tick (Vertex i j cell tick) = refl
 left_tick (Swap i j from to tick) = refl
@@ -176,7 +176,7 @@ pub right_tick : (conflict : Conflict) → bar_tick (right_constraint conflict).
 right_tick (Vertex i j cell tick) = refl
 right_tick (Swap i j from to tick) = refl
 
--- a constraint of an agent that has a path, with a bar that a table takes
+-- a constraint of an agent that has a path, which a table can hold
 abbrev pub IsOfPaths : List (List ℕ) → Constraint → Type 0
 IsOfPaths paths constraint = (constraint.agent < length paths) × IsTableBar constraint.bar
 
@@ -213,7 +213,7 @@ module _ (problem : Instance) (view : View) (live : IsLive problem view) where
       )
 
   module _ (goals : (i j : ℕ) → ShareGoal problem i j → ⊥) (horizon : ℕ) (below : (i : ℕ) → AreBefore horizon (view.context.bars i)) where
-    -- past both arrivals two agents of different goals don't meet
+    -- after both arrivals two agents with different goals don't meet
     pub conflict_early : (conflict : Conflict) → HasConflict view.paths conflict → tick_of conflict < horizon + free_cell_count problem.grid
     conflict_early (Vertex i j cell tick) (differ, p, q, ip, jq, here, there) =
         let a = agent_of i p ip in let b = agent_of j q jq in

@@ -1,4 +1,4 @@
--- What is so where a search over trees ends.
+-- What holds when a search over trees ends.
 use Rattle.std.proofs.Common.{◌≡◌, ℕ, ◌≤◌, List, Vec, sum, refl, sym, ◌∙◌, subst, arith}
 use Rattle.std.specs.declared.alloc.Global.{Global}
 use Rattle.std.proofs.lemmas.Option.{same_Some}
@@ -18,7 +18,7 @@ use Rattle.mapf_cbs.proofs.AnswerLemmas.{children_later, answer_impossible, answ
 use Rattle.mapf_cbs.proofs.StartLemmas.{root_names}
 use Rattle.mapf_cbs.proofs.StateLemmas.{IsInHand, in_hand}
 
--- a tree is drawn from the blocks of what the nodes mean
+-- these are the nodes of a tree with the blocks of the nodes' states
 abbrev pub IsDrawn : List (List LabelBlock) → List Fate → List TreeNode → Type 0
 IsDrawn lists fates listed = (views : List View) → AreBlockLists views lists → (tree : ConstraintTree) × (listed ≡ nodes_of tree) × IsTreeAt views fates 0 tree
 

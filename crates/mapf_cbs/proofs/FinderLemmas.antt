@@ -1,4 +1,4 @@
--- Going up, what a node means is found at nodes on the way.
+-- The paths of a node are found at its ancestors.
 use Rattle.std.proofs.Common.{◌≡◌, ◌≢◌, ℕ, ◌<◌, List, Option, None, Some, length, slice_get, refl, sym, ◌∙◌, subst, inl, ⊎_elim, arith}
 use Rattle.std.proofs.lemmas.Bool.{cases_eq}
 use Rattle.std.proofs.lemmas.Option.{slice_get_within, same_Some}
@@ -13,7 +13,7 @@ use Rattle.mapf_cbs.specs.Finders.{number_of, AreInside, AreNone, HaveSame, IsNo
 use Rattle.mapf_cbs.specs.Search.{View}
 use Rattle.mapf_cbs.proofs.NodeLemmas.{paths_up}
 
--- an agent that no node on the way bound so far has the path of the node here
+-- the agent has the same path at the node that was entered for it so far, or at the node here if none was
 abbrev pub IsFoundSoFar : List View → View → View → ℕ → Option ℕ → Type 0
 IsFoundSoFar views view here i None = HaveSame i view here
 IsFoundSoFar views view here i (Some k) = (other : View) × (slice_get views k ≡ Some other) × HaveSame i view other
@@ -25,7 +25,7 @@ pub none_so_far : (views : List View) (view here : View) → view ≡ here → (
 none_so_far views view here same finders none i finder is = rw (none i finder is) (rw same refl)
 
 module _ (old new : List (Option ℕ)) (agent node : ℕ) (size : length new ≡ length old) (noted : IsNoted old new agent node) where
-  -- a place of the new list
+  -- an index of the new list
   pub data Was (i : ℕ) (finder : Option ℕ) : Type 0 where
     Other : i ≢ agent → slice_get old i ≡ Some finder → Was i finder
     First : i ≡ agent → slice_get old i ≡ Some None → finder ≡ Some node → Was i finder
@@ -70,7 +70,7 @@ module _ (old new : List (Option ℕ)) (agent node : ℕ) (size : length new ≡
       pub noted_up : ((i : ℕ) (finder : Option ℕ) → slice_get old i ≡ Some finder → IsFoundSoFar views view here i finder) → (i : ℕ) (finder : Option ℕ) → slice_get new i ≡ Some finder → IsFoundSoFar views view before i finder
       noted_up same i finder is = up_by same i finder (was i finder is)
 
--- at the root all is found
+-- at the root each agent's path is found
 pub found_at_root : (views : List View) (view here : View) (i : ℕ) (finder : Option ℕ) → slice_get views 0 ≡ Some here → IsFoundSoFar views view here i finder → (other : View) × (slice_get views (number_of finder) ≡ Some other) × HaveSame i view other
 found_at_root views view here i None here_is same = (here, here_is, same)
 found_at_root views view here i (Some k) here_is same = same

@@ -1,4 +1,4 @@
--- What the search for a bound agent found is a child.
+-- What the search for a replanned agent found is a child.
 use Rattle.std.proofs.Common.{◌≡◌, ℕ, ◌-◌, ◌<◌, ◌≤◌, ◌∷◌, [], zero, suc, true, List, Option, Some, Contains, length, sum, slice_get, refl, sym, ◌∙◌, ap, subst, ⊎_elim, arith, nat_eq, eq-eqb}
 use Rattle.std.proofs.lemmas.Option.{same_Some}
 use Rattle.std.proofs.lemmas.List.Sums.{sum_by-cons}
@@ -38,7 +38,7 @@ pub found_ends : (problem : Instance) (agent : Agent) (bars : List Bar) (found :
 found_ends problem agent bars (Arrives path labels) is = is.lawful.goal
 found_ends problem agent bars (Dead labels) is = tt
 
--- the same bars, with one more
+-- the same constraints, with one more
 pub bars_with : (all front more : List Bar) (bar : Bar) → AreSameBars all front → AreSameBars more (bar ∷ front) → AreSameBars more (bar ∷ all)
 bars_with all front more bar same added b = (
   λ in_more. ⊎_elim
@@ -68,7 +68,7 @@ module _ (problem : Instance) (view : View) (live : IsLive problem view) (i : �
     pub old_within : old ≤ sum view.costs
     old_within = part_within view.costs i old old_cost
 
--- the blocks of the bound agent, whether it arrives or not
+-- the blocks of the replanned agent, whether it arrives or not
 module _ (grid : GridMap) (agent : Agent) (bars : List Bar) (bound : ℕ) where
   arrives_bound : (path : List ℕ) (cost : ℕ) (es : List Entry) → IsCheapestPath grid agent bars path cost (entries_of es) → (1 ≤ length es → (distance : ℕ) × IsDistance grid agent.goal agent.start distance × (distance < cost)) → AreBlocksOfBound grid agent bars bound (bound_blocks bound es)
   arrives_bound path cost [] cheapest needed = record { path = path; cost = cost; lawful = cheapest.lawful; satisfies = cheapest.satisfies; is_cost = cheapest.is_cost; distance = cheapest.start }
@@ -91,7 +91,7 @@ module _ (grid : GridMap) (agent : Agent) (bars : List Bar) (bound : ℕ) where
 module _ (problem : Instance) (view : View) (live : IsLive problem view) (constraint : Constraint) (agent : Agent) (known : slice_get problem.agents constraint.agent ≡ Some agent) (bars : List Bar) (same : AreSameBars bars (constraint.bar ∷ view.context.bars constraint.agent))
     (old : ℕ) (path : List ℕ) (path_is : slice_get view.paths constraint.agent ≡ Some path) (old_is : IsCost agent.goal path old)
   where
-    -- the bars of the bound agent at the child
+    -- the constraints of the replanned agent at the child
     bound_there : (blocks : List LabelBlock) → AreBlocksOfBound problem.grid agent (constraint.bar ∷ view.context.bars constraint.agent) constraint.agent blocks → AreBlocksFor problem (child_context view.context view.blocks constraint) (Some constraint.agent) blocks
     bound_there blocks are = (agent, known, let here : nat_eq constraint.agent constraint.agent ≡ true = eq-eqb constraint.agent constraint.agent refl in rw here are)
 

@@ -19,7 +19,7 @@ use Rattle.mapf_cbs.proofs.SumLemmas.{slice_get-second, length-two_more}
 use Rattle.mapf_cbs.proofs.ChildLemmas.{AreBefore-with_constraint, left_tick, right_tick, conflict_proper, conflict_early}
 use Rattle.mapf_cbs.proofs.ShapeLemmas.{IsGrown, IsOneTree-grown}
 
--- what is so of a new child by its fate
+-- what holds of a new child by its outcome
 abbrev pub IsChildFate : Instance → View → View → Fate → Type 0
 IsChildFate problem view child Open = IsLive problem child × (sum view.costs ≤ sum child.costs)
 IsChildFate problem view child Dead = IsDead problem child
@@ -67,7 +67,7 @@ module _ (problem : Instance) (goals : (i j : ℕ) → ShareGoal problem i j →
     live : IsLive problem view
     live = searched.each j view Open is was_open
 
-    -- a place of the longer list
+    -- an index of the longer list
     data Place (k : ℕ) (v : View) (fate : Fate) : Type 0 where
       Old : k < length fates → k ≢ j → slice_get views k ≡ Some v → slice_get fates k ≡ Some fate → Place k v fate
       This : k ≡ j → v ≡ view → fate ≡ Expanded conflict (length fates) → Place k v fate

@@ -1,4 +1,4 @@
--- The nodes of the trees that are owed.
+-- The nodes of the pending subtrees.
 use Rattle.std.proofs.Common.{◌≡◌, ℕ, zero, suc, ◌+◌, ◌*◌, ◌-◌, ◌<◌, ◌≤◌, List, [], ◌∷◌, ◌++◌, Some, reverse, length, slice_get, slice_set, sum_by, refl, sym, ◌∙◌, subst, ⊎_elim, arith, append_assoc}
 use Rattle.std.specs.List.{AllZip}
 use Rattle.std.proofs.lemmas.List.{append-nil, reverse-append}
@@ -14,7 +14,7 @@ use Rattle.mapf_cbs.specs.Search.{View, IsEndFate, Shape, Node, End, occurrences
 use Rattle.mapf_cbs.proofs.ShapeLemmas.{occurs_here, occurs_node, occurrences-past}
 use Rattle.mapf_model.proofs.PlaceLemmas.{slice_get-set_other}
 
--- once these nodes are followed by those of the trees that are owed, they are those of the whole tree
+-- these nodes, followed by those of the pending subtrees, are the nodes of the whole tree
 pub record Leads (views : List View) (fates : List Fate) (listed : List TreeNode) (owed : List ℕ) : Type 0 where
   pub leads : (trees : List ConstraintTree) → AllZip (IsTreeAt views fates) owed trees → (tree : ConstraintTree) × (listed ++ nodes_of_all trees ≡ nodes_of tree) × IsTreeAt views fates 0 tree
 
@@ -54,12 +54,12 @@ module _ (views : List View) (fates : List Fate) where
       let whole = before.leads [] tt in
       (whole.0, sym (append-nil listed) ∙ whole.1, whole.2)
 
--- how often a node of these forms has this number
+-- how many nodes of these shapes have this number
 abbrev pub occurrences_all : ℕ → List Shape → ℕ
 occurrences_all m [] = 0
 occurrences_all m (shape ∷ shapes) = occurrences m shape + occurrences_all m shapes
 
--- the forms of the trees that are owed: each node stands there once at most, and still has its blocks
+-- the shapes of the pending subtrees: each node occurs there at most once, and still has its blocks
 pub record AreOwed (fates : List Fate) (first lists : List (List LabelBlock)) (owed : List ℕ) : Type 0 where
   pub shapes : List Shape
   pub are : AllZip (IsShape fates) owed shapes
@@ -82,7 +82,7 @@ module _ (fates : List Fate) (first : List (List LabelBlock)) where
   occurs k (Node n left right) (same, conflict, a, is, on_left, on_right) = let e = occurs_here k n same in let f = occurs_node k n left right in omega (arith, e, f)
   occurs k (End n) (same, fate, is, end) = let e = occurs_here k n same in omega (arith, e)
 
-  -- the blocks of a node that is owed are still there
+  -- the blocks of a pending node are still there
   module _ (lists : List (List LabelBlock)) (k : ℕ) (owed : List ℕ) where
     still : (shapes : List Shape) → AllZip (IsShape fates) (k ∷ owed) shapes → 0 < occurrences_all k shapes
     still [] zip = absurd zip

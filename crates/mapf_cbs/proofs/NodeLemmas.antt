@@ -1,4 +1,4 @@
--- What a node means follows from what its parent means.
+-- The state that a node denotes, by the state of its parent.
 use Rattle.std.proofs.Common.{◌≡◌, ◌≢◌, ◌⊎◌, ℕ, ◌<◌, List, Some, length, slice_get, refl, sym, ◌∙◌, ap, subst, inl, inr, ⊎_elim, arith, Vec, ◌∷◌, cond, nat_eq, true, eq-eqb, Contains, []}
 use Rattle.std.proofs.lemmas.Bool.{cond_both, eqb-true}
 use Rattle.mapf_model.specs.Tree.{NodeContext, with_constraint}
@@ -20,7 +20,7 @@ use Rattle.mapf_cbs.specs.Search.{View, bound_blocks, labels_of}
 use Rattle.mapf_cbs.specs.Nodes.{AreViews, IsNodeView, IsOwnOf, IsChildView, AreJoined}
 use Rattle.mapf_model.proofs.PlaceLemmas.{slice_get-set_same, slice_get-set_other}
 
--- a path that this node didn't find is the parent's
+-- a path that wasn't found at this node is the parent's
 pub paths_kept : (before : View) (agent : ℕ) (constraint : Constraint) (found : Found (List Entry)) (view : View) → (agent ≢ constraint.agent) ⊎ ((labels : List Entry) × (found ≡ Dead labels)) → IsChildView before constraint found view → slice_get view.paths agent ≡ slice_get before.paths agent
 paths_kept before agent constraint (Arrives path labels) view (inl other) (cost, e) = ap (λ (v : View). slice_get v.paths agent) e ∙ slice_get-set_other before.paths constraint.agent agent path other
 paths_kept before agent constraint (Arrives path labels) view (inr (ls, dead)) is = absurd cc
@@ -41,7 +41,7 @@ pub blocks_new : (before : View) (constraint : Constraint) (found : Found (List 
 blocks_new before constraint (Arrives path labels) view (cost, e) = ap (λ (v : View). v.blocks) e
 blocks_new before constraint (Dead labels) view e = ap (λ (v : View). v.blocks) e
 
--- the bars at a node are the parent's, with one more for the agent that is constraint.agent
+-- the constraints at a node are the parent's, with one more for the agent of the node's constraint
 pub bars_other : (before : View) (agent : ℕ) (constraint : Constraint) (found : Found (List Entry)) (view : View) → agent ≢ constraint.agent → IsChildView before constraint found view → view.context.bars agent ≡ before.context.bars agent
 bars_other before agent constraint found view other is = ap (λ (bars : ℕ → List Bar). bars agent) (context_are before constraint found view is) ∙ cond_not agent constraint.agent (constraint.bar ∷ before.context.bars agent) (before.context.bars agent) other
 

@@ -1,4 +1,4 @@
--- What is so where an option holds nothing, or of what it holds.
+-- Facts about an option that is None, and about the value of one that isn't.
 use Rattle.std.proofs.Common.{◌≡◌, Option, None, Some, IfNone, IfSome, subst}
 
 pub if_none : {X : Type 0} {A B : Type 0} (found : Option X) → (A → B) → IfNone found A → IfNone found B

@@ -1,4 +1,4 @@
--- The state of a search whose nodes hold all that is found at them.
+-- The state of a search with full nodes.
 use Rattle.std.proofs.Common.{◌≡◌, ◌≢◌, ℕ, ◌+◌, ◌*◌, ◌^◌, ◌<◌, ◌≤◌, List, [], ◌∷◌, ◌++◌, Option, Some, Contains, length, length-append, sum, slice_get, refl, sym, ◌∙◌, ap, subst, ⊎_elim, arith, cond, nat_eq, zero, suc, Vec}
 use Rattle.std.specs.declared.cmp.Ordering.TheVariants.{Less}
 use Rattle.std.proofs.lemmas.Bool.{cases_eq, cases_lt, cond_both, eqb-true, eqb-false}
@@ -30,7 +30,7 @@ use Rattle.mapf_model.proofs.PlaceLemmas.{slice_get-front, slice_get-here}
 use Rattle.mapf_cbs.proofs.StateLemmas.{IsInHand, in_hand, two_pushed, state_grown, grown_views}
 use Rattle.mapf_cbs.proofs.WholeLemmas.{less_key, each_more}
 
--- the keys but that of one node
+-- the keys except that of one node
 abbrev others : List (ℕ × ℕ) → ℕ → List (ℕ × ℕ)
 others [] k = []
 others (x ∷ keys) k = cond (nat_eq x.1 k) (others keys k) (x ∷ others keys k)
@@ -158,7 +158,7 @@ module _ (problem : Instance) (nodes : List WholeNode) (fates : List Fate) (coun
 pub least_at : (nodes others : List WholeNode) (fates more : List Fate) (found : Option ℕ) → nodes ≡ others → fates ≡ more → IsLeastBelow nodes fates (length fates) found → IsLeastBelow others more (length more) found
 least_at nodes others fates more found a b is = subst (λ fs. IsLeastBelow others fs (length fs) found) b (subst (λ ns. IsLeastBelow ns fates (length fates) found) a is)
 
--- the state as it begins
+-- the state at the beginning
 pub whole_first : (problem : Instance) (paths : Vec (List ℕ) Global) (node : WholeNode) (view : View) → IsRootView paths.items view → IsLive problem view → IsWhole node view → node.total ≤ 200 * 2 ^ 32 → IsWholeState problem (node ∷ []) (Open ∷ []) 0
 whole_first problem paths node view is_root live is small = record {
   changes = Root paths ∷ [];

@@ -1,4 +1,4 @@
--- The form of the tree, and how it grows.
+-- The shape of the tree, and how it grows.
 use Rattle.std.proofs.Common.{◌≡◌, ◌≢◌, ℕ, ◌+◌, ◌<◌, ◌≤◌, ◌==◌, if◌then◌else◌, true, List, Some, length, slice_get, refl, sym, ◌∙◌, ap, subst, ⊎_elim, arith, nat_eq, eq-eqb}
 use Rattle.std.proofs.lemmas.Bool.{cases_eq, cond_both, eqb-true}
 use Rattle.std.proofs.lemmas.Option.{slice_get_within, same_Some}
@@ -7,12 +7,12 @@ use Rattle.mapf_cbs.specs.declared.node.Fate.{Fate}
 use Rattle.mapf_cbs.specs.declared.node.Fate.TheVariants.{Expanded}
 use Rattle.mapf_cbs.specs.Search.{IsEndFate, Shape, Node, End, splits, occurrences, IsShape, IsOneTree}
 
--- the end j becomes a split with two ends
+-- the end of the number j becomes a split with two ends
 abbrev pub graft : ℕ → ℕ → ℕ → Shape → Shape
 graft j a b (Node k left right) = Node k (graft j a b left) (graft j a b right)
 graft j a b (End k) = if j == k then Node k (End a) (End b) else End k
 
--- how often a number stands at an end
+-- an end has its own number once, and no other number
 pub occurs_here : (m k : ℕ) → m ≡ k → occurrences m (End k) ≡ 1
 occurs_here m k e = let t : nat_eq m k ≡ true = eq-eqb m k e in rw t refl
 
@@ -29,7 +29,7 @@ graft_not j a b k e = cond_both (nat_eq j k) (Node k (End a) (End b)) (End k) (�
 pub occurs_node : (m k : ℕ) (left right : Shape) → occurrences m (Node k left right) ≡ occurrences m (End k) + (occurrences m left + occurrences m right)
 occurs_node m k left right = refl
 
--- other numbers stay
+-- other numbers occur as often as before
 pub occurrences-graft_other : (j a b m : ℕ) → m ≢ a → m ≢ b → (shape : Shape) → occurrences m (graft j a b shape) ≡ occurrences m shape
 occurrences-graft_other j a b m not_a not_b (Node k left right) =
     let l = occurrences-graft_other j a b m not_a not_b left in let r = occurrences-graft_other j a b m not_a not_b right in
@@ -40,7 +40,7 @@ occurrences-graft_other j a b m not_a not_b (End k) = ⊎_elim
     (λ (differ : j ≢ k). ap (occurrences m) (graft_not j a b k differ))
     (cases_eq j k)
 
--- a number past the list is none of the form's
+-- a number past the list doesn't occur in the shape
 pub occurrences-past : (fates : List Fate) (k m : ℕ) (shape : Shape) → IsShape fates k shape → length fates ≤ m → occurrences m shape ≡ 0
 occurrences-past fates k m (Node n left right) (same, conflict, a, is, on_left, on_right) past =
     let l = occurrences-past fates a m left on_left past in let r = occurrences-past fates (a + 1) m right on_right past in
@@ -67,7 +67,7 @@ module _ (fates : List Fate) (j : ℕ) (fate : Fate) (was : slice_get fates j �
       (λ (differ : j ≢ m). ap splits (graft_not j a b m differ) ∙ sym (let e = occurs_not j m differ in omega arith))
       (cases_eq j m)
 
-  -- a new end stands where the old one stood
+  -- each new end occurs as often as the old one did
   pub occurrences-graft_left : (a b : ℕ) → a ≢ b → (k : ℕ) (shape : Shape) → IsShape fates k shape → occurrences a shape ≡ 0 → occurrences a (graft j a b shape) ≡ occurrences j shape
   occurrences-graft_left a b differ k (Node n left right) (same, c, x, is, on_left, on_right) fresh =
       let g = occurs_node a n left right in
@@ -90,7 +90,7 @@ module _ (fates : List Fate) (j : ℕ) (fate : Fate) (was : slice_get fates j �
       (λ (other : j ≢ m). ap (occurrences b) (graft_not j a b m other) ∙ (let g = occurs_not j m other in omega (arith, fresh, g)))
       (cases_eq j m)
 
--- where one end is split and two nodes are added
+-- the outcomes after one end is split and two nodes are added
 pub record IsGrown (before after : List Fate) (j : ℕ) (conflict : Conflict) (left right : Fate) : Type 0 where
   pub size : length after ≡ length before + 2
   pub split : slice_get after j ≡ Some (Expanded conflict (length before))

@@ -19,7 +19,7 @@ use Rattle.mapf_cbs.specs.Start.{HaveGoal, IsShortest, AreShortest, IsRootStart}
 use Rattle.mapf_cbs.proofs.AnswerLemmas.{is_shown_impossible}
 use Rattle.mapf_cbs.proofs.CheapestPathLemmas.{cheapest_of_shortest}
 
--- an element of a list that is known by another name
+-- an element of an equal list
 pub read_through : {X : Type 0} (xs ys : List X) (i : ℕ) (x : X) → xs ≡ ys → i < length xs → x ≡ get_or xs i x → slice_get ys i ≡ Some x
 read_through xs ys i x same within is = subst (λ zs. slice_get zs i ≡ Some x) same (slice_get_read xs (length xs) i x refl within is)
 
@@ -41,7 +41,7 @@ some_cells : (grid : GridMap) (agent : Agent) (path : List ℕ) → IsShortest g
 some_cells grid agent [] short = absurd (short.lawful.is_path.nonempty refl)
 some_cells grid agent (x ∷ xs) short = omega arith
 
--- the root: no bars, and the agents' shortest paths
+-- the root: no constraints, and the agents' shortest paths
 pub record IsRootOf (problem : Instance) (paths : List (List ℕ)) : Type 0 where
   pub view : View
   pub is_root : IsRootView paths view
@@ -83,7 +83,7 @@ leaf_answer problem limit goals (i, agent, is, unreachable) listed listed_are = 
 share_goal : (problem : Instance) (i j : ℕ) → i ≢ j → HaveGoal problem.agents i j → ShareGoal problem i j
 share_goal problem i j differ (a, b, ia, jb, same) = (differ, a, b, ia, jb, same)
 
--- a pair of agents with one goal before which no pair comes is the first one
+-- a pair of agents with the same goal, before which there is no such pair, is the first one
 first_pair : (problem : Instance) (i j : ℕ) → IsFirstPair (HaveGoal problem.agents) (length problem.agents) (i, j) → (a b : ℕ) → IsFirstSharingPair problem a b → (i ≡ a) × (j ≡ b)
 first_pair problem i j is a b pair =
     let less = is.order in let shared = is.holds in let none = is.first in
@@ -104,7 +104,7 @@ first_pair problem i j is a b pair =
     (cases_lt b j) in
     (sym a_first, sym b_first)
 
--- a clash of the first two agents that have one goal
+-- a clash of the first two agents with the same goal
 pub clash_answer : (problem : Instance) (limit i j : ℕ) → IsFirstPair (HaveGoal problem.agents) (length problem.agents) (i, j) → (listed : List TreeNode) → listed ≡ ClashNode i j ∷ [] → (tree : ConstraintTree) × IsTreeOf problem limit listed tree × IsShownImpossible problem tree
 clash_answer problem limit i j is listed listed_are = (
   Clash i j,
@@ -123,7 +123,7 @@ clash_answer problem limit i j is listed listed_are = (
   is_shown_impossible problem (Clash i j) (record { proper = tt; nodes = share_goal problem i j (λ e. let less = is.order in omega (arith, e, less)) is.holds }),
 )
 
--- where no agent and a later one have one goal, no two have
+-- if no agent has the same goal as a later one, all goals differ
 pub none_share : (problem : Instance) → HoldsOfNoPair (HaveGoal problem.agents) (length problem.agents) → (i j : ℕ) → ShareGoal problem i j → ⊥
 none_share problem none i j (differ, a, b, ia, jb, same) = ⊎_elim
     (λ (less : i < j). none i j less (slice_get_within problem.agents j b jb) (a, b, ia, jb, same))

@@ -37,7 +37,7 @@ pub end_of_total : (total : Option ℕ) → IsEndFate (fate_of total)
 end_of_total None = tt
 end_of_total (Some total) = tt
 
--- a place of a list with two more is an old one or one of the two
+-- an index of a list with two more elements is an old one or one of the two
 two_more_at : {X : Type 0} (xs : List X) (x y z : X) (k : ℕ) → slice_get (xs ++ x ∷ y ∷ []) k ≡ Some z → (slice_get xs k ≡ Some z) ⊎ (((k ≡ length xs) × (x ≡ z)) ⊎ ((k ≡ length xs + 1) × (y ≡ z)))
 two_more_at xs x y z k is =
     let size = length-two_more xs x y in
@@ -52,7 +52,7 @@ two_more_at xs x y z k is =
     (cases_eq k (length xs)))
     (cases_lt k (length xs))
 
--- the fates after a split
+-- the outcomes after a split
 pub grown_fates : (fates : List Fate) (k : ℕ) (conflict : Conflict) (left right : Option ℕ) → k < length fates → IsGrown fates (split_fates fates k conflict left right) k conflict (fate_of left) (fate_of right)
 grown_fates fates k conflict left right inside =
     let size = length-two_more fates (fate_of left) (fate_of right) in
@@ -68,7 +68,7 @@ grown_fates fates k conflict left right inside =
       right_end = end_of_total right;
     })
 
--- the nodes after a split mean the views after it
+-- the nodes after a split denote the states after it
 module _ (nodes : List Node) (views : List View) (are : AreViews nodes views) (k : ℕ) (view : View) (is : slice_get views k ≡ Some view)
     (p q : Constraint) (p_in : p.agent < length view.paths) (q_in : q.agent < length view.paths) (f g : Found (List Entry)) (x y : View) (x_is : IsChildView view p f x) (y_is : IsChildView view q g y) where
   lift_view : (m : ℕ) (node : Node) (v : View) → IsNodeView views m node v → IsNodeView (views ++ x ∷ y ∷ []) m node v
@@ -104,7 +104,7 @@ module _ (nodes : List Node) (views : List View) (are : AreViews nodes views) (k
   pub views_pushed : AreViews ((nodes ++ Child k p f ∷ []) ++ Child k q g ∷ []) (views ++ x ∷ y ∷ [])
   views_pushed = subst (λ ns. AreViews ns (views ++ x ∷ y ∷ [])) (sym (two_pushed nodes (Child k p f) (Child k q g))) views_grown
 
-  -- what is so of each node is so of each after a split
+  -- what holds of each node before a split holds of each after it
   pub each_pushed : (P : ℕ → Node → Type 0) → ((m : ℕ) (node : Node) → slice_get nodes m ≡ Some node → P m node) → P (length nodes) (Child k p f) → P (length nodes + 1) (Child k q g) →
       (m : ℕ) (node : Node) → slice_get ((nodes ++ Child k p f ∷ []) ++ Child k q g ∷ []) m ≡ Some node → P m node
   each_pushed P each first second m node node_is = ⊎_elim
@@ -131,7 +131,7 @@ with_key_new : (keys : List (ℕ × ℕ)) (n : ℕ) (total : Option ℕ) (s : �
 with_key_new keys n None s e = absurd cc
 with_key_new keys n (Some t) s e = let same : t ≡ s = same_Some t s e in subst (λ z. Contains (with_key keys n (Some t)) (z, n)) same (inserted_new keys (t, n))
 
--- no open node is cheaper than the one in hand
+-- no open node is cheaper than the one that is being expanded
 pub least_popped : (problem : Instance) (nodes : List Node) (fates : List Fate) (rest : List (ℕ × ℕ)) (count total k : ℕ) (popped : IsPopped problem nodes fates rest count total k) (view : View) → slice_get popped.state.views k ≡ Some view →
     (m : ℕ) (other : View) → slice_get popped.state.views m ≡ Some other → slice_get fates m ≡ Some Open → sum view.costs ≤ sum other.costs
 least_popped problem nodes fates rest count total k popped view is m other m_is m_open =
@@ -272,7 +272,7 @@ module _ (problem : Instance) (nodes : List Node) (fates : List Fate) (rest : Li
     unfolding state_grown
     grown_views = refl
 
--- the node in hand
+-- the node that is being expanded
 pub record IsInHand (problem : Instance) (fates : List Fate) (k total : ℕ) (views : List View) : Type 0 where
   pub view : View
   pub is : slice_get views k ≡ Some view

@@ -124,7 +124,7 @@ module _ (problem : Instance) (views : List View) (fates : List Fate) (count : �
       let y = (searched.each k view (Expanded conflict a) is expanded).to_right in
       (y.0, y.1, y.2 ∙ ap (λ bs. right_child_context view.context conflict bs) (sym (here view is).0), y.3)
 
-  -- what is so of each node of the search is so of each node of its tree
+  -- what holds of each node of the search holds of each node of its tree
   pub each_node : (P : NodeContext → ConstraintTree → Type 0) → ((k : ℕ) (view : View) (tree : ConstraintTree) → slice_get views k ≡ Some view → IsTreeAt views fates k tree → P view.context tree) →
       (tree : ConstraintTree) (k : ℕ) (view : View) → slice_get views k ≡ Some view → IsTreeAt views fates k tree → AtEachNode P view.context tree
   each_node P f (Split conflict blocks left right) k view is (here, a, expanded, on_left, on_right) =
@@ -146,7 +146,7 @@ module _ (problem : Instance) (views : List View) (fates : List Fate) (count : �
   each_end P f (Leaf blocks) k view is (here, fate, fate_is, end) = f k view fate is fate_is end
   each_end P f (Clash i j) k view is none = absurd none
 
-  -- each node has the blocks of the agent that was bound there
+  -- each node has the blocks of the agent that was replanned there
   carries : (tree : ConstraintTree) (k : ℕ) (view : View) (bound : Option ℕ) → slice_get views k ≡ Some view → IsTreeAt views fates k tree → AreBlocksFor problem view.context bound view.blocks → CarriesBlocksFor problem view.context bound tree
   carries (Split conflict blocks left right) k view bound is (here, a, expanded, on_left, on_right) own =
       let x = to_left k view conflict blocks a is expanded here in let y = to_right k view conflict blocks a is expanded here in
@@ -158,7 +158,7 @@ module _ (problem : Instance) (views : List View) (fates : List Fate) (count : �
   carries (Leaf blocks) k view bound is (here, fate, fate_is, end) own = subst (λ bs. AreBlocksFor problem view.context bound bs) (sym (here view is).0) own
   carries (Clash i j) k view bound is none own = absurd none
 
-  -- the search's tree has as many splits as its form
+  -- the search's tree has as many splits as its shape
   pub split_count_is : (tree : ConstraintTree) (shape : Shape) (k : ℕ) → IsShape fates k shape → IsTreeAt views fates k tree → split_count tree ≡ splits shape
   split_count_is (Split conflict blocks left right) (Node n l r) k (number, c, x, is, on_l, on_r) (here, a, expanded, on_left, on_right) =
       let same : Expanded c x ≡ Expanded conflict a = same_Some (Expanded c x) (Expanded conflict a) (sym is ∙ expanded) in
@@ -173,7 +173,7 @@ module _ (problem : Instance) (views : List View) (fates : List Fate) (count : �
   split_count_is (Leaf blocks) (End m) k on at_leaf = refl
   split_count_is (Clash i j) shape k on none = absurd none
 
-  -- an end of the form is a leaf of the tree
+  -- an end of the shape is a leaf of the tree
   pub some_leaf : (P : NodeContext → List LabelBlock → Type 0) (j : ℕ) (view_j : View) (fate_j : Fate) → slice_get views j ≡ Some view_j → slice_get fates j ≡ Some fate_j → IsEndFate fate_j → P view_j.context view_j.blocks →
       (tree : ConstraintTree) (shape : Shape) (k : ℕ) (view : View) → slice_get views k ≡ Some view → IsShape fates k shape → IsTreeAt views fates k tree → 0 < occurrences j shape → AtSomeLeaf P view.context tree
   some_leaf P j view_j fate_j j_is j_fate j_end holds (Split conflict blocks left right) (Node n l r) k view is (number, c, x, split, on_l, on_r) (here, a, expanded, on_left, on_right) some =
@@ -206,7 +206,7 @@ module _ (problem : Instance) (views : List View) (fates : List Fate) (count : �
   at_least low least k view (Expanded c a) is fate_is end others total cheapest is_sum = absurd end
 
   module _ (tree : ConstraintTree) (on_tree : IsTreeAt views fates 0 tree) where
-    -- a list of a node is due where no open node has a smaller sum
+    -- the paths of a node are due if no open node has a smaller sum
     pub due : (view : View) → IsLive problem view → ((m : ℕ) (other : View) → slice_get views m ≡ Some other → slice_get fates m ≡ Some Open → sum view.costs ≤ sum other.costs) → AreDue problem tree view.context view.paths (sum view.costs)
     due view live least = record {
       cheapest = live_cheapest problem view live;
@@ -216,11 +216,11 @@ module _ (problem : Instance) (views : List View) (fates : List Fate) (count : �
           (at_least (sum view.costs) least) tree 0 searched.first.0 searched.first.1 on_tree);
     }
 
-    -- what is so of each node of the search is so of each node of the tree, from the root on
+    -- what holds of each node of the search holds of each node of the tree, from the root on
     from_root : (P : NodeContext → ConstraintTree → Type 0) → ((k : ℕ) (view : View) (node : ConstraintTree) → slice_get views k ≡ Some view → IsTreeAt views fates k node → P view.context node) → AtEachNode P root tree
     from_root P f = subst (λ context. AtEachNode P context tree) searched.first.2 (each_node P f tree 0 searched.first.0 searched.first.1 on_tree)
 
-    -- each node is proper, and a split stands on the first conflict of due paths
+    -- each node is proper, and each split is on the first conflict of due paths
     node_facts : (k : ℕ) (view : View) (node : ConstraintTree) → slice_get views k ≡ Some view → IsTreeAt views fates k node → IsProperNode problem node × IsEarnedNode problem tree view.context node × IsOnFirstConflict problem tree view.context node
     node_facts k view (Split c blocks left right) is (here, a, expanded, on_left, on_right) =
         let at_expanded = searched.each k view (Expanded c a) is expanded in
@@ -259,7 +259,7 @@ module _ (problem : Instance) (views : List View) (fates : List Fate) (count : �
     impossible_leaf none_open k view Dead is fate_is end = dead_shows_impossible problem view (searched.each k view Dead is fate_is)
     impossible_leaf none_open k view (Expanded c a) is fate_is end = absurd end
 
-    -- a claim that starts show where they add up to at least this is shown at each node, if no open node has a smaller sum
+    -- a claim that holds if the labels of the starts add up to at least this is shown at each node, if no open node has a smaller sum
     claim_node : (claim : Claim) (cost : ℕ) → ((entries : ℕ → Entries) → StartsReach problem cost entries → StartsShow problem claim entries) → ((m : ℕ) (other : View) → slice_get views m ≡ Some other → slice_get fates m ≡ Some Open → cost ≤ sum other.costs) →
         (k : ℕ) (view : View) (node : ConstraintTree) → slice_get views k ≡ Some view → IsTreeAt views fates k node → NodeShows problem claim view.context node
     claim_node claim cost shown least k view (Split c blocks left right) is (here, a, expanded, on_left, on_right) = split_shows k view c blocks a is expanded here
@@ -300,7 +300,7 @@ module _ (problem : Instance) (views : List View) (fates : List Fate) (count : �
     pub has_blocks : CarriesBoundBlocks problem tree
     has_blocks = subst (λ context. CarriesBlocksFor problem context None tree) searched.first.2 (carries tree 0 searched.first.0 None searched.first.1 on_tree searched.first.3)
 
-    -- an open node of least sum whose list has a conflict stops the tree
+    -- an open node of least sum whose paths have a conflict is one at which the search may stop
     pub is_stopped : (Fact : NodeContext → List (List ℕ) → Type 0) (j : ℕ) (view : View) → slice_get views j ≡ Some view → slice_get fates j ≡ Some Open →
         ((m : ℕ) (other : View) → slice_get views m ≡ Some other → slice_get fates m ≡ Some Open → sum view.costs ≤ sum other.costs) → HaveSomeConflict view.paths → Fact view.context view.paths → IsStoppedWhere Fact problem tree
     is_stopped Fact j view is is_open least meet fact = record {

@@ -62,7 +62,7 @@ module _ (problem : Instance) (view : View) where
   pub live_sum : IsLive problem view → IsSumOfCosts problem.agents view.paths (sum view.costs)
   live_sum live = (view.costs, live_costs live, refl)
 
-  -- each cheapest list has this sum at least
+  -- cheapest paths have at least this sum of costs
   pub live_least : IsLive problem view → (others : List (List ℕ)) (total : ℕ) → AreCheapest problem view.context others → IsSumOfCosts problem.agents others total → sum view.costs ≤ total
   live_least live others total cheapest (costs, are, is) =
       let one = cheapest.count in let two = are.count in let three = live.counted.costs in
@@ -75,7 +75,7 @@ module _ (problem : Instance) (view : View) where
       let obeying = cheapest.lawful i agent.0 other.0 agent.1 other.1 in
       agent_path.least other.0 y obeying.0 obeying.1 (are.each i agent.0 other.0 y agent.1 other.1 cy)))
 
-  -- there is no cheapest list
+  -- there are no cheapest paths
   pub dead_none : IsDead problem view → (others : List (List ℕ)) → AreCheapest problem view.context others → ⊥
   dead_none dead others cheapest =
       let one = cheapest.count in

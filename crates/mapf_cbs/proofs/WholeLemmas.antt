@@ -1,4 +1,4 @@
--- Nodes that hold all that is found at them.
+-- Full nodes, and the states that they denote.
 use Rattle.std.proofs.Common.{◌≡◌, ◌≢◌, ℕ, ◌+◌, ◌^◌, ◌<◌, ◌≤◌, All, List, [], ◌∷◌, ◌++◌, Option, None, Some, length, sum, slice_get, slice_set, refl, sym, ◌∙◌, ap, subst, inl, ⊎_elim, arith, Vec}
 use Rattle.std.specs.declared.cmp.Ordering.{Ordering}
 use Rattle.std.specs.declared.cmp.Ordering.TheVariants.{Less, Equal, Greater}
@@ -98,7 +98,7 @@ module _ (nodes : List WholeNode) (fates : List Fate) (k : ℕ) where
       oldest = λ m other within is other_open. let h = least.least m other within is other_open in let g = total_is in omega (arith, h, g, less);
     }
 
--- a key of no greater sum that was made earlier where the sums are one
+-- a key with no greater sum, and with a smaller number if the sums are equal, is less
 pub less_key : (a b : ℕ × ℕ) → a.0 ≤ b.0 → (a.0 ≡ b.0 → a.1 < b.1) → key_cmp a b ≡ Less
 less_key a b sums numbers = by (nat_cmp a.0 b.0) refl
   where
@@ -115,7 +115,7 @@ less_key a b sums numbers = by (nat_cmp a.0 b.0) refl
 pub bars_swap : (xs ys : List Bar) → AreSameBars xs ys → AreSameBars ys xs
 bars_swap xs ys same bar = ((same bar).1, (same bar).0)
 
--- what is so of each element of a list and of one more
+-- what holds of each element of a list and of one more
 pub each_more : {X : Type 0} (P : ℕ → X → Type 0) (xs : List X) (x : X) (n : ℕ) → length xs ≡ n → ((i : ℕ) (y : X) → slice_get xs i ≡ Some y → P i y) → P n x → (i : ℕ) (y : X) → slice_get (xs ++ x ∷ []) i ≡ Some y → P i y
 each_more P xs x n size each here i y is = ⊎_elim
     (λ (old : slice_get xs i ≡ Some y). each i y old)

@@ -71,8 +71,8 @@ IsStoppedAtFirst Fact problem tree =
     IsStoppedWhere (λ context paths. AreFirstPaths problem context paths × Fact paths) problem tree
 
 -- this tree justifies that a search with at most so many splits stops for this cause: at a leaf of it the first due
--- paths have a conflict before tick 1,000,000, and the tree has exactly the limit's splits; or they conflict but have
--- no conflict before tick 1,000,000, and one more than the splits, times the free cells, exceeds 1,000,000
+-- paths have a conflict before tick `split_ticks`, and the tree has exactly the limit's splits; or they conflict but
+-- have no conflict before tick `split_ticks`, and one more than the splits, times the free cells, exceeds `split_ticks`
 abbrev pub MayStop : Instance → ℕ → Cause → ConstraintTree → Type 0
 MayStop problem limit (Splits n) tree = IsStoppedAtFirst (λ paths. HaveConflictBefore paths split_ticks) problem tree
     × (n ≡ limit) × (split_count tree ≡ limit)

@@ -47,7 +47,7 @@ impl SearchTree {
         ensures waiting { OnOk result (self.new.waiting.keys ≡ (total, 0) ∷ []) }
         ensures splits { OnOk result (self.new.splits ≡ self.old.splits) }
     {
-        // The prover finds the type of a fate's conflict only if it is named.
+        // The prover finds the type of an outcome's conflict only if it is named.
         let _conflict: Option<Conflict> = None;
         self.waiting.insert((total, 0))?;
         self.nodes.push(Node::Root { paths })?;

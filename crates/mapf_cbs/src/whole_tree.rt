@@ -34,7 +34,7 @@ impl WholeTree {
         ensures fates { IfOk result (λ tree. tree.fates.items ≡ Fate.Open ∷ []) }
         ensures splits { IfOk result (λ tree. tree.splits ≡ 0) }
     {
-        // The prover finds the type of a fate's conflict only if it is named.
+        // The prover finds the type of an outcome's conflict only if it is named.
         let _conflict: Option<Conflict> = None;
         let mut nodes = Vec::new(alloc);
         nodes.push(root)?;

@@ -1,4 +1,4 @@
--- What lists of the agents' cells say of conflicts of their paths.
+-- Conflicts of paths, by the lists of the agents' cells at a tick and at the next.
 use Rattle.std.proofs.Common.{◌≡◌, ℕ, ◌+◌, ◌-◌, ◌<◌, ◌≤◌, min, List, [], Some, All, length, slice_index, slice_index_or, slice_get, refl, sym, ◌∙◌, ap, subst, inl, inr, ⊎_elim, arith}
 use Rattle.std.proofs.lemmas.Bool.{cases_lt}
 use Rattle.std.proofs.lemmas.List.{get_or-map, length-map}
@@ -22,7 +22,7 @@ has_path : (paths : List (List ℕ)) (i tick : ℕ) → i < length (cells_at pat
 unfolding path_of
 has_path paths i tick within = slice_get-get_or paths i [] (let total = length-map paths (λ path. at path tick) in omega arith)
 
--- a conflict by the lists of cells is one of the paths
+-- a conflict by the lists of cells is a conflict of the paths
 pub has_conflict : (paths : List (List ℕ)) (now : ℕ) (conflict : Conflict) → IsConflictOf (cells_at paths now) (cells_at paths (now + 1)) now conflict → HasConflict paths conflict
 has_conflict paths now (Vertex i j cell tick) (before, within, same, i_cell, j_cell) =
     let within_i : i < length (cells_at paths now) = omega arith in (
@@ -59,7 +59,7 @@ cell_by_path paths i path tick is =
     let within = slice_get_within paths i path is in
     cell_of paths i tick (omega arith) ∙ ap (λ path. at path tick) (get_or_from_slice_get paths i path [] is)
 
--- and a conflict of the paths is one by the lists of cells
+-- and a conflict of the paths is a conflict by the lists of cells
 is_conflict_of : (paths : List (List ℕ)) (conflict : Conflict) → IsOrdered conflict → HasConflict paths conflict → IsConflictOf (cells_at paths (tick_of conflict)) (cells_at paths (tick_of conflict + 1)) (tick_of conflict) conflict
 is_conflict_of paths (Vertex i j cell tick) ordered (differ, p, q, is_p, is_q, in_p, in_q) =
     let size = length-map paths (λ path. at path tick) in
@@ -83,7 +83,7 @@ is_conflict_of paths (Swap i j from to tick) ordered (differ, moves, p, q, is_p,
       cell_by_path paths j q (tick + 1) is_q ∙ q_to,
     )
 
--- no pair of which the fact holds is less than the first
+-- no pair for which the relation holds is less than the first
 not_less : (Fact : ℕ → ℕ → Type 0) (count i j k l : ℕ) → IsFirstPair Fact count (i, j) → k < l → l < count → Fact k l → AreLess k l i j → ⊥
 not_less Fact count i j k l first order within fact (inl less) = first.first.0 k l less order within fact
 not_less Fact count i j k l first order within fact (inr (same, less)) = first.first.1 l (omega arith) less (subst (λ agent. Fact agent l) same fact)
@@ -97,7 +97,7 @@ none_before here next now (Vertex i j cell tick) (Swap k l from to other_tick) f
 none_before here next now (Swap i j from to tick) (Swap k l other_from other_to other_tick) first (order, within, same, moves, k_from, k_to, l_to, l_from) less =
     not_less (ExchangeCells here next) (length here) i j k l first.1 order within (l_to ∙ sym k_to, l_from ∙ sym k_from) less
 
--- the first by the lists of cells is the first of the paths
+-- the first conflict by the lists of cells is the first of the paths
 pub first_of_its_tick : (paths : List (List ℕ)) (now : ℕ) (conflict : Conflict) → tick_of conflict ≡ now → IsFirstOf (cells_at paths now) (cells_at paths (now + 1)) conflict → IsFirstOfItsTick paths conflict
 first_of_its_tick paths now conflict when first other ordered has same less =
     let at_now = same ∙ when in
@@ -154,7 +154,7 @@ at_rest path end tick short late =
     let same : min tick (length path - 1) ≡ min (end - 1) (length path - 1) = omega arith in
     ap (slice_index path) same
 
--- no conflict comes after all agents rest
+-- there is no conflict after all agents rest
 pub never : (paths : List (List ℕ)) (end : ℕ) → 1 ≤ end → All (λ path. length path ≤ end) paths → AreConflictFreeBefore paths end → HaveSomeConflict paths → ⊥
 never paths end positive short before (i, j, tick, p, q, differ, i_path, j_path, conflict) = ⊎_elim
     (λ (early : tick < end). before i j tick p q early differ i_path j_path conflict)

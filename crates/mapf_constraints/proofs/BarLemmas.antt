@@ -1,4 +1,4 @@
--- What one more bar does to a set of bars, to its horizon and to the last tick on a cell.
+-- A set of constraints with one more, its horizon and its last tick on a cell.
 use Rattle.std.proofs.Common.{◌≡◌, ◌⊎◌, ℕ, ◌+◌, ◌<◌, ◌≤◌, max, Option, None, Some, List, [], ◌∷◌, ◌++◌, Contains, ⊎_elim, sym, subst, ap, arith, take, length, slice_index_or}
 use Rattle.std.proofs.lemmas.List.{take_more}
 use Rattle.std.proofs.lemmas.List.Elements.{Contains-append_left, Contains-push, Contains-push_cases}
@@ -18,7 +18,7 @@ AreSameBars-push bars bar other = (
   (λ held. ⊎_elim (λ same. subst (Contains (bars ++ bar ∷ [])) same (Contains-push bars bar)) (λ old. Contains-append_left bars (bar ∷ []) other old) (Contains-cons_cases bar other bars held)),
 )
 
--- the front of a list with its next bar, as a set
+-- a prefix of a list with the next constraint, as a set
 pub AreSameBars-take : (bars : List Bar) (i : ℕ) (bar : Bar) → i < length bars → bar ≡ slice_index_or bars i bar → AreSameBars (take (i + 1) bars) (bar ∷ take i bars)
 AreSameBars-take bars i bar within is = subst (λ b. AreSameBars (take (i + 1) bars) (b ∷ take i bars)) (sym is) (rw (take_more bars i bar within) (AreSameBars-push (take i bars) (slice_index_or bars i bar)))
 
@@ -44,7 +44,7 @@ module _ (before after : List Bar) (bar : Bar) (same : AreSameBars after (bar �
       (λ other held. ⊎_elim (λ new. let e : tick_of bar ≡ tick_of other = ap tick_of new in omega (arith, bar_early)) (λ old. omega (arith, is.above other old, early)) (cases other held))
 
 module _ (before after : List Bar) (cell : ℕ) where
-  -- a bar that isn't one of the cell
+  -- a constraint that doesn't forbid the cell
   pub IsLastOn-other : (bar : Bar) → AreSameBars after (bar ∷ before) → ((tick : ℕ) → bar ≡ Cell cell tick → ⊥) → (last : Option ℕ) → IsLastOn before cell last → IsLastOn after cell last
   IsLastOn-other bar same other None is = λ tick held. ⊎_elim (λ new. other tick new) (λ old. is tick old) (cases before after bar same (Cell cell tick) held)
   IsLastOn-other bar same other (Some last) is = (
@@ -52,7 +52,7 @@ module _ (before after : List Bar) (cell : ℕ) where
     λ tick held. ⊎_elim (λ new. absurd (other tick new)) (λ old. is.1 tick old) (cases before after bar same (Cell cell tick) held),
   )
 
-  -- a bar of the cell
+  -- a constraint that forbids the cell
   pub IsLastOn-cell : (tick : ℕ) → AreSameBars after (Cell cell tick ∷ before) → (last : Option ℕ) → IsLastOn before cell last → IsLastOn after cell (Some (option_map_or (λ n. max n tick) last tick))
   IsLastOn-cell tick same None is = (
     added before after (Cell cell tick) same,

@@ -1,4 +1,4 @@
--- Bars in chains: which bars the links hold, one step along a chain, and one link more.
+-- Constraints in chains: which constraints the links have, and the chains with one more link.
 use Rattle.std.proofs.Common.{◌≡◌, ℕ, ◌+◌, ◌<◌, ◌≤◌, List, [], ◌∷◌, ◌++◌, length, Contains, slice_index, slice_index_or, slice_set, replicate, ⊎_elim, sym, subst, refl, ap, ◌∙◌, arith, take}
 use Rattle.std.proofs.lemmas.Bool.{cases_lt, cases_eq}
 use Rattle.std.proofs.lemmas.List.{get_or-map, length-map, length-append, get_or_push, get_or_append_left, get_or-set_same, get_or-set_other, get_or-replicate, take_more, map-append}
@@ -17,19 +17,19 @@ abbrev pub no_link : Link
 no_link = record { bar = Cell 0 0; older = 0 }
 
 module _ (links : List Link) where
-  -- the bar of a link is one of the bars
+  -- the constraint of a link is one of the constraints
   pub bars_of-has : (place : ℕ) → place < length links → Contains (bars_of links) (link_at links place).bar
   bars_of-has place within =
       let e : slice_index_or (bars_of links) place (Cell 0 0) ≡ (link_at links place).bar = get_or-map (λ (link : Link). link.bar) links place no_link (Cell 0 0) within in
       subst (Contains (bars_of links)) e (Contains-get_or (bars_of links) place (Cell 0 0) (rw (length-map links (λ (link : Link). link.bar)) within))
 
-  -- each of the bars is that of a link
+  -- each of the constraints is that of a link
   pub bars_of-from : (bar : Bar) → Contains (bars_of links) bar → (place : ℕ) × (place < length links) × ((link_at links place).bar ≡ bar)
   bars_of-from bar (place, within, is) =
       let place_within : place < length links = rw (← length-map links (λ (link : Link). link.bar)) within in
       (place, place_within, sym (get_or-map (λ (link : Link). link.bar) links place no_link bar place_within) ∙ is)
 
-  -- one link more
+  -- one more link
   module _ (link : Link) where
     old_link : (place : ℕ) → place < length links → link_at (links ++ link ∷ []) place ≡ link_at links place
     old_link place within = get_or_append_left links (link ∷ []) no_link place within
@@ -90,11 +90,11 @@ module _ (links : List Link) where
         → AreChained (links ++ link ∷ []) (slice_set newest chain count)
     AreChained-push newest chain count chained is_chain is_older is_count size = rw (is_chain, is_count) (AreChained-own newest chained (is_older ∙ ap (slice_index newest) is_chain) size)
 
--- one link more, as a set of bars
+-- one more link, as a set of constraints
 pub bars_of-push : (links : List Link) (link : Link) → AreSameBars (bars_of (links ++ link ∷ [])) (link.bar ∷ bars_of links)
 bars_of-push links link = rw (map-append (λ (l : Link). l.bar) links (link ∷ [])) (AreSameBars-push (bars_of links) link.bar)
 
--- the front of the links with the next of them
+-- a prefix of the links with the next link
 pub bars_of-take : (links : List Link) (i : ℕ) (link : Link) → i < length links → link ≡ slice_index_or links i link → AreSameBars (bars_of (take (i + 1) links)) (link.bar ∷ bars_of (take i links))
 bars_of-take links i link within is = subst (λ (l : Link). AreSameBars (bars_of (take (i + 1) links)) (l.bar ∷ bars_of (take i links))) (sym is) (rw (take_more links i link within) (bars_of-push (take i links) (slice_index_or links i link)))
 
@@ -109,7 +109,7 @@ AreChained-none links none = record {
   next = λ place within. absurd (let e : length links ≡ 0 = ap length none in omega (arith, within));
 }
 
--- a table without bars
+-- a table without constraints
 pub no_bars : (links : List Link) → links ≡ [] → AreBars (bars_of links) × IsHorizon (bars_of links) 0 × (0 ≤ split_ticks) × AreChained links (replicate 64 0)
 no_bars links none = rw none (
   (λ bar held. absurd (let (place, within, is) = held in omega (arith, within))),

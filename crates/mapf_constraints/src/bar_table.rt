@@ -8,7 +8,7 @@ ghost use Rattle.mapf_constraints.specs.BarSets.{tick_of, IsHorizon, IsLastOn};
 use mapf_model::{Bar, Cell, OutOfMemory, Tick};
 use std::alloc::Global;
 
-/// A finite set of constraints of one agent, all of them at ticks below 1,000,000.
+/// A finite set of constraints of one agent, all of them at ticks below `SPLIT_TICKS`.
 pub trait BarTable: Drop {
     /// The constraints. Only which they are matters, not their order.
     ghost bars: { Self → List Bar };
@@ -30,7 +30,8 @@ pub trait BarTable: Drop {
     fn last_on(&self, cell: Cell) -> Option<Tick>
         ensures { IsLastOn (bars self.now) cell result };
 
-    /// Returns the least tick greater than the ticks of all constraints, 0 if there are none. It is at most 1,000,000.
+    /// Returns the least tick greater than the ticks of all constraints, 0 if there are none. It is at most
+    /// `SPLIT_TICKS`.
     fn horizon(&self) -> Tick
         ensures horizon { IsHorizon (bars self.now) result }
         ensures early { result ≤ split_ticks }

@@ -30,7 +30,7 @@ nearer_step grid goal cell distance is =
       },
     )
 
--- the cells lead from the first so many steps towards the goal, each time to the least cell that is nearer
+-- the cells lead in so many steps from the first cell towards the goal, each step to the least cell that is nearer
 pub record IsDescent (grid : GridMap) (goal cell distance steps : ℕ) (cells : List ℕ) : Type 0 where
   pub count : length cells ≡ steps + 1
   pub bound : steps ≤ distance

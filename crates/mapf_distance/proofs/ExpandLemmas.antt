@@ -57,7 +57,7 @@ module _ (grid : GridMap) (place distance : ℕ) (old : List ℕ) (places : List
         (λ (past : count ≤ k). let last : k ≡ count = omega arith in here next (subst (λ n. slice_index_or places n None ≡ Some next) last is))
         (cases_lt k count)
 
-    -- nothing is to be done at this place
+    -- no unreached cell is at this place
     pub expand_skip : ((next : ℕ) → slice_index_or places count None ≡ Some next → entry_of table next ≡ UNREACHED → ⊥) → IsExpanding grid place distance old places (count + 1) table reached
     expand_skip known = record {
       wave = e.wave;

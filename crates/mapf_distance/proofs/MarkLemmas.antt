@@ -1,4 +1,4 @@
--- Entries of a table, and the cells that they stand for.
+-- Entries of a table, and what they mean for their cells.
 use Rattle.std.proofs.Common.{◌≡◌, ℕ, ◌+◌, ◌*◌, ◌<◌, ◌≤◌, Bool, true, false, cond, List, [], ◌∷◌, length, map, count_by, slice_index_or, slice_set, refl, sym, ◌∙◌, ap, ⊎_elim, arith}
 use Rattle.std.proofs.Math.ListN.{get_or-map}
 use Rattle.std.proofs.Math.Nat.{mul-le-mul}
@@ -9,7 +9,7 @@ use Rattle.mapf_model.specs.Grid.{GridMap, IsGridMap, IsFree, free_cell_count}
 use Rattle.mapf_distance.specs.declared.wave.TheConstants.{BLOCKED, UNREACHED}
 use Rattle.mapf_distance.specs.Marks.{entry_of, is_open, is_unreached, first_entry}
 
--- what an entry counts for the unreached ones
+-- what an entry adds to the number of unreached cells
 abbrev pub weight : ℕ → ℕ
 weight entry = cond (is_unreached entry) 1 0
 
@@ -19,7 +19,7 @@ entry_of-set_same table cell entry within = get_or-set_same table cell entry BLO
 pub entry_of-set_other : (table : List ℕ) (cell other entry : ℕ) → (other ≡ cell → ⊥) → entry_of (slice_set table cell entry) other ≡ entry_of table other
 entry_of-set_other table cell other entry apart = get_or-set_other table cell other entry BLOCKED apart
 
--- only cells of the table have another entry than a blocked one
+-- a cell with an entry below `BLOCKED` is one of the table
 pub within_table : (table : List ℕ) (cell : ℕ) → entry_of table cell < BLOCKED → cell < length table
 within_table table cell small = ⊎_elim
     (λ (within : cell < length table). within)
@@ -45,7 +45,7 @@ few_cells grid (_, width, _, height, _) = mul-le-mul width height
 pub few_free : (grid : GridMap) → IsGridMap grid → free_cell_count grid ≤ 4194304
 few_free grid shape = let cells = few_cells grid shape in let whole = shape.4 in omega (arith, count_by-le-length (λ free. free) grid.free)
 
--- what the entries say before any cell is reached
+-- the entries before any cell is reached
 pub first_open : (flags : List Bool) → map is_open (map first_entry flags) ≡ flags
 first_open [] = refl
 first_open (true ∷ flags) = ap (λ rest. true ∷ rest) (first_open flags)

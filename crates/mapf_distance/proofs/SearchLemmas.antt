@@ -1,4 +1,4 @@
--- A search stays one when a cell is looked at, and at its end the start's entry is its distance.
+-- The properties of a search are preserved when a cell is expanded, and at its end the start's entry is its distance.
 use Rattle.std.proofs.Common.{◌≡◌, ◌⊎◌, ℕ, zero, suc, ◌+◌, ◌<◌, ◌≤◌, Option, Some, None, IfSome, IfNone, true, false, List, [], ◌∷◌, ◌++◌, All, Contains, replicate, length, slice_index_or, slice_set, sum, add-one, refl, sym, ◌∙◌, ap, subst, inl, inr, ⊎_elim, arith}
 use Rattle.std.specs.Option.{option_to_list}
 use Rattle.std.proofs.Math.ListN.{length-set}
@@ -43,7 +43,7 @@ none_in : (cell : ℕ) → Contains [] cell → ⊥
 none_in cell (k, within, is) = omega arith
 
 module _ (grid : GridMap) (start goal level : ℕ) (But : ℕ → Type 0) (table due later : List ℕ) (search : IsSearch grid start goal But level table due later) where
-  -- a step from a cell whose entry is so many leads to a cell whose entry is larger than by one
+  -- a step from a cell leads to a cell whose entry is larger by more than one
   module _ (cell next distance : ℕ) (known : IsKnown table cell) (is : entry_of table cell + 1 ≡ distance) (step : Step grid cell next) (inside : next < length table) (more : distance < entry_of table next) where
     after : List ℕ
     after = slice_set table next distance
@@ -138,7 +138,7 @@ module _ (grid : GridMap) (start goal level : ℕ) (But : ℕ → Type 0) (table
     unfolding after
     reach_lowers = falls
 
-  -- the level's cells are all looked at
+  -- no open cell is left on the level
   pub risen : due ≡ [] → IsSearch grid start goal But (level + 1) table later []
   risen swept = record {
     shape = search.shape;
@@ -237,7 +237,7 @@ module _ (grid : GridMap) (start goal level : ℕ) (table due later : List ℕ) 
       passed low (inr (inr (inl (high, listed)))) = absurd (omega arith)
       passed low (inr (inr (inr (high, listed)))) = absurd (omega arith)
 
-  -- the cell is seen in the end
+  -- the cell is expanded or open afterwards
   module _ (search : IsSearch grid start goal At level table due later) where
     seen_all : (new_later : List ℕ) → ((x : ℕ) → Contains later x → Contains new_later x) → All (IsKnown table) new_later → IsSeen grid start level table due new_later cell →
         IsSearch grid start goal (λ x. ⊥) level table due new_later
@@ -279,7 +279,7 @@ pub popped_none : (grid : GridMap) (start goal level : ℕ) (table due rest late
 popped_none grid start goal level table due rest later None search is = subst (λ list. IsSearch grid start goal (λ x. ⊥) level table list later) (is ∙ append-nil rest) search
 popped_none grid start goal level table due rest later (Some cell) search is = tt
 
--- the start's entry is its distance once the level is no lower
+-- the start's entry is its distance if the level is at least the entry
 module _ (grid : GridMap) (start goal level : ℕ) (table due later : List ℕ) (search : IsSearch grid start goal (λ x. ⊥) level table due later) where
   -- all steps were taken from a cell with so small a value
   taken_below : (x : ℕ) → IsKnown table x → value_of grid start table x < level → IsTaken grid table x
@@ -338,7 +338,7 @@ free_inside grid cell free = ⊎_elim
     (λ (past : length grid.free ≤ cell). let e : true ≡ false = sym free ∙ get_or_past grid.free cell false past in absurd (cc))
     (cases_lt cell (length grid.free))
 
--- the search that has reached nothing but its goal
+-- the search that has reached only its goal
 module _ (grid : GridMap) (start goal cells : ℕ) (shape : IsGridMap grid) (free_start : IsFree grid start) (free_goal : IsFree grid goal) (all : cells ≡ length grid.free) where
   blank : List ℕ
   blank = replicate cells UNREACHED
@@ -410,7 +410,7 @@ place_step grid cell k next width places beside wide some free within at free_ne
     let held : Contains places (Some next) = (k, within, get_or_default places k (Some next) None within ∙ at) in
     neighbour_step grid cell (omega arith) free next (subst (λ list. Contains list (Some next)) (beside ∙ ap (λ w. neighbourhood w cell) wide) held) free_next
 
--- what a table's answer says
+-- the distance of a cell, or that there is none
 pub distance_or_none : (grid : GridMap) (goal cell : ℕ) (r : Option ℕ) → IfSome r (λ n. IsDistance grid goal cell n) → IfNone r (IsUnreachable grid goal cell) → IsDistanceOrNone grid goal cell r
 distance_or_none grid goal cell None some none = none
 distance_or_none grid goal cell (Some n) some none = some

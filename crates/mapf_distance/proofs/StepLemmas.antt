@@ -1,4 +1,4 @@
--- Steps go both ways, and a walk is as long one way as the other.
+-- Steps can be taken in both directions, and so can walks, with the same number of steps.
 use Rattle.std.proofs.Common.{ℕ, zero, suc, sym, subst, inl, inr, ⊎_elim}
 use Rattle.mapf_model.specs.Grid.{GridMap, IsFree, DifferByOne, Step}
 use Rattle.mapf_model.specs.Distance.{Walk}

@@ -16,7 +16,7 @@ AreMade-none problem count is = record {
       let e : None ≡ Some table = sym (get_or-replicate count i None None within) ∙ get_or_from_slice_get (replicate count None) i (Some table) None there in cc);
 }
 
--- what an option holds
+-- the value of an option that isn't None
 pub held : {X : Type 0} (o : Option X) → is_some o ≡ true → (x : X) × (o ≡ Some x)
 held None e = absurd (let f : false ≡ true = e in cc)
 held (Some x) e = (x, refl)

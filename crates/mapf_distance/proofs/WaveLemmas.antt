@@ -1,4 +1,4 @@
--- A wave stays one when a cell is reached, and at its end the entries are the distances.
+-- The properties of a wave are preserved when a cell is reached, and at its end the entries are the distances.
 use Rattle.std.proofs.Common.{◌≡◌, ◌⊎◌, ℕ, zero, suc, ◌+◌, ◌<◌, ◌≤◌, Bool, cond, List, [], ◌∷◌, ◌++◌, Contains, length, slice_index, slice_set, count_by, add-one, sym, ◌∙◌, ap, subst, inl, inr, ⊎_elim, arith}
 use Rattle.std.proofs.Math.ListN.{get_or-append}
 use Rattle.std.proofs.Math.Seq.{get_or-append_seam, map-set_same}
@@ -191,7 +191,7 @@ module _ (grid : GridMap) (done : ℕ) (table reached : List ℕ) (wave : IsWave
       let (place, within, is) = wave.listed cell known in
       (place, within, get_or_default reached place 0 cell within ∙ is)
 
-  -- no cell that is reached so far is farther than one step beyond the cell at `done`
+  -- no cell that is reached so far is farther from the goal than the cell at `done` by more than one step
   pub known_bound : (cell : ℕ) → done < length reached → entry_of table cell < UNREACHED → entry_of table cell ≤ entry_at table reached done + 1
   known_bound cell in_list known =
       let (place, within, is) = place_of cell known in

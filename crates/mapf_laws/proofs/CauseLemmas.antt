@@ -1,4 +1,4 @@
--- What is left where no two agents share a start, and no two a goal.
+-- What remains if no two agents share a start, and no two share a goal.
 use Rattle.std.proofs.Common.{◌≢◌, ℕ, ◌<◌, ◌≤◌, Option, Some, None, IfNone, length, sym, ⊎_elim, arith}
 use Rattle.std.proofs.lemmas.Bool.{cases_lt}
 use Rattle.std.proofs.lemmas.Option.{slice_get_within}
@@ -8,12 +8,12 @@ use Rattle.mapf_model.specs.Tree.{ShareGoal}
 use Rattle.mapf_laws.specs.declared.impossible.TrivialCause.TheVariants.{SharedStart, SharedGoal, UnreachableGoal}
 use Rattle.mapf_laws.specs.Impossible.{ShareStart, HasUnreachableGoal, IsTriviallyImpossible}
 
--- what is so is so where an option holds nothing
+-- a fact that holds also holds if an option is None
 pub if_none : {X A : Type 0} (found : Option X) → A → IfNone found A
 if_none None is = is
 if_none (Some x) is = tt
 
--- a fact of two numbers below the count that doesn't hang on their order, of no number and a greater one
+-- a symmetric fact that holds of no number below the count and a greater one holds of no two numbers below it
 no_two : (count : ℕ) (Fact : ℕ → ℕ → Type 0) → ((i j : ℕ) → Fact i j → (i ≢ j) × (i < count) × (j < count) × Fact j i) → HoldsOfNoPair Fact count → (i j : ℕ) → Fact i j → ⊥
 no_two count Fact turned none i j is =
     let (differ, first, second, other) = turned i j is in

@@ -1,4 +1,4 @@
--- A tree shows `impossible` of trivially impossible problems alone.
+-- A tree shows `impossible` only of trivially impossible problems.
 use Rattle.std.proofs.Common.{◌≡◌, ℕ, ◌+◌, ◌<◌, ◌≤◌, ◌⊎◌, List, ◌∷◌, Option, Some, None, Contains, slice_get, refl, sym, ◌∙◌, ap, subst, inl, inr, ⊎_elim, nat_eq, arith}
 use Rattle.std.proofs.lemmas.Bool.{cases_eq, cond_both, eqb-true}
 use Rattle.std.proofs.lemmas.Option.{same_Some}
@@ -23,7 +23,7 @@ use Rattle.mapf_laws.specs.declared.impossible.TrivialCause.TheVariants.{SharedS
 use Rattle.mapf_laws.specs.Impossible.{ShareStart, IsTriviallyImpossible}
 use Rattle.mapf_laws.proofs.WaitingLemmas.{StaysTo, wait_and_walk}
 
--- no agent violates its bars while it waits at its start to this tick, whatever it does then
+-- no agent violates its constraints while it waits at its start until this tick, whatever it does afterwards
 abbrev pub AllowWaiting : Instance → ℕ → (ℕ → List Bar) → Type 0
 AllowWaiting problem last bars = (i : ℕ) (agent : Agent) (path : List ℕ) → slice_get problem.agents i ≡ Some agent → StaysTo last agent.start path → Satisfies (bars i) path
 
@@ -31,7 +31,7 @@ AllowWaiting problem last bars = (i : ℕ) (agent : Agent) (path : List ℕ) →
 abbrev pub NoStartIsInfinite : Instance → (ℕ → Entries) → Type 0
 NoStartIsInfinite problem entries = (i : ℕ) (agent : Agent) → slice_get problem.agents i ≡ Some agent → entries i agent.start 0 ≡ Some Never → ⊥
 
--- past every tick at which a split of the tree bars something
+-- a tick greater than those of all constraints of the tree's splits
 abbrev pub horizon : ConstraintTree → ℕ
 horizon (Split conflict blocks left right) = tick_of conflict + 1 + (horizon left + horizon right)
 horizon (Leaf blocks) = 0
@@ -49,7 +49,7 @@ module _ (problem : Instance) (last : ℕ) where
       (Contains-cons_cases bar b (bars k) in_it))
       (λ other. allow k agent path is stays)
 
-  -- bars that a waiting agent violates in one cell alone: one of two agents with different starts waits elsewhere
+  -- constraints that a waiting agent violates in only one cell: of two agents with different starts one waits in another cell
   one_waits_elsewhere : (bars : ℕ → List Bar) (i j cell : ℕ) (left right : Bar) → AreTwoAgents problem i j → AllowWaiting problem last bars →
       ((start : ℕ) (path : List ℕ) → StaysTo last start path → Violates left path → start ≡ cell) →
       ((start : ℕ) (path : List ℕ) → StaysTo last start path → Violates right path → start ≡ cell) →
@@ -83,7 +83,7 @@ module _ (problem : Instance) (last : ℕ) where
       (λ start path stays meets. sym (stays (tick + 1) (omega arith)) ∙ meets.1))
 
   module _ (none : NeverMeansNone) where
-    -- sound labels whose bars allow an agent to wait don't give its start an infinite entry
+    -- under constraints that allow an agent to wait, sound labels have no infinite entry for its start
     no_infinite_start : (agent : Agent) (bars : List Bar) (entries : Entries) → ((path : List ℕ) → StaysTo last agent.start path → Satisfies bars path) →
         AreSound problem.grid agent.goal bars entries → entries agent.start 0 ≡ Some Never → ⊥
     no_infinite_start agent bars entries allow sound infinite =
@@ -102,7 +102,7 @@ module _ (problem : Instance) (last : ℕ) where
         by_block (Some block) found never =
             no_infinite_start agent (context.bars i) (entries_of block.entries) (λ path stays. allow i agent path is stays) (sound i agent block is found) never
 
-    -- an infinite label that is no entry is a goal that can't be reached
+    -- an infinite label that is no entry is that of a cell from which the goal can't be reached
     leaf_is_trivial : (entries : ℕ → Entries) → NoStartIsInfinite problem entries → StartsShow problem Impossible entries → IsTriviallyImpossible problem
     leaf_is_trivial entries finite (i, agent, is, infinite) = by_entry (entries i agent.start 0) refl infinite
       where

@@ -7,7 +7,7 @@ use Rattle.mapf_model.proofs.SplitLemmas.{Contains-cons_cases}
 use Rattle.mapf_model.proofs.StepLemmas.{step_free}
 use Rattle.mapf_laws.proofs.WaitingLemmas.{walk_free}
 
--- it is so, or it isn't
+-- the fact holds, or it doesn't
 abbrev pub IsDecided : Type 0 → Type 0
 IsDecided P = P ⊎ (P → ⊥)
 

@@ -40,7 +40,7 @@ only_block i k start block found = ⊎_elim
     (λ (other : i ≡ k → ⊥). let none : None ≡ Some block = rw (ne_eqb i k other) at found in cc)
     (cases_eq i k)
 
--- barred from its start at tick 0, an agent has no way on
+-- an infinite label of the start at tick 0 is sound if the start is forbidden then
 barred_is_sound : (grid : GridMap) (start goal distance : ℕ) (bars : List Bar) → IsDistance grid goal start distance → Contains bars (Cell start 0) → AreSound grid goal bars (entries_of (infinite_at start ∷ []))
 barred_is_sound grid start goal distance bars is barred cell tick label found = by_entry (listed_is_contained (infinite_at start ∷ []) cell tick label found)
   where
@@ -69,7 +69,7 @@ module _ (problem : Instance) where
     record { proper = no_blocks_are_proper; nodes = (λ k other block other_is found. cc, (i, agent, is, unreachable)) },
   )
 
-  -- a leaf at which an agent is barred from its start
+  -- a leaf at which an agent's start is forbidden at tick 0
   barred_leaf_shows : (context : NodeContext) (i distance : ℕ) (agent : Agent) → slice_get problem.agents i ≡ Some agent → IsDistance problem.grid agent.goal agent.start distance →
       Contains (context.bars i) (Cell agent.start 0) → ShowsFrom problem Impossible context (Leaf (infinite_block i agent.start ∷ []))
   barred_leaf_shows context i distance agent is near barred = record {
@@ -87,7 +87,7 @@ module _ (problem : Instance) where
           let whose : other ≡ agent = same_Some other agent (sym other_is ∙ ap (slice_get problem.agents) same ∙ is) in
           rw (same, one, whose) (barred_is_sound problem.grid agent.start agent.goal distance (context.bars i) near barred)
 
-  -- two agents that share a start: neither child lets its agent begin
+  -- two agents that share a start: at each child the start of one of them is forbidden at tick 0
   split_shows : (i j : ℕ) (a b : Agent) (m n : ℕ) → i ≢ j → slice_get problem.agents i ≡ Some a → slice_get problem.agents j ≡ Some b → a.start ≡ b.start →
       IsDistance problem.grid a.goal a.start m → IsDistance problem.grid b.goal b.start n → IsShownImpossible problem
   split_shows i j a b m n other is_a is_b one_start near_a near_b =

@@ -1,4 +1,4 @@
--- Paths that wait at the start and walk then.
+-- Paths that wait at the start and walk afterwards.
 use Rattle.std.proofs.Common.{◌≡◌, ℕ, zero, suc, ◌+◌, ◌-◌, ◌≤◌, min, List, [], ◌∷◌, length, refl, ◌∙◌, subst, inl, inr, arith}
 use Rattle.mapf_model.specs.declared.problem.Agent.{Agent}
 use Rattle.mapf_model.specs.Distance.{Walk}
@@ -75,7 +75,7 @@ wait_first grid from to path free is (suc last) = longer (wait_first grid from t
         still zero low = at-first from (u ∷ waits)
         still (suc tick) low = at-cons from u waits tick ∙ stays tick (omega arith)
 
--- where the goal can be reached, it can be after any number of waits
+-- if the goal can be reached, it can be reached after any number of waits
 pub wait_and_walk : (grid : GridMap) (from to n : ℕ) → Walk grid from to n → (last : ℕ) → (path : List ℕ) × IsLawful grid (agent from to) path × StaysTo last from path
 wait_and_walk grid from to n walk last =
     let walked = walk_path grid to n from walk in

@@ -49,7 +49,7 @@ spent_shows task states spent entries a = record { sound = sound_spent task stat
 pub spent_few : (task : Task) (states : States) → IsSpent task states → states.cost < 6000000 → (s : State) → Contains states.reached s → IsWithin task 9999999 s
 spent_few task states spent small s h = let (value, is, le) = reached_within task [] states spent.walked.frontier s h in (value, is, omega arith)
 
--- the start is barred at tick 0
+-- the start is forbidden at tick 0
 pub barred_shows : (task : Task) (first : ℕ) → IsValue task (start_of task) first → Contains task.bars (Cell task.start 0) → (entries : List Entry) → AreEntriesOf (start_of task ∷ []) None entries → ShowNone task entries
 barred_shows task first is barred entries a = record {
   sound = λ cell tick label e.
@@ -103,7 +103,7 @@ no_labels task = record {
   ranges = λ k d lt. absurd (omega arith);
 }
 
--- a shortest path that satisfies the bars is a cheapest one, and needs no labels
+-- a shortest path that satisfies the constraints is a cheapest one, and needs no labels
 pub shortest_arrives : (task : Task) (first : ℕ) (path : List ℕ) → IsValue task (start_of task) first → IsPath task.grid path → at path 0 ≡ task.start → at path (length path - 1) ≡ task.goal →
     IsDistance task.grid task.goal task.start (length path - 1) → IsCost task.goal path (length path - 1) → IsTight path → IsLeastDescent task.grid task.goal path → Satisfies task.bars path → IsArrival task path []
 shortest_arrives task first path value is_path starts ends shortest is_cost tight least satisfies =
@@ -124,7 +124,7 @@ shortest_arrives task first path value is_path starts ends shortest is_cost tigh
       needed = λ some. absurd (omega arith);
     }
 
--- no known state has a lesser value than the start
+-- no known state has a smaller f-value than the start
 start_least : (task : Task) (states : States) → IsFrontier task [] states → (n : ℕ) (s : State) → s.tick ≡ n → IsKnown states s → (value : ℕ) → IsValue task s value → (first : ℕ) × IsValue task (start_of task) first × (first ≤ value)
 start_least task states f zero s tick known value is = ⊎_elim
     (λ (same : s ≡ start_of task). (value, subst (λ t. IsValue task t value) same is, omega arith))
@@ -139,7 +139,7 @@ start_least task states f (suc n) s tick known value is = ⊎_elim
     (first, first_is, omega arith))
     (f.entered s known)
 
--- where there are labels of states below the cost, the start is one of them
+-- if there are labels of states below the cost, one is that of the start
 pub start_nearer : (task : Task) (states : States) → HasArrived task states → (entries : List Entry) → AreEntriesOf (low_states states) (Some states.cost) entries → 1 ≤ length entries → IsStartNearer task states.cost
 start_nearer task states h (e ∷ entries) a some =
     let (listed, label_is) = a.each e (0, omega arith, refl) in

@@ -1,4 +1,4 @@
--- A frontier stays one when states are added to it.
+-- The properties of a frontier are preserved when states are added to it.
 use Rattle.std.proofs.Common.{◌≡◌, ◌⊎◌, inl, inr, ⊎_elim, ℕ, ◌+◌, ◌<◌, ◌≤◌, Some, List, [], ◌∷◌, ◌++◌, length, Contains, refl, sym, ap, subst, ◌∙◌, arith, length-append}
 use Rattle.std.proofs.lemmas.List.{take-append-le}
 use Rattle.std.proofs.lemmas.List.Elements.{Contains-append_left, Contains-push, Contains-push_cases}
@@ -62,15 +62,15 @@ IsTaken-known task old new known from to taken may = ⊎_elim (λ k. inl (known 
 pub IsClosed-known : (task : Task) (old new : States) → ((s : State) → IsKnown old s → IsKnown new s) → (from : State) → IsClosed task old from → IsClosed task new from
 IsClosed-known task old new known from closed to = IsTaken-known task old new known from to (closed to)
 
--- a reached state is within the cost
+-- a reached state has an f-value of at most the cost
 pub reached_within : (task : Task) (busy : List State) (states : States) → IsFrontier task busy states → (s : State) → Contains states.reached s → IsWithin task states.cost s
 reached_within task busy states f s h = ⊎_elim (λ low. below_within task s states.cost (f.low s low)) (λ level. level_within task s states.cost level) (f.top s h)
 
--- a state that waits has a value beyond the cost
+-- a state that waits has an f-value above the cost
 pub waiting_past : (task : Task) (busy : List State) (states : States) → IsFrontier task busy states → (s : State) → IsWaiting states s → IsPast task states.cost s
 waiting_past task busy states f s w = ⊎_elim (λ n. (states.cost + 1, f.next s n, omega arith)) (λ l. (states.cost + 2, f.later s l, omega arith)) w
 
--- a state that can be stepped into is left to be reached
+-- a state to which the agent can go is added to those that are open or wait
 module _ (task : Task) (busy : List State) (states : States) (f : IsFrontier task busy states) (from to : State) (is_reached : Contains states.reached from) (goes : Goes task from to) where
   add_open : IsValue task to states.cost → IsFrontier task busy (with_open states to)
   add_open level = record {
@@ -149,7 +149,7 @@ module _ (task : Task) (busy : List State) (states : States) (f : IsFrontier tas
           taken = λ m. inl (inr (inr (inr (Contains-push states.later_states next))));
         })
 
--- once the steps to all cells beside the state were taken, none is busy
+-- once the steps to all cells of the neighbourhood were taken, all steps from the state were taken
 pub close : (task : Task) (states : States) (from : State) → IsFrontier task (from ∷ []) states → (value : ℕ) → IsValue task from value → 0 < task.grid.width →
     ((to : ℕ) → Contains (neighbourhood task.grid.width from.cell) (Some to) → IsTaken task states from to) →
     IsFrontier task [] states

@@ -1,4 +1,4 @@
--- A frontier at the next cost, and why the costs end.
+-- A frontier at the next cost, and a bound on the costs.
 use Rattle.std.proofs.Common.{◌≡◌, inl, inr, ⊎_elim, ℕ, zero, suc, ◌+◌, ◌<◌, ◌≤◌, List, [], ◌∷◌, length, Contains, refl, sym, ap, subst, arith}
 use Rattle.std.proofs.lemmas.Bool.{cases_lt}
 use Rattle.std.proofs.lemmas.List.{take_all}
@@ -12,7 +12,7 @@ use Rattle.mapf_spacetime.specs.Task.{Task, IsValue, state_at, start_of}
 use Rattle.mapf_spacetime.specs.States.{States, raised, IsWaiting, NoneWait, IsKnown, IsFrontier, IsWalked, IsBelowLimit}
 use Rattle.mapf_spacetime.proofs.FrontierLemmas.{none_held, IsClosed-known, reached_within, waiting_past}
 
--- what is known at one cost is known at the next
+-- a state that is known at one cost is known at the next
 module _ (task : Task) (states : States) (w : IsWalked task states) where
   known_raised : (s : State) → IsKnown states s → IsKnown (raised states) s
   known_raised s k = ⊎_elim
@@ -49,7 +49,7 @@ module _ (task : Task) (states : States) (w : IsWalked task states) where
         quiet = f.quiet;
       }
 
--- where all up to the cost was reached, and no bar stands any more, the agent walks to the goal
+-- if all states up to the cost were reached, and no constraints are left from then on, the agent walks to the goal
 module _ (task : Task) (states : States) (w : IsWalked task states) (last : ℕ) (above : AreBefore last task.bars) where
   late_arrives : (d : ℕ) (s : State) → Contains states.reached s → last ≤ s.tick → IsDistance task.grid task.goal s.cell d → s.tick + d ≤ states.cost → (v : ℕ) → s.tick + d ≡ v → Contains states.reached (state_at task.goal v)
   late_arrives zero s reached late is within v v_is =

@@ -43,7 +43,7 @@ low_reached xs n s h = subst (λ l. Contains l s) (take-append-drop n xs) (Conta
 
 -- the labels below a cost at which the agent arrives
 module _ (task : Task) (states : States) (h : HasArrived task states) (entries : List Entry) (a : AreEntriesOf (low_states states) (Some states.cost) entries) where
-  -- a state at the cost or beyond it has no entry
+  -- a state whose f-value is at least the cost has no entry
   unlisted : (cell tick value : ℕ) → IsValue task (state_at cell tick) value → states.cost ≤ value → entries_of entries cell tick ≡ None
   unlisted cell tick value is least = entry_none (low_states states) (Some states.cost) entries a cell tick
       (λ listed. let (low, low_is, less) = h.frontier.low (state_at cell tick) listed in let same = value_unique task (state_at cell tick) value low is low_is in absurd (omega arith))

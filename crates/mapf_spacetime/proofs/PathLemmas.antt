@@ -21,7 +21,7 @@ at_is cells tick lt = let same : min tick (length cells - 1) ≡ tick = omega ar
 pub at_past : (cells : List ℕ) (tick : ℕ) → length cells - 1 ≤ tick → at cells tick ≡ slice_index cells (length cells - 1)
 at_past cells tick le = let same : min tick (length cells - 1) ≡ length cells - 1 = omega arith in ap (λ n. slice_index cells n) same
 
--- the bars let an agent take each step of a path that satisfies them
+-- the constraints allow each step of a path that satisfies them
 pub satisfied_step : (task : Task) (cells : List ℕ) → IsPath task.grid cells → Satisfies task.bars cells → (tick from to : ℕ) → at cells tick ≡ from → at cells (tick + 1) ≡ to → MayGo task.grid task.bars from to tick
 satisfied_step task cells path satisfies tick from to here there = record {
   step = subst (λ c. Step task.grid c to) here (subst (Step task.grid (at cells tick)) there (path.steps tick));
@@ -29,7 +29,7 @@ satisfied_step task cells path satisfies tick from to here there = record {
   move = λ barred. satisfies (Move from to tick) barred (here, there);
 }
 
--- an agent that goes from open state to open state and may rest at the end violates no bar
+-- an agent that goes only through states that aren't forbidden, and may rest at the end, violates no constraint
 module _ (task : Task) (cells : List ℕ) (some : 1 ≤ length cells) (start : slice_index cells 0 ≡ task.start) (start_open : IsOpen task (start_of task))
     (goes : (k : ℕ) → k + 1 < length cells → Goes task (state_of cells k) (state_of cells (k + 1)))
     (ends : slice_index cells (length cells - 1) ≡ task.goal) (rest : MayRestFrom task (length cells - 1)) where

@@ -33,7 +33,7 @@ pub not_false : (b : Bool) → not b ≡ false → b ≡ true
 not_false true e = refl
 not_false false e = cc
 
--- a state that isn't new was there
+-- a state that isn't new was an element before
 module _ (xs : List State) (s : State) (new : Bool) (is : new ≡ not (list_any (same_state s) xs)) (old : new ≡ false) where
   found : list_any (same_state s) xs ≡ true
   found = not_false (list_any (same_state s) xs) (sym is ∙ old)

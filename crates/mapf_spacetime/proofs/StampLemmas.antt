@@ -9,7 +9,7 @@ use Rattle.mapf_spacetime.specs.Task.{state_at}
 use Rattle.mapf_spacetime.specs.States.{AreLast, AreOfBase}
 
 module _ (base : ℕ) (stamps : List ℕ) (cell tick : ℕ) (within : cell < length stamps) where
-  -- what stands at a place afterwards: the new stamp at the cell, and the old one elsewhere
+  -- the stamps afterwards: the new one at the cell, and the old ones elsewhere
   stamped : (P : ℕ → ℕ → Type 0) → P cell (base + tick) → ((at stamp : ℕ) → slice_get stamps at ≡ Some stamp → P at stamp) →
       (at stamp : ℕ) → slice_get (slice_set stamps cell (base + tick)) at ≡ Some stamp → P at stamp
   stamped P new old at stamp is = ⊎_elim

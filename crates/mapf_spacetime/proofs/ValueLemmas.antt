@@ -1,4 +1,4 @@
--- Walks, distances and the values of states.
+-- Walks, distances and the f-values of states.
 use Rattle.std.proofs.Common.{◌≡◌, ⊎_elim, ℕ, zero, suc, ◌+◌, ◌≤◌, refl, subst, arith}
 use Rattle.mapf_model.specs.Distance.{Walk, IsDistance, IsUnreachable}
 use Rattle.mapf_model.specs.Grid.{GridMap, IsFree}
@@ -41,7 +41,7 @@ module _ (task : Task) (state : State) where
       let sum = v.sum in
       omega arith
 
--- no step lowers the value
+-- no step lowers the f-value
 pub no_lower : (task : Task) (from to : State) (a b : ℕ) → IsValue task from a → IsValue task to b → Goes task from to → a ≤ b
 no_lower task from to a b p q goes =
     let short = p.is.least (suc q.distance) (to.cell, goes.may.step, q.is.walk) in
@@ -50,7 +50,7 @@ no_lower task from to a b p q goes =
     let t = q.sum in
     omega arith
 
--- a step raises the value by two at most
+-- a step raises the f-value by at most two
 pub not_higher : (task : Task) (from to : State) (a b : ℕ) → IsValue task from a → IsValue task to b → Goes task from to → b ≤ a + 2
 not_higher task from to a b p q goes =
     let short = q.is.least (suc p.distance) (from.cell, Step-sym task.grid from.cell to.cell goes.may.step, p.is.walk) in

@@ -1,4 +1,4 @@
--- A walk that turns back only where it must comes to the goal.
+-- A walk that backtracks only from states from which the agent can't arrive gets to the goal.
 use Rattle.std.proofs.Common.{◌≡◌, ◌⊎◌, inl, inr, ⊎_elim, ℕ, zero, suc, ◌+◌, ◌-◌, ◌<◌, ◌≤◌, List, [], ◌∷◌, ◌++◌, length, take, slice_index, Contains, refl, sym, ap, subst, ◌∙◌, arith, length-append, length-take}
 use Rattle.std.proofs.Math.ListN.{get_or-append}
 use Rattle.std.proofs.Math.Seq.{get_or-append_seam}
@@ -117,7 +117,7 @@ module _ (task : Task) (cost : ℕ) (way : Walked) (w : IsSearching task cost wa
             (subst (λ c. MayGo task.grid task.bars c other k) (sym (kept k (omega arith))) may) arrived;
       }
 
--- each reached or open state was come to from the start
+-- if the goal can be reached from a known state, it can be reached from the start
 module _ (task : Task) (states : States) (h : HasArrived task states) where
   leads_back : (n : ℕ) (s : State) → s.tick ≡ n → IsKnown (with_open states (state_at task.goal states.cost)) s → IsWithin task states.cost s → CanArrive task states.cost s → CanArrive task states.cost (start_of task)
   leads_back zero s tick known within (m, on) = ⊎_elim
@@ -148,7 +148,7 @@ pub step_end : (grid : GridMap) (u v : ℕ) → Step grid u v → IsFree grid v
 step_end grid u v (inl wait) = subst (IsFree grid) wait.1 wait.0
 step_end grid u v (inr move) = move.to_free
 
--- a way to the goal is as long as its distance at least
+-- a walk to the goal has at least as many steps as the distance
 arrives_walks : (task : Task) (cost n : ℕ) (s : State) → IsFree task.grid s.cell → CanArriveIn task cost n s → Walk task.grid s.cell task.goal n × (s.tick + n ≡ cost)
 arrives_walks task cost zero s free here = ((free, ap (λ (t : State). t.cell) here), (let tick = ap (λ (t : State). t.tick) here in omega arith))
 arrives_walks task cost (suc n) s free (next, goes, on) =
@@ -163,7 +163,7 @@ past_cost task cost value s is more (n, on) =
 pub no_walk : (task : Task) (cost : ℕ) (s : State) → IsFree task.grid s.cell → IsUnreachable task.grid task.goal s.cell → CanArrive task cost s → ⊥
 no_walk task cost s free none (n, on) = none n (arrives_walks task cost n s free on).0
 
--- a path that satisfies the bars arrives from each of its states
+-- a path that satisfies the constraints arrives from each of its states
 path_arrives : (task : Task) (cost : ℕ) (path : List ℕ) → IsLawful task.grid (agent_of task) path → Satisfies task.bars path → IsCost task.goal path cost → (n k : ℕ) → k + n ≡ cost → CanArriveIn task cost n (state_at (at path k) k)
 path_arrives task cost path lawful satisfies is_cost zero k e =
     let same : k ≡ cost = omega arith in
@@ -210,7 +210,7 @@ step_start : (grid : GridMap) (u v : ℕ) → Step grid u v → IsFree grid u
 step_start grid u v (inl wait) = wait.0
 step_start grid u v (inr move) = move.from_free
 
--- on a shortest path each cell is as far as is left
+-- on a shortest path the distance of each cell is the number of steps that are left
 left_distance : (task : Task) (cost : ℕ) (path : List ℕ) → IsLawful task.grid (agent_of task) path → Satisfies task.bars path → IsCost task.goal path cost → IsDistance task.grid task.goal task.start cost → (k : ℕ) → k ≤ cost →
     IsDistance task.grid task.goal (at path k) (cost - k)
 left_distance task cost path lawful satisfies is_cost shortest k le =

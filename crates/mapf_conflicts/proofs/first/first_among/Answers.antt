@@ -10,7 +10,7 @@ use Rattle.mapf_conflicts.proofs.first.first_among.Goals as goal
 cells_count : (paths : List (Bor (List ℕ))) (tick : ℕ) → length (cells_at (paths_behind paths) tick) ≡ length paths
 cells_count paths tick = length-map (paths_behind paths) (λ path. at path tick) ∙ length-map paths (λ path. path.now)
 
--- the cells that were written stand in front of the others
+-- the cells that were written come before the others
 written : (paths : List (Bor (List ℕ))) (tick : ℕ) (new rest : List ℕ) → new ≡ cells_at (paths_behind paths) tick → take (length paths) (new ++ rest) ≡ cells_at (paths_behind paths) tick
 written paths tick new rest are =
     let size = ap length are ∙ cells_count paths tick in

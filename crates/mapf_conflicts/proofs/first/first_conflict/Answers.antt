@@ -4,7 +4,7 @@ use Rattle.mapf_model.specs.Earned.{tick_of, HasConflict, AreConflictFreeBefore,
 use Rattle.mapf_conflicts.specs.Pairs.{paths_behind, IsFirstOfItsTick}
 use Rattle.mapf_conflicts.proofs.first.first_conflict.Goals as goal
 
--- all references were written, so what stands behind them are the paths of the plan
+-- all references were written, so the paths behind them are those of the plan
 all_paths : (behind : List (Bor (List ℕ))) (paths plan : List (List ℕ)) (i : ℕ) → i ≤ length paths → length paths ≤ i → paths_behind (take i behind) ≡ take i paths → paths ≡ plan → paths_behind (take (length paths) behind) ≡ plan
 all_paths behind paths plan i below all are is =
     let end : i ≡ length paths = omega (arith, below, all) in

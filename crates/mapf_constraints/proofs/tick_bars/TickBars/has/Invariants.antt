@@ -3,7 +3,7 @@ use Rattle.mapf_constraints.specs.BarSets.{tick_of}
 use Rattle.mapf_constraints.specs.Chains.{link_at, chain_of, chain_at}
 use Rattle.mapf_constraints.proofs.tick_bars.TickBars.has.Given as goal
 
--- the bar, if it is there, is among the first `count` links, the last of which is in its chain
+-- the constraint, if a link has it, is among the first `count` links, the last of which is in its chain
 abbrev pub invariant-loop-count : goal.invariant-loop-count
 invariant-loop-count l =
     (l.count ≤ length l.self-inside.links.items)

@@ -27,7 +27,7 @@ returns-then-is_at-clause-step c =
     (subst (λ places. Contains places (Some next)) c.beside-beside-items.ensures.cells held)
     (Walk-from_free grid next c.args.self.now.goal c.args.distance there.walk)
 
--- what is nearer in an earlier place would have been taken, and in the later places the cells have greater numbers
+-- an earlier cell that is nearer would have been taken, and the later cells have greater numbers
 pub returns-then-is_at-clause-least : goal.returns-then-is_at-clause-least
 returns-then-is_at-clause-least c = λ other step there.
     let grid = c.args.self.now.grid in

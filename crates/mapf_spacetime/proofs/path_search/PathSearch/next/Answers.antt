@@ -39,7 +39,7 @@ loop-place-preserved g c = λ place to below is. ⊎_elim
     ])
     (cases_lt place c.loop-place.place-index)
 
--- what leads on in an earlier place would have been taken, and in the later places the cells have greater numbers
+-- an earlier cell from which the agent can arrive would have been taken, and the later cells have greater numbers
 pub returns-then-leads-clause-least : goal.returns-then-leads-clause-least
 returns-then-leads-clause-least g c = λ other less may arrives.
     let grid = c.args.ground.now.grid in
