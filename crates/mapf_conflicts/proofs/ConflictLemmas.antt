@@ -1,11 +1,10 @@
 -- Conflicts of paths, by the lists of the agents' cells at a tick and at the next.
-use Rattle.std.proofs.Common.{◌≡◌, ℕ, ◌+◌, ◌-◌, ◌<◌, ◌≤◌, min, List, [], Some, All, length, slice_index, slice_index_or, slice_get, refl, sym, ◌∙◌, ap, subst, inl, inr, ⊎_elim, arith}
-use Rattle.std.proofs.lemmas.Bool.{cases_lt}
+use Rattle.std.proofs.Common.{◌≡◌, ℕ, ◌+◌, ◌<◌, List, [], Some, length, slice_index, slice_index_or, slice_get, refl, sym, ◌∙◌, ap, subst, inl, inr, ⊎_elim, arith}
 use Rattle.std.proofs.lemmas.List.{get_or-map, length-map}
 use Rattle.std.proofs.lemmas.Option.{slice_get_within, slice_get-get_or, get_or_from_slice_get}
 use Rattle.mapf_model.specs.declared.conflict.Conflict.{Conflict}
 use Rattle.mapf_model.specs.declared.conflict.Conflict.TheVariants.{Vertex, Swap}
-use Rattle.mapf_model.specs.Earned.{tick_of, HasConflict, AreConflictFreeBefore, HaveSomeConflict}
+use Rattle.mapf_model.specs.Earned.{tick_of, HasConflict}
 use Rattle.mapf_model.specs.Pairs.{IsFirstPair, HoldsOfNoPair}
 use Rattle.mapf_model.specs.Path.{at}
 use Rattle.mapf_model.specs.Plan.{ConflictAt}
@@ -108,15 +107,11 @@ pub conflict_tick : (here next : List ℕ) (now : ℕ) (conflict : Conflict) →
 conflict_tick here next now (Vertex i j cell tick) is = is.2
 conflict_tick here next now (Swap i j from to tick) is = is.2
 
-ConflictAt-sym : (p q : List ℕ) (tick : ℕ) → ConflictAt p q tick → ConflictAt q p tick
-ConflictAt-sym p q tick (inl share) = inl (sym share)
-ConflictAt-sym p q tick (inr (forth, back)) = inr (sym back, sym forth)
-
 -- no two agents conflict at the tick
 module _ (paths : List (List ℕ)) (now : ℕ)
     (share : HoldsOfNoPair (ShareCell (cells_at paths now)) (length (cells_at paths now)))
     (exchange : HoldsOfNoPair (ExchangeCells (cells_at paths now) (cells_at paths (now + 1))) (length (cells_at paths now))) where
-  apart : (i j : ℕ) (p q : List ℕ) → i < j → slice_get paths i ≡ Some p → slice_get paths j ≡ Some q → ConflictAt p q now → ⊥
+  pub apart : (i j : ℕ) (p q : List ℕ) → i < j → slice_get paths i ≡ Some p → slice_get paths j ≡ Some q → ConflictAt p q now → ⊥
   apart i j p q before i_path j_path conflict =
       let size = length-map paths (λ path. at path now) in
       let paths_j = slice_get_within paths j q j_path in
@@ -130,44 +125,3 @@ module _ (paths : List (List ℕ)) (now : ℕ)
       (λ (exchanges : (at p now ≡ at q (now + 1)) × (at p (now + 1) ≡ at q now)).
       exchange i j before here_j (cell_j ∙ sym exchanges.1 ∙ sym to_i, to_j ∙ sym exchanges.0 ∙ sym cell_i))
       conflict
-
-  pub free_one_more : AreConflictFreeBefore paths now → AreConflictFreeBefore paths (now + 1)
-  free_one_more before i j tick p q below differ i_path j_path conflict = ⊎_elim
-      (λ (earlier : tick < now). before i j tick p q earlier differ i_path j_path conflict)
-      (λ (past : now ≤ tick).
-      let same : tick ≡ now = omega arith in
-      let at_now : ConflictAt p q now = subst (ConflictAt p q) same conflict in
-      ⊎_elim
-      (λ (less : i < j). apart i j p q less i_path j_path at_now)
-      (λ (not_less : j ≤ i).
-      let more : j < i = ⊎_elim
-      (λ (less : j < i). less)
-      (λ (no_less : i ≤ j). let equal : i ≡ j = omega arith in absurd (differ equal))
-      (cases_lt j i) in
-      apart j i q p more j_path i_path (ConflictAt-sym p q now at_now))
-      (cases_lt i j))
-      (cases_lt tick now)
-
--- after its last cell an agent stays there
-at_rest : (path : List ℕ) (end tick : ℕ) → length path ≤ end → end ≤ tick + 1 → at path tick ≡ at path (end - 1)
-at_rest path end tick short late =
-    let same : min tick (length path - 1) ≡ min (end - 1) (length path - 1) = omega arith in
-    ap (slice_index path) same
-
--- there is no conflict after all agents rest
-pub never : (paths : List (List ℕ)) (end : ℕ) → 1 ≤ end → All (λ path. length path ≤ end) paths → AreConflictFreeBefore paths end → HaveSomeConflict paths → ⊥
-never paths end positive short before (i, j, tick, p, q, differ, i_path, j_path, conflict) = ⊎_elim
-    (λ (early : tick < end). before i j tick p q early differ i_path j_path conflict)
-    (λ (late : end ≤ tick).
-    before i j (end - 1) p q (omega arith) differ i_path j_path (inl (⊎_elim
-    (λ (shares : at p tick ≡ at q tick). sym (at_rest p end tick short_p (omega arith)) ∙ shares ∙ at_rest q end tick short_q (omega arith))
-    (λ (exchanges : (at p tick ≡ at q (tick + 1)) × (at p (tick + 1) ≡ at q tick)).
-    sym (at_rest p end tick short_p (omega arith)) ∙ exchanges.0 ∙ at_rest q end (tick + 1) short_q (omega arith))
-    conflict)))
-    (cases_lt tick end)
-  where
-    short_p : length p ≤ end
-    short_p = subst (λ path. length path ≤ end) (get_or_from_slice_get paths i p [] i_path) (short i [] (slice_get_within paths i p i_path))
-
-    short_q : length q ≤ end
-    short_q = subst (λ path. length path ≤ end) (get_or_from_slice_get paths j q [] j_path) (short j [] (slice_get_within paths j q j_path))

@@ -8,7 +8,7 @@ use Rattle.mapf_model.specs.declared.bar.Bar.{Bar}
 use Rattle.mapf_model.specs.declared.bar.Bar.TheVariants.{Cell}
 use Rattle.mapf_model.specs.Laws.{AreSameBars}
 use Rattle.mapf_model.specs.Limits.{split_ticks}
-use Rattle.mapf_constraints.proofs.SetLemmas.{Contains-cons_cases, Contains-cons_new, Contains-cons_old}
+use Rattle.mapf_model.proofs.ContainsLemmas.{Contains-cons_cases, Contains-cons_new, Contains-cons_old}
 use Rattle.mapf_constraints.specs.BarSets.{tick_of, IsHorizon, IsLastOn}
 
 -- a list with one more at its end, as a set

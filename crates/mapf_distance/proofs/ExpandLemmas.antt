@@ -5,7 +5,7 @@ use Rattle.std.proofs.lemmas.List.{get_or_default}
 use Rattle.std.proofs.lemmas.Option.{same_Some}
 use Rattle.mapf_model.specs.Grid.{GridMap, IsFree}
 use Rattle.mapf_model.specs.Neighbours.{neighbourhood}
-use Rattle.mapf_model.proofs.StepLemmas.{neighbour_step, step_neighbour, step_free}
+use Rattle.mapf_model.proofs.StepLemmas.{neighbour_step, step_neighbour, step_end}
 use Rattle.mapf_distance.specs.declared.wave.TheConstants.{BLOCKED, UNREACHED}
 use Rattle.mapf_distance.specs.Marks.{entry_of}
 use Rattle.mapf_distance.specs.Wave.{IsWave, source_of, entry_at}
@@ -108,6 +108,6 @@ module _ (grid : GridMap) (place distance : ℕ) (old : List ℕ) (places : List
     unfolding cell
     expand_end all = close grid place table reached e.wave e.inside (λ to go.
         let (k, within, is) = subst (λ list. Contains list (Some to)) (sym at_cell) (step_neighbour grid cell wide free_cell to go) in
-        let t = e.taken k to (omega arith) (get_or_default places k None (Some to) within ∙ is) (open_if_free grid table e.wave.free to (step_free grid cell to go)) in
+        let t = e.taken k to (omega arith) (get_or_default places k None (Some to) within ∙ is) (open_if_free grid table e.wave.free to (step_end grid cell to go)) in
         let n = e.next in
         omega arith)

@@ -8,6 +8,7 @@ use Rattle.std.proofs.lemmas.List.Sums.{count_by-le-length, sum_by-cons}
 use Rattle.mapf_model.specs.Grid.{GridMap, IsGridMap, IsFree, free_cell_count}
 use Rattle.mapf_distance.specs.declared.wave.TheConstants.{BLOCKED, UNREACHED}
 use Rattle.mapf_distance.specs.Marks.{entry_of, is_open, is_unreached, first_entry}
+use Rattle.mapf_model.specs.Limits.{most_cells}
 
 -- what an entry adds to the number of unreached cells
 abbrev pub weight : ℕ → ℕ
@@ -39,10 +40,10 @@ module _ (grid : GridMap) (table : List ℕ) (same : map is_open table ≡ grid.
   pub as_long : length table ≡ length grid.free
   as_long = sym (length-map table is_open) ∙ ap length same
 
-pub few_cells : (grid : GridMap) → IsGridMap grid → grid.width * grid.height ≤ 4194304
+pub few_cells : (grid : GridMap) → IsGridMap grid → grid.width * grid.height ≤ most_cells
 few_cells grid (_, width, _, height, _) = mul-le-mul width height
 
-pub few_free : (grid : GridMap) → IsGridMap grid → free_cell_count grid ≤ 4194304
+pub few_free : (grid : GridMap) → IsGridMap grid → free_cell_count grid ≤ most_cells
 few_free grid shape = let cells = few_cells grid shape in let whole = shape.4 in omega (arith, count_by-le-length (λ free. free) grid.free)
 
 -- the entries before any cell is reached

@@ -9,7 +9,7 @@ use Rattle.std.proofs.lemmas.List.Sums.{sum_by-set}
 use Rattle.mapf_model.specs.Distance.{Walk, IsDistance, IsUnreachable}
 use Rattle.mapf_model.specs.Grid.{GridMap, IsGridMap, IsFree, DifferByOne, Step, column, row}
 use Rattle.mapf_model.specs.Neighbours.{neighbourhood}
-use Rattle.mapf_model.proofs.StepLemmas.{neighbour_step, step_neighbour, step_free}
+use Rattle.mapf_model.proofs.StepLemmas.{neighbour_step, step_neighbour, step_end}
 use Rattle.mapf_distance.specs.declared.wave.TheConstants.{BLOCKED, UNREACHED}
 use Rattle.mapf_distance.specs.Distances.{IsDistanceOrNone}
 use Rattle.mapf_distance.specs.Marks.{entry_of}
@@ -329,7 +329,7 @@ pub taken_all : (grid : GridMap) (distance count cell : ℕ) (places : List (Opt
     AreTaken grid distance places count table → distance ≡ entry_of table cell + 1 → IsTaken grid table cell
 taken_all grid distance count cell places table beside wide free all taken is to go =
     let (k, within, at) = subst (λ list. Contains list (Some to)) (sym beside) (step_neighbour grid cell wide free to go) in
-    let t = taken k to (omega arith) (get_or_default places k None (Some to) within ∙ at) (step_free grid cell to go) in
+    let t = taken k to (omega arith) (get_or_default places k None (Some to) within ∙ at) (step_end grid cell to go) in
     omega arith
 
 pub free_inside : (grid : GridMap) (cell : ℕ) → IsFree grid cell → cell < length grid.free

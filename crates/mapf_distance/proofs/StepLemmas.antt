@@ -2,7 +2,7 @@
 use Rattle.std.proofs.Common.{ℕ, zero, suc, sym, subst, inl, inr, ⊎_elim}
 use Rattle.mapf_model.specs.Grid.{GridMap, IsFree, DifferByOne, Step}
 use Rattle.mapf_model.specs.Distance.{Walk}
-use Rattle.mapf_model.proofs.StepLemmas.{step_free}
+use Rattle.mapf_model.proofs.StepLemmas.{step_end}
 
 pub Step-sym : (grid : GridMap) (from to : ℕ) → Step grid from to → Step grid to from
 Step-sym grid from to (inl (free, same)) = inl (subst (λ cell. IsFree grid cell) same free, sym same)
@@ -21,4 +21,4 @@ Step-sym grid from to (inr beside) = inr (record {
 
 pub Walk-from_free : (grid : GridMap) (from to n : ℕ) → Walk grid from to n → IsFree grid from
 Walk-from_free grid from to zero (free, same) = free
-Walk-from_free grid from to (suc n) (next, step, walk) = step_free grid next from (Step-sym grid from next step)
+Walk-from_free grid from to (suc n) (next, step, walk) = step_end grid next from (Step-sym grid from next step)

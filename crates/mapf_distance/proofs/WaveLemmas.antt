@@ -14,13 +14,14 @@ use Rattle.mapf_distance.specs.Marks.{entry_of, is_open, is_unreached}
 use Rattle.mapf_distance.specs.Wave.{IsWave, source_of, entry_at}
 use Rattle.mapf_distance.proofs.MarkLemmas.{entry_of-set_same, entry_of-set_other, within_table, few_free, weight}
 use Rattle.mapf_distance.proofs.StepLemmas.{Step-sym}
+use Rattle.mapf_model.specs.Limits.{most_cells}
 
 module _ (grid : GridMap) (done : ℕ) (table reached : List ℕ) (wave : IsWave grid done table reached) where
   -- no more cells were reached than are free
-  pub few_reached : length reached ≤ 4194304
+  pub few_reached : length reached ≤ most_cells
   few_reached = (let a = wave.count in let b = few_free grid wave.shape in omega arith)
 
-  pub small_entry : (place : ℕ) → place < length reached → entry_at table reached place < 4194304
+  pub small_entry : (place : ℕ) → place < length reached → entry_at table reached place < most_cells
   small_entry place within = (let a = wave.entered place within in let b = few_reached in omega arith)
 
   -- a step from the cell that is at `done` leads to a cell that was not reached
@@ -37,7 +38,7 @@ module _ (grid : GridMap) (done : ℕ) (table reached : List ℕ) (wave : IsWave
     within : next < length table
     within = within_table table next (omega arith)
 
-    small : distance ≤ 4194304
+    small : distance ≤ most_cells
     unfolding distance
     small = (let a = small_entry done in_list in omega arith)
 

@@ -4,6 +4,7 @@ use Rattle.mapf_model.specs.Distance.{Walk, IsDistance, IsUnreachable}
 use Rattle.mapf_model.specs.Grid.{GridMap, IsGridMap, Step, free_cell_count}
 use Rattle.mapf_distance.specs.declared.wave.TheConstants.{UNREACHED}
 use Rattle.mapf_distance.specs.Marks.{entry_of}
+use Rattle.mapf_model.specs.Limits.{most_cells}
 
 -- a grid, and the goal to which the distances on it go
 pub record GoalMap : Type 0 where
@@ -29,5 +30,5 @@ pub record AreDistances (grid : GridMap) (goal : ℕ) (table : List ℕ) : Type 
   pub shape : IsGridMap grid
   pub exact : (cell : ℕ) → entry_of table cell < UNREACHED → IsDistance grid goal cell (entry_of table cell)
   pub small : (cell : ℕ) → entry_of table cell < UNREACHED → entry_of table cell < free_cell_count grid
-  pub bounded : (cell : ℕ) → entry_of table cell < UNREACHED → entry_of table cell < 4194304
+  pub bounded : (cell : ℕ) → entry_of table cell < UNREACHED → entry_of table cell < most_cells
   pub none : (cell : ℕ) → UNREACHED ≤ entry_of table cell → IsUnreachable grid goal cell

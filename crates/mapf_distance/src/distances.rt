@@ -1,7 +1,7 @@
 ghost use Rattle.std.specs.Prelude.{◌≡◌, ℕ, ◌+◌, ◌-◌, ◌<◌, ◌≤◌, ◌↔◌, length, IfOk, IfSome, IfNone, IsTrue, OnSome};
 ghost use Rattle.mapf_model.specs.Distance.{IsDistance, IsUnreachable};
 ghost use Rattle.mapf_model.specs.Grid.{IsFree, Step, free_cell_count};
-ghost use Rattle.mapf_model.specs.Limits.{most_path_cells};
+ghost use Rattle.mapf_model.specs.Limits.{most_path_cells, most_cells};
 ghost use Rattle.mapf_model.specs.Neighbours.{neighbourhood};
 ghost use Rattle.mapf_model.specs.Path.{at, IsPath, IsCost, IsTight};
 ghost use Rattle.mapf_distance.specs.Distances.{IsLeastDescent, IsReachable};
@@ -54,7 +54,7 @@ impl Distances {
     pub fn get(&self, cell: Cell) -> Option<u32>
         ensures some { IfSome result (λ distance. IsDistance self.now.grid self.now.goal cell distance) }
         ensures small { IfSome result (λ distance. distance < free_cell_count self.now.grid) }
-        ensures bounded { IfSome result (λ distance. distance < 4194304) }
+        ensures bounded { IfSome result (λ distance. distance < most_cells) }
         ensures reachable { OnSome result (IsReachable self.now.grid self.now.goal cell) }
         ensures none { IfNone result (IsUnreachable self.now.grid self.now.goal cell) }
     {

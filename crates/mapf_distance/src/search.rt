@@ -119,7 +119,7 @@ impl Search {
 
     // Moves to the next f-value, if a cell is open. Returns false otherwise.
     fn rise(&mut self) -> bool
-        requires low { self.old.level < 4294967296 }
+        requires low { self.old.level < 2 ^ 32 }
         requires swept { self.old.due.items ≡ [] }
         ensures search { (grid : GridMap) → IsSearchOn grid self.old → IsSearchOn grid self.new }
         ensures level { IsTrue result → self.new.level ≡ self.old.level + 1 }

@@ -18,7 +18,7 @@ use Rattle.mapf_model.specs.Laws.{NeverMeansNone}
 use Rattle.mapf_model.specs.Plan.{Instance}
 use Rattle.mapf_model.specs.Tree.{ConstraintTree, Split, Leaf, Clash, NodeContext, root, with_bar, with_constraint, left_constraint, right_constraint, left_child_context, right_child_context, block_of, entries_or, with_blocks, AtEachNode, AreTwoAgents, IsProperSplit, IsProperNode, AreBlocksSound, StartsShow, NodeShows, Shows}
 use Rattle.mapf_model.proofs.ClaimLemmas.{slice_get_inside}
-use Rattle.mapf_model.proofs.SplitLemmas.{Contains-cons_cases}
+use Rattle.mapf_model.proofs.ContainsLemmas.{Contains-cons_cases}
 use Rattle.mapf_laws.specs.declared.impossible.TrivialCause.TheVariants.{SharedStart, SharedGoal, UnreachableGoal}
 use Rattle.mapf_laws.specs.Impossible.{ShareStart, IsTriviallyImpossible}
 use Rattle.mapf_laws.proofs.WaitingLemmas.{StaysTo, wait_and_walk}

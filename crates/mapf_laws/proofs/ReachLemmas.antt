@@ -3,8 +3,8 @@ use Rattle.std.proofs.Common.{◌≡◌, ◌⊎◌, ℕ, zero, suc, ◌+◌, ◌
 use Rattle.std.proofs.lemmas.Bool.{cases_eq, cases_lt}
 use Rattle.mapf_model.specs.Distance.{Walk, IsDistance, IsUnreachable}
 use Rattle.mapf_model.specs.Grid.{GridMap, IsFree, DifferByOne, AreAdjacent, Step, row, column}
-use Rattle.mapf_model.proofs.SplitLemmas.{Contains-cons_cases}
-use Rattle.mapf_model.proofs.StepLemmas.{step_free}
+use Rattle.mapf_model.proofs.ContainsLemmas.{Contains-cons_cases}
+use Rattle.mapf_model.proofs.StepLemmas.{step_end}
 use Rattle.mapf_laws.proofs.WaitingLemmas.{walk_free}
 
 -- the fact holds, or it doesn't
@@ -140,7 +140,7 @@ module _ (grid : GridMap) where
       (suc more.0, (next, step, more.1))
 
   walk_of : (vias : List ℕ) (from to : ℕ) → Leads vias from to → (n : ℕ) × Walk grid from to n
-  walk_of [] from to step = (1, (to, step, (step_free grid from to step, refl)))
+  walk_of [] from to step = (1, (to, step, (step_end grid from to step, refl)))
   walk_of (via ∷ vias) from to (inl way) = walk_of vias from to way
   walk_of (via ∷ vias) from to (inr ways) =
       let one = walk_of vias from via ways.0 in

@@ -1,6 +1,6 @@
 ghost use Rattle.std.specs.Prelude.{◌≡◌};
-ghost use Rattle.mapf_model.specs.Limits.{most_agents, greatest_side, most_path_cells, greatest_cost, greatest_sum};
-ghost use Rattle.mapf_model.specs.Limits.{most_splits, last_split_tick, split_ticks, most_text_bytes};
+ghost use Rattle.mapf_model.specs.Limits.{most_agents, greatest_side, most_cells, most_path_cells, greatest_cost};
+ghost use Rattle.mapf_model.specs.Limits.{greatest_sum, most_splits, last_split_tick, split_ticks, most_text_bytes};
 ghost use Rattle.mapf_model.specs.Limits.{most_cert_bytes, longest_cert_line};
 
 /// The number `MOST_AGENTS`, alone or at the end of a text.
@@ -19,6 +19,9 @@ pub const MOST_AGENTS: u32 = most_agents!();
 
 /// The greatest number of columns of a grid, and of rows.
 pub const GREATEST_SIDE: u32 = 2048;
+
+/// The greatest number of cells of a grid.
+pub const MOST_CELLS: u32 = 4_194_304;
 
 /// The greatest number of cells of a path.
 pub const MOST_PATH_CELLS: usize = 10_000_000;
@@ -62,6 +65,7 @@ pub const LONGEST_CERT_LINE: usize = 64;
 pub fn limits_are_defined()
     ensures agents { MOST_AGENTS ≡ most_agents }
     ensures side { GREATEST_SIDE ≡ greatest_side }
+    ensures cells { MOST_CELLS ≡ most_cells }
     ensures path_cells { MOST_PATH_CELLS ≡ most_path_cells }
     ensures cost { GREATEST_COST ≡ greatest_cost }
     ensures sum { GREATEST_SUM ≡ greatest_sum }

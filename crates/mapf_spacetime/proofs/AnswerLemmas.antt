@@ -14,30 +14,31 @@ use Rattle.mapf_model.specs.Labels.{entries_of, IsSoundEntry}
 use Rattle.mapf_model.specs.Path.{at, IsPath, IsCost, IsTight}
 use Rattle.mapf_model.specs.Printed.{IsLabelInRange, IsEntryInRange, IsOnGrid}
 use Rattle.mapf_spacetime.specs.declared.state.State.{State}
-use Rattle.mapf_spacetime.specs.Task.{Task, IsValue, IsWithin, IsBelow, state_at, start_of}
+use Rattle.mapf_spacetime.specs.Task.{Task, IsValue, IsWithin, IsBelow, state_at, start_of, cost_bound}
 use Rattle.mapf_spacetime.specs.States.{States, first_states, low_states, with_open, IsKnown, IsFrontier, HasArrived, IsSpent, IsBelowLimit}
 use Rattle.mapf_spacetime.specs.Listed.{AreEntriesOf}
 use Rattle.mapf_spacetime.specs.Answer.{AreGoodLabels, IsStartNearer, IsArrival, ShowNone}
 use Rattle.mapf_spacetime.proofs.ValueLemmas.{value_free, no_lower}
-use Rattle.mapf_spacetime.proofs.FrontierLemmas.{none_held, one_held, reached_within}
+use Rattle.mapf_spacetime.proofs.FrontierLemmas.{one_held, reached_within}
+use Rattle.mapf_model.proofs.ContainsLemmas.{Contains-none}
 use Rattle.mapf_spacetime.proofs.LabelLemmas.{entry_is, entry_none, entry_there, listed_label, low_reached, never_label, sound_spent, start_spent}
 use Rattle.mapf_spacetime.proofs.WayLemmas.{descent_first}
 
 pub first_frontier : (task : Task) (first : ℕ) → IsValue task (start_of task) first → IsFrontier task [] (first_states (start_of task) first)
 first_frontier task first is = record {
   start = inr (Contains-push [] (start_of task));
-  low = λ s h. absurd (none_held s h);
-  top = λ s h. absurd (none_held s h);
+  low = λ s h. absurd (Contains-none s h);
+  top = λ s h. absurd (Contains-none s h);
   bound = omega arith;
   level = λ s h. subst (λ t. IsValue task t first) (one_held (start_of task) s h) is;
-  next = λ s h. absurd (none_held s h);
-  later = λ s h. absurd (none_held s h);
+  next = λ s h. absurd (Contains-none s h);
+  later = λ s h. absurd (Contains-none s h);
   entered = λ s k. ⊎_elim
-      (λ r. absurd (none_held s r))
-      (λ other. ⊎_elim (λ o. inl (sym (one_held (start_of task) s o))) (λ w. ⊎_elim (λ n. absurd (none_held s n)) (λ l. absurd (none_held s l)) w) other)
+      (λ r. absurd (Contains-none s r))
+      (λ other. ⊎_elim (λ o. inl (sym (one_held (start_of task) s o))) (λ w. ⊎_elim (λ n. absurd (Contains-none s n)) (λ l. absurd (Contains-none s l)) w) other)
       k;
-  closed = λ s h. absurd (none_held s h);
-  quiet = λ tick h. absurd (none_held (state_at task.goal tick) h);
+  closed = λ s h. absurd (Contains-none s h);
+  quiet = λ tick h. absurd (Contains-none (state_at task.goal tick) h);
 }
 
 pub first_limit : (task : Task) (first : ℕ) → IsValue task (start_of task) first → IsBelowLimit task first
@@ -46,7 +47,7 @@ first_limit task first is bound above = let sum = is.sum in let few = is.few in 
 pub spent_shows : (task : Task) (states : States) → IsSpent task states → (entries : List Entry) → AreEntriesOf states.reached None entries → ShowNone task entries
 spent_shows task states spent entries a = record { sound = sound_spent task states spent entries a; start = start_spent task states spent entries a }
 
-pub spent_few : (task : Task) (states : States) → IsSpent task states → states.cost < 6000000 → (s : State) → Contains states.reached s → IsWithin task 9999999 s
+pub spent_few : (task : Task) (states : States) → IsSpent task states → states.cost < cost_bound → (s : State) → Contains states.reached s → IsWithin task 9999999 s
 spent_few task states spent small s h = let (value, is, le) = reached_within task [] states spent.walked.frontier s h in (value, is, omega arith)
 
 -- the start is forbidden at tick 0
@@ -68,8 +69,8 @@ barred_shows task first is barred entries a = record {
 -- no steps lead from the start to the goal
 pub unreachable_shows : (task : Task) → IsUnreachable task.grid task.goal task.start → (entries : List Entry) → AreEntriesOf [] None entries → ShowNone task entries
 unreachable_shows task none entries a = record {
-  sound = λ cell tick label e. absurd (none_held (state_at cell tick) (entry_is [] None entries a cell tick label e).0);
-  start = never_label task.grid task.goal entries task.start 0 (entry_none [] None entries a task.start 0 (λ h. none_held (start_of task) h)) none;
+  sound = λ cell tick label e. absurd (Contains-none (state_at cell tick) (entry_is [] None entries a cell tick label e).0);
+  start = never_label task.grid task.goal entries task.start 0 (entry_none [] None entries a task.start 0 (λ h. Contains-none (start_of task) h)) none;
 }
 
 free_on_grid : (grid : GridMap) → IsGridMap grid → (cell : ℕ) → IsFree grid cell → IsOnGrid grid cell
@@ -79,7 +80,7 @@ free_on_grid grid shape cell free = ⊎_elim
     (cases_lt cell (length grid.free))
 
 module _ (task : Task) (shape : IsGridMap task.grid) (states : List State) (entries : List Entry) where
-  pub ranges_some : (cost : ℕ) → cost < 6000000 → ((s : State) → Contains states s → IsBelow task cost s) → AreEntriesOf states (Some cost) entries → All (IsEntryInRange task.grid) entries
+  pub ranges_some : (cost : ℕ) → cost < cost_bound → ((s : State) → Contains states s → IsBelow task cost s) → AreEntriesOf states (Some cost) entries → All (IsEntryInRange task.grid) entries
   ranges_some cost small low a k d lt =
       let e = slice_index_or entries k d in
       let (listed, label_is) = a.each e (Contains-get_or entries k d lt) in

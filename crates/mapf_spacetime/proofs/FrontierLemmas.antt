@@ -9,12 +9,10 @@ use Rattle.mapf_spacetime.specs.declared.state.State.{State}
 use Rattle.mapf_spacetime.specs.Task.{Task, Goes, IsValue, IsWithin, IsPast, IsBarredLater, MayRestFrom, state_at, start_of}
 use Rattle.mapf_spacetime.specs.States.{States, with_reached, with_open, with_next, with_later, low_states, IsWaiting, IsKnown, IsTaken, IsClosed, IsFrontier, Keeps, Takes, HasArrived}
 use Rattle.mapf_spacetime.proofs.ValueLemmas.{below_within, level_within, value_free, at_goal}
-
-pub none_held : {X : Type 0} (x : X) → Contains [] x → ⊥
-none_held x (k, lt, is) = omega arith
+use Rattle.mapf_model.proofs.ContainsLemmas.{Contains-none}
 
 pub one_held : {X : Type 0} (x y : X) → Contains (x ∷ []) y → x ≡ y
-one_held x y h = ⊎_elim (λ none. absurd (none_held y none)) (λ same. same) (Contains-push_cases [] x y h)
+one_held x y h = ⊎_elim (λ none. absurd (Contains-none y none)) (λ same. same) (Contains-push_cases [] x y h)
 
 module _ (states : States) (new : State) where
   pub known_open : (s : State) → IsKnown states s → IsKnown (with_open states new) s
@@ -218,7 +216,7 @@ module _ (task : Task) (states : States) (state : State) (f : IsFrontier task []
         (λ e. let (from, held, goes) = e in inr (from, Contains-append_left states.reached (state ∷ []) from held, goes))
         (f.entered s (known_back s k));
     closed = λ s h. ⊎_elim
-        (λ old. ⊎_elim (λ b. absurd (none_held s b)) (λ c. inr (IsClosed-known task (with_open states state) (with_reached states state) known_reached s c)) (f.closed s old))
+        (λ old. ⊎_elim (λ b. absurd (Contains-none s b)) (λ c. inr (IsClosed-known task (with_open states state) (with_reached states state) known_reached s c)) (f.closed s old))
         (λ same. inl (subst (Contains (state ∷ [])) same (Contains-push [] state)))
         (Contains-push_cases states.reached state s h);
     quiet = λ tick h. ⊎_elim

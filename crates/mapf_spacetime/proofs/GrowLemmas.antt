@@ -10,7 +10,9 @@ use Rattle.mapf_constraints.specs.BarSets.{AreBefore}
 use Rattle.mapf_spacetime.specs.declared.state.State.{State}
 use Rattle.mapf_spacetime.specs.Task.{Task, IsValue, state_at, start_of}
 use Rattle.mapf_spacetime.specs.States.{States, raised, IsWaiting, NoneWait, IsKnown, IsFrontier, IsWalked, IsBelowLimit}
-use Rattle.mapf_spacetime.proofs.FrontierLemmas.{none_held, IsClosed-known, reached_within, waiting_past}
+use Rattle.mapf_spacetime.proofs.FrontierLemmas.{IsClosed-known, reached_within, waiting_past}
+use Rattle.mapf_model.proofs.ContainsLemmas.{Contains-none}
+use Rattle.mapf_model.specs.Limits.{most_cells}
 
 -- a state that is known at one cost is known at the next
 module _ (task : Task) (states : States) (w : IsWalked task states) where
@@ -18,7 +20,7 @@ module _ (task : Task) (states : States) (w : IsWalked task states) where
   known_raised s k = ⊎_elim
       (λ r. inl r)
       (λ other. ⊎_elim
-      (λ o. absurd (none_held s (subst (λ l. Contains l s) w.none_open o)))
+      (λ o. absurd (Contains-none s (subst (λ l. Contains l s) w.none_open o)))
       (λ waits. ⊎_elim (λ n. inr (inl n)) (λ l. inr (inr (inl l))) waits)
       other)
       k
@@ -28,7 +30,7 @@ module _ (task : Task) (states : States) (w : IsWalked task states) where
       (λ r. inl r)
       (λ other. ⊎_elim
       (λ o. inr (inr (inl o)))
-      (λ waits. ⊎_elim (λ n. inr (inr (inr n))) (λ l. absurd (none_held s l)) waits)
+      (λ waits. ⊎_elim (λ n. inr (inr (inr n))) (λ l. absurd (Contains-none s l)) waits)
       other)
       k
 
@@ -37,13 +39,13 @@ module _ (task : Task) (states : States) (w : IsWalked task states) where
       let f = w.frontier in
       let whole = take_all (length states.reached) states.reached (omega arith) in
       record {
-        start = ⊎_elim (λ r. inl r) (λ o. absurd (none_held (start_of task) (subst (λ l. Contains l (start_of task)) w.none_open o))) f.start;
+        start = ⊎_elim (λ r. inl r) (λ o. absurd (Contains-none (start_of task) (subst (λ l. Contains l (start_of task)) w.none_open o))) f.start;
         low = λ s h. (let (value, is, le) = reached_within task [] states f s (subst (λ l. Contains l s) whole h) in (value, is, omega arith));
         top = λ s h. inl (subst (λ l. Contains l s) (sym whole) h);
         bound = omega arith;
         level = f.next;
         next = λ s h. (let two : states.cost + 2 ≡ states.cost + 1 + 1 = omega arith in subst (IsValue task s) two (f.later s h));
-        later = λ s h. absurd (none_held s h);
+        later = λ s h. absurd (Contains-none s h);
         entered = λ s k. f.entered s (known_before s k);
         closed = λ s h. ⊎_elim (λ b. inl b) (λ c. inr (IsClosed-known task states (raised states) known_raised s c)) (f.closed s h);
         quiet = f.quiet;
@@ -66,12 +68,12 @@ module _ (task : Task) (states : States) (w : IsWalked task states) (last : ℕ)
         move = λ barred. (let b = above (Move s.cell next s.tick) barred in absurd (omega arith));
       } in
       ⊎_elim
-      (λ b. absurd (none_held s b))
+      (λ b. absurd (Contains-none s b))
       (λ closed. ⊎_elim
       (λ known. ⊎_elim
       (λ r. late_arrives n there r (omega arith) next_is (omega arith) v (omega arith))
       (λ other. ⊎_elim
-      (λ o. absurd (none_held there (subst (λ l. Contains l there) w.none_open o)))
+      (λ o. absurd (Contains-none there (subst (λ l. Contains l there) w.none_open o)))
       (λ q. let (value, v_of, more) = waiting_past task [] states w.frontier there q in let short = v_of.is.least n walk in let sum = v_of.sum in absurd (omega arith))
       other)
       known)
@@ -91,7 +93,7 @@ module _ (task : Task) (states : States) (w : IsWalked task states) (last : ℕ)
       absurd (omega arith))
       (cases_lt s.tick last)
 
-  pub next_cost : (s : State) → IsWaiting states s → (states.cost + 1 < last + free_cell_count task.grid) × (states.cost + 1 < last + 4194304)
+  pub next_cost : (s : State) → IsWaiting states s → (states.cost + 1 < last + free_cell_count task.grid) × (states.cost + 1 < last + most_cells)
   next_cost s waits =
       let (value, is, more) = waiting_past task [] states w.frontier s waits in
       let sum = is.sum in
@@ -114,5 +116,5 @@ some_waits states some = by states.next_states states.later_states refl refl
 pub limit_next : (task : Task) (states : States) → IsWalked task states → (NoneWait states → ⊥) → IsBelowLimit task (states.cost + 1)
 limit_next task states w some last above = let (s, waits) = some_waits states some in (next_cost task states w last above s waits).0
 
-pub number_next : (task : Task) (states : States) → IsWalked task states → (NoneWait states → ⊥) → (last : ℕ) → AreBefore last task.bars → states.cost + 1 < last + 4194304
+pub number_next : (task : Task) (states : States) → IsWalked task states → (NoneWait states → ⊥) → (last : ℕ) → AreBefore last task.bars → states.cost + 1 < last + most_cells
 number_next task states w some last above = let (s, waits) = some_waits states some in (next_cost task states w last above s waits).1

@@ -13,7 +13,8 @@ use Rattle.mapf_spacetime.specs.Task.{Task, IsValue, state_at, start_of}
 use Rattle.mapf_spacetime.specs.States.{States, low_states, with_open, IsWaiting, HasArrived, IsSpent}
 use Rattle.mapf_spacetime.specs.Listed.{label_of, AreEntriesOf}
 use Rattle.mapf_spacetime.proofs.ValueLemmas.{value_unique, value_none}
-use Rattle.mapf_spacetime.proofs.FrontierLemmas.{none_held, reached_within, waiting_past}
+use Rattle.mapf_spacetime.proofs.FrontierLemmas.{reached_within, waiting_past}
+use Rattle.mapf_model.proofs.ContainsLemmas.{Contains-none}
 
 module _ (states : List State) (cost : Option ℕ) (entries : List Entry) (a : AreEntriesOf states cost entries) where
   pub entry_there : (cell tick : ℕ) → Contains states (state_at cell tick) → entries_of entries cell tick ≡ Some (label_of cost tick)
@@ -53,7 +54,7 @@ module _ (task : Task) (states : States) (h : HasArrived task states) (entries :
 
   onward : (cell tick next : ℕ) → Contains states.reached (state_at cell tick) → tick < states.cost → MayGo task.grid task.bars cell next tick → IsWithinOne task.grid task.goal (entries_of entries) (Ticks (states.cost - tick)) next (tick + 1)
   onward cell tick next reached less may = ⊎_elim
-      (λ busy. absurd (none_held (state_at cell tick) busy))
+      (λ busy. absurd (Contains-none (state_at cell tick) busy))
       (λ closed. ⊎_elim
       (λ known. ⊎_elim
       (λ there. ⊎_elim
@@ -108,11 +109,11 @@ module _ (task : Task) (states : States) (h : IsSpent task states) (entries : Li
   never_there cell tick reached = listed_label task.grid task.goal entries cell tick Never (entry_there states.reached None entries a cell tick reached)
 
   all_reached : (s : State) → Contains states.open_states s ⊎ IsWaiting states s → ⊥
-  all_reached s other = ⊎_elim (λ o. none_held s (subst (λ l. Contains l s) h.walked.none_open o)) (λ w. ⊎_elim (λ n. none_held s (subst (λ l. Contains l s) h.none_waits.0 n)) (λ l. none_held s (subst (λ l. Contains l s) h.none_waits.1 l)) w) other
+  all_reached s other = ⊎_elim (λ o. Contains-none s (subst (λ l. Contains l s) h.walked.none_open o)) (λ w. ⊎_elim (λ n. Contains-none s (subst (λ l. Contains l s) h.none_waits.0 n)) (λ l. Contains-none s (subst (λ l. Contains l s) h.none_waits.1 l)) w) other
 
   onward_spent : (cell tick next : ℕ) → Contains states.reached (state_at cell tick) → MayGo task.grid task.bars cell next tick → IsWithinOne task.grid task.goal (entries_of entries) Never next (tick + 1)
   onward_spent cell tick next reached may = ⊎_elim
-      (λ busy. absurd (none_held (state_at cell tick) busy))
+      (λ busy. absurd (Contains-none (state_at cell tick) busy))
       (λ closed. ⊎_elim
       (λ known. ⊎_elim
       (λ there. (Never, never_there next (tick + 1) there, tt))

@@ -13,7 +13,8 @@ use Rattle.mapf_spacetime.specs.Task.{Task, Goes, IsValue, IsOpen, MayRestFrom, 
 use Rattle.mapf_spacetime.specs.States.{States, with_open, HasArrived}
 use Rattle.mapf_spacetime.specs.PathSearch.{state_of, IsWholeWalk}
 use Rattle.mapf_spacetime.proofs.ValueLemmas.{value_free, value_unique, value_none, no_lower}
-use Rattle.mapf_spacetime.proofs.FrontierLemmas.{none_held, waiting_past}
+use Rattle.mapf_spacetime.proofs.FrontierLemmas.{waiting_past}
+use Rattle.mapf_model.proofs.ContainsLemmas.{Contains-none}
 
 pub at_is : (cells : List ℕ) (tick : ℕ) → tick < length cells → at cells tick ≡ slice_index cells tick
 at_is cells tick lt = let same : min tick (length cells - 1) ≡ tick = omega arith in ap (λ n. slice_index cells n) same
@@ -82,7 +83,7 @@ module _ (task : Task) (states : States) (cells : List ℕ) (h : HasArrived task
       let reached = low_walk k (omega arith) before before_is (omega arith) in
       let same : state_at (slice_index cells (suc k)) (k + 1) ≡ state_of cells (suc k) = ap (state_at (slice_index cells (suc k))) next in
       ⊎_elim
-      (λ busy. absurd (none_held (state_of cells k) busy))
+      (λ busy. absurd (Contains-none (state_of cells k) busy))
       (λ closed. ⊎_elim
       (λ known. ⊎_elim
       (λ r. subst (Contains states.reached) same r)

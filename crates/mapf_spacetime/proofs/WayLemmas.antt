@@ -19,6 +19,7 @@ use Rattle.mapf_spacetime.specs.PathSearch.{Walked, with_step, with_failure, Can
 use Rattle.mapf_spacetime.proofs.PathLemmas.{at_is, satisfied_step}
 use Rattle.mapf_spacetime.proofs.ValueLemmas.{level_within, value_free}
 use Rattle.mapf_spacetime.proofs.FrontierLemmas.{reached_within}
+use Rattle.mapf_model.proofs.StepLemmas.{step_start, step_end}
 
 module _ (task : Task) (cost : ℕ) (way : Walked) (w : IsSearching task cost way) (to : ℕ) (unfinished : length way.cells ≤ cost) where
   old : (k : ℕ) → k < length way.cells → slice_index (way.cells ++ to ∷ []) k ≡ slice_index way.cells k
@@ -144,10 +145,6 @@ module _ (task : Task) (states : States) (h : HasArrived task states) where
       (λ o. level_within task (start_of task) states.cost (h.frontier.level (start_of task) o))
       h.frontier.start
 
-pub step_end : (grid : GridMap) (u v : ℕ) → Step grid u v → IsFree grid v
-step_end grid u v (inl wait) = subst (IsFree grid) wait.1 wait.0
-step_end grid u v (inr move) = move.to_free
-
 -- a walk to the goal has at least as many steps as the distance
 arrives_walks : (task : Task) (cost n : ℕ) (s : State) → IsFree task.grid s.cell → CanArriveIn task cost n s → Walk task.grid s.cell task.goal n × (s.tick + n ≡ cost)
 arrives_walks task cost zero s free here = ((free, ap (λ (t : State). t.cell) here), (let tick = ap (λ (t : State). t.tick) here in omega arith))
@@ -205,10 +202,6 @@ lead_in grid goal path is_path (suc k) n walk =
     let longer : Walk grid (at path k) goal (suc n) = (at path (suc k), subst (λ m. Step grid (at path k) (at path m)) next (is_path.steps k), walk) in
     let same : k + suc n ≡ suc k + n = omega arith in
     subst (Walk grid (at path 0) goal) same (lead_in grid goal path is_path k (suc n) longer)
-
-step_start : (grid : GridMap) (u v : ℕ) → Step grid u v → IsFree grid u
-step_start grid u v (inl wait) = wait.0
-step_start grid u v (inr move) = move.from_free
 
 -- on a shortest path the distance of each cell is the number of steps that are left
 left_distance : (task : Task) (cost : ℕ) (path : List ℕ) → IsLawful task.grid (agent_of task) path → Satisfies task.bars path → IsCost task.goal path cost → IsDistance task.grid task.goal task.start cost → (k : ℕ) → k ≤ cost →

@@ -7,6 +7,7 @@ use Rattle.mapf_model.specs.Distance.{IsDistance}
 use Rattle.mapf_model.specs.Grid.{GridMap, free_cell_count}
 use Rattle.mapf_model.specs.Labels.{MayGo}
 use Rattle.mapf_spacetime.specs.declared.state.State.{State}
+use Rattle.mapf_model.specs.Limits.{most_cells, split_ticks}
 
 -- a grid, an agent's start and goal on it, and its constraints
 pub record Task : Type 0 where
@@ -42,7 +43,11 @@ pub record IsValue (task : Task) (state : State) (value : ℕ) : Type 0 where
   pub is : IsDistance task.grid task.goal state.cell distance
   pub sum : state.tick + distance ≡ value
   pub few : distance < free_cell_count task.grid
-  pub small : distance < 4194304
+  pub small : distance < most_cells
+
+-- greater than each cost that a search tries: after its last constraint an agent needs fewer ticks than a grid has cells
+abbrev pub cost_bound : ℕ
+cost_bound = split_ticks + most_cells
 
 -- the state has an f-value, and it is at most this
 abbrev pub IsWithin : Task → ℕ → State → Type 0

@@ -3,7 +3,7 @@ ghost use Rattle.mapf_model.specs.Limits.{greatest_cost};
 ghost use Rattle.mapf_model.specs.Grid.{IsGridMap};
 ghost use Rattle.mapf_model.specs.declared.label.Entry.{Entry};
 ghost use Rattle.mapf_spacetime.specs.declared.state.State.{State};
-ghost use Rattle.mapf_spacetime.specs.Task.{Task, task_of, IsOpen, IsValue, IsWithin, start_of};
+ghost use Rattle.mapf_spacetime.specs.Task.{Task, task_of, IsOpen, IsValue, IsWithin, start_of, cost_bound};
 ghost use Rattle.mapf_spacetime.specs.Listed.{AreEntriesOf};
 ghost use Rattle.mapf_spacetime.specs.States.{HasArrived, IsBelowLimit};
 ghost use Rattle.mapf_spacetime.specs.Answer.{IsPathAnswer, ShowNone};
@@ -135,7 +135,7 @@ fn arrive<B: BarTable>(
     frontier: &Frontier,
 ) -> Result<Found<StateLabels>, OutOfMemory>
     requires shape { IsGridMap ground.now.grid }
-    requires small { frontier.now.cost < 6000000 }
+    requires small { frontier.now.cost < cost_bound }
     requires limit { IsBelowLimit ground.now frontier.now.cost }
     requires start { IsOpen ground.now (start_of ground.now) }
     requires arrived { HasArrived ground.now frontier.now }

@@ -1,9 +1,9 @@
 ghost use Rattle.std.specs.Prelude.{◌≡◌, ◌↔◌, ◌+◌, ◌<◌, ◌≤◌, ◌^◌, [], ◌∷◌, Some, length, take, false};
 ghost use Rattle.std.specs.Prelude.{IfOk, IfSome, IfNone, OnOk, IsTrue, Contains};
-ghost use Rattle.mapf_model.specs.Limits.{most_path_cells};
+ghost use Rattle.mapf_model.specs.Limits.{most_path_cells, most_cells};
 ghost use Rattle.mapf_model.specs.Neighbours.{neighbourhood};
 ghost use Rattle.mapf_spacetime.specs.declared.state.State.{State};
-ghost use Rattle.mapf_spacetime.specs.Task.{IsValue};
+ghost use Rattle.mapf_spacetime.specs.Task.{IsValue, cost_bound};
 ghost use Rattle.mapf_spacetime.specs.States.{first_states, with_reached, with_open, with_next};
 ghost use Rattle.mapf_spacetime.specs.States.{with_later, raised, low_states};
 ghost use Rattle.mapf_spacetime.specs.States.{IsFrontier, Keeps, Takes, NoneWait, HasArrived, IsWalked, IsSpent};
@@ -13,6 +13,7 @@ use crate::ground::Ground;
 use crate::reached::Reached;
 use crate::state::State;
 use mapf_constraints::BarTable;
+use mapf_model::limits::MOST_CELLS;
 use mapf_model::{Cell, OutOfMemory};
 use std::alloc::Global;
 use std::marker::Model;
@@ -232,13 +233,13 @@ impl Frontier {
 
     /// Raises the cost until the agent arrives, or no state is left to reach. Returns whether it arrives.
     pub fn grow<B: BarTable>(&mut self, ground: &Ground<B>) -> Result<bool, OutOfMemory>
-        requires small { self.old.cost < 4194304 }
+        requires small { self.old.cost < most_cells }
         requires limit { IsBelowLimit ground.now self.old.cost }
         requires frontier { IsFrontier ground.now [] self.old }
         ensures arrives { IfOk result (λ arrives. IsTrue arrives → HasArrived ground.now self.new) }
         ensures spent { IfOk result (λ arrives. arrives ≡ false → IsSpent ground.now self.new) }
         ensures limit { OnOk result (IsBelowLimit ground.now self.new.cost) }
-        ensures small { OnOk result (self.new.cost < 6000000) }
+        ensures small { OnOk result (self.new.cost < cost_bound) }
     {
         let horizon = ground.horizon();
         let mut cost = self.cost();
@@ -251,7 +252,7 @@ impl Frontier {
             }
             self.raise();
             cost += 1;
-            prove!(cost < horizon + 4194304);
+            prove!(cost < horizon + MOST_CELLS);
         }
     }
 }

@@ -4,7 +4,7 @@ ghost use Rattle.mapf_model.specs.Grid.{IsFree};
 ghost use Rattle.mapf_model.specs.Labels.{MayGo};
 ghost use Rattle.mapf_model.specs.Limits.{most_path_cells};
 ghost use Rattle.mapf_model.specs.Neighbours.{neighbourhood};
-ghost use Rattle.mapf_spacetime.specs.Task.{IsWithin, state_at, start_of};
+ghost use Rattle.mapf_spacetime.specs.Task.{IsWithin, state_at, start_of, cost_bound};
 ghost use Rattle.mapf_spacetime.specs.PathSearch.{AreNoWaysBelow, CanArrive, IsNoWayOn, IsSearching, IsWholeWalk};
 ghost use Rattle.mapf_spacetime.specs.PathSearch.{turns_left, first_walk, with_step, with_failure};
 
@@ -127,7 +127,7 @@ impl PathSearch {
 
     /// Takes one step, or backtracks if no step may lead to the goal.
     fn go_on<B: BarTable>(&mut self, ground: &Ground<B>, cost: u32) -> Result<(), OutOfMemory>
-        requires small { cost < 9000000 }
+        requires small { cost < cost_bound }
         requires arrives { CanArrive ground.now cost (start_of ground.now) }
         requires searching { IsSearching ground.now cost self.old }
         requires unfinished { length self.old.cells ≤ cost }
@@ -170,7 +170,7 @@ pub fn least_walk<B: BarTable>(
     ground: &Ground<B>,
     cost: u32,
 ) -> Result<Vec<Cell>, OutOfMemory>
-    requires small { cost < 9000000 }
+    requires small { cost < cost_bound }
     requires arrives { CanArrive ground.now cost (start_of ground.now) }
     requires within { IsWithin ground.now cost (start_of ground.now) }
     ensures { IfOk result (λ cells. IsWholeWalk ground.now cost cells.items) }

@@ -4,7 +4,8 @@ use Rattle.std.proofs.lemmas.List.{length-map}
 use Rattle.mapf_model.specs.Earned.{AreConflictFreeBefore}
 use Rattle.mapf_model.specs.Path.{at}
 use Rattle.mapf_conflicts.specs.Pairs.{cells_at, paths_behind}
-use Rattle.mapf_conflicts.proofs.ConflictLemmas.{has_conflict, first_of_its_tick, conflict_tick, free_one_more, never}
+use Rattle.mapf_conflicts.proofs.ConflictLemmas.{apart, has_conflict, first_of_its_tick, conflict_tick}
+use Rattle.mapf_model.proofs.ConflictLemmas.{free_one_more, none_after}
 use Rattle.mapf_conflicts.proofs.first.first_among.Goals as goal
 
 cells_count : (paths : List (Bor (List ℕ))) (tick : ℕ) → length (cells_at (paths_behind paths) tick) ≡ length paths
@@ -55,10 +56,10 @@ loop-tick-preserved c =
       here_size = still (length paths) 200 c.copy_from_slice.new.self c.loop-tick.here (ap length copied ∙ cells_count paths (tick + 1)) c.requires c.loop-tick.invariant.here_size;
       next_size = still (length paths) 200 c.write_cells-in-loop-tick.new.cells c.loop-tick.next (ap length new ∙ cells_count paths (tick + 1)) c.requires c.loop-tick.invariant.next_size;
       cells = written paths (tick + 1) c.copy_from_slice.new.self (drop (length paths) c.loop-tick.here) copied;
-      free = free_one_more (paths_behind paths) tick
+      free = free_one_more (paths_behind paths) tick c.loop-tick.invariant.free
+          (apart (paths_behind paths) tick
           (rw cells at c.in_default.ensures.share)
-          (rw (cells, next) at c.in_default.ensures.exchange)
-          c.loop-tick.invariant.free;
+          (rw (cells, next) at c.in_default.ensures.exchange));
     }
 
 pub returns-clause-none : goal.returns-clause-none
@@ -67,4 +68,4 @@ returns-clause-none c =
     let end = c.longest-tick-end.result in
     let all : c.loop-tick.tick ≡ end = omega arith in
     let free = subst (λ n. AreConflictFreeBefore paths n) all c.loop-tick.invariant.free in
-    never paths end c.longest-tick-end.ensures.positive c.longest-tick-end.ensures.longest free
+    none_after paths end c.longest-tick-end.ensures.positive c.longest-tick-end.ensures.longest free

@@ -3,7 +3,7 @@ use Rattle.mapf_model.specs.Bars.{IsBar}
 use Rattle.mapf_constraints.specs.Chains.{bars_of}
 use Rattle.mapf_constraints.specs.declared.link.Link.{Link}
 use Rattle.mapf_constraints.proofs.BarLemmas.{horizon_early}
-use Rattle.mapf_constraints.proofs.SetLemmas.{Contains-cons_cases}
+use Rattle.mapf_model.proofs.ContainsLemmas.{Contains-cons_cases}
 use Rattle.mapf_constraints.proofs.ChainLemmas.{bars_of-push, AreChained-push}
 use Rattle.mapf_constraints.proofs.tick_bars.TickBarsBarTable.add.Goals as goal
 

@@ -3,6 +3,7 @@ use Rattle.std.proofs.lemmas.Bool.{iff_false}
 use Rattle.mapf_spacetime.specs.States.{IsFrontier, IsBelowLimit}
 use Rattle.mapf_spacetime.proofs.GrowLemmas.{raised_frontier, limit_next, number_next}
 use Rattle.mapf_spacetime.proofs.frontier.Frontier.grow.Goals as goal
+use Rattle.mapf_model.specs.Limits.{most_cells}
 
 pub prove-unreachable-requires : goal.prove-unreachable-requires
 prove-unreachable-requires g c =
@@ -27,5 +28,5 @@ loop-self-preserved g c =
       frontier = subst (IsFrontier task []) (sym raised_is) (raised_frontier task c.walk_level.new.self walked);
       cost = ap (λ states. states.cost) raised_is ∙ next;
       limit = subst (IsBelowLimit task) next (limit_next task c.walk_level.new.self walked some);
-      small = subst (λ n. n < c.horizon-horizon.result + 4194304) next (number_next task c.walk_level.new.self walked some c.horizon-horizon.result c.horizon-horizon.ensures.above);
+      small = subst (λ n. n < c.horizon-horizon.result + most_cells) next (number_next task c.walk_level.new.self walked some c.horizon-horizon.result c.horizon-horizon.ensures.above);
     }

@@ -1,14 +1,15 @@
 use Rattle.std.proofs.Common.{◌≡◌, ◌-◌, ◌+◌, ◌<◌, []}
 use Rattle.mapf_spacetime.specs.States.{IsFrontier, IsBelowLimit}
 use Rattle.mapf_spacetime.proofs.frontier.Frontier.grow.Given as goal
+use Rattle.mapf_model.specs.Limits.{most_cells}
 
 abbrev pub invariant-loop-self : goal.invariant-loop-self
 invariant-loop-self g l = record {
   frontier : IsFrontier l.ground [] l.self;
   cost : l.self.cost ≡ l.cost;
   limit : IsBelowLimit l.ground l.cost;
-  small : l.cost < l.horizon + 4194304;
+  small : l.cost < l.horizon + most_cells;
 }
 
 abbrev pub decreases-loop-self : goal.decreases-loop-self
-decreases-loop-self g l = (l.horizon + 4194304) - l.cost
+decreases-loop-self g l = (l.horizon + most_cells) - l.cost

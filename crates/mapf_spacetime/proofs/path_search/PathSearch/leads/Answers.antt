@@ -1,5 +1,5 @@
 use Rattle.std.proofs.Common.{◌+◌, refl}
-use Rattle.mapf_model.proofs.StepLemmas.{neighbour_step, step_free}
+use Rattle.mapf_model.proofs.StepLemmas.{neighbour_step, step_end}
 use Rattle.mapf_spacetime.specs.Task.{state_at}
 use Rattle.mapf_spacetime.proofs.SetLemmas.{not_false}
 use Rattle.mapf_spacetime.proofs.ValueLemmas.{value_free}
@@ -14,7 +14,7 @@ lets-requires-clause-step g c =
 
 pub returns-then-not-is_within-clause-no : goal.returns-then-not-is_within-clause-no
 returns-then-not-is_within-clause-no g c = λ no may arrives.
-    absurd (c.if-not-is_within.ensures.no refl (step_free c.args.ground.now.grid c.args.from.now.cell c.args.to may.step) arrives)
+    absurd (c.if-not-is_within.ensures.no refl (step_end c.args.ground.now.grid c.args.from.now.cell c.args.to may.step) arrives)
 
 pub returns-clause-no : goal.returns-clause-no
 returns-clause-no g c = rw (← c.self.view_is) (λ no may arrives. c.has.ensures.0 (not_false c.has.result no))
