@@ -10,7 +10,7 @@ use Rattle.mapf_model.specs.Earned.{tick_of}
 use Rattle.mapf_cbs.specs.declared.node.Fate.{Fate}
 use Rattle.mapf_cbs.specs.declared.node.Fate.TheVariants.{Open, Dead, Expanded}
 use Rattle.mapf_model.specs.Grid.{free_cell_count}
-use Rattle.mapf_constraints.specs.BarSets.{tick_of as bar_tick, AreBefore}
+use Rattle.mapf_constraints.specs.BarSets.{bar_tick, AreBefore}
 use Rattle.mapf_cbs.specs.BoundBlocks.{AreBlocksFor}
 use Rattle.mapf_cbs.specs.FirstConflicts.{IsFirstConflict}
 use Rattle.mapf_cbs.specs.Search.{View, IsLive, IsDead, IsFate, IsExpandedAt, IsExpandedFate, End, occurrences, IsSearched}

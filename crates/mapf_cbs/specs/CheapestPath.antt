@@ -8,13 +8,13 @@ use Rattle.mapf_model.specs.Grid.{GridMap, free_cell_count}
 use Rattle.mapf_model.specs.Limits.{split_ticks}
 use Rattle.mapf_model.specs.Labels.{Entries, IsLabel}
 use Rattle.mapf_model.specs.Path.{IsLawful, IsCost, IsTight}
-use Rattle.mapf_constraints.specs.BarSets.{tick_of, AreBefore}
+use Rattle.mapf_constraints.specs.BarSets.{bar_tick, AreBefore}
 use Rattle.mapf_spacetime.specs.Answer.{IsFirstOfCost}
 use Rattle.mapf_spacetime.specs.Task.{task_of}
 
 -- a constraint that a table can hold
 abbrev pub IsTableBar : Bar → Type 0
-IsTableBar bar = (tick_of bar < split_ticks) × IsBar bar
+IsTableBar bar = (bar_tick bar < split_ticks) × IsBar bar
 
 -- a cheapest path of an agent under its constraints, the first of them by cell numbers, with its cost, which is the
 -- label of its start by these entries

@@ -13,7 +13,7 @@ use Rattle.mapf_certificate.specs.declared.line.CertLine.{CertLine}
 use Rattle.mapf_certificate.specs.declared.tree_line.Due.{Due}
 use Rattle.mapf_certificate.specs.Buffered.{Buffered}
 use Rattle.mapf_certificate.specs.Lines.{IsLine, words, width_of}
-use Rattle.mapf_certificate.specs.Window.{Window, Refuses, Fails, EndsEarly, IsOverlong, LacksLine, LacksBytes, Tells}
+use Rattle.mapf_certificate.specs.Window.{Window, Refuses, Fails, EndsEarly, IsOverlong, LacksLine, LacksBytes, Reports}
 use Rattle.mapf_certificate.specs.Bounded.{BeginsWithLine}
 use Rattle.mapf_certificate.proofs.PlainLines.{plain_line}
 use Rattle.mapf_certificate.proofs.Windows.{Fails-text, Window-trans, ComesWithin-after, Exceeds-after}
@@ -69,7 +69,7 @@ stopped a b c failed x y z stops.Device first lacks = (lacks.0, ComesWithin-afte
 stopped a b c failed x y z stops.PastLimit first lacks = (lacks.0, Exceeds-after a b c x y [] first lacks.1)
 
 -- why there is no line is why there is none of the expected kind
-pub lacking : (due : Due) (a b : Option (List ℕ)) (failed : Bool) (x y : Buffered) (why : NoLine) (fault : LinesFault) → LacksLine a b failed x y why → Tells why fault → Fails a b failed x (BeginsWithLine due) fault
+pub lacking : (due : Due) (a b : Option (List ℕ)) (failed : Bool) (x y : Buffered) (why : NoLine) (fault : LinesFault) → LacksLine a b failed x y why → Reports why fault → Fails a b failed x (BeginsWithLine due) fault
 lacking due a b failed x y stops.Ended fault early is = Fails-text a b failed x (BeginsWithLine due) fault is early.0 (refused_early due a b x y early.1)
 lacking due a b failed x y stops.Overlong fault long is = Fails-text a b failed x (BeginsWithLine due) fault is long.0 (refused_overlong due a b x y long.1)
 lacking due a b failed x y stops.Device fault device is = subst (Fails a b failed x (BeginsWithLine due)) (sym is) device

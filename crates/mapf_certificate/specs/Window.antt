@@ -77,11 +77,11 @@ IsTextFault (Text _) = Unit {0}
 IsTextFault _ = ⊥
 
 -- the error that reports why there is no line
-abbrev pub Tells : NoLine → LinesFault → Type 0
-Tells stops.Ended fault = IsTextFault fault
-Tells stops.Overlong fault = IsTextFault fault
-Tells stops.Device fault = fault ≡ Device
-Tells stops.PastLimit fault = fault ≡ TooLong
+abbrev pub Reports : NoLine → LinesFault → Type 0
+Reports stops.Ended fault = IsTextFault fault
+Reports stops.Overlong fault = IsTextFault fault
+Reports stops.Device fault = fault ≡ Device
+Reports stops.PastLimit fault = fault ≡ TooLong
 
 -- the bytes begin with a spelled value
 pub record BeginsWith (A : Type 0) (Is : A → Type 0) (text : A → List ℕ) (bytes : List ℕ) : Type 0 where

@@ -3,7 +3,7 @@ ghost use Rattle.mapf_certificate.specs.Bounded.{AreInOrder, AreSpelledApart, Be
 ghost use Rattle.mapf_certificate.specs.Certificates.{line_text};
 ghost use Rattle.mapf_certificate.specs.Lines.{IsLine, width_of};
 ghost use Rattle.mapf_certificate.specs.Untouched.{HasLine, TakesThere};
-ghost use Rattle.mapf_certificate.specs.Window.{Window, BeginsWith, Fails, IsTextFault, Tells};
+ghost use Rattle.mapf_certificate.specs.Window.{Window, BeginsWith, Fails, IsTextFault, Reports};
 ghost use Rattle.std.specs.Io.KnownBytes.{IsAtEnd};
 ghost use Rattle.std.specs.List.{flat_map};
 ghost use Rattle.std.specs.Prelude.{◌≡◌, ◌≤◌, ◌+◌, List, IfOk, IfErr, OnOk, [], false};
@@ -40,7 +40,7 @@ fn fault_of_line(line: u64, fault: LineFault) -> LinesFault
 }
 
 fn fault_without_line(line: u64, why: NoLine) -> LinesFault
-    ensures { Tells why result }
+    ensures { Reports why result }
 {
     match why {
         NoLine::Ended => LinesFault::Text(CertFault::K2(line)),

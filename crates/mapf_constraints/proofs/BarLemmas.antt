@@ -9,7 +9,7 @@ use Rattle.mapf_model.specs.declared.bar.Bar.TheVariants.{Cell}
 use Rattle.mapf_model.specs.Laws.{AreSameBars}
 use Rattle.mapf_model.specs.Limits.{split_ticks}
 use Rattle.mapf_model.proofs.ContainsLemmas.{Contains-cons_cases, Contains-cons_new, Contains-cons_old}
-use Rattle.mapf_constraints.specs.BarSets.{tick_of, IsHorizon, IsLastOn}
+use Rattle.mapf_constraints.specs.BarSets.{bar_tick, IsHorizon, IsLastOn}
 
 -- a list with one more at its end, as a set
 pub AreSameBars-push : (bars : List Bar) (bar : Bar) → AreSameBars (bars ++ bar ∷ []) (bar ∷ bars)
@@ -32,16 +32,16 @@ module _ (before after : List Bar) (bar : Bar) (same : AreSameBars after (bar �
   cases : (other : Bar) → Contains after other → (bar ≡ other) ⊎ Contains before other
   cases other held = Contains-cons_cases bar other before ((same other).0 held)
 
-  pub IsHorizon-with : (horizon : ℕ) → IsHorizon before horizon → IsHorizon after (max horizon (tick_of bar + 1))
+  pub IsHorizon-with : (horizon : ℕ) → IsHorizon before horizon → IsHorizon after (max horizon (bar_tick bar + 1))
   IsHorizon-with horizon is = record {
-    above = λ other held. ⊎_elim (λ new. let e : tick_of bar ≡ tick_of other = ap tick_of new in omega arith) (λ old. omega (arith, is.above other old)) (cases other held);
+    above = λ other held. ⊎_elim (λ new. let e : bar_tick bar ≡ bar_tick other = ap bar_tick new in omega arith) (λ old. omega (arith, is.above other old)) (cases other held);
     least = λ bound bounds. omega (arith, bounds bar added, is.least bound (λ other held. bounds other (kept other held)));
   }
 
   -- the horizon stays within the ticks that are split
-  pub horizon_early : (horizon later : ℕ) → IsHorizon before horizon → horizon ≤ split_ticks → tick_of bar < split_ticks → IsHorizon after later → later ≤ split_ticks
+  pub horizon_early : (horizon later : ℕ) → IsHorizon before horizon → horizon ≤ split_ticks → bar_tick bar < split_ticks → IsHorizon after later → later ≤ split_ticks
   horizon_early horizon later is early bar_early is_later = is_later.least split_ticks
-      (λ other held. ⊎_elim (λ new. let e : tick_of bar ≡ tick_of other = ap tick_of new in omega (arith, bar_early)) (λ old. omega (arith, is.above other old, early)) (cases other held))
+      (λ other held. ⊎_elim (λ new. let e : bar_tick bar ≡ bar_tick other = ap bar_tick new in omega (arith, bar_early)) (λ old. omega (arith, is.above other old, early)) (cases other held))
 
 module _ (before after : List Bar) (cell : ℕ) where
   -- a constraint that doesn't forbid the cell
@@ -56,12 +56,12 @@ module _ (before after : List Bar) (cell : ℕ) where
   pub IsLastOn-cell : (tick : ℕ) → AreSameBars after (Cell cell tick ∷ before) → (last : Option ℕ) → IsLastOn before cell last → IsLastOn after cell (Some (option_map_or (λ n. max n tick) last tick))
   IsLastOn-cell tick same None is = (
     added before after (Cell cell tick) same,
-    λ t held. ⊎_elim (λ new. let e : tick ≡ t = ap tick_of new in omega arith) (λ old. absurd (is t old)) (cases before after (Cell cell tick) same (Cell cell t) held),
+    λ t held. ⊎_elim (λ new. let e : tick ≡ t = ap bar_tick new in omega arith) (λ old. absurd (is t old)) (cases before after (Cell cell tick) same (Cell cell t) held),
   )
   IsLastOn-cell tick same (Some last) is = (
     ⊎_elim
         (λ (less : last < tick). let e : tick ≡ max last tick = omega arith in subst (λ t. Contains after (Cell cell t)) e (added before after (Cell cell tick) same))
         (λ (more : tick ≤ last). let e : last ≡ max last tick = omega arith in subst (λ t. Contains after (Cell cell t)) e (kept before after (Cell cell tick) same (Cell cell last) is.0))
         (cases_lt last tick),
-    λ t held. ⊎_elim (λ new. let e : tick ≡ t = ap tick_of new in omega arith) (λ old. omega (arith, is.1 t old)) (cases before after (Cell cell tick) same (Cell cell t) held),
+    λ t held. ⊎_elim (λ new. let e : tick ≡ t = ap bar_tick new in omega arith) (λ old. omega (arith, is.1 t old)) (cases before after (Cell cell tick) same (Cell cell t) held),
   )

@@ -9,7 +9,7 @@ use Rattle.mapf_model.specs.Bars.{AreBars}
 use Rattle.mapf_model.specs.Laws.{AreSameBars}
 use Rattle.mapf_model.specs.Limits.{split_ticks}
 use Rattle.mapf_constraints.proofs.BarLemmas.{AreSameBars-push}
-use Rattle.mapf_constraints.specs.BarSets.{tick_of, IsHorizon}
+use Rattle.mapf_constraints.specs.BarSets.{bar_tick, IsHorizon}
 use Rattle.mapf_constraints.specs.Chains.{bars_of, link_at, chain_of, chain_at, IsNewest, AreChained}
 use Rattle.mapf_constraints.specs.declared.link.Link.{Link}
 
@@ -35,13 +35,13 @@ module _ (links : List Link) where
     old_link place within = get_or_append_left links (link ∷ []) no_link place within
 
     old_chain : (place : ℕ) → place < length links → chain_at (links ++ link ∷ []) place ≡ chain_at links place
-    old_chain place within = ap (λ (l : Link). chain_of (tick_of l.bar)) (old_link place within)
+    old_chain place within = ap (λ (l : Link). chain_of (bar_tick l.bar)) (old_link place within)
 
     new_link : link_at (links ++ link ∷ []) (length links) ≡ link
     new_link = get_or_push links link no_link (length links) refl
 
-    new_chain : chain_at (links ++ link ∷ []) (length links) ≡ chain_of (tick_of link.bar)
-    new_chain = ap (λ (l : Link). chain_of (tick_of l.bar)) new_link
+    new_chain : chain_at (links ++ link ∷ []) (length links) ≡ chain_of (bar_tick link.bar)
+    new_chain = ap (λ (l : Link). chain_of (bar_tick l.bar)) new_link
 
     IsNewest-push : (end chain count : ℕ) → end ≤ length links → IsNewest links end chain count → IsNewest (links ++ link ∷ []) end chain count
     IsNewest-push end chain count short old = record {
@@ -50,7 +50,7 @@ module _ (links : List Link) where
       newest = λ place before is. let w : place < length links = omega arith in old.newest place before (sym (old_chain place w) ∙ is);
     }
 
-    IsNewest-other : (chain count : ℕ) → (chain ≡ chain_of (tick_of link.bar) → ⊥) → IsNewest links (length links) chain count → IsNewest (links ++ link ∷ []) (length links + 1) chain count
+    IsNewest-other : (chain count : ℕ) → (chain ≡ chain_of (bar_tick link.bar) → ⊥) → IsNewest links (length links) chain count → IsNewest (links ++ link ∷ []) (length links + 1) chain count
     IsNewest-other chain count other old =
         let now = IsNewest-push (length links) chain count (omega arith) old in
         record {
@@ -63,30 +63,30 @@ module _ (links : List Link) where
               (cases_lt place (length links));
         }
 
-    IsNewest-own : IsNewest (links ++ link ∷ []) (length links + 1) (chain_of (tick_of link.bar)) (length links + 1)
+    IsNewest-own : IsNewest (links ++ link ∷ []) (length links + 1) (chain_of (bar_tick link.bar)) (length links + 1)
     IsNewest-own = record {
       within = omega arith;
-      own = λ place e. let s : length links ≡ place = omega arith in subst (λ (p : ℕ). chain_at (links ++ link ∷ []) p ≡ chain_of (tick_of link.bar)) s new_chain;
+      own = λ place e. let s : length links ≡ place = omega arith in subst (λ (p : ℕ). chain_at (links ++ link ∷ []) p ≡ chain_of (bar_tick link.bar)) s new_chain;
       newest = λ place before is. before;
     }
 
-    AreChained-own : (newest : List ℕ) → AreChained links newest → link.older ≡ slice_index newest (chain_of (tick_of link.bar)) → length newest ≡ 64
-        → AreChained (links ++ link ∷ []) (slice_set newest (chain_of (tick_of link.bar)) (length links + 1))
+    AreChained-own : (newest : List ℕ) → AreChained links newest → link.older ≡ slice_index newest (chain_of (bar_tick link.bar)) → length newest ≡ 64
+        → AreChained (links ++ link ∷ []) (slice_set newest (chain_of (bar_tick link.bar)) (length links + 1))
     AreChained-own newest chained is_older size = record {
       first = λ chain small. rw (length-append links (link ∷ [])) (⊎_elim
-          (λ (same : chain ≡ chain_of (tick_of link.bar)). let within : chain_of (tick_of link.bar) < length newest = omega (arith, small) in
-          rw (same, get_or-set_same newest (chain_of (tick_of link.bar)) (length links + 1) 0 within) IsNewest-own)
-          (λ other. rw (get_or-set_other newest (chain_of (tick_of link.bar)) chain (length links + 1) 0 other) (IsNewest-other chain (slice_index newest chain) other (chained.first chain small)))
-          (cases_eq chain (chain_of (tick_of link.bar))));
+          (λ (same : chain ≡ chain_of (bar_tick link.bar)). let within : chain_of (bar_tick link.bar) < length newest = omega (arith, small) in
+          rw (same, get_or-set_same newest (chain_of (bar_tick link.bar)) (length links + 1) 0 within) IsNewest-own)
+          (λ other. rw (get_or-set_other newest (chain_of (bar_tick link.bar)) chain (length links + 1) 0 other) (IsNewest-other chain (slice_index newest chain) other (chained.first chain small)))
+          (cases_eq chain (chain_of (bar_tick link.bar))));
       next = λ place within. ⊎_elim
           (λ before. rw (old_link place before) (IsNewest-push place (chain_at links place) (link_at links place).older (omega arith) (chained.next place before)))
           (λ after. let e : place ≡ length links = let n : length (links ++ link ∷ []) ≡ length links + 1 = length-append links (link ∷ []) in omega (arith, n, within) in
-          rw (e, new_link) (subst (λ (n : ℕ). IsNewest (links ++ link ∷ []) (length links) (chain_of (tick_of link.bar)) n) (sym is_older)
-          (IsNewest-push (length links) (chain_of (tick_of link.bar)) (slice_index newest (chain_of (tick_of link.bar))) (omega arith) (chained.first (chain_of (tick_of link.bar)) (omega arith)))))
+          rw (e, new_link) (subst (λ (n : ℕ). IsNewest (links ++ link ∷ []) (length links) (chain_of (bar_tick link.bar)) n) (sym is_older)
+          (IsNewest-push (length links) (chain_of (bar_tick link.bar)) (slice_index newest (chain_of (bar_tick link.bar))) (omega arith) (chained.first (chain_of (bar_tick link.bar)) (omega arith)))))
           (cases_lt place (length links));
     }
 
-    pub AreChained-push : (newest : List ℕ) (chain count : ℕ) → AreChained links newest → chain ≡ chain_of (tick_of link.bar) → link.older ≡ slice_index newest chain → count ≡ length links + 1 → length newest ≡ 64
+    pub AreChained-push : (newest : List ℕ) (chain count : ℕ) → AreChained links newest → chain ≡ chain_of (bar_tick link.bar) → link.older ≡ slice_index newest chain → count ≡ length links + 1 → length newest ≡ 64
         → AreChained (links ++ link ∷ []) (slice_set newest chain count)
     AreChained-push newest chain count chained is_chain is_older is_count size = rw (is_chain, is_count) (AreChained-own newest chained (is_older ∙ ap (slice_index newest) is_chain) size)
 

@@ -4,13 +4,13 @@ use Rattle.mapf_model.specs.declared.bar.Bar.{Bar}
 use Rattle.mapf_model.specs.declared.bar.Bar.TheVariants.{Cell, Move}
 
 -- the tick of the constraint
-abbrev pub tick_of : Bar → ℕ
-tick_of (Cell cell tick) = tick
-tick_of (Move from to tick) = tick
+abbrev pub bar_tick : Bar → ℕ
+bar_tick (Cell cell tick) = tick
+bar_tick (Move from to tick) = tick
 
 -- each constraint's tick is below this one
 abbrev pub AreBefore : ℕ → List Bar → Type 0
-AreBefore bound bars = (bar : Bar) → Contains bars bar → tick_of bar < bound
+AreBefore bound bars = (bar : Bar) → Contains bars bar → bar_tick bar < bound
 
 -- the least tick greater than the ticks of all constraints
 pub record IsHorizon (bars : List Bar) (horizon : ℕ) : Type 0 where

@@ -2,7 +2,7 @@
 use Rattle.std.specs.Prelude.{◌≡◌, ℕ, ◌+◌, ◌%◌, ◌<◌, ◌≤◌, List, length, map, slice_index, slice_index_or}
 use Rattle.mapf_model.specs.declared.bar.Bar.{Bar}
 use Rattle.mapf_model.specs.declared.bar.Bar.TheVariants.{Cell}
-use Rattle.mapf_constraints.specs.BarSets.{tick_of}
+use Rattle.mapf_constraints.specs.BarSets.{bar_tick}
 use Rattle.mapf_constraints.specs.declared.link.Link.{Link}
 
 -- the constraints of the links
@@ -19,7 +19,7 @@ chain_of tick = tick % 64
 
 -- the chain of the link at this index
 abbrev pub chain_at : List Link → ℕ → ℕ
-chain_at links place = chain_of (tick_of (link_at links place).bar)
+chain_at links place = chain_of (bar_tick (link_at links place).bar)
 
 -- among the first `end` links the newest of the chain is the last of the first `count`; if the count is 0, the chain
 -- has none there

@@ -3,7 +3,7 @@ ghost use Rattle.mapf_model.specs.declared.bar.Bar.{Bar};
 ghost use Rattle.mapf_model.specs.Bars.{IsBar, AreBars};
 ghost use Rattle.mapf_model.specs.Laws.{AreSameBars};
 ghost use Rattle.mapf_model.specs.Limits.{split_ticks};
-ghost use Rattle.mapf_constraints.specs.BarSets.{tick_of, IsHorizon, IsLastOn};
+ghost use Rattle.mapf_constraints.specs.BarSets.{bar_tick, IsHorizon, IsLastOn};
 
 use mapf_model::{Bar, Cell, OutOfMemory, Tick};
 use std::alloc::Global;
@@ -39,7 +39,7 @@ pub trait BarTable: Drop {
 
     /// Adds a constraint. If the set has it already, or memory runs out, the set is as before.
     fn add(&mut self, bar: Bar) -> Result<(), OutOfMemory>
-        requires early { tick_of bar < split_ticks }
+        requires early { bar_tick bar < split_ticks }
         requires bar { IsBar bar }
         ensures added { OnOk result (AreSameBars (bars self.new) (bar ∷ bars self.old)) }
         ensures refused { OnErr result (AreSameBars (bars self.new) (bars self.old)) };

@@ -3,7 +3,7 @@ ghost use Rattle.std.specs.Option.{option_map_or};
 ghost use Rattle.mapf_model.specs.declared.bar.Bar.{Bar};
 ghost use Rattle.mapf_model.specs.Laws.{AreSameBars};
 ghost use Rattle.mapf_model.specs.Limits.{split_ticks};
-ghost use Rattle.mapf_constraints.specs.BarSets.{tick_of, IsHorizon, IsLastOn};
+ghost use Rattle.mapf_constraints.specs.BarSets.{bar_tick, IsHorizon, IsLastOn};
 
 use mapf_model::{Bar, Cell, Tick};
 
@@ -30,7 +30,7 @@ pub fn latest(last: Option<Tick>, tick: Tick) -> Tick
 
 /// Returns the least tick greater than those of all constraints, once the constraint is added.
 pub fn horizon_with(horizon: Tick, bar: &Bar) -> Tick
-    requires { tick_of bar.now < split_ticks }
+    requires { bar_tick bar.now < split_ticks }
     ensures { (before after : List Bar) → IsHorizon before horizon
         → AreSameBars after (bar.now ∷ before) → IsHorizon after result }
 {
@@ -39,7 +39,7 @@ pub fn horizon_with(horizon: Tick, bar: &Bar) -> Tick
 
 /// Returns the tick of the constraint.
 pub fn tick(bar: &Bar) -> Tick
-    ensures { result ≡ tick_of bar.now }
+    ensures { result ≡ bar_tick bar.now }
 {
     match bar {
         Bar::Cell { cell: _, tick }

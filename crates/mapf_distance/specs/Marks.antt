@@ -16,8 +16,8 @@ abbrev pub is_unreached : ℕ → Bool
 is_unreached entry = nat_eq entry UNREACHED
 
 -- the grid whose cells have these entries
-abbrev pub grid_of : ℕ → ℕ → List ℕ → GridMap
-grid_of width height table = record { width = width; height = height; free = map is_open table }
+abbrev pub grid_of_table : ℕ → ℕ → List ℕ → GridMap
+grid_of_table width height table = record { width = width; height = height; free = map is_open table }
 
 -- the entry of a cell before any is reached
 abbrev pub first_entry : Bool → ℕ

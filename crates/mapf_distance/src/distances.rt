@@ -24,14 +24,14 @@ pub struct Distances {
 }
 
 impl Model for Distances {
-    ghost use Rattle.mapf_distance.specs.Marks.{grid_of};
+    ghost use Rattle.mapf_distance.specs.Marks.{grid_of_table};
     ghost use Rattle.mapf_distance.specs.Distances.{GoalMap, AreDistances};
 
     ghost Value = { GoalMap };
 
-    ghost view = { λ d. record { grid = grid_of d.width d.height d.table.items; goal = d.goal } };
+    ghost view = { λ d. record { grid = grid_of_table d.width d.height d.table.items; goal = d.goal } };
 
-    ghost invariant = { λ d. AreDistances (grid_of d.width d.height d.table.items) d.goal d.table.items };
+    ghost invariant = { λ d. AreDistances (grid_of_table d.width d.height d.table.items) d.goal d.table.items };
 }
 
 impl Distances {

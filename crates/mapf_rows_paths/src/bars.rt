@@ -1,6 +1,6 @@
 ghost use Rattle.std.specs.Prelude.{◌<◌};
 ghost use Rattle.mapf_model.specs.Bars.{IsBar};
-ghost use Rattle.mapf_constraints.specs.BarSets.{tick_of};
+ghost use Rattle.mapf_constraints.specs.BarSets.{bar_tick};
 
 use crate::expect::expect_same;
 use mapf_constraints::{Bar, BarTable, ListBars, TickBars};
@@ -158,7 +158,7 @@ fn answers_so<B: BarTable>(table: &B, answers: &Answers) -> bool {
 
 /// Adds the bar. Where memory is refused, the table has to answer as before, and the error is passed on.
 fn adds_or_stays<B: BarTable>(rt: &impl Abort, table: &mut B, bar: Bar) -> Result<(), OutOfMemory>
-    requires early { tick_of bar < 1000000 }
+    requires early { bar_tick bar < 1000000 }
     requires bar { IsBar bar }
 {
     let before = answers_of(table);
