@@ -14,13 +14,13 @@ pub fn labels_of_all(alloc: Global, nodes: Vec<Node>) -> Result<Vec<BoundLabels>
 {
     let mut lists = Vec::new(alloc);
     for node in nodes {
-        lists.push(labels_of(alloc, node))?;
+        lists.push(bound_labels_of(alloc, node))?;
     }
     Ok(lists)
 }
 
 // Returns the labels of the node: none at the root.
-fn labels_of(alloc: Global, node: Node) -> BoundLabels
+fn bound_labels_of(alloc: Global, node: Node) -> BoundLabels
     ensures own { IsOwnOf node result }
     ensures small { All (λ block. length block.entries < 2 ^ 64) result }
 {

@@ -54,14 +54,14 @@ pub fn child<B: BarTable>(
 {
     let agent = constraint.agent;
     let who = problem.agents()[agent as usize];
-    let found = search_with(alloc, memory, problem, tables, nodes, k, constraint)?;
+    let found = search_under(alloc, memory, problem, tables, nodes, k, constraint)?;
     let old = cost_of(path_at(nodes, k, agent), who.goal);
     let total = new_total(&found, who.goal, total - u64::from(old));
     Ok(GeneratedChild { found, total })
 }
 
 // Searches for a path of the constraint's agent under its constraints at the node and this one.
-fn search_with<B: BarTable>(
+fn search_under<B: BarTable>(
     alloc: Global,
     memory: &mut SearchMemory<B>,
     problem: &Problem,

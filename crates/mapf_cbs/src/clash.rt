@@ -6,7 +6,7 @@ use mapf_model::{Agent, first_pair};
 
 /// Returns the first two agents with the same goal: the pair of the least first agent, and of these the one of the
 /// least second agent.
-pub fn sharing_pair(agents: &[Agent]) -> Option<(usize, usize)>
+pub fn pair_of_one_goal(agents: &[Agent]) -> Option<(usize, usize)>
     ensures some { IfSome result (IsFirstPair (HaveGoal agents.now) (length agents.now)) }
     ensures none { IfNone result (HoldsOfNoPair (HaveGoal agents.now) (length agents.now)) }
 {

@@ -6,7 +6,7 @@ ghost use Rattle.mapf_cbs.specs.Goals.{SomeGoalIsUnreachable};
 ghost use Rattle.mapf_cbs.specs.Start.{IsBeginning, IsShortest, AreShortest};
 
 use crate::bound_labels::BoundLabels;
-use crate::clash::sharing_pair;
+use crate::clash::pair_of_one_goal;
 use crate::tree_node::TreeNode;
 use mapf_distance::Distances;
 use mapf_model::{Agent, OutOfMemory, Path, Problem};
@@ -28,7 +28,7 @@ pub fn begin(alloc: Global, problem: &Problem) -> Result<Beginning, OutOfMemory>
 {
     // Calling `width` lets the prover use its contract, which says that the grid is well formed.
     let _width = problem.grid().width();
-    if let Some((i, j)) = sharing_pair(problem.agents()) {
+    if let Some((i, j)) = pair_of_one_goal(problem.agents()) {
         let clash = TreeNode::clash(alloc, i as u32, j as u32);
         let tree = one_node(alloc, clash)?;
         return Ok(Beginning::Impossible { tree });

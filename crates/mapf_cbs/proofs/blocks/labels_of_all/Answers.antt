@@ -6,9 +6,9 @@ use Rattle.mapf_cbs.proofs.blocks.labels_of_all.Goals as goal
 
 pub loop-node-preserved : goal.loop-node-preserved
 loop-node-preserved c =
-    let pushed : c.push.new.self.items ≡ c.loop-node.lists.items ++ c.labels_of.result ∷ [] = c.in_ok-push.ensures.items in
+    let pushed : c.push.new.self.items ≡ c.loop-node.lists.items ++ c.bound_labels_of.result ∷ [] = c.in_ok-push.ensures.items in
     subst (λ ls. ArePaired IsOwnList (c.loop-node.yielded ++ c.in-Some.node ∷ []) ls) (sym pushed)
-    (paired_more IsOwnList c.loop-node.yielded c.loop-node.lists.items c.in-Some.node c.labels_of.result c.loop-node.invariant (c.labels_of.ensures.own, c.labels_of.ensures.small))
+    (paired_more IsOwnList c.loop-node.yielded c.loop-node.lists.items c.in-Some.node c.bound_labels_of.result c.loop-node.invariant (c.bound_labels_of.ensures.own, c.bound_labels_of.ensures.small))
 
 pub returns : goal.returns
 returns c views are =

@@ -1,6 +1,6 @@
 use Rattle.std.proofs.Common.{◌≡◌, false, true, Option, None, Some, IfSome, refl}
 use Rattle.mapf_cbs.proofs.OptionLemmas.{if_none}
-use Rattle.mapf_cbs.proofs.clash.sharing_pair.Goals as goal
+use Rattle.mapf_cbs.proofs.clash.pair_of_one_goal.Goals as goal
 
 if_some : {X : Type 0} {A B C D : X → Type 0} (found : Option X) → ((x : X) → A x → B x → C x → D x) → IfSome found A → IfSome found B → IfSome found C → IfSome found D
 if_some None f a b c = a

@@ -6,7 +6,7 @@ use Rattle.mapf_model.specs.Grid.{GridMap}
 use Rattle.mapf_spacetime.specs.Answer.{IsPathAnswer}
 use Rattle.mapf_spacetime.specs.Task.{task_of}
 use Rattle.mapf_cbs.proofs.GeneratedChildLemmas.{bars_with}
-use Rattle.mapf_cbs.proofs.child.search_with.Goals as goal
+use Rattle.mapf_cbs.proofs.child.search_under.Goals as goal
 
 pub add-requires-clause-early : goal.add-requires-clause-early
 add-requires-clause-early g c = c.requires.bar.0
