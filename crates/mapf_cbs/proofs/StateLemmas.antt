@@ -16,11 +16,12 @@ use Rattle.mapf_cbs.specs.declared.node.Fate.{Fate}
 use Rattle.mapf_cbs.specs.declared.node.Fate.TheVariants.{Open, Expanded}
 use Rattle.mapf_cbs.specs.FirstConflicts.{IsFirstConflict}
 use Rattle.mapf_cbs.specs.Search.{View, IsLive, IsEndFate, IsSearched}
-use Rattle.mapf_cbs.specs.Nodes.{AreViews, IsNodeView, IsChildView, IsNodeFor, HasTableBar}
+use Rattle.mapf_cbs.specs.Nodes.{AreViews, IsNodeView, IsChildView, IsNodeFor, HavePathsAt, HasTableBar}
 use Rattle.mapf_cbs.specs.GeneratedChild.{IsGeneratedChild, IsGeneratedState}
 use Rattle.mapf_cbs.specs.State.{IsOpenSet, IsState, IsPopped, fate_of, with_children, split_fates, with_key, with_keys}
 use Rattle.mapf_model.proofs.PlaceLemmas.{slice_get-set_same, slice_get-set_other, length-slice_set, slice_get-front, slice_get-here}
 use Rattle.mapf_cbs.proofs.SumLemmas.{slice_get-second, length-two_more}
+use Rattle.mapf_cbs.proofs.NodeLemmas.{view_in}
 use Rattle.mapf_cbs.proofs.ShapeLemmas.{IsGrown}
 use Rattle.mapf_cbs.proofs.GrowLemmas.{IsChildFate, searched_grown}
 use Rattle.mapf_cbs.proofs.OpenLemmas.{less_apart, inserted_only, inserted_old, inserted_new, Contains-first, first_open}
@@ -284,3 +285,15 @@ pub in_hand : (problem : Instance) (nodes : List Node) (fates : List Fate) (rest
 in_hand problem nodes fates rest count total k popped =
     let first = popped.state.opens.only (total, k) (Contains-first (total, k) rest) in
     record { view = first.0; is = first.1; is_open = first.2; total_is = first.3; live = popped.state.searched.each k first.0 Open first.1 first.2 }
+
+-- each agent of the problem has a path at the node that is being expanded
+pub have_paths : (problem : Instance) (nodes : List Node) (fates : List Fate) (rest : List (ℕ × ℕ)) (count total k : ℕ) → IsPopped problem nodes fates rest count total k → (1 ≤ length problem.agents) × (length problem.agents ≤ 200) →
+    (agents : ℕ) → length problem.agents ≡ agents → HavePathsAt nodes k agents
+have_paths problem nodes fates rest count total k popped (some, few) agents same =
+    let h = in_hand problem nodes fates rest count total k popped in
+    subst (HavePathsAt nodes k) same (record {
+      nodes_for = popped.state.nodes_for;
+      inside = view_in nodes popped.state.views popped.state.are k h.view h.is;
+      some = some;
+      few = few;
+    })

@@ -1,7 +1,8 @@
 -- Delta nodes, and the state that each denotes.
-use Rattle.std.specs.Prelude.{◌≡◌, ◌⊎◌, ℕ, ◌<◌, List, [], Some, length, slice_get, Contains}
+use Rattle.std.specs.Prelude.{◌≡◌, ◌⊎◌, ℕ, ◌<◌, ◌≤◌, List, [], Some, length, slice_get, Contains}
 use Rattle.mapf_model.specs.declared.bar.Bar.{Bar}
 use Rattle.mapf_model.specs.declared.constraint.Constraint.{Constraint}
+use Rattle.mapf_model.specs.Limits.{most_agents}
 use Rattle.mapf_model.specs.Tree.{root}
 use Rattle.mapf_model.specs.declared.label.Entry.{Entry}
 use Rattle.mapf_spacetime.specs.declared.found.Found.{Found}
@@ -23,6 +24,17 @@ IsNodeFor agent k (Child parent constraint found) = parent < k
 -- the same of all nodes
 abbrev pub AreNodesFor : ℕ → List Node → Type 0
 AreNodesFor agent nodes = (k : ℕ) (node : Node) → slice_get nodes k ≡ Some node → IsNodeFor agent k node
+
+-- the same for each of so many agents
+abbrev pub AreNodesForAll : ℕ → List Node → Type 0
+AreNodesForAll agents nodes = (agent : ℕ) → agent < agents → AreNodesFor agent nodes
+
+-- each of so many agents has a path at the node, found there or at an ancestor, and a problem may have so many agents
+pub record HavePathsAt (nodes : List Node) (k agents : ℕ) : Type 0 where
+  pub nodes_for : AreNodesForAll agents nodes
+  pub inside : k < length nodes
+  pub some : 1 ≤ agents
+  pub few : agents ≤ most_agents
 
 -- a table can hold the constraint of the node
 abbrev pub HasTableBar : Node → Type 0
@@ -62,6 +74,10 @@ pub record AreViews (nodes : List Node) (views : List View) : Type 0 where
 -- the property holds of the state that the node denotes, as the changes along its path from the root give it
 abbrev pub HoldsOfNode : List Node → ℕ → (View → Type 0) → Type 0
 HoldsOfNode nodes k Fact = (views : List View) (view : View) → AreViews nodes views → slice_get views k ≡ Some view → Fact view
+
+-- the same if the state has a path of each of so many agents
+abbrev pub HoldsOfAgentsAt : List Node → ℕ → ℕ → (View → Type 0) → Type 0
+HoldsOfAgentsAt nodes k agents Fact = HoldsOfNode nodes k (λ view. length view.paths ≡ agents → Fact view)
 
 -- the conflict is the first of the node's paths
 abbrev pub IsFirstAt : Instance → List Node → ℕ → Conflict → Type 0

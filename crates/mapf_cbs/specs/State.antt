@@ -18,7 +18,7 @@ use Rattle.mapf_cbs.specs.declared.node.Node.TheVariants.{Child}
 use Rattle.mapf_cbs.specs.declared.node.Fate.{Fate}
 use Rattle.mapf_cbs.specs.declared.node.Fate.TheVariants.{Open, Dead, Expanded}
 use Rattle.mapf_cbs.specs.Search.{View, IsSearched}
-use Rattle.mapf_cbs.specs.Nodes.{AreNodesFor, HaveTableBars, AreViews}
+use Rattle.mapf_cbs.specs.Nodes.{AreNodesForAll, HaveTableBars, AreViews}
 
 -- a child that has a sum is open
 abbrev pub fate_of : Option ℕ → Fate
@@ -63,7 +63,7 @@ pub record IsState (problem : Instance) (nodes : List Node) (fates : List Fate) 
   pub are : AreViews nodes views
   pub searched : IsSearched problem views fates count
   pub opens : IsOpenSet keys views fates
-  pub nodes_for : (agent : ℕ) → agent < length problem.agents → AreNodesFor agent nodes
+  pub nodes_for : AreNodesForAll (length problem.agents) nodes
   pub bars : HaveTableBars nodes
   pub size : length nodes ≡ 2 * count + 1
   pub small : (key : ℕ × ℕ) → Contains keys key → key.0 ≤ (count + most_agents) * 2 ^ 32

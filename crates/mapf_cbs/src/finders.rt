@@ -1,5 +1,5 @@
-ghost use Rattle.std.specs.Prelude.{◌≡◌, ◌<◌, ℕ, List, Some, length, slice_get, IfOk};
-ghost use Rattle.mapf_cbs.specs.Nodes.{AreNodesFor, AreViews};
+ghost use Rattle.std.specs.Prelude.{◌≡◌, ◌<◌, List, Some, length, slice_get, IfOk};
+ghost use Rattle.mapf_cbs.specs.Nodes.{AreNodesForAll, AreViews};
 ghost use Rattle.mapf_cbs.specs.Finders.{AreFinders, AreInside, AreNone, IsNoted};
 ghost use Rattle.mapf_cbs.specs.Search.{View};
 
@@ -14,7 +14,7 @@ pub fn finders_at(
     k: u32,
     agents: u32,
 ) -> Result<Vec<Option<u32>>, OutOfMemory>
-    requires nodes { (agent : ℕ) → agent < agents → AreNodesFor agent nodes.now }
+    requires nodes { AreNodesForAll agents nodes.now }
     requires some { 0 < agents }
     requires inside { k < length nodes.now }
     ensures count { IfOk result (λ finders. length finders.items ≡ agents) }

@@ -1,10 +1,10 @@
-ghost use Rattle.std.specs.Prelude.{◌≡◌, ◌<◌, ◌≤◌, ℕ, Some, length, slice_get, All, IfOk, IfSome, IfNone, OnOk};
+ghost use Rattle.std.specs.Prelude.{◌≡◌, ◌<◌, ◌≤◌, Some, length, slice_get, All, IfOk, IfSome, IfNone, OnOk};
 ghost use Rattle.mapf_model.specs.Earned.{HaveSomeConflict};
 ghost use Rattle.mapf_model.specs.Limits.{most_agents, most_path_cells};
 ghost use Rattle.mapf_model.specs.Laws.{AreSameBars};
 ghost use Rattle.mapf_conflicts.specs.Pairs.{paths_behind};
 ghost use Rattle.mapf_cbs.specs.FirstConflicts.{IsFirstConflict};
-ghost use Rattle.mapf_cbs.specs.Nodes.{AreNodesFor, HaveTableBars, HoldsOfNode};
+ghost use Rattle.mapf_cbs.specs.Nodes.{AreNodesFor, HavePathsAt, HaveTableBars, HoldsOfAgentsAt, HoldsOfNode};
 
 use crate::finders::finders_at;
 use crate::node::Node;
@@ -78,15 +78,13 @@ pub fn conflict_at(
     k: u32,
     agents: u32,
 ) -> Result<Option<Conflict>, OutOfMemory>
-    requires nodes { (agent : ℕ) → agent < agents → AreNodesFor agent nodes.now }
-    requires inside { k < length nodes.now }
-    requires few { (1 ≤ agents) × (agents ≤ most_agents) }
+    requires { HavePathsAt nodes.now k agents }
     ensures some { IfOk result (λ found. IfSome found (λ conflict.
-        HoldsOfNode nodes.now k (λ view. length view.paths ≡ agents → IsFirstConflict view.paths conflict))) }
+        HoldsOfAgentsAt nodes.now k agents (λ view. IsFirstConflict view.paths conflict))) }
     ensures none { IfOk result (λ found. IfNone found
-        (HoldsOfNode nodes.now k (λ view. length view.paths ≡ agents → HaveSomeConflict view.paths → ⊥))) }
-    ensures short { OnOk result (HoldsOfNode nodes.now k (λ view.
-        length view.paths ≡ agents → All (λ path. length path ≤ most_path_cells) view.paths)) }
+        (HoldsOfAgentsAt nodes.now k agents (λ view. HaveSomeConflict view.paths → ⊥))) }
+    ensures short { OnOk result
+        (HoldsOfAgentsAt nodes.now k agents (λ view. All (λ path. length path ≤ most_path_cells) view.paths)) }
 {
     let paths = paths_at(alloc, nodes, k, agents)?;
     Ok(first_conflict_in(marks, &paths))
@@ -94,11 +92,8 @@ pub fn conflict_at(
 
 /// Returns the plan of the paths of a node at which each agent has one.
 pub fn plan_at(alloc: Global, nodes: &[Node], k: u32, agents: u32) -> Result<Plan, OutOfMemory>
-    requires nodes { (agent : ℕ) → agent < agents → AreNodesFor agent nodes.now }
-    requires inside { k < length nodes.now }
-    requires few { (1 ≤ agents) × (agents ≤ most_agents) }
-    ensures paths { IfOk result (λ plan.
-        HoldsOfNode nodes.now k (λ view. length view.paths ≡ agents → plan ≡ view.paths)) }
+    requires { HavePathsAt nodes.now k agents }
+    ensures paths { IfOk result (λ plan. HoldsOfAgentsAt nodes.now k agents (λ view. plan ≡ view.paths)) }
     ensures short { IfOk result (λ plan. All (λ path. length path ≤ most_path_cells) plan) }
 {
     let paths = paths_at(alloc, nodes, k, agents)?;
@@ -112,12 +107,10 @@ fn paths_at<'a>(
     k: u32,
     agents: u32,
 ) -> Result<Vec<&'a Path>, OutOfMemory>
-    requires nodes { (agent : ℕ) → agent < agents → AreNodesFor agent nodes.now }
-    requires inside { k < length nodes.now }
-    requires few { (1 ≤ agents) × (agents ≤ most_agents) }
+    requires { HavePathsAt nodes.now k agents }
     ensures count { IfOk result (λ paths. length paths.items ≡ agents) }
     ensures paths { IfOk result (λ paths.
-        HoldsOfNode nodes.now k (λ view. length view.paths ≡ agents → paths_behind paths.items ≡ view.paths)) }
+        HoldsOfAgentsAt nodes.now k agents (λ view. paths_behind paths.items ≡ view.paths)) }
     ensures short { IfOk result (λ paths. All (λ path. length path ≤ most_path_cells) (paths_behind paths.items)) }
 {
     let finders = finders_at(alloc, nodes, k, agents)?;

@@ -5,9 +5,8 @@ use Rattle.mapf_cbs.specs.Nodes.{AreViews}
 use Rattle.mapf_cbs.specs.State.{IsState}
 use Rattle.mapf_cbs.proofs.AnswerLemmas.{state_first, popped_of}
 use Rattle.mapf_cbs.proofs.EndingLemmas.{can_be_drawn}
-use Rattle.mapf_cbs.proofs.NodeLemmas.{view_in}
 use Rattle.mapf_cbs.proofs.StartLemmas.{root_of}
-use Rattle.mapf_cbs.proofs.StateLemmas.{in_hand}
+use Rattle.mapf_cbs.proofs.StateLemmas.{in_hand, have_paths}
 use Rattle.mapf_cbs.proofs.OptionLemmas.{of_none, of_some}
 use Rattle.mapf_cbs.proofs.solver.search_from.Goals as goal
 
@@ -48,19 +47,17 @@ returns-in_default g c =
     } in
     IfOk-weaker c.impossible.result _ _ (λ outcome said. said c.args.problem.now c.args.limit (rw e at_end)) c.impossible.ensures
 
-pub conflict_at-requires-clause-inside : goal.conflict_at-requires-clause-inside
-conflict_at-requires-clause-inside g c =
+pub conflict_at-requires : goal.conflict_at-requires
+conflict_at-requires g c =
     let s = c.loop-total.invariant.state in
     let p = popped_of c.args.problem.now c.loop-total.search.nodes.items c.loop-total.search.fates.items c.loop-total.search.waiting.keys c.take_least.new.waiting.keys c.loop-total.search.splits c.in-Some.total c.in-Some.k s c.in-Some.ensures.some in
-    let h = in_hand c.args.problem.now c.loop-total.search.nodes.items c.loop-total.search.fates.items c.take_least.new.waiting.keys c.loop-total.search.splits c.in-Some.total c.in-Some.k p in
-    let e = c.deref-in-loop-total.ensures.value in rw e (view_in c.loop-total.search.nodes.items p.state.views p.state.are c.in-Some.k h.view h.is)
+    rw c.deref-in-loop-total.ensures.value (have_paths c.args.problem.now c.loop-total.search.nodes.items c.loop-total.search.fates.items c.take_least.new.waiting.keys c.loop-total.search.splits c.in-Some.total c.in-Some.k p c.requires.root.agents (length c.agents.result.now) (ap length (sym c.agents.ensures.value)))
 
-pub plan_at-requires-clause-inside : goal.plan_at-requires-clause-inside
-plan_at-requires-clause-inside g c =
+pub plan_at-requires : goal.plan_at-requires
+plan_at-requires g c =
     let s = c.loop-total.invariant.state in
     let p = popped_of c.args.problem.now c.loop-total.search.nodes.items c.loop-total.search.fates.items c.loop-total.search.waiting.keys c.take_least.new.waiting.keys c.loop-total.search.splits c.in-Some.total c.in-Some.k s c.in-Some.ensures.some in
-    let h = in_hand c.args.problem.now c.loop-total.search.nodes.items c.loop-total.search.fates.items c.take_least.new.waiting.keys c.loop-total.search.splits c.in-Some.total c.in-Some.k p in
-    let e = c.deref-in_default-first.ensures.value in rw e (view_in c.loop-total.search.nodes.items p.state.views p.state.are c.in-Some.k h.view h.is)
+    rw c.deref-in_default-first.ensures.value (have_paths c.args.problem.now c.loop-total.search.nodes.items c.loop-total.search.fates.items c.take_least.new.waiting.keys c.loop-total.search.splits c.in-Some.total c.in-Some.k p c.requires.root.agents (length c.agents.result.now) (ap length (sym c.agents.ensures.value)))
 
 pub found-requires : goal.found-requires
 found-requires g c =
