@@ -1,6 +1,6 @@
 -- Which blocks the nodes of a tree have: each node has the block of the agent that was replanned when the node was
 -- made.
-use Rattle.std.specs.Prelude.{◌≡◌, ℕ, ◌≤◌, List, [], ◌∷◌, Option, None, Some, slice_get}
+use Rattle.std.specs.Prelude.{◌≡◌, ℕ, List, [], ◌∷◌, Option, None, Some, slice_get}
 use Rattle.mapf_model.specs.declared.bar.Bar.{Bar}
 use Rattle.mapf_model.specs.declared.label.Label.{Label}
 use Rattle.mapf_model.specs.declared.label.Label.TheVariants.{Ticks, Never}
@@ -13,6 +13,7 @@ use Rattle.mapf_model.specs.Labels.{IsLabel, entries_of}
 use Rattle.mapf_model.specs.Path.{IsLawful, IsCost}
 use Rattle.mapf_model.specs.Plan.{Instance}
 use Rattle.mapf_model.specs.Tree.{ConstraintTree, Split, Leaf, Clash, NodeContext, root, left_constraint, right_constraint, left_child_context, right_child_context}
+use Rattle.mapf_cbs.specs.CheapestPath.{CostsLeast}
 
 -- some lawful path of the agent that satisfies the constraints costs its distance
 pub record KeepsDistance (grid : GridMap) (agent : Agent) (bars : List Bar) : Type 0 where
@@ -29,7 +30,7 @@ pub record IsLeastCost (grid : GridMap) (agent : Agent) (bars : List Bar) (cost 
   pub lawful : IsLawful grid agent path
   pub satisfies : Satisfies bars path
   pub is_cost : IsCost agent.goal path cost
-  pub least : (other : List ℕ) (other_cost : ℕ) → IsLawful grid agent other → Satisfies bars other → IsCost agent.goal other other_cost → cost ≤ other_cost
+  pub least : CostsLeast grid agent bars cost
 
 -- the agent's least cost under the constraints as a label: infinite if no lawful path satisfies them
 abbrev pub IsLeastLabel : GridMap → Agent → List Bar → Label → Type 0

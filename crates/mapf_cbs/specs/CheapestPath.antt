@@ -16,6 +16,10 @@ use Rattle.mapf_spacetime.specs.Task.{task_of}
 abbrev pub IsTableBar : Bar → Type 0
 IsTableBar bar = (bar_tick bar < split_ticks) × IsBar bar
 
+-- no lawful path of the agent that satisfies the constraints costs less than this
+abbrev pub CostsLeast : GridMap → Agent → List Bar → ℕ → Type 0
+CostsLeast grid agent bars cost = (other : List ℕ) (other_cost : ℕ) → IsLawful grid agent other → Satisfies bars other → IsCost agent.goal other other_cost → cost ≤ other_cost
+
 -- a cheapest path of an agent under its constraints, the first of them by cell numbers, with its cost, which is the
 -- label of its start by these entries
 pub record IsCheapestPath (grid : GridMap) (agent : Agent) (bars : List Bar) (path : List ℕ) (cost : ℕ) (entries : Entries) : Type 0 where
@@ -23,7 +27,7 @@ pub record IsCheapestPath (grid : GridMap) (agent : Agent) (bars : List Bar) (pa
   pub satisfies : Satisfies bars path
   pub tight : IsTight path
   pub is_cost : IsCost agent.goal path cost
-  pub least : (other : List ℕ) (other_cost : ℕ) → IsLawful grid agent other → Satisfies bars other → IsCost agent.goal other other_cost → cost ≤ other_cost
+  pub least : CostsLeast grid agent bars cost
   pub first : IsFirstOfCost (task_of grid agent bars) cost path
   pub start : IsLabel grid agent.goal entries agent.start 0 (Ticks cost)
   pub below : (horizon : ℕ) → AreBefore horizon bars → cost < horizon + free_cell_count grid
