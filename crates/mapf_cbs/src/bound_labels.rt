@@ -83,10 +83,7 @@ fn labels_of(found: Found<StateLabels>) -> StateLabels
     ensures small { length result < 2 ^ 64 }
 {
     match found {
-        Found::Arrives { path, labels } => {
-            let _path = path;
-            labels
-        }
+        Found::Arrives { path: _, labels } => labels,
         Found::Dead { labels } => labels,
     }
 }
