@@ -26,12 +26,12 @@ use Rattle.mapf_cbs.specs.FirstConflicts.{AreFirstPaths}
 use Rattle.mapf_cbs.specs.Goals.{NamesFirstDefect}
 use Rattle.mapf_cbs.specs.State.{IsState, IsPopped, IsCauseToStop, IsLeastKey}
 use Rattle.mapf_cbs.proofs.ViewLemmas.{live_sum, live_cheapest, live_first}
-use Rattle.mapf_cbs.proofs.ChildLemmas.{conflict_early, Contains-none}
+use Rattle.mapf_cbs.proofs.ChildLemmas.{conflict_early}
 use Rattle.mapf_cbs.proofs.TreeLemmas.{is_earned, is_on_first, shows_cost, shows_bound, shows_impossible, has_splits, has_blocks, is_stopped, at_leaf, meets_at_a_leaf}
 use Rattle.mapf_cbs.proofs.GrowLemmas.{searched_first}
 use Rattle.mapf_cbs.proofs.RangeLemmas.{tree_in_range, plan_in_range, sum_in_range}
-use Rattle.mapf_cbs.proofs.OpenLemmas.{Contains-first}
 use Rattle.mapf_cbs.proofs.StateLemmas.{least_popped}
+use Rattle.mapf_model.proofs.ContainsLemmas.{Contains-none, Contains-cons_new}
 
 -- the state at the beginning
 pub state_root : (problem : Instance) (paths : Vec (List ℕ) Global) (total : ℕ) (view : View) → IsRootView paths.items view → IsLive problem view → total ≡ sum view.costs → total ≤ 200 * 2 ^ 32 → IsState problem (Root paths ∷ []) (Open ∷ []) ((total, 0) ∷ []) 0
@@ -61,7 +61,7 @@ state_root problem paths total view root_view live total_is small = record {
     only key in_it = subst (λ (x : ℕ × ℕ). (v : View) × (slice_get (view ∷ []) x.1 ≡ Some v) × (slice_get (Open ∷ []) x.1 ≡ Some Open) × (x.0 ≡ sum v.costs)) (first_key key in_it) (view, refl, refl, total_is)
 
     each_open : (m : ℕ) (v : View) → slice_get (view ∷ []) m ≡ Some v → slice_get (Open ∷ []) m ≡ Some Open → Contains {X = ℕ × ℕ} ((total, 0) ∷ []) (sum v.costs, m)
-    each_open zero v v_is open_is = subst (λ (w : View). Contains {X = ℕ × ℕ} ((total, 0) ∷ []) (sum w.costs, 0)) (same_Some view v v_is) (subst (λ n. Contains {X = ℕ × ℕ} ((total, 0) ∷ []) (n, 0)) total_is (Contains-first (total, 0) []))
+    each_open zero v v_is open_is = subst (λ (w : View). Contains {X = ℕ × ℕ} ((total, 0) ∷ []) (sum w.costs, 0)) (same_Some view v v_is) (subst (λ n. Contains {X = ℕ × ℕ} ((total, 0) ∷ []) (n, 0)) total_is (Contains-cons_new (total, 0) []))
     each_open (suc m) v v_is open_is = absurd cc
 
     each_node : (agent : ℕ) → agent < length problem.agents → AreNodesFor agent (Root paths ∷ [])

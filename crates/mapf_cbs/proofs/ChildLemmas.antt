@@ -1,5 +1,5 @@
 -- Children of a node: more constraints, no cheaper path, conflicts before a bound.
-use Rattle.std.proofs.Common.{◌≡◌, ◌≢◌, ◌⊎◌, ℕ, suc, ◌+◌, ◌<◌, ◌≤◌, Bool, true, false, List, [], ◌∷◌, Option, Some, None, Contains, length, sum, slice_get, slice_set, refl, sym, ◌∙◌, subst, inl, inr, ⊎_elim, arith, nat_eq, cond, eq-eqb}
+use Rattle.std.proofs.Common.{◌≡◌, ◌≢◌, ◌⊎◌, ℕ, ◌+◌, ◌<◌, ◌≤◌, Bool, true, false, List, [], ◌∷◌, Option, Some, None, Contains, length, sum, slice_get, slice_set, refl, sym, ◌∙◌, subst, inl, inr, ⊎_elim, arith, nat_eq, cond, eq-eqb}
 use Rattle.std.proofs.lemmas.Bool.{cases_eq, cases_lt, cond_both, eqb-true}
 use Rattle.std.proofs.lemmas.Option.{slice_get_within, same_Some}
 use Rattle.mapf_model.specs.declared.bar.Bar.{Bar}
@@ -20,7 +20,7 @@ use Rattle.mapf_model.specs.Earned.{HasConflict, tick_of}
 use Rattle.mapf_model.specs.Laws.{AreSameBars}
 use Rattle.mapf_model.proofs.BarLemmas.{Satisfies-same, AreSound-same}
 use Rattle.mapf_model.proofs.ClaimLemmas.{slice_get_inside}
-use Rattle.mapf_model.proofs.SplitLemmas.{Contains-cons_cases}
+use Rattle.mapf_model.proofs.ContainsLemmas.{Contains-cons_cases, Contains-cons_old}
 use Rattle.mapf_constraints.specs.BarSets.{bar_tick, AreBefore}
 use Rattle.mapf_spacetime.specs.Answer.{AreGoodLabels}
 use Rattle.mapf_spacetime.specs.Task.{task_of}
@@ -30,12 +30,7 @@ use Rattle.mapf_cbs.proofs.CheapestPathLemmas.{distance_bound, cheapest_with}
 use Rattle.mapf_model.proofs.PlaceLemmas.{slice_get-set_same, slice_get-set_other, length-slice_set}
 use Rattle.mapf_cbs.proofs.SumLemmas.{sum-set}
 use Rattle.mapf_cbs.proofs.ViewLemmas.{agent_path_of}
-
-pub Contains-none : {X : Type 0} (x : X) → Contains [] x → ⊥
-Contains-none x (k, within, is) = omega arith
-
-pub Contains-later : {X : Type 0} (x y : X) (xs : List X) → Contains xs y → Contains (x ∷ xs) y
-Contains-later x y xs (k, within, is) = (suc k, omega arith, is)
+use Rattle.mapf_model.proofs.StepLemmas.{step_start}
 
 -- good labels are good under a list of the same constraints
 pub good_same : (grid : GridMap) (agent : Agent) (xs ys : List Bar) (entries : List Entry) → AreSameBars xs ys → AreGoodLabels (task_of grid agent xs) entries → AreGoodLabels (task_of grid agent ys) entries
@@ -113,7 +108,7 @@ module _ (problem : Instance) (view : View) (live : IsLive problem view) (constr
       within = slice_get_within problem.agents constraint.agent agent known
 
       old_no_dearer : old.1 ≤ cost'
-      old_no_dearer = old.2.least path' cost' agent_path.lawful (λ b in_it. agent_path.satisfies b (Contains-later constraint.bar b (view.context.bars constraint.agent) in_it)) agent_path.is_cost
+      old_no_dearer = old.2.least path' cost' agent_path.lawful (λ b in_it. agent_path.satisfies b (Contains-cons_old constraint.bar b (view.context.bars constraint.agent) in_it)) agent_path.is_cost
 
       -- if there are no entries the cost is the distance, and so it is the cost at the parent
       same_above : es ≡ [] → IsLabel problem.grid agent.goal (entries_at view constraint.agent) agent.start 0 (Ticks cost')
@@ -155,7 +150,7 @@ module _ (problem : Instance) (view : View) (live : IsLive problem view) (constr
       live_child_sum cost is =
           let r = agent_path_of problem view live.counted constraint.agent agent known in
           let before = live.each constraint.agent agent r.0 cost known r.2 is in
-          (sum-set view.costs constraint.agent cost cost' is, before.least path' cost' agent_path.lawful (λ b in_it. agent_path.satisfies b (Contains-later constraint.bar b (view.context.bars constraint.agent) in_it)) agent_path.is_cost)
+          (sum-set view.costs constraint.agent cost cost' is, before.least path' cost' agent_path.lawful (λ b in_it. agent_path.satisfies b (Contains-cons_old constraint.bar b (view.context.bars constraint.agent) in_it)) agent_path.is_cost)
 
 -- the constraints of a child, one of which is new, are before a later bound
 pub AreBefore-with_constraint : (bars : ℕ → List Bar) (constraint : Constraint) (horizon later : ℕ) → horizon ≤ later → bar_tick constraint.bar < later → ((k : ℕ) → AreBefore horizon (bars k)) → (k : ℕ) → AreBefore later (with_constraint bars constraint k)
@@ -185,10 +180,6 @@ pub of_paths : (paths : List (List ℕ)) (conflict : Conflict) → HasConflict p
 of_paths paths (Vertex i j cell tick) (differ, p, q, ip, jq, here, there) early = ((slice_get_within paths i p ip, (early, tt)), (slice_get_within paths j q jq, (early, tt)))
 of_paths paths (Swap i j from to tick) (differ, moved, p, q, ip, jq, here, there) early = ((slice_get_within paths i p ip, (early, moved)), (slice_get_within paths j q jq, (early, λ e. moved (sym e))))
 
-pub step_free : (grid : GridMap) (u v : ℕ) → Step grid u v → IsFree grid u
-step_free grid u v (inl wait) = wait.0
-step_free grid u v (inr move) = move.from_free
-
 module _ (problem : Instance) (view : View) (live : IsLive problem view) where
   agent_of : (i : ℕ) (path : List ℕ) → slice_get view.paths i ≡ Some path → (agent : Agent) × (cost : ℕ) × (slice_get problem.agents i ≡ Some agent) × IsCheapestOf problem view i agent path cost
   agent_of i path is =
@@ -203,7 +194,7 @@ module _ (problem : Instance) (view : View) (live : IsLive problem view) where
   conflict_proper (Vertex i j cell tick) (differ, p, q, ip, jq, here, there) =
       let a = agent_of i p ip in let b = agent_of j q jq in (
         (differ, slice_get_within problem.agents i a.0 a.2, slice_get_within problem.agents j b.0 b.2),
-        subst (λ c. IsFree problem.grid c) here (step_free problem.grid (at p tick) (at p (tick + 1)) (a.3.lawful.is_path.steps tick)),
+        subst (λ c. IsFree problem.grid c) here (step_start problem.grid (at p tick) (at p (tick + 1)) (a.3.lawful.is_path.steps tick)),
       )
   conflict_proper (Swap i j from to tick) (differ, moved, p, q, ip, jq, here, there) =
       let a = agent_of i p ip in let b = agent_of j q jq in

@@ -16,7 +16,7 @@ use Rattle.mapf_model.specs.Laws.{AreSameBars}
 use Rattle.mapf_model.specs.Plan.{Instance}
 use Rattle.mapf_model.specs.Tree.{child_context}
 use Rattle.mapf_model.proofs.DecidedLemmas.{cost_unique}
-use Rattle.mapf_model.proofs.SplitLemmas.{Contains-cons_cases}
+use Rattle.mapf_model.proofs.ContainsLemmas.{Contains-cons_cases, Contains-cons_old}
 use Rattle.mapf_spacetime.specs.declared.found.Found.{Found}
 use Rattle.mapf_spacetime.specs.declared.found.Found.TheVariants.{Arrives, Dead}
 use Rattle.mapf_spacetime.specs.Answer.{IsPathAnswer}
@@ -27,7 +27,7 @@ use Rattle.mapf_cbs.specs.Search.{View, IsLive, bound_blocks, live_child, dead_c
 use Rattle.mapf_cbs.specs.GeneratedChild.{EndsAt, IsTotal, IsGeneratedChild}
 use Rattle.mapf_cbs.proofs.CheapestPathLemmas.{cheapest_of, distance_bound, none_of}
 use Rattle.mapf_cbs.proofs.ViewLemmas.{agent_path_of}
-use Rattle.mapf_cbs.proofs.ChildLemmas.{good_same, Contains-later, IsCheapestPath-same, HasNoPath-same, dead_child_dead, live_child_live, live_child_sum}
+use Rattle.mapf_cbs.proofs.ChildLemmas.{good_same, IsCheapestPath-same, HasNoPath-same, dead_child_dead, live_child_live, live_child_sum}
 
 part_within : (xs : List ℕ) (i x : ℕ) → slice_get xs i ≡ Some x → x ≤ sum xs
 part_within [] i x is = absurd cc
@@ -43,11 +43,11 @@ pub bars_with : (all front more : List Bar) (bar : Bar) → AreSameBars all fron
 bars_with all front more bar same added b = (
   λ in_more. ⊎_elim
       (λ (e : bar ≡ b). (0, omega arith, e))
-      (λ (h : Contains front b). Contains-later bar b all ((same b).1 h))
+      (λ (h : Contains front b). Contains-cons_old bar b all ((same b).1 h))
       (Contains-cons_cases bar b front ((added b).0 in_more)),
   λ in_all. ⊎_elim
       (λ (e : bar ≡ b). (added b).1 (0, omega arith, e))
-      (λ (h : Contains all b). (added b).1 (Contains-later bar b front ((same b).0 h)))
+      (λ (h : Contains all b). (added b).1 (Contains-cons_old bar b front ((same b).0 h)))
       (Contains-cons_cases bar b all in_all),
 )
 

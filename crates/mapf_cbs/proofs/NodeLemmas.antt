@@ -3,8 +3,7 @@ use Rattle.std.proofs.Common.{◌≡◌, ◌≢◌, ◌⊎◌, ℕ, ◌<◌, Lis
 use Rattle.std.proofs.lemmas.Bool.{cond_both, eqb-true}
 use Rattle.mapf_model.specs.Tree.{NodeContext, with_constraint}
 use Rattle.mapf_model.specs.Laws.{AreSameBars}
-use Rattle.mapf_model.proofs.SplitLemmas.{Contains-cons_cases}
-use Rattle.mapf_cbs.proofs.ChildLemmas.{Contains-later, Contains-none}
+use Rattle.mapf_model.proofs.ContainsLemmas.{Contains-cons_cases, Contains-none, Contains-cons_old}
 use Rattle.std.proofs.lemmas.Option.{slice_get_within, same_Some}
 use Rattle.std.specs.declared.alloc.Global.{Global}
 use Rattle.mapf_model.specs.declared.bar.Bar.{Bar}
@@ -102,7 +101,7 @@ joined_same all front rest here e joined = subst (λ bs. AreJoined all front bs)
 pub joined_more : (all front rest more : List Bar) (bar : Bar) → AreJoined all front (bar ∷ rest) → AreSameBars more (bar ∷ front) → AreJoined all more rest
 joined_more all front rest more bar joined same = record {
   apart = λ b in_all. ⊎_elim
-      (λ (h : Contains front b). inl ((same b).1 (Contains-later bar b front h)))
+      (λ (h : Contains front b). inl ((same b).1 (Contains-cons_old bar b front h)))
       (λ (h : Contains (bar ∷ rest) b). ⊎_elim
       (λ (e : bar ≡ b). inl ((same b).1 (0, omega arith, e)))
       (λ (in_rest : Contains rest b). inr in_rest)
@@ -112,7 +111,7 @@ joined_more all front rest more bar joined same = record {
       (λ (e : bar ≡ b). joined.from_rest b (0, omega arith, e))
       (λ (in_front : Contains front b). joined.from_front b in_front)
       (Contains-cons_cases bar b front ((same b).0 in_more));
-  from_rest = λ b in_rest. joined.from_rest b (Contains-later bar b rest in_rest);
+  from_rest = λ b in_rest. joined.from_rest b (Contains-cons_old bar b rest in_rest);
 }
 
 pub joined_done : (all front rest : List Bar) → rest ≡ [] → AreJoined all front rest → AreSameBars all front

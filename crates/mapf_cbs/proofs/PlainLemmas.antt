@@ -8,7 +8,7 @@ use Rattle.mapf_model.specs.Plan.{Instance}
 use Rattle.mapf_model.specs.Tree.{ShareGoal, left_constraint, right_constraint}
 use Rattle.mapf_model.specs.Earned.{tick_of}
 use Rattle.mapf_model.proofs.ClaimLemmas.{slice_get_inside}
-use Rattle.mapf_model.proofs.SplitLemmas.{Contains-cons_cases}
+use Rattle.mapf_model.proofs.ContainsLemmas.{Contains-cons_cases, Contains-none, Contains-cons_old, Contains-cons_new}
 use Rattle.mapf_model.proofs.SumLemmas.{snoc_get}
 use Rattle.mapf_cbs.specs.declared.node.Fate.{Fate}
 use Rattle.mapf_cbs.specs.declared.node.Fate.TheVariants.{Open}
@@ -24,8 +24,6 @@ use Rattle.mapf_cbs.specs.Search.{View, IsLive, AreBlockLists}
 use Rattle.mapf_cbs.specs.State.{IsOpenSet, key_cmp, with_children, split_fates, with_keys}
 use Rattle.mapf_cbs.specs.Whole.{IsWhole, AreWhole, HaveAgentPaths, IsWholeChild, IsLeastOpen, IsLeastBelow, IsWholeState, IsWholePopped}
 use Rattle.mapf_cbs.proofs.AnswerLemmas.{state_root, root_views}
-use Rattle.mapf_cbs.proofs.ChildLemmas.{Contains-later, Contains-none}
-use Rattle.mapf_cbs.proofs.OpenLemmas.{Contains-first}
 use Rattle.mapf_model.proofs.PlaceLemmas.{slice_get-front, slice_get-here}
 use Rattle.mapf_cbs.proofs.StateLemmas.{IsInHand, in_hand, two_pushed, state_grown, grown_views}
 use Rattle.mapf_cbs.proofs.WholeLemmas.{less_key, each_more}
@@ -38,10 +36,10 @@ others (x ∷ keys) k = cond (nat_eq x.1 k) (others keys k) (x ∷ others keys k
 others_only : (keys : List (ℕ × ℕ)) (k : ℕ) (x : ℕ × ℕ) → Contains (others keys k) x → Contains keys x × (x.1 ≢ k)
 others_only [] k x in_it = absurd (Contains-none x in_it)
 others_only (y ∷ keys) k x in_it = cond_both (nat_eq y.1 k) (others keys k) (y ∷ others keys k) (λ zs. Contains zs x → Contains (y ∷ keys) x × (x.1 ≢ k))
-    (λ same h. let r = others_only keys k x h in (Contains-later y x keys r.0, r.1))
+    (λ same h. let r = others_only keys k x h in (Contains-cons_old y x keys r.0, r.1))
     (λ differ h. ⊎_elim
     (λ (e : y ≡ x). ((0, omega arith, e), λ f. eqb-false y.1 k differ (ap (λ (z : ℕ × ℕ). z.1) e ∙ f)))
-    (λ (rest : Contains (others keys k) x). let r = others_only keys k x rest in (Contains-later y x keys r.0, r.1))
+    (λ (rest : Contains (others keys k) x). let r = others_only keys k x rest in (Contains-cons_old y x keys r.0, r.1))
     (Contains-cons_cases y x (others keys k) h))
     in_it
 
@@ -54,7 +52,7 @@ others_old (y ∷ keys) k x in_it other = cond_both (nat_eq y.1 k) (others keys 
     (Contains-cons_cases y x keys in_it))
     (λ differ. ⊎_elim
     (λ (e : y ≡ x). (0, omega arith, e))
-    (λ (h : Contains keys x). Contains-later y x (others keys k) (others_old keys k x h other))
+    (λ (h : Contains keys x). Contains-cons_old y x (others keys k) (others_old keys k x h other))
     (Contains-cons_cases y x keys in_it))
 
 module _ (problem : Instance) (nodes : List WholeNode) (fates : List Fate) (count : ℕ) (s : IsWholeState problem nodes fates count) where
@@ -84,7 +82,7 @@ module _ (problem : Instance) (nodes : List WholeNode) (fates : List Fate) (coun
           let same : view_of.0 ≡ view = same_Some view_of.0 view (sym view_of.1 ∙ subst (λ n. slice_get s.state.views n ≡ Some view) e view_is) in
           let sum_is : least.node.total ≡ sum view.costs = view_of.2.total ∙ ap (λ (v : View). sum v.costs) same in
           (0, omega arith, ap (λ n. (n, k)) sum_is ∙ ap (λ n. (sum view.costs, n)) (sym e)))
-          (λ (e : m ≢ k). Contains-later (least.node.total, k) (sum view.costs, m) (others s.keys k) (others_old s.keys k (sum view.costs, m) (s.state.opens.each m view view_is m_open) e))
+          (λ (e : m ≢ k). Contains-cons_old (least.node.total, k) (sum view.costs, m) (others s.keys k) (others_old s.keys k (sum view.costs, m) (s.state.opens.each m view view_is m_open) e))
           (cases_eq m k);
     }
 
@@ -205,7 +203,7 @@ module _ (problem : Instance) (nodes : List WholeNode) (fates : List Fate) (coun
 
     pub hand_small : count < 100000 → node.total + 2 ^ 32 < 2 ^ 64
     hand_small few =
-        let h = p.popped.state.small (total, k) (Contains-first (total, k) p.rest) in
+        let h = p.popped.state.small (total, k) (Contains-cons_new (total, k) p.rest) in
         let t = hand_whole.total in let e = whole_hand.total_is in
         omega (arith, h, t, e, few)
 

@@ -23,8 +23,8 @@ use Rattle.mapf_model.specs.declared.bar.Bar.{Bar}
 use Rattle.std.proofs.lemmas.List.Elements.{All-push}
 use Rattle.mapf_cbs.specs.Search.{View, AreOwnBlocks, IsLive, IsSearched, AreBlocksAt, IsTreeAt}
 use Rattle.mapf_cbs.proofs.TreeLemmas.{own_of_fate}
-use Rattle.mapf_cbs.proofs.ChildLemmas.{step_free}
 use Rattle.mapf_cbs.proofs.ViewLemmas.{agent_path_of}
+use Rattle.mapf_model.proofs.StepLemmas.{step_start}
 
 free_on_grid : (grid : GridMap) (cell : ℕ) → IsGridMap grid → IsFree grid cell → IsOnGrid grid cell
 free_on_grid grid cell shape free =
@@ -41,7 +41,7 @@ path_in_range grid agent (x ∷ xs) shape lawful tight short = record {
   short = short;
   on_grid = λ k d within.
       let here : min k (length (x ∷ xs) - 1) ≡ k = omega arith in
-      let free : IsFree grid (slice_index (x ∷ xs) k) = rw here at (step_free grid (at (x ∷ xs) k) (at (x ∷ xs) (k + 1)) (lawful.is_path.steps k)) in
+      let free : IsFree grid (slice_index (x ∷ xs) k) = rw here at (step_start grid (at (x ∷ xs) k) (at (x ∷ xs) (k + 1)) (lawful.is_path.steps k)) in
       let same : get_or (x ∷ xs) k d ≡ slice_index (x ∷ xs) k = get_or_default (x ∷ xs) k d 0 within in
       rw same (free_on_grid grid (slice_index (x ∷ xs) k) shape free);
   tight = tight;

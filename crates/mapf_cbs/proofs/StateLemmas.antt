@@ -7,7 +7,7 @@ use Rattle.mapf_model.specs.declared.conflict.Conflict.{Conflict}
 use Rattle.mapf_model.specs.Plan.{Instance}
 use Rattle.mapf_model.specs.Tree.{left_constraint, right_constraint, ShareGoal}
 use Rattle.mapf_model.specs.Earned.{tick_of}
-use Rattle.mapf_model.proofs.SplitLemmas.{Contains-cons_cases}
+use Rattle.mapf_model.proofs.ContainsLemmas.{Contains-cons_cases, Contains-cons_old, Contains-cons_new}
 use Rattle.mapf_model.specs.declared.label.Entry.{Entry}
 use Rattle.mapf_spacetime.specs.declared.found.Found.{Found}
 use Rattle.mapf_cbs.specs.declared.node.Node.{Node}
@@ -24,8 +24,8 @@ use Rattle.mapf_cbs.proofs.SumLemmas.{slice_get-second, length-two_more}
 use Rattle.mapf_cbs.proofs.NodeLemmas.{view_in}
 use Rattle.mapf_cbs.proofs.ShapeLemmas.{IsGrown}
 use Rattle.mapf_cbs.proofs.GrowLemmas.{IsChildFate, searched_grown}
-use Rattle.mapf_cbs.proofs.OpenLemmas.{less_apart, inserted_only, inserted_old, inserted_new, Contains-first, first_open}
-use Rattle.mapf_cbs.proofs.ChildLemmas.{Contains-later, of_paths}
+use Rattle.mapf_cbs.proofs.OpenLemmas.{less_apart, inserted_only, inserted_old, inserted_new, first_open}
+use Rattle.mapf_cbs.proofs.ChildLemmas.{of_paths}
 
 pub two_pushed : {X : Type 0} (xs : List X) (x y : X) → (xs ++ x ∷ []) ++ y ∷ [] ≡ xs ++ x ∷ y ∷ []
 two_pushed xs x y = append_assoc xs (x ∷ []) (y ∷ [])
@@ -176,7 +176,7 @@ module _ (problem : Instance) (nodes : List Node) (fates : List Fate) (rest : Li
 
     old_key : (x : ℕ × ℕ) → Contains rest x → (v : View) × (slice_get (popped.state.views ++ left.child ∷ right.child ∷ []) x.1 ≡ Some v) × (slice_get (split_fates fates k conflict s t) x.1 ≡ Some Open) × (x.0 ≡ sum v.costs)
     old_key x in_rest =
-        let was = popped.state.opens.only x (Contains-later (total, k) x rest in_rest) in
+        let was = popped.state.opens.only x (Contains-cons_old (total, k) x rest in_rest) in
         let inside : x.1 < length fates = slice_get_within fates x.1 Open was.2 in
         let other : x.1 ≢ k = λ e.
         let v_is : was.0 ≡ view = same_Some was.0 view (sym was.1 ∙ subst (λ n. slice_get popped.state.views n ≡ Some view) (sym e) is) in
@@ -233,10 +233,10 @@ module _ (problem : Instance) (nodes : List Node) (fates : List Fate) (rest : Li
 
     small_grown : (x : ℕ × ℕ) → Contains (with_keys rest (length nodes) s t) x → x.0 ≤ ((count + 1) + 200) * 2 ^ 32
     small_grown x in_it =
-        let top = popped.state.small (total, k) (Contains-first (total, k) rest) in
+        let top = popped.state.small (total, k) (Contains-cons_new (total, k) rest) in
         ⊎_elim
         (λ (h : Contains (with_key rest (length nodes) s) x). ⊎_elim
-        (λ (old : Contains rest x). let b = popped.state.small x (Contains-later (total, k) x rest old) in omega (arith, b))
+        (λ (old : Contains rest x). let b = popped.state.small x (Contains-cons_old (total, k) x rest old) in omega (arith, b))
         (λ (new : (z : ℕ) × (s ≡ Some z) × (x ≡ (z, length nodes))). let b = generated_small left.child s new.0 new.1 left.state in let e = ap (λ (y : ℕ × ℕ). y.0) new.2 in omega (arith, b, e, top, total_is))
         (with_key_only rest (length nodes) s x h))
         (λ (new : (z : ℕ) × (t ≡ Some z) × (x ≡ (z, length nodes + 1))). let b = generated_small right.child t new.0 new.1 right.state in let e = ap (λ (y : ℕ × ℕ). y.0) new.2 in omega (arith, b, e, top, total_is))
@@ -283,7 +283,7 @@ pub record IsInHand (problem : Instance) (fates : List Fate) (k total : ℕ) (vi
 
 pub in_hand : (problem : Instance) (nodes : List Node) (fates : List Fate) (rest : List (ℕ × ℕ)) (count total k : ℕ) (popped : IsPopped problem nodes fates rest count total k) → IsInHand problem fates k total popped.state.views
 in_hand problem nodes fates rest count total k popped =
-    let first = popped.state.opens.only (total, k) (Contains-first (total, k) rest) in
+    let first = popped.state.opens.only (total, k) (Contains-cons_new (total, k) rest) in
     record { view = first.0; is = first.1; is_open = first.2; total_is = first.3; live = popped.state.searched.each k first.0 Open first.1 first.2 }
 
 -- each agent of the problem has a path at the node that is being expanded

@@ -8,9 +8,9 @@ use Rattle.mapf_cbs.specs.CheapestPath.{IsTableBar}
 use Rattle.mapf_cbs.specs.GeneratedChild.{IsGeneratedChild}
 use Rattle.mapf_cbs.proofs.ChildLemmas.{of_paths}
 use Rattle.mapf_cbs.proofs.NodeLemmas.{view_in}
-use Rattle.mapf_cbs.proofs.OpenLemmas.{Contains-first}
 use Rattle.mapf_cbs.proofs.StateLemmas.{in_hand, state_grown}
 use Rattle.mapf_cbs.proofs.solver.split.Goals as goal
+use Rattle.mapf_model.proofs.ContainsLemmas.{Contains-cons_new}
 
 on_ok_three : {T E A B C D : Type 0} (r : Result T E) → (A → B → C → D) → OnOk r A → OnOk r B → OnOk r C → OnOk r D
 on_ok_three (Ok x) f a b c = f a b c
@@ -42,7 +42,7 @@ child-requires-clause-known g c =
 
 pub child-requires-clause-small : goal.child-requires-clause-small
 child-requires-clause-small g c =
-    let h = c.requires.popped.state.small (c.args.total, c.args.k) (Contains-first (c.args.total, c.args.k) c.args.search.now.waiting.keys) in
+    let h = c.requires.popped.state.small (c.args.total, c.args.k) (Contains-cons_new (c.args.total, c.args.k) c.args.search.now.waiting.keys) in
     let few = c.requires.few in
     omega (arith, h, few)
 
@@ -78,7 +78,7 @@ child-requires-2-clause-known g c =
 
 pub child-requires-2-clause-small : goal.child-requires-2-clause-small
 child-requires-2-clause-small g c =
-    let h = c.requires.popped.state.small (c.args.total, c.args.k) (Contains-first (c.args.total, c.args.k) c.args.search.now.waiting.keys) in
+    let h = c.requires.popped.state.small (c.args.total, c.args.k) (Contains-cons_new (c.args.total, c.args.k) c.args.search.now.waiting.keys) in
     let few = c.requires.few in
     omega (arith, h, few)
 
