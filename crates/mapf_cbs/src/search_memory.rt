@@ -1,3 +1,5 @@
+ghost use Rattle.std.specs.Prelude.{◌≡◌, []};
+
 use mapf_constraints::BarTable;
 use mapf_spacetime::Workspace;
 use std::alloc::Global;
@@ -11,7 +13,9 @@ pub struct SearchMemory<B: BarTable> {
 }
 
 impl<B: BarTable> SearchMemory<B> {
-    pub fn new(alloc: Global) -> SearchMemory<B> {
+    pub fn new(alloc: Global) -> SearchMemory<B>
+        ensures { B.bars result.bars ≡ [] }
+    {
         SearchMemory {
             bars: B::empty(alloc),
             workspace: Workspace::new(alloc),

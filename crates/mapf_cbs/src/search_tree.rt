@@ -27,32 +27,16 @@ impl SearchTree {
         ensures waiting { IfOk result (λ tree. tree.waiting.keys ≡ (total, 0) ∷ []) }
         ensures splits { IfOk result (λ tree. tree.splits ≡ 0) }
     {
-        let mut tree = SearchTree {
-            nodes: Vec::new(alloc),
-            fates: Vec::new(alloc),
-            waiting: BTreeSet::new(alloc),
+        let mut nodes = Vec::new(alloc);
+        nodes.push(Node::Root { paths })?;
+        let mut waiting = BTreeSet::new(alloc);
+        waiting.insert((total, 0))?;
+        Ok(SearchTree {
+            nodes,
+            fates: root_fates(alloc)?,
+            waiting,
             splits: 0,
-        };
-        tree.plant(paths, total)?;
-        Ok(tree)
-    }
-
-    // Makes the root of an empty tree.
-    fn plant(&mut self, paths: Vec<Path>, total: u64) -> Result<(), OutOfMemory>
-        requires nodes { self.old.nodes.items ≡ [] }
-        requires fates { self.old.fates.items ≡ [] }
-        requires waiting { self.old.waiting.keys ≡ [] }
-        ensures nodes { OnOk result (self.new.nodes.items ≡ Node.Root paths ∷ []) }
-        ensures fates { OnOk result (self.new.fates.items ≡ Fate.Open ∷ []) }
-        ensures waiting { OnOk result (self.new.waiting.keys ≡ (total, 0) ∷ []) }
-        ensures splits { OnOk result (self.new.splits ≡ self.old.splits) }
-    {
-        // The prover finds the type of an outcome's conflict only if it is named.
-        let _conflict: Option<Conflict> = None;
-        self.waiting.insert((total, 0))?;
-        self.nodes.push(Node::Root { paths })?;
-        self.fates.push(Fate::Open)?;
-        Ok(())
+        })
     }
 
     /// Splits a node on the conflict: its children are added, the left one first.
@@ -104,6 +88,17 @@ impl SearchTree {
         }
         Ok(())
     }
+}
+
+/// Returns the outcomes of the nodes of a tree that has only an open root.
+pub fn root_fates(alloc: Global) -> Result<Vec<Fate>, OutOfMemory>
+    ensures { IfOk result (λ fates. fates.items ≡ Fate.Open ∷ []) }
+{
+    // The prover finds the type of an outcome's conflict only if it is named.
+    let _conflict: Option<Conflict> = None;
+    let mut fates = Vec::new(alloc);
+    fates.push(Fate::Open)?;
+    Ok(fates)
 }
 
 /// Removes and returns the key of the open node of least sum, of these the oldest. None if no node is open.

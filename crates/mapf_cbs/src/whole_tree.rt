@@ -5,7 +5,7 @@ ghost use Rattle.mapf_cbs.specs.Whole.{AreWhole, IsLeastBelow};
 
 use crate::bound_labels::BoundLabels;
 use crate::node::Fate;
-use crate::search_tree::expand;
+use crate::search_tree::{expand, root_fates};
 use crate::whole_node::WholeNode;
 use mapf_model::{Conflict, OutOfMemory};
 use std::alloc::Global;
@@ -34,15 +34,11 @@ impl WholeTree {
         ensures fates { IfOk result (λ tree. tree.fates.items ≡ Fate.Open ∷ []) }
         ensures splits { IfOk result (λ tree. tree.splits ≡ 0) }
     {
-        // The prover finds the type of an outcome's conflict only if it is named.
-        let _conflict: Option<Conflict> = None;
         let mut nodes = Vec::new(alloc);
         nodes.push(root)?;
-        let mut fates = Vec::new(alloc);
-        fates.push(Fate::Open)?;
         Ok(WholeTree {
             nodes,
-            fates,
+            fates: root_fates(alloc)?,
             splits: 0,
         })
     }
