@@ -1,7 +1,6 @@
 -- What a search finds can be printed.
-use Rattle.std.proofs.Common.{◌≡◌, ℕ, suc, ◌+◌, ◌*◌, ◌-◌, ◌^◌, ◌<◌, ◌≤◌, min, true, false, List, [], ◌∷◌, Some, All, length, sum, slice_get, slice_index, get_or, refl, sym, ◌∙◌, subst, ⊎_elim, arith}
-use Rattle.std.proofs.lemmas.Bool.{cases_lt}
-use Rattle.std.proofs.lemmas.List.{get_or_past, get_or_default}
+use Rattle.std.proofs.Common.{◌≡◌, ℕ, suc, ◌+◌, ◌*◌, ◌-◌, ◌^◌, ◌<◌, ◌≤◌, min, List, [], ◌∷◌, Some, All, length, sum, slice_get, slice_index, get_or, refl, sym, subst, arith}
+use Rattle.std.proofs.lemmas.List.{get_or_default}
 use Rattle.std.proofs.lemmas.List.Sums.{sum_by-cons}
 use Rattle.std.proofs.lemmas.Option.{slice_get_within, get_or_from_slice_get}
 use Rattle.mapf_model.specs.Blocks.{LabelBlock}
@@ -12,7 +11,7 @@ use Rattle.mapf_model.specs.Earned.{tick_of}
 use Rattle.mapf_model.specs.Grid.{GridMap, IsGridMap, IsFree}
 use Rattle.mapf_model.specs.Path.{at, IsLawful, IsTight}
 use Rattle.mapf_model.specs.Plan.{Instance}
-use Rattle.mapf_model.specs.Printed.{IsOnGrid, IsBlockInRange, AreBlocksInRange, IsConflictInRange, IsTreeInRange, IsPathInRange, IsPlanInRange}
+use Rattle.mapf_model.specs.Printed.{IsBlockInRange, AreBlocksInRange, IsConflictInRange, IsTreeInRange, IsPathInRange, IsPlanInRange}
 use Rattle.mapf_model.specs.Tree.{ConstraintTree, Split, Leaf, Clash, IsProperSplit}
 use Rattle.mapf_model.proofs.ClaimLemmas.{slice_get_inside}
 use Rattle.mapf_model.proofs.DecidedLemmas.{cost_unique}
@@ -24,15 +23,7 @@ use Rattle.std.proofs.lemmas.List.Elements.{All-push}
 use Rattle.mapf_cbs.specs.Search.{View, AreOwnBlocks, IsLive, IsSearched, AreBlocksAt, IsTreeAt}
 use Rattle.mapf_cbs.proofs.TreeLemmas.{own_of_fate}
 use Rattle.mapf_cbs.proofs.ViewLemmas.{agent_path_of}
-use Rattle.mapf_model.proofs.StepLemmas.{step_start}
-
-free_on_grid : (grid : GridMap) (cell : ℕ) → IsGridMap grid → IsFree grid cell → IsOnGrid grid cell
-free_on_grid grid cell shape free =
-    let flags = shape.4 in
-    ⊎_elim
-    (λ (inside : cell < length grid.free). omega arith)
-    (λ (past : length grid.free ≤ cell). absurd (let none = get_or_past grid.free cell false past in let clash : false ≡ true = sym none ∙ free in cc))
-    (cases_lt cell (length grid.free))
+use Rattle.mapf_model.proofs.StepLemmas.{step_start, free_on_grid}
 
 path_in_range : (grid : GridMap) (agent : Agent) (path : List ℕ) → IsGridMap grid → IsLawful grid agent path → IsTight path → length path ≤ 10000000 → IsPathInRange grid path
 path_in_range grid agent [] shape lawful tight short = absurd (lawful.is_path.nonempty refl)

@@ -1,5 +1,5 @@
 -- The properties of a search are preserved when a cell is expanded, and at its end the start's entry is its distance.
-use Rattle.std.proofs.Common.{◌≡◌, ◌⊎◌, ℕ, zero, suc, ◌+◌, ◌<◌, ◌≤◌, Option, Some, None, IfSome, IfNone, true, false, List, [], ◌∷◌, ◌++◌, All, Contains, replicate, length, slice_index_or, slice_set, sum, add-one, refl, sym, ◌∙◌, ap, subst, inl, inr, ⊎_elim, arith}
+use Rattle.std.proofs.Common.{◌≡◌, ◌⊎◌, ℕ, zero, suc, ◌+◌, ◌<◌, ◌≤◌, Option, Some, None, IfSome, IfNone, List, [], ◌∷◌, ◌++◌, All, Contains, replicate, length, slice_index_or, slice_set, sum, add-one, refl, sym, ◌∙◌, ap, subst, inl, inr, ⊎_elim, arith}
 use Rattle.std.specs.Option.{option_to_list}
 use Rattle.std.proofs.Math.ListN.{length-set}
 use Rattle.std.proofs.lemmas.Bool.{cases_lt, cases_eq}
@@ -9,7 +9,7 @@ use Rattle.std.proofs.lemmas.List.Sums.{sum_by-set}
 use Rattle.mapf_model.specs.Distance.{Walk, IsDistance, IsUnreachable}
 use Rattle.mapf_model.specs.Grid.{GridMap, IsGridMap, IsFree, DifferByOne, Step, column, row}
 use Rattle.mapf_model.specs.Neighbours.{neighbourhood}
-use Rattle.mapf_model.proofs.StepLemmas.{neighbour_step, step_neighbour, step_end}
+use Rattle.mapf_model.proofs.StepLemmas.{neighbour_step, step_neighbour, step_end, free_within}
 use Rattle.mapf_distance.specs.declared.wave.TheConstants.{BLOCKED, UNREACHED}
 use Rattle.mapf_distance.specs.Distances.{IsDistanceOrNone}
 use Rattle.mapf_distance.specs.Marks.{entry_of}
@@ -332,12 +332,6 @@ taken_all grid distance count cell places table beside wide free all taken is to
     let t = taken k to (omega arith) (get_or_default places k None (Some to) within ∙ at) (step_end grid cell to go) in
     omega arith
 
-pub free_inside : (grid : GridMap) (cell : ℕ) → IsFree grid cell → cell < length grid.free
-free_inside grid cell free = ⊎_elim
-    (λ (within : cell < length grid.free). within)
-    (λ (past : length grid.free ≤ cell). let e : true ≡ false = sym free ∙ get_or_past grid.free cell false past in absurd (cc))
-    (cases_lt cell (length grid.free))
-
 -- the search that has reached only its goal
 module _ (grid : GridMap) (start goal cells : ℕ) (shape : IsGridMap grid) (free_start : IsFree grid start) (free_goal : IsFree grid goal) (all : cells ≡ length grid.free) where
   blank : List ℕ
@@ -347,7 +341,7 @@ module _ (grid : GridMap) (start goal cells : ℕ) (shape : IsGridMap grid) (fre
   first = slice_set blank goal 0
 
   pub goal_inside : goal < length (replicate cells UNREACHED)
-  goal_inside = let w = free_inside grid goal free_goal in let n = length-replicate cells UNREACHED in omega arith
+  goal_inside = let w = free_within grid goal free_goal in let n = length-replicate cells UNREACHED in omega arith
 
   first_here : entry_of first goal ≡ 0
   unfolding first blank

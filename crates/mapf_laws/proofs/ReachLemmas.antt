@@ -4,7 +4,7 @@ use Rattle.std.proofs.lemmas.Bool.{cases_eq, cases_lt}
 use Rattle.mapf_model.specs.Distance.{Walk, IsDistance, IsUnreachable}
 use Rattle.mapf_model.specs.Grid.{GridMap, IsFree, DifferByOne, AreAdjacent, Step, row, column}
 use Rattle.mapf_model.proofs.ContainsLemmas.{Contains-cons_cases}
-use Rattle.mapf_model.proofs.StepLemmas.{step_end}
+use Rattle.mapf_model.proofs.StepLemmas.{step_end, free_within}
 use Rattle.mapf_laws.proofs.WaitingLemmas.{walk_free}
 
 -- the fact holds, or it doesn't
@@ -63,14 +63,6 @@ module _ (grid : GridMap) where
       by_flag true is = inl is
       by_flag false is = inr (λ free. cc)
 
-  free_within : (cell : ℕ) → IsFree grid cell → cell < length grid.free
-  free_within cell free = within grid.free cell free
-    where
-      within : (flags : List Bool) (k : ℕ) → slice_index_or flags k false ≡ true → k < length flags
-      within [] k is = cc
-      within (flag ∷ flags) zero is = omega arith
-      within (flag ∷ flags) (suc k) is = let rest = within flags k is in omega arith
-
   beside_decided : (a b : ℕ) → IsDecided (DifferByOne a b)
   beside_decided a b = either (cases_eq a (b + 1)) (cases_eq b (a + 1))
 
@@ -92,7 +84,7 @@ module _ (grid : GridMap) where
   walk_decided to zero from = both (free_decided from) (cases_eq from to)
   walk_decided to (suc n) from = ⊎_elim
       (λ (found : (next : ℕ) × (Step grid from next × Walk grid next to n) × ((k : ℕ) → (Step grid from k × Walk grid k to n) → next ≤ k)). inl (found.0, found.1.0, found.1.1))
-      (λ (none : (k : ℕ) → k < length grid.free → (Step grid from k × Walk grid k to n) → ⊥). inr (λ (next, step, rest). none next (free_within next (walk_free grid to n next rest)) (step, rest)))
+      (λ (none : (k : ℕ) → k < length grid.free → (Step grid from k × Walk grid k to n) → ⊥). inr (λ (next, step, rest). none next (free_within grid next (walk_free grid to n next rest)) (step, rest)))
       (first_below (λ next. Step grid from next × Walk grid next to n) (λ next. both (step_decided from next) (walk_decided to n next)) (length grid.free))
 
   -- the cell can be reached by way of these cells alone
@@ -161,7 +153,7 @@ module _ (grid : GridMap) where
       (λ (found : (n : ℕ) × Walk grid from to n × ((k : ℕ) → Walk grid from to k → n ≤ k)). inl (found.0, record { walk = found.1; least = found.2 }))
       (λ (none : (k : ℕ) → k < suc walked.0 → Walk grid from to k → ⊥). absurd (none walked.0 (omega arith) walked.1))
       (first_below (Walk grid from to) (λ k. walk_decided to k from) (suc walked.0)))
-      (λ (leads_not : Leads cells from to → ⊥). inr (λ n walk. leads_not (leads_of cells (λ cell free. below_contains (length grid.free) cell (free_within cell free)) to n from walk)))
+      (λ (leads_not : Leads cells from to → ⊥). inr (λ n walk. leads_not (leads_of cells (λ cell free. below_contains (length grid.free) cell (free_within grid cell free)) to n from walk)))
       (leads_decided cells from to)
     where
       cells : List ℕ

@@ -4,11 +4,12 @@ use Rattle.std.proofs.lemmas.Bool.{ltb-true, lt-ltb, leb-true, le-leb, cases_lt,
 use Rattle.std.proofs.lemmas.Nat.{div-mul-add, mod-mul-add, div-add-mod', mod_below}
 use Rattle.std.proofs.lemmas.Option.{cond_some, same_Some}
 use Rattle.std.proofs.lemmas.List.Elements.{Contains-append_cases, Contains-append_left, Contains-append_right}
-use Rattle.std.proofs.lemmas.List.{append-nil, length_push, take_more}
+use Rattle.std.proofs.lemmas.List.{append-nil, get_or_past, length_push, take_more}
 use Rattle.std.proofs.Math.ListN.{get_or-append}
 use Rattle.std.proofs.Math.Seq.{get_or-append_seam}
 use Rattle.std.specs.List.Sorted.{IsStrictlyIncreasing}
-use Rattle.mapf_model.specs.Grid.{GridMap, IsFree, Step}
+use Rattle.mapf_model.specs.Grid.{GridMap, IsGridMap, IsFree, Step}
+use Rattle.mapf_model.specs.Printed.{IsOnGrid}
 use Rattle.mapf_model.specs.Neighbours.{neighbourhood, free_cell, free_cells}
 
 -- rows and columns on a grid of this width
@@ -213,6 +214,16 @@ module _ (grid : GridMap) where
   free_cells_more places index place default cells within is before =
       ap (λ cells. cells ++ free_cell grid place) before ∙ ap (λ place. free_cells grid (take index places) ++ free_cell grid place) (sym is)
       ∙ sym (ap (free_cells grid) (take_more places index default within) ∙ free_cells_push (take index places) (slice_index_or places index default))
+
+-- a free cell has a flag, and is on the grid
+pub free_within : (grid : GridMap) (cell : ℕ) → IsFree grid cell → cell < length grid.free
+free_within grid cell free = ⊎_elim
+    (λ (inside : cell < length grid.free). inside)
+    (λ (past : length grid.free ≤ cell). let none : true ≡ false = sym free ∙ get_or_past grid.free cell false past in absurd cc)
+    (cases_lt cell (length grid.free))
+
+pub free_on_grid : (grid : GridMap) (cell : ℕ) → IsGridMap grid → IsFree grid cell → IsOnGrid grid cell
+free_on_grid grid cell shape free = subst (λ n. cell < n) shape.4 (free_within grid cell free)
 
 -- a step begins in a free cell, and ends in one
 pub step_start : (grid : GridMap) (from to : ℕ) → Step grid from to → IsFree grid from

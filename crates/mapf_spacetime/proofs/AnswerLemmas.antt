@@ -1,7 +1,5 @@
 -- How a search starts and ends.
-use Rattle.std.proofs.Common.{◌≡◌, inl, inr, ⊎_elim, ℕ, zero, suc, ◌-◌, ◌<◌, ◌≤◌, false, Some, None, List, [], ◌∷◌, All, Contains, length, slice_index_or, refl, sym, subst, ◌∙◌, arith}
-use Rattle.std.proofs.lemmas.Bool.{cases_lt, false≢true}
-use Rattle.std.proofs.lemmas.List.{get_or_past}
+use Rattle.std.proofs.Common.{◌≡◌, inl, inr, ⊎_elim, ℕ, zero, suc, ◌-◌, ◌<◌, ◌≤◌, Some, None, List, [], ◌∷◌, All, Contains, length, slice_index_or, refl, sym, subst, arith}
 use Rattle.std.proofs.lemmas.List.Elements.{Contains-push, Contains-get_or}
 use Rattle.mapf_distance.specs.Distances.{IsLeastDescent}
 use Rattle.mapf_model.specs.declared.bar.Bar.TheVariants.{Cell}
@@ -9,10 +7,10 @@ use Rattle.mapf_model.specs.declared.label.Entry.{Entry}
 use Rattle.mapf_model.specs.declared.label.Label.TheVariants.{Never}
 use Rattle.mapf_model.specs.Bars.{Satisfies}
 use Rattle.mapf_model.specs.Distance.{IsDistance, IsUnreachable}
-use Rattle.mapf_model.specs.Grid.{GridMap, IsFree, IsGridMap}
+use Rattle.mapf_model.specs.Grid.{IsGridMap}
 use Rattle.mapf_model.specs.Labels.{entries_of, IsSoundEntry}
 use Rattle.mapf_model.specs.Path.{at, IsPath, IsCost, IsTight}
-use Rattle.mapf_model.specs.Printed.{IsLabelInRange, IsEntryInRange, IsOnGrid}
+use Rattle.mapf_model.specs.Printed.{IsLabelInRange, IsEntryInRange}
 use Rattle.mapf_spacetime.specs.declared.state.State.{State}
 use Rattle.mapf_spacetime.specs.Task.{Task, IsValue, IsWithin, IsBelow, state_at, start_of, cost_bound}
 use Rattle.mapf_spacetime.specs.States.{States, first_states, low_states, with_open, IsKnown, IsFrontier, HasArrived, IsSpent, IsBelowLimit}
@@ -23,6 +21,7 @@ use Rattle.mapf_spacetime.proofs.FrontierLemmas.{one_held, reached_within}
 use Rattle.mapf_model.proofs.ContainsLemmas.{Contains-none}
 use Rattle.mapf_spacetime.proofs.LabelLemmas.{entry_is, entry_none, entry_there, listed_label, low_reached, never_label, sound_spent, start_spent}
 use Rattle.mapf_spacetime.proofs.WayLemmas.{descent_first}
+use Rattle.mapf_model.proofs.StepLemmas.{free_on_grid}
 
 pub first_frontier : (task : Task) (first : ℕ) → IsValue task (start_of task) first → IsFrontier task [] (first_states (start_of task) first)
 first_frontier task first is = record {
@@ -73,12 +72,6 @@ unreachable_shows task none entries a = record {
   start = never_label task.grid task.goal entries task.start 0 (entry_none [] None entries a task.start 0 (λ h. Contains-none (start_of task) h)) none;
 }
 
-free_on_grid : (grid : GridMap) → IsGridMap grid → (cell : ℕ) → IsFree grid cell → IsOnGrid grid cell
-free_on_grid grid shape cell free = ⊎_elim
-    (λ (inside : cell < length grid.free). let area = shape.4 in subst (λ n. cell < n) area inside)
-    (λ (outside : length grid.free ≤ cell). absurd (false≢true (sym (get_or_past grid.free cell false outside) ∙ free)))
-    (cases_lt cell (length grid.free))
-
 module _ (task : Task) (shape : IsGridMap task.grid) (states : List State) (entries : List Entry) where
   pub ranges_some : (cost : ℕ) → cost < cost_bound → ((s : State) → Contains states s → IsBelow task cost s) → AreEntriesOf states (Some cost) entries → All (IsEntryInRange task.grid) entries
   ranges_some cost small low a k d lt =
@@ -86,7 +79,7 @@ module _ (task : Task) (shape : IsGridMap task.grid) (states : List State) (entr
       let (listed, label_is) = a.each e (Contains-get_or entries k d lt) in
       let (value, is, less) = low (state_at e.cell e.tick) listed in
       let sum = is.sum in
-      (free_on_grid task.grid shape e.cell (value_free task (state_at e.cell e.tick) value is), omega arith, subst IsLabelInRange (sym label_is) (omega arith, omega arith))
+      (free_on_grid task.grid e.cell shape (value_free task (state_at e.cell e.tick) value is), omega arith, subst IsLabelInRange (sym label_is) (omega arith, omega arith))
 
   pub ranges_none : ((s : State) → Contains states s → IsWithin task 9999999 s) → AreEntriesOf states None entries → All (IsEntryInRange task.grid) entries
   ranges_none few a k d lt =
@@ -94,7 +87,7 @@ module _ (task : Task) (shape : IsGridMap task.grid) (states : List State) (entr
       let (listed, label_is) = a.each e (Contains-get_or entries k d lt) in
       let (value, is, le) = few (state_at e.cell e.tick) listed in
       let sum = is.sum in
-      (free_on_grid task.grid shape e.cell (value_free task (state_at e.cell e.tick) value is), omega arith, subst IsLabelInRange (sym label_is) tt)
+      (free_on_grid task.grid e.cell shape (value_free task (state_at e.cell e.tick) value is), omega arith, subst IsLabelInRange (sym label_is) tt)
 
 -- no entries at all
 pub no_labels : (task : Task) → AreGoodLabels task []

@@ -6,9 +6,10 @@ use Rattle.mapf_model.specs.Grid.{IsFree}
 use Rattle.mapf_model.specs.Neighbours.{neighbourhood}
 use Rattle.mapf_distance.specs.Marks.{entry_of}
 use Rattle.mapf_distance.proofs.MarkLemmas.{within_table, few_cells}
-use Rattle.mapf_distance.proofs.SearchLemmas.{free_inside, place_step, reached_at, taken_more, taken_all, all_taken, known_free}
+use Rattle.mapf_distance.proofs.SearchLemmas.{place_step, reached_at, taken_more, taken_all, all_taken, known_free}
 use Rattle.mapf_distance.proofs.search.Search.expand.Goals as goal
 use Rattle.mapf_distance.proofs.search.Search.expand.Goals.{in-Some+then-is_shorter+in_ok-reach, in-Some+else-is_shorter, in_default}
+use Rattle.mapf_model.proofs.StepLemmas.{free_within}
 
 pub neighbourhood-beside-items-requires-clause-small : goal.neighbourhood-beside-items-requires-clause-small
 neighbourhood-beside-items-requires-clause-small c =
@@ -48,7 +49,7 @@ loop-beside-preserved c =
           let next = w.in-Some.next in
           let both = w.is_shorter.ensures.0 w.if-is_shorter.true in
           let step = place_step grid c.args.cell index next c.width.result places c.neighbourhood-beside-items.ensures c.width.ensures.width c.width.ensures.positive free within (item ∙ w.in-Some.is) both.0 in
-          let inside : next < length old.table.items = let f = free_inside grid next both.0 in let n = before.search.0.count in omega arith in
+          let inside : next < length old.table.items = let f = free_within grid next both.0 in let n = before.search.0.count in omega arith in
           let r = reached_at grid c.args.cell distance next old w.reach.new.self before.search before.entry before.level step inside both.1 w.in_ok-reach.ensures.table w.in_ok-reach.ensures.put w.in_ok-reach.ensures.same in
           rw w.self-is (record {
             search = r.search;
