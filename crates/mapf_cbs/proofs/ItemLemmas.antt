@@ -170,10 +170,6 @@ weights-split end owed k a b later_a later_b in_a in_b =
     let s = weight-some (end - a) in let t = weight-some (end - b) in
     omega arith
 
-pub no_items : {X : Type 0} (xs : List X) → length xs ≡ 0 → xs ≡ []
-no_items [] e = refl
-no_items (x ∷ xs) e = absurd (omega arith)
-
 pub end_of : (fate : Fate) → ((conflict : Conflict) (a : ℕ) → fate ≡ Expanded conflict a → ⊥) → IsEndFate fate
 end_of Open not_expanded = tt
 end_of Dead not_expanded = tt

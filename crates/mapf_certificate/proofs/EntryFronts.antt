@@ -1,8 +1,9 @@
 -- An entry's line that is read in one pass, and what is taken with it.
 use Rattle.std.proofs.Common.{◌≡◌, ◌≤◌, ◌+◌, ◌-◌, ℕ, List, [], ◌∷◌, ◌++◌, codes, length, drop, Option, Ok, refl, sym, ap, subst, ◌∙◌, arith, append_assoc, length-append, length-drop, ◌==◌}
 use Rattle.std.proofs.KnownBytes.{Consumes-nil}
+use Rattle.std.proofs.Math.Seq.{drop-append_seam}
 use Rattle.std.proofs.lemmas.Bool.{eqb-true}
-use Rattle.std.proofs.lemmas.List.{append-nil}
+use Rattle.std.proofs.lemmas.List.{append-nil, append_cancel_left}
 use Rattle.mapf_model.specs.declared.label.Entry.{Entry}
 use Rattle.mapf_model.specs.declared.label.Label.{Label}
 use Rattle.mapf_model.specs.declared.label.Label.TheVariants as labels
@@ -79,16 +80,12 @@ front_takes_entry : (sizes : Sizes) (bs : List ℕ) (p : Entry × List ℕ) → 
 unfolding read_entry_front
 front_takes_entry sizes bs p e = front_takes (λ b. Fronts sizes b p) (codes "at") bs (read_entry_parts sizes) _ p (λ rest. parts_take sizes rest p) (λ wrong. cc) e
 
-drop-front : (t r : List ℕ) → drop (length t) (t ++ r) ≡ r
-drop-front [] r = refl
-drop-front (x ∷ t) r = drop-front t r
-
 -- a text that bytes begin with is as long as what follows it is shorter than all
 pub begins_with : (bs t r : List ℕ) → bs ≡ t ++ r → BeginsWithText bs t (length bs - length r)
 begins_with bs t r e =
     let long : length bs ≡ length t + length r = ap length e ∙ length-append t r in
     let same : length bs - length r ≡ length t = omega arith in
-    let rest : drop (length bs - length r) bs ≡ r = ap (λ n. drop n bs) same ∙ ap (drop (length t)) e ∙ drop-front t r in
+    let rest : drop (length bs - length r) bs ≡ r = ap (λ n. drop n bs) same ∙ ap (drop (length t)) e ∙ drop-append_seam t r in
     record { within = omega arith; same = e ∙ ap (λ x. t ++ x) (sym rest) }
 
 -- what is read in one pass is an entry whose text the bytes begin with
@@ -119,13 +116,9 @@ there_window had old new text n begins is =
       within = omega arith;
     }
 
-same_rest : (t x y : List ℕ) → t ++ x ≡ t ++ y → x ≡ y
-same_rest [] x y e = e
-same_rest (c ∷ t) x y e = same_rest t x y (let tail : t ++ x ≡ t ++ y = cc in tail)
-
 pub there_taken : {S : Type 0} (s : S) (old new : Buffered) (text : List ℕ) (n : ℕ) → BeginsWithText old.bytes text n → new ≡ record { bytes = drop n old.bytes; left = old.left } → TakesThere s s old new text
 there_taken s old new text n begins is = λ rest e.
-    let after : drop n old.bytes ≡ rest = same_rest text _ _ (sym begins.same ∙ e) in
+    let after : drop n old.bytes ≡ rest = append_cancel_left text _ _ (sym begins.same ∙ e) in
     (refl, is ∙ ap (λ r. let b : Buffered = record { bytes = r; left = old.left } in b) after)
 
 pub there_spare : (old new : Buffered) (n : ℕ) → new ≡ record { bytes = drop n old.bytes; left = old.left } → spare new ≤ spare old

@@ -13,6 +13,7 @@ use Rattle.mapf_certificate.specs.Bounded.{AreInOrder, AreSpelledApart, MayFollo
 use Rattle.mapf_certificate.specs.Buffered.{Buffered}
 use Rattle.mapf_certificate.specs.Window.{Window, BeginsWith}
 use Rattle.mapf_certificate.proofs.Windows.{Window-trans}
+use Rattle.mapf_model.proofs.PlaceLemmas.{All-later}
 
 module _ {A : Type 0} (Is : A → Type 0) (text : A → List ℕ) (spelled : AreSpelledApart A Is text) where
   first : (a b : A) (as' bs : List A) (s t : List ℕ) → All Is (a ∷ as') → All Is (b ∷ bs) → flat_map text (a ∷ as') ++ s ≡ flat_map text (b ∷ bs) ++ t → (a ≡ b) × (flat_map text as' ++ s ≡ flat_map text bs ++ t)
@@ -38,11 +39,6 @@ module _ {A : Type 0} (Is : A → Type 0) (text : A → List ℕ) (spelled : Are
       let (same, more) = first x y xs ys s t p q e in
       let (rest, tail) = same_list xs ys s t (All-tail Is x xs p) (All-tail Is y ys q) (omega arith) more in
       (ap (λ (c : A). c ∷ xs) same ∙ ap (λ l. y ∷ l) rest, tail)
-
--- a part of a list keeps what holds of each element
-All-later : {A : Type 0} (P : A → Type 0) (xs ys : List A) → All P (xs ++ ys) → All P ys
-All-later P [] ys h = h
-All-later P (x ∷ xs) ys h = All-later P xs ys (All-tail P x (xs ++ ys) h)
 
 -- what follows a prefix of a list in order may follow it
 pub follows : {A : Type 0} (Is : A → Type 0) (R : A → A → Type 0) (front others : List A) (x : A) → All Is (front ++ (x ∷ others)) → AllPairs R (front ++ (x ∷ others)) → MayFollow A Is R front x

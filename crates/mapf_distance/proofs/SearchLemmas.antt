@@ -17,6 +17,7 @@ use Rattle.mapf_distance.specs.Search.{IsSearch, IsSeen, IsTaken, IsKnown, IsSea
 use Rattle.mapf_distance.specs.declared.search.Search.{Search}
 use Rattle.mapf_distance.proofs.MarkLemmas.{entry_of-set_same, entry_of-set_other}
 use Rattle.mapf_distance.proofs.StepLemmas.{Step-sym, Walk-from_free}
+use Rattle.mapf_model.proofs.ContainsLemmas.{Contains-none}
 
 apart_step : (a b s : ℕ) → DifferByOne a b → gap a s ≤ gap b s + 1
 apart_step a b s (inl e) = omega arith
@@ -38,9 +39,6 @@ estimate_step grid from to start (inr beside) = ⊎_elim
 
 pub estimate_self : (grid : GridMap) (start : ℕ) → estimate grid start start ≡ 0
 estimate_self grid start = omega arith
-
-none_in : (cell : ℕ) → Contains [] cell → ⊥
-none_in cell (k, within, is) = omega arith
 
 module _ (grid : GridMap) (start goal level : ℕ) (But : ℕ → Type 0) (table due later : List ℕ) (search : IsSearch grid start goal But level table due later) where
   -- a step from a cell leads to a cell whose entry is larger by more than one
@@ -155,7 +153,7 @@ module _ (grid : GridMap) (start goal level : ℕ) (But : ℕ → Type 0) (table
       again : (x : ℕ) → But x ⊎ IsSeen grid start level table due later x → But x ⊎ IsSeen grid start (level + 1) table later [] x
       again x (inl but) = inl but
       again x (inr (inl taken)) = inr (inl taken)
-      again x (inr (inr (inl (low, listed)))) = absurd (none_in x (subst (λ list. Contains list x) swept listed))
+      again x (inr (inr (inl (low, listed)))) = absurd (Contains-none x (subst (λ list. Contains list x) swept listed))
       again x (inr (inr (inr (low, listed)))) = inr (inr (inl (omega arith, listed)))
 
 -- what holds after a cell beside this one was reached

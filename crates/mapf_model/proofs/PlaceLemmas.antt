@@ -1,5 +1,6 @@
 -- Items of lists by their place.
-use Rattle.std.proofs.Common.{◌≡◌, ◌≢◌, ℕ, zero, suc, ◌<◌, List, [], ◌∷◌, ◌++◌, Some, length, take, slice_get, slice_set, refl, ap, arith}
+use Rattle.std.proofs.Common.{◌≡◌, ◌≢◌, ℕ, zero, suc, ◌<◌, List, [], ◌∷◌, ◌++◌, Some, All, length, take, slice_get, slice_set, refl, ap, arith}
+use Rattle.std.proofs.lemmas.List.Elements.{All-tail}
 use Rattle.std.proofs.lemmas.Option.{same_Some}
 
 pub slice_get-set_same : {X : Type 0} (xs : List X) (i : ℕ) (x : X) → i < length xs → slice_get (slice_set xs i x) i ≡ Some x
@@ -40,3 +41,8 @@ slice_get-front (x ∷ xs) ys (suc k) within = slice_get-front xs ys k (omega ar
 pub slice_get-here : {X : Type 0} (xs ys : List X) (x : X) → slice_get (xs ++ x ∷ ys) (length xs) ≡ Some x
 slice_get-here [] ys x = refl
 slice_get-here (y ∷ xs) ys x = slice_get-here xs ys x
+
+-- what holds of each item holds of each of the later ones
+pub All-later : {X : Type 0} (P : X → Type 0) (xs ys : List X) → All P (xs ++ ys) → All P ys
+All-later P [] ys all = all
+All-later P (x ∷ xs) ys all = All-later P xs ys (All-tail P x (xs ++ ys) all)

@@ -1,19 +1,15 @@
 -- A set of states as a list.
-use Rattle.std.proofs.Common.{◌≡◌, ℕ, zero, suc, ◌<◌, Bool, true, false, ◌==◌, ◌&&◌, not, List, [], ◌∷◌, length, slice_index_or, Contains, refl, sym, ◌∙◌, arith}
-use Rattle.std.proofs.lemmas.Bool.{eqb-true, eq-eqb, or_left, or_right}
+use Rattle.std.proofs.Common.{◌≡◌, ℕ, zero, suc, ◌<◌, Bool, true, false, ◌==◌, not, List, [], ◌∷◌, length, slice_index_or, Contains, refl, sym, ◌∙◌, arith}
+use Rattle.std.proofs.lemmas.Bool.{and_parts, eqb-true, eq-eqb, or_left, or_right, not-false}
 use Rattle.std.specs.List.{list_any}
 use Rattle.indexmap.specs.IndexSet.{insert_key}
 use Rattle.indexmap.proofs.CallerLemmas.{Contains-list_any}
 use Rattle.mapf_spacetime.specs.declared.state.State.{State}
 use Rattle.mapf_spacetime.specs.States.{same_state}
 
-both : (a b : Bool) → (a && b) ≡ true → (a ≡ true) × (b ≡ true)
-both true b e = (refl, e)
-both false b e = cc
-
 pub same_state-exact : (x y : State) → same_state x y ≡ true → x ≡ y
 same_state-exact x y e =
-    let (t, c) = both (x.tick == y.tick) (x.cell == y.cell) e in
+    let (t, c) = and_parts (x.tick == y.tick) (x.cell == y.cell) e in
     let ticks = eqb-true x.tick y.tick t in
     let cells = eqb-true x.cell y.cell c in
     λ i. record { tick = ticks i; cell = cells i }
@@ -29,14 +25,10 @@ Contains-any xs s (k, lt, is) = by xs k lt is
     by (y ∷ ys) zero l e = or_left (same_state s y) (list_any (same_state s) ys) (rw e (same_state-refl s))
     by (y ∷ ys) (suc j) l e = or_right (same_state s y) (list_any (same_state s) ys) (by ys j (omega arith) e)
 
-pub not_false : (b : Bool) → not b ≡ false → b ≡ true
-not_false true e = refl
-not_false false e = cc
-
 -- a state that isn't new was an element before
 module _ (xs : List State) (s : State) (new : Bool) (is : new ≡ not (list_any (same_state s) xs)) (old : new ≡ false) where
   found : list_any (same_state s) xs ≡ true
-  found = not_false (list_any (same_state s) xs) (sym is ∙ old)
+  found = not-false (list_any (same_state s) xs) (sym is ∙ old)
 
   pub held_before : Contains xs s
   held_before = Contains-list_any same_state same_state-exact xs s found

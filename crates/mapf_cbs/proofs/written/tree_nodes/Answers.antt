@@ -3,8 +3,9 @@ use Rattle.std.proofs.lemmas.Option.{slice_get_read}
 use Rattle.std.proofs.lemmas.List.Elements.{All-pop, All-push}
 use Rattle.mapf_cbs.specs.Search.{AreBlocksAt}
 use Rattle.mapf_model.proofs.PlaceLemmas.{length-slice_set}
-use Rattle.mapf_cbs.proofs.ItemLemmas.{Leads, AreOwed, owed_first, owed_split, owed_leaf, blocks_at, leads_first, weights, weights-leaf, weights-split, reverse_push, leads_split, leads_leaf, leads_done, no_items, end_of}
+use Rattle.mapf_cbs.proofs.ItemLemmas.{Leads, AreOwed, owed_first, owed_split, owed_leaf, blocks_at, leads_first, weights, weights-leaf, weights-split, reverse_push, leads_split, leads_leaf, leads_done, end_of}
 use Rattle.mapf_cbs.proofs.written.tree_nodes.Goals as goal
+use Rattle.std.proofs.lemmas.List.{nil_from_length}
 
 pub loop-k-init : goal.loop-k-init
 loop-k-init c =
@@ -102,6 +103,6 @@ loop-k-preserved c =
 
 pub returns : goal.returns
 returns c views are =
-    let none : c.loop-k.owed.items ≡ [] = no_items c.loop-k.owed.items (let h = c.in_default.ensures.cases.0 in omega (arith, h, c.loop-k.owed.ok)) in
+    let none : c.loop-k.owed.items ≡ [] = nil_from_length c.loop-k.owed.items (let h = c.in_default.ensures.cases.0 in omega (arith, h, c.loop-k.owed.ok)) in
     leads_done views c.args.fates.now c.loop-k.nodes.items
     (subst (λ xs. Leads views c.args.fates.now c.loop-k.nodes.items xs) (ap reverse none) (c.loop-k.invariant.leads views are))

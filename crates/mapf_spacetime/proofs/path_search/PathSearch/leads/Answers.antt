@@ -1,9 +1,9 @@
 use Rattle.std.proofs.Common.{◌+◌, refl}
 use Rattle.mapf_model.proofs.StepLemmas.{neighbour_step, step_end}
 use Rattle.mapf_spacetime.specs.Task.{state_at}
-use Rattle.mapf_spacetime.proofs.SetLemmas.{not_false}
 use Rattle.mapf_spacetime.proofs.ValueLemmas.{value_free}
 use Rattle.mapf_spacetime.proofs.path_search.PathSearch.leads.Goals as goal
+use Rattle.std.proofs.lemmas.Bool.{not-false}
 
 pub lets-requires-clause-step : goal.lets-requires-clause-step
 lets-requires-clause-step g c =
@@ -17,4 +17,4 @@ returns-then-not-is_within-clause-no g c = λ no may arrives.
     absurd (c.if-not-is_within.ensures.no refl (step_end c.args.ground.now.grid c.args.from.now.cell c.args.to may.step) arrives)
 
 pub returns-clause-no : goal.returns-clause-no
-returns-clause-no g c = rw (← c.self.view_is) (λ no may arrives. c.has.ensures.0 (not_false c.has.result no))
+returns-clause-no g c = rw (← c.self.view_is) (λ no may arrives. c.has.ensures.0 (not-false c.has.result no))
