@@ -72,37 +72,9 @@ impl Progress {
             (HasNodeDefect problem.now claim.now (here_of self.old) (node_of item.now))) }
     {
         match item {
-            Item::Vertex {
-                i,
-                j,
-                cell,
-                tick,
-                blocks,
-            } => {
-                let conflict = Conflict::Vertex {
-                    i: *i,
-                    j: *j,
-                    cell: *cell,
-                    tick: *tick,
-                };
-                self.split(alloc, problem, &conflict, blocks, line)
-            }
-            Item::Swap {
-                i,
-                j,
-                from,
-                to,
-                tick,
-                blocks,
-            } => {
-                let conflict = Conflict::Swap {
-                    i: *i,
-                    j: *j,
-                    from: *from,
-                    to: *to,
-                    tick: *tick,
-                };
-                self.split(alloc, problem, &conflict, blocks, line)
+            Item::Vertex { .. } | Item::Swap { .. } => {
+                let conflict = item.conflict().unwrap();
+                self.split(alloc, problem, &conflict, item.blocks(), line)
             }
             Item::Leaf(blocks) => self.leaf(alloc, problem, claim, blocks, line),
             Item::Clash { i, j } => self.clash(problem, *i, *j, line),
