@@ -72,11 +72,6 @@ pub no_end : {T E : Type 0} (P : Type 0) (r : Result T E) → IsErr r → OnOk r
 no_end P (Ok x) is = absurd cc
 no_end P (Err e) is = tt
 
--- and what is so is so of one that didn't
-pub at_end : {T E : Type 0} (P : Type 0) (r : Result T E) → P → OnOk r P
-at_end P (Ok x) is = is
-at_end P (Err e) is = tt
-
 -- where the bytes held go out first
 pub passes_unheld : {T E : Type 0} (r : Result T E) (a b c : Option (List ℕ)) (held left text : List ℕ) → Appends a b held → left ≡ [] → OnOk r (Appends b c text) → OnErr r ((n : ℕ) × (n ≤ length text) × Appends b c (take n text)) → PassesOrFails a c held left text r
 passes_unheld (Ok x) a b c held left text w none v e = subst (λ l. Passes a c held l text) (sym none) (passes_all a b c held text w v)

@@ -31,9 +31,6 @@ due_tests progress turn from current is low = (
       (cases_lt turn.number current)),
 )
 
-pub due_from : (progress : Progress) (turn : Turn) (from : ℕ) → turn.key < from → IsDue progress turn from → ⊥
-due_from progress turn from low due = let high = due.0 in omega arith
-
 -- the least agent of the turns from a place up to another, None where there are none
 abbrev pub IsLeastOf : List Turn → ℕ → ℕ → Option ℕ → Type 0
 IsLeastOf turns place end None = place ≡ end

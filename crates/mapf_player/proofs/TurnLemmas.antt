@@ -136,9 +136,6 @@ early_visit visits early agent number visit (own, own_is, visit_is) =
     let here = early agent own own_is number visit (slice_get_within own number visit visit_is) in
     subst (λ (v : Visit). v.entry < most_path_cells) (get_or_from_slice_get own number visit visit visit_is) here
 
-pub none_early : (visits : List (List Visit)) → AreEarly (take 0 visits)
-none_early visits agent own is = absurd cc
-
 pub early_more : (visits : List (List Visit)) (n : ℕ) (own : List Visit) → AreEarly (take n visits) → slice_get visits n ≡ Some own → All (λ visit. visit.entry < most_path_cells) own → AreEarly (take (suc n) visits)
 early_more visits n own early is low agent o o_is =
     let placed : slice_get (take n visits ++ own ∷ []) agent ≡ Some o = ap (λ vs. slice_get vs agent) (sym (take-next visits n own is)) ∙ o_is in

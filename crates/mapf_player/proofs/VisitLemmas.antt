@@ -96,14 +96,6 @@ pub record AreVisitsBefore (path : List ℕ) (tick : ℕ) (visits : List Visit) 
   pub rising : (m n : ℕ) (a b : Visit) → m < n → slice_get visits m ≡ Some a → slice_get visits n ≡ Some b → a.entry < b.entry
   pub few : length visits ≤ tick
 
-pub none_before : (path : List ℕ) → AreVisitsBefore path 0 []
-none_before path = record {
-  entered = λ n visit is. absurd cc;
-  all = λ entry low is. absurd (omega arith);
-  rising = λ m n a b less is_a is_b. absurd cc;
-  few = omega arith;
-}
-
 -- at a tick at which the path enters no cell there is no visit more
 pub without_entry : (path : List ℕ) (tick : ℕ) (visits : List Visit) → AreVisitsBefore path tick visits → (IsEntry path tick → ⊥) → AreVisitsBefore path (tick + 1) visits
 without_entry path tick visits are none = record {
@@ -211,6 +203,3 @@ all_more plan visits n path own all is are = subst (λ paths. AreVisitsOfAll pat
       subst (λ q. AreVisitsOf q o) (sym path_is) (subst (λ v. AreVisitsOf path v) (sym own_is) are))
       (cases_lt i (length visits));
 })
-
-pub none_visited : (plan : List (List ℕ)) → AreVisitsOfAll (take 0 plan) []
-none_visited plan = record { count = refl; each = λ i path own p_is o_is. absurd cc }
