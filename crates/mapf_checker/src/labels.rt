@@ -1,4 +1,4 @@
-ghost use Rattle.std.specs.Prelude.{◌≡◌, ◌+◌, ◌<◌, ◌≤◌, ◌↔◌, ℕ, AllPairs, IsTrue};
+ghost use Rattle.std.specs.Prelude.{◌≡◌, ◌+◌, ◌<◌, ◌↔◌, ℕ, AllPairs, IsTrue};
 ghost use Rattle.mapf_model.specs.Labels.{entries_of, IsLabel, IsDistanceLabel, IsEntryOrDistance};
 ghost use Rattle.mapf_model.specs.Labels.{IsAtMost, one_more};
 ghost use Rattle.mapf_model.specs.Grid.{GridMap};

@@ -1,4 +1,4 @@
-ghost use Rattle.std.specs.Prelude.{◌≡◌, ◌+◌, ◌<◌, ◌≤◌, ℕ, length, OnOk, IfErr, IfNone, IfSome, slice_index};
+ghost use Rattle.std.specs.Prelude.{◌+◌, ◌<◌, ◌≤◌, ℕ, length, OnOk, IfErr, IfNone, IfSome, slice_index};
 ghost use Rattle.mapf_model.specs.Grid.{IsFree, Step};
 ghost use Rattle.mapf_model.specs.Limits.{most_path_cells};
 ghost use Rattle.mapf_model.specs.Path.{IsLawful};

@@ -17,7 +17,7 @@ use crate::branch::Branch;
 use crate::fault::CheckFault;
 use crate::labels::{entry_at, entry_or};
 use mapf_distance::LazyTables;
-use mapf_model::{Block, Cell, Claim, Label, Problem, laws};
+use mapf_model::{Block, Claim, Label, Problem, laws};
 
 /// Checks that the leaf shows the claim: each entry of its blocks is sound, and the labels of the starts add up to
 /// enough. `line` is the line of the leaf, `distances` are those of the starts.

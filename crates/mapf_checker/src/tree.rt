@@ -2,13 +2,12 @@ ghost use Rattle.std.specs.Prelude.{◌≡◌, ◌↔◌, ◌∷◌, [], All, fa
 ghost use Rattle.mapf_certificate.specs.Certificates.{IsNode};
 ghost use Rattle.mapf_certificate.specs.declared.version.Version.{Version};
 ghost use Rattle.mapf_model.specs.declared.item.Claim.{Claim};
-ghost use Rattle.mapf_model.specs.Plan.{Instance};
 ghost use Rattle.mapf_model.specs.Printed.{AreBlocksInRange};
 ghost use Rattle.mapf_model.specs.Tree.{SplitNode, LeafNode, ClashNode, node_of, root};
 ghost use Rattle.mapf_model.specs.Tree.{IsProperSplit, SplitShows, AreProperBlocks, AreBlocksSound};
 ghost use Rattle.mapf_model.specs.Tree.{AreTwoAgents, ShareGoal};
 ghost use Rattle.mapf_checker.specs.Faults.{IsOfJudging};
-ghost use Rattle.mapf_distance.specs.Tables.{AreMade, AreStartDistances};
+ghost use Rattle.mapf_distance.specs.Tables.{AreStartDistances};
 ghost use Rattle.mapf_checker.specs.AgentProblem.{CanJudge};
 ghost use Rattle.mapf_checker.specs.NodeDefects.{HasNodeDefect, IsUnsoundLabel, IsGoodNode};
 ghost use Rattle.mapf_checker.specs.Starts.{AreChangesBy};

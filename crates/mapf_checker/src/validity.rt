@@ -1,4 +1,4 @@
-ghost use Rattle.std.specs.Prelude.{◌≡◌, ◌<◌, ◌≤◌, ◌↔◌, length, IfOk, OnOk, IfErr, IsOk};
+ghost use Rattle.std.specs.Prelude.{◌≡◌, ◌↔◌, length, IfOk, OnOk, IfErr, IsOk};
 ghost use Rattle.mapf_model.specs.Plan.{IsValid, IsSumOfCosts};
 ghost use Rattle.mapf_checker.specs.Defects.{HasDefect, AreLawful, path_fault_of};
 

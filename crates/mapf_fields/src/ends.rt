@@ -1,4 +1,4 @@
-ghost use Rattle.std.specs.Prelude.{◌≡◌, ◌<◌, ◌+◌, ◌==◌, ◌∷◌, true, length, take, drop, MatchOption, option_map};
+ghost use Rattle.std.specs.Prelude.{◌≡◌, ◌<◌, ◌+◌, ◌==◌, true, length, take, drop, MatchOption, option_map};
 ghost use Rattle.std.specs.List.{position_from};
 ghost use Rattle.mapf_fields.specs.Ends.{IsCut, lacks_end, cut};
 

@@ -1,4 +1,4 @@
-ghost use Rattle.std.specs.Prelude.{◌≡◌, ◌<◌, ◌++◌, ◌∷◌, [], false, codes, length};
+ghost use Rattle.std.specs.Prelude.{◌≡◌, ◌<◌, false, length};
 ghost use Rattle.std.specs.Result.{is_err};
 ghost use Rattle.mapf_fields.specs.Pages.{PassesOrFails};
 ghost use Rattle.mapf_player.specs.Play.{frame, row_line, rows};

@@ -1,10 +1,10 @@
-ghost use Rattle.std.specs.Prelude.{◌≡◌, ◌≤◌, ◌+◌, ◌++◌, ℕ, List, false, length, take, codes, flat_map, OnOk, OnErr};
+ghost use Rattle.std.specs.Prelude.{◌≡◌, ◌≤◌, ◌+◌, ℕ, List, false, length, take, flat_map, OnOk, OnErr};
 ghost use Rattle.std.specs.List.{range_with_len};
 ghost use Rattle.std.specs.Result.{is_err};
 ghost use Rattle.std.specs.Io.KnownBytes.{Appends};
 ghost use Rattle.mapf_model.specs.Plan.{IsValid};
 ghost use Rattle.mapf_fields.specs.Pages.{PassesOrFails, WritesOrFails};
-ghost use Rattle.mapf_player.specs.Play.{frame, line, play_text, IsMakespan, IsPlayText};
+ghost use Rattle.mapf_player.specs.Play.{frame, play_text, IsMakespan, IsPlayText};
 
 use crate::frame::put_frame;
 use crate::line::put_line;

@@ -1,4 +1,4 @@
-ghost use Rattle.std.specs.Prelude.{◌≡◌, ◌≢◌, ℕ, List, [], ◌∷◌, length, Ok, Err, MatchOption, MatchResult};
+ghost use Rattle.std.specs.Prelude.{◌≡◌, ◌≢◌, ℕ, [], ◌∷◌, length, Ok, Err, MatchOption, MatchResult};
 ghost use Rattle.mapf_text.specs.Words.{words_of};
 ghost use Rattle.mapf_text.specs.AgentRows.{HasNumbers, IsCellAt, IsNumber, SpellsAgent, IsFirstNoNumber};
 ghost use Rattle.mapf_text.specs.AgentRows.{HasRowFault, numbered};

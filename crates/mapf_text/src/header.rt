@@ -1,4 +1,4 @@
-ghost use Rattle.std.specs.Prelude.{◌≡◌, ◌^◌, ◌<◌, ◌≤◌, ℕ, List, length, IfOk, IfSome, MatchOption, MatchResult};
+ghost use Rattle.std.specs.Prelude.{◌^◌, ◌<◌, ℕ, List, length, IfOk, IfSome, MatchOption, MatchResult};
 ghost use Rattle.mapf_text.specs.Lines.{lines_of};
 ghost use Rattle.mapf_text.specs.Maps.{AfterType, AfterSize, AfterMap, IsHeader, IsSize};
 ghost use Rattle.mapf_text.specs.Maps.{SizeIn, HasNoSize, HasMapFault};

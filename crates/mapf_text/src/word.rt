@@ -1,4 +1,4 @@
-ghost use Rattle.std.specs.Prelude.{◌≡◌, ◌==◌, ◌<◌, ◌≤◌, ℕ, List, [], ◌∷◌, length, not, IfSome, MatchOption};
+ghost use Rattle.std.specs.Prelude.{◌≡◌, ◌==◌, ◌<◌, ℕ, List, [], ◌∷◌, length, not, IfSome, MatchOption};
 ghost use Rattle.std.specs.List.{position_from};
 ghost use Rattle.mapf_text.specs.Words.{is_blank, is_blank_line, words_of};
 
