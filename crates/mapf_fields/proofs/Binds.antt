@@ -1,5 +1,5 @@
 -- What a bind of results went through, and what a test let through.
-use Rattle.std.proofs.Common.{◌≡◌, ◌&&◌, ◌⊎◌, Bool, true, false, cond, is_ok, is_err, List, [], ◌∷◌, ◌++◌, Option, Some, None, Result, Ok, Err, refl, ap, ◌∙◌, inl, inr}
+use Rattle.std.proofs.Common.{◌≡◌, ◌⊎◌, Bool, true, false, cond, is_ok, is_err, List, [], ◌∷◌, ◌++◌, Option, Some, None, Result, Ok, Err, refl, ap, ◌∙◌, inl, inr}
 use Rattle.std.proofs.lemmas.Option.{some_pair_parts}
 use Rattle.mapf_fields.specs.Numbers.{◌>>=◌}
 
@@ -7,10 +7,6 @@ use Rattle.mapf_fields.specs.Numbers.{◌>>=◌}
 pub guarded : {X E : Type 0} (b : Bool) (err : E) (r : Result X E) (x : X) → cond b r (Err err) ≡ Ok x → (b ≡ true) × (r ≡ Ok x)
 guarded true err r x e = (refl, e)
 guarded false err r x e = cc
-
-pub both : (a b : Bool) → (a && b) ≡ true → (a ≡ true) × (b ≡ true)
-both true b e = (refl, e)
-both false b e = cc
 
 -- what a bind that succeeds went through, to a goal: the values are variables there
 pub through : {A B E : Type 0} {P : Type 0} (r : Result A E) (f : A → Result B E) (y : B) → (r >>= f) ≡ Ok y → ((x : A) → r ≡ Ok x → f x ≡ Ok y → P) → P

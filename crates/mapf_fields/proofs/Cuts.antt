@@ -1,13 +1,12 @@
 -- The place of the first LF.
 use Rattle.std.proofs.Common.{◌≡◌, ℕ, ◌<◌, ◌≤◌, ◌+◌, ◌-◌, ◌&&◌, Bool, true, false, not, List, [], ◌∷◌, ◌++◌, length, take, drop, Option, Some, None, MatchOption, refl, sym, ap, subst, ◌∙◌, arith, suc, le_refl, ◌==◌, zero, IfSome, append_assoc}
 use Rattle.std.specs.List.{position_from}
-use Rattle.std.proofs.lemmas.Bool.{eqb-true}
+use Rattle.std.proofs.lemmas.Bool.{and_parts, eqb-true}
 use Rattle.std.proofs.lemmas.Option.{MatchOption-at_some, MatchOption-at_none}
 use Rattle.std.proofs.lemmas.Option.{some_pair_parts}
 use Rattle.std.proofs.Math.Seq.{take-append_seam, drop-append-add}
 use Rattle.std.proofs.lemmas.List.{take-append-drop, length-take-le, length-take}
 use Rattle.mapf_fields.specs.Ends.{IsCut, lacks_end, cut}
-use Rattle.mapf_fields.proofs.Binds.{both}
 
 -- where an LF is found, counted from n
 abbrev EndAt : List ℕ → ℕ → ℕ → Type 0
@@ -45,7 +44,7 @@ not_true false e = refl
 cut_lacking : (l rest : List ℕ) → lacks_end l ≡ true → cut (l ++ (10 ∷ rest)) ≡ Some (l, rest)
 cut_lacking [] rest e = refl
 cut_lacking (c ∷ cs) rest e =
-    let (unlike, more) = both (not (c == 10)) (lacks_end cs) e in
+    let (unlike, more) = and_parts (not (c == 10)) (lacks_end cs) e in
     let other : (c == 10) ≡ false = not_true (c == 10) unlike in
     rw (other, cut_lacking cs rest more) refl
 
@@ -56,7 +55,7 @@ cut_is bs line rest found = ap cut found.same ∙ cut_lacking line rest found.wh
 pub cut_none : (bs : List ℕ) → lacks_end bs ≡ true → cut bs ≡ None
 cut_none [] e = refl
 cut_none (c ∷ cs) e =
-    let (unlike, more) = both (not (c == 10)) (lacks_end cs) e in
+    let (unlike, more) = and_parts (not (c == 10)) (lacks_end cs) e in
     let other : (c == 10) ≡ false = not_true (c == 10) unlike in
     rw (other, cut_none cs more) refl
 
@@ -73,18 +72,19 @@ cut_takes bs line rest e = by (position_from (λ b. b == 10) 0 bs) refl (end_is 
 -- an LF stands in a line's text
 pub has_end : (front rest : List ℕ) → lacks_end (front ++ (10 ∷ rest)) ≡ true → ⊥
 has_end [] rest e = cc
-has_end (c ∷ cs) rest e = has_end cs rest (both (not (c == 10)) (lacks_end (cs ++ (10 ∷ rest))) e).1
+has_end (c ∷ cs) rest e = has_end cs rest (and_parts (not (c == 10)) (lacks_end (cs ++ (10 ∷ rest))) e).1
 
 -- also in its first bytes, where the line is short
 pub has_end_soon : (front rest : List ℕ) (n : ℕ) → length front < n → lacks_end (take n (front ++ (10 ∷ rest))) ≡ true → ⊥
 has_end_soon front rest zero h e = absurd (omega arith)
 has_end_soon [] rest (suc n) h e = cc
-has_end_soon (c ∷ cs) rest (suc n) h e = has_end_soon cs rest n (omega arith) (both (not (c == 10)) (lacks_end (take n (cs ++ (10 ∷ rest)))) e).1
+has_end_soon (c ∷ cs) rest (suc n) h e = has_end_soon cs rest n (omega arith) (and_parts (not (c == 10)) (lacks_end (take n (cs ++ (10 ∷ rest)))) e).1
 
--- the first line of a front is that of the whole
+-- a line and what follows its LF, by the length of the line
 pub at_place : (bs line rest : List ℕ) → bs ≡ line ++ (10 ∷ rest) → (take (length line) bs ≡ line) × (drop (length line + 1) bs ≡ rest)
 at_place bs line rest e = (ap (take (length line)) e ∙ take-append_seam line (10 ∷ rest), ap (drop (length line + 1)) e ∙ drop-append-add line (10 ∷ rest) 1)
 
+-- the first line of a prefix is that of the whole text
 pub first_of_front : (bs : List ℕ) (m n : ℕ) → (n < length (take m bs)) × IsCut (take m bs) (take n (take m bs)) (drop (n + 1) (take m bs)) → (n < length bs) × IsCut bs (take n bs) (drop (n + 1) bs)
 first_of_front bs m n (inside, found) =
     let line = take n (take m bs) in

@@ -9,13 +9,13 @@ use Rattle.std.proofs.lemmas.Fmt.{decimal-digits_value, digits_decimal, digits_v
 use Rattle.std.proofs.lemmas.List.Sums.{take_while-cons}
 use Rattle.std.proofs.lemmas.List.Folds.{length-prefix_len}
 use Rattle.std.proofs.lemmas.Nat.{mul-add-lt, div-mul-add, mod-mul-add, rows}
-use Rattle.std.proofs.lemmas.Bool.{lt-ltb, ltb-true, le-leb, leb-true, eq-eqb, eqb-true}
+use Rattle.std.proofs.lemmas.Bool.{and_parts, lt-ltb, ltb-true, le-leb, leb-true, eq-eqb, eqb-true}
 use Rattle.std.proofs.lemmas.Bool.Decides.{nat_tests}
 use Rattle.std.proofs.lemmas.Grind.{common_steps}
 use Rattle.mapf_fields.specs.declared.fault.LineFault.{LineFault}
 use Rattle.mapf_fields.specs.declared.fault.LineFault.TheVariants.{Shape, Range}
 use Rattle.mapf_fields.specs.Numbers.{field, pair, begins_well, small_value, front_digits, after_digits, read_number, read_field, read_last, read_pair, read_whole, in_range, below, read_cell}
-use Rattle.mapf_fields.proofs.Binds.{guarded, both, through, same_ok, ok_pair_parts}
+use Rattle.mapf_fields.proofs.Binds.{guarded, through, same_ok, ok_pair_parts}
 use Rattle.mapf_fields.proofs.Digits.{AllDigits-front_digits, small}
 
 own : IsNumeralModel (AllDigits 10) (digits_value 10)
@@ -200,7 +200,7 @@ pub range_takes : (least most : ℕ) (v : Option ℕ) (n : ℕ) → in_range lea
 range_takes least most None n e = cc
 range_takes least most (Some m) n e =
     let (inside, same) = guarded (nat_le least m && nat_le m most) Range (Ok m) n e in
-    let (above, under) = both (nat_le least m) (nat_le m most) inside in
+    let (above, under) = and_parts (nat_le least m) (nat_le m most) inside in
     let is = same_ok m n same in
     (ap Some is, let a = leb-true least m above in omega arith, let b = leb-true m most under in omega arith)
 

@@ -5,10 +5,10 @@ use Rattle.std.specs.Str.Parse.{AllDigits}
 use Rattle.std.proofs.lemmas.Str.Parse.{digit_from_value}
 use Rattle.std.proofs.lemmas.Fmt.{decimal_is_IsNumeral, length-decimal-le}
 use Rattle.std.proofs.lemmas.List.Folds.{list_all-append}
+use Rattle.std.proofs.lemmas.Bool.{and_parts}
 use Rattle.std.proofs.lemmas.Bool.Decides.{nat_tests}
 use Rattle.mapf_fields.specs.Numbers.{field, pair}
 use Rattle.mapf_fields.specs.Ends.{lacks_end}
-use Rattle.mapf_fields.proofs.Binds.{both}
 use Rattle.mapf_fields.proofs.Fields.{row-below}
 
 pub lacks-append : (a b : List ℕ) → lacks_end a ≡ true → lacks_end b ≡ true → lacks_end (a ++ b) ≡ true
@@ -64,7 +64,7 @@ same_front (a ∷ as') [] xs ys p q e =
 same_front (a ∷ as') (b ∷ bs) xs ys p q e =
     let first : a ≡ b = cc in
     let tail : as' ++ (10 ∷ xs) ≡ bs ++ (10 ∷ ys) = cc in
-    let more = same_front as' bs xs ys (both (not (a == 10)) (lacks_end as') p).1 (both (not (b == 10)) (lacks_end bs) q).1 tail in
+    let more = same_front as' bs xs ys (and_parts (not (a == 10)) (lacks_end as') p).1 (and_parts (not (b == 10)) (lacks_end bs) q).1 tail in
     let front = more.0 in
     (cc, more.1)
 

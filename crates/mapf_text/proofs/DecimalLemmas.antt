@@ -1,16 +1,16 @@
 -- Decimal text: what is read is spelled so, and what is spelled so is read.
-use Rattle.std.proofs.Common.{◌≡◌, ◌-◌, ◌+◌, ℕ, ◌≤◌, ◌&&◌, Bool, true, false, not, cond, List, [], ◌∷◌, ◌++◌, codes, get_or, drop, Option, Some, None, MatchOption, refl, sym, ap, ◌∙◌, suc, arith, inl, inr, le_refl}
+use Rattle.std.proofs.Common.{◌≡◌, ◌-◌, ◌+◌, ℕ, ◌≤◌, Bool, true, false, not, cond, List, [], ◌∷◌, ◌++◌, codes, get_or, drop, Option, Some, None, MatchOption, refl, sym, ap, ◌∙◌, suc, arith, inl, inr, le_refl}
 use Rattle.std.specs.Prelude.{◌==◌, ◌||◌, option_and_then}
 use Rattle.std.specs.Char.{is_ascii_digit}
 use Rattle.std.specs.List.{list_all, position_from}
 use Rattle.std.proofs.lemmas.Option.{MatchOption-at_some, MatchOption-at_none}
 use Rattle.std.proofs.lemmas.List.{append-nil, append_assoc}
-use Rattle.std.proofs.lemmas.Bool.{eqb-true}
+use Rattle.std.proofs.lemmas.Bool.{and_parts, eqb-true}
 use Rattle.std.proofs.lemmas.Bool.Decides.{nat_tests}
 use Rattle.mapf_text.specs.Numbers.{AreDigits}
 use Rattle.mapf_text.specs.Decimals.{IsSign, IsFraction, IsExponent, IsDecimal, after_sign, drop_digits, after_digits, after_fraction, after_exponent, after_decimal}
 
--- what a search for a byte that is no digit, from place n on, tells of what follows the digits
+-- what the result of a search for a byte that is no digit, from place n on, says of what follows the digits
 abbrev AfterDigits : List ℕ → ℕ → Option ℕ → Type 0
 AfterDigits text n found = MatchOption found (drop_digits text ≡ []) (λ i. (n ≤ i) × (drop_digits text ≡ drop (i - n) text))
 
@@ -126,21 +126,17 @@ decimal-taken text e =
 abbrev Stops : List ℕ → Type 0
 Stops rest = is_ascii_digit (get_or rest 0 0) ≡ false
 
-both : (a b : Bool) → (a && b) ≡ true → (a ≡ true) × (b ≡ true)
-both true b e = (refl, e)
-both false b e = cc
-
 digits-dropped-again : (digits rest : List ℕ) → list_all is_ascii_digit digits ≡ true → Stops rest → drop_digits (digits ++ rest) ≡ rest
 digits-dropped-again [] [] all stops = refl
 digits-dropped-again [] (b ∷ bs) all stops = rw stops refl
 digits-dropped-again (d ∷ ds) rest all stops =
-    let (first, more) = both (is_ascii_digit d) (list_all is_ascii_digit ds) all in
+    let (first, more) = and_parts (is_ascii_digit d) (list_all is_ascii_digit ds) all in
     rw first (digits-dropped-again ds rest more stops)
 
 digits-again : (digits rest : List ℕ) → AreDigits digits → Stops rest → after_digits (digits ++ rest) ≡ Some rest
 digits-again [] rest (some, all) stops = absurd (omega arith)
 digits-again (d ∷ ds) rest (some, all) stops =
-    let (first, more) = both (is_ascii_digit d) (list_all is_ascii_digit ds) all in
+    let (first, more) = and_parts (is_ascii_digit d) (list_all is_ascii_digit ds) all in
     rw first (ap Some (digits-dropped-again ds rest more stops))
 
 no_sign : (d : ℕ) → is_ascii_digit d ≡ true → ((d == 43) || (d == 45)) ≡ false
@@ -149,7 +145,7 @@ no_sign d is = grind (arith, nat_tests)
 sign-again : (sign digits rest : List ℕ) → IsSign sign → AreDigits digits → after_sign (sign ++ (digits ++ rest)) ≡ digits ++ rest
 sign-again sign [] rest is (some, all) = absurd (omega arith)
 sign-again sign (d ∷ ds) rest (inl none) (some, all) =
-    let (first, more) = both (is_ascii_digit d) (list_all is_ascii_digit ds) all in
+    let (first, more) = and_parts (is_ascii_digit d) (list_all is_ascii_digit ds) all in
     let no = no_sign d first in
     rw (none, no) refl
 sign-again sign (d ∷ ds) rest (inr (inl plus)) are = rw plus refl
