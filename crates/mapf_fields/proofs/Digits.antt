@@ -27,7 +27,7 @@ large ds h = by (nat_lt (digits_value 10 ds) (2 ^ 64)) refl
 unit_value : (c : ℕ) → 48 ≤ c → c ≤ 57 → digit_value c ≡ c - 48
 unit_value c low high = grind (arith, nat_tests)
 
--- where a front of the digits spells too large a number, all of them do
+-- if a prefix of the digits spells too large a number, all of them do
 pub large_front : (ds : List ℕ) (i : ℕ) → 2 ^ 64 ≤ digits_value 10 (take i ds) → small_value ds ≡ None
 large_front ds i h = large ds (omega (arith, digits_value-take-le 10 ds i (omega arith)))
 
@@ -42,11 +42,11 @@ AllDigits-front_digits (b ∷ bs) = rw (take_while-cons is_ascii_digit b bs) (by
     by true e more = rw e (digit_of_test b e, more)
     by false e more = rw e tt
 
--- this many digits are at the front
+-- the first n bytes are digits
 abbrev pub AreDigits : List ℕ → ℕ → Type 0
 AreDigits bs n = (k : ℕ) → k < n → is_ascii_digit (get_or bs k 0) ≡ true
 
--- so many digits at the front are those that it begins with
+-- if the first n bytes are digits, they are the first n of the leading digits
 pub take-front_digits : (bs : List ℕ) (n : ℕ) → AreDigits bs n → take n (front_digits bs) ≡ take n bs
 take-front_digits [] n all = refl
 take-front_digits (b ∷ bs) zero all = refl
@@ -55,7 +55,7 @@ take-front_digits (b ∷ bs) (suc n) all =
     let more = take-front_digits bs n (λ k h. all (suc k) (omega arith)) in
     ap (take (suc n)) (take_while-cons is_ascii_digit b bs ∙ ap (λ t. cond t (b ∷ front_digits bs) []) first) ∙ ap (λ l. b ∷ l) more
 
--- digits, and then none, are as many as it begins with
+-- if n digits are followed by no digit, there are n leading digits
 pub length-front_digits : (bs : List ℕ) (n : ℕ) → AreDigits bs n → is_ascii_digit (get_or bs n 0) ≡ false → length (front_digits bs) ≡ n
 length-front_digits [] zero all stop = refl
 length-front_digits [] (suc n) all stop = let no : false ≡ true = all 0 (omega arith) in cc
@@ -65,7 +65,7 @@ length-front_digits (b ∷ bs) (suc n) all stop =
     let more = length-front_digits bs n (λ k h. all (suc k) (omega arith)) stop in
     ap length (take_while-cons is_ascii_digit b bs ∙ ap (λ t. cond t (b ∷ front_digits bs) []) first) ∙ ap suc more
 
--- the value of digits, and then none, is what they spell
+-- if n digits are followed by no digit, their value is that of the leading digits
 pub front_value : (bs : List ℕ) (n value : ℕ) → AreDigits bs n → is_ascii_digit (get_or bs n 0) ≡ false → value ≡ digits_value 10 (take n bs) → value < 2 ^ 64 → Some value ≡ small_value (front_digits bs)
 front_value bs n value all stop is fits =
     let many = length-front_digits bs n all stop in
@@ -80,7 +80,7 @@ value_next bs i inside digit =
     let unit = unit_value (get_or bs i 0) range.0 range.1 in
     (range.0, digits_value_more 10 bs i inside ∙ ap (λ u. digits_value 10 (take i bs) * 10 + u) unit)
 
--- where digits at the front spell too large a number, so do all of them
+-- if the first n digits spell too large a number, so do the leading digits
 pub front_large : (bs : List ℕ) (n : ℕ) → AreDigits bs n → 2 ^ 64 ≤ digits_value 10 (take n bs) → None ≡ small_value (front_digits bs)
 front_large bs n all h =
     let same = ap (digits_value 10) (take-front_digits bs n all) in

@@ -1,4 +1,4 @@
--- What follows a front.
+-- What follows a prefix.
 use Rattle.std.proofs.Common.{◌≡◌, ◌≢◌, ℕ, Bool, true, false, cond, List, [], ◌∷◌, ◌++◌, Option, Some, None, MatchOption, option_map, Bor, Result, Ok, refl, sym, ap, subst, ◌∙◌}
 use Rattle.std.specs.Prelude.{◌==◌}
 use Rattle.std.specs.Option.{option_map_or}
@@ -34,7 +34,7 @@ pub strip_is : (p xs : List ℕ) (r : Option (Bor (List ℕ))) → MatchOption r
 strip_is p xs None h = sym (strip-none p xs h)
 strip_is p xs (Some x) h = sym (ap (strip p) h ∙ strip-append p x.now)
 
--- what was read after a front, or else
+-- what was read after a prefix, or otherwise
 pub front_takes : {A E : Type 0} (P : List ℕ → Type 0) (front bs : List ℕ) (f : List ℕ → Result A E) (other : Result A E) (line : A)
     → ((rest : List ℕ) → f rest ≡ Ok line → P (front ++ rest)) → (other ≡ Ok line → P bs)
     → option_map_or f (strip front bs) other ≡ Ok line → P bs

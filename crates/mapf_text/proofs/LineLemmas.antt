@@ -5,7 +5,7 @@ use Rattle.std.specs.List.{position_from}
 use Rattle.std.proofs.lemmas.Option.{MatchOption-at_some, MatchOption-at_none}
 use Rattle.mapf_text.specs.Lines.{cut_lines, without_return, lines_of}
 
--- what a search for an LF from place n on tells of the lines
+-- what the result of a search for an LF from place n on says of the lines
 abbrev FirstLine : List ℕ → ℕ → Option ℕ → Type 0
 FirstLine text n found = MatchOption found (cut_lines text ≡ text ∷ []) (λ i. (n ≤ i) × (cut_lines text ≡ take (i - n) text ∷ cut_lines (drop (suc (i - n)) text)))
 
@@ -58,6 +58,6 @@ without_return-append (x ∷ y ∷ ys) b = ap (λ l. x ∷ l) (without_return-ap
     by true is = rw is refl
     by false is = rw is refl
 
--- the line in front of its last byte
+-- a line by its last byte: a CR is dropped
 pub without_return-last : (line front : List ℕ) (b : ℕ) → line ≡ front ++ (b ∷ []) → without_return line ≡ cond (b == 13) front line
 without_return-last line front b e = rw e (without_return-append front b)

@@ -1,4 +1,4 @@
--- Map texts: bytes spell one grid at most, and no fault stands in bytes that spell one.
+-- Map texts: bytes spell one grid at most, and bytes that spell one have no error.
 use Rattle.std.proofs.Common.{◌≡◌, ℕ, ◌<◌, Bool, true, List, [], ◌∷◌, codes, Some, None, Contains, get_or, take, drop, map, refl, sym, subst, ◌∙◌, zero, suc, arith, inl, inr}
 use Rattle.std.specs.List.{concat}
 use Rattle.std.proofs.lemmas.List.{get_or-take, get_or_default, length-take-le}
@@ -97,7 +97,7 @@ in_body bytes grid spells fault (height, width, body, header, h) =
     subst (λ (n : ℕ). HasBodyFault n grid.width spells.body fault) tall (subst (λ (n : ℕ). HasBodyFault height n spells.body fault) wide (subst (λ (l : List (List ℕ)). HasBodyFault height width l fault) same h)) in
     no_body_fault grid.height grid.width spells.body grid.free spells.rows spells.blank fault there
 
--- no fault stands in bytes that spell a grid
+-- bytes that spell a grid have no error
 pub map_faultless : (bytes : List ℕ) (grid : GridMap) → SpellsMap bytes grid → (fault : MapFault) → HasMapFault (lines_of bytes) fault → fault ≡ Memory
 map_faultless bytes grid spells M1 none = absurd (none _ spells.header.has_width.has_height.is_type)
 map_faultless bytes grid spells M2 (rest, is_type, none) =

@@ -1,4 +1,4 @@
--- Scenario texts: bytes spell one problem at most, and no fault stands in bytes that spell one.
+-- Scenario texts: bytes spell one problem at most, and bytes that spell one have no error.
 use Rattle.std.proofs.Common.{◌≡◌, ℕ, ◌<◌, All, List, [], ◌∷◌, length, get_or, take, refl, sym, ap, subst, ◌∙◌, zero, suc, arith, inl, inr}
 use Rattle.std.proofs.lemmas.List.{get_or-take, length-take-le}
 use Rattle.mapf_model.specs.Grid.{GridMap, IsFree}
@@ -127,7 +127,7 @@ no_rows_fault grid rows k agents has (S6 row) h = in_row grid rows k agents has 
 no_rows_fault grid rows k agents has (S7 count) (below, few, before) = let enough = has.enough in absurd (omega arith)
 no_rows_fault grid rows k agents has Memory h = refl
 
--- no fault stands in bytes that spell a problem
+-- bytes that spell a problem have no error
 pub scenario_faultless : (bytes : List ℕ) (grid : GridMap) (k : ℕ) (problem : Instance) → SpellsScenario bytes grid k problem → (fault : ScenFault) → HasScenarioFault grid (filled_lines bytes) k fault → fault ≡ Memory
 scenario_faultless bytes grid k problem spells fault h = by fault h
   where

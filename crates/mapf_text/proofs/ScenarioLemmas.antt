@@ -47,7 +47,7 @@ few_rows grid rows count k agents below has none =
     let enough = has.enough in
     (below, omega arith, (agents, has))
 
--- a row's fault is the rows'
+-- an error of a row is one of the rows
 pub fault_at : (grid : GridMap) (rows : List (List ℕ)) (at k : ℕ) (agents : List Agent) (row : List ℕ) (rest : List (List ℕ)) (fault : ScenFault) → at < k → HasAgents grid rows at agents → IsLineAt rows at row rest
     → HasRowFault grid (words_of row) at fault → HasRowsFault grid rows k fault
 fault_at grid rows at k agents row rest fault below has line is = by fault (subst (λ (r : List ℕ). HasRowFault grid (words_of r) at fault) (sym line.at) is)

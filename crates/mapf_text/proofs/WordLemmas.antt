@@ -4,13 +4,13 @@ use Rattle.std.proofs.lemmas.Option.{MatchOption-at_some, MatchOption-at_none}
 use Rattle.std.specs.List.{position_or_len, position_from}
 use Rattle.mapf_text.specs.Words.{is_blank, words_of}
 
--- blanks at the front of a line are ignored
+-- blanks at the beginning of a line are ignored
 pub words-blank : (b : ℕ) (bs : List ℕ) → is_blank b ≡ true → words_of (b ∷ bs) ≡ words_of bs
 unfolding words_of
 words-blank b [] is = rw is refl
 words-blank b (c ∷ bs) is = rw is refl
 
--- what a search for a byte that is no blank, from place n on, tells of the words
+-- what the result of a search for a byte that is no blank, from place n on, says of the words
 abbrev FirstFilled : List ℕ → ℕ → Option ℕ → Type 0
 FirstFilled line n found = MatchOption found (words_of line ≡ []) (λ i. (n ≤ i) × (words_of line ≡ words_of (drop (i - n) line)) × (is_blank (get_or (drop (i - n) line) 0 32) ≡ false))
 
