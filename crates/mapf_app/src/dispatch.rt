@@ -1,6 +1,5 @@
-ghost use Rattle.std.specs.Prelude.{◌≡◌, ◌≤◌, ◌<◌, ◌⊎◌, ℕ, List, All, IsSome, Ok, Err, false, true, take};
+ghost use Rattle.std.specs.Prelude.{◌≡◌, ◌≤◌, ◌<◌, ℕ, List, All, Ok, Err, false, true, take};
 ghost use Rattle.std.specs.Prelude.{IfOk, IfErr, IfSome, OnOk, IsErrOf, MatchResult, Some};
-ghost use Rattle.std.specs.Result.{IsErrAnd};
 ghost use Rattle.std.specs.Io.KnownBytes.{Appends};
 ghost use Rattle.mapf_app.specs.Dispatched.{DispatchesTruly, IsDueDispatch, ShowsReplies};
 ghost use Rattle.mapf_app.specs.Faults.{HasNoInnerMemory, IsBeforeWriting, IsDispatching, IsOfDevices, IsOfInput};

@@ -7,7 +7,6 @@ ghost use Rattle.mapf_app.specs.Planned.{IsDuePlan, SpellsPlanned, SpellsValidPl
 ghost use Rattle.mapf_app.specs.Unreadable.{IsUnreadable};
 ghost use Rattle.mapf_app.specs.declared.planned.Planned.{Planned};
 ghost use Rattle.mapf_model.specs.Limits.{most_agents, most_text_bytes};
-ghost use Rattle.mapf_model.specs.Plan.{Instance};
 
 use crate::fault::{Fault, Input, PlayFault};
 use crate::input::{read_problem, read_text};

@@ -1,4 +1,4 @@
-ghost use Rattle.std.specs.Prelude.{◌≡◌, ◌≤◌, ℕ, IfOk, length};
+ghost use Rattle.std.specs.Prelude.{◌≤◌, ℕ, IfOk, length};
 ghost use Rattle.mapf_app.specs.Solved.{IsSolved};
 ghost use Rattle.mapf_certificate.specs.declared.version.Version.TheVariants.{Two};
 ghost use Rattle.mapf_cbs.specs.Answer.{IsTreeOf, IsShownOptimal, IsShownImpossible, IsShownBound, MayStop};
