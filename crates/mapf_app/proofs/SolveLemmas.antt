@@ -1,33 +1,22 @@
--- What a call that wrote says of its bytes.
-use Rattle.std.proofs.Common.{◌≡◌, ℕ, ◌≤◌, true, false, List, ◌++◌, length, take, Option, Result, Ok, Err, OnErr, OnOk, refl, sym, ap, ◌∙◌, subst}
+-- What is known of the bytes that calls wrote.
+use Rattle.std.proofs.Common.{◌≡◌, ℕ, true, false, List, ◌++◌, length, take, Option, Result, Ok, Err, OnOk, refl, sym, ap, ◌∙◌, subst}
 use Rattle.std.proofs.KnownBytes.{Appends-trans}
 use Rattle.std.specs.Io.KnownBytes.{Appends}
 use Rattle.std.specs.Result.{is_err}
 use Rattle.std.proofs.lemmas.List.{take_at}
 use Rattle.mapf_fields.specs.Pages.{WritesOrFails}
 
--- a call that failed wrote a front
-pub front_written : {T E : Type 0} (old new : Option (List ℕ)) (bytes text : List ℕ) (r : Result T E) → bytes ≡ text → is_err r ≡ true →
-    OnErr r ((n : ℕ) × (n ≤ length bytes) × Appends old new (take n bytes)) → (n : ℕ) × Appends old new (take n text)
-front_written old new bytes text (Ok x) same failed says = absurd cc
-front_written old new bytes text (Err e) same failed says = (says.0, subst (λ written. Appends old new (take says.0 written)) same says.2)
-
--- a call that went well wrote all
-pub whole_written : {T E : Type 0} (old new : Option (List ℕ)) (bytes text : List ℕ) (r : Result T E) → bytes ≡ text → is_err r ≡ false → OnOk r (Appends old new bytes) → Appends old new text
-whole_written old new bytes text (Ok x) same went says = subst (Appends old new) same says
-whole_written old new bytes text (Err e) same went says = absurd cc
-
--- bytes were written, and then what a call writes where it goes well
+-- bytes were written, and then those that a call writes if it returns Ok
 pub then_written : {T E : Type 0} (r : Result T E) (old mid new : Option (List ℕ)) (front rest : List ℕ) → Appends old mid front → OnOk r (Appends mid new rest) → OnOk r (Appends old new (front ++ rest))
 then_written (Ok x) old mid new front rest before after = Appends-trans old mid new front rest before after
 then_written (Err e) old mid new front rest before after = tt
 
--- a text that a writer put out whole
+-- the text of a writer that returned Ok was written
 pub text_written : {T E : Type 0} (r : Result T E) (a b : Option (List ℕ)) (text same_text : List ℕ) → text ≡ same_text → is_err r ≡ false → WritesOrFails a b text r → Appends a b same_text
 text_written (Ok x) a b text same_text same went w = subst (Appends a b) same w
 text_written (Err e) a b text same_text same went w = absurd cc
 
--- a front of a text whose writer failed
+-- of the text of a writer that failed a prefix was written
 pub text_front : {T E : Type 0} (r : Result T E) (a b : Option (List ℕ)) (text same_text : List ℕ) → text ≡ same_text → is_err r ≡ true → WritesOrFails a b text r → (n : ℕ) × Appends a b (take n same_text)
 text_front (Ok x) a b text same_text same failed w = absurd cc
 text_front (Err e) a b text same_text same failed w =
