@@ -1,11 +1,12 @@
 -- From what is read to what is judged.
-use Rattle.std.proofs.Common.{◌≡◌, List, ℕ, None, Some, Option, IfSome, length, refl, sym, subst}
+use Rattle.std.proofs.Common.{◌≡◌, List, ℕ, Some, Option, IfSome, length, sym, subst}
 use Rattle.std.specs.Option.{IsSome}
 use Rattle.mapf_app.specs.Checked.{IsRefusalOf, HasGoodPlan}
 use Rattle.mapf_app.specs.Headline.{JudgesTruly, IsDueVerdict}
 use Rattle.mapf_app.specs.Problems.{IsPosed, SpellsProblem}
 use Rattle.mapf_app.proofs.InputLemmas.{text_is, told}
 use Rattle.mapf_certificate.specs.Plans.{SpellsPlan}
+use Rattle.mapf_checker.proofs.CertLemmas.{if_known}
 use Rattle.mapf_checker.specs.Refusals.{HasRefusal}
 use Rattle.mapf_checker.specs.Verdict.{IsTrueText, IsGoodPlan, AreAccepted}
 use Rattle.mapf_checker.specs.Faults.{IfRefused, IsNoRefusal}
@@ -14,11 +15,6 @@ use Rattle.mapf_checker.specs.declared.fault.FromFault.{FromFault}
 use Rattle.mapf_checker.specs.declared.fault.FromFault.TheVariants.{Refused}
 use Rattle.mapf_checker.specs.declared.fault.Verdict.{Verdict}
 use Rattle.mapf_model.specs.Plan.{Instance}
-
--- what is so of each value that may be told is so of the one that is
-pub for_told : {X : Type 0} (P : X → Type 0) (known : Option X) → ((x : X) → known ≡ Some x → P x) → IfSome known P
-for_told P None each = tt
-for_told P (Some x) each = each x refl
 
 -- a refusal is one
 pub is_refusal : (fault : FromFault) (refusal : CheckFault) → fault ≡ Refused refusal → IsNoRefusal fault → ⊥
@@ -38,7 +34,7 @@ module _ (map scen plan cert : Option (List ℕ)) (count : ℕ) (problem : Insta
     says = truth.says;
     spelled = told (λ bytes. SpellsPlan problem.grid bytes truth.version (length problem.agents) truth.says) plan text same truth.spelled;
     is_true = truth.is_true;
-    accepted = told (λ bytes. IfSome cert (λ others. AreAccepted problem bytes others verdict)) plan text same (for_told (λ others. AreAccepted problem text others verdict) cert accepted);
+    accepted = told (λ bytes. IfSome cert (λ others. AreAccepted problem bytes others verdict)) plan text same (if_known cert (λ others. AreAccepted problem text others verdict) accepted);
   }
 
   -- the problem that was read is the one that is spelled

@@ -26,7 +26,7 @@ only_memory fault either = ⊎_elim (λ none. absurd none) (λ e. cc) either
 pub memory_is_input : (fault : EventFault) → fault ≡ Memory → IsOfInput (fault_of_events fault)
 memory_is_input fault is = subst (λ f. IsOfInput (fault_of_events f)) (sym is) tt
 
--- a fault of the events that were read stands in what their source told
+-- an error of the event text that was read is one of the bytes that its source reports
 module _ (events : Option (List ℕ)) (count : ℕ) (text : List ℕ) (same : IfSome events (λ bytes. text ≡ bytes)) where
   unspelled : (fault : EventFault) → ((agents : List ℕ) → SpellsEvents text count agents → fault ≡ Memory) → HasEventFault text count fault → (fault ≡ Memory → ⊥) → HasEventsFault events count (Events fault)
   unspelled fault none has differ = (
@@ -42,7 +42,7 @@ module _ (events : Option (List ℕ)) (count : ℕ) (text : List ℕ) (same : If
   events_fault_told (E3 line) none has = unspelled (E3 line) none has (λ e. cc)
   events_fault_told (E4 line) none has = unspelled (E4 line) none has (λ e. cc)
 
--- what a fault of the inputs says is so of a run in which agents follow a plan
+-- what an error of the inputs says holds of a run in which agents follow a plan
 module _ (map scen plan events : Option (List ℕ)) (count : ℕ) where
   plan_defect : (fault : PlayFault) → IsPlanDefect map scen plan count fault → IsDispatchDefect map scen plan events count fault
   plan_defect (Text fault) defect = defect

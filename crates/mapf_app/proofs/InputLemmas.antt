@@ -1,4 +1,4 @@
--- What is known of bytes that a source tells.
+-- What is known of the bytes that a source reports.
 use Rattle.std.proofs.Common.{◌≡◌, ◌≢◌, ◌⊎◌, inl, inr, List, ℕ, None, Some, Option, Result, Ok, Err, IfSome, sym, subst}
 use Rattle.mapf_app.specs.Faults.{IsReadingMap, IsReadingAgents, fault_of_map, fault_of_scenario}
 use Rattle.mapf_app.specs.Problems.{IsMapDefect, IsAgentsDefect}
@@ -12,21 +12,21 @@ use Rattle.mapf_text.specs.declared.map_fault.MapFault.TheVariants.{M1, M2, M3, 
 use Rattle.mapf_text.specs.declared.scenario_fault.ScenFault.{ScenFault}
 use Rattle.mapf_text.specs.declared.scenario_fault.ScenFault.TheVariants as scenario
 
--- what is so of the text is so of the bytes that the source told
+-- what holds of the text that was read holds of the bytes that the source reports
 pub told : (P : List ℕ → Type 0) (known : Option (List ℕ)) (text : List ℕ) → IfSome known (λ bytes. text ≡ bytes) → P text → IfSome known P
 told P None text same is = tt
 told P (Some bytes) text same is = subst P same is
 
--- the text that was read is the bytes that the source told
+-- the text that was read is the bytes that the source reports
 pub text_is : (known : Option (List ℕ)) (text bytes : List ℕ) → IfSome known (λ b. text ≡ b) → known ≡ Some bytes → text ≡ bytes
 text_is None text bytes same is = absurd cc
 text_is (Some b) text bytes same is = cc
 
--- a slice of the text that was read is what the source told
+-- so is a slice that is the whole text
 pub read_as : (known : Option (List ℕ)) {text slice : List ℕ} → slice ≡ text → IfSome known (λ bytes. text ≡ bytes) → IfSome known (λ bytes. slice ≡ bytes)
 read_as known is same = subst (λ t. IfSome known (λ bytes. t ≡ bytes)) (sym is) same
 
--- bytes that are faulted spell nothing
+-- bytes that have an error spell nothing
 no_other : {A E : Type 0} (fault memory : E) (x : A) → fault ≢ memory → ◌≡◌ {A = Result A E} (Err fault) (Ok x) ⊎ ◌≡◌ {A = Result A E} (Err fault) (Err memory) → ⊥
 no_other fault memory x differ (inl is) = absurd cc
 no_other fault memory x differ (inr is) = differ cc
@@ -39,7 +39,7 @@ module _ (known : Option (List ℕ)) (text : List ℕ) (same : IfSome known (λ 
         (λ grid spells. no_other fault Memory grid differ (only grid spells), has),
   )
 
-  -- a map's fault by its name among those of a run
+  -- a map's error as an error of a run
   pub map_fault_told : (fault : MapFault) → ((grid : GridMap) → SpellsMap text grid → ◌≡◌ {A = Result GridMap MapFault} (Err fault) (Ok grid) ⊎ ◌≡◌ {A = Result GridMap MapFault} (Err fault) (Err Memory)) → HasMapFault (lines_of text) fault → IsReadingMap known (fault_of_map fault)
   map_fault_told M1 only has = map_defect M1 (λ e. cc) only has
   map_fault_told M2 only has = map_defect M2 (λ e. cc) only has
@@ -60,7 +60,7 @@ module _ (known : Option (List ℕ)) (text : List ℕ) (same : IfSome known (λ 
         (λ problem spells. no_other fault scenario.Memory problem differ (only problem spells), has),
   )
 
-  -- a scenario's fault by its name among those of a run
+  -- a scenario's error as an error of a run
   pub scenario_fault_told : (fault : ScenFault) → ((problem : Instance) → SpellsScenario text grid count problem → ◌≡◌ {A = Result Instance ScenFault} (Err fault) (Ok problem) ⊎ ◌≡◌ {A = Result Instance ScenFault} (Err fault) (Err scenario.Memory)) → HasScenarioFault grid (filled_lines text) count fault → IsReadingAgents known grid count (fault_of_scenario fault)
   scenario_fault_told scenario.S1 only has = agents_defect scenario.S1 (λ e. cc) only has
   scenario_fault_told (scenario.S2 row) only has = agents_defect (scenario.S2 row) (λ e. cc) only has

@@ -1,5 +1,5 @@
 -- From the plan text that is read to the plan that is followed.
-use Rattle.std.proofs.Common.{◌≡◌, ℕ, List, Option, Result, Ok, Err, IfErr, IfSome, IsErrOf, MatchResult, refl, sym, ap, subst, ◌∙◌}
+use Rattle.std.proofs.Common.{◌≡◌, ℕ, List, Option, Result, Ok, Err, IfSome, IsErrOf, MatchResult, refl, sym, ap, subst, ◌∙◌}
 use Rattle.std.specs.Option.{IsSome}
 use Rattle.mapf_app.proofs.InputLemmas.{text_is, told}
 use Rattle.mapf_app.specs.Faults.{IsOfDevices, IsOfInput, IsPlanning, IsReadingPlan, fault_of_plan_text}
@@ -43,7 +43,7 @@ module _ (problem : Instance) (bytes : List ℕ) (text : PlanText) where
       let same : text ≡ other = same_text text other (only other spells.in_range spells.spelled) in
       (ap (λ (t : PlanText). t.agents) same, ap (λ (t : PlanText). t.answer) same)
 
--- bytes that can't be read have this fault
+-- bytes that can't be read have this error
 pub unread : (problem : Instance) (bytes : List ℕ) (fault : PlanTextFault) → ((version : Version) (agents : ℕ) (answer : PlanAnswer) → SpellsPlan problem.grid bytes version agents answer → fault ≡ Memory) → IsReadingPlan problem bytes (fault_of_plan_text fault)
 unread problem bytes Memory none = tt
 unread problem bytes (P1 line) none = (λ e. cc, λ version agents answer spells. let memory = none version agents answer spells in cc)
@@ -58,7 +58,7 @@ of_plan_text problem bytes OtherCount says = tt
 of_plan_text problem bytes (Invalid fault) says = tt
 of_plan_text problem bytes (Events fault) says = absurd says
 
--- a fault of the plan text that was read stands in what its source told
+-- an error of the plan text that was read is one of the bytes that its source reports
 pub plan_fault_told : (map scen plan : Option (List ℕ)) (count : ℕ) (problem : Instance) → SpellsProblem map scen count problem → (text : List ℕ) → IfSome plan (λ bytes. text ≡ bytes) → (fault : Fault) → IsReadingPlan problem text fault →
     IsPlanning map scen plan count fault
 plan_fault_told map scen plan count problem read text same (F1 fault) says = absurd says
@@ -95,16 +95,12 @@ pub same_planned : (planned : Planned) (problem : Instance) (paths : List (List 
 same_planned planned problem paths same_problem same_paths =
     ap (λ p. record { problem = p; plan = paths }) same_problem ∙ ap (λ ps. record { problem = planned.problem; plan = ps }) same_paths
 
--- a run that was handed such a fault met what it may meet
+-- an error of an input that a `?` passes on is one of the devices
 pub hands_on_device : {T : Type 0} (r : Result T Fault) (P : T → Type 0) (fault : Fault) → (given : Fault) × (r ≡ Err given) × (given ≡ fault) → IsOfInput fault → MatchResult r P IsOfDevices
 hands_on_device {T = T} r P fault (given, is, same) says =
     let Q : Result T Fault → Type 0 = λ s. MatchResult s P IsOfDevices in subst Q (sym is) (input_is_device given (subst IsOfInput (sym same) says))
 
--- what is so of the fault that a `?` hands on is so of the result
-pub handed_on : {T E : Type 0} (r : Result T E) (Says : E → Type 0) (fault : E) → (given : E) × (r ≡ Err given) × (given ≡ fault) → Says fault → IfErr r Says
-handed_on {T = T} {E = E} r Says fault (given, is, same) says = let P : Result T E → Type 0 = λ s. IfErr s Says in subst P (sym is) (subst Says (sym same) says)
-
--- and the fault that the result is, is the one that was handed on
+-- the error of the result is the one that a `?` passed on
 pub handed_back : {T U : Type 0} (r : Result T Fault) (fault is : Fault) → (given : Fault) × (r ≡ Err given) × (given ≡ fault) → IsErrOf r is → IsErrOf {T = U} (Err fault) is
 handed_back r fault is (given, result, same) says =
     let one : given ≡ is = cc in ap Err (sym same ∙ one)

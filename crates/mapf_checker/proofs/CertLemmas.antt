@@ -49,7 +49,7 @@ module _ (problem : Instance) (claim : Claim) (had : Option (List ℕ)) (start :
       spells_from_text problem.grid (grid_at start) version agents claimed nodes bytes (record { width = opened.width; height = opened.height })
       (subst (λ owed. IsCertText (grid_at start) owed version agents claimed nodes bytes) opened.owed (subst (λ b. IsCertText (grid_at start) start.owed version agents claimed nodes b) came awaits.text))
 
-  -- the header stands in front
+  -- the bytes begin with the header
   pub begins : (left : Option (List ℕ)) (new : Reading) (agents : ℕ) (claimed : Claim) → TakesHeader had left start new agents claimed → BeginsWithHeader problem bytes agents claimed
   begins left new agents claimed takes =
       let (after, known_left, same, count) = Window-known had left start.buffer new.buffer (header_text new.version start.width agents claimed) bytes takes.window known in
@@ -67,12 +67,12 @@ stops_heading problem claim had left failed start IsText Device fails none = fai
 stops_heading problem claim had left failed start IsText TooLong fails none = fails
 stops_heading problem claim had left failed start IsText Memory fails none = fails
 
--- what is so of known bytes
-if_known : {X : Type 0} (o : Option X) (P : X → Type 0) → ((x : X) → o ≡ Some x → P x) → IfSome o P
+-- a property of known bytes
+pub if_known : {X : Type 0} (o : Option X) (P : X → Type 0) → ((x : X) → o ≡ Some x → P x) → IfSome o P
 if_known None P f = tt
 if_known (Some x) P f = f x refl
 
--- the same reason, said otherwise
+-- a weaker statement about the same error
 pub stops_as : {P Q : CheckFault → Type 0} (had left : Option (List ℕ)) (failed : Bool) (old new : Buffered) (fault : FromFault) → old ≡ new → ((refusal : CheckFault) → P refusal → Q refusal) → IsOfChecking had left failed old P fault → IsOfChecking had left failed new Q fault
 stops_as had left failed old new (from.Refused refusal) same f stops = (stops.0, subst (λ b. ComesWithin had left b) same stops.1, f refusal stops.2)
 stops_as had left failed old new from.Device same f stops = (stops.0, subst (λ b. ComesWithin had left b) same stops.1)

@@ -1,6 +1,7 @@
 use Rattle.std.proofs.Common.{◌≤◌, ⊎_elim, length}
 use Rattle.mapf_app.proofs.InputLemmas.{read_as}
-use Rattle.mapf_app.proofs.CheckLemmas.{for_told, judges, due_here, refusal_of, none_good, is_refusal, refusal_says}
+use Rattle.mapf_app.proofs.CheckLemmas.{judges, due_here, refusal_of, none_good, is_refusal, refusal_says}
+use Rattle.mapf_checker.proofs.CertLemmas.{if_known}
 use Rattle.mapf_checker.specs.Refusals.{HasRefusal}
 use Rattle.mapf_model.specs.Limits.{most_cert_bytes}
 use Rattle.mapf_app.proofs.check.run_check.Goals as goal
@@ -18,7 +19,7 @@ returns-in-Ok-clause-accepted g c =
 pub returns-in-Ok-clause-within : goal.returns-in-Ok-clause-within
 returns-in-Ok-clause-within g c =
     let read = c.in_ok-problem.ensures.whole in
-    (read.map_whole.within, read.scen_whole.within, c.in_ok-plan_text.ensures.read.within, for_told (λ bytes. length bytes ≤ most_cert_bytes) (g.C.Source.remaining c.args.cert.now) c.in-Ok.ensures.within)
+    (read.map_whole.within, read.scen_whole.within, c.in_ok-plan_text.ensures.read.within, if_known (g.C.Source.remaining c.args.cert.now) (λ bytes. length bytes ≤ most_cert_bytes) c.in-Ok.ensures.within)
 
 pub returns-in-Ok-clause-unpulled : goal.returns-in-Ok-clause-unpulled
 returns-in-Ok-clause-unpulled g c =

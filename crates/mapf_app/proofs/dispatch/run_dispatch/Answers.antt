@@ -1,12 +1,13 @@
 use Rattle.std.proofs.Common.{◌≡◌, IfSome, ⊎_elim, ◌∙◌, sym, subst}
 use Rattle.std.proofs.lemmas.Result.{err_from_is_err_and}
+use Rattle.mapf_certificate.proofs.Windows.{err_passed}
 use Rattle.mapf_player.specs.Events.{SpellsEvents}
 use Rattle.mapf_player.specs.Replies.{reply_text}
 use Rattle.mapf_app.specs.Dispatched.{ShowsReplies}
 use Rattle.mapf_app.specs.Faults.{IsDispatching}
 use Rattle.mapf_app.specs.declared.planned.Planned.{Planned}
 use Rattle.mapf_app.proofs.DispatchLemmas.{events_fault, plan_fault, shown}
-use Rattle.mapf_app.proofs.PlannedLemmas.{handed_back, handed_on, hands_on_device}
+use Rattle.mapf_app.proofs.PlannedLemmas.{handed_back, hands_on_device}
 use Rattle.mapf_app.proofs.dispatch.run_dispatch.Goals as goal
 
 pub returns-in_err-problem-clause-due : goal.returns-in_err-problem-clause-due
@@ -20,7 +21,7 @@ returns-in_err-problem-clause-fault g c =
     let scen = g.S.Source.remaining c.args.scen.now in
     let plan = g.P.Source.remaining c.args.plan.now in
     let events = g.E.Source.remaining c.args.events.now in
-    handed_on c.from_residual.result (IsDispatching map scen plan events c.args.k) c.in_err-problem.field-0.0 (err_from_is_err_and c.from_residual.result c.from_residual.ensures.1)
+    err_passed c.from_residual.result (IsDispatching map scen plan events c.args.k) c.in_err-problem.field-0.0 (err_from_is_err_and c.from_residual.result c.from_residual.ensures.1)
     (plan_fault map scen plan events c.args.k c.in_err-problem.field-0.0 c.in_err-problem.ensures.fault)
 
 pub returns-in_err-agents-clause-due : goal.returns-in_err-agents-clause-due
@@ -34,7 +35,7 @@ returns-in_err-agents-clause-fault g c =
     let scen = g.S.Source.remaining c.args.scen.now in
     let plan = g.P.Source.remaining c.args.plan.now in
     let events = g.E.Source.remaining c.args.events.now in
-    handed_on c.from_residual-in_err-agents.result (IsDispatching map scen plan events c.args.k) c.in_err-agents.field-0.0 (err_from_is_err_and c.from_residual-in_err-agents.result c.from_residual-in_err-agents.ensures.1)
+    err_passed c.from_residual-in_err-agents.result (IsDispatching map scen plan events c.args.k) c.in_err-agents.field-0.0 (err_from_is_err_and c.from_residual-in_err-agents.result c.from_residual-in_err-agents.ensures.1)
     (events_fault map scen plan events c.args.k _ _ c.in_ok-problem.ensures.found c.in_err-agents.field-0.0 c.in_err-agents.ensures.fault)
 
 pub returns-in_err-agents-clause-events : goal.returns-in_err-agents-clause-events

@@ -1,9 +1,10 @@
 use Rattle.std.proofs.Common.{◌≡◌, Ok, Err, inl, inr, ⊎_elim, ◌∙◌, ap}
 use Rattle.std.proofs.lemmas.Result.{err_from_is_err_and}
+use Rattle.mapf_certificate.proofs.Windows.{err_passed}
 use Rattle.mapf_app.specs.Faults.{IsPlanning}
 use Rattle.mapf_app.specs.declared.fault.Fault.TheVariants.{F6}
 use Rattle.mapf_app.proofs.InputLemmas.{read_as}
-use Rattle.mapf_app.proofs.PlannedLemmas.{due_here, handed_on, plan_fault_told, same_planned}
+use Rattle.mapf_app.proofs.PlannedLemmas.{due_here, plan_fault_told, same_planned}
 use Rattle.mapf_app.proofs.planned.read_planned.Goals as goal
 
 pub returns-in_err-paths-clause-only : goal.returns-in_err-paths-clause-only
@@ -26,7 +27,7 @@ returns-in_err-paths-clause-fault g c =
     let plan = g.P.Source.remaining c.args.plan.now in
     let fault = c.in_err-paths.field-0.0 in
     let same = read_as plan c.as_slice.ensures.value c.in_ok-text.ensures.whole in
-    handed_on c.from_residual-in_err-paths.result (IsPlanning map scen plan c.args.k) fault (err_from_is_err_and c.from_residual-in_err-paths.result c.from_residual-in_err-paths.ensures.1)
+    err_passed c.from_residual-in_err-paths.result (IsPlanning map scen plan c.args.k) fault (err_from_is_err_and c.from_residual-in_err-paths.result c.from_residual-in_err-paths.ensures.1)
     (plan_fault_told map scen plan c.args.k c.in_ok-problem.problem c.in_ok-problem.ensures.found c.as_slice.result.now same fault c.in_err-paths.ensures.fault)
 
 pub returns-clause-only : goal.returns-clause-only
