@@ -118,7 +118,7 @@ An agent may wait in any cell for any time, but counts as being in the next cell
 printed: send the next event only after the agent has arrived. Then, whatever the events, no two
 agents are ever in one cell, and none is told to go into a cell in which another is. It isn't
 promised that some agent may go on: agents that rotate on a cycle with no free cell between them are
-held for ever.
+held at every request.
 
 If PLAN can't be followed or EVENTS can't be read (F3), standard output is empty.
 
