@@ -24,7 +24,7 @@ pub fn first_conflict(paths: &[Path]) -> Option<PlanFault>
     None
 }
 
-// Returns the number of cells of the longest path.
+// Returns the number of cells of the longest path, 1 if there are no paths.
 fn longest(paths: &[Path]) -> Tick
     ensures longest { All (λ path. length path ≤ result) paths.now }
     ensures positive { 1 ≤ result }

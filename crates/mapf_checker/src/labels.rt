@@ -111,7 +111,8 @@ pub fn entry_or(entry: Option<Label>, distance: Option<u32>) -> Label
     }
 }
 
-// Returns the entry, or the distance of the cell if there is none.
+// Returns the entry, or the distance of the cell if there is none. Unlike `entry_or` it looks the distance up, and
+// only if it is needed.
 fn label_or_distance(entry: Option<Label>, distances: &Distances, cell: Cell) -> Label
     ensures { IsEntryOrDistance distances.now.grid distances.now.goal cell entry result }
 {
