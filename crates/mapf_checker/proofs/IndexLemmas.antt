@@ -1,7 +1,8 @@
 -- The index of bars while they are added and taken back.
-use Rattle.std.proofs.Common.{◌≡◌, ◌≢◌, ◌↔◌, ◌⊎◌, ℕ, suc, ◌<◌, ◌≤◌, Bool, true, false, List, ◌∷◌, Ordering, Less, Equal, Greater, nat_cmp, Contains, IsTrue, IfSome, slice_get, refl, sym, ◌∙◌, ap, subst, inl, inr, ⊎_elim, eq-eqb, arith}
+use Rattle.std.proofs.Common.{◌≡◌, ◌≢◌, ◌↔◌, ◌⊎◌, ℕ, ◌<◌, ◌≤◌, Bool, true, false, List, [], ◌∷◌, Ordering, Less, Equal, Greater, nat_cmp, Contains, IsTrue, IfSome, slice_get, refl, sym, ◌∙◌, ap, subst, inl, inr, ⊎_elim, eq-eqb, arith}
 use Rattle.std.proofs.lemmas.Bool.{cases_eq, cases_order, ne_eqb, lt-ltb, le-ltb, false_from_ne_true, true≢false}
 use Rattle.std.proofs.lemmas.Cmp.{then_total, on_total, nat_cmp_total}
+use Rattle.std.proofs.lemmas.List.Elements.{Contains-append_right}
 use Rattle.std.proofs.lemmas.Map.Lookups.{CmpEqualImpliesEq, exact_unsigned}
 use Rattle.std.proofs.lemmas.Map.Views.{tells_apart}
 use Rattle.std.specs.BTreeMap.{is_at}
@@ -51,7 +52,7 @@ move_exact a b e =
     let to = exact_unsigned a.to b.to h.1 in
     λ k. record { agent = agent k; tick = tick k; from = from k; to = to k }
 
--- a set whose order tells all keys apart, where one key is put in or taken out
+-- a set in whose order no two keys are equal, where one key is inserted or removed
 module _ {K : Type 0} {R : K → K → Ordering} (total : IsTotalOrder R) (exact : CmpEqualImpliesEq R) (before after : BTreeSet K) (k : K) (v : Bool) (updates : Updates R before after k v) where
   there : (q : K) → (k ≡ q → ⊥) → contains R after q ≡ contains R before q
   there q differ = updates.2 q (false_from_ne_true (is_at (R k) q) (λ tied. differ (tells_apart exact k q tied)))
@@ -75,7 +76,7 @@ move_others old new agent from to tick v updates kept other differ = go other.ba
   go (Move f o t) apart = there move_total move_exact old.moves new.moves (record { agent = agent; tick = tick; from = from; to = to }) v updates (record { agent = other.agent; tick = t; from = f; to = o })
       (λ same. apart (λ k. constraint_of (sym same k).agent (Move (sym same k).from (sym same k).to (sym same k).tick)))
 
--- what stands between two barred cells of one agent and cell is of these too
+-- what lies between two barred cells of one agent and cell has the same agent and cell
 le_first : (a b : ℕ) (o : Ordering) → is_gt (ordering_then (nat_cmp a b) o) ≡ false → (a < b) ⊎ ((a ≡ b) × (is_gt o ≡ false))
 le_first a b o e = ⊎_elim
     (λ (same : a ≡ b). inr (same, rw (le-ltb a b (omega arith), eq-eqb a b same) at e))
@@ -191,14 +192,11 @@ with_bar-same bars i bar = rw (eq-eqb i i refl)
 with_bar-other : (bars : ℕ → List Bar) (i : ℕ) (bar : Bar) (agent : ℕ) → (agent ≡ i → ⊥) → with_bar bars i bar agent ≡ bars agent
 with_bar-other bars i bar agent differ = rw (ne_eqb agent i differ)
 
-Contains-later : {X : Type 0} (x y : X) (xs : List X) → Contains xs y → Contains (x ∷ xs) y
-Contains-later x y xs (k, within, is) = (suc k, omega arith, is)
-
 module _ (bars : ℕ → List Bar) (constraint : Constraint) where
   stands_here : Contains (with_constraint bars constraint constraint.agent) constraint.bar
   stands_here = rw (with_bar-same bars constraint.agent constraint.bar) (0, omega arith, refl)
 
-  -- the others stand as before
+  -- the other constraints are those from before
   stands_there : (other : Constraint) → (other ≡ constraint → ⊥) → Contains (with_constraint bars constraint other.agent) other.bar ↔ Contains (bars other.agent) other.bar
   stands_there other differ = elim (cases_eq other.agent constraint.agent) [
     | inl same ↦
@@ -208,7 +206,7 @@ module _ (bars : ℕ → List Bar) (constraint : Constraint) where
             | inl head ↦ absurd (differ (λ k. record { agent = same k; bar = sym head k }))
             | inr rest ↦ rest
           ],
-          Contains-later constraint.bar other.bar (bars other.agent),
+          Contains-append_right (constraint.bar ∷ []) (bars other.agent) other.bar,
         )
     | inr apart ↦ rw (with_bar-other bars constraint.agent constraint.bar other.agent apart) (λ h. h, λ h. h)
   ]
@@ -220,7 +218,7 @@ module _ (bars : ℕ → List Bar) (constraint : Constraint) where
     | inr differ ↦ rw (others k differ) (λ h. (stands_there k differ).1 ((stand k).0 h), λ h. (stand k).1 ((stands_there k differ).0 h))
   ]
 
-  -- a bar that was new is taken away
+  -- a bar that was new is removed
   pub stand_taken : (old new : Constraint → Bool) → ((k : Constraint) → IsTrue (old k) ↔ Contains (with_constraint bars constraint k.agent) k.bar) → (Contains (bars constraint.agent) constraint.bar → ⊥) →
       new constraint ≡ false → ((k : Constraint) → k ≢ constraint → new k ≡ old k) →
       (k : Constraint) → IsTrue (new k) ↔ Contains (bars k.agent) k.bar
@@ -229,7 +227,7 @@ module _ (bars : ℕ → List Bar) (constraint : Constraint) where
     | inr differ ↦ rw (others k differ) (λ h. (stands_there k differ).0 ((stand k).0 h), λ h. (stand k).1 ((stands_there k differ).1 h))
   ]
 
-  -- a bar that stood before stays
+  -- a bar that was there before stays
   pub stand_again : (old : Constraint → Bool) → ((k : Constraint) → IsTrue (old k) ↔ Contains (with_constraint bars constraint k.agent) k.bar) → Contains (bars constraint.agent) constraint.bar →
       (k : Constraint) → IsTrue (old k) ↔ Contains (bars k.agent) k.bar
   stand_again old stand present k = elim (cases_constraint k constraint) [

@@ -1,7 +1,7 @@
 -- The place of the first LF.
 use Rattle.std.proofs.Common.{◌≡◌, ℕ, ◌<◌, ◌≤◌, ◌+◌, ◌-◌, ◌&&◌, Bool, true, false, not, List, [], ◌∷◌, ◌++◌, length, take, drop, Option, Some, None, MatchOption, refl, sym, ap, subst, ◌∙◌, arith, suc, le_refl, ◌==◌, zero, IfSome, append_assoc}
 use Rattle.std.specs.List.{position_from}
-use Rattle.std.proofs.lemmas.Bool.{and_parts, eqb-true}
+use Rattle.std.proofs.lemmas.Bool.{and_parts, eqb-true, not-true}
 use Rattle.std.proofs.lemmas.Option.{MatchOption-at_some, MatchOption-at_none}
 use Rattle.std.proofs.lemmas.Option.{some_pair_parts}
 use Rattle.std.proofs.Math.Seq.{take-append_seam, drop-append-add}
@@ -37,15 +37,11 @@ end_is bs (Some i) e =
     let Q : ℕ → Type 0 = λ k. IsCut bs (take i bs) (drop k bs) in
     (omega arith, subst Q next (subst P same found))
 
-not_true : (b : Bool) → not b ≡ true → b ≡ false
-not_true true e = cc
-not_true false e = refl
-
 cut_lacking : (l rest : List ℕ) → lacks_end l ≡ true → cut (l ++ (10 ∷ rest)) ≡ Some (l, rest)
 cut_lacking [] rest e = refl
 cut_lacking (c ∷ cs) rest e =
     let (unlike, more) = and_parts (not (c == 10)) (lacks_end cs) e in
-    let other : (c == 10) ≡ false = not_true (c == 10) unlike in
+    let other : (c == 10) ≡ false = not-true (c == 10) unlike in
     rw (other, cut_lacking cs rest more) refl
 
 -- what is cut off is the first line
@@ -56,7 +52,7 @@ pub cut_none : (bs : List ℕ) → lacks_end bs ≡ true → cut bs ≡ None
 cut_none [] e = refl
 cut_none (c ∷ cs) e =
     let (unlike, more) = and_parts (not (c == 10)) (lacks_end cs) e in
-    let other : (c == 10) ≡ false = not_true (c == 10) unlike in
+    let other : (c == 10) ≡ false = not-true (c == 10) unlike in
     rw (other, cut_none cs more) refl
 
 -- what is cut off is a line
@@ -69,7 +65,7 @@ cut_takes bs line rest e = by (position_from (λ b. b == 10) 0 bs) refl (end_is 
         let (front, back) = some_pair_parts (take n bs) line (drop (n + 1) bs) rest (sym (cut_is bs _ _ found) ∙ e) in
         record { same = found.same ∙ ap (λ l. l ++ (10 ∷ drop (n + 1) bs)) front ∙ ap (λ r. line ++ (10 ∷ r)) back; whole = ap lacks_end (sym front) ∙ found.whole }
 
--- an LF stands in a line's text
+-- a text with an LF doesn't lack one
 pub has_end : (front rest : List ℕ) → lacks_end (front ++ (10 ∷ rest)) ≡ true → ⊥
 has_end [] rest e = cc
 has_end (c ∷ cs) rest e = has_end cs rest (and_parts (not (c == 10)) (lacks_end (cs ++ (10 ∷ rest))) e).1

@@ -1,5 +1,6 @@
 -- Numbers in a line: what is read is spelled so, and what is spelled so is read.
 use Rattle.std.proofs.Common.{◌≡◌, ℕ, ◌<◌, ◌≤◌, ◌^◌, ◌+◌, ◌*◌, ◌/◌, ◌%◌, ◌&&◌, Bool, true, false, not, cond, nat_lt, nat_le, List, [], ◌∷◌, ◌++◌, length, get_or, drop, Option, Some, None, Result, Ok, Err, suc, zero, arith, refl, sym, ap, subst, ◌∙◌, inl, inr, ◌⊎◌, append-nil, append_assoc, take-append-drop, length-drop}
+use Rattle.std.proofs.Math.Seq.{drop-append_seam}
 use Rattle.std.specs.Prelude.{◌==◌, take_while}
 use Rattle.std.specs.Char.{is_ascii_digit, digit_value}
 use Rattle.std.specs.Fmt.{decimal}
@@ -80,16 +81,12 @@ front-append (d ∷ ds) rest all past =
     let more = front-append ds rest all.1 past in
     take_while-cons is_ascii_digit d (ds ++ rest) ∙ ap (λ b. cond b (d ∷ take_while is_ascii_digit (ds ++ rest)) []) (digit_test d all.0) ∙ ap (λ l. d ∷ l) more
 
-drop-front : (xs ys : List ℕ) → drop (length xs) (xs ++ ys) ≡ ys
-drop-front [] ys = refl
-drop-front (x ∷ xs) ys = drop-front xs ys
-
 -- a number's spelling is read
 pub number_again : (n : ℕ) (rest : List ℕ) → n < 2 ^ 64 → IsPastDigits rest → read_number (decimal n ++ rest) ≡ Ok (Some n, rest)
 unfolding read_number
 number_again n rest fits past =
     let front : front_digits (decimal n ++ rest) ≡ decimal n = front-append (decimal n) rest (digits_decimal own n fits) past in
-    let after : after_digits (decimal n ++ rest) ≡ rest = ap (λ w. drop (length w) (decimal n ++ rest)) front ∙ drop-front (decimal n) rest in
+    let after : after_digits (decimal n ++ rest) ≡ rest = ap (λ w. drop (length w) (decimal n ++ rest)) front ∙ drop-append_seam (decimal n) rest in
     let begins : begins_well (front_digits (decimal n ++ rest)) ≡ true = ap begins_well front ∙ begins-decimal (decimal n) (decimal_nonempty n fits) (decimal-begins n fits) in
     let is = digits_value-decimal own n fits in
     let fits' : digits_value 10 (decimal n) < 2 ^ 64 = omega arith in
@@ -138,7 +135,7 @@ pub whole_digits : (bs : List ℕ) → AllDigits 10 bs → begins_well bs ≡ tr
 unfolding read_whole
 whole_digits bs all begins =
     let front : front_digits bs ≡ bs = ap front_digits (sym (append-nil bs)) ∙ front-append bs [] all tt in
-    let after : after_digits bs ≡ [] = ap (λ w. drop (length w) bs) front ∙ ap (drop (length bs)) (sym (append-nil bs)) ∙ drop-front bs [] in
+    let after : after_digits bs ≡ [] = ap (λ w. drop (length w) bs) front ∙ ap (drop (length bs)) (sym (append-nil bs)) ∙ drop-append_seam bs [] in
     let read : read_number bs ≡ Ok (small_value bs, []) = number_of_front bs bs [] front after begins in
     rw read refl
 

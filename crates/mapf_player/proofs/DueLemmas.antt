@@ -1,6 +1,7 @@
 -- Which turns of a cell are still to come.
-use Rattle.std.proofs.Common.{◌≡◌, ◌≢◌, ◌⊎◌, ℕ, zero, suc, ◌+◌, ◌-◌, ◌*◌, ◌<◌, ◌≤◌, min, MatchOption, ltb, false, ◌↔◌, List, Option, Some, None, length, slice_get, get_or, refl, sym, ap, subst, ◌∙◌, inl, inr, ⊎_elim, arith}
-use Rattle.std.proofs.lemmas.Bool.{cases_eq, cases_lt, lt-ltb}
+use Rattle.std.proofs.Common.{◌≡◌, ◌≢◌, ℕ, zero, suc, ◌+◌, ◌-◌, ◌*◌, ◌<◌, ◌≤◌, min, MatchOption, ◌↔◌, List, Option, Some, None, length, slice_get, get_or, refl, sym, ap, subst, ◌∙◌, inl, inr, ⊎_elim, arith}
+use Rattle.std.proofs.Math.Logic.{⊎_swap}
+use Rattle.std.proofs.lemmas.Bool.{cases_eq, cases_lt}
 use Rattle.std.proofs.lemmas.Option.{same_Some, slice_get_within, slice_get_read, slice_get-get_or, get_or_from_slice_get}
 use Rattle.mapf_model.specs.Limits.{most_path_cells}
 use Rattle.mapf_model.proofs.ClaimLemmas.{slice_get_inside}
@@ -222,10 +223,6 @@ module _ (progress : Progress) (of_valid : IsOfValidPlan progress) (turns : List
       not_due (subst (λ t. IsDue progress t from) one due))
       (cases_lt p (place - 1)))
 
-⊎_swap : {A B : Type 0} → A ⊎ B → B ⊎ A
-⊎_swap (inl a) = inr a
-⊎_swap (inr b) = inl b
-
 -- one due turn more
 pub scanned_more : (progress : Progress) (turns : List Turn) (from place end : ℕ) (least : Option ℕ) (turn : Turn) (lesser : ℕ) → IsScanned progress turns from place end least → 1 ≤ place → slice_get turns (place - 1) ≡ Some turn → IsDue progress turn from →
     MatchOption least (lesser ≡ turn.agent) (λ other. lesser ≡ min other turn.agent) → IsScanned progress turns from (place - 1) end (Some lesser)
@@ -262,12 +259,6 @@ scanned_more progress turns from place end least turn lesser scanned some is due
           (λ (over : place ≤ q). let e = all q other over q_below other_is in omega arith)
           (cases_lt q place),
     )
-
-pub not_less : (a b : ℕ) → ltb a b ≡ false → b ≤ a
-not_less a b e = ⊎_elim
-    (λ (less : a < b). let yes = lt-ltb a b less in absurd cc)
-    (λ (rest : b ≤ a). rest)
-    (cases_lt a b)
 
 -- the visit in which an agent is
 pub current_visit : (progress : Progress) → IsProgress progress → (agent number : ℕ) → slice_get progress.numbers agent ≡ Some number → (own : List Visit) → slice_get progress.visits agent ≡ Some own → (visit : Visit) × IsIn progress agent visit × (number < length own)

@@ -1,8 +1,7 @@
 -- What is seen of a plan.
-use Rattle.std.proofs.Common.{◌≡◌, ◌≢◌, ℕ, zero, suc, ◌≤◌, eqb, Bool, true, false, List, [], ◌∷◌, Some, None, option_map, unwrap_or, slice_get, refl, sym, ap, ◌∙◌, inl, ⊎_elim, arith}
+use Rattle.std.proofs.Common.{◌≡◌, ℕ, zero, suc, ◌≤◌, eqb, Bool, true, false, List, [], ◌∷◌, Some, None, option_map, unwrap_or, slice_get, refl, sym, ap, ◌∙◌, inl, ⊎_elim, arith}
 use Rattle.std.specs.List.{position}
-use Rattle.std.proofs.lemmas.Bool.{cases_Bool, cases_eq}
-use Rattle.std.proofs.lemmas.Bool.Decides.{nat_tests}
+use Rattle.std.proofs.lemmas.Bool.{cases_Bool, cases_eq, eq-eqb, eqb-true, ne_eqb}
 use Rattle.std.proofs.lemmas.Option.{same_Some}
 use Rattle.mapf_model.specs.Path.{at}
 use Rattle.mapf_model.specs.Plan.{Instance}
@@ -43,20 +42,11 @@ nowhere : {X : Type 0} (p : X → Bool) (xs : List X) → ((i : ℕ) (x : X) →
 nowhere p [] none = refl
 nowhere p (x ∷ xs) none = position_miss p x xs (none 0 x refl) ∙ ap (option_map suc) (nowhere p xs (λ i. none (suc i)))
 
-same_cell : (a b : ℕ) → eqb a b ≡ true → a ≡ b
-same_cell a b e = grind (arith, nat_tests)
-
-own_cell : (a : ℕ) → eqb a a ≡ true
-own_cell a = grind (arith, nat_tests)
-
-other_cell : (a b : ℕ) → a ≢ b → eqb a b ≡ false
-other_cell a b e = grind (arith, nat_tests)
-
 pub agents_are_seen : AgentsAreSeen
 agents_are_seen problem plan valid i tick path this =
     let stands = λ (p : List ℕ). eqb (at p tick) (at path tick) in
-    let first = found stands plan i path this (own_cell (at path tick)) in
-    let meets : at first.item tick ≡ at path tick = same_cell (at first.item tick) (at path tick) first.passes in
+    let first = found stands plan i path this (eq-eqb (at path tick) (at path tick) refl) in
+    let meets : at first.item tick ≡ at path tick = eqb-true (at first.item tick) (at path tick) first.passes in
     let is_i : first.place ≡ i = ⊎_elim
     (λ (same : first.place ≡ i). same)
     (λ (differ : first.place ≡ i → ⊥). absurd (valid.apart first.place i tick first.item path differ first.stands this (inl meets)))
@@ -65,4 +55,4 @@ agents_are_seen problem plan valid i tick path this =
 
 pub terrain_is_seen : TerrainIsSeen
 terrain_is_seen grid plan tick cell none =
-    ap (λ o. unwrap_or (option_map mark o) (terrain grid cell)) (nowhere (λ p. eqb (at p tick) cell) plan (λ i path this. other_cell (at path tick) cell (none i path this)))
+    ap (λ o. unwrap_or (option_map mark o) (terrain grid cell)) (nowhere (λ p. eqb (at p tick) cell) plan (λ i path this. ne_eqb (at path tick) cell (none i path this)))
