@@ -45,7 +45,7 @@ module _ (problem : Instance) (plan : List (List ℕ)) where
     apart = λ i j tick p q differ is_p is_q conflict. apart (i, j, tick, p, q, differ, is_p, is_q, conflict);
   }
 
--- an error stands for a plan that is not valid
+-- if an error refutes the plan, Ok means that the plan is valid
 pub no_answer : (problem : Instance) (plan : List (List ℕ)) (result : Result ℕ PlanFault) → IsErr result → (IsValid problem plan → ⊥) → IsOk result ↔ IsValid problem plan
 no_answer problem plan (Ok sum) is_err refuted = absurd cc
 no_answer problem plan (Err fault) is_err refuted = (λ is_ok. absurd cc, λ valid. absurd (refuted valid))

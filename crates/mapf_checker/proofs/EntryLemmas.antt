@@ -12,7 +12,7 @@ use Rattle.mapf_model.specs.Labels.{entries_of, IsSoundEntry, AreSound}
 use Rattle.mapf_model.specs.Printed.{IsBefore}
 use Rattle.mapf_checker.specs.Order.{IsOf, StandsTo, IsNoneBelow, IsNoneFrom, IsStanding}
 
--- an entry that stands before another which stands before a state isn't that of the state
+-- an entry before one that precedes a state isn't that of the state
 before_early : (a b : Entry) (cell tick : ℕ) → IsBefore a b → StandsTo cell tick b Less → IsOf cell tick a → ⊥
 before_early a b cell tick (inl p) (inl q) is = omega (arith, is.1)
 before_early a b cell tick (inl p) (inr q) is = omega (arith, is.1, q.0)
@@ -87,7 +87,7 @@ entries_of-some (e ∷ entries) cell tick (suc k) entry rising within at is =
     rw (test_not cell tick e (apart e entry cell tick first is))
     (entries_of-some entries cell tick k entry (λ i j d less inside. rising (suc i) (suc j) d (omega arith) (omega arith)) (omega arith) at is)
 
--- where the entry of a state stands
+-- the index of the entry of a state
 pub entries_of-found : (entries : List Entry) (cell tick : ℕ) (label : Label) → entries_of entries cell tick ≡ Some label →
     (entry : Entry) × (k : ℕ) × (k < length entries) × ((d : Entry) → slice_index_or entries k d ≡ entry) × IsOf cell tick entry × (entry.label ≡ label)
 entries_of-found [] cell tick label e = absurd cc
@@ -99,7 +99,7 @@ entries_of-found (x ∷ entries) cell tick label e = elim (cases_of cell tick x)
 ]
 
 module _ (grid : GridMap) (goal : ℕ) (bars : List Bar) (entries : List Entry) (rising : AllPairs IsBefore entries) where
-  -- entries that can stand one by one
+  -- entries that are sound one by one are sound
   pub AreSound-each : ((k : ℕ) (d : Entry) → k < length entries → IsSoundEntry grid goal bars (entries_of entries) (slice_index_or entries k d).cell (slice_index_or entries k d).tick (slice_index_or entries k d).label) → AreSound grid goal bars (entries_of entries)
   AreSound-each each cell tick label e =
       let (entry, k, within, at, is, same) = entries_of-found entries cell tick label e in

@@ -67,19 +67,19 @@ is_next had left old new (Some given) item is takes only_item only_end = rw (←
   only_end = λ there. let none = only_end there in cc;
 })
 
--- a tree is owed where the reader took a node
+-- a tree is pending where the reader took a node
 is_going : (is_over : Bool) (place : Place) (n : ℕ) → 1 ≤ n → n ≡ length (owed_at is_over place) → owed_at is_over place ≡ place.here ∷ place.owed
 is_going true place n some count = absurd (omega (arith, count))
 is_going false place n some count = refl
 
--- as many trees are owed after a node as a reader waits for
+-- as many trees are pending after a node as the reader expects
 contexts_count : (owed : List NodeContext) (node : Node) (n : ℕ) → 1 ≤ n → n ≡ length owed → trees_owed_after n node ≡ length (contexts_after owed node)
 contexts_count [] node n some count = absurd (omega (arith, count))
 contexts_count (here ∷ owed) (SplitNode conflict blocks) n some count = omega (arith, count)
 contexts_count (here ∷ owed) (LeafNode blocks) n some count = omega (arith, count)
 contexts_count (here ∷ owed) (ClashNode i j) n some count = omega (arith, count)
 
--- after a node the reader and the judge still wait for the same trees
+-- after a node the reader and the judge still expect the same number of trees
 pub between_after : (problem : Instance) (claim : Claim) (now new : Reading) (progress after : Progress) (node : Node) → IsBetweenItems problem claim now progress → 1 ≤ now.owed → new.owed ≡ trees_owed_after now.owed node →
     (new.width ≡ now.width) × (new.height ≡ now.height) → new.header ≡ now.header → new.fault ≡ None → new.is_whole ≡ false → IsReady problem after → AreAllAlike problem (owed_by after) (contexts_after (owed_by progress) node) → IsBetweenItems problem claim new after
 between_after problem claim now new progress after node between some owed size header fault part ready alike = record {
@@ -154,7 +154,7 @@ module _ (problem : Instance) (claim : Claim) (had mid left : Option (List ℕ))
   pub came_with_node : ComesWithin had left start.buffer
   came_with_node = Window-within had left start.buffer new.buffer (flat_map (node_text start.version start.width) so_far.given ++ node_text start.version start.width node) taken
 
-  -- what the node inherits: what is kept of it is alike
+  -- the context that the node inherits: the one that is kept is alike
   inherits : (those : List NodeContext) → AreAllAlike problem (here_of progress ∷ (place_of progress.branch).owed) those → (here : NodeContext) × (owed : List NodeContext) × (those ≡ here ∷ owed) × AreAlike problem (here_of progress) here
   inherits [] alike = absurd alike
   inherits (here ∷ owed) (alike, rest) = (here, owed, refl, alike)
@@ -179,7 +179,7 @@ module _ (problem : Instance) (claim : Claim) (had mid left : Option (List ℕ))
             (same ∙ append_assoc (flat_map text so_far.given) (text node) (new.buffer.bytes ++ after));
       }
 
-  -- so the nodes that were to come don't show the claim
+  -- so the nodes that the reader awaited don't show the claim
   pub defect_refutes_nodes : FrontDecides → (fault : CheckFault) → HasNodeDefect problem claim (here_of progress) node fault → (nodes : List Node) → Awaits had start nodes → NodesShow problem claim (root ∷ []) nodes → ⊥
   defect_refutes_nodes law fault defect nodes awaits shows =
       let (rest, same, there) = so_far.ahead nodes awaits in
@@ -208,12 +208,12 @@ read_all law problem claim had mid left start now new owed count so_far takes = 
   none [] e = refl
   none (o ∷ os) e = absurd (omega (arith, e))
 
--- what came up to the end was left of the limit
+-- the bytes up to the end are within the limit
 pub came_to_end : (problem : Instance) (claim : Claim) (had mid left : Option (List ℕ)) (start now new : Reading) (owed : List NodeContext) → IsReadTo problem claim had mid start now owed → TakesEnd mid left now new → ComesWithin had left start.buffer
 came_to_end problem claim had mid left start now new owed so_far takes =
     ComesWithin-after had mid left start.buffer now.buffer (flat_map (node_text start.version start.width) so_far.given) so_far.window (Window-within mid left now.buffer new.buffer (line_text now.width lines.End) takes.read.window)
 
--- no nodes were to come where reading found a fault of the text
+-- no nodes were awaited where reading found an error of the text
 pub none_awaited : (problem : Instance) (claim : Claim) (had mid : Option (List ℕ)) (start now : Reading) (owed : List NodeContext) (fault : LinesFault) → IsReadTo problem claim had mid start now owed →
     ((other : Node) (nodes : List Node) → Awaits mid now (other ∷ nodes) → IsNoTextFault fault) → (Awaits mid now [] → IsNoTextFault fault) → (nodes : List Node) → Awaits had start nodes → IsNoTextFault fault
 none_awaited problem claim had mid start now owed fault so_far only_item only_end nodes awaits = let (rest, same, there) = so_far.ahead nodes awaits in by rest there where
@@ -265,7 +265,7 @@ no_refusal_judging P from.Device is none = tt
 no_refusal_judging P from.TooLong is none = tt
 no_refusal_judging P from.Memory is none = tt
 
--- where reading or judging an item ended with this fault
+-- where reading or judging an item ended with this error
 pub not_read_on : (problem : Instance) (claim : Claim) (had left : Option (List ℕ)) (failed : Bool) (start reading : Reading) (owed : List NodeContext) (result : Result Bool FromFault) (fault : FromFault) → IsErrAnd result (λ given. given ≡ fault) →
     ((nodes : List Node) → Awaits had start nodes → NodesShow problem claim (root ∷ []) nodes → IsNoRefusal fault) → IsOfChecking had left failed start.buffer (HasTreeRefusal problem claim had start) fault → IsReadOn problem claim had left failed start reading owed result
 not_read_on problem claim had left failed start reading owed (Ok more) fault is only stops = absurd is
@@ -281,12 +281,12 @@ pub err_passed : {A E : Type 0} (r : Result A E) (P : E → Type 0) (e : E) → 
 err_passed (Ok x) P e is holds = tt
 err_passed (Err y) P e is holds = subst P (sym is) holds
 
--- what is said of an error, said otherwise
+-- a weaker statement about an error
 pub err_made : {A E : Type 0} {P Q : E → Type 0} (r : Result A E) → ((e : E) → P e → Q e) → IfErr r P → IfErr r Q
 err_made (Ok x) f is = tt
 err_made (Err e) f is = f e is
 
--- an error that is passed on beside what an answer says
+-- an error that is passed on, for clauses about both results
 pub err_matched : {A E : Type 0} (r : Result A E) (P : A → Type 0) (Q : E → Type 0) (e : E) → IsErrAnd r (λ y. y ≡ e) → Q e → MatchResult r P Q
 err_matched (Ok x) P Q e is holds = absurd is
 err_matched (Err y) P Q e is holds = subst Q (sym is) holds

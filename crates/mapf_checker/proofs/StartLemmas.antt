@@ -56,7 +56,7 @@ AreLabelsBelow-push problem blocks before labels agent label below is_agent is_l
     (subst (λ (a : Agent). IsLabel problem.grid a.goal (with_blocks blocks before (length labels)) a.start 0 label) same is_label)))
     (slice_get-push labels label label' i is_label')
 
--- the block of an agent, where it stands
+-- the block of an agent, by its index
 pub block_of-at : (blocks : List LabelBlock) (agent k : ℕ) (block : LabelBlock) → AllPairs (λ a b. a.agent < b.agent) blocks → k < length blocks → ((d : LabelBlock) → slice_index_or blocks k d ≡ block) → block.agent ≡ agent → block_of blocks agent ≡ Some block
 block_of-at [] agent k block rising within at is = absurd (omega arith)
 block_of-at (b ∷ blocks) agent zero block rising within at is = let same : b ≡ block = at b in rw (eq-eqb b.agent agent (ap (λ (x : LabelBlock). x.agent) same ∙ is)) (ap Some same)
@@ -69,7 +69,7 @@ pub block_of-none : (blocks : List LabelBlock) (agent : ℕ) → ((k : ℕ) (d :
 block_of-none [] agent none = refl
 block_of-none (b ∷ blocks) agent none = rw (ne_eqb b.agent agent (none 0 b (omega arith))) (block_of-none blocks agent (λ k d within. none (suc k) d (omega arith)))
 
--- where the block of an agent stands
+-- the index of an agent's block
 pub block_of-found : (blocks : List LabelBlock) (agent : ℕ) (block : LabelBlock) → block_of blocks agent ≡ Some block → (k : ℕ) × (k < length blocks) × ((d : LabelBlock) → slice_index_or blocks k d ≡ block) × (block.agent ≡ agent)
 block_of-found [] agent block e = absurd cc
 block_of-found (b ∷ blocks) agent block e = elim (cases_eq b.agent agent) [
@@ -170,7 +170,7 @@ abbrev pub IsAtLeast : ℕ → Option ℕ → Type 0
 IsAtLeast least None = Unit {0}
 IsAtLeast least (Some total) = least ≤ total
 
--- whether the labels of the starts add up to at least this goes by their sum
+-- the labels of the starts add up to at least this if and only if their sum is at least this
 reach_decide : StartLabelsDecide → (problem : Instance) (least : ℕ) (blocks : List LabelBlock) (before : ℕ → Entries) (total : Option ℕ) → IsStartTotal problem blocks before total →
     StartsReach problem least (with_blocks blocks before) ↔ IsAtLeast least total
 reach_decide law problem least blocks before None (labels, are, adds) = (λ _. tt, λ _. (law problem (with_blocks blocks before) labels least are).1 (rw adds tt))
@@ -178,7 +178,7 @@ reach_decide law problem least blocks before (Some total) (labels, are, adds) =
     let both = law problem (with_blocks blocks before) labels least are in
     (λ shows. rw adds at (both.0 shows), λ enough. both.1 (rw adds enough))
 
--- whether the labels of the starts show a claim goes by their sum
+-- the labels of the starts show a claim if and only if their sum does
 pub starts_decide : StartLabelsDecide → StartLabelsDecideImpossible → (problem : Instance) (claim : Claim) (blocks : List LabelBlock) (before : ℕ → Entries) (total : Option ℕ) → IsStartTotal problem blocks before total →
     StartsShow problem claim (with_blocks blocks before) ↔ IsEnough claim total
 starts_decide law never problem (Cost cost) blocks before None total = reach_decide law problem cost blocks before None total

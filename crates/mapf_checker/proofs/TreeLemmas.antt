@@ -32,7 +32,7 @@ pub on_ok : {E X : Type 0} (r : Result X E) {P Q : Type 0} → (P → Q) → OnO
 on_ok (Ok x) f p = f p
 on_ok (Err e) f p = tt
 
--- contexts are alike to themselves, and alikeness passes on
+-- to be alike is reflexive, symmetric and transitive
 alike_same : (problem : Instance) (a : NodeContext) → AreAlike problem a a
 alike_same problem a = record { bars = refl; starts = λ i agent is. refl }
 
@@ -63,7 +63,7 @@ all_alike_passed problem (x ∷ xs) [] zs first second = absurd first
 all_alike_passed problem [] [] (z ∷ zs) first second = absurd second
 all_alike_passed problem (x ∷ xs) (y ∷ ys) [] first second = absurd second
 
--- after a node what is owed is still alike
+-- after a node the pending contexts are still alike
 pub alike_after : ChildrenAreAlike → (problem : Instance) (these those : List NodeContext) (node : Node) → AreAllAlike problem these those → AreAllAlike problem (contexts_after these node) (contexts_after those node)
 alike_after law problem [] [] node alike = tt
 alike_after law problem (a ∷ these) (b ∷ those) (SplitNode conflict blocks) (here, rest) = (law problem a b blocks (left_constraint conflict) here, (law problem a b blocks (right_constraint conflict) here, rest))
@@ -114,7 +114,7 @@ changes_know problem entries (block ∷ blocks) [] are = absurd are
 child_alike : (problem : Instance) (here : NodeContext) (blocks : List LabelBlock) (changes : List StartChange) (constraint : Constraint) → AreChangesBy problem here.entries blocks changes → AreAlike problem (child_after here changes constraint) (child_context here blocks constraint)
 child_alike problem here blocks changes constraint are = record { bars = refl; starts = changed_start problem here.entries blocks changes are }
 
--- what is owed after a node
+-- the contexts that are pending after a node
 pub contexts_after_split : (problem : Instance) (conflict : Conflict) (blocks : List LabelBlock) (changes : List StartChange) (is_over : Bool) (old new : Place) → is_over ≡ false → AreChangesBy problem old.here.entries blocks changes → IsSplit old conflict changes new →
     AreAllAlike problem (owed_at is_over new) (contexts_after (owed_at is_over old) (SplitNode conflict blocks))
 contexts_after_split problem conflict blocks changes true old new going are split = absurd cc
@@ -130,7 +130,7 @@ contexts_after_clash i j true old owed going same = absurd cc
 contexts_after_clash i j false old owed going same = same
 
 module _ (law : FrontDecides) (problem : Instance) (claim : Claim) (here : NodeContext) (owed : List NodeContext) where
-  -- whether the nodes from a good one on show the claim goes by those after it
+  -- the nodes from a good one on show the claim if and only if those after it do
   pub judged_good : (node : Node) → IsGoodNode problem claim here node → (rest : List Node) → NodesShow problem claim (here ∷ owed) (node ∷ rest) ↔ NodesShow problem claim (contexts_after (here ∷ owed) node) rest
   judged_good (SplitNode conflict blocks) good rest = let both = (law problem claim).at_split here owed conflict blocks rest in (λ shows. (both.0 shows).1, λ shows. both.1 (good, shows))
   judged_good (LeafNode blocks) good rest = let both = (law problem claim).at_leaf here owed blocks rest in (λ shows. (both.0 shows).1, λ shows. both.1 (good, shows))

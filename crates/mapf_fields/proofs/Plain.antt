@@ -50,7 +50,7 @@ plain-pair width height cell some narrow low inside =
 pub plain-word : (word : List ℕ) (k : ℕ) → lacks_end word ≡ true → length word ≡ k → IsPlain k word
 plain-word word k e l = record { ends = e; short = omega arith }
 
--- what stands before the first LF, and after it
+-- the text before the first LF, and the text after it
 pub same_front : (a b xs ys : List ℕ) → lacks_end a ≡ true → lacks_end b ≡ true → a ++ (10 ∷ xs) ≡ b ++ (10 ∷ ys) → (a ≡ b) × (xs ≡ ys)
 same_front [] [] xs ys p q e = (refl, cc)
 same_front [] (b ∷ bs) xs ys p q e =

@@ -260,7 +260,7 @@ replies_are_one before agent (Go cell) (Hold j) after other a b = absurd (a.4 j 
 replies_are_one before agent (Go c) (Go d) after other a b =
     (ap Go (sym a.3 ∙ ap (λ (v : Visit). v.cell) (one_next before agent a.1 b.1 a.2 b.2) ∙ b.3), one_change before after other agent a.0 b.0)
 
--- answers to agents that asked one after another, and to others after them
+-- replies to agents that asked one after another, and to others after them
 pub replies_join : (agents : List ℕ) (replies : List Reply) (before between after : Progress) (others : List ℕ) (more : List Reply) → AreReplies before agents replies between → AreReplies between others more after → AreReplies before (agents ++ others) (replies ++ more) after
 replies_join [] [] before between after others more same are = subst (λ p. AreReplies p others more after) (sym same) are
 replies_join [] (reply ∷ replies) before between after others more none are = absurd none

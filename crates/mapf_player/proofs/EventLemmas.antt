@@ -18,7 +18,7 @@ use Rattle.mapf_player.specs.Events.{event_line, event_lines, asked_lines, event
 use Rattle.mapf_player.specs.declared.events.EventFault.{EventFault}
 use Rattle.mapf_player.specs.declared.events.EventFault.TheVariants.{E1, E2, E3, E4, Memory}
 
--- a number's line is cut off whole
+-- the first line of a text that begins with a number's line is that line
 pub event_cut : (n : ℕ) (bs more line rest : List ℕ) → n < 2 ^ 64 → bs ≡ event_line n ++ more → IsCut bs line rest → (line ≡ decimal n) × (rest ≡ more)
 event_cut n bs more line rest fits spelled found =
     same_front line (decimal n) rest more found.whole (digits_lack (decimal n) ((decimal_is_IsNumeral n fits).0.1)) (sym found.same ∙ spelled ∙ append_assoc (decimal n) (10 ∷ []) more)
@@ -191,7 +191,7 @@ pub events_are_spelled_apart : SpellsOneListOfEvents
 events_are_spelled_apart bytes count a b few spells_a spells_b =
     one_list count few a b spells_a.in_range spells_b.in_range (same_front (codes "mapf-events 1") (codes "mapf-events 1") (event_lines a) (event_lines b) refl refl (sym spells_a.spelled ∙ spells_b.spelled)).1
 
--- an answer isn't both
+-- a result isn't both Ok and Err
 pub no_fault : {T E : Type 0} (r : Result T E) (fault : E) → r ≡ Err fault → IsOk r → ⊥
 no_fault (Ok x) fault is ok = absurd cc
 no_fault (Err e) fault is ok = absurd cc
@@ -210,7 +210,7 @@ title_of bytes line rest agents found spelled = (same_front line (codes "mapf-ev
 pub text_has_line : (bytes : List ℕ) (agents : List ℕ) → bytes ≡ event_text agents → lacks_end bytes ≡ false
 text_has_line bytes agents spelled = has_line bytes (codes "mapf-events 1") (event_lines agents) spelled
 
--- an error that a call passed on says what it said there
+-- what holds of an error that a call passes on holds of the result
 pub fault_passed : {T E : Type 0} (P : E → Type 0) (r : Result T E) (fault : E) → IsErrAnd r (λ given. given ≡ fault) → P fault → IfErr r P
 fault_passed P (Ok x) fault is says = tt
 fault_passed P (Err given) fault is says = subst P (sym is) says

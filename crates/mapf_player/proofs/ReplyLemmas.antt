@@ -1,4 +1,4 @@
--- Every agent that asks is answered, and what is written of the answers.
+-- Every agent that asks gets a reply, and what is written of the replies.
 use Rattle.std.proofs.Common.{◌≡◌, ◌≢◌, ◌⊎◌, ℕ, zero, suc, ◌+◌, ◌<◌, ◌≤◌, List, [], ◌∷◌, ◌++◌, All, Option, Some, length, take, drop, get_or, slice_get, refl, sym, ap, subst, ◌∙◌, inl, inr, ⊎_elim, arith, append_assoc, append-nil, take-append-drop}
 use Rattle.std.proofs.lemmas.Bool.{cases_eq, cases_lt}
 use Rattle.std.proofs.lemmas.List.{take_more}
@@ -85,7 +85,7 @@ module _ (before : Progress) (progress : IsProgress before) (agent : ℕ) (visit
           (cases_lt n current)))
           (earlier_or_none own visit current)
 
--- of what is so of some numbers the least, if it is so of any
+-- the least number that has a property, or no number below k has it
 least_or_none : (P : ℕ → Type 0) → ((n : ℕ) → P n ⊎ (P n → ⊥)) → (k : ℕ) → ((n : ℕ) × P n × ((m : ℕ) → P m → n ≤ m)) ⊎ ((m : ℕ) → m < k → P m → ⊥)
 least_or_none P decide zero = inr (λ m low is. absurd (omega arith))
 least_or_none P decide (suc k) = ⊎_elim
@@ -96,7 +96,7 @@ least_or_none P decide (suc k) = ⊎_elim
     (decide k))
     (least_or_none P decide k)
 
--- each agent that asks is answered
+-- each agent that asks gets a reply
 pub answered : (before : Progress) (agent : ℕ) → IsProgress before → agent < length before.numbers → (reply : Reply) × (after : Progress) × IsReply before agent reply after
 answered before agent progress within =
     let (number, number_is) = slice_get_inside before.numbers agent within in
@@ -116,13 +116,13 @@ answered before agent progress within =
     (λ (last : length own ≤ number + 1). (Done, before, (refl, visit, (number, number_is, (own, own_is, visit_is)), next_none before agent number own number_is own_is last)))
     (cases_lt (number + 1) (length own))
 
--- an answer leaves as many agents as there were
+-- a reply doesn't change the number of agents
 pub numbers_kept : (before after : Progress) (agent : ℕ) (reply : Reply) → IsReply before agent reply after → length after.numbers ≡ length before.numbers
 numbers_kept before after agent Done reply = ap (λ (p : Progress). length p.numbers) (sym reply.0)
 numbers_kept before after agent (Hold other) reply = ap (λ (p : Progress). length p.numbers) (sym reply.0)
 numbers_kept before after agent (Go cell) reply = ap (λ (p : Progress). length p.numbers) reply.0.2 ∙ length-slice_set before.numbers agent (reply.0.0 + 1)
 
--- and so is a list of them
+-- and so do agents that ask one after another
 pub all_answered : (agents : List ℕ) (before : Progress) → IsProgress before → IsInOrder before → All (λ agent. agent < length before.numbers) agents → (replies : List Reply) × (after : Progress) × AreReplies before agents replies after
 all_answered [] before progress order low = ([], before, refl)
 all_answered (agent ∷ agents) before progress order low =
@@ -132,7 +132,7 @@ all_answered (agent ∷ agents) before progress order low =
     let (replies, after, are) = all_answered agents between kept.1 kept.2 (λ k d within. let here = low (suc k) d (omega arith) in omega arith) in
     (reply ∷ replies, after, (between, is, are))
 
--- the lines of both
+-- the lines of two lists of replies
 pub text_joins : (width : ℕ) (agents : List ℕ) (replies : List Reply) (before between : Progress) (others : List ℕ) (more : List Reply) → AreReplies before agents replies between → reply_text width (agents ++ others) (replies ++ more) ≡ reply_text width agents replies ++ reply_text width others more
 text_joins width [] [] before between others more same = refl
 text_joins width [] (reply ∷ replies) before between others more none = absurd none
@@ -145,7 +145,7 @@ all_rest : (P : ℕ → Type 0) (xs ys : List ℕ) → All P (xs ++ ys) → All 
 all_rest P [] ys all = all
 all_rest P (x ∷ xs) ys all = all_rest P xs ys (λ k d within. all (suc k) d (omega arith))
 
--- the agents up to the one at this place have asked, and it is answered
+-- the agents up to the one at this place have asked, and this one gets a reply
 module _ (width : ℕ) (agents : List ℕ) (place agent : ℕ) (within : place < length agents) (is : agent ≡ get_or agents place 0) (before between after : Progress) (replies : List Reply) (replied : AreReplies before (take place agents) replies between) (reply : Reply) (answer : IsReply between agent reply after) where
   next_place : take (place + 1) agents ≡ take place agents ++ agent ∷ []
   next_place = take_more agents place 0 within ∙ ap (λ x. take place agents ++ x ∷ []) (sym is)
@@ -166,7 +166,7 @@ module _ (width : ℕ) (agents : List ℕ) (place agent : ℕ) (within : place <
   all_agents : take (place + 1) agents ++ drop (place + 1) agents ≡ agents
   all_agents = take-append-drop (place + 1) agents
 
-  -- where its answer isn't written whole, a prefix of all answers is
+  -- where its reply isn't written as a whole, a prefix of all replies is written
   pub lines_fail : (a b c : Option (List ℕ)) (h i : List ℕ) → Passes a b h i (reply_text width (take place agents) replies) → WritesPrefix b c (i ++ reply_line width agent reply) → IsProgress after → IsInOrder after → All (λ x. x < length after.numbers) agents →
       (all : List Reply) × (last : Progress) × AreReplies before agents all last × WritesPrefix a c (h ++ reply_text width agents all)
   lines_fail a b c h i far this progress order low =
@@ -195,7 +195,7 @@ same_visits plan a b of_a of_b = same_places a b (λ n. ⊎_elim
     (λ (past : length plan ≤ n). slice_get_past a n (let count = of_a.count in omega arith) ∙ sym (slice_get_past b n (let count = of_b.count in omega arith)))
     (cases_lt n (length plan)))
 
--- and so are the answers
+-- and so are the replies
 same_replies : (agents : List ℕ) (a b : List Reply) (before after other : Progress) → AreReplies before agents a after → AreReplies before agents b other → a ≡ b
 same_replies [] [] [] before after other are_a are_b = refl
 same_replies [] (x ∷ xs) b before after other none are_b = absurd none

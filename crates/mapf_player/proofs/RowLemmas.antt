@@ -66,7 +66,7 @@ same_mark (Some k) other = let same : 0 + k ≡ k = omega arith in ap mark same
 pub marked_is : (paths : List (List ℕ)) (tick cell other : ℕ) → marked 0 paths tick cell other ≡ unwrap_or (option_map mark (agent_in paths tick cell)) other
 marked_is paths tick cell other = marked_from 0 paths tick cell other ∙ same_mark (agent_in paths tick cell) other
 
--- in the row y each cell has the byte of the agents from this one on, over what stood there
+-- in the row y each cell has the byte of the agents from this one on, over the byte from before
 abbrev pub AreMarked : ℕ → ℕ → ℕ → List (List ℕ) → ℕ → List ℕ → List ℕ → Type 0
 AreMarked w y first paths tick old row = (x : ℕ) → x < w → get_or row x 0 ≡ marked first paths tick (y * w + x) (get_or old x 0)
 

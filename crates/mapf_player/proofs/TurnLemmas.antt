@@ -58,7 +58,7 @@ all_turns-next now n visits own same is =
 none_more : (n : ℕ) → 0 + n ≡ n
 none_more n = omega arith
 
--- an item stands somewhere in a list
+-- an item is at some place of a list
 abbrev Has : {X : Type 0} → List X → X → Type 0
 Has xs x = (k : ℕ) × (slice_get xs k ≡ Some x)
 

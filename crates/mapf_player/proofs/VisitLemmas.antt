@@ -170,7 +170,7 @@ all_visits path visits some are = record {
   rising = are.rising;
 }
 
--- the cell that stands at a tick of the path's cells
+-- the cell at a tick of the path's cells
 pub at_cell : (cells path : List ℕ) → cells ≡ path → (tick cell : ℕ) → tick < length cells → cell ≡ get_or cells tick cell → cell ≡ at path tick
 at_cell cells path same tick cell within is =
     let size = ap length same in

@@ -4,7 +4,6 @@ use Rattle.mapf_player.proofs.VisitLemmas.{AreVisitsBefore, all_visits, with_ent
 use Rattle.mapf_player.proofs.visit.Visits.of.Goals.{then-is_entry+in_ok-push, else-is_entry}
 use Rattle.mapf_player.proofs.visit.Visits.of.Goals as goal
 
--- src/visit.rt:49:9
 pub loop-tick-preserved : goal.loop-tick-preserved
 loop-tick-preserved c = elim c.if-is_entry.branch [
   | then-is_entry+in_ok-push w ↦
@@ -18,14 +17,12 @@ loop-tick-preserved c = elim c.if-is_entry.branch [
       (without_entry c.args.path.now c.loop-tick.tick c.loop-tick.visits.items c.loop-tick.invariant (λ entry. let is = c.is_entry.ensures.1 (subst (λ p. IsEntry p c.loop-tick.tick) (sym c.cells-cells.ensures.value) entry) in let no = w.if-is_entry.false in absurd cc))
 ]
 
--- src/visit.rt:57:9
 pub invariant_of-result : goal.invariant_of-result
 invariant_of-result c =
     let few = c.cells-cells.ensures.few in
     let last : c.loop-tick.tick ≤ length c.cells-cells.result.now = c.loop-tick.auto.tick-end in
     entries_within c.args.path.now c.loop-tick.tick c.loop-tick.visits.items c.loop-tick.invariant (omega arith)
 
--- src/visit.rt:44:5
 pub returns : goal.returns
 returns c =
     let cells = c.cells-cells.ensures.value in
