@@ -10,7 +10,7 @@
 //!    existed at either path, both may lead to one new file. What was created is removed again.
 //! 5. PLAN is emptied, and then CERT. If CERT couldn't be opened, PLAN is emptied all the same.
 
-ghost use Rattle.std.specs.Prelude.{◌≡◌, OnOk};
+ghost use Rattle.std.specs.Prelude.{OnOk};
 ghost use Rattle.mapf.specs.Files.{AreApart};
 
 use mapf_app::{Fault, Output};

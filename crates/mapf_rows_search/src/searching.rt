@@ -7,7 +7,7 @@ use mapf_cbs::{Answer, Cause, solve, solve_with};
 use mapf_conflicts::{Conflict, first_conflict};
 use mapf_constraints::{BarTable, ListBars, TickBars};
 use mapf_distance::Distances;
-use mapf_model::{Agent, Block, Cell, Entry, Grid, Item, Label, OutOfMemory, Path, Plan, Problem};
+use mapf_model::{Agent, Block, Cell, Grid, Item, Label, OutOfMemory, Path, Plan, Problem};
 use std::alloc::{AllocError, Global};
 use std::process::Abort;
 use std::test::Fail;
