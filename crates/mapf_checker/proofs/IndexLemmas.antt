@@ -14,7 +14,7 @@ use Rattle.std.specs.Ordering.{ordering_then, is_gt}
 use Rattle.mapf_model.specs.declared.bar.Bar.{Bar}
 use Rattle.mapf_model.specs.declared.bar.Bar.TheVariants.{Cell, Move}
 use Rattle.mapf_model.specs.Tree.{with_bar, with_constraint}
-use Rattle.mapf_model.proofs.SplitLemmas.{Contains-cons_cases}
+use Rattle.mapf_model.proofs.ContainsLemmas.{Contains-cons_cases}
 use Rattle.mapf_model.specs.declared.constraint.Constraint.{Constraint}
 use Rattle.mapf_checker.specs.declared.barred.BarredCell.{BarredCell}
 use Rattle.mapf_checker.specs.declared.barred.BarredMove.{BarredMove}

@@ -1,6 +1,6 @@
 use Rattle.std.proofs.Common.{◌≡◌, subst, arith}
 use Rattle.mapf_model.specs.Earned.{AreConflictFreeBefore}
-use Rattle.mapf_checker.proofs.ConflictLemmas.{free_one_more, none_after}
+use Rattle.mapf_model.proofs.ConflictLemmas.{free_one_more, none_after}
 use Rattle.mapf_checker.proofs.conflicts.first_conflict.Goals as goal
 
 pub loop-tick-preserved : goal.loop-tick-preserved
