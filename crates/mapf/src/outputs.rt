@@ -11,7 +11,7 @@
 //! 5. PLAN is emptied, and then CERT. If CERT couldn't be opened, PLAN is emptied all the same.
 
 ghost use Rattle.std.specs.Prelude.{OnOk};
-ghost use Rattle.mapf.specs.Files.{AreApart};
+ghost use Rattle.mapf.specs.Files.{AreDistinctFiles};
 
 use mapf_app::{Fault, Output};
 use std::fs::{File, Metadata, OpenOptions};
@@ -85,7 +85,7 @@ fn regular(found: &Metadata) -> Option<Identity> {
 
 // Refuses an output that is the same file as the other.
 fn apart<'a>(output: Place<'a>, other: Place<'a>) -> Result<(), OneFile<'a>>
-    ensures { OnOk result (AreApart output.entry.file other.entry.file) }
+    ensures { OnOk result (AreDistinctFiles output.entry.file other.entry.file) }
 {
     match (output.file, other.file) {
         (Some(written), Some(another)) if written == another => Err(OneFile {
@@ -103,9 +103,10 @@ fn all_apart<'a>(
     plan: Place<'a>,
     cert: Place<'a>,
 ) -> Result<(), OneFile<'a>>
-    ensures { OnOk result (AreApart plan.entry.file map.entry.file × AreApart plan.entry.file scen.entry.file
-        × AreApart cert.entry.file map.entry.file × AreApart cert.entry.file scen.entry.file
-        × AreApart cert.entry.file plan.entry.file) }
+    ensures { OnOk result
+        (AreDistinctFiles plan.entry.file map.entry.file × AreDistinctFiles plan.entry.file scen.entry.file
+        × AreDistinctFiles cert.entry.file map.entry.file × AreDistinctFiles cert.entry.file scen.entry.file
+        × AreDistinctFiles cert.entry.file plan.entry.file) }
 {
     apart(plan, map)?;
     apart(plan, scen)?;

@@ -28,8 +28,8 @@ bound_text None = []
 bound_text (Some bound) = codes " bound" ++ number_text (Some bound)
 
 -- a line's bytes: its words, a name, numbers, a bound, and LF
-abbrev pub line_text : Line → List ℕ
-line_text line = line.words.now ++ (defect_text line.defect ++ (number_text line.numbers.0 ++ (number_text line.numbers.1 ++ (number_text line.numbers.2 ++ (bound_text line.bound ++ (10 ∷ []))))))
+abbrev pub message_text : Line → List ℕ
+message_text line = line.words.now ++ (defect_text line.defect ++ (number_text line.numbers.0 ++ (number_text line.numbers.1 ++ (number_text line.numbers.2 ++ (bound_text line.bound ++ (10 ∷ []))))))
 
 -- `cost C`, `impossible`, `limit S bound B` or `limit ticks bound B`
 abbrev pub kind_line : Kind → List ℕ

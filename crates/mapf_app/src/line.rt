@@ -4,7 +4,7 @@ ghost use Rattle.std.specs.Io.KnownBytes.{Appends};
 ghost use Rattle.mapf_app.specs.FaultLines.{cert_fault_line, event_fault_line, fault_line, map_fault_line};
 ghost use Rattle.mapf_app.specs.FaultLines.{plan_fault_line, plan_text_fault_line, play_fault_line};
 ghost use Rattle.mapf_app.specs.FaultLines.{refusal_line, scenario_fault_line};
-ghost use Rattle.mapf_app.specs.Told.{bound_text, defect_text, line_text, number_text, verdict_line};
+ghost use Rattle.mapf_app.specs.Told.{bound_text, defect_text, message_text, number_text, verdict_line};
 
 use crate::fault::{Fault, Input, Output, PlayFault};
 use itoa::Buffer;
@@ -85,7 +85,7 @@ impl Line {
 
     /// Returns the line of a verdict.
     pub fn of_verdict(verdict: Verdict) -> Line
-        ensures { line_text result ≡ verdict_line verdict }
+        ensures { message_text result ≡ verdict_line verdict }
     {
         match verdict {
             Verdict::Optimal(cost) => Line::of("optimal").with(cost),
@@ -96,7 +96,7 @@ impl Line {
 
     /// Returns the line of an error.
     pub fn of_fault(fault: Fault) -> Line
-        ensures { line_text result ≡ fault_line fault }
+        ensures { message_text result ≡ fault_line fault }
     {
         match fault {
             Fault::F1(fault) => map_line(fault),
@@ -117,7 +117,7 @@ impl Line {
 }
 
 fn map_line(fault: MapFault) -> Line
-    ensures { line_text result ≡ map_fault_line fault }
+    ensures { message_text result ≡ map_fault_line fault }
 {
     match fault {
         MapFault::M1 => Line::of("F1 M1"),
@@ -134,7 +134,7 @@ fn map_line(fault: MapFault) -> Line
 }
 
 fn scenario_line(fault: ScenFault) -> Line
-    ensures { line_text result ≡ scenario_fault_line fault }
+    ensures { message_text result ≡ scenario_fault_line fault }
 {
     match fault {
         ScenFault::S1 => Line::of("F2 S1"),
@@ -149,7 +149,7 @@ fn scenario_line(fault: ScenFault) -> Line
 }
 
 fn refusal_line(refusal: CheckFault) -> Line
-    ensures { line_text result ≡ refusal_line refusal }
+    ensures { message_text result ≡ refusal_line refusal }
 {
     match refusal {
         CheckFault::C1(fault) => plan_text_line("refused C1", fault),
@@ -166,7 +166,7 @@ fn refusal_line(refusal: CheckFault) -> Line
 }
 
 fn plan_text_line(words: &'static str, fault: PlanTextFault) -> Line
-    ensures { line_text result ≡ plan_text_fault_line words.entry.now fault }
+    ensures { message_text result ≡ plan_text_fault_line words.entry.now fault }
 {
     match fault {
         PlanTextFault::P1(line) => Line::of(words).naming("P1").with(line),
@@ -178,7 +178,7 @@ fn plan_text_line(words: &'static str, fault: PlanTextFault) -> Line
 }
 
 fn certificate_line(fault: CertFault) -> Line
-    ensures { line_text result ≡ cert_fault_line fault }
+    ensures { message_text result ≡ cert_fault_line fault }
 {
     match fault {
         CertFault::K1(line) => Line::of("refused C2 K1").with(line),
@@ -190,7 +190,7 @@ fn certificate_line(fault: CertFault) -> Line
 }
 
 fn plan_line(words: &'static str, fault: PlanFault) -> Line
-    ensures { line_text result ≡ plan_fault_line words.entry.now fault }
+    ensures { message_text result ≡ plan_fault_line words.entry.now fault }
 {
     let line = Line::of(words);
     match fault {
@@ -203,7 +203,7 @@ fn plan_line(words: &'static str, fault: PlanFault) -> Line
 }
 
 fn play_line(fault: PlayFault) -> Line
-    ensures { line_text result ≡ play_fault_line fault }
+    ensures { message_text result ≡ play_fault_line fault }
 {
     match fault {
         PlayFault::Text(fault) => plan_text_line("F3", fault),
@@ -215,7 +215,7 @@ fn play_line(fault: PlayFault) -> Line
 }
 
 fn event_line(fault: EventFault) -> Line
-    ensures { line_text result ≡ event_fault_line fault }
+    ensures { message_text result ≡ event_fault_line fault }
 {
     match fault {
         EventFault::E1(line) => Line::of("F3 E1").with(line),
@@ -269,7 +269,7 @@ fn write_bound<K: Sink>(sink: &mut K, bound: Option<u64>) -> Result<(), Failed>
 /// Writes the line with its LF.
 pub fn write_line<K: Sink>(sink: &mut K, line: &Line) -> Result<(), Failed>
     requires { K.has_failed sink.old ≡ false }
-    ensures text { OnOk result (Appends (K.contents sink.old) (K.contents sink.new) (line_text line.now)) }
+    ensures text { OnOk result (Appends (K.contents sink.old) (K.contents sink.new) (message_text line.now)) }
     ensures failed { K.has_failed sink.new ≡ is_err result }
 {
     let (first, second, third) = line.numbers;

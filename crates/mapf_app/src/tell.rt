@@ -1,7 +1,7 @@
 ghost use Rattle.std.specs.Prelude.{◌≡◌, false, IfOk, IfErr, OnOk, MatchBool, if◌then◌else◌};
 ghost use Rattle.std.specs.Result.{is_err};
 ghost use Rattle.mapf_app.specs.FaultLines.{fault_line};
-ghost use Rattle.mapf_app.specs.Told.{Tells, is_refusal, kind_status, kind_line, line_text, verdict_line};
+ghost use Rattle.mapf_app.specs.Told.{Tells, is_refusal, kind_status, kind_line, message_text, verdict_line};
 
 use crate::fault::Fault;
 use crate::kind::Kind;
@@ -31,7 +31,7 @@ fn told(written: Result<(), Failed>, status: u8) -> u8
 }
 
 fn kind_line(kind: Kind) -> (Line, u8)
-    ensures text { line_text result.0 ≡ kind_line kind }
+    ensures text { message_text result.0 ≡ kind_line kind }
     ensures status { result.1 ≡ kind_status kind }
 {
     match kind {

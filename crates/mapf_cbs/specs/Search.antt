@@ -45,7 +45,7 @@ pub record AreCounted (problem : Instance) (view : View) : Type 0 where
 
 -- the block is of an agent of the problem; it has labels, and these are sound under the agent's constraints and can be
 -- printed
-pub record IsGoodBlock (problem : Instance) (bars : ℕ → List Bar) (block : LabelBlock) : Type 0 where
+pub record IsPrintableBlock (problem : Instance) (bars : ℕ → List Bar) (block : LabelBlock) : Type 0 where
   pub agent : Agent
   pub known : slice_get problem.agents block.agent ≡ Some agent
   pub labels : AreGoodLabels (task_of problem.grid agent (bars block.agent)) block.entries
@@ -54,7 +54,7 @@ pub record IsGoodBlock (problem : Instance) (bars : ℕ → List Bar) (block : L
 -- no block, or one such block
 abbrev pub AreOwnBlocks : Instance → (ℕ → List Bar) → List LabelBlock → Type 0
 AreOwnBlocks problem bars [] = Unit {0}
-AreOwnBlocks problem bars (block ∷ []) = IsGoodBlock problem bars block
+AreOwnBlocks problem bars (block ∷ []) = IsPrintableBlock problem bars block
 AreOwnBlocks problem bars (block ∷ other ∷ blocks) = ⊥
 
 -- each agent has a cheapest path

@@ -12,7 +12,6 @@ use Rattle.mapf_model.specs.Grid.{GridMap}
 use Rattle.mapf_model.specs.Printed.{IsConflictInRange, IsBlockInRange, AreBlocksInRange, IsTreeInRange}
 use Rattle.mapf_model.specs.Tree.{ConstraintTree, Split, Leaf, Clash, Node, SplitNode, LeafNode, ClashNode, Spell, node_of, nodes_of, nodes_of_all}
 use Rattle.mapf_model.proofs.ItemLemmas.{cut}
-use Rattle.mapf_fields.proofs.Binds.{same_some}
 use Rattle.mapf_certificate.specs.declared.version.Version.{Version}
 use Rattle.mapf_certificate.specs.declared.version.Version.TheVariants.{One, Two}
 use Rattle.mapf_certificate.specs.declared.sizes.Sizes.{Sizes}
@@ -23,6 +22,7 @@ use Rattle.mapf_certificate.specs.CertReading.{IsCertText, AwaitsCert, trees_owe
 use Rattle.mapf_certificate.proofs.Nodes.{nodes_apart}
 use Rattle.mapf_certificate.proofs.Rests.{rest_starts, rest_ends}
 use Rattle.mapf_certificate.proofs.Headers.{same_header}
+use Rattle.std.proofs.lemmas.Option.{same_Some}
 
 -- two grids of one size
 pub record AreSized (a b : GridMap) : Type 0 where
@@ -196,7 +196,7 @@ pub spells_from_awaits : (grid : GridMap) (width height limit : ℕ) (version : 
     → remaining ≡ Some bytes → AwaitsCert remaining r version agents claim nodes → (tree : ConstraintTree) × SpellsCert grid bytes version agents claim tree × (nodes ≡ nodes_of tree)
 spells_from_awaits grid width height limit version agents claim nodes remaining bytes r new wide high known awaits =
     let first = subst (λ (q : Reading). AwaitsCert remaining q version agents claim nodes) new awaits in
-    let one : first.bytes ≡ bytes = same_some first.bytes bytes (sym first.known ∙ known) in
+    let one : first.bytes ≡ bytes = same_Some first.bytes bytes (sym first.known ∙ known) in
     spells_from_text grid (grid_of width height) version agents claim nodes bytes (record { width = wide; height = high }) (subst (IsCertText (grid_of width height) 1 version agents claim nodes) one first.text)
 
 pub awaits_from_spells : (grid : GridMap) (width height limit : ℕ) (version : Version) (agents : ℕ) (claim : Claim) (tree : ConstraintTree) (remaining : Option (List ℕ)) (bytes : List ℕ) (r : Reading) → r ≡ opened width height limit → width ≡ grid.width → height ≡ grid.height

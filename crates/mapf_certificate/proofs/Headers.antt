@@ -4,7 +4,6 @@ use Rattle.mapf_model.specs.declared.item.Claim.{Claim}
 use Rattle.mapf_model.specs.declared.item.Claim.TheVariants as claims
 use Rattle.mapf_model.specs.Grid.{GridMap}
 use Rattle.mapf_model.specs.Tree.{Node}
-use Rattle.mapf_fields.proofs.Binds.{same_some}
 use Rattle.mapf_certificate.specs.declared.version.Version.{Version}
 use Rattle.mapf_certificate.specs.declared.cert.LinesFault.{LinesFault}
 use Rattle.mapf_certificate.specs.declared.line.CertLine.{CertLine}
@@ -21,6 +20,7 @@ use Rattle.mapf_certificate.specs.Bounded.{BeginsWithLine}
 use Rattle.mapf_certificate.proofs.PlainLines.{same_line}
 use Rattle.mapf_certificate.proofs.TakenThere.{there-trans}
 use Rattle.mapf_certificate.proofs.Windows.{Window-trans, Window-known, Fails-after, Fails-weaker, Fails-not}
+use Rattle.std.proofs.lemmas.Option.{same_Some}
 
 -- only a claim's line could hang on the width, and it doesn't
 claim_words : (width : ℕ) (claim : Claim) → line_text width (lines.Claim claim) ≡ line_text 1 (lines.Claim claim)
@@ -127,7 +127,7 @@ pub header_joins : (had left : Option (List ℕ)) (old new : Reading) (agents : 
     → (bytes : List ℕ) → had ≡ Some bytes → (nodes : List Node) → Awaits left new nodes → AwaitsCert had old new.version agents claim nodes
 header_joins had left old new agents claim few ranged window grid count owed bytes known nodes awaits =
     let (rest, kept, same, many) = Window-known had left old.buffer new.buffer (header_text new.version old.width agents claim) bytes window known in
-    let one : awaits.bytes ≡ rest = same_some awaits.bytes rest (sym awaits.known ∙ kept) in
+    let one : awaits.bytes ≡ rest = same_Some awaits.bytes rest (sym awaits.known ∙ kept) in
     let moved = subst (λ (k : ℕ). IsRest new.version (grid_at old) agents k nodes (new.buffer.bytes ++ awaits.bytes)) owed (subst (λ (n : ℕ). IsRest new.version (grid_at old) n new.owed nodes (new.buffer.bytes ++ awaits.bytes)) count (subst (λ (g : GridMap). IsRest new.version g (agents_at new) new.owed nodes (new.buffer.bytes ++ awaits.bytes)) grid awaits.rest)) in
     record {
       bytes = bytes;

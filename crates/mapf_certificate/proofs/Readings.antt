@@ -6,7 +6,6 @@ use Rattle.std.specs.Io.KnownBytes.{IsAtEnd}
 use Rattle.mapf_model.specs.declared.item.Claim.{Claim}
 use Rattle.mapf_model.specs.Grid.{GridMap}
 use Rattle.mapf_model.specs.Tree.{Node}
-use Rattle.mapf_fields.proofs.Binds.{same_some}
 use Rattle.mapf_certificate.specs.declared.version.Version.{Version}
 use Rattle.mapf_certificate.specs.declared.cert.LinesFault.{LinesFault}
 use Rattle.mapf_certificate.specs.declared.line.CertLine.{CertLine}
@@ -24,6 +23,7 @@ use Rattle.mapf_certificate.proofs.PlainLines.{same_line}
 use Rattle.mapf_certificate.proofs.Windows.{Window-trans, Window-known, Fails-after, Fails-weaker, Fails-not}
 use Rattle.mapf_certificate.proofs.Nodes.{node_is_line, nodes_apart}
 use Rattle.mapf_certificate.proofs.Rests.{rest_starts, rest_ends, end_is_rest, rest_joins}
+use Rattle.std.proofs.lemmas.Option.{same_Some}
 
 -- what bounds the numbers of a reading's lines
 pub record Bounds (sizes : Sizes) (r : Reading) : Type 0 where
@@ -109,7 +109,7 @@ reads_node sizes had mid left old new y line node bounds wide first completes so
 pub node_joins : (had left : Option (List ℕ)) (old new : Reading) (node : Node) → Continues old new → ReadsNode had left old new node → (bytes : List ℕ) → had ≡ Some bytes → (nodes : List Node) → Awaits left new nodes → Awaits had old (node ∷ nodes)
 node_joins had left old new node on reads bytes known nodes awaits =
     let (rest, kept, same, many) = Window-known had left old.buffer new.buffer (node_text old.version old.width node) bytes reads.window known in
-    let one : awaits.bytes ≡ rest = same_some awaits.bytes rest (sym awaits.known ∙ kept) in
+    let one : awaits.bytes ≡ rest = same_Some awaits.bytes rest (sym awaits.known ∙ kept) in
     let moved = rest_moved new.version old.version (grid_at new) (grid_at old) (agents_at new) (agents_at old) new.owed nodes (new.buffer.bytes ++ awaits.bytes) on.version on.grid on.agents awaits.rest in
     let after = subst (λ (n : ℕ). IsRest old.version (grid_at old) (agents_at old) n nodes (new.buffer.bytes ++ awaits.bytes)) reads.owed moved in
     let joined = rest_joins old.version (grid_at old) (agents_at old) old.owed node nodes (new.buffer.bytes ++ awaits.bytes) reads.in_range reads.was_owed after in

@@ -22,7 +22,7 @@ pub record Reading : Type 0 where
   pub owed : ℕ
 
 -- what holds at any time
-pub record IsReading (r : Reading) : Type 0 where
+pub record IsReaderState (r : Reading) : Type 0 where
   pub columns : (1 ≤ r.width) × (r.width ≤ greatest_side)
   pub rows : (1 ≤ r.height) × (r.height ≤ greatest_side)
   pub agents : IfSome r.header (λ h. IsAgentCount h.0)

@@ -50,7 +50,7 @@ pub struct CertLines {
 }
 
 impl Model for CertLines {
-    ghost use Rattle.mapf_certificate.specs.Reading.{Reading, IsReading};
+    ghost use Rattle.mapf_certificate.specs.Reading.{Reading, IsReaderState};
 
     ghost Value = { Reading };
 
@@ -65,7 +65,7 @@ impl Model for CertLines {
       owed = l.owed;
     } };
 
-    ghost invariant = { λ l. IsReading (record {
+    ghost invariant = { λ l. IsReaderState (record {
       width = l.width;
       height = l.height;
       buffer = l.lines.buffer;

@@ -18,7 +18,7 @@ use Rattle.mapf_model.specs.Tree.{StartsReach, StartsShow, block_of, with_blocks
 use Rattle.mapf_distance.specs.Distances.{IsDistanceOrNone}
 use Rattle.mapf_distance.specs.Tables.{AreStartDistances}
 use Rattle.mapf_checker.specs.Starts.{IsKept}
-use Rattle.mapf_checker.specs.Leaf.{IsCut, IsStartLabel, IsStartOf, IsStartTotal, IsEnough, label_of, TakesBlock, LeavesBlock}
+use Rattle.mapf_checker.specs.Leaf.{IsPlaceOfAgent, IsStartLabel, IsStartOf, IsStartTotal, IsEnough, label_of_total, TakesBlock, LeavesBlock}
 
 -- labels of the first starts
 abbrev pub AreLabelsBelow : Instance → List LabelBlock → (ℕ → Entries) → List Label → Type 0
@@ -93,7 +93,7 @@ Contains-never (Ticks n ∷ labels) e = let (k, within, is) = Contains-never lab
   rest (Ticks m) e = absurd cc
   rest Never e = refl
 
-module _ (blocks : List LabelBlock) (place agent : ℕ) (rising : AllPairs (λ a b. a.agent < b.agent) blocks) (cut : IsCut blocks place agent) where
+module _ (blocks : List LabelBlock) (place agent : ℕ) (rising : AllPairs (λ a b. a.agent < b.agent) blocks) (cut : IsPlaceOfAgent blocks place agent) where
   pub takes_block : (block : LabelBlock) → place < length blocks → ((d : LabelBlock) → slice_index_or blocks place d ≡ block) → block.agent ≡ agent → TakesBlock blocks place agent
   takes_block block inside at is = record {
     inside = inside;
@@ -147,9 +147,9 @@ module _ (problem : Instance) (blocks : List LabelBlock) (before : ℕ → Entri
 
 -- one label more
 pub start_more : (problem : Instance) (blocks : List LabelBlock) (before : ℕ → Entries) (i : ℕ) (total sum : Option ℕ) (label : Label) → i < length problem.agents →
-    (labels : List Label) × (length labels ≡ i) × AreLabelsBelow problem blocks before labels × (label_sum labels ≡ label_of total) →
-    IsStartLabel problem blocks before i label → label_of sum ≡ label_plus (label_of total) label →
-    (labels : List Label) × (length labels ≡ i + 1) × AreLabelsBelow problem blocks before labels × (label_sum labels ≡ label_of sum)
+    (labels : List Label) × (length labels ≡ i) × AreLabelsBelow problem blocks before labels × (label_sum labels ≡ label_of_total total) →
+    IsStartLabel problem blocks before i label → label_of_total sum ≡ label_plus (label_of_total total) label →
+    (labels : List Label) × (length labels ≡ i + 1) × AreLabelsBelow problem blocks before labels × (label_sum labels ≡ label_of_total sum)
 start_more problem blocks before i total sum label inside (labels, count, below, adds) is_label is_sum =
     let (agent, is_agent) = slice_get_inside problem.agents i inside in (
       labels ++ label ∷ [],
@@ -158,7 +158,7 @@ start_more problem blocks before i total sum label inside (labels, count, below,
       label_sum-push labels label ∙ ap (λ s. label_plus s label) adds ∙ sym is_sum,
     )
 
-pub bound_more : (total sum : Option ℕ) (i : ℕ) (label : Label) → label_of sum ≡ label_plus (label_of total) label → IfSome sum (λ s. IfSome total (λ t. s ≤ t + 4294967295)) → IfSome total (λ t. t ≤ 4294967295 * i) →
+pub bound_more : (total sum : Option ℕ) (i : ℕ) (label : Label) → label_of_total sum ≡ label_plus (label_of_total total) label → IfSome sum (λ s. IfSome total (λ t. s ≤ t + 4294967295)) → IfSome total (λ t. t ≤ 4294967295 * i) →
     IfSome sum (λ s. s ≤ 4294967295 * (i + 1))
 bound_more None None i label e more bound = tt
 bound_more None (Some s) i label e more bound = absurd cc

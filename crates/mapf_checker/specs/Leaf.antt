@@ -23,9 +23,9 @@ abbrev pub IsGoodBlock : Instance → NodeContext → LabelBlock → Type 0
 IsGoodBlock problem here block = (agent : Agent) × (slice_get problem.agents block.agent ≡ Some agent) × AreSound problem.grid agent.goal (here.bars block.agent) (entries_of block.entries)
 
 -- a sum of labels, None if it is infinite
-abbrev pub label_of : Option ℕ → Label
-label_of (Some total) = Ticks total
-label_of None = Never
+abbrev pub label_of_total : Option ℕ → Label
+label_of_total (Some total) = Ticks total
+label_of_total None = Never
 
 -- the label of the agent's start at a leaf with these blocks, which inherits these entries
 abbrev pub IsStartLabel : Instance → List LabelBlock → (ℕ → Entries) → ℕ → Label → Type 0
@@ -33,7 +33,7 @@ IsStartLabel problem blocks before i label = (agent : Agent) → slice_get probl
 
 -- the sum of the labels of the starts
 abbrev pub IsStartTotal : Instance → List LabelBlock → (ℕ → Entries) → Option ℕ → Type 0
-IsStartTotal problem blocks before total = (labels : List Label) × AreStartLabels problem (with_blocks blocks before) labels × (label_sum labels ≡ label_of total)
+IsStartTotal problem blocks before total = (labels : List Label) × AreStartLabels problem (with_blocks blocks before) labels × (label_sum labels ≡ label_of_total total)
 
 -- starts with labels of this sum show the claim
 abbrev pub IsEnough : Claim → Option ℕ → Type 0
@@ -43,7 +43,7 @@ IsEnough (Bound bound) (Some total) = bound ≤ total
 IsEnough Impossible (Some total) = ⊥
 
 -- the blocks before the index are of agents smaller than this one, the others of this one or greater ones
-pub record IsCut (blocks : List LabelBlock) (place agent : ℕ) : Type 0 where
+pub record IsPlaceOfAgent (blocks : List LabelBlock) (place agent : ℕ) : Type 0 where
   pub before : (k : ℕ) (d : LabelBlock) → k < place → (slice_index_or blocks k d).agent < agent
   pub from : (k : ℕ) (d : LabelBlock) → place ≤ k → k < length blocks → agent ≤ (slice_index_or blocks k d).agent
 
@@ -51,9 +51,9 @@ pub record IsCut (blocks : List LabelBlock) (place agent : ℕ) : Type 0 where
 pub record TakesBlock (blocks : List LabelBlock) (place agent : ℕ) : Type 0 where
   pub inside : place < length blocks
   pub is : (d : LabelBlock) → block_of blocks agent ≡ Some (slice_index_or blocks place d)
-  pub cut : IsCut blocks (place + 1) (agent + 1)
+  pub cut : IsPlaceOfAgent blocks (place + 1) (agent + 1)
 
 -- the agent has no block, and the blocks from the index on are of greater agents
 pub record LeavesBlock (blocks : List LabelBlock) (place agent : ℕ) : Type 0 where
   pub none : block_of blocks agent ≡ None
-  pub cut : IsCut blocks place (agent + 1)
+  pub cut : IsPlaceOfAgent blocks place (agent + 1)

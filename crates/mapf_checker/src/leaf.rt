@@ -9,7 +9,7 @@ ghost use Rattle.mapf_distance.specs.Tables.{AreMade, AreStartDistances};
 ghost use Rattle.mapf_checker.specs.AgentProblem.{CanJudge};
 ghost use Rattle.mapf_checker.specs.Branch.{place_of};
 ghost use Rattle.mapf_checker.specs.Leaf.{IsStartTotal, IsEnough, IsStartLabel};
-ghost use Rattle.mapf_checker.specs.Leaf.{IsCut, TakesBlock, LeavesBlock, label_of};
+ghost use Rattle.mapf_checker.specs.Leaf.{IsPlaceOfAgent, TakesBlock, LeavesBlock, label_of_total};
 ghost use Rattle.mapf_checker.specs.NodeDefects.{HasNodeDefect};
 
 use crate::blocks::{agent_of, entries_in, judge_blocks, start_of};
@@ -86,7 +86,7 @@ fn start_label(
     requires distances { AreStartDistances problem.now distances.now }
     requires agents { branch.now.agents ≡ length problem.now.agents }
     requires blocks { AreBlocksInRange problem.now.grid (length problem.now.agents) blocks.now }
-    requires cut { IsCut blocks.now place agent }
+    requires cut { IsPlaceOfAgent blocks.now place agent }
     requires inside { agent < length problem.now.agents }
     ensures { IsStartLabel problem.now blocks.now (place_of branch.now).here.entries agent result }
 {
@@ -102,8 +102,8 @@ fn start_label(
 // Returns the index up to which the blocks of this agent and of smaller agents are.
 fn place_after(blocks: &[Block], place: usize, agent: usize) -> usize
     requires rising { AllPairs (λ a b. a.agent < b.agent) blocks.now }
-    requires cut { IsCut blocks.now place agent }
-    ensures { IsCut blocks.now result (agent + 1) }
+    requires cut { IsPlaceOfAgent blocks.now place agent }
+    ensures { IsPlaceOfAgent blocks.now result (agent + 1) }
 {
     if is_block_of(blocks, place, agent) {
         place + 1
@@ -115,7 +115,7 @@ fn place_after(blocks: &[Block], place: usize, agent: usize) -> usize
 // Returns whether the block at this index, before which are the blocks of smaller agents, is the agent's.
 fn is_block_of(blocks: &[Block], place: usize, agent: usize) -> bool
     requires rising { AllPairs (λ a b. a.agent < b.agent) blocks.now }
-    requires cut { IsCut blocks.now place agent }
+    requires cut { IsPlaceOfAgent blocks.now place agent }
     ensures some { IsTrue result → TakesBlock blocks.now place agent }
     ensures none { result ≡ false → LeavesBlock blocks.now place agent }
 {
@@ -127,7 +127,7 @@ fn is_block_of(blocks: &[Block], place: usize, agent: usize) -> bool
 
 fn plus(total: Option<u64>, label: Label) -> Option<u64>
     requires { ForSome total (λ total. total < 2 ^ 63) }
-    ensures sum { label_of result ≡ label_plus (label_of total) label }
+    ensures sum { label_of_total result ≡ label_plus (label_of_total total) label }
     ensures bound { IfSome result (λ sum. IfSome total (λ total. sum ≤ total + 4294967295)) }
 {
     match (total, label) {

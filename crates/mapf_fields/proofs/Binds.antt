@@ -1,5 +1,5 @@
 -- What a bind of results went through, and what a test let through.
-use Rattle.std.proofs.Common.{◌≡◌, ◌⊎◌, Bool, true, false, cond, is_ok, is_err, List, [], ◌∷◌, ◌++◌, Option, Some, None, Result, Ok, Err, refl, ap, ◌∙◌, inl, inr}
+use Rattle.std.proofs.Common.{◌≡◌, ◌⊎◌, Bool, true, false, cond, is_ok, is_err, List, [], ◌∷◌, ◌++◌, Some, None, Result, Ok, Err, refl, ap, ◌∙◌, inl, inr}
 use Rattle.std.proofs.lemmas.Option.{some_pair_parts}
 use Rattle.mapf_fields.specs.Numbers.{◌>>=◌}
 
@@ -19,9 +19,6 @@ same_ok x y e = cc
 -- the error of another type's result is one
 pub same_err : {A E : Type 0} (x y : E) → ◌≡◌ {A = Result A E} (Err x) (Err y) → x ≡ y
 same_err x y e = cc
-
-pub same_some : {A : Type 0} (x y : A) → ◌≡◌ {A = Option A} (Some x) (Some y) → x ≡ y
-same_some x y e = cc
 
 pub ok_pair_parts : {A B E : Type 0} (a x : A) (b y : B) → ◌≡◌ {A = Result (A × B) E} (Ok (a, b)) (Ok (x, y)) → (a ≡ x) × (b ≡ y)
 ok_pair_parts a x b y e = some_pair_parts a x b y (ap (λ r. elim r [ Ok p ↦ Some p | Err f ↦ None ]) e)

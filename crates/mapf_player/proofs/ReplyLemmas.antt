@@ -4,7 +4,7 @@ use Rattle.std.proofs.lemmas.Bool.{cases_eq, cases_lt}
 use Rattle.std.proofs.lemmas.List.{take_more}
 use Rattle.std.proofs.lemmas.Option.{same_Some, slice_get_past, slice_get_within}
 use Rattle.mapf_model.proofs.ClaimLemmas.{slice_get_inside}
-use Rattle.mapf_model.proofs.PlaceLemmas.{length-slice_set, same_places}
+use Rattle.mapf_model.proofs.PlaceLemmas.{length-slice_set, same_places, All-later}
 use Rattle.mapf_player.specs.declared.visit.Visit.{Visit}
 use Rattle.mapf_player.specs.declared.reply.Reply.{Reply}
 use Rattle.mapf_player.specs.declared.reply.Reply.TheVariants.{Go, Hold, Done}
@@ -141,10 +141,6 @@ text_joins width (agent ∷ agents) (reply ∷ replies) before between others mo
     ap (λ t. reply_line width agent reply ++ t) (text_joins width agents replies next between others more rest)
     ∙ sym (append_assoc (reply_line width agent reply) (reply_text width agents replies) (reply_text width others more))
 
-all_rest : (P : ℕ → Type 0) (xs ys : List ℕ) → All P (xs ++ ys) → All P ys
-all_rest P [] ys all = all
-all_rest P (x ∷ xs) ys all = all_rest P xs ys (λ k d within. all (suc k) d (omega arith))
-
 -- the agents up to the one at this place have asked, and this one gets a reply
 module _ (width : ℕ) (agents : List ℕ) (place agent : ℕ) (within : place < length agents) (is : agent ≡ get_or agents place 0) (before between after : Progress) (replies : List Reply) (replied : AreReplies before (take place agents) replies between) (reply : Reply) (answer : IsReply between agent reply after) where
   next_place : take (place + 1) agents ≡ take place agents ++ agent ∷ []
@@ -172,7 +168,7 @@ module _ (width : ℕ) (agents : List ℕ) (place agent : ℕ) (within : place <
   lines_fail a b c h i far this progress order low =
       let asked = take (place + 1) agents in
       let others = drop (place + 1) agents in
-      let (more, last, are) = all_answered others after progress order (all_rest (λ x. x < length after.numbers) asked others (subst (All (λ x. x < length after.numbers)) (sym all_agents) low)) in
+      let (more, last, are) = all_answered others after progress order (All-later (λ x. x < length after.numbers) asked others (subst (All (λ x. x < length after.numbers)) (sym all_agents) low)) in
       let all = (replies ++ reply ∷ []) ++ more in
       let joined : AreReplies before (asked ++ others) all last = replies_join asked (replies ++ reply ∷ []) before after last others more replied_more are in
       let text : reply_text width (asked ++ others) all ≡ (reply_text width (take place agents) replies ++ reply_line width agent reply) ++ reply_text width others more =

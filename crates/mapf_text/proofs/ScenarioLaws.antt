@@ -5,7 +5,7 @@ use Rattle.mapf_model.specs.Grid.{GridMap, IsFree}
 use Rattle.mapf_model.specs.Plan.{Instance}
 use Rattle.mapf_model.specs.declared.problem.Agent.{Agent}
 use Rattle.mapf_text.specs.Words.{words_of}
-use Rattle.mapf_text.specs.AgentRows.{IsNumber, HasNumbers, IsCellAt, HasCells, SpellsAgent, IsFirstNoNumber, HasRowFault, numbered}
+use Rattle.mapf_text.specs.AgentRows.{IsNumber, HasNumbers, IsCellAt, HasFreeCells, SpellsAgent, IsFirstNoNumber, HasRowFault, numbered}
 use Rattle.mapf_text.specs.Scenarios.{filled_lines, AfterVersion, SpellAgents, HasAgents, SpellsScenario, HasRowsFault, HasScenarioFault}
 use Rattle.mapf_text.specs.declared.agent_row.Numbers.{Numbers}
 use Rattle.mapf_text.specs.declared.scenario_fault.ScenFault.{ScenFault}
@@ -31,7 +31,7 @@ numbers-unique words a b p q = λ i. record {
 cell-unique : (grid : GridMap) (x y m n : ℕ) → IsCellAt grid x y m → IsCellAt grid x y n → m ≡ n
 cell-unique grid x y m n p q = p.number ∙ sym q.number
 
-cells-unique : (grid : GridMap) (words : List (List ℕ)) (a b : Agent) → HasCells grid words a → HasCells grid words b → a ≡ b
+cells-unique : (grid : GridMap) (words : List (List ℕ)) (a b : Agent) → HasFreeCells grid words a → HasFreeCells grid words b → a ≡ b
 cells-unique grid words a b p q =
     let same = numbers-unique words p.numbers q.numbers p.size.has_numbers q.size.has_numbers in
     let start = cell-unique grid _ _ a.start b.start (subst (λ (n : Numbers). IsCellAt grid n.start_x n.start_y a.start) same p.start) q.start in

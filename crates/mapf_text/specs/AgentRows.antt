@@ -41,7 +41,7 @@ pub record IsCellAt (grid : GridMap) (x y cell : ℕ) : Type 0 where
   pub free : IsFree grid cell
 
 -- the same, and the start and the goal are free cells of the grid
-pub record HasCells (grid : GridMap) (words : List (List ℕ)) (agent : Agent) : Type 0 where
+pub record HasFreeCells (grid : GridMap) (words : List (List ℕ)) (agent : Agent) : Type 0 where
   pub numbers : Numbers
   pub size : HasSize grid words numbers
   pub start : IsCellAt grid numbers.start_x numbers.start_y agent.start
@@ -49,7 +49,7 @@ pub record HasCells (grid : GridMap) (words : List (List ℕ)) (agent : Agent) :
 
 -- the same, and field 9 is decimal text; field 2 is any word
 pub record SpellsAgent (grid : GridMap) (words : List (List ℕ)) (agent : Agent) : Type 0 where
-  pub cells : HasCells grid words agent
+  pub cells : HasFreeCells grid words agent
   pub length_text : IsDecimal (field words 9)
 
 -- the fields that have to be numbers, each with its place in the row, counted from 1
@@ -72,5 +72,5 @@ HasRowFault grid words row (S4 at) =
 HasRowFault grid words row (S5 at) =
     (at ≡ row) × ((numbers : Numbers) × HasSize grid words numbers
     × (((cell : ℕ) → IsCellAt grid numbers.start_x numbers.start_y cell → ⊥) ⊎ ((cell : ℕ) → IsCellAt grid numbers.goal_x numbers.goal_y cell → ⊥)))
-HasRowFault grid words row (S6 at) = (at ≡ row) × ((agent : Agent) × HasCells grid words agent × (IsDecimal (field words 9) → ⊥))
+HasRowFault grid words row (S6 at) = (at ≡ row) × ((agent : Agent) × HasFreeCells grid words agent × (IsDecimal (field words 9) → ⊥))
 HasRowFault grid words row _ = ⊥

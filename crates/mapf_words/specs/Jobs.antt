@@ -16,16 +16,16 @@ IsInRange (Play map scen k plan) = (1 ≤ k) × (k ≤ most_agents)
 IsInRange (Dispatch map scen k plan events) = (1 ≤ k) × (k ≤ most_agents)
 
 -- two names of files differ, or both are the null device's, where what is written is discarded
-abbrev pub AreApart : List ℕ → List ℕ → Type 0
-AreApart name other = name ≡ other → name ≡ codes "/dev/null"
+abbrev pub AreDistinctNames : List ℕ → List ℕ → Type 0
+AreDistinctNames name other = name ≡ other → name ≡ codes "/dev/null"
 
 -- no output has the name of an input or of another output, except that of the null device
 abbrev pub HasOwnOutputs : Job → Type 0
 HasOwnOutputs Demo = ⊤
 HasOwnOutputs (Solve map scen k limit plan cert) =
-    AreApart (string_bytes plan) (string_bytes map) × AreApart (string_bytes plan) (string_bytes scen)
-    × AreApart (string_bytes cert) (string_bytes map) × AreApart (string_bytes cert) (string_bytes scen)
-    × AreApart (string_bytes cert) (string_bytes plan)
+    AreDistinctNames (string_bytes plan) (string_bytes map) × AreDistinctNames (string_bytes plan) (string_bytes scen)
+    × AreDistinctNames (string_bytes cert) (string_bytes map) × AreDistinctNames (string_bytes cert) (string_bytes scen)
+    × AreDistinctNames (string_bytes cert) (string_bytes plan)
 HasOwnOutputs (Check map scen k plan cert) = ⊤
 HasOwnOutputs (Play map scen k plan) = ⊤
 HasOwnOutputs (Dispatch map scen k plan events) = ⊤

@@ -1,7 +1,7 @@
 ghost use Rattle.std.specs.Prelude.{◌≡◌, ◌≤◌, ◌<◌, ◌↔◌, IfOk, OnOk, Ok, codes, vec_len};
 ghost use Rattle.std.specs.String.{string_bytes};
 ghost use Rattle.clap.specs.Matches.{found_of};
-ghost use Rattle.mapf_words.specs.Jobs.{AreApart, HasOwnOutputs, IsInRange, IsJobOf, named};
+ghost use Rattle.mapf_words.specs.Jobs.{AreDistinctNames, HasOwnOutputs, IsInRange, IsJobOf, named};
 
 use crate::command::mapf;
 use crate::job::Job;
@@ -40,7 +40,7 @@ fn number_of(
 // Refuses an output with the name of another file, each with the name of its argument. What is written to the null
 // device is discarded, so two arguments may name it.
 fn apart(alloc: Global, output: (&str, &str), other: (&str, &str)) -> Result<(), WordsFault>
-    ensures { OnOk result (AreApart output.entry.1.now other.entry.1.now) }
+    ensures { OnOk result (AreDistinctNames output.entry.1.now other.entry.1.now) }
 {
     let ((second, text), (first, other)) = (output, other);
     if text != other || text == "/dev/null" {
@@ -57,8 +57,8 @@ fn own_outputs(
     plan: &str,
     cert: &str,
 ) -> Result<(), WordsFault>
-    ensures { OnOk result (AreApart plan.now map.now × AreApart plan.now scen.now
-        × AreApart cert.now map.now × AreApart cert.now scen.now × AreApart cert.now plan.now) }
+    ensures { OnOk result (AreDistinctNames plan.now map.now × AreDistinctNames plan.now scen.now
+        × AreDistinctNames cert.now map.now × AreDistinctNames cert.now scen.now × AreDistinctNames cert.now plan.now) }
 {
     let (map, scen) = (("MAP", map), ("SCEN", scen));
     let (plan, cert) = (("PLAN", plan), ("CERT", cert));

@@ -2,13 +2,14 @@ use Rattle.std.proofs.Common.{◌≡◌, ◌≢◌, ◌++◌, ◌∷◌, [], Lis
 use Rattle.std.proofs.lemmas.Bool.{false≢true}
 use Rattle.mapf_model.specs.Printed.{IsOnGrid}
 use Rattle.mapf_fields.specs.declared.fault.LineFault.{LineFault}
-use Rattle.mapf_fields.proofs.Binds.{ok_pair_parts, same_some, pushed}
+use Rattle.mapf_fields.proofs.Binds.{ok_pair_parts, pushed}
 use Rattle.mapf_certificate.specs.declared.sizes.Sizes.{Sizes}
 use Rattle.mapf_certificate.specs.Lines.{grid_for}
 use Rattle.mapf_certificate.specs.Plans.{GoesOn, HasCells}
 use Rattle.mapf_certificate.specs.PlanReading.{read_pair_cell}
 use Rattle.mapf_certificate.proofs.PathLaws.{goes_on_step, goes_on_end, has_cells_step, pair_cell_shorter, not_empty, is_empty}
 use Rattle.mapf_certificate.proofs.plan_reader.pairs_of.Goals as goal
+use Rattle.std.proofs.lemmas.Option.{same_Some}
 
 -- a path that goes on is read on
 refused : (sizes : Sizes) (path cells rest : List ℕ) (f : LineFault) → All (IsOnGrid (grid_for sizes)) path → GoesOn sizes.width path cells rest → rest ≢ [] → read_pair_cell sizes rest ≡ Err f → ⊥
@@ -41,7 +42,7 @@ keeps_on : (sizes : Sizes) (path cells rest after new : List ℕ) (v : Option �
     → v ≡ Some cell → new ≡ cells ++ (cell ∷ []) → GoesOn sizes.width path new after
 keeps_on sizes path cells rest after new v cell all on some e is grown =
     let step = read_on sizes path cells rest after v all on some e in
-    let same = same_some step.0 cell (sym step.1 ∙ is) in
+    let same = same_Some step.0 cell (sym step.1 ∙ is) in
     subst (λ (l : List ℕ). GoesOn sizes.width path l after) (ap (λ n. cells ++ (n ∷ [])) same ∙ sym grown) step.2
 
 pub loop-rest-preserved-else-is_err : goal.loop-rest-preserved-else-is_err

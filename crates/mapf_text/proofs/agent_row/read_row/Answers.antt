@@ -2,12 +2,12 @@ use Rattle.std.proofs.Common.{◌≡◌, ℕ, true, false, List, IsTrue, refl, s
 use Rattle.mapf_model.specs.Grid.{GridMap}
 use Rattle.mapf_model.specs.declared.problem.Agent.{Agent}
 use Rattle.mapf_text.specs.Decimals.{IsDecimal}
-use Rattle.mapf_text.specs.AgentRows.{HasNumbers, HasCells, IsCellAt, field}
+use Rattle.mapf_text.specs.AgentRows.{HasNumbers, HasFreeCells, IsCellAt, field}
 use Rattle.mapf_text.specs.declared.agent_row.Numbers.{Numbers}
 use Rattle.mapf_text.proofs.agent_row.read_row.Goals as goal
 
 cells : (grid : GridMap) (words listed : List (List ℕ)) (numbers : Numbers) (agent : Agent) → words ≡ listed → HasNumbers listed numbers → numbers.width ≡ grid.width → numbers.height ≡ grid.height
-    → IsCellAt grid numbers.start_x numbers.start_y agent.start → IsCellAt grid numbers.goal_x numbers.goal_y agent.goal → HasCells grid words agent
+    → IsCellAt grid numbers.start_x numbers.start_y agent.start → IsCellAt grid numbers.goal_x numbers.goal_y agent.goal → HasFreeCells grid words agent
 cells grid words listed numbers agent same has width height start goal =
     let there : HasNumbers words numbers = subst (λ (l : List (List ℕ)). HasNumbers l numbers) (sym same) has in
     record { numbers = numbers; size = record { has_numbers = there; width = width; height = height }; start = start; goal = goal }
