@@ -17,7 +17,7 @@ use crate::walks::{gather_bars, path_at};
 use mapf_constraints::BarTable;
 use mapf_distance::LazyTables;
 use mapf_model::{Cell, Constraint, OutOfMemory, Path, Problem};
-use mapf_spacetime::{Found, StateLabels, search_in};
+use mapf_spacetime::{Found, StateLabels, search_expecting};
 use std::alloc::Global;
 
 /// What one more constraint led to, with the new sum of costs if the agent still arrives.
@@ -54,13 +54,14 @@ pub fn child<B: BarTable>(
 {
     let agent = constraint.agent;
     let who = problem.agents()[agent as usize];
-    let found = search_under(alloc, memory, problem, tables, nodes, k, constraint)?;
     let old = cost_of(path_at(nodes, k, agent), who.goal);
+    let found = search_under(alloc, memory, problem, tables, nodes, k, constraint, old)?;
     let total = new_total(&found, who.goal, total - u64::from(old));
     Ok(GeneratedChild { found, total })
 }
 
-// Searches for a path of the constraint's agent under its constraints at the node and this one.
+// Searches for a path of the constraint's agent under its constraints at the node and this one, which is expected to cost
+// about as much as its path at the node.
 fn search_under<B: BarTable>(
     alloc: Global,
     memory: &mut SearchMemory<B>,
@@ -69,6 +70,7 @@ fn search_under<B: BarTable>(
     nodes: &[Node],
     k: u32,
     constraint: Constraint,
+    expected: u32,
 ) -> Result<Found<StateLabels>, OutOfMemory>
     requires tables { AreMade problem.now tables.old }
     requires nodes { AreNodesFor constraint.agent nodes.now }
@@ -87,13 +89,14 @@ fn search_under<B: BarTable>(
     gather_bars(&mut memory.bars, nodes, k, constraint.agent)?;
     memory.bars.add(constraint.bar)?;
     tables.make(alloc, problem, constraint.agent)?;
-    search_in(
+    search_expecting(
         alloc,
         &mut memory.workspace,
         problem.grid(),
         tables.get(constraint.agent),
         &memory.bars,
         who,
+        expected,
     )
 }
 

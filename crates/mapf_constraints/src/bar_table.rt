@@ -1,4 +1,4 @@
-ghost use Rattle.std.specs.Prelude.{◌≡◌, ◌<◌, ◌≤◌, ◌↔◌, ◌∷◌, [], List, IfOk, OnErr, OnOk, IsTrue, Contains};
+ghost use Rattle.std.specs.Prelude.{◌≡◌, ◌≢◌, ◌<◌, ◌≤◌, ◌↔◌, ◌∷◌, [], List, IfOk, OnErr, OnOk, IsTrue, Contains, false};
 ghost use Rattle.mapf_model.specs.declared.bar.Bar.{Bar};
 ghost use Rattle.mapf_model.specs.Bars.{IsBar, AreBars};
 ghost use Rattle.mapf_model.specs.Laws.{AreSameBars};
@@ -36,6 +36,13 @@ pub trait BarTable: Drop {
         ensures horizon { IsHorizon (bars self.now) result }
         ensures early { result ≤ split_ticks }
         ensures bars { AreBars (bars self.now) };
+
+    /// Returns whether some constraint is at the tick. A table may also return true where none is.
+    fn may_bar_at(&self, tick: Tick) -> bool
+        ensures { result ≡ false → (bar : Bar) → Contains (bars self.now) bar → bar_tick bar ≢ tick }
+    {
+        tick < self.horizon()
+    }
 
     /// Adds a constraint. If the set has it already, or memory runs out, the set is as before.
     fn add(&mut self, bar: Bar) -> Result<(), OutOfMemory>

@@ -66,6 +66,10 @@ impl BarTable for TickBars {
         self.horizon
     }
 
+    fn may_bar_at(&self, at: Tick) -> bool {
+        self.newest[at as usize % 64] != 0
+    }
+
     fn add(&mut self, bar: Bar) -> Result<(), OutOfMemory> {
         let chain = tick(&bar) as usize % 64;
         self.links.push(Link {

@@ -4,7 +4,9 @@ use crate::samples::{Missing, grid_of};
 use mapf_constraints::{Bar, BarTable, ListBars, TickBars};
 use mapf_distance::Distances;
 use mapf_model::{Agent, Cell, Entry, Grid, Label, OutOfMemory, Path};
-use mapf_spacetime::{Found, Labels, StateLabels, Workspace, label_at, search, search_in};
+use mapf_spacetime::{
+    Found, Labels, StateLabels, Workspace, label_at, search, search_expecting, search_in,
+};
 use std::alloc::{AllocError, Global};
 use std::process::Abort;
 use std::test::Fail;
@@ -455,6 +457,36 @@ fn a_workspace_serves_one_search_after_the_other(rt: HostRuntime) -> Result<(), 
     let mut workspace = Workspace::new(rt.alloc());
     for _round in 0..300 {
         expect_round(&rt, rt.alloc(), &mut workspace)?;
+    }
+    Ok(())
+}
+
+/// What the search finds if a path is expected to cost so much.
+fn searched_expecting(
+    alloc: Global,
+    workspace: &mut Workspace,
+    case: &Case,
+    expected: u32,
+) -> Result<String, Missing> {
+    let grid = grid_of(alloc, case.rows)?;
+    let table = table_of::<TickBars>(alloc, case.cells, case.moves)?;
+    let agent = agent(case.ends);
+    if !grid.is_free(agent.goal) {
+        return Err(Missing::Value);
+    }
+    let distances = Distances::of(alloc, &grid, agent.goal)?;
+    let found = search_expecting(alloc, workspace, &grid, &distances, &table, agent, expected)?;
+    Ok(states_text(alloc, found)?)
+}
+
+#[test]
+fn the_expected_cost_changes_no_answer(rt: HostRuntime) -> Result<(), Fail> {
+    let mut workspace = Workspace::new(rt.alloc());
+    for case in ROUND {
+        for expected in [0, 1, 2, 3, 4, 5, 6, 7, 8, 20, 100] {
+            let found = searched_expecting(rt.alloc(), &mut workspace, case, expected)?;
+            expect_same(&rt, &case.rows, &found.as_str(), &case.wanted);
+        }
     }
     Ok(())
 }

@@ -1,5 +1,5 @@
 -- How a search starts and ends.
-use Rattle.std.proofs.Common.{◌≡◌, inl, inr, ⊎_elim, ℕ, zero, suc, ◌-◌, ◌<◌, ◌≤◌, Some, None, List, [], ◌∷◌, All, Contains, length, slice_index_or, refl, sym, subst, arith}
+use Rattle.std.proofs.Common.{◌≡◌, ⊎_elim, ℕ, zero, suc, ◌-◌, ◌<◌, ◌≤◌, Some, None, List, [], ◌∷◌, All, Contains, length, slice_index_or, refl, sym, subst, arith}
 use Rattle.std.proofs.lemmas.List.Elements.{Contains-push, Contains-get_or}
 use Rattle.mapf_distance.specs.Distances.{IsLeastDescent}
 use Rattle.mapf_model.specs.declared.bar.Bar.TheVariants.{Cell}
@@ -13,41 +13,25 @@ use Rattle.mapf_model.specs.Path.{at, IsPath, IsCost, IsTight}
 use Rattle.mapf_model.specs.Printed.{IsLabelInRange, IsEntryInRange}
 use Rattle.mapf_spacetime.specs.declared.state.State.{State}
 use Rattle.mapf_spacetime.specs.Task.{Task, IsValue, IsWithin, IsBelow, state_at, start_of, cost_bound}
-use Rattle.mapf_spacetime.specs.States.{States, first_states, low_states, with_open, IsKnown, IsFrontier, HasArrived, IsSpent, IsBelowLimit}
+use Rattle.mapf_spacetime.specs.States.{IsBelowLimit}
+use Rattle.mapf_spacetime.specs.Sweeps.{AreSwept, AreAll}
 use Rattle.mapf_spacetime.specs.Listed.{AreEntriesOf}
 use Rattle.mapf_spacetime.specs.Answer.{AreGoodLabels, IsStartNearer, IsArrival, ShowNone}
 use Rattle.mapf_spacetime.proofs.ValueLemmas.{value_free, no_lower}
-use Rattle.mapf_spacetime.proofs.FrontierLemmas.{one_held, reached_within}
+use Rattle.mapf_spacetime.proofs.SweptLemmas.{one_held}
 use Rattle.mapf_model.proofs.ContainsLemmas.{Contains-none}
-use Rattle.mapf_spacetime.proofs.LabelLemmas.{entry_is, entry_none, entry_there, listed_label, low_reached, never_label, sound_spent, start_spent}
+use Rattle.mapf_spacetime.proofs.LabelLemmas.{entry_is, entry_none, entry_there, listed_label, never_label, sound_all, start_all}
 use Rattle.mapf_spacetime.proofs.WayLemmas.{descent_first}
 use Rattle.mapf_model.proofs.StepLemmas.{free_on_grid}
-
-pub first_frontier : (task : Task) (first : ℕ) → IsValue task (start_of task) first → IsFrontier task [] (first_states (start_of task) first)
-first_frontier task first is = record {
-  start = inr (Contains-push [] (start_of task));
-  low = λ s h. absurd (Contains-none s h);
-  top = λ s h. absurd (Contains-none s h);
-  bound = omega arith;
-  level = λ s h. subst (λ t. IsValue task t first) (one_held (start_of task) s h) is;
-  next = λ s h. absurd (Contains-none s h);
-  later = λ s h. absurd (Contains-none s h);
-  entered = λ s k. ⊎_elim
-      (λ r. absurd (Contains-none s r))
-      (λ other. ⊎_elim (λ o. inl (sym (one_held (start_of task) s o))) (λ w. ⊎_elim (λ n. absurd (Contains-none s n)) (λ l. absurd (Contains-none s l)) w) other)
-      k;
-  closed = λ s h. absurd (Contains-none s h);
-  quiet = λ tick h. absurd (Contains-none (state_at task.goal tick) h);
-}
 
 pub first_limit : (task : Task) (first : ℕ) → IsValue task (start_of task) first → IsBelowLimit task first
 first_limit task first is bound above = let sum = is.sum in let few = is.few in omega arith
 
-pub spent_shows : (task : Task) (states : States) → IsSpent task states → (entries : List Entry) → AreEntriesOf states.reached None entries → ShowNone task entries
-spent_shows task states spent entries a = record { sound = sound_spent task states spent entries a; start = start_spent task states spent entries a }
+pub all_show : (task : Task) (bound : ℕ) (states : List State) → AreAll task bound states → (entries : List Entry) → AreEntriesOf states None entries → ShowNone task entries
+all_show task bound states all entries a = record { sound = sound_all task bound states all entries a; start = start_all task bound states all entries a }
 
-pub spent_few : (task : Task) (states : States) → IsSpent task states → states.cost < cost_bound → (s : State) → Contains states.reached s → IsWithin task 9999999 s
-spent_few task states spent small s h = let (value, is, le) = reached_within task [] states spent.walked.frontier s h in (value, is, omega arith)
+pub all_few : (task : Task) (bound : ℕ) (states : List State) → AreAll task bound states → bound < cost_bound → (s : State) → Contains states s → IsWithin task 9999999 s
+all_few task bound states all small s h = let (value, is, le) = all.reached.within s h in (value, is, omega arith)
 
 -- the start is forbidden at tick 0
 pub barred_shows : (task : Task) (first : ℕ) → IsValue task (start_of task) first → Contains task.bars (Cell task.start 0) → (entries : List Entry) → AreEntriesOf (start_of task ∷ []) None entries → ShowNone task entries
@@ -118,28 +102,27 @@ shortest_arrives task first path value is_path starts ends shortest is_cost tigh
       needed = λ some. absurd (omega arith);
     }
 
--- no known state has a smaller f-value than the start
-start_least : (task : Task) (states : States) → IsFrontier task [] states → (n : ℕ) (s : State) → s.tick ≡ n → IsKnown states s → (value : ℕ) → IsValue task s value → (first : ℕ) × IsValue task (start_of task) first × (first ≤ value)
-start_least task states f zero s tick known value is = ⊎_elim
+-- no state that was reached has a smaller f-value than the start
+start_least : (task : Task) (cost : ℕ) (states : List State) → AreSwept task cost states → (n : ℕ) (s : State) → s.tick ≡ n → Contains states s → (value : ℕ) → IsValue task s value → (first : ℕ) × IsValue task (start_of task) first × (first ≤ value)
+start_least task cost states f zero s tick held value is = ⊎_elim
     (λ (same : s ≡ start_of task). (value, subst (λ t. IsValue task t value) same is, omega arith))
     (λ (from, reached, goes). absurd (let one = goes.tick in omega arith))
-    (f.entered s known)
-start_least task states f (suc n) s tick known value is = ⊎_elim
+    (f.entered s held)
+start_least task cost states f (suc n) s tick held value is = ⊎_elim
     (λ (same : s ≡ start_of task). (value, subst (λ t. IsValue task t value) same is, omega arith))
     (λ (from, reached, goes).
-    let (before, before_is, within) = reached_within task [] states f from reached in
+    let (before, before_is, within) = f.below from reached in
     let low = no_lower task from s before value before_is is goes in
-    let (first, first_is, less) = start_least task states f n from (let one = goes.tick in omega arith) (inl reached) before before_is in
+    let (first, first_is, less) = start_least task cost states f n from (let one = goes.tick in omega arith) reached before before_is in
     (first, first_is, omega arith))
-    (f.entered s known)
+    (f.entered s held)
 
 -- if there are labels of states below the cost, one is that of the start
-pub start_nearer : (task : Task) (states : States) → HasArrived task states → (entries : List Entry) → AreEntriesOf (low_states states) (Some states.cost) entries → 1 ≤ length entries → IsStartNearer task states.cost
-start_nearer task states h (e ∷ entries) a some =
+pub start_nearer : (task : Task) (cost : ℕ) (states : List State) → AreSwept task cost states → (entries : List Entry) → AreEntriesOf states (Some cost) entries → 1 ≤ length entries → IsStartNearer task cost
+start_nearer task cost states h (e ∷ entries) a some =
     let (listed, label_is) = a.each e (0, omega arith, refl) in
-    let (value, is, less) = h.frontier.low (state_at e.cell e.tick) listed in
-    let reached = low_reached states.reached states.below (state_at e.cell e.tick) listed in
-    let (first, first_is, within) = start_least task (with_open states (state_at task.goal states.cost)) h.frontier e.tick (state_at e.cell e.tick) refl (inl reached) value is in
+    let (value, is, less) = h.below (state_at e.cell e.tick) listed in
+    let (first, first_is, within) = start_least task cost states h e.tick (state_at e.cell e.tick) refl listed value is in
     let sum = first_is.sum in
     (first_is.distance, first_is.is, omega arith)
-start_nearer task states h [] a some = absurd (omega arith)
+start_nearer task cost states h [] a some = absurd (omega arith)

@@ -1,9 +1,9 @@
 pub mod SetLemmas
-pub mod StampLemmas
-pub mod ValueLemmas
-pub mod FrontierLemmas
-pub mod GrowLemmas
+pub mod CellLemmas
 pub mod EntryLemmas
+pub mod ValueLemmas
+pub mod SweptLemmas
+pub mod SweepLemmas
 pub mod LabelLemmas
 pub mod WayLemmas
 pub mod PathLemmas

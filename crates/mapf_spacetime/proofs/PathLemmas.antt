@@ -1,5 +1,5 @@
 -- Walks of states as paths.
-use Rattle.std.proofs.Common.{◌≡◌, ◌≢◌, inl, inr, ⊎_elim, ℕ, zero, suc, ◌+◌, ◌-◌, ◌<◌, ◌≤◌, min, List, [], length, slice_index, Contains, sym, ap, subst, ◌∙◌, arith}
+use Rattle.std.proofs.Common.{◌≡◌, ◌≢◌, ◌⊎◌, inl, inr, ⊎_elim, ℕ, zero, suc, ◌+◌, ◌-◌, ◌<◌, ◌≤◌, min, List, length, slice_index, Contains, sym, ap, subst, ◌∙◌, arith}
 use Rattle.std.proofs.lemmas.Bool.{cases_lt}
 use Rattle.mapf_model.specs.Grid.{Step}
 use Rattle.mapf_model.specs.declared.bar.Bar.TheVariants.{Cell, Move}
@@ -10,11 +10,10 @@ use Rattle.mapf_model.specs.Laws.{NeighboursMakePaths}
 use Rattle.mapf_model.specs.Path.{at, IsPath, IsLawful, IsCost, IsTight}
 use Rattle.mapf_model.proofs.PathLemmas.{IsCost-from_end}
 use Rattle.mapf_spacetime.specs.Task.{Task, Goes, IsValue, IsOpen, MayRestFrom, agent_of, state_at, start_of}
-use Rattle.mapf_spacetime.specs.States.{States, with_open, HasArrived}
+use Rattle.mapf_spacetime.specs.Sweeps.{IsFrom, AreSwept, HasArrived}
+use Rattle.mapf_spacetime.specs.declared.state.State.{State}
 use Rattle.mapf_spacetime.specs.PathSearch.{state_of, IsWholeWalk}
 use Rattle.mapf_spacetime.proofs.ValueLemmas.{value_free, value_unique, value_none, no_lower}
-use Rattle.mapf_spacetime.proofs.FrontierLemmas.{waiting_past}
-use Rattle.mapf_model.proofs.ContainsLemmas.{Contains-none}
 
 pub at_is : (cells : List ℕ) (tick : ℕ) → tick < length cells → at cells tick ≡ slice_index cells tick
 at_is cells tick lt = let same : min tick (length cells - 1) ≡ tick = omega arith in ap (λ n. slice_index cells n) same
@@ -56,25 +55,28 @@ module _ (task : Task) (cells : List ℕ) (some : 1 ≤ length cells) (start : s
       rest.wait tick (omega arith) (subst (λ c. Contains task.bars (Move c task.goal tick)) here (subst (λ c. Contains task.bars (Move from c tick)) there barred)))
       (cases_lt (tick + 1) (length cells))
 
--- a walk of the least cost
-module _ (task : Task) (states : States) (cells : List ℕ) (h : HasArrived task states) (w : IsWholeWalk task states.cost cells) (start_open : IsOpen task (start_of task)) where
+-- a walk that ends at the cost goes through the states below it
+module _ (task : Task) (cost : ℕ) (states : List State) (cells : List ℕ) (swept : AreSwept task cost states) (w : IsWholeWalk task cost cells) where
   pub ends : slice_index cells (length cells - 1) ≡ task.goal
   ends =
       let count = w.count in
-      let last : length cells - 1 ≡ states.cost = omega arith in
-      let (value, is, le) = w.way.within states.cost (omega arith) in
+      let last : length cells - 1 ≡ cost = omega arith in
+      let (value, is, le) = w.way.within cost (omega arith) in
       let none : is.distance ≡ 0 = (let sum = is.sum in omega arith) in
-      ap (λ n. slice_index cells n) last ∙ (subst (Walk task.grid (slice_index cells states.cost) task.goal) none is.is.walk).1
+      ap (λ n. slice_index cells n) last ∙ (subst (Walk task.grid (slice_index cells cost) task.goal) none is.is.walk).1
 
-  -- the walk goes through reached states while it is below the cost
-  low_walk : (k : ℕ) → k < length cells → (value : ℕ) → IsValue task (state_of cells k) value → value < states.cost → Contains states.reached (state_of cells k)
+  -- a state below the cost isn't one from it on
+  below_only : (s : State) (value : ℕ) → IsValue task s value → value < cost → Contains states s ⊎ IsFrom task cost s → Contains states s
+  below_only s value is less either = ⊎_elim
+      (λ held. held)
+      (λ (other, other_is, more). absurd (let one = value_unique task s value other is other_is in omega arith))
+      either
+
+  -- the walk goes through these states while it is below the cost
+  pub low_walk : (k : ℕ) → k < length cells → (value : ℕ) → IsValue task (state_of cells k) value → value < cost → Contains states (state_of cells k)
   low_walk zero lt value is less =
       let same : start_of task ≡ state_of cells 0 = ap (λ c. state_at c 0) (sym w.way.start) in
-      ⊎_elim
-      (λ r. subst (Contains states.reached) same r)
-      (λ o. let level = h.frontier.level (start_of task) o in
-      let one = value_unique task (state_of cells 0) value states.cost is (subst (λ s. IsValue task s states.cost) same level) in absurd (omega arith))
-      h.frontier.start
+      below_only (state_of cells 0) value is less (subst (λ s. Contains states s ⊎ IsFrom task cost s) same swept.start)
   low_walk (suc k) lt value is less =
       let next : k + 1 ≡ suc k = omega arith in
       let goes = subst (λ n. Goes task (state_of cells k) (state_of cells n)) next (w.way.goes k (omega arith)) in
@@ -83,58 +85,55 @@ module _ (task : Task) (states : States) (cells : List ℕ) (h : HasArrived task
       let reached = low_walk k (omega arith) before before_is (omega arith) in
       let same : state_at (slice_index cells (suc k)) (k + 1) ≡ state_of cells (suc k) = ap (state_at (slice_index cells (suc k))) next in
       ⊎_elim
-      (λ busy. absurd (Contains-none (state_of cells k) busy))
-      (λ closed. ⊎_elim
-      (λ known. ⊎_elim
-      (λ r. subst (Contains states.reached) same r)
+      (λ held. subst (Contains states) same held)
       (λ other. ⊎_elim
-      (λ o. let level = subst (λ s. IsValue task s states.cost) same (h.frontier.level (state_at (slice_index cells (suc k)) (k + 1)) o) in
-      let one = value_unique task (state_of cells (suc k)) value states.cost is level in absurd (omega arith))
-      (λ q. let (v, v_is, more) = waiting_past task [] (with_open states (state_at task.goal states.cost)) h.frontier (state_at (slice_index cells (suc k)) (k + 1)) q in
-      let one = value_unique task (state_of cells (suc k)) value v is (subst (λ s. IsValue task s v) same v_is) in absurd (omega arith))
-      other)
-      known)
+      (λ from. below_only (state_of cells (suc k)) value is less (inr (subst (IsFrom task cost) same from)))
       (λ none. absurd (value_none task (state_of cells (suc k)) value none is))
-      (closed (slice_index cells (suc k)) goes.may))
-      (h.frontier.closed (state_of cells k) reached)
+      other)
+      (swept.followed (state_of cells k) reached (slice_index cells (suc k)) goes.may)
+
+-- a walk of the least cost
+module _ (task : Task) (cost : ℕ) (states : List State) (cells : List ℕ) (h : HasArrived task cost states) (w : IsWholeWalk task cost cells) (start_open : IsOpen task (start_of task)) where
+  at_goal_last : slice_index cells (length cells - 1) ≡ task.goal
+  at_goal_last = ends task cost states cells h.swept w
 
   opens : (k : ℕ) → k < length cells → IsOpen task (state_of cells k)
-  opens = is_open task cells w.way.some w.way.start start_open w.way.goes ends (let count = w.count in let last : length cells - 1 ≡ states.cost = omega arith in subst (MayRestFrom task) (sym last) h.rest)
+  opens = is_open task cells w.way.some w.way.start start_open w.way.goes at_goal_last (let count = w.count in let last : length cells - 1 ≡ cost = omega arith in subst (MayRestFrom task) (sym last) h.rest)
 
-  not_before : 0 < states.cost → slice_index cells (states.cost - 1) ≢ task.goal
+  not_before : 0 < cost → slice_index cells (cost - 1) ≢ task.goal
   not_before some is =
       let count = w.count in
-      let (value, v, le) = w.way.within (states.cost - 1) (omega arith) in
-      let here : state_of cells (states.cost - 1) ≡ state_at task.goal (states.cost - 1) = ap (λ c. state_at c (states.cost - 1)) is in
-      let none : value ≡ states.cost - 1 = (
-      let free = value_free task (state_of cells (states.cost - 1)) value v in
+      let (value, v, le) = w.way.within (cost - 1) (omega arith) in
+      let here : state_of cells (cost - 1) ≡ state_at task.goal (cost - 1) = ap (λ c. state_at c (cost - 1)) is in
+      let none : value ≡ cost - 1 = (
+      let free = value_free task (state_of cells (cost - 1)) value v in
       let rest = v.is.least 0 (free, is) in
       let sum = v.sum in omega arith) in
-      let reached = low_walk (states.cost - 1) (omega arith) value v (omega arith) in
-      let (later, after, barred) = h.frontier.quiet (states.cost - 1) (subst (Contains states.reached) here reached) in
+      let reached = low_walk task cost states cells h.swept w (cost - 1) (omega arith) value v (omega arith) in
+      let (later, after, barred) = h.swept.quiet (cost - 1) (subst (Contains states) here reached) in
       ⊎_elim
-      (λ (now : later < states.cost).
-      let same : later ≡ states.cost - 1 = omega arith in
-      opens (states.cost - 1) (omega arith) (subst (λ c. Contains task.bars (Cell c (states.cost - 1))) (sym is) (subst (λ n. Contains task.bars (Cell task.goal n)) same barred)))
-      (λ (rest : states.cost ≤ later). h.rest.stay later rest barred)
-      (cases_lt later states.cost)
+      (λ (now : later < cost).
+      let same : later ≡ cost - 1 = omega arith in
+      opens (cost - 1) (omega arith) (subst (λ c. Contains task.bars (Cell c (cost - 1))) (sym is) (subst (λ n. Contains task.bars (Cell task.goal n)) same barred)))
+      (λ (rest : cost ≤ later). h.rest.stay later rest barred)
+      (cases_lt later cost)
 
   pub walk_satisfies : Satisfies task.bars cells
-  walk_satisfies = goes_satisfy task cells w.way.some w.way.start start_open w.way.goes ends (let count = w.count in let last : length cells - 1 ≡ states.cost = omega arith in subst (MayRestFrom task) (sym last) h.rest)
+  walk_satisfies = goes_satisfy task cells w.way.some w.way.start start_open w.way.goes at_goal_last (let count = w.count in let last : length cells - 1 ≡ cost = omega arith in subst (MayRestFrom task) (sym last) h.rest)
 
-  pub walk_cost : IsCost task.goal cells states.cost
+  pub walk_cost : IsCost task.goal cells cost
   walk_cost = let count = w.count in
-      IsCost-from_end task.goal cells states.cost (omega arith)
-      (λ k le lt. let k_is : length cells - 1 ≡ k = omega arith in subst (λ n. slice_index cells n ≡ task.goal) k_is ends)
+      IsCost-from_end task.goal cells cost (omega arith)
+      (λ k le lt. let k_is : length cells - 1 ≡ k = omega arith in subst (λ n. slice_index cells n ≡ task.goal) k_is at_goal_last)
       not_before
 
   pub walk_tight : IsTight cells
   walk_tight = let count = w.count in ⊎_elim
-      (λ (none : states.cost < 1). inl (omega arith))
-      (λ (some : 1 ≤ states.cost).
-      let before : length cells - 2 ≡ states.cost - 1 = omega arith in
-      inr (λ same. not_before some (ap (λ n. slice_index cells n) (sym before) ∙ sym same ∙ ends)))
-      (cases_lt states.cost 1)
+      (λ (none : cost < 1). inl (omega arith))
+      (λ (some : 1 ≤ cost).
+      let before : length cells - 2 ≡ cost - 1 = omega arith in
+      inr (λ same. not_before some (ap (λ n. slice_index cells n) (sym before) ∙ sym same ∙ at_goal_last)))
+      (cases_lt cost 1)
 
   pub walk_lawful : NeighboursMakePaths → IsLawful task.grid (agent_of task) cells
   walk_lawful paths =
@@ -146,5 +145,5 @@ module _ (task : Task) (states : States) (cells : List ℕ) (h : HasArrived task
           neighbours = λ k lt. (w.way.goes k lt).may.step;
         });
         start = at_is cells 0 (omega arith) ∙ w.way.start;
-        goal = at_is cells (length cells - 1) (omega arith) ∙ ends;
+        goal = at_is cells (length cells - 1) (omega arith) ∙ at_goal_last;
       }

@@ -4,7 +4,7 @@ use Rattle.std.proofs.Math.ListN.{get_or-append}
 use Rattle.std.proofs.Math.Seq.{get_or-append_seam}
 use Rattle.std.proofs.lemmas.Bool.{cases_lt}
 use Rattle.std.proofs.lemmas.List.{get_or-take}
-use Rattle.std.proofs.lemmas.List.Elements.{Contains-push, Contains-push_cases}
+use Rattle.std.proofs.lemmas.List.Elements.{Contains-push_cases}
 use Rattle.mapf_distance.specs.Distances.{IsLeastDescent}
 use Rattle.mapf_model.specs.Bars.{Satisfies}
 use Rattle.mapf_model.specs.Distance.{Walk, IsDistance, IsUnreachable}
@@ -14,11 +14,9 @@ use Rattle.mapf_model.specs.Path.{at, IsPath, IsLawful, IsCost}
 use Rattle.mapf_spacetime.specs.Answer.{IsFirstOfCost}
 use Rattle.mapf_spacetime.specs.declared.state.State.{State}
 use Rattle.mapf_spacetime.specs.Task.{Task, Goes, IsValue, IsWithin, agent_of, state_at, start_of}
-use Rattle.mapf_spacetime.specs.States.{States, with_open, HasArrived, IsKnown}
 use Rattle.mapf_spacetime.specs.PathSearch.{Walked, with_step, with_failure, CanArriveIn, CanArrive, IsNoWayOn, IsWholeWalk, state_of, IsSearching}
 use Rattle.mapf_spacetime.proofs.PathLemmas.{at_is, satisfied_step}
-use Rattle.mapf_spacetime.proofs.ValueLemmas.{level_within, value_free}
-use Rattle.mapf_spacetime.proofs.FrontierLemmas.{reached_within}
+use Rattle.mapf_spacetime.proofs.ValueLemmas.{value_free}
 use Rattle.mapf_model.proofs.StepLemmas.{step_start, step_end}
 
 module _ (task : Task) (cost : ℕ) (way : Walked) (w : IsSearching task cost way) (to : ℕ) (unfinished : length way.cells ≤ cost) where
@@ -82,21 +80,20 @@ module _ (task : Task) (cost : ℕ) (way : Walked) (w : IsSearching task cost wa
       let same : next ≡ state_at next.cell ((length way.cells - 1) + 1) = λ i. record { tick = tick i; cell = next.cell } in
       w.stuck next (subst (Contains way.failed) (sym same) (none next.cell goes.may (subst (CanArrive task cost) same (n, on)))) (n, on)
 
-  pub back_searching : CanArrive task cost (start_of task) →
+  -- from the start alone there is nowhere to backtrack to
+  pub nowhere : length way.cells ≡ 1 → ((next : ℕ) → IsNoWayOn task cost way.failed (state_of way.cells (length way.cells - 1)) next) → CanArrive task cost (start_of task) → ⊥
+  nowhere one none arrives =
+      let zero_is : length way.cells - 1 ≡ 0 = omega arith in
+      let at_start : state_of way.cells (length way.cells - 1) ≡ start_of task = ap (λ k. state_of way.cells k) zero_is ∙ ap (λ c. state_at c 0) w.from.start in
+      dead_end none (subst (CanArrive task cost) (sym at_start) arrives)
+
+  pub back_searching : 1 < length way.cells →
       ((next : ℕ) → IsNoWayOn task cost way.failed (state_of way.cells (length way.cells - 1)) next) →
       IsSearching task cost (with_failure way (state_of way.cells (length way.cells - 1)))
-  back_searching arrives none =
+  back_searching more none =
       let n = length-take (length way.cells - 1) way.cells in
       let some = w.from.some in
       let kept : (k : ℕ) → k < length way.cells - 1 → slice_index way.cells k ≡ slice_index (take (length way.cells - 1) way.cells) k = λ k lt. sym (get_or-take (length way.cells - 1) way.cells k 0 lt) in
-      let more : 1 < length way.cells = ⊎_elim
-      (λ (few : length way.cells < 2).
-      let one : length way.cells - 1 ≡ 0 = omega arith in
-      let stuck = dead_end none in
-      let at_start : state_of way.cells (length way.cells - 1) ≡ start_of task = ap (λ k. state_of way.cells k) one ∙ ap (λ c. state_at c 0) w.from.start in
-      absurd (stuck (subst (CanArrive task cost) (sym at_start) arrives)))
-      (λ (many : 2 ≤ length way.cells). omega arith)
-      (cases_lt (length way.cells) 2) in
       record {
         from = record {
           some = omega arith;
@@ -117,33 +114,6 @@ module _ (task : Task) (cost : ℕ) (way : Walked) (w : IsSearching task cost wa
         least = λ k other lt less may arrived. w.least k other (omega arith) (subst (λ c. other < c) (sym (kept (k + 1) (omega arith))) less)
             (subst (λ c. MayGo task.grid task.bars c other k) (sym (kept k (omega arith))) may) arrived;
       }
-
--- if the goal can be reached from a known state, it can be reached from the start
-module _ (task : Task) (states : States) (h : HasArrived task states) where
-  leads_back : (n : ℕ) (s : State) → s.tick ≡ n → IsKnown (with_open states (state_at task.goal states.cost)) s → IsWithin task states.cost s → CanArrive task states.cost s → CanArrive task states.cost (start_of task)
-  leads_back zero s tick known within (m, on) = ⊎_elim
-      (λ is. subst (CanArrive task states.cost) is (m, on))
-      (λ entered. absurd (let t = entered.2.tick in omega arith))
-      (h.frontier.entered s known)
-  leads_back (suc n) s tick known within (m, on) = ⊎_elim
-      (λ is. subst (CanArrive task states.cost) is (m, on))
-      (λ entered. let (from, held, goes) = entered in let t = goes.tick in
-      leads_back n from (omega arith) (inl held) (reached_within task [] (with_open states (state_at task.goal states.cost)) h.frontier from held) (suc m, (s, goes, on)))
-      (h.frontier.entered s known)
-
-  arrival : Contains (states.open_states ++ state_at task.goal states.cost ∷ []) (state_at task.goal states.cost)
-  arrival = Contains-push states.open_states (state_at task.goal states.cost)
-
-  pub start_leads : CanArrive task states.cost (start_of task)
-  start_leads =
-      let goal = state_at task.goal states.cost in
-      leads_back states.cost goal refl (inr (inl arrival)) (level_within task goal states.cost (h.frontier.level goal arrival)) (0, refl)
-
-  pub start_within : IsWithin task states.cost (start_of task)
-  start_within = ⊎_elim
-      (λ r. reached_within task [] (with_open states (state_at task.goal states.cost)) h.frontier (start_of task) r)
-      (λ o. level_within task (start_of task) states.cost (h.frontier.level (start_of task) o))
-      h.frontier.start
 
 -- a walk to the goal has at least as many steps as the distance
 arrives_walks : (task : Task) (cost n : ℕ) (s : State) → IsFree task.grid s.cell → CanArriveIn task cost n s → Walk task.grid s.cell task.goal n × (s.tick + n ≡ cost)

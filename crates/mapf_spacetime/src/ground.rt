@@ -1,12 +1,12 @@
-ghost use Rattle.std.specs.Prelude.{◌≡◌, ◌<◌, ◌≤◌, IfSome, IfNone, IsTrue, Contains, false};
+ghost use Rattle.std.specs.Prelude.{◌≡◌, ◌*◌, ◌<◌, ◌≤◌, ℕ, IfSome, IfNone, IsTrue, Contains, false};
 ghost use Rattle.mapf_model.specs.declared.bar.Bar.{Bar};
 ghost use Rattle.mapf_constraints.specs.BarSets.{AreBefore};
 ghost use Rattle.mapf_model.specs.Distance.{IsUnreachable};
 ghost use Rattle.mapf_model.specs.Grid.{IsFree, Step};
 ghost use Rattle.mapf_model.specs.Labels.{MayGo};
-ghost use Rattle.mapf_model.specs.Limits.{most_path_cells, split_ticks};
+ghost use Rattle.mapf_model.specs.Limits.{most_cells, most_path_cells, split_ticks};
 ghost use Rattle.mapf_model.specs.Neighbours.{neighbourhood};
-ghost use Rattle.mapf_spacetime.specs.Task.{task_of, start_of, IsOpen, IsValue, IsBarredLater, MayRestFrom};
+ghost use Rattle.mapf_spacetime.specs.Task.{task_of, start_of, IsOpen, IsValue, IsBelow, IsBarredLater, MayRestFrom};
 
 use crate::state::State;
 use mapf_constraints::BarTable;
@@ -23,13 +23,15 @@ pub struct Ground<'a, B: BarTable> {
     agent: Agent,
     // A tick from which on there are no constraints.
     horizon: Tick,
+    // The last tick at which the goal is forbidden.
+    last_on_goal: Option<Tick>,
 }
 
 impl<'a, B: BarTable> Model for Ground<'a, B> {
     ghost use Rattle.std.specs.Prelude.{◌≡◌, ◌≤◌};
     ghost use Rattle.mapf_model.specs.Bars.{AreBars};
     ghost use Rattle.mapf_model.specs.Limits.{split_ticks};
-    ghost use Rattle.mapf_constraints.specs.BarSets.{AreBefore};
+    ghost use Rattle.mapf_constraints.specs.BarSets.{AreBefore, IsLastOn};
     ghost use Rattle.mapf_spacetime.specs.Task.{Task, task_of};
 
     ghost Value = { Task };
@@ -38,7 +40,8 @@ impl<'a, B: BarTable> Model for Ground<'a, B> {
 
     ghost invariant = { λ ground. (ground.distances.now.grid ≡ ground.grid.now)
         × (ground.distances.now.goal ≡ ground.agent.goal) × AreBars (B.bars ground.bars.now)
-        × AreBefore ground.horizon (B.bars ground.bars.now) × (ground.horizon ≤ split_ticks) };
+        × AreBefore ground.horizon (B.bars ground.bars.now) × (ground.horizon ≤ split_ticks)
+        × IsLastOn (B.bars ground.bars.now) ground.agent.goal ground.last_on_goal };
 }
 
 impl<'a, B: BarTable> Ground<'a, B> {
@@ -53,6 +56,7 @@ impl<'a, B: BarTable> Ground<'a, B> {
             bars,
             agent,
             horizon: bars.horizon(),
+            last_on_goal: bars.last_on(agent.goal),
         }
     }
 
@@ -60,6 +64,21 @@ impl<'a, B: BarTable> Ground<'a, B> {
         ensures { result ≡ self.now.start }
     {
         self.agent.start
+    }
+
+    pub fn goal(&self) -> Cell
+        ensures { result ≡ self.now.goal }
+    {
+        self.agent.goal
+    }
+
+    /// Returns whether a constraint may forbid a step that leaves at the tick.
+    pub fn may_bar(&self, tick: Tick) -> bool
+        requires { tick ≤ most_path_cells }
+        ensures { result ≡ false → (from to : ℕ) → Step self.now.grid from to
+            → MayGo self.now.grid self.now.bars from to tick }
+    {
+        self.bars.may_bar_at(tick) || self.bars.may_bar_at(tick + 1)
     }
 
     /// Returns the neighbourhood of a cell, in rising order. Where its cells are free, the agent may be there one tick
@@ -100,6 +119,18 @@ impl<'a, B: BarTable> Ground<'a, B> {
         !self.bars.bars_move(from.cell, to, from.tick)
     }
 
+    /// Returns the same, if it is known whether a constraint may forbid a step at this tick.
+    #[inline(always)]
+    pub fn lets_if(&self, is_barred: bool, from: &State, to: Cell) -> bool
+        requires small { from.now.tick ≤ most_path_cells }
+        requires step { Step self.now.grid from.now.cell to }
+        requires free { is_barred ≡ false → MayGo self.now.grid self.now.bars from.now.cell to from.now.tick }
+        ensures yes { IsTrue result → MayGo self.now.grid self.now.bars from.now.cell to from.now.tick }
+        ensures no { result ≡ false → MayGo self.now.grid self.now.bars from.now.cell to from.now.tick → ⊥ }
+    {
+        !is_barred || self.lets(from, to)
+    }
+
     /// Returns whether the agent may be in its start at tick 0.
     pub fn lets_start(&self) -> bool
         ensures yes { IsTrue result → IsOpen self.now (start_of self.now) }
@@ -113,28 +144,51 @@ impl<'a, B: BarTable> Ground<'a, B> {
         ensures yes { IsTrue result → MayRestFrom self.now tick }
         ensures no { result ≡ false → IsBarredLater self.now tick }
     {
-        match self.bars.last_on(self.agent.goal) {
+        match self.last_on_goal {
             Some(last) => last < tick,
             None => true,
         }
     }
 
-    /// Returns whether the agent is at its goal in this state and may stay.
-    #[inline(always)]
-    pub fn is_arrival(&self, state: &State) -> bool
-        ensures goal { IsTrue result → state.now.cell ≡ self.now.goal }
-        ensures rest { IsTrue result → MayRestFrom self.now state.now.tick }
-        ensures no { result ≡ false → state.now.cell ≡ self.now.goal → IsBarredLater self.now state.now.tick }
+    /// Returns whether the agent is at its goal at tick 0 and may stay.
+    pub fn rests_at_start(&self) -> bool
+        ensures goal { IsTrue result → self.now.start ≡ self.now.goal }
+        ensures rest { IsTrue result → MayRestFrom self.now 0 }
+        ensures no { result ≡ false → self.now.start ≡ self.now.goal → IsBarredLater self.now 0 }
     {
-        if state.cell != self.agent.goal {
-            return false;
+        self.agent.start == self.agent.goal && self.may_rest_from(0)
+    }
+
+    /// Returns whether the f-value of the state is below the cost.
+    #[inline(always)]
+    pub fn is_below(&self, state: &State, cost: u32) -> bool
+        requires { state.now.tick ≤ most_path_cells }
+        ensures yes { IsTrue result → IsBelow self.now cost state.now }
+        ensures no { result ≡ false → IsBelow self.now cost state.now → ⊥ }
+    {
+        match self.value(state) {
+            Some(value) => value < cost,
+            None => false,
         }
-        self.may_rest_from(state.tick)
+    }
+
+    /// Returns the tick after the last one at which a constraint forbids the goal, 0 if none does.
+    pub fn rest(&self) -> Tick
+        ensures early { (bound : ℕ) → AreBefore bound self.now.bars → result ≤ bound }
+        ensures rest { (tick : ℕ) → result ≤ tick → MayRestFrom self.now tick }
+    {
+        match self.last_on_goal {
+            Some(last) => last + 1,
+            None => 0,
+        }
     }
 
     /// Returns how many cells the grid has.
-    pub fn cells(&self) -> usize {
-        (self.grid.width() * self.grid.height()) as usize
+    pub fn cells(&self) -> u32
+        ensures count { result ≡ self.now.grid.width * self.now.grid.height }
+        ensures few { result ≤ most_cells }
+    {
+        self.grid.width() * self.grid.height()
     }
 
     /// Returns a tick from which on there are no constraints.

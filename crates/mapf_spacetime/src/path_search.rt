@@ -1,6 +1,6 @@
 ghost use Rattle.std.specs.Prelude.{◌≡◌, ◌+◌, ◌-◌, ◌<◌, ◌≤◌, ◌^◌, ℕ, Some, length, slice_index};
 ghost use Rattle.std.specs.Prelude.{false, IfOk, IfSome, IfNone, OnOk, IsTrue, Contains};
-ghost use Rattle.mapf_model.specs.Grid.{IsFree};
+ghost use Rattle.mapf_model.specs.Grid.{IsFree, Step};
 ghost use Rattle.mapf_model.specs.Labels.{MayGo};
 ghost use Rattle.mapf_model.specs.Limits.{most_path_cells};
 ghost use Rattle.mapf_model.specs.Neighbours.{neighbourhood};
@@ -49,6 +49,13 @@ impl PathSearch {
         self.cells.len()
     }
 
+    /// Returns how many states the search has backtracked from.
+    fn failures(&self) -> usize
+        ensures { result ≡ length self.now.failed }
+    {
+        self.failed.len()
+    }
+
     /// Returns the last state of the walk.
     fn last(&self) -> State
         requires some { 1 ≤ length self.now.cells }
@@ -82,8 +89,18 @@ impl PathSearch {
 
     /// Returns whether the constraints allow the agent to go to the cell, and it may still arrive at the cost from
     /// there.
-    fn leads<B: BarTable>(&self, ground: &Ground<B>, from: &State, to: Cell, cost: u32) -> bool
+    #[inline(always)]
+    fn leads<B: BarTable>(
+        &self,
+        ground: &Ground<B>,
+        from: &State,
+        to: Cell,
+        cost: u32,
+        is_barred: bool,
+    ) -> bool
         requires small { from.now.tick < most_path_cells }
+        requires unbarred { is_barred ≡ false → (other : ℕ) → Step ground.now.grid from.now.cell other →
+            MayGo ground.now.grid ground.now.bars from.now.cell other from.now.tick }
         requires free { IsFree ground.now.grid from.now.cell }
         requires wide { 0 < ground.now.grid.width }
         requires beside { Contains (neighbourhood ground.now.grid.width from.now.cell) (Some to) }
@@ -99,7 +116,7 @@ impl PathSearch {
         if !is_within(ground, &next, cost) {
             return false;
         }
-        if !ground.lets(from, to) {
+        if !ground.lets_if(is_barred, from, to) {
             return false;
         }
         !self.failed.has(&next)
@@ -115,9 +132,10 @@ impl PathSearch {
         ensures least { IfSome result (AreNoWaysBelow ground.now cost self.now.failed from.now) }
         ensures none { IfNone result ((to : ℕ) → IsNoWayOn ground.now cost self.now.failed from.now to) }
     {
+        let is_barred = ground.may_bar(from.tick);
         for place in ground.beside(from.cell) {
             if let Some(to) = place {
-                if self.leads(ground, from, to, cost) {
+                if self.leads(ground, from, to, cost, is_barred) {
                     return Some(to);
                 }
             }
@@ -125,22 +143,25 @@ impl PathSearch {
         None
     }
 
-    /// Takes one step, or backtracks if no step may lead to the goal.
-    fn go_on<B: BarTable>(&mut self, ground: &Ground<B>, cost: u32) -> Result<(), OutOfMemory>
+    /// Takes one step, or backtracks if no step may lead to the goal. Returns false if there is nowhere to backtrack to.
+    fn go_on<B: BarTable>(&mut self, ground: &Ground<B>, cost: u32) -> Result<bool, OutOfMemory>
         requires small { cost < cost_bound }
-        requires arrives { CanArrive ground.now cost (start_of ground.now) }
         requires searching { IsSearching ground.now cost self.old }
         requires unfinished { length self.old.cells ≤ cost }
-        ensures searching { OnOk result (IsSearching ground.now cost self.new) }
-        ensures nearer { OnOk result (turns_left self.new < turns_left self.old) }
+        ensures searching { IfOk result (λ goes. IsTrue goes → IsSearching ground.now cost self.new) }
+        ensures nearer { IfOk result (λ goes. IsTrue goes → turns_left self.new < turns_left self.old) }
+        ensures none { IfOk result (λ goes. goes ≡ false → CanArrive ground.now cost (start_of ground.now) → ⊥) }
     {
         let here = self.last();
         if let Some(to) = self.next(ground, &here, cost) {
             self.step(to)?;
-            return Ok(());
+            return Ok(true);
+        }
+        if self.len() == 1 {
+            return Ok(false);
         }
         self.turn_back(here)?;
-        Ok(())
+        Ok(true)
     }
 
     /// Returns the cells of the walk.
@@ -177,7 +198,29 @@ pub fn least_walk<B: BarTable>(
 {
     let mut walk = PathSearch::of(alloc, ground.start(), cost)?;
     while walk.len() <= cost as usize {
-        walk.go_on(ground, cost)?;
+        if !walk.go_on(ground, cost)? {
+            unreachable!();
+        }
     }
     Ok(walk.into_cells())
+}
+
+/// Returns the same walk if it is found before the search has backtracked from so many states.
+pub fn try_walk<B: BarTable>(
+    alloc: Global,
+    ground: &Ground<B>,
+    cost: u32,
+    most_failures: usize,
+) -> Result<Option<Vec<Cell>>, OutOfMemory>
+    requires small { cost < cost_bound }
+    requires within { IsWithin ground.now cost (start_of ground.now) }
+    ensures { IfOk result (λ found. IfSome found (λ cells. IsWholeWalk ground.now cost cells.items)) }
+{
+    let mut walk = PathSearch::of(alloc, ground.start(), cost)?;
+    while walk.len() <= cost as usize {
+        if walk.failures() >= most_failures || !walk.go_on(ground, cost)? {
+            return Ok(None);
+        }
+    }
+    Ok(Some(walk.into_cells()))
 }

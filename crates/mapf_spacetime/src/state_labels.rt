@@ -1,5 +1,6 @@
-ghost use Rattle.std.specs.Prelude.{◌≡◌, ◌<◌, ◌↔◌, ◌^◌, [], Some, IfOk, IsTrue, length, map, slice_get};
+ghost use Rattle.std.specs.Prelude.{◌≡◌, ◌<◌, ◌↔◌, ◌^◌, [], Some, AllPairs, IfOk, IsTrue, length, map, slice_get};
 ghost use Rattle.mapf_spacetime.specs.Listed.{AreEntriesOf, entry_for};
+ghost use Rattle.mapf_spacetime.specs.Sweeps.{IsEarlier};
 
 use crate::state::State;
 use mapf_model::{Entry, Label, OutOfMemory};
@@ -37,19 +38,17 @@ impl StateLabels {
         }
     }
 
-    /// Returns the labels of these states at the cost.
+    /// Returns the labels of these states, which rise by tick and then by cell, at the cost.
     pub(crate) fn of(
         alloc: Global,
         states: &[State],
         cost: Option<u32>,
     ) -> Result<StateLabels, OutOfMemory>
+        requires { AllPairs IsEarlier states.now }
         ensures { IfOk result (λ labels. AreEntriesOf states.now cost labels) }
     {
-        let mut sorted = Vec::from_slice(alloc, states)?;
-        sorted.sort_unstable();
-        sorted.dedup();
         Ok(StateLabels {
-            states: sorted,
+            states: Vec::from_slice(alloc, states)?,
             cost,
         })
     }

@@ -30,9 +30,19 @@ impl StateSet {
         }
     }
 
+    pub fn len(&self) -> usize
+        ensures { result ≡ length self.now }
+    {
+        self.states.len()
+    }
+
     pub fn has(&self, state: &State) -> bool
         ensures { IsTrue result ↔ Contains self.now state.now }
     {
+        // Mostly the set is empty, and then the state needn't be hashed.
+        if self.states.is_empty() {
+            return false;
+        }
         self.states.contains(state)
     }
 

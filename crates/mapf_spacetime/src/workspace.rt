@@ -1,18 +1,18 @@
-use crate::frontier::Frontier;
+use crate::sweep::Sweep;
 use std::alloc::Global;
 
 /// The memory of a search, which the next search can reuse. Its contents have no meaning between searches, which may be
 /// of different grids and agents.
 #[derive(Drop)]
 pub struct Workspace {
-    pub(crate) frontier: Frontier,
+    pub(crate) sweep: Sweep,
 }
 
 impl Workspace {
     /// Returns a workspace without memory yet.
     pub fn new(alloc: Global) -> Workspace {
         Workspace {
-            frontier: Frontier::new(alloc),
+            sweep: Sweep::new(alloc),
         }
     }
 }

@@ -14,20 +14,20 @@ add-requires-clause-early g c = c.requires.bar.0
 pub add-requires-clause-bar : goal.add-requires-clause-bar
 add-requires-clause-bar g c = c.requires.bar.1
 
-pub search_in-requires-clause-grid : goal.search_in-requires-clause-grid
-search_in-requires-clause-grid g c =
+pub search_expecting-requires-clause-grid : goal.search_expecting-requires-clause-grid
+search_expecting-requires-clause-grid g c =
     let agents = c.agents.ensures.value in
     let known = rw agents at (slice_get_read c.agents.result.now (length c.agents.result.now) c.args.constraint.agent c.index-agents-constraint.result refl (rw agents c.requires.known) c.index-agents-constraint.is) in
     (c.in_ok-make.ensures.tables.made c.args.constraint.agent c.index-agents-constraint.result c.get.result.now known c.get.ensures).0 ∙ sym c.grid.ensures
 
-pub search_in-requires-clause-goal : goal.search_in-requires-clause-goal
-search_in-requires-clause-goal g c =
+pub search_expecting-requires-clause-goal : goal.search_expecting-requires-clause-goal
+search_expecting-requires-clause-goal g c =
     let agents = c.agents.ensures.value in
     let known = rw agents at (slice_get_read c.agents.result.now (length c.agents.result.now) c.args.constraint.agent c.index-agents-constraint.result refl (rw agents c.requires.known) c.index-agents-constraint.is) in
     (c.in_ok-make.ensures.tables.made c.args.constraint.agent c.index-agents-constraint.result c.get.result.now known c.get.ensures).1
 
 pub returns-clause-found : goal.returns-clause-found
-returns-clause-found g c = IfOk-weaker c.search_in.result _ _ (λ found is who known views view are view_is.
+returns-clause-found g c = IfOk-weaker c.search_expecting.result _ _ (λ found is who known views view are view_is.
     let agents = c.agents.ensures.value in
     let read = slice_get_read c.agents.result.now (length c.agents.result.now) c.args.constraint.agent c.index-agents-constraint.result refl (rw agents c.requires.known) c.index-agents-constraint.is in
     let same : c.index-agents-constraint.result ≡ who = same_Some c.index-agents-constraint.result who (sym (rw agents at read) ∙ known) in (
@@ -36,4 +36,4 @@ returns-clause-found g c = IfOk-weaker c.search_in.result _ _ (λ found is who k
       subst (λ (a : Agent). IsPathAnswer (task_of c.args.problem.now.grid a (g.B.BarTable.bars c.add.new.self)) found) same
           (subst (λ (m : GridMap). IsPathAnswer (task_of m c.index-agents-constraint.result (g.B.BarTable.bars c.add.new.self)) found) c.grid.ensures is),
     ))
-    c.search_in.ensures
+    c.search_expecting.ensures

@@ -5,7 +5,7 @@ use Rattle.mapf_spacetime.specs.declared.state.State.{State}
 use Rattle.mapf_spacetime.specs.Task.{Goes, IsWithin, state_at}
 use Rattle.mapf_spacetime.specs.PathSearch.{CanArrive, IsSearching, with_failure, state_of}
 use Rattle.mapf_spacetime.proofs.ValueLemmas.{value_free}
-use Rattle.mapf_spacetime.proofs.WayLemmas.{step_searching, back_searching}
+use Rattle.mapf_spacetime.proofs.WayLemmas.{step_searching, back_searching, nowhere}
 use Rattle.mapf_spacetime.proofs.path_search.PathSearch.go_on.Goals as goal
 
 pub next-requires-clause-free : goal.next-requires-clause-free
@@ -26,7 +26,7 @@ returns-in-Some-clause-searching g c =
     let next : here.tick + 1 ≡ length way.cells = (let tick = ap (λ s. s.tick) c.last-here.ensures in omega arith) in
     let may = subst (λ (s : State). MayGo task.grid task.bars s.cell to s.tick) c.last-here.ensures c.in-Some.ensures.may in
     let goes : Goes task (state_of way.cells (length way.cells - 1)) (state_at to (length way.cells)) = record { may = may; tick = omega arith } in
-    subst (IsSearching task c.args.cost) (sym c.in_ok-step.ensures)
+    λ yes. subst (IsSearching task c.args.cost) (sym c.in_ok-step.ensures)
     (step_searching task c.args.cost way c.requires.searching to c.requires.unfinished goes
     (subst (λ n. IsWithin task c.args.cost (state_at to n)) next c.in-Some.ensures.within)
     (subst (λ n. Contains way.failed (state_at to n) → ⊥) next c.in-Some.ensures.fresh)
@@ -49,4 +49,14 @@ returns-clause-searching g c =
     let here = c.last-here.result in
     let turned = c.in_ok-turn_back.ensures.turned ∙ ap (with_failure way) c.last-here.ensures in
     let none = rw c.last-here.ensures at c.in_default.ensures.none in
-    subst (IsSearching task c.args.cost) (sym turned) (back_searching task c.args.cost way c.requires.searching 0 c.requires.unfinished c.requires.arrives none)
+    let some = c.requires.searching.from.some in
+    let size = c.len.ensures in
+    λ yes. subst (IsSearching task c.args.cost) (sym turned) (back_searching task c.args.cost way c.requires.searching 0 c.requires.unfinished (omega arith) none)
+
+pub returns-then-len-eq1-clause-none : goal.returns-then-len-eq1-clause-none
+returns-then-len-eq1-clause-none g c =
+    let task = c.args.ground.now in
+    let way = c.args.self.now in
+    let none = rw c.last-here.ensures at c.in_default.ensures.none in
+    let size = c.len.ensures in
+    λ no. nowhere task c.args.cost way c.requires.searching 0 c.requires.unfinished (omega arith) none

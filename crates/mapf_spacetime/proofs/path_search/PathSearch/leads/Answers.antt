@@ -5,8 +5,15 @@ use Rattle.mapf_spacetime.proofs.ValueLemmas.{value_free}
 use Rattle.mapf_spacetime.proofs.path_search.PathSearch.leads.Goals as goal
 use Rattle.std.proofs.lemmas.Bool.{not-false}
 
-pub lets-requires-clause-step : goal.lets-requires-clause-step
-lets-requires-clause-step g c =
+pub lets_if-requires-clause-free : goal.lets_if-requires-clause-free
+lets_if-requires-clause-free g c none =
+    let task = c.args.ground.now in
+    let from = c.args.from.now in
+    let (value, is, le) = c.if-not-is_within.ensures.within refl in
+    c.requires.unbarred none c.args.to (neighbour_step task.grid from.cell c.requires.wide c.requires.free c.args.to c.requires.beside (value_free task (state_at c.args.to (from.tick + 1)) value is))
+
+pub lets_if-requires-clause-step : goal.lets_if-requires-clause-step
+lets_if-requires-clause-step g c =
     let task = c.args.ground.now in
     let from = c.args.from.now in
     let (value, is, le) = c.if-not-is_within.ensures.within refl in

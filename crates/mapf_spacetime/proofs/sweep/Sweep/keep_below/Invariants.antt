@@ -1,0 +1,9 @@
+use Rattle.std.proofs.Common.{◌≡◌}
+use Rattle.mapf_spacetime.specs.Sweeps.{AreKept}
+use Rattle.mapf_spacetime.proofs.sweep.Sweep.keep_below.Given as goal
+
+abbrev pub invariant-loop-place : goal.invariant-loop-place
+invariant-loop-place g l = record {
+  same : l.self-inside.states.items ≡ l.initial.self-inside.states.items;
+  kept : AreKept l.ground l.cost l.place l.initial.self-inside.states.items l.self-inside.low.items;
+}

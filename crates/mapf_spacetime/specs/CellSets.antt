@@ -1,0 +1,20 @@
+-- Sets of cells as bits of words.
+use Rattle.std.specs.Prelude.{◌≡◌, ℕ, ◌/◌, ◌%◌, ◌<◌, ◌≤◌, List, length, slice_index}
+use Rattle.std.specs.Int.{bit_at}
+
+-- the cell is in the set: its bit is 1
+abbrev pub HasCell : List ℕ → ℕ → Type 0
+HasCell words cell = bit_at (slice_index words (cell / 64)) (cell % 64) ≡ 1
+
+-- no cell is in the set
+abbrev pub HasNone : List ℕ → Type 0
+HasNone words = (cell : ℕ) → HasCell words cell → ⊥
+
+-- the words outside this range are 0
+pub record AreEmptyOutside (words : List ℕ) (first end : ℕ) : Type 0 where
+  pub zero : (place : ℕ) → (place < end → place < first) → slice_index words place ≡ 0
+  pub within : end ≤ length words
+
+-- the words are for no more cells than a grid has
+abbrev pub IsShort : List ℕ → Type 0
+IsShort words = length words ≤ 65536

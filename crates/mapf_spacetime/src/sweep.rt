@@ -1,0 +1,274 @@
+ghost use Rattle.std.specs.Prelude.{◌≡◌, ◌+◌, ◌*◌, ◌++◌, ◌∷◌, ◌<◌, ◌≤◌, ℕ, [], List, Some, Contains, length, slice_index_or};
+ghost use Rattle.std.specs.Prelude.{false, IfOk, IfSome, IfNone, OnOk, IsTrue};
+ghost use Rattle.mapf_model.specs.Grid.{IsGridMap, Step};
+ghost use Rattle.mapf_model.specs.Labels.{MayGo};
+ghost use Rattle.mapf_model.specs.Limits.{most_cells, most_path_cells};
+ghost use Rattle.mapf_model.specs.Neighbours.{neighbourhood};
+ghost use Rattle.mapf_spacetime.specs.CellSets.{HasCell, HasNone};
+ghost use Rattle.mapf_spacetime.specs.States.{IsBelowLimit};
+ghost use Rattle.mapf_spacetime.specs.Sweeps.{AreNext, AreStatesAt, AreSwept, HasArrived, IsExtended, IsNoted};
+ghost use Rattle.mapf_spacetime.specs.Sweeps.{IsSweep, IsWhole, MeetsGoal};
+ghost use Rattle.mapf_spacetime.specs.Task.{IsBarredLater, IsBelow, IsWithin, MayRestFrom, cost_bound, start_of, state_at};
+ghost use Rattle.mapf_spacetime.specs.declared.state.State.{State};
+
+use crate::cell_set::CellSet;
+use crate::ground::Ground;
+use crate::state::State;
+use mapf_constraints::BarTable;
+use mapf_model::{Cell, OutOfMemory, Tick};
+use std::alloc::Global;
+use std::marker::Model;
+
+/// The states that an agent can reach with an f-value, tick plus distance, of at most a bound: all those of a tick, then
+/// those of the next.
+#[derive(Drop)]
+pub struct Sweep {
+    // By tick and then by cell.
+    states: Vec<State>,
+    // Those of them whose f-value is below the cost at which the agent arrives.
+    low: Vec<State>,
+    next_cells: CellSet,
+    bound: u32,
+    // Whether a state was left out because its f-value is above the bound.
+    is_cut: bool,
+}
+
+impl Model for Sweep {
+    ghost use Rattle.mapf_spacetime.specs.Sweeps.{Sweeping};
+
+    ghost Value = { Sweeping };
+
+    ghost view = { λ sweep. record {
+      states = sweep.states.items;
+      low = sweep.low.items;
+      next_cells = sweep.next_cells;
+      bound = sweep.bound;
+      is_cut = sweep.is_cut;
+    } };
+}
+
+impl Sweep {
+    /// Returns a sweep that has reached no state.
+    pub fn new(alloc: Global) -> Sweep {
+        Sweep {
+            states: Vec::new(alloc),
+            low: Vec::new(alloc),
+            next_cells: CellSet::new(alloc),
+            bound: 0,
+            is_cut: false,
+        }
+    }
+
+    /// Returns the states that were reached, by tick and then by cell.
+    pub fn states(&self) -> &[State]
+        ensures { result.now ≡ self.now.states }
+    {
+        self.states.as_slice()
+    }
+
+    /// Returns those of them whose f-value is below the cost of the agent's path.
+    pub fn low(&self) -> &[State]
+        ensures { result.now ≡ self.now.low }
+    {
+        self.low.as_slice()
+    }
+
+    // Begins with the start alone, in the memory of the sweep before.
+    fn begin(&mut self, start: Cell, bound: u32, cells: u32) -> Result<(), OutOfMemory>
+        requires { cells ≤ most_cells }
+        ensures states { OnOk result (self.new.states ≡ state_at start 0 ∷ []) }
+        ensures bound { OnOk result (self.new.bound ≡ bound) }
+        ensures cut { OnOk result (self.new.is_cut ≡ false) }
+        ensures none { OnOk result (HasNone self.new.next_cells) }
+        ensures room { OnOk result (cells ≤ 64 * length self.new.next_cells) }
+    {
+        self.states.clear();
+        self.states.push(State {
+            tick: 0,
+            cell: start,
+        })?;
+        self.next_cells.clear(cells)?;
+        self.bound = bound;
+        self.is_cut = false;
+        Ok(())
+    }
+
+    // Notes the cell to which a step leads, unless the step is forbidden, or the f-value is above the bound.
+    #[inline(always)]
+    fn note<B: BarTable>(&mut self, ground: &Ground<B>, from: &State, to: Cell, is_barred: bool)
+        requires small { from.now.tick < most_path_cells }
+        requires next { AreNext ground.now from.now.tick self.old }
+        requires reached { Contains self.old.states from.now }
+        requires within { IsWithin ground.now self.old.bound from.now }
+        requires free { is_barred ≡ false → (other : ℕ) → Step ground.now.grid from.now.cell other →
+            MayGo ground.now.grid ground.now.bars from.now.cell other from.now.tick }
+        requires wide { 0 < ground.now.grid.width }
+        requires beside { Contains (neighbourhood ground.now.grid.width from.now.cell) (Some to) }
+        requires shape { IsGridMap ground.now.grid }
+        requires room { ground.now.grid.width * ground.now.grid.height ≤ 64 * length self.old.next_cells }
+        ensures next { AreNext ground.now from.now.tick self.new }
+        ensures extended { IsExtended self.old self.new }
+        ensures noted { IsNoted ground.now self.new from.now to }
+    {
+        let next = State {
+            tick: from.tick + 1,
+            cell: to,
+        };
+        let Some(value) = ground.value(&next) else {
+            return;
+        };
+        if !ground.lets_if(is_barred, from, to) {
+            return;
+        }
+        if value <= self.bound {
+            self.next_cells.insert(to);
+        } else {
+            self.is_cut = true;
+        }
+    }
+
+    // Follows each of the steps from the state.
+    #[inline(always)]
+    fn follow<B: BarTable>(&mut self, ground: &Ground<B>, from: &State, is_barred: bool)
+        requires small { from.now.tick < most_path_cells }
+        requires next { AreNext ground.now from.now.tick self.old }
+        requires reached { Contains self.old.states from.now }
+        requires within { IsWithin ground.now self.old.bound from.now }
+        requires free { is_barred ≡ false → (other : ℕ) → Step ground.now.grid from.now.cell other →
+            MayGo ground.now.grid ground.now.bars from.now.cell other from.now.tick }
+        requires shape { IsGridMap ground.now.grid }
+        requires room { ground.now.grid.width * ground.now.grid.height ≤ 64 * length self.old.next_cells }
+        ensures next { AreNext ground.now from.now.tick self.new }
+        ensures extended { IsExtended self.old self.new }
+        ensures noted { (to : ℕ) → IsNoted ground.now self.new from.now to }
+    {
+        for place in ground.beside(from.cell) {
+            if let Some(to) = place {
+                self.note(ground, from, to, is_barred);
+            }
+        }
+    }
+
+    // Follows each step from the states of this tick, which are those from this index on.
+    fn follow_tick<B: BarTable>(&mut self, ground: &Ground<B>, first: usize, tick: Tick)
+        requires small { tick < most_path_cells }
+        requires sweep { IsSweep ground.now tick first self.old }
+        requires none { HasNone self.old.next_cells }
+        requires shape { IsGridMap ground.now.grid }
+        requires room { ground.now.grid.width * ground.now.grid.height ≤ 64 * length self.old.next_cells }
+        ensures next { AreNext ground.now tick self.new }
+        ensures extended { IsExtended self.old self.new }
+        ensures noted { (k : ℕ) → first ≤ k → k < length self.old.states → (to : ℕ) →
+            IsNoted ground.now self.new (slice_index_or self.old.states k (start_of ground.now)) to }
+    {
+        let is_barred = ground.may_bar(tick);
+        for place in first..self.states.len() {
+            let from = self.states[place];
+            self.follow(ground, &from, is_barred);
+        }
+    }
+
+    // Reaches the next cells, at this tick.
+    fn reach(&mut self, tick: Tick) -> Result<(), OutOfMemory>
+        ensures reached { OnOk result ((states : List State)
+            × AreStatesAt tick self.old.next_cells states × (self.new.states ≡ self.old.states ++ states)) }
+        ensures none { OnOk result (HasNone self.new.next_cells) }
+        ensures room { OnOk result (length self.new.next_cells ≡ length self.old.next_cells) }
+        ensures bound { OnOk result (self.new.bound ≡ self.old.bound) }
+        ensures cut { OnOk result (self.new.is_cut ≡ self.old.is_cut) }
+    {
+        while let Some(cell) = self.next_cells.take_least() {
+            self.states.push(State { tick, cell })?;
+        }
+        Ok(())
+    }
+
+    // Returns whether the goal is one of the next cells, and the agent may rest there from this tick on.
+    fn arrives<B: BarTable>(&self, ground: &Ground<B>, tick: Tick) -> bool
+        ensures goal { IsTrue result → HasCell self.now.next_cells ground.now.goal }
+        ensures rest { IsTrue result → MayRestFrom ground.now tick }
+        ensures no { result ≡ false → HasCell self.now.next_cells ground.now.goal → IsBarredLater ground.now tick }
+    {
+        self.next_cells.has(ground.goal()) && ground.may_rest_from(tick)
+    }
+
+    // Goes from tick to tick, and returns the one at which the agent arrives. None if it arrives at none up to the bound.
+    fn walk<B: BarTable>(&mut self, ground: &Ground<B>) -> Result<Option<Tick>, OutOfMemory>
+        requires small { self.old.bound < cost_bound }
+        requires shape { IsGridMap ground.now.grid }
+        requires states { self.old.states ≡ start_of ground.now ∷ [] }
+        requires within { IsWithin ground.now self.old.bound (start_of ground.now) }
+        requires none { HasNone self.old.next_cells }
+        requires cut { self.old.is_cut ≡ false }
+        requires room { ground.now.grid.width * ground.now.grid.height ≤ 64 * length self.old.next_cells }
+        ensures arrives { IfOk result (λ found. IfSome found (λ cost. MeetsGoal ground.now cost self.new)) }
+        ensures whole { IfOk result (λ found. IfNone found (IsWhole ground.now self.new)) }
+        ensures bound { OnOk result (self.new.bound ≡ self.old.bound) }
+    {
+        if ground.rests_at_start() {
+            return Ok(Some(0));
+        }
+        let mut first = 0;
+        let mut tick = 0;
+        while first < self.states.len() {
+            let end = self.states.len();
+            self.follow_tick(ground, first, tick);
+            tick += 1;
+            if self.arrives(ground, tick) {
+                return Ok(Some(tick));
+            }
+            self.reach(tick)?;
+            first = end;
+        }
+        Ok(None)
+    }
+
+    // Keeps the states whose f-value is below the cost.
+    fn keep_below<B: BarTable>(&mut self, ground: &Ground<B>, cost: u32) -> Result<(), OutOfMemory>
+        requires small { self.old.bound < cost_bound }
+        requires meets { MeetsGoal ground.now cost self.old }
+        ensures swept { OnOk result (AreSwept ground.now cost self.new.low) }
+        ensures kept { OnOk result ((state : State) → Contains self.old.states state → IsBelow ground.now cost state →
+            Contains self.new.low state) }
+    {
+        self.low.clear();
+        for place in 0..self.states.len() {
+            let state = self.states[place];
+            if ground.is_below(&state, cost) {
+                self.low.push(state)?;
+            }
+        }
+        Ok(())
+    }
+
+    /// Returns whether a state that can be reached was left out.
+    pub fn is_cut(&self) -> bool
+        ensures { result ≡ self.now.is_cut }
+    {
+        self.is_cut
+    }
+
+    /// Reaches all states of an f-value of at most the bound. Returns the tick at which the agent arrives, and keeps the
+    /// states below it; None if it doesn't arrive up to the bound.
+    pub fn arrival<B: BarTable>(
+        &mut self,
+        ground: &Ground<B>,
+        bound: u32,
+    ) -> Result<Option<Tick>, OutOfMemory>
+        requires small { bound < cost_bound }
+        requires shape { IsGridMap ground.now.grid }
+        requires within { IsWithin ground.now bound (start_of ground.now) }
+        ensures arrives { IfOk result (λ found. IfSome found (λ cost. HasArrived ground.now cost self.new.low)) }
+        ensures limit { IfOk result (λ found. IfSome found (IsBelowLimit ground.now)) }
+        ensures early { IfOk result (λ found. IfSome found (λ cost. cost ≤ bound)) }
+        ensures whole { IfOk result (λ found. IfNone found (IsWhole ground.now self.new)) }
+        ensures bound { IfOk result (λ found. IfNone found (self.new.bound ≡ bound)) }
+    {
+        self.begin(ground.start(), bound, ground.cells())?;
+        let found = self.walk(ground)?;
+        if let Some(cost) = found {
+            self.keep_below(ground, cost)?;
+        }
+        Ok(found)
+    }
+}
