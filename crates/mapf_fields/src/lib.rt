@@ -6,6 +6,7 @@ mod fault;
 mod numbers;
 mod page;
 mod ranges;
+mod spellings;
 
 pub use ends::{cut, line_length};
 pub use fault::LineFault;

@@ -1,8 +1,9 @@
-ghost use Rattle.std.specs.Prelude.{◌≡◌, ◌+◌, ◌<◌, ◌≤◌, ◌↔◌, ◌++◌, ◌∷◌, [], List, ℕ, false, IsTrue, OnOk, length};
+ghost use Rattle.std.specs.Prelude.{◌≡◌, ◌+◌, ◌<◌, ◌≤◌, ◌↔◌, ◌++◌, ◌∷◌, [], List, ℕ, false, IsTrue, OnOk, length, take};
 ghost use Rattle.std.specs.Result.{is_err};
 ghost use Rattle.mapf_fields.specs.Numbers.{field};
 ghost use Rattle.mapf_fields.specs.Pages.{PassesOrFails, WritesOrFails, page_room, field_room};
 
+use crate::spellings::Spellings;
 use itoa::Buffer;
 use mapf_model::{Failed, Sink, write_all};
 use std::marker::Model;
@@ -15,6 +16,7 @@ const ROOM: usize = 65_536;
 pub struct Page {
     bytes: [u8; ROOM],
     used: usize,
+    spellings: Spellings,
 }
 
 impl Model for Page {
@@ -35,6 +37,7 @@ impl Page {
         Page {
             bytes: [0; ROOM],
             used: 0,
+            spellings: Spellings::new(),
         }
     }
 
@@ -64,30 +67,56 @@ impl Page {
         self.push_bytes(&[byte]);
     }
 
-    /// Adds the separator `mark` and a number.
-    #[inline]
+    /// Adds the separator `mark` and a number. Nearly all numbers that are printed are below 1000, so only the way that
+    /// these take is part of the caller's code.
+    #[inline(always)]
     pub fn push_field(&mut self, mark: u8, number: u64)
         requires { length self.old + field_room ≤ page_room }
         ensures text { self.new ≡ self.old ++ field mark number }
         ensures short { length self.new ≤ length self.old + field_room }
     {
-        if number < 10 {
-            self.push_bytes(&[mark, b'0' + number as u8]);
-        } else if number < 100 {
-            self.push_bytes(&[mark, b'0' + (number / 10) as u8, b'0' + (number % 10) as u8]);
-        } else if number < 1000 {
-            let tens = number / 10;
-            self.push_bytes(&[
-                mark,
-                b'0' + (tens / 10) as u8,
-                b'0' + (tens % 10) as u8,
-                b'0' + (number % 10) as u8,
-            ]);
+        if number < 1000 {
+            self.push_small_field(mark, number);
         } else {
-            let mut buffer = Buffer::new();
-            self.push_byte(mark);
-            self.push_bytes(buffer.format(number).as_bytes());
+            self.push_large_field(mark, number);
         }
+    }
+
+    /// Adds the separator `mark` and a number below 1000. All four bytes of its spelling are copied, and those that are
+    /// no digits are then taken off the page, so that no branch depends on how many digits there are.
+    #[inline(always)]
+    fn push_small_field(&mut self, mark: u8, number: u64)
+        requires room { length self.old + field_room ≤ page_room }
+        requires small { number < 1000 }
+        ensures text { self.new ≡ self.old ++ field mark number }
+        ensures short { length self.new ≤ length self.old + field_room }
+    {
+        let spelling = self.spellings.of(number);
+        let end = self.used + 1 + spelling[3] as usize;
+        self.push_byte(mark);
+        self.push_bytes(&spelling);
+        self.shorten(end);
+    }
+
+    /// Adds the separator `mark` and any number.
+    #[inline(never)]
+    fn push_large_field(&mut self, mark: u8, number: u64)
+        requires { length self.old + field_room ≤ page_room }
+        ensures text { self.new ≡ self.old ++ field mark number }
+        ensures short { length self.new ≤ length self.old + field_room }
+    {
+        let mut buffer = Buffer::new();
+        self.push_byte(mark);
+        self.push_bytes(buffer.format(number).as_bytes());
+    }
+
+    /// Keeps only the first so many bytes.
+    #[inline(always)]
+    fn shorten(&mut self, count: usize)
+        requires { count ≤ length self.old }
+        ensures { self.new ≡ take count self.old }
+    {
+        self.used = count;
     }
 
     fn clear(&mut self)
