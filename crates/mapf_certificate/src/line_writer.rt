@@ -55,7 +55,8 @@ fn push_label(page: &mut Page, label: Label)
     }
 }
 
-#[inline]
+// Most lines of a certificate are entries, so their line is written without a call.
+#[inline(always)]
 fn push_entry(page: &mut Page, entry: &Entry, width: u32)
     requires wide { 0 < width }
     requires room { length page.old + line_room ≤ page_room }
@@ -150,7 +151,9 @@ pub fn push_line(page: &mut Page, line: &CertLine, width: u32)
     page.push_byte(b'\n');
 }
 
-/// Adds the line of an entry with its LF.
+/// Adds the line of an entry with its LF. It is made part of the loops that call it, so that no entry is put into memory
+/// to be read from there again.
+#[inline(always)]
 pub fn push_entry_line(page: &mut Page, entry: &Entry, width: u32)
     requires wide { 0 < width }
     requires room { length page.old + line_room ≤ page_room }
