@@ -1,55 +1,66 @@
-ghost use Rattle.std.specs.Prelude.{◌≡◌, ◌≤◌, length, IsTrue};
+ghost use Rattle.std.specs.Prelude.{◌≡◌, ◌≤◌, length, IfNone, IfOk, IfSome};
 ghost use Rattle.mapf_model.specs.Limits.{most_agents};
-ghost use Rattle.mapf_model.specs.Pairs.{HoldsOfNoPair};
+ghost use Rattle.mapf_model.specs.Pairs.{IsFirstPair, HoldsOfNoPair};
 ghost use Rattle.mapf_conflicts.specs.Pairs.{ArePlaced, ShareCell, ExchangeCells};
 
 use mapf_model::Cell;
 
-/// Marks the agents' cells. Returns true only if no two agents are in one cell or go to each other's cells. A cell
-/// without a mark makes it false.
-pub fn are_apart(marks: &mut [u8], here: &[Cell], next: &[Cell]) -> bool
-    requires size { length next.now ≡ length here.now }
-    requires few { length here.now ≤ most_agents }
-    ensures share { IsTrue result → HoldsOfNoPair (ShareCell here.now) (length here.now) }
-    ensures exchange { IsTrue result → HoldsOfNoPair (ExchangeCells here.now next.now) (length here.now) }
-{
-    place_all(marks, here) && none_exchange(marks, here, next)
-}
+/// Some cell has no mark.
+#[derive(Debug)]
+pub struct Unmarked;
 
-// Marks each agent's cell. Returns false if two agents are in one cell, or a cell has no mark.
-fn place_all(marks: &mut [u8], here: &[Cell]) -> bool
+/// Marks the agents' cells, and returns the first two agents that are in one cell. If there are none, each agent's cell
+/// is marked with this agent.
+pub fn marked_sharing_pair(
+    marks: &mut [u8],
+    here: &[Cell],
+) -> Result<Option<(usize, usize)>, Unmarked>
     requires { length here.now ≤ most_agents }
-    ensures { IsTrue result → ArePlaced marks.new here.now }
+    ensures some { IfOk result (λ found. IfSome found (IsFirstPair (ShareCell here.now) (length here.now))) }
+    ensures none { IfOk result (λ found. IfNone found (HoldsOfNoPair (ShareCell here.now) (length here.now))) }
+    ensures placed { IfOk result (λ found. IfNone found (ArePlaced marks.new here.now)) }
 {
-    for (i, cell) in here.iter().enumerate() {
+    let mut first = None;
+    // From the last agent to the first, so that the mark of a cell is the least agent there so far.
+    let mut i = here.len();
+    while i > 0 {
+        i -= 1;
+        let cell = &here[i];
         let place = cell.0 as usize;
         if place >= marks.len() {
-            return false;
+            return Err(Unmarked);
         }
         let other = marks[place] as usize;
-        if other != i && other < here.len() && here[other] == *cell {
-            return false;
+        if other > i && other < here.len() && here[other] == *cell {
+            first = Some((i, other));
         }
         marks[place] = i as u8;
     }
-    true
+    Ok(first)
 }
 
-// Returns whether no two agents go to each other's cells; false also if a cell has no mark.
-fn none_exchange(marks: &[u8], here: &[Cell], next: &[Cell]) -> bool
+/// Returns the first two agents that go to each other's cells, if each agent's cell is marked with this agent.
+pub fn marked_exchanging_pair(
+    marks: &[u8],
+    here: &[Cell],
+    next: &[Cell],
+) -> Result<Option<(usize, usize)>, Unmarked>
     requires size { length next.now ≡ length here.now }
     requires placed { ArePlaced marks.now here.now }
-    ensures { IsTrue result → HoldsOfNoPair (ExchangeCells here.now next.now) (length here.now) }
+    ensures some { IfOk result (λ found.
+        IfSome found (IsFirstPair (ExchangeCells here.now next.now) (length here.now))) }
+    ensures none { IfOk result (λ found.
+        IfNone found (HoldsOfNoPair (ExchangeCells here.now next.now) (length here.now))) }
 {
     for (i, cell) in next.iter().enumerate() {
         let place = cell.0 as usize;
         if place >= marks.len() {
-            return false;
+            return Err(Unmarked);
         }
         let other = marks[place] as usize;
-        if other != i && other < here.len() && here[other] == *cell && next[other] == here[i] {
-            return false;
+        if other > i && other < here.len() && here[other] == *cell && next[other] == here[i] {
+            return Ok(Some((i, other)));
         }
     }
-    true
+    Ok(None)
 }

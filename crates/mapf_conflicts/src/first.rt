@@ -1,11 +1,12 @@
-ghost use Rattle.std.specs.Prelude.{◌≡◌, ◌≤◌, length, All, IfNone, IfSome};
+ghost use Rattle.std.specs.Prelude.{◌≡◌, ◌≤◌, length, slice_index, All, IfNone, IfOk, IfSome};
+ghost use Rattle.mapf_model.specs.declared.conflict.Conflict.TheVariants.{Vertex};
 ghost use Rattle.mapf_model.specs.Earned.{tick_of, HasConflict, AreConflictFreeBefore, HaveSomeConflict};
 ghost use Rattle.mapf_model.specs.Limits.{most_agents, most_path_cells};
-ghost use Rattle.mapf_model.specs.Pairs.{HoldsOfNoPair};
+ghost use Rattle.mapf_model.specs.Pairs.{IsFirstPair, HoldsOfNoPair};
 ghost use Rattle.mapf_conflicts.specs.Pairs.{cells_at, paths_behind, ShareCell, ExchangeCells};
 ghost use Rattle.mapf_conflicts.specs.Pairs.{IsConflictOf, IsFirstOf, IsFirstOfItsTick, IsOrdered};
 
-use crate::apart::are_apart;
+use crate::apart::{Unmarked, marked_exchanging_pair, marked_sharing_pair};
 use crate::pairs::{exchanging_pair, may_conflict, sharing_pair};
 use mapf_model::limits::MOST_AGENTS;
 use mapf_model::{Cell, Conflict, Path, Plan, Tick};
@@ -83,23 +84,83 @@ fn conflict_of(marks: &mut [u8], here: &[Cell], next: &[Cell], tick: Tick) -> Op
     ensures share { IfNone result (HoldsOfNoPair (ShareCell here.now) (length here.now)) }
     ensures exchange { IfNone result (HoldsOfNoPair (ExchangeCells here.now next.now) (length here.now)) }
 {
-    if are_apart(marks, here, next) || !may_conflict(here, next) {
+    match marked_conflict(marks, here, next, tick) {
+        Ok(found) => found,
+        Err(Unmarked) => unmarked_conflict(here, next, tick),
+    }
+}
+
+// Returns the same by marks, in time linear in the number of agents.
+fn marked_conflict(
+    marks: &mut [u8],
+    here: &[Cell],
+    next: &[Cell],
+    tick: Tick,
+) -> Result<Option<Conflict>, Unmarked>
+    requires size { length next.now ≡ length here.now }
+    requires few { length here.now ≤ most_agents }
+    ensures some { IfOk result (λ found. IfSome found (IsConflictOf here.now next.now tick)) }
+    ensures first { IfOk result (λ found. IfSome found (IsFirstOf here.now next.now)) }
+    ensures share { IfOk result (λ found. IfNone found (HoldsOfNoPair (ShareCell here.now) (length here.now))) }
+    ensures exchange { IfOk result (λ found.
+        IfNone found (HoldsOfNoPair (ExchangeCells here.now next.now) (length here.now))) }
+{
+    if let Some((i, j)) = marked_sharing_pair(marks, here)? {
+        return Ok(Some(vertex(here, i, j, tick)));
+    }
+    match marked_exchanging_pair(marks, here, next)? {
+        Some((i, j)) => Ok(Some(swap(here, next, i, j, tick))),
+        None => Ok(None),
+    }
+}
+
+// Returns the same without marks.
+fn unmarked_conflict(here: &[Cell], next: &[Cell], tick: Tick) -> Option<Conflict>
+    requires size { length next.now ≡ length here.now }
+    requires few { length here.now ≤ most_agents }
+    ensures some { IfSome result (IsConflictOf here.now next.now tick) }
+    ensures first { IfSome result (IsFirstOf here.now next.now) }
+    ensures share { IfNone result (HoldsOfNoPair (ShareCell here.now) (length here.now)) }
+    ensures exchange { IfNone result (HoldsOfNoPair (ExchangeCells here.now next.now) (length here.now)) }
+{
+    if !may_conflict(here, next) {
         return None;
     }
     if let Some((i, j)) = sharing_pair(here) {
-        return Some(Conflict::Vertex {
-            i: i as u32,
-            j: j as u32,
-            cell: here[i],
-            tick,
-        });
+        return Some(vertex(here, i, j, tick));
     }
     let (i, j) = exchanging_pair(here, next)?;
-    Some(Conflict::Swap {
+    Some(swap(here, next, i, j, tick))
+}
+
+// Returns the vertex conflict of the two agents.
+fn vertex(here: &[Cell], i: usize, j: usize, tick: Tick) -> Conflict
+    requires few { length here.now ≤ most_agents }
+    requires first { IsFirstPair (ShareCell here.now) (length here.now) (i, j) }
+    ensures is { result ≡ Vertex i j (slice_index here.now i) tick }
+{
+    Conflict::Vertex {
+        i: i as u32,
+        j: j as u32,
+        cell: here[i],
+        tick,
+    }
+}
+
+// Returns the swapping conflict of the two agents.
+fn swap(here: &[Cell], next: &[Cell], i: usize, j: usize, tick: Tick) -> Conflict
+    requires size { length next.now ≡ length here.now }
+    requires few { length here.now ≤ most_agents }
+    requires apart { HoldsOfNoPair (ShareCell here.now) (length here.now) }
+    requires first { IsFirstPair (ExchangeCells here.now next.now) (length here.now) (i, j) }
+    ensures is { IsConflictOf here.now next.now tick result }
+    ensures first { IsFirstOf here.now next.now result }
+{
+    Conflict::Swap {
         i: i as u32,
         j: j as u32,
         from: here[i],
         to: next[i],
         tick,
-    })
+    }
 }

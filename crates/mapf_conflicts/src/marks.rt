@@ -34,7 +34,7 @@ impl CellMarks {
 }
 
 /// Returns the first conflict of these paths, in the order of `first_conflict`. A tick takes time linear in the number
-/// of agents if no two of them are in conflict and each cell has a mark.
+/// of agents if each cell has a mark.
 pub fn first_conflict_in(marks: &mut CellMarks, paths: &[&Path]) -> Option<Conflict>
     requires { length paths.now ≤ most_agents }
     ensures some { IfSome result (HasConflict (paths_behind paths.now)) }
