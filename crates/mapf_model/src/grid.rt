@@ -1,4 +1,5 @@
-ghost use Rattle.std.specs.Prelude.{◌≡◌, ◌+◌, ◌*◌, ◌<◌, ◌≤◌, ℕ, IfSome, IsSome, IsTrue, ◌↔◌, Contains};
+ghost use Rattle.std.specs.Prelude.{◌≡◌, ◌+◌, ◌*◌, ◌<◌, ◌≤◌, ℕ, IfSome, IsSome, IsTrue, ◌↔◌, Contains, false, length};
+ghost use Rattle.std.specs.Prelude.{slice_index_or};
 ghost use Rattle.std.specs.List.Sorted.{IsStrictlyIncreasing};
 ghost use Rattle.mapf_model.specs.Limits.{greatest_side};
 ghost use Rattle.mapf_model.specs.Grid.{GridMap, IsFree, AreAdjacent, Step, IsGridMap, column, row};
@@ -69,6 +70,17 @@ impl Grid {
         ensures { IsTrue result ↔ IsFree self.now cell }
     {
         matches!(self.free.get(cell.0 as usize), Some(true))
+    }
+
+    /// Returns for each cell of a row, from the left to the right, whether it is free. Rows are counted from 0 at the top.
+    pub fn row(&self, y: u32) -> &[bool]
+        requires { y < self.now.height }
+        ensures count { length result.now ≡ self.now.width }
+        ensures free { (x : ℕ) → x < self.now.width → slice_index_or result.now x false
+            ≡ slice_index_or self.now.free (y * self.now.width + x) false }
+    {
+        let first = (y * self.width) as usize;
+        &self.free[first..first + self.width as usize]
     }
 
     /// Returns the column and the row of a cell, counted from 0.

@@ -4,7 +4,7 @@ use Rattle.std.specs.List.{position, prefix_len}
 use Rattle.std.proofs.lemmas.Bool.{cases_Bool, cases_lt, cases_eq, cond_below, cond_above, ne_eqb}
 use Rattle.std.proofs.lemmas.List.{get_or-set_same, get_or-set_other, drop_more, drop_all}
 use Rattle.std.proofs.lemmas.List.FromFn.{fill_by_all}
-use Rattle.std.proofs.lemmas.Nat.{div-add-mod', div-mul-add, mod-mul-add}
+use Rattle.std.proofs.lemmas.Nat.{div-add-mod', div-mul-add, mod-mul-add, mod_below}
 use Rattle.std.proofs.lemmas.Bool.Decides.{nat_tests}
 use Rattle.mapf_model.specs.Path.{at}
 use Rattle.mapf_model.specs.Grid.{GridMap}
@@ -97,17 +97,28 @@ module _ (w y agent : ℕ) (paths : List (List ℕ)) (path : List ℕ) (tick cel
   this_first : drop (agent - 1) paths ≡ path ∷ drop (agent - 1 + 1) paths
   this_first = drop_more paths (agent - 1) path (omega arith) ∙ ap (λ p. p ∷ drop (agent - 1 + 1) paths) (sym path_is)
 
-  pub step_here : (byte : ℕ) → byte ≡ mark (agent - 1) → cell / w ≡ y → AreMarked w y (agent - 1) (drop (agent - 1) paths) tick old (set row (cell % w) byte)
-  step_here byte byte_is row_is =
+  pub step_here : (byte : ℕ) → byte ≡ mark (agent - 1) → y * w ≤ cell → cell - y * w < w → AreMarked w y (agent - 1) (drop (agent - 1) paths) tick old (set row (cell - y * w) byte)
+  step_here byte byte_is from below =
+      let column : ℕ = cell - y * w in
+      let whole : cell ≡ y * w + column = omega arith in
+      let row_is : cell / w ≡ y = ap (λ n. n / w) whole ∙ div-mul-add y w column below in
+      let column_is : cell % w ≡ column = ap (λ n. n % w) whole ∙ mod-mul-add y w column below in
       let row_at : at path tick / w ≡ y = ap (λ n. n / w) (sym cell_is) ∙ row_is in
       let here = marked_here w y (agent - 1) path (drop (agent - 1 + 1) paths) tick old row some size before_this row_at in
-      subst (λ ps. AreMarked w y (agent - 1) ps tick old (set row (cell % w) byte)) (sym this_first)
+      subst (λ n. AreMarked w y (agent - 1) (drop (agent - 1) paths) tick old (set row n byte)) column_is
+      (subst (λ ps. AreMarked w y (agent - 1) ps tick old (set row (cell % w) byte)) (sym this_first)
       (subst (λ n. AreMarked w y (agent - 1) (path ∷ drop (agent - 1 + 1) paths) tick old (set row (n % w) byte)) (sym cell_is)
-      (subst (λ b. AreMarked w y (agent - 1) (path ∷ drop (agent - 1 + 1) paths) tick old (set row (at path tick % w) b)) (sym byte_is) here))
+      (subst (λ b. AreMarked w y (agent - 1) (path ∷ drop (agent - 1 + 1) paths) tick old (set row (at path tick % w) b)) (sym byte_is) here)))
 
-  pub step_elsewhere : (cell / w ≡ y → ⊥) → AreMarked w y (agent - 1) (drop (agent - 1) paths) tick old row
+  pub step_elsewhere : (y * w ≤ cell → cell - y * w < w → ⊥) → AreMarked w y (agent - 1) (drop (agent - 1) paths) tick old row
   step_elsewhere away = subst (λ ps. AreMarked w y (agent - 1) ps tick old row) (sym this_first)
-      (marked_elsewhere w y (agent - 1) path (drop (agent - 1 + 1) paths) tick old row some size before_this (λ row_at. away (ap (λ n. n / w) cell_is ∙ row_at)))
+      (marked_elsewhere w y (agent - 1) path (drop (agent - 1 + 1) paths) tick old row some size before_this
+      (λ row_at.
+      let row_is : cell / w ≡ y = ap (λ n. n / w) cell_is ∙ row_at in
+      let whole = div-add-mod' cell w in
+      let first : cell / w * w ≡ y * w = ap (λ n. n * w) row_is in
+      let below = mod_below cell w some in
+      away (omega arith) (omega arith)))
 
 pub AreMarked-none : (w y : ℕ) (paths : List (List ℕ)) (tick : ℕ) (row : List ℕ) → AreMarked w y (length paths) (drop (length paths) paths) tick row row
 AreMarked-none w y paths tick row x within =

@@ -1,7 +1,5 @@
-ghost use Rattle.std.specs.Prelude.{◌≡◌};
-ghost use Rattle.mapf_player.specs.Play.{terrain, mark};
-
-use mapf_model::{Cell, Grid};
+ghost use Rattle.std.specs.Prelude.{◌≡◌, if◌then◌else◌};
+ghost use Rattle.mapf_player.specs.Play.{mark};
 
 /// Returns the byte of an agent, by its number.
 pub fn mark_of(agent: usize) -> u8
@@ -16,8 +14,8 @@ pub fn mark_of(agent: usize) -> u8
 }
 
 /// Returns the byte of a cell in which no agent is.
-pub fn terrain_of(grid: &Grid, cell: Cell) -> u8
-    ensures { result ≡ terrain grid.now cell }
+pub fn terrain_of(is_free: bool) -> u8
+    ensures { result ≡ (if is_free then 46 else 64) }
 {
-    if grid.is_free(cell) { b'.' } else { b'@' }
+    if is_free { b'.' } else { b'@' }
 }

@@ -2,7 +2,7 @@ ghost use Rattle.std.specs.Prelude.{◌≡◌, ◌<◌, ◌+◌, ◌*◌, ℕ, l
 ghost use Rattle.mapf_player.specs.Play.{agent_in, terrain, mark, row_cells};
 
 use crate::marks::{mark_of, terrain_of};
-use mapf_model::{Cell, Grid, Path, Tick};
+use mapf_model::{Grid, Path, Tick};
 
 // Fills a row as if no agent were in it.
 fn fill_terrain(row: &mut [u8], grid: &Grid, y: u32)
@@ -10,25 +10,28 @@ fn fill_terrain(row: &mut [u8], grid: &Grid, y: u32)
     requires inside { y < grid.now.height }
     ensures { (x : ℕ) → x < grid.now.width → slice_index row.new x ≡ terrain grid.now (y * grid.now.width + x) }
 {
-    let first = y * grid.width();
-    for (x, byte) in row.iter_mut().enumerate() {
-        *byte = terrain_of(grid, Cell(first + x as u32));
+    let free = grid.row(y);
+    for x in 0..row.len() {
+        row[x] = terrain_of(free[x]);
     }
 }
 
 // Marks the cells of a row in which agents are. If several are in one cell, the first one is shown.
 fn mark_agents(row: &mut [u8], grid: &Grid, paths: &[Path], tick: Tick, y: u32)
-    requires { length row.old ≡ grid.now.width }
+    requires whole { length row.old ≡ grid.now.width }
+    requires inside { y < grid.now.height }
     ensures { (x : ℕ) → x < grid.now.width → slice_index row.new x
         ≡ unwrap_or (option_map mark (agent_in paths.now tick (y * grid.now.width + x))) (slice_index row.old x) }
 {
     let width = grid.width();
+    let first = y * width;
     let mut agent = paths.len();
     while agent > 0 {
         agent -= 1;
         let cell = paths[agent].at(tick);
-        if cell.0 / width == y {
-            row[(cell.0 % width) as usize] = mark_of(agent);
+        // Each agent is looked at for each row, so the cell's row isn't found by a division.
+        if first <= cell.0 && cell.0 - first < width {
+            row[(cell.0 - first) as usize] = mark_of(agent);
         }
     }
 }
