@@ -1,15 +1,14 @@
 ghost use Rattle.std.specs.Prelude.{◌≡◌, ◌*◌, ◌^◌, ◌≤◌, ◌-◌, ◌∷◌, [], length, sum_by};
-ghost use Rattle.std.specs.Prelude.{IfOk, IfSome, IfNone, MatchOption};
+ghost use Rattle.std.specs.Prelude.{IfOk, IfSome, IfNone};
 ghost use Rattle.mapf_model.specs.Limits.{most_agents};
-ghost use Rattle.mapf_model.specs.Distance.{IsUnreachable};
 ghost use Rattle.mapf_cbs.specs.Goals.{SomeGoalIsUnreachable};
-ghost use Rattle.mapf_cbs.specs.Start.{IsBeginning, IsShortest, AreShortest};
+ghost use Rattle.mapf_cbs.specs.Start.{IsBeginning, AreShortest};
 
 use crate::bound_labels::BoundLabels;
 use crate::clash::pair_of_one_goal;
 use crate::tree_node::TreeNode;
-use mapf_distance::Distances;
-use mapf_model::{Agent, OutOfMemory, Path, Problem};
+use mapf_distance::shortest_path;
+use mapf_model::{OutOfMemory, Path, Problem};
 use std::alloc::Global;
 
 /// How a search begins.
@@ -51,8 +50,8 @@ fn one_node(alloc: Global, node: TreeNode) -> Result<Vec<TreeNode>, OutOfMemory>
     Ok(tree)
 }
 
-// Returns a shortest path of each agent, None if some goal can't be reached. Only one table of distances is in memory
-// at a time, since most agents are never replanned.
+// Returns a shortest path of each agent, None if some goal can't be reached. No table of distances is made, since most
+// agents are never replanned.
 fn shortest_paths(alloc: Global, problem: &Problem) -> Result<Option<Vec<Path>>, OutOfMemory>
     ensures unreachable { IfOk result (λ found. IfNone found (SomeGoalIsUnreachable problem.now)) }
     ensures count { IfOk result (λ found. IfSome found (λ paths. length paths.items ≡ length problem.now.agents)) }
@@ -60,30 +59,12 @@ fn shortest_paths(alloc: Global, problem: &Problem) -> Result<Option<Vec<Path>>,
 {
     let mut paths = Vec::new(alloc);
     for agent in problem.agents() {
-        let distances = Distances::of(alloc, problem.grid(), agent.goal)?;
-        match shortest_path(alloc, &distances, agent)? {
+        match shortest_path(alloc, problem.grid(), agent.start, agent.goal)? {
             Some(path) => paths.push(path)?,
             None => return Ok(None),
         }
     }
     Ok(Some(paths))
-}
-
-// Returns a shortest path of the agent, None if its goal can't be reached.
-fn shortest_path(
-    alloc: Global,
-    distances: &Distances,
-    agent: &Agent,
-) -> Result<Option<Path>, OutOfMemory>
-    requires { distances.now.goal ≡ agent.now.goal }
-    ensures { IfOk result (λ found. MatchOption found
-        (IsUnreachable distances.now.grid agent.now.goal agent.now.start)
-        (IsShortest distances.now.grid agent.now)) }
-{
-    if distances.get(agent.start).is_none() {
-        return Ok(None);
-    }
-    Ok(Some(distances.descend(alloc, agent.start)?))
 }
 
 /// Returns the sum of the paths' lengths in ticks.

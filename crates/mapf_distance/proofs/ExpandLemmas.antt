@@ -1,16 +1,16 @@
 -- The steps from one reached cell are taken one after another.
-use Rattle.std.proofs.Common.{◌≡◌, ℕ, ◌+◌, ◌<◌, ◌≤◌, Option, Some, None, List, [], ◌∷◌, ◌++◌, Contains, length, slice_index, slice_index_or, slice_set, refl, sym, ◌∙◌, ap, subst, ⊎_elim, arith}
+use Rattle.std.proofs.Common.{◌≡◌, ℕ, ◌+◌, ◌<◌, ◌≤◌, Option, Some, None, List, [], ◌∷◌, ◌++◌, Contains, length, slice_index, slice_index_or, slice_set, IfSome, inl, inr, refl, sym, ◌∙◌, ap, subst, ⊎_elim, arith}
 use Rattle.std.proofs.lemmas.Bool.{cases_lt, cases_eq}
 use Rattle.std.proofs.lemmas.List.{get_or_default}
-use Rattle.std.proofs.lemmas.Option.{same_Some}
-use Rattle.mapf_model.specs.Grid.{GridMap, IsFree}
+use Rattle.std.proofs.lemmas.Option.{same_Some, none-some}
+use Rattle.mapf_model.specs.Grid.{GridMap, IsFree, free_cell_count}
 use Rattle.mapf_model.specs.Neighbours.{neighbourhood}
 use Rattle.mapf_model.proofs.StepLemmas.{neighbour_step, step_neighbour, step_end}
 use Rattle.mapf_distance.specs.declared.wave.TheConstants.{BLOCKED, UNREACHED}
 use Rattle.mapf_distance.specs.Marks.{entry_of}
-use Rattle.mapf_distance.specs.Wave.{IsWave, source_of, entry_at}
+use Rattle.mapf_distance.specs.Wave.{IsEntered, IsWave, source_of, entry_at}
 use Rattle.mapf_distance.proofs.MarkLemmas.{open_if_free, free_if_open, entry_of-set_other}
-use Rattle.mapf_distance.proofs.WaveLemmas.{small_entry, reach_next, reach_keeps, reach_enters, known_bound, close}
+use Rattle.mapf_distance.proofs.WaveLemmas.{small_entry, reach_next, reach_keeps, reach_enters, known_bound, has_room, close}
 
 -- the free cells at the first `count` of the places have a distance of at most this
 abbrev pub AreTaken : ℕ → List (Option ℕ) → ℕ → List ℕ → Type 0
@@ -24,6 +24,12 @@ pub record IsExpanding (grid : GridMap) (place distance : ℕ) (old : List ℕ) 
   pub from : slice_index reached place ≡ slice_index old place
   pub source : source_of reached ≡ source_of old
   pub taken : AreTaken distance places count table
+
+-- there is room for each cell that wasn't reached
+pub room_for : (grid : GridMap) (done : ℕ) (table reached : List ℕ) → IsWave grid done table reached → (len capacity : ℕ) → len ≡ length reached → free_cell_count grid ≤ capacity → (to : Option ℕ) →
+    IfSome to (λ next. entry_of table next ≡ UNREACHED → len < capacity)
+room_for grid done table reached wave len capacity is enough None = tt
+room_for grid done table reached wave len capacity is enough (Some to) = λ fresh. (let room = has_room grid done table reached wave to fresh in omega arith)
 
 -- the places beside a cell are those beside its place
 pub places_beside : (grid : GridMap) (reached : List ℕ) (places : List (Option ℕ)) (place cell width : ℕ) → cell ≡ slice_index reached place → width ≡ grid.width →
@@ -103,6 +109,24 @@ module _ (grid : GridMap) (place distance : ℕ) (old : List ℕ) (places : List
               let same = same_Some next to (sym next_is ∙ is) in
               let there = ap (entry_of after) same in omega arith);
         })
+
+    -- the cell at this place was entered if it is one that wasn't reached
+    pub expand_enter : (default : Option ℕ) (new_table new_reached : List ℕ) → count < length places → IsEntered (slice_index_or places count default) distance table reached new_table new_reached →
+        IsExpanding grid place distance old places (count + 1) new_table new_reached
+    expand_enter default new_table new_reached within entered = enter (slice_index_or places count default) (get_or_default places count None default within) entered
+      where
+        enter : (to : Option ℕ) → slice_index_or places count None ≡ to → IsEntered to distance table reached new_table new_reached → IsExpanding grid place distance old places (count + 1) new_table new_reached
+        enter None is same = rw (same.0, same.1) (expand_skip (λ next next_is fresh. absurd (none-some next (sym is ∙ next_is))))
+        enter (Some to) is (inl fresh) = rw (fresh.1, fresh.2) (expand_reach to within is fresh.0)
+        enter (Some to) is (inr known) = rw (known.1, known.2) (expand_skip (λ next next_is fresh. known.0 (ap (entry_of table) (same_Some to next (sym is ∙ next_is)) ∙ fresh)))
+
+    -- the cell itself was reached
+    pub expand_self : slice_index_or places count None ≡ Some (slice_index old place) → IsExpanding grid place distance old places (count + 1) table reached
+    expand_self is = expand_skip (λ next next_is fresh.
+        let same = same_Some (slice_index old place) next (sym is ∙ next_is) in
+        let here = ap (entry_of table) (e.from ∙ same) in
+        let low = small_entry grid place table reached e.wave place e.inside in
+        omega arith)
 
     pub expand_end : length places ≤ count → IsWave grid (place + 1) table reached
     unfolding cell

@@ -6,3 +6,5 @@ pub mod StartLemmas
 pub mod DescentLemmas
 pub mod TableLemmas
 pub mod SearchLemmas
+pub mod OfferLemmas
+pub mod ShortestLemmas

@@ -290,7 +290,7 @@ module _ (grid : GridMap) (start goal level : ℕ) (table due later : List ℕ) 
       from (inr (inr (inr (least, listed)))) = absurd (omega arith)
 
   -- a walk that may lead the start to the goal in fewer steps bounds the entries on it
-  walk_bound : (bound : ℕ) → bound ≤ level → bound ≤ UNREACHED → (n x : ℕ) → Walk grid x goal n → n + estimate grid x start < bound → entry_of table x ≤ n
+  pub walk_bound : (bound : ℕ) → bound ≤ level → bound ≤ UNREACHED → (n x : ℕ) → Walk grid x goal n → n + estimate grid x start < bound → entry_of table x ≤ n
   walk_bound bound within low zero x (free, same) less = let e = ap (entry_of table) same in let s = search.source in omega arith
   walk_bound bound within low (suc n) x (next, step, walk) less =
       let nearer = estimate_step grid next x start (Step-sym grid x next step) in
@@ -401,6 +401,11 @@ pub place_step : (grid : GridMap) (cell k next width : ℕ) (places : List (Opti
 place_step grid cell k next width places beside wide some free within at free_next =
     let held : Contains places (Some next) = (k, within, get_or_default places k (Some next) None within ∙ at) in
     neighbour_step grid cell (omega arith) free next (subst (λ list. Contains list (Some next)) (beside ∙ ap (λ w. neighbourhood w cell) wide) held) free_next
+
+-- a step from a free cell leads to one of the places
+pub step_place : (grid : GridMap) (cell to width : ℕ) (places : List (Option ℕ)) → places ≡ neighbourhood width cell → width ≡ grid.width → 0 < width → IsFree grid cell → Step grid cell to → Contains places (Some to)
+step_place grid cell to width places beside wide some free step =
+    subst (λ list. Contains list (Some to)) (sym (beside ∙ ap (λ w. neighbourhood w cell) wide)) (step_neighbour grid cell (omega arith) free to step)
 
 -- the distance of a cell, or that there is none
 pub distance_or_none : (grid : GridMap) (goal cell : ℕ) (r : Option ℕ) → IfSome r (λ n. IsDistance grid goal cell n) → IfNone r (IsUnreachable grid goal cell) → IsDistanceOrNone grid goal cell r

@@ -1,10 +1,11 @@
 -- Tables of distances to a goal.
-use Rattle.std.specs.Prelude.{ℕ, ◌+◌, ◌-◌, ◌<◌, ◌≤◌, List, Option, Some, None, length, slice_index}
+use Rattle.std.specs.Prelude.{◌≡◌, ℕ, ◌+◌, ◌-◌, ◌<◌, ◌≤◌, List, Option, Some, None, length, slice_index}
 use Rattle.mapf_model.specs.Distance.{Walk, IsDistance, IsUnreachable}
 use Rattle.mapf_model.specs.Grid.{GridMap, IsGridMap, Step, free_cell_count}
 use Rattle.mapf_distance.specs.declared.wave.TheConstants.{UNREACHED}
 use Rattle.mapf_distance.specs.Marks.{entry_of}
 use Rattle.mapf_model.specs.Limits.{most_cells}
+use Rattle.mapf_model.specs.Path.{at, IsPath, IsTight}
 
 -- a grid, and the goal to which the distances on it go
 pub record GoalMap : Type 0 where
@@ -32,3 +33,13 @@ pub record AreDistances (grid : GridMap) (goal : ℕ) (table : List ℕ) : Type 
   pub small : (cell : ℕ) → entry_of table cell < UNREACHED → entry_of table cell < free_cell_count grid
   pub bounded : (cell : ℕ) → entry_of table cell < UNREACHED → entry_of table cell < most_cells
   pub none : (cell : ℕ) → UNREACHED ≤ entry_of table cell → IsUnreachable grid goal cell
+
+-- a path of the fewest steps from the start to the goal, of all these the lexicographically least by cell numbers
+pub record IsShortestPath (grid : GridMap) (start goal : ℕ) (path : List ℕ) : Type 0 where
+  pub is_path : IsPath grid path
+  pub from_start : at path 0 ≡ start
+  pub to_goal : at path (length path - 1) ≡ goal
+  pub tight : IsTight path
+  pub few : length path ≤ free_cell_count grid
+  pub short : IsDistance grid goal start (length path - 1)
+  pub least : IsLeastDescent grid goal path

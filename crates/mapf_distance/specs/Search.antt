@@ -1,5 +1,5 @@
 -- The search for the distance of one start.
-use Rattle.std.specs.Prelude.{◌≡◌, ◌⊎◌, ℕ, ◌+◌, ◌-◌, ◌<◌, ◌≤◌, List, [], ◌∷◌, ◌++◌, Contains, All, length, sum}
+use Rattle.std.specs.Prelude.{◌≡◌, ◌⊎◌, ℕ, ◌+◌, ◌-◌, ◌<◌, ◌≤◌, Option, Some, None, List, [], ◌∷◌, ◌++◌, Contains, All, length, slice_set, sum}
 use Rattle.mapf_model.specs.Distance.{Walk}
 use Rattle.mapf_model.specs.Grid.{GridMap, IsGridMap, IsFree, Step, column, row}
 use Rattle.mapf_distance.specs.declared.search.Search.{Search}
@@ -69,3 +69,18 @@ pub record IsSameSearch (old new : Search) : Type 0 where
 abbrev pub IsPut : ℕ → ℕ → Search → Search → Type 0
 IsPut cell value old new =
     ((value ≤ old.level) × (new.due.items ≡ old.due.items ++ cell ∷ []) × (new.later.items ≡ old.later.items)) ⊎ ((old.level < value) × (new.due.items ≡ old.due.items) × (new.later.items ≡ old.later.items ++ cell ∷ []))
+
+-- the cell at this place was reached if it is free and its entry was greater, and nothing else changed
+abbrev pub IsOffered : GridMap → Option ℕ → ℕ → Search → Search → Type 0
+IsOffered grid None distance old new = new ≡ old
+IsOffered grid (Some next) distance old new =
+    ((IsFree grid next × (distance < entry_of old.table.items next))
+    × (new.table.items ≡ slice_set old.table.items next distance) × IsPut next (distance + estimate grid next old.start) old new × IsSameSearch old new)
+    ⊎ ((IsFree grid next × (distance < entry_of old.table.items next) → ⊥) × (new ≡ old))
+
+-- all cells up to the search's f-value were expanded, and it is at least this number
+pub record IsSettled (grid : GridMap) (bound : ℕ) (search : Search) : Type 0 where
+  pub searched : IsSearchOn grid search
+  pub swept : search.due.items ≡ []
+  pub within : bound ≤ search.level
+  pub small : bound < UNREACHED

@@ -1,5 +1,5 @@
 -- Breadth-first search from a goal, which enters the distance of each cell that it reaches.
-use Rattle.std.specs.Prelude.{◌≡◌, ℕ, ◌+◌, ◌<◌, ◌≤◌, List, Contains, length, map, slice_index, count_by}
+use Rattle.std.specs.Prelude.{◌≡◌, ◌⊎◌, ℕ, ◌+◌, ◌<◌, ◌≤◌, Option, Some, None, List, [], ◌∷◌, ◌++◌, Contains, length, map, slice_index, slice_set, count_by}
 use Rattle.mapf_model.specs.Distance.{Walk}
 use Rattle.mapf_model.specs.Grid.{GridMap, IsGridMap, Step, free_cell_count}
 use Rattle.mapf_distance.specs.declared.wave.TheConstants.{UNREACHED}
@@ -27,3 +27,9 @@ pub record IsWave (grid : GridMap) (done : ℕ) (table reached : List ℕ) : Typ
   pub taken : (place to : ℕ) → place < done → Step grid (slice_index reached place) to → entry_of table to ≤ entry_at table reached place + 1
   pub some : 0 < length reached
   pub bound : done ≤ length reached
+
+-- the cell at this place got the distance if there is one and it wasn't reached, and nothing else changed
+abbrev pub IsEntered : Option ℕ → ℕ → List ℕ → List ℕ → List ℕ → List ℕ → Type 0
+IsEntered None distance table reached new_table new_reached = (new_table ≡ table) × (new_reached ≡ reached)
+IsEntered (Some to) distance table reached new_table new_reached =
+    ((entry_of table to ≡ UNREACHED) × (new_table ≡ slice_set table to distance) × (new_reached ≡ reached ++ to ∷ [])) ⊎ ((entry_of table to ≡ UNREACHED → ⊥) × (new_table ≡ table) × (new_reached ≡ reached))

@@ -4,11 +4,13 @@
 mod distances;
 mod lazy_tables;
 mod search;
+mod shortest;
 mod starts;
 mod tables;
 mod wave;
 
 pub use distances::Distances;
 pub use lazy_tables::LazyTables;
+pub use shortest::shortest_path;
 pub use starts::start_distances;
 pub use tables::goal_tables;

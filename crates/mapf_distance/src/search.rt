@@ -1,11 +1,11 @@
-ghost use Rattle.std.specs.Prelude.{◌≡◌, ◌+◌, ◌<◌, ◌≤◌, ◌^◌, ◌↔◌, [], IfNone, IfOk, IfSome};
+ghost use Rattle.std.specs.Prelude.{ℕ, ◌≡◌, ◌+◌, ◌<◌, ◌≤◌, ◌^◌, ◌↔◌, [], IfNone, IfOk, IfSome};
 ghost use Rattle.std.specs.Prelude.{OnOk, OnSome, IsTrue, length, slice_set, vec_len};
 ghost use Rattle.mapf_model.specs.Distance.{IsDistance};
-ghost use Rattle.mapf_model.specs.Grid.{GridMap, IsFree};
+ghost use Rattle.mapf_model.specs.Grid.{GridMap, IsFree, column, row};
 ghost use Rattle.mapf_distance.specs.Distances.{IsDistanceOrNone};
 ghost use Rattle.mapf_distance.specs.Marks.{entry_of};
-ghost use Rattle.mapf_distance.specs.Search.{IsPassed, IsPut, IsSameSearch, IsSearchAt, IsSearchOn};
-ghost use Rattle.mapf_distance.specs.Search.{effort, estimate, value_of};
+ghost use Rattle.mapf_distance.specs.Search.{IsOffered, IsPassed, IsPut, IsSameSearch, IsSearchAt, IsSearchOn};
+ghost use Rattle.mapf_distance.specs.Search.{effort, estimate, gap, value_of};
 
 use crate::distances::Distances;
 use crate::wave::UNREACHED;
@@ -35,10 +35,10 @@ pub fn distance_between(
     }
 }
 
-// A* from a goal towards a start (Hart et al. 1968): cells are expanded by rising f-value, that is, the steps found
-// between the cell and the goal, plus the Manhattan distance from the start.
+/// A* from a goal towards a start (Hart et al. 1968): cells are expanded by rising f-value, that is, the steps found
+/// between the cell and the goal, plus the Manhattan distance from the start.
 #[derive(Drop)]
-struct Search {
+pub struct Search {
     start: Cell,
     goal: Cell,
     // The f-value of the cells that are expanded now.
@@ -52,7 +52,8 @@ struct Search {
 }
 
 impl Search {
-    fn of(alloc: Global, grid: &Grid, start: Cell, goal: Cell) -> Result<Search, OutOfMemory>
+    /// Returns the search that has reached only its goal.
+    pub fn of(alloc: Global, grid: &Grid, start: Cell, goal: Cell) -> Result<Search, OutOfMemory>
         requires start { IsFree grid.now start }
         requires goal { IsFree grid.now goal }
         ensures search { IfOk result (IsSearchOn grid.now) }
@@ -63,7 +64,7 @@ impl Search {
         let mut search = Search {
             start,
             goal,
-            level: estimate(grid, goal, start),
+            level: steps_apart(grid.xy(goal), grid.xy(start)),
             table: vec![in alloc; UNREACHED; cells]?,
             due: Vec::new(alloc),
             later: Vec::new(alloc),
@@ -73,11 +74,19 @@ impl Search {
         Ok(search)
     }
 
-    // Returns the distance of the start, once it is known.
-    fn found(&self) -> Option<u32>
+    pub fn start(&self) -> Cell
+        ensures { result ≡ self.now.start }
+    {
+        self.start
+    }
+
+    /// Returns the distance of the start, once it is known.
+    pub fn found(&self) -> Option<u32>
         requires { self.now.start < vec_len self.now.table }
-        ensures { (grid : GridMap) → IsSearchOn grid self.now
+        ensures distance { (grid : GridMap) → IsSearchOn grid self.now
             → IfSome result (IsDistance grid self.now.goal self.now.start) }
+        ensures small { IfSome result (λ distance. distance < UNREACHED) }
+        ensures within { IfSome result (λ distance. distance ≤ self.now.level) }
     {
         let distance = self.entry(self.start);
         if self.is_short() || distance >= UNREACHED {
@@ -93,6 +102,14 @@ impl Search {
         self.table[cell.0 as usize]
     }
 
+    /// Returns whether this is the cell's entry.
+    pub fn has_entry(&self, cell: Cell, distance: u32) -> bool
+        requires { distance < UNREACHED }
+        ensures { IsTrue result ↔ (entry_of self.now.table.items cell ≡ distance) }
+    {
+        self.table.get(cell.0 as usize) == Some(&distance)
+    }
+
     // Returns whether the start may be nearer than what was found.
     fn is_short(&self) -> bool
         requires { self.now.start < vec_len self.now.table }
@@ -101,8 +118,8 @@ impl Search {
         self.level < self.entry(self.start) as u64
     }
 
-    // Expands cells until the start's distance is known, or no cell is open.
-    fn spread(&mut self, grid: &Grid) -> Result<(), OutOfMemory>
+    /// Expands cells until the start's distance is known, or no cell is open.
+    pub fn spread(&mut self, grid: &Grid) -> Result<(), OutOfMemory>
         requires { IsSearchOn grid.now self.old }
         ensures search { OnOk result (IsSearchOn grid.now self.new) }
         ensures start { OnOk result (self.new.start ≡ self.old.start) }
@@ -143,11 +160,26 @@ impl Search {
         ensures swept { OnOk result (self.new.level < entry_of self.new.table.items self.new.start
             → self.new.due.items ≡ []) }
     {
+        let aim = grid.xy(self.start);
         while self.is_short() {
             let Some(cell) = self.next() else {
                 return Ok(());
             };
-            self.look_at(grid, cell)?;
+            self.look_at(grid, aim, cell)?;
+        }
+        Ok(())
+    }
+
+    /// Expands all cells of this f-value. Then each cell of a shortest path has its distance as its entry.
+    pub fn finish(&mut self, grid: &Grid) -> Result<(), OutOfMemory>
+        requires { IsSearchOn grid.now self.old }
+        ensures search { OnOk result (IsSearchOn grid.now self.new) }
+        ensures same { OnOk result (IsSameSearch self.old self.new) }
+        ensures swept { OnOk result (self.new.due.items ≡ []) }
+    {
+        let aim = grid.xy(self.start);
+        while let Some(cell) = self.next() {
+            self.look_at(grid, aim, cell)?;
         }
         Ok(())
     }
@@ -164,36 +196,75 @@ impl Search {
         self.due.pop()
     }
 
-    // Expands the cell, if it is of this f-value.
-    fn look_at(&mut self, grid: &Grid, cell: Cell) -> Result<(), OutOfMemory>
+    // Expands the cell, if it is of this f-value. The start's column and row are given, as they take a division.
+    #[inline(always)]
+    fn look_at(&mut self, grid: &Grid, aim: (u32, u32), cell: Cell) -> Result<(), OutOfMemory>
         requires search { IsSearchAt grid.now cell self.old }
         requires passed { IsPassed grid.now cell self.old }
+        requires column { aim.0 ≡ column grid.now self.old.start }
+        requires row { aim.1 ≡ row grid.now self.old.start }
         ensures search { OnOk result (IsSearchOn grid.now self.new) }
         ensures same { OnOk result (IsSameSearch self.old self.new) }
         ensures effort { OnOk result (effort self.new ≤ effort self.old) }
     {
-        let value = self.value(grid, cell, self.entry(cell));
+        let at = grid.xy(cell);
+        let value = self.entry(cell) as u64 + steps_apart(at, aim);
         if value == self.level {
-            self.expand(grid, cell)?;
+            self.expand(grid, aim, at, cell)?;
         } else if value > self.level {
             self.later.push(cell)?;
         }
         Ok(())
     }
 
-    fn expand(&mut self, grid: &Grid, cell: Cell) -> Result<(), OutOfMemory>
+    // Expands the cell, which is in this column and row.
+    #[inline(always)]
+    fn expand(
+        &mut self,
+        grid: &Grid,
+        aim: (u32, u32),
+        at: (u32, u32),
+        cell: Cell,
+    ) -> Result<(), OutOfMemory>
         requires search { IsSearchAt grid.now cell self.old }
         requires level { value_of grid.now self.old.start self.old.table.items cell ≡ self.old.level }
+        requires aim_column { aim.0 ≡ column grid.now self.old.start }
+        requires aim_row { aim.1 ≡ row grid.now self.old.start }
+        requires at_column { at.0 ≡ column grid.now cell }
+        requires at_row { at.1 ≡ row grid.now cell }
         ensures search { OnOk result (IsSearchOn grid.now self.new) }
         ensures same { OnOk result (IsSameSearch self.old self.new) }
         ensures effort { OnOk result (effort self.new ≤ effort self.old) }
     {
         let distance = self.entry(cell) + 1;
-        for beside in cell.neighbourhood(grid.width()) {
-            if let Some(next) = beside {
-                if self.is_shorter(grid, next, distance) {
-                    self.reach(grid, next, distance)?;
-                }
+        let (start_column, start_row) = aim;
+        let (column, row) = at;
+        let [above, left, _, right, below] = cell.neighbourhood(grid.width());
+        // A step towards the start's column or row keeps the f-value, and each other one raises it by 2.
+        self.offer(grid, above, distance, start_row < row)?;
+        self.offer(grid, left, distance, start_column < column)?;
+        self.offer(grid, right, distance, column < start_column)?;
+        self.offer(grid, below, distance, row < start_row)?;
+        Ok(())
+    }
+
+    // Reaches the cell at a place, if it is free and each number of steps found from it so far is greater than this one.
+    #[inline(always)]
+    fn offer(
+        &mut self,
+        grid: &Grid,
+        place: Option<Cell>,
+        distance: u32,
+        is_due: bool,
+    ) -> Result<(), OutOfMemory>
+        requires count { vec_len self.old.table ≡ length grid.now.free }
+        requires due { IfSome place (λ next. IsTrue is_due ↔
+            (distance + estimate grid.now next self.old.start ≤ self.old.level)) }
+        ensures { OnOk result (IsOffered grid.now place distance self.old self.new) }
+    {
+        if let Some(next) = place {
+            if self.is_shorter(grid, next, distance) {
+                self.reach(next, distance, is_due)?;
             }
         }
         Ok(())
@@ -207,37 +278,28 @@ impl Search {
         grid.is_free(cell) && distance < self.entry(cell)
     }
 
-    fn reach(&mut self, grid: &Grid, cell: Cell, distance: u32) -> Result<(), OutOfMemory>
+    // Enters so many steps, and puts the cell to the open ones of this f-value or of a greater one.
+    fn reach(&mut self, cell: Cell, distance: u32, is_due: bool) -> Result<(), OutOfMemory>
         requires inside { cell < vec_len self.old.table }
         ensures table { OnOk result (self.new.table.items ≡ slice_set self.old.table.items cell distance) }
-        ensures put { OnOk result (IsPut cell (distance + estimate grid.now cell self.old.start) self.old self.new) }
+        ensures put { (value : ℕ) → (IsTrue is_due ↔ (value ≤ self.old.level))
+            → OnOk result (IsPut cell value self.old self.new) }
         ensures same { IsSameSearch self.old self.new }
     {
         self.table[cell.0 as usize] = distance;
-        if self.value(grid, cell, distance) <= self.level {
+        if is_due {
             self.due.push(cell)?;
         } else {
             self.later.push(cell)?;
         }
         Ok(())
     }
-
-    // Returns a lower bound on the steps of a path from the start to the goal through this cell, from which so many
-    // lead to the goal.
-    fn value(&self, grid: &Grid, cell: Cell, distance: u32) -> u64
-        ensures { result ≡ distance + estimate grid.now cell self.now.start }
-    {
-        distance as u64 + estimate(grid, cell, self.start)
-    }
 }
 
-// Returns the Manhattan distance, a lower bound on the steps between two cells.
-fn estimate(grid: &Grid, from: Cell, to: Cell) -> u64
-    ensures exact { result ≡ estimate grid.now from to }
+// Returns the Manhattan distance of two cells from their columns and rows. It is a lower bound on the steps between them.
+fn steps_apart(from: (u32, u32), to: (u32, u32)) -> u64
+    ensures exact { result ≡ gap from.0 to.0 + gap from.1 to.1 }
     ensures small { result < 2 ^ 33 }
 {
-    let width = grid.width();
-    let columns = (from.0 % width).abs_diff(to.0 % width);
-    let rows = (from.0 / width).abs_diff(to.0 / width);
-    columns as u64 + rows as u64
+    from.0.abs_diff(to.0) as u64 + from.1.abs_diff(to.1) as u64
 }

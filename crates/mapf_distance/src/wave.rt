@@ -1,9 +1,9 @@
-ghost use Rattle.std.specs.Prelude.{◌≡◌, ◌+◌, ◌<◌, ◌≤◌, ◌++◌, ◌∷◌, ◌↔◌, [], IfOk, IsTrue, map, slice_set, vec_len};
+ghost use Rattle.std.specs.Prelude.{◌≡◌, ◌+◌, ◌<◌, ◌≤◌, ◌++◌, ◌∷◌, ◌↔◌, [], IfOk, IfSome, IsTrue, map, slice_set, vec_len};
 ghost use Rattle.std.specs.Prelude.{vec_capacity};
 ghost use Rattle.mapf_model.specs.Grid.{IsFree, IsGridMap, free_cell_count};
 ghost use Rattle.mapf_distance.specs.Marks.{entry_of, is_open, first_entry};
 ghost use Rattle.mapf_distance.specs.Distances.{AreDistances};
-ghost use Rattle.mapf_distance.specs.Wave.{IsWave, source_of};
+ghost use Rattle.mapf_distance.specs.Wave.{IsEntered, IsWave, source_of};
 
 use mapf_model::{Cell, Grid, OutOfMemory};
 use std::alloc::Global;
@@ -80,6 +80,21 @@ impl Wave {
         self.table.get(cell.0 as usize) == Some(&UNREACHED)
     }
 
+    // Enters the distance of the cell at a place, if there is one and it wasn't reached.
+    #[inline(always)]
+    fn enter(&mut self, place: Option<Cell>, distance: u32)
+        requires inside { IfSome place (λ to. entry_of self.old.table.items to ≡ UNREACHED
+            → vec_len self.old.reached < vec_capacity self.old.reached) }
+        ensures entered { IsEntered place distance self.old.table.items self.old.reached.items self.new.table.items self.new.reached.items }
+        ensures capacity { vec_capacity self.new.reached ≡ vec_capacity self.old.reached }
+    {
+        if let Some(to) = place {
+            if self.is_unreached(to) {
+                self.reach(to, distance);
+            }
+        }
+    }
+
     // Expands the cell at this index of the reached ones.
     fn expand(&mut self, grid: &Grid, place: usize)
         requires wave { IsWave grid.now place self.old.table.items self.old.reached.items }
@@ -91,13 +106,11 @@ impl Wave {
     {
         let cell = self.reached[place];
         let distance = self.entry(cell) + 1;
-        for beside in cell.neighbourhood(grid.width()) {
-            if let Some(next) = beside {
-                if self.is_unreached(next) {
-                    self.reach(next, distance);
-                }
-            }
-        }
+        let [above, left, _, right, below] = cell.neighbourhood(grid.width());
+        self.enter(above, distance);
+        self.enter(left, distance);
+        self.enter(right, distance);
+        self.enter(below, distance);
     }
 
     // Expands all cells that are reached.

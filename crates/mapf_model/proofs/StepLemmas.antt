@@ -14,14 +14,14 @@ use Rattle.mapf_model.specs.Neighbours.{neighbourhood, free_cell, free_cells}
 
 -- rows and columns on a grid of this width
 module _ (w : ℕ) (wide : 0 < w) where
-  number : (n : ℕ) → n ≡ n / w * w + n % w
+  pub number : (n : ℕ) → n ≡ n / w * w + n % w
   number n = sym (div-add-mod' n w)
 
   at : (q r n : ℕ) → r < w → n ≡ q * w + r → (n / w ≡ q) × (n % w ≡ r)
   at q r n small e = (rw e (div-mul-add q w r small), rw e (mod-mul-add q w r small))
 
   -- a row further down
-  down : (a b : ℕ) → a + w ≡ b → (b / w ≡ a / w + 1) × (a % w ≡ b % w)
+  pub down : (a b : ℕ) → a + w ≡ b → (b / w ≡ a / w + 1) × (a % w ≡ b % w)
   down a b e =
       let whole = number a in
       let place = at (a / w + 1) (a % w) b (mod_below a w wide) (omega arith) in
@@ -35,13 +35,13 @@ module _ (w : ℕ) (wide : 0 < w) where
       omega arith
 
   -- a column further right
-  along : (a b : ℕ) → a + 1 ≡ b → a % w + 1 < w → (a / w ≡ b / w) × (b % w ≡ a % w + 1)
+  pub along : (a b : ℕ) → a + 1 ≡ b → a % w + 1 < w → (a / w ≡ b / w) × (b % w ≡ a % w + 1)
   along a b e small =
       let whole = number a in
       let place = at (a / w) (a % w + 1) b small (omega arith) in
       (sym place.0, place.1)
 
-  along_before : (a b : ℕ) → a + 1 ≡ b → 0 < b % w → (a / w ≡ b / w) × (b % w ≡ a % w + 1)
+  pub along_before : (a b : ℕ) → a + 1 ≡ b → 0 < b % w → (a / w ≡ b / w) × (b % w ≡ a % w + 1)
   along_before a b e positive =
       let p : ℕ = b % w - 1 in
       let whole = number b in

@@ -1,18 +1,13 @@
-use Rattle.std.proofs.Common.{◌≡◌, ◌+◌, ◌<◌, ◌≤◌, ◌∙◌, None, length, sym, ap, subst, refl, ⊎_elim, arith}
-use Rattle.std.proofs.lemmas.List.{get_or_default}
-use Rattle.std.proofs.lemmas.Bool.{cases_lt, iff_false}
-use Rattle.std.proofs.lemmas.Option.{same_Some}
-use Rattle.mapf_model.specs.Grid.{IsFree}
+use Rattle.std.proofs.Common.{◌≡◌, ◌+◌, ◌∙◌, None, length, slice_index_or, sym, ap, arith}
 use Rattle.mapf_model.specs.Neighbours.{neighbourhood}
-use Rattle.mapf_distance.specs.Marks.{entry_of}
+use Rattle.mapf_model.specs.Grid.{column, row}
+use Rattle.mapf_distance.specs.Search.{estimate}
 use Rattle.mapf_distance.proofs.MarkLemmas.{within_table, few_cells}
-use Rattle.mapf_distance.proofs.SearchLemmas.{place_step, reached_at, taken_more, taken_all, all_taken, known_free}
+use Rattle.mapf_distance.proofs.OfferLemmas.{taking_first, taking_more, taking_self, taking_end, due_above, due_left, due_right, due_below}
 use Rattle.mapf_distance.proofs.search.Search.expand.Goals as goal
-use Rattle.mapf_distance.proofs.search.Search.expand.Goals.{in-Some+then-is_shorter+in_ok-reach, in-Some+else-is_shorter, in_default}
-use Rattle.mapf_model.proofs.StepLemmas.{free_within}
 
-pub neighbourhood-beside-items-requires-clause-small : goal.neighbourhood-beside-items-requires-clause-small
-neighbourhood-beside-items-requires-clause-small c =
+pub neighbourhood-requires-clause-small : goal.neighbourhood-requires-clause-small
+neighbourhood-requires-clause-small c =
     let s = c.requires.search.0 in
     let known = c.requires.search.1 in
     let within = within_table c.args.self.now.table.items c.args.cell (omega arith) in
@@ -22,84 +17,181 @@ neighbourhood-beside-items-requires-clause-small c =
     let wide = c.width.ensures.at_most in
     omega arith
 
-pub loop-beside-init : goal.loop-beside-init
-loop-beside-init c = record {
-  search = c.requires.search;
-  entry = ap (λ n. n + 1) (sym c.entry-distance.ensures);
-  level = c.requires.level;
-  taken = λ k next none. absurd (omega arith);
-  effort = omega arith;
-  same = record { start = refl; goal = refl; level = refl };
-}
-
-pub loop-beside-preserved : goal.loop-beside-preserved
-loop-beside-preserved c =
+pub offer-requires-clause-due : goal.offer-requires-clause-due
+offer-requires-clause-due c =
     let grid = c.args.grid.now in
-    let places = c.neighbourhood-beside-items.result in
-    let index = c.loop-beside.beside-index in
-    let four = ap length c.neighbourhood-beside-items.ensures in
-    let within : index < length places = omega arith in
-    let item = get_or_default places index None c.beside-item.result within in
-    let before = c.loop-beside.invariant in
-    let old = c.loop-beside.self in
+    let cell = c.args.cell in
+    let places = c.neighbourhood.result in
+    let wide = c.width.ensures.width in
+    let some = c.width.ensures.positive in
     let distance = c.entry-distance.result + 1 in
-    let free = known_free grid old.start old.goal old.level (λ other. other ≡ c.args.cell) old.table.items old.due.items old.later.items before.search.0 c.args.cell before.search.1 in
-    elim c.match-beside.branch [
-      | in-Some+then-is_shorter+in_ok-reach w ↦
-          let next = w.in-Some.next in
-          let both = w.is_shorter.ensures.0 w.if-is_shorter.true in
-          let step = place_step grid c.args.cell index next c.width.result places c.neighbourhood-beside-items.ensures c.width.ensures.width c.width.ensures.positive free within (item ∙ w.in-Some.is) both.0 in
-          let inside : next < length old.table.items = let f = free_within grid next both.0 in let n = before.search.0.count in omega arith in
-          let r = reached_at grid c.args.cell distance next old w.reach.new.self before.search before.entry before.level step inside both.1 w.in_ok-reach.ensures.table w.in_ok-reach.ensures.put w.in_ok-reach.ensures.same in
-          rw w.self-is (record {
-            search = r.search;
-            entry = r.entry;
-            level = r.level;
-            taken = taken_more grid distance index places old.table.items w.reach.new.self.table.items before.taken r.falls
-                (λ n n_is n_free. subst (λ x. entry_of w.reach.new.self.table.items x ≤ distance) (sym (same_Some n next (sym n_is ∙ item ∙ w.in-Some.is))) r.here);
-            effort = (let e = r.effort in let b = before.effort in omega arith);
-            same = record {
-              start = w.in_ok-reach.ensures.same.start ∙ before.same.start;
-              goal = w.in_ok-reach.ensures.same.goal ∙ before.same.goal;
-              level = w.in_ok-reach.ensures.same.level ∙ before.same.level;
-            };
-          })
-      | in-Some+else-is_shorter w ↦
-          let next = w.in-Some.next in
-          rw w.self-is (record {
-            search = before.search;
-            entry = before.entry;
-            level = before.level;
-            taken = taken_more grid distance index places old.table.items old.table.items before.taken (λ x. omega arith)
-                (λ n n_is n_free. ⊎_elim
-                (λ (less : distance < entry_of old.table.items n). absurd (iff_false w.is_shorter.ensures w.if-is_shorter.false
-                (subst (λ x. IsFree grid x × (distance < entry_of old.table.items x)) (same_Some n next (sym n_is ∙ item ∙ w.in-Some.is)) (n_free, less))))
-                (λ (past : entry_of old.table.items n ≤ distance). past)
-                (cases_lt distance (entry_of old.table.items n)));
-            effort = before.effort;
-            same = before.same;
-          })
-      | in_default w ↦
-          rw w.self-is (record {
-            search = before.search;
-            entry = before.entry;
-            level = before.level;
-            taken = taken_more grid distance index places old.table.items old.table.items before.taken (λ x. omega arith)
-                (λ n n_is n_free. absurd (w.in_default.not-Some n (sym item ∙ n_is)));
-            effort = before.effort;
-            same = before.same;
-          })
-    ]
+    let beside = c.neighbourhood.ensures in
+    let five = ap length beside in
+    let first = c.args.self.now in
+    let began = taking_first grid cell distance c.width.result places beside wide some first c.requires.search c.requires.level (ap (λ n. n + 1) c.entry-distance.ensures) in
+    let at_level : distance + estimate grid cell first.start ≡ first.level + 1 = let e = began.entry in let l = began.level in omega arith in
+    due_above grid cell first.start distance first.level (omega arith) at_level c.args.aim.1 c.args.at.1 c.requires.aim_row c.requires.at_row (slice_index_or places 0 c.index-neighbourhood-0.result)
+    (ap (λ list. slice_index_or list 0 c.index-neighbourhood-0.result) (beside ∙ ap (λ w. neighbourhood w cell) wide))
+
+pub offer-requires-2-clause-due : goal.offer-requires-2-clause-due
+offer-requires-2-clause-due c =
+    let grid = c.args.grid.now in
+    let cell = c.args.cell in
+    let places = c.neighbourhood.result in
+    let wide = c.width.ensures.width in
+    let some = c.width.ensures.positive in
+    let distance = c.entry-distance.result + 1 in
+    let beside = c.neighbourhood.ensures in
+    let five = ap length beside in
+    let first = c.args.self.now in
+    let began = taking_first grid cell distance c.width.result places beside wide some first c.requires.search c.requires.level (ap (λ n. n + 1) c.entry-distance.ensures) in
+    let above = taking_more grid cell distance c.width.result places beside wide some first 0 first began c.index-neighbourhood-0.result c.offer.new.self (omega arith) c.in_ok-offer.ensures in
+    let at_level : distance + estimate grid cell c.offer.new.self.start ≡ c.offer.new.self.level + 1 = let e = above.entry in let l = above.level in omega arith in
+    due_left grid cell c.offer.new.self.start distance c.offer.new.self.level (omega arith) at_level c.args.aim.0 c.args.at.0 (c.requires.aim_column ∙ ap (λ start. column grid start) (sym above.same.start)) c.requires.at_column (slice_index_or places 1 c.index-neighbourhood-1.result)
+    (ap (λ list. slice_index_or list 1 c.index-neighbourhood-1.result) (beside ∙ ap (λ w. neighbourhood w cell) wide))
+
+pub offer-requires-3-clause-due : goal.offer-requires-3-clause-due
+offer-requires-3-clause-due c =
+    let grid = c.args.grid.now in
+    let cell = c.args.cell in
+    let places = c.neighbourhood.result in
+    let wide = c.width.ensures.width in
+    let some = c.width.ensures.positive in
+    let distance = c.entry-distance.result + 1 in
+    let beside = c.neighbourhood.ensures in
+    let five = ap length beside in
+    let first = c.args.self.now in
+    let began = taking_first grid cell distance c.width.result places beside wide some first c.requires.search c.requires.level (ap (λ n. n + 1) c.entry-distance.ensures) in
+    let above = taking_more grid cell distance c.width.result places beside wide some first 0 first began c.index-neighbourhood-0.result c.offer.new.self (omega arith) c.in_ok-offer.ensures in
+    let left = taking_more grid cell distance c.width.result places beside wide some first 1 c.offer.new.self above c.index-neighbourhood-1.result c.offer-2.new.self (omega arith) c.in_ok-offer-2.ensures in
+    let here = taking_self grid cell distance c.width.result places beside wide some first 2 c.offer-2.new.self left (ap (λ list. slice_index_or list 2 None) beside) in
+    let at_level : distance + estimate grid cell c.offer-2.new.self.start ≡ c.offer-2.new.self.level + 1 = let e = here.entry in let l = here.level in omega arith in
+    due_right grid cell c.offer-2.new.self.start distance c.offer-2.new.self.level (omega arith) at_level c.args.at.0 c.args.aim.0 c.requires.at_column (c.requires.aim_column ∙ ap (λ start. column grid start) (sym here.same.start)) (slice_index_or places 3 c.index-neighbourhood-3.result)
+    (ap (λ list. slice_index_or list 3 c.index-neighbourhood-3.result) (beside ∙ ap (λ w. neighbourhood w cell) wide))
+
+pub offer-requires-4-clause-due : goal.offer-requires-4-clause-due
+offer-requires-4-clause-due c =
+    let grid = c.args.grid.now in
+    let cell = c.args.cell in
+    let places = c.neighbourhood.result in
+    let wide = c.width.ensures.width in
+    let some = c.width.ensures.positive in
+    let distance = c.entry-distance.result + 1 in
+    let beside = c.neighbourhood.ensures in
+    let five = ap length beside in
+    let first = c.args.self.now in
+    let began = taking_first grid cell distance c.width.result places beside wide some first c.requires.search c.requires.level (ap (λ n. n + 1) c.entry-distance.ensures) in
+    let above = taking_more grid cell distance c.width.result places beside wide some first 0 first began c.index-neighbourhood-0.result c.offer.new.self (omega arith) c.in_ok-offer.ensures in
+    let left = taking_more grid cell distance c.width.result places beside wide some first 1 c.offer.new.self above c.index-neighbourhood-1.result c.offer-2.new.self (omega arith) c.in_ok-offer-2.ensures in
+    let here = taking_self grid cell distance c.width.result places beside wide some first 2 c.offer-2.new.self left (ap (λ list. slice_index_or list 2 None) beside) in
+    let right = taking_more grid cell distance c.width.result places beside wide some first 3 c.offer-2.new.self here c.index-neighbourhood-3.result c.offer-3.new.self (omega arith) c.in_ok-offer-3.ensures in
+    let at_level : distance + estimate grid cell c.offer-3.new.self.start ≡ c.offer-3.new.self.level + 1 = let e = right.entry in let l = right.level in omega arith in
+    due_below grid cell c.offer-3.new.self.start distance c.offer-3.new.self.level (omega arith) at_level c.args.at.1 c.args.aim.1 c.requires.at_row (c.requires.aim_row ∙ ap (λ start. row grid start) (sym right.same.start)) (slice_index_or places 4 c.index-neighbourhood-4.result)
+    (ap (λ list. slice_index_or list 4 c.index-neighbourhood-4.result) (beside ∙ ap (λ w. neighbourhood w cell) wide))
+
+pub offer-requires-2-clause-count : goal.offer-requires-2-clause-count
+offer-requires-2-clause-count c =
+    let grid = c.args.grid.now in
+    let cell = c.args.cell in
+    let places = c.neighbourhood.result in
+    let wide = c.width.ensures.width in
+    let some = c.width.ensures.positive in
+    let distance = c.entry-distance.result + 1 in
+    let beside = c.neighbourhood.ensures in
+    let five = ap length beside in
+    let first = c.args.self.now in
+    let began = taking_first grid cell distance c.width.result places beside wide some first c.requires.search c.requires.level (ap (λ n. n + 1) c.entry-distance.ensures) in
+    let above = taking_more grid cell distance c.width.result places beside wide some first 0 first began c.index-neighbourhood-0.result c.offer.new.self (omega arith) c.in_ok-offer.ensures in
+    c.offer.new.self.table.ok.0 ∙ above.search.0.count
+
+pub offer-requires-3-clause-count : goal.offer-requires-3-clause-count
+offer-requires-3-clause-count c =
+    let grid = c.args.grid.now in
+    let cell = c.args.cell in
+    let places = c.neighbourhood.result in
+    let wide = c.width.ensures.width in
+    let some = c.width.ensures.positive in
+    let distance = c.entry-distance.result + 1 in
+    let beside = c.neighbourhood.ensures in
+    let five = ap length beside in
+    let first = c.args.self.now in
+    let began = taking_first grid cell distance c.width.result places beside wide some first c.requires.search c.requires.level (ap (λ n. n + 1) c.entry-distance.ensures) in
+    let above = taking_more grid cell distance c.width.result places beside wide some first 0 first began c.index-neighbourhood-0.result c.offer.new.self (omega arith) c.in_ok-offer.ensures in
+    let left = taking_more grid cell distance c.width.result places beside wide some first 1 c.offer.new.self above c.index-neighbourhood-1.result c.offer-2.new.self (omega arith) c.in_ok-offer-2.ensures in
+    let here = taking_self grid cell distance c.width.result places beside wide some first 2 c.offer-2.new.self left (ap (λ list. slice_index_or list 2 None) beside) in
+    c.offer-2.new.self.table.ok.0 ∙ here.search.0.count
+
+pub offer-requires-4-clause-count : goal.offer-requires-4-clause-count
+offer-requires-4-clause-count c =
+    let grid = c.args.grid.now in
+    let cell = c.args.cell in
+    let places = c.neighbourhood.result in
+    let wide = c.width.ensures.width in
+    let some = c.width.ensures.positive in
+    let distance = c.entry-distance.result + 1 in
+    let beside = c.neighbourhood.ensures in
+    let five = ap length beside in
+    let first = c.args.self.now in
+    let began = taking_first grid cell distance c.width.result places beside wide some first c.requires.search c.requires.level (ap (λ n. n + 1) c.entry-distance.ensures) in
+    let above = taking_more grid cell distance c.width.result places beside wide some first 0 first began c.index-neighbourhood-0.result c.offer.new.self (omega arith) c.in_ok-offer.ensures in
+    let left = taking_more grid cell distance c.width.result places beside wide some first 1 c.offer.new.self above c.index-neighbourhood-1.result c.offer-2.new.self (omega arith) c.in_ok-offer-2.ensures in
+    let here = taking_self grid cell distance c.width.result places beside wide some first 2 c.offer-2.new.self left (ap (λ list. slice_index_or list 2 None) beside) in
+    let right = taking_more grid cell distance c.width.result places beside wide some first 3 c.offer-2.new.self here c.index-neighbourhood-3.result c.offer-3.new.self (omega arith) c.in_ok-offer-3.ensures in
+    c.offer-3.new.self.table.ok.0 ∙ right.search.0.count
 
 pub returns-clause-search : goal.returns-clause-search
 returns-clause-search c =
     let grid = c.args.grid.now in
-    let self = c.loop-beside.self in
-    let b = c.loop-beside.invariant in
-    let places = c.neighbourhood-beside-items.result in
-    let four = ap length c.neighbourhood-beside-items.ensures in
-    let free = known_free grid self.start self.goal self.level (λ other. other ≡ c.args.cell) self.table.items self.due.items self.later.items b.search.0 c.args.cell b.search.1 in
-    let wide : 0 < grid.width = let p = c.width.ensures.positive in let e = c.width.ensures.width in omega arith in
-    let taken = taken_all grid (c.entry-distance.result + 1) c.loop-beside.beside-index c.args.cell places self.table.items
-    (c.neighbourhood-beside-items.ensures ∙ ap (λ w. neighbourhood w c.args.cell) c.width.ensures.width) wide free (omega arith) b.taken (sym b.entry) in
-    all_taken grid self.start self.goal self.level self.table.items self.due.items self.later.items c.args.cell b.search.0 taken
+    let cell = c.args.cell in
+    let places = c.neighbourhood.result in
+    let wide = c.width.ensures.width in
+    let some = c.width.ensures.positive in
+    let distance = c.entry-distance.result + 1 in
+    let beside = c.neighbourhood.ensures in
+    let five = ap length beside in
+    let first = c.args.self.now in
+    let began = taking_first grid cell distance c.width.result places beside wide some first c.requires.search c.requires.level (ap (λ n. n + 1) c.entry-distance.ensures) in
+    let above = taking_more grid cell distance c.width.result places beside wide some first 0 first began c.index-neighbourhood-0.result c.offer.new.self (omega arith) c.in_ok-offer.ensures in
+    let left = taking_more grid cell distance c.width.result places beside wide some first 1 c.offer.new.self above c.index-neighbourhood-1.result c.offer-2.new.self (omega arith) c.in_ok-offer-2.ensures in
+    let here = taking_self grid cell distance c.width.result places beside wide some first 2 c.offer-2.new.self left (ap (λ list. slice_index_or list 2 None) beside) in
+    let right = taking_more grid cell distance c.width.result places beside wide some first 3 c.offer-2.new.self here c.index-neighbourhood-3.result c.offer-3.new.self (omega arith) c.in_ok-offer-3.ensures in
+    let below = taking_more grid cell distance c.width.result places beside wide some first 4 c.offer-3.new.self right c.index-neighbourhood-4.result c.offer-4.new.self (omega arith) c.in_ok-offer-4.ensures in
+    taking_end grid cell distance c.width.result places beside wide some first 5 c.offer-4.new.self below (omega arith)
+
+pub returns-clause-same : goal.returns-clause-same
+returns-clause-same c =
+    let grid = c.args.grid.now in
+    let cell = c.args.cell in
+    let places = c.neighbourhood.result in
+    let wide = c.width.ensures.width in
+    let some = c.width.ensures.positive in
+    let distance = c.entry-distance.result + 1 in
+    let beside = c.neighbourhood.ensures in
+    let five = ap length beside in
+    let first = c.args.self.now in
+    let began = taking_first grid cell distance c.width.result places beside wide some first c.requires.search c.requires.level (ap (λ n. n + 1) c.entry-distance.ensures) in
+    let above = taking_more grid cell distance c.width.result places beside wide some first 0 first began c.index-neighbourhood-0.result c.offer.new.self (omega arith) c.in_ok-offer.ensures in
+    let left = taking_more grid cell distance c.width.result places beside wide some first 1 c.offer.new.self above c.index-neighbourhood-1.result c.offer-2.new.self (omega arith) c.in_ok-offer-2.ensures in
+    let here = taking_self grid cell distance c.width.result places beside wide some first 2 c.offer-2.new.self left (ap (λ list. slice_index_or list 2 None) beside) in
+    let right = taking_more grid cell distance c.width.result places beside wide some first 3 c.offer-2.new.self here c.index-neighbourhood-3.result c.offer-3.new.self (omega arith) c.in_ok-offer-3.ensures in
+    let below = taking_more grid cell distance c.width.result places beside wide some first 4 c.offer-3.new.self right c.index-neighbourhood-4.result c.offer-4.new.self (omega arith) c.in_ok-offer-4.ensures in
+    below.same
+
+pub returns-clause-effort : goal.returns-clause-effort
+returns-clause-effort c =
+    let grid = c.args.grid.now in
+    let cell = c.args.cell in
+    let places = c.neighbourhood.result in
+    let wide = c.width.ensures.width in
+    let some = c.width.ensures.positive in
+    let distance = c.entry-distance.result + 1 in
+    let beside = c.neighbourhood.ensures in
+    let five = ap length beside in
+    let first = c.args.self.now in
+    let began = taking_first grid cell distance c.width.result places beside wide some first c.requires.search c.requires.level (ap (λ n. n + 1) c.entry-distance.ensures) in
+    let above = taking_more grid cell distance c.width.result places beside wide some first 0 first began c.index-neighbourhood-0.result c.offer.new.self (omega arith) c.in_ok-offer.ensures in
+    let left = taking_more grid cell distance c.width.result places beside wide some first 1 c.offer.new.self above c.index-neighbourhood-1.result c.offer-2.new.self (omega arith) c.in_ok-offer-2.ensures in
+    let here = taking_self grid cell distance c.width.result places beside wide some first 2 c.offer-2.new.self left (ap (λ list. slice_index_or list 2 None) beside) in
+    let right = taking_more grid cell distance c.width.result places beside wide some first 3 c.offer-2.new.self here c.index-neighbourhood-3.result c.offer-3.new.self (omega arith) c.in_ok-offer-3.ensures in
+    let below = taking_more grid cell distance c.width.result places beside wide some first 4 c.offer-3.new.self right c.index-neighbourhood-4.result c.offer-4.new.self (omega arith) c.in_ok-offer-4.ensures in
+    below.effort
