@@ -1,5 +1,6 @@
 -- A set of states as a list.
-use Rattle.std.proofs.Common.{◌≡◌, ℕ, zero, suc, ◌<◌, Bool, true, false, ◌==◌, not, List, [], ◌∷◌, length, slice_index_or, Contains, refl, sym, ◌∙◌, arith}
+use Rattle.std.proofs.Common.{◌≡◌, ◌⊎◌, ℕ, zero, suc, ◌<◌, Bool, true, false, cond, ◌==◌, not, List, [], ◌∷◌, ◌++◌, length, slice_index_or, Contains, inl, refl, sym, ◌∙◌, arith}
+use Rattle.std.proofs.lemmas.List.Elements.{Contains-push_cases}
 use Rattle.std.proofs.lemmas.Bool.{and_parts, eqb-true, eq-eqb, or_left, or_right, not-false}
 use Rattle.std.specs.List.{list_any}
 use Rattle.indexmap.specs.IndexSet.{insert_key}
@@ -35,3 +36,11 @@ module _ (xs : List State) (s : State) (new : Bool) (is : new ≡ not (list_any 
 
   pub insert_old : insert_key same_state xs s ≡ xs
   insert_old = rw found refl
+
+-- an element after an insertion was one before, or it is the one that was inserted
+pub insert_cases : (xs : List State) (s x : State) → Contains (insert_key same_state xs s) x → Contains xs x ⊎ (s ≡ x)
+insert_cases xs s x held = by (list_any (same_state s) xs) held
+  where
+    by : (b : Bool) → Contains (cond b xs (xs ++ s ∷ [])) x → Contains xs x ⊎ (s ≡ x)
+    by true held_before = inl held_before
+    by false held_after = Contains-push_cases xs s x held_after

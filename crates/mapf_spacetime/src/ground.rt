@@ -106,7 +106,8 @@ impl<'a, B: BarTable> Ground<'a, B> {
     }
 
     /// Returns whether the constraints allow the agent to go from the state to the cell.
-    #[inline(always)]
+    // A call of its own keeps the loops that ask small, so that they are unrolled.
+    #[inline(never)]
     pub fn lets(&self, from: &State, to: Cell) -> bool
         requires small { from.now.tick ≤ most_path_cells }
         requires step { Step self.now.grid from.now.cell to }

@@ -144,6 +144,7 @@ impl PathSearch {
     }
 
     /// Takes one step, or backtracks if no step may lead to the goal. Returns false if there is nowhere to backtrack to.
+    #[inline(always)]
     fn go_on<B: BarTable>(&mut self, ground: &Ground<B>, cost: u32) -> Result<bool, OutOfMemory>
         requires small { cost < cost_bound }
         requires searching { IsSearching ground.now cost self.old }

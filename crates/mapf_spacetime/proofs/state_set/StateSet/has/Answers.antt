@@ -1,11 +1,15 @@
-use Rattle.std.proofs.Common.{sym, ◌∙◌}
-use Rattle.mapf_spacetime.specs.States.{same_state}
-use Rattle.indexmap.proofs.CallerLemmas.{Contains-list_any}
-use Rattle.mapf_spacetime.proofs.SetLemmas.{Contains-any, same_state-exact}
+use Rattle.std.proofs.Common.{arith}
 use Rattle.mapf_spacetime.proofs.state_set.StateSet.has.Goals as goal
+use Rattle.mapf_spacetime.proofs.state_set.StateSet.has.Goals.{then-state-self-via-then-state-self, then-state-self-via-else-state-self+then-self-state}
 
-pub returns : goal.returns
-returns c = rw (← c.self.view_is) (
-  (λ yes. Contains-list_any same_state same_state-exact c.self.inside.states.keys c.args.state.now (sym c.contains.ensures ∙ yes)),
-  (λ held. c.contains.ensures ∙ Contains-any c.self.inside.states.keys c.args.state.now held),
+-- each state of the set is within the ticks
+pub returns-then-state-self : goal.returns-then-state-self
+returns-then-state-self c = (
+  λ never. absurd cc,
+  λ held.
+      let within = c.self.invariant c.args.state.now (rw (← c.self.view_is) at held) in
+      elim c.then-state-self.branch [
+        | then-state-self-via-then-state-self w ↦ let before = w.if-state-self.true in absurd (omega (arith, within.0))
+        | then-state-self-via-else-state-self+then-self-state w ↦ let after = w.if-self-state.true in absurd (omega (arith, within.1))
+      ],
 )
