@@ -6,7 +6,7 @@ ghost use Rattle.mapf_model.specs.Pairs.{IsFirstPair, HoldsOfNoPair};
 ghost use Rattle.mapf_conflicts.specs.Pairs.{cells_at, paths_behind, ShareCell, ExchangeCells};
 ghost use Rattle.mapf_conflicts.specs.Pairs.{IsConflictOf, IsFirstOf, IsFirstOfItsTick, IsOrdered};
 
-use crate::apart::{Unmarked, marked_exchanging_pair, marked_sharing_pair};
+use crate::marked_pairs::{Unmarked, marked_exchanging_pair, marked_sharing_pair};
 use crate::pairs::{exchanging_pair, may_conflict, sharing_pair};
 use mapf_model::limits::MOST_AGENTS;
 use mapf_model::{Cell, Conflict, Path, Plan, Tick};

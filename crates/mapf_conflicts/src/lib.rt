@@ -1,8 +1,8 @@
 //! Where do two paths of a plan first conflict?
 #![tactic(auto)]
 
-mod apart;
 mod first;
+mod marked_pairs;
 mod marks;
 mod pairs;
 

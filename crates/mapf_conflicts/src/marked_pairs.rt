@@ -6,7 +6,6 @@ ghost use Rattle.mapf_conflicts.specs.Pairs.{ArePlaced, ShareCell, ExchangeCells
 use mapf_model::Cell;
 
 /// Some cell has no mark.
-#[derive(Debug)]
 pub struct Unmarked;
 
 /// Marks the agents' cells, and returns the first two agents that are in one cell. If there are none, each agent's cell

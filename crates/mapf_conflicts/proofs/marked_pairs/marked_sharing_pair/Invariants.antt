@@ -1,6 +1,6 @@
 use Rattle.std.proofs.Common.{◌≡◌, ◌≤◌, ℕ, ◌<◌, length, slice_index, IfNone, IfSome}
 use Rattle.mapf_conflicts.specs.Pairs.{ShareCell}
-use Rattle.mapf_conflicts.proofs.apart.marked_sharing_pair.Given as goal
+use Rattle.mapf_conflicts.proofs.marked_pairs.marked_sharing_pair.Given as goal
 
 abbrev pub invariant-loop-i : goal.invariant-loop-i
 invariant-loop-i l = record {
