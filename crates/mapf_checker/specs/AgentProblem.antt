@@ -13,8 +13,9 @@ use Rattle.mapf_checker.specs.Branch.{Route, IsIndexed, place_of}
 abbrev pub bars_on : AgentProblem → List Bar
 bars_on own = (place_of own.branch.now).here.bars own.agent
 
--- the distances are those to the agent's goal on the grid
+-- the distances are those to the agent's goal on the grid, and the neighbourhoods are those on the grid
 pub record HasGoalDistances (own : AgentProblem) : Type 0 where
+  pub width : own.neighbourhoods.now ≡ own.grid.now.width
   pub grid : own.distances.now.grid ≡ own.grid.now
   pub goal : own.distances.now.goal ≡ own.goal
 

@@ -14,7 +14,7 @@ use crate::judge::{AgentProblem, Fingers, is_sound};
 use crate::labels::entry_at;
 use crate::starts::StartChange;
 use mapf_distance::LazyTables;
-use mapf_model::{Block, Cell, Entry, OutOfMemory, Problem};
+use mapf_model::{Block, Cell, Entry, Neighbourhoods, OutOfMemory, Problem};
 use std::alloc::Global;
 
 /// Makes the distance tables of the blocks' agents that aren't made yet.
@@ -49,10 +49,11 @@ pub fn judge_blocks(
     ensures ok { OnOk result (All (IsGoodBlock problem.now (place_of branch.now).here) blocks.now) }
     ensures err { OnErr result (HasUnsoundBlock problem.now (place_of branch.now).here blocks.now) }
 {
+    let neighbourhoods = Neighbourhoods::of(problem.grid());
     let mut line = line;
     for block in blocks {
         line = line.saturating_add(1);
-        judge_block(problem, tables, branch, block, line)?;
+        judge_block(problem, &neighbourhoods, tables, branch, block, line)?;
         line = line.saturating_add(block.entries.len() as u64);
     }
     Ok(())
@@ -61,11 +62,13 @@ pub fn judge_blocks(
 // Checks that each entry of the block that begins in this line is sound. Returns the line of the first that isn't.
 fn judge_block(
     problem: &Problem,
+    neighbourhoods: &Neighbourhoods,
     tables: &LazyTables,
     branch: &Branch,
     block: &Block,
     line: u64,
 ) -> Result<(), u64>
+    requires width { neighbourhoods.now ≡ problem.now.grid.width }
     requires tables { AreMade problem.now tables.now }
     requires ready { CanJudge tables.now branch.now block.now }
     requires block { IsBlockInRange problem.now.grid (length problem.now.agents) block.now }
@@ -76,6 +79,7 @@ fn judge_block(
     let goal = goal_of(problem, agent);
     let own = AgentProblem {
         grid: problem.grid(),
+        neighbourhoods,
         distances: tables.get(agent),
         branch,
         agent,

@@ -11,12 +11,14 @@ ghost use Rattle.mapf_checker.specs.Index.{IsBarredFrom};
 use crate::branch::Branch;
 use crate::labels::{exceeds, is_within_one, label_from};
 use mapf_distance::Distances;
-use mapf_model::{Bar, Cell, Entry, Grid, laws};
+use mapf_model::{Bar, Cell, Entry, Grid, Neighbourhoods, laws};
 
 /// What the entries of one agent are judged by: its distances, and its constraints at a node of the tree.
 #[derive(Drop)]
 pub struct AgentProblem<'a> {
     pub grid: &'a Grid,
+    /// The neighbourhoods of the grid's cells.
+    pub neighbourhoods: &'a Neighbourhoods,
     /// The distances to the agent's goal.
     pub distances: &'a Distances,
     pub branch: &'a Branch,
@@ -89,7 +91,9 @@ fn goes_on(own: &AgentProblem, entries: &[Entry], fingers: &mut Fingers, entry: 
     requires free { IsFree own.now.grid.now entry.now.cell }
     ensures { IsTrue result ↔ IsConsistent own.now entries.now entry.now }
 {
-    let places = entry.cell.neighbourhood(own.grid.width());
+    // Calling `width` lets the prover use its contract, which says that the grid is well formed.
+    let _width = own.grid.width();
+    let places = own.neighbourhoods.around(entry.cell);
     for k in 0..places.len() {
         if let Some(next) = places[k] {
             if !step_holds(own, entries, &mut fingers[k], entry, next) {

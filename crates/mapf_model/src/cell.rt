@@ -1,4 +1,4 @@
-ghost use Rattle.std.specs.Prelude.{◌≡◌, ◌+◌, ◌<◌, ◌^◌};
+ghost use Rattle.std.specs.Prelude.{◌≡◌, ◌+◌, ◌%◌, ◌<◌, ◌^◌};
 ghost use Rattle.mapf_model.specs.Neighbours.{neighbourhood};
 
 use std::marker::Model;
@@ -26,15 +26,25 @@ impl Cell {
         ensures { result ≡ neighbourhood width self }
     {
         let Cell(number) = self;
-        let column = number % width;
-        [
-            (width <= number).then(|| Cell(number - width)),
-            (column > 0).then(|| Cell(number - 1)),
-            Some(self),
-            (column + 1 < width).then(|| Cell(number + 1)),
-            Some(Cell(number + width)),
-        ]
+        places_around(number, width, number % width)
     }
+}
+
+/// Returns the neighbourhood of the cell of this number, which is in this column.
+#[inline(always)]
+pub fn places_around(number: u32, width: u32, column: u32) -> [Option<Cell>; 5]
+    requires column { column ≡ number % width }
+    requires wide { 0 < width }
+    requires small { number + width < 2 ^ 32 }
+    ensures { result ≡ neighbourhood width number }
+{
+    [
+        (width <= number).then(|| Cell(number - width)),
+        (column > 0).then(|| Cell(number - 1)),
+        Some(Cell(number)),
+        (column + 1 < width).then(|| Cell(number + 1)),
+        Some(Cell(number + width)),
+    ]
 }
 
 /// A time step, counted from 0. In one tick each agent waits or moves to an adjacent cell.

@@ -11,13 +11,14 @@ ghost use Rattle.mapf_spacetime.specs.Task.{task_of, start_of, IsOpen, IsValue, 
 use crate::state::State;
 use mapf_constraints::BarTable;
 use mapf_distance::Distances;
-use mapf_model::{Agent, Cell, Grid, Tick};
+use mapf_model::{Agent, Cell, Grid, Neighbourhoods, Tick};
 use std::marker::Model;
 
 /// The task of a single-agent search: the grid, the agent's start and goal, and its constraints.
 #[derive(Drop)]
 pub struct Ground<'a, B: BarTable> {
     grid: &'a Grid,
+    neighbourhoods: Neighbourhoods,
     distances: &'a Distances,
     bars: &'a B,
     agent: Agent,
@@ -41,7 +42,8 @@ impl<'a, B: BarTable> Model for Ground<'a, B> {
     ghost invariant = { λ ground. (ground.distances.now.grid ≡ ground.grid.now)
         × (ground.distances.now.goal ≡ ground.agent.goal) × AreBars (B.bars ground.bars.now)
         × AreBefore ground.horizon (B.bars ground.bars.now) × (ground.horizon ≤ split_ticks)
-        × IsLastOn (B.bars ground.bars.now) ground.agent.goal ground.last_on_goal };
+        × IsLastOn (B.bars ground.bars.now) ground.agent.goal ground.last_on_goal
+        × (ground.neighbourhoods ≡ ground.grid.now.width) };
 }
 
 impl<'a, B: BarTable> Ground<'a, B> {
@@ -52,6 +54,7 @@ impl<'a, B: BarTable> Ground<'a, B> {
     {
         Ground {
             grid,
+            neighbourhoods: Neighbourhoods::of(grid),
             distances,
             bars,
             agent,
@@ -89,7 +92,9 @@ impl<'a, B: BarTable> Ground<'a, B> {
         ensures cells { result ≡ neighbourhood self.now.grid.width cell }
         ensures wide { 0 < self.now.grid.width }
     {
-        cell.neighbourhood(self.grid.width())
+        // Calling `width` lets the prover use its contract, which says that the grid is well formed.
+        let _width = self.grid.width();
+        self.neighbourhoods.around(cell)
     }
 
     /// Returns the f-value: the tick plus the distance of the cell. None if no steps lead to the goal.
