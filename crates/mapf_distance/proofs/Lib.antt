@@ -6,5 +6,5 @@ pub mod StartLemmas
 pub mod DescentLemmas
 pub mod TableLemmas
 pub mod SearchLemmas
-pub mod OfferLemmas
+pub mod RelaxLemmas
 pub mod ShortestLemmas

@@ -70,10 +70,11 @@ abbrev pub IsPut : ℕ → ℕ → Search → Search → Type 0
 IsPut cell value old new =
     ((value ≤ old.level) × (new.due.items ≡ old.due.items ++ cell ∷ []) × (new.later.items ≡ old.later.items)) ⊎ ((old.level < value) × (new.due.items ≡ old.due.items) × (new.later.items ≡ old.later.items ++ cell ∷ []))
 
--- the cell at this place was reached if it is free and its entry was greater, and nothing else changed
-abbrev pub IsOffered : GridMap → Option ℕ → ℕ → Search → Search → Type 0
-IsOffered grid None distance old new = new ≡ old
-IsOffered grid (Some next) distance old new =
+-- the step to the cell at this place was relaxed: the cell was reached if it is free and its entry was greater, and
+-- nothing else changed
+abbrev pub IsRelaxed : GridMap → Option ℕ → ℕ → Search → Search → Type 0
+IsRelaxed grid None distance old new = new ≡ old
+IsRelaxed grid (Some next) distance old new =
     ((IsFree grid next × (distance < entry_of old.table.items next))
     × (new.table.items ≡ slice_set old.table.items next distance) × IsPut next (distance + estimate grid next old.start) old new × IsSameSearch old new)
     ⊎ ((IsFree grid next × (distance < entry_of old.table.items next) → ⊥) × (new ≡ old))

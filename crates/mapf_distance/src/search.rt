@@ -4,7 +4,7 @@ ghost use Rattle.mapf_model.specs.Distance.{IsDistance};
 ghost use Rattle.mapf_model.specs.Grid.{GridMap, IsFree, column, row};
 ghost use Rattle.mapf_distance.specs.Distances.{IsDistanceOrNone};
 ghost use Rattle.mapf_distance.specs.Marks.{entry_of};
-ghost use Rattle.mapf_distance.specs.Search.{IsOffered, IsPassed, IsPut, IsSameSearch, IsSearchAt, IsSearchOn};
+ghost use Rattle.mapf_distance.specs.Search.{IsRelaxed, IsPassed, IsPut, IsSameSearch, IsSearchAt, IsSearchOn};
 ghost use Rattle.mapf_distance.specs.Search.{effort, estimate, gap, value_of};
 
 use crate::distances::Distances;
@@ -64,7 +64,7 @@ impl Search {
         let mut search = Search {
             start,
             goal,
-            level: steps_apart(grid.xy(goal), grid.xy(start)),
+            level: manhattan_distance(grid.xy(goal), grid.xy(start)),
             table: vec![in alloc; UNREACHED; cells]?,
             due: Vec::new(alloc),
             later: Vec::new(alloc),
@@ -208,7 +208,7 @@ impl Search {
         ensures effort { OnOk result (effort self.new ≤ effort self.old) }
     {
         let at = grid.xy(cell);
-        let value = self.entry(cell) as u64 + steps_apart(at, aim);
+        let value = self.entry(cell) as u64 + manhattan_distance(at, aim);
         if value == self.level {
             self.expand(grid, aim, at, cell)?;
         } else if value > self.level {
@@ -241,16 +241,17 @@ impl Search {
         let (column, row) = at;
         let [above, left, _, right, below] = cell.neighbourhood(grid.width());
         // A step towards the start's column or row keeps the f-value, and each other one raises it by 2.
-        self.offer(grid, above, distance, start_row < row)?;
-        self.offer(grid, left, distance, start_column < column)?;
-        self.offer(grid, right, distance, column < start_column)?;
-        self.offer(grid, below, distance, row < start_row)?;
+        self.relax(grid, above, distance, start_row < row)?;
+        self.relax(grid, left, distance, start_column < column)?;
+        self.relax(grid, right, distance, column < start_column)?;
+        self.relax(grid, below, distance, row < start_row)?;
         Ok(())
     }
 
-    // Reaches the cell at a place, if it is free and each number of steps found from it so far is greater than this one.
+    // Relaxes the step to the cell at a place: reaches it if it is free and each number of steps found from it so far is
+    // greater than this one.
     #[inline(always)]
-    fn offer(
+    fn relax(
         &mut self,
         grid: &Grid,
         place: Option<Cell>,
@@ -260,7 +261,7 @@ impl Search {
         requires count { vec_len self.old.table ≡ length grid.now.free }
         requires due { IfSome place (λ next. IsTrue is_due ↔
             (distance + estimate grid.now next self.old.start ≤ self.old.level)) }
-        ensures { OnOk result (IsOffered grid.now place distance self.old self.new) }
+        ensures { OnOk result (IsRelaxed grid.now place distance self.old self.new) }
     {
         if let Some(next) = place {
             if self.is_shorter(grid, next, distance) {
@@ -296,8 +297,9 @@ impl Search {
     }
 }
 
-// Returns the Manhattan distance of two cells from their columns and rows. It is a lower bound on the steps between them.
-fn steps_apart(from: (u32, u32), to: (u32, u32)) -> u64
+// Returns the Manhattan distance of two cells, from their columns and rows. It is a lower bound on the steps between
+// them.
+fn manhattan_distance(from: (u32, u32), to: (u32, u32)) -> u64
     ensures exact { result ≡ gap from.0 to.0 + gap from.1 to.1 }
     ensures small { result < 2 ^ 33 }
 {

@@ -30,6 +30,7 @@ impl Model for Neighbourhoods {
 }
 
 impl Neighbourhoods {
+    /// Returns the neighbourhoods of the cells on this grid.
     pub fn of(grid: &Grid) -> Neighbourhoods
         ensures { result ≡ grid.now.width }
     {

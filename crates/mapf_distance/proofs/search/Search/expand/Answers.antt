@@ -3,7 +3,7 @@ use Rattle.mapf_model.specs.Neighbours.{neighbourhood}
 use Rattle.mapf_model.specs.Grid.{column, row}
 use Rattle.mapf_distance.specs.Search.{estimate}
 use Rattle.mapf_distance.proofs.MarkLemmas.{within_table, few_cells}
-use Rattle.mapf_distance.proofs.OfferLemmas.{taking_first, taking_more, taking_self, taking_end, due_above, due_left, due_right, due_below}
+use Rattle.mapf_distance.proofs.RelaxLemmas.{taking_first, taking_more, taking_self, taking_end, due_above, due_left, due_right, due_below}
 use Rattle.mapf_distance.proofs.search.Search.expand.Goals as goal
 
 pub neighbourhood-requires-clause-small : goal.neighbourhood-requires-clause-small
@@ -17,8 +17,8 @@ neighbourhood-requires-clause-small c =
     let wide = c.width.ensures.at_most in
     omega arith
 
-pub offer-requires-clause-due : goal.offer-requires-clause-due
-offer-requires-clause-due c =
+pub relax-requires-clause-due : goal.relax-requires-clause-due
+relax-requires-clause-due c =
     let grid = c.args.grid.now in
     let cell = c.args.cell in
     let places = c.neighbourhood.result in
@@ -33,8 +33,8 @@ offer-requires-clause-due c =
     due_above grid cell first.start distance first.level (omega arith) at_level c.args.aim.1 c.args.at.1 c.requires.aim_row c.requires.at_row (slice_index_or places 0 c.index-neighbourhood-0.result)
     (ap (λ list. slice_index_or list 0 c.index-neighbourhood-0.result) (beside ∙ ap (λ w. neighbourhood w cell) wide))
 
-pub offer-requires-2-clause-due : goal.offer-requires-2-clause-due
-offer-requires-2-clause-due c =
+pub relax-requires-2-clause-due : goal.relax-requires-2-clause-due
+relax-requires-2-clause-due c =
     let grid = c.args.grid.now in
     let cell = c.args.cell in
     let places = c.neighbourhood.result in
@@ -45,13 +45,13 @@ offer-requires-2-clause-due c =
     let five = ap length beside in
     let first = c.args.self.now in
     let began = taking_first grid cell distance c.width.result places beside wide some first c.requires.search c.requires.level (ap (λ n. n + 1) c.entry-distance.ensures) in
-    let above = taking_more grid cell distance c.width.result places beside wide some first 0 first began c.index-neighbourhood-0.result c.offer.new.self (omega arith) c.in_ok-offer.ensures in
-    let at_level : distance + estimate grid cell c.offer.new.self.start ≡ c.offer.new.self.level + 1 = let e = above.entry in let l = above.level in omega arith in
-    due_left grid cell c.offer.new.self.start distance c.offer.new.self.level (omega arith) at_level c.args.aim.0 c.args.at.0 (c.requires.aim_column ∙ ap (λ start. column grid start) (sym above.same.start)) c.requires.at_column (slice_index_or places 1 c.index-neighbourhood-1.result)
+    let above = taking_more grid cell distance c.width.result places beside wide some first 0 first began c.index-neighbourhood-0.result c.relax.new.self (omega arith) c.in_ok-relax.ensures in
+    let at_level : distance + estimate grid cell c.relax.new.self.start ≡ c.relax.new.self.level + 1 = let e = above.entry in let l = above.level in omega arith in
+    due_left grid cell c.relax.new.self.start distance c.relax.new.self.level (omega arith) at_level c.args.aim.0 c.args.at.0 (c.requires.aim_column ∙ ap (λ start. column grid start) (sym above.same.start)) c.requires.at_column (slice_index_or places 1 c.index-neighbourhood-1.result)
     (ap (λ list. slice_index_or list 1 c.index-neighbourhood-1.result) (beside ∙ ap (λ w. neighbourhood w cell) wide))
 
-pub offer-requires-3-clause-due : goal.offer-requires-3-clause-due
-offer-requires-3-clause-due c =
+pub relax-requires-3-clause-due : goal.relax-requires-3-clause-due
+relax-requires-3-clause-due c =
     let grid = c.args.grid.now in
     let cell = c.args.cell in
     let places = c.neighbourhood.result in
@@ -62,15 +62,15 @@ offer-requires-3-clause-due c =
     let five = ap length beside in
     let first = c.args.self.now in
     let began = taking_first grid cell distance c.width.result places beside wide some first c.requires.search c.requires.level (ap (λ n. n + 1) c.entry-distance.ensures) in
-    let above = taking_more grid cell distance c.width.result places beside wide some first 0 first began c.index-neighbourhood-0.result c.offer.new.self (omega arith) c.in_ok-offer.ensures in
-    let left = taking_more grid cell distance c.width.result places beside wide some first 1 c.offer.new.self above c.index-neighbourhood-1.result c.offer-2.new.self (omega arith) c.in_ok-offer-2.ensures in
-    let here = taking_self grid cell distance c.width.result places beside wide some first 2 c.offer-2.new.self left (ap (λ list. slice_index_or list 2 None) beside) in
-    let at_level : distance + estimate grid cell c.offer-2.new.self.start ≡ c.offer-2.new.self.level + 1 = let e = here.entry in let l = here.level in omega arith in
-    due_right grid cell c.offer-2.new.self.start distance c.offer-2.new.self.level (omega arith) at_level c.args.at.0 c.args.aim.0 c.requires.at_column (c.requires.aim_column ∙ ap (λ start. column grid start) (sym here.same.start)) (slice_index_or places 3 c.index-neighbourhood-3.result)
+    let above = taking_more grid cell distance c.width.result places beside wide some first 0 first began c.index-neighbourhood-0.result c.relax.new.self (omega arith) c.in_ok-relax.ensures in
+    let left = taking_more grid cell distance c.width.result places beside wide some first 1 c.relax.new.self above c.index-neighbourhood-1.result c.relax-2.new.self (omega arith) c.in_ok-relax-2.ensures in
+    let here = taking_self grid cell distance c.width.result places beside wide some first 2 c.relax-2.new.self left (ap (λ list. slice_index_or list 2 None) beside) in
+    let at_level : distance + estimate grid cell c.relax-2.new.self.start ≡ c.relax-2.new.self.level + 1 = let e = here.entry in let l = here.level in omega arith in
+    due_right grid cell c.relax-2.new.self.start distance c.relax-2.new.self.level (omega arith) at_level c.args.at.0 c.args.aim.0 c.requires.at_column (c.requires.aim_column ∙ ap (λ start. column grid start) (sym here.same.start)) (slice_index_or places 3 c.index-neighbourhood-3.result)
     (ap (λ list. slice_index_or list 3 c.index-neighbourhood-3.result) (beside ∙ ap (λ w. neighbourhood w cell) wide))
 
-pub offer-requires-4-clause-due : goal.offer-requires-4-clause-due
-offer-requires-4-clause-due c =
+pub relax-requires-4-clause-due : goal.relax-requires-4-clause-due
+relax-requires-4-clause-due c =
     let grid = c.args.grid.now in
     let cell = c.args.cell in
     let places = c.neighbourhood.result in
@@ -81,16 +81,16 @@ offer-requires-4-clause-due c =
     let five = ap length beside in
     let first = c.args.self.now in
     let began = taking_first grid cell distance c.width.result places beside wide some first c.requires.search c.requires.level (ap (λ n. n + 1) c.entry-distance.ensures) in
-    let above = taking_more grid cell distance c.width.result places beside wide some first 0 first began c.index-neighbourhood-0.result c.offer.new.self (omega arith) c.in_ok-offer.ensures in
-    let left = taking_more grid cell distance c.width.result places beside wide some first 1 c.offer.new.self above c.index-neighbourhood-1.result c.offer-2.new.self (omega arith) c.in_ok-offer-2.ensures in
-    let here = taking_self grid cell distance c.width.result places beside wide some first 2 c.offer-2.new.self left (ap (λ list. slice_index_or list 2 None) beside) in
-    let right = taking_more grid cell distance c.width.result places beside wide some first 3 c.offer-2.new.self here c.index-neighbourhood-3.result c.offer-3.new.self (omega arith) c.in_ok-offer-3.ensures in
-    let at_level : distance + estimate grid cell c.offer-3.new.self.start ≡ c.offer-3.new.self.level + 1 = let e = right.entry in let l = right.level in omega arith in
-    due_below grid cell c.offer-3.new.self.start distance c.offer-3.new.self.level (omega arith) at_level c.args.at.1 c.args.aim.1 c.requires.at_row (c.requires.aim_row ∙ ap (λ start. row grid start) (sym right.same.start)) (slice_index_or places 4 c.index-neighbourhood-4.result)
+    let above = taking_more grid cell distance c.width.result places beside wide some first 0 first began c.index-neighbourhood-0.result c.relax.new.self (omega arith) c.in_ok-relax.ensures in
+    let left = taking_more grid cell distance c.width.result places beside wide some first 1 c.relax.new.self above c.index-neighbourhood-1.result c.relax-2.new.self (omega arith) c.in_ok-relax-2.ensures in
+    let here = taking_self grid cell distance c.width.result places beside wide some first 2 c.relax-2.new.self left (ap (λ list. slice_index_or list 2 None) beside) in
+    let right = taking_more grid cell distance c.width.result places beside wide some first 3 c.relax-2.new.self here c.index-neighbourhood-3.result c.relax-3.new.self (omega arith) c.in_ok-relax-3.ensures in
+    let at_level : distance + estimate grid cell c.relax-3.new.self.start ≡ c.relax-3.new.self.level + 1 = let e = right.entry in let l = right.level in omega arith in
+    due_below grid cell c.relax-3.new.self.start distance c.relax-3.new.self.level (omega arith) at_level c.args.at.1 c.args.aim.1 c.requires.at_row (c.requires.aim_row ∙ ap (λ start. row grid start) (sym right.same.start)) (slice_index_or places 4 c.index-neighbourhood-4.result)
     (ap (λ list. slice_index_or list 4 c.index-neighbourhood-4.result) (beside ∙ ap (λ w. neighbourhood w cell) wide))
 
-pub offer-requires-2-clause-count : goal.offer-requires-2-clause-count
-offer-requires-2-clause-count c =
+pub relax-requires-2-clause-count : goal.relax-requires-2-clause-count
+relax-requires-2-clause-count c =
     let grid = c.args.grid.now in
     let cell = c.args.cell in
     let places = c.neighbourhood.result in
@@ -101,11 +101,11 @@ offer-requires-2-clause-count c =
     let five = ap length beside in
     let first = c.args.self.now in
     let began = taking_first grid cell distance c.width.result places beside wide some first c.requires.search c.requires.level (ap (λ n. n + 1) c.entry-distance.ensures) in
-    let above = taking_more grid cell distance c.width.result places beside wide some first 0 first began c.index-neighbourhood-0.result c.offer.new.self (omega arith) c.in_ok-offer.ensures in
-    c.offer.new.self.table.ok.0 ∙ above.search.0.count
+    let above = taking_more grid cell distance c.width.result places beside wide some first 0 first began c.index-neighbourhood-0.result c.relax.new.self (omega arith) c.in_ok-relax.ensures in
+    c.relax.new.self.table.ok.0 ∙ above.search.0.count
 
-pub offer-requires-3-clause-count : goal.offer-requires-3-clause-count
-offer-requires-3-clause-count c =
+pub relax-requires-3-clause-count : goal.relax-requires-3-clause-count
+relax-requires-3-clause-count c =
     let grid = c.args.grid.now in
     let cell = c.args.cell in
     let places = c.neighbourhood.result in
@@ -116,13 +116,13 @@ offer-requires-3-clause-count c =
     let five = ap length beside in
     let first = c.args.self.now in
     let began = taking_first grid cell distance c.width.result places beside wide some first c.requires.search c.requires.level (ap (λ n. n + 1) c.entry-distance.ensures) in
-    let above = taking_more grid cell distance c.width.result places beside wide some first 0 first began c.index-neighbourhood-0.result c.offer.new.self (omega arith) c.in_ok-offer.ensures in
-    let left = taking_more grid cell distance c.width.result places beside wide some first 1 c.offer.new.self above c.index-neighbourhood-1.result c.offer-2.new.self (omega arith) c.in_ok-offer-2.ensures in
-    let here = taking_self grid cell distance c.width.result places beside wide some first 2 c.offer-2.new.self left (ap (λ list. slice_index_or list 2 None) beside) in
-    c.offer-2.new.self.table.ok.0 ∙ here.search.0.count
+    let above = taking_more grid cell distance c.width.result places beside wide some first 0 first began c.index-neighbourhood-0.result c.relax.new.self (omega arith) c.in_ok-relax.ensures in
+    let left = taking_more grid cell distance c.width.result places beside wide some first 1 c.relax.new.self above c.index-neighbourhood-1.result c.relax-2.new.self (omega arith) c.in_ok-relax-2.ensures in
+    let here = taking_self grid cell distance c.width.result places beside wide some first 2 c.relax-2.new.self left (ap (λ list. slice_index_or list 2 None) beside) in
+    c.relax-2.new.self.table.ok.0 ∙ here.search.0.count
 
-pub offer-requires-4-clause-count : goal.offer-requires-4-clause-count
-offer-requires-4-clause-count c =
+pub relax-requires-4-clause-count : goal.relax-requires-4-clause-count
+relax-requires-4-clause-count c =
     let grid = c.args.grid.now in
     let cell = c.args.cell in
     let places = c.neighbourhood.result in
@@ -133,11 +133,11 @@ offer-requires-4-clause-count c =
     let five = ap length beside in
     let first = c.args.self.now in
     let began = taking_first grid cell distance c.width.result places beside wide some first c.requires.search c.requires.level (ap (λ n. n + 1) c.entry-distance.ensures) in
-    let above = taking_more grid cell distance c.width.result places beside wide some first 0 first began c.index-neighbourhood-0.result c.offer.new.self (omega arith) c.in_ok-offer.ensures in
-    let left = taking_more grid cell distance c.width.result places beside wide some first 1 c.offer.new.self above c.index-neighbourhood-1.result c.offer-2.new.self (omega arith) c.in_ok-offer-2.ensures in
-    let here = taking_self grid cell distance c.width.result places beside wide some first 2 c.offer-2.new.self left (ap (λ list. slice_index_or list 2 None) beside) in
-    let right = taking_more grid cell distance c.width.result places beside wide some first 3 c.offer-2.new.self here c.index-neighbourhood-3.result c.offer-3.new.self (omega arith) c.in_ok-offer-3.ensures in
-    c.offer-3.new.self.table.ok.0 ∙ right.search.0.count
+    let above = taking_more grid cell distance c.width.result places beside wide some first 0 first began c.index-neighbourhood-0.result c.relax.new.self (omega arith) c.in_ok-relax.ensures in
+    let left = taking_more grid cell distance c.width.result places beside wide some first 1 c.relax.new.self above c.index-neighbourhood-1.result c.relax-2.new.self (omega arith) c.in_ok-relax-2.ensures in
+    let here = taking_self grid cell distance c.width.result places beside wide some first 2 c.relax-2.new.self left (ap (λ list. slice_index_or list 2 None) beside) in
+    let right = taking_more grid cell distance c.width.result places beside wide some first 3 c.relax-2.new.self here c.index-neighbourhood-3.result c.relax-3.new.self (omega arith) c.in_ok-relax-3.ensures in
+    c.relax-3.new.self.table.ok.0 ∙ right.search.0.count
 
 pub returns-clause-search : goal.returns-clause-search
 returns-clause-search c =
@@ -151,12 +151,12 @@ returns-clause-search c =
     let five = ap length beside in
     let first = c.args.self.now in
     let began = taking_first grid cell distance c.width.result places beside wide some first c.requires.search c.requires.level (ap (λ n. n + 1) c.entry-distance.ensures) in
-    let above = taking_more grid cell distance c.width.result places beside wide some first 0 first began c.index-neighbourhood-0.result c.offer.new.self (omega arith) c.in_ok-offer.ensures in
-    let left = taking_more grid cell distance c.width.result places beside wide some first 1 c.offer.new.self above c.index-neighbourhood-1.result c.offer-2.new.self (omega arith) c.in_ok-offer-2.ensures in
-    let here = taking_self grid cell distance c.width.result places beside wide some first 2 c.offer-2.new.self left (ap (λ list. slice_index_or list 2 None) beside) in
-    let right = taking_more grid cell distance c.width.result places beside wide some first 3 c.offer-2.new.self here c.index-neighbourhood-3.result c.offer-3.new.self (omega arith) c.in_ok-offer-3.ensures in
-    let below = taking_more grid cell distance c.width.result places beside wide some first 4 c.offer-3.new.self right c.index-neighbourhood-4.result c.offer-4.new.self (omega arith) c.in_ok-offer-4.ensures in
-    taking_end grid cell distance c.width.result places beside wide some first 5 c.offer-4.new.self below (omega arith)
+    let above = taking_more grid cell distance c.width.result places beside wide some first 0 first began c.index-neighbourhood-0.result c.relax.new.self (omega arith) c.in_ok-relax.ensures in
+    let left = taking_more grid cell distance c.width.result places beside wide some first 1 c.relax.new.self above c.index-neighbourhood-1.result c.relax-2.new.self (omega arith) c.in_ok-relax-2.ensures in
+    let here = taking_self grid cell distance c.width.result places beside wide some first 2 c.relax-2.new.self left (ap (λ list. slice_index_or list 2 None) beside) in
+    let right = taking_more grid cell distance c.width.result places beside wide some first 3 c.relax-2.new.self here c.index-neighbourhood-3.result c.relax-3.new.self (omega arith) c.in_ok-relax-3.ensures in
+    let below = taking_more grid cell distance c.width.result places beside wide some first 4 c.relax-3.new.self right c.index-neighbourhood-4.result c.relax-4.new.self (omega arith) c.in_ok-relax-4.ensures in
+    taking_end grid cell distance c.width.result places beside wide some first 5 c.relax-4.new.self below (omega arith)
 
 pub returns-clause-same : goal.returns-clause-same
 returns-clause-same c =
@@ -170,11 +170,11 @@ returns-clause-same c =
     let five = ap length beside in
     let first = c.args.self.now in
     let began = taking_first grid cell distance c.width.result places beside wide some first c.requires.search c.requires.level (ap (λ n. n + 1) c.entry-distance.ensures) in
-    let above = taking_more grid cell distance c.width.result places beside wide some first 0 first began c.index-neighbourhood-0.result c.offer.new.self (omega arith) c.in_ok-offer.ensures in
-    let left = taking_more grid cell distance c.width.result places beside wide some first 1 c.offer.new.self above c.index-neighbourhood-1.result c.offer-2.new.self (omega arith) c.in_ok-offer-2.ensures in
-    let here = taking_self grid cell distance c.width.result places beside wide some first 2 c.offer-2.new.self left (ap (λ list. slice_index_or list 2 None) beside) in
-    let right = taking_more grid cell distance c.width.result places beside wide some first 3 c.offer-2.new.self here c.index-neighbourhood-3.result c.offer-3.new.self (omega arith) c.in_ok-offer-3.ensures in
-    let below = taking_more grid cell distance c.width.result places beside wide some first 4 c.offer-3.new.self right c.index-neighbourhood-4.result c.offer-4.new.self (omega arith) c.in_ok-offer-4.ensures in
+    let above = taking_more grid cell distance c.width.result places beside wide some first 0 first began c.index-neighbourhood-0.result c.relax.new.self (omega arith) c.in_ok-relax.ensures in
+    let left = taking_more grid cell distance c.width.result places beside wide some first 1 c.relax.new.self above c.index-neighbourhood-1.result c.relax-2.new.self (omega arith) c.in_ok-relax-2.ensures in
+    let here = taking_self grid cell distance c.width.result places beside wide some first 2 c.relax-2.new.self left (ap (λ list. slice_index_or list 2 None) beside) in
+    let right = taking_more grid cell distance c.width.result places beside wide some first 3 c.relax-2.new.self here c.index-neighbourhood-3.result c.relax-3.new.self (omega arith) c.in_ok-relax-3.ensures in
+    let below = taking_more grid cell distance c.width.result places beside wide some first 4 c.relax-3.new.self right c.index-neighbourhood-4.result c.relax-4.new.self (omega arith) c.in_ok-relax-4.ensures in
     below.same
 
 pub returns-clause-effort : goal.returns-clause-effort
@@ -189,9 +189,9 @@ returns-clause-effort c =
     let five = ap length beside in
     let first = c.args.self.now in
     let began = taking_first grid cell distance c.width.result places beside wide some first c.requires.search c.requires.level (ap (λ n. n + 1) c.entry-distance.ensures) in
-    let above = taking_more grid cell distance c.width.result places beside wide some first 0 first began c.index-neighbourhood-0.result c.offer.new.self (omega arith) c.in_ok-offer.ensures in
-    let left = taking_more grid cell distance c.width.result places beside wide some first 1 c.offer.new.self above c.index-neighbourhood-1.result c.offer-2.new.self (omega arith) c.in_ok-offer-2.ensures in
-    let here = taking_self grid cell distance c.width.result places beside wide some first 2 c.offer-2.new.self left (ap (λ list. slice_index_or list 2 None) beside) in
-    let right = taking_more grid cell distance c.width.result places beside wide some first 3 c.offer-2.new.self here c.index-neighbourhood-3.result c.offer-3.new.self (omega arith) c.in_ok-offer-3.ensures in
-    let below = taking_more grid cell distance c.width.result places beside wide some first 4 c.offer-3.new.self right c.index-neighbourhood-4.result c.offer-4.new.self (omega arith) c.in_ok-offer-4.ensures in
+    let above = taking_more grid cell distance c.width.result places beside wide some first 0 first began c.index-neighbourhood-0.result c.relax.new.self (omega arith) c.in_ok-relax.ensures in
+    let left = taking_more grid cell distance c.width.result places beside wide some first 1 c.relax.new.self above c.index-neighbourhood-1.result c.relax-2.new.self (omega arith) c.in_ok-relax-2.ensures in
+    let here = taking_self grid cell distance c.width.result places beside wide some first 2 c.relax-2.new.self left (ap (λ list. slice_index_or list 2 None) beside) in
+    let right = taking_more grid cell distance c.width.result places beside wide some first 3 c.relax-2.new.self here c.index-neighbourhood-3.result c.relax-3.new.self (omega arith) c.in_ok-relax-3.ensures in
+    let below = taking_more grid cell distance c.width.result places beside wide some first 4 c.relax-3.new.self right c.index-neighbourhood-4.result c.relax-4.new.self (omega arith) c.in_ok-relax-4.ensures in
     below.effort

@@ -7,7 +7,7 @@ use Rattle.mapf_model.specs.Grid.{GridMap, IsFree, column, row}
 use Rattle.mapf_model.specs.Neighbours.{neighbourhood}
 use Rattle.mapf_model.proofs.StepLemmas.{number, down, along, along_before, free_within}
 use Rattle.mapf_distance.specs.Marks.{entry_of}
-use Rattle.mapf_distance.specs.Search.{IsSearchAt, IsSearchOn, IsSameSearch, IsOffered, effort, estimate, gap, value_of}
+use Rattle.mapf_distance.specs.Search.{IsSearchAt, IsSearchOn, IsSameSearch, IsRelaxed, effort, estimate, gap, value_of}
 use Rattle.mapf_distance.specs.declared.search.Search.{Search}
 use Rattle.mapf_distance.proofs.SearchLemmas.{AreTaken, reached_at, taken_more, taken_all, all_taken, known_free, place_step}
 
@@ -45,11 +45,11 @@ module _ (grid : GridMap) (cell distance width : ℕ) (places : List (Option ℕ
       same = t.same;
     }
 
-    -- the cell at this place was offered the distance
-    pub taking_more : (default : Option ℕ) (new : Search) → count < length places → IsOffered grid (slice_index_or places count default) distance old new → IsTaking grid cell distance places (count + 1) first new
-    taking_more default new within offered = more (slice_index_or places count default) (get_or_default places count None default within) offered
+    -- the step to the cell at this place was relaxed
+    pub taking_more : (default : Option ℕ) (new : Search) → count < length places → IsRelaxed grid (slice_index_or places count default) distance old new → IsTaking grid cell distance places (count + 1) first new
+    taking_more default new within relaxed = more (slice_index_or places count default) (get_or_default places count None default within) relaxed
       where
-        more : (to : Option ℕ) → slice_index_or places count None ≡ to → IsOffered grid to distance old new → IsTaking grid cell distance places (count + 1) first new
+        more : (to : Option ℕ) → slice_index_or places count None ≡ to → IsRelaxed grid to distance old new → IsTaking grid cell distance places (count + 1) first new
         more None is same = rw same (skip (λ next next_is. absurd (none-some next (sym is ∙ next_is))))
         more (Some next) is (inr (refused, same)) = rw same (skip (λ n n_is n_free. ⊎_elim
             (λ (less : distance < entry_of old.table.items n). absurd (refused (subst (λ x. IsFree grid x × (distance < entry_of old.table.items x)) (same_Some n next (sym n_is ∙ is)) (n_free, less))))
