@@ -11,6 +11,7 @@ pub mod ItemLemmas
 pub mod RangeLemmas
 pub mod BlockLemmas
 pub mod FinderLemmas
+pub mod ReplannedLemmas
 pub mod GeneratedChildLemmas
 pub mod OpenLemmas
 pub mod StateLemmas

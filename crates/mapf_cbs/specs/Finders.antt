@@ -1,30 +1,38 @@
--- At which ancestors the paths of a node were found.
+-- At which of a node and its ancestors each agent was replanned last.
 use Rattle.std.specs.Prelude.{◌≡◌, ◌≢◌, ℕ, ◌<◌, List, Option, None, Some, length, slice_get}
 use Rattle.std.specs.Option.{unwrap_or}
 use Rattle.mapf_cbs.specs.declared.node.Node.{Node}
+use Rattle.mapf_cbs.specs.declared.finders.Finders.{Finders}
+use Rattle.mapf_cbs.specs.Nodes.{AreViews}
 use Rattle.mapf_cbs.specs.Search.{View}
 
--- the node with this number, the root if there is none
+-- the number of the node, that of the root, 0, if there is none
 abbrev pub number_of : Option ℕ → ℕ
 number_of finder = unwrap_or finder 0
 
--- these are numbers of nodes
+-- each of these is the number of a node, None being that of the root
 abbrev pub AreInside : List Node → List (Option ℕ) → Type 0
-AreInside nodes finders = (i : ℕ) (finder : Option ℕ) → slice_get finders i ≡ Some finder → number_of finder < length nodes
+AreInside nodes nearest = (i : ℕ) (finder : Option ℕ) → slice_get nearest i ≡ Some finder → number_of finder < length nodes
 
--- the agent's path is the same at both nodes
+-- the agent has the same path and the same constraints at both nodes
 abbrev pub HaveSame : ℕ → View → View → Type 0
-HaveSame i view other = slice_get view.paths i ≡ slice_get other.paths i
+HaveSame i view other = (slice_get view.paths i ≡ slice_get other.paths i) × (view.context.bars i ≡ other.context.bars i)
 
--- each agent's path is that of its node
-abbrev pub AreFinders : List View → View → List (Option ℕ) → Type 0
-AreFinders views view finders = (i : ℕ) (finder : Option ℕ) → slice_get finders i ≡ Some finder → (other : View) × (slice_get views (number_of finder) ≡ Some other) × HaveSame i view other
+-- at the node `finder` the agent has the path and the constraints that it has at the node `k`
+pub record IsFinder (nodes : List Node) (k agent finder : ℕ) : Type 0 where
+  pub inside : finder < length nodes
+  pub same : (views : List View) (view : View) → AreViews nodes views → slice_get views k ≡ Some view →
+      (other : View) × (slice_get views finder ≡ Some other) × HaveSame agent view other
 
--- no agent has a node
+-- each agent has a finder: a node at which it has the path and the constraints that it has at the finders' node
+abbrev pub AreFinders : List Node → Finders → Type 0
+AreFinders nodes finders = (i : ℕ) (finder : Option ℕ) → slice_get finders.nearest.items i ≡ Some finder → IsFinder nodes finders.node i (number_of finder)
+
+-- the entry of each agent is None
 abbrev pub AreNone : List (Option ℕ) → Type 0
-AreNone finders = (i : ℕ) (finder : Option ℕ) → slice_get finders i ≡ Some finder → finder ≡ None
+AreNone nearest = (i : ℕ) (finder : Option ℕ) → slice_get nearest i ≡ Some finder → finder ≡ None
 
--- the agent has this node if it had none, and all else is as it was
+-- if the agent had no node it has this one, else it keeps its own, and the other agents' entries are as they were
 pub record IsNoted (old new : List (Option ℕ)) (agent node : ℕ) : Type 0 where
   pub others : (i : ℕ) → i ≢ agent → slice_get new i ≡ slice_get old i
   pub first : slice_get old agent ≡ Some None → slice_get new agent ≡ Some (Some node)

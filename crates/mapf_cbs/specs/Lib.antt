@@ -12,3 +12,4 @@ pub mod Answer
 pub mod TreeNodes
 pub mod Whole
 pub mod Endings
+pub mod Replanned

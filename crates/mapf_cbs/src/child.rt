@@ -6,11 +6,13 @@ ghost use Rattle.mapf_model.specs.declared.problem.Agent.{Agent};
 ghost use Rattle.mapf_spacetime.specs.Answer.{IsPathAnswer};
 ghost use Rattle.mapf_spacetime.specs.Task.{task_of};
 ghost use Rattle.mapf_cbs.specs.CheapestPath.{IsTableBar};
+ghost use Rattle.mapf_cbs.specs.Finders.{AreFinders};
 ghost use Rattle.mapf_distance.specs.Tables.{AreMade};
 ghost use Rattle.mapf_cbs.specs.Search.{View, IsLive};
 ghost use Rattle.mapf_cbs.specs.Nodes.{AreNodesFor, HaveTableBars, AreViews, HoldsOfNode};
 ghost use Rattle.mapf_cbs.specs.GeneratedChild.{IsGeneratedChild, EndsAt, IsTotal};
 
+use crate::finders::Finders;
 use crate::node::Node;
 use crate::search_memory::SearchMemory;
 use crate::walks::{gather_bars, path_at};
@@ -27,66 +29,76 @@ pub struct GeneratedChild {
     pub total: Option<u64>,
 }
 
-/// Returns the child of a node under one more constraint.
+/// Returns the child of a node, whose finders these are, under one more constraint.
 pub fn child<B: BarTable>(
     alloc: Global,
     memory: &mut SearchMemory<B>,
     problem: &Problem,
     tables: &mut LazyTables,
     nodes: &[Node],
-    k: u32,
+    finders: &Finders,
     total: u64,
     constraint: Constraint,
 ) -> Result<GeneratedChild, OutOfMemory>
     requires tables { AreMade problem.now tables.old }
     requires nodes { AreNodesFor constraint.agent nodes.now }
     requires bars { HaveTableBars nodes.now }
-    requires inside { k < length nodes.now }
+    requires finders { AreFinders nodes.now finders.now }
+    requires found { constraint.agent < length finders.now.nearest.items }
     requires known { constraint.agent < length problem.now.agents }
     requires bar { IsTableBar constraint.bar }
     requires small { total + 2 ^ 32 < 2 ^ 64 }
-    requires live { (views : List View) × (view : View) × AreViews nodes.now views × (slice_get views k ≡ Some view)
+    requires live { (views : List View) × (view : View) × AreViews nodes.now views
+        × (slice_get views finders.now.node ≡ Some view)
         × IsLive problem.now view × (total ≡ sum view.costs) }
     ensures generated { IfOk result (λ generated.
-        HoldsOfNode nodes.now k (λ view. IsLive problem.now view → total ≡ sum view.costs →
+        HoldsOfNode nodes.now finders.now.node (λ view. IsLive problem.now view → total ≡ sum view.costs →
         IsGeneratedChild problem.now view constraint generated.found generated.total)) }
     ensures tables { OnOk result (AreMade problem.now tables.new) }
 {
     let agent = constraint.agent;
     let who = problem.agents()[agent as usize];
-    let old = cost_of(path_at(nodes, k, agent), who.goal);
-    let found = search_under(alloc, memory, problem, tables, nodes, k, constraint, old)?;
+    let old = cost_of(path_at(nodes, finders.of(agent), agent), who.goal);
+    let found = search_under(
+        alloc, memory, problem, tables, nodes, finders, constraint, old,
+    )?;
     let total = new_total(&found, who.goal, total - u64::from(old));
     Ok(GeneratedChild { found, total })
 }
 
-// Searches for a path of the constraint's agent under its constraints at the node and this one, which is expected to cost
-// about as much as its path at the node.
+// Searches for a path of the constraint's agent under its constraints at the node and this one. The path is expected to
+// cost about as much as the agent's path at the node.
 fn search_under<B: BarTable>(
     alloc: Global,
     memory: &mut SearchMemory<B>,
     problem: &Problem,
     tables: &mut LazyTables,
     nodes: &[Node],
-    k: u32,
+    finders: &Finders,
     constraint: Constraint,
     expected: u32,
 ) -> Result<Found<StateLabels>, OutOfMemory>
     requires tables { AreMade problem.now tables.old }
     requires nodes { AreNodesFor constraint.agent nodes.now }
     requires bars { HaveTableBars nodes.now }
-    requires inside { k < length nodes.now }
+    requires finders { AreFinders nodes.now finders.now }
+    requires found { constraint.agent < length finders.now.nearest.items }
     requires known { constraint.agent < length problem.now.agents }
     requires bar { IsTableBar constraint.bar }
     ensures found { IfOk result (λ found.
         (who : Agent) → slice_get problem.now.agents constraint.agent ≡ Some who →
-        HoldsOfNode nodes.now k (λ view. (bars : List Bar)
+        HoldsOfNode nodes.now finders.now.node (λ view. (bars : List Bar)
         × AreSameBars bars (constraint.bar ∷ view.context.bars constraint.agent)
         × IsPathAnswer (task_of problem.now.grid who bars) found)) }
     ensures tables { OnOk result (AreMade problem.now tables.new) }
 {
     let who = problem.agents()[constraint.agent as usize];
-    gather_bars(&mut memory.bars, nodes, k, constraint.agent)?;
+    gather_bars(
+        &mut memory.bars,
+        nodes,
+        finders.of(constraint.agent),
+        constraint.agent,
+    )?;
     memory.bars.add(constraint.bar)?;
     tables.make(alloc, problem, constraint.agent)?;
     search_expecting(

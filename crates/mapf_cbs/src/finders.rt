@@ -1,29 +1,46 @@
-ghost use Rattle.std.specs.Prelude.{◌≡◌, ◌<◌, List, Some, length, slice_get, IfOk};
-ghost use Rattle.mapf_cbs.specs.Nodes.{AreNodesForAll, AreViews};
-ghost use Rattle.mapf_cbs.specs.Finders.{AreFinders, AreInside, AreNone, IsNoted};
-ghost use Rattle.mapf_cbs.specs.Search.{View};
+ghost use Rattle.std.specs.Prelude.{◌≡◌, ◌<◌, List, length, IfOk};
+ghost use Rattle.mapf_cbs.specs.Nodes.{AreNodesForAll};
+ghost use Rattle.mapf_cbs.specs.Finders.{AreFinders, AreNone, IsFinder, IsNoted};
 
 use crate::node::Node;
 use mapf_model::OutOfMemory;
 use std::alloc::Global;
 
-/// Returns for each agent its nearest ancestor at which it was replanned, which holds its path. None means the root.
+/// For each agent its finder at a node: the nearest one of the node and its ancestors at which the agent was replanned,
+/// or the root if only the root found its path. At its finder the agent has the path and the constraints that it has at
+/// the node.
+#[derive(Debug, Drop)]
+pub struct Finders {
+    pub node: u32,
+    /// For each agent its finder. None means the root.
+    pub nearest: Vec<Option<u32>>,
+}
+
+impl Finders {
+    /// Returns the number of the agent's finder.
+    pub fn of(&self, agent: u32) -> u32
+        requires known { agent < length self.now.nearest.items }
+        ensures { (nodes : List Node) → AreFinders nodes self.now → IsFinder nodes self.now.node agent result }
+    {
+        self.nearest[agent as usize].unwrap_or(0)
+    }
+}
+
+/// Returns the finders at the node `k` of the agents below this number.
 pub fn finders_at(
     alloc: Global,
     nodes: &[Node],
     k: u32,
     agents: u32,
-) -> Result<Vec<Option<u32>>, OutOfMemory>
+) -> Result<Finders, OutOfMemory>
     requires nodes { AreNodesForAll agents nodes.now }
     requires some { 0 < agents }
     requires inside { k < length nodes.now }
-    ensures count { IfOk result (λ finders. length finders.items ≡ agents) }
-    ensures inside { IfOk result (λ finders. AreInside nodes.now finders.items) }
-    ensures found { IfOk result (λ finders.
-        (views : List View) (view : View) → AreViews nodes.now views → slice_get views k ≡ Some view →
-        AreFinders views view finders.items) }
+    ensures node { IfOk result (λ finders. finders.node ≡ k) }
+    ensures count { IfOk result (λ finders. length finders.nearest.items ≡ agents) }
+    ensures found { IfOk result (AreFinders nodes.now) }
 {
-    let mut finders = none_of(alloc, agents)?;
+    let mut nearest = none_of(alloc, agents)?;
     let mut at = k;
     while let Node::Child {
         parent,
@@ -31,26 +48,26 @@ pub fn finders_at(
         ..
     } = &nodes[at as usize]
     {
-        note(&mut finders, constraint.agent, at);
+        note(&mut nearest, constraint.agent, at);
         at = *parent;
     }
-    Ok(finders)
+    Ok(Finders { node: k, nearest })
 }
 
 // Returns a list with None for each agent.
 fn none_of(alloc: Global, agents: u32) -> Result<Vec<Option<u32>>, OutOfMemory>
-    ensures count { IfOk result (λ finders. length finders.items ≡ agents) }
-    ensures none { IfOk result (λ finders. AreNone finders.items) }
+    ensures count { IfOk result (λ nearest. length nearest.items ≡ agents) }
+    ensures none { IfOk result (λ nearest. AreNone nearest.items) }
 {
     Ok(vec![in alloc; None; agents as usize]?)
 }
 
-// Enters the node for its agent, unless a nearer one is entered.
-fn note(finders: &mut Vec<Option<u32>>, agent: u32, node: u32)
-    ensures count { length finders.new.items ≡ length finders.old.items }
-    ensures noted { IsNoted finders.old.items finders.new.items agent node }
+// Enters the node for the agent, unless a node is entered for it already, which is nearer.
+fn note(nearest: &mut Vec<Option<u32>>, agent: u32, node: u32)
+    ensures count { length nearest.new.items ≡ length nearest.old.items }
+    ensures noted { IsNoted nearest.old.items nearest.new.items agent node }
 {
-    if matches!(finders.get(agent as usize), Some(None)) {
-        finders[agent as usize] = Some(node);
+    if matches!(nearest.get(agent as usize), Some(None)) {
+        nearest[agent as usize] = Some(node);
     }
 }

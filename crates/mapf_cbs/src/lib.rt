@@ -11,6 +11,7 @@ mod finders;
 pub mod laws;
 mod node;
 mod outcome;
+mod replanned;
 mod search_memory;
 mod search_tree;
 mod solver;

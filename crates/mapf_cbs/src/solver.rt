@@ -1,7 +1,8 @@
-ghost use Rattle.std.specs.Prelude.{◌≡◌, ◌≢◌, ◌+◌, ◌<◌, ◌≤◌, IfOk, IfSome, IfNone, OnOk};
+ghost use Rattle.std.specs.Prelude.{◌≡◌, ◌≢◌, ◌+◌, ◌<◌, ◌≤◌, length, IfOk, IfSome, IfNone, OnOk};
 ghost use Rattle.mapf_model.specs.Earned.{tick_of};
 ghost use Rattle.mapf_model.specs.Limits.{most_splits, split_ticks};
 ghost use Rattle.mapf_cbs.specs.Answer.{IsOutcome, IsSearchAnswer};
+ghost use Rattle.mapf_cbs.specs.Finders.{AreFinders};
 ghost use Rattle.mapf_cbs.specs.Goals.{HaveDifferentGoals};
 ghost use Rattle.mapf_cbs.specs.Nodes.{IsFirstAt};
 ghost use Rattle.mapf_distance.specs.Tables.{AreMade};
@@ -12,6 +13,7 @@ use crate::answer::Answer;
 use crate::blocks::labels_of_all;
 use crate::child::child;
 use crate::endings;
+use crate::finders::{Finders, finders_at};
 use crate::outcome::Outcome;
 use crate::search_memory::SearchMemory;
 use crate::search_tree::{SearchTree, take_least};
@@ -93,9 +95,10 @@ fn search_from<B: BarTable>(
             let lists = labels_of_all(alloc, search.nodes)?;
             return endings::impossible(alloc, lists, &search.fates);
         };
-        let first = conflict_at(alloc, &mut marks, &search.nodes, k, agents)?;
+        let finders = finders_at(alloc, &search.nodes, k, agents)?;
+        let first = conflict_at(alloc, &mut marks, &search.nodes, &search.fates, &finders)?;
         let Some(conflict) = first else {
-            let plan = plan_at(alloc, &search.nodes, k, agents)?;
+            let plan = plan_at(alloc, &search.nodes, &finders)?;
             let lists = labels_of_all(alloc, search.nodes)?;
             return endings::found(alloc, plan, lists, &search.fates);
         };
@@ -109,7 +112,7 @@ fn search_from<B: BarTable>(
             problem,
             &mut tables,
             &mut search,
-            k,
+            &finders,
             total,
             &conflict,
         )?;
@@ -138,15 +141,17 @@ fn split<B: BarTable>(
     problem: &Problem,
     tables: &mut LazyTables,
     search: &mut SearchTree,
-    k: u32,
+    finders: &Finders,
     total: u64,
     conflict: &Conflict,
 ) -> Result<(), OutOfMemory>
     requires tables { AreMade problem.now tables.old }
     requires popped { IsPopped problem.now
-        search.old.nodes.items search.old.fates.items search.old.waiting.keys search.old.splits total k }
+        search.old.nodes.items search.old.fates.items search.old.waiting.keys search.old.splits total finders.now.node }
+    requires finders { AreFinders search.old.nodes.items finders.now }
+    requires count { length finders.now.nearest.items ≡ length problem.now.agents }
     requires goals { HaveDifferentGoals problem.now }
-    requires meet { IsFirstAt problem.now search.old.nodes.items k conflict.now }
+    requires meet { IsFirstAt problem.now search.old.nodes.items finders.now.node conflict.now }
     requires early { tick_of conflict.now < split_ticks }
     requires few { search.old.splits < most_splits }
     ensures state { OnOk result (IsState problem.now
@@ -160,7 +165,7 @@ fn split<B: BarTable>(
         problem,
         tables,
         &search.nodes,
-        k,
+        finders,
         total,
         conflict.left(),
     )?;
@@ -170,9 +175,9 @@ fn split<B: BarTable>(
         problem,
         tables,
         &search.nodes,
-        k,
+        finders,
         total,
         conflict.right(),
     )?;
-    search.grow(k, conflict, left, right)
+    search.grow(finders.node, conflict, left, right)
 }

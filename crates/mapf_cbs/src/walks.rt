@@ -3,18 +3,23 @@ ghost use Rattle.mapf_model.specs.Earned.{HaveSomeConflict};
 ghost use Rattle.mapf_model.specs.Limits.{most_agents, most_path_cells};
 ghost use Rattle.mapf_model.specs.Laws.{AreSameBars};
 ghost use Rattle.mapf_conflicts.specs.Pairs.{paths_behind};
+ghost use Rattle.mapf_cbs.specs.Finders.{AreFinders};
 ghost use Rattle.mapf_cbs.specs.FirstConflicts.{IsFirstConflict};
-ghost use Rattle.mapf_cbs.specs.Nodes.{AreNodesFor, HavePathsAt, HaveTableBars, HoldsOfAgentsAt, HoldsOfNode};
+ghost use Rattle.mapf_cbs.specs.Nodes.{AreNodesFor, AreNodesForAll, HavePathsAt, HaveTableBars};
+ghost use Rattle.mapf_cbs.specs.Nodes.{HoldsOfAgentsAt, HoldsOfNode};
+ghost use Rattle.mapf_cbs.specs.Replanned.{AreSearchedAt};
 
-use crate::finders::finders_at;
-use crate::node::Node;
-use mapf_conflicts::{CellMarks, first_conflict_in};
+use crate::finders::Finders;
+use crate::node::{Fate, Node};
+use crate::replanned::{Replanned, replanned_at};
+use mapf_conflicts::{CellMarks, first_conflict_after_replanning};
 use mapf_constraints::BarTable;
 use mapf_model::{Conflict, OutOfMemory, Path, Plan};
 use mapf_spacetime::Found;
 use std::alloc::Global;
 
-/// Returns the agent's path at a node: that of the node itself or of its nearest ancestor that holds one.
+/// Returns the agent's path at a node: that of the nearest one of the node and its ancestors that holds a path of this
+/// agent.
 pub fn path_at(nodes: &[Node], k: u32, agent: u32) -> &Path
     requires nodes { AreNodesFor agent nodes.now }
     requires inside { k < length nodes.now }
@@ -41,7 +46,7 @@ pub fn path_at(nodes: &[Node], k: u32, agent: u32) -> &Path
     }
 }
 
-/// Makes the table hold the agent's constraints at a node: those along the path from the root.
+/// Makes the table hold the agent's constraints at a node: those of the nodes on the way from the root to it.
 pub fn gather_bars<B: BarTable>(
     table: &mut B,
     nodes: &[Node],
@@ -70,59 +75,99 @@ pub fn gather_bars<B: BarTable>(
     Ok(())
 }
 
-/// Returns the first conflict of the paths of a node at which each agent has one.
+/// Returns the first conflict of the paths of the finders' node, None if there is none. Each agent must have a path
+/// there.
 pub fn conflict_at(
     alloc: Global,
     marks: &mut CellMarks,
     nodes: &[Node],
-    k: u32,
-    agents: u32,
+    fates: &[Fate],
+    finders: &Finders,
 ) -> Result<Option<Conflict>, OutOfMemory>
-    requires { HavePathsAt nodes.now k agents }
+    requires paths { HavePathsAt nodes.now finders.now.node (length finders.now.nearest.items) }
+    requires finders { AreFinders nodes.now finders.now }
+    requires searched { AreSearchedAt nodes.now fates.now finders.now.node (length finders.now.nearest.items) }
     ensures some { IfOk result (λ found. IfSome found (λ conflict.
-        HoldsOfAgentsAt nodes.now k agents (λ view. IsFirstConflict view.paths conflict))) }
+        HoldsOfAgentsAt nodes.now finders.now.node (length finders.now.nearest.items) (λ view.
+        IsFirstConflict view.paths conflict))) }
     ensures none { IfOk result (λ found. IfNone found
-        (HoldsOfAgentsAt nodes.now k agents (λ view. HaveSomeConflict view.paths → ⊥))) }
+        (HoldsOfAgentsAt nodes.now finders.now.node (length finders.now.nearest.items) (λ view.
+        HaveSomeConflict view.paths → ⊥))) }
     ensures short { OnOk result
-        (HoldsOfAgentsAt nodes.now k agents (λ view. All (λ path. length path ≤ most_path_cells) view.paths)) }
+        (HoldsOfAgentsAt nodes.now finders.now.node (length finders.now.nearest.items) (λ view.
+        All (λ path. length path ≤ most_path_cells) view.paths)) }
 {
-    let paths = paths_at(alloc, nodes, k, agents)?;
-    Ok(first_conflict_in(marks, &paths))
+    let paths = paths_at(alloc, nodes, finders)?;
+    let Replanned { agent, free } = replanned_at(nodes, fates, finders.node);
+    Ok(first_conflict_after_replanning(marks, &paths, agent, free))
 }
 
-/// Returns the plan of the paths of a node at which each agent has one.
-pub fn plan_at(alloc: Global, nodes: &[Node], k: u32, agents: u32) -> Result<Plan, OutOfMemory>
-    requires { HavePathsAt nodes.now k agents }
-    ensures paths { IfOk result (λ plan. HoldsOfAgentsAt nodes.now k agents (λ view. plan ≡ view.paths)) }
+/// Returns the paths of the finders' node as a plan. Each agent must have a path there.
+pub fn plan_at(alloc: Global, nodes: &[Node], finders: &Finders) -> Result<Plan, OutOfMemory>
+    requires paths { HavePathsAt nodes.now finders.now.node (length finders.now.nearest.items) }
+    requires finders { AreFinders nodes.now finders.now }
+    ensures paths { IfOk result (λ plan.
+        HoldsOfAgentsAt nodes.now finders.now.node (length finders.now.nearest.items) (λ view. plan ≡ view.paths)) }
     ensures short { IfOk result (λ plan. All (λ path. length path ≤ most_path_cells) plan) }
 {
-    let paths = paths_at(alloc, nodes, k, agents)?;
+    let paths = paths_at(alloc, nodes, finders)?;
     plan_of(alloc, &paths)
 }
 
-// Returns the path of each agent at the node, from the node at which it was found.
+// Returns each agent's path at the finders' node, taken from the agent's finder.
 fn paths_at<'a>(
     alloc: Global,
     nodes: &'a [Node],
-    k: u32,
-    agents: u32,
+    finders: &Finders,
 ) -> Result<Vec<&'a Path>, OutOfMemory>
-    requires { HavePathsAt nodes.now k agents }
-    ensures count { IfOk result (λ paths. length paths.items ≡ agents) }
+    requires paths { HavePathsAt nodes.now finders.now.node (length finders.now.nearest.items) }
+    requires finders { AreFinders nodes.now finders.now }
+    ensures count { IfOk result (λ paths. length paths.items ≡ length finders.now.nearest.items) }
     ensures paths { IfOk result (λ paths.
-        HoldsOfAgentsAt nodes.now k agents (λ view. paths_behind paths.items ≡ view.paths)) }
+        HoldsOfAgentsAt nodes.now finders.now.node (length finders.now.nearest.items) (λ view.
+        paths_behind paths.items ≡ view.paths)) }
     ensures short { IfOk result (λ paths. All (λ path. length path ≤ most_path_cells) (paths_behind paths.items)) }
 {
-    let finders = finders_at(alloc, nodes, k, agents)?;
-    let mut paths = Vec::with_capacity(alloc, agents as usize)?;
-    for agent in 0..agents {
-        let finder = finders[agent as usize].unwrap_or(0);
-        let path = path_at(nodes, finder, agent);
+    let root = root_paths(nodes, finders.nearest.len() as u32);
+    let mut paths = Vec::with_capacity(alloc, finders.nearest.len())?;
+    for agent in 0..finders.nearest.len() as u32 {
+        let path = path_by(nodes, root, finders, agent);
         // Calling `cells` lets the prover use its contract, which bounds their number.
         let _cells = path.cells();
         paths.push(path)?;
     }
     Ok(paths)
+}
+
+// Returns the paths of the root.
+fn root_paths(nodes: &[Node], agents: u32) -> &[Path]
+    requires nodes { AreNodesForAll agents nodes.now }
+    requires some { 1 ≤ agents }
+    requires inside { 0 < length nodes.now }
+    ensures count { agents ≤ length result.now }
+    ensures paths { HoldsOfNode nodes.now 0 (λ view. view.paths ≡ result.now) }
+{
+    match &nodes[0] {
+        Node::Root { paths } => paths,
+        Node::Child { .. } => unreachable!(),
+    }
+}
+
+// Returns the agent's path at the finders' node. Most agents still have their path from the root, for which no other
+// node is looked at.
+#[inline(always)]
+fn path_by<'a>(nodes: &'a [Node], root: &'a [Path], finders: &Finders, agent: u32) -> &'a Path
+    requires nodes { AreNodesFor agent nodes.now }
+    requires finders { AreFinders nodes.now finders.now }
+    requires known { agent < length finders.now.nearest.items }
+    requires count { agent < length root.now }
+    requires root { HoldsOfNode nodes.now 0 (λ view. view.paths ≡ root.now) }
+    ensures { HoldsOfNode nodes.now finders.now.node (λ view. slice_get view.paths agent ≡ Some result.now) }
+{
+    match finders.nearest[agent as usize] {
+        Some(finder) => path_at(nodes, finder, agent),
+        None => &root[agent as usize],
+    }
 }
 
 // Returns a plan of copies of the paths.

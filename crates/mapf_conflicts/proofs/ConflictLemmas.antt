@@ -8,7 +8,7 @@ use Rattle.mapf_model.specs.Earned.{tick_of, HasConflict}
 use Rattle.mapf_model.specs.Pairs.{IsFirstPair, HoldsOfNoPair}
 use Rattle.mapf_model.specs.Path.{at}
 use Rattle.mapf_model.specs.Plan.{ConflictAt}
-use Rattle.mapf_conflicts.specs.Pairs.{cells_at, ShareCell, ExchangeCells, IsConflictOf, IsFirstOf, IsFirstOfItsTick, IsOrdered, AreLess, ComesBefore}
+use Rattle.mapf_conflicts.specs.Pairs.{cells_at, AreOthersApart, AreOthersFreeBefore, ShareCell, ExchangeCells, IsConflictOf, IsFirstOf, IsFirstOfItsTick, IsOrdered, AreLess, ComesBefore}
 
 path_of : List (List ℕ) → ℕ → List ℕ
 path_of paths i = slice_index_or paths i []
@@ -125,3 +125,19 @@ module _ (paths : List (List ℕ)) (now : ℕ)
       (λ (exchanges : (at p now ≡ at q (now + 1)) × (at p (now + 1) ≡ at q now)).
       exchange i j before here_j (cell_j ∙ sym exchanges.1 ∙ sym to_i, to_j ∙ sym exchanges.0 ∙ sym cell_i))
       conflict
+
+-- before the tick only the agent's path conflicts with others, so the other agents' cells are apart
+pub others_apart : (paths : List (List ℕ)) (agent end now : ℕ) → AreOthersFreeBefore paths agent end → now < end → AreOthersApart (cells_at paths now) (cells_at paths (now + 1)) agent
+others_apart paths agent end now free early i j order within i_other j_other meet =
+    let here = length-map paths (λ path. at path now) in
+    let next = length-map paths (λ path. at path (now + 1)) in
+    let i_in : i < length (cells_at paths now) = omega (arith, order, within) in
+    let i_next : i < length (cells_at paths (now + 1)) = omega (arith, i_in, here, next) in
+    let j_next : j < length (cells_at paths (now + 1)) = omega (arith, within, here, next) in
+    free i j now (path_of paths i) (path_of paths j) early i_other j_other (λ e. omega (arith, order, e)) (has_path paths i now i_in) (has_path paths j now within) (⊎_elim
+    (λ (share : ShareCell (cells_at paths now) i j). inl (sym (cell_of paths i now i_in) ∙ share ∙ cell_of paths j now within))
+    (λ (exchange : ExchangeCells (cells_at paths now) (cells_at paths (now + 1)) i j). inr (
+      sym (cell_of paths i now i_in) ∙ sym exchange.1 ∙ cell_of paths j (now + 1) j_next,
+      sym (cell_of paths i (now + 1) i_next) ∙ sym exchange.0 ∙ cell_of paths j now within,
+    ))
+    meet)

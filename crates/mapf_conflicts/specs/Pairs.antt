@@ -1,11 +1,12 @@
 -- Conflicts of agents, by the lists of their cells at one tick and at the next.
-use Rattle.std.specs.Prelude.{◌≡◌, ◌≢◌, ◌⊎◌, ℕ, ◌<◌, List, length, map, slice_index}
+use Rattle.std.specs.Prelude.{◌≡◌, ◌≢◌, ◌⊎◌, ℕ, ◌<◌, List, Some, length, map, slice_get, slice_index}
 use Rattle.std.specs.Borrow.{Bor}
 use Rattle.mapf_model.specs.declared.conflict.Conflict.{Conflict}
 use Rattle.mapf_model.specs.declared.conflict.Conflict.TheVariants.{Vertex, Swap}
 use Rattle.mapf_model.specs.Earned.{tick_of, HasConflict}
 use Rattle.mapf_model.specs.Pairs.{IsFirstPair, HoldsOfNoPair}
 use Rattle.mapf_model.specs.Path.{at}
+use Rattle.mapf_model.specs.Plan.{ConflictAt}
 
 -- the agents' cells at the tick
 abbrev pub cells_at : List (List ℕ) → ℕ → List ℕ
@@ -35,6 +36,10 @@ HoldsOfSomePair Fact count = (i : ℕ) × (j : ℕ) × (i < j) × (j < count) ×
 abbrev pub ShareOrExchangeCells : List ℕ → List ℕ → ℕ → ℕ → Type 0
 ShareOrExchangeCells here next i j = ShareCell here i j ⊎ ExchangeCells here next i j
 
+-- no two agents other than this one share a cell or exchange their cells
+abbrev pub AreOthersApart : List ℕ → List ℕ → ℕ → Type 0
+AreOthersApart here next agent = (i j : ℕ) → i < j → j < length here → i ≢ agent → j ≢ agent → ShareOrExchangeCells here next i j → ⊥
+
 -- the conflict is one of agents that are in these cells at the tick, and in those at the next
 abbrev pub IsConflictOf : List ℕ → List ℕ → ℕ → Conflict → Type 0
 IsConflictOf here next now (Vertex i j cell tick) = (i < j) × (j < length here) × (tick ≡ now) × (slice_index here i ≡ cell) × (slice_index here j ≡ cell)
@@ -46,6 +51,11 @@ IsConflictOf here next now (Swap i j from to tick) = (i < j) × (j < length here
 abbrev pub IsFirstOf : List ℕ → List ℕ → Conflict → Type 0
 IsFirstOf here next (Vertex i j cell tick) = IsFirstPair (ShareCell here) (length here) (i, j)
 IsFirstOf here next (Swap i j from to tick) = HoldsOfNoPair (ShareCell here) (length here) × IsFirstPair (ExchangeCells here next) (length here) (i, j)
+
+-- before the tick `end` no two agents other than this one conflict
+abbrev pub AreOthersFreeBefore : List (List ℕ) → ℕ → ℕ → Type 0
+AreOthersFreeBefore paths agent end = (i j tick : ℕ) (p q : List ℕ) → tick < end → i ≢ agent → j ≢ agent → i ≢ j
+    → slice_get paths i ≡ Some p → slice_get paths j ≡ Some q → ConflictAt p q tick → ⊥
 
 -- the first agent has the smaller number
 abbrev pub IsOrdered : Conflict → Type 0

@@ -1,13 +1,14 @@
-ghost use Rattle.std.specs.Prelude.{◌≡◌, ◌≤◌, length, slice_index, All, IfNone, IfOk, IfSome};
+ghost use Rattle.std.specs.Prelude.{◌≡◌, ◌<◌, ◌≤◌, length, slice_index, All, IfNone, IfOk, IfSome};
 ghost use Rattle.mapf_model.specs.declared.conflict.Conflict.TheVariants.{Vertex};
 ghost use Rattle.mapf_model.specs.Earned.{tick_of, HasConflict, AreConflictFreeBefore, HaveSomeConflict};
 ghost use Rattle.mapf_model.specs.Limits.{most_agents, most_path_cells};
 ghost use Rattle.mapf_model.specs.Pairs.{IsFirstPair, HoldsOfNoPair};
 ghost use Rattle.mapf_conflicts.specs.Pairs.{cells_at, paths_behind, ShareCell, ExchangeCells};
+ghost use Rattle.mapf_conflicts.specs.Pairs.{AreOthersApart, AreOthersFreeBefore};
 ghost use Rattle.mapf_conflicts.specs.Pairs.{IsConflictOf, IsFirstOf, IsFirstOfItsTick, IsOrdered};
 
 use crate::marked_pairs::{Unmarked, marked_exchanging_pair, marked_sharing_pair};
-use crate::pairs::{exchanging_pair, may_conflict, sharing_pair};
+use crate::pairs::{exchanging_pair, may_conflict, meets_another, sharing_pair};
 use mapf_model::limits::MOST_AGENTS;
 use mapf_model::{Cell, Conflict, Path, Plan, Tick};
 
@@ -26,12 +27,14 @@ pub fn first_conflict(plan: &Plan) -> Option<Conflict>
     for (i, path) in paths.iter().enumerate() {
         behind[i] = path;
     }
-    first_among(&mut [], &behind[..paths.len()])
+    first_among(&mut [], &behind[..paths.len()], 0, 0)
 }
 
-/// Returns the first conflict of these paths, with marks for some cells, or for none.
-pub fn first_among(marks: &mut [u8], paths: &[&Path]) -> Option<Conflict>
-    requires { length paths.now ≤ most_agents }
+/// Returns the first conflict of these paths. The marks may be for some cells or for none, and may have any values. The
+/// caller ensures that before the tick `free` no two agents other than this one conflict.
+pub fn first_among(marks: &mut [u8], paths: &[&Path], agent: u32, free: Tick) -> Option<Conflict>
+    requires few { length paths.now ≤ most_agents }
+    requires others { AreOthersFreeBefore (paths_behind paths.now) agent free }
     ensures some { IfSome result (HasConflict (paths_behind paths.now)) }
     ensures first { IfSome result (λ conflict. AreConflictFreeBefore (paths_behind paths.now) (tick_of conflict)) }
     ensures ordered { IfSome result IsOrdered }
@@ -44,7 +47,8 @@ pub fn first_among(marks: &mut [u8], paths: &[&Path]) -> Option<Conflict>
     write_cells(paths, 0, &mut here[..count]);
     for tick in 0..longest(paths) {
         write_cells(paths, tick + 1, &mut next[..count]);
-        if let Some(conflict) = conflict_of(marks, &here[..count], &next[..count], tick) {
+        let only = agent_before(agent, tick, free);
+        if let Some(conflict) = conflict_of(marks, &here[..count], &next[..count], only, tick) {
             return Some(conflict);
         }
         here[..count].copy_from_slice(&next[..count]);
@@ -52,7 +56,17 @@ pub fn first_among(marks: &mut [u8], paths: &[&Path]) -> Option<Conflict>
     None
 }
 
-// Returns the number of cells of the longest path.
+// Returns the agent if the tick is before `free`, else None.
+fn agent_before(agent: u32, tick: Tick, free: Tick) -> Option<usize>
+    ensures { IfSome result (λ only. (only ≡ agent) × (tick < free)) }
+{
+    if tick < free {
+        return Some(agent as usize);
+    }
+    None
+}
+
+// Returns the number of cells of the longest path, 1 if there are no paths.
 fn longest(paths: &[&Path]) -> Tick
     ensures longest { All (λ path. length path ≤ result) (paths_behind paths.now) }
     ensures positive { 1 ≤ result }
@@ -75,22 +89,36 @@ fn write_cells(paths: &[&Path], tick: Tick, cells: &mut [Cell])
     }
 }
 
-// Returns the first conflict of agents that are in these cells at the tick, and in those at the next.
-fn conflict_of(marks: &mut [u8], here: &[Cell], next: &[Cell], tick: Tick) -> Option<Conflict>
+// Returns the first conflict of agents that are in the cells `here` at the tick and in the cells `next` at the next
+// one. If `only` names an agent, no two others share a cell or exchange their cells.
+fn conflict_of(
+    marks: &mut [u8],
+    here: &[Cell],
+    next: &[Cell],
+    only: Option<usize>,
+    tick: Tick,
+) -> Option<Conflict>
     requires size { length next.now ≡ length here.now }
     requires few { length here.now ≤ most_agents }
+    requires others { IfSome only (AreOthersApart here.now next.now) }
     ensures some { IfSome result (IsConflictOf here.now next.now tick) }
     ensures first { IfSome result (IsFirstOf here.now next.now) }
     ensures share { IfNone result (HoldsOfNoPair (ShareCell here.now) (length here.now)) }
     ensures exchange { IfNone result (HoldsOfNoPair (ExchangeCells here.now next.now) (length here.now)) }
 {
+    if let Some(agent) = only {
+        // This takes less time than marks, since it is compiled to instructions on several agents at once.
+        if !meets_another(here, next, agent) {
+            return None;
+        }
+    }
     match marked_conflict(marks, here, next, tick) {
         Ok(found) => found,
         Err(Unmarked) => unmarked_conflict(here, next, tick),
     }
 }
 
-// Returns the same by marks, in time linear in the number of agents.
+// Returns the same by marks, in time linear in the number of agents. An error if a cell that is looked up has no mark.
 fn marked_conflict(
     marks: &mut [u8],
     here: &[Cell],

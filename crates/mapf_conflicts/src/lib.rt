@@ -8,4 +8,4 @@ mod pairs;
 
 pub use first::first_conflict;
 pub use mapf_model::Conflict;
-pub use marks::{CellMarks, first_conflict_in};
+pub use marks::{CellMarks, first_conflict_after_replanning, first_conflict_in};

@@ -1,10 +1,10 @@
 ghost use Rattle.std.specs.Prelude.{◌≡◌, ◌≤◌, ℕ, length, IfOk, IfNone, IfSome};
 ghost use Rattle.mapf_model.specs.Earned.{tick_of, HasConflict, AreConflictFreeBefore, HaveSomeConflict};
 ghost use Rattle.mapf_model.specs.Limits.{most_agents};
-ghost use Rattle.mapf_conflicts.specs.Pairs.{paths_behind, IsFirstOfItsTick, IsOrdered};
+ghost use Rattle.mapf_conflicts.specs.Pairs.{paths_behind, AreOthersFreeBefore, IsFirstOfItsTick, IsOrdered};
 
 use crate::first::first_among;
-use mapf_model::{Conflict, OutOfMemory, Path};
+use mapf_model::{Conflict, OutOfMemory, Path, Tick};
 use std::alloc::Global;
 use std::marker::Model;
 
@@ -44,5 +44,26 @@ pub fn first_conflict_in(marks: &mut CellMarks, paths: &[&Path]) -> Option<Confl
     ensures none { IfNone result (HaveSomeConflict (paths_behind paths.now) → ⊥) }
     ensures marks { marks.new ≡ marks.old }
 {
-    first_among(&mut marks.agents, paths)
+    first_among(&mut marks.agents, paths, 0, 0)
+}
+
+/// Returns the first conflict of these paths, in the order of `first_conflict`. Before the tick `free` no two agents
+/// other than this one conflict, as when only this agent was replanned after a plan without conflicts before that tick.
+/// At such a tick the others are compared with each other only if this agent conflicts with one of them.
+pub fn first_conflict_after_replanning(
+    marks: &mut CellMarks,
+    paths: &[&Path],
+    agent: u32,
+    free: Tick,
+) -> Option<Conflict>
+    requires few { length paths.now ≤ most_agents }
+    requires others { AreOthersFreeBefore (paths_behind paths.now) agent free }
+    ensures some { IfSome result (HasConflict (paths_behind paths.now)) }
+    ensures first { IfSome result (λ conflict. AreConflictFreeBefore (paths_behind paths.now) (tick_of conflict)) }
+    ensures ordered { IfSome result IsOrdered }
+    ensures least { IfSome result (IsFirstOfItsTick (paths_behind paths.now)) }
+    ensures none { IfNone result (HaveSomeConflict (paths_behind paths.now) → ⊥) }
+    ensures marks { marks.new ≡ marks.old }
+{
+    first_among(&mut marks.agents, paths, agent, free)
 }

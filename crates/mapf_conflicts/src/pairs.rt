@@ -1,4 +1,4 @@
-ghost use Rattle.std.specs.Prelude.{◌≡◌, ◌<◌, ℕ, false, true, length, IfNone, IfSome, IsTrue, ◌↔◌};
+ghost use Rattle.std.specs.Prelude.{◌≡◌, ◌<◌, ◌≤◌, ℕ, false, true, length, IfNone, IfSome, IsTrue, ◌↔◌};
 ghost use Rattle.mapf_model.specs.Pairs.{IsFirstPair, HoldsOfNoPair};
 ghost use Rattle.mapf_conflicts.specs.Pairs.{ShareCell, ExchangeCells, HoldsOfSomePair, ShareOrExchangeCells};
 
@@ -42,27 +42,43 @@ pub fn may_conflict(here: &[Cell], next: &[Cell]) -> bool
     ensures some { result ≡ true → HoldsOfSomePair (ShareOrExchangeCells here.now next.now) (length here.now) }
 {
     for i in 0..here.len() {
-        if may_conflict_after(here, next, i) {
+        if meets_any(here, next, i, i + 1, here.len()) {
             return true;
         }
     }
     false
 }
 
-// Returns the same of agent `i` and those above it. The loop has no early exit, so that it is compiled to instructions
-// on several agents at once.
-fn may_conflict_after(here: &[Cell], next: &[Cell], i: usize) -> bool
-    requires place { i < length here.now }
-    requires size { length next.now ≡ length here.now }
-    ensures share { result ≡ false → (j : ℕ) → i < j → j < length here.now → ShareCell here.now i j → ⊥ }
+/// Returns whether the agent shares a cell or exchanges cells with another one. True of an agent that isn't among
+/// these.
+pub fn meets_another(here: &[Cell], next: &[Cell], agent: usize) -> bool
+    requires { length next.now ≡ length here.now }
+    ensures share { result ≡ false
+        → (j : ℕ) → j < length here.now → (j ≡ agent → ⊥) → ShareCell here.now agent j → ⊥ }
     ensures exchange { result ≡ false
-        → (j : ℕ) → i < j → j < length here.now → ExchangeCells here.now next.now i j → ⊥ }
-    ensures some { result ≡ true
-        → (j : ℕ) × (i < j) × (j < length here.now) × ShareOrExchangeCells here.now next.now i j }
+        → (j : ℕ) → j < length here.now → (j ≡ agent → ⊥) → ExchangeCells here.now next.now agent j → ⊥ }
 {
-    let (from, to) = (here[i], next[i]);
+    let count = here.len();
+    if agent >= count {
+        return true;
+    }
+    meets_any(here, next, agent, 0, agent) || meets_any(here, next, agent, agent + 1, count)
+}
+
+// Returns whether the agent shares a cell or exchanges cells with one of the agents from `first` to below `end`. The
+// loop has no early exit, so that it is compiled to vector instructions.
+fn meets_any(here: &[Cell], next: &[Cell], agent: usize, first: usize, end: usize) -> bool
+    requires place { agent < length here.now }
+    requires order { first ≤ end }
+    requires end { end ≤ length here.now }
+    requires size { length next.now ≡ length here.now }
+    ensures share { result ≡ false → (j : ℕ) → first ≤ j → j < end → ShareCell here.now agent j → ⊥ }
+    ensures exchange { result ≡ false → (j : ℕ) → first ≤ j → j < end → ExchangeCells here.now next.now agent j → ⊥ }
+    ensures some { result ≡ true → (j : ℕ) × (first ≤ j) × (j < end) × ShareOrExchangeCells here.now next.now agent j }
+{
+    let (from, to) = (here[agent], next[agent]);
     let mut found = false;
-    for j in i + 1..here.len() {
+    for j in first..end {
         found |= (here[j] == from) | ((here[j] == to) & (next[j] == from));
     }
     found

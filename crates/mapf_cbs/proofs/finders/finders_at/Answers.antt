@@ -8,15 +8,15 @@ use Rattle.mapf_cbs.proofs.finders.finders_at.Goals as goal
 pub loop-at-init : goal.loop-at-init
 loop-at-init c = record {
   inside = c.requires.inside;
-  count = c.in_ok-finders.ensures.count;
-  finders = none_inside c.args.nodes.now c.in_ok-finders.finders.items (let h = c.requires.inside in omega (arith, h)) c.in_ok-finders.ensures.none;
-  same = λ views view here are is here_is. none_so_far views view here (same_Some view here (sym is ∙ here_is)) c.in_ok-finders.finders.items c.in_ok-finders.ensures.none;
+  count = c.in_ok-nearest.ensures.count;
+  nearest = none_inside c.args.nodes.now c.in_ok-nearest.nearest.items (let h = c.requires.inside in omega (arith, h)) c.in_ok-nearest.ensures.none;
+  same = λ views view here are is here_is. none_so_far views view here (same_Some view here (sym is ∙ here_is)) c.in_ok-nearest.nearest.items c.in_ok-nearest.ensures.none;
 }
 
 pub loop-at-preserved : goal.loop-at-preserved
 loop-at-preserved c =
-    let old = c.loop-at.finders.items in
-    let new = c.note.new.finders.items in
+    let old = c.loop-at.nearest.items in
+    let new = c.note.new.nearest.items in
     let noted = c.note.ensures.noted in
     let size = c.note.ensures.count in
     let count = c.loop-at.invariant.count in
@@ -26,7 +26,7 @@ loop-at-preserved c =
     record {
       inside = let h = c.loop-at.invariant.inside in omega (arith, lower, h);
       count = omega (arith, size, count);
-      finders = noted_inside old new c.in-Child.constraint.agent c.loop-at.at size noted c.args.nodes.now c.loop-at.invariant.inside c.loop-at.invariant.finders;
+      nearest = noted_inside old new c.in-Child.constraint.agent c.loop-at.at size noted c.args.nodes.now c.loop-at.invariant.inside c.loop-at.invariant.nearest;
       same = λ views view before are is before_is.
           let here = view_at c.args.nodes.now views are c.loop-at.at c.loop-at.invariant.inside in
           noted_up old new c.in-Child.constraint.agent c.loop-at.at size noted c.args.nodes.now views are view here.0 here.1 c.in-Child.parent c.in-Child.constraint refl c.in-Child.found child before before_is
@@ -38,12 +38,12 @@ loop-at-smaller c =
     let read = slice_get_read c.args.nodes.now (length c.args.nodes.now) c.loop-at.at c.index-nodes-at.result refl c.loop-at.invariant.inside c.index-nodes-at.is in
     c.requires.nodes 0 c.requires.some c.loop-at.at (Child c.in-Child.parent c.in-Child.constraint c.in-Child.found) (read ∙ ap Some c.in-Child.is)
 
-pub returns-clause-inside : goal.returns-clause-inside
-returns-clause-inside c = c.loop-at.invariant.finders
-
 pub returns-clause-found : goal.returns-clause-found
-returns-clause-found c views view are is i finder finder_is =
-    let read = slice_get_read c.args.nodes.now (length c.args.nodes.now) c.loop-at.at c.index-nodes-at.result refl c.loop-at.invariant.inside c.index-nodes-at.is in
-    let first = (c.requires.nodes 0 c.requires.some c.loop-at.at (Root c.in_default.field-0) (read ∙ ap Some c.in_default.is)).0 in
-    let here = view_at c.args.nodes.now views are c.loop-at.at c.loop-at.invariant.inside in
-    found_at_root views view here.0 i finder (subst (λ n. slice_get views n ≡ Some here.0) first here.1) (c.loop-at.invariant.same views view here.0 are is here.1 i finder finder_is)
+returns-clause-found c i finder finder_is = record {
+  inside = c.loop-at.invariant.nearest i finder finder_is;
+  same = λ views view are is.
+      let read = slice_get_read c.args.nodes.now (length c.args.nodes.now) c.loop-at.at c.index-nodes-at.result refl c.loop-at.invariant.inside c.index-nodes-at.is in
+      let first = (c.requires.nodes 0 c.requires.some c.loop-at.at (Root c.in_default.field-0) (read ∙ ap Some c.in_default.is)).0 in
+      let here = view_at c.args.nodes.now views are c.loop-at.at c.loop-at.invariant.inside in
+      found_at_root views view here.0 i finder (subst (λ n. slice_get views n ≡ Some here.0) first here.1) (c.loop-at.invariant.same views view here.0 are is here.1 i finder finder_is);
+}

@@ -8,10 +8,10 @@ use Rattle.mapf_cbs.proofs.finders.finders_at.Given as goal
 abbrev pub invariant-loop-at : goal.invariant-loop-at
 invariant-loop-at l = record {
   inside : l.at < length l.nodes;
-  count : length l.finders.items ≡ l.agents;
-  finders : AreInside l.nodes l.finders.items;
+  count : length l.nearest.items ≡ l.agents;
+  nearest : AreInside l.nodes l.nearest.items;
   same : (views : List View) (view here : View) → AreViews l.nodes views → slice_get views l.k ≡ Some view → slice_get views l.at ≡ Some here →
-      (i : ℕ) (finder : Option ℕ) → slice_get l.finders.items i ≡ Some finder → IsFoundSoFar views view here i finder;
+      (i : ℕ) (finder : Option ℕ) → slice_get l.nearest.items i ≡ Some finder → IsFoundSoFar views view here i finder;
 }
 
 abbrev pub decreases-loop-at : goal.decreases-loop-at

@@ -1,12 +1,14 @@
-use Rattle.std.proofs.Common.{length, sym, ◌∙◌, ap, subst, arith}
+use Rattle.std.proofs.Common.{◌≡◌, Some, length, slice_get, sym, ◌∙◌, ap, subst, arith}
 use Rattle.std.proofs.lemmas.Result.{IfOk-weaker}
 use Rattle.mapf_cbs.specs.Endings.{IsExhausted, IsAtNode, IsAtPlan, IsAtCause}
+use Rattle.mapf_cbs.specs.Finders.{AreFinders}
 use Rattle.mapf_cbs.specs.Nodes.{AreViews}
 use Rattle.mapf_cbs.specs.State.{IsState}
 use Rattle.mapf_cbs.proofs.AnswerLemmas.{state_first, popped_of}
 use Rattle.mapf_cbs.proofs.EndingLemmas.{can_be_drawn}
 use Rattle.mapf_cbs.proofs.StartLemmas.{root_of}
 use Rattle.mapf_cbs.proofs.StateLemmas.{in_hand, have_paths}
+use Rattle.mapf_cbs.proofs.ReplannedLemmas.{searched_at}
 use Rattle.mapf_cbs.proofs.OptionLemmas.{of_none, of_some}
 use Rattle.mapf_cbs.proofs.solver.search_from.Goals as goal
 
@@ -47,17 +49,49 @@ returns-in_default g c =
     } in
     IfOk-weaker c.impossible.result _ _ (λ outcome said. said c.args.problem.now c.args.limit (rw e at_end)) c.impossible.ensures
 
+pub finders_at-requires-clause-nodes : goal.finders_at-requires-clause-nodes
+finders_at-requires-clause-nodes g c =
+    let s = c.loop-total.invariant.state in
+    let p = popped_of c.args.problem.now c.loop-total.search.nodes.items c.loop-total.search.fates.items c.loop-total.search.waiting.keys c.take_least.new.waiting.keys c.loop-total.search.splits c.in-Some.total c.in-Some.k s c.in-Some.ensures.some in
+    rw c.deref-in-loop-total.ensures.value (have_paths c.args.problem.now c.loop-total.search.nodes.items c.loop-total.search.fates.items c.take_least.new.waiting.keys c.loop-total.search.splits c.in-Some.total c.in-Some.k p c.requires.root.agents (length c.agents.result.now) (ap length (sym c.agents.ensures.value))).nodes_for
+
+pub finders_at-requires-clause-some : goal.finders_at-requires-clause-some
+finders_at-requires-clause-some g c =
+    let some = c.requires.root.agents.0 in
+    let size = ap length c.agents.ensures.value in
+    omega (arith, some, size)
+
+pub finders_at-requires-clause-inside : goal.finders_at-requires-clause-inside
+finders_at-requires-clause-inside g c =
+    let s = c.loop-total.invariant.state in
+    let p = popped_of c.args.problem.now c.loop-total.search.nodes.items c.loop-total.search.fates.items c.loop-total.search.waiting.keys c.take_least.new.waiting.keys c.loop-total.search.splits c.in-Some.total c.in-Some.k s c.in-Some.ensures.some in
+    rw c.deref-in-loop-total.ensures.value (have_paths c.args.problem.now c.loop-total.search.nodes.items c.loop-total.search.fates.items c.take_least.new.waiting.keys c.loop-total.search.splits c.in-Some.total c.in-Some.k p c.requires.root.agents (length c.agents.result.now) (ap length (sym c.agents.ensures.value))).inside
+
 pub conflict_at-requires : goal.conflict_at-requires
 conflict_at-requires g c =
     let s = c.loop-total.invariant.state in
     let p = popped_of c.args.problem.now c.loop-total.search.nodes.items c.loop-total.search.fates.items c.loop-total.search.waiting.keys c.take_least.new.waiting.keys c.loop-total.search.splits c.in-Some.total c.in-Some.k s c.in-Some.ensures.some in
-    rw c.deref-in-loop-total.ensures.value (have_paths c.args.problem.now c.loop-total.search.nodes.items c.loop-total.search.fates.items c.take_least.new.waiting.keys c.loop-total.search.splits c.in-Some.total c.in-Some.k p c.requires.root.agents (length c.agents.result.now) (ap length (sym c.agents.ensures.value)))
+    let nodes = c.deref-in-loop-total-2.ensures.value in
+    let fates = c.deref-in-loop-total-3.ensures.value in
+    let node = c.in_ok-finders.ensures.node in
+    let count = c.in_ok-finders.ensures.count in
+    record {
+      paths = rw nodes (rw node (rw count (have_paths c.args.problem.now c.loop-total.search.nodes.items c.loop-total.search.fates.items c.take_least.new.waiting.keys c.loop-total.search.splits c.in-Some.total c.in-Some.k p c.requires.root.agents (length c.agents.result.now) (ap length (sym c.agents.ensures.value)))));
+      finders = subst (λ ns. AreFinders ns c.in_ok-finders.finders) (c.deref-in-loop-total.ensures.value ∙ sym nodes) c.in_ok-finders.ensures.found;
+      searched = rw nodes (rw fates (rw node (rw count (searched_at c.args.problem.now c.loop-total.search.nodes.items c.loop-total.search.fates.items c.take_least.new.waiting.keys c.loop-total.search.splits c.in-Some.total c.in-Some.k p (length c.agents.result.now) (ap length (sym c.agents.ensures.value))))));
+    }
 
 pub plan_at-requires : goal.plan_at-requires
 plan_at-requires g c =
     let s = c.loop-total.invariant.state in
     let p = popped_of c.args.problem.now c.loop-total.search.nodes.items c.loop-total.search.fates.items c.loop-total.search.waiting.keys c.take_least.new.waiting.keys c.loop-total.search.splits c.in-Some.total c.in-Some.k s c.in-Some.ensures.some in
-    rw c.deref-in_default-first.ensures.value (have_paths c.args.problem.now c.loop-total.search.nodes.items c.loop-total.search.fates.items c.take_least.new.waiting.keys c.loop-total.search.splits c.in-Some.total c.in-Some.k p c.requires.root.agents (length c.agents.result.now) (ap length (sym c.agents.ensures.value)))
+    let nodes = c.deref-in_default-first.ensures.value in
+    let node = c.in_ok-finders.ensures.node in
+    let count = c.in_ok-finders.ensures.count in
+    record {
+      paths = rw nodes (rw node (rw count (have_paths c.args.problem.now c.loop-total.search.nodes.items c.loop-total.search.fates.items c.take_least.new.waiting.keys c.loop-total.search.splits c.in-Some.total c.in-Some.k p c.requires.root.agents (length c.agents.result.now) (ap length (sym c.agents.ensures.value)))));
+      finders = subst (λ ns. AreFinders ns c.in_ok-finders.finders) (c.deref-in-loop-total.ensures.value ∙ sym nodes) c.in_ok-finders.ensures.found;
+    }
 
 pub found-requires : goal.found-requires
 found-requires g c =
@@ -76,8 +110,10 @@ returns-in_default-first g c =
     let s = c.loop-total.invariant.state in
     let p = popped_of c.args.problem.now c.loop-total.search.nodes.items c.loop-total.search.fates.items c.loop-total.search.waiting.keys c.take_least.new.waiting.keys c.loop-total.search.splits c.in-Some.total c.in-Some.k s c.in-Some.ensures.some in
     let h = in_hand c.args.problem.now c.loop-total.search.nodes.items c.loop-total.search.fates.items c.take_least.new.waiting.keys c.loop-total.search.splits c.in-Some.total c.in-Some.k p in
-    let are = subst (λ ns. AreViews ns p.state.views) (sym c.deref-in-loop-total.ensures.value) p.state.are in
-    let counted = h.live.counted.paths ∙ (let e = c.agents.ensures.value in ap length (sym e)) in
+    let are = subst (λ ns. AreViews ns p.state.views) (sym c.deref-in-loop-total-2.ensures.value) p.state.are in
+    let node = c.in_ok-finders.ensures.node in
+    let counted = h.live.counted.paths ∙ (let e = c.agents.ensures.value in ap length (sym e)) ∙ sym c.in_ok-finders.ensures.count in
+    let is = subst (λ n. slice_get p.state.views n ≡ Some h.view) (sym node) h.is in
     let nodes_are = subst (λ ns. AreViews ns p.state.views) (sym c.deref-in_default-first.ensures.value) p.state.are in
     let e = c.deref-in_default-first-2.ensures.value in
     let here : IsAtNode c.args.problem.now c.args.limit c.in_ok-lists-2.lists.items c.loop-total.search.fates.items c.loop-total.search.splits c.in-Some.total h.view = record {
@@ -88,7 +124,7 @@ returns-in_default-first g c =
       k = c.in-Some.k;
       popped = p;
       is = h.is;
-      short = c.in_ok-first.ensures.short p.state.views h.view are h.is counted;
+      short = c.in_ok-first.ensures.short p.state.views h.view are is counted;
       within = c.loop-total.invariant.within;
       blocks = c.in_ok-lists-2.ensures p.state.views p.state.are;
     } in
@@ -97,8 +133,8 @@ returns-in_default-first g c =
       total = c.in-Some.total;
       view = h.view;
       at_node = here;
-      same = c.in_ok-plan.ensures.paths p.state.views h.view nodes_are h.is counted;
-      none = of_none _ c.in_ok-first.first c.in_default-first.is c.in_ok-first.ensures.none p.state.views h.view are h.is counted;
+      same = c.in_ok-plan.ensures.paths p.state.views h.view nodes_are is counted;
+      none = of_none _ c.in_ok-first.first c.in_default-first.is c.in_ok-first.ensures.none p.state.views h.view are is counted;
     } in
     IfOk-weaker c.found.result _ _ (λ outcome said. said c.args.problem.now c.args.limit (rw e at_plan)) c.found.ensures
 
@@ -107,8 +143,10 @@ returns-in-Some-cause_to_stop g c =
     let s = c.loop-total.invariant.state in
     let p = popped_of c.args.problem.now c.loop-total.search.nodes.items c.loop-total.search.fates.items c.loop-total.search.waiting.keys c.take_least.new.waiting.keys c.loop-total.search.splits c.in-Some.total c.in-Some.k s c.in-Some.ensures.some in
     let h = in_hand c.args.problem.now c.loop-total.search.nodes.items c.loop-total.search.fates.items c.take_least.new.waiting.keys c.loop-total.search.splits c.in-Some.total c.in-Some.k p in
-    let are = subst (λ ns. AreViews ns p.state.views) (sym c.deref-in-loop-total.ensures.value) p.state.are in
-    let counted = h.live.counted.paths ∙ (let e = c.agents.ensures.value in ap length (sym e)) in
+    let are = subst (λ ns. AreViews ns p.state.views) (sym c.deref-in-loop-total-2.ensures.value) p.state.are in
+    let node = c.in_ok-finders.ensures.node in
+    let counted = h.live.counted.paths ∙ (let e = c.agents.ensures.value in ap length (sym e)) ∙ sym c.in_ok-finders.ensures.count in
+    let is = subst (λ n. slice_get p.state.views n ≡ Some h.view) (sym node) h.is in
     let e = c.deref-in-Some-cause_to_stop.ensures.value in
     let here : IsAtNode c.args.problem.now c.args.limit c.in_ok-lists-3.lists.items c.loop-total.search.fates.items c.loop-total.search.splits c.in-Some.total h.view = record {
       paths = c.args.paths.items;
@@ -118,7 +156,7 @@ returns-in-Some-cause_to_stop g c =
       k = c.in-Some.k;
       popped = p;
       is = h.is;
-      short = c.in_ok-first.ensures.short p.state.views h.view are h.is counted;
+      short = c.in_ok-first.ensures.short p.state.views h.view are is counted;
       within = c.loop-total.invariant.within;
       blocks = c.in_ok-lists-3.ensures p.state.views p.state.are;
     } in
@@ -127,7 +165,7 @@ returns-in-Some-cause_to_stop g c =
       view = h.view;
       at_node = here;
       conflict = c.in-Some-first.conflict;
-      first = of_some _ c.in_ok-first.first c.in-Some-first.conflict c.in-Some-first.is c.in_ok-first.ensures.some p.state.views h.view are h.is counted;
+      first = of_some _ c.in_ok-first.first c.in-Some-first.conflict c.in-Some-first.is c.in_ok-first.ensures.some p.state.views h.view are is counted;
       met = c.in-Some-cause_to_stop.ensures.some;
     } in
     IfOk-weaker c.stopped.result _ _ (λ outcome said. said c.args.problem.now c.args.limit (rw e at_cause)) c.stopped.ensures
@@ -136,4 +174,7 @@ pub split-requires-clause-popped : goal.split-requires-clause-popped
 split-requires-clause-popped g c =
     let s = c.loop-total.invariant.state in
     let p = popped_of c.args.problem.now c.loop-total.search.nodes.items c.loop-total.search.fates.items c.loop-total.search.waiting.keys c.take_least.new.waiting.keys c.loop-total.search.splits c.in-Some.total c.in-Some.k s c.in-Some.ensures.some in
-    p
+    rw c.in_ok-finders.ensures.node p
+
+pub split-requires-clause-finders : goal.split-requires-clause-finders
+split-requires-clause-finders g c = subst (λ ns. AreFinders ns c.in_ok-finders.finders) c.deref-in-loop-total.ensures.value c.in_ok-finders.ensures.found

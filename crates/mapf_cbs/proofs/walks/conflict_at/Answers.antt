@@ -5,10 +5,10 @@ use Rattle.mapf_cbs.proofs.OptionLemmas.{if_none}
 use Rattle.mapf_cbs.proofs.walks.conflict_at.Goals as goal
 
 pub returns-clause-none : goal.returns-clause-none
-returns-clause-none c = if_none c.first_conflict_in.result (λ none views view are is size some.
+returns-clause-none c = if_none c.first_conflict_after_replanning.result (λ none views view are is size some.
     let behind : paths_behind c.deref.result.now ≡ view.paths = rw (c.deref.ensures.value) (c.in_ok-paths.ensures.paths views view are is size) in
     none (subst HaveSomeConflict (sym behind) some))
-    c.first_conflict_in.ensures.none
+    c.first_conflict_after_replanning.ensures.none
 
 pub returns-clause-short : goal.returns-clause-short
 returns-clause-short c views view are is size =

@@ -1,41 +1,30 @@
-use Rattle.std.proofs.Common.{List, ℕ, ◌≤◌, ◌≡◌, ◌≢◌, ◌<◌, ◌++◌, ◌∷◌, Some, [], length, length-append, slice_get, refl, sym, ◌∙◌, ap, subst, ⊎_elim, arith}
+use Rattle.std.proofs.Common.{List, ℕ, ◌≤◌, ◌≡◌, ◌≢◌, ◌<◌, ◌++◌, ◌∷◌, Some, [], length, length-append, slice_get, sym, ◌∙◌, ap, subst, ⊎_elim, arith}
 use Rattle.std.proofs.lemmas.Bool.{cases_eq}
 use Rattle.std.proofs.lemmas.List.{map-append, length-map}
 use Rattle.std.proofs.lemmas.List.Elements.{All-push}
-use Rattle.std.proofs.lemmas.Option.{slice_get_read, slice_get_within, same_Some}
+use Rattle.std.proofs.lemmas.Option.{slice_get_within, same_Some}
 use Rattle.mapf_model.proofs.DecidedLemmas.{same_list}
 use Rattle.mapf_model.proofs.PlaceLemmas.{slice_get-front, slice_get-here}
 use Rattle.mapf_conflicts.specs.Pairs.{paths_behind}
 use Rattle.mapf_cbs.proofs.walks.paths_at.Goals as goal
 
-pub path_at-path-requires-clause-inside : goal.path_at-path-requires-clause-inside
-path_at-path-requires-clause-inside c =
-    let within = c.loop-agent-test.true in
-    let count = c.in_ok-finders.ensures.count in
-    let finder = slice_get_read c.in_ok-finders.finders.items (length c.in_ok-finders.finders.items) c.loop-agent.agent c.index.result.now refl (omega (arith, within, count)) c.index.ensures in
-    subst (λ n. n < length c.args.nodes.now) (sym c.unwrap_or-finder.ensures) (c.in_ok-finders.ensures.inside c.loop-agent.agent c.index.result.now finder)
-
 pub loop-agent-preserved : goal.loop-agent-preserved
 loop-agent-preserved c =
-    let within = c.loop-agent-test.true in
-    let count = c.in_ok-finders.ensures.count in
     let so_many = c.loop-agent.invariant.count in
-    let finder = slice_get_read c.in_ok-finders.finders.items (length c.in_ok-finders.finders.items) c.loop-agent.agent c.index.result.now refl (omega (arith, within, count)) c.index.ensures in
     let paths = c.loop-agent.paths.items in
     let behind = paths_behind paths in
-    let path = c.path_at-path.result.now in
-    let pushed : c.push.new.self.items ≡ paths ++ c.path_at-path.result ∷ [] = c.in_ok-push.ensures.items in
-    let split : paths_behind c.push.new.self.items ≡ behind ++ path ∷ [] = ap paths_behind pushed ∙ map-append (λ one. one.now) paths (c.path_at-path.result ∷ []) in
-    let longer = length-append paths (c.path_at-path.result ∷ []) in
+    let path = c.path_by-path.result.now in
+    let pushed : c.push.new.self.items ≡ paths ++ c.path_by-path.result ∷ [] = c.in_ok-push.ensures.items in
+    let split : paths_behind c.push.new.self.items ≡ behind ++ path ∷ [] = ap paths_behind pushed ∙ map-append (λ one. one.now) paths (c.path_by-path.result ∷ []) in
+    let longer = length-append paths (c.path_by-path.result ∷ []) in
     let all : length behind ≡ c.loop-agent.agent = length-map paths (λ one. one.now) ∙ so_many in
     record {
       count = rw pushed (omega (arith, so_many, longer));
       same = λ views view are is i below. ⊎_elim
           (λ (here : i ≡ c.loop-agent.agent).
-          let found = c.in_ok-finders.ensures.found views view are is c.loop-agent.agent c.index.result.now finder in
-          let path_is = c.path_at-path.ensures views found.0 are (subst (λ n. slice_get views n ≡ Some found.0) (sym c.unwrap_or-finder.ensures) found.1) in
+          let path_is = c.path_by-path.ensures views view are is in
           let last : slice_get (behind ++ path ∷ []) c.loop-agent.agent ≡ Some path = subst (λ n. slice_get (behind ++ path ∷ []) n ≡ Some path) all (slice_get-here behind [] path) in
-          rw split (rw here (last ∙ sym path_is ∙ sym found.2)))
+          rw split (rw here (last ∙ sym path_is)))
           (λ (other : i ≢ c.loop-agent.agent).
           rw split (slice_get-front behind (path ∷ []) i (omega (arith, below, other, all)) ∙ c.loop-agent.invariant.same views view are is i (omega (arith, below, other))))
           (cases_eq i c.loop-agent.agent);

@@ -7,6 +7,6 @@ use Rattle.mapf_cbs.proofs.walks.paths_at.Given as goal
 abbrev pub invariant-loop-agent : goal.invariant-loop-agent
 invariant-loop-agent l = record {
   count : length l.paths.items ≡ l.agent;
-  same : (views : List View) (view : View) → AreViews l.nodes views → slice_get views l.k ≡ Some view → (i : ℕ) → i < l.agent → slice_get (paths_behind l.paths.items) i ≡ slice_get view.paths i;
+  same : (views : List View) (view : View) → AreViews l.nodes views → slice_get views l.finders.node ≡ Some view → (i : ℕ) → i < l.agent → slice_get (paths_behind l.paths.items) i ≡ slice_get view.paths i;
   short : All (λ path. length path ≤ 10000000) (paths_behind l.paths.items);
 }

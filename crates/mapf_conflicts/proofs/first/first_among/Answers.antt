@@ -1,10 +1,11 @@
 use Rattle.std.proofs.Common.{◌≡◌, ◌≤◌, ◌+◌, ℕ, List, Bor, ◌++◌, length, take, drop, subst, sym, ap, ◌∙◌, length-append, length-drop, arith}
 use Rattle.std.proofs.Math.Seq.{take-append_seam}
 use Rattle.std.proofs.lemmas.List.{length-map}
+use Rattle.std.proofs.lemmas.Option.{IfSome_then}
 use Rattle.mapf_model.specs.Earned.{AreConflictFreeBefore}
 use Rattle.mapf_model.specs.Path.{at}
-use Rattle.mapf_conflicts.specs.Pairs.{cells_at, paths_behind}
-use Rattle.mapf_conflicts.proofs.ConflictLemmas.{apart, has_conflict, first_of_its_tick, conflict_tick}
+use Rattle.mapf_conflicts.specs.Pairs.{cells_at, paths_behind, AreOthersApart}
+use Rattle.mapf_conflicts.proofs.ConflictLemmas.{apart, has_conflict, first_of_its_tick, conflict_tick, others_apart}
 use Rattle.mapf_model.proofs.ConflictLemmas.{free_one_more, none_after}
 use Rattle.mapf_conflicts.proofs.first.first_among.Goals as goal
 
@@ -53,8 +54,8 @@ loop-tick-preserved c =
     let next = written paths (tick + 1) c.write_cells-in-loop-tick.new.cells (drop (length paths) c.loop-tick.next) new in
     let copied = c.copy_from_slice.ensures.after ∙ next in
     record {
-      here_size = still (length paths) 200 c.copy_from_slice.new.self c.loop-tick.here (ap length copied ∙ cells_count paths (tick + 1)) c.requires c.loop-tick.invariant.here_size;
-      next_size = still (length paths) 200 c.write_cells-in-loop-tick.new.cells c.loop-tick.next (ap length new ∙ cells_count paths (tick + 1)) c.requires c.loop-tick.invariant.next_size;
+      here_size = still (length paths) 200 c.copy_from_slice.new.self c.loop-tick.here (ap length copied ∙ cells_count paths (tick + 1)) c.requires.few c.loop-tick.invariant.here_size;
+      next_size = still (length paths) 200 c.write_cells-in-loop-tick.new.cells c.loop-tick.next (ap length new ∙ cells_count paths (tick + 1)) c.requires.few c.loop-tick.invariant.next_size;
       cells = written paths (tick + 1) c.copy_from_slice.new.self (drop (length paths) c.loop-tick.here) copied;
       free = free_one_more (paths_behind paths) tick c.loop-tick.invariant.free
           (apart (paths_behind paths) tick
@@ -69,3 +70,10 @@ returns-clause-none c =
     let all : c.loop-tick.tick ≡ end = omega arith in
     let free = subst (λ n. AreConflictFreeBefore paths n) all c.loop-tick.invariant.free in
     none_after paths end c.longest-tick-end.ensures.positive c.longest-tick-end.ensures.longest free
+
+pub conflict_of-requires-clause-others : goal.conflict_of-requires-clause-others
+conflict_of-requires-clause-others c =
+    let paths = c.args.paths.now in
+    let next = written paths (c.loop-tick.tick + 1) c.write_cells-in-loop-tick.new.cells (drop (length paths) c.loop-tick.next) c.write_cells-in-loop-tick.ensures in
+    rw (c.loop-tick.invariant.cells, next) (IfSome_then c.agent_before-only.result c.agent_before-only.ensures (λ only is. subst (AreOthersApart (cells_at (paths_behind paths) c.loop-tick.tick) (cells_at (paths_behind paths) (c.loop-tick.tick + 1))) (sym is.0)
+    (others_apart (paths_behind paths) c.args.agent c.args.free c.loop-tick.tick c.requires.others is.1)))
