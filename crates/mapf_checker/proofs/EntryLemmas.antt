@@ -10,7 +10,7 @@ use Rattle.mapf_model.specs.declared.bar.Bar.{Bar}
 use Rattle.mapf_model.specs.Grid.{GridMap}
 use Rattle.mapf_model.specs.Labels.{entries_of, IsSoundEntry, AreSound}
 use Rattle.mapf_model.specs.Printed.{IsBefore}
-use Rattle.mapf_checker.specs.Order.{IsOf, StandsTo, IsNoneBelow, IsNoneFrom, IsStanding}
+use Rattle.mapf_checker.specs.Order.{IsOf, StandsTo, IsNoneBelow, IsNoneFrom}
 
 -- an entry before one that precedes a state isn't that of the state
 before_early : (a b : Entry) (cell tick : ℕ) → IsBefore a b → StandsTo cell tick b Less → IsOf cell tick a → ⊥
@@ -49,11 +49,6 @@ module _ (entries : List Entry) (rising : AllPairs IsBefore entries) (cell tick 
       (λ (past : middle < k). after_late (slice_index_or entries k d) entry cell tick (subst (λ e. IsBefore e (slice_index_or entries k d)) (is d) (rising middle k d past inside)) stands)
       (λ at. let same : k ≡ middle = omega arith in late (slice_index_or entries k d) cell tick (subst (λ e. StandsTo cell tick e Greater) (sym (is d) ∙ ap (λ j. slice_index_or entries j d) (sym same)) stands))
       (cases_lt middle k)
-
-  pub standing_in : ((d : Entry) → slice_index_or entries middle d ≡ entry) → (order : Ordering) → StandsTo cell tick entry order → IsStanding entries cell tick middle order
-  standing_in is Less stands = (within, misses_below is stands)
-  standing_in is Equal stands = (within, λ d. subst (IsOf cell tick) (sym (is d)) stands)
-  standing_in is Greater stands = misses_above is stands
 
 cases_of : (cell tick : ℕ) (e : Entry) → IsOf cell tick e ⊎ (IsOf cell tick e → ⊥)
 cases_of cell tick e = elim (cases_eq e.cell cell) [

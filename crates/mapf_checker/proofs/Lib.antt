@@ -4,6 +4,7 @@ pub mod IndexLemmas
 pub mod ChangeLemmas
 pub mod BranchLemmas
 pub mod EntryLemmas
+pub mod MarkLemmas
 pub mod StartLemmas
 pub mod BlockLemmas
 pub mod TreeLemmas

@@ -13,3 +13,4 @@ pub mod Faults
 pub mod Verdict
 pub mod Refusals
 pub mod CertJudging
+pub mod Marks

@@ -21,10 +21,3 @@ IsNoneBelow entries cell tick place = (k : ℕ) (d : Entry) → k < place → Is
 -- no entry from the index on is that of the state
 abbrev pub IsNoneFrom : List Entry → ℕ → ℕ → ℕ → Type 0
 IsNoneFrom entries cell tick place = (k : ℕ) (d : Entry) → place ≤ k → k < length entries → IsOf cell tick (slice_index_or entries k d) → ⊥
-
--- `Less`: neither the entry at the index nor one before it is that of the state; `Equal`: the entry at the index is;
--- `Greater`: no entry from the index on is
-abbrev pub IsStanding : List Entry → ℕ → ℕ → ℕ → Ordering → Type 0
-IsStanding entries cell tick place Less = (place < length entries) × IsNoneBelow entries cell tick (place + 1)
-IsStanding entries cell tick place Equal = (place < length entries) × ((d : Entry) → IsOf cell tick (slice_index_or entries place d))
-IsStanding entries cell tick place Greater = IsNoneFrom entries cell tick place

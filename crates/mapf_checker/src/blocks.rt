@@ -6,12 +6,14 @@ ghost use Rattle.mapf_distance.specs.Tables.{AreMade, HasTable};
 ghost use Rattle.mapf_checker.specs.AgentProblem.{CanJudge, HasGoalDistances, bars_on};
 ghost use Rattle.mapf_checker.specs.Branch.{IsIndexed, place_of};
 ghost use Rattle.mapf_checker.specs.Leaf.{IsGoodBlock, IsGoalOf, IsStartOf};
+ghost use Rattle.mapf_checker.specs.Marks.{CoverGrid};
 ghost use Rattle.mapf_checker.specs.NodeDefects.{HasUnsoundBlock, HasUnsoundEntry, IsUnsoundAt};
 ghost use Rattle.mapf_checker.specs.Starts.{AreChangesBy, IsChangeBy};
 
 use crate::branch::Branch;
-use crate::judge::{AgentProblem, Fingers, is_sound};
+use crate::judge::{AgentProblem, is_sound};
 use crate::labels::entry_at;
+use crate::marks::EntryMarks;
 use crate::starts::StartChange;
 use mapf_distance::LazyTables;
 use mapf_model::{Block, Cell, Entry, Neighbourhoods, OutOfMemory, Problem};
@@ -40,11 +42,13 @@ pub fn judge_blocks(
     problem: &Problem,
     tables: &LazyTables,
     branch: &Branch,
+    marks: &mut EntryMarks,
     blocks: &[Block],
     line: u64,
 ) -> Result<(), u64>
     requires tables { AreMade problem.now tables.now }
     requires ready { All (CanJudge tables.now branch.now) blocks.now }
+    requires marks { All (λ block. CoverGrid problem.now.grid marks.old) blocks.now }
     requires blocks { All (IsBlockInRange problem.now.grid (length problem.now.agents)) blocks.now }
     ensures ok { OnOk result (All (IsGoodBlock problem.now (place_of branch.now).here) blocks.now) }
     ensures err { OnErr result (HasUnsoundBlock problem.now (place_of branch.now).here blocks.now) }
@@ -53,7 +57,7 @@ pub fn judge_blocks(
     let mut line = line;
     for block in blocks {
         line = line.saturating_add(1);
-        judge_block(problem, &neighbourhoods, tables, branch, block, line)?;
+        judge_block(problem, &neighbourhoods, tables, branch, marks, block, line)?;
         line = line.saturating_add(block.entries.len() as u64);
     }
     Ok(())
@@ -65,15 +69,18 @@ fn judge_block(
     neighbourhoods: &Neighbourhoods,
     tables: &LazyTables,
     branch: &Branch,
+    marks: &mut EntryMarks,
     block: &Block,
     line: u64,
 ) -> Result<(), u64>
     requires width { neighbourhoods.now ≡ problem.now.grid.width }
     requires tables { AreMade problem.now tables.now }
     requires ready { CanJudge tables.now branch.now block.now }
+    requires marks { CoverGrid problem.now.grid marks.old }
     requires block { IsBlockInRange problem.now.grid (length problem.now.agents) block.now }
     ensures ok { OnOk result (IsGoodBlock problem.now (place_of branch.now).here block.now) }
     ensures err { OnErr result (HasUnsoundEntry problem.now (place_of branch.now).here block.now) }
+    ensures marks { CoverGrid problem.now.grid marks.new }
 {
     let agent = agent_of(block);
     let goal = goal_of(problem, agent);
@@ -85,7 +92,7 @@ fn judge_block(
         agent,
         goal,
     };
-    match first_unsound(&own, entries_in(block)) {
+    match first_unsound(&own, marks, entries_in(block)) {
         Some(k) => Err(line.saturating_add(k as u64).saturating_add(1)),
         None => Ok(()),
     }
@@ -111,17 +118,21 @@ fn goal_of(problem: &Problem, agent: u32) -> Cell
 }
 
 // Returns the index of the first entry of a block that isn't sound.
-fn first_unsound(own: &AgentProblem, entries: &[Entry]) -> Option<usize>
+fn first_unsound(own: &AgentProblem, marks: &mut EntryMarks, entries: &[Entry]) -> Option<usize>
     requires distances { HasGoalDistances own.now }
     requires indexed { IsIndexed own.now.branch.now }
     requires rising { AllPairs IsBefore entries.now }
     requires ticks { All (λ entry. entry.tick ≤ greatest_cost) entries.now }
+    requires cells { All (λ entry. entry.cell < length marks.old.offsets) entries.now }
     ensures none { IfNone result (AreSound own.now.grid.now own.now.goal (bars_on own.now) (entries_of entries.now)) }
     ensures some { IfSome result (IsUnsoundAt own.now entries.now) }
+    ensures size { length marks.new.offsets ≡ length marks.old.offsets }
 {
-    let mut fingers: Fingers = [0; 5];
+    marks.begin(entries);
     for k in 0..entries.len() {
-        if !is_sound(own, entries, &mut fingers, &entries[k]) {
+        let entry = &entries[k];
+        marks.advance(entries, entry.tick + 1);
+        if !is_sound(own, entries, marks, entry) {
             return Some(k);
         }
     }

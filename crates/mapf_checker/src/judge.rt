@@ -1,4 +1,4 @@
-ghost use Rattle.std.specs.Prelude.{◌≡◌, ◌≤◌, ◌↔◌, AllPairs, IsTrue, Contains};
+ghost use Rattle.std.specs.Prelude.{◌≡◌, ◌+◌, ◌≤◌, ◌↔◌, AllPairs, IsTrue, Contains};
 ghost use Rattle.mapf_model.specs.Grid.{IsFree};
 ghost use Rattle.mapf_model.specs.Labels.{MayGo};
 ghost use Rattle.mapf_model.specs.Limits.{greatest_cost};
@@ -7,9 +7,11 @@ ghost use Rattle.mapf_checker.specs.AgentProblem.{HasGoalDistances, bars_on};
 ghost use Rattle.mapf_checker.specs.AgentProblem.{IsConsistent, IsConsistentStep, IsSoundAmong};
 ghost use Rattle.mapf_checker.specs.Branch.{IsIndexed};
 ghost use Rattle.mapf_checker.specs.Index.{IsBarredFrom};
+ghost use Rattle.mapf_checker.specs.Marks.{IsMarking};
 
 use crate::branch::Branch;
-use crate::labels::{exceeds, is_within_one, label_from};
+use crate::labels::{exceeds, is_within_one, label_by};
+use crate::marks::EntryMarks;
 use mapf_distance::Distances;
 use mapf_model::{Bar, Cell, Entry, Grid, Neighbourhoods, laws};
 
@@ -26,16 +28,15 @@ pub struct AgentProblem<'a> {
     pub goal: Cell,
 }
 
-/// For each place of a neighbourhood, where the search for the entry of its cell continues.
-pub type Fingers = [usize; 5];
-
-/// Returns whether the entry is sound in the block: its label is greater than the distance; and, unless the state is
-/// forbidden, no step that the constraints allow lowers the label by more than one, and if the cell is the goal, some
-/// vertex constraint forbids it at this tick or later.
-pub fn is_sound(own: &AgentProblem, entries: &[Entry], fingers: &mut Fingers, entry: &Entry) -> bool
+/// Returns whether the entry is sound in the block, whose entries one tick later are marked: its label is greater than
+/// the distance; and, unless the state is forbidden, no step that the constraints allow lowers the label by more than
+/// one, and if the cell is the goal, some vertex constraint forbids it at this tick or later.
+pub fn is_sound(own: &AgentProblem, entries: &[Entry], marks: &EntryMarks, entry: &Entry) -> bool
     requires distances { HasGoalDistances own.now }
     requires indexed { IsIndexed own.now.branch.now }
     requires rising { AllPairs IsBefore entries.now }
+    requires marking { IsMarking entries.now marks.now }
+    requires after { marks.now.tick ≡ entry.now.tick + 1 }
     requires tick { entry.now.tick ≤ greatest_cost }
     ensures { IsTrue result ↔ IsSoundAmong own.now entries.now entry.now }
 {
@@ -46,7 +47,7 @@ pub fn is_sound(own: &AgentProblem, entries: &[Entry], fingers: &mut Fingers, en
         return false;
     }
     // Few states are forbidden, so the labels, which decide more often than the constraints, are compared first.
-    is_open_sound(own, entries, fingers, entry) || is_barred(own, entry)
+    is_open_sound(own, entries, marks, entry) || is_barred(own, entry)
 }
 
 fn is_barred(own: &AgentProblem, entry: &Entry) -> bool
@@ -61,15 +62,12 @@ fn is_barred(own: &AgentProblem, entry: &Entry) -> bool
 }
 
 // Returns whether the label is sound for a state that isn't forbidden.
-fn is_open_sound(
-    own: &AgentProblem,
-    entries: &[Entry],
-    fingers: &mut Fingers,
-    entry: &Entry,
-) -> bool
+fn is_open_sound(own: &AgentProblem, entries: &[Entry], marks: &EntryMarks, entry: &Entry) -> bool
     requires distances { HasGoalDistances own.now }
     requires indexed { IsIndexed own.now.branch.now }
     requires rising { AllPairs IsBefore entries.now }
+    requires marking { IsMarking entries.now marks.now }
+    requires after { marks.now.tick ≡ entry.now.tick + 1 }
     requires tick { entry.now.tick ≤ greatest_cost }
     requires free { IsFree own.now.grid.now entry.now.cell }
     ensures { IsTrue result ↔ ((entry.now.cell ≡ own.now.goal
@@ -79,14 +77,16 @@ fn is_open_sound(
     if entry.cell == own.goal && !own.branch.has_from(own.agent, own.goal, entry.tick) {
         return false;
     }
-    goes_on(own, entries, fingers, entry)
+    goes_on(own, entries, marks, entry)
 }
 
 // Returns whether the label is at most one more than the label after each step that the constraints allow.
-fn goes_on(own: &AgentProblem, entries: &[Entry], fingers: &mut Fingers, entry: &Entry) -> bool
+fn goes_on(own: &AgentProblem, entries: &[Entry], marks: &EntryMarks, entry: &Entry) -> bool
     requires distances { HasGoalDistances own.now }
     requires indexed { IsIndexed own.now.branch.now }
     requires rising { AllPairs IsBefore entries.now }
+    requires marking { IsMarking entries.now marks.now }
+    requires after { marks.now.tick ≡ entry.now.tick + 1 }
     requires tick { entry.now.tick ≤ greatest_cost }
     requires free { IsFree own.now.grid.now entry.now.cell }
     ensures { IsTrue result ↔ IsConsistent own.now entries.now entry.now }
@@ -96,7 +96,7 @@ fn goes_on(own: &AgentProblem, entries: &[Entry], fingers: &mut Fingers, entry: 
     let places = own.neighbourhoods.around(entry.cell);
     for k in 0..places.len() {
         if let Some(next) = places[k] {
-            if !step_holds(own, entries, &mut fingers[k], entry, next) {
+            if !step_holds(own, entries, marks, entry, next) {
                 return false;
             }
         }
@@ -108,26 +108,30 @@ fn goes_on(own: &AgentProblem, entries: &[Entry], fingers: &mut Fingers, entry: 
 fn step_holds(
     own: &AgentProblem,
     entries: &[Entry],
-    finger: &mut usize,
+    marks: &EntryMarks,
     entry: &Entry,
     next: Cell,
 ) -> bool
     requires distances { HasGoalDistances own.now }
     requires indexed { IsIndexed own.now.branch.now }
     requires rising { AllPairs IsBefore entries.now }
+    requires marking { IsMarking entries.now marks.now }
+    requires after { marks.now.tick ≡ entry.now.tick + 1 }
     requires tick { entry.now.tick ≤ greatest_cost }
     ensures { IsTrue result ↔ IsConsistentStep own.now entries.now entry.now next }
 {
     laws::definitions_are_decided();
     // Few steps are forbidden, so the labels are compared before the constraints.
-    let after = label_from(entries, finger, own.distances, next, entry.tick + 1);
+    let after = label_by(entries, marks, own.distances, next);
     if is_within_one(entry.label, after) {
         return true;
     }
     !may_go(own, entry, next)
 }
 
-// Returns whether the agent may go to the cell from the entry's state.
+// Returns whether the agent may go to the cell from the entry's state. A call of its own keeps the loop that asks
+// small, so that it is unrolled.
+#[inline(never)]
 fn may_go(own: &AgentProblem, entry: &Entry, next: Cell) -> bool
     requires indexed { IsIndexed own.now.branch.now }
     requires tick { entry.now.tick ≤ greatest_cost }

@@ -4,8 +4,10 @@ ghost use Rattle.mapf_model.specs.Labels.{IsAtMost, one_more};
 ghost use Rattle.mapf_model.specs.Grid.{GridMap};
 ghost use Rattle.mapf_model.specs.Printed.{IsBefore};
 ghost use Rattle.mapf_distance.specs.Distances.{IsDistanceOrNone};
-ghost use Rattle.mapf_checker.specs.Order.{StandsTo, IsStanding, IsNoneBelow};
+ghost use Rattle.mapf_checker.specs.Marks.{IsMarking};
+ghost use Rattle.mapf_checker.specs.Order.{StandsTo};
 
+use crate::marks::EntryMarks;
 use mapf_distance::Distances;
 use mapf_model::{Cell, Entry, Label, Tick};
 use std::cmp::Ordering;
@@ -25,55 +27,6 @@ pub fn entry_at(entries: &[Entry], cell: Cell, tick: Tick) -> Option<Label>
         }
     }
     None
-}
-
-/// Returns the entry of a state in a block. Searches from the index `finger`, and leaves it after the entry, or where
-/// the entry would be. So for states in rising order each entry is passed once.
-pub fn entry_from(entries: &[Entry], finger: &mut usize, cell: Cell, tick: Tick) -> Option<Label>
-    requires { AllPairs IsBefore entries.now }
-    ensures { result ≡ entries_of entries.now cell tick }
-{
-    let place = first_from(entries, *finger, cell, tick);
-    *finger = place;
-    match standing(entries, place, cell, tick) {
-        Ordering::Equal => {
-            *finger = place + 1;
-            Some(entries[place].label)
-        }
-        Ordering::Greater if is_passed(entries, place, cell, tick) => None,
-        // `finger` was beyond the place of the state.
-        _ => entry_at(entries, cell, tick),
-    }
-}
-
-// Returns the first index from this one on whose entry doesn't precede the state.
-fn first_from(entries: &[Entry], from: usize, cell: Cell, tick: Tick) -> usize
-    requires { AllPairs IsBefore entries.now }
-{
-    let mut place = from;
-    while matches!(standing(entries, place, cell, tick), Ordering::Less) {
-        place += 1;
-    }
-    place
-}
-
-// Returns whether the entry before this index, if there is one, precedes the state.
-fn is_passed(entries: &[Entry], place: usize, cell: Cell, tick: Tick) -> bool
-    requires { AllPairs IsBefore entries.now }
-    ensures { IsTrue result → IsNoneBelow entries.now cell tick place }
-{
-    place == 0 || matches!(standing(entries, place - 1, cell, tick), Ordering::Less)
-}
-
-// Compares the entry at this index with a state. After the last entry the result is `Greater`.
-fn standing(entries: &[Entry], place: usize, cell: Cell, tick: Tick) -> Ordering
-    requires { AllPairs IsBefore entries.now }
-    ensures { IsStanding entries.now cell tick place result }
-{
-    match entries.get(place) {
-        Some(entry) => order(entry, cell, tick),
-        None => Ordering::Greater,
-    }
 }
 
 // Compares the entry with a state, by tick and then by cell.
@@ -122,18 +75,14 @@ fn label_or_distance(entry: Option<Label>, distances: &Distances, cell: Cell) ->
     }
 }
 
-/// Returns the label of a state, whose entry is looked up as in `entry_from`.
-pub fn label_from(
-    entries: &[Entry],
-    finger: &mut usize,
-    distances: &Distances,
-    cell: Cell,
-    tick: Tick,
-) -> Label
-    requires { AllPairs IsBefore entries.now }
-    ensures { IsLabel distances.now.grid distances.now.goal (entries_of entries.now) cell tick result }
+/// Returns the label of the cell at the tick whose entries are marked.
+#[inline(always)]
+pub fn label_by(entries: &[Entry], marks: &EntryMarks, distances: &Distances, cell: Cell) -> Label
+    requires rising { AllPairs IsBefore entries.now }
+    requires marking { IsMarking entries.now marks.now }
+    ensures { IsLabel distances.now.grid distances.now.goal (entries_of entries.now) cell marks.now.tick result }
 {
-    label_or_distance(entry_from(entries, finger, cell, tick), distances, cell)
+    label_or_distance(marks.entry(entries, cell), distances, cell)
 }
 
 /// Returns whether a label is at most one more than another.

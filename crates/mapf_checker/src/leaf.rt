@@ -10,12 +10,14 @@ ghost use Rattle.mapf_checker.specs.AgentProblem.{CanJudge};
 ghost use Rattle.mapf_checker.specs.Branch.{place_of};
 ghost use Rattle.mapf_checker.specs.Leaf.{IsStartTotal, IsEnough, IsStartLabel};
 ghost use Rattle.mapf_checker.specs.Leaf.{IsPlaceOfAgent, TakesBlock, LeavesBlock, label_of_total};
+ghost use Rattle.mapf_checker.specs.Marks.{CoverGrid};
 ghost use Rattle.mapf_checker.specs.NodeDefects.{HasNodeDefect};
 
 use crate::blocks::{agent_of, entries_in, judge_blocks, start_of};
 use crate::branch::Branch;
 use crate::fault::CheckFault;
 use crate::labels::{entry_at, entry_or};
+use crate::marks::EntryMarks;
 use mapf_distance::LazyTables;
 use mapf_model::{Block, Claim, Label, Problem, laws};
 
@@ -26,12 +28,14 @@ pub fn judge_leaf(
     tables: &LazyTables,
     distances: &[Option<u32>],
     branch: &Branch,
+    marks: &mut EntryMarks,
     claim: &Claim,
     blocks: &[Block],
     line: u64,
 ) -> Result<(), CheckFault>
     requires tables { AreMade problem.now tables.now }
     requires ready { All (CanJudge tables.now branch.now) blocks.now }
+    requires marks { All (λ block. CoverGrid problem.now.grid marks.old) blocks.now }
     requires distances { AreStartDistances problem.now distances.now }
     requires agents { branch.now.agents ≡ length problem.now.agents }
     requires blocks { AreBlocksInRange problem.now.grid (length problem.now.agents) blocks.now }
@@ -39,7 +43,7 @@ pub fn judge_leaf(
     ensures err { IfErr result (HasNodeDefect problem.now claim.now (place_of branch.now).here (LeafNode blocks.now)) }
 {
     laws::definitions_are_decided();
-    if let Err(unsound) = judge_blocks(problem, tables, branch, blocks, line) {
+    if let Err(unsound) = judge_blocks(problem, tables, branch, marks, blocks, line) {
         return Err(CheckFault::C7(unsound));
     }
     let total = start_total(problem, distances, branch, blocks);

@@ -14,6 +14,7 @@ mod labels;
 mod lawful;
 pub mod laws;
 mod leaf;
+mod marks;
 mod plan_fault;
 mod plan_judge;
 mod starts;

@@ -9,6 +9,7 @@ ghost use Rattle.mapf_model.specs.Tree.{AreTwoAgents, ShareGoal};
 ghost use Rattle.mapf_checker.specs.Faults.{IsOfJudging};
 ghost use Rattle.mapf_distance.specs.Tables.{AreStartDistances};
 ghost use Rattle.mapf_checker.specs.AgentProblem.{CanJudge};
+ghost use Rattle.mapf_checker.specs.Marks.{CoverGrid};
 ghost use Rattle.mapf_checker.specs.NodeDefects.{HasNodeDefect, IsUnsoundLabel, IsGoodNode};
 ghost use Rattle.mapf_checker.specs.Starts.{AreChangesBy};
 ghost use Rattle.mapf_checker.specs.Branch.{place_of};
@@ -17,6 +18,7 @@ use crate::blocks::{changes_by, judge_blocks, make_tables};
 use crate::branch::Branch;
 use crate::fault::{CheckFault, FromFault};
 use crate::leaf::judge_leaf;
+use crate::marks::EntryMarks;
 use crate::starts::StartChange;
 use mapf_distance::{LazyTables, start_distances};
 use mapf_model::{Block, Claim, Conflict, Item, OutOfMemory, Problem};
@@ -28,6 +30,8 @@ pub struct Progress {
     branch: Branch,
     // The distances to the goals of the agents that had a block so far.
     tables: LazyTables,
+    // Made at the first block.
+    marks: EntryMarks,
     // The distances of the starts, made at the first leaf.
     distances: Vec<Option<u32>>,
     /// Whether the whole tree was judged.
@@ -45,6 +49,7 @@ impl Progress {
         Ok(Progress {
             branch: Branch::new(alloc, problem.agents().len())?,
             tables: LazyTables::of(alloc, problem)?,
+            marks: EntryMarks::new(alloc),
             distances: Vec::new(alloc),
             is_over: false,
         })
@@ -131,7 +136,14 @@ impl Progress {
             return Ok(Vec::new(alloc));
         }
         self.see_to_blocks(alloc, problem, blocks)?;
-        if let Err(unsound) = judge_blocks(problem, &self.tables, &self.branch, blocks, line) {
+        if let Err(unsound) = judge_blocks(
+            problem,
+            &self.tables,
+            &self.branch,
+            &mut self.marks,
+            blocks,
+            line,
+        ) {
             return Err(FromFault::Refused(CheckFault::C7(unsound)));
         }
         let Ok(changes) = changes_by(alloc, problem, &self.branch, blocks) else {
@@ -164,6 +176,7 @@ impl Progress {
             &self.tables,
             &self.distances,
             &self.branch,
+            &mut self.marks,
             claim,
             blocks,
             line,
@@ -173,8 +186,8 @@ impl Progress {
         self.end()
     }
 
-    // Makes what the blocks are judged by: the tables of their agents, and the index of the constraints along the path.
-    // Without blocks none is needed.
+    // Makes what the blocks are judged by: the tables of their agents, the index of the constraints along the path, and
+    // marks for the cells. Without blocks none is needed.
     fn see_to_blocks(
         &mut self,
         alloc: Global,
@@ -185,6 +198,7 @@ impl Progress {
         requires blocks { AreBlocksInRange problem.now.grid (length problem.now.agents) blocks.now }
         ensures ready { OnOk result (IsReady problem.now self.new) }
         ensures blocks { OnOk result (All (CanJudge self.new.tables self.new.branch) blocks.now) }
+        ensures marks { OnOk result (All (λ block. CoverGrid problem.now.grid self.new.marks) blocks.now) }
         ensures edges { self.new.branch.edges ≡ self.old.branch.edges }
         ensures over { self.new.is_over ≡ self.old.is_over }
         ensures memory { IfErr result (λ fault. fault ≡ FromFault.Memory) }
@@ -198,6 +212,10 @@ impl Progress {
         let Ok(()) = self.branch.index_all() else {
             return Err(FromFault::Memory);
         };
+        let grid = problem.grid();
+        let Ok(()) = self.marks.make((grid.width() * grid.height()) as usize) else {
+            return Err(FromFault::Memory);
+        };
         Ok(())
     }
 
@@ -208,6 +226,7 @@ impl Progress {
         ensures distances { OnOk result (AreStartDistances problem.now self.new.distances.items) }
         ensures tables { self.new.tables ≡ self.old.tables }
         ensures branch { self.new.branch ≡ self.old.branch }
+        ensures marks { self.new.marks ≡ self.old.marks }
         ensures over { self.new.is_over ≡ self.old.is_over }
         ensures memory { IfErr result (λ fault. fault ≡ FromFault.Memory) }
     {

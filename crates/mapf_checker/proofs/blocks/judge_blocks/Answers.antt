@@ -28,16 +28,28 @@ loop-block-preserved c =
     let blocks = c.args.blocks.now in
     let here = (place_of c.args.branch.now).here in
     let read = slice_get_read blocks _ c.loop-block.block-index c.block-item.result refl c.loop-block-test.true c.block-item.is in
-    λ k d within. ⊎_elim
-    (λ (less : k < c.loop-block.block-index). c.loop-block.invariant k d less)
-    (λ past. let same : k ≡ c.loop-block.block-index = omega arith in
-    subst (λ j. IsGoodBlock c.args.problem.now here (slice_index_or blocks j d)) (sym same)
-    (subst (λ b. IsGoodBlock c.args.problem.now here b) (sym (get_or_from_slice_get blocks c.loop-block.block-index c.block-item.result d read)) c.in_ok-judge_block.ensures.ok))
-    (cases_lt k c.loop-block.block-index)
+    record {
+      good = λ k d within. ⊎_elim
+          (λ (less : k < c.loop-block.block-index). c.loop-block.invariant.good k d less)
+          (λ past. let same : k ≡ c.loop-block.block-index = omega arith in
+          subst (λ j. IsGoodBlock c.args.problem.now here (slice_index_or blocks j d)) (sym same)
+          (subst (λ b. IsGoodBlock c.args.problem.now here b) (sym (get_or_from_slice_get blocks c.loop-block.block-index c.block-item.result d read)) c.in_ok-judge_block.ensures.ok))
+          (cases_lt k c.loop-block.block-index);
+      marks = λ k d from within. c.in_ok-judge_block.ensures.marks;
+    }
 
 pub returns-clause-ok : goal.returns-clause-ok
-returns-clause-ok c k d within = c.loop-block.invariant k d (omega arith)
+returns-clause-ok c k d within = c.loop-block.invariant.good k d (omega arith)
 
 pub judge_block-requires-clause-ready : goal.judge_block-requires-clause-ready
 judge_block-requires-clause-ready c =
     subst (λ (b : LabelBlock). CanJudge c.args.tables.now c.args.branch.now b) (sym c.block-item.is) (c.requires.ready c.loop-block.block-index c.block-item.result c.loop-block-test.true)
+
+pub judge_block-requires-clause-marks : goal.judge_block-requires-clause-marks
+judge_block-requires-clause-marks c = c.loop-block.invariant.marks c.loop-block.block-index c.block-item.result (omega arith) c.loop-block-test.true
+
+pub loop-block-init : goal.loop-block-init
+loop-block-init c = record {
+  good = λ k d none. absurd (omega arith);
+  marks = λ k d from within. c.requires.marks k d within;
+}

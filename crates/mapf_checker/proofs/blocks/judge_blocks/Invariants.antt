@@ -1,8 +1,12 @@
-use Rattle.std.proofs.Common.{ℕ, ◌<◌, slice_index_or}
+use Rattle.std.proofs.Common.{ℕ, ◌<◌, ◌≤◌, length, slice_index_or}
 use Rattle.mapf_model.specs.Blocks.{LabelBlock}
 use Rattle.mapf_checker.specs.Leaf.{IsGoodBlock}
+use Rattle.mapf_checker.specs.Marks.{CoverGrid}
 use Rattle.mapf_checker.specs.Branch.{place_of}
 use Rattle.mapf_checker.proofs.blocks.judge_blocks.Given as goal
 
 abbrev pub invariant-loop-block : goal.invariant-loop-block
-invariant-loop-block l = (k : ℕ) (d : LabelBlock) → k < l.block-index → IsGoodBlock l.problem (place_of l.branch).here (slice_index_or l.blocks k d)
+invariant-loop-block l = record {
+  good : (k : ℕ) (d : LabelBlock) → k < l.block-index → IsGoodBlock l.problem (place_of l.branch).here (slice_index_or l.blocks k d);
+  marks : (k : ℕ) (d : LabelBlock) → l.block-index ≤ k → k < length l.blocks → CoverGrid l.problem.grid l.marks;
+}

@@ -15,3 +15,6 @@ returns-clause-good c = on_ok c.end.result (λ _. rw (c.see_to_distances.ensures
 
 pub judge_leaf-requires-clause-ready : goal.judge_leaf-requires-clause-ready
 judge_leaf-requires-clause-ready c = rw (c.see_to_distances.ensures.tables, c.see_to_distances.ensures.branch) c.in_ok-see_to_blocks.ensures.blocks
+
+pub judge_leaf-requires-clause-marks : goal.judge_leaf-requires-clause-marks
+judge_leaf-requires-clause-marks c = rw c.see_to_distances.ensures.marks c.in_ok-see_to_blocks.ensures.marks
