@@ -6,5 +6,6 @@ pub mod SweptLemmas
 pub mod SweepLemmas
 pub mod LabelLemmas
 pub mod WayLemmas
+pub mod DirectLemmas
 pub mod PathLemmas
 pub mod AnswerLemmas

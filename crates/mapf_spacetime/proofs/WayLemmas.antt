@@ -116,7 +116,7 @@ module _ (task : Task) (cost : ℕ) (way : Walked) (w : IsSearching task cost wa
       }
 
 -- a walk to the goal has at least as many steps as the distance
-arrives_walks : (task : Task) (cost n : ℕ) (s : State) → IsFree task.grid s.cell → CanArriveIn task cost n s → Walk task.grid s.cell task.goal n × (s.tick + n ≡ cost)
+pub arrives_walks : (task : Task) (cost n : ℕ) (s : State) → IsFree task.grid s.cell → CanArriveIn task cost n s → Walk task.grid s.cell task.goal n × (s.tick + n ≡ cost)
 arrives_walks task cost zero s free here = ((free, ap (λ (t : State). t.cell) here), (let tick = ap (λ (t : State). t.tick) here in omega arith))
 arrives_walks task cost (suc n) s free (next, goes, on) =
     let rest = arrives_walks task cost n next (step_end task.grid s.cell next.cell goes.may.step) on in

@@ -1,7 +1,7 @@
-ghost use Rattle.std.specs.Prelude.{◌≡◌, ◌*◌, ◌<◌, ◌≤◌, ℕ, IfSome, IfNone, IsTrue, Contains, false};
+ghost use Rattle.std.specs.Prelude.{◌≡◌, ◌+◌, ◌*◌, ◌<◌, ◌≤◌, ◌↔◌, ℕ, IfSome, IfNone, IsTrue, Contains, false};
 ghost use Rattle.mapf_model.specs.declared.bar.Bar.{Bar};
 ghost use Rattle.mapf_constraints.specs.BarSets.{AreBefore};
-ghost use Rattle.mapf_model.specs.Distance.{IsUnreachable};
+ghost use Rattle.mapf_model.specs.Distance.{IsDistance, IsUnreachable};
 ghost use Rattle.mapf_model.specs.Grid.{IsFree, Step};
 ghost use Rattle.mapf_model.specs.Labels.{MayGo};
 ghost use Rattle.mapf_model.specs.Limits.{most_cells, most_path_cells, split_ticks};
@@ -108,6 +108,32 @@ impl<'a, B: BarTable> Ground<'a, B> {
             Some(distance) => Some(state.tick + distance),
             None => None,
         }
+    }
+
+    /// Returns the cell of the least number that is one step from this one and nearer to the goal.
+    #[inline(always)]
+    pub fn nearer(&self, cell: Cell, distance: u32) -> Cell
+        requires { IsDistance self.now.grid self.now.goal cell (distance + 1) }
+        ensures step { Step self.now.grid cell result }
+        ensures nearer { IsDistance self.now.grid self.now.goal result distance }
+        ensures least { (other : ℕ) → Step self.now.grid cell other
+            → IsDistance self.now.grid self.now.goal other distance → result ≤ other }
+    {
+        for place in self.beside(cell) {
+            if let Some(next) = place {
+                if self.is_at(next, distance) {
+                    return next;
+                }
+            }
+        }
+        unreachable!()
+    }
+
+    #[inline(always)]
+    fn is_at(&self, cell: Cell, distance: u32) -> bool
+        ensures { IsTrue result ↔ IsDistance self.now.grid self.now.goal cell distance }
+    {
+        self.distances.get(cell) == Some(distance)
     }
 
     /// Returns whether the constraints allow the agent to go from the state to the cell.

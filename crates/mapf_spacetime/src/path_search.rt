@@ -1,12 +1,13 @@
 ghost use Rattle.std.specs.Prelude.{◌≡◌, ◌+◌, ◌-◌, ◌<◌, ◌≤◌, ◌^◌, ℕ, Some, length, slice_index};
 ghost use Rattle.std.specs.Prelude.{false, IfOk, IfSome, IfNone, OnOk, IsTrue, Contains};
+ghost use Rattle.mapf_constraints.specs.BarSets.{AreBefore};
 ghost use Rattle.mapf_model.specs.Grid.{IsFree, Step};
 ghost use Rattle.mapf_model.specs.Labels.{MayGo};
 ghost use Rattle.mapf_model.specs.Limits.{most_path_cells};
 ghost use Rattle.mapf_model.specs.Neighbours.{neighbourhood};
-ghost use Rattle.mapf_spacetime.specs.Task.{IsWithin, state_at, start_of, cost_bound};
+ghost use Rattle.mapf_spacetime.specs.Task.{IsValue, IsWithin, state_at, start_of, cost_bound};
 ghost use Rattle.mapf_spacetime.specs.PathSearch.{AreNoWaysBelow, CanArrive, IsNoWayOn, IsSearching, IsWholeWalk};
-ghost use Rattle.mapf_spacetime.specs.PathSearch.{turns_left, first_walk, with_step, with_failure};
+ghost use Rattle.mapf_spacetime.specs.PathSearch.{state_of, turns_left, first_walk, with_step, with_failure};
 
 use crate::ground::Ground;
 use crate::state::State;
@@ -165,6 +166,40 @@ impl PathSearch {
         Ok(true)
     }
 
+    /// Returns whether only shortest paths lead on to the goal at the cost, and no constraint forbids any of their steps.
+    #[inline(always)]
+    fn is_direct<B: BarTable>(&self, ground: &Ground<B>, cost: u32) -> bool
+        requires some { 1 ≤ length self.now.cells }
+        requires short { length self.now.cells ≤ most_path_cells }
+        ensures free { IsTrue result → AreBefore (length self.now.cells - 1) ground.now.bars }
+        ensures level { IsTrue result →
+            IsValue ground.now (state_of self.now.cells (length self.now.cells - 1)) cost }
+    {
+        let here = self.last();
+        here.tick >= ground.horizon() && ground.value(&here) == Some(cost)
+    }
+
+    /// Returns the cells of the walk, and of a shortest path from its last cell on: the one of the least numbers.
+    fn go_straight<B: BarTable>(
+        self,
+        ground: &Ground<B>,
+        cost: u32,
+    ) -> Result<Vec<Cell>, OutOfMemory>
+        requires small { cost < cost_bound }
+        requires searching { IsSearching ground.now cost self }
+        requires free { AreBefore (length self.cells - 1) ground.now.bars }
+        requires level { IsValue ground.now (state_of self.cells (length self.cells - 1)) cost }
+        ensures { IfOk result (λ cells. IsWholeWalk ground.now cost cells.items) }
+    {
+        let mut cells = self.into_cells();
+        while cells.len() <= cost as usize {
+            let tick = cells.len() - 1;
+            let here = cells[tick];
+            cells.push(ground.nearer(here, cost - tick as u32 - 1))?;
+        }
+        Ok(cells)
+    }
+
     /// Returns the cells of the walk.
     fn into_cells(self) -> Vec<Cell>
         ensures { result.items ≡ self.cells }
@@ -199,6 +234,9 @@ pub fn least_walk<B: BarTable>(
 {
     let mut walk = PathSearch::of(alloc, ground.start(), cost)?;
     while walk.len() <= cost as usize {
+        if walk.is_direct(ground, cost) {
+            return walk.go_straight(ground, cost);
+        }
         if !walk.go_on(ground, cost)? {
             unreachable!();
         }
@@ -219,6 +257,9 @@ pub fn try_walk<B: BarTable>(
 {
     let mut walk = PathSearch::of(alloc, ground.start(), cost)?;
     while walk.len() <= cost as usize {
+        if walk.is_direct(ground, cost) {
+            return Ok(Some(walk.go_straight(ground, cost)?));
+        }
         if walk.failures() >= most_failures || !walk.go_on(ground, cost)? {
             return Ok(None);
         }
