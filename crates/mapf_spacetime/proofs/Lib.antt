@@ -1,5 +1,6 @@
 pub mod SetLemmas
 pub mod CellLemmas
+pub mod FilledLemmas
 pub mod EntryLemmas
 pub mod ValueLemmas
 pub mod SweptLemmas

@@ -1,5 +1,5 @@
 -- Sets of cells as bits of words.
-use Rattle.std.specs.Prelude.{◌≡◌, ℕ, ◌/◌, ◌%◌, ◌<◌, ◌≤◌, List, length, slice_index}
+use Rattle.std.specs.Prelude.{◌≡◌, ℕ, ◌/◌, ◌%◌, ◌<◌, ◌≤◌, ◌≢◌, ◌*◌, List, length, slice_index}
 use Rattle.std.specs.Int.{bit_at}
 
 -- the cell is in the set: its bit is 1
@@ -18,3 +18,9 @@ pub record AreEmptyOutside (words : List ℕ) (first end : ℕ) : Type 0 where
 -- the words are for no more cells than a grid has
 abbrev pub IsShort : List ℕ → Type 0
 IsShort words = length words ≤ 65536
+
+-- `filled` has the places of the words that aren't 0 and no others, and room for the place of each word
+pub record AreFilled (words filled : List ℕ) : Type 0 where
+  pub full : (place : ℕ) → slice_index words place ≢ 0 → HasCell filled place
+  pub only : (place : ℕ) → HasCell filled place → slice_index words place ≢ 0
+  pub room : length words ≤ 64 * length filled

@@ -1,29 +1,31 @@
-ghost use Rattle.std.specs.Prelude.{◌≡◌, ◌≢◌, ◌*◌, ◌<◌, ◌≤◌, ◌⊎◌, ◌↔◌, ℕ, length, IfSome, IfNone, IsTrue, OnOk};
+ghost use Rattle.std.specs.Prelude.{◌≡◌, ◌≢◌, ◌*◌, ◌/◌, ◌<◌, ◌≤◌, ◌⊎◌, ◌↔◌, ℕ, length, slice_index};
+ghost use Rattle.std.specs.Prelude.{IfSome, IfNone, IsTrue, OnOk};
 ghost use Rattle.mapf_model.specs.Limits.{most_cells};
-ghost use Rattle.mapf_spacetime.specs.CellSets.{HasCell, HasNone};
+ghost use Rattle.mapf_spacetime.specs.CellSets.{AreEmptyOutside, HasCell, HasNone, IsShort};
 
+use crate::number_set::NumberSet;
 use mapf_model::{Cell, OutOfMemory};
 use std::alloc::Global;
 use std::marker::Model;
 
-/// A set of cells from which the least is taken again and again: a bit for each cell.
+/// A set of cells from which the least is taken again and again: a bit for each cell. The places of the words that
+/// aren't 0 are in a set of their own, so the words between two cells that are far apart needn't be looked at.
 #[derive(Drop)]
 pub struct CellSet {
     words: Vec<u64>,
-    // The words before this one are 0, and so are those from `end` on.
-    first: usize,
-    end: usize,
+    // The places of the words that aren't 0.
+    filled: NumberSet,
 }
 
 impl Model for CellSet {
     ghost use Rattle.std.specs.Prelude.{List, ℕ};
-    ghost use Rattle.mapf_spacetime.specs.CellSets.{AreEmptyOutside, IsShort};
+    ghost use Rattle.mapf_spacetime.specs.CellSets.{AreFilled, IsShort};
 
     ghost Value = { List ℕ };
 
     ghost view = { λ set. set.words.items };
 
-    ghost invariant = { λ set. AreEmptyOutside set.words.items set.first set.end × IsShort set.words.items };
+    ghost invariant = { λ set. AreFilled set.words.items set.filled × IsShort set.words.items };
 }
 
 impl CellSet {
@@ -31,8 +33,7 @@ impl CellSet {
     pub fn new(alloc: Global) -> CellSet {
         CellSet {
             words: Vec::new(alloc),
-            first: 0,
-            end: 0,
+            filled: NumberSet::new(alloc),
         }
     }
 
@@ -42,15 +43,17 @@ impl CellSet {
         ensures none { OnOk result (HasNone self.new) }
         ensures room { OnOk result (cells ≤ 64 * length self.new) }
     {
-        let words = cells.div_ceil(64) as usize;
-        for place in self.first..self.end {
-            self.words[place] = 0;
+        // Only the proof needs `from`: the places come in rising order, and it is greater than those that came.
+        let mut from = 0u64;
+        while let Some(place) = self.filled.take_least() {
+            self.words[place as usize] = 0;
+            from = u64::from(place) + 1;
         }
-        if self.words.len() < words {
-            self.words.resize(words, 0)?;
+        let words = cells.div_ceil(64);
+        if self.words.len() < words as usize {
+            self.filled.clear(words)?;
+            self.words.resize(words as usize, 0)?;
         }
-        self.first = self.words.len();
-        self.end = 0;
         Ok(())
     }
 
@@ -73,10 +76,11 @@ impl CellSet {
         ensures only { (other : ℕ) → HasCell self.new other → HasCell self.old other ⊎ (other ≡ cell) }
         ensures room { length self.new ≡ length self.old }
     {
-        let place = cell.0 as usize / 64;
-        self.words[place] |= 1 << (cell.0 % 64);
-        self.first = self.first.min(place);
-        self.end = self.end.max(place + 1);
+        let was_filled = add_to(&mut self.words, cell.0);
+        if was_filled {
+            return;
+        }
+        self.filled.insert(cell.0 / 64);
     }
 
     /// Removes and returns the cell of the least number, None if there is none.
@@ -84,23 +88,59 @@ impl CellSet {
     pub fn take_least(&mut self) -> Option<Cell>
         ensures some { IfSome result (HasCell self.old) }
         ensures least { IfSome result (λ cell. (other : ℕ) → HasCell self.old other → cell ≤ other) }
-        ensures kept { IfSome result (λ cell. (other : ℕ) → HasCell self.old other → other ≢ cell → HasCell self.new other) }
-        ensures only { IfSome result (λ cell. (other : ℕ) → HasCell self.new other → HasCell self.old other × (other ≢ cell)) }
+        ensures kept { IfSome result (λ cell. (other : ℕ)
+            → HasCell self.old other → other ≢ cell → HasCell self.new other) }
+        ensures only { IfSome result (λ cell. (other : ℕ)
+            → HasCell self.new other → HasCell self.old other × (other ≢ cell)) }
         ensures none { IfNone result (HasNone self.old) }
         ensures same { IfNone result (self.new ≡ self.old) }
         ensures room { length self.new ≡ length self.old }
     {
-        while self.first < self.end {
-            let word = self.words[self.first];
-            if word != 0 {
-                let bit = word.trailing_zeros();
-                self.words[self.first] = word & !(1 << bit);
-                return Some(Cell(self.first as u32 * 64 + bit));
-            }
-            self.first += 1;
+        let place = self.filled.least()?;
+        let (number, is_left) = take_from(&mut self.words, place);
+        if is_left {
+            return Some(Cell(number));
         }
-        self.first = self.words.len();
-        self.end = 0;
-        None
+        self.filled.take_least();
+        Some(Cell(number))
     }
+}
+
+// Sets the bit of this number. Returns whether its word wasn't 0 before.
+#[inline(always)]
+fn add_to(words: &mut [u64], number: u32) -> bool
+    requires { number < 64 * length words.old }
+    ensures here { HasCell words.new number }
+    ensures kept { (other : ℕ) → HasCell words.old other → HasCell words.new other }
+    ensures only { (other : ℕ) → HasCell words.new other → HasCell words.old other ⊎ (other ≡ number) }
+    ensures filled { IsTrue result ↔ (slice_index words.old (number / 64) ≢ 0) }
+    ensures some { slice_index words.new (number / 64) ≢ 0 }
+    ensures others { (other : ℕ) → other ≢ number / 64 → slice_index words.new other ≡ slice_index words.old other }
+{
+    let place = number as usize / 64;
+    let word = words[place];
+    words[place] = word | (1 << (number % 64));
+    word != 0
+}
+
+// Removes the least bit of the word at this place, which is the first word that isn't 0. Returns the number of that bit
+// in the set, and whether the word has more bits.
+#[inline(always)]
+fn take_from(words: &mut [u64], place: u32) -> (u32, bool)
+    requires inside { place < length words.old }
+    requires some { slice_index words.old place ≢ 0 }
+    requires first { AreEmptyOutside words.old place (length words.old) }
+    requires short { IsShort words.old }
+    ensures some { HasCell words.old result.0 }
+    ensures least { (other : ℕ) → HasCell words.old other → result.0 ≤ other }
+    ensures kept { (other : ℕ) → HasCell words.old other → other ≢ result.0 → HasCell words.new other }
+    ensures only { (other : ℕ) → HasCell words.new other → HasCell words.old other × (other ≢ result.0) }
+    ensures left { IsTrue result.1 ↔ (slice_index words.new place ≢ 0) }
+    ensures others { (other : ℕ) → other ≢ place → slice_index words.new other ≡ slice_index words.old other }
+{
+    let word = words[place as usize];
+    let bit = word.trailing_zeros();
+    let rest = word & !(1 << bit);
+    words[place as usize] = rest;
+    (place * 64 + bit, rest != 0)
 }

@@ -110,7 +110,8 @@ impl<'a, B: BarTable> Ground<'a, B> {
         }
     }
 
-    /// Returns the cell of the least number that is one step from this one and nearer to the goal.
+    /// Returns the cell of the least number that is one step from this one and at this distance from the goal, one less
+    /// than the distance of this cell.
     #[inline(always)]
     pub fn nearer(&self, cell: Cell, distance: u32) -> Cell
         requires { IsDistance self.now.grid self.now.goal cell (distance + 1) }

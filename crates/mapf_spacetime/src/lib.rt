@@ -6,6 +6,7 @@ mod cheapest;
 mod found;
 mod ground;
 mod labels;
+mod number_set;
 mod path_search;
 mod state;
 mod state_labels;

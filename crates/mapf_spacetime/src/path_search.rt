@@ -144,7 +144,8 @@ impl PathSearch {
         None
     }
 
-    /// Takes one step, or backtracks if no step may lead to the goal. Returns false if there is nowhere to backtrack to.
+    /// Takes one step, or backtracks if no step may lead to the goal. Returns false if there is nowhere to backtrack
+    /// to.
     #[inline(always)]
     fn go_on<B: BarTable>(&mut self, ground: &Ground<B>, cost: u32) -> Result<bool, OutOfMemory>
         requires small { cost < cost_bound }
@@ -166,7 +167,8 @@ impl PathSearch {
         Ok(true)
     }
 
-    /// Returns whether only shortest paths lead on to the goal at the cost, and no constraint forbids any of their steps.
+    /// Returns whether the f-value of the walk's last state is the cost, and its tick is not before the horizon. Then
+    /// only the shortest paths from there arrive at the cost, and no constraint forbids a step of any of them.
     #[inline(always)]
     fn is_direct<B: BarTable>(&self, ground: &Ground<B>, cost: u32) -> bool
         requires some { 1 ≤ length self.now.cells }
@@ -179,7 +181,8 @@ impl PathSearch {
         here.tick >= ground.horizon() && ground.value(&here) == Some(cost)
     }
 
-    /// Returns the cells of the walk, and of a shortest path from its last cell on: the one of the least numbers.
+    /// Returns the cells of the walk, and those of a shortest path from its last cell to the goal: of these paths the
+    /// lexicographically least by cell numbers.
     fn go_straight<B: BarTable>(
         self,
         ground: &Ground<B>,

@@ -1,11 +1,13 @@
-use Rattle.std.proofs.Common.{◌≡◌, ℕ, ◌<◌, ◌≤◌, length, slice_index}
-use Rattle.mapf_spacetime.specs.CellSets.{IsShort}
+use Rattle.std.proofs.Common.{ℕ, ◌*◌, ◌-◌, ◌≤◌, length}
+use Rattle.mapf_spacetime.specs.CellSets.{AreFilled, HasCell, IsShort}
 use Rattle.mapf_spacetime.proofs.cell_set.CellSet.clear.Given as goal
 
 abbrev pub invariant-loop-place : goal.invariant-loop-place
 invariant-loop-place l = record {
-  zero : (k : ℕ) → (k < l.place-end → k < l.place) → slice_index l.self-inside.words.items k ≡ 0;
-  end : l.self-inside.end ≡ l.place-end;
-  within : l.place-end ≤ length l.self-inside.words.items;
+  filled : AreFilled l.self-inside.words.items l.self-inside.filled;
   short : IsShort l.self-inside.words.items;
+  later : (place : ℕ) → HasCell l.self-inside.filled place → l.from ≤ place;
 }
+
+abbrev pub decreases-loop-place : goal.decreases-loop-place
+decreases-loop-place l = 64 * length l.self-inside.filled - l.from

@@ -1,28 +1,43 @@
-use Rattle.std.proofs.Common.{◌≡◌, ◌/◌, ◌<◌, length, subst, sym, rules}
+use Rattle.std.proofs.Common.{◌≡◌, ℕ, ◌/◌, List, length, slice_index, refl, ap, ◌∙◌, ⊎_elim, arith}
 use Rattle.mapf_spacetime.specs.CellSets.{HasCell}
-use Rattle.mapf_spacetime.proofs.CellLemmas.{inserted, with_here, with_kept, with_only}
+use Rattle.mapf_spacetime.proofs.FilledLemmas.{filled_after, written_back}
 use Rattle.mapf_spacetime.proofs.cell_set.CellSet.insert.Goals as goal
 
-pub returns-clause-here : goal.returns-clause-here
-returns-clause-here c =
-    let words = c.self.inside.words.items in
-    let is : c.cell.inside.0 ≡ c.args.cell = search rules in
-    let inside : c.args.cell / 64 < length words = search rules in
-    let same = inserted words c.args.cell c.cell.inside.0 c.index_mut.result.now is inside c.index_mut.ensures.value in
-    subst (λ l. HasCell l c.args.cell) (sym same) (with_here words c.args.cell inside)
+pub invariant_of-self : goal.invariant_of-self
+invariant_of-self c =
+    let old = c.self.inside.words.items in
+    let new = c.add_to-was_filled.new.words in
+    let filled = c.self.inside.filled in
+    let value = c.deref_mut.ensures.value in
+    let place : ℕ = c.cell.inside.0 / 64 in
+    let is = c.self.invariant in
+    let size : length new ≡ length old = c.add_to-was_filled.auto.words ∙ ap length value in
+    let seam = written_back old new c.self.inside.words.len c.self.inside.words.ok.0 size in
+    let was = c.add_to-was_filled.ensures.filled.0 c.if-was_filled.true in
+    rw seam (
+      filled_after old new filled filled is.0 place size refl
+          (λ other apart. c.add_to-was_filled.ensures.others other apart ∙ ap (λ (ws : List ℕ). slice_index ws other) value)
+          (λ other held apart. held) (λ other held apart. held)
+          (λ some. is.0.full place (λ zero. was (ap (λ (ws : List ℕ). slice_index ws place) value ∙ zero)))
+          (λ held. c.add_to-was_filled.ensures.some),
+      (let s = is.1 in omega (arith, s, size)),
+    )
 
-pub returns-clause-kept : goal.returns-clause-kept
-returns-clause-kept c other held =
-    let words = c.self.inside.words.items in
-    let is : c.cell.inside.0 ≡ c.args.cell = search rules in
-    let inside : c.args.cell / 64 < length words = search rules in
-    let same = inserted words c.args.cell c.cell.inside.0 c.index_mut.result.now is inside c.index_mut.ensures.value in
-    subst (λ l. HasCell l other) (sym same) (with_kept words c.args.cell inside other (rw (← c.self.view_is) at held))
-
-pub returns-clause-only : goal.returns-clause-only
-returns-clause-only c other held =
-    let words = c.self.inside.words.items in
-    let is : c.cell.inside.0 ≡ c.args.cell = search rules in
-    let inside : c.args.cell / 64 < length words = search rules in
-    let same = inserted words c.args.cell c.cell.inside.0 c.index_mut.result.now is inside c.index_mut.ensures.value in
-    rw (← c.self.view_is) (with_only words c.args.cell inside other (subst (λ l. HasCell l other) same held))
+pub invariant_of-self-2 : goal.invariant_of-self-2
+invariant_of-self-2 c =
+    let old = c.self.inside.words.items in
+    let new = c.add_to-was_filled.new.words in
+    let value = c.deref_mut.ensures.value in
+    let place : ℕ = c.cell.inside.0 / 64 in
+    let is = c.self.invariant in
+    let size : length new ≡ length old = c.add_to-was_filled.auto.words ∙ ap length value in
+    let seam = written_back old new c.self.inside.words.len c.self.inside.words.ok.0 size in
+    rw seam (
+      filled_after old new c.self.inside.filled c.insert.new.self is.0 place size c.insert.ensures.room
+          (λ other apart. c.add_to-was_filled.ensures.others other apart ∙ ap (λ (ws : List ℕ). slice_index ws other) value)
+          (λ other held apart. c.insert.ensures.kept other held)
+          (λ other held apart. ⊎_elim (λ (there : HasCell c.self.inside.filled other). there) (λ (same : other ≡ place). absurd (apart same)) (c.insert.ensures.only other held))
+          (λ some. c.insert.ensures.here)
+          (λ held. c.add_to-was_filled.ensures.some),
+      (let s = is.1 in omega (arith, s, size)),
+    )

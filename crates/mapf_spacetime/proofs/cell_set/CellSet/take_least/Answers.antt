@@ -1,54 +1,83 @@
-use Rattle.std.proofs.Common.{◌≡◌, ◌+◌, ◌*◌, ◌<◌, ◌^◌, ◌∙◌, sym, subst, length, slice_index, arith, rules}
-use Rattle.std.proofs.lemmas.Grind.{get_or_default_zero}
-use Rattle.std.specs.Int.{trailing_zeros}
-use mir.Syntax.{w64}
-use Rattle.mapf_spacetime.specs.CellSets.{HasCell}
-use Rattle.mapf_spacetime.proofs.CellLemmas.{taken_has, taken_is, taken_kept, taken_only}
+use Rattle.std.proofs.Common.{◌≡◌, ℕ, List, length, slice_index, refl, sym, ap, subst, ◌∙◌, arith}
+use Rattle.std.proofs.lemmas.Bool.{iff_false}
+use Rattle.mapf_spacetime.specs.CellSets.{AreFilled, HasCell}
+use Rattle.mapf_spacetime.proofs.FilledLemmas.{filled_after, least_gone, written_back}
 use Rattle.mapf_spacetime.proofs.cell_set.CellSet.take_least.Goals as goal
 
-pub returns-then-word-ne0-clause-some : goal.returns-then-word-ne0-clause-some
-returns-then-word-ne0-clause-some c =
-    let h = c.loop-self.invariant in
-    let words = c.loop-self.self-inside.words.items in
-    let first = c.loop-self.self-inside.first in
-    let within = h.empty.within in
-    let inside : first < length words = omega arith in
-    let read : c.index-word.result.now ≡ slice_index words first = c.index-word.ensures ∙ get_or_default_zero words first c.index-word.result.now inside in
-    let small : c.index-word.result.now < 2 ^ 64 = search rules in
-    rw (← c.self.view_is) (subst (λ l. HasCell l (first * 64 + trailing_zeros w64 c.index-word.result.now)) h.same (taken_has words first c.loop-self.self-inside.end h.empty inside c.index-word.result.now read c.if-word-ne0.true small))
+pub invariant_of-self-then-is_left : goal.invariant_of-self-then-is_left
+invariant_of-self-then-is_left c =
+    let old = c.self.inside.words.items in
+    let new = c.take_from-number.new.words in
+    let filled = c.least.new.self in
+    let same = c.in_ok-place.ensures.same in
+    let value = c.deref_mut.ensures.value in
+    let place = c.in_ok-place.place in
+    let is = c.self.invariant in
+    let are : AreFilled old filled = subst (AreFilled old) (sym same) is.0 in
+    let there : HasCell filled place = subst (λ (ns : List ℕ). HasCell ns place) (sym same) c.in_ok-place.ensures.some in
+    let size : length new ≡ length old = c.take_from-number.auto.words ∙ ap length value in
+    let seam = written_back old new c.self.inside.words.len c.self.inside.words.ok.0 size in
+    rw seam (
+      filled_after old new filled filled are place size refl
+          (λ other apart. c.take_from-number.ensures.others other apart ∙ ap (λ (ws : List ℕ). slice_index ws other) value)
+          (λ other held apart. held) (λ other held apart. held)
+          (λ some. there)
+          (λ held. c.take_from-number.ensures.left.0 c.if-is_left.true),
+      (let s = is.1 in omega (arith, s, size)),
+    )
 
-pub returns-then-word-ne0-clause-least : goal.returns-then-word-ne0-clause-least
-returns-then-word-ne0-clause-least c other held =
-    let h = c.loop-self.invariant in
-    let words = c.loop-self.self-inside.words.items in
-    let first = c.loop-self.self-inside.first in
-    let within = h.empty.within in
-    let inside : first < length words = omega arith in
-    let read : c.index-word.result.now ≡ slice_index words first = c.index-word.ensures ∙ get_or_default_zero words first c.index-word.result.now inside in
-    let small : c.index-word.result.now < 2 ^ 64 = search rules in
-    let there = subst (λ l. HasCell l other) (sym h.same) (rw (← c.self.view_is) at held) in
-    taken_is words first c.loop-self.self-inside.end h.empty inside c.index-word.result.now read c.if-word-ne0.true small other there
+pub invariant_of-self-2 : goal.invariant_of-self-2
+invariant_of-self-2 c =
+    let old = c.self.inside.words.items in
+    let new = c.take_from-number.new.words in
+    let filled = c.least.new.self in
+    let same = c.in_ok-place.ensures.same in
+    let value = c.deref_mut.ensures.value in
+    let place = c.in_ok-place.place in
+    let is = c.self.invariant in
+    let are : AreFilled old filled = subst (AreFilled old) (sym same) is.0 in
+    let there : HasCell filled place = subst (λ (ns : List ℕ). HasCell ns place) (sym same) c.in_ok-place.ensures.some in
+    let size : length new ≡ length old = c.take_from-number.auto.words ∙ ap length value in
+    let seam = written_back old new c.self.inside.words.len c.self.inside.words.ok.0 size in
+    let t = c.take_least.ensures in
+    let gone = least_gone c.take_least.result filled c.take_least.new.self place there (λ other held. c.in_ok-place.ensures.least other (subst (λ (ns : List ℕ). HasCell ns other) same held)) t.some t.least t.kept t.only t.none in
+    let zero = iff_false c.take_from-number.ensures.left c.if-is_left.false in
+    rw seam (
+      filled_after old new filled c.take_least.new.self are place size t.room
+          (λ other apart. c.take_from-number.ensures.others other apart ∙ ap (λ (ws : List ℕ). slice_index ws other) value)
+          gone.0
+          (λ other held apart. (gone.1 other held).0)
+          (λ some. absurd (zero some))
+          (λ held. absurd ((gone.1 place held).1 refl)),
+      (let s = is.1 in omega (arith, s, size)),
+    )
 
-pub returns-then-word-ne0-clause-kept : goal.returns-then-word-ne0-clause-kept
-returns-then-word-ne0-clause-kept c other held apart =
-    let h = c.loop-self.invariant in
-    let words = c.loop-self.self-inside.words.items in
-    let first = c.loop-self.self-inside.first in
-    let within = h.empty.within in
-    let inside : first < length words = omega arith in
-    let read : c.index-word.result.now ≡ slice_index words first = c.index-word.ensures ∙ get_or_default_zero words first c.index-word.result.now inside in
-    let small : c.index-word.result.now < 2 ^ 64 = search rules in
-    let there = subst (λ l. HasCell l other) (sym h.same) (rw (← c.self.view_is) at held) in
-    taken_kept words first c.loop-self.self-inside.end h.empty inside c.index-word.result.now read c.if-word-ne0.true small other there apart
+pub returns-then-is_left-clause-only : goal.returns-then-is_left-clause-only
+returns-then-is_left-clause-only c other held =
+    let old = c.self.inside.words.items in
+    let new = c.take_from-number.new.words in
+    let value = c.deref_mut.ensures.value in
+    let size : length new ≡ length old = c.take_from-number.auto.words ∙ ap length value in
+    let seam = written_back old new c.self.inside.words.len c.self.inside.words.ok.0 size in
+    let was = c.take_from-number.ensures.only other (subst (λ (ws : List ℕ). HasCell ws other) seam held) in
+    (rw (← c.self.view_is) (subst (λ (ws : List ℕ). HasCell ws other) value was.0), was.1)
 
-pub returns-then-word-ne0-clause-only : goal.returns-then-word-ne0-clause-only
-returns-then-word-ne0-clause-only c other held =
-    let h = c.loop-self.invariant in
-    let words = c.loop-self.self-inside.words.items in
-    let first = c.loop-self.self-inside.first in
-    let within = h.empty.within in
-    let inside : first < length words = omega arith in
-    let read : c.index-word.result.now ≡ slice_index words first = c.index-word.ensures ∙ get_or_default_zero words first c.index-word.result.now inside in
-    let small : c.index-word.result.now < 2 ^ 64 = search rules in
-    let (there, apart) = taken_only words first c.loop-self.self-inside.end h.empty inside c.index-word.result.now read c.if-word-ne0.true small other held in
-    (rw (← c.self.view_is) (subst (λ l. HasCell l other) h.same there), apart)
+pub returns-clause-kept : goal.returns-clause-kept
+returns-clause-kept c other held apart =
+    let old = c.self.inside.words.items in
+    let new = c.take_from-number.new.words in
+    let value = c.deref_mut.ensures.value in
+    let size : length new ≡ length old = c.take_from-number.auto.words ∙ ap length value in
+    let seam = written_back old new c.self.inside.words.len c.self.inside.words.ok.0 size in
+    let there = subst (λ (ws : List ℕ). HasCell ws other) (sym value) (rw (← c.self.view_is) at held) in
+    subst (λ (ws : List ℕ). HasCell ws other) (sym seam) (c.take_from-number.ensures.kept other there apart)
+
+pub returns-clause-only : goal.returns-clause-only
+returns-clause-only c other held =
+    let old = c.self.inside.words.items in
+    let new = c.take_from-number.new.words in
+    let value = c.deref_mut.ensures.value in
+    let size : length new ≡ length old = c.take_from-number.auto.words ∙ ap length value in
+    let seam = written_back old new c.self.inside.words.len c.self.inside.words.ok.0 size in
+    let was = c.take_from-number.ensures.only other (subst (λ (ws : List ℕ). HasCell ws other) seam held) in
+    (rw (← c.self.view_is) (subst (λ (ws : List ℕ). HasCell ws other) value was.0), was.1)

@@ -1,6 +1,6 @@
 use Rattle.std.proofs.Common.{◌-◌}
 use Rattle.mapf_spacetime.specs.CellSets.{AreEmptyOutside, IsShort}
-use Rattle.mapf_spacetime.proofs.cell_set.CellSet.take_least.Given as goal
+use Rattle.mapf_spacetime.proofs.number_set.NumberSet.least.Given as goal
 use Rattle.std.proofs.Common.{◌≡◌}
 
 abbrev pub invariant-loop-self : goal.invariant-loop-self

@@ -2,8 +2,8 @@ use Rattle.std.proofs.Common.{◌≡◌, ℕ, ◌<◌, ◌≤◌, ⊎_elim, List
 use Rattle.std.proofs.lemmas.Bool.{cases_lt}
 use Rattle.std.proofs.lemmas.List.{get_or_past}
 use Rattle.mapf_spacetime.proofs.CellLemmas.{no_cells}
-use Rattle.mapf_spacetime.proofs.cell_set.CellSet.clear.Goals as goal
-use Rattle.mapf_spacetime.proofs.cell_set.CellSet.clear.Goals.{then-len-words+in_ok-resize, else-len-words}
+use Rattle.mapf_spacetime.proofs.number_set.NumberSet.clear.Goals as goal
+use Rattle.mapf_spacetime.proofs.number_set.NumberSet.clear.Goals.{then-len-words+in_ok-resize, else-len-words}
 
 -- all words are 0 once those of the range are
 zeros : (words : List ℕ) (end place : ℕ) → ((k : ℕ) → (k < end → k < place) → slice_index words k ≡ 0) → end ≤ place → (k : ℕ) → slice_index words k ≡ 0
