@@ -14,6 +14,7 @@ pub mod FinderLemmas
 pub mod ReplannedLemmas
 pub mod GeneratedChildLemmas
 pub mod OpenLemmas
+pub mod QueueLemmas
 pub mod StateLemmas
 pub mod AnswerLemmas
 pub mod StartLemmas

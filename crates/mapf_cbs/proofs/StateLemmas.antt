@@ -1,6 +1,8 @@
 -- The state after a split.
-use Rattle.std.proofs.Common.{◌≡◌, ◌≢◌, ◌⊎◌, ℕ, ◌+◌, ◌*◌, ◌^◌, ◌<◌, ◌≤◌, List, [], ◌∷◌, ◌++◌, Option, None, Some, Contains, length, sum, slice_get, slice_set, refl, sym, ◌∙◌, ap, subst, inl, inr, ⊎_elim, arith, append_assoc}
+use Rattle.std.proofs.Common.{◌≡◌, ◌≢◌, ◌⊎◌, ℕ, ◌+◌, ◌*◌, ◌^◌, ◌<◌, ◌≤◌, List, [], ◌∷◌, ◌++◌, Option, None, Some, All, Contains, length, sum, slice_get, slice_set, refl, sym, ◌∙◌, ap, subst, inl, inr, ⊎_elim, arith, append_assoc}
 use Rattle.std.proofs.lemmas.Bool.{cases_eq, cases_lt}
+use Rattle.std.proofs.lemmas.List.Elements.{All-contains_itself, All-weaker}
+use Rattle.std.proofs.lemmas.Map.Views.{All-insert_key}
 use Rattle.std.proofs.lemmas.Option.{slice_get_within, same_Some}
 use Rattle.mapf_model.specs.declared.constraint.Constraint.{Constraint}
 use Rattle.mapf_model.specs.declared.conflict.Conflict.{Conflict}
@@ -18,7 +20,7 @@ use Rattle.mapf_cbs.specs.FirstConflicts.{IsFirstConflict}
 use Rattle.mapf_cbs.specs.Search.{View, IsLive, IsEndFate, IsSearched}
 use Rattle.mapf_cbs.specs.Nodes.{AreViews, IsNodeView, IsChildView, IsNodeFor, HavePathsAt, HasTableBar}
 use Rattle.mapf_cbs.specs.GeneratedChild.{IsGeneratedChild, IsGeneratedState}
-use Rattle.mapf_cbs.specs.State.{IsOpenSet, IsState, IsPopped, fate_of, with_children, split_fates, with_key, with_keys}
+use Rattle.mapf_cbs.specs.State.{IsOpenSet, IsState, IsPopped, fate_of, key_cmp, with_children, split_fates, with_key, with_keys}
 use Rattle.mapf_model.proofs.PlaceLemmas.{slice_get-set_same, slice_get-set_other, length-slice_set, slice_get-front, slice_get-here}
 use Rattle.mapf_cbs.proofs.SumLemmas.{slice_get-second, length-two_more}
 use Rattle.mapf_cbs.proofs.NodeLemmas.{view_in}
@@ -131,6 +133,28 @@ open_total (Some s) e = (s, refl)
 with_key_new : (keys : List (ℕ × ℕ)) (n : ℕ) (total : Option ℕ) (s : ℕ) → total ≡ Some s → Contains (with_key keys n total) (s, n)
 with_key_new keys n None s e = absurd cc
 with_key_new keys n (Some t) s e = let same : t ≡ s = same_Some t s e in subst (λ z. Contains (with_key keys n (Some t)) (z, n)) same (inserted_new keys (t, n))
+
+-- the numbers of the other open nodes are below that of the next node
+pub older_keys : (problem : Instance) (nodes : List Node) (fates : List Fate) (rest : List (ℕ × ℕ)) (count total k : ℕ) → IsPopped problem nodes fates rest count total k → All (λ key. key.1 < length nodes) rest
+older_keys problem nodes fates rest count total k popped = All-weaker (Contains rest) (λ key. key.1 < length nodes) older rest (All-contains_itself rest)
+  where
+    older : (key : ℕ × ℕ) → Contains rest key → key.1 < length nodes
+    older key in_rest =
+        let at = popped.state.opens.only key (Contains-cons_old (total, k) key rest in_rest) in
+        let inside = slice_get_within popped.state.views key.1 at.0 at.1 in
+        let lengths = popped.state.are.lengths in
+        omega (arith, inside, lengths)
+
+-- once a child is added, all numbers are below the one after its
+pub newest_after : (keys : List (ℕ × ℕ)) (number : ℕ) (total : Option ℕ) → All (λ key. key.1 < number) keys → All (λ key. key.1 < number + 1) (with_key keys number total)
+newest_after keys number total newest = by total
+  where
+    later : All (λ key. key.1 < number + 1) keys
+    later = All-weaker (λ key. key.1 < number) (λ key. key.1 < number + 1) (λ key h. omega (arith, h)) keys newest
+
+    by : (o : Option ℕ) → All (λ key. key.1 < number + 1) (with_key keys number o)
+    by None = later
+    by (Some sum) = All-insert_key key_cmp (sum, number) (λ key. key.1 < number + 1) keys later (omega arith)
 
 -- no open node is cheaper than the one that is being expanded
 pub least_popped : (problem : Instance) (nodes : List Node) (fates : List Fate) (rest : List (ℕ × ℕ)) (count total k : ℕ) (popped : IsPopped problem nodes fates rest count total k) (view : View) → slice_get popped.state.views k ≡ Some view →

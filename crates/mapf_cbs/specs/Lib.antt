@@ -6,6 +6,7 @@ pub mod Search
 pub mod Nodes
 pub mod GeneratedChild
 pub mod State
+pub mod Queues
 pub mod Finders
 pub mod Start
 pub mod Answer

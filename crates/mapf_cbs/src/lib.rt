@@ -10,6 +10,7 @@ mod endings;
 mod finders;
 pub mod laws;
 mod node;
+mod open_nodes;
 mod outcome;
 mod replanned;
 mod search_memory;

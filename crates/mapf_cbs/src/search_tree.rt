@@ -1,11 +1,11 @@
-ghost use Rattle.std.specs.Prelude.{◌≡◌, ◌+◌, ◌^◌, ◌<◌, ◌∷◌, [], length, IfOk, IfSome, IfNone, OnOk};
-ghost use Rattle.mapf_cbs.specs.State.{fate_of, with_children, split_fates, with_key, with_keys, IsLeastKey};
+ghost use Rattle.std.specs.Prelude.{◌≡◌, ◌+◌, ◌^◌, ◌<◌, ◌∷◌, [], length, All, IfOk, OnOk};
+ghost use Rattle.mapf_cbs.specs.State.{fate_of, with_children, split_fates, with_key, with_keys};
 
 use crate::child::GeneratedChild;
 use crate::node::{Fate, Node};
+use crate::open_nodes::OpenNodes;
 use mapf_model::{Conflict, OutOfMemory, Path};
 use std::alloc::Global;
-use std::collections::BTreeSet;
 
 /// The constraint tree of a search. Nodes are numbered in the order in which they were made; the root has number 0.
 #[derive(Debug, Drop)]
@@ -14,7 +14,7 @@ pub struct SearchTree {
     // The outcome of each node.
     pub fates: Vec<Fate>,
     // The open list: the sum and the number of each open node.
-    pub waiting: BTreeSet<(u64, u32)>,
+    pub waiting: OpenNodes,
     // How many nodes were split.
     pub splits: u32,
 }
@@ -24,17 +24,15 @@ impl SearchTree {
     pub fn of(alloc: Global, paths: Vec<Path>, total: u64) -> Result<SearchTree, OutOfMemory>
         ensures nodes { IfOk result (λ tree. tree.nodes.items ≡ Node.Root paths ∷ []) }
         ensures fates { IfOk result (λ tree. tree.fates.items ≡ Fate.Open ∷ []) }
-        ensures waiting { IfOk result (λ tree. tree.waiting.keys ≡ (total, 0) ∷ []) }
+        ensures waiting { IfOk result (λ tree. tree.waiting ≡ (total, 0) ∷ []) }
         ensures splits { IfOk result (λ tree. tree.splits ≡ 0) }
     {
         let mut nodes = Vec::new(alloc);
         nodes.push(Node::Root { paths })?;
-        let mut waiting = BTreeSet::new(alloc);
-        waiting.insert((total, 0))?;
         Ok(SearchTree {
             nodes,
             fates: root_fates(alloc)?,
-            waiting,
+            waiting: OpenNodes::of(alloc, total, 0)?,
             splits: 0,
         })
     }
@@ -51,12 +49,13 @@ impl SearchTree {
         requires few { length self.old.nodes.items < 2 ^ 31 }
         requires inside { k < length self.old.fates.items }
         requires splits { self.old.splits < 2 ^ 31 }
+        requires newest { All (λ key. key.1 < length self.old.nodes.items) self.old.waiting }
         ensures nodes { OnOk result
             (self.new.nodes.items ≡ with_children self.old.nodes.items k conflict.now left.found right.found) }
         ensures fates { OnOk result
             (self.new.fates.items ≡ split_fates self.old.fates.items k conflict.now left.total right.total) }
-        ensures waiting { OnOk result (self.new.waiting.keys ≡
-            with_keys self.old.waiting.keys (length self.old.nodes.items) left.total right.total) }
+        ensures waiting { OnOk result (self.new.waiting ≡
+            with_keys self.old.waiting (length self.old.nodes.items) left.total right.total) }
         ensures splits { OnOk result (self.new.splits ≡ self.old.splits + 1) }
     {
         let number = expand(&mut self.fates, k, conflict, left.total, right.total)?;
@@ -78,13 +77,14 @@ impl SearchTree {
 
     // Adds a node to the open list, if it has a sum.
     fn add_open(&mut self, total: Option<u64>, number: u32) -> Result<(), OutOfMemory>
-        ensures waiting { OnOk result (self.new.waiting.keys ≡ with_key self.old.waiting.keys number total) }
+        requires { All (λ key. key.1 < number) self.old.waiting }
+        ensures waiting { OnOk result (self.new.waiting ≡ with_key self.old.waiting number total) }
         ensures nodes { OnOk result (self.new.nodes ≡ self.old.nodes) }
         ensures fates { OnOk result (self.new.fates ≡ self.old.fates) }
         ensures splits { OnOk result (self.new.splits ≡ self.old.splits) }
     {
         if let Some(total) = total {
-            self.waiting.insert((total, number))?;
+            self.waiting.add(total, number)?;
         }
         Ok(())
     }
@@ -99,14 +99,6 @@ pub fn root_fates(alloc: Global) -> Result<Vec<Fate>, OutOfMemory>
     let mut fates = Vec::new(alloc);
     fates.push(Fate::Open)?;
     Ok(fates)
-}
-
-/// Removes and returns the key of the open node of least sum, of these the oldest. None if no node is open.
-pub fn take_least(waiting: &mut BTreeSet<(u64, u32)>) -> Option<(u64, u32)>
-    ensures some { IfSome result (λ key. IsLeastKey key waiting.old.keys waiting.new.keys) }
-    ensures none { IfNone result (waiting.old.keys ≡ []) }
-{
-    waiting.pop_first()
 }
 
 /// Splits a node on the conflict: its children are the next two nodes. Returns the number of the left one.

@@ -16,7 +16,7 @@ use crate::endings;
 use crate::finders::{Finders, finders_at};
 use crate::outcome::Outcome;
 use crate::search_memory::SearchMemory;
-use crate::search_tree::{SearchTree, take_least};
+use crate::search_tree::SearchTree;
 use crate::start::{Beginning, begin, total_of};
 use crate::walks::{conflict_at, plan_at};
 use mapf_conflicts::CellMarks;
@@ -91,7 +91,7 @@ fn search_from<B: BarTable>(
     let mut tables = LazyTables::of(alloc, problem)?;
     let mut memory = SearchMemory::<B>::new(alloc);
     loop {
-        let Some((total, k)) = take_least(&mut search.waiting) else {
+        let Some((total, k)) = search.waiting.take_least() else {
             let lists = labels_of_all(alloc, search.nodes)?;
             return endings::impossible(alloc, lists, &search.fates);
         };
@@ -147,7 +147,7 @@ fn split<B: BarTable>(
 ) -> Result<(), OutOfMemory>
     requires tables { AreMade problem.now tables.old }
     requires popped { IsPopped problem.now
-        search.old.nodes.items search.old.fates.items search.old.waiting.keys search.old.splits total finders.now.node }
+        search.old.nodes.items search.old.fates.items search.old.waiting search.old.splits total finders.now.node }
     requires finders { AreFinders search.old.nodes.items finders.now }
     requires count { length finders.now.nearest.items ≡ length problem.now.agents }
     requires goals { HaveDifferentGoals problem.now }
@@ -155,7 +155,7 @@ fn split<B: BarTable>(
     requires early { tick_of conflict.now < split_ticks }
     requires few { search.old.splits < most_splits }
     ensures state { OnOk result (IsState problem.now
-        search.new.nodes.items search.new.fates.items search.new.waiting.keys (search.old.splits + 1)) }
+        search.new.nodes.items search.new.fates.items search.new.waiting (search.old.splits + 1)) }
     ensures splits { OnOk result (search.new.splits ≡ search.old.splits + 1) }
     ensures tables { OnOk result (AreMade problem.now tables.new) }
 {

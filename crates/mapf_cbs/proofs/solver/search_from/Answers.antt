@@ -31,7 +31,7 @@ pub impossible-requires : goal.impossible-requires
 impossible-requires g c =
     let s = c.loop-total.invariant.state in
     let e = c.deref-in_default.ensures.value in
-    rw e (can_be_drawn c.args.problem.now c.loop-total.search.nodes.items c.loop-total.search.fates.items c.loop-total.search.waiting.keys c.loop-total.search.splits s (omega (arith, c.loop-total.invariant.within, c.requires.limit)) c.in_ok-lists.lists.items (c.in_ok-lists.ensures s.views s.are))
+    rw e (can_be_drawn c.args.problem.now c.loop-total.search.nodes.items c.loop-total.search.fates.items c.loop-total.search.waiting c.loop-total.search.splits s (omega (arith, c.loop-total.invariant.within, c.requires.limit)) c.in_ok-lists.lists.items (c.in_ok-lists.ensures s.views s.are))
 
 pub returns-in_default : goal.returns-in_default
 returns-in_default g c =
@@ -52,8 +52,8 @@ returns-in_default g c =
 pub finders_at-requires-clause-nodes : goal.finders_at-requires-clause-nodes
 finders_at-requires-clause-nodes g c =
     let s = c.loop-total.invariant.state in
-    let p = popped_of c.args.problem.now c.loop-total.search.nodes.items c.loop-total.search.fates.items c.loop-total.search.waiting.keys c.take_least.new.waiting.keys c.loop-total.search.splits c.in-Some.total c.in-Some.k s c.in-Some.ensures.some in
-    rw c.deref-in-loop-total.ensures.value (have_paths c.args.problem.now c.loop-total.search.nodes.items c.loop-total.search.fates.items c.take_least.new.waiting.keys c.loop-total.search.splits c.in-Some.total c.in-Some.k p c.requires.root.agents (length c.agents.result.now) (ap length (sym c.agents.ensures.value))).nodes_for
+    let p = popped_of c.args.problem.now c.loop-total.search.nodes.items c.loop-total.search.fates.items c.loop-total.search.waiting c.take_least.new.self c.loop-total.search.splits c.in-Some.total c.in-Some.k s c.in-Some.ensures.some in
+    rw c.deref-in-loop-total.ensures.value (have_paths c.args.problem.now c.loop-total.search.nodes.items c.loop-total.search.fates.items c.take_least.new.self c.loop-total.search.splits c.in-Some.total c.in-Some.k p c.requires.root.agents (length c.agents.result.now) (ap length (sym c.agents.ensures.value))).nodes_for
 
 pub finders_at-requires-clause-some : goal.finders_at-requires-clause-some
 finders_at-requires-clause-some g c =
@@ -64,32 +64,32 @@ finders_at-requires-clause-some g c =
 pub finders_at-requires-clause-inside : goal.finders_at-requires-clause-inside
 finders_at-requires-clause-inside g c =
     let s = c.loop-total.invariant.state in
-    let p = popped_of c.args.problem.now c.loop-total.search.nodes.items c.loop-total.search.fates.items c.loop-total.search.waiting.keys c.take_least.new.waiting.keys c.loop-total.search.splits c.in-Some.total c.in-Some.k s c.in-Some.ensures.some in
-    rw c.deref-in-loop-total.ensures.value (have_paths c.args.problem.now c.loop-total.search.nodes.items c.loop-total.search.fates.items c.take_least.new.waiting.keys c.loop-total.search.splits c.in-Some.total c.in-Some.k p c.requires.root.agents (length c.agents.result.now) (ap length (sym c.agents.ensures.value))).inside
+    let p = popped_of c.args.problem.now c.loop-total.search.nodes.items c.loop-total.search.fates.items c.loop-total.search.waiting c.take_least.new.self c.loop-total.search.splits c.in-Some.total c.in-Some.k s c.in-Some.ensures.some in
+    rw c.deref-in-loop-total.ensures.value (have_paths c.args.problem.now c.loop-total.search.nodes.items c.loop-total.search.fates.items c.take_least.new.self c.loop-total.search.splits c.in-Some.total c.in-Some.k p c.requires.root.agents (length c.agents.result.now) (ap length (sym c.agents.ensures.value))).inside
 
 pub conflict_at-requires : goal.conflict_at-requires
 conflict_at-requires g c =
     let s = c.loop-total.invariant.state in
-    let p = popped_of c.args.problem.now c.loop-total.search.nodes.items c.loop-total.search.fates.items c.loop-total.search.waiting.keys c.take_least.new.waiting.keys c.loop-total.search.splits c.in-Some.total c.in-Some.k s c.in-Some.ensures.some in
+    let p = popped_of c.args.problem.now c.loop-total.search.nodes.items c.loop-total.search.fates.items c.loop-total.search.waiting c.take_least.new.self c.loop-total.search.splits c.in-Some.total c.in-Some.k s c.in-Some.ensures.some in
     let nodes = c.deref-in-loop-total-2.ensures.value in
     let fates = c.deref-in-loop-total-3.ensures.value in
     let node = c.in_ok-finders.ensures.node in
     let count = c.in_ok-finders.ensures.count in
     record {
-      paths = rw nodes (rw node (rw count (have_paths c.args.problem.now c.loop-total.search.nodes.items c.loop-total.search.fates.items c.take_least.new.waiting.keys c.loop-total.search.splits c.in-Some.total c.in-Some.k p c.requires.root.agents (length c.agents.result.now) (ap length (sym c.agents.ensures.value)))));
+      paths = rw nodes (rw node (rw count (have_paths c.args.problem.now c.loop-total.search.nodes.items c.loop-total.search.fates.items c.take_least.new.self c.loop-total.search.splits c.in-Some.total c.in-Some.k p c.requires.root.agents (length c.agents.result.now) (ap length (sym c.agents.ensures.value)))));
       finders = subst (λ ns. AreFinders ns c.in_ok-finders.finders) (c.deref-in-loop-total.ensures.value ∙ sym nodes) c.in_ok-finders.ensures.found;
-      searched = rw nodes (rw fates (rw node (rw count (searched_at c.args.problem.now c.loop-total.search.nodes.items c.loop-total.search.fates.items c.take_least.new.waiting.keys c.loop-total.search.splits c.in-Some.total c.in-Some.k p (length c.agents.result.now) (ap length (sym c.agents.ensures.value))))));
+      searched = rw nodes (rw fates (rw node (rw count (searched_at c.args.problem.now c.loop-total.search.nodes.items c.loop-total.search.fates.items c.take_least.new.self c.loop-total.search.splits c.in-Some.total c.in-Some.k p (length c.agents.result.now) (ap length (sym c.agents.ensures.value))))));
     }
 
 pub plan_at-requires : goal.plan_at-requires
 plan_at-requires g c =
     let s = c.loop-total.invariant.state in
-    let p = popped_of c.args.problem.now c.loop-total.search.nodes.items c.loop-total.search.fates.items c.loop-total.search.waiting.keys c.take_least.new.waiting.keys c.loop-total.search.splits c.in-Some.total c.in-Some.k s c.in-Some.ensures.some in
+    let p = popped_of c.args.problem.now c.loop-total.search.nodes.items c.loop-total.search.fates.items c.loop-total.search.waiting c.take_least.new.self c.loop-total.search.splits c.in-Some.total c.in-Some.k s c.in-Some.ensures.some in
     let nodes = c.deref-in_default-first.ensures.value in
     let node = c.in_ok-finders.ensures.node in
     let count = c.in_ok-finders.ensures.count in
     record {
-      paths = rw nodes (rw node (rw count (have_paths c.args.problem.now c.loop-total.search.nodes.items c.loop-total.search.fates.items c.take_least.new.waiting.keys c.loop-total.search.splits c.in-Some.total c.in-Some.k p c.requires.root.agents (length c.agents.result.now) (ap length (sym c.agents.ensures.value)))));
+      paths = rw nodes (rw node (rw count (have_paths c.args.problem.now c.loop-total.search.nodes.items c.loop-total.search.fates.items c.take_least.new.self c.loop-total.search.splits c.in-Some.total c.in-Some.k p c.requires.root.agents (length c.agents.result.now) (ap length (sym c.agents.ensures.value)))));
       finders = subst (λ ns. AreFinders ns c.in_ok-finders.finders) (c.deref-in-loop-total.ensures.value ∙ sym nodes) c.in_ok-finders.ensures.found;
     }
 
@@ -97,19 +97,19 @@ pub found-requires : goal.found-requires
 found-requires g c =
     let s = c.loop-total.invariant.state in
     let e = c.deref-in_default-first-2.ensures.value in
-    rw e (can_be_drawn c.args.problem.now c.loop-total.search.nodes.items c.loop-total.search.fates.items c.loop-total.search.waiting.keys c.loop-total.search.splits s (omega (arith, c.loop-total.invariant.within, c.requires.limit)) c.in_ok-lists-2.lists.items (c.in_ok-lists-2.ensures s.views s.are))
+    rw e (can_be_drawn c.args.problem.now c.loop-total.search.nodes.items c.loop-total.search.fates.items c.loop-total.search.waiting c.loop-total.search.splits s (omega (arith, c.loop-total.invariant.within, c.requires.limit)) c.in_ok-lists-2.lists.items (c.in_ok-lists-2.ensures s.views s.are))
 
 pub stopped-requires : goal.stopped-requires
 stopped-requires g c =
     let s = c.loop-total.invariant.state in
     let e = c.deref-in-Some-cause_to_stop.ensures.value in
-    rw e (can_be_drawn c.args.problem.now c.loop-total.search.nodes.items c.loop-total.search.fates.items c.loop-total.search.waiting.keys c.loop-total.search.splits s (omega (arith, c.loop-total.invariant.within, c.requires.limit)) c.in_ok-lists-3.lists.items (c.in_ok-lists-3.ensures s.views s.are))
+    rw e (can_be_drawn c.args.problem.now c.loop-total.search.nodes.items c.loop-total.search.fates.items c.loop-total.search.waiting c.loop-total.search.splits s (omega (arith, c.loop-total.invariant.within, c.requires.limit)) c.in_ok-lists-3.lists.items (c.in_ok-lists-3.ensures s.views s.are))
 
 pub returns-in_default-first : goal.returns-in_default-first
 returns-in_default-first g c =
     let s = c.loop-total.invariant.state in
-    let p = popped_of c.args.problem.now c.loop-total.search.nodes.items c.loop-total.search.fates.items c.loop-total.search.waiting.keys c.take_least.new.waiting.keys c.loop-total.search.splits c.in-Some.total c.in-Some.k s c.in-Some.ensures.some in
-    let h = in_hand c.args.problem.now c.loop-total.search.nodes.items c.loop-total.search.fates.items c.take_least.new.waiting.keys c.loop-total.search.splits c.in-Some.total c.in-Some.k p in
+    let p = popped_of c.args.problem.now c.loop-total.search.nodes.items c.loop-total.search.fates.items c.loop-total.search.waiting c.take_least.new.self c.loop-total.search.splits c.in-Some.total c.in-Some.k s c.in-Some.ensures.some in
+    let h = in_hand c.args.problem.now c.loop-total.search.nodes.items c.loop-total.search.fates.items c.take_least.new.self c.loop-total.search.splits c.in-Some.total c.in-Some.k p in
     let are = subst (λ ns. AreViews ns p.state.views) (sym c.deref-in-loop-total-2.ensures.value) p.state.are in
     let node = c.in_ok-finders.ensures.node in
     let counted = h.live.counted.paths ∙ (let e = c.agents.ensures.value in ap length (sym e)) ∙ sym c.in_ok-finders.ensures.count in
@@ -120,7 +120,7 @@ returns-in_default-first g c =
       paths = c.args.paths.items;
       root = c.requires.root;
       nodes = c.loop-total.search.nodes.items;
-      rest = c.take_least.new.waiting.keys;
+      rest = c.take_least.new.self;
       k = c.in-Some.k;
       popped = p;
       is = h.is;
@@ -141,8 +141,8 @@ returns-in_default-first g c =
 pub returns-in-Some-cause_to_stop : goal.returns-in-Some-cause_to_stop
 returns-in-Some-cause_to_stop g c =
     let s = c.loop-total.invariant.state in
-    let p = popped_of c.args.problem.now c.loop-total.search.nodes.items c.loop-total.search.fates.items c.loop-total.search.waiting.keys c.take_least.new.waiting.keys c.loop-total.search.splits c.in-Some.total c.in-Some.k s c.in-Some.ensures.some in
-    let h = in_hand c.args.problem.now c.loop-total.search.nodes.items c.loop-total.search.fates.items c.take_least.new.waiting.keys c.loop-total.search.splits c.in-Some.total c.in-Some.k p in
+    let p = popped_of c.args.problem.now c.loop-total.search.nodes.items c.loop-total.search.fates.items c.loop-total.search.waiting c.take_least.new.self c.loop-total.search.splits c.in-Some.total c.in-Some.k s c.in-Some.ensures.some in
+    let h = in_hand c.args.problem.now c.loop-total.search.nodes.items c.loop-total.search.fates.items c.take_least.new.self c.loop-total.search.splits c.in-Some.total c.in-Some.k p in
     let are = subst (λ ns. AreViews ns p.state.views) (sym c.deref-in-loop-total-2.ensures.value) p.state.are in
     let node = c.in_ok-finders.ensures.node in
     let counted = h.live.counted.paths ∙ (let e = c.agents.ensures.value in ap length (sym e)) ∙ sym c.in_ok-finders.ensures.count in
@@ -152,7 +152,7 @@ returns-in-Some-cause_to_stop g c =
       paths = c.args.paths.items;
       root = c.requires.root;
       nodes = c.loop-total.search.nodes.items;
-      rest = c.take_least.new.waiting.keys;
+      rest = c.take_least.new.self;
       k = c.in-Some.k;
       popped = p;
       is = h.is;
@@ -173,7 +173,7 @@ returns-in-Some-cause_to_stop g c =
 pub split-requires-clause-popped : goal.split-requires-clause-popped
 split-requires-clause-popped g c =
     let s = c.loop-total.invariant.state in
-    let p = popped_of c.args.problem.now c.loop-total.search.nodes.items c.loop-total.search.fates.items c.loop-total.search.waiting.keys c.take_least.new.waiting.keys c.loop-total.search.splits c.in-Some.total c.in-Some.k s c.in-Some.ensures.some in
+    let p = popped_of c.args.problem.now c.loop-total.search.nodes.items c.loop-total.search.fates.items c.loop-total.search.waiting c.take_least.new.self c.loop-total.search.splits c.in-Some.total c.in-Some.k s c.in-Some.ensures.some in
     rw c.in_ok-finders.ensures.node p
 
 pub split-requires-clause-finders : goal.split-requires-clause-finders
