@@ -1,14 +1,15 @@
 -- Digits and the number that they spell.
-use Rattle.std.proofs.Common.{◌≡◌, ℕ, ◌<◌, ◌≤◌, ◌^◌, ◌+◌, ◌*◌, ◌-◌, ◌==◌, Bool, true, false, not, cond, zero, suc, nat_lt, List, [], ◌∷◌, length, get_or, take, drop, Some, None, Ok, Err, arith, refl, sym, ap, ◌∙◌}
+use Rattle.std.proofs.Common.{◌≡◌, ℕ, ◌<◌, ◌≤◌, ◌^◌, ◌+◌, ◌*◌, ◌-◌, ◌==◌, Bool, true, false, not, cond, zero, suc, nat_lt, List, [], ◌∷◌, length, get_or, take, drop, length-drop, Option, Some, None, Result, Ok, Err, arith, refl, sym, ap, ◌∙◌}
 use Rattle.std.specs.Prelude.{take_while}
 use Rattle.std.specs.Char.{is_ascii_digit, digit_value}
 use Rattle.std.specs.Str.Parse.{digits_value, AllDigits}
 use Rattle.std.proofs.lemmas.Str.Parse.{digit_from_value, digits_value-take-le}
 use Rattle.std.proofs.lemmas.Int.Digits.{digits_value_more}
 use Rattle.std.proofs.lemmas.List.Sums.{take_while-cons}
-use Rattle.std.proofs.lemmas.List.{take_all}
+use Rattle.std.proofs.lemmas.List.{take_all, get_or-drop}
 use Rattle.std.proofs.lemmas.Bool.{eqb-true, lt-ltb, ltb-true}
 use Rattle.std.proofs.lemmas.Bool.Decides.{nat_tests}
+use Rattle.mapf_fields.specs.declared.fault.LineFault.{LineFault}
 use Rattle.mapf_fields.specs.declared.fault.LineFault.TheVariants.{Shape}
 use Rattle.mapf_fields.specs.Numbers.{begins_well, small_value, front_digits, after_digits, read_number}
 
@@ -87,55 +88,36 @@ front_large bs n all h =
     let large : 2 ^ 64 ≤ digits_value 10 (take n (front_digits bs)) = omega (arith, same) in
     sym (large_front (front_digits bs) n large)
 
--- a digit that no other follows is read as a number
-one_digit : (b : ℕ) (rest : List ℕ) → is_ascii_digit b ≡ true → is_ascii_digit (get_or rest 0 0) ≡ false → read_number (b ∷ rest) ≡ Ok (Some (b - 48), rest)
+-- digits without a leading zero, that no other follows, are read as the number that they spell
+digits_front : (bs : List ℕ) (n value : ℕ) (rest : List ℕ) → rest ≡ take (length bs - n) (drop n bs) → begins_well (take n bs) ≡ true → AreDigits bs n → is_ascii_digit (get_or rest 0 0) ≡ false → value ≡ digits_value 10 (take n bs) → value < 2 ^ 64 → read_number bs ≡ Ok (Some value, rest)
 unfolding read_number
-one_digit b rest digit stop =
-    let front : front_digits (b ∷ rest) ≡ b ∷ [] = take_while-cons is_ascii_digit b rest ∙ ap (λ t. cond t (b ∷ front_digits rest) []) digit ∙ ap (λ l. b ∷ l) (no_digits rest stop) in
-    let all : AreDigits (b ∷ rest) 1 = λ k h. let first : k ≡ 0 = omega arith in ap (λ n. is_ascii_digit (get_or (b ∷ rest) n 0)) first ∙ digit in
-    let (low, step) = value_next (b ∷ rest) 0 (omega arith) digit in
-    let range = digit_from_value b (digit_of_test b digit) in
-    let is : b - 48 ≡ digits_value 10 (take 1 (b ∷ rest)) = omega (arith, step) in
-    let value : Some (b - 48) ≡ small_value (front_digits (b ∷ rest)) = front_value (b ∷ rest) 1 (b - 48) all stop is (omega (arith, range)) in
-    let begins : begins_well (front_digits (b ∷ rest)) ≡ true = ap begins_well front in
-    let after : after_digits (b ∷ rest) ≡ rest = ap (λ l. drop (length l) (b ∷ rest)) front in
-    ap (λ t. cond t (Ok (small_value (front_digits (b ∷ rest)), after_digits (b ∷ rest))) (Err Shape)) begins ∙ ap (λ v. Ok (v, after_digits (b ∷ rest))) (sym value) ∙ ap (λ r. Ok (Some (b - 48), r)) after
-  where
-    no_digits : (bs : List ℕ) → is_ascii_digit (get_or bs 0 0) ≡ false → front_digits bs ≡ []
-    no_digits [] e = refl
-    no_digits (c ∷ cs) e = take_while-cons is_ascii_digit c cs ∙ ap (λ t. cond t (c ∷ front_digits cs) []) e
+digits_front bs n value rest follows well all stop is fits =
+    let after : rest ≡ drop n bs = follows ∙ take_all (length bs - n) (drop n bs) (omega (arith, length-drop n bs)) in
+    let next : get_or bs n 0 ≡ get_or rest 0 0 = ap (λ k. get_or bs k 0) (omega arith) ∙ sym (get_or-drop n bs 0 0) ∙ ap (λ l. get_or l 0 0) (sym after) in
+    let stop' : is_ascii_digit (get_or bs n 0) ≡ false = ap is_ascii_digit next ∙ stop in
+    let many = length-front_digits bs n all stop' in
+    let front : front_digits bs ≡ take n bs = sym (take_all n (front_digits bs) (omega (arith, many))) ∙ take-front_digits bs n all in
+    let spelled = front_value bs n value all stop' is fits in
+    let begins : begins_well (front_digits bs) ≡ true = ap begins_well front ∙ well in
+    let left : after_digits bs ≡ rest = ap (λ k. drop k bs) many ∙ sym after in
+    let read : Result (Option ℕ × List ℕ) LineFault = cond true (Ok (small_value (front_digits bs), after_digits bs)) (Err Shape) in
+    let well_read : cond (begins_well (front_digits bs)) (Ok (small_value (front_digits bs), after_digits bs)) (Err Shape) ≡ read = ap (λ b. cond b (Ok (small_value (front_digits bs), after_digits bs)) (Err Shape)) begins in
+    let value_read : read ≡ Ok (Some value, after_digits bs) = ap (λ v. Ok (v, after_digits bs)) (sym spelled) in
+    well_read ∙ value_read ∙ ap (λ r. Ok (Some value, r)) left
+
+-- a byte is in its range if it is a digit
+digit_range : (b : ℕ) → is_ascii_digit b ≡ true → (48 ≤ b) × (b ≤ 57)
+digit_range b digit = digit_from_value b (digit_of_test b digit)
 
 pub one_front : (bs : List ℕ) (n : ℕ) (rest : List ℕ) → 1 ≤ length bs → rest ≡ take (length bs - 1) (drop 1 bs) → is_ascii_digit (get_or bs 0 0) ≡ true → is_ascii_digit (get_or rest 0 0) ≡ false → n ≡ get_or bs 0 0 - 48 → read_number bs ≡ Ok (Some n, rest)
 one_front [] n rest some after digit stop is = absurd (omega arith)
 one_front (b ∷ bs) n rest some after digit stop is =
-    let many : length bs ≤ length (b ∷ bs) - 1 = omega arith in
-    let same : rest ≡ bs = after ∙ take_all (length (b ∷ bs) - 1) bs many in
-    let stop' : is_ascii_digit (get_or bs 0 0) ≡ false = ap (λ r. is_ascii_digit (get_or r 0 0)) (sym same) ∙ stop in
-    one_digit b bs digit stop' ∙ ap (λ v. Ok (Some v, bs)) (sym is) ∙ ap (λ r. Ok (Some n, r)) (sym same)
-
-two_all : (t u : ℕ) (rest : List ℕ) → is_ascii_digit t ≡ true → is_ascii_digit u ≡ true → AreDigits (t ∷ u ∷ rest) 2
-two_all t u rest first second zero h = first
-two_all t u rest first second (suc zero) h = second
-two_all t u rest first second (suc (suc k)) h = absurd (omega arith)
-
--- two digits of which the first isn't `0`, and that no other follows, are read as a number
-two_digits : (t u : ℕ) (rest : List ℕ) → not (t == 48) ≡ true → is_ascii_digit t ≡ true → is_ascii_digit u ≡ true → is_ascii_digit (get_or rest 0 0) ≡ false → read_number (t ∷ u ∷ rest) ≡ Ok (Some ((t - 48) * 10 + (u - 48)), rest)
-unfolding read_number
-two_digits t u rest some first second stop =
-    let bs = t ∷ u ∷ rest in
-    let n = (t - 48) * 10 + (u - 48) in
-    let all = two_all t u rest first second in
-    let many = length-front_digits bs 2 all stop in
-    let front : front_digits bs ≡ t ∷ u ∷ [] = sym (take_all 2 (front_digits bs) (omega (arith, many))) ∙ take-front_digits bs 2 all in
-    let (low1, step1) = value_next bs 0 (omega arith) first in
-    let (low2, step2) = value_next bs 1 (omega arith) second in
-    let range1 = digit_from_value t (digit_of_test t first) in
-    let range2 = digit_from_value u (digit_of_test u second) in
-    let is : n ≡ digits_value 10 (take 2 bs) = omega (arith, step1, step2) in
-    let value : Some n ≡ small_value (front_digits bs) = front_value bs 2 n all stop is (omega (arith, range1, range2)) in
-    let begins : begins_well (front_digits bs) ≡ true = ap begins_well front ∙ some in
-    let after : after_digits bs ≡ rest = ap (λ l. drop (length l) bs) front in
-    ap (λ b. cond b (Ok (small_value (front_digits bs), after_digits bs)) (Err Shape)) begins ∙ ap (λ v. Ok (v, after_digits bs)) (sym value) ∙ ap (λ r. Ok (Some n, r)) after
+    let (low, step) = value_next (b ∷ bs) 0 (omega arith) digit in
+    digits_front (b ∷ bs) 1 n rest after refl all stop (omega (arith, step, is)) (omega (arith, digit_range b digit, is))
+  where
+    all : AreDigits (b ∷ bs) 1
+    all zero h = digit
+    all (suc k) h = absurd (omega arith)
 
 differs : (t : ℕ) → (t ≡ 48 → ⊥) → not (t == 48) ≡ true
 differs t other = by (t == 48) refl
@@ -149,7 +131,28 @@ pub two_front : (bs : List ℕ) (n : ℕ) (rest : List ℕ) → 2 ≤ length bs 
 two_front [] n rest many after some first second stop is = absurd (omega arith)
 two_front (t ∷ []) n rest many after some first second stop is = absurd (omega arith)
 two_front (t ∷ u ∷ bs) n rest many after some first second stop is =
-    let long : length bs ≤ length (t ∷ u ∷ bs) - 2 = omega arith in
-    let same : rest ≡ bs = after ∙ take_all (length (t ∷ u ∷ bs) - 2) bs long in
-    let stop' : is_ascii_digit (get_or bs 0 0) ≡ false = ap (λ r. is_ascii_digit (get_or r 0 0)) (sym same) ∙ stop in
-    two_digits t u bs (differs t some) first second stop' ∙ ap (λ v. Ok (Some v, bs)) (sym is) ∙ ap (λ r. Ok (Some n, r)) (sym same)
+    let (low1, step1) = value_next (t ∷ u ∷ bs) 0 (omega arith) first in
+    let (low2, step2) = value_next (t ∷ u ∷ bs) 1 (omega arith) second in
+    digits_front (t ∷ u ∷ bs) 2 n rest after (differs t some) all stop (omega (arith, step1, step2, is)) (omega (arith, digit_range t first, digit_range u second, is))
+  where
+    all : AreDigits (t ∷ u ∷ bs) 2
+    all zero h = first
+    all (suc zero) h = second
+    all (suc (suc k)) h = absurd (omega arith)
+
+pub three_front : (bs : List ℕ) (n : ℕ) (rest : List ℕ) → 3 ≤ length bs → rest ≡ take (length bs - 3) (drop 3 bs) → (get_or bs 0 0 ≡ 48 → ⊥) → is_ascii_digit (get_or bs 0 0) ≡ true → is_ascii_digit (get_or bs 1 0) ≡ true → is_ascii_digit (get_or bs 2 0) ≡ true
+    → is_ascii_digit (get_or rest 0 0) ≡ false → n ≡ ((get_or bs 0 0 - 48) * 10 + (get_or bs 1 0 - 48)) * 10 + (get_or bs 2 0 - 48) → read_number bs ≡ Ok (Some n, rest)
+three_front [] n rest many after some first second third stop is = absurd (omega arith)
+three_front (h ∷ []) n rest many after some first second third stop is = absurd (omega arith)
+three_front (h ∷ t ∷ []) n rest many after some first second third stop is = absurd (omega arith)
+three_front (h ∷ t ∷ u ∷ bs) n rest many after some first second third stop is =
+    let (low1, step1) = value_next (h ∷ t ∷ u ∷ bs) 0 (omega arith) first in
+    let (low2, step2) = value_next (h ∷ t ∷ u ∷ bs) 1 (omega arith) second in
+    let (low3, step3) = value_next (h ∷ t ∷ u ∷ bs) 2 (omega arith) third in
+    digits_front (h ∷ t ∷ u ∷ bs) 3 n rest after (differs h some) all stop (omega (arith, step1, step2, step3, is)) (omega (arith, digit_range h first, digit_range t second, digit_range u third, is))
+  where
+    all : AreDigits (h ∷ t ∷ u ∷ bs) 3
+    all zero k = first
+    all (suc zero) k = second
+    all (suc (suc zero)) k = third
+    all (suc (suc (suc j))) k = absurd (omega arith)
