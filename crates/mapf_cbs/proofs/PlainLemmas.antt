@@ -26,7 +26,8 @@ use Rattle.mapf_cbs.specs.Whole.{IsWhole, AreWhole, HaveAgentPaths, IsWholeChild
 use Rattle.mapf_cbs.proofs.AnswerLemmas.{state_root, root_views}
 use Rattle.mapf_model.proofs.PlaceLemmas.{slice_get-front, slice_get-here}
 use Rattle.mapf_cbs.proofs.StateLemmas.{IsInHand, in_hand, two_pushed, state_grown, grown_views}
-use Rattle.mapf_cbs.proofs.WholeLemmas.{less_key, each_more}
+use Rattle.mapf_cbs.proofs.OpenLemmas.{less_key}
+use Rattle.mapf_cbs.proofs.WholeLemmas.{each_more}
 
 -- the keys except that of one node
 abbrev others : List (ℕ × ℕ) → ℕ → List (ℕ × ℕ)

@@ -3,61 +3,27 @@ use Rattle.std.proofs.Common.{◌≡◌, ℕ, ◌<◌, Bool, true, false, cond, 
 use Rattle.std.specs.declared.cmp.Ordering.{Ordering}
 use Rattle.std.specs.declared.cmp.Ordering.TheVariants.{Less, Equal, Greater}
 use Rattle.std.specs.declared.collections.VecDeque.{VecDeque}
-use Rattle.std.specs.Ordering.{nat_cmp, ordering_then, match_ordering, is_eq}
+use Rattle.std.specs.Ordering.{nat_cmp, match_ordering, is_eq}
 use Rattle.std.specs.List.{AllByRecursion}
 use Rattle.std.specs.List.Sorted.{IsStrictlySortedBy}
 use Rattle.std.specs.Map.{keys_of, values_of, lookup, set_value, remove_entry}
 use Rattle.std.specs.BTreeMap.{insert_entry, is_at}
 use Rattle.std.specs.BTreeSet.{insert_key}
-use Rattle.std.proofs.lemmas.Cmp.{ranked}
-use Rattle.std.proofs.lemmas.List.{map-append, append_assoc, length-map}
+use Rattle.std.proofs.lemmas.Cmp.{ranked, nat_cmp_total, tied_itself}
+use Rattle.std.proofs.lemmas.List.{map-append, append_assoc, length-map, nil_from_length}
 use Rattle.std.proofs.Math.ListN.{get_or-map}
-use Rattle.std.proofs.lemmas.List.Elements.{All-append, All-contains, All-contains_itself, All-head, All-map, All-nil, All-tail, All-weaker, Contains-append_left, Contains-append_right}
+use Rattle.std.proofs.lemmas.List.Elements.{All-append, All-contains, All-contains_itself, All-head, All-map, All-nil, All-tail, All-weaker, Contains-append_left}
 use Rattle.std.proofs.lemmas.List.Quantifiers.{all_pairs_push}
 use Rattle.std.proofs.lemmas.Map.Views.{IfSome-lookup_from_All}
 use Rattle.std.specs.Option.{unwrap_or}
 use Rattle.mapf_cbs.specs.Queues.{IsOpenQueue, keys_of_entry, keys_of_entries}
 use Rattle.mapf_cbs.specs.State.{IsLeastKey, key_cmp}
+use Rattle.mapf_model.proofs.PlaceLemmas.{All-later}
+use Rattle.mapf_cbs.proofs.OpenLemmas.{less_key, greater_key}
 
--- how two numbers compare, from how they stand
-
-less_is : (a b : ℕ) → a < b → nat_cmp a b ≡ Less
-less_is a b below = by (nat_cmp a b) refl
-  where
-    by : (r : Ordering) → nat_cmp a b ≡ r → r ≡ Less
-    by Less e = refl
-    by Equal e = let h = ranked a b Equal (sym e) in absurd (omega (arith, h))
-    by Greater e = let h = ranked a b Greater (sym e) in absurd (omega (arith, h))
-
-equal_is : (a : ℕ) → nat_cmp a a ≡ Equal
-equal_is a = by (nat_cmp a a) refl
-  where
-    by : (r : Ordering) → nat_cmp a a ≡ r → r ≡ Equal
-    by Less e = let h = ranked a a Less (sym e) in absurd (omega (arith, h))
-    by Equal e = refl
-    by Greater e = let h = ranked a a Greater (sym e) in absurd (omega (arith, h))
-
-greater_is : (a b : ℕ) → b < a → nat_cmp a b ≡ Greater
-greater_is a b above = by (nat_cmp a b) refl
-  where
-    by : (r : Ordering) → nat_cmp a b ≡ r → r ≡ Greater
-    by Less e = let h = ranked a b Less (sym e) in absurd (omega (arith, h))
-    by Equal e = let h = ranked a b Equal (sym e) in absurd (omega (arith, h))
-    by Greater e = refl
-
-by_sum : (r : Ordering) (s t n m : ℕ) → nat_cmp s t ≡ r → key_cmp (s, n) (t, m) ≡ ordering_then r (nat_cmp n m)
-by_sum r s t n m e = ap (λ o. ordering_then o (nat_cmp n m)) e
-
-by_number : (r : Ordering) (s n m : ℕ) → nat_cmp n m ≡ r → key_cmp (s, n) (s, m) ≡ r
-by_number r s n m e = by_sum Equal s s n m (equal_is s) ∙ e
-
--- what holds of two lists together holds of each
-
+-- what holds of each item holds of each of the earlier ones
 all_left : {X : Type 0} (P : X → Type 0) (xs ys : List X) → All P (xs ++ ys) → All P xs
 all_left P xs ys all = All-weaker (Contains xs) P (λ x h. All-contains P (xs ++ ys) x all (Contains-append_left xs ys x h)) xs (All-contains_itself xs)
-
-all_right : {X : Type 0} (P : X → Type 0) (xs ys : List X) → All P (xs ++ ys) → All P ys
-all_right P xs ys all = All-weaker (Contains ys) P (λ x h. All-contains P (xs ++ ys) x all (Contains-append_right xs ys x h)) ys (All-contains_itself ys)
 
 -- where a key goes
 
@@ -80,10 +46,7 @@ module _ {Z : Type 0} where
   above_more : (s t : ℕ) (es : List (ℕ × VecDeque ℕ Z)) → nat_cmp s t ≡ Less → AreAbove t es → AreAbove s es
   unfolding AreAbove
   above_more s t [] less above = tt
-  above_more s t (e ∷ es) less above =
-      let first = ranked s t Less (sym less) in
-      let second = ranked t e.0 Less (sym above.0) in
-      (less_is s e.0 (omega (arith, first, second)), above_more s t es less above.1)
+  above_more s t (e ∷ es) less above = (nat_cmp_total.trans s t e.0 less above.0, above_more s t es less above.1)
 
   -- a key is less than those of greater sums
   less_than_entries : (total number : ℕ) (es : List (ℕ × VecDeque ℕ Z)) → AreAbove total es → All (λ x. key_cmp (total, number) x ≡ Less) (keys_of_entries es)
@@ -91,8 +54,9 @@ module _ {Z : Type 0} where
   less_than_entries total number [] above = All-nil (λ x. key_cmp (total, number) x ≡ Less)
   less_than_entries total number (e ∷ es) above =
       let P : ℕ × ℕ → Type 0 = λ x. key_cmp (total, number) x ≡ Less in
+      let less = ranked total e.0 Less (sym above.0) in
       All-append P (keys_of_entry e) (keys_of_entries es)
-      (All-map P (λ m. (e.0, m)) e.1.items (λ k d inside. by_sum Less total e.0 number (get_or e.1.items k d) above.0))
+      (All-map P (λ m. (e.0, m)) e.1.items (λ k d inside. less_key (total, number) (e.0, get_or e.1.items k d) (omega (arith, less)) (λ same. absurd (omega (arith, less, same)))))
       (less_than_entries total number es above.1)
 
   -- no queue has a sum that is below all
@@ -103,7 +67,9 @@ module _ {Z : Type 0} where
 
   -- a key is greater than those of a lesser sum
   greater_than_entry : (total number : ℕ) (e : ℕ × VecDeque ℕ Z) → nat_cmp total e.0 ≡ Greater → All (λ x. key_cmp (total, number) x ≡ Greater) (keys_of_entry e)
-  greater_than_entry total number e greater = All-map (λ x. key_cmp (total, number) x ≡ Greater) (λ m. (e.0, m)) e.1.items (λ k d inside. by_sum Greater total e.0 number (get_or e.1.items k d) greater)
+  greater_than_entry total number e greater =
+      let less = ranked total e.0 Greater (sym greater) in
+      All-map (λ x. key_cmp (total, number) x ≡ Greater) (λ m. (e.0, m)) e.1.items (λ k d inside. greater_key (total, number) (e.0, get_or e.1.items k d) (omega (arith, less)) (λ same. absurd (omega (arith, less, same))))
 
   numbers_below : (number : ℕ) (e : ℕ × VecDeque ℕ Z) → All (λ key. key.1 < number) (keys_of_entry e) → All (λ m. m < number) e.1.items
   numbers_below number e newest k d inside =
@@ -118,7 +84,7 @@ module _ {Z : Type 0} where
   unfolding AreAbove IsStrictlySortedBy
   added_to_queue [] total number old new sorted found is newest = absurd cc
   added_to_queue (e ∷ es) total number old new sorted found is newest =
-      by (nat_cmp total e.0) refl found (λ f. added_to_queue es total number old new sorted.1 f is (all_right (λ key. key.1 < number) (keys_of_entry e) (keys_of_entries es) newest))
+      by (nat_cmp total e.0) refl found (λ f. added_to_queue es total number old new sorted.1 f is (All-later (λ key. key.1 < number) (keys_of_entry e) (keys_of_entries es) newest))
     where
       test : ℕ → Bool
       test = is_at (nat_cmp total)
@@ -132,7 +98,7 @@ module _ {Z : Type 0} where
           let items : new.items ≡ e.1.items ++ number ∷ [] = is ∙ ap (λ (q : VecDeque ℕ Z). q.items ++ number ∷ []) (sym queue) in
           let below = numbers_below number e (all_left (λ key. key.1 < number) (keys_of_entry e) (keys_of_entries es) newest) in
           let past : All (λ x. key_cmp (e.0, number) x ≡ Greater) (keys_of_entry e) =
-          All-map (λ x. key_cmp (e.0, number) x ≡ Greater) (λ m. (e.0, m)) e.1.items (λ k d inside. by_number Greater e.0 number (get_or e.1.items k d) (greater_is number (get_or e.1.items k d) (below k d inside))) in
+          All-map (λ x. key_cmp (e.0, number) x ≡ Greater) (λ m. (e.0, m)) e.1.items (λ k d inside. greater_key (e.0, number) (e.0, get_or e.1.items k d) (omega arith) (λ _. below k d inside)) in
           let before = insert_before (keys_of_entries es) (e.0, number) (less_than_entries e.0 number es sorted.0) in
           let left : keys_of_entries ((e.0, new) ∷ es) ≡ keys_of_entry e ++ ((e.0, number) ∷ keys_of_entries es) =
           ap (λ l. map (λ m. (e.0, m)) l ++ keys_of_entries es) items ∙ ap (λ l. l ++ keys_of_entries es) (map-append (λ (m : ℕ). (e.0, m)) e.1.items (number ∷ [])) ∙ append_assoc (keys_of_entry e) ((e.0, number) ∷ []) (keys_of_entries es) in
@@ -140,9 +106,9 @@ module _ {Z : Type 0} where
       by Greater r f later = ap (λ l. keys_of_entry e ++ l) (later f) ∙ sym (insert_after (keys_of_entry e) (keys_of_entries es) (total, number) (greater_than_entry total number e r))
 
   -- a queue whose numbers stay has the same keys
-  pub kept_queue : (es : List (ℕ × VecDeque ℕ Z)) (test : ℕ → Bool) (old new : VecDeque ℕ Z) → lookup test es ≡ Some old → new.items ≡ old.items → keys_of_entries (set_value test es new) ≡ keys_of_entries es
-  kept_queue [] test old new found same = refl
-  kept_queue (e ∷ es) test old new found same = by (test e.0) found (λ f. kept_queue es test old new f same)
+  pub same_keys : (es : List (ℕ × VecDeque ℕ Z)) (test : ℕ → Bool) (old new : VecDeque ℕ Z) → lookup test es ≡ Some old → new.items ≡ old.items → keys_of_entries (set_value test es new) ≡ keys_of_entries es
+  same_keys [] test old new found same = refl
+  same_keys (e ∷ es) test old new found same = by (test e.0) found (λ f. same_keys es test old new f same)
     where
       by : (b : Bool) → cond b (Some e.1) (lookup test es) ≡ Some old → (lookup test es ≡ Some old → keys_of_entries (set_value test es new) ≡ keys_of_entries es)
           → keys_of_entries (cond b ((e.0, new) ∷ es) (e ∷ set_value test es new)) ≡ keys_of_entries (e ∷ es)
@@ -151,7 +117,7 @@ module _ {Z : Type 0} where
           ap (λ l. map (λ m. (e.0, m)) l ++ keys_of_entries es) (same ∙ here)
       by false f later = ap (λ l. keys_of_entry e ++ l) (later f)
 
-  -- so is the number of a new queue
+  -- the number of a new queue is inserted in its place
   pub added_queue : (es : List (ℕ × VecDeque ℕ Z)) (total number : ℕ) (new : VecDeque ℕ Z) → IsStrictlySortedBy nat_cmp (keys_of es) → lookup (is_at (nat_cmp total)) es ≡ None → new.items ≡ number ∷ []
       → keys_of_entries (insert_entry nat_cmp es total new) ≡ insert_key key_cmp (keys_of_entries es) (total, number)
   unfolding AreAbove IsStrictlySortedBy
@@ -170,7 +136,7 @@ module _ {Z : Type 0} where
   -- the numbers of a queue that a look-up finds are below each number that all are below
   pub found_below : (es : List (ℕ × VecDeque ℕ Z)) (test : ℕ → Bool) (number : ℕ) (old : VecDeque ℕ Z) → lookup test es ≡ Some old → All (λ key. key.1 < number) (keys_of_entries es) → All (λ m. m < number) old.items
   found_below [] test number old found newest = absurd cc
-  found_below (e ∷ es) test number old found newest = by (test e.0) found (λ f. found_below es test number old f (all_right (λ key. key.1 < number) (keys_of_entry e) (keys_of_entries es) newest))
+  found_below (e ∷ es) test number old found newest = by (test e.0) found (λ f. found_below es test number old f (All-later (λ key. key.1 < number) (keys_of_entry e) (keys_of_entries es) newest))
     where
       by : (b : Bool) → cond b (Some e.1) (lookup test es) ≡ Some old → (lookup test es ≡ Some old → All (λ m. m < number) old.items) → All (λ m. m < number) old.items
       by true f later = subst (λ (q : VecDeque ℕ Z). All (λ m. m < number) q.items) (ap (λ o. unwrap_or o e.1) f) (numbers_below number e (all_left (λ key. key.1 < number) (keys_of_entry e) (keys_of_entries es) newest))
@@ -209,21 +175,22 @@ module _ {Z : Type 0} where
   above_of e es sorted = sorted.0
 
   -- the first number of the first queue is taken
-  pub taken_first : (es : List (ℕ × VecDeque ℕ Z)) (total number : ℕ) (first old new : VecDeque ℕ Z) → IsStrictlySortedBy nat_cmp (keys_of es) → slice_get es 0 ≡ Some (total, first) → lookup (is_at (nat_cmp total)) es ≡ Some old → IsOpenQueue old → old.items ≡ number ∷ new.items
+  pub taken_first : (es : List (ℕ × VecDeque ℕ Z)) (total number : ℕ) (first old new : VecDeque ℕ Z) → IsStrictlySortedBy nat_cmp (keys_of es) → slice_get es 0 ≡ Some (total, first) → Some old ≡ lookup (is_at (nat_cmp total)) es → All IsOpenQueue (values_of es) → old.items ≡ number ∷ new.items
       → (set_value (is_at (nat_cmp total)) es new ≡ (total, new) ∷ drop 1 es) × IsLeastKey (total, number) (keys_of_entries es) (keys_of_entries ((total, new) ∷ drop 1 es))
   unfolding IsStrictlySortedBy
-  taken_first [] total number first old new sorted at found queue is = absurd cc
-  taken_first (e ∷ es) total number first old new sorted at found queue is =
+  taken_first [] total number first old new sorted at found queues is = absurd cc
+  taken_first (e ∷ es) total number first old new sorted at found queues is =
+      let queue = found_queue (e ∷ es) total old queues found in
       let front : e ≡ (total, first) = ap (λ o. unwrap_or o e) at in
       let same : e.0 ≡ total = ap (λ (p : ℕ × VecDeque ℕ Z). p.0) front in
-      let equal : nat_cmp total e.0 ≡ Equal = ap (nat_cmp total) same ∙ equal_is total in
-      let here : e.1 ≡ old = ap (λ o. unwrap_or o e.1) (sym (ap (λ r. cond (is_eq r) (Some e.1) (lookup (is_at (nat_cmp total)) es)) equal) ∙ found) in
+      let equal : nat_cmp total e.0 ≡ Equal = ap (nat_cmp total) same ∙ tied_itself nat_cmp_total total in
+      let here : e.1 ≡ old = ap (λ o. unwrap_or o e.1) (sym (ap (λ r. cond (is_eq r) (Some e.1) (lookup (is_at (nat_cmp total)) es)) equal) ∙ sym found) in
       let items : e.1.items ≡ number ∷ new.items = ap (λ (q : VecDeque ℕ Z). q.items) here ∙ is in
       let set : set_value (is_at (nat_cmp total)) (e ∷ es) new ≡ (total, new) ∷ es = ap (λ r. cond (is_eq r) ((e.0, new) ∷ es) (e ∷ set_value (is_at (nat_cmp total)) es new)) equal ∙ ap (λ t. (t, new) ∷ es) same in
       let P : ℕ × ℕ → Type 0 = λ x. key_cmp (total, number) x ≡ Less in
       let rising : AllPairs ◌<◌ (number ∷ new.items) = subst (AllPairs ◌<◌) is queue.rising in
       let mine : All P (map (λ m. (total, m)) new.items) =
-      All-map P (λ m. (total, m)) new.items (λ k d inside. by_number Less total number (get_or new.items k d) (less_is number (get_or new.items k d) (rising 0 (suc k) d (omega arith) (omega arith)))) in
+      All-map P (λ m. (total, m)) new.items (λ k d inside. less_key (total, number) (total, get_or new.items k d) (omega arith) (λ _. rising 0 (suc k) d (omega arith) (omega arith))) in
       let others : All P (keys_of_entries es) = less_than_entries total number es (subst (λ t. AreAbove t es) same (above_of e es sorted)) in (
         set,
         record {
@@ -236,9 +203,10 @@ module _ {Z : Type 0} where
   later_queues [] queues = queues
   later_queues (e ∷ es) queues = All-tail IsOpenQueue e.1 (values_of es) queues
 
-  -- an empty queue is removed
-  pub removed_first : (total : ℕ) (new : VecDeque ℕ Z) (es : List (ℕ × VecDeque ℕ Z)) → new.items ≡ [] → (remove_entry (is_at (nat_cmp total)) ((total, new) ∷ es) ≡ es) × (keys_of_entries ((total, new) ∷ es) ≡ keys_of_entries es)
-  removed_first total new es is = (
-    ap (λ r. cond (is_eq r) es ((total, new) ∷ remove_entry (is_at (nat_cmp total)) es)) (equal_is total),
-    ap (λ l. map (λ m. (total, m)) l ++ keys_of_entries es) is,
-  )
+  -- if its queue is empty then, the entry is removed, and the keys stay
+  pub removed_first : (es set left : List (ℕ × VecDeque ℕ Z)) (total : ℕ) (new : VecDeque ℕ Z) → set ≡ (total, new) ∷ drop 1 es → left ≡ remove_entry (is_at (nat_cmp total)) set → length new.items ≡ 0
+      → (left ≡ drop 1 es) × (keys_of_entries ((total, new) ∷ drop 1 es) ≡ keys_of_entries left)
+  removed_first es set left total new is removed empty =
+      let test : ℕ → Bool = is_at (nat_cmp total) in
+      let gone : left ≡ drop 1 es = removed ∙ ap (remove_entry test) is ∙ ap (λ r. cond (is_eq r) (drop 1 es) ((total, new) ∷ remove_entry test (drop 1 es))) (tied_itself nat_cmp_total total) in
+      (gone, ap (λ l. map (λ m. (total, m)) l ++ keys_of_entries (drop 1 es)) (nil_from_length new.items empty) ∙ ap keys_of_entries (sym gone))

@@ -1,10 +1,6 @@
 -- Full nodes, and the states that they denote.
 use Rattle.std.proofs.Common.{◌≡◌, ◌≢◌, ℕ, ◌+◌, ◌^◌, ◌<◌, ◌≤◌, All, List, [], ◌∷◌, ◌++◌, Option, None, Some, length, sum, slice_get, slice_set, refl, sym, ◌∙◌, ap, subst, inl, ⊎_elim, arith, Vec}
-use Rattle.std.specs.declared.cmp.Ordering.{Ordering}
-use Rattle.std.specs.declared.cmp.Ordering.TheVariants.{Less, Equal, Greater}
-use Rattle.std.specs.Ordering.{nat_cmp, ordering_then}
 use Rattle.std.proofs.lemmas.Bool.{cases_eq}
-use Rattle.std.proofs.lemmas.Cmp.{ranked}
 use Rattle.std.proofs.lemmas.Option.{slice_get_within, same_Some}
 use Rattle.mapf_model.specs.declared.bar.Bar.{Bar}
 use Rattle.mapf_model.specs.Laws.{AreSameBars}
@@ -24,7 +20,6 @@ use Rattle.mapf_cbs.specs.Nodes.{IsChildView}
 use Rattle.mapf_cbs.specs.GeneratedChild.{IsTotal, IsGeneratedState}
 use Rattle.mapf_model.specs.Blocks.{LabelBlock}
 use Rattle.mapf_cbs.specs.Search.{View, bound_blocks, labels_of}
-use Rattle.mapf_cbs.specs.State.{key_cmp}
 use Rattle.mapf_cbs.specs.Whole.{IsAgentPathAt, IsWhole, IsCopy, AreCopies, IsAfter, IsLeastOpen, IsLeastBelow}
 use Rattle.mapf_model.proofs.PlaceLemmas.{slice_get-set_same, slice_get-set_other, length-slice_set}
 use Rattle.mapf_cbs.proofs.NodeLemmas.{paths_kept, blocks_new, bars_other, bars_bound}
@@ -97,20 +92,6 @@ module _ (nodes : List WholeNode) (fates : List Fate) (k : ℕ) where
           (cases_eq m k);
       oldest = λ m other within is other_open. let h = least.least m other within is other_open in let g = total_is in omega (arith, h, g, less);
     }
-
--- a key with no greater sum, and with a smaller number if the sums are equal, is less
-pub less_key : (a b : ℕ × ℕ) → a.0 ≤ b.0 → (a.0 ≡ b.0 → a.1 < b.1) → key_cmp a b ≡ Less
-less_key a b sums numbers = by (nat_cmp a.0 b.0) refl
-  where
-    at_number : a.0 ≡ b.0 → (r : Ordering) → nat_cmp a.1 b.1 ≡ r → nat_cmp a.1 b.1 ≡ Less
-    at_number same Less e = e
-    at_number same Equal e = absurd (let h = ranked a.1 b.1 Equal (sym e) in let f = numbers same in omega (arith, h, f))
-    at_number same Greater e = absurd (let h = ranked a.1 b.1 Greater (sym e) in let f = numbers same in omega (arith, h, f))
-
-    by : (r : Ordering) → nat_cmp a.0 b.0 ≡ r → key_cmp a b ≡ Less
-    by Less e = ap (λ r. ordering_then r (nat_cmp a.1 b.1)) e
-    by Equal e = ap (λ r. ordering_then r (nat_cmp a.1 b.1)) e ∙ at_number (ranked a.0 b.0 Equal (sym e)) (nat_cmp a.1 b.1) refl
-    by Greater e = absurd (let h = ranked a.0 b.0 Greater (sym e) in omega (arith, h, sums))
 
 pub bars_swap : (xs ys : List Bar) → AreSameBars xs ys → AreSameBars ys xs
 bars_swap xs ys same bar = ((same bar).1, (same bar).0)

@@ -6,7 +6,7 @@ use Rattle.std.specs.BTreeSet.{insert_key}
 use Rattle.std.proofs.lemmas.Map.Views.{All-values-insert_entry, All-values-set_value}
 use Rattle.mapf_cbs.specs.Queues.{IsOpenQueue, keys_of_entries}
 use Rattle.mapf_cbs.specs.State.{key_cmp}
-use Rattle.mapf_cbs.proofs.QueueLemmas.{added_to_queue, added_queue, found_below, found_queue, kept_queue, queue_kept, queue_of_one, queue_pushed}
+use Rattle.mapf_cbs.proofs.QueueLemmas.{added_to_queue, added_queue, found_below, found_queue, queue_kept, queue_of_one, queue_pushed, same_keys}
 use Rattle.mapf_cbs.proofs.open_nodes.OpenNodes.add.Goals as goal
 
 on_err : {T E P : Type 0} (result : Result T E) → P → OnErr result P
@@ -59,4 +59,4 @@ pub returns-in_err-push_back-clause-kept : goal.returns-in_err-push_back-clause-
 returns-in_err-push_back-clause-kept c =
     let es = c.self.inside.queues.entries in
     let new = c.push_back.new.self in
-    on_err c.from_residual.result (ap keys_of_entries (c.get_mut.follows.holds new).0 ∙ kept_queue es (is_at (nat_cmp c.args.total)) c.in-Some.queue.now new (sym c.in-Some.ensures.value) c.in_err-push_back.ensures.items ∙ c.self.view_is)
+    on_err c.from_residual.result (ap keys_of_entries (c.get_mut.follows.holds new).0 ∙ same_keys es (is_at (nat_cmp c.args.total)) c.in-Some.queue.now new (sym c.in-Some.ensures.value) c.in_err-push_back.ensures.items ∙ c.self.view_is)

@@ -1,8 +1,7 @@
-use Rattle.std.proofs.Common.{rules, ◌≡◌, ◌<◌, All, ◌∷◌, ap, drop, length, sym, subst, ◌∙◌}
+use Rattle.std.proofs.Common.{rules, ◌<◌, All, ap, length, sym, subst, ◌∙◌}
 use Rattle.std.specs.BTreeMap.{is_at}
-use Rattle.std.specs.Map.{remove_entry, values_of}
+use Rattle.std.specs.Map.{values_of}
 use Rattle.std.specs.Ordering.{nat_cmp}
-use Rattle.std.proofs.lemmas.List.{nil_from_length}
 use Rattle.std.proofs.lemmas.Map.Views.{All-values-set_value}
 use Rattle.mapf_cbs.specs.Queues.{IsOpenQueue, keys_of_entries}
 use Rattle.mapf_cbs.specs.State.{IsLeastKey}
@@ -14,15 +13,10 @@ invariant_of-self-then-is_empty c =
     let es = c.self.inside.queues.entries in
     let new = c.pop_front.new.self in
     let total = c.in_ok-total.total.now in
-    let old = c.in_ok-queue.queue.now in
     let number = c.in_ok-number.number in
-    let queue = found_queue es total old c.self.invariant c.in_ok-queue.ensures.value in
-    let taken = taken_first es total number c.in_ok-total.field-0-1.now old new c.get_mut.ensures.ordered c.in_ok-total.ensures.first (sym c.in_ok-queue.ensures.value) queue c.in_ok-number.ensures.items in
-    let none : length new.items ≡ 0 = search rules in
-    let removed = removed_first total new (drop 1 es) (nil_from_length new.items none) in
-    let set : (c.get_mut.follows.lender new).entries ≡ (total, new) ∷ drop 1 es = (c.get_mut.follows.holds new).0 ∙ taken.0 in
-    let left : c.remove_sum.new.queues.entries ≡ drop 1 es = c.remove_sum.ensures ∙ ap (remove_entry (is_at (nat_cmp total))) set ∙ removed.0 in
-    subst (λ l. All IsOpenQueue (values_of l)) (sym left) (later_queues es c.self.invariant)
+    let taken = taken_first es total number c.in_ok-total.field-0-1.now c.in_ok-queue.queue.now new c.get_mut.ensures.ordered c.in_ok-total.ensures.first c.in_ok-queue.ensures.value c.self.invariant c.in_ok-number.ensures.items in
+    let removed = removed_first es (c.get_mut.follows.lender new).entries c.remove_sum.new.queues.entries total new ((c.get_mut.follows.holds new).0 ∙ taken.0) c.remove_sum.ensures (search rules) in
+    subst (λ l. All IsOpenQueue (values_of l)) (sym removed.0) (later_queues es c.self.invariant)
 
 pub invariant_of-self-else-is_empty : goal.invariant_of-self-else-is_empty
 invariant_of-self-else-is_empty c =
@@ -40,25 +34,17 @@ returns-then-is_empty-clause-some c =
     let es = c.self.inside.queues.entries in
     let new = c.pop_front.new.self in
     let total = c.in_ok-total.total.now in
-    let old = c.in_ok-queue.queue.now in
     let number = c.in_ok-number.number in
-    let queue = found_queue es total old c.self.invariant c.in_ok-queue.ensures.value in
-    let taken = taken_first es total number c.in_ok-total.field-0-1.now old new c.get_mut.ensures.ordered c.in_ok-total.ensures.first (sym c.in_ok-queue.ensures.value) queue c.in_ok-number.ensures.items in
-    let none : length new.items ≡ 0 = search rules in
-    let removed = removed_first total new (drop 1 es) (nil_from_length new.items none) in
-    let set : (c.get_mut.follows.lender new).entries ≡ (total, new) ∷ drop 1 es = (c.get_mut.follows.holds new).0 ∙ taken.0 in
-    let left : c.remove_sum.new.queues.entries ≡ drop 1 es = c.remove_sum.ensures ∙ ap (remove_entry (is_at (nat_cmp total))) set ∙ removed.0 in
-    let keys = removed.1 ∙ ap keys_of_entries (sym left) in
-    subst (λ l. IsLeastKey (total, number) l (keys_of_entries c.remove_sum.new.queues.entries)) c.self.view_is (subst (IsLeastKey (total, number) (keys_of_entries es)) keys taken.1)
+    let taken = taken_first es total number c.in_ok-total.field-0-1.now c.in_ok-queue.queue.now new c.get_mut.ensures.ordered c.in_ok-total.ensures.first c.in_ok-queue.ensures.value c.self.invariant c.in_ok-number.ensures.items in
+    let removed = removed_first es (c.get_mut.follows.lender new).entries c.remove_sum.new.queues.entries total new ((c.get_mut.follows.holds new).0 ∙ taken.0) c.remove_sum.ensures (search rules) in
+    subst (λ l. IsLeastKey (total, number) l (keys_of_entries c.remove_sum.new.queues.entries)) c.self.view_is (subst (IsLeastKey (total, number) (keys_of_entries es)) removed.1 taken.1)
 
 pub returns-else-is_empty-clause-some : goal.returns-else-is_empty-clause-some
 returns-else-is_empty-clause-some c =
     let es = c.self.inside.queues.entries in
     let new = c.pop_front.new.self in
     let total = c.in_ok-total.total.now in
-    let old = c.in_ok-queue.queue.now in
     let number = c.in_ok-number.number in
-    let queue = found_queue es total old c.self.invariant c.in_ok-queue.ensures.value in
-    let taken = taken_first es total number c.in_ok-total.field-0-1.now old new c.get_mut.ensures.ordered c.in_ok-total.ensures.first (sym c.in_ok-queue.ensures.value) queue c.in_ok-number.ensures.items in
+    let taken = taken_first es total number c.in_ok-total.field-0-1.now c.in_ok-queue.queue.now new c.get_mut.ensures.ordered c.in_ok-total.ensures.first c.in_ok-queue.ensures.value c.self.invariant c.in_ok-number.ensures.items in
     let left = sym (ap keys_of_entries ((c.get_mut.follows.holds new).0 ∙ taken.0)) in
     subst (λ l. IsLeastKey (total, number) l (keys_of_entries (c.get_mut.follows.lender new).entries)) c.self.view_is (subst (IsLeastKey (total, number) (keys_of_entries es)) left taken.1)
