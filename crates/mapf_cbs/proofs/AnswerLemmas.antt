@@ -34,7 +34,7 @@ use Rattle.mapf_cbs.proofs.StateLemmas.{least_popped}
 use Rattle.mapf_model.proofs.ContainsLemmas.{Contains-none, Contains-cons_new}
 
 -- the state at the beginning
-pub state_root : (problem : Instance) (paths : Vec (List ℕ) Global) (total : ℕ) (view : View) → IsRootView paths.items view → IsLive problem view → total ≡ sum view.costs → total ≤ 200 * 2 ^ 32 → IsState problem (Root paths ∷ []) (Open ∷ []) ((total, 0) ∷ []) 0
+pub state_root : (problem : Instance) (paths : List (List ℕ)) (total : ℕ) (view : View) → IsRootView paths view → IsLive problem view → total ≡ sum view.costs → total ≤ 200 * 2 ^ 32 → IsState problem (Root paths ∷ []) (Open ∷ []) ((total, 0) ∷ []) 0
 state_root problem paths total view root_view live total_is small = record {
   views = view ∷ [];
   are = record { lengths = refl; each = each_view };
@@ -50,7 +50,7 @@ state_root problem paths total view root_view live total_is small = record {
 }
   where
     each_view : (k : ℕ) (node : Node) (v : View) → slice_get (Root paths ∷ []) k ≡ Some node → slice_get (view ∷ []) k ≡ Some v → IsNodeView (view ∷ []) k node v
-    each_view zero node v node_is v_is = subst (λ n. IsNodeView (view ∷ []) 0 n v) (same_Some (Root paths) node node_is) (subst (λ w. IsRootView paths.items w) (same_Some view v v_is) root_view)
+    each_view zero node v node_is v_is = subst (λ n. IsNodeView (view ∷ []) 0 n v) (same_Some (Root paths) node node_is) (subst (λ w. IsRootView paths w) (same_Some view v v_is) root_view)
     each_view (suc k) node v node_is v_is = absurd cc
 
     first_key : (key : ℕ × ℕ) → Contains {X = ℕ × ℕ} ((total, 0) ∷ []) key → (total, 0) ≡ key
@@ -66,7 +66,7 @@ state_root problem paths total view root_view live total_is small = record {
 
     each_node : (agent : ℕ) → agent < length problem.agents → AreNodesFor agent (Root paths ∷ [])
     each_node agent known zero node node_is =
-        let one : length view.paths ≡ length paths.items = ap length root_view.same_paths in
+        let one : length view.paths ≡ length paths = ap length root_view.same_paths in
         let two = live.counted.paths in
         subst (λ n. IsNodeFor agent 0 n) (same_Some (Root paths) node node_is) (refl, omega arith)
     each_node agent known (suc k) node node_is = absurd cc
@@ -78,11 +78,11 @@ state_root problem paths total view root_view live total_is small = record {
     small_key : (key : ℕ × ℕ) → Contains {X = ℕ × ℕ} ((total, 0) ∷ []) key → key.0 ≤ (0 + 200) * 2 ^ 32
     small_key key in_it = let e : total ≡ key.0 = ap (λ (x : ℕ × ℕ). x.0) (first_key key in_it) in omega arith
 
-pub root_views : (problem : Instance) (paths : Vec (List ℕ) Global) (total : ℕ) (view : View) (root_view : IsRootView paths.items view) (live : IsLive problem view) (total_is : total ≡ sum view.costs) (small : total ≤ 200 * 2 ^ 32) → (state_root problem paths total view root_view live total_is small).views ≡ view ∷ []
+pub root_views : (problem : Instance) (paths : List (List ℕ)) (total : ℕ) (view : View) (root_view : IsRootView paths view) (live : IsLive problem view) (total_is : total ≡ sum view.costs) (small : total ≤ 200 * 2 ^ 32) → (state_root problem paths total view root_view live total_is small).views ≡ view ∷ []
 unfolding state_root
 root_views problem paths total view root_view live total_is small = refl
 
-pub state_first : (problem : Instance) (paths : Vec (List ℕ) Global) (total : ℕ) (view : View) → IsRootView paths.items view → IsLive problem view → total ≡ sum view.costs → total ≤ 200 * 2 ^ 32 →
+pub state_first : (problem : Instance) (paths : List (List ℕ)) (total : ℕ) (view : View) → IsRootView paths view → IsLive problem view → total ≡ sum view.costs → total ≤ 200 * 2 ^ 32 →
     (nodes : List Node) → nodes ≡ Root paths ∷ [] → IsState problem nodes (Open ∷ []) ((total, 0) ∷ []) 0
 state_first problem paths total view root_view live total_is small nodes nodes_is = subst (λ ns. IsState problem ns (Open ∷ []) ((total, 0) ∷ []) 0) (sym nodes_is) (state_root problem paths total view root_view live total_is small)
 

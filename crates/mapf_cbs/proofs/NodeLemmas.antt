@@ -1,11 +1,10 @@
 -- The state that a node denotes, by the state of its parent.
-use Rattle.std.proofs.Common.{◌≡◌, ◌≢◌, ◌⊎◌, ℕ, ◌<◌, List, Some, length, slice_get, refl, sym, ◌∙◌, ap, subst, inl, inr, ⊎_elim, arith, Vec, ◌∷◌, cond, nat_eq, true, eq-eqb, Contains, []}
+use Rattle.std.proofs.Common.{◌≡◌, ◌≢◌, ◌⊎◌, ℕ, ◌<◌, List, Some, length, slice_get, refl, sym, ◌∙◌, ap, subst, inl, inr, ⊎_elim, arith, ◌∷◌, cond, nat_eq, true, eq-eqb, Contains, []}
 use Rattle.std.proofs.lemmas.Bool.{cond_both, eqb-true}
 use Rattle.mapf_model.specs.Tree.{NodeContext, with_constraint}
 use Rattle.mapf_model.specs.Laws.{AreSameBars}
 use Rattle.mapf_model.proofs.ContainsLemmas.{Contains-cons_cases, Contains-none, Contains-cons_old}
 use Rattle.std.proofs.lemmas.Option.{slice_get_within, same_Some}
-use Rattle.std.specs.declared.alloc.Global.{Global}
 use Rattle.mapf_model.specs.declared.bar.Bar.{Bar}
 use Rattle.mapf_model.specs.declared.constraint.Constraint.{Constraint}
 use Rattle.mapf_model.specs.declared.label.Entry.{Entry}
@@ -51,7 +50,7 @@ module _ (nodes : List Node) (views : List View) (are : AreViews nodes views) (k
   pub view_in : k < length nodes
   view_in = let e = are.lengths in let h : k < length views = slice_get_within views k view is in omega arith
 
-  pub root_path : (paths : Vec (List ℕ) Global) (agent : ℕ) → slice_get nodes k ≡ Some (Root paths) → slice_get view.paths agent ≡ slice_get paths.items agent
+  pub root_path : (paths : List (List ℕ)) (agent : ℕ) → slice_get nodes k ≡ Some (Root paths) → slice_get view.paths agent ≡ slice_get paths agent
   root_path paths agent at = ap (λ ps. slice_get ps agent) (are.each k (Root paths) view at is).same_paths
 
   module _ (parent : ℕ) (constraint : Constraint) (found : Found (List Entry)) (at : slice_get nodes k ≡ Some (Child parent constraint found)) where
@@ -73,7 +72,7 @@ module _ (nodes : List Node) (views : List View) (are : AreViews nodes views) (k
         let same : h.1 ≡ before = same_Some h.1 before (sym h.2 ∙ before_is) in
         subst (λ (v : View). view.context.bars constraint.agent ≡ constraint.bar ∷ v.context.bars constraint.agent) same (bars_bound h.1 constraint found view h.4)
 
-  pub root_bars : (paths : Vec (List ℕ) Global) (agent : ℕ) → slice_get nodes k ≡ Some (Root paths) → view.context.bars agent ≡ []
+  pub root_bars : (paths : List (List ℕ)) (agent : ℕ) → slice_get nodes k ≡ Some (Root paths) → view.context.bars agent ≡ []
   root_bars paths agent at = ap (λ (w : NodeContext). w.bars agent) (are.each k (Root paths) view at is).context
 
   pub found_path : (parent : ℕ) (constraint : Constraint) (path : List ℕ) (labels : List Entry) → slice_get nodes k ≡ Some (Child parent constraint (Arrives path labels)) → slice_get view.paths constraint.agent ≡ Some path

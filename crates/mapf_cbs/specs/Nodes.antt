@@ -18,7 +18,7 @@ use Rattle.mapf_cbs.specs.Search.{View, IsLive, live_child, dead_child, bound_bl
 
 -- parents come before their children, and the root, which comes first, has a path of the agent
 abbrev pub IsNodeFor : ℕ → ℕ → Node → Type 0
-IsNodeFor agent k (Root paths) = (k ≡ 0) × (agent < length paths.items)
+IsNodeFor agent k (Root paths) = (k ≡ 0) × (agent < length paths)
 IsNodeFor agent k (Child parent constraint found) = parent < k
 
 -- the same of all nodes
@@ -63,7 +63,7 @@ IsOwnOf (Child parent constraint found) blocks = blocks ≡ bound_blocks constra
 
 -- the state that a node denotes, by its parent's
 abbrev pub IsNodeView : List View → ℕ → Node → View → Type 0
-IsNodeView views k (Root paths) view = IsRootView paths.items view
+IsNodeView views k (Root paths) view = IsRootView paths view
 IsNodeView views k (Child parent constraint found) view = (parent < k) × (before : View) × (slice_get views parent ≡ Some before) × (constraint.agent < length before.paths) × IsChildView before constraint found view
 
 -- these are the states that the nodes denote

@@ -13,12 +13,15 @@ abbrev pub AreSplitsFirst : List View → List Fate → Type 0
 AreSplitsFirst views fates = (k : ℕ) (view : View) (conflict : Conflict) (left : ℕ) → slice_get views k ≡ Some view
     → slice_get fates k ≡ Some (Expanded conflict left) → AreConflictFreeBefore view.paths (tick_of conflict)
 
--- the nodes have views, the view of the node `k` has so many paths, and the paths of each split node don't conflict
--- before the tick of the conflict on which it was split
+-- the nodes have views, those of the root and of the node `k` have so many paths, and the paths of each split node don't
+-- conflict before the tick of the conflict on which it was split
 pub record AreSearchedAt (nodes : List Node) (fates : List Fate) (k agents : ℕ) : Type 0 where
   pub views : List View
   pub view : View
   pub are : AreViews nodes views
   pub is : slice_get views k ≡ Some view
   pub count : length view.paths ≡ agents
+  pub root : View
+  pub root_is : slice_get views 0 ≡ Some root
+  pub root_count : length root.paths ≡ agents
   pub splits : AreSplitsFirst views fates

@@ -12,6 +12,7 @@ pub mod laws;
 mod node;
 mod open_nodes;
 mod outcome;
+mod replacements;
 mod replanned;
 mod search_memory;
 mod search_tree;

@@ -1,12 +1,13 @@
-use mapf_model::{Conflict, Constraint, Path};
+use mapf_conflicts::BasePaths;
+use mapf_model::{Conflict, Constraint};
 use mapf_spacetime::{Found, StateLabels};
 
 /// A delta node of the constraint tree: the rest of its state is found at its ancestors.
 #[derive(Debug, Drop)]
 pub enum Node {
-    /// No agent has constraints, and these are the agents' paths.
+    /// No agent has constraints, and these are the agents' paths, of which most are also those of the other nodes.
     Root {
-        paths: Vec<Path>,
+        paths: BasePaths,
     },
     /// The node has one more constraint than its parent, and this is what the search for its agent found.
     Child {

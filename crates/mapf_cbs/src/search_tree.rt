@@ -1,9 +1,11 @@
-ghost use Rattle.std.specs.Prelude.{◌≡◌, ◌+◌, ◌^◌, ◌<◌, ◌∷◌, [], length, All, IfOk, OnOk};
+ghost use Rattle.std.specs.Prelude.{◌≡◌, ◌+◌, ◌^◌, ◌<◌, ◌≤◌, ◌∷◌, [], length, All, IfOk, OnOk};
+ghost use Rattle.mapf_model.specs.Limits.{most_agents};
 ghost use Rattle.mapf_cbs.specs.State.{fate_of, with_children, split_fates, with_key, with_keys};
 
 use crate::child::GeneratedChild;
 use crate::node::{Fate, Node};
 use crate::open_nodes::OpenNodes;
+use mapf_conflicts::BasePaths;
 use mapf_model::{Conflict, OutOfMemory, Path};
 use std::alloc::Global;
 
@@ -22,13 +24,16 @@ pub struct SearchTree {
 impl SearchTree {
     /// Returns the tree of a root with these paths, whose costs have this sum.
     pub fn of(alloc: Global, paths: Vec<Path>, total: u64) -> Result<SearchTree, OutOfMemory>
-        ensures nodes { IfOk result (λ tree. tree.nodes.items ≡ Node.Root paths ∷ []) }
+        requires { length paths.items ≤ most_agents }
+        ensures nodes { IfOk result (λ tree. tree.nodes.items ≡ Node.Root paths.items ∷ []) }
         ensures fates { IfOk result (λ tree. tree.fates.items ≡ Fate.Open ∷ []) }
         ensures waiting { IfOk result (λ tree. tree.waiting ≡ (total, 0) ∷ []) }
         ensures splits { IfOk result (λ tree. tree.splits ≡ 0) }
     {
         let mut nodes = Vec::new(alloc);
-        nodes.push(Node::Root { paths })?;
+        nodes.push(Node::Root {
+            paths: BasePaths::of(alloc, paths)?,
+        })?;
         Ok(SearchTree {
             nodes,
             fates: root_fates(alloc)?,

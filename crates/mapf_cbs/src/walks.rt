@@ -11,8 +11,9 @@ ghost use Rattle.mapf_cbs.specs.Replanned.{AreSearchedAt};
 
 use crate::finders::Finders;
 use crate::node::{Fate, Node};
+use crate::replacements::replacements_at;
 use crate::replanned::{Replanned, replanned_at};
-use mapf_conflicts::{CellMarks, first_conflict_after_replanning};
+use mapf_conflicts::{BasePaths, CellMarks, ReplacedPaths, first_conflict_after_replanning};
 use mapf_constraints::BarTable;
 use mapf_model::{Conflict, OutOfMemory, Path, Plan};
 use mapf_spacetime::Found;
@@ -28,7 +29,7 @@ pub fn path_at(nodes: &[Node], k: u32, agent: u32) -> &Path
     let mut at = k;
     loop {
         match &nodes[at as usize] {
-            Node::Root { paths } => return &paths[agent as usize],
+            Node::Root { paths } => return &paths.paths()[agent as usize],
             Node::Child {
                 parent,
                 constraint,
@@ -97,7 +98,9 @@ pub fn conflict_at(
         (HoldsOfAgentsAt nodes.now finders.now.node (length finders.now.nearest.items) (λ view.
         All (λ path. length path ≤ most_path_cells) view.paths)) }
 {
-    let paths = paths_at(alloc, nodes, finders)?;
+    let root = root_paths(nodes, finders.nearest.len() as u32);
+    let replacements = replacements_at(alloc, nodes, root, finders)?;
+    let paths = ReplacedPaths::of(root, &replacements);
     let Replanned { agent, free } = replanned_at(nodes, fates, finders.node);
     Ok(first_conflict_after_replanning(marks, &paths, agent, free))
 }
@@ -128,10 +131,9 @@ fn paths_at<'a>(
         paths_behind paths.items ≡ view.paths)) }
     ensures short { IfOk result (λ paths. All (λ path. length path ≤ most_path_cells) (paths_behind paths.items)) }
 {
-    let root = root_paths(nodes, finders.nearest.len() as u32);
     let mut paths = Vec::with_capacity(alloc, finders.nearest.len())?;
     for agent in 0..finders.nearest.len() as u32 {
-        let path = path_by(nodes, root, finders, agent);
+        let path = path_at(nodes, finders.of(agent), agent);
         // Calling `cells` lets the prover use its contract, which bounds their number.
         let _cells = path.cells();
         paths.push(path)?;
@@ -140,7 +142,7 @@ fn paths_at<'a>(
 }
 
 // Returns the paths of the root.
-fn root_paths(nodes: &[Node], agents: u32) -> &[Path]
+fn root_paths(nodes: &[Node], agents: u32) -> &BasePaths
     requires nodes { AreNodesForAll agents nodes.now }
     requires some { 1 ≤ agents }
     requires inside { 0 < length nodes.now }
@@ -150,23 +152,6 @@ fn root_paths(nodes: &[Node], agents: u32) -> &[Path]
     match &nodes[0] {
         Node::Root { paths } => paths,
         Node::Child { .. } => unreachable!(),
-    }
-}
-
-// Returns the agent's path at the finders' node. Most agents still have their path from the root, for which no other
-// node is looked at.
-#[inline(always)]
-fn path_by<'a>(nodes: &'a [Node], root: &'a [Path], finders: &Finders, agent: u32) -> &'a Path
-    requires nodes { AreNodesFor agent nodes.now }
-    requires finders { AreFinders nodes.now finders.now }
-    requires known { agent < length finders.now.nearest.items }
-    requires count { agent < length root.now }
-    requires root { HoldsOfNode nodes.now 0 (λ view. view.paths ≡ root.now) }
-    ensures { HoldsOfNode nodes.now finders.now.node (λ view. slice_get view.paths agent ≡ Some result.now) }
-{
-    match finders.nearest[agent as usize] {
-        Some(finder) => path_at(nodes, finder, agent),
-        None => &root[agent as usize],
     }
 }
 

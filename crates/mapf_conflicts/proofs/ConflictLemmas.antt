@@ -1,5 +1,6 @@
 -- Conflicts of paths, by the lists of the agents' cells at a tick and at the next.
-use Rattle.std.proofs.Common.{◌≡◌, ℕ, ◌+◌, ◌<◌, List, [], Some, length, slice_index, slice_index_or, slice_get, refl, sym, ◌∙◌, ap, subst, inl, inr, ⊎_elim, arith}
+use Rattle.std.proofs.Common.{◌≡◌, ℕ, ◌+◌, ◌<◌, List, [], Some, ◌++◌, length, take, slice_index, slice_index_or, slice_get, refl, sym, ◌∙◌, ap, subst, inl, inr, ⊎_elim, arith}
+use Rattle.std.proofs.Math.Seq.{take-append_seam}
 use Rattle.std.proofs.lemmas.List.{get_or-map, length-map}
 use Rattle.std.proofs.lemmas.Option.{slice_get_within, slice_get-get_or, get_or_from_slice_get}
 use Rattle.mapf_model.specs.declared.conflict.Conflict.{Conflict}
@@ -9,6 +10,12 @@ use Rattle.mapf_model.specs.Pairs.{IsFirstPair, HoldsOfNoPair}
 use Rattle.mapf_model.specs.Path.{at}
 use Rattle.mapf_model.specs.Plan.{ConflictAt}
 use Rattle.mapf_conflicts.specs.Pairs.{cells_at, AreOthersApart, AreOthersFreeBefore, ShareCell, ExchangeCells, IsConflictOf, IsFirstOf, IsFirstOfItsTick, IsOrdered, AreLess, ComesBefore}
+
+-- the cells that were written come before the others
+pub written : (paths : List (List ℕ)) (count tick : ℕ) (new rest : List ℕ) → count ≡ length paths → new ≡ cells_at paths tick → take count (new ++ rest) ≡ cells_at paths tick
+written paths count tick new rest size are =
+    let all = ap length are ∙ length-map paths (λ path. at path tick) ∙ sym size in
+    subst (λ n. take n (new ++ rest) ≡ cells_at paths tick) all (take-append_seam new rest ∙ are)
 
 path_of : List (List ℕ) → ℕ → List ℕ
 path_of paths i = slice_index_or paths i []

@@ -1,16 +1,18 @@
-ghost use Rattle.std.specs.Prelude.{◌≡◌, ◌<◌, ◌≤◌, length, slice_index, All, IfNone, IfOk, IfSome};
+ghost use Rattle.std.specs.Prelude.{◌≡◌, ◌<◌, ◌≤◌, length, slice_index, IfNone, IfOk, IfSome};
 ghost use Rattle.mapf_model.specs.declared.conflict.Conflict.TheVariants.{Vertex};
 ghost use Rattle.mapf_model.specs.Earned.{tick_of, HasConflict, AreConflictFreeBefore, HaveSomeConflict};
-ghost use Rattle.mapf_model.specs.Limits.{most_agents, most_path_cells};
+ghost use Rattle.mapf_model.specs.Limits.{most_agents};
 ghost use Rattle.mapf_model.specs.Pairs.{IsFirstPair, HoldsOfNoPair};
-ghost use Rattle.mapf_conflicts.specs.Pairs.{cells_at, paths_behind, ShareCell, ExchangeCells};
+ghost use Rattle.mapf_conflicts.specs.Pairs.{ShareCell, ExchangeCells};
 ghost use Rattle.mapf_conflicts.specs.Pairs.{AreOthersApart, AreOthersFreeBefore};
 ghost use Rattle.mapf_conflicts.specs.Pairs.{IsConflictOf, IsFirstOf, IsFirstOfItsTick, IsOrdered};
 
 use crate::marked_pairs::{Unmarked, marked_exchanging_pair, marked_sharing_pair};
 use crate::pairs::{exchanging_pair, may_conflict, meets_another, sharing_pair};
+use crate::path_list::PathList;
+use crate::timed_paths::TimedPaths;
 use mapf_model::limits::MOST_AGENTS;
-use mapf_model::{Cell, Conflict, Path, Plan, Tick};
+use mapf_model::{Cell, Conflict, Plan, Tick};
 
 /// Returns the first conflict of the paths: of the least tick, at a tick a vertex conflict before a swapping conflict,
 /// then of the least agent `i`, then of the least agent `j` greater than `i`. None if and only if no two agents are in
@@ -27,26 +29,31 @@ pub fn first_conflict(plan: &Plan) -> Option<Conflict>
     for (i, path) in paths.iter().enumerate() {
         behind[i] = path;
     }
-    first_among(&mut [], &behind[..paths.len()], 0, 0)
+    first_among(&mut [], &PathList::of(&behind[..paths.len()]), 0, 0)
 }
 
 /// Returns the first conflict of these paths. The marks may be for some cells or for none, and may have any values. The
 /// caller ensures that before the tick `free` no two agents other than this one conflict.
-pub fn first_among(marks: &mut [u8], paths: &[&Path], agent: u32, free: Tick) -> Option<Conflict>
-    requires few { length paths.now ≤ most_agents }
-    requires others { AreOthersFreeBefore (paths_behind paths.now) agent free }
-    ensures some { IfSome result (HasConflict (paths_behind paths.now)) }
-    ensures first { IfSome result (λ conflict. AreConflictFreeBefore (paths_behind paths.now) (tick_of conflict)) }
+pub fn first_among<P: TimedPaths>(
+    marks: &mut [u8],
+    paths: &P,
+    agent: u32,
+    free: Tick,
+) -> Option<Conflict>
+    requires few { length (P.paths paths.now) ≤ most_agents }
+    requires others { AreOthersFreeBefore (P.paths paths.now) agent free }
+    ensures some { IfSome result (HasConflict (P.paths paths.now)) }
+    ensures first { IfSome result (λ conflict. AreConflictFreeBefore (P.paths paths.now) (tick_of conflict)) }
     ensures ordered { IfSome result IsOrdered }
-    ensures least { IfSome result (IsFirstOfItsTick (paths_behind paths.now)) }
-    ensures none { IfNone result (HaveSomeConflict (paths_behind paths.now) → ⊥) }
+    ensures least { IfSome result (IsFirstOfItsTick (P.paths paths.now)) }
+    ensures none { IfNone result (HaveSomeConflict (P.paths paths.now) → ⊥) }
 {
-    let count = paths.len();
+    let count = paths.count();
     let mut here = [Cell(0); MOST_AGENTS as usize];
     let mut next = [Cell(0); MOST_AGENTS as usize];
-    write_cells(paths, 0, &mut here[..count]);
-    for tick in 0..longest(paths) {
-        write_cells(paths, tick + 1, &mut next[..count]);
+    paths.write_cells(0, &mut here[..count]);
+    for tick in 0..paths.longest() {
+        paths.write_cells(tick + 1, &mut next[..count]);
         let only = agent_before(agent, tick, free);
         if let Some(conflict) = conflict_of(marks, &here[..count], &next[..count], only, tick) {
             return Some(conflict);
@@ -64,29 +71,6 @@ fn agent_before(agent: u32, tick: Tick, free: Tick) -> Option<usize>
         return Some(agent as usize);
     }
     None
-}
-
-// Returns the number of cells of the longest path, 1 if there are no paths.
-fn longest(paths: &[&Path]) -> Tick
-    ensures longest { All (λ path. length path ≤ result) (paths_behind paths.now) }
-    ensures positive { 1 ≤ result }
-    ensures bounded { result ≤ most_path_cells }
-{
-    let mut longest = 1;
-    for path in paths {
-        longest = longest.max(path.cells().len());
-    }
-    longest as Tick
-}
-
-// Writes the agents' cells at the tick.
-fn write_cells(paths: &[&Path], tick: Tick, cells: &mut [Cell])
-    requires { length cells.old ≡ length paths.now }
-    ensures { cells.new ≡ cells_at (paths_behind paths.now) tick }
-{
-    for (i, path) in paths.iter().enumerate() {
-        cells[i] = path.at(tick);
-    }
 }
 
 // Returns the first conflict of agents that are in the cells `here` at the tick and in the cells `next` at the next

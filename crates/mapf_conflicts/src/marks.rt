@@ -4,6 +4,8 @@ ghost use Rattle.mapf_model.specs.Limits.{most_agents};
 ghost use Rattle.mapf_conflicts.specs.Pairs.{paths_behind, AreOthersFreeBefore, IsFirstOfItsTick, IsOrdered};
 
 use crate::first::first_among;
+use crate::path_list::PathList;
+use crate::replaced_paths::ReplacedPaths;
 use mapf_model::{Conflict, OutOfMemory, Path, Tick};
 use std::alloc::Global;
 use std::marker::Model;
@@ -44,7 +46,7 @@ pub fn first_conflict_in(marks: &mut CellMarks, paths: &[&Path]) -> Option<Confl
     ensures none { IfNone result (HaveSomeConflict (paths_behind paths.now) → ⊥) }
     ensures marks { marks.new ≡ marks.old }
 {
-    first_among(&mut marks.agents, paths, 0, 0)
+    first_among(&mut marks.agents, &PathList::of(paths), 0, 0)
 }
 
 /// Returns the first conflict of these paths, in the order of `first_conflict`. Before the tick `free` no two agents
@@ -52,17 +54,17 @@ pub fn first_conflict_in(marks: &mut CellMarks, paths: &[&Path]) -> Option<Confl
 /// At such a tick the others are compared with each other only if this agent conflicts with one of them.
 pub fn first_conflict_after_replanning(
     marks: &mut CellMarks,
-    paths: &[&Path],
+    paths: &ReplacedPaths,
     agent: u32,
     free: Tick,
 ) -> Option<Conflict>
     requires few { length paths.now ≤ most_agents }
-    requires others { AreOthersFreeBefore (paths_behind paths.now) agent free }
-    ensures some { IfSome result (HasConflict (paths_behind paths.now)) }
-    ensures first { IfSome result (λ conflict. AreConflictFreeBefore (paths_behind paths.now) (tick_of conflict)) }
+    requires others { AreOthersFreeBefore paths.now agent free }
+    ensures some { IfSome result (HasConflict paths.now) }
+    ensures first { IfSome result (λ conflict. AreConflictFreeBefore paths.now (tick_of conflict)) }
     ensures ordered { IfSome result IsOrdered }
-    ensures least { IfSome result (IsFirstOfItsTick (paths_behind paths.now)) }
-    ensures none { IfNone result (HaveSomeConflict (paths_behind paths.now) → ⊥) }
+    ensures least { IfSome result (IsFirstOfItsTick paths.now) }
+    ensures none { IfNone result (HaveSomeConflict paths.now → ⊥) }
     ensures marks { marks.new ≡ marks.old }
 {
     first_among(&mut marks.agents, paths, agent, free)

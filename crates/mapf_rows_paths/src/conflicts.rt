@@ -2,7 +2,10 @@ ghost use Rattle.std.specs.Prelude.{◌≤◌, length};
 
 use crate::expect::expect_same;
 use crate::samples::{Missing, path_of};
-use mapf_conflicts::{CellMarks, Conflict, first_conflict, first_conflict_in};
+use mapf_conflicts::{
+    BasePaths, CellMarks, Conflict, MOST_ROWS, ReplacedPaths, Replacement, TimedPaths,
+    first_conflict, first_conflict_after_replanning, first_conflict_in,
+};
 use mapf_model::{Cell, OutOfMemory, Path, Plan, Tick};
 use std::alloc::Global;
 use std::process::Abort;
@@ -148,4 +151,43 @@ fn expect_conflict_of_200(
 fn looks_at_each_of_200_agents(rt: HostRuntime) -> Result<(), Fail> {
     expect_conflict_of_200(&rt, rt.alloc(), 198, vertex(198, 199, 198, 0))?;
     expect_conflict_of_200(&rt, rt.alloc(), 199, None)
+}
+
+// The path of an agent that goes from one cell to another at the tick, and stays there.
+fn path_to(alloc: Global, from: u32, to: u32, tick: Tick) -> Result<Path, Missing> {
+    let mut cells = Vec::new(alloc);
+    for _before in 0..tick {
+        cells.push(Cell(from))?;
+    }
+    cells.push(Cell(to))?;
+    Path::of(cells).ok_or(Missing::Value)
+}
+
+// The first conflict of two agents that would have stayed in their cells, if the second one goes to the other's cell at
+// the tick.
+fn found_after_replanning(alloc: Global, tick: Tick) -> Result<Option<Conflict>, Missing> {
+    let mut paths = Vec::new(alloc);
+    paths.push(path_to(alloc, 4, 4, MOST_ROWS)?)?;
+    paths.push(path_to(alloc, 5, 5, MOST_ROWS)?)?;
+    let base = BasePaths::of(alloc, paths)?;
+    let path = path_to(alloc, 5, 4, tick)?;
+    let replacements = [Replacement {
+        agent: 1,
+        path: &path,
+    }];
+    let paths = ReplacedPaths::of(&base, &replacements);
+    if paths.count() > 200 {
+        return Err(Missing::Value);
+    }
+    let mut marks = CellMarks::new(alloc, 6)?;
+    Ok(first_conflict_after_replanning(&mut marks, &paths, 1, 0))
+}
+
+#[test]
+fn finds_conflicts_of_a_replaced_path(rt: HostRuntime) -> Result<(), Fail> {
+    for tick in [0, 1, MOST_ROWS - 1, MOST_ROWS, MOST_ROWS + 1] {
+        let found = found_after_replanning(rt.alloc(), tick)?;
+        expect_same(&rt, &tick, &found, &vertex(0, 1, 4, tick));
+    }
+    Ok(())
 }

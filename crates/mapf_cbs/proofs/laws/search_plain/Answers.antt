@@ -18,7 +18,7 @@ loop-k-init c =
     let paths_are = c.deref.ensures.value in
     let r = root_of c.args.problem.now c.args.paths.items c.requires.root.count c.requires.root.shortest in
     let whole = c.in_ok-root.ensures.whole r.view (subst (λ ps. IsRootView ps r.view) (sym paths_are) r.is_root) (rw paths_are r.total) in
-    let first = whole_first c.args.problem.now c.args.paths c.in_ok-root.root r.view r.is_root r.live whole c.in_ok-root.ensures.small in
+    let first = whole_first c.args.problem.now c.args.paths.items c.in_ok-root.root r.view r.is_root r.live whole c.in_ok-root.ensures.small in
     let ns = c.in_ok-tree.ensures.nodes in let fs = c.in_ok-tree.ensures.fates in let n = c.in_ok-tree.ensures.splits in
     record {
       within = omega (arith, n);

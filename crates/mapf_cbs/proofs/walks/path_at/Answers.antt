@@ -1,4 +1,4 @@
-use Rattle.std.proofs.Common.{◌≡◌, Some, length, slice_get, refl, sym, ◌∙◌, ap, inl, inr, arith}
+use Rattle.std.proofs.Common.{◌≡◌, ◌<◌, Some, length, slice_get, refl, sym, ◌∙◌, ap, subst, inl, inr, arith}
 use Rattle.std.proofs.lemmas.Option.{slice_get_read}
 use Rattle.mapf_cbs.specs.declared.node.Node.TheVariants.{Root, Child}
 use Rattle.mapf_spacetime.specs.declared.found.Found.TheVariants.{Arrives}
@@ -6,18 +6,19 @@ use Rattle.mapf_cbs.proofs.NodeLemmas.{view_at, root_path, found_path, paths_up}
 use Rattle.mapf_cbs.proofs.walks.path_at.Goals as goal
 use Rattle.mapf_cbs.proofs.walks.path_at.Goals.{then-constraint-agent+in-Dead, else-constraint-agent}
 
-pub index-requires : goal.index-requires
-index-requires c =
+pub bounds-paths-agent : goal.bounds-paths-agent
+bounds-paths-agent c =
     let at = slice_get_read c.args.nodes.now (length c.args.nodes.now) c.loop-at.at c.index-nodes-at.result refl c.loop-at.invariant.inside c.index-nodes-at.is in
     let h = (c.requires.nodes c.loop-at.at (Root c.in-Root.paths) (at ∙ ap Some c.in-Root.is)).1 in
-    omega (arith, h, c.in-Root.paths.ok)
+    subst (λ paths. c.args.agent < length paths) (sym c.paths.ensures) h
 
 pub returns-in-Root : goal.returns-in-Root
 returns-in-Root c views view are is =
     let at = slice_get_read c.args.nodes.now (length c.args.nodes.now) c.loop-at.at c.index-nodes-at.result refl c.loop-at.invariant.inside c.index-nodes-at.is in
     let here = view_at c.args.nodes.now views are c.loop-at.at c.loop-at.invariant.inside in
     let h = (c.requires.nodes c.loop-at.at (Root c.in-Root.paths) (at ∙ ap Some c.in-Root.is)).1 in
-    c.loop-at.invariant.same views view here.0 are is here.1 ∙ root_path c.args.nodes.now views are c.loop-at.at here.0 here.1 c.in-Root.paths c.args.agent (at ∙ ap Some c.in-Root.is) ∙ slice_get_read c.in-Root.paths.items (length c.in-Root.paths.items) c.args.agent c.index.result.now refl h c.index.ensures
+    c.loop-at.invariant.same views view here.0 are is here.1 ∙ root_path c.args.nodes.now views are c.loop-at.at here.0 here.1 c.in-Root.paths c.args.agent (at ∙ ap Some c.in-Root.is)
+    ∙ ap (λ paths. slice_get paths c.args.agent) (sym c.paths.ensures) ∙ slice_get_read c.paths.result.now (length c.paths.result.now) c.args.agent c.index-paths-agent.result refl (subst (λ paths. c.args.agent < length paths) (sym c.paths.ensures) h) c.index-paths-agent.is
 
 pub returns-in-Arrives : goal.returns-in-Arrives
 returns-in-Arrives c views view are is =

@@ -6,6 +6,7 @@ use Rattle.std.proofs.lemmas.Option.{slice_get_within, same_Some}
 use Rattle.mapf_model.proofs.DecidedLemmas.{same_list}
 use Rattle.mapf_model.proofs.PlaceLemmas.{slice_get-front, slice_get-here}
 use Rattle.mapf_conflicts.specs.Pairs.{paths_behind}
+use Rattle.mapf_cbs.proofs.FinderLemmas.{path_by_finder}
 use Rattle.mapf_cbs.proofs.walks.paths_at.Goals as goal
 
 pub loop-agent-preserved : goal.loop-agent-preserved
@@ -13,16 +14,16 @@ loop-agent-preserved c =
     let so_many = c.loop-agent.invariant.count in
     let paths = c.loop-agent.paths.items in
     let behind = paths_behind paths in
-    let path = c.path_by-path.result.now in
-    let pushed : c.push.new.self.items ≡ paths ++ c.path_by-path.result ∷ [] = c.in_ok-push.ensures.items in
-    let split : paths_behind c.push.new.self.items ≡ behind ++ path ∷ [] = ap paths_behind pushed ∙ map-append (λ one. one.now) paths (c.path_by-path.result ∷ []) in
-    let longer = length-append paths (c.path_by-path.result ∷ []) in
+    let path = c.path_at-path.result.now in
+    let pushed : c.push.new.self.items ≡ paths ++ c.path_at-path.result ∷ [] = c.in_ok-push.ensures.items in
+    let split : paths_behind c.push.new.self.items ≡ behind ++ path ∷ [] = ap paths_behind pushed ∙ map-append (λ one. one.now) paths (c.path_at-path.result ∷ []) in
+    let longer = length-append paths (c.path_at-path.result ∷ []) in
     let all : length behind ≡ c.loop-agent.agent = length-map paths (λ one. one.now) ∙ so_many in
     record {
       count = rw pushed (omega (arith, so_many, longer));
       same = λ views view are is i below. ⊎_elim
           (λ (here : i ≡ c.loop-agent.agent).
-          let path_is = c.path_by-path.ensures views view are is in
+          let path_is = path_by_finder c.args.nodes.now c.args.finders.now.node c.loop-agent.agent c.of.result (c.of.ensures c.args.nodes.now c.requires.finders) path c.path_at-path.ensures views view are is in
           let last : slice_get (behind ++ path ∷ []) c.loop-agent.agent ≡ Some path = subst (λ n. slice_get (behind ++ path ∷ []) n ≡ Some path) all (slice_get-here behind [] path) in
           rw split (rw here (last ∙ sym path_is)))
           (λ (other : i ≢ c.loop-agent.agent).

@@ -1,13 +1,13 @@
 use Rattle.std.proofs.Common.{◌≡◌, length, take}
 use Rattle.mapf_model.specs.Earned.{AreConflictFreeBefore}
 use Rattle.mapf_model.specs.Limits.{most_agents}
-use Rattle.mapf_conflicts.specs.Pairs.{cells_at, paths_behind}
+use Rattle.mapf_conflicts.specs.Pairs.{cells_at}
 use Rattle.mapf_conflicts.proofs.first.first_among.Given as goal
 
 abbrev pub invariant-loop-tick : goal.invariant-loop-tick
-invariant-loop-tick l = record {
+invariant-loop-tick g l = record {
   here_size : length l.here ≡ most_agents;
   next_size : length l.next ≡ most_agents;
-  cells : take (length l.paths) l.here ≡ cells_at (paths_behind l.paths) l.tick;
-  free : AreConflictFreeBefore (paths_behind l.paths) l.tick;
+  cells : take l.count l.here ≡ cells_at (g.P.TimedPaths.paths l.paths) l.tick;
+  free : AreConflictFreeBefore (g.P.TimedPaths.paths l.paths) l.tick;
 }

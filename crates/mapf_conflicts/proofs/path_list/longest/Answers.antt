@@ -3,7 +3,7 @@ use Rattle.std.proofs.lemmas.Bool.{cases_lt}
 use Rattle.std.proofs.lemmas.Grind.{common_steps}
 use Rattle.std.proofs.lemmas.List.{get_or-map}
 use Rattle.mapf_conflicts.specs.Pairs.{paths_behind}
-use Rattle.mapf_conflicts.proofs.first.longest.Goals as goal
+use Rattle.mapf_conflicts.proofs.path_list.longest.Goals as goal
 
 -- the path behind the reference at the last index so far
 last_path : (paths : List (Bor (List ℕ))) (i k : ℕ) (d : List ℕ) (path : Bor (List ℕ)) → k ≡ i → i < length paths → path ≡ get_or paths i path → get_or (paths_behind paths) k d ≡ path.now

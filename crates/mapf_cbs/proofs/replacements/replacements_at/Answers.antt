@@ -1,0 +1,75 @@
+use Rattle.std.proofs.Common.{◌≡◌, ◌≢◌, ◌<◌, ◌≤◌, ◌++◌, ◌∷◌, All, List, Option, ℕ, Some, None, [], length, slice_get, slice_set, refl, sym, ◌∙◌, ap, subst, ⊎_elim, arith}
+use Rattle.std.proofs.lemmas.Bool.{cases_eq}
+use Rattle.std.proofs.lemmas.List.Elements.{All-push, All-set}
+use Rattle.std.proofs.lemmas.Option.{slice_get_read, slice_get_within, same_Some}
+use Rattle.mapf_model.proofs.PlaceLemmas.{slice_get-set_same, slice_get-set_other}
+use Rattle.mapf_model.proofs.DecidedLemmas.{same_list}
+use Rattle.mapf_conflicts.specs.Replaced.{replaced}
+use Rattle.mapf_conflicts.specs.declared.replaced_paths.Replacement.{Replacement}
+use Rattle.mapf_conflicts.proofs.ReplacedLemmas.{replaced_count, replaced_last}
+use Rattle.mapf_cbs.proofs.FinderLemmas.{path_by_finder}
+use Rattle.mapf_cbs.proofs.replacements.replacements_at.Goals as goal
+use Rattle.mapf_cbs.proofs.replacements.replacements_at.Goals.{in-Some+in_ok-push, in_default}
+
+no_finder : (finder : Option ℕ) → ((k : ℕ) → finder ≡ Some k → ⊥) → finder ≡ None
+no_finder None none = refl
+no_finder (Some k) none = absurd (none k refl)
+
+pub path_at-path-requires-clause-inside : goal.path_at-path-requires-clause-inside
+path_at-path-requires-clause-inside c =
+    let nearest = c.args.finders.now.nearest.items in
+    let finder = c.requires.finders c.loop-agent.agent c.index.result.now (slice_get_read nearest (length nearest) c.loop-agent.agent c.index.result.now refl (omega arith) c.index.ensures) in
+    (rw c.in-Some.is at finder).inside
+
+pub loop-agent-preserved : goal.loop-agent-preserved
+loop-agent-preserved c =
+    let nodes = c.args.nodes.now in
+    let root = c.args.root.now in
+    let agent = c.loop-agent.agent in
+    let nearest = c.args.finders.now.nearest.items in
+    let old = c.loop-agent.replacements.items in
+    let count = c.requires.count in
+    let finder = c.requires.finders agent c.index.result.now (slice_get_read nearest (length nearest) agent c.index.result.now refl (omega arith) c.index.ensures) in
+    elim c.match-index.branch [
+      | in-Some+in_ok-push w ↦
+          let one : Replacement = record { agent = agent; path = w.path_at-path.result } in
+          let path = w.path_at-path.result.now in
+          let pushed : c.match-index.replacements.items ≡ old ++ one ∷ [] = ap (λ v. v.items) w.replacements-is ∙ w.in_ok-push.ensures.items in
+          let set : replaced root c.match-index.replacements.items ≡ slice_set (replaced root old) agent path = ap (replaced root) pushed ∙ replaced_last root old one in
+          let inside : agent < length (replaced root old) = let size = replaced_count root old in omega (arith, size, count) in
+          record {
+            known = rw pushed (All-push (λ (r : Replacement). r.agent < length root) old one c.loop-agent.invariant.known (omega (arith, count)));
+            same = λ views view are is i below. ⊎_elim
+                (λ (here : i ≡ agent).
+                rw set (rw here (slice_get-set_same (replaced root old) agent path inside ∙ sym (path_by_finder nodes c.args.finders.now.node agent w.in-Some.finder (rw w.in-Some.is at finder) path w.path_at-path.ensures views view are is))))
+                (λ (other : i ≢ agent).
+                rw set (slice_get-set_other (replaced root old) agent i path other ∙ c.loop-agent.invariant.same views view are is i (omega (arith, below, other))))
+                (cases_eq i agent);
+            later = λ i from.
+                let other : i ≢ agent = λ e. omega (arith, from, e) in
+                rw set (slice_get-set_other (replaced root old) agent i path other ∙ c.loop-agent.invariant.later i (omega (arith, from)));
+            short = rw set (All-set (λ (p : List ℕ). length p ≤ 10000000) (replaced root old) agent path (subst (λ cells. length cells ≤ 10000000) w.cells-cells.ensures.value w.cells-cells.ensures.few) c.loop-agent.invariant.short);
+          }
+      | in_default w ↦
+          let kept : c.match-index.replacements.items ≡ old = ap (λ v. v.items) w.replacements-is in
+          record {
+            known = rw kept c.loop-agent.invariant.known;
+            same = λ views view are is i below. rw kept (⊎_elim
+                (λ (here : i ≡ agent).
+                let other = (rw (no_finder c.index.result.now w.in_default.not-Some) at finder).same views view are is in
+                rw here (c.loop-agent.invariant.later agent (omega arith) ∙ ap (λ paths. slice_get paths agent) (sym (c.requires.root views other.0 are other.1)) ∙ sym other.2.0))
+                (λ (other : i ≢ agent). c.loop-agent.invariant.same views view are is i (omega (arith, below, other)))
+                (cases_eq i agent));
+            later = λ i from. rw kept (c.loop-agent.invariant.later i (omega (arith, from)));
+            short = rw kept c.loop-agent.invariant.short;
+          }
+    ]
+
+pub returns-clause-paths : goal.returns-clause-paths
+returns-clause-paths c views view are is size =
+    let root = c.args.root.now in
+    let all = c.loop-agent.replacements.items in
+    let count = replaced_count root all ∙ c.requires.count in
+    same_list (replaced root all) view.paths (count ∙ sym size) (λ i x y x_is y_is.
+    let within : i < length (replaced root all) = slice_get_within (replaced root all) i x x_is in
+    same_Some x y (sym x_is ∙ c.loop-agent.invariant.same views view are is i (omega (arith, within, count)) ∙ y_is))

@@ -1,0 +1,121 @@
+ghost use Rattle.std.specs.Prelude.{◌≡◌, ◌≤◌, All, IfOk, length};
+ghost use Rattle.mapf_model.specs.Limits.{most_agents, most_path_cells};
+ghost use Rattle.mapf_conflicts.specs.Pairs.{cells_at};
+ghost use Rattle.mapf_conflicts.specs.Replaced.{AreRowsOf};
+
+use crate::timed_paths::TimedPaths;
+use mapf_model::limits::MOST_AGENTS;
+use mapf_model::{Cell, OutOfMemory, Path, Tick};
+use std::alloc::Global;
+use std::marker::Model;
+
+/// At how many ticks at most a base keeps the cells of all agents together. That takes 200 KiB.
+pub const MOST_ROWS: Tick = 256;
+
+/// Paths from which plans are made by replacing a few of them. The cells of all agents at one of the first ticks are
+/// kept together, so that they are found without a look at each path.
+#[derive(Debug, Drop)]
+pub struct BasePaths {
+    paths: Vec<Path>,
+    // The number of cells of the longest path, 1 if there are no paths.
+    longest: Tick,
+    // For each of the first ticks the agents' cells, followed by cells without a meaning.
+    rows: Vec<[Cell; MOST_AGENTS as usize]>,
+}
+
+impl Model for BasePaths {
+    ghost use Rattle.std.specs.Prelude.{◌≤◌, List, ℕ, All, length};
+    ghost use Rattle.mapf_model.specs.Limits.{most_agents, most_path_cells};
+    ghost use Rattle.mapf_conflicts.specs.Replaced.{AreRowsOf};
+
+    ghost Value = { List (List ℕ) };
+
+    ghost view = { λ base. base.paths.items };
+
+    ghost invariant = { λ base. (length base.paths.items ≤ most_agents)
+        × All (λ path. length path ≤ base.longest) base.paths.items × (1 ≤ base.longest)
+        × (base.longest ≤ most_path_cells) × AreRowsOf base.rows.items base.paths.items };
+}
+
+impl BasePaths {
+    /// Returns the base of these paths.
+    pub fn of(alloc: Global, paths: Vec<Path>) -> Result<BasePaths, OutOfMemory>
+        requires { length paths.items ≤ most_agents }
+        ensures { IfOk result (λ base. base ≡ paths.items) }
+    {
+        let longest = longest(&paths);
+        let rows = rows_of(alloc, &paths, longest.min(MOST_ROWS))?;
+        Ok(BasePaths {
+            paths,
+            longest,
+            rows,
+        })
+    }
+
+    /// Returns the paths.
+    pub fn paths(&self) -> &[Path]
+        ensures { result.now ≡ self.now }
+    {
+        &self.paths
+    }
+}
+
+impl TimedPaths for BasePaths {
+    ghost paths = { λ base. base };
+
+    fn count(&self) -> usize {
+        self.paths.len()
+    }
+
+    fn longest(&self) -> Tick {
+        self.longest
+    }
+
+    fn write_cells(&self, tick: Tick, cells: &mut [Cell]) {
+        match self.rows.get(tick as usize) {
+            Some(row) => cells.copy_from_slice(&row[..cells.len()]),
+            None => write_cells(&self.paths, tick, cells),
+        }
+    }
+}
+
+// Returns the agents' cells at each tick below `end`.
+fn rows_of(
+    alloc: Global,
+    paths: &[Path],
+    end: Tick,
+) -> Result<Vec<[Cell; MOST_AGENTS as usize]>, OutOfMemory>
+    requires { length paths.now ≤ most_agents }
+    ensures { IfOk result (λ rows. AreRowsOf rows.items paths.now) }
+{
+    let mut rows = Vec::with_capacity(alloc, end as usize)?;
+    for tick in 0..end {
+        let mut row = [Cell(0); MOST_AGENTS as usize];
+        write_cells(paths, tick, &mut row[..paths.len()]);
+        rows.push(row)?;
+    }
+    Ok(rows)
+}
+
+// Returns the number of cells of the longest path, 1 if there are no paths.
+fn longest(paths: &[Path]) -> Tick
+    ensures longest { All (λ path. length path ≤ result) paths.now }
+    ensures positive { 1 ≤ result }
+    ensures bounded { result ≤ most_path_cells }
+{
+    let mut longest = 1;
+    for path in paths {
+        longest = longest.max(path.cells().len());
+    }
+    longest as Tick
+}
+
+// Writes the agents' cells at the tick.
+fn write_cells(paths: &[Path], tick: Tick, cells: &mut [Cell])
+    requires { length cells.old ≡ length paths.now }
+    ensures { cells.new ≡ cells_at paths.now tick }
+{
+    for (i, path) in paths.iter().enumerate() {
+        cells[i] = path.at(tick);
+    }
+}
