@@ -81,7 +81,7 @@ impl PathSearch {
     fn turn_back(&mut self, state: State) -> Result<(), OutOfMemory>
         requires { Contains self.old.failed state → ⊥ }
         ensures turned { OnOk result (self.new ≡ with_failure self.old state) }
-        ensures small { OnOk result (length self.new.failed < 2 ^ 63) }
+        ensures small { OnOk result (length self.new.failed < 2 ^ 64) }
     {
         self.failed.add(state)?;
         self.cells.pop();

@@ -1,38 +1,53 @@
-ghost use Rattle.std.specs.Prelude.{◌≡◌, ◌<◌, ◌↔◌, ◌^◌, ◌++◌, ◌∷◌, [], false, length, IsTrue, IfOk, OnOk, Contains};
+ghost use Rattle.std.specs.Prelude.{◌≡◌, ◌<◌, ◌↔◌, ◌^◌, ◌++◌, ◌∷◌, [], length, IsTrue, OnOk, Contains};
 
 use crate::state::State;
 use indexmap::IndexSet;
-use mapf_model::{OutOfMemory, Tick};
+use mapf_model::{Cell, OutOfMemory, Tick};
 use std::alloc::Global;
 use std::marker::Model;
+
+// How many states are kept in an array, in which a look-up compares each. A search for a path has mostly no more.
+const FEW: usize = 8;
 
 /// A set of states, in the order in which they were added.
 #[derive(Drop)]
 pub struct StateSet {
-    states: IndexSet<State>,
+    // The first of them, followed by states without a meaning.
+    few: [State; FEW],
+    // How many of them are in the array.
+    count: usize,
+    // The others, once the array is full.
+    more: IndexSet<State>,
     // All their ticks are from the first of these to the last.
     first: Tick,
     last: Tick,
 }
 
 impl Model for StateSet {
-    ghost use Rattle.std.specs.Prelude.{List, Contains, ◌≤◌};
+    ghost use Rattle.std.specs.Prelude.{◌≡◌, ◌<◌, ◌≤◌, ◌++◌, [], List, Contains, length, take};
     ghost use Rattle.mapf_spacetime.specs.declared.state.State.{State};
 
     ghost Value = { List State };
 
-    ghost view = { λ set. set.states.keys };
+    ghost view = { λ set. take set.count set.few ++ set.more.keys };
 
-    ghost invariant = { λ set. (state : State) → Contains set.states.keys state
-        → (set.first ≤ state.tick) × (state.tick ≤ set.last) };
+    ghost invariant = { λ set. (length set.few ≡ 8) × (set.count ≤ 8) × (set.count < 8 → set.more.keys ≡ [])
+        × ((state : State) → Contains (take set.count set.few ++ set.more.keys) state
+        → (set.first ≤ state.tick) × (state.tick ≤ set.last)) };
 }
 
 impl StateSet {
     pub fn new(alloc: Global) -> StateSet
         ensures { result ≡ [] }
     {
+        let none = State {
+            tick: 0,
+            cell: Cell(0),
+        };
         StateSet {
-            states: IndexSet::new(alloc),
+            few: [none; FEW],
+            count: 0,
+            more: IndexSet::new(alloc),
             first: Tick::MAX,
             last: 0,
         }
@@ -41,42 +56,60 @@ impl StateSet {
     pub fn len(&self) -> usize
         ensures { result ≡ length self.now }
     {
-        self.states.len()
+        self.count + self.more.len()
     }
 
     #[inline(always)]
     pub fn has(&self, state: &State) -> bool
         ensures { IsTrue result ↔ Contains self.now state.now }
     {
-        // Mostly no state of the set is near this tick, and then the state needn't be hashed.
+        // Mostly no state of the set is near this tick.
         if state.tick < self.first || self.last < state.tick {
             return false;
         }
         self.holds(state)
     }
 
-    // The same by hashing. A call of its own keeps the loops that ask small, so that they are unrolled.
+    // The same by comparing and hashing. A call of its own keeps the loops that ask small, so that they are unrolled.
     #[inline(never)]
     fn holds(&self, state: &State) -> bool
         ensures { IsTrue result ↔ Contains self.now state.now }
     {
-        self.states.contains(state)
+        is_among(&self.few[..self.count], state) || (self.count == FEW && self.more.contains(state))
     }
 
-    /// Adds a state. Returns whether it is new.
-    pub fn add(&mut self, state: State) -> Result<bool, OutOfMemory>
-        ensures new { IfOk result (λ new. IsTrue new → self.new ≡ self.old ++ state ∷ []) }
-        ensures small { OnOk result (length self.new < 2 ^ 63) }
-        ensures old { IfOk result (λ new. new ≡ false → (self.new ≡ self.old) × Contains self.old state) }
+    /// Adds a state that the set doesn't have.
+    pub fn add(&mut self, state: State) -> Result<(), OutOfMemory>
+        requires { Contains self.old state → ⊥ }
+        ensures added { OnOk result (self.new ≡ self.old ++ state ∷ []) }
+        ensures small { OnOk result (length self.new < 2 ^ 64) }
     {
         let tick = state.tick;
-        let new = self.states.insert(state)?;
+        let count = self.count;
+        if count < FEW {
+            self.few[count] = state;
+            self.count = count + 1;
+        } else {
+            self.more.insert(state)?;
+        }
         let first = self.first;
         self.first = first.min(tick);
         let last = self.last;
         self.last = last.max(tick);
         // Calling `len` lets the prover use its contract, which bounds it.
-        let _count = self.states.len();
-        Ok(new)
+        let _count = self.more.len();
+        Ok(())
     }
+}
+
+// Returns whether the state is one of these.
+fn is_among(states: &[State], state: &State) -> bool
+    ensures { IsTrue result ↔ Contains states.now state.now }
+{
+    for other in states {
+        if other == state {
+            return true;
+        }
+    }
+    false
 }
