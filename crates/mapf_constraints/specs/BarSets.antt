@@ -1,5 +1,5 @@
 -- What a set of constraints says of a cell and of all ticks.
-use Rattle.std.specs.Prelude.{ℕ, ◌<◌, ◌≤◌, List, Contains, Option, None, Some}
+use Rattle.std.specs.Prelude.{ℕ, ◌+◌, ◌<◌, ◌≤◌, List, Contains, Option, None, Some}
 use Rattle.mapf_model.specs.declared.bar.Bar.{Bar}
 use Rattle.mapf_model.specs.declared.bar.Bar.TheVariants.{Cell, Move}
 
@@ -7,6 +7,11 @@ use Rattle.mapf_model.specs.declared.bar.Bar.TheVariants.{Cell, Move}
 abbrev pub bar_tick : Bar → ℕ
 bar_tick (Cell cell tick) = tick
 bar_tick (Move from to tick) = tick
+
+-- the cell in which the constraint forbids to arrive, in all cases or by one move, and the tick of the arrival
+abbrev pub arrival : Bar → ℕ × ℕ
+arrival (Cell cell tick) = (cell, tick)
+arrival (Move from to tick) = (to, tick + 1)
 
 -- each constraint's tick is below this one
 abbrev pub AreBefore : ℕ → List Bar → Type 0

@@ -1,8 +1,8 @@
 -- Constraints in chains, one for each remainder of their ticks.
-use Rattle.std.specs.Prelude.{◌≡◌, ℕ, ◌+◌, ◌%◌, ◌<◌, ◌≤◌, List, length, map, slice_index, slice_index_or}
+use Rattle.std.specs.Prelude.{◌≡◌, ℕ, ◌+◌, ◌*◌, ◌%◌, ◌<◌, ◌≤◌, Bool, false, true, List, Contains, length, map, slice_index, slice_index_or}
 use Rattle.mapf_model.specs.declared.bar.Bar.{Bar}
 use Rattle.mapf_model.specs.declared.bar.Bar.TheVariants.{Cell}
-use Rattle.mapf_constraints.specs.BarSets.{bar_tick}
+use Rattle.mapf_constraints.specs.BarSets.{arrival, bar_tick}
 use Rattle.mapf_constraints.specs.declared.link.Link.{Link}
 
 -- the constraints of the links
@@ -16,6 +16,14 @@ link_at links place = slice_index_or links place (record { bar = Cell 0 0; older
 -- the chain of a tick, by its remainder
 abbrev pub chain_of : ℕ → ℕ
 chain_of tick = tick % 64
+
+-- the place of an arrival among the marks
+abbrev pub mark_of : ℕ × ℕ → ℕ
+mark_of (cell, tick) = (cell + 197 * tick) % 512
+
+-- the arrival that each constraint forbids is marked
+abbrev pub AreMarked : List Bar → List Bool → Type 0
+AreMarked bars marks = (bar : Bar) → Contains bars bar → slice_index_or marks (mark_of (arrival bar)) false ≡ true
 
 -- the chain of the link at this index
 abbrev pub chain_at : List Link → ℕ → ℕ

@@ -3,7 +3,7 @@ ghost use Rattle.mapf_model.specs.declared.bar.Bar.{Bar};
 ghost use Rattle.mapf_model.specs.Bars.{IsBar, AreBars};
 ghost use Rattle.mapf_model.specs.Laws.{AreSameBars};
 ghost use Rattle.mapf_model.specs.Limits.{split_ticks};
-ghost use Rattle.mapf_constraints.specs.BarSets.{bar_tick, IsHorizon, IsLastOn};
+ghost use Rattle.mapf_constraints.specs.BarSets.{arrival, bar_tick, IsHorizon, IsLastOn};
 
 use mapf_model::{Bar, Cell, OutOfMemory, Tick};
 use std::alloc::Global;
@@ -42,6 +42,14 @@ pub trait BarTable: Drop {
         ensures { result ≡ false → (bar : Bar) → Contains (bars self.now) bar → bar_tick bar ≢ tick }
     {
         tick < self.horizon()
+    }
+
+    /// Returns whether some constraint may forbid to arrive in the cell at the tick, by whatever move or wait. A table may
+    /// also return true where none does.
+    fn may_bar_arrival(&self, to: Cell, tick: Tick) -> bool
+        ensures { result ≡ false → (bar : Bar) → Contains (bars self.now) bar → arrival bar ≢ (to, tick) }
+    {
+        true
     }
 
     /// Adds a constraint. If the set has it already, or memory runs out, the set is as before.

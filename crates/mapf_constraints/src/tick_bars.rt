@@ -1,6 +1,7 @@
-ghost use Rattle.std.specs.Prelude.{◌↔◌, Contains, IsTrue};
-ghost use Rattle.mapf_constraints.specs.BarSets.{IsLastOn};
-ghost use Rattle.mapf_constraints.specs.Chains.{bars_of};
+ghost use Rattle.std.specs.Prelude.{◌≡◌, ◌<◌, ◌↔◌, Contains, IsTrue};
+ghost use Rattle.mapf_model.specs.Limits.{split_ticks};
+ghost use Rattle.mapf_constraints.specs.BarSets.{arrival, bar_tick, IsLastOn};
+ghost use Rattle.mapf_constraints.specs.Chains.{bars_of, mark_of};
 
 use crate::bar_table::BarTable;
 use crate::later::{horizon_with, last_with, tick};
@@ -9,24 +10,29 @@ use mapf_model::{Bar, Cell, OutOfMemory, Tick};
 use std::alloc::Global;
 use std::marker::Model;
 
+// How many marks there are.
+const MARKS: usize = 512;
+
 /// Constraints in chains: one for each remainder of their ticks modulo 64. A query scans the chain of its tick, which
-/// is mostly empty or short.
+/// is mostly empty or short. Marks tell of most arrivals that no constraint forbids them, without a scan.
 #[derive(Debug, Drop)]
 pub struct TickBars {
     // In the order in which they were added.
     links: Vec<Link>,
     // For each remainder, the number of links up to and including the newest one of its chain, 0 if it is empty.
     newest: [usize; 64],
+    // Whether a constraint may forbid one of the arrivals that share the mark.
+    marks: [bool; MARKS],
     horizon: Tick,
 }
 
 impl Model for TickBars {
-    ghost use Rattle.std.specs.Prelude.{◌≤◌, List};
+    ghost use Rattle.std.specs.Prelude.{◌≡◌, ◌≤◌, List, length};
     ghost use Rattle.mapf_model.specs.declared.bar.Bar.{Bar};
     ghost use Rattle.mapf_model.specs.Bars.{AreBars};
     ghost use Rattle.mapf_model.specs.Limits.{split_ticks};
     ghost use Rattle.mapf_constraints.specs.BarSets.{IsHorizon};
-    ghost use Rattle.mapf_constraints.specs.Chains.{bars_of, AreChained};
+    ghost use Rattle.mapf_constraints.specs.Chains.{bars_of, AreChained, AreMarked};
 
     ghost Value = { List Bar };
 
@@ -36,7 +42,9 @@ impl Model for TickBars {
         AreBars (bars_of table.links.items)
         × IsHorizon (bars_of table.links.items) table.horizon
         × (table.horizon ≤ split_ticks)
-        × AreChained table.links.items table.newest };
+        × AreChained table.links.items table.newest
+        × (length table.marks ≡ 512)
+        × AreMarked (bars_of table.links.items) table.marks };
 }
 
 impl BarTable for TickBars {
@@ -46,6 +54,7 @@ impl BarTable for TickBars {
         TickBars {
             links: Vec::new(alloc),
             newest: [0; 64],
+            marks: [false; MARKS],
             horizon: 0,
         }
     }
@@ -70,6 +79,11 @@ impl BarTable for TickBars {
         self.newest[at as usize % 64] != 0
     }
 
+    #[inline(always)]
+    fn may_bar_arrival(&self, to: Cell, tick: Tick) -> bool {
+        self.marks[mark_of(to, tick)]
+    }
+
     fn add(&mut self, bar: Bar) -> Result<(), OutOfMemory> {
         let chain = tick(&bar) as usize % 64;
         self.links.push(Link {
@@ -77,6 +91,7 @@ impl BarTable for TickBars {
             older: self.newest[chain],
         })?;
         self.newest[chain] = self.links.len();
+        self.marks[mark_of_bar(&bar)] = true;
         self.horizon = horizon_with(self.horizon, &bar);
         Ok(())
     }
@@ -84,6 +99,7 @@ impl BarTable for TickBars {
     fn clear(&mut self) {
         self.links.clear();
         self.newest = [0; 64];
+        self.marks = [false; MARKS];
         self.horizon = 0;
     }
 
@@ -91,6 +107,7 @@ impl BarTable for TickBars {
         Ok(TickBars {
             links: self.links.clone()?,
             newest: self.newest,
+            marks: self.marks,
             horizon: self.horizon,
         })
     }
@@ -111,6 +128,27 @@ impl TickBars {
             count = link.older;
         }
         false
+    }
+}
+
+// Returns the place of an arrival among the marks. Arrivals that are a few steps apart have different ones.
+#[inline(always)]
+fn mark_of(to: Cell, tick: Tick) -> usize
+    ensures place { result ≡ mark_of (to, tick) }
+    ensures inside { result < 512 }
+{
+    (to.0 as usize + 197 * tick as usize) % MARKS
+}
+
+// Returns the place of the arrival that the constraint forbids.
+fn mark_of_bar(bar: &Bar) -> usize
+    requires { bar_tick bar.now < split_ticks }
+    ensures place { result ≡ mark_of (arrival bar.now) }
+    ensures inside { result < 512 }
+{
+    match bar {
+        Bar::Cell { cell, tick } => mark_of(*cell, *tick),
+        Bar::Move { from: _, to, tick } => mark_of(*to, *tick + 1),
     }
 }
 

@@ -1,10 +1,10 @@
-use Rattle.std.proofs.Common.{◌%◌, ℕ, refl, [], ◌∷◌, ◌++◌, slice_index, ⊎_elim, subst, ap, rules}
+use Rattle.std.proofs.Common.{◌%◌, ℕ, refl, [], ◌∷◌, ◌++◌, slice_index, length-set, true, ⊎_elim, subst, ◌∙◌, ap, rules}
 use Rattle.mapf_model.specs.Bars.{IsBar}
 use Rattle.mapf_constraints.specs.Chains.{bars_of}
 use Rattle.mapf_constraints.specs.declared.link.Link.{Link}
 use Rattle.mapf_constraints.proofs.BarLemmas.{horizon_early}
 use Rattle.mapf_model.proofs.ContainsLemmas.{Contains-cons_cases}
-use Rattle.mapf_constraints.proofs.ChainLemmas.{bars_of-push, AreChained-push}
+use Rattle.mapf_constraints.proofs.ChainLemmas.{bars_of-push, AreChained-push, AreMarked-push}
 use Rattle.mapf_constraints.proofs.tick_bars.TickBarsBarTable.add.Goals as goal
 
 pub invariant_of-self-2 : goal.invariant_of-self-2
@@ -19,6 +19,8 @@ invariant_of-self-2 c =
       horizon,
       early,
       AreChained-push links link c.self.inside.newest (c.tick.result % 64) c.len.result c.self.invariant.3 (ap (λ (t : ℕ). t % 64) c.tick.ensures) refl (search rules) (search rules),
+      length-set c.self.inside.marks c.mark_of_bar.result true ∙ c.self.invariant.4,
+      AreMarked-push links link c.self.inside.marks c.mark_of_bar.result c.mark_of_bar.ensures.place c.self.invariant.4 c.self.invariant.5,
     )
 
 pub returns-clause-added : goal.returns-clause-added
