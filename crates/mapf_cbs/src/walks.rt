@@ -13,7 +13,7 @@ use crate::finders::Finders;
 use crate::node::{Fate, Node};
 use crate::replacements::replacements_at;
 use crate::replanned::{Replanned, replanned_at};
-use mapf_conflicts::{BasePaths, CellMarks, ReplacedPaths, first_conflict_after_replanning};
+use mapf_conflicts::{BasePaths, CellMarks, PatchedPaths, first_conflict_after_replanning};
 use mapf_constraints::BarTable;
 use mapf_model::{Conflict, OutOfMemory, Path, Plan};
 use mapf_spacetime::Found;
@@ -100,7 +100,7 @@ pub fn conflict_at(
 {
     let root = root_paths(nodes, finders.nearest.len() as u32);
     let replacements = replacements_at(alloc, nodes, root, finders)?;
-    let paths = ReplacedPaths::of(root, &replacements);
+    let paths = PatchedPaths::of(root, &replacements);
     let Replanned { agent, free } = replanned_at(nodes, fates, finders.node);
     Ok(first_conflict_after_replanning(marks, &paths, agent, free))
 }

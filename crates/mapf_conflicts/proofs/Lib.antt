@@ -1,2 +1,2 @@
 pub mod ConflictLemmas
-pub mod ReplacedLemmas
+pub mod ReplacementLemmas

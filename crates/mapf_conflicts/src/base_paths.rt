@@ -1,32 +1,32 @@
 ghost use Rattle.std.specs.Prelude.{◌≡◌, ◌≤◌, All, IfOk, length};
 ghost use Rattle.mapf_model.specs.Limits.{most_agents, most_path_cells};
 ghost use Rattle.mapf_conflicts.specs.Pairs.{cells_at};
-ghost use Rattle.mapf_conflicts.specs.Replaced.{AreRowsOf};
+ghost use Rattle.mapf_conflicts.specs.Replacements.{AreRowsOf};
 
-use crate::timed_paths::TimedPaths;
+use crate::paths_by_tick::PathsByTick;
 use mapf_model::limits::MOST_AGENTS;
 use mapf_model::{Cell, OutOfMemory, Path, Tick};
 use std::alloc::Global;
 use std::marker::Model;
 
-/// At how many ticks at most a base keeps the cells of all agents together. That takes 200 KiB.
+/// The greatest number of ticks for which a base keeps the cells of all agents together. These then take 200 KiB.
 pub const MOST_ROWS: Tick = 256;
 
-/// Paths from which plans are made by replacing a few of them. The cells of all agents at one of the first ticks are
-/// kept together, so that they are found without a look at each path.
+/// Paths of which others are made by replacing some. The cells of all agents at each of the first ticks are kept
+/// together, so that they are found without a look at each path.
 #[derive(Debug, Drop)]
 pub struct BasePaths {
     paths: Vec<Path>,
     // The number of cells of the longest path, 1 if there are no paths.
     longest: Tick,
-    // For each of the first ticks the agents' cells, followed by cells without a meaning.
+    // For each of the first ticks the agents' cells, followed by entries that aren't used.
     rows: Vec<[Cell; MOST_AGENTS as usize]>,
 }
 
 impl Model for BasePaths {
     ghost use Rattle.std.specs.Prelude.{◌≤◌, List, ℕ, All, length};
     ghost use Rattle.mapf_model.specs.Limits.{most_agents, most_path_cells};
-    ghost use Rattle.mapf_conflicts.specs.Replaced.{AreRowsOf};
+    ghost use Rattle.mapf_conflicts.specs.Replacements.{AreRowsOf};
 
     ghost Value = { List (List ℕ) };
 
@@ -60,14 +60,14 @@ impl BasePaths {
     }
 }
 
-impl TimedPaths for BasePaths {
+impl PathsByTick for BasePaths {
     ghost paths = { λ base. base };
 
     fn count(&self) -> usize {
         self.paths.len()
     }
 
-    fn longest(&self) -> Tick {
+    fn length_bound(&self) -> Tick {
         self.longest
     }
 

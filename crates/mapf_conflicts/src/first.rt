@@ -10,7 +10,7 @@ ghost use Rattle.mapf_conflicts.specs.Pairs.{IsConflictOf, IsFirstOf, IsFirstOfI
 use crate::marked_pairs::{Unmarked, marked_exchanging_pair, marked_sharing_pair};
 use crate::pairs::{exchanging_pair, may_conflict, meets_another, sharing_pair};
 use crate::path_list::PathList;
-use crate::timed_paths::TimedPaths;
+use crate::paths_by_tick::PathsByTick;
 use mapf_model::limits::MOST_AGENTS;
 use mapf_model::{Cell, Conflict, Plan, Tick};
 
@@ -34,7 +34,7 @@ pub fn first_conflict(plan: &Plan) -> Option<Conflict>
 
 /// Returns the first conflict of these paths. The marks may be for some cells or for none, and may have any values. The
 /// caller ensures that before the tick `free` no two agents other than this one conflict.
-pub fn first_among<P: TimedPaths>(
+pub fn first_among<P: PathsByTick>(
     marks: &mut [u8],
     paths: &P,
     agent: u32,
@@ -52,7 +52,7 @@ pub fn first_among<P: TimedPaths>(
     let mut here = [Cell(0); MOST_AGENTS as usize];
     let mut next = [Cell(0); MOST_AGENTS as usize];
     paths.write_cells(0, &mut here[..count]);
-    for tick in 0..paths.longest() {
+    for tick in 0..paths.length_bound() {
         paths.write_cells(tick + 1, &mut next[..count]);
         let only = agent_before(agent, tick, free);
         if let Some(conflict) = conflict_of(marks, &here[..count], &next[..count], only, tick) {

@@ -6,13 +6,13 @@ mod first;
 mod marked_pairs;
 mod marks;
 mod pairs;
+mod patched_paths;
 mod path_list;
-mod replaced_paths;
-mod timed_paths;
+mod paths_by_tick;
 
 pub use base_paths::{BasePaths, MOST_ROWS};
 pub use first::first_conflict;
 pub use mapf_model::Conflict;
 pub use marks::{CellMarks, first_conflict_after_replanning, first_conflict_in};
-pub use replaced_paths::{ReplacedPaths, Replacement};
-pub use timed_paths::TimedPaths;
+pub use patched_paths::{PatchedPaths, Replacement};
+pub use paths_by_tick::PathsByTick;

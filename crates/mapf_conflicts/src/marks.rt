@@ -4,8 +4,8 @@ ghost use Rattle.mapf_model.specs.Limits.{most_agents};
 ghost use Rattle.mapf_conflicts.specs.Pairs.{paths_behind, AreOthersFreeBefore, IsFirstOfItsTick, IsOrdered};
 
 use crate::first::first_among;
+use crate::patched_paths::PatchedPaths;
 use crate::path_list::PathList;
-use crate::replaced_paths::ReplacedPaths;
 use mapf_model::{Conflict, OutOfMemory, Path, Tick};
 use std::alloc::Global;
 use std::marker::Model;
@@ -54,7 +54,7 @@ pub fn first_conflict_in(marks: &mut CellMarks, paths: &[&Path]) -> Option<Confl
 /// At such a tick the others are compared with each other only if this agent conflicts with one of them.
 pub fn first_conflict_after_replanning(
     marks: &mut CellMarks,
-    paths: &ReplacedPaths,
+    paths: &PatchedPaths,
     agent: u32,
     free: Tick,
 ) -> Option<Conflict>

@@ -2,11 +2,11 @@ ghost use Rattle.std.specs.Prelude.{◌≡◌, ◌≤◌, All, length};
 ghost use Rattle.mapf_model.specs.Limits.{most_path_cells};
 ghost use Rattle.mapf_conflicts.specs.Pairs.{cells_at, paths_behind};
 
-use crate::timed_paths::TimedPaths;
+use crate::paths_by_tick::PathsByTick;
 use mapf_model::{Cell, Path, Tick};
 use std::marker::Model;
 
-/// Paths, of which none is known to be in another place too.
+/// Paths that are read one by one.
 #[derive(Drop)]
 pub struct PathList<'a> {
     paths: &'a [&'a Path],
@@ -29,14 +29,14 @@ impl<'a> PathList<'a> {
     }
 }
 
-impl<'a> TimedPaths for PathList<'a> {
+impl<'a> PathsByTick for PathList<'a> {
     ghost paths = { λ list. list };
 
     fn count(&self) -> usize {
         self.paths.len()
     }
 
-    fn longest(&self) -> Tick {
+    fn length_bound(&self) -> Tick {
         longest(self.paths)
     }
 

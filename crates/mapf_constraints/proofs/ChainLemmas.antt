@@ -11,7 +11,7 @@ use Rattle.mapf_model.specs.Limits.{split_ticks}
 use Rattle.mapf_model.proofs.ContainsLemmas.{Contains-cons_cases}
 use Rattle.mapf_constraints.proofs.BarLemmas.{AreSameBars-push}
 use Rattle.mapf_constraints.specs.BarSets.{arrival, bar_tick, IsHorizon}
-use Rattle.mapf_constraints.specs.Chains.{bars_of, link_at, chain_of, chain_at, mark_of, IsNewest, AreChained, AreMarked}
+use Rattle.mapf_constraints.specs.Chains.{bars_of, link_at, chain_of, chain_at, mark_index, IsNewest, AreChained, AreMarked}
 use Rattle.mapf_constraints.specs.declared.link.Link.{Link}
 
 abbrev pub no_link : Link
@@ -99,20 +99,20 @@ bars_of-push links link = rw (map-append (λ (l : Link). l.bar) links (link ∷ 
 pub bars_of-take : (links : List Link) (i : ℕ) (link : Link) → i < length links → link ≡ slice_index_or links i link → AreSameBars (bars_of (take (i + 1) links)) (link.bar ∷ bars_of (take i links))
 bars_of-take links i link within is = subst (λ (l : Link). AreSameBars (bars_of (take (i + 1) links)) (l.bar ∷ bars_of (take i links))) (sym is) (rw (take_more links i link within) (bars_of-push (take i links) (slice_index_or links i link)))
 
-mark_small : (state : ℕ × ℕ) → mark_of state < 512
+mark_small : (state : ℕ × ℕ) → mark_index state < 512
 mark_small (cell, tick) = omega arith
 
 -- the marks of one more link
-pub AreMarked-push : (links : List Link) (link : Link) (marks : List Bool) (place : ℕ) → place ≡ mark_of (arrival link.bar) → length marks ≡ 512 → AreMarked (bars_of links) marks → AreMarked (bars_of (links ++ link ∷ [])) (slice_set marks place true)
+pub AreMarked-push : (links : List Link) (link : Link) (marks : List Bool) (place : ℕ) → place ≡ mark_index (arrival link.bar) → length marks ≡ 512 → AreMarked (bars_of links) marks → AreMarked (bars_of (links ++ link ∷ [])) (slice_set marks place true)
 AreMarked-push links link marks place is size marked bar held =
     let within : place < length marks = let small = mark_small (arrival link.bar) in omega (arith, small, is, size) in
     let set = get_or-set_same marks place true false within in
     ⊎_elim
-    (λ (new : link.bar ≡ bar). ap (λ b. slice_index_or (slice_set marks place true) (mark_of (arrival b)) false) (sym new) ∙ subst (λ p. slice_index_or (slice_set marks place true) p false ≡ true) is set)
+    (λ (new : link.bar ≡ bar). ap (λ b. slice_index_or (slice_set marks place true) (mark_index (arrival b)) false) (sym new) ∙ subst (λ p. slice_index_or (slice_set marks place true) p false ≡ true) is set)
     (λ (old : Contains (bars_of links) bar). ⊎_elim
-    (λ (same : mark_of (arrival bar) ≡ place). subst (λ p. slice_index_or (slice_set marks place true) p false ≡ true) (sym same) set)
-    (λ other. get_or-set_other marks place (mark_of (arrival bar)) true false other ∙ marked bar old)
-    (cases_eq (mark_of (arrival bar)) place))
+    (λ (same : mark_index (arrival bar) ≡ place). subst (λ p. slice_index_or (slice_set marks place true) p false ≡ true) (sym same) set)
+    (λ other. get_or-set_other marks place (mark_index (arrival bar)) true false other ∙ marked bar old)
+    (cases_eq (mark_index (arrival bar)) place))
     (Contains-cons_cases link.bar bar (bars_of links) ((bars_of-push links link bar).0 held))
 
 -- no links

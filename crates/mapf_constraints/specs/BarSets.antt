@@ -8,7 +8,8 @@ abbrev pub bar_tick : Bar → ℕ
 bar_tick (Cell cell tick) = tick
 bar_tick (Move from to tick) = tick
 
--- the cell in which the constraint forbids to arrive, in all cases or by one move, and the tick of the arrival
+-- the cell and the tick of the arrival that a constraint forbids: a vertex constraint forbids to be there then, an edge
+-- constraint to get there by its move
 abbrev pub arrival : Bar → ℕ × ℕ
 arrival (Cell cell tick) = (cell, tick)
 arrival (Move from to tick) = (to, tick + 1)

@@ -17,13 +17,13 @@ link_at links place = slice_index_or links place (record { bar = Cell 0 0; older
 abbrev pub chain_of : ℕ → ℕ
 chain_of tick = tick % 64
 
--- the place of an arrival among the marks
-abbrev pub mark_of : ℕ × ℕ → ℕ
-mark_of (cell, tick) = (cell + 197 * tick) % 512
+-- the index of an arrival's mark
+abbrev pub mark_index : ℕ × ℕ → ℕ
+mark_index (cell, tick) = (cell + 197 * tick) % 512
 
--- the arrival that each constraint forbids is marked
+-- the arrival of each constraint is marked
 abbrev pub AreMarked : List Bar → List Bool → Type 0
-AreMarked bars marks = (bar : Bar) → Contains bars bar → slice_index_or marks (mark_of (arrival bar)) false ≡ true
+AreMarked bars marks = (bar : Bar) → Contains bars bar → slice_index_or marks (mark_index (arrival bar)) false ≡ true
 
 -- the chain of the link at this index
 abbrev pub chain_at : List Link → ℕ → ℕ

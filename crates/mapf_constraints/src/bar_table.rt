@@ -44,8 +44,8 @@ pub trait BarTable: Drop {
         tick < self.horizon()
     }
 
-    /// Returns whether some constraint may forbid to arrive in the cell at the tick, by whatever move or wait. A table may
-    /// also return true where none does.
+    /// Returns false only if no vertex constraint forbids the cell at the tick, and no edge constraint forbids a move that
+    /// ends there then. True tells nothing.
     fn may_bar_arrival(&self, to: Cell, tick: Tick) -> bool
         ensures { result ≡ false → (bar : Bar) → Contains (bars self.now) bar → arrival bar ≢ (to, tick) }
     {

@@ -1,7 +1,7 @@
 ghost use Rattle.std.specs.Prelude.{◌≡◌, ◌<◌, ◌↔◌, Contains, IsTrue};
 ghost use Rattle.mapf_model.specs.Limits.{split_ticks};
 ghost use Rattle.mapf_constraints.specs.BarSets.{arrival, bar_tick, IsLastOn};
-ghost use Rattle.mapf_constraints.specs.Chains.{bars_of, mark_of};
+ghost use Rattle.mapf_constraints.specs.Chains.{bars_of, mark_index};
 
 use crate::bar_table::BarTable;
 use crate::later::{horizon_with, last_with, tick};
@@ -13,15 +13,15 @@ use std::marker::Model;
 // How many marks there are.
 const MARKS: usize = 512;
 
-/// Constraints in chains: one for each remainder of their ticks modulo 64. A query scans the chain of its tick, which
-/// is mostly empty or short. Marks tell of most arrivals that no constraint forbids them, without a scan.
+/// Constraints in chains, one chain for each remainder of their ticks modulo 64. A query scans the chain of its tick,
+/// which is mostly empty or short. For most arrivals the marks show without a scan that no constraint forbids them.
 #[derive(Debug, Drop)]
 pub struct TickBars {
     // In the order in which they were added.
     links: Vec<Link>,
     // For each remainder, the number of links up to and including the newest one of its chain, 0 if it is empty.
     newest: [usize; 64],
-    // Whether a constraint may forbid one of the arrivals that share the mark.
+    // False if no constraint forbids an arrival that has this mark.
     marks: [bool; MARKS],
     horizon: Tick,
 }
@@ -81,7 +81,7 @@ impl BarTable for TickBars {
 
     #[inline(always)]
     fn may_bar_arrival(&self, to: Cell, tick: Tick) -> bool {
-        self.marks[mark_of(to, tick)]
+        self.marks[mark_index(to, tick)]
     }
 
     fn add(&mut self, bar: Bar) -> Result<(), OutOfMemory> {
@@ -91,7 +91,7 @@ impl BarTable for TickBars {
             older: self.newest[chain],
         })?;
         self.newest[chain] = self.links.len();
-        self.marks[mark_of_bar(&bar)] = true;
+        self.marks[bar_index(&bar)] = true;
         self.horizon = horizon_with(self.horizon, &bar);
         Ok(())
     }
@@ -131,24 +131,24 @@ impl TickBars {
     }
 }
 
-// Returns the place of an arrival among the marks. Arrivals that are a few steps apart have different ones.
+// Returns the index of an arrival's mark. Arrivals that are a few steps apart mostly have different marks.
 #[inline(always)]
-fn mark_of(to: Cell, tick: Tick) -> usize
-    ensures place { result ≡ mark_of (to, tick) }
+fn mark_index(to: Cell, tick: Tick) -> usize
+    ensures index { result ≡ mark_index (to, tick) }
     ensures inside { result < 512 }
 {
     (to.0 as usize + 197 * tick as usize) % MARKS
 }
 
-// Returns the place of the arrival that the constraint forbids.
-fn mark_of_bar(bar: &Bar) -> usize
+// Returns the index of the mark of the arrival that the constraint forbids.
+fn bar_index(bar: &Bar) -> usize
     requires { bar_tick bar.now < split_ticks }
-    ensures place { result ≡ mark_of (arrival bar.now) }
+    ensures index { result ≡ mark_index (arrival bar.now) }
     ensures inside { result < 512 }
 {
     match bar {
-        Bar::Cell { cell, tick } => mark_of(*cell, *tick),
-        Bar::Move { from: _, to, tick } => mark_of(*to, *tick + 1),
+        Bar::Cell { cell, tick } => mark_index(*cell, *tick),
+        Bar::Move { from: _, to, tick } => mark_index(*to, *tick + 1),
     }
 }
 

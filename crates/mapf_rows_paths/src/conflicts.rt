@@ -3,7 +3,7 @@ ghost use Rattle.std.specs.Prelude.{◌≤◌, length};
 use crate::expect::expect_same;
 use crate::samples::{Missing, path_of};
 use mapf_conflicts::{
-    BasePaths, CellMarks, Conflict, MOST_ROWS, ReplacedPaths, Replacement, TimedPaths,
+    BasePaths, CellMarks, Conflict, MOST_ROWS, PatchedPaths, PathsByTick, Replacement,
     first_conflict, first_conflict_after_replanning, first_conflict_in,
 };
 use mapf_model::{Cell, OutOfMemory, Path, Plan, Tick};
@@ -175,7 +175,7 @@ fn found_after_replanning(alloc: Global, tick: Tick) -> Result<Option<Conflict>,
         agent: 1,
         path: &path,
     }];
-    let paths = ReplacedPaths::of(&base, &replacements);
+    let paths = PatchedPaths::of(&base, &replacements);
     if paths.count() > 200 {
         return Err(Missing::Value);
     }

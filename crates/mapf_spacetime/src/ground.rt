@@ -146,6 +146,10 @@ impl<'a, B: BarTable> Ground<'a, B> {
         ensures yes { IsTrue result → MayGo self.now.grid self.now.bars from.now.cell to from.now.tick }
         ensures no { result ≡ false → MayGo self.now.grid self.now.bars from.now.cell to from.now.tick → ⊥ }
     {
+        // Mostly the table knows without a search that no constraint forbids the step.
+        if !self.bars.may_bar_arrival(to, from.tick + 1) {
+            return true;
+        }
         if self.bars.bars_cell(to, from.tick + 1) {
             return false;
         }
@@ -161,8 +165,7 @@ impl<'a, B: BarTable> Ground<'a, B> {
         ensures yes { IsTrue result → MayGo self.now.grid self.now.bars from.now.cell to from.now.tick }
         ensures no { result ≡ false → MayGo self.now.grid self.now.bars from.now.cell to from.now.tick → ⊥ }
     {
-        // Mostly a look at the table's marks tells that no constraint forbids this step.
-        !is_barred || !self.bars.may_bar_arrival(to, from.tick + 1) || self.lets(from, to)
+        !is_barred || self.lets(from, to)
     }
 
     /// Returns whether the agent may be in its start at tick 0.

@@ -12,13 +12,13 @@ const FEW: usize = 8;
 /// A set of states, in the order in which they were added.
 #[derive(Drop)]
 pub struct StateSet {
-    // The first of them, followed by states without a meaning.
+    // The states that were added first, followed by entries that aren't used.
     few: [State; FEW],
-    // How many of them are in the array.
+    // How many entries of the array are used.
     count: usize,
-    // The others, once the array is full.
+    // The states that were added after the array was full.
     more: IndexSet<State>,
-    // All their ticks are from the first of these to the last.
+    // The tick of each state is from the first of these to the last.
     first: Tick,
     last: Tick,
 }

@@ -3,7 +3,7 @@ use Rattle.std.proofs.lemmas.Bool.{cases_eq}
 use Rattle.std.proofs.lemmas.Option.{slice_get_within, same_Some}
 use Rattle.mapf_model.proofs.PlaceLemmas.{slice_get-front, slice_get-here}
 use Rattle.mapf_conflicts.specs.Pairs.{cells_at}
-use Rattle.mapf_conflicts.specs.Replaced.{AreRowsOf}
+use Rattle.mapf_conflicts.specs.Replacements.{AreRowsOf}
 use Rattle.mapf_conflicts.proofs.ConflictLemmas.{written}
 use Rattle.mapf_conflicts.proofs.base_paths.rows_of.Goals as goal
 

@@ -1,5 +1,5 @@
 use Rattle.std.proofs.Common.{◌≡◌, length}
-use Rattle.mapf_conflicts.specs.Replaced.{AreRowsOf}
+use Rattle.mapf_conflicts.specs.Replacements.{AreRowsOf}
 use Rattle.mapf_conflicts.proofs.base_paths.rows_of.Given as goal
 
 abbrev pub invariant-loop-tick : goal.invariant-loop-tick

@@ -17,7 +17,7 @@ still paths n m tick new old size are few whole =
 
 pub returns-in-Some-clause-some : goal.returns-in-Some-clause-some
 returns-in-Some-clause-some g c =
-    let paths = g.P.TimedPaths.paths c.args.paths.now in
+    let paths = g.P.PathsByTick.paths c.args.paths.now in
     let count = c.count-count.result in
     let next = written paths count (c.loop-tick.tick + 1) c.write_cells-in-loop-tick.new.cells (drop count c.loop-tick.next) c.count-count.ensures c.write_cells-in-loop-tick.ensures in
     has_conflict paths c.loop-tick.tick c.in-Some.conflict
@@ -25,14 +25,14 @@ returns-in-Some-clause-some g c =
 
 pub returns-in-Some-clause-first : goal.returns-in-Some-clause-first
 returns-in-Some-clause-first g c =
-    let paths = g.P.TimedPaths.paths c.args.paths.now in
+    let paths = g.P.PathsByTick.paths c.args.paths.now in
     let count = c.count-count.result in
     let tick = conflict_tick (take count c.loop-tick.here) (take count (c.write_cells-in-loop-tick.new.cells ++ drop count c.loop-tick.next)) c.loop-tick.tick c.in-Some.conflict c.in-Some.ensures.some in
     subst (λ n. AreConflictFreeBefore paths n) (sym tick) c.loop-tick.invariant.free
 
 pub returns-in-Some-clause-least : goal.returns-in-Some-clause-least
 returns-in-Some-clause-least g c =
-    let paths = g.P.TimedPaths.paths c.args.paths.now in
+    let paths = g.P.PathsByTick.paths c.args.paths.now in
     let count = c.count-count.result in
     let next = written paths count (c.loop-tick.tick + 1) c.write_cells-in-loop-tick.new.cells (drop count c.loop-tick.next) c.count-count.ensures c.write_cells-in-loop-tick.ensures in
     let tick = conflict_tick (take count c.loop-tick.here) (take count (c.write_cells-in-loop-tick.new.cells ++ drop count c.loop-tick.next)) c.loop-tick.tick c.in-Some.conflict c.in-Some.ensures.some in
@@ -41,7 +41,7 @@ returns-in-Some-clause-least g c =
 
 pub loop-tick-preserved : goal.loop-tick-preserved
 loop-tick-preserved g c =
-    let paths = g.P.TimedPaths.paths c.args.paths.now in
+    let paths = g.P.PathsByTick.paths c.args.paths.now in
     let count = c.count-count.result in
     let size = c.count-count.ensures in
     let few = subst (λ n. n ≤ 200) (sym size) c.requires.few in
@@ -62,15 +62,15 @@ loop-tick-preserved g c =
 
 pub returns-clause-none : goal.returns-clause-none
 returns-clause-none g c =
-    let paths = g.P.TimedPaths.paths c.args.paths.now in
-    let end = c.longest-tick-end.result in
+    let paths = g.P.PathsByTick.paths c.args.paths.now in
+    let end = c.length_bound-tick-end.result in
     let all : c.loop-tick.tick ≡ end = omega arith in
     let free = subst (λ n. AreConflictFreeBefore paths n) all c.loop-tick.invariant.free in
-    none_after paths end c.longest-tick-end.ensures.positive c.longest-tick-end.ensures.longest free
+    none_after paths end c.length_bound-tick-end.ensures.positive c.length_bound-tick-end.ensures.longest free
 
 pub conflict_of-requires-clause-others : goal.conflict_of-requires-clause-others
 conflict_of-requires-clause-others g c =
-    let paths = g.P.TimedPaths.paths c.args.paths.now in
+    let paths = g.P.PathsByTick.paths c.args.paths.now in
     let count = c.count-count.result in
     let next = written paths count (c.loop-tick.tick + 1) c.write_cells-in-loop-tick.new.cells (drop count c.loop-tick.next) c.count-count.ensures c.write_cells-in-loop-tick.ensures in
     rw (c.loop-tick.invariant.cells, next) (IfSome_then c.agent_before-only.result c.agent_before-only.ensures (λ only is. subst (AreOthersApart (cells_at paths c.loop-tick.tick) (cells_at paths (c.loop-tick.tick + 1))) (sym is.0)

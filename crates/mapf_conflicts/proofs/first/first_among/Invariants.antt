@@ -8,6 +8,6 @@ abbrev pub invariant-loop-tick : goal.invariant-loop-tick
 invariant-loop-tick g l = record {
   here_size : length l.here ≡ most_agents;
   next_size : length l.next ≡ most_agents;
-  cells : take l.count l.here ≡ cells_at (g.P.TimedPaths.paths l.paths) l.tick;
-  free : AreConflictFreeBefore (g.P.TimedPaths.paths l.paths) l.tick;
+  cells : take l.count l.here ≡ cells_at (g.P.PathsByTick.paths l.paths) l.tick;
+  free : AreConflictFreeBefore (g.P.PathsByTick.paths l.paths) l.tick;
 }

@@ -19,8 +19,8 @@ invariant_of-self-2 c =
       horizon,
       early,
       AreChained-push links link c.self.inside.newest (c.tick.result % 64) c.len.result c.self.invariant.3 (ap (λ (t : ℕ). t % 64) c.tick.ensures) refl (search rules) (search rules),
-      length-set c.self.inside.marks c.mark_of_bar.result true ∙ c.self.invariant.4,
-      AreMarked-push links link c.self.inside.marks c.mark_of_bar.result c.mark_of_bar.ensures.place c.self.invariant.4 c.self.invariant.5,
+      length-set c.self.inside.marks c.bar_index.result true ∙ c.self.invariant.4,
+      AreMarked-push links link c.self.inside.marks c.bar_index.result c.bar_index.ensures.index c.self.invariant.4 c.self.invariant.5,
     )
 
 pub returns-clause-added : goal.returns-clause-added

@@ -3,9 +3,9 @@ use Rattle.std.proofs.lemmas.Grind.{common_steps}
 use Rattle.std.proofs.lemmas.List.{take_all}
 use Rattle.std.proofs.lemmas.List.Elements.{All-weaker}
 use Rattle.std.proofs.lemmas.Option.{slice_get_read}
-use Rattle.mapf_conflicts.specs.Replaced.{replaced}
-use Rattle.mapf_conflicts.proofs.ReplacedLemmas.{all_next}
-use Rattle.mapf_conflicts.proofs.replaced_paths.longest_with.Goals as goal
+use Rattle.mapf_conflicts.specs.Replacements.{with_replacements}
+use Rattle.mapf_conflicts.proofs.ReplacementLemmas.{all_next}
+use Rattle.mapf_conflicts.proofs.patched_paths.bound_with.Goals as goal
 
 pub loop-replacement-preserved : goal.loop-replacement-preserved
 loop-replacement-preserved c =
@@ -26,4 +26,4 @@ pub returns-clause-longest : goal.returns-clause-longest
 returns-clause-longest c =
     let all = c.args.replacements.now in
     let whole = take_all c.loop-replacement.replacement-index all (omega arith) in
-    subst (λ rs. All (λ path. length path ≤ c.loop-replacement.longest) (replaced c.args.base.now rs)) whole c.loop-replacement.invariant.longest
+    subst (λ rs. All (λ path. length path ≤ c.loop-replacement.longest) (with_replacements c.args.base.now rs)) whole c.loop-replacement.invariant.longest

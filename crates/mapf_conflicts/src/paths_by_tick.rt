@@ -4,8 +4,8 @@ ghost use Rattle.mapf_conflicts.specs.Pairs.{cells_at};
 
 use mapf_model::{Cell, Tick};
 
-/// Paths of agents, whose cells are asked for tick by tick.
-pub trait TimedPaths {
+/// Paths of agents that can be asked for the cells of all agents at a tick.
+pub trait PathsByTick {
     /// The paths, in the order of their agents.
     ghost paths: { Self → List (List ℕ) };
 
@@ -13,13 +13,13 @@ pub trait TimedPaths {
     fn count(&self) -> usize
         ensures { result ≡ length (paths self.now) };
 
-    /// Returns a number that is at least 1 and at least the number of cells of each path.
-    fn longest(&self) -> Tick
+    /// Returns a bound on the lengths of the paths: at least 1, and at least the number of cells of each path.
+    fn length_bound(&self) -> Tick
         ensures longest { All (λ path. length path ≤ result) (paths self.now) }
         ensures positive { 1 ≤ result }
         ensures bounded { result ≤ most_path_cells };
 
-    /// Writes the agents' cells at the tick.
+    /// Writes the agents' cells at the tick, in the order of the agents.
     fn write_cells(&self, tick: Tick, cells: &mut [Cell])
         requires { length cells.old ≡ length (paths self.now) }
         ensures { cells.new ≡ cells_at (paths self.now) tick };

@@ -1,10 +1,10 @@
 ghost use Rattle.std.specs.Prelude.{◌≡◌, ◌<◌, ◌≤◌, All, length};
 ghost use Rattle.mapf_model.specs.Limits.{most_path_cells};
 ghost use Rattle.mapf_conflicts.specs.Pairs.{cells_at};
-ghost use Rattle.mapf_conflicts.specs.Replaced.{replaced};
+ghost use Rattle.mapf_conflicts.specs.Replacements.{with_replacements};
 
 use crate::base_paths::BasePaths;
-use crate::timed_paths::TimedPaths;
+use crate::paths_by_tick::PathsByTick;
 use mapf_model::{Cell, Path, Tick};
 use std::marker::Model;
 
@@ -15,42 +15,42 @@ pub struct Replacement<'a> {
     pub path: &'a Path,
 }
 
-/// Paths of which all but a few are those of a base.
+/// The paths of a base, with those of some agents replaced.
 #[derive(Drop)]
-pub struct ReplacedPaths<'a> {
+pub struct PatchedPaths<'a> {
     base: &'a BasePaths,
     replacements: &'a [Replacement<'a>],
 }
 
-impl<'a> Model for ReplacedPaths<'a> {
+impl<'a> Model for PatchedPaths<'a> {
     ghost use Rattle.std.specs.Prelude.{◌<◌, List, ℕ, All, length};
-    ghost use Rattle.mapf_conflicts.specs.Replaced.{replaced};
+    ghost use Rattle.mapf_conflicts.specs.Replacements.{with_replacements};
 
     ghost Value = { List (List ℕ) };
 
-    ghost view = { λ paths. replaced paths.base.now paths.replacements.now };
+    ghost view = { λ paths. with_replacements paths.base.now paths.replacements.now };
 
     ghost invariant = { λ paths. All (λ one. one.agent < length paths.base.now) paths.replacements.now };
 }
 
-impl<'a> ReplacedPaths<'a> {
-    pub fn of(base: &'a BasePaths, replacements: &'a [Replacement<'a>]) -> ReplacedPaths<'a>
+impl<'a> PatchedPaths<'a> {
+    pub fn of(base: &'a BasePaths, replacements: &'a [Replacement<'a>]) -> PatchedPaths<'a>
         requires { All (λ one. one.agent < length base.now) replacements.now }
-        ensures { result ≡ replaced base.now replacements.now }
+        ensures { result ≡ with_replacements base.now replacements.now }
     {
-        ReplacedPaths { base, replacements }
+        PatchedPaths { base, replacements }
     }
 }
 
-impl<'a> TimedPaths for ReplacedPaths<'a> {
+impl<'a> PathsByTick for PatchedPaths<'a> {
     ghost paths = { λ paths. paths };
 
     fn count(&self) -> usize {
         self.base.count()
     }
 
-    fn longest(&self) -> Tick {
-        longest_with(self.base, self.replacements)
+    fn length_bound(&self) -> Tick {
+        bound_with(self.base, self.replacements)
     }
 
     fn write_cells(&self, tick: Tick, cells: &mut [Cell]) {
@@ -58,13 +58,13 @@ impl<'a> TimedPaths for ReplacedPaths<'a> {
     }
 }
 
-// Returns a number that is at least 1 and at least the number of cells of each path.
-fn longest_with(base: &BasePaths, replacements: &[Replacement]) -> Tick
-    ensures longest { All (λ path. length path ≤ result) (replaced base.now replacements.now) }
+// Returns a bound on the lengths of the paths.
+fn bound_with(base: &BasePaths, replacements: &[Replacement]) -> Tick
+    ensures longest { All (λ path. length path ≤ result) (with_replacements base.now replacements.now) }
     ensures positive { 1 ≤ result }
     ensures bounded { result ≤ most_path_cells }
 {
-    let mut longest = base.longest();
+    let mut longest = base.length_bound();
     for replacement in replacements {
         longest = longest.max(replacement.path.cells().len() as Tick);
     }
@@ -75,7 +75,7 @@ fn longest_with(base: &BasePaths, replacements: &[Replacement]) -> Tick
 fn write_cells(base: &BasePaths, replacements: &[Replacement], tick: Tick, cells: &mut [Cell])
     requires known { All (λ one. one.agent < length base.now) replacements.now }
     requires size { length cells.old ≡ length base.now }
-    ensures { cells.new ≡ cells_at (replaced base.now replacements.now) tick }
+    ensures { cells.new ≡ cells_at (with_replacements base.now replacements.now) tick }
 {
     base.write_cells(tick, cells);
     for replacement in replacements {

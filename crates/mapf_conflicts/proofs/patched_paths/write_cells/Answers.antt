@@ -1,7 +1,7 @@
 use Rattle.std.proofs.Common.{length, refl, sym, ◌∙◌, ap, slice_set, arith}
 use Rattle.std.proofs.lemmas.Option.{slice_get_read}
-use Rattle.mapf_conflicts.proofs.ReplacedLemmas.{cells_next}
-use Rattle.mapf_conflicts.proofs.replaced_paths.write_cells.Goals as goal
+use Rattle.mapf_conflicts.proofs.ReplacementLemmas.{cells_next}
+use Rattle.mapf_conflicts.proofs.patched_paths.write_cells.Goals as goal
 
 pub loop-replacement-preserved : goal.loop-replacement-preserved
 loop-replacement-preserved c =
