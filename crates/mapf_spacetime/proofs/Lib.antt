@@ -5,6 +5,11 @@ pub mod EntryLemmas
 pub mod ValueLemmas
 pub mod SweptLemmas
 pub mod SweepLemmas
+pub mod StampLemmas
+pub mod FrontierLemmas
+pub mod GrowLemmas
+pub mod OrderLemmas
+pub mod LevelLemmas
 pub mod LabelLemmas
 pub mod WayLemmas
 pub mod DirectLemmas

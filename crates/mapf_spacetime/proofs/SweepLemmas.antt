@@ -33,7 +33,7 @@ rising_append xs ys left right cross i j d less inside =
     (cases_lt j (length xs))
 
 pub extended_self : (sweep : Sweeping) → IsExtended sweep sweep
-extended_self sweep = record { states = refl; bound = refl; next_cells = λ cell held. held; cut = λ cut. cut; room = refl }
+extended_self sweep = record { states = refl; bound = refl; next_cells = λ cell held. held; cut = λ cut. cut; room = refl; first = refl; tick = refl }
 
 pub extended_trans : (a b c : Sweeping) → IsExtended a b → IsExtended b c → IsExtended a c
 extended_trans a b c p q = record {
@@ -42,6 +42,8 @@ extended_trans a b c p q = record {
   next_cells = λ cell held. q.next_cells cell (p.next_cells cell held);
   cut = λ cut. q.cut (p.cut cut);
   room = q.room ∙ p.room;
+  first = q.first ∙ p.first;
+  tick = q.tick ∙ p.tick;
 }
 
 -- what was noted stays noted
@@ -305,6 +307,18 @@ has_room words cell held = ⊎_elim
     (λ (outside : length words ≤ cell / 64).
     let zero = ap (λ n. bit_at n (cell % 64)) (get_or_past words (cell / 64) 0 outside) ∙ bit_at-zero (cell % 64) in absurd (omega arith))
     (cases_lt (cell / 64) (length words))
+
+-- which states a sweep has reached doesn't depend on its tick
+pub meets_then : (task : Task) (cost tick : ℕ) (sweep : Sweeping) → MeetsGoal task cost sweep → MeetsGoal task cost (record sweep { tick = tick })
+meets_then task cost tick sweep m = record {
+  reached = m.reached;
+  quiet = m.quiet;
+  followed = m.followed;
+  arrival = m.arrival;
+  is_value = m.is_value;
+  rest = m.rest;
+  within = m.within;
+}
 
 -- an agent that rests at its start
 pub meets_at_start : (task : Task) (sweep : Sweeping) → sweep.states ≡ start_of task ∷ [] → IsWithin task sweep.bound (start_of task) → task.start ≡ task.goal → MayRestFrom task 0 → MeetsGoal task 0 sweep

@@ -189,6 +189,9 @@ whole_swept task sweep w = record {
 pub next_bound : (task : Task) (sweep : Sweeping) → IsWhole task sweep → SomeIsPast task sweep.bound sweep.states → (last : ℕ) → AreBefore last task.bars → sweep.bound + 1 < last + most_cells
 next_bound task sweep w (state, entered, (value, is, more)) last above = (cost_bounded task (sweep.bound + 1) sweep.states (whole_swept task sweep w) last above state (inr entered) (value, is, omega arith)).1
 
+pub next_limit : (task : Task) (sweep : Sweeping) → IsWhole task sweep → SomeIsPast task sweep.bound sweep.states → IsBelowLimit task (sweep.bound + 1)
+next_limit task sweep w (state, entered, (value, is, more)) last above = (cost_bounded task (sweep.bound + 1) sweep.states (whole_swept task sweep w) last above state (inr entered) (value, is, omega arith)).0
+
 -- the states whose f-value is below the cost are kept one after the other
 pub none_kept : (task : Task) (cost : ℕ) (states : List State) → AreKept task cost 0 states []
 none_kept task cost states = record {

@@ -5,3 +5,5 @@ pub mod Listed
 pub mod Answer
 pub mod CellSets
 pub mod Sweeps
+pub mod Frontiers
+pub mod Turns

@@ -1,21 +1,24 @@
 -- What a sweep over the ticks reaches.
-use Rattle.std.specs.Prelude.{Bool, true, ◌≡◌, ◌⊎◌, ℕ, ◌+◌, ◌<◌, ◌≤◌, List, length, slice_index_or, Contains, AllPairs}
+use Rattle.std.specs.Prelude.{Bool, true, ◌≡◌, ◌⊎◌, ℕ, ◌+◌, ◌*◌, ◌<◌, ◌≤◌, List, length, slice_index_or, Contains, AllPairs}
 use Rattle.mapf_model.specs.Distance.{IsUnreachable}
 use Rattle.mapf_model.specs.Labels.{MayGo}
-use Rattle.mapf_spacetime.specs.CellSets.{HasCell}
+use Rattle.mapf_spacetime.specs.CellSets.{HasCell, HasNone}
 use Rattle.mapf_spacetime.specs.PathSearch.{CanArrive}
 use Rattle.mapf_spacetime.specs.States.{IsEntered}
 use Rattle.mapf_spacetime.specs.Task.{Task, IsValue, IsWithin, IsBelow, IsPast, IsBarredLater, MayRestFrom, state_at, start_of}
 use Rattle.mapf_spacetime.specs.declared.state.State.{State}
 
 -- the states that were reached, those of them that are below a cost, the cells that can be reached at the next tick, the
--- greatest f-value, and whether a state of a greater one was left out
+-- greatest f-value, whether a state of a greater one was left out, the index of the first state whose steps weren't
+-- followed yet, and the tick of those states
 pub record Sweeping : Type 0 where
   pub states : List State
   pub low : List State
   pub next_cells : List ℕ
   pub bound : ℕ
   pub is_cut : Bool
+  pub first : ℕ
+  pub tick : ℕ
 
 -- the first precedes the second, by tick and then by the cell's number
 abbrev pub IsEarlier : State → State → Type 0
@@ -68,6 +71,12 @@ pub record IsSweep (task : Task) (tick first : ℕ) (sweep : Sweeping) : Type 0 
   pub followed : (s : State) → Contains sweep.states s → s.tick < tick → (to : ℕ) → IsFollowed task sweep s to
   pub cut : sweep.is_cut ≡ true → SomeIsPast task sweep.bound sweep.states
 
+-- a sweep that has reached the states up to its tick, with room for the cells of the next
+pub record IsUnderWay (task : Task) (sweep : Sweeping) : Type 0 where
+  pub reached : IsSweep task sweep.tick sweep.first sweep
+  pub none : HasNone sweep.next_cells
+  pub room : task.grid.width * task.grid.height ≤ 64 * length sweep.next_cells
+
 -- the next cells can be reached from states at this tick
 pub record AreNext (task : Task) (tick : ℕ) (sweep : Sweeping) : Type 0 where
   pub entered : (cell : ℕ) → HasCell sweep.next_cells cell → IsEntered task sweep.states (state_at cell (tick + 1))
@@ -87,6 +96,8 @@ pub record IsExtended (old new : Sweeping) : Type 0 where
   pub next_cells : (cell : ℕ) → HasCell old.next_cells cell → HasCell new.next_cells cell
   pub cut : old.is_cut ≡ true → new.is_cut ≡ true
   pub room : length new.next_cells ≡ length old.next_cells
+  pub first : new.first ≡ old.first
+  pub tick : new.tick ≡ old.tick
 
 -- these are the states at the tick of these cells, in rising order
 pub record AreStatesAt (tick : ℕ) (cells : List ℕ) (states : List State) : Type 0 where

@@ -7,7 +7,7 @@ ghost use Rattle.mapf_spacetime.specs.PathSearch.{IsWholeWalk};
 ghost use Rattle.mapf_spacetime.specs.Task.{Task, task_of, IsOpen, IsValue, IsWithin, MayRestFrom, start_of, cost_bound};
 ghost use Rattle.mapf_spacetime.specs.Listed.{AreEntriesOf};
 ghost use Rattle.mapf_spacetime.specs.States.{IsBelowLimit};
-ghost use Rattle.mapf_spacetime.specs.Sweeps.{HasArrived, IsEarlier};
+ghost use Rattle.mapf_spacetime.specs.Sweeps.{HasArrived, IsEarlier, IsWhole};
 ghost use Rattle.mapf_spacetime.specs.Answer.{IsPathAnswer, ShowNone};
 
 use crate::found::Found;
@@ -17,15 +17,13 @@ use crate::path_search::{least_walk, try_walk};
 use crate::state::State;
 use crate::state_labels::StateLabels;
 use crate::sweep::Sweep;
+use crate::turns::{FREE_FAILURES, Turned, by_turns};
 use crate::workspace::Workspace;
 use mapf_constraints::BarTable;
 use mapf_distance::Distances;
 use mapf_model::limits::MOST_CELLS;
 use mapf_model::{Agent, Cell, Grid, OutOfMemory, Path};
 use std::alloc::Global;
-
-// From how many states a search for a path backtracks before all states of the cost are reached tick by tick.
-const MOST_FAILURES: usize = 8;
 
 /// Returns a cheapest path of the agent under its constraints, with labels that show that none is cheaper; or labels
 /// that show that no path arrives. Of all cheapest paths it is the lexicographically least by cell numbers.
@@ -125,14 +123,14 @@ pub fn search_expecting<'a, B: BarTable>(
             labels: StateLabels::none(alloc),
         });
     }
-    by_cost(alloc, &mut workspace.sweep, &ground, first, expected)
+    by_cost(alloc, workspace, &ground, first, expected)
 }
 
-/// Searches by rising costs, from the agent's distance, the expected cost or the tick from which the agent may rest at its
-/// goal, whichever is greatest.
+/// Searches from the agent's distance, the expected cost or the tick from which the agent may rest at its goal, whichever
+/// is greatest: a path costs no less, unless more was expected.
 fn by_cost<B: BarTable>(
     alloc: Global,
-    sweep: &mut Sweep,
+    workspace: &mut Workspace,
     ground: &Ground<B>,
     first: u32,
     expected: u32,
@@ -143,29 +141,49 @@ fn by_cost<B: BarTable>(
     ensures { IfOk result (IsPathAnswer ground.now) }
 {
     let last = ground.horizon() + MOST_CELLS - 1;
-    let mut cost = first.max(ground.rest()).max(expected).min(last);
-    let mut raise = 1u32;
-    // Whether the sweep has reached all states below the cost.
-    let mut is_swept = false;
-    'costs: loop {
-        // Mostly an agent can walk at the cost, and then the states of this f-value needn't all be reached.
-        if let Some(cells) = try_walk(alloc, ground, cost, MOST_FAILURES)? {
-            if is_swept {
-                return arrive_by(alloc, ground, sweep.states(), cost, cells);
-            }
-            return walked(alloc, sweep, ground, first, cost, cells);
-        }
-        if let Some(arrival) = sweep.arrival(ground, cost)? {
-            return arrive(alloc, ground, sweep.low(), arrival);
-        }
-        if !sweep.is_cut() {
-            return dead(alloc, ground, sweep.states());
-        }
-        let next = cost.saturating_add(raise).min(last);
-        is_swept = next == cost + 1;
-        cost = next;
-        raise = raise.saturating_mul(2);
+    let bound = first.max(ground.rest()).max(expected).min(last);
+    // At the distance no state gets a label; above it most states that are swept do, so they are reached in any case.
+    let states_per_failure = if bound == first { 2 } else { 16 };
+    let sweep = &mut workspace.sweep;
+    match by_turns(alloc, sweep, ground, bound, states_per_failure)? {
+        Turned::Walked(cells) => walked(alloc, sweep, ground, first, bound, cells),
+        Turned::Arrived(cost) => arrive(alloc, ground, sweep.low(), cost),
+        Turned::Swept => above(alloc, workspace, ground, bound),
     }
+}
+
+/// Searches above a bound up to which the sweep has reached all states.
+fn above<B: BarTable>(
+    alloc: Global,
+    workspace: &mut Workspace,
+    ground: &Ground<B>,
+    bound: u32,
+) -> Result<Found<StateLabels>, OutOfMemory>
+    requires shape { IsGridMap ground.now.grid }
+    requires start { IsOpen ground.now (start_of ground.now) }
+    requires rest { MayRestFrom ground.now bound }
+    requires small { bound < cost_bound }
+    requires whole { IsWhole ground.now workspace.old.sweep }
+    requires bound { workspace.old.sweep.bound ≡ bound }
+    ensures { IfOk result (IsPathAnswer ground.now) }
+{
+    let sweep = &mut workspace.sweep;
+    if !sweep.is_cut() {
+        return dead(alloc, ground, sweep.states());
+    }
+    // A state was left out, so a cost one greater may be tried.
+    let horizon = ground.horizon();
+    let cost = bound + 1;
+    prove!(cost < horizon + MOST_CELLS);
+    if let Some(cells) = try_walk(alloc, ground, cost, FREE_FAILURES)? {
+        return arrive_by(alloc, ground, sweep.states(), cost, cells);
+    }
+    let frontier = &mut workspace.frontier;
+    frontier.begin_above(ground, sweep, cost)?;
+    if frontier.grow(ground)? {
+        return arrive(alloc, ground, frontier.reached(), frontier.cost());
+    }
+    dead(alloc, ground, frontier.reached())
 }
 
 /// Returns the path of these cells and its labels, unless the agent arrives at a lesser cost: then that path.

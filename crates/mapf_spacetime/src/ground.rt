@@ -187,13 +187,14 @@ impl<'a, B: BarTable> Ground<'a, B> {
         }
     }
 
-    /// Returns whether the agent is at its goal at tick 0 and may stay.
-    pub fn rests_at_start(&self) -> bool
-        ensures goal { IsTrue result → self.now.start ≡ self.now.goal }
-        ensures rest { IsTrue result → MayRestFrom self.now 0 }
-        ensures no { result ≡ false → self.now.start ≡ self.now.goal → IsBarredLater self.now 0 }
+    /// Returns whether the agent is at its goal in this state and may stay.
+    #[inline(always)]
+    pub fn is_arrival(&self, state: &State) -> bool
+        ensures goal { IsTrue result → state.now.cell ≡ self.now.goal }
+        ensures rest { IsTrue result → MayRestFrom self.now state.now.tick }
+        ensures no { result ≡ false → state.now.cell ≡ self.now.goal → IsBarredLater self.now state.now.tick }
     {
-        self.agent.start == self.agent.goal && self.may_rest_from(0)
+        state.cell == self.agent.goal && self.may_rest_from(state.tick)
     }
 
     /// Returns whether the f-value of the state is below the cost.

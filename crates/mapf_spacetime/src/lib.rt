@@ -4,14 +4,17 @@
 mod cell_set;
 mod cheapest;
 mod found;
+mod frontier;
 mod ground;
 mod labels;
 mod number_set;
 mod path_search;
+mod reached;
 mod state;
 mod state_labels;
 mod state_set;
 mod sweep;
+mod turns;
 mod workspace;
 
 pub use cheapest::{search, search_expecting, search_in, search_states};

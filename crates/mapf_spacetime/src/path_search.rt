@@ -33,7 +33,8 @@ impl Model for PathSearch {
 }
 
 impl PathSearch {
-    fn of(alloc: Global, start: Cell, cost: u32) -> Result<PathSearch, OutOfMemory>
+    /// Returns a search at the start, with room for a walk of the cost.
+    pub fn of(alloc: Global, start: Cell, cost: u32) -> Result<PathSearch, OutOfMemory>
         ensures { IfOk result (λ walk. walk ≡ first_walk start) }
     {
         let mut cells = Vec::with_capacity(alloc, cost as usize + 1)?;
@@ -50,7 +51,7 @@ impl PathSearch {
         self.cells.len()
     }
 
-    /// Returns how many states the search has backtracked from.
+    // Returns how many states the search has backtracked from.
     fn failures(&self) -> usize
         ensures { result ≡ length self.now.failed }
     {
@@ -154,6 +155,7 @@ impl PathSearch {
         ensures searching { IfOk result (λ goes. IsTrue goes → IsSearching ground.now cost self.new) }
         ensures nearer { IfOk result (λ goes. IsTrue goes → turns_left self.new < turns_left self.old) }
         ensures none { IfOk result (λ goes. goes ≡ false → CanArrive ground.now cost (start_of ground.now) → ⊥) }
+        ensures same { IfOk result (λ goes. goes ≡ false → self.new ≡ self.old) }
     {
         let here = self.last();
         if let Some(to) = self.next(ground, &here, cost) {
@@ -181,30 +183,51 @@ impl PathSearch {
         here.tick >= ground.horizon() && ground.value(&here) == Some(cost)
     }
 
-    /// Returns the cells of the walk, and those of a shortest path from its last cell to the goal: of these paths the
-    /// lexicographically least by cell numbers.
-    fn go_straight<B: BarTable>(
-        self,
+    /// Adds to the walk a shortest path from its last cell to the goal: of these paths the lexicographically least by cell
+    /// numbers.
+    fn go_straight<B: BarTable>(&mut self, ground: &Ground<B>, cost: u32) -> Result<(), OutOfMemory>
+        requires small { cost < cost_bound }
+        requires searching { IsSearching ground.now cost self.old }
+        requires free { AreBefore (length self.old.cells - 1) ground.now.bars }
+        requires level { IsValue ground.now (state_of self.old.cells (length self.old.cells - 1)) cost }
+        ensures { OnOk result (IsWholeWalk ground.now cost self.new.cells) }
+    {
+        while self.cells.len() <= cost as usize {
+            let tick = self.cells.len() - 1;
+            let here = self.cells[tick];
+            self.cells
+                .push(ground.nearer(here, cost - tick as u32 - 1))?;
+        }
+        Ok(())
+    }
+
+    /// Goes on until the walk ends at the goal, at the cost, or the search has backtracked from so many states in all, or
+    /// has nowhere to backtrack to. Returns whether the walk ends at the goal; otherwise the search can go on.
+    pub fn search<B: BarTable>(
+        &mut self,
         ground: &Ground<B>,
         cost: u32,
-    ) -> Result<Vec<Cell>, OutOfMemory>
+        most_failures: usize,
+    ) -> Result<bool, OutOfMemory>
         requires small { cost < cost_bound }
-        requires searching { IsSearching ground.now cost self }
-        requires free { AreBefore (length self.cells - 1) ground.now.bars }
-        requires level { IsValue ground.now (state_of self.cells (length self.cells - 1)) cost }
-        ensures { IfOk result (λ cells. IsWholeWalk ground.now cost cells.items) }
+        requires searching { IsSearching ground.now cost self.old }
+        ensures whole { IfOk result (λ ends. IsTrue ends → IsWholeWalk ground.now cost self.new.cells) }
+        ensures searching { IfOk result (λ ends. ends ≡ false → IsSearching ground.now cost self.new) }
     {
-        let mut cells = self.into_cells();
-        while cells.len() <= cost as usize {
-            let tick = cells.len() - 1;
-            let here = cells[tick];
-            cells.push(ground.nearer(here, cost - tick as u32 - 1))?;
+        while self.len() <= cost as usize {
+            if self.is_direct(ground, cost) {
+                self.go_straight(ground, cost)?;
+                return Ok(true);
+            }
+            if self.failures() >= most_failures || !self.go_on(ground, cost)? {
+                return Ok(false);
+            }
         }
-        Ok(cells)
+        Ok(true)
     }
 
     /// Returns the cells of the walk.
-    fn into_cells(self) -> Vec<Cell>
+    pub fn into_cells(self) -> Vec<Cell>
         ensures { result.items ≡ self.cells }
     {
         let PathSearch { cells, failed: _ } = self;
@@ -238,7 +261,8 @@ pub fn least_walk<B: BarTable>(
     let mut walk = PathSearch::of(alloc, ground.start(), cost)?;
     while walk.len() <= cost as usize {
         if walk.is_direct(ground, cost) {
-            return walk.go_straight(ground, cost);
+            walk.go_straight(ground, cost)?;
+            return Ok(walk.into_cells());
         }
         if !walk.go_on(ground, cost)? {
             unreachable!();
@@ -259,13 +283,8 @@ pub fn try_walk<B: BarTable>(
     ensures { IfOk result (λ found. IfSome found (λ cells. IsWholeWalk ground.now cost cells.items)) }
 {
     let mut walk = PathSearch::of(alloc, ground.start(), cost)?;
-    while walk.len() <= cost as usize {
-        if walk.is_direct(ground, cost) {
-            return Ok(Some(walk.go_straight(ground, cost)?));
-        }
-        if walk.failures() >= most_failures || !walk.go_on(ground, cost)? {
-            return Ok(None);
-        }
+    if walk.search(ground, cost, most_failures)? {
+        return Ok(Some(walk.into_cells()));
     }
-    Ok(Some(walk.into_cells()))
+    Ok(None)
 }

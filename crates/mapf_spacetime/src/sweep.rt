@@ -1,4 +1,4 @@
-ghost use Rattle.std.specs.Prelude.{◌≡◌, ◌+◌, ◌*◌, ◌++◌, ◌∷◌, ◌<◌, ◌≤◌, ℕ, [], List, Some, Contains, length, slice_index_or};
+ghost use Rattle.std.specs.Prelude.{◌≡◌, ◌+◌, ◌*◌, ◌++◌, ◌∷◌, ◌<◌, ◌≤◌, ◌↔◌, ℕ, [], List, Some, Contains, length, slice_index_or};
 ghost use Rattle.std.specs.Prelude.{false, IfOk, IfSome, IfNone, OnOk, IsTrue};
 ghost use Rattle.mapf_model.specs.Grid.{IsGridMap, Step};
 ghost use Rattle.mapf_model.specs.Labels.{MayGo};
@@ -7,7 +7,7 @@ ghost use Rattle.mapf_model.specs.Neighbours.{neighbourhood};
 ghost use Rattle.mapf_spacetime.specs.CellSets.{HasCell, HasNone};
 ghost use Rattle.mapf_spacetime.specs.States.{IsBelowLimit};
 ghost use Rattle.mapf_spacetime.specs.Sweeps.{AreNext, AreStatesAt, AreSwept, HasArrived, IsExtended, IsNoted};
-ghost use Rattle.mapf_spacetime.specs.Sweeps.{IsSweep, IsWhole, MeetsGoal};
+ghost use Rattle.mapf_spacetime.specs.Sweeps.{IsSweep, IsUnderWay, IsWhole, MeetsGoal};
 ghost use Rattle.mapf_spacetime.specs.Task.{IsBarredLater, IsBelow, IsWithin, MayRestFrom, cost_bound, start_of, state_at};
 ghost use Rattle.mapf_spacetime.specs.declared.state.State.{State};
 
@@ -18,6 +18,7 @@ use mapf_constraints::BarTable;
 use mapf_model::{Cell, OutOfMemory, Tick};
 use std::alloc::Global;
 use std::marker::Model;
+use std::mem;
 
 /// The states that an agent can reach with an f-value, tick plus distance, of at most a bound: all those of a tick, then
 /// those of the next.
@@ -31,6 +32,9 @@ pub struct Sweep {
     bound: u32,
     // Whether a state was left out because its f-value is above the bound.
     is_cut: bool,
+    // The states from this index on are those of the tick, whose steps weren't followed yet.
+    first: usize,
+    tick: Tick,
 }
 
 impl Model for Sweep {
@@ -44,6 +48,8 @@ impl Model for Sweep {
       next_cells = sweep.next_cells;
       bound = sweep.bound;
       is_cut = sweep.is_cut;
+      first = sweep.first;
+      tick = sweep.tick;
     } };
 }
 
@@ -56,6 +62,8 @@ impl Sweep {
             next_cells: CellSet::new(alloc),
             bound: 0,
             is_cut: false,
+            first: 0,
+            tick: 0,
         }
     }
 
@@ -73,23 +81,38 @@ impl Sweep {
         self.low.as_slice()
     }
 
-    // Begins with the start alone, in the memory of the sweep before.
-    fn begin(&mut self, start: Cell, bound: u32, cells: u32) -> Result<(), OutOfMemory>
+    /// Returns the tick whose states were reached last.
+    pub fn tick(&self) -> Tick
+        ensures { result ≡ self.now.tick }
+    {
+        self.tick
+    }
+
+    /// Exchanges its states with a list, after which they mean nothing.
+    pub fn exchange_states(&mut self, list: &mut Vec<State>)
+        ensures { list.new.items ≡ self.old.states }
+    {
+        mem::swap(&mut self.states, list);
+    }
+
+    // Has the start alone, in the memory of the sweep before.
+    fn clear(&mut self, start: State, bound: u32, cells: u32) -> Result<(), OutOfMemory>
         requires { cells ≤ most_cells }
-        ensures states { OnOk result (self.new.states ≡ state_at start 0 ∷ []) }
+        ensures states { OnOk result (self.new.states ≡ start ∷ []) }
         ensures bound { OnOk result (self.new.bound ≡ bound) }
         ensures cut { OnOk result (self.new.is_cut ≡ false) }
+        ensures first { OnOk result (self.new.first ≡ 0) }
+        ensures tick { OnOk result (self.new.tick ≡ 0) }
         ensures none { OnOk result (HasNone self.new.next_cells) }
         ensures room { OnOk result (cells ≤ 64 * length self.new.next_cells) }
     {
         self.states.clear();
-        self.states.push(State {
-            tick: 0,
-            cell: start,
-        })?;
+        self.states.push(start)?;
         self.next_cells.clear(cells)?;
         self.bound = bound;
         self.is_cut = false;
+        self.first = 0;
+        self.tick = 0;
         Ok(())
     }
 
@@ -149,78 +172,114 @@ impl Sweep {
         }
     }
 
-    // Follows each step from the states of this tick, which are those from this index on.
-    fn follow_tick<B: BarTable>(&mut self, ground: &Ground<B>, first: usize, tick: Tick)
-        requires small { tick < most_path_cells }
-        requires sweep { IsSweep ground.now tick first self.old }
+    // Follows each step from the states of the tick.
+    fn follow_tick<B: BarTable>(&mut self, ground: &Ground<B>)
+        requires small { self.old.tick < most_path_cells }
+        requires sweep { IsSweep ground.now self.old.tick self.old.first self.old }
         requires none { HasNone self.old.next_cells }
         requires shape { IsGridMap ground.now.grid }
         requires room { ground.now.grid.width * ground.now.grid.height ≤ 64 * length self.old.next_cells }
-        ensures next { AreNext ground.now tick self.new }
+        ensures next { AreNext ground.now self.old.tick self.new }
         ensures extended { IsExtended self.old self.new }
-        ensures noted { (k : ℕ) → first ≤ k → k < length self.old.states → (to : ℕ) →
+        ensures noted { (k : ℕ) → self.old.first ≤ k → k < length self.old.states → (to : ℕ) →
             IsNoted ground.now self.new (slice_index_or self.old.states k (start_of ground.now)) to }
     {
-        let is_barred = ground.may_bar(tick);
-        for place in first..self.states.len() {
+        let is_barred = ground.may_bar(self.tick);
+        for place in self.first..self.states.len() {
             let from = self.states[place];
             self.follow(ground, &from, is_barred);
         }
     }
 
-    // Reaches the next cells, at this tick.
-    fn reach(&mut self, tick: Tick) -> Result<(), OutOfMemory>
+    // Reaches the next cells, at the tick.
+    fn reach(&mut self) -> Result<(), OutOfMemory>
         ensures reached { OnOk result ((states : List State)
-            × AreStatesAt tick self.old.next_cells states × (self.new.states ≡ self.old.states ++ states)) }
+            × AreStatesAt self.old.tick self.old.next_cells states × (self.new.states ≡ self.old.states ++ states)) }
         ensures none { OnOk result (HasNone self.new.next_cells) }
         ensures room { OnOk result (length self.new.next_cells ≡ length self.old.next_cells) }
         ensures bound { OnOk result (self.new.bound ≡ self.old.bound) }
         ensures cut { OnOk result (self.new.is_cut ≡ self.old.is_cut) }
+        ensures first { OnOk result (self.new.first ≡ self.old.first) }
+        ensures tick { OnOk result (self.new.tick ≡ self.old.tick) }
     {
+        let tick = self.tick;
         while let Some(cell) = self.next_cells.take_least() {
             self.states.push(State { tick, cell })?;
         }
         Ok(())
     }
 
-    // Returns whether the goal is one of the next cells, and the agent may rest there from this tick on.
-    fn arrives<B: BarTable>(&self, ground: &Ground<B>, tick: Tick) -> bool
+    // Returns whether the goal is one of the next cells, and the agent may rest there from the tick on.
+    fn arrives<B: BarTable>(&self, ground: &Ground<B>) -> bool
         ensures goal { IsTrue result → HasCell self.now.next_cells ground.now.goal }
-        ensures rest { IsTrue result → MayRestFrom ground.now tick }
-        ensures no { result ≡ false → HasCell self.now.next_cells ground.now.goal → IsBarredLater ground.now tick }
+        ensures rest { IsTrue result → MayRestFrom ground.now self.now.tick }
+        ensures no { result ≡ false → HasCell self.now.next_cells ground.now.goal →
+            IsBarredLater ground.now self.now.tick }
     {
-        self.next_cells.has(ground.goal()) && ground.may_rest_from(tick)
+        self.next_cells.has(ground.goal()) && ground.may_rest_from(self.tick)
     }
 
-    // Goes from tick to tick, and returns the one at which the agent arrives. None if it arrives at none up to the bound.
-    fn walk<B: BarTable>(&mut self, ground: &Ground<B>) -> Result<Option<Tick>, OutOfMemory>
+    /// Begins with the start, and leaves out states of an f-value above the bound. Returns whether the agent is at its goal
+    /// and may stay.
+    pub fn begin<B: BarTable>(
+        &mut self,
+        ground: &Ground<B>,
+        bound: u32,
+    ) -> Result<bool, OutOfMemory>
+        requires shape { IsGridMap ground.now.grid }
+        requires within { IsWithin ground.now bound (start_of ground.now) }
+        ensures arrives { IfOk result (λ arrives. IsTrue arrives → MeetsGoal ground.now self.new.tick self.new) }
+        ensures goes { IfOk result (λ arrives. arrives ≡ false → IsUnderWay ground.now self.new) }
+        ensures bound { OnOk result (self.new.bound ≡ bound) }
+    {
+        let start = State {
+            tick: 0,
+            cell: ground.start(),
+        };
+        self.clear(start, bound, ground.cells())?;
+        Ok(ground.is_arrival(&start))
+    }
+
+    /// Returns whether no state is at the tick. Then all states up to the bound were reached.
+    pub fn is_over(&self) -> bool
+        ensures { IsTrue result ↔ (length self.now.states ≤ self.now.first) }
+    {
+        self.first >= self.states.len()
+    }
+
+    /// Goes to the next tick. Returns whether the agent arrives then.
+    pub fn advance<B: BarTable>(&mut self, ground: &Ground<B>) -> Result<bool, OutOfMemory>
         requires small { self.old.bound < cost_bound }
         requires shape { IsGridMap ground.now.grid }
-        requires states { self.old.states ≡ start_of ground.now ∷ [] }
-        requires within { IsWithin ground.now self.old.bound (start_of ground.now) }
-        requires none { HasNone self.old.next_cells }
-        requires cut { self.old.is_cut ≡ false }
-        requires room { ground.now.grid.width * ground.now.grid.height ≤ 64 * length self.old.next_cells }
-        ensures arrives { IfOk result (λ found. IfSome found (λ cost. MeetsGoal ground.now cost self.new)) }
-        ensures whole { IfOk result (λ found. IfNone found (IsWhole ground.now self.new)) }
+        requires goes { IsUnderWay ground.now self.old }
+        requires some { self.old.first < length self.old.states }
+        ensures arrives { IfOk result (λ arrives. IsTrue arrives → MeetsGoal ground.now self.new.tick self.new) }
+        ensures goes { IfOk result (λ arrives. arrives ≡ false → IsUnderWay ground.now self.new) }
         ensures bound { OnOk result (self.new.bound ≡ self.old.bound) }
+        ensures tick { OnOk result (self.new.tick ≡ self.old.tick + 1) }
     {
-        if ground.rests_at_start() {
-            return Ok(Some(0));
+        let end = self.states.len();
+        self.follow_tick(ground);
+        self.tick += 1;
+        if self.arrives(ground) {
+            return Ok(true);
         }
-        let mut first = 0;
-        let mut tick = 0;
-        while first < self.states.len() {
-            let end = self.states.len();
-            self.follow_tick(ground, first, tick);
-            tick += 1;
-            if self.arrives(ground, tick) {
-                return Ok(Some(tick));
-            }
-            self.reach(tick)?;
-            first = end;
-        }
-        Ok(None)
+        self.reach()?;
+        self.first = end;
+        Ok(false)
+    }
+
+    /// Keeps the states whose f-value is below the tick at which the agent arrives. Returns that tick.
+    pub fn keep_low<B: BarTable>(&mut self, ground: &Ground<B>) -> Result<Tick, OutOfMemory>
+        requires small { self.old.bound < cost_bound }
+        requires meets { MeetsGoal ground.now self.old.tick self.old }
+        ensures arrives { IfOk result (λ cost. HasArrived ground.now cost self.new.low) }
+        ensures limit { IfOk result (IsBelowLimit ground.now) }
+        ensures early { IfOk result (λ cost. cost ≤ self.old.bound) }
+    {
+        let cost = self.tick;
+        self.keep_below(ground, cost)?;
+        Ok(cost)
     }
 
     // Keeps the states whose f-value is below the cost.
@@ -264,11 +323,13 @@ impl Sweep {
         ensures whole { IfOk result (λ found. IfNone found (IsWhole ground.now self.new)) }
         ensures bound { IfOk result (λ found. IfNone found (self.new.bound ≡ bound)) }
     {
-        self.begin(ground.start(), bound, ground.cells())?;
-        let found = self.walk(ground)?;
-        if let Some(cost) = found {
-            self.keep_below(ground, cost)?;
+        let mut arrives = self.begin(ground, bound)?;
+        while !arrives && !self.is_over() {
+            arrives = self.advance(ground)?;
         }
-        Ok(found)
+        if arrives {
+            return Ok(Some(self.keep_low(ground)?));
+        }
+        Ok(None)
     }
 }

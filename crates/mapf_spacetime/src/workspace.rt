@@ -1,3 +1,4 @@
+use crate::frontier::Frontier;
 use crate::sweep::Sweep;
 use std::alloc::Global;
 
@@ -6,6 +7,7 @@ use std::alloc::Global;
 #[derive(Drop)]
 pub struct Workspace {
     pub(crate) sweep: Sweep,
+    pub(crate) frontier: Frontier,
 }
 
 impl Workspace {
@@ -13,6 +15,7 @@ impl Workspace {
     pub fn new(alloc: Global) -> Workspace {
         Workspace {
             sweep: Sweep::new(alloc),
+            frontier: Frontier::new(alloc),
         }
     }
 }

@@ -1,4 +1,4 @@
-use Rattle.std.proofs.Common.{◌≡◌, ◌<◌, ℕ, length, slice_index_or}
+use Rattle.std.proofs.Common.{◌≡◌, ◌<◌, ℕ, slice_index_or}
 use Rattle.mapf_spacetime.proofs.state_set.is_among.Given as goal
 
 abbrev pub invariant-loop-other : goal.invariant-loop-other

@@ -2,27 +2,34 @@ use Rattle.std.proofs.Common.{◌≡◌, ℕ, ◌+◌, ◌-◌, ◌≤◌, lengt
 use Rattle.std.proofs.lemmas.List.{get_or_default}
 use Rattle.mapf_model.specs.Distance.{IsDistance}
 use Rattle.mapf_model.specs.Grid.{Step}
-use Rattle.mapf_spacetime.proofs.DirectLemmas.{without_failures, step_direct, level_direct, free_direct}
+use Rattle.mapf_constraints.specs.BarSets.{AreBefore}
+use Rattle.mapf_spacetime.specs.PathSearch.{IsSearching, state_of}
+use Rattle.mapf_spacetime.specs.Task.{IsValue}
+use Rattle.mapf_spacetime.proofs.DirectLemmas.{only_cells, without_failures, step_direct, level_direct, free_direct}
 use Rattle.mapf_spacetime.proofs.path_search.PathSearch.go_straight.Goals as goal
 
-pub loop-cells-init : goal.loop-cells-init
-loop-cells-init g c = rw c.into_cells-cells.ensures (record {
-  searching = without_failures c.args.ground.now c.args.cost c.args.self c.requires.searching;
-  free = c.requires.free;
-  level = c.requires.level;
-})
-
-pub loop-cells-preserved : goal.loop-cells-preserved
-loop-cells-preserved g c =
+pub loop-self-init : goal.loop-self-init
+loop-self-init g c =
     let task = c.args.ground.now in
     let cost = c.args.cost in
-    let cells = c.loop-cells.cells.items in
+    let same = ap (λ w. w.cells) (sym c.self.view_is) in
+    record {
+      searching = subst (λ cells. IsSearching task cost (only_cells cells)) same (without_failures task cost c.args.self.now c.requires.searching);
+      free = subst (λ cells. AreBefore (length cells - 1) task.bars) same c.requires.free;
+      level = subst (λ cells. IsValue task (state_of cells (length cells - 1)) cost) same c.requires.level;
+    }
+
+pub loop-self-preserved : goal.loop-self-preserved
+loop-self-preserved g c =
+    let task = c.args.ground.now in
+    let cost = c.args.cost in
+    let cells = c.loop-self.self-inside.cells.items in
     let to = c.nearer.result in
-    let i = c.loop-cells.invariant in
+    let i = c.loop-self.invariant in
     let some = i.searching.from.some in
-    let ok = c.loop-cells.cells.ok.0 in
+    let ok = c.loop-self.self-inside.cells.ok.0 in
     let size : c.len-tick.result ≡ length cells = (let n = c.len-tick.ensures in omega (arith, n, ok)) in
-    let unfinished : length cells ≤ cost = (let n = c.len.ensures in let t = c.loop-cells-test.true in omega (arith, n, t, ok)) in
+    let unfinished : length cells ≤ cost = (let n = c.len.ensures in let t = c.loop-self-test.true in omega (arith, n, t, ok)) in
     let distance : ℕ = cost - (c.len-tick.result - 1) - 1 in
     let left : (length cells - 1) + (distance + 1) ≡ cost = omega (arith, size, some, unfinished) in
     let here : c.index-here.result.now ≡ slice_index cells (length cells - 1) =

@@ -5,12 +5,12 @@ use Rattle.mapf_spacetime.specs.Task.{IsValue}
 use Rattle.mapf_spacetime.proofs.DirectLemmas.{only_cells}
 use Rattle.mapf_spacetime.proofs.path_search.PathSearch.go_straight.Given as goal
 
-abbrev pub invariant-loop-cells : goal.invariant-loop-cells
-invariant-loop-cells g l = record {
-  searching : IsSearching l.ground l.cost (only_cells l.cells.items);
-  free : AreBefore (length l.cells.items - 1) l.ground.bars;
-  level : IsValue l.ground (state_of l.cells.items (length l.cells.items - 1)) l.cost;
+abbrev pub invariant-loop-self : goal.invariant-loop-self
+invariant-loop-self g l = record {
+  searching : IsSearching l.ground l.cost (only_cells l.self-inside.cells.items);
+  free : AreBefore (length l.self-inside.cells.items - 1) l.ground.bars;
+  level : IsValue l.ground (state_of l.self-inside.cells.items (length l.self-inside.cells.items - 1)) l.cost;
 }
 
-abbrev pub decreases-loop-cells : goal.decreases-loop-cells
-decreases-loop-cells g l = l.cost + 1 - length l.cells.items
+abbrev pub decreases-loop-self : goal.decreases-loop-self
+decreases-loop-self g l = l.cost + 1 - length l.self-inside.cells.items

@@ -1,4 +1,4 @@
-use Rattle.std.proofs.Common.{◌≡◌, Contains, take, sym, ◌∙◌, ⊎_elim}
+use Rattle.std.proofs.Common.{Contains, take, sym, ◌∙◌, ⊎_elim}
 use Rattle.std.proofs.lemmas.List.Elements.{Contains-append_cases, Contains-append_right}
 use Rattle.mapf_spacetime.specs.States.{same_state}
 use Rattle.indexmap.proofs.CallerLemmas.{Contains-list_any}

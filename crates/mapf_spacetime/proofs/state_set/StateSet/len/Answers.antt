@@ -1,4 +1,4 @@
-use Rattle.std.proofs.Common.{◌≡◌, ◌+◌, length, length-append, length-take-le, take, ap, sym, ◌∙◌, arith}
+use Rattle.std.proofs.Common.{length, length-append, length-take-le, take, ap, arith}
 use Rattle.mapf_spacetime.proofs.state_set.StateSet.len.Goals as goal
 
 pub returns : goal.returns

@@ -1,16 +1,25 @@
-use Rattle.std.proofs.Common.{IfSome, subst}
-use Rattle.mapf_spacetime.specs.Sweeps.{MeetsGoal}
-use Rattle.mapf_spacetime.proofs.SweptLemmas.{arrived, meets_limit}
+use Rattle.std.proofs.Common.{◌<◌, ◌∙◌, ⊎_elim, length, sym, arith}
+use Rattle.std.proofs.lemmas.Bool.{cases_lt, false≢true, iff_false}
+use Rattle.mapf_spacetime.proofs.SweepLemmas.{last_tick, whole}
 use Rattle.mapf_spacetime.proofs.sweep.Sweep.arrival.Goals as goal
+use Rattle.mapf_spacetime.proofs.sweep.Sweep.arrival.Goals.{then-loop-arrives-test+else-not-is_over, else-loop-arrives-test}
 
-pub returns-in_ok-keep_below-clause-arrives : goal.returns-in_ok-keep_below-clause-arrives
-returns-in_ok-keep_below-clause-arrives g c =
-    let task = c.args.ground.now in
-    let m : MeetsGoal task c.in-Some.cost c.walk.new.self = subst (λ o. IfSome o (λ cost. MeetsGoal task cost c.walk.new.self)) c.in-Some.is c.in_ok-found.ensures.arrives in
-    arrived task c.in-Some.cost c.walk.new.self m c.keep_below.new.self.low c.in_ok-keep_below.ensures.swept
+pub loop-arrives-smaller : goal.loop-arrives-smaller
+loop-arrives-smaller g c =
+    let sweep = c.loop-arrives.self in
+    let goes = c.loop-arrives.invariant.goes c.loop-arrives-test.true in
+    let some : sweep.first < length sweep.states = ⊎_elim (λ less. less) (λ over. absurd (iff_false c.is_over.ensures c.if-not-is_over.true over)) (cases_lt sweep.first (length sweep.states)) in
+    let last = last_tick c.args.ground.now sweep.tick sweep.first sweep goes.reached some in
+    let did = c.in_ok-arrives-2.ensures in
+    let tick = did.tick in
+    let bound = did.bound in
+    omega arith
 
-pub returns-in_ok-keep_below-clause-limit : goal.returns-in_ok-keep_below-clause-limit
-returns-in_ok-keep_below-clause-limit g c =
-    let task = c.args.ground.now in
-    let m : MeetsGoal task c.in-Some.cost c.walk.new.self = subst (λ o. IfSome o (λ cost. MeetsGoal task cost c.walk.new.self)) c.in-Some.is c.in_ok-found.ensures.arrives in
-    meets_limit task c.in-Some.cost c.walk.new.self m c.keep_below.new.self.low c.in_ok-keep_below.ensures.swept c.in_ok-keep_below.ensures.kept
+pub returns-clause-whole : goal.returns-clause-whole
+returns-clause-whole g c =
+    let sweep = c.loop-arrives.self in
+    let goes = c.loop-arrives.invariant.goes c.if-arrives.false in
+    elim c.loop-arrives-test.branch [
+      | then-loop-arrives-test+else-not-is_over w ↦ whole c.args.ground.now sweep.tick sweep.first sweep goes.reached (w.is_over.ensures.0 w.if-not-is_over.false)
+      | else-loop-arrives-test w ↦ absurd (false≢true (sym c.if-arrives.false ∙ w.loop-arrives-test.false))
+    ]

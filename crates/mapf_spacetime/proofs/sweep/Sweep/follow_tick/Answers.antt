@@ -16,7 +16,9 @@ follow-requires-clause-next g c =
     let size = ap (λ s. length s.states) c.self.view_is in
     let inside : k < length old.states = omega arith in
     let read = read_state task old c.loop-place.self c.loop-place.invariant.extended c.self-in-loop-place.inside.states.items k c.index.result.now (ap (λ s. s.states) c.self-in-loop-place.view_is) inside c.index.ensures in
-    let tick = ap (λ (s : State). s.tick) read ∙ c.requires.sweep.here k c.loop-place.auto.place inside in
+    let first = ap (λ s. s.first) c.self.view_is in
+    let from : old.first ≤ k = (let auto = c.loop-place.auto.place in omega arith) in
+    let tick = ap (λ (s : State). s.tick) read ∙ c.requires.sweep.here k from inside in
     subst (λ n. AreNext task n c.loop-place.self) (sym tick) c.loop-place.invariant.next
 
 pub follow-requires-clause-within : goal.follow-requires-clause-within
@@ -38,8 +40,10 @@ follow-requires-clause-free g c none other step =
     let size = ap (λ s. length s.states) c.self.view_is in
     let inside : k < length old.states = omega arith in
     let read = read_state task old c.loop-place.self c.loop-place.invariant.extended c.self-in-loop-place.inside.states.items k c.index.result.now (ap (λ s. s.states) c.self-in-loop-place.view_is) inside c.index.ensures in
-    let tick = ap (λ (s : State). s.tick) read ∙ c.requires.sweep.here k c.loop-place.auto.place inside in
-    subst (MayGo task.grid task.bars c.index.result.now.cell other) (sym tick) (c.may_bar-is_barred.ensures none c.index.result.now.cell other step)
+    let first = ap (λ s. s.first) c.self.view_is in
+    let from : old.first ≤ k = (let auto = c.loop-place.auto.place in omega arith) in
+    let tick = ap (λ (s : State). s.tick) read ∙ c.requires.sweep.here k from inside in
+    subst (MayGo task.grid task.bars c.index.result.now.cell other) (ap (λ s. s.tick) c.self.view_is ∙ sym tick) (c.may_bar-is_barred.ensures none c.index.result.now.cell other step)
 
 pub loop-place-preserved : goal.loop-place-preserved
 loop-place-preserved g c =
@@ -52,7 +56,9 @@ loop-place-preserved g c =
     let size = ap (λ s. length s.states) c.self.view_is in
     let inside : k < length old.states = omega arith in
     let read = read_state task old now h.extended c.self-in-loop-place.inside.states.items k c.index.result.now (ap (λ s. s.states) c.self-in-loop-place.view_is) inside c.index.ensures in
-    let tick = ap (λ (s : State). s.tick) read ∙ c.requires.sweep.here k c.loop-place.auto.place inside in
+    let first = ap (λ s. s.first) c.self.view_is in
+    let from : old.first ≤ k = (let auto = c.loop-place.auto.place in omega arith) in
+    let tick = ap (λ (s : State). s.tick) read ∙ c.requires.sweep.here k from inside in
     record {
       next = subst (λ n. AreNext task n new) tick c.follow.ensures.next;
       extended = extended_trans old now new h.extended c.follow.ensures.extended;

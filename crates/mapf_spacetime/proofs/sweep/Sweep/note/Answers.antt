@@ -36,8 +36,8 @@ returns-then-value-self-clause-next g c =
     let task = c.args.ground.now in
     let from = c.args.from.now in
     let next = state_at c.args.to (from.tick + 1) in
-    let old : Sweeping = record { states = c.self.inside.states.items; low = c.self.inside.low.items; next_cells = c.self.inside.next_cells; bound = c.self.inside.bound; is_cut = c.self.inside.is_cut } in
-    let new : Sweeping = record { states = c.self.inside.states.items; low = c.self.inside.low.items; next_cells = c.insert.new.self; bound = c.self.inside.bound; is_cut = c.self.inside.is_cut } in
+    let old : Sweeping = record { states = c.self.inside.states.items; low = c.self.inside.low.items; next_cells = c.self.inside.next_cells; bound = c.self.inside.bound; is_cut = c.self.inside.is_cut; first = c.self.inside.first; tick = c.self.inside.tick } in
+    let new : Sweeping = record { states = c.self.inside.states.items; low = c.self.inside.low.items; next_cells = c.insert.new.self; bound = c.self.inside.bound; is_cut = c.self.inside.is_cut; first = c.self.inside.first; tick = c.self.inside.tick } in
     let goes : Goes task from next = record { may = c.if-not-lets_if.ensures.yes refl; tick = refl } in
     next_with task old new from c.args.to (subst (AreNext task from.tick) (sym c.self.view_is) c.requires.next) refl refl refl c.insert.ensures.only
     (from, subst (λ s. Contains s.states from) (sym c.self.view_is) c.requires.reached, goes)
@@ -48,7 +48,7 @@ returns-else-value-self-clause-next g c =
     let task = c.args.ground.now in
     let from = c.args.from.now in
     let next = state_at c.args.to (from.tick + 1) in
-    let old : Sweeping = record { states = c.self.inside.states.items; low = c.self.inside.low.items; next_cells = c.self.inside.next_cells; bound = c.self.inside.bound; is_cut = c.self.inside.is_cut } in
+    let old : Sweeping = record { states = c.self.inside.states.items; low = c.self.inside.low.items; next_cells = c.self.inside.next_cells; bound = c.self.inside.bound; is_cut = c.self.inside.is_cut; first = c.self.inside.first; tick = c.self.inside.tick } in
     let goes : Goes task from next = record { may = c.if-not-lets_if.ensures.yes refl; tick = refl } in
     next_cut task old from c.args.to (subst (AreNext task from.tick) (sym c.self.view_is) c.requires.next)
     (from, subst (λ s. Contains s.states from) (sym c.self.view_is) c.requires.reached, goes)

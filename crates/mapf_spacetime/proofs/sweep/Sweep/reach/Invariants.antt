@@ -9,6 +9,8 @@ invariant-loop-cell l = record {
   room : length l.self-inside.next_cells ≡ length l.initial.self-inside.next_cells;
   bound : l.self-inside.bound ≡ l.initial.self-inside.bound;
   cut : l.self-inside.is_cut ≡ l.initial.self-inside.is_cut;
+  first : l.self-inside.first ≡ l.initial.self-inside.first;
+  now : l.self-inside.tick ≡ l.initial.self-inside.tick;
 }
 
 abbrev pub decreases-loop-cell : goal.decreases-loop-cell

@@ -1,0 +1,151 @@
+-- How a search by rising f-values begins with a sweep, and what it has shown at its end.
+use Rattle.std.proofs.Common.{◌≡◌, ◌⊎◌, inl, inr, ⊎_elim, ℕ, zero, suc, ◌+◌, ◌<◌, ◌≤◌, List, [], AllPairs, Contains, drop, take-append-drop, length, refl, sym, subst, arith}
+use Rattle.std.proofs.lemmas.List.{take_all}
+use Rattle.std.proofs.lemmas.List.Elements.{Contains-append_left, Contains-push}
+use Rattle.mapf_model.specs.Labels.{MayGo}
+use Rattle.mapf_model.proofs.ContainsLemmas.{Contains-none}
+use Rattle.mapf_spacetime.specs.declared.state.State.{State}
+use Rattle.mapf_spacetime.specs.Frontiers.{States, first_states, low_states, with_open, AreLowReached, IsAtGoal, IsFrontier, IsKnown, IsSpent}
+use Rattle.mapf_spacetime.specs.PathSearch.{CanArrive}
+use Rattle.mapf_spacetime.specs.Sweeps.{Sweeping, IsEarlier, IsFrom, IsWhole, HasArrived, AreAll}
+use Rattle.mapf_spacetime.specs.Task.{Task, IsValue, state_at, start_of}
+use Rattle.mapf_spacetime.proofs.FrontierLemmas.{reached_within}
+use Rattle.mapf_spacetime.proofs.ValueLemmas.{level_within, no_lower, value_unique}
+
+-- the states of a whole sweep were reached, and the steps from them are still to be taken
+module _ (task : Task) (sweep : Sweeping) (w : IsWhole task sweep) where
+  pub first_frontier : IsFrontier task sweep.states (first_states sweep.states (sweep.bound + 1))
+  first_frontier =
+      let whole = take_all (length sweep.states) sweep.states (omega arith) in
+      record {
+        start = inl w.reached.start;
+        low = λ s h. (let (value, is, le) = w.reached.within s (subst (λ l. Contains l s) whole h) in (value, is, omega arith));
+        top = λ s h. inl (subst (λ l. Contains l s) (sym whole) h);
+        bound = omega arith;
+        level = λ s h. absurd (Contains-none s h);
+        next = λ s h. absurd (Contains-none s h);
+        later = λ s h. absurd (Contains-none s h);
+        entered = λ s k. ⊎_elim
+            (λ r. w.reached.entered s r)
+            (λ other. ⊎_elim (λ o. absurd (Contains-none s o)) (λ waits. ⊎_elim (λ n. absurd (Contains-none s n)) (λ l. absurd (Contains-none s l)) waits) other)
+            k;
+        closed = λ s h. inl h;
+        quiet = w.quiet;
+      }
+
+  pub low_steps : (from : State) → Contains sweep.states from → (to : ℕ) → MayGo task.grid task.bars from.cell to from.tick →
+      (value : ℕ) → IsValue task (state_at to (from.tick + 1)) value → value < sweep.bound + 1 → Contains sweep.states (state_at to (from.tick + 1))
+  low_steps from held to may value is less = ⊎_elim
+      (λ there. there)
+      (λ other. ⊎_elim
+      (λ (cut, (past, past_is, more)). absurd (let same = value_unique task (state_at to (from.tick + 1)) value past is past_is in omega arith))
+      (λ none. absurd (none is.distance is.is.walk))
+      other)
+      (w.followed from held to may)
+
+-- no step leads from a state at the cost to one below it
+pub level_steps : (task : Task) (states : States) (from : State) → IsValue task from states.cost → AreLowReached task from states
+level_steps task states from level to may (value, is, less) = absurd (
+    let low = no_lower task from (state_at to (from.tick + 1)) states.cost value level is (record { may = may; tick = refl }) in omega arith)
+
+from_level : (task : Task) (cost value : ℕ) (s : State) → IsValue task s value → cost ≤ value → IsFrom task cost s
+from_level task cost value s is le = (value, is, le)
+
+-- the agent arrives at the cost: these are the states below it
+module _ (task : Task) (states : States) (h : IsAtGoal task states) (low : List State) (to : (s : State) → Contains low s → Contains (low_states states) s)
+    (of : (s : State) → Contains (low_states states) s → Contains low s) (rising : AllPairs IsEarlier low) where
+  reached : (s : State) → Contains (low_states states) s → Contains states.reached s
+  reached s held = subst (λ l. Contains l s) (take-append-drop states.below states.reached) (Contains-append_left (low_states states) (drop states.below states.reached) s held)
+
+  held_or_from : (s : State) → Contains states.reached s → Contains low s ⊎ IsFrom task states.cost s
+  held_or_from s there = ⊎_elim (λ l. inl (of s l)) (λ level. inr (from_level task states.cost states.cost s level (omega arith))) (h.frontier.top s there)
+
+  known_from : (s : State) → IsKnown (with_open states (state_at task.goal states.cost)) s → Contains low s ⊎ IsFrom task states.cost s
+  known_from s known = ⊎_elim
+      (λ r. held_or_from s r)
+      (λ other. ⊎_elim
+      (λ o. inr (from_level task states.cost states.cost s (h.frontier.level s o) (omega arith)))
+      (λ waits. ⊎_elim
+      (λ n. inr (from_level task states.cost (states.cost + 1) s (h.frontier.next s n) (omega arith)))
+      (λ l. inr (from_level task states.cost (states.cost + 2) s (h.frontier.later s l) (omega arith)))
+      waits)
+      other)
+      known
+
+  leads : (n : ℕ) (s : State) → s.tick ≡ n → IsKnown (with_open states (state_at task.goal states.cost)) s → CanArrive task states.cost s → CanArrive task states.cost (start_of task)
+  leads zero s tick known (m, on) = ⊎_elim
+      (λ is. subst (CanArrive task states.cost) is (m, on))
+      (λ (from, held, goes). absurd (let t = goes.tick in omega arith))
+      (h.frontier.entered s known)
+  leads (suc n) s tick known (m, on) = ⊎_elim
+      (λ is. subst (CanArrive task states.cost) is (m, on))
+      (λ (from, held, goes). let t = goes.tick in leads n from (omega arith) (inl held) (suc m, (s, goes, on)))
+      (h.frontier.entered s known)
+
+  pub goal_arrived : HasArrived task states.cost low
+  goal_arrived =
+      let f = h.frontier in
+      record {
+        swept = record {
+          start = ⊎_elim (λ r. held_or_from (start_of task) r) (λ o. inr (from_level task states.cost states.cost (start_of task) (f.level (start_of task) o) (omega arith))) f.start;
+          below = λ s held. f.low s (to s held);
+          entered = λ s held. ⊎_elim
+              (λ is. inl is)
+              (λ (from, there, goes).
+              let (value, is, less) = f.low s (to s held) in
+              let (before, before_is, le) = reached_within task [] (with_open states (state_at task.goal states.cost)) f from there in
+              let lower = no_lower task from s before value before_is is goes in
+              ⊎_elim
+              (λ l. inr (from, of from l, goes))
+              (λ level. absurd (let same = value_unique task from before states.cost before_is level in omega arith))
+              (f.top from there))
+              (f.entered s (inl (reached s (to s held))));
+          followed = λ s held next may. ⊎_elim
+              (λ busy. absurd (Contains-none s busy))
+              (λ closed. ⊎_elim
+              (λ known. ⊎_elim (λ l. inl l) (λ far. inr (inl far)) (known_from (state_at next (s.tick + 1)) known))
+              (λ none. inr (inr none))
+              (closed next may))
+              (f.closed s (reached s (to s held)));
+          quiet = λ tick held. f.quiet tick (reached (state_at task.goal tick) (to (state_at task.goal tick) held));
+          rising = rising;
+        };
+        leads = leads states.cost (state_at task.goal states.cost) refl (inr (inl (Contains-push states.open_states (state_at task.goal states.cost)))) (zero, refl);
+        within = ⊎_elim (λ r. reached_within task [] (with_open states (state_at task.goal states.cost)) f (start_of task) r) (λ o. level_within task (start_of task) states.cost (f.level (start_of task) o)) f.start;
+        rest = h.rest;
+      }
+
+-- no state is left to reach
+module _ (task : Task) (states : States) (spent : IsSpent task states) (kept : List State) (to : (s : State) → Contains kept s → Contains states.reached s)
+    (of : (s : State) → Contains states.reached s → Contains kept s) (rising : AllPairs IsEarlier kept) where
+  none_open : (s : State) → Contains states.open_states s → ⊥
+  none_open s o = Contains-none s (subst (λ l. Contains l s) spent.walked.none_open o)
+
+  pub spent_all : AreAll task states.cost kept
+  spent_all =
+      let f = spent.walked.frontier in
+      record {
+        reached = record {
+          start = ⊎_elim (λ r. of (start_of task) r) (λ o. absurd (none_open (start_of task) o)) f.start;
+          within = λ s held. reached_within task [] states f s (to s held);
+          entered = λ s held. ⊎_elim (λ is. inl is) (λ (from, there, goes). inr (from, of from there, goes)) (f.entered s (inl (to s held)));
+          rising = rising;
+        };
+        quiet = λ tick held. f.quiet tick (to (state_at task.goal tick) held);
+        followed = λ s held next may. ⊎_elim
+            (λ busy. absurd (Contains-none s busy))
+            (λ closed. ⊎_elim
+            (λ known. ⊎_elim
+            (λ r. inl (of (state_at next (s.tick + 1)) r))
+            (λ other. ⊎_elim
+            (λ o. absurd (none_open (state_at next (s.tick + 1)) o))
+            (λ waits. ⊎_elim
+            (λ n. absurd (Contains-none (state_at next (s.tick + 1)) (subst (λ l. Contains l (state_at next (s.tick + 1))) spent.none_waits.0 n)))
+            (λ l. absurd (Contains-none (state_at next (s.tick + 1)) (subst (λ l. Contains l (state_at next (s.tick + 1))) spent.none_waits.1 l)))
+            waits)
+            other)
+            known)
+            (λ none. inr none)
+            (closed next may))
+            (f.closed s (to s held));
+      }

@@ -1,0 +1,138 @@
+use Rattle.std.proofs.Common.{◌≡◌, ◌+◌, AllPairs, IfSome, None, Contains, sym, subst, ◌∙◌, arith}
+use Rattle.mapf_spacetime.specs.Listed.{AreEntriesOf}
+use Rattle.mapf_spacetime.specs.PathSearch.{IsWholeWalk}
+use Rattle.mapf_spacetime.specs.States.{IsBelowLimit}
+use Rattle.mapf_spacetime.specs.Sweeps.{AreSwept, HasArrived, IsEarlier}
+use Rattle.mapf_spacetime.specs.Task.{start_of}
+use Rattle.mapf_spacetime.proofs.AnswerLemmas.{all_few, all_show}
+use Rattle.mapf_spacetime.proofs.SweptLemmas.{next_bound, next_limit, walk_arrived, whole_all, whole_swept}
+use Rattle.mapf_spacetime.proofs.cheapest.above.Goals as goal
+
+pub dead-requires-clause-few : goal.dead-requires-clause-few
+dead-requires-clause-few g c s held =
+    let task = c.args.ground.now in
+    let sweep = c.args.workspace.now.sweep in
+    let small = c.requires.small in
+    let bound = c.requires.bound in
+    all_few task sweep.bound sweep.states (whole_all task sweep c.requires.whole (sym c.is_cut.ensures ∙ c.if-not-is_cut.true)) (omega arith) s (subst (λ l. Contains l s) c.states.ensures held)
+
+pub dead-requires-clause-rising : goal.dead-requires-clause-rising
+dead-requires-clause-rising g c = subst (AllPairs IsEarlier) (sym c.states.ensures) c.requires.whole.reached.rising
+
+pub dead-requires-clause-none : goal.dead-requires-clause-none
+dead-requires-clause-none g c entries a =
+    let task = c.args.ground.now in
+    let sweep = c.args.workspace.now.sweep in
+    all_show task sweep.bound sweep.states (whole_all task sweep c.requires.whole (sym c.is_cut.ensures ∙ c.if-not-is_cut.true)) entries (subst (λ l. AreEntriesOf l None entries) c.states.ensures a)
+
+pub prove-unreachable-requires : goal.prove-unreachable-requires
+prove-unreachable-requires g c =
+    let task = c.args.ground.now in
+    let sweep = c.args.workspace.now.sweep in
+    let w = c.requires.whole in
+    let next = next_bound task sweep w (w.cut (sym c.is_cut.ensures ∙ c.if-not-is_cut.false)) c.horizon-horizon.result c.horizon-horizon.ensures.above in
+    let bound = c.requires.bound in
+    let test = c.if-prove.true in
+    omega arith
+
+pub try_walk-requires-clause-small : goal.try_walk-requires-clause-small
+try_walk-requires-clause-small g c =
+    let task = c.args.ground.now in
+    let sweep = c.args.workspace.now.sweep in
+    let w = c.requires.whole in
+    let next = next_bound task sweep w (w.cut (sym c.is_cut.ensures ∙ c.if-not-is_cut.false)) c.horizon-horizon.result c.horizon-horizon.ensures.above in
+    let early = c.horizon-horizon.ensures.early in
+    let bound = c.requires.bound in
+    omega arith
+
+pub try_walk-requires-clause-within : goal.try_walk-requires-clause-within
+try_walk-requires-clause-within g c =
+    let sweep = c.args.workspace.now.sweep in
+    let w = c.requires.whole in
+    let (value, is, le) = w.reached.within (start_of c.args.ground.now) w.reached.start in
+    let bound = c.requires.bound in
+    (value, is, omega arith)
+
+pub arrive_by-requires-clause-small : goal.arrive_by-requires-clause-small
+arrive_by-requires-clause-small g c =
+    let task = c.args.ground.now in
+    let sweep = c.args.workspace.now.sweep in
+    let w = c.requires.whole in
+    let next = next_bound task sweep w (w.cut (sym c.is_cut.ensures ∙ c.if-not-is_cut.false)) c.horizon-horizon.result c.horizon-horizon.ensures.above in
+    let early = c.horizon-horizon.ensures.early in
+    let bound = c.requires.bound in
+    omega arith
+
+pub arrive_by-requires-clause-limit : goal.arrive_by-requires-clause-limit
+arrive_by-requires-clause-limit g c =
+    let task = c.args.ground.now in
+    let sweep = c.args.workspace.now.sweep in
+    let w = c.requires.whole in
+    let bound = c.requires.bound in
+    let cost : sweep.bound + 1 ≡ c.args.bound + 1 = omega arith in
+    subst (IsBelowLimit task) cost (next_limit task sweep w (w.cut (sym c.is_cut.ensures ∙ c.if-not-is_cut.false)))
+
+pub arrive_by-requires-clause-arrived : goal.arrive_by-requires-clause-arrived
+arrive_by-requires-clause-arrived g c =
+    let task = c.args.ground.now in
+    let sweep = c.args.workspace.now.sweep in
+    let w = c.requires.whole in
+    let bound = c.requires.bound in
+    let cost : sweep.bound + 1 ≡ c.args.bound + 1 = omega arith in
+    let way = subst (λ o. IfSome o (λ cells. IsWholeWalk task (c.args.bound + 1) cells.items)) c.in-Some.is c.in_ok-cells.ensures in
+    let rest = c.requires.rest in
+    subst (HasArrived task (c.args.bound + 1)) (sym c.states-in-Some.ensures)
+    (walk_arrived task (c.args.bound + 1) sweep.states c.in-Some.cells.items (subst (λ n. AreSwept task n sweep.states) cost (whole_swept task sweep w)) way (record {
+      stay = λ later after. rest.stay later (omega arith);
+      wait = λ later after. rest.wait later (omega arith);
+    }))
+
+pub begin_above-requires-clause-small : goal.begin_above-requires-clause-small
+begin_above-requires-clause-small g c =
+    let task = c.args.ground.now in
+    let sweep = c.args.workspace.now.sweep in
+    let w = c.requires.whole in
+    let next = next_bound task sweep w (w.cut (sym c.is_cut.ensures ∙ c.if-not-is_cut.false)) c.horizon-horizon.result c.horizon-horizon.ensures.above in
+    let early = c.horizon-horizon.ensures.early in
+    let bound = c.requires.bound in
+    omega arith
+
+pub grow-requires-clause-limit : goal.grow-requires-clause-limit
+grow-requires-clause-limit g c =
+    let task = c.args.ground.now in
+    let sweep = c.args.workspace.now.sweep in
+    let w = c.requires.whole in
+    let bound = c.requires.bound in
+    let is = c.in_ok-begin_above.ensures.cost in
+    let cost : sweep.bound + 1 ≡ c.begin_above.new.self.cost = omega arith in
+    subst (IsBelowLimit task) cost (next_limit task sweep w (w.cut (sym c.is_cut.ensures ∙ c.if-not-is_cut.false)))
+
+pub grow-requires-clause-small : goal.grow-requires-clause-small
+grow-requires-clause-small g c last above =
+    let task = c.args.ground.now in
+    let sweep = c.args.workspace.now.sweep in
+    let w = c.requires.whole in
+    let next = next_bound task sweep w (w.cut (sym c.is_cut.ensures ∙ c.if-not-is_cut.false)) last above in
+    let bound = c.requires.bound in
+    let is = c.in_ok-begin_above.ensures.cost in
+    omega arith
+
+pub arrive-requires-clause-limit : goal.arrive-requires-clause-limit
+arrive-requires-clause-limit g c = subst (IsBelowLimit c.args.ground.now) (sym c.cost.ensures) c.in_ok-grow.ensures.limit
+
+pub dead-requires-2-clause-few : goal.dead-requires-2-clause-few
+dead-requires-2-clause-few g c s held =
+    let frontier = c.grow.new.self in
+    let all = c.in_ok-grow.ensures.all c.if-branch.false in
+    all_few c.args.ground.now frontier.cost frontier.reached all c.in_ok-grow.ensures.small s (subst (λ l. Contains l s) c.reached-2.ensures held)
+
+pub dead-requires-2-clause-rising : goal.dead-requires-2-clause-rising
+dead-requires-2-clause-rising g c =
+    let all = c.in_ok-grow.ensures.all c.if-branch.false in
+    subst (AllPairs IsEarlier) (sym c.reached-2.ensures) all.reached.rising
+
+pub dead-requires-2-clause-none : goal.dead-requires-2-clause-none
+dead-requires-2-clause-none g c entries a =
+    let frontier = c.grow.new.self in
+    let all = c.in_ok-grow.ensures.all c.if-branch.false in
+    all_show c.args.ground.now frontier.cost frontier.reached all entries (subst (λ l. AreEntriesOf l None entries) c.reached-2.ensures a)

@@ -1,0 +1,292 @@
+ghost use Rattle.std.specs.Prelude.{◌≡◌, ◌↔◌, ◌+◌, ◌*◌, ◌<◌, ◌≤◌, ◌^◌, ℕ, [], ◌∷◌, List, Some, length, take, false};
+ghost use Rattle.std.specs.Prelude.{IfOk, IfSome, IfNone, OnOk, IsTrue, Contains};
+ghost use Rattle.mapf_constraints.specs.BarSets.{AreBefore};
+ghost use Rattle.mapf_model.specs.Grid.{Step};
+ghost use Rattle.mapf_model.specs.Labels.{MayGo};
+ghost use Rattle.mapf_model.specs.Limits.{most_path_cells, most_cells};
+ghost use Rattle.mapf_model.specs.Neighbours.{neighbourhood};
+ghost use Rattle.mapf_spacetime.specs.declared.state.State.{State};
+ghost use Rattle.mapf_spacetime.specs.Task.{IsWithin, cost_bound, start_of};
+ghost use Rattle.mapf_spacetime.specs.States.{IsBelowLimit};
+ghost use Rattle.mapf_spacetime.specs.Sweeps.{AreAll, HasArrived, IsWhole};
+ghost use Rattle.mapf_spacetime.specs.Frontiers.{first_states, with_reached, with_open, with_next, with_later, raised, low_states};
+ghost use Rattle.mapf_spacetime.specs.Frontiers.{AreLowReached, IsAtGoal, IsFrontier, IsSpent, IsWalked, Keeps, NoneWait, Takes};
+
+use crate::ground::Ground;
+use crate::reached::Reached;
+use crate::state::State;
+use crate::sweep::Sweep;
+use mapf_constraints::BarTable;
+use mapf_model::limits::MOST_CELLS;
+use mapf_model::{Cell, OutOfMemory};
+use std::alloc::Global;
+use std::marker::Model;
+use std::mem;
+
+/// The states that a search has reached, in rising order of their f-values: tick plus distance.
+#[derive(Drop)]
+pub struct Frontier {
+    reached: Reached,
+    open_states: Vec<State>,
+    // The states of the next cost, and those of the cost after it: a step raises the f-value by at most two.
+    next_states: Vec<State>,
+    later_states: Vec<State>,
+    cost: u32,
+    // How many of the reached states, the first ones, have an f-value below the cost.
+    below: usize,
+}
+
+impl Model for Frontier {
+    ghost use Rattle.mapf_spacetime.specs.Frontiers.{States};
+
+    ghost Value = { States };
+
+    ghost view = { λ f. record {
+      reached = f.reached;
+      open_states = f.open_states.items;
+      next_states = f.next_states.items;
+      later_states = f.later_states.items;
+      cost = f.cost;
+      below = f.below;
+    } };
+}
+
+impl Frontier {
+    /// Returns a frontier with no state.
+    pub fn new(alloc: Global) -> Frontier {
+        Frontier {
+            reached: Reached::new(alloc),
+            open_states: Vec::new(alloc),
+            next_states: Vec::new(alloc),
+            later_states: Vec::new(alloc),
+            cost: 0,
+            below: 0,
+        }
+    }
+
+    pub fn cost(&self) -> u32
+        ensures { result ≡ self.now.cost }
+    {
+        self.cost
+    }
+
+    pub fn reached(&self) -> &[State]
+        ensures { result.now ≡ self.now.reached }
+    {
+        self.reached.states()
+    }
+
+    #[inline(always)]
+    fn take_open(&mut self) -> Option<State>
+        ensures some { IfSome result (λ state. self.old ≡ with_open self.new state) }
+        ensures none { IfNone result ((self.old.open_states ≡ []) × (self.new ≡ self.old)) }
+        ensures small { length self.old.open_states < 2 ^ 64 }
+    {
+        self.open_states.pop()
+    }
+
+    // Reaches a state. Returns whether it is new.
+    #[inline(always)]
+    fn reach(&mut self, state: State) -> Result<bool, OutOfMemory>
+        requires { state.tick ≤ most_path_cells }
+        ensures new { IfOk result (λ new. IsTrue new → self.new ≡ with_reached self.old state) }
+        ensures old { IfOk result (λ new. new ≡ false → (self.new ≡ self.old) × Contains self.old.reached state) }
+        ensures small { OnOk result (length self.new.reached < 2 ^ 64) }
+    {
+        let new = self.reached.add(state)?;
+        Ok(new)
+    }
+
+    // Returns whether the state is the one in which its cell was reached last.
+    #[inline(always)]
+    fn was_reached(&self, state: &State) -> bool
+        requires { state.now.tick ≤ most_path_cells }
+        ensures { IsTrue result → Contains self.now.reached state.now }
+    {
+        self.reached.is_last(state)
+    }
+
+    fn none_waits(&self) -> bool
+        ensures { IsTrue result ↔ NoneWait self.now }
+    {
+        self.next_states.is_empty() && self.later_states.is_empty()
+    }
+
+    // Raises the cost by one when no state is open, and opens the states that waited for it.
+    fn raise(&mut self)
+        requires { self.old.cost < most_path_cells }
+        ensures { self.old.open_states ≡ [] → self.new ≡ raised self.old }
+    {
+        self.cost += 1;
+        self.below = self.reached.len();
+        mem::swap(&mut self.open_states, &mut self.next_states);
+        mem::swap(&mut self.next_states, &mut self.later_states);
+    }
+
+    // Keeps a state until the cost equals its f-value.
+    #[inline(always)]
+    fn place(&mut self, state: State, value: u32) -> Result<(), OutOfMemory>
+        requires { self.old.cost < most_path_cells }
+        ensures level { OnOk result (value ≤ self.old.cost → self.new ≡ with_open self.old state) }
+        ensures next { OnOk result (value ≡ self.old.cost + 1 → self.new ≡ with_next self.old state) }
+        ensures later { OnOk result (self.old.cost + 1 < value → self.new ≡ with_later self.old state) }
+    {
+        if value <= self.cost {
+            self.open_states.push(state)?;
+        } else if value == self.cost + 1 {
+            self.next_states.push(state)?;
+        } else {
+            self.later_states.push(state)?;
+        }
+        Ok(())
+    }
+
+    // Takes the step from the state to a cell of its neighbourhood, unless it is forbidden, leads to a state that was
+    // reached, or the goal can't be reached from there.
+    #[inline(always)]
+    fn take<B: BarTable>(
+        &mut self,
+        ground: &Ground<B>,
+        from: &State,
+        to: Cell,
+        is_barred: bool,
+    ) -> Result<(), OutOfMemory>
+        requires small { self.old.cost < most_path_cells }
+        requires reached { Contains self.old.reached from.now }
+        requires within { IsWithin ground.now self.old.cost from.now }
+        requires low { AreLowReached ground.now from.now self.old }
+        requires free { is_barred ≡ false → (other : ℕ) → Step ground.now.grid from.now.cell other →
+            MayGo ground.now.grid ground.now.bars from.now.cell other from.now.tick }
+        requires wide { 0 < ground.now.grid.width }
+        requires beside { Contains (neighbourhood ground.now.grid.width from.now.cell) (Some to) }
+        ensures { OnOk result (Takes ground.now from.now to self.old self.new) }
+    {
+        let next = State {
+            tick: from.tick + 1,
+            cell: to,
+        };
+        if self.was_reached(&next) {
+            return Ok(());
+        }
+        let Some(value) = ground.value(&next) else {
+            return Ok(());
+        };
+        if value < self.cost || !ground.lets_if(is_barred, from, to) {
+            return Ok(());
+        }
+        self.place(next, value)?;
+        Ok(())
+    }
+
+    // Takes each of the steps from a state.
+    fn take_all<B: BarTable>(&mut self, ground: &Ground<B>, from: &State) -> Result<(), OutOfMemory>
+        requires small { self.old.cost < most_path_cells }
+        requires reached { Contains self.old.reached from.now }
+        requires within { IsWithin ground.now self.old.cost from.now }
+        requires low { AreLowReached ground.now from.now self.old }
+        ensures frontier { (busy : List State) → IsFrontier ground.now (from.now ∷ busy) self.old →
+            OnOk result (IsFrontier ground.now busy self.new) }
+        ensures keeps { OnOk result (Keeps self.old self.new) }
+    {
+        let is_barred = ground.may_bar(from.tick);
+        for place in ground.beside(from.cell) {
+            if let Some(to) = place {
+                self.take(ground, from, to, is_barred)?;
+            }
+        }
+        Ok(())
+    }
+
+    /// Begins with the states of a sweep that didn't arrive: they are below the cost, and the steps from them to states
+    /// of a greater f-value are taken. The sweep has other states afterwards, which mean nothing.
+    pub fn begin_above<B: BarTable>(
+        &mut self,
+        ground: &Ground<B>,
+        sweep: &mut Sweep,
+        cost: u32,
+    ) -> Result<(), OutOfMemory>
+        requires whole { IsWhole ground.now sweep.old }
+        requires cost { cost ≡ sweep.old.bound + 1 }
+        requires small { cost < cost_bound }
+        ensures frontier { OnOk result (IsFrontier ground.now [] self.new) }
+        ensures cost { OnOk result (self.new.cost ≡ cost) }
+    {
+        self.reached.begin_with(sweep, ground.cells() as usize)?;
+        self.open_states.clear();
+        self.next_states.clear();
+        self.later_states.clear();
+        self.cost = cost;
+        self.below = self.reached.len();
+        for place in 0..self.below {
+            let from = self.reached.states()[place];
+            self.take_all(ground, &from)?;
+        }
+        Ok(())
+    }
+
+    // Reaches all open states and their successors of the same f-value, until the agent arrives. Returns whether it
+    // does.
+    fn walk_level<B: BarTable>(&mut self, ground: &Ground<B>) -> Result<bool, OutOfMemory>
+        requires small { self.old.cost < most_path_cells }
+        requires frontier { IsFrontier ground.now [] self.old }
+        ensures arrives { IfOk result (λ arrives. IsTrue arrives → IsAtGoal ground.now self.new) }
+        ensures walked { IfOk result (λ arrives. arrives ≡ false → IsWalked ground.now self.new) }
+        ensures cost { OnOk result (self.new.cost ≡ self.old.cost) }
+    {
+        while let Some(state) = self.take_open() {
+            if ground.is_arrival(&state) {
+                return Ok(true);
+            }
+            if self.reach(state)? {
+                self.take_all(ground, &state)?;
+            }
+        }
+        Ok(false)
+    }
+
+    // Raises the cost until the agent arrives, or no state is left to reach. Returns whether it arrives.
+    fn walk<B: BarTable>(&mut self, ground: &Ground<B>) -> Result<bool, OutOfMemory>
+        requires frontier { IsFrontier ground.now [] self.old }
+        requires limit { IsBelowLimit ground.now self.old.cost }
+        requires small { (last : ℕ) → AreBefore last ground.now.bars → self.old.cost < last + most_cells }
+        ensures arrives { IfOk result (λ arrives. IsTrue arrives → IsAtGoal ground.now self.new) }
+        ensures spent { IfOk result (λ arrives. arrives ≡ false → IsSpent ground.now self.new) }
+        ensures limit { OnOk result (IsBelowLimit ground.now self.new.cost) }
+        ensures small { OnOk result (self.new.cost < cost_bound) }
+    {
+        let horizon = ground.horizon();
+        let mut cost = self.cost();
+        loop {
+            if self.walk_level(ground)? {
+                return Ok(true);
+            }
+            if self.none_waits() {
+                return Ok(false);
+            }
+            self.raise();
+            cost += 1;
+            prove!(cost < horizon + MOST_CELLS);
+        }
+    }
+
+    /// Reaches states by rising f-value until the agent arrives, or no state is left to reach. Returns whether it
+    /// arrives. Keeps the states below the cost then, otherwise all states that can be reached.
+    pub fn grow<B: BarTable>(&mut self, ground: &Ground<B>) -> Result<bool, OutOfMemory>
+        requires frontier { IsFrontier ground.now [] self.old }
+        requires limit { IsBelowLimit ground.now self.old.cost }
+        requires small { (last : ℕ) → AreBefore last ground.now.bars → self.old.cost < last + most_cells }
+        ensures arrives { IfOk result (λ arrives. IsTrue arrives → HasArrived ground.now self.new.cost self.new.reached) }
+        ensures all { IfOk result (λ arrives. arrives ≡ false → AreAll ground.now self.new.cost self.new.reached) }
+        ensures limit { OnOk result (IsBelowLimit ground.now self.new.cost) }
+        ensures small { OnOk result (self.new.cost < cost_bound) }
+    {
+        let arrives = self.walk(ground)?;
+        let kept = if arrives {
+            self.below
+        } else {
+            self.reached.len()
+        };
+        self.reached.keep_sorted(kept);
+        Ok(arrives)
+    }
+}
