@@ -9,6 +9,7 @@ pub mod StampLemmas
 pub mod FrontierLemmas
 pub mod GrowLemmas
 pub mod OrderLemmas
+pub mod ListLemmas
 pub mod LevelLemmas
 pub mod LabelLemmas
 pub mod WayLemmas

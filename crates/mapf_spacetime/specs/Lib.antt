@@ -7,3 +7,4 @@ pub mod CellSets
 pub mod Sweeps
 pub mod Frontiers
 pub mod Turns
+pub mod Listing

@@ -6,6 +6,7 @@ ghost use Rattle.mapf_spacetime.specs.declared.state.State.{State};
 ghost use Rattle.mapf_spacetime.specs.PathSearch.{IsWholeWalk};
 ghost use Rattle.mapf_spacetime.specs.Task.{Task, task_of, IsOpen, IsValue, IsWithin, MayRestFrom, start_of, cost_bound};
 ghost use Rattle.mapf_spacetime.specs.Listed.{AreEntriesOf};
+ghost use Rattle.mapf_spacetime.specs.Listing.{AreReachedEntries, HasValue, ListsReached};
 ghost use Rattle.mapf_spacetime.specs.States.{IsBelowLimit};
 ghost use Rattle.mapf_spacetime.specs.Sweeps.{HasArrived, IsEarlier, IsWhole};
 ghost use Rattle.mapf_spacetime.specs.Answer.{IsPathAnswer, ShowNone};
@@ -36,14 +37,16 @@ pub fn search<'a, B: BarTable>(
 ) -> Result<Found, OutOfMemory>
     requires grid { distances.now.grid ≡ grid.now }
     requires goal { distances.now.goal ≡ agent.goal }
-    ensures { IfOk result (IsPathAnswer (task_of grid.now agent (B.bars bars.now))) }
+    ensures answer { IfOk result (IsPathAnswer (task_of grid.now agent (B.bars bars.now))) }
+    ensures listed { IfOk result (ListsReached (task_of grid.now agent (B.bars bars.now))) }
 {
     with_labels(alloc, search_states(alloc, grid, distances, bars, agent)?)
 }
 
 // Returns the same with labels in memory of their own.
 pub(crate) fn with_labels(alloc: Global, found: Found<StateLabels>) -> Result<Found, OutOfMemory>
-    ensures { (task : Task) → IsPathAnswer task found → IfOk result (IsPathAnswer task) }
+    ensures answer { (task : Task) → IsPathAnswer task found → IfOk result (IsPathAnswer task) }
+    ensures listed { (task : Task) → ListsReached task found → IfOk result (ListsReached task) }
 {
     match found {
         Found::Arrives { path, labels } => Ok(Found::Arrives {
@@ -66,7 +69,8 @@ pub fn search_states<'a, B: BarTable>(
 ) -> Result<Found<StateLabels>, OutOfMemory>
     requires grid { distances.now.grid ≡ grid.now }
     requires goal { distances.now.goal ≡ agent.goal }
-    ensures { IfOk result (IsPathAnswer (task_of grid.now agent (B.bars bars.now))) }
+    ensures answer { IfOk result (IsPathAnswer (task_of grid.now agent (B.bars bars.now))) }
+    ensures listed { IfOk result (ListsReached (task_of grid.now agent (B.bars bars.now))) }
 {
     let mut workspace = Workspace::new(alloc);
     search_in(alloc, &mut workspace, grid, distances, bars, agent)
@@ -83,7 +87,8 @@ pub fn search_in<'a, B: BarTable>(
 ) -> Result<Found<StateLabels>, OutOfMemory>
     requires grid { distances.now.grid ≡ grid.now }
     requires goal { distances.now.goal ≡ agent.goal }
-    ensures { IfOk result (IsPathAnswer (task_of grid.now agent (B.bars bars.now))) }
+    ensures answer { IfOk result (IsPathAnswer (task_of grid.now agent (B.bars bars.now))) }
+    ensures listed { IfOk result (ListsReached (task_of grid.now agent (B.bars bars.now))) }
 {
     search_expecting(alloc, workspace, grid, distances, bars, agent, 0)
 }
@@ -101,7 +106,8 @@ pub fn search_expecting<'a, B: BarTable>(
 ) -> Result<Found<StateLabels>, OutOfMemory>
     requires grid { distances.now.grid ≡ grid.now }
     requires goal { distances.now.goal ≡ agent.goal }
-    ensures { IfOk result (IsPathAnswer (task_of grid.now agent (B.bars bars.now))) }
+    ensures answer { IfOk result (IsPathAnswer (task_of grid.now agent (B.bars bars.now))) }
+    ensures listed { IfOk result (ListsReached (task_of grid.now agent (B.bars bars.now))) }
 {
     // Calling `width` lets the prover use its contract, which says that the grid is well formed.
     let _width = grid.width();
@@ -138,7 +144,8 @@ fn by_cost<B: BarTable>(
     requires shape { IsGridMap ground.now.grid }
     requires start { IsOpen ground.now (start_of ground.now) }
     requires first { IsValue ground.now (start_of ground.now) first }
-    ensures { IfOk result (IsPathAnswer ground.now) }
+    ensures answer { IfOk result (IsPathAnswer ground.now) }
+    ensures listed { IfOk result (ListsReached ground.now) }
 {
     let last = ground.horizon() + MOST_CELLS - 1;
     let bound = first.max(ground.rest()).max(expected).min(last);
@@ -165,7 +172,8 @@ fn above<B: BarTable>(
     requires small { bound < cost_bound }
     requires whole { IsWhole ground.now workspace.old.sweep }
     requires bound { workspace.old.sweep.bound ≡ bound }
-    ensures { IfOk result (IsPathAnswer ground.now) }
+    ensures answer { IfOk result (IsPathAnswer ground.now) }
+    ensures listed { IfOk result (ListsReached ground.now) }
 {
     let sweep = &mut workspace.sweep;
     if !sweep.is_cut() {
@@ -202,7 +210,8 @@ fn walked<B: BarTable>(
     requires small { cost < cost_bound }
     requires rest { MayRestFrom ground.now cost }
     requires walk { IsWholeWalk ground.now cost cells.items }
-    ensures { IfOk result (IsPathAnswer ground.now) }
+    ensures answer { IfOk result (IsPathAnswer ground.now) }
+    ensures listed { IfOk result (ListsReached ground.now) }
 {
     if cost == first {
         return arrive_by(alloc, ground, &[], cost, cells);
@@ -225,7 +234,8 @@ fn arrive<B: BarTable>(
     requires limit { IsBelowLimit ground.now cost }
     requires start { IsOpen ground.now (start_of ground.now) }
     requires arrived { HasArrived ground.now cost states.now }
-    ensures { IfOk result (IsPathAnswer ground.now) }
+    ensures answer { IfOk result (IsPathAnswer ground.now) }
+    ensures listed { IfOk result (ListsReached ground.now) }
 {
     let cells = least_walk(alloc, ground, cost)?;
     arrive_by(alloc, ground, states, cost, cells)
@@ -245,7 +255,8 @@ fn arrive_by<B: BarTable>(
     requires start { IsOpen ground.now (start_of ground.now) }
     requires arrived { HasArrived ground.now cost states.now }
     requires walk { IsWholeWalk ground.now cost cells.items }
-    ensures { IfOk result (IsPathAnswer ground.now) }
+    ensures answer { IfOk result (IsPathAnswer ground.now) }
+    ensures listed { IfOk result (ListsReached ground.now) }
 {
     mapf_model::laws::definitions_are_decided();
     let labels = StateLabels::of(alloc, states, Some(cost))?;
@@ -265,7 +276,10 @@ fn dead<B: BarTable>(
     requires few { (s : State) → Contains states.now s → IsWithin ground.now greatest_cost s }
     requires rising { AllPairs IsEarlier states.now }
     requires none { (entries : List Entry) → AreEntriesOf states.now None entries → ShowNone ground.now entries }
-    ensures { IfOk result (IsPathAnswer ground.now) }
+    requires all { (entries : List Entry) → AreEntriesOf states.now None entries →
+        AreReachedEntries ground.now (HasValue ground.now) None entries }
+    ensures answer { IfOk result (IsPathAnswer ground.now) }
+    ensures listed { IfOk result (ListsReached ground.now) }
 {
     let labels = StateLabels::of(alloc, states, None)?;
     Ok(Found::Dead { labels })

@@ -85,8 +85,10 @@ impl NumberSet {
             if word != 0 {
                 return Some(self.first as u32 * 64 + word.trailing_zeros());
             }
-            self.first = self.first + 1;
+            self.first += 1;
         }
+        self.first = self.words.len();
+        self.end = 0;
         None
     }
 

@@ -5,6 +5,7 @@ use Rattle.mapf_spacetime.specs.States.{IsBelowLimit}
 use Rattle.mapf_spacetime.specs.Sweeps.{AreSwept, HasArrived, IsEarlier}
 use Rattle.mapf_spacetime.specs.Task.{start_of}
 use Rattle.mapf_spacetime.proofs.AnswerLemmas.{all_few, all_show}
+use Rattle.mapf_spacetime.proofs.ListLemmas.{all_listed}
 use Rattle.mapf_spacetime.proofs.SweptLemmas.{next_bound, next_limit, walk_arrived, whole_all, whole_swept}
 use Rattle.mapf_spacetime.proofs.cheapest.above.Goals as goal
 
@@ -136,3 +137,15 @@ dead-requires-2-clause-none g c entries a =
     let frontier = c.grow.new.self in
     let all = c.in_ok-grow.ensures.all c.if-branch.false in
     all_show c.args.ground.now frontier.cost frontier.reached all entries (subst (λ l. AreEntriesOf l None entries) c.reached-2.ensures a)
+
+pub dead-requires-clause-all : goal.dead-requires-clause-all
+dead-requires-clause-all g c entries a =
+    let task = c.args.ground.now in
+    let sweep = c.args.workspace.now.sweep in
+    all_listed task sweep.bound sweep.states entries (whole_all task sweep c.requires.whole (sym c.is_cut.ensures ∙ c.if-not-is_cut.true)) (subst (λ l. AreEntriesOf l None entries) c.states.ensures a) c.requires.start
+
+pub dead-requires-2-clause-all : goal.dead-requires-2-clause-all
+dead-requires-2-clause-all g c entries a =
+    let frontier = c.grow.new.self in
+    let all = c.in_ok-grow.ensures.all c.if-branch.false in
+    all_listed c.args.ground.now frontier.cost frontier.reached entries all (subst (λ l. AreEntriesOf l None entries) c.reached-2.ensures a) c.requires.start

@@ -1,8 +1,8 @@
 use Rattle.mapf_spacetime.proofs.AnswerLemmas.{ranges_none}
 use Rattle.mapf_spacetime.proofs.cheapest.dead.Goals as goal
 
-pub returns : goal.returns
-returns g c =
+pub returns-clause-answer : goal.returns-clause-answer
+returns-clause-answer g c =
     let task = c.args.ground.now in
     let listed = c.in_ok-labels.labels in
     let a = c.in_ok-labels.ensures in
@@ -11,3 +11,6 @@ returns g c =
       labels = record { sound = shows.sound; rising = a.rising; ranges = ranges_none task c.requires.shape c.args.states.now listed c.requires.few a };
       start = shows.start;
     }
+
+pub returns-clause-listed : goal.returns-clause-listed
+returns-clause-listed g c = c.requires.all c.in_ok-labels.labels c.in_ok-labels.ensures

@@ -7,6 +7,9 @@ use Rattle.mapf_distance.specs.Distances.{IsLeastDescent}
 use Rattle.mapf_spacetime.specs.Task.{Task, task_of, IsValue, state_at}
 use Rattle.mapf_spacetime.specs.Listed.{AreEntriesOf}
 use Rattle.mapf_spacetime.specs.Answer.{IsArrival}
+use Rattle.mapf_spacetime.specs.Listing.{ListsReached}
+use Rattle.mapf_spacetime.specs.declared.found.Found.TheVariants.{Arrives}
+use Rattle.mapf_spacetime.proofs.ListLemmas.{barred_listed, none_listed, unreachable_listed}
 use Rattle.mapf_spacetime.proofs.AnswerLemmas.{barred_shows, unreachable_shows, shortest_arrives}
 use Rattle.mapf_spacetime.proofs.cheapest.search_expecting.Goals as goal
 
@@ -21,8 +24,8 @@ dead-requires-then-not-lets_start-clause-none g c entries a =
     let start = ap (λ cell. state_at cell 0) c.start.ensures in
     barred_shows task c.in-Some.first (subst (λ s. IsValue task s c.in-Some.first) start c.in-Some.ensures.some) (c.if-not-lets_start.ensures.no refl) entries (subst (λ s. AreEntriesOf (s ∷ []) None entries) start a)
 
-pub returns-then-horizon-eq0 : goal.returns-then-horizon-eq0
-returns-then-horizon-eq0 g c =
+pub returns-then-horizon-eq0-clause-answer : goal.returns-then-horizon-eq0-clause-answer
+returns-then-horizon-eq0-clause-answer g c =
     let task = task_of c.args.grid.now c.args.agent (g.B.BarTable.bars c.args.bars.now) in
     let path = c.in_ok-descend.field-0 in
     let start : c.start.result ≡ task.start = c.start.ensures ∙ ap (λ t. t.start) c.of-ground.ensures in
@@ -44,3 +47,34 @@ returns-then-horizon-eq0 g c =
     c.in_ok-descend.ensures.tight
     (subst (λ goal. IsLeastDescent task.grid goal path) c.requires.goal (subst (λ grid. IsLeastDescent grid c.args.distances.now.goal path) c.requires.grid c.in_ok-descend.ensures.least))
     satisfies)
+
+pub dead-requires-clause-all : goal.dead-requires-clause-all
+dead-requires-clause-all g c entries a =
+    let task = c.of-ground.result in
+    unreachable_listed task entries (subst (IsUnreachable task.grid task.goal) c.start.ensures c.in_default.ensures.none) a
+
+pub dead-requires-then-not-lets_start-clause-all : goal.dead-requires-then-not-lets_start-clause-all
+dead-requires-then-not-lets_start-clause-all g c entries a =
+    let task = c.of-ground.result in
+    let start = ap (λ cell. state_at cell 0) c.start.ensures in
+    barred_listed task c.in-Some.first entries (subst (λ s. IsValue task s c.in-Some.first) start c.in-Some.ensures.some) (c.if-not-lets_start.ensures.no refl) (subst (λ s. AreEntriesOf (s ∷ []) None entries) start a)
+
+pub returns-then-horizon-eq0-clause-listed : goal.returns-then-horizon-eq0-clause-listed
+returns-then-horizon-eq0-clause-listed g c =
+    let task = task_of c.args.grid.now c.args.agent (g.B.BarTable.bars c.args.bars.now) in
+    let path = c.in_ok-descend.field-0 in
+    let start : c.start.result ≡ task.start = c.start.ensures ∙ ap (λ t. t.start) c.of-ground.ensures in
+    let again : c.start-then-horizon-eq0.result ≡ task.start = c.start-then-horizon-eq0.ensures ∙ ap (λ t. t.start) c.of-ground.ensures in
+    let value : IsValue task (state_at task.start 0) c.in-Some.first = subst (λ cell. IsValue task (state_at cell 0) c.in-Some.first) start (subst (λ t. IsValue t (state_at c.start.result 0) c.in-Some.first) c.of-ground.ensures c.in-Some.ensures.some) in
+    let distance = subst (λ cell. IsDistance task.grid task.goal cell (length path - 1)) again
+    (subst (λ goal. IsDistance task.grid goal c.start-then-horizon-eq0.result (length path - 1)) c.requires.goal
+    (subst (λ grid. IsDistance grid c.args.distances.now.goal c.start-then-horizon-eq0.result (length path - 1)) c.requires.grid c.in_ok-descend.ensures.shortest)) in
+    let short = value.is.least (length path - 1) distance.walk in
+    let long = distance.least value.distance value.is.walk in
+    let sum = value.sum in
+    let cost : length path - 1 ≡ c.in-Some.first = omega arith in
+    subst (λ l. ListsReached task (Arrives path l)) (sym c.none.ensures) (
+      c.in-Some.first,
+      subst (IsCost task.goal path) cost (subst (λ goal. IsCost goal path (length path - 1)) c.requires.goal c.in_ok-descend.ensures.cost),
+      none_listed task c.in-Some.first value,
+    )
