@@ -85,7 +85,7 @@ impl NumberSet {
             if word != 0 {
                 return Some(self.first as u32 * 64 + word.trailing_zeros());
             }
-            self.first += 1;
+            self.first = self.first + 1;
         }
         self.first = self.words.len();
         self.end = 0;
