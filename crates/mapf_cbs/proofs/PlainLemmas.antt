@@ -14,7 +14,6 @@ use Rattle.mapf_cbs.specs.declared.node.Fate.{Fate}
 use Rattle.mapf_cbs.specs.declared.node.Fate.TheVariants.{Open}
 use Rattle.mapf_cbs.specs.declared.node.Node.TheVariants.{Root}
 use Rattle.mapf_cbs.specs.declared.whole_node.WholeNode.{WholeNode}
-use Rattle.std.specs.declared.alloc.Global.{Global}
 use Rattle.mapf_cbs.specs.FirstConflicts.{IsFirstConflict}
 use Rattle.mapf_cbs.specs.Endings.{IsExhausted}
 use Rattle.mapf_cbs.specs.Nodes.{IsRootView}

@@ -175,14 +175,13 @@ module _ {Z : Type 0} where
   above_of e es sorted = sorted.0
 
   -- the first number of the first queue is taken
-  pub taken_first : (es : List (ℕ × VecDeque ℕ Z)) (total number : ℕ) (first old new : VecDeque ℕ Z) → IsStrictlySortedBy nat_cmp (keys_of es) → slice_get es 0 ≡ Some (total, first) → Some old ≡ lookup (is_at (nat_cmp total)) es → All IsOpenQueue (values_of es) → old.items ≡ number ∷ new.items
+  pub taken_first : (es : List (ℕ × VecDeque ℕ Z)) (total number : ℕ) (old new : VecDeque ℕ Z) → IsStrictlySortedBy nat_cmp (keys_of es) → slice_get (keys_of es) 0 ≡ Some total → Some old ≡ lookup (is_at (nat_cmp total)) es → All IsOpenQueue (values_of es) → old.items ≡ number ∷ new.items
       → (set_value (is_at (nat_cmp total)) es new ≡ (total, new) ∷ drop 1 es) × IsLeastKey (total, number) (keys_of_entries es) (keys_of_entries ((total, new) ∷ drop 1 es))
   unfolding IsStrictlySortedBy
-  taken_first [] total number first old new sorted at found queues is = absurd cc
-  taken_first (e ∷ es) total number first old new sorted at found queues is =
+  taken_first [] total number old new sorted at found queues is = absurd cc
+  taken_first (e ∷ es) total number old new sorted at found queues is =
       let queue = found_queue (e ∷ es) total old queues found in
-      let front : e ≡ (total, first) = ap (λ o. unwrap_or o e) at in
-      let same : e.0 ≡ total = ap (λ (p : ℕ × VecDeque ℕ Z). p.0) front in
+      let same : e.0 ≡ total = ap (λ o. unwrap_or o e.0) at in
       let equal : nat_cmp total e.0 ≡ Equal = ap (nat_cmp total) same ∙ tied_itself nat_cmp_total total in
       let here : e.1 ≡ old = ap (λ o. unwrap_or o e.1) (sym (ap (λ r. cond (is_eq r) (Some e.1) (lookup (is_at (nat_cmp total)) es)) equal) ∙ sym found) in
       let items : e.1.items ≡ number ∷ new.items = ap (λ (q : VecDeque ℕ Z). q.items) here ∙ is in

@@ -1,5 +1,6 @@
-ghost use Rattle.std.specs.Prelude.{◌≡◌, ◌<◌, ◌∷◌, [], All, IfOk, IfSome, IfNone, OnErr, OnOk};
-ghost use Rattle.std.specs.BTreeMap.{is_at};
+ghost use Rattle.std.specs.Prelude.{◌≡◌, ◌<◌, ◌∷◌, ◌↔◌, [], Some, length, slice_get};
+ghost use Rattle.std.specs.Prelude.{All, IfOk, IfSome, IfNone, IsSome, IsTrue, OnErr, OnOk};
+ghost use Rattle.std.specs.BTreeMap.{get, is_at, keys};
 ghost use Rattle.std.specs.BTreeSet.{insert_key};
 ghost use Rattle.std.specs.Map.{remove_entry};
 ghost use Rattle.std.specs.Ordering.{nat_cmp};
@@ -66,14 +67,44 @@ impl OpenNodes {
         ensures some { IfSome result (λ key. IsLeastKey key self.old self.new) }
         ensures none { IfNone result (self.old ≡ []) }
     {
-        let (total, _) = self.queues.first_key_value()?;
-        let total = *total;
+        let total = least_sum(&self.queues)?;
         let queue = self.queues.get_mut(&total)?;
-        let number = queue.pop_front()?;
-        if queue.is_empty() {
+        let (number, was_last) = take_first(queue)?;
+        if was_last {
             remove_sum(&mut self.queues, total);
         }
         Some((total, number))
+    }
+}
+
+// Returns the least sum that has a queue.
+fn least_sum(queues: &BTreeMap<u64, VecDeque<u32>>) -> Option<u64>
+    ensures some { IfSome result (λ total. slice_get (keys queues.now) 0 ≡ Some total) }
+    ensures queue { IfSome result (λ total. IsSome (get nat_cmp queues.now total)) }
+    ensures none { IfNone result (queues.now.entries ≡ []) }
+{
+    let (total, _) = queues.first_key_value()?;
+    Some(*total)
+}
+
+// Removes the first number of a queue, and returns it and whether it was the last one.
+fn take_first(queue: &mut VecDeque<u32>) -> Option<(u32, bool)>
+    ensures first { IfSome result (λ taken. queue.old.items ≡ taken.0 ∷ queue.new.items) }
+    ensures last { IfSome result (λ taken. IsTrue taken.1 ↔ (length queue.new.items ≡ 0)) }
+    ensures none { IfNone result (queue.old.items ≡ []) }
+{
+    let number = queue.pop_front()?;
+    give_back_room(queue);
+    Some((number, queue.is_empty()))
+}
+
+// Keeps room for at most four times as many numbers as the queue has. Room is given back only each time that the length
+// is a power of two, so that a number is seldom moved. If memory for less room is refused, the queue stays as it is.
+fn give_back_room(queue: &mut VecDeque<u32>)
+    ensures items { queue.new.items ≡ queue.old.items }
+{
+    if queue.len().is_power_of_two() {
+        queue.shrink_to(queue.len().saturating_mul(2));
     }
 }
 

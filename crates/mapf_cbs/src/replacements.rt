@@ -11,7 +11,7 @@ use mapf_conflicts::{BasePaths, PathsByTick, Replacement};
 use mapf_model::OutOfMemory;
 use std::alloc::Global;
 
-// For how many replacements memory is requested at once. At most nodes no more agents were replanned.
+// For how many replacements memory is requested at once. At few nodes more agents were replanned.
 const AT_ONCE: usize = 16;
 
 /// Returns a replacement of the root's path for each agent that was replanned below the root: its path at the finders'

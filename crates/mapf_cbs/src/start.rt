@@ -50,8 +50,8 @@ fn one_node(alloc: Global, node: TreeNode) -> Result<Vec<TreeNode>, OutOfMemory>
     Ok(tree)
 }
 
-// Returns a shortest path of each agent, None if some goal can't be reached. No table of distances is made, since most
-// agents are never replanned.
+// Returns a shortest path of each agent, None if some goal can't be reached. The agents' tables of distances aren't
+// made for this, since most agents are never replanned.
 fn shortest_paths(alloc: Global, problem: &Problem) -> Result<Option<Vec<Path>>, OutOfMemory>
     ensures unreachable { IfOk result (λ found. IfNone found (SomeGoalIsUnreachable problem.now)) }
     ensures count { IfOk result (λ found. IfSome found (λ paths. length paths.items ≡ length problem.now.agents)) }

@@ -3,6 +3,7 @@ ghost use Rattle.mapf_model.specs.Limits.{most_agents, most_path_cells};
 ghost use Rattle.mapf_conflicts.specs.Pairs.{cells_at};
 ghost use Rattle.mapf_conflicts.specs.Replacements.{AreRowsOf};
 
+use crate::path_list::PathList;
 use crate::paths_by_tick::PathsByTick;
 use mapf_model::limits::MOST_AGENTS;
 use mapf_model::{Cell, OutOfMemory, Path, Tick};
@@ -43,7 +44,7 @@ impl BasePaths {
         requires { length paths.items ≤ most_agents }
         ensures { IfOk result (λ base. base ≡ paths.items) }
     {
-        let longest = longest(&paths);
+        let longest = PathList::of(&paths[..]).length_bound();
         let rows = rows_of(alloc, &paths, longest.min(MOST_ROWS))?;
         Ok(BasePaths {
             paths,
@@ -74,7 +75,7 @@ impl PathsByTick for BasePaths {
     fn write_cells(&self, tick: Tick, cells: &mut [Cell]) {
         match self.rows.get(tick as usize) {
             Some(row) => cells.copy_from_slice(&row[..cells.len()]),
-            None => write_cells(&self.paths, tick, cells),
+            None => PathList::of(&self.paths[..]).write_cells(tick, cells),
         }
     }
 }
@@ -91,31 +92,8 @@ fn rows_of(
     let mut rows = Vec::with_capacity(alloc, end as usize)?;
     for tick in 0..end {
         let mut row = [Cell(0); MOST_AGENTS as usize];
-        write_cells(paths, tick, &mut row[..paths.len()]);
+        PathList::of(paths).write_cells(tick, &mut row[..paths.len()]);
         rows.push(row)?;
     }
     Ok(rows)
-}
-
-// Returns the number of cells of the longest path, 1 if there are no paths.
-fn longest(paths: &[Path]) -> Tick
-    ensures longest { All (λ path. length path ≤ result) paths.now }
-    ensures positive { 1 ≤ result }
-    ensures bounded { result ≤ most_path_cells }
-{
-    let mut longest = 1;
-    for path in paths {
-        longest = longest.max(path.cells().len());
-    }
-    longest as Tick
-}
-
-// Writes the agents' cells at the tick.
-fn write_cells(paths: &[Path], tick: Tick, cells: &mut [Cell])
-    requires { length cells.old ≡ length paths.now }
-    ensures { cells.new ≡ cells_at paths.now tick }
-{
-    for (i, path) in paths.iter().enumerate() {
-        cells[i] = path.at(tick);
-    }
 }

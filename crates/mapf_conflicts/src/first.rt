@@ -24,12 +24,7 @@ pub fn first_conflict(plan: &Plan) -> Option<Conflict>
     ensures least { IfSome result (IsFirstOfItsTick plan.now) }
     ensures none { IfNone result (HaveSomeConflict plan.now → ⊥) }
 {
-    let paths = plan.paths();
-    let mut behind = [&paths[0]; MOST_AGENTS as usize];
-    for (i, path) in paths.iter().enumerate() {
-        behind[i] = path;
-    }
-    first_among(&mut [], &PathList::of(&behind[..paths.len()]), 0, 0)
+    first_among(&mut [], &PathList::of(plan.paths()), 0, 0)
 }
 
 /// Returns the first conflict of these paths. The marks may be for some cells or for none, and may have any values. The

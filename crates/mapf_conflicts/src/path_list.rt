@@ -1,35 +1,60 @@
-ghost use Rattle.std.specs.Prelude.{◌≡◌, ◌≤◌, All, length};
+ghost use Rattle.std.specs.Prelude.{◌≡◌, ◌≤◌, ℕ, List, All, length, map};
 ghost use Rattle.mapf_model.specs.Limits.{most_path_cells};
-ghost use Rattle.mapf_conflicts.specs.Pairs.{cells_at, paths_behind};
+ghost use Rattle.mapf_conflicts.specs.Pairs.{cells_at};
 
 use crate::paths_by_tick::PathsByTick;
 use mapf_model::{Cell, Path, Tick};
 use std::marker::Model;
 
-/// Paths that are read one by one.
-#[derive(Drop)]
-pub struct PathList<'a> {
-    paths: &'a [&'a Path],
+/// A path, or a reference to one.
+pub trait AsPath {
+    /// The path's cells.
+    ghost cells: { Self → List ℕ };
+
+    /// Returns the path.
+    fn as_path(&self) -> &Path
+        ensures { result.now ≡ cells self.now };
 }
 
-impl<'a> Model for PathList<'a> {
-    ghost use Rattle.std.specs.Prelude.{List, ℕ};
-    ghost use Rattle.mapf_conflicts.specs.Pairs.{paths_behind};
+impl AsPath for Path {
+    ghost cells = { λ path. path };
+
+    fn as_path(&self) -> &Path {
+        self
+    }
+}
+
+impl<'a> AsPath for &'a Path {
+    ghost cells = { λ path. path.now };
+
+    fn as_path(&self) -> &Path {
+        *self
+    }
+}
+
+/// Paths that are read one by one.
+#[derive(Drop)]
+pub struct PathList<'a, P: AsPath> {
+    paths: &'a [P],
+}
+
+impl<'a, P: AsPath> Model for PathList<'a, P> {
+    ghost use Rattle.std.specs.Prelude.{List, ℕ, map};
 
     ghost Value = { List (List ℕ) };
 
-    ghost view = { λ list. paths_behind list.paths.now };
+    ghost view = { λ list. map P.cells list.paths.now };
 }
 
-impl<'a> PathList<'a> {
-    pub fn of(paths: &'a [&'a Path]) -> PathList<'a>
-        ensures { result ≡ paths_behind paths.now }
+impl<'a, P: AsPath> PathList<'a, P> {
+    pub fn of(paths: &'a [P]) -> PathList<'a, P>
+        ensures { result ≡ map P.cells paths.now }
     {
         PathList { paths }
     }
 }
 
-impl<'a> PathsByTick for PathList<'a> {
+impl<'a, P: AsPath> PathsByTick for PathList<'a, P> {
     ghost paths = { λ list. list };
 
     fn count(&self) -> usize {
@@ -46,24 +71,24 @@ impl<'a> PathsByTick for PathList<'a> {
 }
 
 // Returns the number of cells of the longest path, 1 if there are no paths.
-fn longest(paths: &[&Path]) -> Tick
-    ensures longest { All (λ path. length path ≤ result) (paths_behind paths.now) }
+fn longest<P: AsPath>(paths: &[P]) -> Tick
+    ensures longest { All (λ path. length path ≤ result) (map P.cells paths.now) }
     ensures positive { 1 ≤ result }
     ensures bounded { result ≤ most_path_cells }
 {
     let mut longest = 1;
     for path in paths {
-        longest = longest.max(path.cells().len());
+        longest = longest.max(path.as_path().cells().len());
     }
     longest as Tick
 }
 
 // Writes the agents' cells at the tick.
-fn write_cells(paths: &[&Path], tick: Tick, cells: &mut [Cell])
+fn write_cells<P: AsPath>(paths: &[P], tick: Tick, cells: &mut [Cell])
     requires { length cells.old ≡ length paths.now }
-    ensures { cells.new ≡ cells_at (paths_behind paths.now) tick }
+    ensures { cells.new ≡ cells_at (map P.cells paths.now) tick }
 {
     for (i, path) in paths.iter().enumerate() {
-        cells[i] = path.at(tick);
+        cells[i] = path.as_path().at(tick);
     }
 }

@@ -37,15 +37,15 @@ pub trait BarTable: Drop {
         ensures early { result ≤ split_ticks }
         ensures bars { AreBars (bars self.now) };
 
-    /// Returns whether some constraint is at the tick. A table may also return true where none is.
+    /// Returns false only if no constraint is at the tick. True tells nothing.
     fn may_bar_at(&self, tick: Tick) -> bool
         ensures { result ≡ false → (bar : Bar) → Contains (bars self.now) bar → bar_tick bar ≢ tick }
     {
-        tick < self.horizon()
+        true
     }
 
-    /// Returns false only if no vertex constraint forbids the cell at the tick, and no edge constraint forbids a move that
-    /// ends there then. True tells nothing.
+    /// Returns false only if no vertex constraint forbids the cell at the tick, and no edge constraint forbids a move
+    /// that ends there then. True tells nothing.
     fn may_bar_arrival(&self, to: Cell, tick: Tick) -> bool
         ensures { result ≡ false → (bar : Bar) → Contains (bars self.now) bar → arrival bar ≢ (to, tick) }
     {

@@ -8,6 +8,7 @@ use crate::later::{horizon_with, last_with, tick};
 use crate::link::Link;
 use mapf_model::{Bar, Cell, OutOfMemory, Tick};
 use std::alloc::Global;
+use std::fmt;
 use std::marker::Model;
 
 // How many marks there are.
@@ -15,7 +16,7 @@ const MARKS: usize = 512;
 
 /// Constraints in chains, one chain for each remainder of their ticks modulo 64. A query scans the chain of its tick,
 /// which is mostly empty or short. For most arrivals the marks show without a scan that no constraint forbids them.
-#[derive(Debug, Drop)]
+#[derive(Drop)]
 pub struct TickBars {
     // In the order in which they were added.
     links: Vec<Link>,
@@ -45,6 +46,17 @@ impl Model for TickBars {
         × AreChained table.links.items table.newest
         × (length table.marks ≡ 512)
         × AreMarked (bars_of table.links.items) table.marks };
+}
+
+// The marks follow from the links, so they aren't printed.
+impl fmt::Debug for TickBars {
+    fn fmt<W: fmt::Write>(&self, f: &mut fmt::Formatter<W>) -> fmt::Result {
+        f.debug_struct("TickBars")
+            .field("links", &self.links)
+            .field("newest", &self.newest)
+            .field("horizon", &self.horizon)
+            .finish()
+    }
 }
 
 impl BarTable for TickBars {
@@ -131,7 +143,8 @@ impl TickBars {
     }
 }
 
-// Returns the index of an arrival's mark. Arrivals that are a few steps apart mostly have different marks.
+// Returns the index of an arrival's mark. Arrivals at one tick share a mark only if their cells differ by a multiple of
+// 512, and arrivals in one cell only if their ticks do.
 #[inline(always)]
 fn mark_index(to: Cell, tick: Tick) -> usize
     ensures index { result ≡ mark_index (to, tick) }

@@ -1,4 +1,5 @@
-ghost use Rattle.std.specs.Prelude.{◌≤◌, length};
+ghost use Rattle.std.specs.Prelude.{◌<◌, ◌≤◌, length, IfOk};
+ghost use Rattle.mapf_model.specs.Earned.{AreConflictFreeBefore};
 
 use crate::expect::expect_same;
 use crate::samples::{Missing, path_of};
@@ -189,5 +190,86 @@ fn finds_conflicts_of_a_replaced_path(rt: HostRuntime) -> Result<(), Fail> {
         let found = found_after_replanning(rt.alloc(), tick)?;
         expect_same(&rt, &tick, &found, &vertex(0, 1, 4, tick));
     }
+    Ok(())
+}
+
+// The tick of the first conflict of the base's paths.
+fn first_tick(marks: &mut CellMarks, base: &BasePaths) -> Result<Tick, Missing>
+    requires { length base.now ≤ 200 }
+    ensures { IfOk result (AreConflictFreeBefore base.now) }
+{
+    let paths = PatchedPaths::of(base, &[]);
+    match first_conflict_after_replanning(marks, &paths, 0, 0) {
+        Some(conflict) => Ok(conflict.tick()),
+        None => Err(Missing::Value),
+    }
+}
+
+// The first conflict once one path of the base is replaced. The base's paths have none before the tick `free`.
+fn first_with(
+    marks: &mut CellMarks,
+    base: &BasePaths,
+    replacement: Replacement,
+    free: Tick,
+) -> Option<Conflict>
+    requires few { length base.now ≤ 200 }
+    requires known { replacement.agent < length base.now }
+    requires free { AreConflictFreeBefore base.now free }
+{
+    let replacements = [replacement];
+    let paths = PatchedPaths::of(base, &replacements);
+    first_conflict_after_replanning(marks, &paths, replacement.agent, free)
+}
+
+// The first conflict once this agent takes another path. The other agents are known to be apart before the tick of the
+// first conflict of the old paths, as at a node whose parent was split on that conflict.
+fn found_at_child(
+    alloc: Global,
+    old: &[&[u32]],
+    agent: u32,
+    other: &[u32],
+) -> Result<Option<Conflict>, Missing> {
+    let mut paths = Vec::new(alloc);
+    for numbers in old {
+        paths.push(path_of(alloc, numbers)?)?;
+    }
+    if paths.len() > 200 || agent as usize >= paths.len() {
+        return Err(Missing::Value);
+    }
+    let base = BasePaths::of(alloc, paths)?;
+    let mut marks = CellMarks::new(alloc, 16)?;
+    let free = first_tick(&mut marks, &base)?;
+    let path = path_of(alloc, other)?;
+    let replacement = Replacement { agent, path: &path };
+    Ok(first_with(&mut marks, &base, replacement, free))
+}
+
+// Agents 0 and 1 meet in cell 2 at tick 2, and agents 0 and 2 in cell 3 at tick 3.
+const MEET_ONE_BY_ONE: &[&[u32]] = &[&[0, 1, 2, 3], &[10, 6, 2], &[15, 11, 7, 3]];
+
+// All three agents meet in cell 2 at tick 2.
+const MEET_AT_ONCE: &[&[u32]] = &[&[0, 1, 2], &[10, 6, 2], &[7, 3, 2]];
+
+#[test]
+fn finds_conflicts_before_the_parents(rt: HostRuntime) -> Result<(), Fail> {
+    let alloc = rt.alloc();
+    let meets = found_at_child(alloc, MEET_ONE_BY_ONE, 1, &[10, 11, 2])?;
+    expect_same(&rt, &"in a cell", &meets, &vertex(1, 2, 11, 1));
+    let swaps = found_at_child(alloc, MEET_ONE_BY_ONE, 1, &[6, 2, 1])?;
+    expect_same(&rt, &"on the way", &swaps, &swap(0, 1, 1, 2, 1));
+    Ok(())
+}
+
+#[test]
+fn finds_conflicts_of_others_from_the_parents_on(rt: HostRuntime) -> Result<(), Fail> {
+    let alloc = rt.alloc();
+    let later = found_at_child(alloc, MEET_ONE_BY_ONE, 1, &[10, 9, 8])?;
+    expect_same(&rt, &"later", &later, &vertex(0, 2, 3, 3));
+    let same_tick = found_at_child(alloc, MEET_AT_ONCE, 1, &[10, 9, 8])?;
+    expect_same(&rt, &"at the same tick", &same_tick, &vertex(0, 2, 2, 2));
+    let three = found_at_child(alloc, MEET_ONE_BY_ONE, 1, &[10, 9, 8, 3])?;
+    expect_same(&rt, &"three agents", &three, &vertex(0, 1, 3, 3));
+    let none = found_at_child(alloc, MEET_ONE_BY_ONE, 0, &[0, 4, 8])?;
+    expect_same(&rt, &"none", &none, &None);
     Ok(())
 }

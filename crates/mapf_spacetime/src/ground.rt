@@ -81,6 +81,9 @@ impl<'a, B: BarTable> Ground<'a, B> {
         ensures { result ≡ false → (from to : ℕ) → Step self.now.grid from to
             → MayGo self.now.grid self.now.bars from to tick }
     {
+        if tick >= self.horizon {
+            return false;
+        }
         self.bars.may_bar_at(tick) || self.bars.may_bar_at(tick + 1)
     }
 

@@ -1,5 +1,6 @@
 use Rattle.std.proofs.Common.{◌≡◌, ◌≢◌, ◌++◌, ◌∷◌, [], List, ℕ, Some, drop, length, length-append, slice_get, take, subst, refl, replicate, sym, ◌∙◌, ap, ⊎_elim, arith}
 use Rattle.std.proofs.lemmas.Bool.{cases_eq}
+use Rattle.std.proofs.lemmas.List.{map-id}
 use Rattle.std.proofs.lemmas.Option.{slice_get_within, same_Some}
 use Rattle.mapf_model.proofs.PlaceLemmas.{slice_get-front, slice_get-here}
 use Rattle.mapf_conflicts.specs.Pairs.{cells_at}
@@ -30,5 +31,5 @@ loop-tick-preserved c =
     record {
       count = rw pushed (omega (arith, count, longer));
       rows = rw pushed (one_more paths rows row c.loop-tick.invariant.rows
-          (written paths (length paths) (length rows) c.write_cells.new.cells (drop (length paths) (replicate 200 0)) refl (c.write_cells.ensures ∙ ap (cells_at paths) (sym count))));
+          (written paths (length paths) (length rows) c.write_cells.new.cells (drop (length paths) (replicate 200 0)) refl (c.write_cells.ensures ∙ ap (λ listed. cells_at listed c.loop-tick.tick) (c.of.ensures ∙ map-id paths) ∙ ap (cells_at paths) (sym count))));
     }

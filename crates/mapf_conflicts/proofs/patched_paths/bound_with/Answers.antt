@@ -1,4 +1,4 @@
-use Rattle.std.proofs.Common.{◌≤◌, All, length, refl, subst, ap, arith}
+use Rattle.std.proofs.Common.{◌≤◌, All, length, refl, subst, arith}
 use Rattle.std.proofs.lemmas.Grind.{common_steps}
 use Rattle.std.proofs.lemmas.List.{take_all}
 use Rattle.std.proofs.lemmas.List.Elements.{All-weaker}
