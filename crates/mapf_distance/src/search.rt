@@ -31,7 +31,8 @@ pub fn distance_between(
 }
 
 /// A* from a goal towards a start (Hart et al. 1968): cells are expanded by rising f-value, that is, the steps found
-/// between the cell and the goal, plus the Manhattan distance from the start. A step keeps the f-value, or raises it by 2.
+/// between the cell and the goal, plus the Manhattan distance from the start. A step keeps the f-value or raises it
+/// by 2.
 #[derive(Drop)]
 pub struct Search {
     start: Cell,
@@ -85,8 +86,8 @@ impl Search {
         self.start
     }
 
-    /// Returns the distance of the start, once it is known. None if no steps lead from there to the goal, once no cell is
-    /// open.
+    /// Returns the distance of the start, once it is known. Once no cell is open, None says that no steps lead from there
+    /// to the goal.
     pub fn found(&self) -> Option<u32>
         requires { self.now.start < vec_len self.now.table }
         ensures distance { (grid : GridMap) → IsSearchOn grid self.now
@@ -162,7 +163,8 @@ impl Search {
 
     /// Expands all cells up to the f-value at which the start's distance is known, or all that lead to the goal. In the
     /// first case each cell of a shortest path has its distance as its entry. Of the cells of an f-value those of a row
-    /// come before those of the next one. So most cells are reached in their least number of steps first, and few are open.
+    /// come before those of the next one. So most cells are reached in their least number of steps first, and few are
+    /// open.
     pub fn settle(&mut self, grid: &Grid) -> Result<(), OutOfMemory>
         requires { IsSearchOn grid.now self.old }
         ensures search { OnOk result (IsSearchOn grid.now self.new) }
@@ -202,7 +204,8 @@ impl Search {
         true
     }
 
-    // Expands cells of this f-value, one that was reached last first, until the start's distance is known or none is left.
+    // Expands cells of this f-value, one that was reached last first, until the start's distance is known or none is
+    // left.
     fn dive(&mut self, grid: &Grid, aim: &Aim) -> Result<(), OutOfMemory>
         requires search { IsSearchOn grid.now self.old }
         requires aim { IsAim grid.now self.old.start aim.now }
@@ -313,8 +316,8 @@ impl Search {
         Ok(())
     }
 
-    // Relaxes the step to the cell at a place: reaches it if it is free and each number of steps found from it so far is
-    // greater than this one.
+    // Relaxes the step to the cell at a place: reaches it if it is free and each number of steps found from it so far
+    // is greater than this one.
     #[inline(always)]
     fn relax(
         &mut self,

@@ -53,8 +53,8 @@ impl Neighbourhoods {
         (number - row * self.width, row)
     }
 
-    /// Returns the cells above and left, the cell itself, and those right and below, in rising order. None for a cell that
-    /// would be outside its row or above the first row.
+    /// Returns the cells above and left, the cell itself, and those right and below, in rising order. None for a cell
+    /// that would be outside its row or above the first row.
     #[inline(always)]
     pub fn around(&self, cell: Cell) -> [Option<Cell>; 5]
         requires { cell < most_cells }
