@@ -3,6 +3,7 @@ pub mod StepLemmas
 pub mod WaveLemmas
 pub mod ExpandLemmas
 pub mod StartLemmas
+pub mod ClosedLemmas
 pub mod DescentLemmas
 pub mod TableLemmas
 pub mod SearchLemmas

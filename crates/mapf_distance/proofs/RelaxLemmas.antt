@@ -1,13 +1,13 @@
 -- The steps from one cell are taken one after another, and those towards the start keep the f-value.
-use Rattle.std.proofs.Common.{◌≡◌, ℕ, ◌+◌, ◌-◌, ◌%◌, ◌<◌, ◌≤◌, ◌↔◌, Bool, Option, Some, None, IfSome, IsTrue, List, cond, length, slice_index_or, nat_le, nat_lt, refl, sym, ◌∙◌, ap, subst, inl, inr, ⊎_elim, arith}
-use Rattle.std.proofs.lemmas.Bool.{cases_lt, ltb-true, lt-ltb, leb-true}
+use Rattle.std.proofs.Common.{◌≡◌, ℕ, ◌+◌, ◌-◌, ◌%◌, ◌^◌, ◌<◌, ◌≤◌, Bool, Option, Some, None, IfSome, List, cond, length, slice_index_or, nat_le, nat_lt, refl, sym, ◌∙◌, ap, subst, inl, inr, ⊎_elim, arith}
+use Rattle.std.proofs.lemmas.Bool.{cases_lt, ltb-true, lt-ltb, le-ltb, leb-true}
 use Rattle.std.proofs.lemmas.List.{get_or_default}
 use Rattle.std.proofs.lemmas.Option.{same_Some, none-some, cond_some}
 use Rattle.mapf_model.specs.Grid.{GridMap, IsFree, column, row}
 use Rattle.mapf_model.specs.Neighbours.{neighbourhood}
 use Rattle.mapf_model.proofs.StepLemmas.{number, down, along, along_before, free_within}
 use Rattle.mapf_distance.specs.Marks.{entry_of}
-use Rattle.mapf_distance.specs.Search.{IsSearchAt, IsSearchOn, IsSameSearch, IsRelaxed, effort, estimate, gap, value_of}
+use Rattle.mapf_distance.specs.Search.{IsSearchAt, IsSearchOn, IsSameSearch, IsRelaxed, effort, estimate, gap, open_of, value_of}
 use Rattle.mapf_distance.specs.declared.search.Search.{Search}
 use Rattle.mapf_distance.proofs.SearchLemmas.{AreTaken, reached_at, taken_more, taken_all, all_taken, known_free, place_step}
 
@@ -16,16 +16,18 @@ pub record IsTaking (grid : GridMap) (cell distance : ℕ) (places : List (Optio
   pub search : IsSearchAt grid cell now
   pub entry : entry_of now.table.items cell + 1 ≡ distance
   pub level : value_of grid now.start now.table.items cell ≡ now.level
+  pub low : now.level < 2 ^ 34
   pub taken : AreTaken grid distance places count now.table.items
   pub effort : effort now ≤ effort first
   pub same : IsSameSearch first now
 
 module _ (grid : GridMap) (cell distance width : ℕ) (places : List (Option ℕ)) (beside : places ≡ neighbourhood width cell) (wide : width ≡ grid.width) (some : 0 < width) (first : Search) where
-  pub taking_first : IsSearchAt grid cell first → value_of grid first.start first.table.items cell ≡ first.level → distance ≡ entry_of first.table.items cell + 1 → IsTaking grid cell distance places 0 first first
-  taking_first search level is = record {
+  pub taking_first : IsSearchAt grid cell first → value_of grid first.start first.table.items cell ≡ first.level → first.level < 2 ^ 34 → distance ≡ entry_of first.table.items cell + 1 → IsTaking grid cell distance places 0 first first
+  taking_first search level low is = record {
     search = search;
     entry = sym is;
     level = level;
+    low = low;
     taken = λ k next none. absurd (omega arith);
     effort = omega arith;
     same = record { start = refl; goal = refl; level = refl };
@@ -33,13 +35,14 @@ module _ (grid : GridMap) (cell distance width : ℕ) (places : List (Option ℕ
 
   module _ (count : ℕ) (old : Search) (t : IsTaking grid cell distance places count first old) where
     free : IsFree grid cell
-    free = known_free grid old.start old.goal old.level (λ other. other ≡ cell) old.table.items old.due.items old.later.items t.search.0 cell t.search.1
+    free = known_free grid old.start old.goal old.level (λ other. other ≡ cell) old.table.items (open_of old) old.later.items t.search.0 cell t.search.1
 
     skip : ((next : ℕ) → slice_index_or places count None ≡ Some next → IsFree grid next → entry_of old.table.items next ≤ distance) → IsTaking grid cell distance places (count + 1) first old
     skip low = record {
       search = t.search;
       entry = t.entry;
       level = t.level;
+      low = t.low;
       taken = taken_more grid distance count places old.table.items old.table.items t.taken (λ x. omega arith) low;
       effort = t.effort;
       same = t.same;
@@ -58,11 +61,12 @@ module _ (grid : GridMap) (cell distance width : ℕ) (places : List (Option ℕ
         more (Some next) is (inl (both, table, put, kept)) =
             let step = place_step grid cell count next width places beside wide some free within is both.0 in
             let inside : next < length old.table.items = let f = free_within grid next both.0 in let n = t.search.0.count in omega arith in
-            let r = reached_at grid cell distance next old new t.search t.entry t.level step inside both.1 table put kept in
+            let r = reached_at grid cell distance next old new t.search t.entry t.level t.low step inside both.1 table put kept in
             record {
               search = r.search;
               entry = r.entry;
               level = r.level;
+              low = (let l = kept.level in let w = t.low in omega arith);
               taken = taken_more grid distance count places old.table.items new.table.items t.taken r.falls
                   (λ n n_is n_free. subst (λ x. entry_of new.table.items x ≤ distance) (sym (same_Some n next (sym n_is ∙ is))) r.here);
               effort = (let e = r.effort in let b = t.effort in omega arith);
@@ -82,7 +86,7 @@ module _ (grid : GridMap) (cell distance width : ℕ) (places : List (Option ℕ
 
     pub taking_end : length places ≤ count → IsSearchOn grid old
     taking_end all =
-        all_taken grid old.start old.goal old.level old.table.items old.due.items old.later.items cell t.search.0
+        all_taken grid old.start old.goal old.level old.table.items (open_of old) old.later.items cell t.search.0 t.level
         (taken_all grid distance count cell places old.table.items (beside ∙ ap (λ w. neighbourhood w cell) wide) (omega arith) free all t.taken (sym t.entry))
 
 -- of two neighbouring numbers the one on the side of a third is nearer to it
@@ -95,16 +99,13 @@ gap_from a b s e from = omega arith
 -- which steps keep the f-value
 module _ (grid : GridMap) (cell start distance level : ℕ) (wide : 0 < grid.width) (at_level : distance + estimate grid cell start ≡ level + 1) where
   abbrev Keeps : Bool → ℕ → Type 0
-  Keeps flag next = IsTrue flag ↔ (distance + estimate grid next start ≤ level)
+  Keeps flag next = distance + estimate grid next start ≡ cond flag level (level + 2)
 
   keeps_if : (a b next : ℕ) → (a < b → estimate grid next start + 1 ≡ estimate grid cell start) → (b ≤ a → estimate grid next start ≡ estimate grid cell start + 1) → Keeps (nat_lt a b) next
-  keeps_if a b next towards away = (
-    λ is. (let e = towards (ltb-true a b is) in let l = at_level in omega arith),
-    λ low. ⊎_elim
-        (λ (less : a < b). lt-ltb a b less)
-        (λ (past : b ≤ a). let e = away past in let l = at_level in absurd (omega arith))
-        (cases_lt a b),
-  )
+  keeps_if a b next towards away = ⊎_elim
+      (λ (less : a < b). subst (λ flag. Keeps flag next) (sym (lt-ltb a b less)) (let e = towards less in let l = at_level in omega arith))
+      (λ (past : b ≤ a). subst (λ flag. Keeps flag next) (sym (le-ltb a b past)) (let e = away past in let l = at_level in omega arith))
+      (cases_lt a b)
 
   pub due_above : (a b : ℕ) → a ≡ row grid start → b ≡ row grid cell → (place : Option ℕ) → place ≡ cond (nat_le grid.width cell) (Some (cell - grid.width)) None → IfSome place (λ next. Keeps (nat_lt a b) next)
   due_above a b start_row cell_row None is = tt

@@ -1,10 +1,10 @@
 -- The properties of a search are preserved when a cell is expanded, and at its end the start's entry is its distance.
-use Rattle.std.proofs.Common.{◌≡◌, ◌⊎◌, ℕ, zero, suc, ◌+◌, ◌<◌, ◌≤◌, Option, Some, None, IfSome, IfNone, List, [], ◌∷◌, ◌++◌, All, Contains, replicate, length, slice_index_or, slice_set, sum, add-one, refl, sym, ◌∙◌, ap, subst, inl, inr, ⊎_elim, arith}
+use Rattle.std.proofs.Common.{◌≡◌, ◌⊎◌, ℕ, zero, suc, ◌+◌, ◌^◌, ◌<◌, ◌≤◌, Option, Some, None, IfSome, IfNone, List, [], ◌∷◌, ◌++◌, All, Contains, replicate, length, slice_index_or, slice_set, sum, add-one, refl, sym, ◌∙◌, ap, subst, inl, inr, ⊎_elim, arith}
 use Rattle.std.specs.Option.{option_to_list}
 use Rattle.std.proofs.Math.ListN.{length-set}
 use Rattle.std.proofs.lemmas.Bool.{cases_lt, cases_eq}
-use Rattle.std.proofs.lemmas.List.{get_or_default, get_or_past, length_push, append-nil, get_or-replicate, length-replicate}
-use Rattle.std.proofs.lemmas.List.Elements.{All-nil, All-pop, All-push, All-weaker, All-contains, Contains-append_left, Contains-push, Contains-push_cases}
+use Rattle.std.proofs.lemmas.List.{get_or_default, get_or_past, length_push, length-append, get_or-replicate, length-replicate}
+use Rattle.std.proofs.lemmas.List.Elements.{All-nil, All-push, All-weaker, All-contains, All-contains_itself, Contains-append_left, Contains-append_right, Contains-append_cases, Contains-push, Contains-push_cases}
 use Rattle.std.proofs.lemmas.List.Sums.{sum_by-set}
 use Rattle.mapf_model.specs.Distance.{Walk, IsDistance, IsUnreachable}
 use Rattle.mapf_model.specs.Grid.{GridMap, IsGridMap, IsFree, DifferByOne, Step, column, row}
@@ -13,7 +13,7 @@ use Rattle.mapf_model.proofs.StepLemmas.{neighbour_step, step_neighbour, step_en
 use Rattle.mapf_distance.specs.declared.wave.TheConstants.{BLOCKED, UNREACHED}
 use Rattle.mapf_distance.specs.Distances.{IsDistanceOrNone}
 use Rattle.mapf_distance.specs.Marks.{entry_of}
-use Rattle.mapf_distance.specs.Search.{IsSearch, IsSeen, IsTaken, IsKnown, IsSearchAt, IsSameSearch, IsPut, effort, gap, estimate, value_of}
+use Rattle.mapf_distance.specs.Search.{IsSearch, IsSeen, IsTaken, IsKnown, IsSearchAt, IsSameSearch, IsInserted, IsPut, effort, gap, estimate, open_of, value_of}
 use Rattle.mapf_distance.specs.declared.search.Search.{Search}
 use Rattle.mapf_distance.proofs.MarkLemmas.{entry_of-set_same, entry_of-set_other}
 use Rattle.mapf_distance.proofs.StepLemmas.{Step-sym, Walk-from_free}
@@ -39,6 +39,43 @@ estimate_step grid from to start (inr beside) = ⊎_elim
 
 pub estimate_self : (grid : GridMap) (start : ℕ) → estimate grid start start ≡ 0
 estimate_self grid start = omega arith
+
+-- the elements of a list into which a cell was inserted
+module _ (cell : ℕ) (old new : List ℕ) (inserted : IsInserted cell old new) where
+  ahead : List ℕ
+  ahead = inserted.0
+
+  behind : List ℕ
+  behind = inserted.1
+
+  pub inserted_keeps : (x : ℕ) → Contains old x → Contains new x
+  unfolding ahead behind
+  inserted_keeps x listed = subst (λ list. Contains list x) (sym inserted.3) (⊎_elim
+      (λ (before : Contains ahead x). Contains-append_left (ahead ++ cell ∷ []) behind x (Contains-append_left ahead (cell ∷ []) x before))
+      (λ (after : Contains behind x). Contains-append_right (ahead ++ cell ∷ []) behind x after)
+      (Contains-append_cases ahead behind x (subst (λ list. Contains list x) inserted.2 listed)))
+
+  pub inserted_cases : (x : ℕ) → Contains new x → Contains old x ⊎ (cell ≡ x)
+  unfolding ahead behind
+  inserted_cases x listed = ⊎_elim
+      (λ (before : Contains (ahead ++ cell ∷ []) x). ⊎_elim
+      (λ (kept : Contains ahead x). inl (subst (λ list. Contains list x) (sym inserted.2) (Contains-append_left ahead behind x kept)))
+      (λ (same : cell ≡ x). inr same)
+      (Contains-push_cases ahead cell x before))
+      (λ (after : Contains behind x). inl (subst (λ list. Contains list x) (sym inserted.2) (Contains-append_right ahead behind x after)))
+      (Contains-append_cases (ahead ++ cell ∷ []) behind x (subst (λ list. Contains list x) inserted.3 listed))
+
+  pub inserted_here : Contains new cell
+  unfolding ahead behind
+  inserted_here = subst (λ list. Contains list cell) (sym inserted.3) (Contains-append_left (ahead ++ cell ∷ []) behind cell (Contains-push ahead cell))
+
+  pub inserted_length : length new ≡ length old + 1
+  unfolding ahead behind
+  inserted_length =
+      let all = ap length inserted.3 ∙ length-append (ahead ++ cell ∷ []) behind in
+      let before = ap length inserted.2 ∙ length-append ahead behind in
+      let pushed = length_push ahead cell in
+      omega arith
 
 module _ (grid : GridMap) (start goal level : ℕ) (But : ℕ → Type 0) (table due later : List ℕ) (search : IsSearch grid start goal But level table due later) where
   -- a step from a cell leads to a cell whose entry is larger by more than one
@@ -71,13 +108,13 @@ module _ (grid : GridMap) (start goal level : ℕ) (But : ℕ → Type 0) (table
     taken_after x apart taken to go = let t = taken to go in let f = falls to in let o = other x apart in omega arith
 
     module _ (new_due new_later : List ℕ) (opens : (x : ℕ) → Contains due x → Contains new_due x) (waits : (x : ℕ) → Contains later x → Contains new_later x)
-        (due_known : All (IsKnown after) new_due) (later_known : All (IsKnown after) new_later)
-        (put : ((level ≤ distance + estimate grid next start) × Contains new_due next) ⊎ ((level < distance + estimate grid next start) × Contains new_later next)) where
+        (due_known : All (IsKnown after) new_due) (later_known : All (IsKnown after) new_later) (low : (x : ℕ) → Contains new_later x → level < 2 ^ 34)
+        (put : ((distance + estimate grid next start ≡ level) × Contains new_due next) ⊎ ((distance + estimate grid next start ≡ level + 2) × Contains new_later next)) where
       seen_after : (x : ℕ) → (x ≡ next → ⊥) → But x ⊎ IsSeen grid start level table due later x → But x ⊎ IsSeen grid start level after new_due new_later x
       seen_after x apart (inl but) = inl but
-      seen_after x apart (inr (inl taken)) = inr (inl (taken_after x apart taken))
-      seen_after x apart (inr (inr (inl (low, listed)))) = inr (inr (inl ((let o = other x apart in omega arith), opens x listed)))
-      seen_after x apart (inr (inr (inr (low, listed)))) = inr (inr (inr ((let o = other x apart in omega arith), waits x listed)))
+      seen_after x apart (inr (inl (high, taken))) = inr (inl ((let o = other x apart in omega arith), taken_after x apart taken))
+      seen_after x apart (inr (inr (inl (is_level, listed)))) = inr (inr (inl ((let o = other x apart in omega arith), opens x listed)))
+      seen_after x apart (inr (inr (inr (is_next, listed)))) = inr (inr (inr ((let o = other x apart in omega arith), waits x listed)))
 
       seen_here : But next ⊎ IsSeen grid start level after new_due new_later next
       seen_here = inr (inr (⊎_elim
@@ -100,6 +137,7 @@ module _ (grid : GridMap) (start goal level : ℕ) (But : ℕ → Type 0) (table
             (cases_eq x next);
         due_known = due_known;
         later_known = later_known;
+        low = low;
         seen = λ x k. ⊎_elim
             (λ (same : x ≡ next). subst (λ at. But at ⊎ IsSeen grid start level after new_due new_later at) (sym same) seen_here)
             (λ (apart : x ≡ next → ⊥). let o = other x apart in seen_after x apart (search.seen x (omega arith)))
@@ -115,15 +153,21 @@ module _ (grid : GridMap) (start goal level : ℕ) (But : ℕ → Type 0) (table
     next_known : IsKnown after next
     next_known = let h = here in let s = small in omega arith
 
-    pub reach_open : level ≤ distance + estimate grid next start → IsSearch grid start goal But level (slice_set table next distance) (due ++ next ∷ []) later
+    pub reach_open : (new_due : List ℕ) → IsInserted next due new_due → distance + estimate grid next start ≡ level → IsSearch grid start goal But level (slice_set table next distance) new_due later
     unfolding after
-    reach_open low = reached (due ++ next ∷ []) later (λ x listed. Contains-append_left due (next ∷ []) x listed) (λ x listed. listed)
-        (All-push (IsKnown after) due next known_after next_known) waiting_after (inl (low, Contains-push due next))
+    reach_open new_due inserted is_level = reached new_due later (inserted_keeps next due new_due inserted) (λ x listed. listed)
+        (All-weaker (Contains new_due) (IsKnown after)
+        (λ x listed. ⊎_elim
+        (λ (before : Contains due x). All-contains (IsKnown after) due x known_after before)
+        (λ (same : next ≡ x). subst (IsKnown after) same next_known)
+        (inserted_cases next due new_due inserted x listed))
+        new_due (All-contains_itself new_due))
+        waiting_after search.low (inl (is_level, inserted_here next due new_due inserted))
 
-    pub reach_later : level < distance + estimate grid next start → IsSearch grid start goal But level (slice_set table next distance) due (later ++ next ∷ [])
+    pub reach_later : level < 2 ^ 34 → distance + estimate grid next start ≡ level + 2 → IsSearch grid start goal But level (slice_set table next distance) due (later ++ next ∷ [])
     unfolding after
-    reach_later low = reached due (later ++ next ∷ []) (λ x listed. listed) (λ x listed. Contains-append_left later (next ∷ []) x listed)
-        known_after (All-push (IsKnown after) later next waiting_after next_known) (inr (low, Contains-push later next))
+    reach_later low is_next = reached due (later ++ next ∷ []) (λ x listed. listed) (λ x listed. Contains-append_left later (next ∷ []) x listed)
+        known_after (All-push (IsKnown after) later next waiting_after next_known) (λ x listed. low) (inr (is_next, Contains-push later next))
 
     pub reach_falls : sum (slice_set table next distance) + 1 ≤ sum table
     reach_falls = let s = sum_by-set (λ x. x) table next distance BLOCKED inside in omega arith
@@ -137,7 +181,7 @@ module _ (grid : GridMap) (start goal level : ℕ) (But : ℕ → Type 0) (table
     reach_lowers = falls
 
   -- no open cell is left on the level
-  pub risen : due ≡ [] → IsSearch grid start goal But (level + 1) table later []
+  pub risen : due ≡ [] → IsSearch grid start goal But (level + 2) table later []
   risen swept = record {
     shape = search.shape;
     free = search.free;
@@ -147,14 +191,15 @@ module _ (grid : GridMap) (start goal level : ℕ) (But : ℕ → Type 0) (table
     walks = search.walks;
     due_known = search.later_known;
     later_known = All-nil (IsKnown table);
+    low = λ x listed. absurd (Contains-none x listed);
     seen = λ x k. again x (search.seen x k);
   }
     where
-      again : (x : ℕ) → But x ⊎ IsSeen grid start level table due later x → But x ⊎ IsSeen grid start (level + 1) table later [] x
+      again : (x : ℕ) → But x ⊎ IsSeen grid start level table due later x → But x ⊎ IsSeen grid start (level + 2) table later [] x
       again x (inl but) = inl but
-      again x (inr (inl taken)) = inr (inl taken)
-      again x (inr (inr (inl (low, listed)))) = absurd (Contains-none x (subst (λ list. Contains list x) swept listed))
-      again x (inr (inr (inr (low, listed)))) = inr (inr (inl (omega arith, listed)))
+      again x (inr (inl (high, taken))) = inr (inl (omega arith, taken))
+      again x (inr (inr (inl (is_level, listed)))) = absurd (Contains-none x (subst (λ list. Contains list x) swept listed))
+      again x (inr (inr (inr (is_next, listed)))) = inr (inr (inl (is_next, listed)))
 
 -- what holds after a cell beside this one was reached
 pub record IsReachedAt (grid : GridMap) (cell distance next : ℕ) (old new : Search) : Type 0 where
@@ -165,32 +210,31 @@ pub record IsReachedAt (grid : GridMap) (cell distance next : ℕ) (old new : Se
   pub falls : (x : ℕ) → entry_of new.table.items x ≤ entry_of old.table.items x
   pub here : entry_of new.table.items next ≤ distance
 
-pub reached_at : (grid : GridMap) (cell distance next : ℕ) (old new : Search) → IsSearchAt grid cell old → entry_of old.table.items cell + 1 ≡ distance → value_of grid old.start old.table.items cell ≡ old.level →
+pub reached_at : (grid : GridMap) (cell distance next : ℕ) (old new : Search) → IsSearchAt grid cell old → entry_of old.table.items cell + 1 ≡ distance → value_of grid old.start old.table.items cell ≡ old.level → old.level < 2 ^ 34 →
     Step grid cell next → next < length old.table.items → distance < entry_of old.table.items next →
     new.table.items ≡ slice_set old.table.items next distance → IsPut next (distance + estimate grid next old.start) old new → IsSameSearch old new → IsReachedAt grid cell distance next old new
-reached_at grid cell distance next old new (s, known) is level step inside more table put same =
+reached_at grid cell distance next old new (s, known) is level low step inside more table put same =
     let table_before : List ℕ = old.table.items in
-    let due : List ℕ = old.due.items in
+    let due : List ℕ = open_of old in
     let later : List ℕ = old.later.items in
     let nearer = estimate_step grid cell next old.start step in
     let keeps = reach_keeps_entry grid old.start old.goal old.level (λ other. other ≡ cell) table_before due later s cell next distance known is step inside more in
     let falls = reach_falls grid old.start old.goal old.level (λ other. other ≡ cell) table_before due later s cell next distance known is step inside more in
     let lowers = reach_lowers grid old.start old.goal old.level (λ other. other ≡ cell) table_before due later s cell next distance known is step inside more in
-    let longer = length_push due next in
     record {
       search = (
         ⊎_elim
+            (λ p. rw (same.start, same.goal, same.level, table, p.2)
+            (reach_open grid old.start old.goal old.level (λ other. other ≡ cell) table_before due later s cell next distance known is step inside more (open_of new) p.1 p.0))
             (λ p. rw (same.start, same.goal, same.level, table, p.1, p.2)
-            (reach_open grid old.start old.goal old.level (λ other. other ≡ cell) table_before due later s cell next distance known is step inside more (omega arith)))
-            (λ p. rw (same.start, same.goal, same.level, table, p.1, p.2)
-            (reach_later grid old.start old.goal old.level (λ other. other ≡ cell) table_before due later s cell next distance known is step inside more p.0))
+            (reach_later grid old.start old.goal old.level (λ other. other ≡ cell) table_before due later s cell next distance known is step inside more low p.0))
             put,
         rw table (rw keeps known),
       );
       entry = rw table (rw keeps is);
       level = rw (same.start, same.level, table) (rw keeps level);
       effort = ⊎_elim
-          (λ p. rw (table, p.1) (omega arith))
+          (λ p. rw table (let longer = inserted_length next due (open_of new) p.1 in omega arith))
           (λ p. rw (table, p.1) (omega arith))
           put;
       falls = λ x. rw table (lowers x);
@@ -198,13 +242,13 @@ reached_at grid cell distance next old new (s, known) is level step inside more 
     }
 
 -- a cell is taken from those of the level
-module _ (grid : GridMap) (start goal level : ℕ) (table due later : List ℕ) (cell : ℕ) where
+module _ (grid : GridMap) (start goal level : ℕ) (table due rest later : List ℕ) (cell : ℕ) where
   abbrev At : ℕ → Type 0
   At other = other ≡ cell
 
-  pub taken_out : IsSearch grid start goal (λ x. ⊥) level table (due ++ cell ∷ []) later →
-      IsSearch grid start goal At level table due later × IsKnown table cell × (value_of grid start table cell < level → IsTaken grid table cell)
-  taken_out search = (
+  pub taken_out : IsInserted cell rest due → IsSearch grid start goal (λ x. ⊥) level table due later →
+      IsSearch grid start goal At level table rest later × IsKnown table cell × ((value_of grid start table cell ≡ level → ⊥) → IsSeen grid start level table rest later cell)
+  taken_out inserted search = (
     record {
       shape = search.shape;
       free = search.free;
@@ -212,70 +256,73 @@ module _ (grid : GridMap) (start goal level : ℕ) (table due later : List ℕ) 
       top = search.top;
       source = search.source;
       walks = search.walks;
-      due_known = (All-pop (IsKnown table) (due ++ cell ∷ []) due (Some cell) refl search.due_known).0;
+      due_known = All-weaker (Contains rest) (IsKnown table) (λ x listed. All-contains (IsKnown table) due x search.due_known (inserted_keeps cell rest due inserted x listed)) rest (All-contains_itself rest);
       later_known = search.later_known;
+      low = search.low;
       seen = λ x k. out x (search.seen x k);
     },
-    All-contains (IsKnown table) (due ++ cell ∷ []) cell search.due_known (Contains-push due cell),
-    λ low. passed low (search.seen cell (All-contains (IsKnown table) (due ++ cell ∷ []) cell search.due_known (Contains-push due cell))),
+    All-contains (IsKnown table) due cell search.due_known (inserted_here cell rest due inserted),
+    λ apart. passed apart (search.seen cell (All-contains (IsKnown table) due cell search.due_known (inserted_here cell rest due inserted))),
   )
     where
-      out : (x : ℕ) → ⊥ ⊎ IsSeen grid start level table (due ++ cell ∷ []) later x → At x ⊎ IsSeen grid start level table due later x
+      out : (x : ℕ) → ⊥ ⊎ IsSeen grid start level table due later x → At x ⊎ IsSeen grid start level table rest later x
       out x (inl none) = absurd none
       out x (inr (inl taken)) = inr (inl taken)
-      out x (inr (inr (inl (low, listed)))) = ⊎_elim
-          (λ (before : Contains due x). inr (inr (inl (low, before))))
+      out x (inr (inr (inl (is_level, listed)))) = ⊎_elim
+          (λ (before : Contains rest x). inr (inr (inl (is_level, before))))
           (λ (same : cell ≡ x). inl (sym same))
-          (Contains-push_cases due cell x listed)
+          (inserted_cases cell rest due inserted x listed)
       out x (inr (inr (inr waits))) = inr (inr (inr waits))
 
-      passed : value_of grid start table cell < level → ⊥ ⊎ IsSeen grid start level table (due ++ cell ∷ []) later cell → IsTaken grid table cell
-      passed low (inl none) = absurd none
-      passed low (inr (inl taken)) = taken
-      passed low (inr (inr (inl (high, listed)))) = absurd (omega arith)
-      passed low (inr (inr (inr (high, listed)))) = absurd (omega arith)
+      passed : (value_of grid start table cell ≡ level → ⊥) → ⊥ ⊎ IsSeen grid start level table due later cell → IsSeen grid start level table rest later cell
+      passed apart (inl none) = absurd none
+      passed apart (inr (inl taken)) = inl taken
+      passed apart (inr (inr (inl (is_level, listed)))) = absurd (apart is_level)
+      passed apart (inr (inr (inr waits))) = inr (inr waits)
 
-  -- the cell is expanded or open afterwards
-  module _ (search : IsSearch grid start goal At level table due later) where
-    seen_all : (new_later : List ℕ) → ((x : ℕ) → Contains later x → Contains new_later x) → All (IsKnown table) new_later → IsSeen grid start level table due new_later cell →
-        IsSearch grid start goal (λ x. ⊥) level table due new_later
-    seen_all new_later waits waiting now = record {
-      shape = search.shape;
-      free = search.free;
-      count = search.count;
-      top = search.top;
-      source = search.source;
-      walks = search.walks;
-      due_known = search.due_known;
-      later_known = waiting;
-      seen = λ x k. all x (search.seen x k);
-    }
-      where
-        all : (x : ℕ) → At x ⊎ IsSeen grid start level table due later x → ⊥ ⊎ IsSeen grid start level table due new_later x
-        all x (inl same) = inr (subst (λ at. IsSeen grid start level table due new_later at) (sym same) now)
-        all x (inr (inl taken)) = inr (inl taken)
-        all x (inr (inr (inl listed))) = inr (inr (inl listed))
-        all x (inr (inr (inr (low, listed)))) = inr (inr (inr (low, waits x listed)))
+-- the cell is expanded or open afterwards
+module _ (grid : GridMap) (start goal level : ℕ) (table due later : List ℕ) (cell : ℕ) (search : IsSearch grid start goal (λ other. other ≡ cell) level table due later) where
+  pub seen_all : IsSeen grid start level table due later cell → IsSearch grid start goal (λ x. ⊥) level table due later
+  seen_all now = record {
+    shape = search.shape;
+    free = search.free;
+    count = search.count;
+    top = search.top;
+    source = search.source;
+    walks = search.walks;
+    due_known = search.due_known;
+    later_known = search.later_known;
+    low = search.low;
+    seen = λ x k. all x (search.seen x k);
+  }
+    where
+      all : (x : ℕ) → (x ≡ cell) ⊎ IsSeen grid start level table due later x → ⊥ ⊎ IsSeen grid start level table due later x
+      all x (inl same) = inr (subst (λ at. IsSeen grid start level table due later at) (sym same) now)
+      all x (inr seen) = inr seen
 
-    pub all_taken : IsTaken grid table cell → IsSearch grid start goal (λ x. ⊥) level table due later
-    all_taken taken = seen_all later (λ x listed. listed) search.later_known (inl taken)
+  pub all_taken : value_of grid start table cell ≡ level → IsTaken grid table cell → IsSearch grid start goal (λ x. ⊥) level table due later
+  all_taken is_level taken = seen_all (inl (omega arith, taken))
 
-    pub put_later : IsKnown table cell → level < value_of grid start table cell → IsSearch grid start goal (λ x. ⊥) level table due (later ++ cell ∷ [])
-    put_later known low = seen_all (later ++ cell ∷ []) (λ x listed. Contains-append_left later (cell ∷ []) x listed)
-        (All-push (IsKnown table) later cell search.later_known known) (inr (inr (low, Contains-push later cell)))
+-- a level with later cells is low
+pub low_level : (level : ℕ) (later : List ℕ) → (length later ≡ 0 → ⊥) → ((cell : ℕ) → Contains later cell → level < 2 ^ 34) → level < 2 ^ 34
+low_level level [] some low = absurd (some refl)
+low_level level (cell ∷ later) some low = low cell (zero, omega arith, refl)
+
+-- of two lists that are empty together each is empty
+pub both_empty : (xs ys : List ℕ) → xs ++ ys ≡ [] → (xs ≡ []) × (ys ≡ [])
+both_empty [] ys none = (refl, none)
+both_empty (x ∷ xs) ys none = absurd (let e = ap length none in omega arith)
 
 -- whatever cell is taken out
-pub popped : (grid : GridMap) (start goal level : ℕ) (table due rest later : List ℕ) (r : Option ℕ) → IsSearch grid start goal (λ x. ⊥) level table due later → due ≡ rest ++ option_to_list r →
-    IfSome r (λ cell. (IsSearch grid start goal (λ x. x ≡ cell) level table rest later × IsKnown table cell) × (value_of grid start table cell < level → IsTaken grid table cell))
-popped grid start goal level table due rest later None search is = tt
-popped grid start goal level table due rest later (Some cell) search is =
-    let t = taken_out grid start goal level table rest later cell (subst (λ list. IsSearch grid start goal (λ x. ⊥) level table list later) is search) in
+pub popped : (grid : GridMap) (start goal level : ℕ) (table due rest front tail later : List ℕ) (r : Option ℕ) → IsSearch grid start goal (λ x. ⊥) level table due later →
+    rest ≡ front ++ tail → due ≡ front ++ option_to_list r ++ tail →
+    IfSome r (λ cell. (IsSearch grid start goal (λ x. x ≡ cell) level table rest later × IsKnown table cell)
+    × ((value_of grid start table cell ≡ level → ⊥) → IsSeen grid start level table rest later cell))
+popped grid start goal level table due rest front tail later None search left is = tt
+popped grid start goal level table due rest front tail later (Some cell) search left is =
+    let inserted : IsInserted cell rest due = (front, tail, left, is) in
+    let t = taken_out grid start goal level table due rest later cell inserted search in
     ((t.0, t.1), t.2)
-
-pub popped_none : (grid : GridMap) (start goal level : ℕ) (table due rest later : List ℕ) (r : Option ℕ) → IsSearch grid start goal (λ x. ⊥) level table due later → due ≡ rest ++ option_to_list r →
-    IfNone r (IsSearch grid start goal (λ x. ⊥) level table rest later)
-popped_none grid start goal level table due rest later None search is = subst (λ list. IsSearch grid start goal (λ x. ⊥) level table list later) (is ∙ append-nil rest) search
-popped_none grid start goal level table due rest later (Some cell) search is = tt
 
 -- the start's entry is its distance if the level is at least the entry
 module _ (grid : GridMap) (start goal level : ℕ) (table due later : List ℕ) (search : IsSearch grid start goal (λ x. ⊥) level table due later) where
@@ -285,9 +332,9 @@ module _ (grid : GridMap) (start goal level : ℕ) (table due later : List ℕ) 
     where
       from : ⊥ ⊎ IsSeen grid start level table due later x → IsTaken grid table x
       from (inl none) = absurd none
-      from (inr (inl taken)) = taken
-      from (inr (inr (inl (least, listed)))) = absurd (omega arith)
-      from (inr (inr (inr (least, listed)))) = absurd (omega arith)
+      from (inr (inl (high, taken))) = taken
+      from (inr (inr (inl (is_level, listed)))) = absurd (omega arith)
+      from (inr (inr (inr (is_next, listed)))) = absurd (omega arith)
 
   -- a walk that may lead the start to the goal in fewer steps bounds the entries on it
   pub walk_bound : (bound : ℕ) → bound ≤ level → bound ≤ UNREACHED → (n x : ℕ) → Walk grid x goal n → n + estimate grid x start < bound → entry_of table x ≤ n
@@ -387,6 +434,7 @@ module _ (grid : GridMap) (start goal cells : ℕ) (shape : IsGridMap grid) (fre
     walks = λ x k. subst (λ at. Walk grid at goal (entry_of first at)) (sym (first_only x k)) (subst (λ n. Walk grid goal goal n) (sym first_here) (free_goal, refl));
     due_known = All-push (IsKnown first) [] goal (All-nil (IsKnown first)) (let h = first_here in omega arith);
     later_known = All-nil (IsKnown first);
+    low = λ x listed. absurd (Contains-none x listed);
     seen = λ x k. subst (λ at. ⊥ ⊎ IsSeen grid start (estimate grid goal start) first (goal ∷ []) [] at) (sym (first_only x k))
         (inr (inr (inl ((let h = first_here in omega arith), Contains-push [] goal))));
   }

@@ -7,7 +7,7 @@ use Rattle.mapf_model.specs.Distance.{Walk, IsDistance}
 use Rattle.mapf_model.specs.Grid.{GridMap, IsFree, Step, free_cell_count}
 use Rattle.mapf_distance.specs.declared.search.Search.{Search}
 use Rattle.mapf_distance.specs.Marks.{entry_of}
-use Rattle.mapf_distance.specs.Search.{IsSettled, estimate}
+use Rattle.mapf_distance.specs.Search.{IsSettled, estimate, open_of}
 use Rattle.mapf_distance.proofs.DescentLemmas.{IsDistance-one, nearer_step}
 use Rattle.mapf_distance.proofs.SearchLemmas.{estimate_step, risen, walk_bound}
 use Rattle.mapf_distance.proofs.StepLemmas.{Step-sym, Walk-from_free}
@@ -27,8 +27,8 @@ module _ (grid : GridMap) (bound : ℕ) (search : Search) (settled : IsSettled g
       let swept = settled.swept in
       let within = settled.within in
       let small = settled.small in
-      walk_bound grid search.start search.goal (search.level + 1) search.table.items search.later.items []
-      (risen grid search.start search.goal search.level (λ other. ⊥) search.table.items search.due.items search.later.items settled.searched swept)
+      walk_bound grid search.start search.goal (search.level + 2) search.table.items search.later.items []
+      (risen grid search.start search.goal search.level (λ other. ⊥) search.table.items (open_of search) search.later.items settled.searched swept)
       (bound + 1) (omega arith) (omega arith) n x walk (omega arith)
 
   entry_if_distance : (n x : ℕ) → n + estimate grid x search.start ≤ bound → IsDistance grid search.goal x n → entry_of search.table.items x ≡ n

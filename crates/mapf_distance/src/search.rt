@@ -1,15 +1,14 @@
 ghost use Rattle.std.specs.Prelude.{ℕ, ◌≡◌, ◌+◌, ◌<◌, ◌≤◌, ◌^◌, ◌↔◌, [], IfNone, IfOk, IfSome};
-ghost use Rattle.std.specs.Prelude.{OnOk, OnSome, IsTrue, length, slice_set, vec_len};
-ghost use Rattle.mapf_model.specs.Distance.{IsDistance};
+ghost use Rattle.std.specs.Prelude.{Contains, OnOk, OnSome, IsTrue, if◌then◌else◌, length, slice_set, vec_len};
+ghost use Rattle.mapf_model.specs.Distance.{IsDistance, IsUnreachable};
 ghost use Rattle.mapf_model.specs.Grid.{GridMap, IsFree, column, row};
 ghost use Rattle.mapf_distance.specs.Distances.{IsDistanceOrNone};
 ghost use Rattle.mapf_distance.specs.Marks.{entry_of};
-ghost use Rattle.mapf_distance.specs.Search.{IsRelaxed, IsPassed, IsPut, IsSameSearch, IsSearchAt, IsSearchOn};
-ghost use Rattle.mapf_distance.specs.Search.{effort, estimate, gap, value_of};
+ghost use Rattle.mapf_distance.specs.Search.{IsAim, IsEnded, IsFound, IsPassed, IsPut, IsRelaxed, IsSameSearch};
+ghost use Rattle.mapf_distance.specs.Search.{IsSearchAt, IsSearchOn, effort, estimate, gap, open_of, value_of};
 
-use crate::distances::Distances;
 use crate::wave::UNREACHED;
-use mapf_model::{Cell, Grid, OutOfMemory};
+use mapf_model::{Cell, Grid, Neighbourhoods, OutOfMemory};
 use std::alloc::Global;
 use std::mem;
 
@@ -28,15 +27,12 @@ pub fn distance_between(
 {
     let mut search = Search::of(alloc, grid, start, goal)?;
     search.spread(grid)?;
-    match search.found() {
-        Some(distance) => Ok(Some(distance)),
-        // All cells that lead to the goal were expanded. The table shows whether the start is one of them.
-        None => Ok(Distances::of(alloc, grid, goal)?.get(start)),
-    }
+    Ok(search.found())
 }
 
 /// A* from a goal towards a start (Hart et al. 1968): cells are expanded by rising f-value, that is, the steps found
-/// between the cell and the goal, plus the Manhattan distance from the start.
+/// between the cell and the goal, plus the Manhattan distance from the start. A step keeps the f-value or raises it
+/// by 2.
 #[derive(Drop)]
 pub struct Search {
     start: Cell,
@@ -45,10 +41,19 @@ pub struct Search {
     level: u64,
     // An entry for each cell: the least number of steps to the goal found so far, or that none was found.
     table: Vec<u32>,
-    // The open cells of this f-value.
+    // The open cells of this f-value. Those that a step along a column reached are in a list of their own.
     due: Vec<Cell>,
-    // The open cells of a greater one.
+    next_row: Vec<Cell>,
+    // The open cells of the f-value that is greater by 2.
     later: Vec<Cell>,
+}
+
+/// What a search needs of its grid and its start for each cell that it expands.
+#[derive(Drop)]
+struct Aim {
+    neighbourhoods: Neighbourhoods,
+    column: u32,
+    row: u32,
 }
 
 impl Search {
@@ -67,6 +72,7 @@ impl Search {
             level: manhattan_distance(grid.xy(goal), grid.xy(start)),
             table: vec![in alloc; UNREACHED; cells]?,
             due: Vec::new(alloc),
+            next_row: Vec::new(alloc),
             later: Vec::new(alloc),
         };
         search.table[goal.0 as usize] = 0;
@@ -80,19 +86,22 @@ impl Search {
         self.start
     }
 
-    /// Returns the distance of the start, once it is known.
+    /// Returns the distance of the start, once it is known. Once no cell is open, None says that no steps lead from there
+    /// to the goal.
     pub fn found(&self) -> Option<u32>
         requires { self.now.start < vec_len self.now.table }
         ensures distance { (grid : GridMap) → IsSearchOn grid self.now
             → IfSome result (IsDistance grid self.now.goal self.now.start) }
         ensures small { IfSome result (λ distance. distance < UNREACHED) }
         ensures within { IfSome result (λ distance. distance ≤ self.now.level) }
+        ensures none { (grid : GridMap) → IsSearchOn grid self.now → IsEnded self.now
+            → IfNone result (IsUnreachable grid self.now.goal self.now.start) }
     {
-        let distance = self.entry(self.start);
-        if self.is_short() || distance >= UNREACHED {
-            return None;
+        if self.is_found() {
+            Some(self.entry(self.start))
+        } else {
+            None
         }
-        Some(distance)
     }
 
     fn entry(&self, cell: Cell) -> u32
@@ -110,59 +119,102 @@ impl Search {
         self.table.get(cell.0 as usize) == Some(&distance)
     }
 
-    // Returns whether the start may be nearer than what was found.
-    fn is_short(&self) -> bool
+    // Returns whether the start was reached, and can't be nearer than what was found.
+    fn is_found(&self) -> bool
         requires { self.now.start < vec_len self.now.table }
-        ensures { IsTrue result ↔ (self.now.level < entry_of self.now.table.items self.now.start) }
+        ensures { IsTrue result ↔ IsFound self.now }
     {
-        self.level < self.entry(self.start) as u64
+        let distance = self.entry(self.start);
+        distance < UNREACHED && distance as u64 <= self.level
     }
 
-    /// Expands cells until the start's distance is known, or no cell is open.
+    fn aim(&self, grid: &Grid) -> Aim
+        requires { IsSearchOn grid.now self.now }
+        ensures { IsAim grid.now self.now.start result }
+    {
+        let neighbourhoods = Neighbourhoods::of(grid);
+        let (column, row) = grid.xy(self.start);
+        Aim {
+            neighbourhoods,
+            column,
+            row,
+        }
+    }
+
+    /// Expands cells until the start's distance is known, or no cell is open. Of the cells of an f-value one that was
+    /// reached last comes first. So few cells are expanded where many paths are equally short.
     pub fn spread(&mut self, grid: &Grid) -> Result<(), OutOfMemory>
         requires { IsSearchOn grid.now self.old }
         ensures search { OnOk result (IsSearchOn grid.now self.new) }
         ensures start { OnOk result (self.new.start ≡ self.old.start) }
         ensures goal { OnOk result (self.new.goal ≡ self.old.goal) }
+        ensures ended { OnOk result (IsEnded self.new) }
     {
-        while self.is_short() {
-            self.sweep(grid)?;
-            if !self.is_short() || !self.rise() {
+        let aim = self.aim(grid);
+        self.dive(grid, &aim)?;
+        while !self.is_found() {
+            if !self.rise() {
                 return Ok(());
             }
+            self.dive(grid, &aim)?;
+        }
+        Ok(())
+    }
+
+    /// Expands all cells up to the f-value at which the start's distance is known, or all that lead to the goal. In the
+    /// first case each cell of a shortest path has its distance as its entry. Of the cells of an f-value those of a row
+    /// come before those of the next one. So most cells are reached in their least number of steps first, and few are
+    /// open.
+    pub fn settle(&mut self, grid: &Grid) -> Result<(), OutOfMemory>
+        requires { IsSearchOn grid.now self.old }
+        ensures search { OnOk result (IsSearchOn grid.now self.new) }
+        ensures start { OnOk result (self.new.start ≡ self.old.start) }
+        ensures goal { OnOk result (self.new.goal ≡ self.old.goal) }
+        ensures ended { OnOk result (IsEnded self.new) }
+        ensures swept { OnOk result (open_of self.new ≡ []) }
+    {
+        let aim = self.aim(grid);
+        self.sweep(grid, &aim)?;
+        while !self.is_found() {
+            if !self.rise() {
+                return Ok(());
+            }
+            self.sweep(grid, &aim)?;
         }
         Ok(())
     }
 
     // Moves to the next f-value, if a cell is open. Returns false otherwise.
     fn rise(&mut self) -> bool
-        requires low { self.old.level < 2 ^ 32 }
-        requires swept { self.old.due.items ≡ [] }
+        requires swept { open_of self.old ≡ [] }
+        requires low { (cell : ℕ) → Contains self.old.later.items cell → self.old.level < 2 ^ 34 }
         ensures search { (grid : GridMap) → IsSearchOn grid self.old → IsSearchOn grid self.new }
-        ensures level { IsTrue result → self.new.level ≡ self.old.level + 1 }
+        ensures level { IsTrue result → self.new.level ≡ self.old.level + 2 }
+        ensures low { IsTrue result → self.new.level < 2 ^ 35 }
         ensures start { self.new.start ≡ self.old.start }
         ensures goal { self.new.goal ≡ self.old.goal }
         ensures table { self.new.table.items ≡ self.old.table.items }
+        ensures ended { (IsTrue result → ⊥) → (self.new ≡ self.old) × (self.new.later.items ≡ []) }
     {
         if self.later.is_empty() {
             return false;
         }
         mem::swap(&mut self.due, &mut self.later);
-        self.level += 1;
+        self.level += 2;
         true
     }
 
-    // Expands the cells of this f-value, until the start's distance is known or none is left.
-    fn sweep(&mut self, grid: &Grid) -> Result<(), OutOfMemory>
-        requires { IsSearchOn grid.now self.old }
+    // Expands cells of this f-value, one that was reached last first, until the start's distance is known or none is
+    // left.
+    fn dive(&mut self, grid: &Grid, aim: &Aim) -> Result<(), OutOfMemory>
+        requires search { IsSearchOn grid.now self.old }
+        requires aim { IsAim grid.now self.old.start aim.now }
         ensures search { OnOk result (IsSearchOn grid.now self.new) }
         ensures same { OnOk result (IsSameSearch self.old self.new) }
-        ensures swept { OnOk result (self.new.level < entry_of self.new.table.items self.new.start
-            → self.new.due.items ≡ []) }
+        ensures swept { OnOk result ((IsFound self.new → ⊥) → open_of self.new ≡ []) }
     {
-        let aim = grid.xy(self.start);
-        while self.is_short() {
-            let Some(cell) = self.next() else {
+        while !self.is_found() {
+            let Some(cell) = self.newest() else {
                 return Ok(());
             };
             self.look_at(grid, aim, cell)?;
@@ -170,49 +222,66 @@ impl Search {
         Ok(())
     }
 
-    /// Expands all cells of this f-value. Then each cell of a shortest path has its distance as its entry.
-    pub fn finish(&mut self, grid: &Grid) -> Result<(), OutOfMemory>
-        requires { IsSearchOn grid.now self.old }
+    // Expands all cells of this f-value.
+    fn sweep(&mut self, grid: &Grid, aim: &Aim) -> Result<(), OutOfMemory>
+        requires search { IsSearchOn grid.now self.old }
+        requires aim { IsAim grid.now self.old.start aim.now }
         ensures search { OnOk result (IsSearchOn grid.now self.new) }
         ensures same { OnOk result (IsSameSearch self.old self.new) }
-        ensures swept { OnOk result (self.new.due.items ≡ []) }
+        ensures swept { OnOk result (open_of self.new ≡ []) }
     {
-        let aim = grid.xy(self.start);
-        while let Some(cell) = self.next() {
+        while let Some(cell) = self.oldest() {
             self.look_at(grid, aim, cell)?;
         }
         Ok(())
     }
 
-    // Removes and returns an open cell of this f-value.
-    fn next(&mut self) -> Option<Cell>
+    // Removes and returns an open cell of this f-value. A cell has one step along its column at most that keeps the
+    // f-value, so the next row has at most one cell here, and it was reached last.
+    fn newest(&mut self) -> Option<Cell>
         ensures some { (grid : GridMap) → IsSearchOn grid self.old → IfSome result (λ cell.
             IsSearchAt grid cell self.new × IsPassed grid cell self.new) }
-        ensures none { IfNone result (self.new.due.items ≡ []) }
+        ensures none { IfNone result (open_of self.new ≡ []) }
         ensures kept { (grid : GridMap) → IsSearchOn grid self.old → IfNone result (IsSearchOn grid self.new) }
         ensures effort { OnSome result (effort self.new + 1 ≤ effort self.old) }
         ensures same { IsSameSearch self.old self.new }
     {
+        if self.next_row.is_empty() {
+            self.due.pop()
+        } else {
+            self.next_row.pop()
+        }
+    }
+
+    // Removes and returns an open cell of this f-value, one of the next row only if there is no other.
+    fn oldest(&mut self) -> Option<Cell>
+        ensures some { (grid : GridMap) → IsSearchOn grid self.old → IfSome result (λ cell.
+            IsSearchAt grid cell self.new × IsPassed grid cell self.new) }
+        ensures none { IfNone result (open_of self.new ≡ []) }
+        ensures kept { (grid : GridMap) → IsSearchOn grid self.old → IfNone result (IsSearchOn grid self.new) }
+        ensures effort { OnSome result (effort self.new + 1 ≤ effort self.old) }
+        ensures same { IsSameSearch self.old self.new }
+    {
+        if !self.due.is_empty() {
+            return self.due.pop();
+        }
+        mem::swap(&mut self.due, &mut self.next_row);
         self.due.pop()
     }
 
-    // Expands the cell, if it is of this f-value. The start's column and row are given, as they take a division.
+    // Expands the cell, if it is of this f-value. Otherwise it was reached in fewer steps since it was opened.
     #[inline(always)]
-    fn look_at(&mut self, grid: &Grid, aim: (u32, u32), cell: Cell) -> Result<(), OutOfMemory>
+    fn look_at(&mut self, grid: &Grid, aim: &Aim, cell: Cell) -> Result<(), OutOfMemory>
         requires search { IsSearchAt grid.now cell self.old }
         requires passed { IsPassed grid.now cell self.old }
-        requires column { aim.0 ≡ column grid.now self.old.start }
-        requires row { aim.1 ≡ row grid.now self.old.start }
+        requires aim { IsAim grid.now self.old.start aim.now }
         ensures search { OnOk result (IsSearchOn grid.now self.new) }
         ensures same { OnOk result (IsSameSearch self.old self.new) }
         ensures effort { OnOk result (effort self.new ≤ effort self.old) }
     {
-        let at = grid.xy(cell);
-        let value = self.entry(cell) as u64 + manhattan_distance(at, aim);
-        if value == self.level {
+        let at = aim.neighbourhoods.xy(cell);
+        if self.entry(cell) as u64 + manhattan_distance(at, (aim.column, aim.row)) == self.level {
             self.expand(grid, aim, at, cell)?;
-        } else if value > self.level {
-            self.later.push(cell)?;
         }
         Ok(())
     }
@@ -222,34 +291,33 @@ impl Search {
     fn expand(
         &mut self,
         grid: &Grid,
-        aim: (u32, u32),
+        aim: &Aim,
         at: (u32, u32),
         cell: Cell,
     ) -> Result<(), OutOfMemory>
         requires search { IsSearchAt grid.now cell self.old }
         requires level { value_of grid.now self.old.start self.old.table.items cell ≡ self.old.level }
-        requires aim_column { aim.0 ≡ column grid.now self.old.start }
-        requires aim_row { aim.1 ≡ row grid.now self.old.start }
-        requires at_column { at.0 ≡ column grid.now cell }
-        requires at_row { at.1 ≡ row grid.now cell }
+        requires low { self.old.level < 2 ^ 34 }
+        requires aim { IsAim grid.now self.old.start aim.now }
+        requires column { at.0 ≡ column grid.now cell }
+        requires row { at.1 ≡ row grid.now cell }
         ensures search { OnOk result (IsSearchOn grid.now self.new) }
         ensures same { OnOk result (IsSameSearch self.old self.new) }
         ensures effort { OnOk result (effort self.new ≤ effort self.old) }
     {
         let distance = self.entry(cell) + 1;
-        let (start_column, start_row) = aim;
         let (column, row) = at;
-        let [above, left, _, right, below] = cell.neighbourhood(grid.width());
+        let [above, left, _, right, below] = aim.neighbourhoods.around_in(cell, column);
         // A step towards the start's column or row keeps the f-value, and each other one raises it by 2.
-        self.relax(grid, above, distance, start_row < row)?;
-        self.relax(grid, left, distance, start_column < column)?;
-        self.relax(grid, right, distance, column < start_column)?;
-        self.relax(grid, below, distance, row < start_row)?;
+        self.relax(grid, above, distance, aim.row < row, false)?;
+        self.relax(grid, left, distance, aim.column < column, true)?;
+        self.relax(grid, right, distance, column < aim.column, true)?;
+        self.relax(grid, below, distance, row < aim.row, false)?;
         Ok(())
     }
 
-    // Relaxes the step to the cell at a place: reaches it if it is free and each number of steps found from it so far is
-    // greater than this one.
+    // Relaxes the step to the cell at a place: reaches it if it is free and each number of steps found from it so far
+    // is greater than this one.
     #[inline(always)]
     fn relax(
         &mut self,
@@ -257,15 +325,16 @@ impl Search {
         place: Option<Cell>,
         distance: u32,
         is_due: bool,
+        is_in_row: bool,
     ) -> Result<(), OutOfMemory>
         requires count { vec_len self.old.table ≡ length grid.now.free }
-        requires due { IfSome place (λ next. IsTrue is_due ↔
-            (distance + estimate grid.now next self.old.start ≤ self.old.level)) }
+        requires due { IfSome place (λ next. distance + estimate grid.now next self.old.start
+            ≡ (if is_due then self.old.level else self.old.level + 2)) }
         ensures { OnOk result (IsRelaxed grid.now place distance self.old self.new) }
     {
         if let Some(next) = place {
             if self.is_shorter(grid, next, distance) {
-                self.reach(next, distance, is_due)?;
+                self.reach(next, distance, is_due, is_in_row)?;
             }
         }
         Ok(())
@@ -279,19 +348,27 @@ impl Search {
         grid.is_free(cell) && distance < self.entry(cell)
     }
 
-    // Enters so many steps, and puts the cell to the open ones of this f-value or of a greater one.
-    fn reach(&mut self, cell: Cell, distance: u32, is_due: bool) -> Result<(), OutOfMemory>
+    // Enters so many steps, and puts the cell to the open ones of this f-value or of the next one.
+    fn reach(
+        &mut self,
+        cell: Cell,
+        distance: u32,
+        is_due: bool,
+        is_in_row: bool,
+    ) -> Result<(), OutOfMemory>
         requires inside { cell < vec_len self.old.table }
         ensures table { OnOk result (self.new.table.items ≡ slice_set self.old.table.items cell distance) }
-        ensures put { (value : ℕ) → (IsTrue is_due ↔ (value ≤ self.old.level))
+        ensures put { (value : ℕ) → value ≡ (if is_due then self.old.level else self.old.level + 2)
             → OnOk result (IsPut cell value self.old self.new) }
         ensures same { IsSameSearch self.old self.new }
     {
         self.table[cell.0 as usize] = distance;
-        if is_due {
+        if !is_due {
+            self.later.push(cell)?;
+        } else if is_in_row {
             self.due.push(cell)?;
         } else {
-            self.later.push(cell)?;
+            self.next_row.push(cell)?;
         }
         Ok(())
     }

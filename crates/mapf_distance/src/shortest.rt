@@ -4,14 +4,13 @@ ghost use Rattle.mapf_model.specs.Grid.{IsFree, Step};
 ghost use Rattle.mapf_distance.specs.Distances.{IsShortestPath};
 ghost use Rattle.mapf_distance.specs.Search.{IsSettled, estimate};
 
-use crate::distances::Distances;
 use crate::search::Search;
 use mapf_model::{Cell, Grid, OutOfMemory, Path};
 use std::alloc::Global;
 
 /// Returns a shortest path from the start to the goal, of all these the lexicographically least by cell numbers. None
-/// if no steps lead there. The search reaches few cells that are farther from both, and makes a table of all distances
-/// only where no steps lead there.
+/// if no steps lead there. The search runs from the goal towards the start and reaches few cells that are farther from
+/// both.
 pub fn shortest_path(
     alloc: Global,
     grid: &Grid,
@@ -25,16 +24,11 @@ pub fn shortest_path(
         (IsShortestPath grid.now start goal)) }
 {
     let mut search = Search::of(alloc, grid, start, goal)?;
-    search.spread(grid)?;
-    search.finish(grid)?;
-    if let Some(distance) = search.found() {
-        return Ok(Some(descend(alloc, grid, &search, distance)?));
-    }
-    let distances = Distances::of(alloc, grid, goal)?;
-    if distances.get(start).is_none() {
+    search.settle(grid)?;
+    let Some(distance) = search.found() else {
         return Ok(None);
-    }
-    Ok(Some(distances.descend(alloc, start)?))
+    };
+    Ok(Some(descend(alloc, grid, &search, distance)?))
 }
 
 // Returns the least shortest path from the start of a search that has expanded all cells of its f-value.

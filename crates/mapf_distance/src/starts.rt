@@ -5,8 +5,7 @@ use crate::search::distance_between;
 use mapf_model::{OutOfMemory, Problem};
 use std::alloc::Global;
 
-/// Returns for each agent the least number of steps from its start to its goal, None if no steps lead there. Makes a
-/// table for an agent only in that case, and keeps none.
+/// Returns for each agent the least number of steps from its start to its goal, None if no steps lead there.
 pub fn start_distances(alloc: Global, problem: &Problem) -> Result<Vec<Option<u32>>, OutOfMemory>
     ensures { IfOk result (λ distances. AreStartDistances problem.now distances.items) }
 {

@@ -1,5 +1,5 @@
-ghost use Rattle.std.specs.Prelude.{◌≡◌, ◌+◌, ◌<◌, ◌≤◌, ◌++◌, ◌∷◌, ◌↔◌, [], IfOk, IfSome, IsTrue, map, slice_set, vec_len};
-ghost use Rattle.std.specs.Prelude.{vec_capacity};
+ghost use Rattle.std.specs.Prelude.{◌≡◌, ◌+◌, ◌<◌, ◌≤◌, ◌++◌, ◌∷◌, ◌↔◌, [], IfOk, IfSome, IsTrue, map, slice_set};
+ghost use Rattle.std.specs.Prelude.{vec_capacity, vec_len};
 ghost use Rattle.mapf_model.specs.Grid.{IsFree, IsGridMap, free_cell_count};
 ghost use Rattle.mapf_distance.specs.Marks.{entry_of, is_open, first_entry};
 ghost use Rattle.mapf_distance.specs.Distances.{AreDistances};
@@ -85,7 +85,8 @@ impl Wave {
     fn enter(&mut self, place: Option<Cell>, distance: u32)
         requires inside { IfSome place (λ to. entry_of self.old.table.items to ≡ UNREACHED
             → vec_len self.old.reached < vec_capacity self.old.reached) }
-        ensures entered { IsEntered place distance self.old.table.items self.old.reached.items self.new.table.items self.new.reached.items }
+        ensures entered { IsEntered place distance self.old.table.items self.old.reached.items
+            self.new.table.items self.new.reached.items }
         ensures capacity { vec_capacity self.new.reached ≡ vec_capacity self.old.reached }
     {
         if let Some(to) = place {

@@ -32,7 +32,7 @@ module _ (q k r e w n : ℕ) (is_n : n ≡ q * w + k) (small : k < w) (is_r : r 
 
 -- the row of a cell, and its column
 module _ (n w r : ℕ) (wide : 0 < w) (narrow : w ≤ 2048) (is : r ≡ 8589934592 / w + 1) (few : n < 4194304) where
-  row_is : n * r / 8589934592 ≡ n / w
+  pub row_is : n * r / 8589934592 ≡ n / w
   row_is =
       let scale = div-add-mod' 8589934592 w in
       let remainder = mod_below 8589934592 w wide in

@@ -1,4 +1,4 @@
-ghost use Rattle.std.specs.Prelude.{◌≡◌, ◌<◌};
+ghost use Rattle.std.specs.Prelude.{◌≡◌, ◌<◌, ◌/◌, ◌%◌};
 ghost use Rattle.mapf_model.specs.Limits.{most_cells};
 ghost use Rattle.mapf_model.specs.Neighbours.{neighbourhood};
 
@@ -41,15 +41,35 @@ impl Neighbourhoods {
         }
     }
 
-    /// Returns the cells above and left, the cell itself, and those right and below, in rising order. None for a cell that
-    /// would be outside its row or above the first row.
+    /// Returns the column and the row of a cell, counted from 0.
+    #[inline(always)]
+    pub fn xy(&self, cell: Cell) -> (u32, u32)
+        requires { cell < most_cells }
+        ensures column { result.0 ≡ cell % self.now }
+        ensures row { result.1 ≡ cell / self.now }
+    {
+        let Cell(number) = cell;
+        let row = (number as u64 * self.reciprocal / SCALE) as u32;
+        (number - row * self.width, row)
+    }
+
+    /// Returns the cells above and left, the cell itself, and those right and below, in rising order. None for a cell
+    /// that would be outside its row or above the first row.
     #[inline(always)]
     pub fn around(&self, cell: Cell) -> [Option<Cell>; 5]
         requires { cell < most_cells }
         ensures { result ≡ neighbourhood self.now cell }
     {
-        let Cell(number) = cell;
-        let row = (number as u64 * self.reciprocal / SCALE) as u32;
-        places_around(number, self.width, number - row * self.width)
+        self.around_in(cell, self.xy(cell).0)
+    }
+
+    /// Returns the neighbourhood of a cell in this column.
+    #[inline(always)]
+    pub fn around_in(&self, cell: Cell, column: u32) -> [Option<Cell>; 5]
+        requires small { cell < most_cells }
+        requires column { column ≡ cell % self.now }
+        ensures { result ≡ neighbourhood self.now cell }
+    {
+        places_around(cell.0, self.width, column)
     }
 }

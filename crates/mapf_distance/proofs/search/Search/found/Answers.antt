@@ -1,17 +1,17 @@
-use Rattle.std.proofs.Common.{◌<◌, ◌≤◌, ⊎_elim, arith}
-use Rattle.std.proofs.lemmas.Bool.{cases_lt, iff_false}
+use Rattle.std.proofs.Common.{arith}
+use Rattle.std.proofs.lemmas.Bool.{iff_false}
+use Rattle.mapf_distance.specs.Search.{open_of}
+use Rattle.mapf_distance.proofs.ClosedLemmas.{ended_unreachable}
 use Rattle.mapf_distance.proofs.SearchLemmas.{start_distance}
 use Rattle.mapf_distance.proofs.search.Search.found.Goals as goal
 
-pub returns-clause-within : goal.returns-clause-within
-returns-clause-within c =
+pub returns-then-is_found-clause-distance : goal.returns-then-is_found-clause-distance
+returns-then-is_found-clause-distance c = λ grid search.
     let self = c.args.self.now in
-    ⊎_elim
-    (λ (less : self.level < c.entry-distance.result). absurd (iff_false c.is_short.ensures c.if-is_short.false (let e = c.entry-distance.ensures in omega arith)))
-    (λ (past : c.entry-distance.result ≤ self.level). past)
-    (cases_lt self.level c.entry-distance.result)
+    let found = c.is_found.ensures.0 c.if-is_found.true in
+    let entry = c.entry.ensures in
+    start_distance grid self.start self.goal self.level self.table.items (open_of self) self.later.items search c.entry.result entry (omega arith) (omega arith)
 
-pub returns-clause-distance : goal.returns-clause-distance
-returns-clause-distance c = λ grid search.
-    let self = c.args.self.now in
-    start_distance grid self.start self.goal self.level self.table.items self.due.items self.later.items search c.entry-distance.result c.entry-distance.ensures (omega arith) (returns-clause-within c)
+pub returns-else-is_found-clause-none : goal.returns-else-is_found-clause-none
+returns-else-is_found-clause-none c = λ grid search ended.
+    ended_unreachable grid c.args.self.now search ended (iff_false c.is_found.ensures c.if-is_found.false)
