@@ -40,12 +40,14 @@ pub fn make_tables(
 /// Checks that each entry of the blocks of the node in this line is sound. Returns the line of the first that isn't.
 pub fn judge_blocks(
     problem: &Problem,
+    neighbourhoods: &Neighbourhoods,
     tables: &LazyTables,
     branch: &Branch,
     marks: &mut EntryMarks,
     blocks: &[Block],
     line: u64,
 ) -> Result<(), u64>
+    requires width { neighbourhoods.now ≡ problem.now.grid.width }
     requires tables { AreMade problem.now tables.now }
     requires ready { All (CanJudge tables.now branch.now) blocks.now }
     requires marks { All (λ block. CoverGrid problem.now.grid marks.old) blocks.now }
@@ -53,11 +55,10 @@ pub fn judge_blocks(
     ensures ok { OnOk result (All (IsGoodBlock problem.now (place_of branch.now).here) blocks.now) }
     ensures err { OnErr result (HasUnsoundBlock problem.now (place_of branch.now).here blocks.now) }
 {
-    let neighbourhoods = Neighbourhoods::of(problem.grid());
     let mut line = line;
     for block in blocks {
         line = line.saturating_add(1);
-        judge_block(problem, &neighbourhoods, tables, branch, marks, block, line)?;
+        judge_block(problem, neighbourhoods, tables, branch, marks, block, line)?;
         line = line.saturating_add(block.entries.len() as u64);
     }
     Ok(())

@@ -19,12 +19,13 @@ use crate::fault::CheckFault;
 use crate::labels::{entry_at, entry_or};
 use crate::marks::EntryMarks;
 use mapf_distance::LazyTables;
-use mapf_model::{Block, Claim, Label, Problem, laws};
+use mapf_model::{Block, Claim, Label, Neighbourhoods, Problem, laws};
 
 /// Checks that the leaf shows the claim: each entry of its blocks is sound, and the labels of the starts add up to
 /// enough. `line` is the line of the leaf, `distances` are those of the starts.
 pub fn judge_leaf(
     problem: &Problem,
+    neighbourhoods: &Neighbourhoods,
     tables: &LazyTables,
     distances: &[Option<u32>],
     branch: &Branch,
@@ -33,6 +34,7 @@ pub fn judge_leaf(
     blocks: &[Block],
     line: u64,
 ) -> Result<(), CheckFault>
+    requires width { neighbourhoods.now ≡ problem.now.grid.width }
     requires tables { AreMade problem.now tables.now }
     requires ready { All (CanJudge tables.now branch.now) blocks.now }
     requires marks { All (λ block. CoverGrid problem.now.grid marks.old) blocks.now }
@@ -43,7 +45,15 @@ pub fn judge_leaf(
     ensures err { IfErr result (HasNodeDefect problem.now claim.now (place_of branch.now).here (LeafNode blocks.now)) }
 {
     laws::definitions_are_decided();
-    if let Err(unsound) = judge_blocks(problem, tables, branch, marks, blocks, line) {
+    if let Err(unsound) = judge_blocks(
+        problem,
+        neighbourhoods,
+        tables,
+        branch,
+        marks,
+        blocks,
+        line,
+    ) {
         return Err(CheckFault::C7(unsound));
     }
     let total = start_total(problem, distances, branch, blocks);
