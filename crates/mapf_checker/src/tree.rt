@@ -14,7 +14,7 @@ ghost use Rattle.mapf_checker.specs.NodeDefects.{HasNodeDefect, IsUnsoundLabel, 
 ghost use Rattle.mapf_checker.specs.Starts.{AreChangesBy};
 ghost use Rattle.mapf_checker.specs.Branch.{place_of};
 
-use crate::blocks::{changes_by, judge_blocks, make_tables};
+use crate::blocks::{NodeProblem, changes_by, judge_blocks, make_tables};
 use crate::branch::Branch;
 use crate::fault::{CheckFault, FromFault};
 use crate::leaf::judge_leaf;
@@ -139,15 +139,13 @@ impl Progress {
             return Ok(Vec::new(alloc));
         }
         self.see_to_blocks(alloc, problem, blocks)?;
-        if let Err(unsound) = judge_blocks(
+        let node = NodeProblem {
             problem,
-            &self.neighbourhoods,
-            &self.tables,
-            &self.branch,
-            &mut self.marks,
-            blocks,
-            line,
-        ) {
+            neighbourhoods: &self.neighbourhoods,
+            tables: &self.tables,
+            branch: &self.branch,
+        };
+        if let Err(unsound) = judge_blocks(&node, &mut self.marks, blocks, line) {
             return Err(FromFault::Refused(CheckFault::C7(unsound)));
         }
         let Ok(changes) = changes_by(alloc, problem, &self.branch, blocks) else {
@@ -175,17 +173,14 @@ impl Progress {
     {
         self.see_to_blocks(alloc, problem, blocks)?;
         self.see_to_distances(alloc, problem)?;
-        if let Err(fault) = judge_leaf(
+        let node = NodeProblem {
             problem,
-            &self.neighbourhoods,
-            &self.tables,
-            &self.distances,
-            &self.branch,
-            &mut self.marks,
-            claim,
-            blocks,
-            line,
-        ) {
+            neighbourhoods: &self.neighbourhoods,
+            tables: &self.tables,
+            branch: &self.branch,
+        };
+        let (distances, marks) = (&self.distances, &mut self.marks);
+        if let Err(fault) = judge_leaf(&node, distances, marks, claim, blocks, line) {
             return Err(FromFault::Refused(fault));
         }
         self.end()
