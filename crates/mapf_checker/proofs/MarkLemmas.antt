@@ -1,12 +1,12 @@
 -- Entries are found by their marks.
-use Rattle.std.proofs.Common.{◌≡◌, ◌⊎◌, ℕ, ◌+◌, ◌-◌, ◌<◌, ◌≤◌, List, None, Some, All, AllPairs, length, slice_index, slice_index_or, refl, sym, ◌∙◌, ap, subst, inl, inr, ⊎_elim, arith}
+use Rattle.std.proofs.Common.{◌≡◌, ℕ, ◌+◌, ◌-◌, ◌<◌, ◌≤◌, List, None, All, AllPairs, length, slice_index, slice_index_or, sym, ◌∙◌, ap, subst, inl, inr, ⊎_elim, arith}
 use Rattle.std.proofs.Math.ListN.{set}
 use Rattle.std.proofs.lemmas.Bool.{cases_lt}
 use Rattle.std.proofs.lemmas.List.{get_or-set_same, get_or-set_other}
 use Rattle.mapf_model.specs.declared.label.Entry.{Entry}
 use Rattle.mapf_model.specs.Labels.{entries_of}
 use Rattle.mapf_model.specs.Printed.{IsBefore}
-use Rattle.mapf_checker.specs.Marks.{Marks, AreEarlier, AreMarked, AreNotEarlier, IsMarking}
+use Rattle.mapf_checker.specs.Marks.{AreMarked, AreNotEarlier}
 use Rattle.mapf_checker.specs.Order.{IsOf}
 use Rattle.mapf_checker.proofs.EntryLemmas.{entries_of-none}
 

@@ -1,11 +1,12 @@
 -- What the entries of one agent are judged by: its distances, and its constraints at a node of the tree.
 use Rattle.std.specs.Prelude.{◌≡◌, ◌+◌, ℕ, List, Option}
 use Rattle.mapf_distance.specs.Distances.{GoalMap}
-use Rattle.mapf_distance.specs.Tables.{HasTable}
+use Rattle.mapf_distance.specs.Tables.{AreMade, HasTable}
 use Rattle.mapf_model.specs.declared.bar.Bar.{Bar}
 use Rattle.mapf_model.specs.declared.label.Entry.{Entry}
 use Rattle.mapf_model.specs.Blocks.{LabelBlock}
 use Rattle.mapf_model.specs.Labels.{entries_of, IsSoundEntry, IsWithinOne, MayGo}
+use Rattle.mapf_checker.specs.declared.blocks.NodeProblem.{NodeProblem}
 use Rattle.mapf_checker.specs.declared.judge.AgentProblem.{AgentProblem}
 use Rattle.mapf_checker.specs.Branch.{Route, IsIndexed, place_of}
 
@@ -30,6 +31,11 @@ IsConsistentStep own entries entry next = MayGo own.grid.now (bars_on own) entry
 -- this holds for each cell
 abbrev pub IsConsistent : AgentProblem → List Entry → Entry → Type 0
 IsConsistent own entries entry = (next : ℕ) → IsConsistentStep own entries entry next
+
+-- the neighbourhoods are those on the problem's grid, and the tables are those of the problem
+pub record FitsProblem (node : NodeProblem) : Type 0 where
+  pub width : node.neighbourhoods.now ≡ node.problem.now.grid.width
+  pub tables : AreMade node.problem.now node.tables.now
 
 -- what a block is judged by is made: the table of its agent's distances, and the index of the constraints along the
 -- path

@@ -3,7 +3,7 @@ ghost use Rattle.mapf_model.specs.Labels.{entries_of, AreSound};
 ghost use Rattle.mapf_model.specs.Limits.{greatest_cost};
 ghost use Rattle.mapf_model.specs.Printed.{IsBefore, IsBlockInRange};
 ghost use Rattle.mapf_distance.specs.Tables.{AreMade, HasTable};
-ghost use Rattle.mapf_checker.specs.AgentProblem.{CanJudge, HasGoalDistances, bars_on};
+ghost use Rattle.mapf_checker.specs.AgentProblem.{CanJudge, HasGoalDistances, FitsProblem, bars_on};
 ghost use Rattle.mapf_checker.specs.Branch.{IsIndexed, place_of};
 ghost use Rattle.mapf_checker.specs.Leaf.{IsGoodBlock, IsGoalOf, IsStartOf};
 ghost use Rattle.mapf_checker.specs.Marks.{CoverGrid};
@@ -37,27 +37,36 @@ pub fn make_tables(
     Ok(())
 }
 
+/// What the blocks of a node are judged by, beside the marks.
+#[derive(Drop)]
+pub struct NodeProblem<'a> {
+    pub problem: &'a Problem,
+    /// The neighbourhoods of the grid's cells.
+    pub neighbourhoods: &'a Neighbourhoods,
+    /// The distances to the goals of the blocks' agents.
+    pub tables: &'a LazyTables,
+    /// The path from the root to the node.
+    pub branch: &'a Branch,
+}
+
 /// Checks that each entry of the blocks of the node in this line is sound. Returns the line of the first that isn't.
 pub fn judge_blocks(
-    problem: &Problem,
-    tables: &LazyTables,
-    branch: &Branch,
+    node: &NodeProblem,
     marks: &mut EntryMarks,
     blocks: &[Block],
     line: u64,
 ) -> Result<(), u64>
-    requires tables { AreMade problem.now tables.now }
-    requires ready { All (CanJudge tables.now branch.now) blocks.now }
-    requires marks { All (λ block. CoverGrid problem.now.grid marks.old) blocks.now }
-    requires blocks { All (IsBlockInRange problem.now.grid (length problem.now.agents)) blocks.now }
-    ensures ok { OnOk result (All (IsGoodBlock problem.now (place_of branch.now).here) blocks.now) }
-    ensures err { OnErr result (HasUnsoundBlock problem.now (place_of branch.now).here blocks.now) }
+    requires fits { FitsProblem node.now }
+    requires ready { All (CanJudge node.now.tables.now node.now.branch.now) blocks.now }
+    requires marks { All (λ block. CoverGrid node.now.problem.now.grid marks.old) blocks.now }
+    requires blocks { All (IsBlockInRange node.now.problem.now.grid (length node.now.problem.now.agents)) blocks.now }
+    ensures ok { OnOk result (All (IsGoodBlock node.now.problem.now (place_of node.now.branch.now).here) blocks.now) }
+    ensures err { OnErr result (HasUnsoundBlock node.now.problem.now (place_of node.now.branch.now).here blocks.now) }
 {
-    let neighbourhoods = Neighbourhoods::of(problem.grid());
     let mut line = line;
     for block in blocks {
         line = line.saturating_add(1);
-        judge_block(problem, &neighbourhoods, tables, branch, marks, block, line)?;
+        judge_block(node, marks, block, line)?;
         line = line.saturating_add(block.entries.len() as u64);
     }
     Ok(())
@@ -65,30 +74,26 @@ pub fn judge_blocks(
 
 // Checks that each entry of the block that begins in this line is sound. Returns the line of the first that isn't.
 fn judge_block(
-    problem: &Problem,
-    neighbourhoods: &Neighbourhoods,
-    tables: &LazyTables,
-    branch: &Branch,
+    node: &NodeProblem,
     marks: &mut EntryMarks,
     block: &Block,
     line: u64,
 ) -> Result<(), u64>
-    requires width { neighbourhoods.now ≡ problem.now.grid.width }
-    requires tables { AreMade problem.now tables.now }
-    requires ready { CanJudge tables.now branch.now block.now }
-    requires marks { CoverGrid problem.now.grid marks.old }
-    requires block { IsBlockInRange problem.now.grid (length problem.now.agents) block.now }
-    ensures ok { OnOk result (IsGoodBlock problem.now (place_of branch.now).here block.now) }
-    ensures err { OnErr result (HasUnsoundEntry problem.now (place_of branch.now).here block.now) }
-    ensures marks { CoverGrid problem.now.grid marks.new }
+    requires fits { FitsProblem node.now }
+    requires ready { CanJudge node.now.tables.now node.now.branch.now block.now }
+    requires marks { CoverGrid node.now.problem.now.grid marks.old }
+    requires block { IsBlockInRange node.now.problem.now.grid (length node.now.problem.now.agents) block.now }
+    ensures ok { OnOk result (IsGoodBlock node.now.problem.now (place_of node.now.branch.now).here block.now) }
+    ensures err { OnErr result (HasUnsoundEntry node.now.problem.now (place_of node.now.branch.now).here block.now) }
+    ensures marks { CoverGrid node.now.problem.now.grid marks.new }
 {
     let agent = agent_of(block);
-    let goal = goal_of(problem, agent);
+    let goal = goal_of(node.problem, agent);
     let own = AgentProblem {
-        grid: problem.grid(),
-        neighbourhoods,
-        distances: tables.get(agent),
-        branch,
+        grid: node.problem.grid(),
+        neighbourhoods: node.neighbourhoods,
+        distances: node.tables.get(agent),
+        branch: node.branch,
         agent,
         goal,
     };

@@ -5,48 +5,47 @@ ghost use Rattle.mapf_model.specs.declared.item.Claim.{Claim};
 ghost use Rattle.mapf_model.specs.Labels.{label_plus};
 ghost use Rattle.mapf_model.specs.Printed.{AreBlocksInRange};
 ghost use Rattle.mapf_model.specs.Tree.{ShowsFrom, Leaf, LeafNode};
-ghost use Rattle.mapf_distance.specs.Tables.{AreMade, AreStartDistances};
-ghost use Rattle.mapf_checker.specs.AgentProblem.{CanJudge};
+ghost use Rattle.mapf_distance.specs.Tables.{AreStartDistances};
+ghost use Rattle.mapf_checker.specs.AgentProblem.{CanJudge, FitsProblem};
 ghost use Rattle.mapf_checker.specs.Branch.{place_of};
 ghost use Rattle.mapf_checker.specs.Leaf.{IsStartTotal, IsEnough, IsStartLabel};
 ghost use Rattle.mapf_checker.specs.Leaf.{IsPlaceOfAgent, TakesBlock, LeavesBlock, label_of_total};
 ghost use Rattle.mapf_checker.specs.Marks.{CoverGrid};
 ghost use Rattle.mapf_checker.specs.NodeDefects.{HasNodeDefect};
 
-use crate::blocks::{agent_of, entries_in, judge_blocks, start_of};
+use crate::blocks::{NodeProblem, agent_of, entries_in, judge_blocks, start_of};
 use crate::branch::Branch;
 use crate::fault::CheckFault;
 use crate::labels::{entry_at, entry_or};
 use crate::marks::EntryMarks;
-use mapf_distance::LazyTables;
 use mapf_model::{Block, Claim, Label, Problem, laws};
 
 /// Checks that the leaf shows the claim: each entry of its blocks is sound, and the labels of the starts add up to
 /// enough. `line` is the line of the leaf, `distances` are those of the starts.
 pub fn judge_leaf(
-    problem: &Problem,
-    tables: &LazyTables,
+    node: &NodeProblem,
     distances: &[Option<u32>],
-    branch: &Branch,
     marks: &mut EntryMarks,
     claim: &Claim,
     blocks: &[Block],
     line: u64,
 ) -> Result<(), CheckFault>
-    requires tables { AreMade problem.now tables.now }
-    requires ready { All (CanJudge tables.now branch.now) blocks.now }
-    requires marks { All (λ block. CoverGrid problem.now.grid marks.old) blocks.now }
-    requires distances { AreStartDistances problem.now distances.now }
-    requires agents { branch.now.agents ≡ length problem.now.agents }
-    requires blocks { AreBlocksInRange problem.now.grid (length problem.now.agents) blocks.now }
-    ensures ok { OnOk result (ShowsFrom problem.now claim.now (place_of branch.now).here (Leaf blocks.now)) }
-    ensures err { IfErr result (HasNodeDefect problem.now claim.now (place_of branch.now).here (LeafNode blocks.now)) }
+    requires fits { FitsProblem node.now }
+    requires ready { All (CanJudge node.now.tables.now node.now.branch.now) blocks.now }
+    requires marks { All (λ block. CoverGrid node.now.problem.now.grid marks.old) blocks.now }
+    requires distances { AreStartDistances node.now.problem.now distances.now }
+    requires agents { node.now.branch.now.agents ≡ length node.now.problem.now.agents }
+    requires blocks { AreBlocksInRange node.now.problem.now.grid (length node.now.problem.now.agents) blocks.now }
+    ensures ok { OnOk result
+        (ShowsFrom node.now.problem.now claim.now (place_of node.now.branch.now).here (Leaf blocks.now)) }
+    ensures err { IfErr result
+        (HasNodeDefect node.now.problem.now claim.now (place_of node.now.branch.now).here (LeafNode blocks.now)) }
 {
     laws::definitions_are_decided();
-    if let Err(unsound) = judge_blocks(problem, tables, branch, marks, blocks, line) {
+    if let Err(unsound) = judge_blocks(node, marks, blocks, line) {
         return Err(CheckFault::C7(unsound));
     }
-    let total = start_total(problem, distances, branch, blocks);
+    let total = start_total(node.problem, distances, node.branch, blocks);
     if is_enough(claim, total) {
         Ok(())
     } else {

@@ -14,20 +14,22 @@ ghost use Rattle.mapf_checker.specs.NodeDefects.{HasNodeDefect, IsUnsoundLabel, 
 ghost use Rattle.mapf_checker.specs.Starts.{AreChangesBy};
 ghost use Rattle.mapf_checker.specs.Branch.{place_of};
 
-use crate::blocks::{changes_by, judge_blocks, make_tables};
+use crate::blocks::{NodeProblem, changes_by, judge_blocks, make_tables};
 use crate::branch::Branch;
 use crate::fault::{CheckFault, FromFault};
 use crate::leaf::judge_leaf;
 use crate::marks::EntryMarks;
 use crate::starts::StartChange;
 use mapf_distance::{LazyTables, start_distances};
-use mapf_model::{Block, Claim, Conflict, Item, OutOfMemory, Problem};
+use mapf_model::{Block, Claim, Conflict, Item, Neighbourhoods, OutOfMemory, Problem};
 use std::alloc::Global;
 
 /// How far a tree, whose items come in pre-order, was judged.
 #[derive(Drop)]
 pub struct Progress {
     branch: Branch,
+    // The neighbourhoods of the grid's cells. They are made once, since that takes a division.
+    neighbourhoods: Neighbourhoods,
     // The distances to the goals of the agents that had a block so far.
     tables: LazyTables,
     // Made at the first block.
@@ -48,6 +50,7 @@ impl Progress {
     {
         Ok(Progress {
             branch: Branch::new(alloc, problem.agents().len())?,
+            neighbourhoods: Neighbourhoods::of(problem.grid()),
             tables: LazyTables::of(alloc, problem)?,
             marks: EntryMarks::new(alloc),
             distances: Vec::new(alloc),
@@ -136,14 +139,13 @@ impl Progress {
             return Ok(Vec::new(alloc));
         }
         self.see_to_blocks(alloc, problem, blocks)?;
-        if let Err(unsound) = judge_blocks(
+        let node = NodeProblem {
             problem,
-            &self.tables,
-            &self.branch,
-            &mut self.marks,
-            blocks,
-            line,
-        ) {
+            neighbourhoods: &self.neighbourhoods,
+            tables: &self.tables,
+            branch: &self.branch,
+        };
+        if let Err(unsound) = judge_blocks(&node, &mut self.marks, blocks, line) {
             return Err(FromFault::Refused(CheckFault::C7(unsound)));
         }
         let Ok(changes) = changes_by(alloc, problem, &self.branch, blocks) else {
@@ -171,16 +173,14 @@ impl Progress {
     {
         self.see_to_blocks(alloc, problem, blocks)?;
         self.see_to_distances(alloc, problem)?;
-        if let Err(fault) = judge_leaf(
+        let node = NodeProblem {
             problem,
-            &self.tables,
-            &self.distances,
-            &self.branch,
-            &mut self.marks,
-            claim,
-            blocks,
-            line,
-        ) {
+            neighbourhoods: &self.neighbourhoods,
+            tables: &self.tables,
+            branch: &self.branch,
+        };
+        let (distances, marks) = (&self.distances, &mut self.marks);
+        if let Err(fault) = judge_leaf(&node, distances, marks, claim, blocks, line) {
             return Err(FromFault::Refused(fault));
         }
         self.end()
@@ -224,6 +224,7 @@ impl Progress {
         requires ready { IsReady problem.now self.old }
         ensures ready { OnOk result (IsReady problem.now self.new) }
         ensures distances { OnOk result (AreStartDistances problem.now self.new.distances.items) }
+        ensures neighbourhoods { self.new.neighbourhoods ≡ self.old.neighbourhoods }
         ensures tables { self.new.tables ≡ self.old.tables }
         ensures branch { self.new.branch ≡ self.old.branch }
         ensures marks { self.new.marks ≡ self.old.marks }
@@ -242,6 +243,7 @@ impl Progress {
 
     fn clash(&mut self, problem: &Problem, i: u32, j: u32, line: u64) -> Result<(), FromFault>
         requires going { self.old.is_over ≡ false }
+        ensures neighbourhoods { self.new.neighbourhoods ≡ self.old.neighbourhoods }
         ensures tables { self.new.tables ≡ self.old.tables }
         ensures distances { self.new.distances.items ≡ self.old.distances.items }
         ensures agents { self.new.branch.agents ≡ self.old.branch.agents }
@@ -258,6 +260,7 @@ impl Progress {
 
     // Moves to the next node after a terminal node.
     fn end(&mut self) -> Result<(), FromFault>
+        ensures neighbourhoods { self.new.neighbourhoods ≡ self.old.neighbourhoods }
         ensures tables { self.new.tables ≡ self.old.tables }
         ensures distances { self.new.distances.items ≡ self.old.distances.items }
         ensures agents { self.new.branch.agents ≡ self.old.branch.agents }

@@ -1,5 +1,5 @@
 -- Digits and the number that they spell.
-use Rattle.std.proofs.Common.{◌≡◌, ℕ, ◌<◌, ◌≤◌, ◌^◌, ◌+◌, ◌*◌, ◌-◌, ◌==◌, Bool, true, false, not, cond, zero, suc, nat_lt, List, [], ◌∷◌, length, get_or, take, drop, length-drop, Option, Some, None, Result, Ok, Err, arith, refl, sym, ap, ◌∙◌}
+use Rattle.std.proofs.Common.{◌≡◌, ℕ, ◌<◌, ◌≤◌, ◌^◌, ◌+◌, ◌*◌, ◌-◌, Bool, true, false, cond, zero, suc, nat_lt, List, [], ◌∷◌, length, get_or, take, drop, length-drop, Option, Some, None, Result, Ok, Err, arith, refl, sym, ap, ◌∙◌}
 use Rattle.std.specs.Prelude.{take_while}
 use Rattle.std.specs.Char.{is_ascii_digit, digit_value}
 use Rattle.std.specs.Str.Parse.{digits_value, AllDigits}
@@ -7,7 +7,7 @@ use Rattle.std.proofs.lemmas.Str.Parse.{digit_from_value, digits_value-take-le}
 use Rattle.std.proofs.lemmas.Int.Digits.{digits_value_more}
 use Rattle.std.proofs.lemmas.List.Sums.{take_while-cons}
 use Rattle.std.proofs.lemmas.List.{take_all, get_or-drop}
-use Rattle.std.proofs.lemmas.Bool.{eqb-true, lt-ltb, ltb-true}
+use Rattle.std.proofs.lemmas.Bool.{lt-ltb, ltb-true}
 use Rattle.std.proofs.lemmas.Bool.Decides.{nat_tests}
 use Rattle.mapf_fields.specs.declared.fault.LineFault.{LineFault}
 use Rattle.mapf_fields.specs.declared.fault.LineFault.TheVariants.{Shape}
@@ -119,37 +119,30 @@ one_front (b ∷ bs) n rest some after digit stop is =
     all zero h = digit
     all (suc k) h = absurd (omega arith)
 
-differs : (t : ℕ) → (t ≡ 48 → ⊥) → not (t == 48) ≡ true
-differs t other = by (t == 48) refl
-  where
-    by : (b : Bool) → (t == 48) ≡ b → not (t == 48) ≡ true
-    by true e = absurd (other (eqb-true t 48 e))
-    by false e = ap not e
-
-pub two_front : (bs : List ℕ) (n : ℕ) (rest : List ℕ) → 2 ≤ length bs → rest ≡ take (length bs - 2) (drop 2 bs) → (get_or bs 0 0 ≡ 48 → ⊥) → is_ascii_digit (get_or bs 0 0) ≡ true → is_ascii_digit (get_or bs 1 0) ≡ true → is_ascii_digit (get_or rest 0 0) ≡ false
+pub two_front : (bs : List ℕ) (n : ℕ) (rest : List ℕ) → 2 ≤ length bs → rest ≡ take (length bs - 2) (drop 2 bs) → begins_well (take 2 bs) ≡ true → is_ascii_digit (get_or bs 0 0) ≡ true → is_ascii_digit (get_or bs 1 0) ≡ true → is_ascii_digit (get_or rest 0 0) ≡ false
     → n ≡ (get_or bs 0 0 - 48) * 10 + (get_or bs 1 0 - 48) → read_number bs ≡ Ok (Some n, rest)
-two_front [] n rest many after some first second stop is = absurd (omega arith)
-two_front (t ∷ []) n rest many after some first second stop is = absurd (omega arith)
-two_front (t ∷ u ∷ bs) n rest many after some first second stop is =
+two_front [] n rest many after well first second stop is = absurd (omega arith)
+two_front (t ∷ []) n rest many after well first second stop is = absurd (omega arith)
+two_front (t ∷ u ∷ bs) n rest many after well first second stop is =
     let (low1, step1) = value_next (t ∷ u ∷ bs) 0 (omega arith) first in
     let (low2, step2) = value_next (t ∷ u ∷ bs) 1 (omega arith) second in
-    digits_front (t ∷ u ∷ bs) 2 n rest after (differs t some) all stop (omega (arith, step1, step2, is)) (omega (arith, digit_range t first, digit_range u second, is))
+    digits_front (t ∷ u ∷ bs) 2 n rest after well all stop (omega (arith, step1, step2, is)) (omega (arith, digit_range t first, digit_range u second, is))
   where
     all : AreDigits (t ∷ u ∷ bs) 2
     all zero h = first
     all (suc zero) h = second
     all (suc (suc k)) h = absurd (omega arith)
 
-pub three_front : (bs : List ℕ) (n : ℕ) (rest : List ℕ) → 3 ≤ length bs → rest ≡ take (length bs - 3) (drop 3 bs) → (get_or bs 0 0 ≡ 48 → ⊥) → is_ascii_digit (get_or bs 0 0) ≡ true → is_ascii_digit (get_or bs 1 0) ≡ true → is_ascii_digit (get_or bs 2 0) ≡ true
+pub three_front : (bs : List ℕ) (n : ℕ) (rest : List ℕ) → 3 ≤ length bs → rest ≡ take (length bs - 3) (drop 3 bs) → begins_well (take 3 bs) ≡ true → is_ascii_digit (get_or bs 0 0) ≡ true → is_ascii_digit (get_or bs 1 0) ≡ true → is_ascii_digit (get_or bs 2 0) ≡ true
     → is_ascii_digit (get_or rest 0 0) ≡ false → n ≡ ((get_or bs 0 0 - 48) * 10 + (get_or bs 1 0 - 48)) * 10 + (get_or bs 2 0 - 48) → read_number bs ≡ Ok (Some n, rest)
-three_front [] n rest many after some first second third stop is = absurd (omega arith)
-three_front (h ∷ []) n rest many after some first second third stop is = absurd (omega arith)
-three_front (h ∷ t ∷ []) n rest many after some first second third stop is = absurd (omega arith)
-three_front (h ∷ t ∷ u ∷ bs) n rest many after some first second third stop is =
+three_front [] n rest many after well first second third stop is = absurd (omega arith)
+three_front (h ∷ []) n rest many after well first second third stop is = absurd (omega arith)
+three_front (h ∷ t ∷ []) n rest many after well first second third stop is = absurd (omega arith)
+three_front (h ∷ t ∷ u ∷ bs) n rest many after well first second third stop is =
     let (low1, step1) = value_next (h ∷ t ∷ u ∷ bs) 0 (omega arith) first in
     let (low2, step2) = value_next (h ∷ t ∷ u ∷ bs) 1 (omega arith) second in
     let (low3, step3) = value_next (h ∷ t ∷ u ∷ bs) 2 (omega arith) third in
-    digits_front (h ∷ t ∷ u ∷ bs) 3 n rest after (differs h some) all stop (omega (arith, step1, step2, step3, is)) (omega (arith, digit_range h first, digit_range t second, digit_range u third, is))
+    digits_front (h ∷ t ∷ u ∷ bs) 3 n rest after well all stop (omega (arith, step1, step2, step3, is)) (omega (arith, digit_range h first, digit_range t second, digit_range u third, is))
   where
     all : AreDigits (h ∷ t ∷ u ∷ bs) 3
     all zero k = first

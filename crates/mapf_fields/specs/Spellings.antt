@@ -1,11 +1,7 @@
 -- Numbers below 1000, each spelled in four bytes.
-use Rattle.std.specs.Prelude.{◌≡◌, ℕ, ◌<◌, ◌≤◌, List, [], take, slice_index, slice_index_or}
+use Rattle.std.specs.Prelude.{◌≡◌, ℕ, ◌≤◌, List, take, slice_index}
 use Rattle.std.specs.Fmt.{decimal}
 
 -- the digits of the number come first, and the last of the four bytes says how many they are
 abbrev pub IsSpelling : ℕ → List ℕ → Type 0
 IsSpelling n word = (take (slice_index word 3) word ≡ decimal n) × (slice_index word 3 ≤ 3)
-
--- at each number below 1000 its spelling
-abbrev pub AreSpellings : List (List ℕ) → Type 0
-AreSpellings words = (n : ℕ) → n < 1000 → IsSpelling n (slice_index_or words n [])

@@ -93,7 +93,7 @@ fn number(bytes: &[u8]) -> Result<(Option<u64>, &[u8]), LineFault>
             Ok((Some(u64::from(*digit - b'0')), rest))
         }
         [tens, units, rest @ ..]
-            if *tens != b'0'
+            if begins_well(&bytes[..2])
                 && tens.is_ascii_digit()
                 && units.is_ascii_digit()
                 && !begins_with_digit(rest) => {
@@ -101,7 +101,7 @@ fn number(bytes: &[u8]) -> Result<(Option<u64>, &[u8]), LineFault>
             Ok((Some(number), rest))
         }
         [hundreds, tens, units, rest @ ..]
-            if *hundreds != b'0'
+            if begins_well(&bytes[..3])
                 && hundreds.is_ascii_digit()
                 && tens.is_ascii_digit()
                 && units.is_ascii_digit()

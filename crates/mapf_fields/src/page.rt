@@ -3,7 +3,7 @@ ghost use Rattle.std.specs.Result.{is_err};
 ghost use Rattle.mapf_fields.specs.Numbers.{field};
 ghost use Rattle.mapf_fields.specs.Pages.{PassesOrFails, WritesOrFails, page_room, field_room};
 
-use crate::spellings::Spellings;
+use crate::spellings::spelling;
 use itoa::Buffer;
 use mapf_model::{Failed, Sink, write_all};
 use std::marker::Model;
@@ -16,7 +16,6 @@ const ROOM: usize = 65_536;
 pub struct Page {
     bytes: [u8; ROOM],
     used: usize,
-    spellings: Spellings,
 }
 
 impl Model for Page {
@@ -37,7 +36,6 @@ impl Page {
         Page {
             bytes: [0; ROOM],
             used: 0,
-            spellings: Spellings::new(),
         }
     }
 
@@ -91,10 +89,10 @@ impl Page {
         ensures text { self.new ≡ self.old ++ field mark number }
         ensures short { length self.new ≤ length self.old + field_room }
     {
-        let spelling = self.spellings.of(number);
-        let end = self.used + 1 + spelling[3] as usize;
+        let word = spelling(number);
+        let end = self.used + 1 + word[3] as usize;
         self.push_byte(mark);
-        self.push_bytes(&spelling);
+        self.push_bytes(word);
         self.shorten(end);
     }
 

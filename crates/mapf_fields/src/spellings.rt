@@ -1,52 +1,36 @@
 ghost use Rattle.std.specs.Prelude.{◌<◌};
-ghost use Rattle.mapf_fields.specs.Spellings.{AreSpellings, IsSpelling};
+ghost use Rattle.mapf_fields.specs.Spellings.{IsSpelling};
 
-/// How many numbers are spelled beforehand: those of one to three digits.
-const COUNT: usize = 1000;
-
-/// The digits of each number below 1000. With them a number is printed by copying four bytes, with no division and no
-/// branch on the count of its digits.
-#[derive(Drop)]
-pub struct Spellings {
-    words: [[u8; 4]; COUNT],
-    ghost right: { AreSpellings words },
-}
-
-impl Spellings {
-    /// Spells each number below 1000.
-    pub fn new() -> Spellings {
-        let mut words = [[0; 4]; COUNT];
-        for number in 0..COUNT {
-            words[number] = spelling(number);
-        }
-        Spellings { words }
-    }
-
-    /// Returns four bytes: the digits of the number come first, and the last byte says how many they are.
-    #[inline(always)]
-    pub fn of(&self, number: u64) -> [u8; 4]
-        requires { number < 1000 }
-        ensures { IsSpelling number result }
-    {
-        self.words[number as usize]
-    }
-}
-
-/// Spells one number: its digits come first, and the last byte says how many they are.
-fn spelling(number: usize) -> [u8; 4]
-    requires { number < 1000 }
-    ensures { IsSpelling number result }
-{
-    if number < 10 {
-        [b'0' + number as u8, 0, 0, 1]
-    } else if number < 100 {
-        [b'0' + (number / 10) as u8, b'0' + (number % 10) as u8, 0, 2]
-    } else {
+/// Writes out the words of the numbers below 1000 in order, from the digits that can begin a number of more than one
+/// digit, and from all digits. A word has the digits of its number first, and its last byte says how many they are.
+macro_rules! words {
+    ([$($first:tt)*] $digits:tt) => {
+        words!(front $digits [$($first $digits)*])
+    };
+    (front $digits:tt [$($first:tt [$($second:tt)*])*]) => {
+        words!(whole $digits [$($first $digits)*] [$($($first $second $digits)*)*])
+    };
+    (whole [$($only:tt)*] [$($tens:tt [$($ones:tt)*])*] [$($first:tt $second:tt [$($third:tt)*])*]) => {
         [
-            b'0' + (number / 100) as u8,
-            b'0' + (number / 10 % 10) as u8,
-            b'0' + (number % 10) as u8,
-            3,
+            $([$only, 0, 0, 1],)*
+            $($([$tens, $ones, 0, 2],)*)*
+            $($([$first, $second, $third, 3],)*)*
         ]
-    }
+    };
+}
+
+/// For each number below 1000 its digits, and then how many they are. With them a number is printed by copying four
+/// bytes, with no division and no branch on the count of its digits.
+static WORDS: [[u8; 4]; 1000] = words!(
+    [b'1' b'2' b'3' b'4' b'5' b'6' b'7' b'8' b'9']
+    [b'0' b'1' b'2' b'3' b'4' b'5' b'6' b'7' b'8' b'9']
+);
+
+/// Returns four bytes: the digits of the number come first, and the last byte says how many they are.
+#[inline(always)]
+pub fn spelling(number: u64) -> &'static [u8; 4]
+    requires { number < 1000 }
+    ensures { IsSpelling number result.now }
+{
+    &WORDS[number as usize]
 }

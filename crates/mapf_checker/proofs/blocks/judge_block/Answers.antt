@@ -6,8 +6,8 @@ use Rattle.mapf_checker.proofs.blocks.judge_block.Goals as goal
 
 pub returns-in-Some-clause-err : goal.returns-in-Some-clause-err
 returns-in-Some-clause-err c =
-    let problem = c.args.problem.now in
-    let here = (place_of c.args.branch.now).here in
+    let problem = c.args.node.now.problem.now in
+    let here = (place_of c.args.node.now.branch.now).here in
     unsound_entry problem here c.args.block.now _ c.entries_in.result.now c.in-Some.k c.grid.ensures
     (ap here.bars c.agent_of-agent.ensures) c.entries_in.ensures
     (subst (λ i. IsGoalOf problem i c.goal_of-goal.result) c.agent_of-agent.ensures c.goal_of-goal.ensures) c.in-Some.ensures.some

@@ -14,7 +14,7 @@ on_err (Err e) P p = p
 
 pub judge_block-requires-clause-block : goal.judge_block-requires-clause-block
 judge_block-requires-clause-block c =
-    subst (λ b. IsBlockInRange c.args.problem.now.grid (length c.args.problem.now.agents) b) (sym c.block-item.is) (c.requires.blocks c.loop-block.block-index c.block-item.result c.loop-block-test.true)
+    subst (λ b. IsBlockInRange c.args.node.now.problem.now.grid (length c.args.node.now.problem.now.agents) b) (sym c.block-item.is) (c.requires.blocks c.loop-block.block-index c.block-item.result c.loop-block-test.true)
 
 pub returns-in_err-judge_block-clause-err : goal.returns-in_err-judge_block-clause-err
 returns-in_err-judge_block-clause-err c = on_err c.from_residual.result _ (record {
@@ -26,14 +26,14 @@ returns-in_err-judge_block-clause-err c = on_err c.from_residual.result _ (recor
 pub loop-block-preserved : goal.loop-block-preserved
 loop-block-preserved c =
     let blocks = c.args.blocks.now in
-    let here = (place_of c.args.branch.now).here in
+    let here = (place_of c.args.node.now.branch.now).here in
     let read = slice_get_read blocks _ c.loop-block.block-index c.block-item.result refl c.loop-block-test.true c.block-item.is in
     record {
       good = λ k d within. ⊎_elim
           (λ (less : k < c.loop-block.block-index). c.loop-block.invariant.good k d less)
           (λ past. let same : k ≡ c.loop-block.block-index = omega arith in
-          subst (λ j. IsGoodBlock c.args.problem.now here (slice_index_or blocks j d)) (sym same)
-          (subst (λ b. IsGoodBlock c.args.problem.now here b) (sym (get_or_from_slice_get blocks c.loop-block.block-index c.block-item.result d read)) c.in_ok-judge_block.ensures.ok))
+          subst (λ j. IsGoodBlock c.args.node.now.problem.now here (slice_index_or blocks j d)) (sym same)
+          (subst (λ b. IsGoodBlock c.args.node.now.problem.now here b) (sym (get_or_from_slice_get blocks c.loop-block.block-index c.block-item.result d read)) c.in_ok-judge_block.ensures.ok))
           (cases_lt k c.loop-block.block-index);
       marks = λ k d from within. c.in_ok-judge_block.ensures.marks;
     }
@@ -43,7 +43,7 @@ returns-clause-ok c k d within = c.loop-block.invariant.good k d (omega arith)
 
 pub judge_block-requires-clause-ready : goal.judge_block-requires-clause-ready
 judge_block-requires-clause-ready c =
-    subst (λ (b : LabelBlock). CanJudge c.args.tables.now c.args.branch.now b) (sym c.block-item.is) (c.requires.ready c.loop-block.block-index c.block-item.result c.loop-block-test.true)
+    subst (λ (b : LabelBlock). CanJudge c.args.node.now.tables.now c.args.node.now.branch.now b) (sym c.block-item.is) (c.requires.ready c.loop-block.block-index c.block-item.result c.loop-block-test.true)
 
 pub judge_block-requires-clause-marks : goal.judge_block-requires-clause-marks
 judge_block-requires-clause-marks c = c.loop-block.invariant.marks c.loop-block.block-index c.block-item.result (omega arith) c.loop-block-test.true
