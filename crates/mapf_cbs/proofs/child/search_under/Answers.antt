@@ -40,4 +40,4 @@ returns-clause-found g c = IfOk-weaker c.search_expecting.result _ _ (λ found i
       subst (λ (a : Agent). IsPathAnswer (task_of c.args.problem.now.grid a (g.B.BarTable.bars c.add.new.self)) found) same
           (subst (λ (m : GridMap). IsPathAnswer (task_of m c.index-agents-constraint.result (g.B.BarTable.bars c.add.new.self)) found) c.grid.ensures is),
     ))
-    c.search_expecting.ensures
+    c.search_expecting.ensures.answer
