@@ -151,8 +151,8 @@ pub fn push_line(page: &mut Page, line: &CertLine, width: u32)
     page.push_byte(b'\n');
 }
 
-/// Adds the line of an entry with its LF. It is made part of the loops that call it, so that no entry is put into memory
-/// to be read from there again.
+/// Adds the line of an entry with its LF. It is made part of the loops that call it, so that no entry is put into
+/// memory to be read from there again.
 #[inline(always)]
 pub fn push_entry_line(page: &mut Page, entry: &Entry, width: u32)
     requires wide { 0 < width }

@@ -86,8 +86,8 @@ impl Search {
         self.start
     }
 
-    /// Returns the distance of the start, once it is known. Once no cell is open, None says that no steps lead from there
-    /// to the goal.
+    /// Returns the distance of the start, once it is known. Once no cell is open, None says that no steps lead from
+    /// there to the goal.
     pub fn found(&self) -> Option<u32>
         requires { self.now.start < vec_len self.now.table }
         ensures distance { (grid : GridMap) → IsSearchOn grid self.now

@@ -72,7 +72,8 @@ impl Grid {
         matches!(self.free.get(cell.0 as usize), Some(true))
     }
 
-    /// Returns for each cell of a row, from the left to the right, whether it is free. Rows are counted from 0 at the top.
+    /// Returns for each cell of a row, from the left to the right, whether it is free. Rows are counted from 0 at the
+    /// top.
     pub fn row(&self, y: u32) -> &[bool]
         requires { y < self.now.height }
         ensures count { length result.now ≡ self.now.width }

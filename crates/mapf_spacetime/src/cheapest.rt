@@ -4,7 +4,8 @@ ghost use Rattle.mapf_model.specs.Grid.{IsGridMap};
 ghost use Rattle.mapf_model.specs.declared.label.Entry.{Entry};
 ghost use Rattle.mapf_spacetime.specs.declared.state.State.{State};
 ghost use Rattle.mapf_spacetime.specs.PathSearch.{IsWholeWalk};
-ghost use Rattle.mapf_spacetime.specs.Task.{Task, task_of, IsOpen, IsValue, IsWithin, MayRestFrom, start_of, cost_bound};
+ghost use Rattle.mapf_spacetime.specs.Task.{Task, IsOpen, IsValue, IsWithin, MayRestFrom};
+ghost use Rattle.mapf_spacetime.specs.Task.{cost_bound, start_of, task_of};
 ghost use Rattle.mapf_spacetime.specs.Listed.{AreEntriesOf};
 ghost use Rattle.mapf_spacetime.specs.Listing.{AreReachedEntries, HasValue, ListsReached};
 ghost use Rattle.mapf_spacetime.specs.States.{IsBelowLimit};
@@ -93,8 +94,9 @@ pub fn search_in<'a, B: BarTable>(
     search_expecting(alloc, workspace, grid, distances, bars, agent, 0)
 }
 
-/// Searches as `search_in` does. A path is expected to cost about so much, in ticks; the answer doesn't depend on it, and
-/// the time is shortest if the cost is this or little more.
+/// Searches as `search_in` does. A path is expected to cost about so much, in ticks. The answer doesn't depend on it,
+/// and the time is shortest if the cost is this or little more. If a path costs less, all states of an f-value of at
+/// most the expected cost may be reached first.
 pub fn search_expecting<'a, B: BarTable>(
     alloc: Global,
     workspace: &mut Workspace,
@@ -132,8 +134,8 @@ pub fn search_expecting<'a, B: BarTable>(
     by_cost(alloc, workspace, &ground, first, expected)
 }
 
-/// Searches from the agent's distance, the expected cost or the tick from which the agent may rest at its goal, whichever
-/// is greatest: a path costs no less, unless more was expected.
+/// Searches from the agent's distance, the expected cost or the tick from which the agent may rest at its goal,
+/// whichever is greatest: a path costs no less, unless more was expected.
 fn by_cost<B: BarTable>(
     alloc: Global,
     workspace: &mut Workspace,

@@ -1,4 +1,4 @@
-ghost use Rattle.std.specs.Prelude.{◌≡◌, ◌↔◌, ◌+◌, ◌*◌, ◌<◌, ◌≤◌, ◌^◌, ℕ, [], ◌∷◌, List, Some, length, take, false};
+ghost use Rattle.std.specs.Prelude.{◌≡◌, ◌↔◌, ◌+◌, ◌<◌, ◌≤◌, ◌^◌, ℕ, [], ◌∷◌, List, Some, length, take, false};
 ghost use Rattle.std.specs.Prelude.{IfOk, IfSome, IfNone, OnOk, IsTrue, Contains};
 ghost use Rattle.mapf_constraints.specs.BarSets.{AreBefore};
 ghost use Rattle.mapf_model.specs.Grid.{Step};
@@ -6,11 +6,12 @@ ghost use Rattle.mapf_model.specs.Labels.{MayGo};
 ghost use Rattle.mapf_model.specs.Limits.{most_path_cells, most_cells};
 ghost use Rattle.mapf_model.specs.Neighbours.{neighbourhood};
 ghost use Rattle.mapf_spacetime.specs.declared.state.State.{State};
-ghost use Rattle.mapf_spacetime.specs.Task.{IsWithin, cost_bound, start_of};
+ghost use Rattle.mapf_spacetime.specs.Task.{IsWithin, cost_bound};
 ghost use Rattle.mapf_spacetime.specs.States.{IsBelowLimit};
 ghost use Rattle.mapf_spacetime.specs.Sweeps.{AreAll, HasArrived, IsWhole};
-ghost use Rattle.mapf_spacetime.specs.Frontiers.{first_states, with_reached, with_open, with_next, with_later, raised, low_states};
-ghost use Rattle.mapf_spacetime.specs.Frontiers.{AreLowReached, IsAtGoal, IsFrontier, IsSpent, IsWalked, Keeps, NoneWait, Takes};
+ghost use Rattle.mapf_spacetime.specs.Frontiers.{AreLowReached, IsAtGoal, IsFrontier, IsSpent, IsWalked, Keeps};
+ghost use Rattle.mapf_spacetime.specs.Frontiers.{NoneWait, Takes, raised, with_later, with_next, with_open};
+ghost use Rattle.mapf_spacetime.specs.Frontiers.{with_reached};
 
 use crate::ground::Ground;
 use crate::reached::Reached;
@@ -275,8 +276,10 @@ impl Frontier {
         requires frontier { IsFrontier ground.now [] self.old }
         requires limit { IsBelowLimit ground.now self.old.cost }
         requires small { (last : ℕ) → AreBefore last ground.now.bars → self.old.cost < last + most_cells }
-        ensures arrives { IfOk result (λ arrives. IsTrue arrives → HasArrived ground.now self.new.cost self.new.reached) }
-        ensures all { IfOk result (λ arrives. arrives ≡ false → AreAll ground.now self.new.cost self.new.reached) }
+        ensures arrives { IfOk result (λ arrives. IsTrue arrives →
+            HasArrived ground.now self.new.cost self.new.reached) }
+        ensures all { IfOk result (λ arrives. arrives ≡ false →
+            AreAll ground.now self.new.cost self.new.reached) }
         ensures limit { OnOk result (IsBelowLimit ground.now self.new.cost) }
         ensures small { OnOk result (self.new.cost < cost_bound) }
     {

@@ -183,8 +183,8 @@ impl PathSearch {
         here.tick >= ground.horizon() && ground.value(&here) == Some(cost)
     }
 
-    /// Adds to the walk a shortest path from its last cell to the goal: of these paths the lexicographically least by cell
-    /// numbers.
+    /// Adds to the walk a shortest path from its last cell to the goal: of these paths the lexicographically least by
+    /// cell numbers.
     fn go_straight<B: BarTable>(&mut self, ground: &Ground<B>, cost: u32) -> Result<(), OutOfMemory>
         requires small { cost < cost_bound }
         requires searching { IsSearching ground.now cost self.old }
@@ -201,8 +201,8 @@ impl PathSearch {
         Ok(())
     }
 
-    /// Goes on until the walk ends at the goal, at the cost, or the search has backtracked from so many states in all, or
-    /// has nowhere to backtrack to. Returns whether the walk ends at the goal; otherwise the search can go on.
+    /// Goes on until the walk ends at the goal, at the cost. Stops once it has backtracked from so many states in all,
+    /// or has nowhere to backtrack to. Returns whether the walk ends at the goal; otherwise the search can go on.
     pub fn search<B: BarTable>(
         &mut self,
         ground: &Ground<B>,

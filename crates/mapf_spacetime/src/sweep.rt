@@ -1,5 +1,5 @@
-ghost use Rattle.std.specs.Prelude.{◌≡◌, ◌+◌, ◌*◌, ◌++◌, ◌∷◌, ◌<◌, ◌≤◌, ◌↔◌, ℕ, [], List, Some, Contains, length, slice_index_or};
-ghost use Rattle.std.specs.Prelude.{false, IfOk, IfSome, IfNone, OnOk, IsTrue};
+ghost use Rattle.std.specs.Prelude.{◌≡◌, ◌+◌, ◌*◌, ◌++◌, ◌∷◌, ◌<◌, ◌≤◌, ◌↔◌, ℕ, [], List, Some, false};
+ghost use Rattle.std.specs.Prelude.{Contains, IfOk, IfSome, IfNone, IsTrue, OnOk, length, slice_index_or};
 ghost use Rattle.mapf_model.specs.Grid.{IsGridMap, Step};
 ghost use Rattle.mapf_model.specs.Labels.{MayGo};
 ghost use Rattle.mapf_model.specs.Limits.{most_cells, most_path_cells};
@@ -8,7 +8,8 @@ ghost use Rattle.mapf_spacetime.specs.CellSets.{HasCell, HasNone};
 ghost use Rattle.mapf_spacetime.specs.States.{IsBelowLimit};
 ghost use Rattle.mapf_spacetime.specs.Sweeps.{AreNext, AreStatesAt, AreSwept, HasArrived, IsExtended, IsNoted};
 ghost use Rattle.mapf_spacetime.specs.Sweeps.{IsSweep, IsUnderWay, IsWhole, MeetsGoal};
-ghost use Rattle.mapf_spacetime.specs.Task.{IsBarredLater, IsBelow, IsWithin, MayRestFrom, cost_bound, start_of, state_at};
+ghost use Rattle.mapf_spacetime.specs.Task.{IsBarredLater, IsBelow, IsWithin, MayRestFrom, cost_bound};
+ghost use Rattle.mapf_spacetime.specs.Task.{start_of};
 ghost use Rattle.mapf_spacetime.specs.declared.state.State.{State};
 
 use crate::cell_set::CellSet;
@@ -20,8 +21,8 @@ use std::alloc::Global;
 use std::marker::Model;
 use std::mem;
 
-/// The states that an agent can reach with an f-value, tick plus distance, of at most a bound: all those of a tick, then
-/// those of the next.
+/// The states that an agent can reach with an f-value, tick plus distance, of at most a bound: all those of a tick,
+/// then those of the next.
 #[derive(Drop)]
 pub struct Sweep {
     // By tick and then by cell.
@@ -219,8 +220,8 @@ impl Sweep {
         self.next_cells.has(ground.goal()) && ground.may_rest_from(self.tick)
     }
 
-    /// Begins with the start, and leaves out states of an f-value above the bound. Returns whether the agent is at its goal
-    /// and may stay.
+    /// Begins with the start, and leaves out states of an f-value above the bound. Returns whether the agent is at its
+    /// goal and may stay.
     pub fn begin<B: BarTable>(
         &mut self,
         ground: &Ground<B>,
@@ -307,8 +308,8 @@ impl Sweep {
         self.is_cut
     }
 
-    /// Reaches all states of an f-value of at most the bound. Returns the tick at which the agent arrives, and keeps the
-    /// states below it; None if it doesn't arrive up to the bound.
+    /// Reaches all states of an f-value of at most the bound. Returns the tick at which the agent arrives, and keeps
+    /// the states below it; None if it doesn't arrive up to the bound.
     pub fn arrival<B: BarTable>(
         &mut self,
         ground: &Ground<B>,

@@ -1,4 +1,4 @@
-ghost use Rattle.std.specs.Prelude.{◌≡◌, ◌<◌, ◌≤◌, IfOk};
+ghost use Rattle.std.specs.Prelude.{◌<◌, IfOk};
 ghost use Rattle.mapf_model.specs.Grid.{IsGridMap};
 ghost use Rattle.mapf_spacetime.specs.Task.{IsWithin, cost_bound, start_of};
 ghost use Rattle.mapf_spacetime.specs.Turns.{IsTurned};
