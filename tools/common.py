@@ -50,7 +50,8 @@ def run_tool(main):
 # The program.
 
 def program():
-    """The command of mapf: what MAPF names, else the program of this tree, which is built first where it has to be."""
+    """The command of mapf: what MAPF names, else the proved program of this tree, which is built first where it has to
+    be."""
     named = os.environ.get("MAPF")
     if named:
         if not os.access(named, os.X_OK) or os.path.isdir(named):
@@ -59,17 +60,13 @@ def program():
     here = TOP / "mapf"
     if not os.access(here, os.X_OK):
         raise ToolError(f"the program isn't at {here}: set MAPF to where it is")
-    if not is_launcher(here):
-        return str(here)
-    if subprocess.run([str(here), "--help"], stdin=subprocess.DEVNULL, stdout=subprocess.DEVNULL).returncode != 0:
-        raise ToolError(f"{here} couldn't build the program: see above, or set MAPF to a program that is built")
-    return str(TOP / "crates" / "mapf" / "out" / "mapf")
-
-
-def is_launcher(path):
-    """In a checkout `mapf` is a script that builds the program and runs it, in an archive it is the program."""
-    with open(path, "rb") as file:
-        return file.read(2) == b"#!"
+    prove = TOP / "prove"
+    if not os.access(prove, os.X_OK):
+        return str(here)  # in an archive
+    built = subprocess.run([str(prove)], stdin=subprocess.DEVNULL, stdout=subprocess.PIPE, text=True)
+    if built.returncode != 0:
+        raise ToolError(f"{prove} couldn't build the program: see above, or set MAPF to a program that is built")
+    return built.stdout.strip()
 
 
 # A progress line.

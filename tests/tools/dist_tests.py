@@ -89,7 +89,7 @@ def sum_faults(place):
 def missing_files(place):
     """The maps, scenarios and other inputs that commands of the documents name, and that aren't in the archive."""
     texts = "".join((place / name).read_text() for name in ("README.md", "docs/USE.md", "docs/TOOLS.md"))
-    commands = re.findall(r"(?m)^\$ (?:\./mapf|tools/\w+) .*$", texts)
+    commands = re.findall(r"(?m)^\$ .*$", texts)
     named = {word for command in commands for word in command.split() if word.startswith(("examples/", "tests/"))}
     lost = [f"{name} isn't there" for name in sorted(named) if not (place / name).exists()]
     return lost if named else ["no command of the documents names a file"]
