@@ -65,9 +65,10 @@ impl Reached {
     pub fn begin_with(&mut self, sweep: &mut Sweep, cells: usize) -> Result<(), OutOfMemory>
         ensures { OnOk result (self.new ≡ sweep.old.states) }
     {
-        self.make_room(cells)?;
+        // The next base may remove all stamps, so room for them is made after it.
         self.base = next_base(&mut self.stamps, self.base);
         sweep.exchange_states(&mut self.states);
+        self.make_room(cells)?;
         Ok(())
     }
 
