@@ -4,7 +4,7 @@ use Rattle.std.specs.Int.{bit_at, bit_not, trailing_zeros}
 use Rattle.std.proofs.lemmas.Bool.{cases_lt, cases_eq}
 use Rattle.std.proofs.lemmas.List.{get_or-set_same, get_or-set_other, get_or_default}
 use Rattle.std.proofs.lemmas.Nat.Bits.{bit_at-zero, bit_at_set_same, bit_at_set_other, bit_at_clear_same, bit_at_clear_other, bit_at-trailing_zeros}
-use Rattle.mapf_spacetime.specs.CellSets.{HasCell, HasNone, AreEmptyOutside}
+use Rattle.mapf_spacetime.specs.CellSets.{HasNumber, HasNone, AreEmptyOutside}
 use mir.Syntax.{w64}
 
 -- words that are all 0 have no cell
@@ -38,17 +38,17 @@ module _ (words : List ℕ) (cell : ℕ) (inside : cell / 64 < length words) whe
       (λ away. ap (λ n. bit_at n (other % 64)) (written_other words (cell / 64) (bit_or (slice_index words (cell / 64)) (1 * 2 ^ (cell % 64) % 2 ^ 64)) inside other away))
       (cases_eq (other / 64) (cell / 64))
 
-  pub with_here : HasCell with_cell cell
+  pub with_here : HasNumber with_cell cell
   with_here = ap (λ n. bit_at n (cell % 64)) (get_or-set_same words (cell / 64) (bit_or (slice_index words (cell / 64)) (1 * 2 ^ (cell % 64) % 2 ^ 64)) 0 inside)
       ∙ bit_at_set_same w64 (slice_index words (cell / 64)) (cell % 64) (omega arith)
 
-  pub with_kept : (other : ℕ) → HasCell words other → HasCell with_cell other
+  pub with_kept : (other : ℕ) → HasNumber words other → HasNumber with_cell other
   with_kept other held = ⊎_elim
-      (λ (same : other ≡ cell). subst (HasCell with_cell) (sym same) with_here)
+      (λ (same : other ≡ cell). subst (HasNumber with_cell) (sym same) with_here)
       (λ apart. with_other other apart ∙ held)
       (cases_eq other cell)
 
-  pub with_only : (other : ℕ) → HasCell with_cell other → HasCell words other ⊎ (other ≡ cell)
+  pub with_only : (other : ℕ) → HasNumber with_cell other → HasNumber words other ⊎ (other ≡ cell)
   with_only other held = ⊎_elim
       (λ (same : other ≡ cell). inr same)
       (λ apart. inl (sym (with_other other apart) ∙ held))
@@ -77,18 +77,18 @@ module _ (words : List ℕ) (first end : ℕ) (empty : AreEmptyOutside words fir
   least_bit : least_cell % 64 ≡ trailing_zeros w64 (slice_index words first)
   least_bit = let l = lowest.0 in omega arith
 
-  pub least_has : HasCell words least_cell
+  pub least_has : HasNumber words least_cell
   least_has = ap (λ n. bit_at (slice_index words n) (least_cell % 64)) least_place ∙ ap (λ n. bit_at (slice_index words first) n) least_bit ∙ lowest.1
 
   -- a cell that is in the set is in this word or in a later one
-  pub later : (other : ℕ) → HasCell words other → first ≤ other / 64
+  pub later : (other : ℕ) → HasNumber words other → first ≤ other / 64
   later other held = ⊎_elim
       (λ (less : other / 64 < first).
       let zero = ap (λ n. bit_at n (other % 64)) (empty.zero (other / 64) (λ within. less)) ∙ bit_at-zero (other % 64) in absurd (omega arith))
       (λ (more : first ≤ other / 64). more)
       (cases_lt (other / 64) first)
 
-  pub least_is : (other : ℕ) → HasCell words other → least_cell ≤ other
+  pub least_is : (other : ℕ) → HasNumber words other → least_cell ≤ other
   least_is other held =
       let after = later other held in
       let l = lowest.0 in
@@ -118,18 +118,18 @@ module _ (words : List ℕ) (first end : ℕ) (empty : AreEmptyOutside words fir
       (λ away. ap (λ n. bit_at n (other % 64)) (written_other words first word inside other away))
       (cases_eq (other / 64) first)
 
-  pub without_gone : HasCell without_least least_cell → ⊥
+  pub without_gone : HasNumber without_least least_cell → ⊥
   without_gone held =
       let word = bit_and (slice_index words first) (bit_not w64 (1 * 2 ^ trailing_zeros w64 (slice_index words first) % 2 ^ 64)) in
       let zero = ap (λ n. bit_at n (least_cell % 64)) (written_same words first word inside least_cell least_place) ∙ ap (λ n. bit_at word n) least_bit ∙ bit_at_clear_same w64 (slice_index words first) (trailing_zeros w64 (slice_index words first)) lowest.0 in
       omega arith
 
-  pub without_kept : (other : ℕ) → HasCell words other → other ≢ least_cell → HasCell without_least other
+  pub without_kept : (other : ℕ) → HasNumber words other → other ≢ least_cell → HasNumber without_least other
   without_kept other held apart = without_other other apart ∙ held
 
-  pub without_only : (other : ℕ) → HasCell without_least other → HasCell words other × (other ≢ least_cell)
+  pub without_only : (other : ℕ) → HasNumber without_least other → HasNumber words other × (other ≢ least_cell)
   without_only other held =
-      let apart : other ≢ least_cell = λ same. without_gone (subst (HasCell without_least) same held) in
+      let apart : other ≢ least_cell = λ same. without_gone (subst (HasNumber without_least) same held) in
       (sym (without_other other apart) ∙ held, apart)
 
 -- the same of a word that was read
@@ -140,17 +140,17 @@ module _ (words : List ℕ) (first end : ℕ) (empty : AreEmptyOutside words fir
   read_small : slice_index words first < 2 ^ 64
   read_small = subst (λ n. n < 2 ^ 64) is small
 
-  pub taken_has : HasCell words (first * 64 + trailing_zeros w64 read)
-  taken_has = subst (λ n. HasCell words (first * 64 + trailing_zeros w64 n)) (sym is) (least_has words first end empty inside read_some read_small)
+  pub taken_has : HasNumber words (first * 64 + trailing_zeros w64 read)
+  taken_has = subst (λ n. HasNumber words (first * 64 + trailing_zeros w64 n)) (sym is) (least_has words first end empty inside read_some read_small)
 
-  pub taken_is : (other : ℕ) → HasCell words other → first * 64 + trailing_zeros w64 read ≤ other
+  pub taken_is : (other : ℕ) → HasNumber words other → first * 64 + trailing_zeros w64 read ≤ other
   taken_is other held = subst (λ n. first * 64 + trailing_zeros w64 n ≤ other) (sym is) (least_is words first end empty inside read_some read_small other held)
 
-  pub taken_kept : (other : ℕ) → HasCell words other → other ≢ first * 64 + trailing_zeros w64 read → HasCell (slice_set words first (bit_and read (bit_not w64 (1 * 2 ^ trailing_zeros w64 read % 2 ^ 64)))) other
-  taken_kept other held apart = subst (λ n. HasCell (slice_set words first (bit_and n (bit_not w64 (1 * 2 ^ trailing_zeros w64 n % 2 ^ 64)))) other) (sym is)
+  pub taken_kept : (other : ℕ) → HasNumber words other → other ≢ first * 64 + trailing_zeros w64 read → HasNumber (slice_set words first (bit_and read (bit_not w64 (1 * 2 ^ trailing_zeros w64 read % 2 ^ 64)))) other
+  taken_kept other held apart = subst (λ n. HasNumber (slice_set words first (bit_and n (bit_not w64 (1 * 2 ^ trailing_zeros w64 n % 2 ^ 64)))) other) (sym is)
       (without_kept words first end empty inside read_some read_small other held (subst (λ n. other ≢ first * 64 + trailing_zeros w64 n) is apart))
 
-  pub taken_only : (other : ℕ) → HasCell (slice_set words first (bit_and read (bit_not w64 (1 * 2 ^ trailing_zeros w64 read % 2 ^ 64)))) other → HasCell words other × (other ≢ first * 64 + trailing_zeros w64 read)
+  pub taken_only : (other : ℕ) → HasNumber (slice_set words first (bit_and read (bit_not w64 (1 * 2 ^ trailing_zeros w64 read % 2 ^ 64)))) other → HasNumber words other × (other ≢ first * 64 + trailing_zeros w64 read)
   taken_only other held =
-      let (there, apart) = without_only words first end empty inside read_some read_small other (subst (λ n. HasCell (slice_set words first (bit_and n (bit_not w64 (1 * 2 ^ trailing_zeros w64 n % 2 ^ 64)))) other) is held) in
+      let (there, apart) = without_only words first end empty inside read_some read_small other (subst (λ n. HasNumber (slice_set words first (bit_and n (bit_not w64 (1 * 2 ^ trailing_zeros w64 n % 2 ^ 64)))) other) is held) in
       (there, subst (λ n. other ≢ first * 64 + trailing_zeros w64 n) (sym is) apart)

@@ -5,10 +5,10 @@ use Rattle.std.proofs.lemmas.Bool.{cases_lt, cases_eq}
 use Rattle.std.proofs.lemmas.List.{get_or_past}
 use Rattle.std.proofs.lemmas.Nat.Bits.{bit_at-zero}
 use Rattle.std.specs.Int.{bit_at}
-use Rattle.mapf_spacetime.specs.CellSets.{HasCell, HasNone, AreFilled, AreEmptyOutside}
+use Rattle.mapf_spacetime.specs.CellSets.{HasNumber, HasNone, AreFilled, AreEmptyOutside}
 
 -- a number of a set has a bit there
-pub number_inside : (words : List ℕ) (number : ℕ) → HasCell words number → number < 64 * length words
+pub number_inside : (words : List ℕ) (number : ℕ) → HasNumber words number → number < 64 * length words
 number_inside words number held = ⊎_elim
     (λ (inside : number < 64 * length words). inside)
     (λ (outside : 64 * length words ≤ number).
@@ -41,16 +41,16 @@ filled_none words filled zeros none room = record {
 -- the word at a place is written, and the set of places is as it was but for this place
 pub filled_after : (words new_words filled new : List ℕ) → AreFilled words filled → (place : ℕ) → length new_words ≡ length words → length new ≡ length filled
     → ((other : ℕ) → other ≢ place → slice_index new_words other ≡ slice_index words other)
-    → ((other : ℕ) → HasCell filled other → other ≢ place → HasCell new other) → ((other : ℕ) → HasCell new other → other ≢ place → HasCell filled other)
-    → (slice_index new_words place ≢ 0 → HasCell new place) → (HasCell new place → slice_index new_words place ≢ 0) → AreFilled new_words new
+    → ((other : ℕ) → HasNumber filled other → other ≢ place → HasNumber new other) → ((other : ℕ) → HasNumber new other → other ≢ place → HasNumber filled other)
+    → (slice_index new_words place ≢ 0 → HasNumber new place) → (HasNumber new place → slice_index new_words place ≢ 0) → AreFilled new_words new
 filled_after words new_words filled new are place count size others kept only there back = record {
   full = λ other some. ⊎_elim
-      (λ (same : other ≡ place). subst (HasCell new) (sym same) (there (λ zero. some (ap (λ n. slice_index new_words n) same ∙ zero))))
+      (λ (same : other ≡ place). subst (HasNumber new) (sym same) (there (λ zero. some (ap (λ n. slice_index new_words n) same ∙ zero))))
       (λ (apart : other ≢ place). kept other (are.full other (λ zero. some (others other apart ∙ zero))) apart)
       (cases_eq other place);
   only = λ other held. ⊎_elim
       (λ (same : other ≡ place).
-      let some = back (subst (HasCell new) same held) in
+      let some = back (subst (HasNumber new) same held) in
       λ (zero : slice_index new_words other ≡ 0). some (ap (λ n. slice_index new_words n) (sym same) ∙ zero))
       (λ (apart : other ≢ place).
       let some = are.only other (only other held apart) in
@@ -60,10 +60,10 @@ filled_after words new_words filled new are place count size others kept only th
 }
 
 -- taking the least number removes the least place
-pub least_gone : (taken : Option ℕ) (old new : List ℕ) (place : ℕ) → HasCell old place → ((other : ℕ) → HasCell old other → place ≤ other)
-    → IfSome taken (λ n. HasCell old n) → IfSome taken (λ n. (other : ℕ) → HasCell old other → n ≤ other)
-    → IfSome taken (λ n. (other : ℕ) → HasCell old other → other ≢ n → HasCell new other) → IfSome taken (λ n. (other : ℕ) → HasCell new other → HasCell old other × (other ≢ n)) → IfNone taken (HasNone old)
-    → ((other : ℕ) → HasCell old other → other ≢ place → HasCell new other) × ((other : ℕ) → HasCell new other → HasCell old other × (other ≢ place))
+pub least_gone : (taken : Option ℕ) (old new : List ℕ) (place : ℕ) → HasNumber old place → ((other : ℕ) → HasNumber old other → place ≤ other)
+    → IfSome taken (λ n. HasNumber old n) → IfSome taken (λ n. (other : ℕ) → HasNumber old other → n ≤ other)
+    → IfSome taken (λ n. (other : ℕ) → HasNumber old other → other ≢ n → HasNumber new other) → IfSome taken (λ n. (other : ℕ) → HasNumber new other → HasNumber old other × (other ≢ n)) → IfNone taken (HasNone old)
+    → ((other : ℕ) → HasNumber old other → other ≢ place → HasNumber new other) × ((other : ℕ) → HasNumber new other → HasNumber old other × (other ≢ place))
 least_gone None old new place held least has low kept only none = absurd (none place held)
 least_gone (Some n) old new place held least has low kept only none =
     let same : n ≡ place = (let a = low place held in let b = least n has in omega (arith, a, b)) in (
@@ -72,7 +72,7 @@ least_gone (Some n) old new place held least has low kept only none =
     )
 
 -- the words before the least place are 0
-pub empty_before : (words filled : List ℕ) → AreFilled words filled → (least : ℕ) → ((other : ℕ) → HasCell filled other → least ≤ other) → AreEmptyOutside words least (length words)
+pub empty_before : (words filled : List ℕ) → AreFilled words filled → (least : ℕ) → ((other : ℕ) → HasNumber filled other → least ≤ other) → AreEmptyOutside words least (length words)
 empty_before words filled are least low = record {
   zero = λ place outside. ⊎_elim
       (λ (zero : slice_index words place ≡ 0). zero)
@@ -86,11 +86,11 @@ empty_before words filled are least low = record {
 }
 
 -- the word of a cell of the set isn't 0
-pub not_zero : (words : List ℕ) (cell : ℕ) → HasCell words cell → slice_index words (cell / 64) ≢ 0
+pub not_zero : (words : List ℕ) (cell : ℕ) → HasNumber words cell → slice_index words (cell / 64) ≢ 0
 not_zero words cell held zero = let one = sym held ∙ ap (λ n. bit_at n (cell % 64)) zero ∙ bit_at-zero (cell % 64) in omega (arith, one)
 
 -- no set has a cell without words
-pub no_words : (cell : ℕ) → HasCell [] cell → ⊥
+pub no_words : (cell : ℕ) → HasNumber [] cell → ⊥
 no_words cell held = let one = sym held ∙ bit_at-zero (cell % 64) in omega (arith, one)
 
 -- the words that are written through a slice of all of them

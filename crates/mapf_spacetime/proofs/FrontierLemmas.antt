@@ -7,7 +7,7 @@ use Rattle.mapf_model.specs.Neighbours.{neighbourhood}
 use Rattle.mapf_model.proofs.StepLemmas.{step_neighbour}
 use Rattle.mapf_spacetime.specs.declared.state.State.{State}
 use Rattle.mapf_spacetime.specs.Task.{Task, Goes, IsValue, IsWithin, IsPast, IsBarredLater, MayRestFrom, state_at, start_of}
-use Rattle.mapf_spacetime.specs.Frontiers.{States, with_reached, with_open, with_next, with_later, low_states, IsWaiting, IsKnown, IsTaken, IsClosed, IsFrontier, Keeps, Takes, IsAtGoal}
+use Rattle.mapf_spacetime.specs.Frontiers.{States, with_reached, with_open, with_next, with_later, low_states, IsWaiting, IsKnown, IsTaken, IsClosed, IsFrontier, Keeps, Takes}
 use Rattle.mapf_spacetime.proofs.ValueLemmas.{below_within, level_within, value_free, at_goal}
 use Rattle.mapf_model.proofs.ContainsLemmas.{Contains-none, Contains-cons_cases}
 
@@ -194,11 +194,14 @@ module _ (task : Task) (states : States) (state : State) (f : IsFrontier task []
   open_value = f.level state (Contains-push states.open_states state)
 
   -- it is the arrival
-  pub arrived : state.cell ≡ task.goal → MayRestFrom task state.tick → IsAtGoal task states
-  arrived is rest =
+  pub at_goal_open : state.cell ≡ task.goal → Contains (with_open states state).open_states (state_at task.goal states.cost)
+  at_goal_open is =
       let tick = at_goal task state states.cost open_value is in
       let same : state ≡ state_at task.goal states.cost = λ i. record { tick = tick i; cell = is i } in
-      record { frontier = subst (λ s. IsFrontier task [] (with_open states s)) same f; rest = subst (MayRestFrom task) tick rest }
+      subst (Contains (states.open_states ++ state ∷ [])) same (Contains-push states.open_states state)
+
+  pub rest_at_cost : state.cell ≡ task.goal → MayRestFrom task state.tick → MayRestFrom task states.cost
+  rest_at_cost is rest = subst (MayRestFrom task) (at_goal task state states.cost open_value is) rest
 
   low_same : low_states (with_reached states state) ≡ low_states states
   low_same = let bound : states.below ≤ length states.reached = f.bound in take-append-le states.below states.reached (state ∷ []) bound

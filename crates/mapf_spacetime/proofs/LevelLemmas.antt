@@ -1,15 +1,17 @@
 -- How a search by rising f-values begins with a sweep, and what it has shown at its end.
-use Rattle.std.proofs.Common.{◌≡◌, ◌⊎◌, inl, inr, ⊎_elim, ℕ, zero, suc, ◌+◌, ◌<◌, ◌≤◌, List, [], AllPairs, Contains, drop, take-append-drop, length, refl, sym, subst, arith}
+use Rattle.std.proofs.Common.{◌≡◌, ◌⊎◌, inl, inr, ⊎_elim, ℕ, zero, suc, ◌+◌, ◌^◌, ◌<◌, ◌≤◌, List, [], ◌∷◌, ◌++◌, AllPairs, Contains, drop, take-append-drop, length, length-append, refl, sym, subst, arith}
 use Rattle.std.proofs.lemmas.List.{take_all}
-use Rattle.std.proofs.lemmas.List.Elements.{Contains-append_left, Contains-push}
+use Rattle.std.proofs.lemmas.List.Elements.{Contains-append_left}
 use Rattle.mapf_model.specs.Labels.{MayGo}
 use Rattle.mapf_model.proofs.ContainsLemmas.{Contains-none}
 use Rattle.mapf_spacetime.specs.declared.state.State.{State}
-use Rattle.mapf_spacetime.specs.Frontiers.{States, first_states, low_states, with_open, AreLowReached, IsAtGoal, IsFrontier, IsKnown, IsSpent}
-use Rattle.mapf_spacetime.specs.PathSearch.{CanArrive}
+use Rattle.mapf_spacetime.specs.Frontiers.{States, first_states, low_states, with_open, AreLowReached, IsAtGoal, IsFrontier, IsKnown, IsExhausted, takes_left}
+use Rattle.mapf_spacetime.specs.Levels.{IsWalkTo}
+use Rattle.mapf_spacetime.specs.PathSearch.{CanArrive, IsWholeWalk}
 use Rattle.mapf_spacetime.specs.Sweeps.{Sweeping, IsEarlier, IsFrom, IsWhole, HasArrived, AreAll}
-use Rattle.mapf_spacetime.specs.Task.{Task, IsValue, state_at, start_of}
-use Rattle.mapf_spacetime.proofs.FrontierLemmas.{reached_within}
+use Rattle.mapf_spacetime.specs.Task.{Task, IsValue, MayRestFrom, state_at, start_of}
+use Rattle.mapf_spacetime.proofs.FrontierLemmas.{reached_within, at_goal_open, rest_at_cost}
+use Rattle.mapf_spacetime.proofs.PathLemmas.{walk_leads}
 use Rattle.mapf_spacetime.proofs.ValueLemmas.{level_within, no_lower, value_unique}
 
 -- the states of a whole sweep were reached, and the steps from them are still to be taken
@@ -51,40 +53,68 @@ level_steps task states from level to may (value, is, less) = absurd (
 from_level : (task : Task) (cost value : ℕ) (s : State) → IsValue task s value → cost ≤ value → IsFrom task cost s
 from_level task cost value s is le = (value, is, le)
 
+-- an agent that can arrive from a known state can arrive from the start
+module _ (task : Task) (states : States) (f : IsFrontier task [] states) where
+  leads : (n : ℕ) (s : State) → s.tick ≡ n → IsKnown states s → CanArrive task states.cost s → CanArrive task states.cost (start_of task)
+  leads zero s tick known (m, on) = ⊎_elim
+      (λ is. subst (CanArrive task states.cost) is (m, on))
+      (λ (from, held, goes). absurd (let t = goes.tick in omega arith))
+      (f.entered s known)
+  leads (suc n) s tick known (m, on) = ⊎_elim
+      (λ is. subst (CanArrive task states.cost) is (m, on))
+      (λ (from, held, goes). let t = goes.tick in leads n from (omega arith) (inl held) (suc m, (s, goes, on)))
+      (f.entered s known)
+
+  pub goal_leads : Contains states.open_states (state_at task.goal states.cost) → CanArrive task states.cost (start_of task)
+  goal_leads held = leads states.cost (state_at task.goal states.cost) refl (inr (inl held)) (zero, refl)
+
+-- a state that was taken and had been reached before leaves fewer to take
+pub takes_old : (states : States) (state : State) → length (states.open_states ++ state ∷ []) < 2 ^ 64 → takes_left states + 1 ≤ takes_left (with_open states state)
+takes_old states state small = omega (arith, length-append states.open_states (state ∷ []))
+
+-- and so does one that is new, whatever it opens
+pub takes_new : (old new : States) → length new.reached ≡ length old.reached + 1 → length new.reached < 2 ^ 64 → takes_left new + 1 ≤ takes_left old
+takes_new old new one small = omega arith
+
+-- the state that was taken last is the arrival
+pub open_arrived : (task : Task) (states : States) (state : State) → IsFrontier task [] (with_open states state) → state.cell ≡ task.goal → MayRestFrom task state.tick → IsAtGoal task states
+open_arrived task states state f is rest = record {
+  all = states.open_states ++ state ∷ [];
+  frontier = f;
+  leads = goal_leads task (with_open states state) f (at_goal_open task states state f is);
+  rest = rest_at_cost task states state f is rest;
+}
+
+-- a walk of the cost ends at the goal
+pub walk_at_goal : (task : Task) (states : States) (cells : List ℕ) → IsFrontier task [] states → IsWholeWalk task states.cost cells → MayRestFrom task states.cost → IsWalkTo task states cells
+walk_at_goal task states cells f walk rest = record {
+  at_goal = record { all = states.open_states; frontier = f; leads = walk_leads task states.cost cells walk; rest = rest };
+  walk = walk;
+}
+
 -- the agent arrives at the cost: these are the states below it
-module _ (task : Task) (states : States) (h : IsAtGoal task states) (low : List State) (to : (s : State) → Contains low s → Contains (low_states states) s)
+module _ (task : Task) (states : States) (f : IsFrontier task [] states) (can : CanArrive task states.cost (start_of task)) (rest : MayRestFrom task states.cost) (low : List State) (to : (s : State) → Contains low s → Contains (low_states states) s)
     (of : (s : State) → Contains (low_states states) s → Contains low s) (rising : AllPairs IsEarlier low) where
   reached : (s : State) → Contains (low_states states) s → Contains states.reached s
   reached s held = subst (λ l. Contains l s) (take-append-drop states.below states.reached) (Contains-append_left (low_states states) (drop states.below states.reached) s held)
 
   held_or_from : (s : State) → Contains states.reached s → Contains low s ⊎ IsFrom task states.cost s
-  held_or_from s there = ⊎_elim (λ l. inl (of s l)) (λ level. inr (from_level task states.cost states.cost s level (omega arith))) (h.frontier.top s there)
+  held_or_from s there = ⊎_elim (λ l. inl (of s l)) (λ level. inr (from_level task states.cost states.cost s level (omega arith))) (f.top s there)
 
-  known_from : (s : State) → IsKnown (with_open states (state_at task.goal states.cost)) s → Contains low s ⊎ IsFrom task states.cost s
+  known_from : (s : State) → IsKnown states s → Contains low s ⊎ IsFrom task states.cost s
   known_from s known = ⊎_elim
       (λ r. held_or_from s r)
       (λ other. ⊎_elim
-      (λ o. inr (from_level task states.cost states.cost s (h.frontier.level s o) (omega arith)))
+      (λ o. inr (from_level task states.cost states.cost s (f.level s o) (omega arith)))
       (λ waits. ⊎_elim
-      (λ n. inr (from_level task states.cost (states.cost + 1) s (h.frontier.next s n) (omega arith)))
-      (λ l. inr (from_level task states.cost (states.cost + 2) s (h.frontier.later s l) (omega arith)))
+      (λ n. inr (from_level task states.cost (states.cost + 1) s (f.next s n) (omega arith)))
+      (λ l. inr (from_level task states.cost (states.cost + 2) s (f.later s l) (omega arith)))
       waits)
       other)
       known
 
-  leads : (n : ℕ) (s : State) → s.tick ≡ n → IsKnown (with_open states (state_at task.goal states.cost)) s → CanArrive task states.cost s → CanArrive task states.cost (start_of task)
-  leads zero s tick known (m, on) = ⊎_elim
-      (λ is. subst (CanArrive task states.cost) is (m, on))
-      (λ (from, held, goes). absurd (let t = goes.tick in omega arith))
-      (h.frontier.entered s known)
-  leads (suc n) s tick known (m, on) = ⊎_elim
-      (λ is. subst (CanArrive task states.cost) is (m, on))
-      (λ (from, held, goes). let t = goes.tick in leads n from (omega arith) (inl held) (suc m, (s, goes, on)))
-      (h.frontier.entered s known)
-
-  pub goal_arrived : HasArrived task states.cost low
-  goal_arrived =
-      let f = h.frontier in
+  pub low_arrived : HasArrived task states.cost low
+  low_arrived =
       record {
         swept = record {
           start = ⊎_elim (λ r. held_or_from (start_of task) r) (λ o. inr (from_level task states.cost states.cost (start_of task) (f.level (start_of task) o) (omega arith))) f.start;
@@ -93,7 +123,7 @@ module _ (task : Task) (states : States) (h : IsAtGoal task states) (low : List 
               (λ is. inl is)
               (λ (from, there, goes).
               let (value, is, less) = f.low s (to s held) in
-              let (before, before_is, le) = reached_within task [] (with_open states (state_at task.goal states.cost)) f from there in
+              let (before, before_is, le) = reached_within task [] states f from there in
               let lower = no_lower task from s before value before_is is goes in
               ⊎_elim
               (λ l. inr (from, of from l, goes))
@@ -110,20 +140,20 @@ module _ (task : Task) (states : States) (h : IsAtGoal task states) (low : List 
           quiet = λ tick held. f.quiet tick (reached (state_at task.goal tick) (to (state_at task.goal tick) held));
           rising = rising;
         };
-        leads = leads states.cost (state_at task.goal states.cost) refl (inr (inl (Contains-push states.open_states (state_at task.goal states.cost)))) (zero, refl);
-        within = ⊎_elim (λ r. reached_within task [] (with_open states (state_at task.goal states.cost)) f (start_of task) r) (λ o. level_within task (start_of task) states.cost (f.level (start_of task) o)) f.start;
-        rest = h.rest;
+        leads = can;
+        within = ⊎_elim (λ r. reached_within task [] states f (start_of task) r) (λ o. level_within task (start_of task) states.cost (f.level (start_of task) o)) f.start;
+        rest = rest;
       }
 
 -- no state is left to reach
-module _ (task : Task) (states : States) (spent : IsSpent task states) (kept : List State) (to : (s : State) → Contains kept s → Contains states.reached s)
+module _ (task : Task) (states : States) (x : IsExhausted task states) (kept : List State) (to : (s : State) → Contains kept s → Contains states.reached s)
     (of : (s : State) → Contains states.reached s → Contains kept s) (rising : AllPairs IsEarlier kept) where
   none_open : (s : State) → Contains states.open_states s → ⊥
-  none_open s o = Contains-none s (subst (λ l. Contains l s) spent.walked.none_open o)
+  none_open s o = Contains-none s (subst (λ l. Contains l s) x.done.none_open o)
 
-  pub spent_all : AreAll task states.cost kept
-  spent_all =
-      let f = spent.walked.frontier in
+  pub exhausted_all : AreAll task states.cost kept
+  exhausted_all =
+      let f = x.done.frontier in
       record {
         reached = record {
           start = ⊎_elim (λ r. of (start_of task) r) (λ o. absurd (none_open (start_of task) o)) f.start;
@@ -140,8 +170,8 @@ module _ (task : Task) (states : States) (spent : IsSpent task states) (kept : L
             (λ other. ⊎_elim
             (λ o. absurd (none_open (state_at next (s.tick + 1)) o))
             (λ waits. ⊎_elim
-            (λ n. absurd (Contains-none (state_at next (s.tick + 1)) (subst (λ l. Contains l (state_at next (s.tick + 1))) spent.none_waits.0 n)))
-            (λ l. absurd (Contains-none (state_at next (s.tick + 1)) (subst (λ l. Contains l (state_at next (s.tick + 1))) spent.none_waits.1 l)))
+            (λ n. absurd (Contains-none (state_at next (s.tick + 1)) (subst (λ l. Contains l (state_at next (s.tick + 1))) x.none_waits.0 n)))
+            (λ l. absurd (Contains-none (state_at next (s.tick + 1)) (subst (λ l. Contains l (state_at next (s.tick + 1))) x.none_waits.1 l)))
             waits)
             other)
             known)

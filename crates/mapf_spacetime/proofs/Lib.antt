@@ -4,6 +4,7 @@ pub mod FilledLemmas
 pub mod EntryLemmas
 pub mod ValueLemmas
 pub mod SweptLemmas
+pub mod SweepInvariants
 pub mod SweepLemmas
 pub mod StampLemmas
 pub mod FrontierLemmas

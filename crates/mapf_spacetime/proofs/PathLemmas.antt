@@ -12,7 +12,7 @@ use Rattle.mapf_model.proofs.PathLemmas.{IsCost-from_end}
 use Rattle.mapf_spacetime.specs.Task.{Task, Goes, IsValue, IsOpen, MayRestFrom, agent_of, state_at, start_of}
 use Rattle.mapf_spacetime.specs.Sweeps.{IsFrom, AreSwept, HasArrived}
 use Rattle.mapf_spacetime.specs.declared.state.State.{State}
-use Rattle.mapf_spacetime.specs.PathSearch.{state_of, IsWholeWalk}
+use Rattle.mapf_spacetime.specs.PathSearch.{CanArrive, CanArriveIn, state_of, IsWholeWalk}
 use Rattle.mapf_spacetime.proofs.ValueLemmas.{value_free, value_unique, value_none, no_lower}
 
 pub at_is : (cells : List ℕ) (tick : ℕ) → tick < length cells → at cells tick ≡ slice_index cells tick
@@ -55,8 +55,8 @@ module _ (task : Task) (cells : List ℕ) (some : 1 ≤ length cells) (start : s
       rest.wait tick (omega arith) (subst (λ c. Contains task.bars (Move c task.goal tick)) here (subst (λ c. Contains task.bars (Move from c tick)) there barred)))
       (cases_lt (tick + 1) (length cells))
 
--- a walk that ends at the cost goes through the states below it
-module _ (task : Task) (cost : ℕ) (states : List State) (cells : List ℕ) (swept : AreSwept task cost states) (w : IsWholeWalk task cost cells) where
+-- a walk that ends at the cost ends at the goal
+module _ (task : Task) (cost : ℕ) (cells : List ℕ) (w : IsWholeWalk task cost cells) where
   pub ends : slice_index cells (length cells - 1) ≡ task.goal
   ends =
       let count = w.count in
@@ -65,6 +65,23 @@ module _ (task : Task) (cost : ℕ) (states : List State) (cells : List ℕ) (sw
       let none : is.distance ≡ 0 = (let sum = is.sum in omega arith) in
       ap (λ n. slice_index cells n) last ∙ (subst (Walk task.grid (slice_index cells cost) task.goal) none is.is.walk).1
 
+  leads_on : (n k : ℕ) → k + n ≡ cost → CanArriveIn task cost n (state_of cells k)
+  leads_on zero k e =
+      let count = w.count in
+      let last : length cells - 1 ≡ k = omega arith in
+      let here : k ≡ cost = omega arith in
+      let cell : slice_index cells k ≡ task.goal = subst (λ n. slice_index cells n ≡ task.goal) last ends in
+      λ i. record { tick = here i; cell = cell i }
+  leads_on (suc n) k e = (let count = w.count in (state_of cells (k + 1), w.way.goes k (omega arith), leads_on n (k + 1) (omega arith)))
+
+  -- so the agent can arrive
+  pub walk_leads : CanArrive task cost (start_of task)
+  walk_leads =
+      let start : state_of cells 0 ≡ start_of task = ap (λ c. state_at c 0) w.way.start in
+      (cost, subst (CanArriveIn task cost cost) start (leads_on cost 0 (omega arith)))
+
+-- and goes through the states below it
+module _ (task : Task) (cost : ℕ) (states : List State) (cells : List ℕ) (swept : AreSwept task cost states) (w : IsWholeWalk task cost cells) where
   -- a state below the cost isn't one from it on
   below_only : (s : State) (value : ℕ) → IsValue task s value → value < cost → Contains states s ⊎ IsFrom task cost s → Contains states s
   below_only s value is less either = ⊎_elim
@@ -95,7 +112,7 @@ module _ (task : Task) (cost : ℕ) (states : List State) (cells : List ℕ) (sw
 -- a walk of the least cost
 module _ (task : Task) (cost : ℕ) (states : List State) (cells : List ℕ) (h : HasArrived task cost states) (w : IsWholeWalk task cost cells) (start_open : IsOpen task (start_of task)) where
   at_goal_last : slice_index cells (length cells - 1) ≡ task.goal
-  at_goal_last = ends task cost states cells h.swept w
+  at_goal_last = ends task cost cells w
 
   opens : (k : ℕ) → k < length cells → IsOpen task (state_of cells k)
   opens = is_open task cells w.way.some w.way.start start_open w.way.goes at_goal_last (let count = w.count in let last : length cells - 1 ≡ cost = omega arith in subst (MayRestFrom task) (sym last) h.rest)

@@ -7,10 +7,11 @@ use Rattle.std.specs.Int.{bit_at}
 use Rattle.std.proofs.Math.Seq.{get_or-append_right}
 use Rattle.std.proofs.lemmas.List.Elements.{Contains-append_left, Contains-append_right, Contains-append_cases, Contains-push, Contains-push_cases, Contains-get_or}
 use Rattle.mapf_model.proofs.ContainsLemmas.{Contains-none}
-use Rattle.mapf_spacetime.specs.CellSets.{HasCell, HasNone}
+use Rattle.mapf_spacetime.specs.CellSets.{HasNumber, HasNone}
 use Rattle.mapf_spacetime.specs.declared.state.State.{State}
 use Rattle.mapf_spacetime.specs.States.{IsEntered}
-use Rattle.mapf_spacetime.specs.Sweeps.{Sweeping, IsEarlier, IsFrom, SomeIsPast, AreReached, IsSweep, AreNext, IsNoted, IsExtended, AreStatesAt, AreTaken, IsWhole, MeetsGoal}
+use Rattle.mapf_spacetime.specs.Sweeps.{Sweeping, IsEarlier, IsFrom, SomeIsPast, AreReached, IsSweep, AreNext, IsNoted, IsExtended, AreStatesAt, IsWhole, MeetsGoal}
+use Rattle.mapf_spacetime.proofs.SweepInvariants.{AreTaken}
 use Rattle.mapf_spacetime.specs.Task.{Task, IsValue, IsWithin, IsPast, IsBarredLater, MayRestFrom, state_at, start_of}
 use Rattle.mapf_spacetime.proofs.SweptLemmas.{one_held}
 use Rattle.mapf_spacetime.proofs.ValueLemmas.{at_goal}
@@ -58,7 +59,7 @@ noted_kept task old new e from to noted may = ⊎_elim
 
 -- a cell is noted
 pub next_with : (task : Task) (old new : Sweeping) (from : State) (to : ℕ) → AreNext task from.tick old → new.states ≡ old.states → new.bound ≡ old.bound → new.is_cut ≡ old.is_cut →
-    ((cell : ℕ) → HasCell new.next_cells cell → HasCell old.next_cells cell ⊎ (cell ≡ to)) →
+    ((cell : ℕ) → HasNumber new.next_cells cell → HasNumber old.next_cells cell ⊎ (cell ≡ to)) →
     IsEntered task old.states (state_at to (from.tick + 1)) → IsWithin task old.bound (state_at to (from.tick + 1)) → AreNext task from.tick new
 next_with task old new from to next states bound cut only entered within = record {
   entered = λ cell held. subst (λ l. IsEntered task l (state_at cell (from.tick + 1))) (sym states) (⊎_elim
@@ -121,7 +122,7 @@ module _ (task : Task) (tick first : ℕ) (old new : Sweeping) (w : IsSweep task
   tick_of s held = ⊎_elim (λ early. omega arith) (λ (same, steps). omega arith) (step_of s held)
 
   -- if the agent arrives one tick later
-  pub meets : HasCell new.next_cells task.goal → MayRestFrom task (tick + 1) → MeetsGoal task (tick + 1) new
+  pub meets : HasNumber new.next_cells task.goal → MayRestFrom task (tick + 1) → MeetsGoal task (tick + 1) new
   meets goal rest =
       let (value, is, le) = next.within task.goal goal in
       let at = at_goal task (state_at task.goal (tick + 1)) value is refl in
@@ -155,7 +156,7 @@ module _ (task : Task) (tick first : ℕ) (old new : Sweeping) (w : IsSweep task
 
   -- the next cells are reached
   module _ (after : Sweeping) (added : List State) (at : AreStatesAt (tick + 1) new.next_cells added) (states : after.states ≡ new.states ++ added) (bound : after.bound ≡ new.bound)
-      (cut : after.is_cut ≡ new.is_cut) (quiet : HasCell new.next_cells task.goal → IsBarredLater task (tick + 1)) where
+      (cut : after.is_cut ≡ new.is_cut) (quiet : HasNumber new.next_cells task.goal → IsBarredLater task (tick + 1)) where
     all : List State
     all = old.states ++ added
 
@@ -261,15 +262,15 @@ none_taken tick cells = record {
 }
 
 -- the least cell is taken
-pub one_taken : (tick : ℕ) (cells rest left : List ℕ) (states : List State) (cell : ℕ) → AreTaken tick cells rest states → HasCell rest cell → ((other : ℕ) → HasCell rest other → cell ≤ other) →
-    ((other : ℕ) → HasCell rest other → other ≢ cell → HasCell left other) → ((other : ℕ) → HasCell left other → HasCell rest other × (other ≢ cell)) → AreTaken tick cells left (states ++ state_at cell tick ∷ [])
+pub one_taken : (tick : ℕ) (cells rest left : List ℕ) (states : List State) (cell : ℕ) → AreTaken tick cells rest states → HasNumber rest cell → ((other : ℕ) → HasNumber rest other → cell ≤ other) →
+    ((other : ℕ) → HasNumber rest other → other ≢ cell → HasNumber left other) → ((other : ℕ) → HasNumber left other → HasNumber rest other × (other ≢ cell)) → AreTaken tick cells left (states ++ state_at cell tick ∷ [])
 one_taken tick cells rest left states cell t here least kept only =
     let taken = state_at cell tick in
-    let after : (other : ℕ) → HasCell left other → cell < other = λ other held. (let (there, apart) = only other held in let le = least other there in omega arith) in
+    let after : (other : ℕ) → HasNumber left other → cell < other = λ other held. (let (there, apart) = only other held in let le = least other there in omega arith) in
     record {
       each = λ s held. ⊎_elim
           (λ old. t.each s old)
-          (λ same. (sym (ap (λ (x : State). x.tick) same), subst (HasCell cells) (ap (λ (x : State). x.cell) same) (t.left cell here)))
+          (λ same. (sym (ap (λ (x : State). x.tick) same), subst (HasNumber cells) (ap (λ (x : State). x.cell) same) (t.left cell here)))
           (Contains-push_cases states taken s held);
       left = λ other held. t.left other (only other held).0;
       all = λ other held. ⊎_elim
@@ -301,7 +302,7 @@ all_taken tick cells rest states t none = record {
 }
 
 -- a cell of a set is one of those for which it has room
-pub has_room : (words : List ℕ) (cell : ℕ) → HasCell words cell → cell < 64 * length words
+pub has_room : (words : List ℕ) (cell : ℕ) → HasNumber words cell → cell < 64 * length words
 has_room words cell held = ⊎_elim
     (λ (inside : cell / 64 < length words). omega arith)
     (λ (outside : length words ≤ cell / 64).

@@ -1,24 +1,25 @@
 -- States below a cost: they are those of a sweep that arrives at the cost, and a bound on such costs.
-use Rattle.std.proofs.Common.{◌≡◌, ◌⊎◌, inl, inr, ⊎_elim, true, false, ℕ, zero, suc, ◌+◌, ◌-◌, ◌<◌, ◌≤◌, List, [], ◌∷◌, ◌++◌, AllPairs, Contains, length, slice_index, slice_index_or, refl, sym, ap, subst, ◌∙◌, arith}
+use Rattle.std.proofs.Common.{◌≡◌, ◌⊎◌, inl, inr, ⊎_elim, true, false, ℕ, zero, suc, ◌+◌, ◌<◌, ◌≤◌, List, [], ◌∷◌, ◌++◌, AllPairs, Contains, length, slice_index_or, refl, sym, ap, subst, ◌∙◌, arith}
 use Rattle.std.proofs.lemmas.Bool.{cases_lt}
 use Rattle.std.proofs.lemmas.List.{get_or_default}
 use Rattle.std.proofs.lemmas.List.Elements.{Contains-append_left, Contains-get_or, Contains-push, Contains-push_cases}
 use Rattle.std.proofs.lemmas.List.Quantifiers.{all_pairs_push}
 use Rattle.mapf_model.specs.declared.bar.Bar.TheVariants.{Cell, Move}
-use Rattle.mapf_model.specs.Distance.{IsDistance}
+use Rattle.mapf_model.specs.Distance.{IsDistance, IsUnreachable}
 use Rattle.mapf_model.specs.Grid.{free_cell_count}
 use Rattle.mapf_model.specs.Labels.{MayGo}
 use Rattle.mapf_model.specs.Limits.{most_cells}
 use Rattle.mapf_model.proofs.ContainsLemmas.{Contains-none}
 use Rattle.mapf_constraints.specs.BarSets.{AreBefore}
 use Rattle.mapf_spacetime.specs.declared.state.State.{State}
-use Rattle.mapf_spacetime.specs.PathSearch.{CanArrive, CanArriveIn, IsWholeWalk, state_of}
+use Rattle.mapf_spacetime.specs.PathSearch.{CanArrive, IsWholeWalk, state_of}
 use Rattle.mapf_spacetime.specs.States.{IsBelowLimit}
-use Rattle.mapf_spacetime.specs.Sweeps.{Sweeping, IsEarlier, IsFrom, IsStartOrEntered, IsWhole, MeetsGoal, AreSwept, HasArrived, AreAll, AreKept, AreReached, SomeIsPast}
+use Rattle.mapf_spacetime.specs.Sweeps.{Sweeping, IsEarlier, IsFrom, IsStartOrEntered, IsWhole, MeetsGoal, AreQuiet, AreSwept, HasArrived, AreAll, AreReached, SomeIsPast}
+use Rattle.mapf_spacetime.proofs.SweepInvariants.{AreKept}
 use Rattle.mapf_spacetime.specs.Task.{Task, Goes, IsValue, IsWithin, IsBelow, MayRestFrom, state_at, start_of}
 use Rattle.mapf_spacetime.proofs.ValueLemmas.{value_unique, no_lower}
 use Rattle.mapf_spacetime.proofs.WayLemmas.{past_cost}
-use Rattle.mapf_spacetime.proofs.PathLemmas.{ends, low_walk}
+use Rattle.mapf_spacetime.proofs.PathLemmas.{low_walk, walk_leads}
 
 pub one_held : {X : Type 0} (x y : X) → Contains (x ∷ []) y → x ≡ y
 one_held x y h = ⊎_elim (λ none. absurd (Contains-none y none)) (λ same. same) (Contains-push_cases [] x y h)
@@ -98,7 +99,10 @@ arrived task cost sweep m low swept =
     }
 
 -- where no constraints are left from a tick on, and all states below a cost were reached
-module _ (task : Task) (cost : ℕ) (states : List State) (w : AreSwept task cost states) (last : ℕ) (above : AreBefore last task.bars) where
+module _ (task : Task) (cost : ℕ) (states : List State) (below : (s : State) → Contains states s → IsBelow task cost s)
+    (followed : (s : State) → Contains states s → (to : ℕ) → MayGo task.grid task.bars s.cell to s.tick →
+    Contains states (state_at to (s.tick + 1)) ⊎ (IsFrom task cost (state_at to (s.tick + 1)) ⊎ IsUnreachable task.grid task.goal to))
+    (quiet : AreQuiet task states) (last : ℕ) (above : AreBefore last task.bars) where
   late_arrives : (d : ℕ) (s : State) → Contains states s → last ≤ s.tick → IsDistance task.grid task.goal s.cell d → s.tick + d < cost → (v : ℕ) → s.tick + d ≡ v → Contains states (state_at task.goal v)
   late_arrives zero s reached late is within v v_is =
       let ticks : s.tick ≡ v = omega arith in
@@ -119,23 +123,23 @@ module _ (task : Task) (cost : ℕ) (states : List State) (w : AreSwept task cos
       (λ (value, v_of, more). let short = v_of.is.least n walk in let sum = v_of.sum in absurd (omega arith))
       (λ none. absurd (none n walk))
       other)
-      (w.followed s reached next may)
+      (followed s reached next may)
 
   not_late : (s : State) → Contains states s → s.tick < last
   not_late s reached = ⊎_elim
       (λ (early : s.tick < last). early)
       (λ (late : last ≤ s.tick).
-      let (value, is, less) = w.below s reached in
+      let (value, is, less) = below s reached in
       let sum = is.sum in
       let arrival = late_arrives is.distance s reached late is.is (omega arith) value (omega arith) in
-      let (later, after, barred) = w.quiet value arrival in
+      let (later, after, barred) = quiet value arrival in
       let b = above (Cell task.goal later) barred in
       absurd (omega arith))
       (cases_lt s.tick last)
 
   -- a state of at least that cost to which one of them leads, or the start, bounds the cost
-  pub cost_bounded : (s : State) → IsStartOrEntered task states s → IsFrom task cost s → (cost < last + free_cell_count task.grid) × (cost < last + most_cells)
-  cost_bounded s entered (value, is, more) =
+  pub bounded : (s : State) → IsStartOrEntered task states s → IsFrom task cost s → (cost < last + free_cell_count task.grid) × (cost < last + most_cells)
+  bounded s entered (value, is, more) =
       let sum = is.sum in
       let few = is.few in
       let small = is.small in
@@ -143,6 +147,10 @@ module _ (task : Task) (cost : ℕ) (states : List State) (w : AreSwept task cos
       (λ start. let tick = ap (λ (t : State). t.tick) start in (omega arith, omega arith))
       (λ (from, reached, goes). let late = not_late from reached in let tick = goes.tick in (omega arith, omega arith))
       entered
+
+pub cost_bounded : (task : Task) (cost : ℕ) (states : List State) → AreSwept task cost states → (last : ℕ) → AreBefore last task.bars →
+    (s : State) → IsStartOrEntered task states s → IsFrom task cost s → (cost < last + free_cell_count task.grid) × (cost < last + most_cells)
+cost_bounded task cost states w last above = bounded task cost states w.below w.followed w.quiet last above
 
 -- on the way to a state of at least the cost there is a first one
 module _ (task : Task) (cost : ℕ) (sweep : Sweeping) (m : MeetsGoal task cost sweep) (low : List State)
@@ -269,22 +277,13 @@ none_swept task first is = record {
 
 -- a walk that ends at the cost, where the agent arrives at none of the states below it
 module _ (task : Task) (cost : ℕ) (states : List State) (cells : List ℕ) (swept : AreSwept task cost states) (w : IsWholeWalk task cost cells) where
-  leads_on : (n k : ℕ) → k + n ≡ cost → CanArriveIn task cost n (state_of cells k)
-  leads_on zero k e =
-      let count = w.count in
-      let last : length cells - 1 ≡ k = omega arith in
-      let here : k ≡ cost = omega arith in
-      let cell : slice_index cells k ≡ task.goal = subst (λ n. slice_index cells n ≡ task.goal) last (ends task cost states cells swept w) in
-      λ i. record { tick = here i; cell = cell i }
-  leads_on (suc n) k e = (let count = w.count in (state_of cells (k + 1), w.way.goes k (omega arith), leads_on n (k + 1) (omega arith)))
-
   pub walk_arrived : MayRestFrom task cost → HasArrived task cost states
   walk_arrived rest =
       let some = w.way.some in
       let start : state_of cells 0 ≡ start_of task = ap (λ c. state_at c 0) w.way.start in
       record {
         swept = swept;
-        leads = (cost, subst (CanArriveIn task cost cost) start (leads_on cost 0 (omega arith)));
+        leads = walk_leads task cost cells w;
         within = subst (IsWithin task cost) start (w.way.within 0 (omega arith));
         rest = rest;
       }

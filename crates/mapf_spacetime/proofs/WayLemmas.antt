@@ -14,10 +14,35 @@ use Rattle.mapf_model.specs.Path.{at, IsPath, IsLawful, IsCost}
 use Rattle.mapf_spacetime.specs.Answer.{IsFirstOfCost}
 use Rattle.mapf_spacetime.specs.declared.state.State.{State}
 use Rattle.mapf_spacetime.specs.Task.{Task, Goes, IsValue, IsWithin, agent_of, state_at, start_of}
-use Rattle.mapf_spacetime.specs.PathSearch.{Walked, with_step, with_failure, CanArriveIn, CanArrive, IsNoWayOn, IsWholeWalk, state_of, IsSearching}
+use Rattle.mapf_spacetime.specs.PathSearch.{Walked, first_walk, with_step, with_failure, CanArriveIn, CanArrive, IsNoWayOn, IsWholeWalk, state_of, IsSearching}
+use Rattle.mapf_spacetime.specs.declared.path_search.SearchEnd.{SearchEnd}
+use Rattle.mapf_spacetime.specs.declared.path_search.SearchEnd.TheVariants.{AtGoal, Paused, NoWay}
+use Rattle.mapf_spacetime.specs.PathSearchEnds.{IsEnd}
+use Rattle.mapf_model.proofs.ContainsLemmas.{Contains-none}
 use Rattle.mapf_spacetime.proofs.PathLemmas.{at_is, satisfied_step}
 use Rattle.mapf_spacetime.proofs.ValueLemmas.{value_free}
 use Rattle.mapf_model.proofs.StepLemmas.{step_start, step_end}
+
+-- a search begins at the start
+pub first_searching : (task : Task) (cost : ℕ) → IsWithin task cost (start_of task) → IsSearching task cost (first_walk task.start)
+first_searching task cost within = record {
+  from = record {
+    some = omega arith;
+    start = refl;
+    within = λ k less. (let first : 0 ≡ k = omega arith in subst (λ n. IsWithin task cost (state_of (task.start ∷ []) n)) first within);
+    goes = λ k less. absurd (omega arith);
+  };
+  short = omega arith;
+  fresh = λ k less held. Contains-none (state_of (task.start ∷ []) k) held;
+  stuck = λ s held. absurd (Contains-none s held);
+  least = λ k to less. absurd (omega arith);
+}
+
+-- it can go on unless it is at the goal
+pub still_searching : (task : Task) (cost : ℕ) (way : Walked) (end : SearchEnd) → IsEnd task cost way end → (end ≡ AtGoal → ⊥) → IsSearching task cost way
+still_searching task cost way AtGoal is not = absurd (not refl)
+still_searching task cost way Paused is not = is
+still_searching task cost way NoWay is not = is.0
 
 module _ (task : Task) (cost : ℕ) (way : Walked) (w : IsSearching task cost way) (to : ℕ) (unfinished : length way.cells ≤ cost) where
   old : (k : ℕ) → k < length way.cells → slice_index (way.cells ++ to ∷ []) k ≡ slice_index way.cells k

@@ -1,8 +1,9 @@
 -- What a search by rising f-values has reached, and what it has yet to reach.
-use Rattle.std.specs.Prelude.{◌≡◌, ◌⊎◌, ℕ, ◌+◌, ◌<◌, ◌≤◌, List, [], ◌∷◌, ◌++◌, length, take, Some, slice_get, Contains}
+use Rattle.std.specs.Prelude.{◌≡◌, ◌⊎◌, ℕ, ◌+◌, ◌-◌, ◌*◌, ◌^◌, ◌<◌, ◌≤◌, min, List, [], ◌∷◌, ◌++◌, length, take, Some, slice_get, Contains}
 use Rattle.mapf_model.specs.Distance.{IsUnreachable}
 use Rattle.mapf_model.specs.Labels.{MayGo}
 use Rattle.mapf_spacetime.specs.declared.state.State.{State}
+use Rattle.mapf_spacetime.specs.PathSearch.{CanArrive}
 use Rattle.mapf_spacetime.specs.States.{IsEntered}
 use Rattle.mapf_spacetime.specs.Task.{Task, IsValue, IsBelow, IsBarredLater, MayRestFrom, state_at, start_of}
 
@@ -115,17 +116,23 @@ pub record Takes (task : Task) (from : State) (to : ℕ) (old new : States) : Ty
   pub keeps : Keeps old new
   pub taken : IsTaken task new from to
 
--- the goal at the cost was removed from the open states: the agent can arrive then, and not earlier
+-- the agent can arrive at the cost, and not earlier; `all` are the open states and those that were taken last
 pub record IsAtGoal (task : Task) (states : States) : Type 0 where
-  pub frontier : IsFrontier task [] (with_open states (state_at task.goal states.cost))
+  pub all : List State
+  pub frontier : IsFrontier task [] (record states { open_states = all })
+  pub leads : CanArrive task states.cost (start_of task)
   pub rest : MayRestFrom task states.cost
 
 -- all states up to the cost were reached, and none is an arrival
-pub record IsWalked (task : Task) (states : States) : Type 0 where
+pub record IsLevelDone (task : Task) (states : States) : Type 0 where
   pub frontier : IsFrontier task [] states
   pub none_open : states.open_states ≡ []
 
 -- all states that can be reached were, and none is an arrival
-pub record IsSpent (task : Task) (states : States) : Type 0 where
-  pub walked : IsWalked task states
+pub record IsExhausted (task : Task) (states : States) : Type 0 where
+  pub done : IsLevelDone task states
   pub none_waits : NoneWait states
+
+-- at most so many open states of the cost are yet to be taken: each that is new opens less than 2^64
+abbrev pub takes_left : States → ℕ
+takes_left states = (2 ^ 64 - length states.reached) * (2 ^ 64 + 1) + min (length states.open_states) (2 ^ 64)

@@ -1,10 +1,13 @@
 pub mod Task
 pub mod States
 pub mod PathSearch
+pub mod PathSearchEnds
 pub mod Listed
 pub mod Answer
 pub mod CellSets
 pub mod Sweeps
 pub mod Frontiers
-pub mod Turns
+pub mod Expansions
+pub mod Levels
+pub mod UpToBound
 pub mod Listing

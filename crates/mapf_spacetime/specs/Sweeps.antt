@@ -2,7 +2,7 @@
 use Rattle.std.specs.Prelude.{Bool, true, ◌≡◌, ◌⊎◌, ℕ, ◌+◌, ◌*◌, ◌<◌, ◌≤◌, List, length, slice_index_or, Contains, AllPairs}
 use Rattle.mapf_model.specs.Distance.{IsUnreachable}
 use Rattle.mapf_model.specs.Labels.{MayGo}
-use Rattle.mapf_spacetime.specs.CellSets.{HasCell, HasNone}
+use Rattle.mapf_spacetime.specs.CellSets.{HasNumber, HasNone}
 use Rattle.mapf_spacetime.specs.PathSearch.{CanArrive}
 use Rattle.mapf_spacetime.specs.States.{IsEntered}
 use Rattle.mapf_spacetime.specs.Task.{Task, IsValue, IsWithin, IsBelow, IsPast, IsBarredLater, MayRestFrom, state_at, start_of}
@@ -79,21 +79,21 @@ pub record IsUnderWay (task : Task) (sweep : Sweeping) : Type 0 where
 
 -- the next cells can be reached from states at this tick
 pub record AreNext (task : Task) (tick : ℕ) (sweep : Sweeping) : Type 0 where
-  pub entered : (cell : ℕ) → HasCell sweep.next_cells cell → IsEntered task sweep.states (state_at cell (tick + 1))
-  pub within : (cell : ℕ) → HasCell sweep.next_cells cell → IsWithin task sweep.bound (state_at cell (tick + 1))
+  pub entered : (cell : ℕ) → HasNumber sweep.next_cells cell → IsEntered task sweep.states (state_at cell (tick + 1))
+  pub within : (cell : ℕ) → HasNumber sweep.next_cells cell → IsWithin task sweep.bound (state_at cell (tick + 1))
   pub cut : sweep.is_cut ≡ true → SomeIsPast task sweep.bound sweep.states
 
 -- if the agent may go from the state to the cell, it is one of the next cells, or its state was left out, or the goal
 -- can't be reached from it
 abbrev pub IsNoted : Task → Sweeping → State → ℕ → Type 0
 IsNoted task sweep from to = MayGo task.grid task.bars from.cell to from.tick →
-    HasCell sweep.next_cells to ⊎ (IsLeftOut task sweep.bound sweep.is_cut (state_at to (from.tick + 1)) ⊎ IsUnreachable task.grid task.goal to)
+    HasNumber sweep.next_cells to ⊎ (IsLeftOut task sweep.bound sweep.is_cut (state_at to (from.tick + 1)) ⊎ IsUnreachable task.grid task.goal to)
 
 -- nothing changed but that more cells may be reached next, and more states may be left out
 pub record IsExtended (old new : Sweeping) : Type 0 where
   pub states : new.states ≡ old.states
   pub bound : new.bound ≡ old.bound
-  pub next_cells : (cell : ℕ) → HasCell old.next_cells cell → HasCell new.next_cells cell
+  pub next_cells : (cell : ℕ) → HasNumber old.next_cells cell → HasNumber new.next_cells cell
   pub cut : old.is_cut ≡ true → new.is_cut ≡ true
   pub room : length new.next_cells ≡ length old.next_cells
   pub first : new.first ≡ old.first
@@ -101,8 +101,8 @@ pub record IsExtended (old new : Sweeping) : Type 0 where
 
 -- these are the states at the tick of these cells, in rising order
 pub record AreStatesAt (tick : ℕ) (cells : List ℕ) (states : List State) : Type 0 where
-  pub each : (s : State) → Contains states s → (s.tick ≡ tick) × HasCell cells s.cell
-  pub all : (cell : ℕ) → HasCell cells cell → Contains states (state_at cell tick)
+  pub each : (s : State) → Contains states s → (s.tick ≡ tick) × HasNumber cells s.cell
+  pub all : (cell : ℕ) → HasNumber cells cell → Contains states (state_at cell tick)
   pub rising : AllPairs IsEarlier states
 
 -- a sweep that has followed each step of each state
@@ -148,18 +148,3 @@ pub record AreAll (task : Task) (bound : ℕ) (states : List State) : Type 0 whe
   pub quiet : AreQuiet task states
   pub followed : (s : State) → Contains states s → (to : ℕ) → MayGo task.grid task.bars s.cell to s.tick →
       Contains states (state_at to (s.tick + 1)) ⊎ IsUnreachable task.grid task.goal to
-
--- of these cells some are left, and the others are in these states at the tick
-pub record AreTaken (tick : ℕ) (cells rest : List ℕ) (states : List State) : Type 0 where
-  pub each : (s : State) → Contains states s → (s.tick ≡ tick) × HasCell cells s.cell
-  pub left : (cell : ℕ) → HasCell rest cell → HasCell cells cell
-  pub all : (cell : ℕ) → HasCell cells cell → HasCell rest cell ⊎ Contains states (state_at cell tick)
-  pub later : (s : State) (cell : ℕ) → Contains states s → HasCell rest cell → s.cell < cell
-  pub count : (cell : ℕ) → HasCell rest cell → length states ≤ cell
-  pub rising : AllPairs IsEarlier states
-
--- of the first states so many, those whose f-value is below the cost, in their order
-pub record AreKept (task : Task) (cost count : ℕ) (states low : List State) : Type 0 where
-  pub kept : (k : ℕ) → k < count → IsBelow task cost (slice_index_or states k (start_of task)) → Contains low (slice_index_or states k (start_of task))
-  pub only : (s : State) → Contains low s → ((k : ℕ) × (k < count) × (slice_index_or states k (start_of task) ≡ s)) × IsBelow task cost s
-  pub rising : AllPairs IsEarlier low

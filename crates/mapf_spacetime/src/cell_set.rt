@@ -1,7 +1,7 @@
 ghost use Rattle.std.specs.Prelude.{◌≡◌, ◌≢◌, ◌*◌, ◌/◌, ◌<◌, ◌≤◌, ◌⊎◌, ◌↔◌, ℕ, length, slice_index};
 ghost use Rattle.std.specs.Prelude.{IfSome, IfNone, IsTrue, OnOk};
 ghost use Rattle.mapf_model.specs.Limits.{most_cells};
-ghost use Rattle.mapf_spacetime.specs.CellSets.{AreEmptyOutside, HasCell, HasNone, IsShort};
+ghost use Rattle.mapf_spacetime.specs.CellSets.{AreEmptyOutside, HasNumber, HasNone, IsShort};
 
 use crate::number_set::NumberSet;
 use mapf_model::{Cell, OutOfMemory};
@@ -59,7 +59,7 @@ impl CellSet {
 
     /// Returns whether the cell is in the set.
     pub fn has(&self, cell: Cell) -> bool
-        ensures { IsTrue result ↔ HasCell self.now cell }
+        ensures { IsTrue result ↔ HasNumber self.now cell }
     {
         match self.words.get(cell.0 as usize / 64) {
             Some(word) => (word >> (cell.0 % 64)) & 1 == 1,
@@ -71,9 +71,9 @@ impl CellSet {
     #[inline(always)]
     pub fn insert(&mut self, cell: Cell)
         requires { cell < 64 * length self.old }
-        ensures here { HasCell self.new cell }
-        ensures kept { (other : ℕ) → HasCell self.old other → HasCell self.new other }
-        ensures only { (other : ℕ) → HasCell self.new other → HasCell self.old other ⊎ (other ≡ cell) }
+        ensures here { HasNumber self.new cell }
+        ensures kept { (other : ℕ) → HasNumber self.old other → HasNumber self.new other }
+        ensures only { (other : ℕ) → HasNumber self.new other → HasNumber self.old other ⊎ (other ≡ cell) }
         ensures room { length self.new ≡ length self.old }
     {
         let was_filled = add_to(&mut self.words, cell.0);
@@ -86,12 +86,12 @@ impl CellSet {
     /// Removes and returns the cell of the least number, None if there is none.
     #[inline(always)]
     pub fn take_least(&mut self) -> Option<Cell>
-        ensures some { IfSome result (HasCell self.old) }
-        ensures least { IfSome result (λ cell. (other : ℕ) → HasCell self.old other → cell ≤ other) }
+        ensures some { IfSome result (HasNumber self.old) }
+        ensures least { IfSome result (λ cell. (other : ℕ) → HasNumber self.old other → cell ≤ other) }
         ensures kept { IfSome result (λ cell. (other : ℕ)
-            → HasCell self.old other → other ≢ cell → HasCell self.new other) }
+            → HasNumber self.old other → other ≢ cell → HasNumber self.new other) }
         ensures only { IfSome result (λ cell. (other : ℕ)
-            → HasCell self.new other → HasCell self.old other × (other ≢ cell)) }
+            → HasNumber self.new other → HasNumber self.old other × (other ≢ cell)) }
         ensures none { IfNone result (HasNone self.old) }
         ensures same { IfNone result (self.new ≡ self.old) }
         ensures room { length self.new ≡ length self.old }
@@ -110,9 +110,9 @@ impl CellSet {
 #[inline(always)]
 fn add_to(words: &mut [u64], number: u32) -> bool
     requires { number < 64 * length words.old }
-    ensures here { HasCell words.new number }
-    ensures kept { (other : ℕ) → HasCell words.old other → HasCell words.new other }
-    ensures only { (other : ℕ) → HasCell words.new other → HasCell words.old other ⊎ (other ≡ number) }
+    ensures here { HasNumber words.new number }
+    ensures kept { (other : ℕ) → HasNumber words.old other → HasNumber words.new other }
+    ensures only { (other : ℕ) → HasNumber words.new other → HasNumber words.old other ⊎ (other ≡ number) }
     ensures filled { IsTrue result ↔ (slice_index words.old (number / 64) ≢ 0) }
     ensures some { slice_index words.new (number / 64) ≢ 0 }
     ensures others { (other : ℕ) → other ≢ number / 64 → slice_index words.new other ≡ slice_index words.old other }
@@ -131,10 +131,10 @@ fn take_from(words: &mut [u64], place: u32) -> (u32, bool)
     requires some { slice_index words.old place ≢ 0 }
     requires first { AreEmptyOutside words.old place (length words.old) }
     requires short { IsShort words.old }
-    ensures some { HasCell words.old result.0 }
-    ensures least { (other : ℕ) → HasCell words.old other → result.0 ≤ other }
-    ensures kept { (other : ℕ) → HasCell words.old other → other ≢ result.0 → HasCell words.new other }
-    ensures only { (other : ℕ) → HasCell words.new other → HasCell words.old other × (other ≢ result.0) }
+    ensures some { HasNumber words.old result.0 }
+    ensures least { (other : ℕ) → HasNumber words.old other → result.0 ≤ other }
+    ensures kept { (other : ℕ) → HasNumber words.old other → other ≢ result.0 → HasNumber words.new other }
+    ensures only { (other : ℕ) → HasNumber words.new other → HasNumber words.old other × (other ≢ result.0) }
     ensures left { IsTrue result.1 ↔ (slice_index words.new place ≢ 0) }
     ensures others { (other : ℕ) → other ≢ place → slice_index words.new other ≡ slice_index words.old other }
 {

@@ -15,11 +15,12 @@ ghost use Rattle.mapf_spacetime.specs.Answer.{IsPathAnswer, ShowNone};
 use crate::found::Found;
 use crate::ground::Ground;
 use crate::labels::Labels;
+use crate::levels::by_levels;
 use crate::path_search::{least_walk, try_walk};
 use crate::state::State;
 use crate::state_labels::StateLabels;
 use crate::sweep::Sweep;
-use crate::turns::{FREE_FAILURES, Turned, by_turns};
+use crate::turns::{FREE_FAILURES, UpToBound, by_turns};
 use crate::workspace::Workspace;
 use mapf_constraints::BarTable;
 use mapf_distance::Distances;
@@ -118,7 +119,7 @@ pub fn search_expecting<'a, B: BarTable>(
         tick: 0,
         cell: ground.start(),
     };
-    let Some(first) = ground.value(&start) else {
+    let Some(distance) = ground.value(&start) else {
         return dead(alloc, &ground, &[]);
     };
     if !ground.lets_start() {
@@ -131,7 +132,7 @@ pub fn search_expecting<'a, B: BarTable>(
             labels: StateLabels::none(alloc),
         });
     }
-    by_cost(alloc, workspace, &ground, first, expected)
+    by_cost(alloc, workspace, &ground, distance, expected)
 }
 
 /// Searches from the agent's distance, the expected cost or the tick from which the agent may rest at its goal,
@@ -140,24 +141,24 @@ fn by_cost<B: BarTable>(
     alloc: Global,
     workspace: &mut Workspace,
     ground: &Ground<B>,
-    first: u32,
+    distance: u32,
     expected: u32,
 ) -> Result<Found<StateLabels>, OutOfMemory>
     requires shape { IsGridMap ground.now.grid }
     requires start { IsOpen ground.now (start_of ground.now) }
-    requires first { IsValue ground.now (start_of ground.now) first }
+    requires distance { IsValue ground.now (start_of ground.now) distance }
     ensures answer { IfOk result (IsPathAnswer ground.now) }
     ensures listed { IfOk result (ListsReached ground.now) }
 {
     let last = ground.horizon() + MOST_CELLS - 1;
-    let bound = first.max(ground.rest()).max(expected).min(last);
+    let bound = distance.max(ground.rest()).max(expected).min(last);
     // At the distance no state gets a label; above it most states that are swept do, so they are reached in any case.
-    let states_per_failure = if bound == first { 2 } else { 16 };
+    let states_per_failure = if bound == distance { 2 } else { 16 };
     let sweep = &mut workspace.sweep;
     match by_turns(alloc, sweep, ground, bound, states_per_failure)? {
-        Turned::Walked(cells) => walked(alloc, sweep, ground, first, bound, cells),
-        Turned::Arrived(cost) => arrive(alloc, ground, sweep.low(), cost),
-        Turned::Swept => above(alloc, workspace, ground, bound),
+        UpToBound::Walked(cells) => walked(alloc, sweep, ground, distance, bound, cells),
+        UpToBound::Arrived { cost, cells } => arrive_by(alloc, ground, sweep.low(), cost, cells),
+        UpToBound::Swept => above(alloc, workspace, ground, bound),
     }
 }
 
@@ -190,10 +191,10 @@ fn above<B: BarTable>(
     }
     let frontier = &mut workspace.frontier;
     frontier.begin_above(ground, sweep, cost)?;
-    if frontier.grow(ground)? {
-        return arrive(alloc, ground, frontier.reached(), frontier.cost());
+    match by_levels(alloc, frontier, ground)? {
+        Some(cells) => arrive_by(alloc, ground, frontier.reached(), frontier.cost(), cells),
+        None => dead(alloc, ground, frontier.reached()),
     }
-    dead(alloc, ground, frontier.reached())
 }
 
 /// Returns the path of these cells and its labels, unless the agent arrives at a lesser cost: then that path.
@@ -201,21 +202,21 @@ fn walked<B: BarTable>(
     alloc: Global,
     sweep: &mut Sweep,
     ground: &Ground<B>,
-    first: u32,
+    distance: u32,
     cost: u32,
     cells: Vec<Cell>,
 ) -> Result<Found<StateLabels>, OutOfMemory>
     requires shape { IsGridMap ground.now.grid }
     requires start { IsOpen ground.now (start_of ground.now) }
-    requires first { IsValue ground.now (start_of ground.now) first }
-    requires least { first ≤ cost }
+    requires distance { IsValue ground.now (start_of ground.now) distance }
+    requires least { distance ≤ cost }
     requires small { cost < cost_bound }
     requires rest { MayRestFrom ground.now cost }
     requires walk { IsWholeWalk ground.now cost cells.items }
     ensures answer { IfOk result (IsPathAnswer ground.now) }
     ensures listed { IfOk result (ListsReached ground.now) }
 {
-    if cost == first {
+    if cost == distance {
         return arrive_by(alloc, ground, &[], cost, cells);
     }
     match sweep.arrival(ground, cost - 1)? {

@@ -1,16 +1,16 @@
 ghost use Rattle.std.specs.Prelude.{◌≡◌, ◌↔◌, ◌+◌, ◌<◌, ◌≤◌, ◌^◌, ℕ, [], ◌∷◌, List, Some, length, take, false};
 ghost use Rattle.std.specs.Prelude.{IfOk, IfSome, IfNone, OnOk, IsTrue, Contains};
-ghost use Rattle.mapf_constraints.specs.BarSets.{AreBefore};
 ghost use Rattle.mapf_model.specs.Grid.{Step};
 ghost use Rattle.mapf_model.specs.Labels.{MayGo};
 ghost use Rattle.mapf_model.specs.Limits.{most_path_cells, most_cells};
 ghost use Rattle.mapf_model.specs.Neighbours.{neighbourhood};
 ghost use Rattle.mapf_spacetime.specs.declared.state.State.{State};
-ghost use Rattle.mapf_spacetime.specs.Task.{IsWithin, cost_bound};
-ghost use Rattle.mapf_spacetime.specs.States.{IsBelowLimit};
+ghost use Rattle.mapf_spacetime.specs.Task.{Task, IsWithin, cost_bound};
 ghost use Rattle.mapf_spacetime.specs.Sweeps.{AreAll, HasArrived, IsWhole};
-ghost use Rattle.mapf_spacetime.specs.Frontiers.{AreLowReached, IsAtGoal, IsFrontier, IsSpent, IsWalked, Keeps};
-ghost use Rattle.mapf_spacetime.specs.Frontiers.{NoneWait, Takes, raised, with_later, with_next, with_open};
+ghost use Rattle.mapf_spacetime.specs.declared.frontier.Expansion.TheVariants.{Paused};
+ghost use Rattle.mapf_spacetime.specs.Expansions.{IsExpanded};
+ghost use Rattle.mapf_spacetime.specs.Frontiers.{AreLowReached, IsAtGoal, IsExhausted, IsFrontier, Keeps, NoneWait};
+ghost use Rattle.mapf_spacetime.specs.Frontiers.{Takes, raised, takes_left, with_later, with_next, with_open};
 ghost use Rattle.mapf_spacetime.specs.Frontiers.{with_reached};
 
 use crate::ground::Ground;
@@ -18,11 +18,21 @@ use crate::reached::Reached;
 use crate::state::State;
 use crate::sweep::Sweep;
 use mapf_constraints::BarTable;
-use mapf_model::limits::MOST_CELLS;
 use mapf_model::{Cell, OutOfMemory};
 use std::alloc::Global;
 use std::marker::Model;
 use std::mem;
+
+/// How far the open states of a cost were taken.
+#[derive(Drop)]
+pub enum Expansion {
+    /// The agent arrives at the cost.
+    Arrives,
+    /// The agent doesn't arrive at the cost, and no state is open any more.
+    Done,
+    /// So many states were taken, and others may be open.
+    Paused,
+}
 
 /// The states that a search has reached, in rising order of their f-values: tick plus distance.
 #[derive(Drop)]
@@ -107,14 +117,15 @@ impl Frontier {
         self.reached.is_last(state)
     }
 
-    fn none_waits(&self) -> bool
+    /// Returns whether no state waits for a greater cost.
+    pub fn none_waits(&self) -> bool
         ensures { IsTrue result ↔ NoneWait self.now }
     {
         self.next_states.is_empty() && self.later_states.is_empty()
     }
 
-    // Raises the cost by one when no state is open, and opens the states that waited for it.
-    fn raise(&mut self)
+    /// Raises the cost by one when no state is open, and opens the states that waited for it.
+    pub fn raise(&mut self)
         requires { self.old.cost < most_path_cells }
         ensures { self.old.open_states ≡ [] → self.new ≡ raised self.old }
     {
@@ -225,71 +236,46 @@ impl Frontier {
         Ok(())
     }
 
-    // Reaches all open states and their successors of the same f-value, until the agent arrives. Returns whether it
-    // does.
-    fn walk_level<B: BarTable>(&mut self, ground: &Ground<B>) -> Result<bool, OutOfMemory>
+    /// Takes so many open states, or all of them and those of the same f-value that they lead to, until the agent
+    /// arrives.
+    pub fn expand<B: BarTable>(
+        &mut self,
+        ground: &Ground<B>,
+        most: usize,
+    ) -> Result<Expansion, OutOfMemory>
         requires small { self.old.cost < most_path_cells }
         requires frontier { IsFrontier ground.now [] self.old }
-        ensures arrives { IfOk result (λ arrives. IsTrue arrives → IsAtGoal ground.now self.new) }
-        ensures walked { IfOk result (λ arrives. arrives ≡ false → IsWalked ground.now self.new) }
+        ensures expanded { IfOk result (IsExpanded ground.now self.new) }
         ensures cost { OnOk result (self.new.cost ≡ self.old.cost) }
+        ensures fewer { IfOk result (λ e. e ≡ Paused → takes_left self.new + most ≤ takes_left self.old) }
     {
-        while let Some(state) = self.take_open() {
+        for _ in 0..most {
+            let Some(state) = self.take_open() else {
+                return Ok(Expansion::Done);
+            };
             if ground.is_arrival(&state) {
-                return Ok(true);
+                return Ok(Expansion::Arrives);
             }
             if self.reach(state)? {
                 self.take_all(ground, &state)?;
             }
         }
-        Ok(false)
+        Ok(Expansion::Paused)
     }
 
-    // Raises the cost until the agent arrives, or no state is left to reach. Returns whether it arrives.
-    fn walk<B: BarTable>(&mut self, ground: &Ground<B>) -> Result<bool, OutOfMemory>
-        requires frontier { IsFrontier ground.now [] self.old }
-        requires limit { IsBelowLimit ground.now self.old.cost }
-        requires small { (last : ℕ) → AreBefore last ground.now.bars → self.old.cost < last + most_cells }
-        ensures arrives { IfOk result (λ arrives. IsTrue arrives → IsAtGoal ground.now self.new) }
-        ensures spent { IfOk result (λ arrives. arrives ≡ false → IsSpent ground.now self.new) }
-        ensures limit { OnOk result (IsBelowLimit ground.now self.new.cost) }
-        ensures small { OnOk result (self.new.cost < cost_bound) }
+    /// Keeps the states below the cost at which the agent arrives, by tick and then by cell.
+    pub fn keep_low(&mut self)
+        ensures arrives { (task : Task) → IsAtGoal task self.old → HasArrived task self.new.cost self.new.reached }
+        ensures cost { self.new.cost ≡ self.old.cost }
     {
-        let horizon = ground.horizon();
-        let mut cost = self.cost();
-        loop {
-            if self.walk_level(ground)? {
-                return Ok(true);
-            }
-            if self.none_waits() {
-                return Ok(false);
-            }
-            self.raise();
-            cost += 1;
-            prove!(cost < horizon + MOST_CELLS);
-        }
+        self.reached.keep_sorted(self.below);
     }
 
-    /// Reaches states by rising f-value until the agent arrives, or no state is left to reach. Returns whether it
-    /// arrives. Keeps the states below the cost then, otherwise all states that can be reached.
-    pub fn grow<B: BarTable>(&mut self, ground: &Ground<B>) -> Result<bool, OutOfMemory>
-        requires frontier { IsFrontier ground.now [] self.old }
-        requires limit { IsBelowLimit ground.now self.old.cost }
-        requires small { (last : ℕ) → AreBefore last ground.now.bars → self.old.cost < last + most_cells }
-        ensures arrives { IfOk result (λ arrives. IsTrue arrives →
-            HasArrived ground.now self.new.cost self.new.reached) }
-        ensures all { IfOk result (λ arrives. arrives ≡ false →
-            AreAll ground.now self.new.cost self.new.reached) }
-        ensures limit { OnOk result (IsBelowLimit ground.now self.new.cost) }
-        ensures small { OnOk result (self.new.cost < cost_bound) }
+    /// Keeps all states, which are all that can be reached, by tick and then by cell.
+    pub fn keep_all(&mut self)
+        ensures all { (task : Task) → IsExhausted task self.old → AreAll task self.new.cost self.new.reached }
+        ensures cost { self.new.cost ≡ self.old.cost }
     {
-        let arrives = self.walk(ground)?;
-        let kept = if arrives {
-            self.below
-        } else {
-            self.reached.len()
-        };
-        self.reached.keep_sorted(kept);
-        Ok(arrives)
+        self.reached.keep_sorted(self.reached.len());
     }
 }

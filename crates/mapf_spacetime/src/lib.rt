@@ -7,6 +7,7 @@ mod found;
 mod frontier;
 mod ground;
 mod labels;
+mod levels;
 mod number_set;
 mod path_search;
 mod reached;

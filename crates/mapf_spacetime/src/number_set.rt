@@ -1,6 +1,6 @@
 ghost use Rattle.std.specs.Prelude.{[], ◌≡◌, ◌≢◌, ◌*◌, ◌<◌, ◌≤◌, ◌⊎◌, ℕ, length, IfSome, IfNone, OnOk};
 ghost use Rattle.mapf_model.specs.Limits.{most_cells};
-ghost use Rattle.mapf_spacetime.specs.CellSets.{HasCell, HasNone};
+ghost use Rattle.mapf_spacetime.specs.CellSets.{HasNumber, HasNone};
 
 use mapf_model::OutOfMemory;
 use std::alloc::Global;
@@ -61,9 +61,9 @@ impl NumberSet {
     #[inline(always)]
     pub fn insert(&mut self, number: u32)
         requires { number < 64 * length self.old }
-        ensures here { HasCell self.new number }
-        ensures kept { (other : ℕ) → HasCell self.old other → HasCell self.new other }
-        ensures only { (other : ℕ) → HasCell self.new other → HasCell self.old other ⊎ (other ≡ number) }
+        ensures here { HasNumber self.new number }
+        ensures kept { (other : ℕ) → HasNumber self.old other → HasNumber self.new other }
+        ensures only { (other : ℕ) → HasNumber self.new other → HasNumber self.old other ⊎ (other ≡ number) }
         ensures room { length self.new ≡ length self.old }
     {
         let place = number as usize / 64;
@@ -75,8 +75,8 @@ impl NumberSet {
     /// Returns the least number, None if there is none.
     #[inline(always)]
     pub fn least(&mut self) -> Option<u32>
-        ensures some { IfSome result (HasCell self.old) }
-        ensures least { IfSome result (λ number. (other : ℕ) → HasCell self.old other → number ≤ other) }
+        ensures some { IfSome result (HasNumber self.old) }
+        ensures least { IfSome result (λ number. (other : ℕ) → HasNumber self.old other → number ≤ other) }
         ensures none { IfNone result (HasNone self.old) }
         ensures same { self.new ≡ self.old }
     {
@@ -95,12 +95,12 @@ impl NumberSet {
     /// Removes and returns the least number, None if there is none.
     #[inline(always)]
     pub fn take_least(&mut self) -> Option<u32>
-        ensures some { IfSome result (HasCell self.old) }
-        ensures least { IfSome result (λ number. (other : ℕ) → HasCell self.old other → number ≤ other) }
+        ensures some { IfSome result (HasNumber self.old) }
+        ensures least { IfSome result (λ number. (other : ℕ) → HasNumber self.old other → number ≤ other) }
         ensures kept { IfSome result (λ number. (other : ℕ)
-            → HasCell self.old other → other ≢ number → HasCell self.new other) }
+            → HasNumber self.old other → other ≢ number → HasNumber self.new other) }
         ensures only { IfSome result (λ number. (other : ℕ)
-            → HasCell self.new other → HasCell self.old other × (other ≢ number)) }
+            → HasNumber self.new other → HasNumber self.old other × (other ≢ number)) }
         ensures none { IfNone result (HasNone self.old) }
         ensures same { IfNone result (self.new ≡ self.old) }
         ensures room { length self.new ≡ length self.old }

@@ -7,6 +7,7 @@ ghost use Rattle.mapf_model.specs.Limits.{most_path_cells};
 ghost use Rattle.mapf_model.specs.Neighbours.{neighbourhood};
 ghost use Rattle.mapf_spacetime.specs.Task.{IsValue, IsWithin, state_at, start_of, cost_bound};
 ghost use Rattle.mapf_spacetime.specs.PathSearch.{AreNoWaysBelow, CanArrive, IsNoWayOn, IsSearching, IsWholeWalk};
+ghost use Rattle.mapf_spacetime.specs.PathSearchEnds.{IsEnd};
 ghost use Rattle.mapf_spacetime.specs.PathSearch.{state_of, turns_left, first_walk, with_step, with_failure};
 
 use crate::ground::Ground;
@@ -16,6 +17,17 @@ use mapf_constraints::BarTable;
 use mapf_model::{Cell, OutOfMemory, Tick};
 use std::alloc::Global;
 use std::marker::Model;
+
+/// How a search for a walk has ended.
+#[derive(Drop)]
+pub enum SearchEnd {
+    /// The walk ends at the goal.
+    AtGoal,
+    /// The search has backtracked as often as it may, and can go on.
+    Paused,
+    /// No walk ends at the goal at this cost.
+    NoWay,
+}
 
 /// Depth-first search: a walk from the start, one cell for each tick, and the states from which it had to backtrack.
 #[derive(Drop)]
@@ -202,28 +214,53 @@ impl PathSearch {
     }
 
     /// Goes on until the walk ends at the goal, at the cost. Stops once it has backtracked from so many states in all,
-    /// or has nowhere to backtrack to. Returns whether the walk ends at the goal; otherwise the search can go on.
+    /// or has nowhere to backtrack to.
     pub fn search<B: BarTable>(
         &mut self,
         ground: &Ground<B>,
         cost: u32,
         most_failures: usize,
-    ) -> Result<bool, OutOfMemory>
+    ) -> Result<SearchEnd, OutOfMemory>
         requires small { cost < cost_bound }
         requires searching { IsSearching ground.now cost self.old }
-        ensures whole { IfOk result (λ ends. IsTrue ends → IsWholeWalk ground.now cost self.new.cells) }
-        ensures searching { IfOk result (λ ends. ends ≡ false → IsSearching ground.now cost self.new) }
+        ensures { IfOk result (IsEnd ground.now cost self.new) }
     {
         while self.len() <= cost as usize {
             if self.is_direct(ground, cost) {
                 self.go_straight(ground, cost)?;
-                return Ok(true);
+                return Ok(SearchEnd::AtGoal);
             }
-            if self.failures() >= most_failures || !self.go_on(ground, cost)? {
-                return Ok(false);
+            if self.failures() >= most_failures {
+                return Ok(SearchEnd::Paused);
+            }
+            if !self.go_on(ground, cost)? {
+                return Ok(SearchEnd::NoWay);
             }
         }
-        Ok(true)
+        Ok(SearchEnd::AtGoal)
+    }
+
+    /// Goes on until the walk ends at the goal, which some walk of the cost does. Returns its cells.
+    pub fn finish<B: BarTable>(
+        mut self,
+        ground: &Ground<B>,
+        cost: u32,
+    ) -> Result<Vec<Cell>, OutOfMemory>
+        requires small { cost < cost_bound }
+        requires searching { IsSearching ground.now cost self }
+        requires arrives { CanArrive ground.now cost (start_of ground.now) }
+        ensures { IfOk result (λ cells. IsWholeWalk ground.now cost cells.items) }
+    {
+        while self.len() <= cost as usize {
+            if self.is_direct(ground, cost) {
+                self.go_straight(ground, cost)?;
+                return Ok(self.into_cells());
+            }
+            if !self.go_on(ground, cost)? {
+                unreachable!();
+            }
+        }
+        Ok(self.into_cells())
     }
 
     /// Returns the cells of the walk.
@@ -258,17 +295,7 @@ pub fn least_walk<B: BarTable>(
     requires within { IsWithin ground.now cost (start_of ground.now) }
     ensures { IfOk result (λ cells. IsWholeWalk ground.now cost cells.items) }
 {
-    let mut walk = PathSearch::of(alloc, ground.start(), cost)?;
-    while walk.len() <= cost as usize {
-        if walk.is_direct(ground, cost) {
-            walk.go_straight(ground, cost)?;
-            return Ok(walk.into_cells());
-        }
-        if !walk.go_on(ground, cost)? {
-            unreachable!();
-        }
-    }
-    Ok(walk.into_cells())
+    PathSearch::of(alloc, ground.start(), cost)?.finish(ground, cost)
 }
 
 /// Returns the same walk if it is found before the search has backtracked from so many states.
@@ -283,8 +310,8 @@ pub fn try_walk<B: BarTable>(
     ensures { IfOk result (λ found. IfSome found (λ cells. IsWholeWalk ground.now cost cells.items)) }
 {
     let mut walk = PathSearch::of(alloc, ground.start(), cost)?;
-    if walk.search(ground, cost, most_failures)? {
-        return Ok(Some(walk.into_cells()));
+    match walk.search(ground, cost, most_failures)? {
+        SearchEnd::AtGoal => Ok(Some(walk.into_cells())),
+        SearchEnd::Paused | SearchEnd::NoWay => Ok(None),
     }
-    Ok(None)
 }

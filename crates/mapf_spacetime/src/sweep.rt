@@ -4,7 +4,7 @@ ghost use Rattle.mapf_model.specs.Grid.{IsGridMap, Step};
 ghost use Rattle.mapf_model.specs.Labels.{MayGo};
 ghost use Rattle.mapf_model.specs.Limits.{most_cells, most_path_cells};
 ghost use Rattle.mapf_model.specs.Neighbours.{neighbourhood};
-ghost use Rattle.mapf_spacetime.specs.CellSets.{HasCell, HasNone};
+ghost use Rattle.mapf_spacetime.specs.CellSets.{HasNumber, HasNone};
 ghost use Rattle.mapf_spacetime.specs.States.{IsBelowLimit};
 ghost use Rattle.mapf_spacetime.specs.Sweeps.{AreNext, AreStatesAt, AreSwept, HasArrived, IsExtended, IsNoted};
 ghost use Rattle.mapf_spacetime.specs.Sweeps.{IsSweep, IsUnderWay, IsWhole, MeetsGoal};
@@ -212,9 +212,9 @@ impl Sweep {
 
     // Returns whether the goal is one of the next cells, and the agent may rest there from the tick on.
     fn arrives<B: BarTable>(&self, ground: &Ground<B>) -> bool
-        ensures goal { IsTrue result → HasCell self.now.next_cells ground.now.goal }
+        ensures goal { IsTrue result → HasNumber self.now.next_cells ground.now.goal }
         ensures rest { IsTrue result → MayRestFrom ground.now self.now.tick }
-        ensures no { result ≡ false → HasCell self.now.next_cells ground.now.goal →
+        ensures no { result ≡ false → HasNumber self.now.next_cells ground.now.goal →
             IsBarredLater ground.now self.now.tick }
     {
         self.next_cells.has(ground.goal()) && ground.may_rest_from(self.tick)

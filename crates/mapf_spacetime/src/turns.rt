@@ -1,10 +1,11 @@
-ghost use Rattle.std.specs.Prelude.{◌<◌, IfOk};
+ghost use Rattle.std.specs.Prelude.{◌<◌, ◌≤◌, IfOk};
 ghost use Rattle.mapf_model.specs.Grid.{IsGridMap};
+ghost use Rattle.mapf_spacetime.specs.PathSearch.{CanArrive, IsSearching, IsWholeWalk};
 ghost use Rattle.mapf_spacetime.specs.Task.{IsWithin, cost_bound, start_of};
-ghost use Rattle.mapf_spacetime.specs.Turns.{IsTurned};
+ghost use Rattle.mapf_spacetime.specs.UpToBound.{IsUpTo};
 
 use crate::ground::Ground;
-use crate::path_search::PathSearch;
+use crate::path_search::{PathSearch, SearchEnd, least_walk};
 use crate::sweep::Sweep;
 use mapf_constraints::BarTable;
 use mapf_model::{Cell, OutOfMemory, Tick};
@@ -13,16 +14,17 @@ use std::alloc::Global;
 /// From how many states a search for a walk backtracks before any state is swept.
 pub const FREE_FAILURES: usize = 8;
 
-// How many states of each tick are swept without a further failure of the walk. A maze has hardly more.
-const NARROW: usize = 8;
+/// How many states for each tick are reached without a further failure of the walk. A maze has hardly more.
+pub const NARROW: usize = 8;
 
 /// What a walk and a sweep up to the same bound found.
 #[derive(Drop)]
-pub enum Turned {
+pub enum UpToBound {
     /// The cells of a walk that ends at the goal at the bound.
     Walked(Vec<Cell>),
-    /// The tick up to the bound at which the sweep arrives. It has kept the states below it.
-    Arrived(Tick),
+    /// The agent arrives at this cost, up to the bound and not earlier, by the walk of these cells. The sweep has kept
+    /// the states below it.
+    Arrived { cost: Tick, cells: Vec<Cell> },
     /// The agent doesn't arrive up to the bound, and the sweep has reached all states up to it.
     Swept,
 }
@@ -36,29 +38,60 @@ pub fn by_turns<B: BarTable>(
     ground: &Ground<B>,
     bound: u32,
     states_per_failure: usize,
-) -> Result<Turned, OutOfMemory>
+) -> Result<UpToBound, OutOfMemory>
     requires small { bound < cost_bound }
     requires shape { IsGridMap ground.now.grid }
     requires within { IsWithin ground.now bound (start_of ground.now) }
     requires some { 0 < states_per_failure }
-    ensures { IfOk result (IsTurned ground.now bound sweep.new) }
+    ensures { IfOk result (IsUpTo ground.now bound sweep.new) }
 {
     let mut walk = PathSearch::of(alloc, ground.start(), bound)?;
-    if walk.search(ground, bound, FREE_FAILURES)? {
-        return Ok(Turned::Walked(walk.into_cells()));
+    // Whether the walk can go on.
+    let mut is_paused = true;
+    match walk.search(ground, bound, FREE_FAILURES)? {
+        SearchEnd::AtGoal => return Ok(UpToBound::Walked(walk.into_cells())),
+        SearchEnd::Paused => {}
+        SearchEnd::NoWay => is_paused = false,
     }
     let mut arrives = sweep.begin(ground, bound)?;
     while !arrives && !sweep.is_over() {
-        let most_failures = most_failures(sweep, ground.horizon(), states_per_failure);
-        if walk.search(ground, bound, most_failures)? {
-            return Ok(Turned::Walked(walk.into_cells()));
+        if is_paused {
+            let most_failures = most_failures(sweep, ground.horizon(), states_per_failure);
+            match walk.search(ground, bound, most_failures)? {
+                SearchEnd::AtGoal => return Ok(UpToBound::Walked(walk.into_cells())),
+                SearchEnd::Paused => {}
+                SearchEnd::NoWay => is_paused = false,
+            }
         }
         arrives = sweep.advance(ground)?;
     }
     if arrives {
-        return Ok(Turned::Arrived(sweep.keep_low(ground)?));
+        let cost = sweep.keep_low(ground)?;
+        let cells = least_walk_after(alloc, ground, walk, bound, cost)?;
+        return Ok(UpToBound::Arrived { cost, cells });
     }
-    Ok(Turned::Swept)
+    Ok(UpToBound::Swept)
+}
+
+// Returns the least walk of the cost, for which the search of a walk of the bound goes on if both are equal.
+fn least_walk_after<B: BarTable>(
+    alloc: Global,
+    ground: &Ground<B>,
+    walk: PathSearch,
+    bound: u32,
+    cost: u32,
+) -> Result<Vec<Cell>, OutOfMemory>
+    requires small { bound < cost_bound }
+    requires early { cost ≤ bound }
+    requires searching { IsSearching ground.now bound walk }
+    requires arrives { CanArrive ground.now cost (start_of ground.now) }
+    requires within { IsWithin ground.now cost (start_of ground.now) }
+    ensures { IfOk result (λ cells. IsWholeWalk ground.now cost cells.items) }
+{
+    if cost == bound {
+        return walk.finish(ground, cost);
+    }
+    least_walk(alloc, ground, cost)
 }
 
 // Returns from how many states the walk may backtrack in all, given what the sweep has reached.

@@ -1,8 +1,8 @@
-use Rattle.std.proofs.Common.{◌≡◌, ◌+◌, AllPairs, IfSome, None, Contains, sym, subst, ◌∙◌, arith}
+use Rattle.std.proofs.Common.{◌≡◌, ◌+◌, AllPairs, IfSome, IfNone, None, Contains, sym, subst, ◌∙◌, arith}
 use Rattle.mapf_spacetime.specs.Listed.{AreEntriesOf}
 use Rattle.mapf_spacetime.specs.PathSearch.{IsWholeWalk}
 use Rattle.mapf_spacetime.specs.States.{IsBelowLimit}
-use Rattle.mapf_spacetime.specs.Sweeps.{AreSwept, HasArrived, IsEarlier}
+use Rattle.mapf_spacetime.specs.Sweeps.{AreAll, AreSwept, HasArrived, IsEarlier}
 use Rattle.mapf_spacetime.specs.Task.{start_of}
 use Rattle.mapf_spacetime.proofs.AnswerLemmas.{all_few, all_show}
 use Rattle.mapf_spacetime.proofs.ListLemmas.{all_listed}
@@ -98,8 +98,8 @@ begin_above-requires-clause-small g c =
     let bound = c.requires.bound in
     omega arith
 
-pub grow-requires-clause-limit : goal.grow-requires-clause-limit
-grow-requires-clause-limit g c =
+pub by_levels-requires-clause-limit : goal.by_levels-requires-clause-limit
+by_levels-requires-clause-limit g c =
     let task = c.args.ground.now in
     let sweep = c.args.workspace.now.sweep in
     let w = c.requires.whole in
@@ -108,8 +108,8 @@ grow-requires-clause-limit g c =
     let cost : sweep.bound + 1 ≡ c.begin_above.new.self.cost = omega arith in
     subst (IsBelowLimit task) cost (next_limit task sweep w (w.cut (sym c.is_cut.ensures ∙ c.if-not-is_cut.false)))
 
-pub grow-requires-clause-small : goal.grow-requires-clause-small
-grow-requires-clause-small g c last above =
+pub by_levels-requires-clause-small : goal.by_levels-requires-clause-small
+by_levels-requires-clause-small g c last above =
     let task = c.args.ground.now in
     let sweep = c.args.workspace.now.sweep in
     let w = c.requires.whole in
@@ -118,25 +118,23 @@ grow-requires-clause-small g c last above =
     let is = c.in_ok-begin_above.ensures.cost in
     omega arith
 
-pub arrive-requires-clause-limit : goal.arrive-requires-clause-limit
-arrive-requires-clause-limit g c = subst (IsBelowLimit c.args.ground.now) (sym c.cost.ensures) c.in_ok-grow.ensures.limit
+pub dead-requires-in-None-clause-few : goal.dead-requires-in-None-clause-few
+dead-requires-in-None-clause-few g c s held =
+    let frontier = c.by_levels.new.frontier in
+    let all = subst (λ o. IfNone o (AreAll c.args.ground.now frontier.cost frontier.reached)) c.in-None.is c.in_ok-cells-2.ensures.all in
+    all_few c.args.ground.now frontier.cost frontier.reached all c.in_ok-cells-2.ensures.small s (subst (λ l. Contains l s) c.reached-in-None.ensures held)
 
-pub dead-requires-2-clause-few : goal.dead-requires-2-clause-few
-dead-requires-2-clause-few g c s held =
-    let frontier = c.grow.new.self in
-    let all = c.in_ok-grow.ensures.all c.if-branch.false in
-    all_few c.args.ground.now frontier.cost frontier.reached all c.in_ok-grow.ensures.small s (subst (λ l. Contains l s) c.reached-2.ensures held)
+pub dead-requires-in-None-clause-rising : goal.dead-requires-in-None-clause-rising
+dead-requires-in-None-clause-rising g c =
+    let frontier = c.by_levels.new.frontier in
+    let all = subst (λ o. IfNone o (AreAll c.args.ground.now frontier.cost frontier.reached)) c.in-None.is c.in_ok-cells-2.ensures.all in
+    subst (AllPairs IsEarlier) (sym c.reached-in-None.ensures) all.reached.rising
 
-pub dead-requires-2-clause-rising : goal.dead-requires-2-clause-rising
-dead-requires-2-clause-rising g c =
-    let all = c.in_ok-grow.ensures.all c.if-branch.false in
-    subst (AllPairs IsEarlier) (sym c.reached-2.ensures) all.reached.rising
-
-pub dead-requires-2-clause-none : goal.dead-requires-2-clause-none
-dead-requires-2-clause-none g c entries a =
-    let frontier = c.grow.new.self in
-    let all = c.in_ok-grow.ensures.all c.if-branch.false in
-    all_show c.args.ground.now frontier.cost frontier.reached all entries (subst (λ l. AreEntriesOf l None entries) c.reached-2.ensures a)
+pub dead-requires-in-None-clause-none : goal.dead-requires-in-None-clause-none
+dead-requires-in-None-clause-none g c entries a =
+    let frontier = c.by_levels.new.frontier in
+    let all = subst (λ o. IfNone o (AreAll c.args.ground.now frontier.cost frontier.reached)) c.in-None.is c.in_ok-cells-2.ensures.all in
+    all_show c.args.ground.now frontier.cost frontier.reached all entries (subst (λ l. AreEntriesOf l None entries) c.reached-in-None.ensures a)
 
 pub dead-requires-clause-all : goal.dead-requires-clause-all
 dead-requires-clause-all g c entries a =
@@ -144,8 +142,24 @@ dead-requires-clause-all g c entries a =
     let sweep = c.args.workspace.now.sweep in
     all_listed task sweep.bound sweep.states entries (whole_all task sweep c.requires.whole (sym c.is_cut.ensures ∙ c.if-not-is_cut.true)) (subst (λ l. AreEntriesOf l None entries) c.states.ensures a) c.requires.start
 
-pub dead-requires-2-clause-all : goal.dead-requires-2-clause-all
-dead-requires-2-clause-all g c entries a =
-    let frontier = c.grow.new.self in
-    let all = c.in_ok-grow.ensures.all c.if-branch.false in
-    all_listed c.args.ground.now frontier.cost frontier.reached entries all (subst (λ l. AreEntriesOf l None entries) c.reached-2.ensures a) c.requires.start
+pub dead-requires-in-None-clause-all : goal.dead-requires-in-None-clause-all
+dead-requires-in-None-clause-all g c entries a =
+    let frontier = c.by_levels.new.frontier in
+    let all = subst (λ o. IfNone o (AreAll c.args.ground.now frontier.cost frontier.reached)) c.in-None.is c.in_ok-cells-2.ensures.all in
+    all_listed c.args.ground.now frontier.cost frontier.reached entries all (subst (λ l. AreEntriesOf l None entries) c.reached-in-None.ensures a) c.requires.start
+
+pub by_levels-requires-clause-within : goal.by_levels-requires-clause-within
+by_levels-requires-clause-within g c =
+    let task = c.args.ground.now in
+    let sweep = c.args.workspace.now.sweep in
+    let w = c.requires.whole in
+    let (value, is, le) = w.reached.within (start_of task) w.reached.start in
+    let bound = c.requires.bound in
+    let cost = c.in_ok-begin_above.ensures.cost in
+    (value, is, omega arith)
+
+pub by_levels-requires-clause-rest : goal.by_levels-requires-clause-rest
+by_levels-requires-clause-rest g c =
+    let rest = c.requires.rest in
+    let cost = c.in_ok-begin_above.ensures.cost in
+    record { stay = λ later after. rest.stay later (omega arith); wait = λ later after. rest.wait later (omega arith) }

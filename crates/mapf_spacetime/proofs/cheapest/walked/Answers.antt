@@ -7,7 +7,7 @@ use Rattle.mapf_spacetime.proofs.cheapest.walked.Goals as goal
 pub arrive_by-requires-clause-arrived : goal.arrive_by-requires-clause-arrived
 arrive_by-requires-clause-arrived g c =
     let task = c.args.ground.now in
-    walk_arrived task c.args.cost [] c.args.cells.items (none_swept task c.args.cost (subst (IsValue task (start_of task)) (sym c.if-cost-first.true) c.requires.first)) c.requires.walk c.requires.rest
+    walk_arrived task c.args.cost [] c.args.cells.items (none_swept task c.args.cost (subst (IsValue task (start_of task)) (sym c.if-cost-distance.true) c.requires.distance)) c.requires.walk c.requires.rest
 
 pub arrive_by-requires-in-None-clause-limit : goal.arrive_by-requires-in-None-clause-limit
 arrive_by-requires-in-None-clause-limit g c =

@@ -1,8 +1,9 @@
-use Rattle.std.proofs.Common.{◌<◌, ◌∙◌, ⊎_elim, length, sym, arith}
+use Rattle.std.proofs.Common.{◌<◌, ◌∙◌, ⊎_elim, length, sym, subst, arith}
 use Rattle.std.proofs.lemmas.Bool.{cases_lt, false≢true, iff_false}
+use Rattle.mapf_spacetime.specs.PathSearchEnds.{IsEnd}
 use Rattle.mapf_spacetime.proofs.SweepLemmas.{last_tick, whole}
 use Rattle.mapf_spacetime.proofs.turns.by_turns.Goals as goal
-use Rattle.mapf_spacetime.proofs.turns.by_turns.Goals.{then-loop-arrives-test+else-not-is_over, else-loop-arrives-test}
+use Rattle.mapf_spacetime.proofs.turns.by_turns.Goals.{then-loop-arrives-test+else-not-is_over, else-loop-arrives-test, then-is_paused+in_ok-search-2+in-Paused-2, then-is_paused+in_ok-search-2+in-NoWay-2, else-is_paused}
 
 pub loop-arrives-smaller : goal.loop-arrives-smaller
 loop-arrives-smaller g c =
@@ -22,4 +23,15 @@ returns g c =
     elim c.loop-arrives-test.branch [
       | then-loop-arrives-test+else-not-is_over w ↦ (whole c.args.ground.now sweep.tick sweep.first sweep goes.reached (w.is_over.ensures.0 w.if-not-is_over.false), c.loop-arrives.invariant.bound)
       | else-loop-arrives-test w ↦ absurd (false≢true (sym c.if-arrives.false ∙ w.loop-arrives-test.false))
+    ]
+
+pub loop-arrives-preserved : goal.loop-arrives-preserved
+loop-arrives-preserved g c =
+    let task = c.args.ground.now in
+    let bound = c.args.bound in
+    let did = c.in_ok-arrives-2.ensures in
+    elim c.if-is_paused.branch [
+      | then-is_paused+in_ok-search-2+in-Paused-2 w ↦ rw w.walk-is (record { arrives = did.arrives; goes = did.goes; bound = did.bound ∙ c.loop-arrives.invariant.bound; searching = subst (IsEnd task bound w.search-then-is_paused.new.self) w.in-Paused-2.is w.in_ok-search-2.ensures })
+      | then-is_paused+in_ok-search-2+in-NoWay-2 w ↦ rw w.walk-is (record { arrives = did.arrives; goes = did.goes; bound = did.bound ∙ c.loop-arrives.invariant.bound; searching = (subst (IsEnd task bound w.search-then-is_paused.new.self) w.in-NoWay-2.is w.in_ok-search-2.ensures).0 })
+      | else-is_paused w ↦ rw w.walk-is (record { arrives = did.arrives; goes = did.goes; bound = did.bound ∙ c.loop-arrives.invariant.bound; searching = c.loop-arrives.invariant.searching })
     ]

@@ -1,5 +1,5 @@
 use Rattle.std.proofs.Common.{◌≡◌, ℕ, ◌/◌, List, length, slice_index, refl, ap, ◌∙◌, ⊎_elim, arith}
-use Rattle.mapf_spacetime.specs.CellSets.{HasCell}
+use Rattle.mapf_spacetime.specs.CellSets.{HasNumber}
 use Rattle.mapf_spacetime.proofs.FilledLemmas.{filled_after, written_back}
 use Rattle.mapf_spacetime.proofs.cell_set.CellSet.insert.Goals as goal
 
@@ -36,7 +36,7 @@ invariant_of-self-2 c =
       filled_after old new c.self.inside.filled c.insert.new.self is.0 place size c.insert.ensures.room
           (λ other apart. c.add_to-was_filled.ensures.others other apart ∙ ap (λ (ws : List ℕ). slice_index ws other) value)
           (λ other held apart. c.insert.ensures.kept other held)
-          (λ other held apart. ⊎_elim (λ (there : HasCell c.self.inside.filled other). there) (λ (same : other ≡ place). absurd (apart same)) (c.insert.ensures.only other held))
+          (λ other held apart. ⊎_elim (λ (there : HasNumber c.self.inside.filled other). there) (λ (same : other ≡ place). absurd (apart same)) (c.insert.ensures.only other held))
           (λ some. c.insert.ensures.here)
           (λ held. c.add_to-was_filled.ensures.some),
       (let s = is.1 in omega (arith, s, size)),

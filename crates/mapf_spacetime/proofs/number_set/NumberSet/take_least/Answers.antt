@@ -2,7 +2,7 @@ use Rattle.std.proofs.Common.{◌≡◌, ◌+◌, ◌*◌, ◌<◌, ◌^◌, ◌
 use Rattle.std.proofs.lemmas.Grind.{get_or_default_zero}
 use Rattle.std.specs.Int.{trailing_zeros}
 use mir.Syntax.{w64}
-use Rattle.mapf_spacetime.specs.CellSets.{HasCell}
+use Rattle.mapf_spacetime.specs.CellSets.{HasNumber}
 use Rattle.mapf_spacetime.proofs.CellLemmas.{taken_has, taken_is, taken_kept, taken_only}
 use Rattle.mapf_spacetime.proofs.number_set.NumberSet.take_least.Goals as goal
 
@@ -15,7 +15,7 @@ returns-then-word-ne0-clause-some c =
     let inside : first < length words = omega arith in
     let read : c.index-word.result.now ≡ slice_index words first = c.index-word.ensures ∙ get_or_default_zero words first c.index-word.result.now inside in
     let small : c.index-word.result.now < 2 ^ 64 = search rules in
-    rw (← c.self.view_is) (subst (λ l. HasCell l (first * 64 + trailing_zeros w64 c.index-word.result.now)) h.same (taken_has words first c.loop-self.self-inside.end h.empty inside c.index-word.result.now read c.if-word-ne0.true small))
+    rw (← c.self.view_is) (subst (λ l. HasNumber l (first * 64 + trailing_zeros w64 c.index-word.result.now)) h.same (taken_has words first c.loop-self.self-inside.end h.empty inside c.index-word.result.now read c.if-word-ne0.true small))
 
 pub returns-then-word-ne0-clause-least : goal.returns-then-word-ne0-clause-least
 returns-then-word-ne0-clause-least c other held =
@@ -26,7 +26,7 @@ returns-then-word-ne0-clause-least c other held =
     let inside : first < length words = omega arith in
     let read : c.index-word.result.now ≡ slice_index words first = c.index-word.ensures ∙ get_or_default_zero words first c.index-word.result.now inside in
     let small : c.index-word.result.now < 2 ^ 64 = search rules in
-    let there = subst (λ l. HasCell l other) (sym h.same) (rw (← c.self.view_is) at held) in
+    let there = subst (λ l. HasNumber l other) (sym h.same) (rw (← c.self.view_is) at held) in
     taken_is words first c.loop-self.self-inside.end h.empty inside c.index-word.result.now read c.if-word-ne0.true small other there
 
 pub returns-then-word-ne0-clause-kept : goal.returns-then-word-ne0-clause-kept
@@ -38,7 +38,7 @@ returns-then-word-ne0-clause-kept c other held apart =
     let inside : first < length words = omega arith in
     let read : c.index-word.result.now ≡ slice_index words first = c.index-word.ensures ∙ get_or_default_zero words first c.index-word.result.now inside in
     let small : c.index-word.result.now < 2 ^ 64 = search rules in
-    let there = subst (λ l. HasCell l other) (sym h.same) (rw (← c.self.view_is) at held) in
+    let there = subst (λ l. HasNumber l other) (sym h.same) (rw (← c.self.view_is) at held) in
     taken_kept words first c.loop-self.self-inside.end h.empty inside c.index-word.result.now read c.if-word-ne0.true small other there apart
 
 pub returns-then-word-ne0-clause-only : goal.returns-then-word-ne0-clause-only
@@ -51,4 +51,4 @@ returns-then-word-ne0-clause-only c other held =
     let read : c.index-word.result.now ≡ slice_index words first = c.index-word.ensures ∙ get_or_default_zero words first c.index-word.result.now inside in
     let small : c.index-word.result.now < 2 ^ 64 = search rules in
     let (there, apart) = taken_only words first c.loop-self.self-inside.end h.empty inside c.index-word.result.now read c.if-word-ne0.true small other held in
-    (rw (← c.self.view_is) (subst (λ l. HasCell l other) h.same there), apart)
+    (rw (← c.self.view_is) (subst (λ l. HasNumber l other) h.same there), apart)

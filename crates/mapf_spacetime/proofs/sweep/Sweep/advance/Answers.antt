@@ -1,5 +1,5 @@
 use Rattle.std.proofs.Common.{◌≡◌, ◌+◌, ◌<◌, ◌≤◌, ℕ, refl, ap, sym, subst, ◌∙◌, slice_index_or, length, rules, arith}
-use Rattle.mapf_spacetime.specs.CellSets.{HasCell, HasNone}
+use Rattle.mapf_spacetime.specs.CellSets.{HasNumber, HasNone}
 use Rattle.mapf_spacetime.specs.Sweeps.{Sweeping, AreNext, AreStatesAt, IsExtended, IsNoted, IsSweep, MeetsGoal}
 use Rattle.mapf_spacetime.specs.Task.{IsBarredLater, MayRestFrom, start_of}
 use Rattle.mapf_spacetime.proofs.SweepLemmas.{last_tick, meets, meets_then, next_sweep}
@@ -61,7 +61,7 @@ returns-clause-goes g c nowhere =
     (ap (λ s. s.states) c.self-3.view_is ∙ states)
     (ap (λ s. s.bound) c.self-3.view_is ∙ got.bound)
     (ap (λ s. s.is_cut) c.self-3.view_is ∙ got.cut)
-    (subst (λ n. HasCell now.next_cells task.goal → IsBarredLater task (n + 1)) now_is (c.if-arrives.ensures.no refl)) in
+    (subst (λ n. HasNumber now.next_cells task.goal → IsBarredLater task (n + 1)) now_is (c.if-arrives.ensures.no refl)) in
     record {
       reached = subst (λ n. IsSweep task n c.len-end.result after) tick (subst (λ n. IsSweep task (old.tick + 1) n after) end swept);
       none = subst (λ s. HasNone s.next_cells) (sym c.self-3.view_is) got.none;

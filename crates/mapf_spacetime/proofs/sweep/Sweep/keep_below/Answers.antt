@@ -2,7 +2,8 @@ use Rattle.std.proofs.Common.{◌+◌, ◌<◌, refl, ap, sym, subst, ◌∙◌,
 use Rattle.std.proofs.lemmas.List.{get_or_default}
 use Rattle.std.proofs.lemmas.List.Elements.{Contains-get_or}
 use Rattle.mapf_spacetime.specs.declared.state.State.{State}
-use Rattle.mapf_spacetime.specs.Sweeps.{AreKept, MeetsGoal}
+use Rattle.mapf_spacetime.specs.Sweeps.{MeetsGoal}
+use Rattle.mapf_spacetime.proofs.SweepInvariants.{AreKept}
 use Rattle.mapf_spacetime.specs.Task.{IsBelow, start_of}
 use Rattle.mapf_spacetime.proofs.SweptLemmas.{none_kept, kept_skip, kept_push, kept_swept, kept_holds}
 use Rattle.mapf_spacetime.proofs.sweep.Sweep.keep_below.Goals as goal

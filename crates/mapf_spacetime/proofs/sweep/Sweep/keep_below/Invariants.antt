@@ -1,5 +1,5 @@
 use Rattle.std.proofs.Common.{◌≡◌}
-use Rattle.mapf_spacetime.specs.Sweeps.{AreKept}
+use Rattle.mapf_spacetime.proofs.SweepInvariants.{AreKept}
 use Rattle.mapf_spacetime.proofs.sweep.Sweep.keep_below.Given as goal
 
 abbrev pub invariant-loop-place : goal.invariant-loop-place

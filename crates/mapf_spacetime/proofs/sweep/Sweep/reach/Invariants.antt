@@ -1,6 +1,6 @@
 use Rattle.std.proofs.Common.{◌≡◌, ◌+◌, ◌-◌, ◌*◌, List, ◌++◌, length}
 use Rattle.mapf_spacetime.specs.declared.state.State.{State}
-use Rattle.mapf_spacetime.specs.Sweeps.{AreTaken}
+use Rattle.mapf_spacetime.proofs.SweepInvariants.{AreTaken}
 use Rattle.mapf_spacetime.proofs.sweep.Sweep.reach.Given as goal
 
 abbrev pub invariant-loop-cell : goal.invariant-loop-cell

@@ -1,0 +1,109 @@
+ghost use Rattle.std.specs.Prelude.{◌≡◌, ◌<◌, ◌+◌, ℕ, [], IfOk, IfSome, IfNone, OnOk};
+ghost use Rattle.mapf_constraints.specs.BarSets.{AreBefore};
+ghost use Rattle.mapf_model.specs.Limits.{most_cells};
+ghost use Rattle.mapf_spacetime.specs.Frontiers.{IsFrontier, IsLevelDone};
+ghost use Rattle.mapf_spacetime.specs.Levels.{IsArrivalAt, IsWalkTo};
+ghost use Rattle.mapf_spacetime.specs.States.{IsBelowLimit};
+ghost use Rattle.mapf_spacetime.specs.Sweeps.{AreAll};
+ghost use Rattle.mapf_spacetime.specs.Task.{MayRestFrom, IsWithin, cost_bound, start_of};
+
+use crate::frontier::{Expansion, Frontier};
+use crate::ground::Ground;
+use crate::path_search::{PathSearch, SearchEnd, least_walk};
+use crate::turns::{FREE_FAILURES, NARROW};
+use mapf_constraints::BarTable;
+use mapf_model::limits::MOST_CELLS;
+use mapf_model::{Cell, OutOfMemory};
+use std::alloc::Global;
+
+// How many failures the walk gains by a turn in a wide level, and how many open states are taken for each of them.
+const FAILURES: usize = 16;
+
+const STATES_PER_FAILURE: usize = 16;
+
+/// Reaches states by rising f-value until the agent arrives, or no state is left to reach. Returns the cells of the least
+/// walk of the cost at which it arrives, and keeps the states below that cost; None if it never arrives, with all states
+/// that can be reached.
+pub fn by_levels<B: BarTable>(
+    alloc: Global,
+    frontier: &mut Frontier,
+    ground: &Ground<B>,
+) -> Result<Option<Vec<Cell>>, OutOfMemory>
+    requires frontier { IsFrontier ground.now [] frontier.old }
+    requires within { IsWithin ground.now frontier.old.cost (start_of ground.now) }
+    requires rest { MayRestFrom ground.now frontier.old.cost }
+    requires limit { IsBelowLimit ground.now frontier.old.cost }
+    requires small { (last : ℕ) → AreBefore last ground.now.bars → frontier.old.cost < last + most_cells }
+    ensures arrives { IfOk result (λ found. IfSome found (λ cells. IsArrivalAt ground.now frontier.new cells.items)) }
+    ensures all { IfOk result (λ found. IfNone found (AreAll ground.now frontier.new.cost frontier.new.reached)) }
+    ensures limit { OnOk result (IsBelowLimit ground.now frontier.new.cost) }
+    ensures small { OnOk result (frontier.new.cost < cost_bound) }
+{
+    let horizon = ground.horizon();
+    let mut cost = frontier.cost();
+    loop {
+        if let Some(cells) = level(alloc, frontier, ground)? {
+            frontier.keep_low();
+            return Ok(Some(cells));
+        }
+        if frontier.none_waits() {
+            frontier.keep_all();
+            return Ok(None);
+        }
+        frontier.raise();
+        cost += 1;
+        prove!(cost < horizon + MOST_CELLS);
+    }
+}
+
+// Reaches the states of the cost. Returns the cells of the least walk of the cost if the agent arrives.
+fn level<B: BarTable>(
+    alloc: Global,
+    frontier: &mut Frontier,
+    ground: &Ground<B>,
+) -> Result<Option<Vec<Cell>>, OutOfMemory>
+    requires frontier { IsFrontier ground.now [] frontier.old }
+    requires within { IsWithin ground.now frontier.old.cost (start_of ground.now) }
+    requires rest { MayRestFrom ground.now frontier.old.cost }
+    requires small { frontier.old.cost < cost_bound }
+    ensures arrives { IfOk result (λ found. IfSome found (λ cells. IsWalkTo ground.now frontier.new cells.items)) }
+    ensures done { IfOk result (λ found. IfNone found (IsLevelDone ground.now frontier.new)) }
+    ensures cost { OnOk result (frontier.new.cost ≡ frontier.old.cost) }
+{
+    let cost = frontier.cost();
+    match frontier.expand(ground, NARROW * cost as usize)? {
+        Expansion::Arrives => Ok(Some(least_walk(alloc, ground, cost)?)),
+        Expansion::Done => Ok(None),
+        Expansion::Paused => wide_level(alloc, frontier, ground),
+    }
+}
+
+// The same, while a walk of the cost is searched for by turns.
+fn wide_level<B: BarTable>(
+    alloc: Global,
+    frontier: &mut Frontier,
+    ground: &Ground<B>,
+) -> Result<Option<Vec<Cell>>, OutOfMemory>
+    requires frontier { IsFrontier ground.now [] frontier.old }
+    requires within { IsWithin ground.now frontier.old.cost (start_of ground.now) }
+    requires rest { MayRestFrom ground.now frontier.old.cost }
+    requires small { frontier.old.cost < cost_bound }
+    ensures arrives { IfOk result (λ found. IfSome found (λ cells. IsWalkTo ground.now frontier.new cells.items)) }
+    ensures done { IfOk result (λ found. IfNone found (IsLevelDone ground.now frontier.new)) }
+    ensures cost { OnOk result (frontier.new.cost ≡ frontier.old.cost) }
+{
+    let cost = frontier.cost();
+    let mut walk = PathSearch::of(alloc, ground.start(), cost)?;
+    let mut most_failures = FREE_FAILURES;
+    loop {
+        if let SearchEnd::AtGoal = walk.search(ground, cost, most_failures)? {
+            return Ok(Some(walk.into_cells()));
+        }
+        match frontier.expand(ground, FAILURES * STATES_PER_FAILURE)? {
+            Expansion::Arrives => return Ok(Some(walk.finish(ground, cost)?)),
+            Expansion::Done => return Ok(None),
+            Expansion::Paused => {}
+        }
+        most_failures = most_failures.saturating_add(FAILURES);
+    }
+}
