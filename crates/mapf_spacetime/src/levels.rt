@@ -21,9 +21,9 @@ const FAILURES: usize = 16;
 
 const STATES_PER_FAILURE: usize = 16;
 
-/// Reaches states by rising f-value until the agent arrives, or no state is left to reach. Returns the cells of the least
-/// walk of the cost at which it arrives, and keeps the states below that cost; None if it never arrives, with all states
-/// that can be reached.
+/// Reaches states by rising f-value until the agent arrives, or no state is left to reach. Returns the cells of the
+/// least walk of the cost at which it arrives, and keeps the states below that cost. If it never arrives, returns None
+/// and keeps all states that can be reached.
 pub fn by_levels<B: BarTable>(
     alloc: Global,
     frontier: &mut Frontier,
