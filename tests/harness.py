@@ -1,6 +1,7 @@
 """Cases on files: one folder each, with the words after `mapf`, the files they name and what is wanted."""
 
 import os
+import re
 import resource
 import shlex
 import subprocess
@@ -216,12 +217,46 @@ def cases_of(folder):
     return [Case(path.parent) for path in sorted(folder.glob("*/words"))]
 
 
-# Along two corridors so many cells long two agents come to one cell at one tick.
-CORRIDOR = 1800
+# The cases that are made.
+LONG_CERTIFICATE = "solve-certificate-longer-than-a-page"
+LONG_REPLIES = "dispatch-replies-longer-than-two-pages"
+
+# Along two corridors so many cells long two agents come to one cell at one tick. The map is as wide as one may be.
+CORRIDOR = 2048 - 2
 
 
-def made_case(folder):
-    """A case of `solve` with two texts, of which the certificate is longer than the page on which a run gathers it.
+def page_size():
+    """How many bytes of a text a run gathers before it writes them."""
+    source = (TESTS.parent / "crates/mapf_fields/src/page.rt").read_text()
+    return int(re.search(r"ROOM: usize = ([0-9_]+);", source)[1].replace("_", ""))
+
+
+def made_cases(folder):
+    """The cases whose outputs are longer than a page, so that a run writes them in several calls."""
+    return [made_case(folder, LONG_CERTIFICATE, long_certificate()), made_case(folder, LONG_REPLIES, long_replies())]
+
+
+def made_case(folder, name, texts):
+    place = folder / name
+    place.mkdir()
+    for file, text in texts.items():
+        (place / file).write_bytes(text)
+    return Case(place)
+
+
+def long_replies():
+    """A case of `dispatch` whose replies take more than two pages: an agent asks while another is in its way."""
+    crossing = TESTS / "cases" / "dispatch-crossing"
+    reply = b"hold 0 by 1\n"
+    count = 2 * page_size() // len(reply) + 1
+    return {name: (crossing / name).read_bytes() for name in ("words", "map", "scen", "plan")} | {
+        "events": b"mapf-events 1\n" + b"0\n" * count + b"end\n",
+        "stdout": reply * count,
+    }
+
+
+def long_certificate():
+    """A case of `solve` whose certificate takes more than a page.
 
     Each of two agents has one shortest path, they meet where the corridors cross, at tick CORRIDOR, and each goes
     on to a goal of its own beside that cell. The first to be barred there waits at its start, and no other conflict
@@ -243,11 +278,8 @@ def made_case(folder):
                 + b"vertex 0 1 %d,2 %d 0\n" % (CORRIDOR, CORRIDOR)
                 + leaf_of(0, across[:CORRIDOR], cost + 1) + leaf_of(1, upward[:CORRIDOR], cost + 1) + b"end\n",
     }
-    place = folder / "solve-certificate-longer-than-a-page"
-    place.mkdir()
-    for name, text in texts.items():
-        (place / name).write_bytes(text)
-    return Case(place)
+    assert len(texts["cert"]) > page_size(), "CORRIDOR is too short for the page"
+    return texts
 
 
 def row_of(path, height):
