@@ -42,9 +42,16 @@ def run_tool(main):
         status = 2
     except OSError as error:
         clear_progress()
-        print(f"{Path(sys.argv[0]).name}: {error}", file=sys.stderr)
+        print(f"{Path(sys.argv[0]).name}: {in_words(error)}", file=sys.stderr)
         status = 2
     sys.exit(status)
+
+
+def in_words(error):
+    """What the system said of a file, without the number of the error."""
+    name = error.filename2 or error.filename
+    said = error.strerror or str(error)
+    return said if name is None else f"{os.fsdecode(name)}: {said}"
 
 
 # The program.
