@@ -1,5 +1,5 @@
-"""Ends a tool that an older Python runs than it needs. The tools import this before all that such a Python doesn't know,
-so it has to be good for each Python 3.
+"""Ends a tool that an older Python runs than it needs. The tools import this before all that such a Python doesn't
+know, so it has to be good for each Python 3.
 """
 
 import os

@@ -8,6 +8,7 @@ import sys
 import tempfile
 from pathlib import Path
 
+from answers_tests import spelled
 from browser import Browser, installed
 from harness import TESTS
 
@@ -34,6 +35,7 @@ def tests(tally):
         tally.add("draw, data", data_faults(folder))
         tally.add("draw, faults of a plan", listed_faults(folder))
         tally.add("draw, stands alone", alone_faults(folder))
+        tally.add("draw, what other solvers write", other_answers(folder))
         tally.add("draw, a large map", large_faults(folder))
         for title, faults in refusals(folder).items():
             tally.add(f"draw, {title}", faults)
@@ -160,6 +162,22 @@ def alone_faults(folder):
     return faults
 
 
+def other_answers(folder):
+    """One plan in each format, and with x and y exchanged, gives one page, but for the name of the file."""
+    words = {
+        "plan": (spelled(VALID)["plan"], []),
+        "paths": (spelled(VALID)["paths"], []),
+        "lacam": (spelled(VALID)["lacam"], ["--format", "lacam"]),
+        "yaml": (spelled(VALID)["yaml"], []),
+        "exchanged": (spelled([[(y, x) for x, y in path] for path in VALID])["paths"], ["--exchange-xy"]),
+    }
+    pages = {}
+    for name, (text, more) in words.items():
+        (folder / "answer").write_text(text)
+        pages[name] = drawn([MAP, SCEN, 2, folder / "answer", *more]).stdout
+    return [f"{name} gives another page" for name in words if pages[name] != pages["plan"] or not pages[name]]
+
+
 def large_faults(folder):
     grid, scenario, paths = large_problem(folder)
     _, text = page(folder, paths, grid, scenario, "large")
@@ -172,10 +190,10 @@ def refusals(folder):
     plan.write_text(plan_text(VALID))
     none.write_text("mapf-plan 2\nagents 2\nimpossible\nend\n")
     runs = {
-        "a plan of other agents": ([MAP, SCEN, 1, plan], "give the K"),
-        "no plan": ([MAP, SCEN, 2, none], "has no paths"),
+        "a plan of other agents": ([MAP, SCEN, 1, plan], "give 2 as K"),
+        "no plan": ([MAP, SCEN, 2, none], "holds no plan: its answer is 'impossible'"),
         "no map": ([folder / "not-there", SCEN, 2, plan], "can't be read"),
-        "another text": ([MAP, SCEN, 2, SCEN], "mapf-plan"),
+        "another text": ([MAP, SCEN, 2, SCEN], "none of the formats"),
         "no number": ([MAP, SCEN, "two", plan], "number from 1 to 200"),
     }
     found = {}

@@ -39,7 +39,8 @@ def is_there(python):
 
 
 def told_faults(python, name, version):
-    ended = subprocess.run([*python, str(TOP / name), "--help"], stdin=subprocess.DEVNULL, capture_output=True, text=True)
+    ended = subprocess.run([*python, str(TOP / name), "--help"], stdin=subprocess.DEVNULL, capture_output=True,
+                           text=True)
     wanted = f"{name.rpartition('/')[2]}: needs Python 3.10 or later, and this is {version}"
     is_told = ended.stderr.startswith(wanted) and ended.stderr.count("\n") == 1
     if ended.returncode == 2 and is_told and not ended.stdout:
