@@ -78,6 +78,11 @@ class Results:
                 self.rows[row.key()] = row
         return whole
 
+    def forget(self, keys):
+        """Takes these rows for runs that weren't made. In the file they stand until others are in their place."""
+        for key in keys:
+            del self.rows[key]
+
     def add(self, row):
         self.rows[row.key()] = row
         self.append(astuple(row))

@@ -43,6 +43,8 @@ def main():
     signal.pthread_sigmask(signal.SIG_BLOCK, {signal.SIGCHLD})
     try:
         print(json.dumps(outcome(program, problem, limit, float(seconds))), flush=True)
+    except OSError as error:
+        sys.exit(f"{error.filename}: {error.strerror}")
     finally:
         remove(own)
 

@@ -4,6 +4,7 @@ and with scripts in the program's place that are killed, hang, or write nonsense
 
 import json
 import os
+import shutil
 import signal
 import subprocess
 import sys
@@ -29,6 +30,8 @@ def tests(tally):
             tally.add(f"a program that {name}", troubled(bench, name, lines, more, status, row))
         tally.add("a program that hangs in a sweep that is stopped", leaves_nothing(bench))
         tally.add("more numbers of agents", more_numbers(bench, wanted))
+        tally.add("each number of agents", each_number(bench))
+        tally.add("runs that failed are tried again", tried_again(bench, wanted))
         tally.add("a scenario whose map is missing", map_missing(bench, wanted))
         for name, faults in refusals(bench):
             tally.add(name, faults)
@@ -194,6 +197,38 @@ def more_numbers(bench, wanted):
     return [] if is_good else [f"{there}, then {bench.table('more')} by {made} runs, {ended.stderr}"]
 
 
+def each_number(bench):
+    """`2..4` is 2, 3 and 4, and `2,5..11` goes on in steps of 3."""
+    faults = []
+    for number, (words, wanted) in enumerate((("2..4", {"2", "3", "4"}), ("2,5..9", {"2", "5", "8"}))):
+        bench.call(f"each-{number}", "--agents", words, scens="scen-few")
+        found = {row["agents"] for row in bench.rows(f"each-{number}")}
+        faults += [] if found == wanted else [f"{words} is {found}"]
+    return faults
+
+
+def tried_again(bench, wanted):
+    """Runs that failed stay as they are, until --again is said. Then they are made once more, and no others."""
+    flag = bench.folder / "flag"
+    lines = f'[ ! -e "{flag}" ] || [ "$4" != 6 ] || kill -9 $$\nexec "{bench.program}" "$@"\n'
+    program = bench.script("flagged", lines)
+    flag.touch()
+    first = bench.call("again", program=program, scens="scen-few")
+    flag.unlink()
+    failed = [row["status"] for row in bench.rows("again") if row["agents"] == "6"]
+    bench.noted()
+    second = bench.call("again", program=program, scens="scen-few")
+    faults = ["a run that failed is made without --again"] if bench.noted() else []
+    few = [row for row in wanted if row["scenario"].endswith("-1")]
+    third = bench.call("again", "--again", program=program, scens="scen-few")
+    made = {int(line.split()[-1]) for line in bench.noted()}
+    if (first.returncode, second.returncode, third.returncode) != (1, 1, 0) or set(failed) != {"killed"}:
+        faults.append(f"statuses {first.returncode}, {second.returncode}, {third.returncode}, {failed}")
+    if bench.table("again") != few or made != {6, 10} or "--again tries" not in first.stderr:
+        faults.append(f"the rows are {bench.table('again')}, runs of {made} agents were made, {first.stderr}")
+    return faults
+
+
 def map_missing(bench, wanted):
     """A row tells it, the others are run; when the map is there a call makes what is left."""
     grid, away = bench.folder / "maps" / "room-8-8.map", bench.folder / "away"
@@ -214,18 +249,29 @@ def refusals(bench):
     """Calls that can't be made: each ends with status 2, in a line that says what to mend."""
     (bench.folder / "none").mkdir()
     (bench.folder / "strange").mkdir()
+    (bench.folder / "odd" / "results.csv").mkdir(parents=True)
+    shutil.copytree(bench.folder / "whole", bench.folder / "untold")
+    settings = json.loads((bench.folder / "untold" / "settings.json").read_text())
+    del settings["program"]
+    (bench.folder / "untold" / "settings.json").write_text(json.dumps(settings) + "\n")
+    other = bench.script("other", f'exec "{bench.program}" "$@"\n')
     (bench.folder / "strange" / "results.csv").write_text("a,b\n1,2\n")
     calls = {
         "an empty folder": (bench.call("new", scens="none"), "none holds no .scen file"),
         "no folder": (bench.call("new", scens="nowhere"), "nowhere isn't a folder"),
         "another limit": (bench.call("whole", "--limit", "21"), "holds runs with limit 20"),
+        "another program": (bench.call("whole", program=other), "holds runs with program mapf "),
+        "runs of a program that isn't told": (bench.call("untold"), "holds runs with program (not told)"),
+        "a program that isn't mapf": (bench.call("new", program="/bin/true"), "true --version tells no version"),
+        "a file in place of OUT": (bench.call("strange/results.csv"), "File exists): give another folder"),
+        "a folder in place of the results": (bench.call("odd"), "results.csv: Is a directory"),
         "a strange table": (bench.call("strange"), "isn't a table of this tool"),
         "no rising numbers": (bench.call("new", "--agents", "4,2"), "rising list of numbers"),
         "a number of 201": (bench.call("new", "--agents", "2,201"), "rising list of numbers"),
         "no seconds": (bench.call("new", "--seconds", "0"), "number of seconds"),
     }
     for name, (ended, part) in calls.items():
-        is_told = ended.returncode == 2 and part in ended.stderr
+        is_told = ended.returncode == 2 and part in ended.stderr and "Errno" not in ended.stderr
         yield name, [] if is_told else [f"status {ended.returncode}, {ended.stderr}"]
     yield "two at a time", two_at_a_time(bench)
     told = subprocess.run([sys.executable, str(SWEEP), "--help"], capture_output=True, text=True)
