@@ -27,6 +27,7 @@ class Row:
     agents: str
     status: str
     cost: str = ""
+    makespan: str = ""
     splits: str = ""
     solve_seconds: str = ""
     check_seconds: str = ""

@@ -4,6 +4,7 @@ and with scripts in the program's place that are killed, hang, or write nonsense
 
 import json
 import os
+import re
 import shutil
 import signal
 import subprocess
@@ -32,6 +33,7 @@ def tests(tally):
         tally.add("more numbers of agents", more_numbers(bench, wanted))
         tally.add("each number of agents", each_number(bench))
         tally.add("runs that failed are tried again", tried_again(bench, wanted))
+        tally.add("the plots of runtimes and of runs solved", other_plots(bench, wanted))
         tally.add("a scenario whose map is missing", map_missing(bench, wanted))
         for name, faults in refusals(bench):
             tally.add(name, faults)
@@ -77,8 +79,10 @@ def whole(bench):
 
 
 def row_faults(row):
-    wanted = f"optimal {row['cost']}" if row["status"] == "solved" else "bound "
-    if not row["verdict"].startswith(wanted) or row["note"]:
+    is_solved = row["status"] == "solved"
+    wanted = f"optimal {row['cost']}" if is_solved else "bound "
+    is_long = is_solved and 0 < int(row["makespan"]) <= int(row["cost"]) <= int(row["agents"]) * int(row["makespan"])
+    if not row["verdict"].startswith(wanted) or row["note"] or not (is_long if is_solved else row["makespan"] == ""):
         return [f"{row['scenario']} with {row['agents']} agents: {row}"]
     is_measured = int(row["certificate_bytes"]) > 40 and all(float(row[name]) > 0 for name in ("solve_kb", "check_kb"))
     return [] if is_measured and 0 <= int(row["splits"]) <= 20 else [f"what was measured is {row}"]
@@ -226,6 +230,24 @@ def tried_again(bench, wanted):
         faults.append(f"statuses {first.returncode}, {second.returncode}, {third.returncode}, {failed}")
     if bench.table("again") != few or made != {6, 10} or "--again tries" not in first.stderr:
         faults.append(f"the rows are {bench.table('again')}, runs of {made} agents were made, {first.stderr}")
+    return faults
+
+
+def other_plots(bench, wanted):
+    """Of each map one plot has the numbers of agents with which runs were solved, and one the number of these runs."""
+    page = (bench.folder / "whole" / "report.html").read_text()
+    faults = []
+    for kind in ("runtime", "cactus"):
+        plots = re.findall(f'<figure class="{kind}">(.*?)</figure>', page, re.DOTALL)
+        names = [ElementTree.fromstring(plot).find("text").text for plot in plots]
+        faults += [] if names == sorted({row["map"] for row in wanted}) else [f"plots of {kind} are of {names}"]
+        for name, plot in zip(names, plots):
+            solved = [row for row in wanted if row["map"] == name and row["status"] == "solved"]
+            titles = [title.text for title in ElementTree.fromstring(plot).findall(".//title")]
+            agents = sorted({int(row["agents"]) for row in solved})
+            heads = [f"{number} agents: " for number in agents] if kind == "runtime" else [f"{len(solved)} runs solved"]
+            if len(titles) != len(heads) or not all(map(str.startswith, titles, heads)):
+                faults.append(f"the plot of {kind} of {name} tells {titles}, wanted {heads}")
     return faults
 
 
