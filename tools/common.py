@@ -74,10 +74,15 @@ def program():
     prove = TOP / "prove"
     if not os.access(prove, os.X_OK):
         return str(here)  # in an archive
-    built = subprocess.run([str(prove)], stdin=subprocess.DEVNULL, stdout=subprocess.PIPE, text=True)
-    if built.returncode != 0:
+    with subprocess.Popen([str(prove)], stdin=subprocess.DEVNULL, stdout=subprocess.PIPE, text=True) as process:
+        try:
+            built, _ = process.communicate()
+        except BaseException:
+            process.terminate()  # it ends what it started, and removes its files
+            raise
+    if process.returncode != 0:
         raise ToolError(f"{prove} couldn't build the program: see above, or set MAPF to a program that is built")
-    return built.stdout.strip()
+    return built.strip()
 
 
 def version_of(path):

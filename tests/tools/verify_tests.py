@@ -4,6 +4,7 @@ the formats, and checks by mapf alone what it leaves for others.
 
 import os
 import re
+import shutil
 import signal
 import subprocess
 import sys
@@ -231,6 +232,7 @@ def tests(tally):
         tally.add(f"verify, {title}", faults_behind(lines, asked))
     for number in (signal.SIGINT, signal.SIGTERM, signal.SIGHUP):
         tally.add(f"verify, ended by signal {number}", ended_by(number))
+    tally.add("verify, ended as the program is built", ended_as_built())
 
 
 def as_files_are():
@@ -526,21 +528,39 @@ def ended_by(number):
     """A signal ends the search that is at work, and leaves no file."""
     with tempfile.TemporaryDirectory() as name:
         folder = Path(name)
-        (folder / "tmp").mkdir()
-        for part, text in (("map", CROSSING_MAP), ("scen", CROSSING_SCEN), ("answer", PATHS["cheapest"])):
-            (folder / part).write_text(text)
-        program = script(folder, f'[ "$1" != solve ] || {{ echo $$ >"{folder}/own"; exec sleep 100; }}\n')
-        process = subprocess.Popen(
-            [sys.executable, str(VERIFY), "map", "scen", "2", "answer"], cwd=folder, stdin=subprocess.DEVNULL,
-            env={**os.environ, "TMPDIR": str(folder / "tmp"), "MAPF": str(program)}, stderr=subprocess.DEVNULL,
-            preexec_fn=lambda: signal.signal(number, signal.SIG_DFL))
-        faults = [] if awaited(lambda: content(folder / "own").endswith("\n")) else ["no search begins"]
-        process.send_signal(number)
-        status = process.wait(60)
-        faults += [] if status == 128 + number else [f"status {status}"]
-        if not awaited(lambda: not Path(f"/proc/{content(folder / 'own').strip() or 'none'}").exists()):
-            faults.append("the search goes on")
-        return faults + [f"{path.name} is left" for path in (folder / "tmp").iterdir()]
+        program = script(folder, f'[ "$1" != solve ] || {{ echo $$ >"{folder}/own"; exec sleep 1000; }}\n')
+        return faults_of_signal(folder, VERIFY, number, {"MAPF": str(program)})
+
+
+def ended_as_built():
+    """The same of a build, which ends what it started by itself when it is told to."""
+    with tempfile.TemporaryDirectory() as name:
+        folder = Path(name)
+        tree = folder / "tree"
+        shutil.copytree(VERIFY.parent, tree / "tools")
+        script(tree, "")
+        (tree / "prove").write_text(
+            f'#!/bin/bash\nsleep 1000 &\nown=$!\ntrap "kill $own; exit 130" TERM\necho $own >"{folder}/own"\nwait\n')
+        (tree / "prove").chmod(0o755)
+        return faults_of_signal(folder, tree / "tools" / "verify", signal.SIGHUP, {"MAPF": ""})
+
+
+def faults_of_signal(folder, verify, number, environment):
+    """Sends a signal to a call as soon as the file `own` tells the process that works for it."""
+    (folder / "tmp").mkdir()
+    for part, text in (("map", CROSSING_MAP), ("scen", CROSSING_SCEN), ("answer", PATHS["cheapest"])):
+        (folder / part).write_text(text)
+    process = subprocess.Popen(
+        [sys.executable, str(verify), "map", "scen", "2", "answer"], cwd=folder, stdin=subprocess.DEVNULL,
+        env={**os.environ, "TMPDIR": str(folder / "tmp"), **environment}, stderr=subprocess.DEVNULL,
+        preexec_fn=lambda: signal.signal(number, signal.SIG_DFL))
+    faults = [] if awaited(lambda: content(folder / "own").endswith("\n")) else ["nothing works for it"]
+    process.send_signal(number)
+    status = process.wait(60)
+    faults += [] if status == 128 + number else [f"status {status}"]
+    if not awaited(lambda: not Path(f"/proc/{content(folder / 'own').strip() or 'none'}").exists()):
+        faults.append("what works for it goes on")
+    return faults + [f"{path.name} is left" for path in (folder / "tmp").iterdir()]
 
 
 def content(path):
