@@ -50,6 +50,7 @@ def tests(tally):
         tally.add("draw, faults of a plan", listed_faults(folder))
         tally.add("draw, stands alone", alone_faults(folder))
         tally.add("draw, what other solvers write", other_answers(folder))
+        tally.add("draw, cells outside the map", outside_faults(folder))
         tally.add("draw, a large map", large_faults(folder))
         for title, faults in refusals(folder).items():
             tally.add(f"draw, {title}", faults)
@@ -174,6 +175,15 @@ def alone_faults(folder):
     if data_in(text)["map"] != grid.name or "<b>" in text.partition("<style>")[0]:
         faults.append("the name of the map isn't kept, or is read as HTML")
     return faults
+
+
+def outside_faults(folder):
+    """Cells left of the map and above it, which a plan text can't have, and jumps to and from them."""
+    paths = [[(-3, 1), (-2, 1), (0, -7), (-1, -7), (2, 1)], [(1, 0), (1, -1)]]
+    (folder / "outside").write_text(spelled(paths)["paths"])
+    ended = drawn([MAP, SCEN, 2, folder / "outside"], folder / "outside.html")
+    found = [cells_of(agent["path"]) for agent in data_in(ended.stdout.decode())["agents"]]
+    return [] if found == paths else [f"the paths are {found}"]
 
 
 def other_answers(folder):
@@ -488,6 +498,13 @@ def draws_paths_to_their_goals(browser, folder):
     return faults
 
 
+def reads_cells_outside(browser, folder):
+    """The page that `outside_faults` made."""
+    browser.open(f"file://{folder / 'outside.html'}")
+    found = browser.value("agents.map((agent) => [...agent.cells].join(' '))")
+    return [] if found == ["-3 1 -2 1 0 -7 -1 -7 2 1", "1 0 1 -1"] else [f"the cells are {found}"]
+
+
 def shows_many_legs(browser, folder):
     began = time.monotonic()
     opened(browser, folder, [[(tick % 2, 1) for tick in range(LEGS + 1)], [(1, 0)]], f"#tick={LEGS // 2}&agent=0")
@@ -534,6 +551,7 @@ IN_BROWSER = {
     "keeps current items in sight": keeps_current_items_in_sight,
     "has room in small windows": has_room_in_small_windows,
     "draws paths to their goals": draws_paths_to_their_goals,
+    "cells outside the map": reads_cells_outside,
     "a path of very many legs": shows_many_legs,
     "a large map of 200 agents": shows_large_maps,
 }
