@@ -299,7 +299,13 @@ def that_cannot_be_read():
          ["line 3:", "add up to 5"]),
     ]
     calls = [Asked(f"verify, {name}", answer, 2, "", told) for name, answer, told in asked]
-    calls += [
+    return calls + yaml_that_cannot_be_read() + words_that_are_wrong()
+
+
+def words_that_are_wrong():
+    """Words, maps, scenarios and programs with which no answer is judged."""
+    paths = PATHS["cheapest"]
+    return [
         Asked("verify, paths said to be lacam", paths, 2, "", ["'solution='"], ["--format", "lacam"]),
         Asked("verify, an unknown format", paths, 2, "", ["invalid choice: 'text'"], ["--format", "text"]),
         Asked("verify, no agents", paths, 2, "", ["number from 1 to 200"], agents="0"),
@@ -314,7 +320,6 @@ def that_cannot_be_read():
               environment={"MAPF": "/bin/true"}),
         Asked("verify, no seconds", paths, 2, "", ["number of seconds above 0"], ["--seconds", "0"]),
     ]
-    return calls + yaml_that_cannot_be_read()
 
 
 def yaml_that_cannot_be_read():
