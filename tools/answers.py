@@ -1,40 +1,94 @@
 """Plans as other solvers write them, each in the format in which it leaves them:
 
 paths   the path files of CBSH2-RTC, EECBS, PBS and MAPF-LNS: for each agent a line
-        `Agent 0: (row,column)->(row,column)->`, row before column, with or without the last arrow
+        `Agent 0: (row,column)->(row,column)->`, row before column, with or without the last arrow. A line above them,
+        as a count, is left out, and so are lines below them
 lacam   the logs of LaCAM and PIBT: lines `name=value`, among them `solution=`, and then for each tick a line
         `0:(x,y),(x,y),` with a cell for each agent; or these lines alone
-yaml    the schedules of libMultiRobotPlanning: `schedule:` with a list `agent0:` of `x`, `y`, `t` for each agent
+yaml    the schedules of libMultiRobotPlanning, which schedules.py reads
 plan    plan texts of mapf
 """
 
 import re
+from itertools import islice
 
-from common import Text, ToolError, cut_waits, read_bytes, read_plan
+from common import Cells, Text, ToolError, cut_waits, plan_text, read_bytes, read_plan, shortened
+from schedules import read_schedule
 
-CELL = re.compile(r"\((-?[0-9]{1,10}),(-?[0-9]{1,10})\)")
+FORMATS = "paths", "lacam", "yaml", "plan"
+
+CELL = r"\((-?[0-9]{1,10}),(-?[0-9]{1,10})\)"
+AGENT = re.compile(r"\s*Agent\s+([0-9]{1,10})\s*:(.*)")
 TICK_0 = r"\s*0\s*:\s*\("
 
+# How the first line of each format begins.
+BEGINNINGS = {"paths": AGENT.pattern, "lacam": rf"\w+=|{TICK_0}", "yaml": r"\w+:", "plan": "mapf-plan "}
 
-def read_answer(path, count, name=None):
+
+def add_options(parser):
+    """Lets a tool's words say how its answer is to be read."""
+    parser.add_argument("--format", choices=FORMATS, help="the answer's format, if the first line doesn't tell it")
+    parser.add_argument("--exchange-xy", action="store_true",
+                        help="exchange x and y of each cell, if the solver wrote them the other way round")
+
+
+def read_answer(path, count, name=None, is_exchanged=False):
     """The paths of so many agents in their order, without waits at their ends. Unless the format is named it is told
     by the first line.
     """
-    lines = read_bytes(path).decode("utf-8-sig", errors="replace").replace("\r\n", "\n").split("\n")
-    text = Text(str(path), [line.rstrip() for line in lines])
+    paths = paths_in(path, read_bytes(path), count, name)
+    return list(map(exchanged, paths)) if is_exchanged else paths
+
+
+def exchanged(path):
+    """The path with x and y of each cell exchanged."""
+    others = {(x, y): (y, x) for x, y in set(path)}
+    return [others[cell] for cell in path]
+
+
+def paths_in(path, data, count, name=None):
+    """The paths of so many agents in the bytes of a file."""
+    text = text_of(path, data)
     if not any(text.lines):
         raise ToolError(f"{path} is empty: let the solver write its answer there")
-    paths = READERS[name or format_of(text)](text)
+    name = name or format_of(text)
+    if name is None:
+        raise no_format(text)
+    paths = read_own(path, data) if name == "plan" else READERS[name](text)
     return [cut_waits(paths[agent]) for agent in numbered(text, paths, count)]
 
 
+def as_plan_text(path, data, count):
+    """An answer of another solver as a plan text of mapf. A plan text, and what has no format, stays as it is."""
+    is_foreign = format_of(text_of(path, data)) not in (None, "plan")
+    return plan_text(paths_in(path, data, count)).encode() if is_foreign else data
+
+
+def text_of(path, data):
+    lines = data.decode("utf-8-sig", errors="replace").replace("\r\n", "\n").split("\n")
+    return Text(str(path), [line.rstrip() for line in lines])
+
+
 def format_of(text):
-    number = next(number for number, line in enumerate(text.lines, 1) if line and not line.startswith(("#", "---")))
-    for name, begins in BEGINNINGS.items():
-        if re.match(begins, text.line(number)):
-            return name
-    raise text.fault(number, f"none of the formats {', '.join(READERS)} begins so: give the answer in one of them, as "
-                             "tools/verify --help shows them")
+    """The format, None where it is none of them. The second line tells of paths, and the first of all formats."""
+    lines = [text.line(number) for number in first_lines(text)]
+    if len(lines) == 2 and AGENT.match(lines[1]):
+        return "paths"
+    return next((name for name, begins in BEGINNINGS.items() if lines and re.match(begins, lines[0])), None)
+
+
+def first_lines(text):
+    """The numbers of the first two lines that are neither blank nor a remark nor a mark of YAML."""
+    lines = enumerate(text.lines, 1)
+    return list(islice((number for number, line in lines if line and not line.startswith(("#", "---"))), 2))
+
+
+def no_format(text):
+    numbers = first_lines(text)
+    if not numbers:
+        return ToolError(f"{text.path} holds remarks alone: let the solver write its answer there")
+    return text.fault(numbers[0], f"none of the formats {', '.join(FORMATS)} begins so: give the answer in one of "
+                                  "them, as tools/verify --help shows them")
 
 
 def numbered(text, paths, count):
@@ -51,28 +105,28 @@ def numbered(text, paths, count):
 
 
 def read_paths(text):
-    paths = {}
-    for number, line in enumerate(text.lines, 1):
-        if not line:
+    found = {number: AGENT.match(line) for number, line in enumerate(text.lines, 1) if line}
+    agents = [number for number, line in found.items() if line]
+    paths, cells = {}, Cells(CELL, is_row_first=True)
+    for number, line in found.items():
+        if agents and not agents[0] <= number <= agents[-1]:
             continue
-        found = re.fullmatch(r"\s*Agent\s+([0-9]{1,10})\s*:(.*)", line)
-        if not found:
+        if not line:
             raise text.fault(number, "'Agent N: (row,column)->(row,column)->' stands here")
-        if int(found[1]) in paths:
-            raise text.fault(number, f"agent {found[1]} has a line above: leave one of them")
-        cells = cells_of(text, number, found[2], "->")
-        paths[int(found[1])] = [(column, row) for row, column in cells]
+        if int(line[1]) in paths:
+            raise text.fault(number, f"agent {line[1]} has a line above: leave one of them")
+        paths[int(line[1])] = cells_of(text, number, cells, line[2], "->")
     return paths
 
 
-def cells_of(text, number, listed, between):
-    """The pairs of a line. What stands between them may also end it."""
-    words = re.sub(r"\s", "", listed).removesuffix(between).replace(f"){between}", ") ").split(" ")
-    for word in words:
-        if not CELL.fullmatch(word):
-            raise text.fault(number, f"cells (a,b) with '{between}' between them stand here, and {word!r} is none: "
-                                     "see whether the line is whole")
-    return [tuple(map(int, CELL.fullmatch(word).groups())) for word in words]
+def cells_of(text, number, cells, listed, between):
+    """The cells of a line. What stands between them may also end it."""
+    words = "".join(listed.split()).removesuffix(between).replace(f"){between}", ") ").split(" ")
+    found, wrong = cells.of(words)
+    if found is None:
+        raise text.fault(number, f"cells (a,b) with '{between}' between them stand here, and {shortened(wrong)} is "
+                                 "none: see whether the line is whole")
+    return found
 
 
 def read_lacam(text):
@@ -81,78 +135,35 @@ def read_lacam(text):
         raise ToolError(f"{text.path} has no line 'solution=': short logs leave it out, so let the solver write the "
                         "long one")
     begin = text.lines.index("solution=") + 1 if is_log else 0
-    ticks = []
+    ticks, cells = [], Cells(CELL)
     for number, line in enumerate(text.lines[begin:], begin + 1):
         if re.match(r"\w+=", line):
             break
         if line:
-            ticks.append(tick_of(text, number, line, ticks))
+            ticks.append(tick_of(text, number, cells, line, ticks))
     if not ticks:
-        told = " and says solved=0" if "solved=0" in text.lines else ""
-        raise ToolError(f"{text.path} has no line behind 'solution='{told}: the solver wrote no plan")
-    return {agent: [tick[agent] for tick in ticks] for agent in range(len(ticks[0]))}
+        why = " and says solved=0" if "solved=0" in text.lines else ""
+        raise ToolError(f"{text.path} has no line behind 'solution='{why}: the solver wrote no plan")
+    return dict(enumerate(map(list, zip(*ticks))))
 
 
-def tick_of(text, number, line, ticks):
+def tick_of(text, number, cells, line, ticks):
     """The cells of the next tick, of each agent one."""
     found = re.fullmatch(r"\s*([0-9]+)\s*:(.*)", line)
     if not found or found[1] != str(len(ticks)):
         raise text.fault(number, f"the cells of tick {len(ticks)} stand here, as '{len(ticks)}:(x,y),(x,y),'")
-    cells = cells_of(text, number, found[2], ",")
-    if ticks and len(cells) != len(ticks[0]):
-        raise text.fault(number, f"tick {len(ticks)} has {len(cells)} cells, and tick 0 has {len(ticks[0])}: see "
+    here = cells_of(text, number, cells, found[2], ",")
+    if ticks and len(here) != len(ticks[0]):
+        raise text.fault(number, f"tick {len(ticks)} has {len(here)} cells, and tick 0 has {len(ticks[0])}: see "
                                  "whether the line is whole")
-    return cells
+    return here
 
 
-def read_yaml(text):
-    schedule = loaded(text)
-    schedule = schedule.get("schedule") if isinstance(schedule, dict) else None
-    if not isinstance(schedule, dict):
-        raise ToolError(f"{text.path} has no agents under 'schedule:': the solver wrote no plan, or the file is cut")
-    paths = {}
-    for name, entries in schedule.items():
-        found = re.fullmatch("agent([0-9]{1,10})", str(name))
-        if not found or not isinstance(entries, list) or not entries:
-            raise ToolError(f"{text.path}, 'schedule:': '{name}' has to be 'agentN' with a list of x, y and t")
-        paths[int(found[1])] = [cell_of(text, name, tick, entry) for tick, entry in enumerate(entries)]
-    return paths
-
-
-def loaded(text):
-    try:
-        import yaml
-    except ImportError:
-        raise ToolError("the format yaml needs the package PyYAML: install it (Debian: python3-yaml), or give the "
-                        "answer in another format") from None
-    try:
-        return yaml.load("\n".join(text.lines), getattr(yaml, "CSafeLoader", yaml.SafeLoader))
-    except yaml.YAMLError as error:
-        mark = getattr(error, "problem_mark", None)
-        place = f", line {mark.line + 1}" if mark else ""
-        raise ToolError(f"{text.path}{place}: this is no YAML ({getattr(error, 'problem', None) or error}): see "
-                        "whether the file is whole") from None
-
-
-def cell_of(text, name, tick, entry):
-    values = [entry.get(key) if isinstance(entry, dict) else None for key in ("x", "y", "t")]
-    if not all(type(value) is int for value in values):
-        raise ToolError(f"{text.path}, '{name}:', entry {tick + 1}: x, y and t have to be whole numbers: see whether "
-                        "the file is whole")
-    if values[2] != tick:
-        raise ToolError(f"{text.path}, '{name}:', entry {tick + 1}: its t is {values[2]}, and {tick} is due: give an "
-                        "entry for each tick from 0 on")
-    return values[0], values[1]
-
-
-def read_own(text):
-    plan = read_plan(text.path)
+def read_own(path, data):
+    plan = read_plan(path, data)
     if plan.kind != "cost":
-        raise ToolError(f"{text.path} holds no plan: its answer is '{text.line(3)}'")
+        raise ToolError(f"{path} holds no plan: its answer is '{data.splitlines()[2].decode()}'")
     return dict(enumerate(plan.paths))
 
 
-READERS = {"paths": read_paths, "lacam": read_lacam, "yaml": read_yaml, "plan": read_own}
-
-# How the first line of each format begins.
-BEGINNINGS = {"paths": r"\s*Agent\s+[0-9]+\s*:", "lacam": rf"\w+=|{TICK_0}", "yaml": r"\w+:", "plan": "mapf-plan "}
+READERS = {"paths": read_paths, "lacam": read_lacam, "yaml": read_schedule}

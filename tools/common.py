@@ -2,11 +2,13 @@
 wrong with a plan, in words. A cell is (x, y), a path the list of an agent's cells, one for each tick from 0 on.
 """
 
+import argparse
 import os
 import re
 import subprocess
 import sys
 from dataclasses import dataclass, field
+from itertools import chain, repeat
 from pathlib import Path
 
 TOP = Path(__file__).resolve().parent.parent
@@ -18,6 +20,8 @@ GREATEST_COST = 9_999_999
 GREATEST_SUM = 1_999_999_800
 
 FREE, BLOCKED = ".GS", "@OTW"
+
+MOST_SECONDS_OF_VERSION = 60
 
 
 class ToolError(Exception):
@@ -42,9 +46,16 @@ def run_tool(main):
         status = 2
     except OSError as error:
         clear_progress()
-        print(f"{Path(sys.argv[0]).name}: {error}", file=sys.stderr)
+        print(f"{Path(sys.argv[0]).name}: {in_words(error)}", file=sys.stderr)
         status = 2
     sys.exit(status)
+
+
+def in_words(error):
+    """What the system said of a file, without the number of the error."""
+    name = error.filename2 or error.filename
+    said = error.strerror or str(error)
+    return said if name is None else f"{os.fsdecode(name)}: {said}"
 
 
 # The program.
@@ -63,10 +74,30 @@ def program():
     prove = TOP / "prove"
     if not os.access(prove, os.X_OK):
         return str(here)  # in an archive
-    built = subprocess.run([str(prove)], stdin=subprocess.DEVNULL, stdout=subprocess.PIPE, text=True)
-    if built.returncode != 0:
+    with subprocess.Popen([str(prove)], stdin=subprocess.DEVNULL, stdout=subprocess.PIPE, text=True) as process:
+        try:
+            built, _ = process.communicate()
+        except BaseException:
+            process.terminate()  # it ends what it started, and removes its files
+            raise
+    if process.returncode != 0:
         raise ToolError(f"{prove} couldn't build the program: see above, or set MAPF to a program that is built")
-    return built.stdout.strip()
+    return built.strip()
+
+
+def version_of(path):
+    """The version that the program tells, as '1.0.0'. What tells none isn't mapf."""
+    try:
+        told = subprocess.run([path, "--version"], stdin=subprocess.DEVNULL, capture_output=True, text=True,
+                              errors="replace", timeout=MOST_SECONDS_OF_VERSION)
+    except OSError as error:
+        raise ToolError(f"{path} can't be started ({error.strerror}): set MAPF to mapf, or unset it") from None
+    except subprocess.TimeoutExpired:
+        raise ToolError(f"{path} --version doesn't end, so this isn't mapf: set MAPF to mapf, or unset it") from None
+    words = told.stdout.split()
+    if told.returncode != 0 or len(words) < 2 or words[0] != "mapf":
+        raise ToolError(f"{path} --version tells no version, so this isn't mapf: set MAPF to mapf, or unset it")
+    return words[1]
 
 
 # A progress line.
@@ -110,9 +141,9 @@ def read_bytes(path):
         raise ToolError(f"{path} can't be read: {error.strerror}") from None
 
 
-def read_text(path):
-    """A file's lines. One CR before a line's end belongs to the end."""
-    lines = read_bytes(path).decode("latin-1").split("\n")
+def read_text(path, data=None):
+    """A file's lines. One CR before a line's end belongs to the end. Bytes that are given were read from it before."""
+    lines = (read_bytes(path) if data is None else data).decode("latin-1").split("\n")
     if lines[-1] == "":
         lines.pop()
     return Text(str(path), [line.removesuffix("\r") for line in lines])
@@ -124,7 +155,8 @@ def words_of(line):
 
 
 def is_digits(word):
-    return re.fullmatch("[0-9]+", word) is not None
+    """Whether it is a whole number, of no more digits than any number has that is meant."""
+    return re.fullmatch("[0-9]{1,20}", word) is not None
 
 
 def shortened(line):
@@ -133,6 +165,29 @@ def shortened(line):
 
 def shown(cell):
     return f"({cell[0]},{cell[1]})"
+
+
+class Cells(dict):
+    """The cells that words of this form spell. Each word is read once, and each cell is made once."""
+
+    def __init__(self, form, is_row_first=False):
+        super().__init__()
+        self.form = re.compile(form)
+        self.x, self.y = (2, 1) if is_row_first else (1, 2)
+
+    def __missing__(self, word):
+        found = self.form.fullmatch(word)
+        if found is None:
+            raise KeyError(word)
+        self[word] = cell = int(found[self.x]), int(found[self.y])
+        return cell
+
+    def of(self, words):
+        """The cells of these words, and the first word that spells none: one of the two is None."""
+        try:
+            return [self[word] for word in words], None
+        except KeyError as error:
+            return None, error.args[0]
 
 
 def number_between(least, most):
@@ -146,6 +201,17 @@ def number_between(least, most):
 
 
 agent_count = number_between(1, MOST_AGENTS)
+
+
+def seconds_of(word):
+    """For argparse: a number of seconds, which may have a fraction."""
+    try:
+        seconds = float(word)
+    except ValueError:
+        seconds = 0
+    if not 0 < seconds < 1e9:
+        raise argparse.ArgumentTypeError(f"{word} isn't a number of seconds above 0")
+    return seconds
 
 
 # Maps.
@@ -163,8 +229,8 @@ class Grid:
         return 0 <= x < self.width and 0 <= y < self.height and self.rows[y][x] in FREE
 
 
-def read_map(path):
-    text = read_text(path)
+def read_map(path, data=None):
+    text = read_text(path, data)
     if text.words(1) != ["type", "octile"]:
         raise text.fault(1, "a map begins with 'type octile'")
     height, width = side(text, 2, "height"), side(text, 3, "width")
@@ -197,21 +263,16 @@ class Agent:
     goal: tuple[int, int]
 
 
-def read_agents(path, grid, count):
+def read_agents(path, grid, count, data=None):
     """The first agents of a scenario, so many."""
-    agents = all_agents(path, grid, count)
-    if len(agents) < count:
-        raise ToolError(f"{path} has {len(agents)} agents, and {count} were asked for: ask for at most {len(agents)}")
-    return agents
-
-
-def all_agents(path, grid, most):
-    """The agents of a scenario, at most so many."""
-    text = read_text(path)
+    text = read_text(path, data)
     numbers = [number for number in range(1, len(text.lines) + 1) if text.words(number)]
     if not numbers or text.words(numbers[0]) not in (["version", "1"], ["version", "1.0"]):
         raise text.fault(numbers[0] if numbers else 1, "a scenario begins with 'version 1'")
-    return [agent_of(text, number, grid) for number in numbers[1:most + 1]]
+    agents = [agent_of(text, number, grid) for number in numbers[1:count + 1]]
+    if len(agents) < count:
+        raise ToolError(f"{path} has {len(agents)} agents, and {count} were asked for: ask for at most {len(agents)}")
+    return agents
 
 
 def agent_of(text, number, grid):
@@ -248,14 +309,14 @@ class Plan:
     bound: int | None = None
 
 
-NUMBER = "(0|[1-9][0-9]*)"
+NUMBER = "(0|[1-9][0-9]{0,19})"
 PAIR = f"{NUMBER},{NUMBER}"
 LIMITS = {1: "limit S", 2: "limit S bound B"}
 
 
-def read_plan(path):
-    """A plan text. Of its cells nothing is asked but their form."""
-    data = read_bytes(path)
+def read_plan(path, data=None):
+    """A plan text. Of its cells nothing is asked but their form. Bytes that are given were read from it before."""
+    data = read_bytes(path) if data is None else data
     text = Text(str(path), data.decode("latin-1").split("\n"))
     if text.lines[-1] == "":
         text.lines.pop()
@@ -297,18 +358,19 @@ def answer_of(text, version, agents):
     if not line.startswith("cost "):
         raise text.fault(3, f"'cost C', 'impossible' or '{LIMITS[version]}' stands here")
     cost = number_in(text, 3, "cost ", 0, GREATEST_SUM)
-    paths = [path_of(text, 4 + agent, agent) for agent in range(agents)]
+    cells = Cells(PAIR)
+    paths = [path_of(text, 4 + agent, agent, cells) for agent in range(agents)]
     if sum_of(paths) != cost:
         raise text.fault(3, f"the costs of the paths add up to {sum_of(paths)}")
     return Plan("cost", agents, cost, paths)
 
 
-def path_of(text, number, agent):
+def path_of(text, number, agent, cells):
     line = text.line(number) or ""
-    found = re.fullmatch(f"path {agent} {NUMBER}((?: {PAIR})+)", line)
-    if not found:
+    found = re.match(f"path {agent} {NUMBER} ", line)
+    path, _ = cells.of(line[found.end():].split(" ")) if found else (None, None)
+    if path is None:
         raise text.fault(number, f"'path {agent}', the path's cost and its cells x,y stand here, between single spaces")
-    path = [tuple(map(int, pair.split(","))) for pair in found[2].split(" ")[1:]]
     if len(path) != int(found[1]) + 1:
         raise text.fault(number, f"a path of cost {found[1]} has {int(found[1]) + 1} cells, and {len(path)} stand here")
     if len(path) > 1 and path[-1] == path[-2]:
@@ -320,7 +382,8 @@ def plan_text(paths):
     """The plan text of these paths, of which none ends with a wait."""
     lines = ["mapf-plan 2", f"agents {len(paths)}", f"cost {sum_of(paths)}"]
     for agent, path in enumerate(paths):
-        lines.append(" ".join([f"path {agent} {len(path) - 1}", *("%d,%d" % cell for cell in path)]))
+        spelled = {cell: "%d,%d" % cell for cell in set(path)}
+        lines.append(f"path {agent} {len(path) - 1} " + " ".join(map(spelled.__getitem__, path)))
     return "\n".join([*lines, "end", ""])
 
 
@@ -366,20 +429,35 @@ def faults_of(grid, agents, paths):
     found = []
     for agent, (task, path) in enumerate(zip(agents, paths)):
         found.extend(faults_of_path(grid, agent, task, path))
-    for tick in range(max(map(len, paths), default=0)):
-        found.extend(conflicts_at(paths, tick))
+    for tick, here, there in ticks_of(paths):
+        found.extend(conflicts_at(tick, here, there))
     return found
+
+
+def ticks_of(paths):
+    """Each tick, up to the last at which a path has a cell, with the agents' cells at it and at the next one."""
+    cells = zip(*(chain(path, repeat(path[-1])) for path in paths))
+    here = next(cells)
+    for tick in range(max(map(len, paths))):
+        there = next(cells)
+        yield tick, here, there
+        here = there
 
 
 def faults_of_path(grid, agent, task, path):
     if path[0] != task.start:
         yield Fault("start", (agent,), 0, (path[0], task.start),
                     f"agent {agent} begins in {shown(path[0])}, and its start is {shown(task.start)}")
-    for tick, (here, there) in enumerate(zip(path, path[1:])):
-        words = fault_of_step(grid, here, there)
-        if words:
-            yield Fault("step", (agent,), tick, (here, there),
-                        f"agent {agent} goes from {shown(here)} to {shown(there)} after tick {tick}, {words}")
+    good = set()
+    for tick, step in enumerate(zip(path, path[1:])):
+        if step in good:
+            continue
+        words = fault_of_step(grid, *step)
+        if not words:
+            good.add(step)
+            continue
+        yield Fault("step", (agent,), tick, step,
+                    f"agent {agent} goes from {shown(step[0])} to {shown(step[1])} after tick {tick}, {words}")
     if path[-1] != task.goal:
         yield Fault("end", (agent,), len(path) - 1, (path[-1], task.goal),
                     f"agent {agent} ends in {shown(path[-1])}, and its goal is {shown(task.goal)}")
@@ -396,14 +474,15 @@ def fault_of_step(grid, here, there):
     return ""
 
 
-def conflicts_at(paths, tick):
+def conflicts_at(tick, here, there):
     """The conflicts of the tick: two agents in one cell, then two that exchange their cells after it."""
-    here = [cell_at(path, tick) for path in paths]
-    there = [cell_at(path, tick + 1) for path in paths]
-    for one, other in pairs_of(here, here):
-        yield Fault("vertex", (one, other), tick, (here[one],),
-                    f"agents {one} and {other} are both in {shown(here[one])} at tick {tick}")
+    if len(set(here)) < len(here):
+        for one, other in pairs_of(here, here):
+            yield Fault("vertex", (one, other), tick, (here[one],),
+                        f"agents {one} and {other} are both in {shown(here[one])} at tick {tick}")
     moves, back = list(zip(here, there)), list(zip(there, here))
+    if {move for move in moves if move[0] != move[1]}.isdisjoint(back):
+        return
     for one, other in pairs_of(moves, back):
         if here[one] != there[one]:
             cells = f"{shown(here[one])} and {shown(there[one])}"

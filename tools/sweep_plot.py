@@ -1,6 +1,10 @@
-"""The plot of a map: success rate against the number of agents, as an SVG figure."""
+"""The plots of a map, as SVG figures: its success rate and its runtime against the number of agents, and how many runs
+are solved in which time.
+"""
 
+from dataclasses import dataclass
 from html import escape
+from math import ceil, floor, log10
 
 WIDTH, HEIGHT = 340, 250
 LEFT, RIGHT, TOP, BOTTOM = 46, 12, 28, 42
@@ -11,68 +15,145 @@ PAD = 7
 # The marks of the kinds of scenarios, in their order, around (0, 0).
 MARKS = ('<circle r="3.4"/>', '<rect x="-3.2" y="-3.2" width="6.4" height="6.4"/>', '<path d="M0-4.4 4 3.2H-4z"/>')
 
+# Processor time is measured in milliseconds, so that less than one counts as one.
+LEAST_SECONDS = 0.001
+
+
+# The plots.
 
 def plot(name, found):
-    """The figure of one map, from its points."""
+    """The success rate of one map, from its points."""
     most = max(one.agents for one in found)
-    kinds = list(dict.fromkeys(one.kind for one in found))
-    parts = [axes(most, tick_step(most))]
-    for number, kind in enumerate(kinds):
-        parts.append(curve([one for one in found if one.kind == kind], most, number))
-    if len(kinds) > 1:
-        parts.append(legend(kinds))
-    return (f'<figure><svg viewBox="0 0 {WIDTH} {HEIGHT}" role="img" aria-label="success rate on {escape(name)}">'
-            f'<text class="title" x="{(LEFT + WIDTH - RIGHT) / 2}" y="17">{escape(name)}</text>'
-            + "".join(parts) + "</svg></figure>\n")
+    kinds = kinds_of(found)
+    curves = "".join(curve([
+        (across(one.agents, most), up(one.rate()), "partly" if one.pending else "whole",
+         f"{one.agents} agents: {one.solved} of {one.tried} solved")
+        for one in found if one.kind == kind], number) for number, kind in enumerate(kinds))
+    rates = {fifth / 5: f"{fifth / 5:.1f}" for fifth in range(6)}
+    return figure(name, "success rate", frame(most, "number of agents", rates, "success rate") + curves
+                  + legend(kinds, HEIGHT - BOTTOM - PAD - 8 - 16 * (len(kinds) - 1)))
 
+
+def runtime(name, found, words):
+    """The median of the seconds in which a map is solved, from its points. `words` spells seconds."""
+    there = [one for one in found if one.solve is not None]
+    if not there:
+        return ""
+    most, scale, kinds = max(one.agents for one in found), Decades.of([one.solve for one in there]), kinds_of(found)
+    curves = "".join(curve([
+        (across(one.agents, most), up(scale.part(one.solve)), "whole",
+         f"{one.agents} agents: {words(one.solve)}, median of {one.solved}")
+        for one in there if one.kind == kind], number) for number, kind in enumerate(kinds))
+    return figure(name, "runtime", frame(most, "number of agents", scale.ticks(), "seconds of solve") + curves
+                  + legend(kinds, TOP + 14), "runtime")
+
+
+def cactus(name, times, words):
+    """How many runs of a map are solved in which time: of each kind the seconds of the solved runs."""
+    there = {kind: sorted(seconds) for kind, seconds in times.items() if seconds}
+    if not there:
+        return ""
+    most = max(map(len, there.values()))
+    scale = Decades.of([second for seconds in there.values() for second in seconds])
+    curves = ""
+    for number, seconds in enumerate(there.values()):
+        places = [(across(at, most), up(scale.part(second))) for at, second in enumerate(seconds, 1)]
+        last = (*places[-1], "whole", f"{len(seconds)} runs solved, each in at most {words(seconds[-1])}")
+        curves += group(number, line(places) + mark(last, number))
+    return figure(name, "runs solved", frame(most, "runs solved", scale.ticks(), "seconds of solve") + curves
+                  + legend(list(there), TOP + 14), "cactus")
+
+
+def kinds_of(found):
+    return list(dict.fromkeys(one.kind for one in found))
+
+
+# Scales.
 
 def tick_step(most):
     """The least step of 1, 2 or 5 times a power of ten with which at most seven ticks are needed."""
     return next(step for power in range(9) for step in (10**power, 2 * 10**power, 5 * 10**power) if most < 7 * step)
 
 
-def across(agents, most):
-    return round(LEFT + PAD + (WIDTH - LEFT - RIGHT - 2 * PAD) * agents / most, 1)
+def across(count, most):
+    return round(LEFT + PAD + (WIDTH - LEFT - RIGHT - 2 * PAD) * count / most, 1)
 
 
-def up(rate):
-    return round(HEIGHT - BOTTOM - PAD - (HEIGHT - TOP - BOTTOM - 2 * PAD) * rate, 1)
+def up(part):
+    return round(HEIGHT - BOTTOM - PAD - (HEIGHT - TOP - BOTTOM - 2 * PAD) * part, 1)
 
 
-def axes(most, step):
+@dataclass(frozen=True)
+class Decades:
+    """A logarithmic scale of seconds, from one power of ten to another."""
+
+    low: int
+    high: int
+
+    @classmethod
+    def of(cls, values):
+        low = floor(log10(max(min(values), LEAST_SECONDS)))
+        return cls(low, max(ceil(log10(max(*values, LEAST_SECONDS))), low + 1))
+
+    def part(self, seconds):
+        return (log10(max(seconds, LEAST_SECONDS)) - self.low) / (self.high - self.low)
+
+    def ticks(self):
+        return {self.part(10.0 ** power): f"{10.0 ** power:g}" for power in range(self.low, self.high + 1)}
+
+
+# Their parts.
+
+def figure(name, what, parts, kind=""):
+    kind = kind and f' class="{kind}"'
+    return (f'<figure{kind}><svg viewBox="0 0 {WIDTH} {HEIGHT}" role="img" aria-label="{what} on {escape(name)}">'
+            f'<text class="title" x="{(LEFT + WIDTH - RIGHT) / 2}" y="17">{escape(name)}</text>'
+            f"{parts}</svg></figure>\n")
+
+
+def frame(most, x_name, y_ticks, y_name):
+    """The rules with their numbers, and the names of both axes. The ticks are the parts of the height with a word."""
     left, right, low, high = LEFT, WIDTH - RIGHT, HEIGHT - BOTTOM, TOP
     parts = []
-    for fifth in range(6):
-        y = up(fifth / 5)
+    for part, word in y_ticks.items():
+        y = up(part)
         parts.append(f'<path class="rule" d="M{left} {y}H{right}"/>'
-                     f'<text class="tick y" x="{left - 6}" y="{y + 4}">{fifth / 5:.1f}</text>')
-    for agents in range(0, most + 1, step):
-        x = across(agents, most)
+                     f'<text class="tick y" x="{left - 6}" y="{y + 4}">{word}</text>')
+    for count in range(0, most + 1, tick_step(most)):
+        x = across(count, most)
         parts.append(f'<path class="rule" d="M{x} {low}V{high}"/>'
-                     f'<text class="tick" x="{x}" y="{low + 15}">{agents}</text>')
+                     f'<text class="tick" x="{x}" y="{low + 15}">{count}</text>')
     middle = (low + high) / 2
     return ("".join(parts) + f'<path class="frame" d="M{left} {low}H{right}V{high}H{left}z"/>'
-            f'<text class="axis" x="{(left + right) / 2}" y="{HEIGHT - 7}">number of agents</text>'
-            f'<text class="axis" x="12" y="{middle}" transform="rotate(-90 12 {middle})">success rate</text>')
+            f'<text class="axis" x="{(left + right) / 2}" y="{HEIGHT - 7}">{x_name}</text>'
+            f'<text class="axis" x="12" y="{middle}" transform="rotate(-90 12 {middle})">{y_name}</text>')
 
 
-def curve(found, most, number):
-    """A line through the points of one kind, with a mark at each that says its counts when it is pointed at."""
-    places = [(across(one.agents, most), up(one.rate())) for one in found]
-    line = " ".join(f"{x},{y}" for x, y in places)
-    marks = "".join(
-        f'<g class="{"partly" if one.pending else "whole"}" transform="translate({x} {y})">'
-        f"{MARKS[number % len(MARKS)]}<title>{one.agents} agents: {one.solved} of {one.tried} solved</title></g>"
-        for one, (x, y) in zip(found, places))
-    return f'<g class="kind{number % len(MARKS)}"><polyline points="{line}"/>{marks}</g>'
+def curve(marks, number):
+    """A line through the marks of one kind. Each is x, y, its class, and what it says when it is pointed at."""
+    return group(number, line([one[:2] for one in marks]) + "".join(mark(one, number) for one in marks))
 
 
-def legend(kinds):
-    """The names of the kinds at the bottom left, where curves seldom are."""
+def group(number, parts):
+    return f'<g class="kind{number % len(MARKS)}">{parts}</g>'
+
+
+def line(places):
+    return f'<polyline points="{" ".join(f"{x},{y}" for x, y in places)}"/>'
+
+
+def mark(one, number):
+    x, y, kind, title = one
+    return (f'<g class="{kind}" transform="translate({x} {y})">{MARKS[number % len(MARKS)]}'
+            f"<title>{title}</title></g>")
+
+
+def legend(kinds, top):
+    """The names of the kinds, if there are several, at the left, where curves seldom are."""
     parts = []
-    for number, kind in enumerate(kinds):
-        y = up(0) - 8 - 16 * (len(kinds) - 1 - number)
-        parts.append(f'<g class="kind{number % len(MARKS)}"><polyline points="{LEFT + 8},{y} {LEFT + 32},{y}"/>'
-                     f'<g class="whole" transform="translate({LEFT + 20} {y})">{MARKS[number % len(MARKS)]}</g></g>'
-                     f'<text class="key" x="{LEFT + 38}" y="{y + 4}">{escape(kind or "other")}</text>')
+    for number, kind in enumerate(kinds if len(kinds) > 1 else []):
+        y = top + 16 * number
+        sign = f'<g class="whole" transform="translate({LEFT + 20} {y})">{MARKS[number % len(MARKS)]}</g>'
+        parts.append(group(number, line([(LEFT + 8, y), (LEFT + 32, y)]) + sign)
+                     + f'<text class="key" x="{LEFT + 38}" y="{y + 4}">{escape(kind or "other")}</text>')
     return "".join(parts)

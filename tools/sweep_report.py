@@ -7,7 +7,7 @@ from html import escape
 from pathlib import Path
 from statistics import median
 
-from sweep_plot import plot
+from sweep_plot import cactus, plot, runtime
 from sweep_rows import NO_AGENTS, NO_MAP, SOLVED, USUAL, natural
 
 STYLE = Path(__file__).resolve().with_name("sweep_report.css")
@@ -26,6 +26,7 @@ class Point:
     tried: int
     solved: int
     pending: int
+    makespan: float | None
     solve: float | None
     check: float | None
     splits: float | None
@@ -62,7 +63,7 @@ def point(name, kind, agents, rows, scenarios):
     here = [row for row in rows if int(row.agents) == agents]
     solved = [row for row in here if row.status == SOLVED]
     tried = ended | {row.scenario for row in here}
-    return Point(name, kind, agents, len(tried), len(solved), len(set(scenarios) - tried),
+    return Point(name, kind, agents, len(tried), len(solved), len(set(scenarios) - tried), middle(solved, "makespan"),
                  middle(solved, "solve_seconds"), middle(solved, "check_seconds"), middle(solved, "splits"),
                  middle(solved, "certificate_bytes"),
                  max((int(kb) for row in here for kb in (row.solve_kb, row.check_kb) if kb), default=0))
@@ -96,13 +97,13 @@ def size(value):
     return f"{value:.0f} {unit}" if value >= 9.95 or unit == "B" else f"{value:.1f} {unit}"
 
 
-HEAD = ("agents", "solved", "rate", "solve", "check", "splits", "certificate", "memory")
+HEAD = ("agents", "solved", "rate", "makespan", "solve", "check", "splits", "certificate", "memory")
 
 
 def cells(one):
     solved = f"{one.solved} of {one.tried}" + (f", {one.pending} to go" if one.pending else "")
-    return (str(one.agents), solved, f"{one.rate():.2f}", seconds(one.solve), seconds(one.check), count(one.splits),
-            size(one.certificate), size(one.memory * 1024) if one.memory else "")
+    return (str(one.agents), solved, f"{one.rate():.2f}", count(one.makespan), seconds(one.solve), seconds(one.check),
+            count(one.splits), size(one.certificate), size(one.memory * 1024) if one.memory else "")
 
 
 def table(found):
@@ -124,6 +125,8 @@ def page(found, rows, limit, most_seconds):
     maps = list(dict.fromkeys(one.map for one in found))
     of_map = {name: [one for one in found if one.map == name] for name in maps}
     plots = "".join(plot(name, of_map[name]) for name in maps)
+    times = "".join(runtime(name, of_map[name], seconds) for name in maps)
+    counts = "".join(cactus(name, times_of(rows, name), seconds) for name in maps)
     tables = "".join(table_of(name, of_map[name], len(found) <= MANY) for name in maps)
     partly = " A hollow mark: not every scenario has come that far yet." if any(one.pending for one in found) else ""
     return f"""<!doctype html>
@@ -141,11 +144,28 @@ certificate that no valid plan is cheaper. After the first number of agents with
 tried again, and counts as not solved.{partly}</p>
 <main>{plots}</main>
 <p>{escape(ends(rows))}</p>
+<h2>Runtime</h2>
+<p>The processor time of <code>mapf solve</code>, against the number of agents: medians over the scenarios that were
+solved.</p>
+<div class="plots">{times}</div>
+<h2>Runs solved</h2>
+<p>How many runs, each a scenario with a number of agents, <code>mapf solve</code> solved in at most so much processor
+time: a cactus plot.</p>
+<div class="plots">{counts}</div>
 <h2>Each number of agents</h2>
-<p>Seconds are processor time. Seconds, splits and sizes of certificates are medians over the scenarios that were
-solved; memory is the most that solve or check held in any run (8 MB is that of the process that started them).</p>
+<p>Seconds are processor time. Makespans, seconds, splits and sizes of certificates are medians over the scenarios that
+were solved; memory is the most that solve or check held in any run (8 MB is that of the process that started them).</p>
 {tables}{troubles([row for row in rows if row.status not in USUAL])}</html>
 """
+
+
+def times_of(rows, name):
+    """The seconds of the solved runs of a map, of each kind of scenarios."""
+    found = {}
+    for row in rows:
+        if row.map == name and row.status == SOLVED:
+            found.setdefault(kind_of(row.scenario), []).append(float(row.solve_seconds))
+    return dict(sorted(found.items()))
 
 
 def ends(rows):

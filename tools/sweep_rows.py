@@ -27,6 +27,7 @@ class Row:
     agents: str
     status: str
     cost: str = ""
+    makespan: str = ""
     splits: str = ""
     solve_seconds: str = ""
     check_seconds: str = ""
@@ -77,6 +78,11 @@ class Results:
             if row.status not in (NO_MAP, NO_AGENTS):
                 self.rows[row.key()] = row
         return whole
+
+    def forget(self, keys):
+        """Takes these rows for runs that weren't made. In the file they stand until others are in their place."""
+        for key in keys:
+            del self.rows[key]
 
     def add(self, row):
         self.rows[row.key()] = row

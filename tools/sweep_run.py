@@ -43,6 +43,8 @@ def main():
     signal.pthread_sigmask(signal.SIG_BLOCK, {signal.SIGCHLD})
     try:
         print(json.dumps(outcome(program, problem, limit, float(seconds))), flush=True)
+    except OSError as error:
+        sys.exit(f"{error.filename}: {error.strerror}")
     finally:
         remove(own)
 
@@ -71,7 +73,8 @@ def outcome(program, problem, limit, seconds):
     row.update(status=status, cost=told.get("cost"), certificate_bytes=size("cert"), splits=told.get("splits"))
     if row["splits"] in (None, "ticks"):
         row["splits"] = count_splits("cert")
-    return {**row, **checked(program, problem, seconds, wanted.format(**told))}
+    row.update(checked(program, problem, seconds, wanted.format(**told)))
+    return {**row, "makespan": makespan("plan") if status == "solved" else None}
 
 
 def checked(program, problem, seconds, wanted):
@@ -165,6 +168,18 @@ def count_splits(path):
             found += count_in(lines)
             rest = end + rest
     return found + count_in(rest)
+
+
+def makespan(path):
+    """The last tick at which an agent of a plan arrives, none of what isn't a plan. Of a line only the beginning is
+    read, since a path may be long.
+    """
+    if size(path) is None:
+        return None
+    with open(path, "rb") as file:
+        lines = iter(lambda: file.readline(READ), b"")
+        costs = [re.match(rb"path [0-9]+ ([0-9]+) ", line) for line in lines]
+    return max((int(cost[1]) for cost in costs if cost), default=None)
 
 
 def count_in(lines):

@@ -17,6 +17,9 @@ TOP = TESTS.parent
 # What is on the path where the archive is tried, beside Python.
 COMMANDS = "env", "ls", "cat", "sha256sum"
 
+# The tools of which the help has an example that can be tried.
+HELPFUL = "tools/verify", "tools/draw", "tools/recheck", "tools/sweep"
+
 GRID, SCEN = "examples/random-32-32.map", "examples/random-32-32.scen"
 
 
@@ -36,6 +39,8 @@ def tests(tally):
         place = unpacked(archive, folder / "there")
         tally.add("dist, checksums", sum_faults(place))
         tally.add("dist, files of the README's commands", missing_files(place))
+        for name in HELPFUL:
+            tally.add(f"dist, files that {name} --help names", missing_in_help(place, name))
         path = commands(folder / "bin")
         for title, (words, status, said) in runs(place).items():
             tally.add(f"dist, unpacked, {title}", run_faults(place, path, words, status, said))
@@ -47,9 +52,19 @@ def made(folder):
     ended = subprocess.run([sys.executable, str(TOP / "dist"), str(folder)], stdin=subprocess.DEVNULL,
                            capture_output=True, text=True)
     archive = Path(ended.stdout.strip())
+    if ended.returncode == 0 and (faults := checksum_faults(archive, ended.stderr)):
+        return archive, faults
     named = re.fullmatch(r"mapf-[0-9]+\.[0-9]+\.[0-9]+\.tar\.gz", archive.name)
     is_there = ended.returncode == 0 and named and list(folder.iterdir()) == [archive]
     return archive, [] if is_there else [f"status {ended.returncode}, {ended.stdout!r}, {ended.stderr!r}"]
+
+
+def checksum_faults(archive, said):
+    """The last line on standard error is what sha256sum reads as the checksum of the archive."""
+    line = said.splitlines()[-1] if said else ""
+    ended = subprocess.run(["sha256sum", "-c", "--strict"], cwd=archive.parent, input=line, capture_output=True,
+                           text=True)
+    return [] if ended.returncode == 0 else [f"{line!r}: {ended.stdout}{ended.stderr}"]
 
 
 def entry_faults(archive):
@@ -93,6 +108,14 @@ def missing_files(place):
     named = {word for command in commands for word in command.split() if word.startswith(("examples/", "tests/"))}
     lost = [f"{name} isn't there" for name in sorted(named) if not (place / name).exists()]
     return lost if named else ["no command of the documents names a file"]
+
+
+def missing_in_help(place, name):
+    """What an example in a tool's help reads, and what isn't in the archive."""
+    told = subprocess.run([sys.executable, str(place / name), "--help"], capture_output=True, text=True).stdout
+    named = re.findall(r"(?:examples|tests)/[\w./{},-]*[\w}]", told)
+    words = subprocess.run(["bash", "-c", f"echo {' '.join(named)}"], capture_output=True, text=True).stdout.split()
+    return [f"{word} isn't there" for word in words if not (place / word).exists()] or ([] if told else ["no help"])
 
 
 def commands(folder):

@@ -6,8 +6,10 @@ import re
 import subprocess
 import sys
 import tempfile
+import time
 from pathlib import Path
 
+from answers_tests import spelled
 from browser import Browser, installed
 from harness import TESTS
 
@@ -23,6 +25,19 @@ VALID = [[(0, 1), (0, 1), (1, 1), (2, 1)], [(1, 0), (1, 1), (1, 2)]]
 MEET = [[(0, 1), (1, 1), (2, 1)], [(1, 0), (1, 1), (1, 2)]]
 BAD = [[(0, 1), (1, 1), (1, 0), (2, 2)], [(1, 0), (1, 0), (1, 1), (1, 2)]]
 
+# Two agents go one way and meet at four ticks; at the third they are off the map. Several faults are at one tick.
+FAULTY = [[(0, 1), (1, 1), (1, 2), (1, 3), (1, 2), (1, 1), (2, 1)], [(1, 0), (1, 1), (1, 2), (1, 3), (1, 2)]]
+FAULTS_BY_TICK = [(1, "vertex"), (2, "step"), (2, "step"), (2, "vertex"), (3, "vertex"), (4, "vertex")]
+
+# Where the faults of FAULTY are off the map, by their place in that list.
+OFF_THE_MAP = 4
+
+# So many legs has a path that goes to and fro.
+LEGS = 600_000
+
+# Windows in which there is little room.
+SMALL = [(1100, 300), (820, 260), (700, 300), (568, 320), (320, 568), (640, 480), (360, 640)]
+
 # A large map, and its agents: agent i goes so many cells to the right in row 2i + 1.
 SIDE, AGENTS, STEPS = 512, 200, 100
 
@@ -34,6 +49,8 @@ def tests(tally):
         tally.add("draw, data", data_faults(folder))
         tally.add("draw, faults of a plan", listed_faults(folder))
         tally.add("draw, stands alone", alone_faults(folder))
+        tally.add("draw, what other solvers write", other_answers(folder))
+        tally.add("draw, cells outside the map", outside_faults(folder))
         tally.add("draw, a large map", large_faults(folder))
         for title, faults in refusals(folder).items():
             tally.add(f"draw, {title}", faults)
@@ -80,9 +97,9 @@ def data_in(text):
 def cells_of(moves):
     """The path that moves spell, told here once more."""
     steps = {"r": (1, 0), "l": (-1, 0), "d": (0, 1), "u": (0, -1), "w": (0, 0)}
-    x, y, rest = re.fullmatch(r"(\d+),(\d+)(.*)", moves).groups()
+    x, y, rest = re.fullmatch(r"(-?\d+),(-?\d+)(.*)", moves).groups()
     path = [(int(x), int(y))]
-    for letter, count, to_x, to_y in re.findall(r"([rlduw])(\d*)|@(\d+),(\d+)", rest):
+    for letter, count, to_x, to_y in re.findall(r"([rlduw])(\d*)|@(-?\d+),(-?\d+)", rest):
         for _ in range(int(count or 1)):
             dx, dy = steps.get(letter, (0, 0))
             path.append((path[-1][0] + dx, path[-1][1] + dy) if letter else (int(to_x), int(to_y)))
@@ -136,7 +153,7 @@ def listed_faults(folder):
     wanted = {
         "VALID": (VALID, []),
         "MEET": (MEET, [("vertex", [0, 1], 1)]),
-        "BAD": (BAD, [("step", [0], 2), ("end", [0], 3), ("swap", [0, 1], 1)]),
+        "BAD": (BAD, [("swap", [0, 1], 1), ("step", [0], 2), ("end", [0], 3)]),
     }
     faults = []
     for name, (paths, those) in wanted.items():
@@ -160,6 +177,31 @@ def alone_faults(folder):
     return faults
 
 
+def outside_faults(folder):
+    """Cells left of the map and above it, which a plan text can't have, and jumps to and from them."""
+    paths = [[(-3, 1), (-2, 1), (0, -7), (-1, -7), (2, 1)], [(1, 0), (1, -1)]]
+    (folder / "outside").write_text(spelled(paths)["paths"])
+    ended = drawn([MAP, SCEN, 2, folder / "outside"], folder / "outside.html")
+    found = [cells_of(agent["path"]) for agent in data_in(ended.stdout.decode())["agents"]]
+    return [] if found == paths else [f"the paths are {found}"]
+
+
+def other_answers(folder):
+    """One plan in each format, and with x and y exchanged, gives one page, but for the name of the file."""
+    words = {
+        "plan": (spelled(VALID)["plan"], []),
+        "paths": (spelled(VALID)["paths"], []),
+        "lacam": (spelled(VALID)["lacam"], ["--format", "lacam"]),
+        "yaml": (spelled(VALID)["yaml"], []),
+        "exchanged": (spelled([[(y, x) for x, y in path] for path in VALID])["paths"], ["--exchange-xy"]),
+    }
+    pages = {}
+    for name, (text, more) in words.items():
+        (folder / "answer").write_text(text)
+        pages[name] = drawn([MAP, SCEN, 2, folder / "answer", *more]).stdout
+    return [f"{name} gives another page" for name in words if pages[name] != pages["plan"] or not pages[name]]
+
+
 def large_faults(folder):
     grid, scenario, paths = large_problem(folder)
     _, text = page(folder, paths, grid, scenario, "large")
@@ -172,10 +214,10 @@ def refusals(folder):
     plan.write_text(plan_text(VALID))
     none.write_text("mapf-plan 2\nagents 2\nimpossible\nend\n")
     runs = {
-        "a plan of other agents": ([MAP, SCEN, 1, plan], "give the K"),
-        "no plan": ([MAP, SCEN, 2, none], "has no paths"),
+        "a plan of other agents": ([MAP, SCEN, 1, plan], "give 2 as K"),
+        "no plan": ([MAP, SCEN, 2, none], "holds no plan: its answer is 'impossible'"),
         "no map": ([folder / "not-there", SCEN, 2, plan], "can't be read"),
-        "another text": ([MAP, SCEN, 2, SCEN], "mapf-plan"),
+        "another text": ([MAP, SCEN, 2, SCEN], "none of the formats"),
         "no number": ([MAP, SCEN, "two", plan], "number from 1 to 200"),
     }
     found = {}
@@ -324,11 +366,17 @@ def hides_paths_and_goals(browser, folder):
             picture = browser.picture()
             x, y = point_of(browser, cell, dx)
             found = {picture.at(x + at, y + by) for at in range(-2, 3) for by in range(-30, 31)}
-            if (len(found - set(browser.value("[colour.free, colour.grid]"))) > 0) != is_shown:
+            if any(map(is_coloured, found)) != is_shown:
                 faults.append(f"{what} aren't {'shown' if is_shown else 'hidden'}: {found}")
             if is_shown:
                 browser.click_on(f"#{what}")
     return faults
+
+
+def is_coloured(colour):
+    """Whether it is none of the greys of a map."""
+    parts = [int(colour[at:at + 2], 16) for at in (1, 3, 5)]
+    return max(parts) - min(parts) > 30
 
 
 def marks_conflicts(browser, folder):
@@ -344,6 +392,134 @@ def marks_conflicts(browser, folder):
     if bad not in {picture.at(x + at, y + by) for at in range(-3, 4) for by in (-8, 0, 8)}:
         faults.append(f"no {bad} marks the conflict")
     return faults + ([] if browser.value("element('marks').childElementCount") == 1 else ["the slider has no mark"])
+
+
+def leads_to_every_fault(browser, folder):
+    """The key F steps through all faults by their ticks, and begins anew behind the last."""
+    browser.resize(1000, 480)
+    data = opened(browser, folder, FAULTY)
+    listed = [fault["words"] for fault in data["faults"]]
+    faults = []
+    if [(fault["tick"], fault["kind"]) for fault in data["faults"]] != FAULTS_BY_TICK:
+        faults.append(f"the faults are {listed}")
+    browser.value("document.activeElement.blur()")
+    for number in [*range(len(listed)), 0]:
+        browser.press("f")
+        told = browser.value("[element('said').textContent, shows.time, view.fitted]")
+        wanted = [listed[number], FAULTS_BY_TICK[number][0], number != OFF_THE_MAP]
+        faults += [] if told == wanted else [f"F leads to {told}, wanted {wanted}"]
+        asked = browser.value("[...document.querySelectorAll('.asked')].map(item => item.innerText)")
+        faults += [] if asked == [listed[number]] else [f"{asked} stand out, wanted {listed[number]}"]
+    browser.value("setTime(4)")
+    browser.press("f")
+    told = browser.value("element('said').textContent")
+    browser.resize(640, 480)
+    return faults + ([] if told == listed[5] else [f"from tick 4 on F leads to {told}"])
+
+
+def moves_to_faults_off_the_map(browser, folder):
+    """The map moves so that such a fault is seen, and goes back for the next one, unless somebody moved it since."""
+    opened(browser, folder, FAULTY)
+    middle = f"middleOf(faults[{OFF_THE_MAP}])"
+    faults = []
+    for act, is_back in (("pick(null)", True), ("moveBy(5, 5); pick(null)", False), ("fit(); pick(null)", True)):
+        browser.value(f"fit(); showFault(faults[{OFF_THE_MAP}])")
+        x, y = (browser.value(f"view.{side} + ({middle}[{part}] + 0.5) * view.scale")
+                for part, side in enumerate(("left", "top")))
+        if not 0 < x < browser.value("view.width") or not 0 < y < browser.value("view.height"):
+            faults.append(f"the fault is at {x}, {y}")
+        browser.value(act)
+        faults += [] if browser.value("view.fitted") == is_back else [f"after {act} the map isn't where it should be"]
+    return faults
+
+
+def marks_faults_of_the_tick_alone(browser, folder):
+    opened(browser, folder, FAULTY)
+    bad = browser.value("colour.bad")
+    faults = []
+    for tick, is_marked in ((0, False), (1, True), (5, False)):
+        browser.value(f"setTime({tick})")
+        picture = browser.picture()
+        left, top, right, bottom = browser.value(
+            "(box => [box.left, box.top, box.right, box.bottom])(canvas.getBoundingClientRect())")
+        seen = {picture.at(x, y) for x in range(int(left), int(right), 2) for y in range(int(top), int(bottom), 2)}
+        faults += [] if (bad in seen) == is_marked else [f"at tick {tick} a fault is {'not ' * is_marked}marked"]
+    return faults
+
+
+def keeps_current_items_in_sight(browser, folder):
+    """Of the list of a path, and of that of the faults."""
+    path = [(0, 1), *[(0, 0), (1, 0), (1, 1), (0, 1)] * 60]
+    opened(browser, folder, [path, [(1, 0)]])
+    browser.value("pick(agents[0])")
+    faults = []
+    for tick in (0, 239, 100, 237, 3):
+        browser.value(f"setTime({tick})")
+        for name in ("legs", "fault-list"):
+            seen = browser.value(
+                f"(list => [...list.querySelectorAll('[aria-current]')].map(item => [item.getBoundingClientRect(),"
+                f" list.getBoundingClientRect()]).map(([its, box]) => its.top >= box.top - 1"
+                f" && its.bottom <= box.bottom + 1))(element('{name}'))")
+            if name == "legs" and seen != [True] or seen and True not in seen:
+                faults.append(f"at tick {tick} the current items of {name} are in sight: {seen}")
+    return faults
+
+
+def has_room_in_small_windows(browser, folder):
+    """The controls stand beside the map, and beside the panel a page has no scrollbar of its own."""
+    opened(browser, folder, FAULTY)
+    browser.value("element('keys').open = true; pick(agents[0])")
+    faults = []
+    for width, height in SMALL:
+        browser.resize(width, height)
+        browser.settle()
+        top, bottom, controls, zoom = browser.value(
+            "[canvas.getBoundingClientRect().top, canvas.getBoundingClientRect().bottom,"
+            " element('controls').getBoundingClientRect().top, element('zoom').getBoundingClientRect().top]")
+        if min(controls, zoom) < bottom - 1 or bottom - top < 80:
+            faults.append(f"in {width} by {height} the map ends at {bottom}, the controls begin at {controls}, {zoom}")
+    browser.resize(1100, 500)
+    browser.settle()
+    if browser.value("document.documentElement.scrollHeight > innerHeight"):
+        faults.append("the page is higher than its window")
+    browser.resize(640, 480)
+    return faults
+
+
+def draws_paths_to_their_goals(browser, folder):
+    """On a small map a line beside the middle of the cells ends in the middle of the goal."""
+    browser.resize(1100, 700)
+    opened(browser, folder, VALID)
+    picture = browser.picture()
+    plain = browser.value("[colour.free, colour.grid]")
+    faults = [f"nothing is in the middle of {goal}" for goal in ((2, 1), (1, 2))
+              if picture.at(*point_of(browser, goal)) in plain]
+    browser.resize(640, 480)
+    return faults
+
+
+def reads_cells_outside(browser, folder):
+    """The page that `outside_faults` made."""
+    browser.open(f"file://{folder / 'outside.html'}")
+    found = browser.value("agents.map((agent) => [...agent.cells].join(' '))")
+    return [] if found == ["-3 1 -2 1 0 -7 -1 -7 2 1", "1 0 1 -1"] else [f"the cells are {found}"]
+
+
+def shows_many_legs(browser, folder):
+    began = time.monotonic()
+    opened(browser, folder, [[(tick % 2, 1) for tick in range(LEGS + 1)], [(1, 0)]], f"#tick={LEGS // 2}&agent=0")
+    browser.value("point(agents[0])")
+    browser.settle()
+    seconds = time.monotonic() - began
+    faults = [] if seconds < 30 else [f"it takes {seconds:.0f} s"]
+    told = browser.value("[...document.querySelectorAll('#legs [aria-current]')].map(item => item.innerText)")
+    faults += [] if told == [f"tick {LEGS // 2}: right to (1,1)"] else [f"the leg is {told}"]
+    for tick, told in ((LEGS - 1, f"tick {LEGS - 1}: left to (0,1)"), (0, "tick 0: right to (1,1)")):
+        browser.value(f"setTime({tick})")
+        found = browser.value("element('legs').querySelector('[aria-current]').innerText")
+        faults += [] if found == told else [f"at tick {tick} the leg is {found}"]
+    rest = browser.value("element('legs').lastElementChild.innerText")
+    return faults + ([] if rest == f"… {LEGS - 400:,} after these" else [f"the list ends with {rest}"])
 
 
 def shows_large_maps(browser, folder):
@@ -369,5 +545,13 @@ IN_BROWSER = {
     "shows an agent's cost and path": shows_an_agent,
     "shows and hides paths and goals": hides_paths_and_goals,
     "marks and lists conflicts": marks_conflicts,
+    "F leads to every fault": leads_to_every_fault,
+    "moves the map to a fault and back": moves_to_faults_off_the_map,
+    "marks the faults of the tick alone": marks_faults_of_the_tick_alone,
+    "keeps current items in sight": keeps_current_items_in_sight,
+    "has room in small windows": has_room_in_small_windows,
+    "draws paths to their goals": draws_paths_to_their_goals,
+    "cells outside the map": reads_cells_outside,
+    "a path of very many legs": shows_many_legs,
     "a large map of 200 agents": shows_large_maps,
 }

@@ -10,6 +10,7 @@ import sys
 import tempfile
 from pathlib import Path
 
+from answers_tests import spelled
 from harness import TESTS, Ended, cases_of, run, told
 
 RECHECK = TESTS.parent / "tools" / "recheck"
@@ -67,6 +68,8 @@ def tests(tally):
         bases = [base for base in bases if not base[0].startswith("warehouse")]
         bases += accepted_cases(Path(name))
         tally.add(f"recheck, {EDITS} edits", edits_that_differ(recheck, bases, Path(name)))
+    for title, faults in other_answers().items():
+        tally.add(f"recheck, {title}", faults)
     tally.add("recheck, words", words_faults())
 
 
@@ -215,11 +218,39 @@ def split(text):
     yield part
 
 
+def other_answers():
+    """What other solvers write, beside the certificate that no plan of the crossing costs less than 5."""
+    crossing = TESTS / "cases" / "solve-crossing"
+    cheapest = [[(0, 1), (0, 1), (1, 1), (2, 1)], [(1, 0), (1, 1), (1, 2), (1, 2)]]
+    dearer = [cheapest[0], [(1, 0), (1, 0), (1, 0), (1, 1), (1, 2)]]
+    meet = [cheapest[0][1:], cheapest[1]]
+    asked = [(f"{name}, {kind}", spelled(paths)[name], line, status)
+             for name in ("paths", "lacam", "yaml")
+             for kind, paths, line, status in (
+                 ("cheapest", cheapest, "optimal 5\n", 0), ("dearer", dearer, "refused C4\n", 1),
+                 ("two in one cell", meet, "refused C5 V4 0 1 1\n", 1))]
+    asked += [
+        ("an answer that lacks an agent", spelled(cheapest[:1])["paths"], "recheck: answer has no path of agent 1", 2),
+        ("an answer that is cut", spelled(cheapest)["paths"][:-4], "recheck: answer, line 2: cells (a,b)", 2),
+        ("a text of no format", "version 1\n", "refused C1 P1 1\n", 1),
+        ("an empty answer", "", "refused C1 P2 1\n", 1)]
+    found = {}
+    with tempfile.TemporaryDirectory() as folder:
+        for title, text, line, status in asked:
+            Path(folder, "answer").write_text(text)
+            ended = subprocess.run([sys.executable, str(RECHECK), str(crossing / "map"), str(crossing / "scen"), "2",
+                                    "answer", str(crossing / "cert")], cwd=folder, capture_output=True, text=True)
+            is_good = ended.returncode == status and (ended.stdout + ended.stderr).startswith(line)
+            found[title] = [] if is_good else [f"status {ended.returncode}, {ended.stdout!r}, {ended.stderr!r}"]
+    return found
+
+
 def words_faults():
-    """Wrong words end with status 2 and one line of how it is called, and --help says that it is slow."""
+    """Wrong words end with status 2 and one line of how it is called, and --help says that it is slow and how it ends.
+    """
     faults = []
     for words, status, parts in (
-            (["--help"], 0, ["It is slow", "MAP SCEN K PLAN CERT"]),
+            (["--help"], 0, ["It is slow", "MAP SCEN K PLAN CERT", "exit status", "\n  1    'refused ..'"]),
             (["a", "b", "0", "c", "d"], 2, ["the number of agents is 1 to 200"]),
             (["a", "b", "2", "c"], 2, ["CERT"])):
         ended = subprocess.run([sys.executable, str(RECHECK), *words], capture_output=True, text=True)

@@ -67,8 +67,9 @@ class Bench:
         self.program = self.script("noting", f'echo "$1 $3 $4" >>"{self.notes}"\nexec "{os.environ["MAPF"]}" "$@"\n')
 
     def script(self, name, lines):
+        """A program in place of the real one, which has the real version."""
         path = self.folder / name
-        path.write_text("#!/bin/sh\n" + lines)
+        path.write_text(f'#!/bin/sh\n[ "$1" != --version ] || exec "{os.environ["MAPF"]}" --version\n{lines}')
         path.chmod(0o755)
         return path
 

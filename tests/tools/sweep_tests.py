@@ -4,6 +4,8 @@ and with scripts in the program's place that are killed, hang, or write nonsense
 
 import json
 import os
+import re
+import shutil
 import signal
 import subprocess
 import sys
@@ -29,6 +31,9 @@ def tests(tally):
             tally.add(f"a program that {name}", troubled(bench, name, lines, more, status, row))
         tally.add("a program that hangs in a sweep that is stopped", leaves_nothing(bench))
         tally.add("more numbers of agents", more_numbers(bench, wanted))
+        tally.add("each number of agents", each_number(bench))
+        tally.add("runs that failed are tried again", tried_again(bench, wanted))
+        tally.add("the plots of runtimes and of runs solved", other_plots(bench, wanted))
         tally.add("a scenario whose map is missing", map_missing(bench, wanted))
         for name, faults in refusals(bench):
             tally.add(name, faults)
@@ -74,8 +79,10 @@ def whole(bench):
 
 
 def row_faults(row):
-    wanted = f"optimal {row['cost']}" if row["status"] == "solved" else "bound "
-    if not row["verdict"].startswith(wanted) or row["note"]:
+    is_solved = row["status"] == "solved"
+    wanted = f"optimal {row['cost']}" if is_solved else "bound "
+    is_long = is_solved and 0 < int(row["makespan"]) <= int(row["cost"]) <= int(row["agents"]) * int(row["makespan"])
+    if not row["verdict"].startswith(wanted) or row["note"] or not (is_long if is_solved else row["makespan"] == ""):
         return [f"{row['scenario']} with {row['agents']} agents: {row}"]
     is_measured = int(row["certificate_bytes"]) > 40 and all(float(row[name]) > 0 for name in ("solve_kb", "check_kb"))
     return [] if is_measured and 0 <= int(row["splits"]) <= 20 else [f"what was measured is {row}"]
@@ -194,6 +201,56 @@ def more_numbers(bench, wanted):
     return [] if is_good else [f"{there}, then {bench.table('more')} by {made} runs, {ended.stderr}"]
 
 
+def each_number(bench):
+    """`2..4` is 2, 3 and 4, and `2,5..11` goes on in steps of 3."""
+    faults = []
+    for number, (words, wanted) in enumerate((("2..4", {"2", "3", "4"}), ("2,5..9", {"2", "5", "8"}))):
+        bench.call(f"each-{number}", "--agents", words, scens="scen-few")
+        found = {row["agents"] for row in bench.rows(f"each-{number}")}
+        faults += [] if found == wanted else [f"{words} is {found}"]
+    return faults
+
+
+def tried_again(bench, wanted):
+    """Runs that failed stay as they are, until --again is said. Then they are made once more, and no others."""
+    flag = bench.folder / "flag"
+    lines = f'[ ! -e "{flag}" ] || [ "$4" != 6 ] || kill -9 $$\nexec "{bench.program}" "$@"\n'
+    program = bench.script("flagged", lines)
+    flag.touch()
+    first = bench.call("again", program=program, scens="scen-few")
+    flag.unlink()
+    failed = [row["status"] for row in bench.rows("again") if row["agents"] == "6"]
+    bench.noted()
+    second = bench.call("again", program=program, scens="scen-few")
+    faults = ["a run that failed is made without --again"] if bench.noted() else []
+    few = [row for row in wanted if row["scenario"].endswith("-1")]
+    third = bench.call("again", "--again", program=program, scens="scen-few")
+    made = {int(line.split()[-1]) for line in bench.noted()}
+    if (first.returncode, second.returncode, third.returncode) != (1, 1, 0) or set(failed) != {"killed"}:
+        faults.append(f"statuses {first.returncode}, {second.returncode}, {third.returncode}, {failed}")
+    if bench.table("again") != few or made != {6, 10} or "--again tries" not in first.stderr:
+        faults.append(f"the rows are {bench.table('again')}, runs of {made} agents were made, {first.stderr}")
+    return faults
+
+
+def other_plots(bench, wanted):
+    """Of each map one plot has the numbers of agents with which runs were solved, and one the number of these runs."""
+    page = (bench.folder / "whole" / "report.html").read_text()
+    faults = []
+    for kind in ("runtime", "cactus"):
+        plots = re.findall(f'<figure class="{kind}">(.*?)</figure>', page, re.DOTALL)
+        names = [ElementTree.fromstring(plot).find("text").text for plot in plots]
+        faults += [] if names == sorted({row["map"] for row in wanted}) else [f"plots of {kind} are of {names}"]
+        for name, plot in zip(names, plots):
+            solved = [row for row in wanted if row["map"] == name and row["status"] == "solved"]
+            titles = [title.text for title in ElementTree.fromstring(plot).findall(".//title")]
+            agents = sorted({int(row["agents"]) for row in solved})
+            heads = [f"{number} agents: " for number in agents] if kind == "runtime" else [f"{len(solved)} runs solved"]
+            if len(titles) != len(heads) or not all(map(str.startswith, titles, heads)):
+                faults.append(f"the plot of {kind} of {name} tells {titles}, wanted {heads}")
+    return faults
+
+
 def map_missing(bench, wanted):
     """A row tells it, the others are run; when the map is there a call makes what is left."""
     grid, away = bench.folder / "maps" / "room-8-8.map", bench.folder / "away"
@@ -214,18 +271,29 @@ def refusals(bench):
     """Calls that can't be made: each ends with status 2, in a line that says what to mend."""
     (bench.folder / "none").mkdir()
     (bench.folder / "strange").mkdir()
+    (bench.folder / "odd" / "results.csv").mkdir(parents=True)
+    shutil.copytree(bench.folder / "whole", bench.folder / "untold")
+    settings = json.loads((bench.folder / "untold" / "settings.json").read_text())
+    del settings["program"]
+    (bench.folder / "untold" / "settings.json").write_text(json.dumps(settings) + "\n")
+    other = bench.script("other", f'exec "{bench.program}" "$@"\n')
     (bench.folder / "strange" / "results.csv").write_text("a,b\n1,2\n")
     calls = {
         "an empty folder": (bench.call("new", scens="none"), "none holds no .scen file"),
         "no folder": (bench.call("new", scens="nowhere"), "nowhere isn't a folder"),
         "another limit": (bench.call("whole", "--limit", "21"), "holds runs with limit 20"),
+        "another program": (bench.call("whole", program=other), "holds runs with program mapf "),
+        "runs of a program that isn't told": (bench.call("untold"), "holds runs with program (not told)"),
+        "a program that isn't mapf": (bench.call("new", program="/bin/true"), "true --version tells no version"),
+        "a file in place of OUT": (bench.call("strange/results.csv"), "File exists): give another folder"),
+        "a folder in place of the results": (bench.call("odd"), "results.csv: Is a directory"),
         "a strange table": (bench.call("strange"), "isn't a table of this tool"),
         "no rising numbers": (bench.call("new", "--agents", "4,2"), "rising list of numbers"),
         "a number of 201": (bench.call("new", "--agents", "2,201"), "rising list of numbers"),
         "no seconds": (bench.call("new", "--seconds", "0"), "number of seconds"),
     }
     for name, (ended, part) in calls.items():
-        is_told = ended.returncode == 2 and part in ended.stderr
+        is_told = ended.returncode == 2 and part in ended.stderr and "Errno" not in ended.stderr
         yield name, [] if is_told else [f"status {ended.returncode}, {ended.stderr}"]
     yield "two at a time", two_at_a_time(bench)
     told = subprocess.run([sys.executable, str(SWEEP), "--help"], capture_output=True, text=True)

@@ -2,9 +2,10 @@
 the formats, and checks by mapf alone what it leaves for others.
 """
 
-import functools
 import os
 import re
+import shutil
+import signal
 import subprocess
 import sys
 import tempfile
@@ -12,6 +13,7 @@ from dataclasses import dataclass, field
 from pathlib import Path
 
 from harness import TESTS
+from sweep_bench import awaited
 
 VERIFY = TESTS.parent / "tools" / "verify"
 EXAMPLES = TESTS.parent / "examples"
@@ -215,23 +217,22 @@ class Asked:
 
 def tests(tally):
     for name, answers in FORMATS.items():
-        if name == "yaml" and not has_yaml():
-            tally.skip("verify, the format yaml", "the package PyYAML isn't here")
-            continue
         for kind, answer in answers.items():
             status, out = ANSWERED.get(kind, (2, ""))
             asked = Asked(f"verify, {name}, {kind}", answer, status, out, TOLD.get((name, kind), []))
             tally.add(asked.name, faults_of(asked))
-    for asked in as_files_are() + that_cannot_be_read() + that_are_not_valid() + by_bound():
+    for asked in as_files_are() + that_cannot_be_read() + that_are_not_valid() + by_bound() + by_options():
         tally.add(asked.name, faults_of(asked))
     tally.add("verify, an example", faults_of(example()))
     tally.add("verify, no file is changed or left", files_left())
     tally.add("verify, a folder that isn't empty", folder_kept())
-
-
-@functools.cache
-def has_yaml():
-    return subprocess.run([sys.executable, "-c", "import yaml"], stderr=subprocess.DEVNULL).returncode == 0
+    for name in FORMATS:
+        tally.add(f"verify, pipes in place of files, {name}", piped(FORMATS[name]["cheapest"]))
+    for title, lines, asked in in_time():
+        tally.add(f"verify, {title}", faults_behind(lines, asked))
+    for number in (signal.SIGINT, signal.SIGTERM, signal.SIGHUP):
+        tally.add(f"verify, ended by signal {number}", ended_by(number))
+    tally.add("verify, ended as the program is built", ended_as_built())
 
 
 def as_files_are():
@@ -250,6 +251,8 @@ def as_files_are():
         "paths between blank lines": f"\n{first}\n{second}\n",
         "paths behind a byte order mark": "\ufeff" + paths,
         "paths with waits at the ends": paths.replace("(1,2)->\n", "(1,2)->(1,2)->(1,2)->\n"),
+        "paths below a count": "2\n" + paths,
+        "paths below a line of words and above others": f"\nplanned: 5\n{paths}\ncost 5\ndone\n",
         "lacam with CR LF": lacam.replace("\n", "\r\n"),
         "lacam without the last commas": lacam.replace(",\n", "\n"),
         "lacam with blanks": lacam.replace("),(", "), (").replace("\n", " \n"),
@@ -260,9 +263,14 @@ def as_files_are():
         "yaml without statistics": schedule,
         "yaml with the agents out of order": "schedule:\n" + schedule[schedule.index("  agent1"):] + YAML_AGENT_0,
         "yaml behind a mark and a remark": "---\n# by hand\n" + yaml,
+        "yaml with its dashes below the names": yaml.replace("    - x", "  - x").replace("      ", "    "),
+        "yaml with t first": re.sub(r"x: (.)\n +y: (.)\n +t: (.)", r"t: \3\n      x: \1\n      y: \2", yaml),
+        "yaml with an entry in a line": re.sub(r"x: (.)\n +y: (.)\n +t: (.)", r"{t: \3, x: \1, y: \2}", yaml),
+        "yaml with remarks": yaml.replace(": 1\n", ": 1  # one\n").replace("schedule:", "# all\nschedule:   # two"),
+        "yaml with a name more in each entry": yaml.replace("      t", "      z: 0\n      t"),
+        "yaml with lists beside the schedule": "obstacles:\n- [1, 2]\n" + yaml + "rest:\n  agent0:\n",
     }
-    return [Asked(f"verify, {name}", text, 0, "cheapest: 5\n") for name, text in texts.items()
-            if has_yaml() or not name.startswith("yaml")]
+    return [Asked(f"verify, {name}", text, 0, "cheapest: 5\n") for name, text in texts.items()]
 
 
 def that_cannot_be_read():
@@ -275,7 +283,10 @@ def that_cannot_be_read():
          ["no path of agent 0", "counted from 0"]),
         ("an agent twice", paths + paths.splitlines()[1], ["line 3:", "agent 1 has a line above"]),
         ("an agent without cells", PATHS["missing"] + "Agent 1: \n", ["line 2:", "''"]),
-        ("another line between paths", paths + "done\n", ["line 3:", "'Agent N: (row,column)"]),
+        ("another line between paths", paths.replace("\n", "\ndone\n", 1), ["line 2:", "'Agent N: (row,column)"]),
+        ("two lines above paths", "2\n3\n" + paths, ["line 1:", "none of the formats"]),
+        ("a remark alone", "#\n", ["remarks alone", "let the solver write"]),
+        ("a mark of YAML alone", "---\n", ["remarks alone", "let the solver write"]),
         ("a short log", log, ["no line 'solution='", "the long one"]),
         ("a log without a plan", log.replace("solved=1", "solved=0") + "solution=\n", ["solved=0", "wrote no plan"]),
         ("a tick left out", lacam.replace("2:(2,1),(1,1),\n", ""), ["line 16:", "tick 2 stand here"]),
@@ -288,7 +299,13 @@ def that_cannot_be_read():
          ["line 3:", "add up to 5"]),
     ]
     calls = [Asked(f"verify, {name}", answer, 2, "", told) for name, answer, told in asked]
-    calls += [
+    return calls + yaml_that_cannot_be_read() + words_that_are_wrong()
+
+
+def words_that_are_wrong():
+    """Words, maps, scenarios and programs with which no answer is judged."""
+    paths = PATHS["cheapest"]
+    return [
         Asked("verify, paths said to be lacam", paths, 2, "", ["'solution='"], ["--format", "lacam"]),
         Asked("verify, an unknown format", paths, 2, "", ["invalid choice: 'text'"], ["--format", "text"]),
         Asked("verify, no agents", paths, 2, "", ["number from 1 to 200"], agents="0"),
@@ -299,14 +316,15 @@ def that_cannot_be_read():
         Asked("verify, a map with a bad row", paths, 2, "", ["map, line 6:", "row 1"],
               grid=CROSSING_MAP.replace("...\n", "..\n").replace("..\n", "...\n", 1)),
         Asked("verify, no program", paths, 2, "", ["MAPF names /nowhere", "set it"], environment={"MAPF": "/nowhere"}),
+        Asked("verify, a program that is another", paths, 2, "", ["true --version tells no version", "isn't mapf"],
+              environment={"MAPF": "/bin/true"}),
+        Asked("verify, no seconds", paths, 2, "", ["number of seconds above 0"], ["--seconds", "0"]),
     ]
-    return calls + yaml_that_cannot_be_read()
 
 
 def yaml_that_cannot_be_read():
     yaml = YAML["cheapest"]
-    without = {"PYTHONPATH": str(TESTS / "tools" / "without_yaml")}
-    calls = [Asked("verify, yaml without PyYAML", yaml, 2, "", ["PyYAML", "install it"], environment=without)]
+    lines, deep = yaml.count("\n"), 100_000
     texts = {
         "statistics alone": (YAML_HEAD, ["no agents under 'schedule:'"]),
         "a schedule of nobody": (YAML_HEAD + "schedule:\n", ["no agents under 'schedule:'"]),
@@ -314,10 +332,17 @@ def yaml_that_cannot_be_read():
         "an agent without entries": (YAML["missing"] + "  agent1:\n", ["'agent1' has to be 'agentN'"]),
         "a tick left out": (yaml.replace("t: 3", "t: 4"), ["'agent1:', entry 4", "its t is 4, and 3 is due"]),
         "an entry cut": (YAML["elsewhere"] + "    - x: 1\n      y: 0\n", ["'agent1:', entry 2", "whether the file"]),
+        "an agent twice": (yaml + YAML_AGENT_1, [f"line {lines + 1}:", "agent 1 stands above"]),
+        "a schedule twice": (yaml + "schedule:\n", [f"line {lines + 1}:", "line 7 has a 'schedule:'"]),
+        "a value twice": (yaml.replace("      y: 2\n", "      y: 2\n      y: 2\n"), [f"line {lines}:", "values of y"]),
+        "a part that is no number": (yaml.replace("y: 2", "y: two"), ["'agent1:', entry 4", "whole numbers"]),
+        "an entry of nobody": (yaml.replace("  agent0:\n", ""), ["line 8:", "'agentN:' stands above"]),
+        "brackets in brackets": ("schedule: " + "[" * deep, ["line 1:", "below it the agents"]),
+        "brackets below an agent": ("schedule:\n  agent0:\n    - " + "[" * deep, ["line 3:", "'x: N'"]),
+        "lists in lists": ("schedule:\n  agent0:\n    " + "- " * deep, ["line 3:", "'x: N'"]),
+        "braces in braces": ("schedule:\n  agent0:\n    - " + "{x: " * deep, ["'agent0:', entry 1"]),
     }
-    if has_yaml():
-        calls += [Asked(f"verify, yaml, {name}", text, 2, "", told) for name, (text, told) in texts.items()]
-    return calls
+    return [Asked(f"verify, yaml, {name}", text, 2, "", told) for name, (text, told) in texts.items()]
 
 
 def that_are_not_valid():
@@ -327,7 +352,8 @@ def that_are_not_valid():
         "a column before the row": (column_first, [
             "agent 0 begins in (1,0), and its start is (0,1)", "agent 0 ends in (1,2), and its goal is (2,1)",
             "agent 1 begins in (0,1), and its start is (1,0)", "agent 1 ends in (2,1), and its goal is (1,2)"],
-            "with x and y exchanged each agent begins at its start: see whether the format is the right one\n"),
+            "with x and y exchanged each agent begins at its start: see whether the format is the right one, or add "
+            "--exchange-xy\n"),
         "another problem": ("Agent 0: (2,2)->\nAgent 1: (0,0)->\n", [
             "agent 0 begins in (2,2), and its start is (0,1)", "agent 0 ends in (2,2), and its goal is (2,1)",
             "agent 1 begins in (0,0), and its start is (1,0)", "agent 1 ends in (0,0), and its goal is (1,2)"],
@@ -366,6 +392,63 @@ def by_bound():
     ]
 
 
+def by_options():
+    """Words that change how an answer is read, or what a call ends with."""
+    column_first = "Agent 0: (0,1)->(1,1)->(2,1)->\nAgent 1: (1,0)->(1,0)->(1,1)->(1,2)->\n"
+    meet = ANSWERED["vertex"][1]
+    return [
+        Asked("verify, x and y exchanged", column_first, 0, "cheapest: 5\n", more=["--exchange-xy"]),
+        Asked("verify, x and y exchanged in error", PATHS["vertex"], 1, more=["--exchange-xy"],
+              out="not valid: agent 0 begins in (1,0), and its start is (0,1)\n"
+                  "and agent 0 ends in (1,2), and its goal is (2,1)\n"
+                  "and agent 1 begins in (0,1), and its start is (1,0)\n"
+                  "and agent 1 ends in (2,1), and its goal is (1,2)\n"
+                  "and agents 0 and 1 are both in (1,1) at tick 1\n"
+                  "with x and y exchanged each agent begins at its start: see whether the format is the right one, or "
+                  "add --exchange-xy\n"),
+        Asked("verify, a status of its own, not valid", PATHS["vertex"], 5, meet, more=["--distinct-status"]),
+        Asked("verify, a status of its own, not cheapest", PATHS["dearer"], 1, ANSWERED["dearer"][1],
+              more=["--distinct-status"]),
+        Asked("verify, time enough", PATHS["dearer"], 1, ANSWERED["dearer"][1], more=["--seconds", "60"]),
+        Asked("verify, time enough, and a limit of no splits", PATHS["cheapest"], 4,
+              "unknown: 5, no valid plan costs less than 4 (limit of 0 splits)\n",
+              more=["--limit", "0", "--seconds", "60"]),
+    ]
+
+
+# In place of the program, in the shell's words: one that never ends a search, or only those of no splits.
+HANGS = '[ "$1" != solve ] || exec sleep 100\n'
+HANGS_LATER = '[ "$1" != solve ] || [ "$5" = 0 ] || exec sleep 100\n'
+
+
+def in_time():
+    """Searches that don't end in the time that they have."""
+    rooms = {"grid": ROOMS_MAP, "scenario": ROOMS_SCEN, "agents": "4", "more": ["--seconds", "0.5"]}
+    waits = PATHS["cheapest"] + "Agent 2: (0,4)->(1,4)->(1,5)->\nAgent 3: (0,6)->(0,6)->(0,5)->(0,4)->\n"
+    return [
+        ("no time for a search", HANGS, Asked("", waits, 4, "unknown: 10 (limit of 0.5 seconds)\n",
+                                              noted="one leaf doesn't show that it is cheapest", **rooms)),
+        ("time for a search of no splits", HANGS_LATER,
+         Asked("", waits, 4, "unknown: 10, no valid plan costs less than 8 (limit of 0.5 seconds)\n",
+               noted="mapf solve problem.map problem.scen 4 0 found.txt cert.txt", **rooms)),
+    ]
+
+
+def faults_behind(lines, asked):
+    """As `faults_of`, with a script in the program's place."""
+    with tempfile.TemporaryDirectory() as name:
+        asked.environment["MAPF"] = str(script(Path(name), lines))
+        return faults_of(asked)
+
+
+def script(folder, lines):
+    """A program that is the real one, but for what these lines do."""
+    path = folder / "mapf"
+    path.write_text(f'#!/bin/sh\n{lines}exec "{os.environ["MAPF"]}" "$@"\n')
+    path.chmod(0o755)
+    return path
+
+
 def example():
     """The answer that README.md tries."""
     answer, grid, scenario = [(EXAMPLES / f"empty-8-8{tail}").read_text() for tail in ("-answer.txt", ".map", ".scen")]
@@ -394,13 +477,15 @@ def faults_of(asked):
 
 
 def ended_faults(asked, ended, found):
+    """What differs in a call. Where its answer names a file in a folder that nobody named, it says that this stays."""
     wanted = re.escape(asked.out).replace("FOUND", found)
+    stays = "verify: (.*) stays, .*\n" if "FOUND" in asked.out and "/tmp/" in found else ""
     faults = []
     if ended.returncode != asked.status:
         faults.append(f"status {ended.returncode}, wanted {asked.status}")
     if not re.fullmatch(wanted, ended.stdout):
         faults.append(f"it says {ended.stdout!r}, wanted {asked.out!r}")
-    if asked.status != 2 and ended.stderr:
+    if asked.status != 2 and not re.fullmatch(stays, ended.stderr):
         faults.append(f"it says {ended.stderr!r} on standard error")
     missing = [part for part in asked.told if part not in ended.stderr]
     return faults + [f"standard error has no {part!r}: {ended.stderr!r}" for part in missing]
@@ -430,6 +515,61 @@ def files_left():
             if there != ["answer", "map", "scen", "tmp"] or (Path(name) / "answer").read_text() != PATHS[kind]:
                 faults.append(f"{kind} leaves {there}")
     return faults
+
+
+def piped(answer):
+    """Each file is read once, so that a pipe may stand in its place."""
+    with tempfile.TemporaryDirectory() as name:
+        folder = Path(name)
+        for part, text in (("map", CROSSING_MAP), ("scen", CROSSING_SCEN), ("answer", answer)):
+            (folder / part).write_text(text)
+        words = f"{sys.executable} {VERIFY} <(cat map) <(cat scen) 2 <(cat answer) --keep kept"
+        ended = subprocess.run(["bash", "-c", words], cwd=folder, capture_output=True, text=True)
+        is_good = (ended.returncode, ended.stdout, ended.stderr) == (0, "cheapest: 5\n", "")
+        return [] if is_good else [f"status {ended.returncode}, {ended.stdout!r}, {ended.stderr!r}"]
+
+
+def ended_by(number):
+    """A signal ends the search that is at work, and leaves no file."""
+    with tempfile.TemporaryDirectory() as name:
+        folder = Path(name)
+        program = script(folder, f'[ "$1" != solve ] || {{ echo $$ >"{folder}/own"; exec sleep 1000; }}\n')
+        return faults_of_signal(folder, VERIFY, number, {"MAPF": str(program)})
+
+
+def ended_as_built():
+    """The same of a build, which ends what it started by itself when it is told to."""
+    with tempfile.TemporaryDirectory() as name:
+        folder = Path(name)
+        tree = folder / "tree"
+        shutil.copytree(VERIFY.parent, tree / "tools")
+        script(tree, "")
+        (tree / "prove").write_text(
+            f'#!/bin/bash\nsleep 1000 &\nown=$!\ntrap "kill $own; exit 130" TERM\necho $own >"{folder}/own"\nwait\n')
+        (tree / "prove").chmod(0o755)
+        return faults_of_signal(folder, tree / "tools" / "verify", signal.SIGHUP, {"MAPF": ""})
+
+
+def faults_of_signal(folder, verify, number, environment):
+    """Sends a signal to a call as soon as the file `own` tells the process that works for it."""
+    (folder / "tmp").mkdir()
+    for part, text in (("map", CROSSING_MAP), ("scen", CROSSING_SCEN), ("answer", PATHS["cheapest"])):
+        (folder / part).write_text(text)
+    process = subprocess.Popen(
+        [sys.executable, str(verify), "map", "scen", "2", "answer"], cwd=folder, stdin=subprocess.DEVNULL,
+        env={**os.environ, "TMPDIR": str(folder / "tmp"), **environment}, stderr=subprocess.DEVNULL,
+        preexec_fn=lambda: signal.signal(number, signal.SIG_DFL))
+    faults = [] if awaited(lambda: content(folder / "own").endswith("\n")) else ["nothing works for it"]
+    process.send_signal(number)
+    status = process.wait(60)
+    faults += [] if status == 128 + number else [f"status {status}"]
+    if not awaited(lambda: not Path(f"/proc/{content(folder / 'own').strip() or 'none'}").exists()):
+        faults.append("what works for it goes on")
+    return faults + [f"{path.name} is left" for path in (folder / "tmp").iterdir()]
+
+
+def content(path):
+    return path.read_text() if path.exists() else ""
 
 
 def folder_kept():

@@ -11,14 +11,16 @@ const calm = matchMedia("(prefers-reduced-motion: reduce)");
 const dark = matchMedia("(prefers-color-scheme: dark)");
 const speeds = [0.5, 1, 2, 4, 8, 16, 32, 64];
 
-// The time in ticks; the agents that are picked and pointed at; whether the ground, and what is behind the agents, is
-// to be drawn anew.
+// The time in ticks; the agents that are picked and pointed at; the fault that was asked for; the first leg that is
+// listed; whether the ground, and what is behind the agents, is to be drawn anew.
 const shows = {
-  time: 0, plays: false, speed: 4, paths: true, goals: true, picked: null, over: null, newGround: true, newBehind: true,
+  time: 0, plays: false, speed: 4, paths: true, goals: true, picked: null, over: null, fault: null, firstLeg: 0,
+  newGround: true, newBehind: true,
 };
 
-// Where the map is: the width of a cell, and the left upper corner of the map, in pixels of the page.
-const view = { scale: 1, left: 0, top: 0, width: 1, height: 1, fitted: true };
+// Where the map is: the width of a cell, and the left upper corner of the map, in pixels of the page. `before` is where
+// it was before the page itself moved it to show a fault.
+const view = { scale: 1, left: 0, top: 0, width: 1, height: 1, fitted: true, before: null };
 
 let frame = 0;
 let drawnAt = 0;
@@ -144,17 +146,37 @@ function drawGrid(pen) {
   pen.stroke();
 }
 
-// A path's line. Each agent's is a little beside the middle of the cells, so that paths on one way are seen apart.
+// A path's line. Each agent's is a little beside the middle of the cells, so that paths on one way are seen apart, and
+// begins and ends in the middle. A step that was made before is not drawn again.
 function lineOf(agent) {
-  if (!agent.line) {
-    const beside = 0.5 + ((agent.number * 5) % 11 - 5) * 0.045;
-    agent.line = new Path2D();
-    agent.line.moveTo(agent.cells[0] + beside, agent.cells[1] + beside);
-    for (let at = 2; at < agent.cells.length; at += 2) {
-      agent.line.lineTo(agent.cells[at] + beside, agent.cells[at + 1] + beside);
-    }
+  if (agent.line) {
+    return agent.line;
   }
-  return agent.line;
+  const line = (agent.line = new Path2D());
+  const beside = 0.5 + ((agent.number * 5) % 11 - 5) * 0.045;
+  const [first, last] = [cellAt(agent, 0), cellAt(agent, agent.cost)];
+  line.moveTo(first[0] + 0.5, first[1] + 0.5);
+  line.lineTo(first[0] + beside, first[1] + beside);
+  const seen = new Set();
+  let isDown = true;
+  for (let at = 2; at < agent.cells.length; at += 2) {
+    const [x, y, toX, toY] = agent.cells.subarray(at - 2, at + 2);
+    const isForth = x < toX || (x === toX && y <= toY);
+    const step = isForth ? `${x},${y},${toX},${toY}` : `${toX},${toY},${x},${y}`;
+    if (seen.has(step)) {
+      isDown = false;
+      continue;
+    }
+    seen.add(step);
+    if (!isDown) {
+      line.moveTo(x + beside, y + beside);
+    }
+    line.lineTo(toX + beside, toY + beside);
+    isDown = true;
+  }
+  line.moveTo(last[0] + beside, last[1] + beside);
+  line.lineTo(last[0] + 0.5, last[1] + 0.5);
+  return line;
 }
 
 function drawPath(pen, agent, isPicked) {
@@ -234,38 +256,25 @@ function drawNumber(agent, x, y) {
   pen.restore();
 }
 
-// Faults: where one is at the tick that is shown, a cross in a ring; where one is at another tick, a ring of dashes.
+// Faults at the tick that is shown: a cross in a ring.
 function drawFaults() {
-  const tick = Math.floor(shows.time);
   pen.strokeStyle = colour.bad;
-  for (const fault of faults) {
-    if (fault.tick !== tick) {
-      drawMark(fault, false);
-    }
-  }
-  for (const fault of faults) {
-    if (fault.tick === tick) {
-      drawMark(fault, true);
-    }
+  for (const fault of faultsAt(Math.floor(shows.time))) {
+    drawMark(fault);
   }
 }
 
-function drawMark(fault, isNow) {
+function drawMark(fault) {
   const [x, y] = middleOf(fault).map((part) => part + 0.5);
-  const radius = Math.max(isNow ? 0.62 : 0.5, (isNow ? 9 : 5) / view.scale);
-  const width = isNow ? Math.max(0.09, 2.5 / view.scale) : Math.max(0.04, 1 / view.scale);
-  pen.lineWidth = width;
-  pen.setLineDash(isNow ? [] : [4 * width, 3 * width]);
+  const radius = Math.max(0.62, 9 / view.scale);
+  pen.lineWidth = Math.max(0.09, 2.5 / view.scale);
   pen.beginPath();
   pen.arc(x, y, radius, 0, 2 * Math.PI);
-  if (isNow) {
-    for (const [dx, dy] of [[1, 0], [-1, 0], [0, 1], [0, -1]]) {
-      pen.moveTo(x + dx * radius, y + dy * radius);
-      pen.lineTo(x + dx * radius * 1.5, y + dy * radius * 1.5);
-    }
+  for (const [dx, dy] of [[1, 0], [-1, 0], [0, 1], [0, -1]]) {
+    pen.moveTo(x + dx * radius, y + dy * radius);
+    pen.lineTo(x + dx * radius * 1.5, y + dy * radius * 1.5);
   }
   pen.stroke();
-  pen.setLineDash([]);
 }
 
 // The place of a fault: of two agents that swap, or of a step, between the cells.
@@ -283,6 +292,7 @@ function fit() {
     left: (view.width - data.width * scale) / 2,
     top: (view.height - data.height * scale) / 2,
     fitted: true,
+    before: null,
   });
   redraw("behind");
 }
@@ -290,9 +300,30 @@ function fit() {
 function moveBy(dx, dy) {
   view.left = Math.min(Math.max(view.left + dx, 40 - data.width * view.scale), view.width - 40);
   view.top = Math.min(Math.max(view.top + dy, 40 - data.height * view.scale), view.height - 40);
-  view.fitted = false;
+  Object.assign(view, { fitted: false, before: null });
   placeTip();
   redraw("behind");
+}
+
+// Moves the map, if a place of it is out of sight, so that this is in the middle.
+function showPlace([x, y]) {
+  const [atX, atY] = [view.left + (x + 0.5) * view.scale, view.top + (y + 0.5) * view.scale];
+  if (atX < 20 || atY < 20 || atX > view.width - 20 || atY > view.height - 20) {
+    const { left, top, scale, fitted } = view;
+    moveBy(view.width / 2 - atX, view.height / 2 - atY);
+    view.before = { left, top, scale, fitted };
+  }
+}
+
+// Puts the map back where it was before `showPlace` moved it, if it hasn't been moved since.
+function goBack() {
+  if (view.before) {
+    Object.assign(view, view.before, { before: null });
+    if (view.fitted) {
+      fit();
+    }
+    redraw("behind");
+  }
 }
 
 // Zooms so that what is at this point stays there.

@@ -29,21 +29,54 @@ function tellTick() {
   for (const id of ["forth", "last"]) {
     element(id).disabled = tick === lastTick;
   }
-  mark(element("fault-list").children, (at) => faults[at].tick === tick);
+  markFaults(tick);
   if (shows.picked) {
-    const legs = shows.picked.legs;
-    mark(element("legs").children, (at) => legs[at].from <= tick && tick < legs[at].until);
+    markLeg(shows.picked, tick);
     tellFacts(shows.picked);
   }
 }
 
-function mark(items, isCurrent) {
-  for (let at = 0; at < items.length; at++) {
-    const button = items[at].firstElementChild;
-    if (isCurrent(at) !== button.hasAttribute("aria-current")) {
-      button.toggleAttribute("aria-current", isCurrent(at));
-    }
+// Marks the faults of the tick, and brings one of them into sight: the one that was asked for, else the first.
+function markFaults(tick) {
+  const current = faultsAt(tick);
+  const items = element("fault-list").children;
+  mark(element("fault-list"), current.map((fault) => items[fault.number]));
+  const asked = current.includes(shows.fault) ? shows.fault : null;
+  for (const item of element("fault-list").querySelectorAll(".asked")) {
+    item.classList.remove("asked");
   }
+  if (current.length > 0) {
+    reveal(element("fault-list"), items[(asked ?? current[0]).number]);
+    items[asked?.number]?.classList.add("asked");
+  }
+}
+
+function markLeg(agent, tick) {
+  const at = legAt(agent.legs, tick);
+  if (at >= 0 && (at < shows.firstLeg || at >= shows.firstLeg + mostLegs)) {
+    listLegs(agent, at);
+  }
+  const item = element("legs").querySelector(`[data-leg="${at}"]`);
+  mark(element("legs"), item ? [item] : []);
+  if (item) {
+    reveal(element("legs"), item);
+  }
+}
+
+// Marks these items of a list, and no others.
+function mark(list, items) {
+  for (const button of list.querySelectorAll("[aria-current]")) {
+    button.removeAttribute("aria-current");
+  }
+  for (const item of items) {
+    item.firstElementChild.setAttribute("aria-current", "true");
+  }
+}
+
+// Brings an item of a list into sight. Only the list moves, the page stays.
+function reveal(list, item) {
+  const [box, its] = [list.getBoundingClientRect(), item.getBoundingClientRect()];
+  list.scrollTop += Math.min(its.top - box.top, 0) + Math.max(its.bottom - box.bottom, 0);
 }
 
 function play(plays) {
@@ -72,14 +105,16 @@ function show(what, isShown) {
 // Picking.
 
 function pick(agent) {
+  if (agent !== shows.picked) {
+    goBack();
+  }
   shows.picked = agent;
   element("agent").value = agent ? String(agent.number) : "";
   element("hint").hidden = agent !== null;
   element("details").hidden = agent === null;
   element("swatch").style.background = agent ? agent.colour : "none";
   if (agent) {
-    agent.legs ??= legsOf(agent);
-    listLegs(agent);
+    listLegs(agent, legAt(legsOf(agent), Math.floor(shows.time)));
     const at = shown(cellAt(agent, Math.floor(shows.time)));
     element("said").textContent = `agent ${agent.number}, cost ${agent.cost}, in ${at}`;
   }
@@ -96,14 +131,30 @@ function tellFacts(agent) {
   element("facts").replaceChildren(...facts.flatMap(([name, value]) => [made("dt", name), made("dd", value)]));
 }
 
-function listLegs(agent) {
-  element("legs").replaceChildren(...agent.legs.map((leg) => {
-    const ticks = leg.until === leg.from + 1 ? `tick ${leg.from}` : `ticks ${leg.from} to ${leg.until - 1}`;
-    return listed(`${ticks}: ${legText(leg)}`, () => {
-      play(false);
-      setTime(leg.from);
-    });
-  }));
+// So many legs of a path are listed at most, those around one of them.
+const mostLegs = 400;
+
+function listLegs(agent, around) {
+  const count = agent.legs.length;
+  const first = Math.max(0, Math.min((around < 0 ? count : around) - mostLegs / 2, count - mostLegs));
+  const last = Math.min(first + mostLegs, count);
+  const items = agent.legs.slice(first, last).map((leg, at) => listedLeg(leg, first + at));
+  shows.firstLeg = first;
+  element("legs").replaceChildren(...more(first, "before"), ...items, ...more(count - last, "after"));
+}
+
+function listedLeg(leg, number) {
+  const ticks = leg.until === leg.from + 1 ? `tick ${leg.from}` : `ticks ${leg.from} to ${leg.until - 1}`;
+  const item = listed(`${ticks}: ${legText(leg)}`, () => {
+    play(false);
+    setTime(leg.from);
+  });
+  item.dataset.leg = number;
+  return item;
+}
+
+function more(count, where) {
+  return count > 0 ? [made("li", `… ${count.toLocaleString("en")} ${where} these`)] : [];
 }
 
 function made(tag, text) {
@@ -123,21 +174,21 @@ function listed(text, act) {
 
 function showFault(fault) {
   play(false);
+  goBack();
+  shows.fault = fault;
   setTime(fault.tick);
   pick(agents[fault.agents[0]]);
-  const [x, y] = middleOf(fault);
-  const [atX, atY] = [view.left + (x + 0.5) * view.scale, view.top + (y + 0.5) * view.scale];
-  if (atX < 20 || atY < 20 || atX > view.width - 20 || atY > view.height - 20) {
-    moveBy(view.width / 2 - atX, view.height / 2 - atY);
-  }
+  showPlace(middleOf(fault));
   element("said").textContent = fault.words;
 }
 
+// The fault behind the one that is shown; if none of this tick is, the first from this tick on.
 function nextFault() {
   const tick = Math.floor(shows.time);
-  const next = faults.findIndex((fault) => fault.tick > tick);
+  const isShown = shows.fault?.tick === tick;
+  const next = isShown ? shows.fault.number + 1 : faults.findIndex((fault) => fault.tick >= tick);
   if (faults.length > 0) {
-    showFault(faults[Math.max(next, 0)]);
+    showFault(faults[next] ?? faults[0]);
   }
 }
 
