@@ -123,10 +123,10 @@ SPLITS = {
     "takes swaps in rows alone": [(BAD_SWAP, "    if abs(here[0] - there[0]) != 1 or here[1] != there[1]:\n")],
     "takes swaps to the right or down alone": [(BAD_SWAP, BAD_SWAP.replace("here == there", "here >= there"))],
     "takes splits of the smaller agent first alone": [(BAD_SPLIT, BAD_SPLIT.replace("one == other", "one >= other"))],
-    "constrains the first agent of a vertex split twice": [(RIGHT_VERTEX, LEFT_VERTEX.replace("tick", "tick + 0"))],
-    "constrains the second agent of a vertex split twice": [(LEFT_VERTEX, RIGHT_VERTEX.replace("tick", "tick + 0"))],
+    "constrains the first agent of a vertex split twice": [(RIGHT_VERTEX, LEFT_VERTEX)],
+    "constrains the second agent of a vertex split twice": [(LEFT_VERTEX, RIGHT_VERTEX)],
     "constrains the first agent of a swap split twice": [(RIGHT_EDGE, LEFT_EDGE)],
-    "constrains the second agent of a swap split twice": [(LEFT_EDGE, RIGHT_EDGE.replace("tick", "tick + 0"))],
+    "constrains the second agent of a swap split twice": [(LEFT_EDGE, RIGHT_EDGE)],
     "constrains the smaller agent in the left child": [(IS_VERTEX, SORTED + IS_VERTEX)],
     "constrains all agents": [(BARS, "{node.bar for node in self.way_up() if node.bar}")],
     "constrains both agents of a swap split in one direction": [
