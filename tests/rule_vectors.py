@@ -10,7 +10,8 @@ from versions import PLAN_TITLES, in_version_one, plan_in_other_version
 RULES = TESTS / "rules"
 
 # What a folder holds beside k, rule and wanted: the inputs of a run, in the order of its arguments.
-INPUTS = {"check": ("map", "scen", "plan", "cert"), "dispatch": ("map", "scen", "plan", "events")}
+INPUTS = {"check": ("map", "scen", "plan", "cert"), "dispatch": ("map", "scen", "plan", "events"),
+          "play": ("map", "scen", "plan")}
 
 
 @dataclass(frozen=True)
@@ -27,7 +28,7 @@ class Vector:
         return not self.wanted.startswith("refused ")
 
     def words(self):
-        """MAP, SCEN, K and the two texts."""
+        """MAP, SCEN, K and the other texts."""
         grid, scenario, *texts = map(str, self.files.values())
         return [grid, scenario, str(self.agents), *texts]
 
