@@ -2,6 +2,8 @@
 #![tactic(auto)]
 
 #[cfg(test)]
+mod adaptors;
+#[cfg(test)]
 mod certificates;
 #[cfg(test)]
 mod expect;
