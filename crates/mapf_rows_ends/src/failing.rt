@@ -19,7 +19,21 @@ use std::test::Fail;
 
 const ROOM: usize = 200;
 
-const DEMO_ROOM: usize = 4096;
+// What the demo prints: the plan text and the certificate of its problem, and the verdict.
+const DEMO: &str = "mapf-plan 2\n\
+    agents 4\n\
+    cost 4\n\
+    path 0 1 0,0 1,0\n\
+    path 1 1 1,0 1,1\n\
+    path 2 1 1,1 0,1\n\
+    path 3 1 0,1 0,0\n\
+    end\n\
+    mapf-cert 2\n\
+    agents 4\n\
+    claim cost 4\n\
+    leaf 0\n\
+    end\n\
+    optimal 4\n";
 
 // How many calls the sources of the map, of the scenario, of the plan text and of the event text
 // allow, and how many bytes they give in each.
@@ -473,7 +487,7 @@ fn show_demo<K: Sink>(alloc: Global, sink: &mut K) -> Result<(), Fault>
 
 // The demo ends with a failure of its sink, which fails behind these bytes.
 fn assert_demo_failed(rt: &impl Abort, alloc: Global, written: &[u8]) -> Result<(), Fail> {
-    let mut out = failing_sink(alloc, DEMO_ROOM, written.len())?;
+    let mut out = failing_sink(alloc, DEMO.len(), written.len())?;
     let answer = show_demo(alloc, &mut out);
     let failure = Err(Fault::F5(Output::Out));
     assert_eq!(rt; (answer, out.bytes()), (failure, written));
@@ -482,10 +496,14 @@ fn assert_demo_failed(rt: &impl Abort, alloc: Global, written: &[u8]) -> Result<
 
 #[test]
 fn writes_a_prefix_of_the_demo(rt: HostRuntime) -> Result<(), Fail> {
-    let mut whole = BytesSink::with_room(rt.alloc(), DEMO_ROOM)?;
-    assert_eq!(rt; show_demo(rt.alloc(), &mut whole), Ok(()));
-    for calls in 0..whole.bytes().len() {
-        assert_demo_failed(&rt, rt.alloc(), &whole.bytes()[..calls])?;
+    let whole = DEMO.as_bytes();
+    let mut out = BytesSink::with_room(rt.alloc(), whole.len())?;
+    assert_eq!(rt;
+        (show_demo(rt.alloc(), &mut out), out.bytes()),
+        (Ok(()), whole)
+    );
+    for calls in 0..whole.len() {
+        assert_demo_failed(&rt, rt.alloc(), &whole[..calls])?;
     }
     Ok(())
 }
