@@ -92,7 +92,7 @@ impl Page {
         let word = spelling(number);
         let end = self.used + 1 + word[3] as usize;
         self.push_byte(mark);
-        self.push_bytes(word);
+        self.push_bytes(&word);
         self.shorten(end);
     }
 

@@ -26,11 +26,12 @@ static WORDS: [[u8; 4]; 1000] = words!(
     [b'0' b'1' b'2' b'3' b'4' b'5' b'6' b'7' b'8' b'9']
 );
 
-/// Returns four bytes: the digits of the number come first, and the last byte says how many they are.
+/// Returns four bytes: the digits of the number come first, and the last byte says how many they are. They are handed
+/// out by value, so that they stay in a register while the page is written to.
 #[inline(always)]
-pub fn spelling(number: u64) -> &'static [u8; 4]
+pub fn spelling(number: u64) -> [u8; 4]
     requires { number < 1000 }
-    ensures { IsSpelling number result.now }
+    ensures { IsSpelling number result }
 {
-    &WORDS[number as usize]
+    WORDS[number as usize]
 }

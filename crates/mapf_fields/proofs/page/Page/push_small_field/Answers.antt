@@ -6,7 +6,7 @@ use Rattle.mapf_fields.proofs.page.Page.push_small_field.Goals as goal
 pub returns-clause-text : goal.returns-clause-text
 returns-clause-text c =
     let held = c.args.self.now in
-    let word = c.spelling-word.result.now in
+    let word = c.spelling-word.result in
     let used = c.self.inside.used in
     let bytes = c.self.inside.bytes in
     let view : take used bytes ≡ held = c.self.view_is in
