@@ -152,11 +152,9 @@ take_none task states from to taken = record {
   taken = taken;
 }
 
--- once the steps to all cells of the neighbourhood were taken, all steps from the state were taken
-pub close : (task : Task) (states : States) (from : State) (busy : List State) → IsFrontier task (from ∷ busy) states → (value : ℕ) → IsValue task from value → 0 < task.grid.width →
-    ((to : ℕ) → Contains (neighbourhood task.grid.width from.cell) (Some to) → IsTaken task states from to) →
-    IsFrontier task busy states
-close task states from busy f value is wide taken = record {
+-- once all steps from the state were taken, they aren't to be taken any more
+pub settle : (task : Task) (states : States) (from : State) (busy : List State) → IsFrontier task (from ∷ busy) states → IsClosed task states from → IsFrontier task busy states
+settle task states from busy f done = record {
   start = f.start;
   low = f.low;
   top = f.top;
@@ -167,14 +165,20 @@ close task states from busy f value is wide taken = record {
   entered = f.entered;
   closed = λ s h. ⊎_elim
       (λ waits. ⊎_elim
-      (λ same. inr (subst (IsClosed task states) same
-      (λ to may. taken to (step_neighbour task.grid from.cell wide (value_free task from value is) to may.step) may)))
+      (λ same. inr (subst (IsClosed task states) same done))
       (λ rest. inl rest)
       (Contains-cons_cases from s busy waits))
       (λ c. inr c)
       (f.closed s h);
   quiet = f.quiet;
 }
+
+-- that is so once the steps to all cells of the neighbourhood were taken
+pub close : (task : Task) (states : States) (from : State) (busy : List State) → IsFrontier task (from ∷ busy) states → (value : ℕ) → IsValue task from value → 0 < task.grid.width →
+    ((to : ℕ) → Contains (neighbourhood task.grid.width from.cell) (Some to) → IsTaken task states from to) →
+    IsFrontier task busy states
+close task states from busy f value is wide taken = settle task states from busy f
+    (λ to may. taken to (step_neighbour task.grid from.cell wide (value_free task from value is) to may.step) may)
 
 -- the last open state is taken
 module _ (task : Task) (states : States) (state : State) (f : IsFrontier task [] (with_open states state)) where

@@ -5,14 +5,14 @@ use Rattle.std.proofs.lemmas.List.Elements.{Contains-append_left}
 use Rattle.mapf_model.specs.Labels.{MayGo}
 use Rattle.mapf_model.proofs.ContainsLemmas.{Contains-none}
 use Rattle.mapf_spacetime.specs.declared.state.State.{State}
-use Rattle.mapf_spacetime.specs.Frontiers.{States, first_states, low_states, with_open, AreLowReached, IsAtGoal, IsFrontier, IsKnown, IsExhausted, takes_left}
+use Rattle.mapf_spacetime.specs.Frontiers.{States, first_states, low_states, with_open, AreLowReached, IsAtGoal, IsClosed, IsFrontier, IsKnown, IsExhausted, takes_left}
 use Rattle.mapf_spacetime.specs.Levels.{IsWalkTo}
 use Rattle.mapf_spacetime.specs.PathSearch.{CanArrive, IsWholeWalk}
 use Rattle.mapf_spacetime.specs.Sweeps.{Sweeping, IsEarlier, IsFrom, IsWhole, HasArrived, AreAll}
 use Rattle.mapf_spacetime.specs.Task.{Task, IsValue, MayRestFrom, state_at, start_of}
 use Rattle.mapf_spacetime.proofs.FrontierLemmas.{reached_within, at_goal_open, rest_at_cost}
 use Rattle.mapf_spacetime.proofs.PathLemmas.{walk_leads}
-use Rattle.mapf_spacetime.proofs.ValueLemmas.{level_within, no_lower, value_unique}
+use Rattle.mapf_spacetime.proofs.ValueLemmas.{level_within, no_lower, not_higher, value_unique}
 
 -- the states of a whole sweep were reached, and the steps from them are still to be taken
 module _ (task : Task) (sweep : Sweeping) (w : IsWhole task sweep) where
@@ -42,6 +42,16 @@ module _ (task : Task) (sweep : Sweeping) (w : IsWhole task sweep) where
       (λ other. ⊎_elim
       (λ (cut, (past, past_is, more)). absurd (let same = value_unique task (state_at to (from.tick + 1)) value past is past_is in omega arith))
       (λ none. absurd (none is.distance is.is.walk))
+      other)
+      (w.followed from held to may)
+
+  -- from a state further below than a step can raise the f-value, each step leads to a state of the sweep
+  pub inner_closed : (states : States) → states.reached ≡ sweep.states → (from : State) → Contains sweep.states from → (value : ℕ) → IsValue task from value → value + 2 ≤ sweep.bound → IsClosed task states from
+  inner_closed states same from held value is low to may = ⊎_elim
+      (λ there. inl (inl (subst (λ l. Contains l (state_at to (from.tick + 1))) (sym same) there)))
+      (λ other. ⊎_elim
+      (λ (cut, (past, past_is, more)). absurd (let high = not_higher task from (state_at to (from.tick + 1)) value past is past_is (record { may = may; tick = refl }) in omega arith))
+      (λ none. inr none)
       other)
       (w.followed from held to may)
 

@@ -229,9 +229,13 @@ impl Frontier {
         self.later_states.clear();
         self.cost = cost;
         self.below = self.reached.len();
+        // A step raises the f-value by at most two, so from states further below only states of the sweep are reached.
+        let inner = cost.saturating_sub(2);
         for place in 0..self.below {
             let from = self.reached.states()[place];
-            self.take_all(ground, &from)?;
+            if !ground.is_below(&from, inner) {
+                self.take_all(ground, &from)?;
+            }
         }
         Ok(())
     }

@@ -46,21 +46,22 @@ pub fn by_turns<B: BarTable>(
     ensures { IfOk result (IsUpTo ground.now bound sweep.new) }
 {
     let mut walk = PathSearch::of(alloc, ground.start(), bound)?;
-    // Whether the walk can go on.
-    let mut is_paused = true;
-    match walk.search(ground, bound, FREE_FAILURES)? {
+    // From how many states the walk was allowed to backtrack; from any number once it has nowhere to go.
+    let mut allowed = FREE_FAILURES;
+    match walk.search(ground, bound, allowed)? {
         SearchEnd::AtGoal => return Ok(UpToBound::Walked(walk.into_cells())),
         SearchEnd::Paused => {}
-        SearchEnd::NoWay => is_paused = false,
+        SearchEnd::NoWay => allowed = usize::MAX,
     }
     let mut arrives = sweep.begin(ground, bound)?;
     while !arrives && !sweep.is_over() {
-        if is_paused {
-            let most_failures = most_failures(sweep, ground.horizon(), states_per_failure);
+        let most_failures = most_failures(sweep, ground.horizon(), states_per_failure);
+        if most_failures > allowed {
+            allowed = most_failures;
             match walk.search(ground, bound, most_failures)? {
                 SearchEnd::AtGoal => return Ok(UpToBound::Walked(walk.into_cells())),
                 SearchEnd::Paused => {}
-                SearchEnd::NoWay => is_paused = false,
+                SearchEnd::NoWay => allowed = usize::MAX,
             }
         }
         arrives = sweep.advance(ground)?;

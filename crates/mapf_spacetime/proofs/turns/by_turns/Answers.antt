@@ -3,7 +3,7 @@ use Rattle.std.proofs.lemmas.Bool.{cases_lt, false≢true, iff_false}
 use Rattle.mapf_spacetime.specs.PathSearchEnds.{IsEnd}
 use Rattle.mapf_spacetime.proofs.SweepLemmas.{last_tick, whole}
 use Rattle.mapf_spacetime.proofs.turns.by_turns.Goals as goal
-use Rattle.mapf_spacetime.proofs.turns.by_turns.Goals.{then-loop-arrives-test+else-not-is_over, else-loop-arrives-test, then-is_paused+in_ok-search-2+in-Paused-2, then-is_paused+in_ok-search-2+in-NoWay-2, else-is_paused}
+use Rattle.mapf_spacetime.proofs.turns.by_turns.Goals.{then-loop-arrives-test+else-not-is_over, else-loop-arrives-test, then-most_failures-allowed+in_ok-search-2+in-Paused-2, then-most_failures-allowed+in_ok-search-2+in-NoWay-2, else-most_failures-allowed}
 
 pub loop-arrives-smaller : goal.loop-arrives-smaller
 loop-arrives-smaller g c =
@@ -30,8 +30,8 @@ loop-arrives-preserved g c =
     let task = c.args.ground.now in
     let bound = c.args.bound in
     let did = c.in_ok-arrives-2.ensures in
-    elim c.if-is_paused.branch [
-      | then-is_paused+in_ok-search-2+in-Paused-2 w ↦ rw w.walk-is (record { arrives = did.arrives; goes = did.goes; bound = did.bound ∙ c.loop-arrives.invariant.bound; searching = subst (IsEnd task bound w.search-then-is_paused.new.self) w.in-Paused-2.is w.in_ok-search-2.ensures })
-      | then-is_paused+in_ok-search-2+in-NoWay-2 w ↦ rw w.walk-is (record { arrives = did.arrives; goes = did.goes; bound = did.bound ∙ c.loop-arrives.invariant.bound; searching = (subst (IsEnd task bound w.search-then-is_paused.new.self) w.in-NoWay-2.is w.in_ok-search-2.ensures).0 })
-      | else-is_paused w ↦ rw w.walk-is (record { arrives = did.arrives; goes = did.goes; bound = did.bound ∙ c.loop-arrives.invariant.bound; searching = c.loop-arrives.invariant.searching })
+    elim c.if-most_failures-allowed.branch [
+      | then-most_failures-allowed+in_ok-search-2+in-Paused-2 w ↦ rw w.walk-is (record { arrives = did.arrives; goes = did.goes; bound = did.bound ∙ c.loop-arrives.invariant.bound; searching = subst (IsEnd task bound w.search-then-most_failures-allowed.new.self) w.in-Paused-2.is w.in_ok-search-2.ensures })
+      | then-most_failures-allowed+in_ok-search-2+in-NoWay-2 w ↦ rw w.walk-is (record { arrives = did.arrives; goes = did.goes; bound = did.bound ∙ c.loop-arrives.invariant.bound; searching = (subst (IsEnd task bound w.search-then-most_failures-allowed.new.self) w.in-NoWay-2.is w.in_ok-search-2.ensures).0 })
+      | else-most_failures-allowed w ↦ rw w.walk-is (record { arrives = did.arrives; goes = did.goes; bound = did.bound ∙ c.loop-arrives.invariant.bound; searching = c.loop-arrives.invariant.searching })
     ]
