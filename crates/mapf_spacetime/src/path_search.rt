@@ -130,10 +130,11 @@ impl PathSearch {
         if !is_within(ground, &next, cost) {
             return false;
         }
-        if !ground.lets_if(is_barred, from, to) {
+        // A failed state is found sooner than a constraint where there are many.
+        if self.failed.has(&next) {
             return false;
         }
-        !self.failed.has(&next)
+        ground.lets_if(is_barred, from, to)
     }
 
     /// Returns the least cell of the state's neighbourhood from which the agent may still arrive.

@@ -3,7 +3,6 @@ use Rattle.mapf_model.proofs.StepLemmas.{neighbour_step, step_end}
 use Rattle.mapf_spacetime.specs.Task.{state_at}
 use Rattle.mapf_spacetime.proofs.ValueLemmas.{value_free}
 use Rattle.mapf_spacetime.proofs.path_search.PathSearch.leads.Goals as goal
-use Rattle.std.proofs.lemmas.Bool.{not-false}
 
 pub lets_if-requires-clause-free : goal.lets_if-requires-clause-free
 lets_if-requires-clause-free g c none =
@@ -23,5 +22,8 @@ pub returns-then-not-is_within-clause-no : goal.returns-then-not-is_within-claus
 returns-then-not-is_within-clause-no g c = λ no may arrives.
     absurd (c.if-not-is_within.ensures.no refl (step_end c.args.ground.now.grid c.args.from.now.cell c.args.to may.step) arrives)
 
+pub returns-then-has-clause-no : goal.returns-then-has-clause-no
+returns-then-has-clause-no g c = rw (← c.self.view_is) (λ no may arrives. c.if-has.ensures.0 refl)
+
 pub returns-clause-no : goal.returns-clause-no
-returns-clause-no g c = rw (← c.self.view_is) (λ no may arrives. c.has.ensures.0 (not-false c.has.result no))
+returns-clause-no g c = λ no may arrives. absurd (c.lets_if.ensures.no no may)
