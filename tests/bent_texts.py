@@ -84,7 +84,7 @@ NUMBERS = {
     "takes a fraction of 0": [(NUMBER, r'NUMBER = r"(0|[1-9][0-9]*)(?:\.0)?"'),
                               (LABEL, r'r"(inf|[1-9][0-9]*|0)(?:\.0)?"')],
     "takes a power of ten": [(NUMBER, 'NUMBER = "(0|[1-9][0-9]*)(?:e0)?"')],
-    "takes digits of any script": [(NUMBER, r'NUMBER = r"(0|[^\D0]\d*)"'),
+    "takes digits of any script": [(NUMBER, r'NUMBER = r"(0|(?!0)\d+)"'),
                                    (LINE, '        return line[:-1].decode("utf-8")\n')],
     "takes underscores between digits": [(NUMBER, 'NUMBER = "(0|[1-9][0-9_]*)"')],
     "takes numbers modulo 2^64": [(VALUE, "return int(digits) % 2 ** 64")],
