@@ -19,7 +19,7 @@ TAKE_ENTRY = "                x, y, tick, label = self.take([ENTRY])[1]\n"
 RISE, LAST = "(tick, y, x) <= last", "last = (tick, y, x)"
 BLOCKS_OF_NODE = "for agent, entries in blocks:"
 DUE = "            due.extend(reversed(self.judge_item(due.pop())))\n"
-JUDGE_ITEM = "    def judge_item(self, node):\n"
+JUDGE_ITEM = "    def judge_item(self, node: Node) -> list[Node]:\n"
 JUDGE_BELOW = ("    def judge_below(self, node):\n        for child in self.judge_item(node):\n"
                "            self.judge_below(child)\n\n")
 

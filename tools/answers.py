@@ -9,11 +9,15 @@ yaml    the schedules of libMultiRobotPlanning, which schedules.py reads
 plan    plan texts of mapf
 """
 
+import argparse
 import re
 from itertools import islice
+from pathlib import Path
 
-from common import Cells, Text, ToolError, cut_waits, plan_text, read_bytes, read_plan, shortened
+from plans import Cell, cut_waits
+from process import ToolError
 from schedules import read_schedule
+from texts import Cells, Text, plan_text, read_bytes, read_plan, shortened
 
 FORMATS = "paths", "lacam", "yaml", "plan"
 
@@ -25,14 +29,14 @@ TICK_0 = r"\s*0\s*:\s*\("
 BEGINNINGS = {"paths": AGENT.pattern, "lacam": rf"\w+=|{TICK_0}", "yaml": r"\w+:", "plan": "mapf-plan "}
 
 
-def add_options(parser):
+def add_options(parser: argparse.ArgumentParser) -> None:
     """Lets a tool's words say how its answer is to be read."""
     parser.add_argument("--format", choices=FORMATS, help="the answer's format, if the first line doesn't tell it")
     parser.add_argument("--exchange-xy", action="store_true",
                         help="exchange x and y of each cell, if the solver wrote them the other way round")
 
 
-def read_answer(path, count, name=None, is_exchanged=False):
+def read_answer(path: str | Path, count: int, name: str | None = None, is_exchanged: bool = False) -> list[list[Cell]]:
     """The paths of so many agents in their order, without waits at their ends. Unless the format is named it is told
     by the first line.
     """
@@ -40,13 +44,13 @@ def read_answer(path, count, name=None, is_exchanged=False):
     return list(map(exchanged, paths)) if is_exchanged else paths
 
 
-def exchanged(path):
+def exchanged(path: list[Cell]) -> list[Cell]:
     """The path with x and y of each cell exchanged."""
     others = {(x, y): (y, x) for x, y in set(path)}
     return [others[cell] for cell in path]
 
 
-def paths_in(path, data, count, name=None):
+def paths_in(path: str | Path, data: bytes, count: int, name: str | None = None) -> list[list[Cell]]:
     """The paths of so many agents in the bytes of a file."""
     text = text_of(path, data)
     if not any(text.lines):
@@ -58,18 +62,19 @@ def paths_in(path, data, count, name=None):
     return [cut_waits(paths[agent]) for agent in numbered(text, paths, count)]
 
 
-def as_plan_text(path, data, count):
+def as_plan_text(path: str | Path, data: bytes, count: int) -> bytes:
     """An answer of another solver as a plan text of mapf. A plan text, and what has no format, stays as it is."""
     is_foreign = format_of(text_of(path, data)) not in (None, "plan")
     return plan_text(paths_in(path, data, count)).encode() if is_foreign else data
 
 
-def text_of(path, data):
+def text_of(path: str | Path, data: bytes) -> Text:
+    """The lines of an answer, without the blanks at their ends."""
     lines = data.decode("utf-8-sig", errors="replace").replace("\r\n", "\n").split("\n")
     return Text(str(path), [line.rstrip() for line in lines])
 
 
-def format_of(text):
+def format_of(text: Text) -> str | None:
     """The format, None where it is none of them. The second line tells of paths, and the first of all formats."""
     lines = [text.line(number) for number in first_lines(text)]
     if len(lines) == 2 and AGENT.match(lines[1]):
@@ -77,13 +82,14 @@ def format_of(text):
     return next((name for name, begins in BEGINNINGS.items() if lines and re.match(begins, lines[0])), None)
 
 
-def first_lines(text):
+def first_lines(text: Text) -> list[int]:
     """The numbers of the first two lines that are neither blank nor a remark nor a mark of YAML."""
     lines = enumerate(text.lines, 1)
     return list(islice((number for number, line in lines if line and not line.startswith(("#", "---"))), 2))
 
 
-def no_format(text):
+def no_format(text: Text) -> ToolError:
+    """The error of an answer that has none of the formats."""
     numbers = first_lines(text)
     if not numbers:
         return ToolError(f"{text.path} holds remarks alone: let the solver write its answer there")
@@ -91,7 +97,7 @@ def no_format(text):
                                   "them, as tools/verify --help shows them")
 
 
-def numbered(text, paths, count):
+def numbered(text: Text, paths: dict[int, list[Cell]], count: int) -> range:
     """The numbers of the agents, of which each has to have a path, and nobody else."""
     missing = [agent for agent in range(count) if agent not in paths]
     if missing and len(paths) < count:
@@ -104,10 +110,12 @@ def numbered(text, paths, count):
     return range(count)
 
 
-def read_paths(text):
+def read_paths(text: Text) -> dict[int, list[Cell]]:
+    """The paths, by agent, of a path file."""
     found = {number: AGENT.match(line) for number, line in enumerate(text.lines, 1) if line}
     agents = [number for number, line in found.items() if line]
-    paths, cells = {}, Cells(CELL, is_row_first=True)
+    paths: dict[int, list[Cell]] = {}
+    cells = Cells(CELL, is_row_first=True)
     for number, line in found.items():
         if agents and not agents[0] <= number <= agents[-1]:
             continue
@@ -119,7 +127,7 @@ def read_paths(text):
     return paths
 
 
-def cells_of(text, number, cells, listed, between):
+def cells_of(text: Text, number: int, cells: Cells, listed: str, between: str) -> list[Cell]:
     """The cells of a line. What stands between them may also end it."""
     words = "".join(listed.split()).removesuffix(between).replace(f"){between}", ") ").split(" ")
     found, wrong = cells.of(words)
@@ -129,13 +137,15 @@ def cells_of(text, number, cells, listed, between):
     return found
 
 
-def read_lacam(text):
+def read_lacam(text: Text) -> dict[int, list[Cell]]:
+    """The paths, by agent, of a log with the cells of each tick."""
     is_log = not any(re.match(TICK_0, line) for line in text.lines[:1])
     if is_log and "solution=" not in text.lines:
         raise ToolError(f"{text.path} has no line 'solution=': short logs leave it out, so let the solver write the "
                         "long one")
     begin = text.lines.index("solution=") + 1 if is_log else 0
-    ticks, cells = [], Cells(CELL)
+    ticks: list[list[Cell]] = []
+    cells = Cells(CELL)
     for number, line in enumerate(text.lines[begin:], begin + 1):
         if re.match(r"\w+=", line):
             break
@@ -147,7 +157,7 @@ def read_lacam(text):
     return dict(enumerate(map(list, zip(*ticks))))
 
 
-def tick_of(text, number, cells, line, ticks):
+def tick_of(text: Text, number: int, cells: Cells, line: str, ticks: list[list[Cell]]) -> list[Cell]:
     """The cells of the next tick, of each agent one."""
     found = re.fullmatch(r"\s*([0-9]+)\s*:(.*)", line)
     if not found or found[1] != str(len(ticks)):
@@ -159,7 +169,8 @@ def tick_of(text, number, cells, line, ticks):
     return here
 
 
-def read_own(path, data):
+def read_own(path: str | Path, data: bytes) -> dict[int, list[Cell]]:
+    """The paths, by agent, of a plan text of mapf."""
     plan = read_plan(path, data)
     if plan.kind != "cost":
         raise ToolError(f"{path} holds no plan: its answer is '{data.splitlines()[2].decode()}'")

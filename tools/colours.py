@@ -2,6 +2,9 @@
 
 import math
 
+# The place of a colour in Oklab: its lightness, and its two axes of colour.
+Place = tuple[float, float, float]
+
 # The lightness, strength and hues of which colours are chosen, in Oklch. All stand out from the greys of a map.
 LIGHTNESS = (0.50, 0.58, 0.66, 0.74, 0.82)
 STRENGTH = (0.10, 0.14, 0.18, 0.22)
@@ -11,7 +14,7 @@ HUES = range(0, 360, 6)
 FIRST = (0.58, 0.18, 258)
 
 
-def colours(count):
+def colours(count: int) -> list[str]:
     """So many colours as '#rrggbb', always the same. Each is the one that is furthest from those before it."""
     there = [place for place in candidates() if rgb(place) is not None]
     chosen = [place_of(*FIRST)]
@@ -23,22 +26,25 @@ def colours(count):
     return ["#%02x%02x%02x" % rgb(place) for place in chosen[:count]]
 
 
-def candidates():
+def candidates() -> list[Place]:
+    """The places among which colours are chosen. Not each has a colour in sRGB."""
     return [place_of(light, strength, hue) for light in LIGHTNESS for strength in STRENGTH for hue in HUES]
 
 
-def place_of(light, strength, hue):
+def place_of(light: float, strength: float, hue: float) -> Place:
     """The place of a colour in Oklab, where equal distances look about equally different."""
     angle = math.radians(hue)
     return light, strength * math.cos(angle), strength * math.sin(angle)
 
 
-def distance(one, other):
-    """Of two colours. Lightness counts less than in Oklab: on a map, small discs differ more by their hue."""
+def distance(one: Place, other: Place) -> float:
+    """How different two colours look. Lightness counts less than in Oklab: on a map, small discs differ more by their
+    hue.
+    """
     return math.hypot(0.7 * (one[0] - other[0]), one[1] - other[1], one[2] - other[2])
 
 
-def rgb(place):
+def rgb(place: Place) -> tuple[int, ...] | None:
     """The bytes of a colour in sRGB, None where it has none."""
     light, a, b = place
     long, middle, short = (
@@ -56,5 +62,6 @@ def rgb(place):
     return tuple(round(255 * encoded(min(max(part, 0), 1))) for part in linear)
 
 
-def encoded(part):
+def encoded(part: float) -> float:
+    """The part of a colour that sRGB has for this part of its light."""
     return 12.92 * part if part <= 0.0031308 else 1.055 * part ** (1 / 2.4) - 0.055

@@ -10,15 +10,18 @@ that stands under other names than `schedule:`.
 """
 
 import re
+from collections.abc import Iterator
 
-from common import ToolError, shortened
+from plans import Cell
+from process import ToolError
+from texts import Text, shortened
 
 AGENT = re.compile("""(["']?)agent([0-9]{1,10})\\1 *:""")
 NUMBER = re.compile("-?[0-9]{1,10}")
 REMARK = re.compile("(^|[ \t])#.*")
 
 
-def read_schedule(text):
+def read_schedule(text: Text) -> dict[int, list[Cell]]:
     """The paths, by agent."""
     schedule = Schedule(text)
     for number, line in lines_of_schedule(text):
@@ -29,9 +32,10 @@ def read_schedule(text):
     return schedule.paths
 
 
-def lines_of_schedule(text):
+def lines_of_schedule(text: Text) -> Iterator[tuple[int, str]]:
     """The lines below `schedule:`, each with its number, without blanks at its ends."""
-    is_inside, begun = False, None
+    is_inside = False
+    begun: int | None = None
     for number, line in enumerate(text.lines, 1):
         line = REMARK.sub("", line).rstrip() if "#" in line else line
         if line[:1] in (" ", "\t"):
@@ -49,13 +53,17 @@ def lines_of_schedule(text):
 class Schedule:
     """What was read of a schedule: the paths of whole agents, and the agent and the entry that are being read."""
 
-    def __init__(self, text):
+    def __init__(self, text: Text) -> None:
         self.text = text
-        self.paths = {}
-        self.name = self.path = self.entry = None
-        self.cells, self.numbers = {}, {}
+        self.paths: dict[int, list[Cell]] = {}
+        self.name: str | None = None
+        self.path: list[Cell] = []
+        self.entry: dict[str, str] | None = None
+        self.cells: dict[Cell, Cell] = {}
+        self.numbers: dict[str | None, int | None] = {}
 
-    def take(self, number, line):
+    def take(self, number: int, line: str) -> None:
+        """Reads the next line."""
         if line[0] == "-":
             self.end_entry()
             if self.name is None:
@@ -71,15 +79,16 @@ class Schedule:
         elif line:
             self.take_part(number, line)
 
-    def begin_agent(self, number, digits):
+    def begin_agent(self, number: int, digits: str) -> None:
+        """Begins the path of the agent with this number."""
         self.end_agent()
         if int(digits) in self.paths:
             raise self.text.fault(number, f"agent {int(digits)} stands above: leave one of them")
         self.name = f"agent{int(digits)}"
         self.path = self.paths[int(digits)] = []
 
-    def take_part(self, number, part):
-        """A part of an entry, as `x: 3`."""
+    def take_part(self, number: int, part: str) -> None:
+        """Reads a part of an entry, as `x: 3`."""
         name, colon, value = part.partition(":")
         name, value = name.strip("\"' "), value.strip()
         if colon and not value and name not in ("x", "y", "t"):
@@ -91,7 +100,8 @@ class Schedule:
             raise self.text.fault(number, f"the entry has two values of {name}: leave one of them")
         self.entry[name] = value
 
-    def end_entry(self):
+    def end_entry(self) -> None:
+        """Adds the cell of the entry that is being read, if there is one, to the agent's path."""
         if self.entry is None:
             return
         x, y, tick = (self.number(self.entry.get(name)) for name in ("x", "y", "t"))
@@ -104,13 +114,14 @@ class Schedule:
         self.path.append(self.cells.setdefault((x, y), (x, y)))
         self.entry = None
 
-    def number(self, word):
+    def number(self, word: str | None) -> int | None:
         """What a word spells, None where it is no whole number."""
         if word not in self.numbers:
             self.numbers[word] = int(word) if word and NUMBER.fullmatch(word) else None
         return self.numbers[word]
 
-    def end_agent(self):
+    def end_agent(self) -> None:
+        """Ends the path of the agent that is being read, if there is one."""
         self.end_entry()
         if self.name is not None and not self.path:
             raise ToolError(f"{self.text.path}, 'schedule:': '{self.name}' has to be 'agentN' with a list of x, y and t")

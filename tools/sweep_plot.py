@@ -2,9 +2,12 @@
 are solved in which time.
 """
 
+from collections.abc import Callable, Iterable, Mapping
 from dataclasses import dataclass
 from html import escape
 from math import ceil, floor, log10
+
+from sweep_points import Point
 
 WIDTH, HEIGHT = 340, 250
 LEFT, RIGHT, TOP, BOTTOM = 46, 12, 28, 42
@@ -18,10 +21,13 @@ MARKS = ('<circle r="3.4"/>', '<rect x="-3.2" y="-3.2" width="6.4" height="6.4"/
 # Processor time is measured in milliseconds, so that less than one counts as one.
 LEAST_SECONDS = 0.001
 
+# A mark of a curve: x, y, its class, and what it says when it is pointed at.
+Mark = tuple[float, float, str, str]
+
 
 # The plots.
 
-def plot(name, found):
+def plot(name: str, found: list[Point]) -> str:
     """The success rate of one map, from its points."""
     most = max(one.agents for one in found)
     kinds = kinds_of(found)
@@ -34,7 +40,7 @@ def plot(name, found):
                   + legend(kinds, HEIGHT - BOTTOM - PAD - 8 - 16 * (len(kinds) - 1)))
 
 
-def runtime(name, found, words):
+def runtime(name: str, found: list[Point], words: Callable[[float], str]) -> str:
     """The median of the seconds in which a map is solved, from its points. `words` spells seconds."""
     there = [one for one in found if one.solve is not None]
     if not there:
@@ -48,7 +54,7 @@ def runtime(name, found, words):
                   + legend(kinds, TOP + 14), "runtime")
 
 
-def cactus(name, times, words):
+def cactus(name: str, times: Mapping[str, list[float]], words: Callable[[float], str]) -> str:
     """How many runs of a map are solved in which time: of each kind the seconds of the solved runs."""
     there = {kind: sorted(seconds) for kind, seconds in times.items() if seconds}
     if not there:
@@ -64,22 +70,25 @@ def cactus(name, times, words):
                   + legend(list(there), TOP + 14), "cactus")
 
 
-def kinds_of(found):
+def kinds_of(found: Iterable[Point]) -> list[str]:
+    """The kinds of scenarios that the points have, each once."""
     return list(dict.fromkeys(one.kind for one in found))
 
 
 # Scales.
 
-def tick_step(most):
+def tick_step(most: int) -> int:
     """The least step of 1, 2 or 5 times a power of ten with which at most seven ticks are needed."""
     return next(step for power in range(9) for step in (10**power, 2 * 10**power, 5 * 10**power) if most < 7 * step)
 
 
-def across(count, most):
+def across(count: int, most: int) -> float:
+    """Where a number of up to so many stands, from the left."""
     return round(LEFT + PAD + (WIDTH - LEFT - RIGHT - 2 * PAD) * count / most, 1)
 
 
-def up(part):
+def up(part: float) -> float:
+    """Where a part of the height stands, from the top."""
     return round(HEIGHT - BOTTOM - PAD - (HEIGHT - TOP - BOTTOM - 2 * PAD) * part, 1)
 
 
@@ -91,27 +100,31 @@ class Decades:
     high: int
 
     @classmethod
-    def of(cls, values):
+    def of(cls, values: list[float]) -> "Decades":
+        """The scale on which all these seconds stand."""
         low = floor(log10(max(min(values), LEAST_SECONDS)))
         return cls(low, max(ceil(log10(max(*values, LEAST_SECONDS))), low + 1))
 
-    def part(self, seconds):
+    def part(self, seconds: float) -> float:
+        """The part of the height at which so many seconds stand."""
         return (log10(max(seconds, LEAST_SECONDS)) - self.low) / (self.high - self.low)
 
-    def ticks(self):
+    def ticks(self) -> dict[float, str]:
+        """The parts of the height that have a number, each with it."""
         return {self.part(10.0 ** power): f"{10.0 ** power:g}" for power in range(self.low, self.high + 1)}
 
 
 # Their parts.
 
-def figure(name, what, parts, kind=""):
+def figure(name: str, what: str, parts: str, kind: str = "") -> str:
+    """A plot of a map with these parts, and a class if it has a kind."""
     kind = kind and f' class="{kind}"'
     return (f'<figure{kind}><svg viewBox="0 0 {WIDTH} {HEIGHT}" role="img" aria-label="{what} on {escape(name)}">'
             f'<text class="title" x="{(LEFT + WIDTH - RIGHT) / 2}" y="17">{escape(name)}</text>'
             f"{parts}</svg></figure>\n")
 
 
-def frame(most, x_name, y_ticks, y_name):
+def frame(most: int, x_name: str, y_ticks: Mapping[float, str], y_name: str) -> str:
     """The rules with their numbers, and the names of both axes. The ticks are the parts of the height with a word."""
     left, right, low, high = LEFT, WIDTH - RIGHT, HEIGHT - BOTTOM, TOP
     parts = []
@@ -129,26 +142,29 @@ def frame(most, x_name, y_ticks, y_name):
             f'<text class="axis" x="12" y="{middle}" transform="rotate(-90 12 {middle})">{y_name}</text>')
 
 
-def curve(marks, number):
-    """A line through the marks of one kind. Each is x, y, its class, and what it says when it is pointed at."""
+def curve(marks: list[Mark], number: int) -> str:
+    """A line through the marks of one kind."""
     return group(number, line([one[:2] for one in marks]) + "".join(mark(one, number) for one in marks))
 
 
-def group(number, parts):
+def group(number: int, parts: str) -> str:
+    """Parts with the look of the kind of this number."""
     return f'<g class="kind{number % len(MARKS)}">{parts}</g>'
 
 
-def line(places):
+def line(places: Iterable[tuple[float, float]]) -> str:
+    """A line through these places."""
     return f'<polyline points="{" ".join(f"{x},{y}" for x, y in places)}"/>'
 
 
-def mark(one, number):
+def mark(one: Mark, number: int) -> str:
+    """A mark with the sign of the kind of this number."""
     x, y, kind, title = one
     return (f'<g class="{kind}" transform="translate({x} {y})">{MARKS[number % len(MARKS)]}'
             f"<title>{title}</title></g>")
 
 
-def legend(kinds, top):
+def legend(kinds: list[str], top: float) -> str:
     """The names of the kinds, if there are several, at the left, where curves seldom are."""
     parts = []
     for number, kind in enumerate(kinds if len(kinds) > 1 else []):

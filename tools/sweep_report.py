@@ -1,14 +1,13 @@
 """What tools/sweep shows of its rows: the success rate of each map, as a table and as a page that stands alone."""
 
-import re
 from collections import Counter
-from dataclasses import dataclass
+from collections.abc import Iterable
 from html import escape
 from pathlib import Path
-from statistics import median
 
 from sweep_plot import cactus, plot, runtime
-from sweep_rows import NO_AGENTS, NO_MAP, SOLVED, USUAL, natural
+from sweep_points import Point, kind_of
+from sweep_rows import SOLVED, USUAL, Row
 
 STYLE = Path(__file__).resolve().with_name("sweep_report.css")
 
@@ -16,76 +15,22 @@ STYLE = Path(__file__).resolve().with_name("sweep_report.css")
 MANY = 60
 
 
-@dataclass(frozen=True)
-class Point:
-    """What is known of the scenarios of one map and kind with so many agents. Medians are those of solved runs."""
-
-    map: str
-    kind: str
-    agents: int
-    tried: int
-    solved: int
-    pending: int
-    makespan: float | None
-    solve: float | None
-    check: float | None
-    splits: float | None
-    certificate: float | None
-    memory: int
-
-    def rate(self):
-        return self.solved / self.tried
-
-
-def kind_of(scenario):
-    """`even` or `random`, where the name of a scenario ends as those of the benchmark do."""
-    found = re.search(r"-(even|random)-[0-9]+$", scenario)
-    return found[1] if found else ""
-
-
-def points(rows, scenarios):
-    """The points of each map, by its name, its kinds and the number of agents."""
-    there = [row for row in rows if row.status not in (NO_MAP, NO_AGENTS)]
-    groups = {(row.map, kind_of(row.scenario)) for row in there}
-    found = []
-    for name, kind in sorted(groups, key=lambda group: (natural(group[0]), group[1])):
-        of_group = [row for row in there if (row.map, kind_of(row.scenario)) == (name, kind)]
-        most = {scenario.name: scenario.agents for scenario in scenarios
-                if (scenario.map, kind_of(scenario.name)) == (name, kind) and scenario.grid is not None}
-        for agents in sorted({int(row.agents) for row in of_group}):
-            found.append(point(name, kind, agents, of_group, [own for own, count in most.items() if count >= agents]))
-    return [one for one in found if one.tried]
-
-
-def point(name, kind, agents, rows, scenarios):
-    """A scenario that wasn't solved with fewer agents counts as tried, and not solved, with so many."""
-    ended = {row.scenario for row in rows if row.status != SOLVED and int(row.agents) < agents}
-    here = [row for row in rows if int(row.agents) == agents]
-    solved = [row for row in here if row.status == SOLVED]
-    tried = ended | {row.scenario for row in here}
-    return Point(name, kind, agents, len(tried), len(solved), len(set(scenarios) - tried), middle(solved, "makespan"),
-                 middle(solved, "solve_seconds"), middle(solved, "check_seconds"), middle(solved, "splits"),
-                 middle(solved, "certificate_bytes"),
-                 max((int(kb) for row in here for kb in (row.solve_kb, row.check_kb) if kb), default=0))
-
-
-def middle(rows, name):
-    return median(float(getattr(row, name)) for row in rows) if rows else None
-
-
 # Values in words.
 
-def seconds(value):
+def seconds(value: float | None) -> str:
+    """Seconds as a person reads them. What isn't known is an empty text, here and below."""
     if value is None:
         return ""
     return f"{1000 * value:.0f} ms" if value < 0.9995 else f"{value:.2f} s" if value < 10 else f"{value:.1f} s"
 
 
-def count(value):
+def count(value: float | None) -> str:
+    """A number without its fraction."""
     return "" if value is None else f"{value:,.0f}"
 
 
-def size(value):
+def size(value: float | None) -> str:
+    """A number of bytes, in the unit that fits it."""
     if value is None:
         return ""
     for unit in ("B", "kB", "MB"):
@@ -100,13 +45,14 @@ def size(value):
 HEAD = ("agents", "solved", "rate", "makespan", "solve", "check", "splits", "certificate", "memory")
 
 
-def cells(one):
+def cells(one: Point) -> tuple[str, ...]:
+    """What a table shows of a point, below HEAD."""
     solved = f"{one.solved} of {one.tried}" + (f", {one.pending} to go" if one.pending else "")
     return (str(one.agents), solved, f"{one.rate():.2f}", count(one.makespan), seconds(one.solve), seconds(one.check),
             count(one.splits), size(one.certificate), size(one.memory * 1024) if one.memory else "")
 
 
-def table(found):
+def table(found: list[Point]) -> str:
     """The points as a table that can be read as it is, and that Markdown knows."""
     lines = [("map", "scenarios", *HEAD)] + [(one.map, one.kind, *cells(one)) for one in found]
     if len({one.kind for one in found}) < 2:
@@ -120,7 +66,7 @@ def table(found):
 
 # The page.
 
-def page(found, rows, limit, most_seconds):
+def page(found: list[Point], rows: list[Row], limit: int, most_seconds: float) -> str:
     """A page of HTML: no network, no script."""
     maps = list(dict.fromkeys(one.map for one in found))
     of_map = {name: [one for one in found if one.map == name] for name in maps}
@@ -159,22 +105,23 @@ were solved; memory is the most that solve or check held in any run (8 MB is tha
 """
 
 
-def times_of(rows, name):
+def times_of(rows: Iterable[Row], name: str) -> dict[str, list[float]]:
     """The seconds of the solved runs of a map, of each kind of scenarios."""
-    found = {}
+    found: dict[str, list[float]] = {}
     for row in rows:
         if row.map == name and row.status == SOLVED:
             found.setdefault(kind_of(row.scenario), []).append(float(row.solve_seconds))
     return dict(sorted(found.items()))
 
 
-def ends(rows):
+def ends(rows: list[Row]) -> str:
     """How many runs ended in which way, in one sentence."""
     counts = sorted(Counter(row.status for row in rows).items(), key=lambda one: (-one[1], one[0]))
     return f"{len(rows):,} runs: " + ", ".join(f"{number:,} {status}" for status, number in counts) + "."
 
 
-def table_of(name, found, is_open):
+def table_of(name: str, found: list[Point], is_open: bool) -> str:
+    """The points of one map as a table of the page."""
     kinds = len({one.kind for one in found}) > 1
     lines = "".join(html_line("td", ((one.kind,) if kinds else ()) + cells(one)) for one in found)
     head = html_line("th", (("scenarios",) if kinds else ()) + HEAD)
@@ -182,11 +129,12 @@ def table_of(name, found, is_open):
             f"<thead>{head}</thead><tbody>{lines}</tbody></table></div></details>\n")
 
 
-def html_line(tag, values):
+def html_line(tag: str, values: Iterable[str]) -> str:
+    """A line of a table, with cells of this tag."""
     return "<tr>" + "".join(f"<{tag}>{escape(value)}</{tag}>" for value in values) + "</tr>\n"
 
 
-def troubles(rows):
+def troubles(rows: list[Row]) -> str:
     """The runs that ended otherwise than with an answer or a limit."""
     if not rows:
         return ""

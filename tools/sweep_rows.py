@@ -4,9 +4,14 @@ import csv
 import io
 import os
 import re
+from collections.abc import Iterable
 from dataclasses import astuple, dataclass, fields
+from pathlib import Path
 
-from common import ToolError
+from process import ToolError
+
+# What stands for a name where names are put in order.
+Natural = list[tuple[int, str]]
 
 # What became of a run: its answer is a cheapest plan, and the checker confirmed it. Any other status ends its scenario.
 SOLVED = "solved"
@@ -37,17 +42,19 @@ class Row:
     check_kb: str = ""
     note: str = ""
 
-    def key(self):
+    def key(self) -> tuple[str, int]:
+        """What no two runs share: the scenario and the number of agents."""
         return self.scenario, int(self.agents)
 
-    def order(self):
+    def order(self) -> tuple[Natural, Natural, int]:
+        """What stands for the row where rows are put in order."""
         return natural(self.map), natural(self.scenario), int(self.agents)
 
 
 NAMES = [field.name for field in fields(Row)]
 
 
-def natural(name):
+def natural(name: str) -> Natural:
     """Orders names as people do: the second before the tenth."""
     return [(int(part), "") if part.isdigit() else (0, part) for part in re.split("([0-9]+)", name)]
 
@@ -55,16 +62,16 @@ def natural(name):
 class Results:
     """The rows that are in results.csv. Each is added to the file at once."""
 
-    def __init__(self, path):
+    def __init__(self, path: Path) -> None:
         self.path = path
-        self.rows = {}
+        self.rows: dict[tuple[str, int], Row] = {}
         whole = self.read()
         with open(path, "ab") as file:
             file.truncate(whole)
         if whole == 0:
             self.append(NAMES)
 
-    def read(self):
+    def read(self) -> int:
         """Reads the rows, and answers how many bytes hold whole lines: a last line that was cut doesn't count."""
         data = self.path.read_bytes() if self.path.exists() else b""
         whole = data.rfind(b"\n") + 1
@@ -79,37 +86,40 @@ class Results:
                 self.rows[row.key()] = row
         return whole
 
-    def forget(self, keys):
+    def forget(self, keys: Iterable[tuple[str, int]]) -> None:
         """Takes these rows for runs that weren't made. In the file they stand until others are in their place."""
         for key in keys:
             del self.rows[key]
 
-    def add(self, row):
+    def add(self, row: Row) -> None:
+        """Adds a row, also to the file."""
         self.rows[row.key()] = row
         self.append(astuple(row))
 
-    def append(self, values):
+    def append(self, values: Iterable[str]) -> None:
         """Adds a line with one write, so that whatever stops the tool cuts no line but the last."""
         line = line_of(values)
         with open(self.path, "ab", buffering=0) as file:
             if file.write(line) != len(line):
                 raise ToolError(f"{self.path} can't be written: is the disk full?")
 
-    def sorted(self):
+    def sorted(self) -> list[Row]:
+        """The rows in order."""
         return sorted(self.rows.values(), key=Row.order)
 
-    def sort(self):
+    def sort(self) -> None:
         """Puts the file's rows in order, in one step."""
         replace(self.path, b"".join(map(line_of, [NAMES, *map(astuple, self.sorted())])))
 
 
-def line_of(values):
+def line_of(values: Iterable[str]) -> bytes:
+    """A line of the file, with its end."""
     text = io.StringIO()
     csv.writer(text, lineterminator="\n").writerow(values)
     return text.getvalue().encode(errors="surrogateescape")
 
 
-def replace(path, data):
+def replace(path: Path, data: bytes) -> None:
     """Gives a file this content in one step."""
     beside = path.with_name(path.name + ".new")
     with open(beside, "wb") as file:

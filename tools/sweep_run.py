@@ -28,13 +28,16 @@ ANSWERS = {
     4: (r"limit (?P<splits>[0-9]+|ticks) bound (?P<bound>[0-9]+)\n", "limit", "bound {bound}"),
 }
 
+# Fields of a row, by their names. What isn't known is None.
+Fields = dict[str, str | int | float | None]
+
 # How a run of the program ended: its exit status; what kept it from an answer (nothing, or 'killed' or 'time-out') and
 # a word on that; its processor seconds; the most memory that it held; what it wrote to standard output; and the first
 # line that it said, of the errors first.
 Ended = namedtuple("Ended", "status trouble note seconds kb out said")
 
 
-def main():
+def main() -> None:
     program, folder, seconds, limit, grid, scenario, agents = sys.argv[1:]
     own = os.path.join(os.path.abspath(folder), f"run-{os.urandom(8).hex()}")
     problem = [os.path.abspath(grid), os.path.abspath(scenario), agents]
@@ -49,7 +52,7 @@ def main():
         remove(own)
 
 
-def remove(folder):
+def remove(folder: str) -> None:
     """Removes a folder of files, unless tools/sweep, which stops, is doing so."""
     try:
         for name in os.listdir(folder):
@@ -59,7 +62,7 @@ def remove(folder):
         pass
 
 
-def outcome(program, problem, limit, seconds):
+def outcome(program: str, problem: list[str], limit: str, seconds: float) -> Fields:
     """The fields of the row of this run, but for the names of the problem."""
     solved = run([program, "solve", *problem, limit, "plan", "cert"], seconds)
     row = {"solve_seconds": solved.seconds, "solve_kb": solved.kb, "note": solved.note, "status": solved.trouble}
@@ -77,7 +80,7 @@ def outcome(program, problem, limit, seconds):
     return {**row, "makespan": makespan("plan") if status == "solved" else None}
 
 
-def checked(program, problem, seconds, wanted):
+def checked(program: str, problem: list[str], seconds: float, wanted: str) -> Fields:
     """The fields that `check` adds, of which the status stands only where it doesn't confirm the answer."""
     ended = run([program, "check", *problem, "plan", "cert"], seconds)
     row = {"check_seconds": ended.seconds, "check_kb": ended.kb}
@@ -89,7 +92,7 @@ def checked(program, problem, seconds, wanted):
     return {**row, "status": "unchecked", "note": f"check: {note}"}
 
 
-def run(words, seconds):
+def run(words: list[str], seconds: float) -> Ended:
     """Runs a program, for so many seconds by the clock at most."""
     child = os.fork()
     if child == 0:
@@ -108,7 +111,7 @@ def run(words, seconds):
     return Ended(code, trouble, note, round(usage.ru_utime + usage.ru_stime, 3), usage.ru_maxrss, text, said)
 
 
-def become(words):
+def become(words: list[str]) -> None:
     """Runs a program in place of this process, which is a child just made, in a process group of its own."""
     try:
         os.setpgid(0, 0)
@@ -123,7 +126,7 @@ def become(words):
         os._exit(127)
 
 
-def ends_by(end, child):
+def ends_by(end: float, child: int) -> bool:
     """Waits for the child, until this moment at most, and answers whether it has ended. It isn't reaped yet, so its
     number is still its own. Where tools/sweep has gone, the run ends here.
     """
@@ -139,7 +142,7 @@ def ends_by(end, child):
     return True
 
 
-def kill(child):
+def kill(child: int) -> None:
     """Kills the child, if it is still at work, and all that it started."""
     try:
         os.killpg(child, signal.SIGKILL)
@@ -147,16 +150,18 @@ def kill(child):
         pass
 
 
-def first(path):
+def first(path: str) -> str:
+    """The beginning of what a file holds."""
     with open(path, "rb") as file:
         return file.read(READ).decode(errors="replace")
 
 
-def size(path):
+def size(path: str) -> int | None:
+    """How many bytes a file has, none where there is no file."""
     return os.path.getsize(path) if os.path.isfile(path) else None
 
 
-def count_splits(path):
+def count_splits(path: str) -> int | None:
     """How many lines of a certificate are splits; none, where there is no certificate."""
     if size(path) is None:
         return None
@@ -170,7 +175,7 @@ def count_splits(path):
     return found + count_in(rest)
 
 
-def makespan(path):
+def makespan(path: str) -> int | None:
     """The last tick at which an agent of a plan arrives, none of what isn't a plan. Of a line only the beginning is
     read, since a path may be long.
     """
@@ -182,7 +187,8 @@ def makespan(path):
     return max((int(cost[1]) for cost in costs if cost), default=None)
 
 
-def count_in(lines):
+def count_in(lines: bytes) -> int:
+    """How many of the lines that follow a line end are splits."""
     return lines.count(b"\nvertex ") + lines.count(b"\nswap ")
 
 

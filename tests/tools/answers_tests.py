@@ -11,7 +11,9 @@ from pathlib import Path
 from harness import TESTS
 
 from answers import as_plan_text, read_answer
-from common import Agent, Grid, ToolError, faults_of, plan_text
+from plans import Agent, Grid, faults_of
+from process import ToolError
+from texts import plan_text
 
 TOOLS = TESTS.parent / "tools"
 

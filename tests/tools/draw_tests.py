@@ -14,7 +14,7 @@ from browser import Browser, installed
 from harness import TESTS
 
 from colours import colours
-from common import plan_text, read_agents, read_map
+from texts import plan_text, read_agents, read_map
 
 TOP = TESTS.parent
 DRAW = TOP / "tools" / "draw"

@@ -1,0 +1,101 @@
+"""What a tool does as a process: it runs mapf, shows how far it is, and tells in one line what its user has to mend."""
+
+import os
+import subprocess
+import sys
+from collections.abc import Callable
+from pathlib import Path
+from typing import NoReturn
+
+TOP = Path(__file__).resolve().parent.parent
+
+MOST_SECONDS_OF_VERSION = 60
+
+
+class ToolError(Exception):
+    """What a tool's user has to mend: one line that says what to do."""
+
+
+def run_tool(main: Callable[[], int]) -> NoReturn:
+    """Runs a tool's `main` and ends with the status that it answers. A fault is told in one line, with status 2."""
+    try:
+        status = main()
+        sys.stdout.flush()
+    except ToolError as error:
+        clear_progress()
+        print(f"{Path(sys.argv[0]).name}: {error}", file=sys.stderr)
+        status = 2
+    except KeyboardInterrupt:
+        clear_progress()
+        print(f"{Path(sys.argv[0]).name}: stopped", file=sys.stderr)
+        status = 130
+    except BrokenPipeError:
+        os.dup2(os.open(os.devnull, os.O_WRONLY), 1)
+        status = 2
+    except OSError as error:
+        clear_progress()
+        print(f"{Path(sys.argv[0]).name}: {in_words(error)}", file=sys.stderr)
+        status = 2
+    sys.exit(status)
+
+
+def in_words(error: OSError) -> str:
+    """What the system said of a file, without the number of the error."""
+    name = error.filename2 or error.filename
+    said = error.strerror or str(error)
+    return said if name is None else f"{os.fsdecode(name)}: {said}"
+
+
+# The program.
+
+def program() -> str:
+    """The command of mapf: what MAPF names, else the proved program of this tree, which is built first where it has to
+    be."""
+    named = os.environ.get("MAPF")
+    if named:
+        if not os.access(named, os.X_OK) or os.path.isdir(named):
+            raise ToolError(f"MAPF names {named}, which isn't a program: set it to mapf, or unset it")
+        return str(Path(named).resolve())
+    here = TOP / "mapf"
+    if not os.access(here, os.X_OK):
+        raise ToolError(f"the program isn't at {here}: set MAPF to where it is")
+    prove = TOP / "prove"
+    if not os.access(prove, os.X_OK):
+        return str(here)  # in an archive
+    with subprocess.Popen([str(prove)], stdin=subprocess.DEVNULL, stdout=subprocess.PIPE, text=True) as process:
+        try:
+            built, _ = process.communicate()
+        except BaseException:
+            process.terminate()  # it ends what it started, and removes its files
+            raise
+    if process.returncode != 0:
+        raise ToolError(f"{prove} couldn't build the program: see above, or set MAPF to a program that is built")
+    return built.strip()
+
+
+def version_of(path: str) -> str:
+    """The version that the program tells, as '1.0.0'. What tells none isn't mapf."""
+    try:
+        told = subprocess.run([path, "--version"], stdin=subprocess.DEVNULL, capture_output=True, text=True,
+                              errors="replace", timeout=MOST_SECONDS_OF_VERSION)
+    except OSError as error:
+        raise ToolError(f"{path} can't be started ({error.strerror}): set MAPF to mapf, or unset it") from None
+    except subprocess.TimeoutExpired:
+        raise ToolError(f"{path} --version doesn't end, so this isn't mapf: set MAPF to mapf, or unset it") from None
+    words = told.stdout.split()
+    if told.returncode != 0 or len(words) < 2 or words[0] != "mapf":
+        raise ToolError(f"{path} --version tells no version, so this isn't mapf: set MAPF to mapf, or unset it")
+    return words[1]
+
+
+# A progress line.
+
+def progress(said: str) -> None:
+    """Shows a line on a terminal in place of the one before. Where standard error is none, shows nothing."""
+    if sys.stderr.isatty():
+        print(f"\r\033[K{said}", end="", file=sys.stderr, flush=True)
+
+
+def clear_progress() -> None:
+    """Takes the line that is shown away."""
+    progress("")
