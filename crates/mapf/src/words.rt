@@ -1,3 +1,4 @@
+//! What `main` takes from the command line, and what it prints when a job is done or refused, with the exit status.
 use crate::outputs::{OneFile, Unsolved};
 use mapf_app::{Fault, Kind, Verdict, tell_check, tell_run, tell_solve};
 use mapf_model::{WriteSink, write_all};

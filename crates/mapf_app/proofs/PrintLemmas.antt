@@ -1,12 +1,15 @@
 -- What the two texts of a right answer are.
 use Rattle.std.proofs.Common.{◌≡◌, ℕ, List, length, refl, subst}
+use Rattle.mapf_app.specs.Policy.{FollowsPolicy, SpellsChosenTree}
 use Rattle.mapf_app.specs.Solved.{PrintsOptimal, PrintsImpossible, PrintsLimit}
-use Rattle.mapf_cbs.specs.Answer.{IsTreeOf, IsShownOptimal, IsShownImpossible, IsShownBound, MayStop}
+use Rattle.mapf_app.specs.declared.kind.Kind.TheVariants as kinds
+use Rattle.mapf_cbs.specs.Answer.{IsTreeOf, IsOptimalAnswer, IsImpossibleAnswer, IsLimitAnswer}
 use Rattle.mapf_certificate.specs.Certificates.{SpellsCert, cert_text}
 use Rattle.mapf_certificate.specs.Plans.{SpellsPlan}
 use Rattle.mapf_certificate.specs.Lines.{IsAgentCount}
 use Rattle.mapf_certificate.specs.declared.version.Version.TheVariants.{Two}
 use Rattle.mapf_certificate.specs.declared.plan_text.PlanAnswer.TheVariants as answers
+use Rattle.mapf_model.specs.Answers.{IsPrintable, IsShownOptimal, IsShownImpossible, IsShownBound}
 use Rattle.mapf_model.specs.declared.item.Claim.{Claim}
 use Rattle.mapf_model.specs.declared.cause.Cause.{Cause}
 use Rattle.mapf_model.specs.declared.item.Claim.TheVariants.{Cost, Bound, Impossible}
@@ -15,69 +18,79 @@ use Rattle.mapf_model.specs.Plan.{Instance, IsSumOfCosts}
 use Rattle.mapf_model.specs.Printed.{IsClaimInRange}
 use Rattle.mapf_model.specs.Tree.{ConstraintTree, Node}
 
--- the bytes of a certificate of version 2 that can be printed spell it
-spells_cert : (problem : Instance) (claim : Claim) (nodes : List Node) (tree : ConstraintTree) (limit : ℕ) → IsTreeOf problem limit nodes tree → IsAgentCount (length problem.agents) → IsClaimInRange claim → (bytes : List ℕ) →
-    bytes ≡ cert_text Two problem.grid.width (length problem.agents) claim nodes → SpellsCert problem.grid bytes Two (length problem.agents) claim tree
-spells_cert problem claim nodes tree limit of count in_range bytes written = record {
+-- the certificate of these nodes
+abbrev pub text_of : Instance → Claim → List Node → List ℕ
+text_of problem claim nodes = cert_text Two problem.grid.width (length problem.agents) claim nodes
+
+-- the certificate of a tree that can be printed spells it
+spells_cert : (problem : Instance) (claim : Claim) (nodes : List Node) (tree : ConstraintTree) → IsPrintable problem nodes tree → IsAgentCount (length problem.agents) → IsClaimInRange claim → SpellsCert problem.grid (text_of problem claim nodes) Two (length problem.agents) claim tree
+spells_cert problem claim nodes tree printable count in_range = record {
   agents_in_range = count;
   claim_in_range = in_range;
   claim_of_version = tt;
-  tree_in_range = of.in_range;
+  tree_in_range = printable.in_range;
   tree_of_version = tt;
-  spelled = subst (λ listed. bytes ≡ cert_text Two problem.grid.width (length problem.agents) claim listed) of.spelled written;
+  spelled = subst (λ listed. text_of problem claim nodes ≡ text_of problem claim listed) printable.spelled refl;
 }
 
--- with the sum of the tree's claim
-prints_total : (problem : Instance) (plan : List (List ℕ)) (nodes : List Node) (tree : ConstraintTree) (limit : ℕ) → IsTreeOf problem limit nodes tree → (shown : IsShownOptimal problem plan tree) →
-    (plan_bytes cert_bytes : List ℕ) → SpellsPlan problem.grid plan_bytes Two (length problem.agents) (answers.Found plan) →
-    cert_bytes ≡ cert_text Two problem.grid.width (length problem.agents) (Cost shown.total) nodes → PrintsOptimal problem limit shown.total plan_bytes cert_bytes
-prints_total problem plan nodes tree limit of shown plan_bytes cert_bytes spells written =
-    let cert : SpellsCert problem.grid cert_bytes Two (length problem.agents) (Cost shown.total) tree = spells_cert problem (Cost shown.total) nodes tree limit of spells.in_range.0 shown.claim_in_range cert_bytes written in
-    record {
-      plan = plan;
-      spelled = spells;
-      optimal = shown.optimal;
-      accepted = record {
-        plan = record { version = Two; says = answers.Found plan; spelled = spells; good = (shown.optimal.valid, shown.optimal.sum) };
-        cert = record { version = Two; tree = tree; spelled = cert; shows = shown.shows };
-      };
-      searched = record { nodes = nodes; tree = tree; searched = of; spelled = cert };
-    }
+abbrev spells_chosen : (problem : Instance) (limit : ℕ) (claim : Claim) (nodes : List Node) (tree : ConstraintTree) → IsTreeOf problem limit nodes tree → IsAgentCount (length problem.agents) → IsClaimInRange claim → SpellsChosenTree problem limit claim (text_of problem claim nodes)
+spells_chosen problem limit claim nodes tree of count in_range =
+    record { tree = tree; chosen = of.chosen; spelled = spells_cert problem claim nodes tree of.printable count in_range }
 
--- with the sum of the plan
-pub prints_optimal : (problem : Instance) (plan : List (List ℕ)) (nodes : List Node) (tree : ConstraintTree) (limit : ℕ) → IsTreeOf problem limit nodes tree → IsShownOptimal problem plan tree →
-    SumsAreOne → (sum : ℕ) → IsSumOfCosts problem.agents plan sum → (plan_bytes cert_bytes : List ℕ) → SpellsPlan problem.grid plan_bytes Two (length problem.agents) (answers.Found plan) →
-    cert_bytes ≡ cert_text Two problem.grid.width (length problem.agents) (Cost sum) nodes → PrintsOptimal problem limit sum plan_bytes cert_bytes
-prints_optimal problem plan nodes tree limit of shown law sum adds_up plan_bytes cert_bytes spells written =
-    let same : shown.total ≡ sum = (law problem plan shown.optimal.valid).one shown.total sum shown.optimal.sum adds_up in
-    subst (λ total. cert_bytes ≡ cert_text Two problem.grid.width (length problem.agents) (Cost total) nodes → PrintsOptimal problem limit total plan_bytes cert_bytes) same
-    (prints_total problem plan nodes tree limit of shown plan_bytes cert_bytes spells) written
+-- a plan has the sum that its tree shows
+module _ (problem : Instance) (plan : List (List ℕ)) (nodes : List Node) (law : SumsAreOne) (sum : ℕ) (adds_up : IsSumOfCosts problem.agents plan sum) (plan_text : List ℕ) (spells : SpellsPlan problem.grid plan_text Two (length problem.agents) (answers.Found plan)) where
+  same_sum : (tree : ConstraintTree) (shown : IsShownOptimal problem plan tree) → shown.total ≡ sum
+  same_sum tree shown = (law problem plan shown.optimal.valid).one shown.total sum shown.optimal.sum adds_up
 
-pub prints_impossible : (problem : Instance) (nodes : List Node) (tree : ConstraintTree) (limit : ℕ) → IsTreeOf problem limit nodes tree → IsShownImpossible problem tree → (plan_bytes cert_bytes : List ℕ) → SpellsPlan problem.grid plan_bytes Two (length problem.agents) answers.Impossible →
-    cert_bytes ≡ cert_text Two problem.grid.width (length problem.agents) Impossible nodes → PrintsImpossible problem limit plan_bytes cert_bytes
-prints_impossible problem nodes tree limit of shown plan_bytes cert_bytes spells written =
-    let cert : SpellsCert problem.grid cert_bytes Two (length problem.agents) Impossible tree = spells_cert problem Impossible nodes tree limit of spells.in_range.0 tt cert_bytes written in
-    record {
-      spelled = spells;
-      impossible = shown.impossible;
-      accepted = record {
-        plan = record { version = Two; says = answers.Impossible; spelled = spells; good = tt };
-        cert = record { version = Two; tree = tree; spelled = cert; shows = shown.shows };
-      };
-      searched = record { nodes = nodes; tree = tree; searched = of; spelled = cert };
-    }
+  pub prints_optimal : (tree : ConstraintTree) → IsPrintable problem nodes tree → IsShownOptimal problem plan tree → PrintsOptimal problem sum plan_text (text_of problem (Cost sum) nodes)
+  prints_optimal tree printable shown =
+      let cert = spells_cert problem (Cost shown.total) nodes tree printable spells.in_range.0 shown.claim_in_range in
+      subst (λ total. PrintsOptimal problem total plan_text (text_of problem (Cost total) nodes)) (same_sum tree shown) (record {
+        paths = plan;
+        spelled = spells;
+        certified = (tree, cert);
+        optimal = shown.optimal;
+        accepted = record {
+          plan = record { version = Two; says = answers.Found plan; spelled = spells; good = (shown.optimal.valid, shown.optimal.sum) };
+          cert = record { version = Two; tree = tree; spelled = cert; shows = shown.shows };
+        };
+      })
 
-pub prints_limit : (problem : Instance) (cause : Cause) (bound : ℕ) (nodes : List Node) (tree : ConstraintTree) (limit : ℕ) → IsTreeOf problem limit nodes tree → MayStop problem limit cause tree → IsShownBound problem bound tree → (plan_bytes cert_bytes : List ℕ) →
-    SpellsPlan problem.grid plan_bytes Two (length problem.agents) (answers.Bounded cause bound) → cert_bytes ≡ cert_text Two problem.grid.width (length problem.agents) (Bound bound) nodes → PrintsLimit problem limit cause bound plan_bytes cert_bytes
-prints_limit problem cause bound nodes tree limit of stopped shown plan_bytes cert_bytes spells written =
-    let cert : SpellsCert problem.grid cert_bytes Two (length problem.agents) (Bound bound) tree = spells_cert problem (Bound bound) nodes tree limit of spells.in_range.0 shown.claim_in_range cert_bytes written in
-    record {
-      spelled = spells;
-      accepted = record {
-        plan = record { version = Two; says = answers.Bounded cause bound; spelled = spells; good = refl };
-        cert = record { version = Two; tree = tree; spelled = cert; shows = shown.shows };
-      };
-      searched = record { nodes = nodes; tree = tree; searched = of; spelled = cert };
-      stopped = stopped;
-      shown = shown;
-    }
+  pub policy_optimal : (limit : ℕ) → IsOptimalAnswer problem limit plan nodes → FollowsPolicy problem limit (kinds.Found sum) plan_text (text_of problem (Cost sum) nodes)
+  policy_optimal limit (tree, of, shown, leaf) = subst (λ total. FollowsPolicy problem limit (kinds.Found total) plan_text (text_of problem (Cost total) nodes)) (same_sum tree shown)
+      (spells_chosen problem limit (Cost shown.total) nodes tree of spells.in_range.0 shown.claim_in_range, plan, spells, leaf)
+
+module _ (problem : Instance) (nodes : List Node) (plan_text : List ℕ) where
+  module _ (spells : SpellsPlan problem.grid plan_text Two (length problem.agents) answers.Impossible) where
+    pub prints_impossible : (tree : ConstraintTree) → IsPrintable problem nodes tree → IsShownImpossible problem tree → PrintsImpossible problem plan_text (text_of problem Impossible nodes)
+    prints_impossible tree printable shown =
+        let cert = spells_cert problem Impossible nodes tree printable spells.in_range.0 tt in
+        record {
+          spelled = spells;
+          certified = (tree, cert);
+          impossible = shown.impossible;
+          accepted = record {
+            plan = record { version = Two; says = answers.Impossible; spelled = spells; good = tt };
+            cert = record { version = Two; tree = tree; spelled = cert; shows = shown.shows };
+          };
+        }
+
+    pub policy_impossible : (limit : ℕ) → IsImpossibleAnswer problem limit nodes → FollowsPolicy problem limit kinds.Impossible plan_text (text_of problem Impossible nodes)
+    policy_impossible limit (tree, of, shown) = spells_chosen problem limit Impossible nodes tree of spells.in_range.0 tt
+
+  module _ (cause : Cause) (bound : ℕ) (spells : SpellsPlan problem.grid plan_text Two (length problem.agents) (answers.Bounded cause bound)) where
+    pub prints_limit : (tree : ConstraintTree) → IsPrintable problem nodes tree → IsShownBound problem bound tree → PrintsLimit problem cause bound plan_text (text_of problem (Bound bound) nodes)
+    prints_limit tree printable shown =
+        let cert = spells_cert problem (Bound bound) nodes tree printable spells.in_range.0 shown.claim_in_range in
+        record {
+          spelled = spells;
+          certified = (tree, cert);
+          holds = shown.holds;
+          accepted = record {
+            plan = record { version = Two; says = answers.Bounded cause bound; spelled = spells; good = refl };
+            cert = record { version = Two; tree = tree; spelled = cert; shows = shown.shows };
+          };
+        }
+
+    pub policy_limit : (limit : ℕ) → IsLimitAnswer problem limit cause bound nodes → FollowsPolicy problem limit (kinds.Limit cause bound) plan_text (text_of problem (Bound bound) nodes)
+    policy_limit limit (tree, of, shown, least, stops) = (spells_chosen problem limit (Bound bound) nodes tree of spells.in_range.0 shown.claim_in_range, least, stops)

@@ -21,7 +21,8 @@ pub record DispatchesTruly (map scen plan events : Option (List ℕ)) (count : �
 
 -- the bytes of all inputs are known, the plan text spells the valid plan for the problem that the map and the scenario
 -- spell, and the event text spells the agents that ask
-pub record IsDueDispatch (map scen plan events : Option (List ℕ)) (count : ℕ) (problem : Instance) (paths : List (List ℕ)) (agents : List ℕ) : Type 0 where
+pub record IsDueDispatch (map scen plan events : Option (List ℕ)) (count : ℕ) (problem : Instance)
+    (paths : List (List ℕ)) (agents : List ℕ) : Type 0 where
   pub planned : IsDuePlan map scen plan count problem paths
   pub event_text : List ℕ
   pub events_told : events ≡ Some event_text
@@ -29,7 +30,8 @@ pub record IsDueDispatch (map scen plan events : Option (List ℕ)) (count : ℕ
 
 -- the replies to these agents, which ask one after another while all follow the plan, were written
 abbrev pub ShowsReplies : Instance → List (List ℕ) → List ℕ → Option (List ℕ) → Option (List ℕ) → Type 0
-ShowsReplies problem paths agents old new = (text : List ℕ) × IsReplyText problem.grid.width paths agents text × Appends old new text
+ShowsReplies problem paths agents old new =
+    (text : List ℕ) × IsReplyText problem.grid.width paths agents text × Appends old new text
 
 -- what an error says of the event text: it spells no events of so many agents, and the error's defect is in its line.
 -- An error of the plan text isn't one of an event text
@@ -39,7 +41,8 @@ HasEventsFault events count NoPlan = ⊥
 HasEventsFault events count OtherCount = ⊥
 HasEventsFault events count (Invalid fault) = ⊥
 HasEventsFault events count (Events fault) =
-    (fault ≢ event_faults.Memory) × IfSome events (λ event_text. ((agents : List ℕ) → SpellsEvents event_text count agents → ⊥) × HasEventFault event_text count fault)
+    (fault ≢ event_faults.Memory) × IfSome events (λ event_text.
+    ((agents : List ℕ) → SpellsEvents event_text count agents → ⊥) × HasEventFault event_text count fault)
 
 -- what the error says is true of the event text, and the plan text spells a valid plan for the problem that the map and
 -- the scenario spell
@@ -50,7 +53,8 @@ pub record IsEventsDefect (map scen plan events : Option (List ℕ)) (count : �
   pub defect : HasEventsFault events count fault
 
 -- what an error says of the plan text or of the event text
-abbrev pub IsDispatchDefect : Option (List ℕ) → Option (List ℕ) → Option (List ℕ) → Option (List ℕ) → ℕ → PlayFault → Type 0
+abbrev pub IsDispatchDefect : Option (List ℕ) → Option (List ℕ) → Option (List ℕ) → Option (List ℕ) → ℕ → PlayFault →
+    Type 0
 IsDispatchDefect map scen plan events count (Text fault) = IsPlanDefect map scen plan count (Text fault)
 IsDispatchDefect map scen plan events count NoPlan = IsPlanDefect map scen plan count NoPlan
 IsDispatchDefect map scen plan events count OtherCount = IsPlanDefect map scen plan count OtherCount

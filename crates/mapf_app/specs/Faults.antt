@@ -86,7 +86,8 @@ IsReadingAgents scen grid count (Refused refusal) = ⊥
 
 -- what an error of a run says of its inputs. F1 and F2 say the same in every run; what F3, F4, F5 and a refusal say
 -- depends on the run; out of memory says nothing
-abbrev pub IsFaultOf : Option (List ℕ) → Option (List ℕ) → ℕ → (PlayFault → Type 0) → (Input → Type 0) → (Output → Type 0) → (CheckFault → Type 0) → Fault → Type 0
+abbrev pub IsFaultOf : Option (List ℕ) → Option (List ℕ) → ℕ → (PlayFault → Type 0) → (Input → Type 0) →
+    (Output → Type 0) → (CheckFault → Type 0) → Fault → Type 0
 IsFaultOf map scen count Plays Reads Writes Refuses (F1 fault) = IsMapDefect map fault
 IsFaultOf map scen count Plays Reads Writes Refuses (F2 fault) = IsScenarioDefect map scen count fault
 IsFaultOf map scen count Plays Reads Writes Refuses (F3 fault) = Plays fault
@@ -105,19 +106,24 @@ IsSolving map scen count = IsFaultOf map scen count (λ _. ⊥) IsProblemInput I
 
 -- what an error of checking says
 abbrev pub IsChecking : Option (List ℕ) → Option (List ℕ) → Option (List ℕ) → Option (List ℕ) → ℕ → Fault → Type 0
-IsChecking map scen plan cert count = IsFaultOf map scen count (λ _. ⊥) IsCheckInput (λ _. ⊥) (IsRefusalOf map scen plan cert count)
+IsChecking map scen plan cert count =
+    IsFaultOf map scen count (λ _. ⊥) IsCheckInput (λ _. ⊥) (IsRefusalOf map scen plan cert count)
 
 -- what an error of reading a problem and a valid plan for it says
 abbrev pub IsPlanning : Option (List ℕ) → Option (List ℕ) → Option (List ℕ) → ℕ → Fault → Type 0
-IsPlanning map scen plan count = IsFaultOf map scen count (IsPlanDefect map scen plan count) IsPlanInput (λ _. ⊥) (λ _. ⊥)
+IsPlanning map scen plan count =
+    IsFaultOf map scen count (IsPlanDefect map scen plan count) IsPlanInput (λ _. ⊥) (λ _. ⊥)
 
 -- what an error of playing says
 abbrev pub IsPlaying : Option (List ℕ) → Option (List ℕ) → Option (List ℕ) → ℕ → Fault → Type 0
-IsPlaying map scen plan count = IsFaultOf map scen count (IsPlanDefect map scen plan count) IsPlanInput (λ output. output ≡ Out) (λ _. ⊥)
+IsPlaying map scen plan count =
+    IsFaultOf map scen count (IsPlanDefect map scen plan count) IsPlanInput (λ output. output ≡ Out) (λ _. ⊥)
 
 -- what an error of dispatching says
 abbrev pub IsDispatching : Option (List ℕ) → Option (List ℕ) → Option (List ℕ) → Option (List ℕ) → ℕ → Fault → Type 0
-IsDispatching map scen plan events count = IsFaultOf map scen count (IsDispatchDefect map scen plan events count) IsDispatchInput (λ output. output ≡ Out) (λ _. ⊥)
+IsDispatching map scen plan events count =
+    IsFaultOf map scen count (IsDispatchDefect map scen plan events count) IsDispatchInput (λ output. output ≡ Out)
+    (λ _. ⊥)
 
 -- the map couldn't be read, or has a defect
 abbrev pub IsOfMap : Fault → Type 0

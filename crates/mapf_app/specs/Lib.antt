@@ -10,3 +10,4 @@ pub mod Problems
 pub mod Solved
 pub mod Told
 pub mod Unreadable
+pub mod Policy

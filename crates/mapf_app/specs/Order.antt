@@ -21,14 +21,17 @@ pub record HasReadGrid (failed : Bool) (had left : Option (List ℕ)) : Type 0 w
   pub spelled : SpellsGrid had grid
 
 -- a map and a scenario were read whole, and they spell a problem of so many agents
-pub record HasReadProblem (map_failed : Bool) (map map_left : Option (List ℕ)) (scen_failed : Bool) (scen scen_left : Option (List ℕ)) (count : ℕ) : Type 0 where
+pub record HasReadProblem (map_failed : Bool) (map map_left : Option (List ℕ)) (scen_failed : Bool)
+    (scen scen_left : Option (List ℕ)) (count : ℕ) : Type 0 where
   pub map_whole : IsReadWhole map_failed map map_left
   pub scen_whole : IsReadWhole scen_failed scen scen_left
   pub problem : Instance
   pub spelled : SpellsProblem map scen count problem
 
 -- a map, a scenario and a plan text were read whole, and they spell a problem of so many agents and a valid plan for it
-pub record HasReadPlan (map_failed : Bool) (map map_left : Option (List ℕ)) (scen_failed : Bool) (scen scen_left : Option (List ℕ)) (plan_failed : Bool) (plan plan_left : Option (List ℕ)) (count : ℕ) : Type 0 where
+pub record HasReadPlan (map_failed : Bool) (map map_left : Option (List ℕ)) (scen_failed : Bool)
+    (scen scen_left : Option (List ℕ)) (plan_failed : Bool) (plan plan_left : Option (List ℕ)) (count : ℕ)
+    : Type 0 where
   pub problem_whole : HasReadProblem map_failed map map_left scen_failed scen scen_left count
   pub plan_whole : IsReadWhole plan_failed plan plan_left
   pub problem : Instance

@@ -19,7 +19,8 @@ pub record SpellsValidPlan (problem : Instance) (bytes : List ℕ) (plan : List 
   pub valid : IsValid problem plan
 
 -- the map and the scenario spell the problem, of so many agents, and the plan text spells the valid plan for it
-pub record SpellsPlanned (map scen plan : Option (List ℕ)) (count : ℕ) (problem : Instance) (paths : List (List ℕ)) : Type 0 where
+pub record SpellsPlanned (map scen plan : Option (List ℕ)) (count : ℕ) (problem : Instance) (paths : List (List ℕ))
+    : Type 0 where
   pub posed : IsPosed count problem
   pub read : SpellsProblem map scen count problem
   pub spelled : IfSome plan (λ plan_text. SpellsValidPlan problem plan_text paths)
@@ -27,7 +28,8 @@ pub record SpellsPlanned (map scen plan : Option (List ℕ)) (count : ℕ) (prob
 
 -- the bytes of all inputs are known, the map and the scenario spell the problem, and the plan text spells the valid
 -- plan for it
-pub record IsDuePlan (map scen plan : Option (List ℕ)) (count : ℕ) (problem : Instance) (paths : List (List ℕ)) : Type 0 where
+pub record IsDuePlan (map scen plan : Option (List ℕ)) (count : ℕ) (problem : Instance) (paths : List (List ℕ))
+    : Type 0 where
   pub map_told : IsSome map
   pub scen_told : IsSome scen
   pub read : SpellsProblem map scen count problem
@@ -45,10 +47,18 @@ IsNoPlan (answers.Bounded cause bound) = ⊤
 -- what an error says of the plan text: it spells nothing, has no plan, is for another number of agents than the problem
 -- has, or has a plan with this defect. An error of the events isn't one of a plan text
 abbrev pub HasPlanFault : Instance → List ℕ → PlayFault → Type 0
-HasPlanFault problem bytes (Text fault) = (fault ≢ plan_faults.Memory) × ((version : Version) (agents : ℕ) (answer : PlanAnswer) → SpellsPlan problem.grid bytes version agents answer → ⊥)
-HasPlanFault problem bytes NoPlan = (version : Version) × (agents : ℕ) × (answer : PlanAnswer) × SpellsPlan problem.grid bytes version agents answer × IsNoPlan answer
-HasPlanFault problem bytes OtherCount = (version : Version) × (agents : ℕ) × (plan : List (List ℕ)) × SpellsPlan problem.grid bytes version agents (answers.Found plan) × (agents ≢ length problem.agents)
-HasPlanFault problem bytes (Invalid fault) = (version : Version) × (plan : List (List ℕ)) × SpellsPlan problem.grid bytes version (length problem.agents) (answers.Found plan) × HasDefect problem plan fault
+HasPlanFault problem bytes (Text fault) =
+    (fault ≢ plan_faults.Memory) × ((version : Version) (agents : ℕ) (answer : PlanAnswer) →
+    SpellsPlan problem.grid bytes version agents answer → ⊥)
+HasPlanFault problem bytes NoPlan =
+    (version : Version) × (agents : ℕ) × (answer : PlanAnswer) × SpellsPlan problem.grid bytes version agents answer
+    × IsNoPlan answer
+HasPlanFault problem bytes OtherCount =
+    (version : Version) × (agents : ℕ) × (plan : List (List ℕ))
+    × SpellsPlan problem.grid bytes version agents (answers.Found plan) × (agents ≢ length problem.agents)
+HasPlanFault problem bytes (Invalid fault) =
+    (version : Version) × (plan : List (List ℕ))
+    × SpellsPlan problem.grid bytes version (length problem.agents) (answers.Found plan) × HasDefect problem plan fault
 HasPlanFault problem bytes (Events fault) = ⊥
 
 -- the error is one of a plan text, not of the events

@@ -31,11 +31,16 @@ pub record IsPosed (count : ℕ) (problem : Instance) : Type 0 where
 
 -- the map's bytes spell no grid, and have the defect
 abbrev pub IsMapDefect : Option (List ℕ) → MapFault → Type 0
-IsMapDefect map fault = (fault ≢ map_faults.Memory) × IfSome map (λ bytes. ((grid : GridMap) → SpellsMap bytes grid → ⊥) × HasMapFault (lines_of bytes) fault)
+IsMapDefect map fault =
+    (fault ≢ map_faults.Memory) × IfSome map (λ bytes. ((grid : GridMap) → SpellsMap bytes grid → ⊥)
+    × HasMapFault (lines_of bytes) fault)
 
 -- the scenario's bytes spell no problem on this grid, and have the defect
 abbrev pub IsAgentsDefect : Option (List ℕ) → GridMap → ℕ → ScenFault → Type 0
-IsAgentsDefect scen grid count fault = (fault ≢ scenario_faults.Memory) × IfSome scen (λ bytes. ((problem : Instance) → SpellsScenario bytes grid count problem → ⊥) × HasScenarioFault grid (filled_lines bytes) count fault)
+IsAgentsDefect scen grid count fault =
+    (fault ≢ scenario_faults.Memory) × IfSome scen (λ bytes.
+    ((problem : Instance) → SpellsScenario bytes grid count problem → ⊥)
+    × HasScenarioFault grid (filled_lines bytes) count fault)
 
 -- the map's bytes spell a grid on which the scenario's bytes spell no problem and have the defect
 pub record IsScenarioDefect (map scen : Option (List ℕ)) (count : ℕ) (fault : ScenFault) : Type 0 where

@@ -29,13 +29,16 @@ bound_text (Some bound) = codes " bound" ++ number_text (Some bound)
 
 -- a line's bytes: its words, a name, numbers, a bound, and LF
 abbrev pub message_text : Line → List ℕ
-message_text line = line.words.now ++ (defect_text line.defect ++ (number_text line.numbers.0 ++ (number_text line.numbers.1 ++ (number_text line.numbers.2 ++ (bound_text line.bound ++ (10 ∷ []))))))
+message_text line =
+    line.words.now ++ (defect_text line.defect ++ (number_text line.numbers.0
+    ++ (number_text line.numbers.1 ++ (number_text line.numbers.2 ++ (bound_text line.bound ++ (10 ∷ []))))))
 
 -- `cost C`, `impossible`, `limit S bound B` or `limit ticks bound B`
 abbrev pub kind_line : Kind → List ℕ
 kind_line (Found cost) = codes "cost " ++ (decimal cost ++ (10 ∷ []))
 kind_line Impossible = codes "impossible\n"
-kind_line (Limit (Splits splits) bound) = codes "limit " ++ (decimal splits ++ (codes " bound " ++ (decimal bound ++ (10 ∷ []))))
+kind_line (Limit (Splits splits) bound) =
+    codes "limit " ++ (decimal splits ++ (codes " bound " ++ (decimal bound ++ (10 ∷ []))))
 kind_line (Limit Ticks bound) = codes "limit ticks bound " ++ (decimal bound ++ (10 ∷ []))
 
 -- 0 solved, 3 impossible, 4 a limit was reached

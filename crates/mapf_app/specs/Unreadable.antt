@@ -4,7 +4,8 @@ use Rattle.std.specs.Io.KnownBytes.{Consumes}
 
 -- the source has failed, or it gave more bytes than the limit
 abbrev pub IsUnreadable : Bool → Option (List ℕ) → Option (List ℕ) → ℕ → Type 0
-IsUnreadable failed before after limit = (failed ≡ true) ⊎ ((came : List ℕ) × Consumes before after came × (limit < length came))
+IsUnreadable failed before after limit =
+    (failed ≡ true) ⊎ ((came : List ℕ) × Consumes before after came × (limit < length came))
 
 -- the source gives at most so many bytes
 abbrev pub IsWithin : Option (List ℕ) → ℕ → Type 0

@@ -1,3 +1,5 @@
+//! The run of `check`: is what a plan text says shown by its certificate? The program makes it over files, the demo
+//! over memory.
 ghost use Rattle.std.specs.Prelude.{◌≡◌, ◌≤◌, false, true, IfOk, IfErr, OnOk, IsErrOf, MatchResult};
 ghost use Rattle.mapf_app.specs.Checked.{HasGoodPlan};
 ghost use Rattle.mapf_app.specs.Faults.{HasNoInnerMemory, IsChecking, IsOfInput, IsOfMap, IsOfProblem};
@@ -45,6 +47,7 @@ pub fn run_check<M: Source, S: Source, P: Source, C: Source>(
     // correct too.
     ensures fault { IfErr result
         (IsChecking (M.remaining map.old) (S.remaining scen.old) (P.remaining plan.old) (C.remaining cert.old) k) }
+    // Out of memory is `F6`, and inside no other error.
     ensures inner { IfErr result HasNoInnerMemory }
     // An error of a source is reported only if the source failed or gave too many bytes, and always if it failed.
     ensures map { IsErrOf result (Fault.F4 Input.Map) →

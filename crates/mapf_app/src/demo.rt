@@ -1,4 +1,7 @@
-ghost use Rattle.std.specs.Prelude.{◌≡◌, ◌⊎◌, ◌++◌, ℕ, List, false, true, Some, IfOk, IfErr, OnOk, IsErrOf};
+//! The run that the program makes without arguments: the runs of `solve` and `check`, over memory, for a built-in
+//! problem.
+ghost use Rattle.std.specs.Prelude.{◌≡◌, ◌⊎◌, ◌≤◌, ◌++◌, ℕ, List, false, true, Some, IfOk, IfErr, OnOk, OnErr, IsErrOf};
+ghost use Rattle.std.specs.Prelude.{length, take};
 ghost use Rattle.std.specs.Result.{is_err};
 ghost use Rattle.std.specs.Io.KnownBytes.{Appends};
 ghost use Rattle.mapf_app.specs.Faults.{HasNoInnerMemory, IsBeforeWriting};
@@ -37,6 +40,13 @@ pub fn run_demo<K: Sink>(alloc: Global, sink: &mut K) -> Result<(), Fault>
     ensures text { OnOk result ((plan_text : List ℕ) × (cert_text : List ℕ) × (verdict : Verdict)
         × JudgesTruly (Some MAP.now) (Some SCEN.now) (Some plan_text) (Some cert_text) AGENTS verdict
         × Appends (K.contents sink.old) (K.contents sink.new) (plan_text ++ (cert_text ++ verdict_line verdict))) }
+    // A sink that failed got a prefix of such a text.
+    ensures front { IsErrOf result (Fault.F5 Output.Out) →
+        (plan_text : List ℕ) × (cert_text : List ℕ) × (verdict : Verdict) × (n : ℕ)
+        × JudgesTruly (Some MAP.now) (Some SCEN.now) (Some plan_text) (Some cert_text) AGENTS verdict
+        × Appends (K.contents sink.old) (K.contents sink.new)
+        (take n (plan_text ++ (cert_text ++ verdict_line verdict))) }
+    // Out of memory is `F6`, and inside no other error.
     ensures inner { IfErr result HasNoInnerMemory }
     // An error of the sink is reported if and only if the sink failed. After any other error it is as it was.
     ensures sink { IsErrOf result (Fault.F5 Output.Out) → K.has_failed sink.new ≡ true }
@@ -82,6 +92,9 @@ fn tell<K: Sink>(sink: &mut K, plan: &[u8], cert: &[u8], verdict: Verdict) -> Re
     requires { K.has_failed sink.old ≡ false }
     ensures text { OnOk result
         (Appends (K.contents sink.old) (K.contents sink.new) (plan.now ++ (cert.now ++ verdict_line verdict))) }
+    ensures prefix { OnErr result ((n : ℕ) × (n ≤ length (plan.now ++ (cert.now ++ verdict_line verdict)))
+        × Appends (K.contents sink.old) (K.contents sink.new)
+        (take n (plan.now ++ (cert.now ++ verdict_line verdict)))) }
     ensures failed { K.has_failed sink.new ≡ is_err result }
 {
     write_all(sink, plan)?;

@@ -1,3 +1,5 @@
+//! The run of `dispatch`: agents follow a plan, and each event of a text gets its reply. The program makes it over
+//! files.
 ghost use Rattle.std.specs.Prelude.{◌≡◌, ◌≤◌, ◌<◌, ℕ, List, All, Ok, Err, false, true, take};
 ghost use Rattle.std.specs.Prelude.{IfOk, IfErr, IfSome, OnOk, IsErrOf, MatchResult, Some};
 ghost use Rattle.std.specs.Io.KnownBytes.{Appends};
@@ -51,8 +53,8 @@ fn read_asking<E: Source>(alloc: Global, events: &mut E, k: u32) -> Result<Vec<u
 }
 
 /// Lets the first `k` agents of a scenario follow a plan, and writes for each event in order the reply to the agent
-/// that asks to move on. Reads the map, the scenario, the plan text and the event text. Nothing is written before the
-/// plan was found valid, the events were read and all memory was allocated.
+/// that asks to move on. Reads the map, the scenario, the plan text and the event text. After an error of one of
+/// these, or of memory, the sink is as it was.
 pub fn run_dispatch<M: Source, S: Source, P: Source, E: Source, K: Sink>(
     alloc: Global,
     map: &mut M,
@@ -88,6 +90,7 @@ pub fn run_dispatch<M: Source, S: Source, P: Source, E: Source, K: Sink>(
     // Each reported error is one that the inputs have, and its location is correct.
     ensures fault { IfErr result (IsDispatching
         (M.remaining map.old) (S.remaining scen.old) (P.remaining plan.old) (E.remaining events.old) k) }
+    // Out of memory is `F6`, and inside no other error.
     ensures inner { IfErr result HasNoInnerMemory }
     // An error of a device is reported only if it failed or a source gave too many bytes, and always if it failed.
     ensures map { IsErrOf result (Fault.F4 Input.Map) →

@@ -1,3 +1,5 @@
+//! The errors with which a run ends, and the names of its inputs and outputs. Every run returns them, and each has its
+//! line in `line.rt`.
 use mapf_certificate::PlanTextFault;
 use mapf_checker::{CheckFault, PlanFault};
 use mapf_player::EventFault;

@@ -1,3 +1,4 @@
+//! How the runs read their inputs: any text as a whole, and the problem of a map and a scenario.
 ghost use Rattle.std.specs.Prelude.{◌≡◌, ◌≤◌, ◌⊎◌, false, true, Ok, IfOk, IfErr, OnOk, IfSome, IsSome, IsErrOf};
 ghost use Rattle.std.specs.Result.{IsErrAnd};
 ghost use Rattle.mapf_app.specs.Faults.{HasNoInnerMemory, IsOfInput, IsOfMap, IsReadingMap, IsReadingAgents, IsReading};
@@ -116,6 +117,7 @@ pub fn read_problem<M: Source, S: Source>(
         (result ≡ Ok problem) ⊎ IsErrAnd result IsOfInput }
     // Each reported error is one that the inputs have, and its location is correct.
     ensures fault { IfErr result (IsReading (M.remaining map.old) (S.remaining scen.old) k) }
+    // Out of memory is `F6`, and inside no other error.
     ensures inner { IfErr result HasNoInnerMemory }
     // An error of a source is reported only if the source failed or gave too many bytes, and always if it failed.
     ensures map { IsErrOf result (Fault.F4 Input.Map) →

@@ -1,3 +1,5 @@
+//! The answer of the run of `solve`, without the plan and the tree. The line and the exit status of `solve` follow from
+//! it.
 use mapf_model::Cause;
 
 /// The answer of a solving run.

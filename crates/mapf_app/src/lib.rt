@@ -14,7 +14,6 @@ mod play;
 mod solve;
 mod solved;
 mod tell;
-mod write_tree;
 
 pub use check::run_check;
 pub use demo::run_demo;

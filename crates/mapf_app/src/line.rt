@@ -1,4 +1,6 @@
-ghost use Rattle.std.specs.Prelude.{◌≡◌, false, Some, None, OnOk};
+//! What the program prints for a verdict and for each error of a run, as one line. `tell.rt` and the demo write their
+//! lines here.
+ghost use Rattle.std.specs.Prelude.{◌≡◌, ◌≤◌, ℕ, false, Some, None, OnErr, OnOk, length, take};
 ghost use Rattle.std.specs.Result.{is_err};
 ghost use Rattle.std.specs.Io.KnownBytes.{Appends};
 ghost use Rattle.mapf_app.specs.FaultLines.{cert_fault_line, event_fault_line, fault_line, map_fault_line};
@@ -231,6 +233,8 @@ fn write_defect<K: Sink>(sink: &mut K, defect: Option<&'static str>) -> Result<(
     requires { K.has_failed sink.old ≡ false }
     ensures text { OnOk result (Appends (K.contents sink.old) (K.contents sink.new) (defect_text defect.entry)) }
     ensures failed { K.has_failed sink.new ≡ is_err result }
+    ensures prefix { OnErr result ((n : ℕ) × (n ≤ length (defect_text defect.entry))
+        × Appends (K.contents sink.old) (K.contents sink.new) (take n (defect_text defect.entry))) }
 {
     let Some(defect) = defect else {
         return Ok(());
@@ -244,6 +248,8 @@ fn write_number<K: Sink>(sink: &mut K, number: Option<u64>) -> Result<(), Failed
     requires { K.has_failed sink.old ≡ false }
     ensures text { OnOk result (Appends (K.contents sink.old) (K.contents sink.new) (number_text number)) }
     ensures failed { K.has_failed sink.new ≡ is_err result }
+    ensures prefix { OnErr result ((n : ℕ) × (n ≤ length (number_text number))
+        × Appends (K.contents sink.old) (K.contents sink.new) (take n (number_text number))) }
 {
     let Some(number) = number else {
         return Ok(());
@@ -258,12 +264,14 @@ fn write_bound<K: Sink>(sink: &mut K, bound: Option<u64>) -> Result<(), Failed>
     requires { K.has_failed sink.old ≡ false }
     ensures text { OnOk result (Appends (K.contents sink.old) (K.contents sink.new) (bound_text bound)) }
     ensures failed { K.has_failed sink.new ≡ is_err result }
+    ensures prefix { OnErr result ((n : ℕ) × (n ≤ length (bound_text bound))
+        × Appends (K.contents sink.old) (K.contents sink.new) (take n (bound_text bound))) }
 {
-    if bound.is_none() {
+    let Some(bound) = bound else {
         return Ok(());
-    }
+    };
     write_all(sink, b" bound")?;
-    write_number(sink, bound)
+    write_number(sink, Some(bound))
 }
 
 /// Writes the line with its LF.
@@ -271,6 +279,8 @@ pub fn write_line<K: Sink>(sink: &mut K, line: &Line) -> Result<(), Failed>
     requires { K.has_failed sink.old ≡ false }
     ensures text { OnOk result (Appends (K.contents sink.old) (K.contents sink.new) (message_text line.now)) }
     ensures failed { K.has_failed sink.new ≡ is_err result }
+    ensures prefix { OnErr result ((n : ℕ) × (n ≤ length (message_text line.now))
+        × Appends (K.contents sink.old) (K.contents sink.new) (take n (message_text line.now))) }
 {
     let (first, second, third) = line.numbers;
     write_all(sink, line.words.as_bytes())?;

@@ -1,3 +1,4 @@
+//! The run of `play`: a valid plan is shown tick by tick. The program makes it over files.
 ghost use Rattle.std.specs.Prelude.{◌≡◌, ◌≤◌, ℕ, List, Ok, Err, false, true, take};
 ghost use Rattle.std.specs.Prelude.{IfErr, OnOk, IsErrOf, MatchResult};
 ghost use Rattle.std.specs.Io.KnownBytes.{Appends};
@@ -47,6 +48,7 @@ pub fn run_play<M: Source, S: Source, P: Source, K: Sink>(
     // Each reported error is one that the inputs have. For the map, the scenario and an invalid plan its location is
     // correct too.
     ensures fault { IfErr result (IsPlaying (M.remaining map.old) (S.remaining scen.old) (P.remaining plan.old) k) }
+    // Out of memory is `F6`, and inside no other error.
     ensures inner { IfErr result HasNoInnerMemory }
     // An error of a device is reported only if it failed or a source gave too many bytes, and always if it failed.
     ensures map { IsErrOf result (Fault.F4 Input.Map) →

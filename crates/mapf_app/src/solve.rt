@@ -1,9 +1,12 @@
+//! The run of `solve`: a problem is read and solved, and the plan text and the certificate are written. The program
+//! makes it over files, the demo over memory.
 ghost use Rattle.std.specs.Prelude.{◌≡◌, ◌≤◌, ℕ, List, false, true, take};
 ghost use Rattle.std.specs.Prelude.{IfOk, IfErr, OnOk, IsErrOf, IsSome, MatchResult};
 ghost use Rattle.std.specs.Io.KnownBytes.{Appends};
 ghost use Rattle.mapf_app.specs.Faults.{HasNoInnerMemory, IsBeforeWriting, IsOfDevices, IsOfMap, IsSolving};
 ghost use Rattle.mapf_app.specs.Headline.{PrintsTruly};
 ghost use Rattle.mapf_app.specs.Order.{HasReadGrid};
+ghost use Rattle.mapf_app.specs.Policy.{PrintsByPolicy};
 ghost use Rattle.mapf_app.specs.Problems.{SpellsProblem};
 ghost use Rattle.mapf_app.specs.Solved.{Prints};
 ghost use Rattle.mapf_app.specs.Unreadable.{IsUnreadable, IsWithin};
@@ -14,8 +17,7 @@ use crate::fault::{Fault, Input, Output};
 use crate::input::read_problem;
 use crate::kind::Kind;
 use crate::solved::solve_problem;
-use crate::write_tree::write_tree;
-use mapf_certificate::TextWriter;
+use mapf_certificate::{TextWriter, Version};
 use mapf_model::{Sink, Source};
 use std::alloc::Global;
 
@@ -41,14 +43,23 @@ pub fn run_solve<M: Source, S: Source, P: Sink, C: Sink>(
     // A printed plan is optimal, 'impossible' is printed only if no plan is valid, a bound only if no valid plan has a
     // smaller sum of costs, and both texts are accepted for the problem that was read.
     ensures printed { IfOk result (λ kind. (plan_text : List ℕ) × (cert_text : List ℕ)
-        × PrintsTruly (M.remaining map.old) (S.remaining scen.old) k limit kind plan_text cert_text
+        × PrintsTruly (M.remaining map.old) (S.remaining scen.old) k kind plan_text cert_text
         × Appends (P.contents plan_sink.old) (P.contents plan_sink.new) plan_text
         × Appends (C.contents cert_sink.old) (C.contents cert_sink.new) cert_text) }
-    // If the map and the scenario spell a problem, it is solved, unless a device or memory prevents it.
+    // These texts, of which `printed` holds too, are as plain conflict-based search promises. The certificate has a
+    // tree of at most `limit` splits, each on the first conflict of the first cheapest paths at a node with a sum no
+    // greater than that of any terminal node. A plan's paths are the first of the cheapest ones at a leaf. The tree of
+    // a `limit` answer justifies its cause, and its bound is the least sum.
+    ensures policy { IfOk result (λ kind. (plan_text : List ℕ) × (cert_text : List ℕ)
+        × PrintsByPolicy (M.remaining map.old) (S.remaining scen.old) k limit kind plan_text cert_text
+        × Appends (P.contents plan_sink.old) (P.contents plan_sink.new) plan_text
+        × Appends (C.contents cert_sink.old) (C.contents cert_sink.new) cert_text) }
+    // If the map and the scenario spell a problem, it is solved, unless a device or memory prevents it. As they spell
+    // no other, it is the problem of `policy`.
     ensures due { (problem : Instance) → IsSome (M.remaining map.old) → IsSome (S.remaining scen.old) →
         SpellsProblem (M.remaining map.old) (S.remaining scen.old) k problem →
         MatchResult result (λ kind. (plan_text : List ℕ) × (cert_text : List ℕ)
-        × Prints problem limit kind plan_text cert_text
+        × Prints problem kind plan_text cert_text
         × Appends (P.contents plan_sink.old) (P.contents plan_sink.new) plan_text
         × Appends (C.contents cert_sink.old) (C.contents cert_sink.new) cert_text) IsOfDevices }
     // An input with more bytes than its limit is not accepted.
@@ -56,6 +67,7 @@ pub fn run_solve<M: Source, S: Source, P: Sink, C: Sink>(
         (IsWithin (M.remaining map.old) most_text_bytes × IsWithin (S.remaining scen.old) most_text_bytes) }
     // Each reported error is one that the inputs have, and its location is correct.
     ensures fault { IfErr result (IsSolving (M.remaining map.old) (S.remaining scen.old) k) }
+    // Out of memory is `F6`, and inside no other error.
     ensures inner { IfErr result HasNoInnerMemory }
     // An error of a device is reported only if it failed or a source gave too many bytes, and always if it failed.
     ensures map { IsErrOf result (Fault.F4 Input.Map) →
@@ -76,13 +88,24 @@ pub fn run_solve<M: Source, S: Source, P: Sink, C: Sink>(
     // A sink that failed got a prefix of such texts.
     ensures plan_front { IsErrOf result (Fault.F5 Output.Plan) →
         (kind : Kind) × (plan_text : List ℕ) × (cert_text : List ℕ) × (n : ℕ)
-        × PrintsTruly (M.remaining map.old) (S.remaining scen.old) k limit kind plan_text cert_text
+        × PrintsTruly (M.remaining map.old) (S.remaining scen.old) k kind plan_text cert_text
         × Appends (P.contents plan_sink.old) (P.contents plan_sink.new) (take n plan_text) }
     ensures cert_front { IsErrOf result (Fault.F5 Output.Cert) →
         (kind : Kind) × (plan_text : List ℕ) × (cert_text : List ℕ) × (n : ℕ)
-        × PrintsTruly (M.remaining map.old) (S.remaining scen.old) k limit kind plan_text cert_text
+        × PrintsTruly (M.remaining map.old) (S.remaining scen.old) k kind plan_text cert_text
         × Appends (P.contents plan_sink.old) (P.contents plan_sink.new) plan_text
         × Appends (C.contents cert_sink.old) (C.contents cert_sink.new) (take n cert_text) }
+    // There are such texts that follow the policy too. So these clauses imply the two above, which name no search.
+    ensures plan_policy { IsErrOf result (Fault.F5 Output.Plan) →
+        (kind : Kind) × (plan_text : List ℕ) × (cert_text : List ℕ) × (n : ℕ)
+        × PrintsByPolicy (M.remaining map.old) (S.remaining scen.old) k limit kind plan_text cert_text
+        × Appends (P.contents plan_sink.old) (P.contents plan_sink.new) (take n plan_text) }
+    ensures cert_policy { IsErrOf result (Fault.F5 Output.Cert) →
+        (kind : Kind) × (plan_text : List ℕ) × (cert_text : List ℕ) × (n : ℕ)
+        × PrintsByPolicy (M.remaining map.old) (S.remaining scen.old) k limit kind plan_text cert_text
+        × Appends (P.contents plan_sink.old) (P.contents plan_sink.new) plan_text
+        × Appends (C.contents cert_sink.old) (C.contents cert_sink.new) (take n cert_text) }
+    // After an error that isn't one of an output nothing was written.
     ensures unwritten { IfErr result (λ fault. IsBeforeWriting fault →
         (plan_sink.new ≡ plan_sink.old) × (cert_sink.new ≡ cert_sink.old)) }
 {
@@ -95,7 +118,8 @@ pub fn run_solve<M: Source, S: Source, P: Sink, C: Sink>(
     if writer.plan(plan_sink, &solved.text).is_err() {
         return Err(Fault::F5(Output::Plan));
     }
-    if write_tree(&mut writer, cert_sink, agents, solved.claim, &solved.tree).is_err() {
+    let written = writer.tree(cert_sink, Version::Two, agents, solved.claim, &solved.tree);
+    if written.is_err() {
         return Err(Fault::F5(Output::Cert));
     }
     Ok(solved.kind)

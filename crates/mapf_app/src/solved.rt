@@ -1,8 +1,12 @@
+//! What the run of `solve` writes for each outcome of the search: the plan text, and the claim and the tree of the
+//! certificate.
 ghost use Rattle.std.specs.Prelude.{◌≤◌, ℕ, IfOk, length};
+ghost use Rattle.mapf_app.specs.Policy.{IsSolvedByPolicy};
 ghost use Rattle.mapf_app.specs.Solved.{IsSolved};
 ghost use Rattle.mapf_certificate.specs.declared.version.Version.TheVariants.{Two};
-ghost use Rattle.mapf_cbs.specs.Answer.{IsTreeOf, IsShownOptimal, IsShownImpossible, IsShownBound, MayStop};
+ghost use Rattle.mapf_cbs.specs.Answer.{IsOptimalAnswer, IsImpossibleAnswer, IsLimitAnswer};
 ghost use Rattle.mapf_certificate.specs.Plans.{IsAnswerInRange, IsAnswerOfVersion, IsFew, SpellsPlan, plan_text};
+ghost use Rattle.mapf_model.specs.Answers.{IsPrintable, IsShownOptimal, IsShownImpossible, IsShownBound};
 ghost use Rattle.mapf_model.specs.Limits.{most_splits};
 ghost use Rattle.mapf_model.specs.Plan.{IsValid, IsSumOfCosts};
 ghost use Rattle.mapf_model.specs.Tree.{ConstraintTree};
@@ -45,12 +49,14 @@ fn sum_of(problem: &Problem, plan: &Plan) -> u64
     plan.sum(problem).unwrap()
 }
 
+// What is printed for each outcome. That it is true needs only what the tree shows; that it follows the policy is said
+// for every limit with which the search may have been called.
 fn found(problem: &Problem, plan: Plan, tree: Vec<TreeNode>) -> Solved
-    requires { (limit : ℕ) × (shown : ConstraintTree)
-        × IsTreeOf problem.now limit tree.items shown × IsShownOptimal problem.now plan shown }
-    ensures prints { (limit : ℕ) (shown : ConstraintTree) →
-        IsTreeOf problem.now limit tree.items shown → IsShownOptimal problem.now plan shown →
-        IsSolved problem.now limit result }
+    requires { (shown : ConstraintTree)
+        × IsPrintable problem.now tree.items shown × IsShownOptimal problem.now plan shown }
+    ensures prints { IsSolved problem.now result }
+    ensures policy { (limit : ℕ) → IsOptimalAnswer problem.now limit plan tree.items →
+        IsSolvedByPolicy problem.now limit result }
     ensures few { IsFew result.text.answer }
 {
     laws::sums_are_one();
@@ -64,11 +70,11 @@ fn found(problem: &Problem, plan: Plan, tree: Vec<TreeNode>) -> Solved
 }
 
 fn impossible(problem: &Problem, tree: Vec<TreeNode>) -> Solved
-    requires { (limit : ℕ) × (shown : ConstraintTree)
-        × IsTreeOf problem.now limit tree.items shown × IsShownImpossible problem.now shown }
-    ensures prints { (limit : ℕ) (shown : ConstraintTree) →
-        IsTreeOf problem.now limit tree.items shown → IsShownImpossible problem.now shown →
-        IsSolved problem.now limit result }
+    requires { (shown : ConstraintTree)
+        × IsPrintable problem.now tree.items shown × IsShownImpossible problem.now shown }
+    ensures prints { IsSolved problem.now result }
+    ensures policy { (limit : ℕ) → IsImpossibleAnswer problem.now limit tree.items →
+        IsSolvedByPolicy problem.now limit result }
     ensures few { IsFew result.text.answer }
 {
     Solved {
@@ -81,11 +87,11 @@ fn impossible(problem: &Problem, tree: Vec<TreeNode>) -> Solved
 
 fn limited(problem: &Problem, cause: Cause, bound: u64, tree: Vec<TreeNode>) -> Solved
     requires range { IsAnswerInRange problem.now.grid (length problem.now.agents) (PlanAnswer.Bounded cause bound) }
-    requires shown { (limit : ℕ) × (shown : ConstraintTree)
-        × IsTreeOf problem.now limit tree.items shown × IsShownBound problem.now bound shown }
-    ensures prints { (limit : ℕ) (shown : ConstraintTree) →
-        IsTreeOf problem.now limit tree.items shown → MayStop problem.now limit cause shown →
-        IsShownBound problem.now bound shown → IsSolved problem.now limit result }
+    requires shown { (shown : ConstraintTree)
+        × IsPrintable problem.now tree.items shown × IsShownBound problem.now bound shown }
+    ensures prints { IsSolved problem.now result }
+    ensures policy { (limit : ℕ) → IsLimitAnswer problem.now limit cause bound tree.items →
+        IsSolvedByPolicy problem.now limit result }
     ensures few { IsFew result.text.answer }
 {
     Solved {
@@ -99,7 +105,8 @@ fn limited(problem: &Problem, cause: Cause, bound: u64, tree: Vec<TreeNode>) -> 
 /// Solves the problem with at most `limit` splits. All memory that the two texts need is allocated here.
 pub fn solve_problem(alloc: Global, problem: &Problem, limit: u32) -> Result<Solved, OutOfMemory>
     requires { limit ≤ most_splits }
-    ensures prints { IfOk result (λ solved. IsSolved problem.now limit solved) }
+    ensures prints { IfOk result (λ solved. IsSolved problem.now solved) }
+    ensures policy { IfOk result (λ solved. IsSolvedByPolicy problem.now limit solved) }
     ensures few { IfOk result (λ solved. IsFew solved.text.answer) }
 {
     match search(alloc, problem, limit)? {

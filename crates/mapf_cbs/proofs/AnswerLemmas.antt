@@ -9,11 +9,11 @@ use Rattle.mapf_model.specs.declared.conflict.Conflict.{Conflict}
 use Rattle.mapf_model.specs.declared.conflict.Conflict.TheVariants.{Vertex, Swap}
 use Rattle.mapf_model.specs.Plan.{Instance, IsValid}
 use Rattle.mapf_model.specs.Tree.{ConstraintTree, Node as TreeNode, nodes_of, Shows, Holds, ShareGoal, split_count}
-use Rattle.mapf_model.specs.Earned.{HasConflict, AreConflictFreeBefore, HaveConflictBefore, HaveSomeConflict, tick_of}
+use Rattle.mapf_model.specs.Conflicts.{HasConflict, AreConflictFreeBefore, HaveConflictBefore, HaveSomeConflict, tick_of}
 use Rattle.mapf_cbs.specs.declared.node.Node.{Node}
 use Rattle.mapf_cbs.specs.declared.node.Node.TheVariants.{Root}
-use Rattle.mapf_cbs.specs.declared.node.Fate.{Fate}
-use Rattle.mapf_cbs.specs.declared.node.Fate.TheVariants.{Open, Expanded}
+use Rattle.mapf_cbs.specs.declared.node.Status.{Status}
+use Rattle.mapf_cbs.specs.declared.node.Status.TheVariants.{Open, Expanded}
 use Rattle.mapf_model.specs.Limits.{most_splits}
 use Rattle.mapf_model.specs.Grid.{IsGridMap, free_cell_count}
 use Rattle.mapf_cbs.specs.Search.{View, IsLive, IsSearched, AreChildrenLater, IsTreeAt}
@@ -21,7 +21,9 @@ use Rattle.mapf_cbs.specs.Nodes.{IsRootView, IsNodeView, IsNodeFor, AreNodesFor,
 use Rattle.mapf_model.specs.declared.cause.Cause.{Cause}
 use Rattle.mapf_model.specs.declared.cause.Cause.TheVariants.{Splits, Ticks}
 use Rattle.mapf_cbs.specs.declared.outcome.Outcome.TheVariants.{Limit as LimitOutcome}
-use Rattle.mapf_cbs.specs.Answer.{IsTreeOf, IsStoppedAtFirst, IsShownOptimal, IsShownImpossible, IsShownBound, IsOutcome}
+use Rattle.mapf_model.specs.Answers.{IsShownImpossible, IsShownBound}
+use Rattle.mapf_cbs.specs.Answer.{IsTreeOf, IsOptimalAnswer, IsImpossibleAnswer, IsOutcome}
+use Rattle.mapf_cbs.specs.Chosen.{IsStoppedAtFirst, IsLeastSum}
 use Rattle.mapf_cbs.specs.FirstConflicts.{AreFirstPaths}
 use Rattle.mapf_cbs.specs.Goals.{NamesFirstDefect}
 use Rattle.mapf_cbs.specs.State.{IsState, IsPopped, IsCauseToStop, IsLeastKey}
@@ -87,32 +89,33 @@ pub state_first : (problem : Instance) (paths : List (List ℕ)) (total : ℕ) (
 state_first problem paths total view root_view live total_is small nodes nodes_is = subst (λ ns. IsState problem ns (Open ∷ []) ((total, 0) ∷ []) 0) (sym nodes_is) (state_root problem paths total view root_view live total_is small)
 
 -- children come later than their parents
-pub children_later : (problem : Instance) (nodes : List Node) (fates : List Fate) (keys : List (ℕ × ℕ)) (count : ℕ) → IsState problem nodes fates keys count → count ≤ most_splits → AreChildrenLater fates
-children_later problem nodes fates keys count state few k conflict a is =
+pub children_later : (problem : Instance) (nodes : List Node) (statuses : List Status) (keys : List (ℕ × ℕ)) (count : ℕ) → IsState problem nodes statuses keys count → count ≤ most_splits → AreChildrenLater statuses
+children_later problem nodes statuses keys count state few k conflict a is =
     let size = state.searched.lengths in let sizes = state.are.lengths in let all = state.size in
-    let inside : k < length fates = slice_get_within fates k (Expanded conflict a) is in
+    let inside : k < length statuses = slice_get_within statuses k (Expanded conflict a) is in
     let view : (view : View) × (slice_get state.views k ≡ Some view) = slice_get_inside state.views k (omega arith) in
     let expanded = state.searched.each k view.0 (Expanded conflict a) view.1 is in
     let in_b = slice_get_within state.views (a + 1) expanded.to_right.0 expanded.to_right.1 in
     (expanded.later, omega arith, omega arith)
 
-pub popped_of : (problem : Instance) (nodes : List Node) (fates : List Fate) (keys rest : List (ℕ × ℕ)) (count total k : ℕ) → IsState problem nodes fates keys count → IsLeastKey (total, k) keys rest → IsPopped problem nodes fates rest count total k
-popped_of problem nodes fates keys rest count total k state least = record { state = subst (λ ks. IsState problem nodes fates ks count) least.removal state; above = least.above }
+pub popped_of : (problem : Instance) (nodes : List Node) (statuses : List Status) (keys rest : List (ℕ × ℕ)) (count total k : ℕ) → IsState problem nodes statuses keys count → IsLeastKey (total, k) keys rest → IsPopped problem nodes statuses rest count total k
+popped_of problem nodes statuses keys rest count total k state least = record { state = subst (λ ks. IsState problem nodes statuses ks count) least.removal state; above = least.above }
 
 pub not_apart : (paths : List (List ℕ)) (conflict : Conflict) → HasConflict paths conflict → HaveSomeConflict paths
 not_apart paths (Vertex i j cell tick) (differ, p, q, ip, jq, here, there) = (i, j, tick, p, q, differ, ip, jq, inl (here ∙ sym there))
 not_apart paths (Swap i j from to tick) (differ, moved, p, q, ip, jq, here, there) = (i, j, tick, p, q, differ, ip, jq, inr (here.0 ∙ sym there.1, here.1 ∙ sym there.0))
 
 -- a tree of the search can be printed, and its splits are earned
-is_tree_of : (problem : Instance) → IsGridMap problem.grid → ((tree : ConstraintTree) → NamesFirstDefect problem tree) → (views : List View) (fates : List Fate) (count limit : ℕ) → count ≤ limit → IsSearched problem views fates count → (listed : List TreeNode) (tree : ConstraintTree) → (listed ≡ nodes_of tree) → IsTreeAt views fates 0 tree → IsTreeOf problem limit listed tree
-is_tree_of problem shape names views fates count limit within searched listed tree spelled on_tree = record {
-  spelled = spelled;
-  few = (let size = has_splits problem views fates count searched tree on_tree in omega (arith, size, within));
-  earned = is_earned problem views fates count searched tree on_tree;
-  first_conflicts = is_on_first problem views fates count searched tree on_tree;
-  first_defect = names tree;
-  blocks = has_blocks problem views fates count searched tree on_tree;
-  in_range = tree_in_range problem shape views fates count searched tree 0 on_tree;
+is_tree_of : (problem : Instance) → IsGridMap problem.grid → ((tree : ConstraintTree) → NamesFirstDefect problem tree) → (views : List View) (statuses : List Status) (count limit : ℕ) → count ≤ limit → IsSearched problem views statuses count → (listed : List TreeNode) (tree : ConstraintTree) → (listed ≡ nodes_of tree) → IsTreeAt views statuses 0 tree → IsTreeOf problem limit listed tree
+is_tree_of problem shape names views statuses count limit within searched listed tree spelled on_tree = record {
+  printable = record { spelled = spelled; in_range = tree_in_range problem shape views statuses count searched tree 0 on_tree };
+  chosen = record {
+    few = (let size = has_splits problem views statuses count searched tree on_tree in omega (arith, size, within));
+    earned = is_earned problem views statuses count searched tree on_tree;
+    first_conflicts = is_on_first problem views statuses count searched tree on_tree;
+    first_defect = names tree;
+    blocks = has_blocks problem views statuses count searched tree on_tree;
+  };
 }
 
 -- what a tree shows holds
@@ -123,25 +126,25 @@ pub is_shown_impossible : (problem : Instance) (tree : ConstraintTree) → Shows
 is_shown_impossible problem tree shows = record { shows = shows; impossible = shown_holds problem Impossible tree shows }
 
 -- no open node is left
-pub answer_impossible : (problem : Instance) → IsGridMap problem.grid → ((tree : ConstraintTree) → NamesFirstDefect problem tree) → (nodes : List Node) (fates : List Fate) (count limit : ℕ) → count ≤ limit → (state : IsState problem nodes fates [] count) (listed : List TreeNode) → (tree : ConstraintTree) × (listed ≡ nodes_of tree) × IsTreeAt state.views fates 0 tree →
-    (tree : ConstraintTree) × IsTreeOf problem limit listed tree × IsShownImpossible problem tree
-answer_impossible problem shape names nodes fates count limit within state listed (tree, spell, on_tree) = (
+pub answer_impossible : (problem : Instance) → IsGridMap problem.grid → ((tree : ConstraintTree) → NamesFirstDefect problem tree) → (nodes : List Node) (statuses : List Status) (count limit : ℕ) → count ≤ limit → (state : IsState problem nodes statuses [] count) (listed : List TreeNode) → (tree : ConstraintTree) × (listed ≡ nodes_of tree) × IsTreeAt state.views statuses 0 tree →
+    IsImpossibleAnswer problem limit listed
+answer_impossible problem shape names nodes statuses count limit within state listed (tree, spell, on_tree) = (
   tree,
-  is_tree_of problem shape names state.views fates count limit within state.searched listed tree spell on_tree,
-  is_shown_impossible problem tree (shows_impossible problem state.views fates count state.searched tree on_tree (λ m m_open.
+  is_tree_of problem shape names state.views statuses count limit within state.searched listed tree spell on_tree,
+  is_shown_impossible problem tree (shows_impossible problem state.views statuses count state.searched tree on_tree (λ m m_open.
       let size = state.searched.lengths in
-      let inside = slice_get_within fates m Open m_open in
+      let inside = slice_get_within statuses m Open m_open in
       let view : (view : View) × (slice_get state.views m ≡ Some view) = slice_get_inside state.views m (omega arith) in
       Contains-none (sum view.0.costs, m) (state.opens.each m view.0 view.1 m_open))),
 )
 
-module _ (problem : Instance) (shape : IsGridMap problem.grid) (names : (tree : ConstraintTree) → NamesFirstDefect problem tree) (nodes : List Node) (fates : List Fate) (rest : List (ℕ × ℕ)) (count total k : ℕ) (popped : IsPopped problem nodes fates rest count total k) (limit : ℕ) (within : count ≤ limit) (listed : List TreeNode) (found : (tree : ConstraintTree) × (listed ≡ nodes_of tree) × IsTreeAt popped.state.views fates 0 tree) where
+module _ (problem : Instance) (shape : IsGridMap problem.grid) (names : (tree : ConstraintTree) → NamesFirstDefect problem tree) (nodes : List Node) (statuses : List Status) (rest : List (ℕ × ℕ)) (count total k : ℕ) (popped : IsPopped problem nodes statuses rest count total k) (limit : ℕ) (within : count ≤ limit) (listed : List TreeNode) (found : (tree : ConstraintTree) × (listed ≡ nodes_of tree) × IsTreeAt popped.state.views statuses 0 tree) where
   tree_is : IsTreeOf problem limit listed found.0
-  tree_is = is_tree_of problem shape names popped.state.views fates count limit within popped.state.searched listed found.0 found.1 found.2
+  tree_is = is_tree_of problem shape names popped.state.views statuses count limit within popped.state.searched listed found.0 found.1 found.2
 
-  module _ (view : View) (is : slice_get popped.state.views k ≡ Some view) (is_open : slice_get fates k ≡ Some Open) (live : IsLive problem view) where
-    least : (m : ℕ) (other : View) → slice_get popped.state.views m ≡ Some other → slice_get fates m ≡ Some Open → sum view.costs ≤ sum other.costs
-    least = least_popped problem nodes fates rest count total k popped view is
+  module _ (view : View) (is : slice_get popped.state.views k ≡ Some view) (is_open : slice_get statuses k ≡ Some Open) (live : IsLive problem view) where
+    least : (m : ℕ) (other : View) → slice_get popped.state.views m ≡ Some other → slice_get statuses m ≡ Some Open → sum view.costs ≤ sum other.costs
+    least = least_popped problem nodes statuses rest count total k popped view is
 
     valid_of : (HaveSomeConflict view.paths → ⊥) → IsValid problem view.paths
     valid_of none = record {
@@ -151,9 +154,9 @@ module _ (problem : Instance) (shape : IsGridMap problem.grid) (names : (tree : 
     }
 
     shown_cost : Shows problem (Cost (sum view.costs)) found.0
-    shown_cost = shows_cost problem popped.state.views fates count popped.state.searched found.0 found.2 (sum view.costs) least
+    shown_cost = shows_cost problem popped.state.views statuses count popped.state.searched found.0 found.2 (sum view.costs) least
 
-    pub answer_found : 1 ≤ length problem.agents → length problem.agents ≤ 200 → All (λ path. length path ≤ 10000000) view.paths → (HaveSomeConflict view.paths → ⊥) → (tree : ConstraintTree) × IsTreeOf problem limit listed tree × IsShownOptimal problem view.paths tree
+    pub answer_found : 1 ≤ length problem.agents → length problem.agents ≤ 200 → All (λ path. length path ≤ 10000000) view.paths → (HaveSomeConflict view.paths → ⊥) → IsOptimalAnswer problem limit view.paths listed
     answer_found some few short none = (
       found.0,
       tree_is,
@@ -161,47 +164,47 @@ module _ (problem : Instance) (shape : IsGridMap problem.grid) (names : (tree : 
         total = sum view.costs;
         optimal = record { valid = valid_of none; sum = live_sum problem view live; least = shown_holds problem (Cost (sum view.costs)) found.0 shown_cost };
         shows = shown_cost;
-        of_a_leaf = at_leaf problem popped.state.views fates count popped.state.searched found.0 found.2 k view is is_open;
         plan_in_range = plan_in_range problem shape view live short few some;
         claim_in_range = sum_in_range problem shape view live short few;
       },
+      at_leaf problem popped.state.views statuses count popped.state.searched found.0 found.2 k view is is_open,
     )
 
     shown_bound : 1 ≤ length problem.agents → length problem.agents ≤ 200 → All (λ path. length path ≤ 10000000) view.paths → IsShownBound problem (sum view.costs) found.0
     shown_bound some few short =
-        let shows = shows_bound problem popped.state.views fates count popped.state.searched found.0 found.2 (sum view.costs) least in
+        let shows = shows_bound problem popped.state.views statuses count popped.state.searched found.0 found.2 (sum view.costs) least in
         record {
           shows = shows;
           holds = shown_holds problem (Bound (sum view.costs)) found.0 shows;
-          met_at_a_leaf = meets_at_a_leaf problem popped.state.views fates count popped.state.searched found.0 found.2 k view is is_open least;
           claim_in_range = sum_in_range problem shape view live short few;
         }
 
     answer_splits : (conflict : Conflict) → HasConflict view.paths conflict → tick_of conflict < 1000000 → IsStoppedAtFirst (λ paths. HaveConflictBefore paths 1000000) problem found.0 × (split_count found.0 ≡ count)
     answer_splits conflict meet early = (
-      is_stopped problem popped.state.views fates count popped.state.searched found.0 found.2 (λ context paths. AreFirstPaths problem context paths × HaveConflictBefore paths 1000000) k view is is_open least (not_apart view.paths conflict meet) (live_first problem view live, (conflict, meet, early)),
-      has_splits problem popped.state.views fates count popped.state.searched found.0 found.2,
+      is_stopped problem popped.state.views statuses count popped.state.searched found.0 found.2 (λ context paths. AreFirstPaths problem context paths × HaveConflictBefore paths 1000000) k view is is_open least (not_apart view.paths conflict meet) (live_first problem view live, (conflict, meet, early)),
+      has_splits problem popped.state.views statuses count popped.state.searched found.0 found.2,
     )
 
     answer_ticks : ((i j : ℕ) → ShareGoal problem i j → ⊥) → (conflict : Conflict) → HasConflict view.paths conflict → AreConflictFreeBefore view.paths (tick_of conflict) → 1000000 ≤ tick_of conflict →
         IsStoppedAtFirst (λ paths. AreConflictFreeBefore paths 1000000) problem found.0 × (1000000 < (split_count found.0 + 1) * free_cell_count problem.grid)
     answer_ticks goals conflict meet apart late =
         let early = conflict_early problem view live goals (count * free_cell_count problem.grid) (λ i. popped.state.searched.low k view i is) conflict meet in
-        let size = has_splits problem popped.state.views fates count popped.state.searched found.0 found.2 in (
-          is_stopped problem popped.state.views fates count popped.state.searched found.0 found.2 (λ context paths. AreFirstPaths problem context paths × AreConflictFreeBefore paths 1000000) k view is is_open least (not_apart view.paths conflict meet) (live_first problem view live, λ i j tick p q before. apart i j tick p q (omega arith)),
+        let size = has_splits problem popped.state.views statuses count popped.state.searched found.0 found.2 in (
+          is_stopped problem popped.state.views statuses count popped.state.searched found.0 found.2 (λ context paths. AreFirstPaths problem context paths × AreConflictFreeBefore paths 1000000) k view is is_open least (not_apart view.paths conflict meet) (live_first problem view live, λ i j tick p q before. apart i j tick p q (omega arith)),
           rw size (omega arith),
         )
 
     -- the answer of a search that stops
     module _ (some : 1 ≤ length problem.agents) (few : length problem.agents ≤ 200) (short : All (λ path. length path ≤ 10000000) view.paths) (bound : ℕ) (bound_is : bound ≡ sum view.costs) where
-      is_bound : IsShownBound problem bound found.0
-      is_bound = subst (λ b. IsShownBound problem b found.0) (sym bound_is) (shown_bound some few short)
+      is_bound : IsShownBound problem bound found.0 × IsLeastSum problem bound found.0
+      is_bound = subst (λ b. IsShownBound problem b found.0 × IsLeastSum problem b found.0) (sym bound_is)
+          (shown_bound some few short, meets_at_a_leaf problem popped.state.views statuses count popped.state.searched found.0 found.2 k view is is_open least)
 
       pub answer_limit : ((i j : ℕ) → ShareGoal problem i j → ⊥) → (conflict : Conflict) → HasConflict view.paths conflict → AreConflictFreeBefore view.paths (tick_of conflict) → (cause : Cause) → IsCauseToStop conflict count limit cause →
           (whole : Vec TreeNode Global) → whole.items ≡ listed → IsOutcome problem limit (LimitOutcome cause bound whole)
       answer_limit goals conflict meet apart Ticks late whole same =
           let a = answer_ticks goals conflict meet apart late in
-          (found.0, subst (λ its. IsTreeOf problem limit its found.0) (sym same) tree_is, a, is_bound)
+          (found.0, subst (λ its. IsTreeOf problem limit its found.0) (sym same) tree_is, is_bound.0, is_bound.1, a)
       answer_limit goals conflict meet apart (Splits n) (early, is_limit, all) whole same =
           let a = answer_splits conflict meet early in
-          (found.0, subst (λ its. IsTreeOf problem limit its found.0) (sym same) tree_is, (a.0, is_limit, a.1 ∙ all), is_bound)
+          (found.0, subst (λ its. IsTreeOf problem limit its found.0) (sym same) tree_is, is_bound.0, is_bound.1, (a.0, is_limit, a.1 ∙ all))

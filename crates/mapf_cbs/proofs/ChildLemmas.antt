@@ -16,7 +16,7 @@ use Rattle.mapf_model.specs.Blocks.{LabelBlock}
 use Rattle.mapf_model.specs.Labels.{Entries, entries_of, IsLabel}
 use Rattle.mapf_model.specs.Plan.{Instance}
 use Rattle.mapf_model.specs.Tree.{with_constraint, left_constraint, right_constraint, IsProperSplit, ShareGoal, block_of, entries_or}
-use Rattle.mapf_model.specs.Earned.{HasConflict, tick_of}
+use Rattle.mapf_model.specs.Conflicts.{HasConflict, tick_of}
 use Rattle.mapf_model.specs.Laws.{AreSameBars}
 use Rattle.mapf_model.proofs.BarLemmas.{Satisfies-same, AreSound-same}
 use Rattle.mapf_model.proofs.ClaimLemmas.{slice_get_inside}

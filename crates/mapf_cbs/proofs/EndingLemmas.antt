@@ -7,10 +7,10 @@ use Rattle.mapf_model.specs.Blocks.{LabelBlock}
 use Rattle.mapf_model.specs.Plan.{Instance}
 use Rattle.mapf_model.specs.Tree.{ConstraintTree, Node as TreeNode, nodes_of}
 use Rattle.mapf_model.specs.Limits.{most_splits}
-use Rattle.mapf_cbs.specs.declared.node.Fate.{Fate}
+use Rattle.mapf_cbs.specs.declared.node.Status.{Status}
 use Rattle.mapf_cbs.specs.declared.node.Node.{Node}
 use Rattle.mapf_cbs.specs.declared.outcome.Outcome.TheVariants.{Found, Impossible, Limit}
-use Rattle.mapf_cbs.specs.Answer.{IsTreeOf, IsShownOptimal, IsOutcome}
+use Rattle.mapf_cbs.specs.Answer.{IsOptimalAnswer, IsOutcome}
 use Rattle.mapf_cbs.specs.Endings.{CanBeDrawn, IsExhausted, IsAtNode, IsAtPlan, IsAtCause}
 use Rattle.mapf_cbs.specs.Search.{View, IsLive, AreBlockLists, IsTreeAt}
 use Rattle.mapf_cbs.specs.State.{IsState}
@@ -19,28 +19,28 @@ use Rattle.mapf_cbs.proofs.StartLemmas.{root_names}
 use Rattle.mapf_cbs.proofs.StateLemmas.{IsInHand, in_hand}
 
 -- these are the nodes of a tree with the blocks of the nodes' states
-abbrev pub IsDrawn : List (List LabelBlock) → List Fate → List TreeNode → Type 0
-IsDrawn lists fates listed = (views : List View) → AreBlockLists views lists → (tree : ConstraintTree) × (listed ≡ nodes_of tree) × IsTreeAt views fates 0 tree
+abbrev pub IsDrawn : List (List LabelBlock) → List Status → List TreeNode → Type 0
+IsDrawn lists statuses listed = (views : List View) → AreBlockLists views lists → (tree : ConstraintTree) × (listed ≡ nodes_of tree) × IsTreeAt views statuses 0 tree
 
-pub can_be_drawn : (problem : Instance) (nodes : List Node) (fates : List Fate) (keys : List (ℕ × ℕ)) (count : ℕ) (state : IsState problem nodes fates keys count) → count ≤ most_splits →
-    (lists : List (List LabelBlock)) → AreBlockLists state.views lists → CanBeDrawn lists fates
-can_be_drawn problem nodes fates keys count state few lists blocks =
+pub can_be_drawn : (problem : Instance) (nodes : List Node) (statuses : List Status) (keys : List (ℕ × ℕ)) (count : ℕ) (state : IsState problem nodes statuses keys count) → count ≤ most_splits →
+    (lists : List (List LabelBlock)) → AreBlockLists state.views lists → CanBeDrawn lists statuses
+can_be_drawn problem nodes statuses keys count state few lists blocks =
     let size = state.size in let views = state.are.lengths in let same = state.searched.lengths in let lengths = blocks.lengths in
     record {
       same = omega (arith, same, lengths);
       some = omega (arith, size, views, same);
-      later = children_later problem nodes fates keys count state few;
+      later = children_later problem nodes statuses keys count state few;
       one = (count, state.searched.tree);
     }
 
-pub end_impossible : (problem : Instance) (limit : ℕ) (lists : List (List LabelBlock)) (fates : List Fate) → IsExhausted problem limit lists fates → (whole : Vec TreeNode Global) → IsDrawn lists fates whole.items → IsOutcome problem limit (Impossible whole)
-end_impossible problem limit lists fates e whole drawn =
-    answer_impossible problem e.root.shape (root_names problem e.paths e.root) e.nodes fates e.count limit e.within e.state whole.items (drawn e.state.views e.blocks)
+pub end_impossible : (problem : Instance) (limit : ℕ) (lists : List (List LabelBlock)) (statuses : List Status) → IsExhausted problem limit lists statuses → (whole : Vec TreeNode Global) → IsDrawn lists statuses whole.items → IsOutcome problem limit (Impossible whole)
+end_impossible problem limit lists statuses e whole drawn =
+    answer_impossible problem e.root.shape (root_names problem e.paths e.root) e.nodes statuses e.count limit e.within e.state whole.items (drawn e.state.views e.blocks)
 
-module _ (problem : Instance) (limit : ℕ) (lists : List (List LabelBlock)) (fates : List Fate) where
-  module _ (count total : ℕ) (view : View) (a : IsAtNode problem limit lists fates count total view) where
-    hand : IsInHand problem fates a.k total a.popped.state.views
-    hand = in_hand problem a.nodes fates a.rest count total a.k a.popped
+module _ (problem : Instance) (limit : ℕ) (lists : List (List LabelBlock)) (statuses : List Status) where
+  module _ (count total : ℕ) (view : View) (a : IsAtNode problem limit lists statuses count total view) where
+    hand : IsInHand problem statuses a.k total a.popped.state.views
+    hand = in_hand problem a.nodes statuses a.rest count total a.k a.popped
 
     same : hand.view ≡ view
     same = same_Some hand.view view (sym hand.is ∙ a.is)
@@ -51,13 +51,13 @@ module _ (problem : Instance) (limit : ℕ) (lists : List (List LabelBlock)) (fa
     total_is : total ≡ sum view.costs
     total_is = subst (λ (v : View). total ≡ sum v.costs) same hand.total_is
 
-  pub end_found : (plan : List (List ℕ)) → IsAtPlan problem limit lists fates plan → (whole : Vec TreeNode Global) → IsDrawn lists fates whole.items → IsOutcome problem limit (Found plan whole)
+  pub end_found : (plan : List (List ℕ)) → IsAtPlan problem limit lists statuses plan → (whole : Vec TreeNode Global) → IsDrawn lists statuses whole.items → IsOutcome problem limit (Found plan whole)
   end_found plan e whole drawn =
       let a = e.at_node in
-      subst (λ ps. (tree : ConstraintTree) × IsTreeOf problem limit whole.items tree × IsShownOptimal problem ps tree) (sym e.same)
-      (answer_found problem a.root.shape (root_names problem a.paths a.root) a.nodes fates a.rest e.count e.total a.k a.popped limit a.within whole.items (drawn a.popped.state.views a.blocks) e.view a.is (hand e.count e.total e.view a).is_open (live e.count e.total e.view a) a.root.agents.0 a.root.agents.1 a.short e.none)
+      subst (λ ps. IsOptimalAnswer problem limit ps whole.items) (sym e.same)
+      (answer_found problem a.root.shape (root_names problem a.paths a.root) a.nodes statuses a.rest e.count e.total a.k a.popped limit a.within whole.items (drawn a.popped.state.views a.blocks) e.view a.is (hand e.count e.total e.view a).is_open (live e.count e.total e.view a) a.root.agents.0 a.root.agents.1 a.short e.none)
 
-  pub end_limit : (cause : Cause) (bound : ℕ) → IsAtCause problem limit lists fates cause bound → (whole : Vec TreeNode Global) → IsDrawn lists fates whole.items → IsOutcome problem limit (Limit cause bound whole)
+  pub end_limit : (cause : Cause) (bound : ℕ) → IsAtCause problem limit lists statuses cause bound → (whole : Vec TreeNode Global) → IsDrawn lists statuses whole.items → IsOutcome problem limit (Limit cause bound whole)
   end_limit cause bound e whole drawn =
       let a = e.at_node in
-      answer_limit problem a.root.shape (root_names problem a.paths a.root) a.nodes fates a.rest e.count bound a.k a.popped limit a.within whole.items (drawn a.popped.state.views a.blocks) e.view a.is (hand e.count bound e.view a).is_open (live e.count bound e.view a) a.root.agents.0 a.root.agents.1 a.short bound (total_is e.count bound e.view a) a.root.goals e.conflict e.first.has e.first.earliest cause e.met whole refl
+      answer_limit problem a.root.shape (root_names problem a.paths a.root) a.nodes statuses a.rest e.count bound a.k a.popped limit a.within whole.items (drawn a.popped.state.views a.blocks) e.view a.is (hand e.count bound e.view a).is_open (live e.count bound e.view a) a.root.agents.0 a.root.agents.1 a.short bound (total_is e.count bound e.view a) a.root.goals e.conflict e.first.has e.first.earliest cause e.met whole refl

@@ -6,24 +6,24 @@ use Rattle.mapf_model.specs.declared.constraint.Constraint.{Constraint}
 use Rattle.mapf_model.specs.declared.conflict.Conflict.{Conflict}
 use Rattle.mapf_model.specs.Plan.{Instance}
 use Rattle.mapf_model.specs.Tree.{NodeContext, root, with_constraint, left_constraint, right_constraint, left_child_context, right_child_context, ShareGoal}
-use Rattle.mapf_model.specs.Earned.{tick_of}
-use Rattle.mapf_cbs.specs.declared.node.Fate.{Fate}
-use Rattle.mapf_cbs.specs.declared.node.Fate.TheVariants.{Open, Dead, Expanded}
+use Rattle.mapf_model.specs.Conflicts.{tick_of}
+use Rattle.mapf_cbs.specs.declared.node.Status.{Status}
+use Rattle.mapf_cbs.specs.declared.node.Status.TheVariants.{Open, Dead, Expanded}
 use Rattle.mapf_model.specs.Grid.{free_cell_count}
 use Rattle.mapf_constraints.specs.BarSets.{bar_tick, AreBefore}
 use Rattle.mapf_cbs.specs.BoundBlocks.{AreBlocksFor}
 use Rattle.mapf_cbs.specs.FirstConflicts.{IsFirstConflict}
-use Rattle.mapf_cbs.specs.Search.{View, IsLive, IsDead, IsFate, IsExpandedAt, IsExpandedFate, End, occurrences, IsSearched}
+use Rattle.mapf_cbs.specs.Search.{View, IsLive, IsDead, IsStatus, IsExpandedAt, IsExpandedStatus, End, occurrences, IsSearched}
 use Rattle.mapf_model.proofs.PlaceLemmas.{slice_get-front, slice_get-here}
 use Rattle.mapf_cbs.proofs.SumLemmas.{slice_get-second, length-two_more}
 use Rattle.mapf_cbs.proofs.ChildLemmas.{AreBefore-with_constraint, left_tick, right_tick, conflict_proper, conflict_early}
 use Rattle.mapf_cbs.proofs.ShapeLemmas.{IsGrown, IsOneTree-grown}
 
 -- what holds of a new child by its outcome
-abbrev pub IsChildFate : Instance → View → View → Fate → Type 0
-IsChildFate problem view child Open = IsLive problem child × (sum view.costs ≤ sum child.costs)
-IsChildFate problem view child Dead = IsDead problem child
-IsChildFate problem view child (Expanded conflict left) = ⊥
+abbrev pub IsChildStatus : Instance → View → View → Status → Type 0
+IsChildStatus problem view child Open = IsLive problem child × (sum view.costs ≤ sum child.costs)
+IsChildStatus problem view child Dead = IsDead problem child
+IsChildStatus problem view child (Expanded conflict left) = ⊥
 
 pub searched_first : (problem : Instance) (view : View) → view.context ≡ root → view.blocks ≡ [] → IsLive problem view → IsSearched problem (view ∷ []) (Open ∷ []) 0
 searched_first problem view at_root no_blocks live = record {
@@ -35,13 +35,13 @@ searched_first problem view at_root no_blocks live = record {
   low = low;
 }
   where
-    each : (k : ℕ) (v : View) (fate : Fate) → slice_get (view ∷ []) k ≡ Some v → slice_get (Open ∷ []) k ≡ Some fate → IsFate problem (view ∷ []) k v fate
-    each zero v fate is open_is = subst (λ f. IsFate problem (view ∷ []) 0 v f) (same_Some Open fate open_is) (subst (λ x. IsLive problem x) (same_Some view v is) live)
-    each (suc k) v fate is open_is = absurd cc
+    each : (k : ℕ) (v : View) (status : Status) → slice_get (view ∷ []) k ≡ Some v → slice_get (Open ∷ []) k ≡ Some status → IsStatus problem (view ∷ []) k v status
+    each zero v status is open_is = subst (λ f. IsStatus problem (view ∷ []) 0 v f) (same_Some Open status open_is) (subst (λ x. IsLive problem x) (same_Some view v is) live)
+    each (suc k) v status is open_is = absurd cc
 
-    least : (k m : ℕ) (v other : View) (fate : Fate) → slice_get (view ∷ []) k ≡ Some v → slice_get (view ∷ []) m ≡ Some other → slice_get (Open ∷ []) k ≡ Some fate → IsExpandedFate fate → slice_get (Open ∷ []) m ≡ Some Open → sum v.costs ≤ sum other.costs
-    least zero m v other fate is other_is fate_is expanded open_is = absurd (subst IsExpandedFate (sym (same_Some Open fate fate_is)) expanded)
-    least (suc k) m v other fate is other_is fate_is expanded open_is = absurd cc
+    least : (k m : ℕ) (v other : View) (status : Status) → slice_get (view ∷ []) k ≡ Some v → slice_get (view ∷ []) m ≡ Some other → slice_get (Open ∷ []) k ≡ Some status → IsExpandedStatus status → slice_get (Open ∷ []) m ≡ Some Open → sum v.costs ≤ sum other.costs
+    least zero m v other status is other_is status_is expanded open_is = absurd (subst IsExpandedStatus (sym (same_Some Open status status_is)) expanded)
+    least (suc k) m v other status is other_is status_is expanded open_is = absurd cc
 
     once : (k : ℕ) → k < 1 → occurrences k (End 0) ≡ 1
     once zero within = refl
@@ -55,62 +55,62 @@ searched_first problem view at_root no_blocks live = record {
     low (suc k) v i is bar in_it = absurd cc
 
 module _ (problem : Instance) (goals : (i j : ℕ) → ShareGoal problem i j → ⊥)
-    (views : List View) (fates : List Fate) (count : ℕ) (searched : IsSearched problem views fates count)
-    (j : ℕ) (view : View) (is : slice_get views j ≡ Some view) (was_open : slice_get fates j ≡ Some Open)
-    (least : (m : ℕ) (other : View) → slice_get views m ≡ Some other → slice_get fates m ≡ Some Open → sum view.costs ≤ sum other.costs)
+    (views : List View) (statuses : List Status) (count : ℕ) (searched : IsSearched problem views statuses count)
+    (j : ℕ) (view : View) (is : slice_get views j ≡ Some view) (was_open : slice_get statuses j ≡ Some Open)
+    (least : (m : ℕ) (other : View) → slice_get views m ≡ Some other → slice_get statuses m ≡ Some Open → sum view.costs ≤ sum other.costs)
     (conflict : Conflict) (on_first : IsFirstConflict view.paths conflict) (in_time : tick_of conflict < 1000000)
     (x y : View) (x_context : x.context ≡ left_child_context view.context conflict view.blocks) (y_context : y.context ≡ right_child_context view.context conflict view.blocks)
     (x_bound : AreBlocksFor problem x.context (Some (left_constraint conflict).agent) x.blocks) (y_bound : AreBlocksFor problem y.context (Some (right_constraint conflict).agent) y.blocks)
-    (left right : Fate) (x_is : IsChildFate problem view x left) (y_is : IsChildFate problem view y right)
-    (after : List Fate) (grown : IsGrown fates after j conflict left right)
+    (left right : Status) (x_is : IsChildStatus problem view x left) (y_is : IsChildStatus problem view y right)
+    (after : List Status) (grown : IsGrown statuses after j conflict left right)
   where
     live : IsLive problem view
     live = searched.each j view Open is was_open
 
     -- an index of the longer list
-    data Place (k : ℕ) (v : View) (fate : Fate) : Type 0 where
-      Old : k < length fates → k ≢ j → slice_get views k ≡ Some v → slice_get fates k ≡ Some fate → Place k v fate
-      This : k ≡ j → v ≡ view → fate ≡ Expanded conflict (length fates) → Place k v fate
-      First : k ≡ length fates → v ≡ x → fate ≡ left → Place k v fate
-      Second : k ≡ length fates + 1 → v ≡ y → fate ≡ right → Place k v fate
+    data Place (k : ℕ) (v : View) (status : Status) : Type 0 where
+      Old : k < length statuses → k ≢ j → slice_get views k ≡ Some v → slice_get statuses k ≡ Some status → Place k v status
+      This : k ≡ j → v ≡ view → status ≡ Expanded conflict (length statuses) → Place k v status
+      First : k ≡ length statuses → v ≡ x → status ≡ left → Place k v status
+      Second : k ≡ length statuses + 1 → v ≡ y → status ≡ right → Place k v status
 
-    x_at : slice_get (views ++ x ∷ y ∷ []) (length fates) ≡ Some x
+    x_at : slice_get (views ++ x ∷ y ∷ []) (length statuses) ≡ Some x
     x_at = subst (λ n. slice_get (views ++ x ∷ y ∷ []) n ≡ Some x) searched.lengths (slice_get-here views (y ∷ []) x)
 
-    y_at : slice_get (views ++ x ∷ y ∷ []) (length fates + 1) ≡ Some y
+    y_at : slice_get (views ++ x ∷ y ∷ []) (length statuses + 1) ≡ Some y
     y_at = subst (λ n. slice_get (views ++ x ∷ y ∷ []) (n + 1) ≡ Some y) searched.lengths (slice_get-second views x y)
 
     old_view : (k : ℕ) (v : View) → slice_get views k ≡ Some v → slice_get (views ++ x ∷ y ∷ []) k ≡ Some v
     old_view k v at = slice_get-front views (x ∷ y ∷ []) k (slice_get_within views k v at) ∙ at
 
-    place : (k : ℕ) (v : View) (fate : Fate) → slice_get (views ++ x ∷ y ∷ []) k ≡ Some v → slice_get after k ≡ Some fate → Place k v fate
-    place k v fate v_is fate_is =
+    place : (k : ℕ) (v : View) (status : Status) → slice_get (views ++ x ∷ y ∷ []) k ≡ Some v → slice_get after k ≡ Some status → Place k v status
+    place k v status v_is status_is =
         let size = searched.lengths in
         let grew = grown.size in
-        let within : k < length after = slice_get_within after k fate fate_is in
+        let within : k < length after = slice_get_within after k status status_is in
         ⊎_elim
         (λ (this : k ≡ j). This this
         (same_Some v view (sym v_is ∙ subst (λ n. slice_get (views ++ x ∷ y ∷ []) n ≡ Some view) (sym this) (old_view j view is)))
-        (same_Some fate (Expanded conflict (length fates)) (sym fate_is ∙ subst (λ n. slice_get after n ≡ Some (Expanded conflict (length fates))) (sym this) grown.split)))
+        (same_Some status (Expanded conflict (length statuses)) (sym status_is ∙ subst (λ n. slice_get after n ≡ Some (Expanded conflict (length statuses))) (sym this) grown.split)))
         (λ (other : k ≢ j). ⊎_elim
-        (λ (old : k < length fates). Old old other (sym (slice_get-front views (x ∷ y ∷ []) k (omega arith)) ∙ v_is) (sym (grown.others k old other) ∙ fate_is))
-        (λ (new : length fates ≤ k). ⊎_elim
-        (λ (first : k ≡ length fates). First first
+        (λ (old : k < length statuses). Old old other (sym (slice_get-front views (x ∷ y ∷ []) k (omega arith)) ∙ v_is) (sym (grown.others k old other) ∙ status_is))
+        (λ (new : length statuses ≤ k). ⊎_elim
+        (λ (first : k ≡ length statuses). First first
         (same_Some v x (sym v_is ∙ subst (λ n. slice_get (views ++ x ∷ y ∷ []) n ≡ Some x) (sym first) x_at))
-        (same_Some fate left (sym fate_is ∙ subst (λ n. slice_get after n ≡ Some left) (sym first) grown.first)))
-        (λ (not_first : k ≢ length fates).
-        let second : k ≡ length fates + 1 = omega arith in
+        (same_Some status left (sym status_is ∙ subst (λ n. slice_get after n ≡ Some left) (sym first) grown.first)))
+        (λ (not_first : k ≢ length statuses).
+        let second : k ≡ length statuses + 1 = omega arith in
         Second second
         (same_Some v y (sym v_is ∙ subst (λ n. slice_get (views ++ x ∷ y ∷ []) n ≡ Some y) (sym second) y_at))
-        (same_Some fate right (sym fate_is ∙ subst (λ n. slice_get after n ≡ Some right) (sym second) grown.second)))
-        (cases_eq k (length fates)))
-        (cases_lt k (length fates)))
+        (same_Some status right (sym status_is ∙ subst (λ n. slice_get after n ≡ Some right) (sym second) grown.second)))
+        (cases_eq k (length statuses)))
+        (cases_lt k (length statuses)))
         (cases_eq k j)
 
-    lift_fate : (k : ℕ) (v : View) (fate : Fate) → IsFate problem views k v fate → IsFate problem (views ++ x ∷ y ∷ []) k v fate
-    lift_fate k v Open h = h
-    lift_fate k v Dead h = h
-    lift_fate k v (Expanded c a) h = record {
+    lift_status : (k : ℕ) (v : View) (status : Status) → IsStatus problem views k v status → IsStatus problem (views ++ x ∷ y ∷ []) k v status
+    lift_status k v Open h = h
+    lift_status k v Dead h = h
+    lift_status k v (Expanded c a) h = record {
       live = h.live;
       proper = h.proper;
       early = h.early;
@@ -120,14 +120,14 @@ module _ (problem : Instance) (goals : (i j : ℕ) → ShareGoal problem i j →
       later = h.later;
     }
 
-    child_fate : (k : ℕ) (child : View) (fate : Fate) → IsChildFate problem view child fate → IsFate problem (views ++ x ∷ y ∷ []) k child fate
-    child_fate k child Open h = h.0
-    child_fate k child Dead h = h
-    child_fate k child (Expanded c a) h = absurd h
+    child_status : (k : ℕ) (child : View) (status : Status) → IsChildStatus problem view child status → IsStatus problem (views ++ x ∷ y ∷ []) k child status
+    child_status k child Open h = h.0
+    child_status k child Dead h = h
+    child_status k child (Expanded c a) h = absurd h
 
-    this_expanded : IsExpandedAt problem (views ++ x ∷ y ∷ []) j view conflict (length fates)
+    this_expanded : IsExpandedAt problem (views ++ x ∷ y ∷ []) j view conflict (length statuses)
     this_expanded =
-        let inside : j < length fates = slice_get_within fates j Open was_open in
+        let inside : j < length statuses = slice_get_within statuses j Open was_open in
         record {
           live = searched.each j view Open is was_open;
           proper = conflict_proper problem view (searched.each j view Open is was_open) conflict on_first.has;
@@ -138,45 +138,45 @@ module _ (problem : Instance) (goals : (i j : ℕ) → ShareGoal problem i j →
           later = inside;
         }
 
-    each_at : (k : ℕ) (v : View) (fate : Fate) → Place k v fate → IsFate problem (views ++ x ∷ y ∷ []) k v fate
-    each_at k v fate (Old old other v_is fate_is) = lift_fate k v fate (searched.each k v fate v_is fate_is)
-    each_at k v fate (This this v_is fate_is) =
-        subst (λ f. IsFate problem (views ++ x ∷ y ∷ []) k v f) (sym fate_is)
-        (subst (λ w. IsExpandedAt problem (views ++ x ∷ y ∷ []) k w conflict (length fates)) (sym v_is)
-        (subst (λ n. IsExpandedAt problem (views ++ x ∷ y ∷ []) n view conflict (length fates)) (sym this) this_expanded))
-    each_at k v fate (First first v_is fate_is) =
-        subst (λ f. IsFate problem (views ++ x ∷ y ∷ []) k v f) (sym fate_is) (child_fate k v left (subst (λ w. IsChildFate problem view w left) (sym v_is) x_is))
-    each_at k v fate (Second second v_is fate_is) =
-        subst (λ f. IsFate problem (views ++ x ∷ y ∷ []) k v f) (sym fate_is) (child_fate k v right (subst (λ w. IsChildFate problem view w right) (sym v_is) y_is))
+    each_at : (k : ℕ) (v : View) (status : Status) → Place k v status → IsStatus problem (views ++ x ∷ y ∷ []) k v status
+    each_at k v status (Old old other v_is status_is) = lift_status k v status (searched.each k v status v_is status_is)
+    each_at k v status (This this v_is status_is) =
+        subst (λ f. IsStatus problem (views ++ x ∷ y ∷ []) k v f) (sym status_is)
+        (subst (λ w. IsExpandedAt problem (views ++ x ∷ y ∷ []) k w conflict (length statuses)) (sym v_is)
+        (subst (λ n. IsExpandedAt problem (views ++ x ∷ y ∷ []) n view conflict (length statuses)) (sym this) this_expanded))
+    each_at k v status (First first v_is status_is) =
+        subst (λ f. IsStatus problem (views ++ x ∷ y ∷ []) k v f) (sym status_is) (child_status k v left (subst (λ w. IsChildStatus problem view w left) (sym v_is) x_is))
+    each_at k v status (Second second v_is status_is) =
+        subst (λ f. IsStatus problem (views ++ x ∷ y ∷ []) k v f) (sym status_is) (child_status k v right (subst (λ w. IsChildStatus problem view w right) (sym v_is) y_is))
 
-    child_least : (child : View) (fate : Fate) → IsChildFate problem view child fate → fate ≡ Open → sum view.costs ≤ sum child.costs
+    child_least : (child : View) (status : Status) → IsChildStatus problem view child status → status ≡ Open → sum view.costs ≤ sum child.costs
     child_least child Open h is_open = h.1
     child_least child Dead h is_open = absurd cc
     child_least child (Expanded c a) h is_open = absurd h
 
     -- an open node is an old one, or no cheaper than the node that was split
-    open_at : (m : ℕ) (v : View) → Place m v Open → ((slice_get views m ≡ Some v) × (slice_get fates m ≡ Some Open)) ⊎ (sum view.costs ≤ sum v.costs)
-    open_at m v (Old old other v_is fate_is) = inl (v_is, fate_is)
-    open_at m v (This this v_is fate_is) = absurd cc
-    open_at m v (First first v_is fate_is) = inr (subst (λ (w : View). sum view.costs ≤ sum w.costs) (sym v_is) (child_least x left x_is (sym fate_is)))
-    open_at m v (Second second v_is fate_is) = inr (subst (λ (w : View). sum view.costs ≤ sum w.costs) (sym v_is) (child_least y right y_is (sym fate_is)))
+    open_at : (m : ℕ) (v : View) → Place m v Open → ((slice_get views m ≡ Some v) × (slice_get statuses m ≡ Some Open)) ⊎ (sum view.costs ≤ sum v.costs)
+    open_at m v (Old old other v_is status_is) = inl (v_is, status_is)
+    open_at m v (This this v_is status_is) = absurd cc
+    open_at m v (First first v_is status_is) = inr (subst (λ (w : View). sum view.costs ≤ sum w.costs) (sym v_is) (child_least x left x_is (sym status_is)))
+    open_at m v (Second second v_is status_is) = inr (subst (λ (w : View). sum view.costs ≤ sum w.costs) (sym v_is) (child_least y right y_is (sym status_is)))
 
-    child_not_expanded : (child : View) (fate : Fate) → IsChildFate problem view child fate → IsExpandedFate fate → ⊥
+    child_not_expanded : (child : View) (status : Status) → IsChildStatus problem view child status → IsExpandedStatus status → ⊥
     child_not_expanded child Open h expanded = expanded
     child_not_expanded child Dead h expanded = expanded
     child_not_expanded child (Expanded c a) h expanded = h
 
-    least_at : (k m : ℕ) (v other : View) (fate : Fate) → Place k v fate → Place m other Open → IsExpandedFate fate → sum v.costs ≤ sum other.costs
-    least_at k m v other fate (Old old differ v_is fate_is) at expanded = ⊎_elim
-        (λ (h : (slice_get views m ≡ Some other) × (slice_get fates m ≡ Some Open)). searched.least k m v other fate v_is h.0 fate_is expanded h.1)
-        (λ (h : sum view.costs ≤ sum other.costs). let first = searched.least k j v view fate v_is is fate_is expanded was_open in omega arith)
+    least_at : (k m : ℕ) (v other : View) (status : Status) → Place k v status → Place m other Open → IsExpandedStatus status → sum v.costs ≤ sum other.costs
+    least_at k m v other status (Old old differ v_is status_is) at expanded = ⊎_elim
+        (λ (h : (slice_get views m ≡ Some other) × (slice_get statuses m ≡ Some Open)). searched.least k m v other status v_is h.0 status_is expanded h.1)
+        (λ (h : sum view.costs ≤ sum other.costs). let first = searched.least k j v view status v_is is status_is expanded was_open in omega arith)
         (open_at m other at)
-    least_at k m v other fate (This this v_is fate_is) at expanded = subst (λ (w : View). sum w.costs ≤ sum other.costs) (sym v_is) (⊎_elim
-        (λ (h : (slice_get views m ≡ Some other) × (slice_get fates m ≡ Some Open)). least m other h.0 h.1)
+    least_at k m v other status (This this v_is status_is) at expanded = subst (λ (w : View). sum w.costs ≤ sum other.costs) (sym v_is) (⊎_elim
+        (λ (h : (slice_get views m ≡ Some other) × (slice_get statuses m ≡ Some Open)). least m other h.0 h.1)
         (λ (h : sum view.costs ≤ sum other.costs). h)
         (open_at m other at))
-    least_at k m v other fate (First first v_is fate_is) at expanded = absurd (child_not_expanded x left x_is (subst IsExpandedFate fate_is expanded))
-    least_at k m v other fate (Second second v_is fate_is) at expanded = absurd (child_not_expanded y right y_is (subst IsExpandedFate fate_is expanded))
+    least_at k m v other status (First first v_is status_is) at expanded = absurd (child_not_expanded x left x_is (subst IsExpandedStatus status_is expanded))
+    least_at k m v other status (Second second v_is status_is) at expanded = absurd (child_not_expanded y right y_is (subst IsExpandedStatus status_is expanded))
 
     early : tick_of conflict < count * free_cell_count problem.grid + free_cell_count problem.grid
     early = conflict_early problem view (searched.each j view Open is was_open) goals (count * free_cell_count problem.grid) (λ i. searched.low j view i is) conflict on_first.has
@@ -190,18 +190,18 @@ module _ (problem : Instance) (goals : (i j : ℕ) → ShareGoal problem i j →
         let two = length-two_more views x y in
         let within : k < length (views ++ x ∷ y ∷ []) = slice_get_within (views ++ x ∷ y ∷ []) k v v_is in
         ⊎_elim
-        (λ (old : k < length fates).
+        (λ (old : k < length statuses).
         λ bar in_it. let b = searched.low k v i (sym (slice_get-front views (x ∷ y ∷ []) k (omega arith)) ∙ v_is) bar in_it in omega arith)
-        (λ (new : length fates ≤ k). ⊎_elim
-        (λ (first : k ≡ length fates).
+        (λ (new : length statuses ≤ k). ⊎_elim
+        (λ (first : k ≡ length statuses).
         let e : x ≡ v = same_Some x v (sym x_at ∙ subst (λ n. slice_get (views ++ x ∷ y ∷ []) n ≡ Some v) first v_is) in
         subst (λ (w : View). AreBefore ((count + 1) * free_cell_count problem.grid) (w.context.bars i)) e (subst (λ (w : NodeContext). AreBefore ((count + 1) * free_cell_count problem.grid) (w.bars i)) (sym x_context) (low_with (left_constraint conflict) (left_tick conflict) i)))
-        (λ (not_first : k ≢ length fates).
-        let second : k ≡ length fates + 1 = omega arith in
+        (λ (not_first : k ≢ length statuses).
+        let second : k ≡ length statuses + 1 = omega arith in
         let e : y ≡ v = same_Some y v (sym y_at ∙ subst (λ n. slice_get (views ++ x ∷ y ∷ []) n ≡ Some v) second v_is) in
         subst (λ (w : View). AreBefore ((count + 1) * free_cell_count problem.grid) (w.context.bars i)) e (subst (λ (w : NodeContext). AreBefore ((count + 1) * free_cell_count problem.grid) (w.bars i)) (sym y_context) (low_with (right_constraint conflict) (right_tick conflict) i)))
-        (cases_eq k (length fates)))
-        (cases_lt k (length fates))
+        (cases_eq k (length statuses)))
+        (cases_lt k (length statuses))
 
     pub searched_grown : IsSearched problem (views ++ x ∷ y ∷ []) after (count + 1)
     searched_grown =
@@ -209,8 +209,8 @@ module _ (problem : Instance) (goals : (i j : ℕ) → ShareGoal problem i j →
         record {
           lengths = omega arith;
           first = (searched.first.0, old_view 0 searched.first.0 searched.first.1, searched.first.2, searched.first.3);
-          each = λ k v fate v_is fate_is. each_at k v fate (place k v fate v_is fate_is);
-          least = λ k m v other fate v_is other_is fate_is expanded is_open. least_at k m v other fate (place k v fate v_is fate_is) (place m other Open other_is is_open) expanded;
-          tree = IsOneTree-grown fates after j conflict left right Open grown was_open tt count searched.tree;
+          each = λ k v status v_is status_is. each_at k v status (place k v status v_is status_is);
+          least = λ k m v other status v_is other_is status_is expanded is_open. least_at k m v other status (place k v status v_is status_is) (place m other Open other_is is_open) expanded;
+          tree = IsOneTree-grown statuses after j conflict left right Open grown was_open tt count searched.tree;
           low = λ k v i v_is. low_at k v v_is i;
         }

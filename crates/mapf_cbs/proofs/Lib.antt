@@ -10,7 +10,7 @@ pub mod NodeLemmas
 pub mod ItemLemmas
 pub mod RangeLemmas
 pub mod BlockLemmas
-pub mod FinderLemmas
+pub mod OwnerLemmas
 pub mod ReplannedLemmas
 pub mod GeneratedChildLemmas
 pub mod OpenLemmas

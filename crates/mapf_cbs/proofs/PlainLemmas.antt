@@ -6,12 +6,12 @@ use Rattle.std.proofs.lemmas.Option.{slice_get_within, same_Some}
 use Rattle.mapf_model.specs.declared.conflict.Conflict.{Conflict}
 use Rattle.mapf_model.specs.Plan.{Instance}
 use Rattle.mapf_model.specs.Tree.{ShareGoal, left_constraint, right_constraint}
-use Rattle.mapf_model.specs.Earned.{tick_of}
+use Rattle.mapf_model.specs.Conflicts.{tick_of}
 use Rattle.mapf_model.proofs.ClaimLemmas.{slice_get_inside}
 use Rattle.mapf_model.proofs.ContainsLemmas.{Contains-cons_cases, Contains-none, Contains-cons_old, Contains-cons_new}
 use Rattle.mapf_model.proofs.SumLemmas.{snoc_get}
-use Rattle.mapf_cbs.specs.declared.node.Fate.{Fate}
-use Rattle.mapf_cbs.specs.declared.node.Fate.TheVariants.{Open}
+use Rattle.mapf_cbs.specs.declared.node.Status.{Status}
+use Rattle.mapf_cbs.specs.declared.node.Status.TheVariants.{Open}
 use Rattle.mapf_cbs.specs.declared.node.Node.TheVariants.{Root}
 use Rattle.mapf_cbs.specs.declared.whole_node.WholeNode.{WholeNode}
 use Rattle.mapf_cbs.specs.FirstConflicts.{IsFirstConflict}
@@ -20,7 +20,7 @@ use Rattle.mapf_cbs.specs.Nodes.{IsRootView}
 use Rattle.mapf_model.specs.Blocks.{LabelBlock}
 use Rattle.mapf_cbs.specs.Start.{IsRootStart}
 use Rattle.mapf_cbs.specs.Search.{View, IsLive, AreBlockLists}
-use Rattle.mapf_cbs.specs.State.{IsOpenSet, key_cmp, with_children, split_fates, with_keys}
+use Rattle.mapf_cbs.specs.State.{IsOpenSet, key_cmp, with_children, split_statuses, with_keys}
 use Rattle.mapf_cbs.specs.Whole.{IsWhole, AreWhole, HaveAgentPaths, IsWholeChild, IsLeastOpen, IsLeastBelow, IsWholeState, IsWholePopped}
 use Rattle.mapf_cbs.proofs.AnswerLemmas.{state_root, root_views}
 use Rattle.mapf_model.proofs.PlaceLemmas.{slice_get-front, slice_get-here}
@@ -55,7 +55,7 @@ others_old (y ∷ keys) k x in_it other = cond_both (nat_eq y.1 k) (others keys 
     (λ (h : Contains keys x). Contains-cons_old y x (others keys k) (others_old keys k x h other))
     (Contains-cons_cases y x keys in_it))
 
-module _ (problem : Instance) (nodes : List WholeNode) (fates : List Fate) (count : ℕ) (s : IsWholeState problem nodes fates count) where
+module _ (problem : Instance) (nodes : List WholeNode) (statuses : List Status) (count : ℕ) (s : IsWholeState problem nodes statuses count) where
   node_of : (m : ℕ) (view : View) → slice_get s.state.views m ≡ Some view → (node : WholeNode) × (slice_get nodes m ≡ Some node) × IsWhole node view
   node_of m view is =
       let inside : m < length s.state.views = slice_get_within s.state.views m view is in
@@ -63,7 +63,7 @@ module _ (problem : Instance) (nodes : List WholeNode) (fates : List Fate) (coun
       let node : (node : WholeNode) × (slice_get nodes m ≡ Some node) = slice_get_inside nodes m (omega arith) in
       (node.0, node.1, s.whole.each m node.0 view node.1 is)
 
-  module _ (k : ℕ) (least : IsLeastOpen nodes fates (length fates) k) where
+  module _ (k : ℕ) (least : IsLeastOpen nodes statuses (length statuses) k) where
     view_of : (view : View) × (slice_get s.state.views k ≡ Some view) × IsWhole least.node view
     view_of =
         let inside : k < length nodes = slice_get_within nodes k least.node least.is in
@@ -71,10 +71,10 @@ module _ (problem : Instance) (nodes : List WholeNode) (fates : List Fate) (coun
         let view : (view : View) × (slice_get s.state.views k ≡ Some view) = slice_get_inside s.state.views k (omega arith) in
         (view.0, view.1, s.whole.each k least.node view.0 least.is view.1)
 
-    opens : IsOpenSet ((least.node.total, k) ∷ others s.keys k) s.state.views fates
+    opens : IsOpenSet ((least.node.total, k) ∷ others s.keys k) s.state.views statuses
     opens = record {
       only = λ key in_it. ⊎_elim
-          (λ (e : (least.node.total, k) ≡ key). subst (λ (x : ℕ × ℕ). (view : View) × (slice_get s.state.views x.1 ≡ Some view) × (slice_get fates x.1 ≡ Some Open) × (x.0 ≡ sum view.costs)) e (view_of.0, view_of.1, least.is_open, view_of.2.total))
+          (λ (e : (least.node.total, k) ≡ key). subst (λ (x : ℕ × ℕ). (view : View) × (slice_get s.state.views x.1 ≡ Some view) × (slice_get statuses x.1 ≡ Some Open) × (x.0 ≡ sum view.costs)) e (view_of.0, view_of.1, least.is_open, view_of.2.total))
           (λ (h : Contains (others s.keys k) key). s.state.opens.only key (others_only s.keys k key h).0)
           (Contains-cons_cases (least.node.total, k) key (others s.keys k) in_it);
       each = λ m view view_is m_open. ⊎_elim
@@ -92,7 +92,7 @@ module _ (problem : Instance) (nodes : List WholeNode) (fates : List Fate) (coun
         let at = s.state.opens.only key from.0 in
         let node = node_of key.1 at.0 at.1 in
         let e : key.0 ≡ node.0.total = at.3 ∙ sym node.2.total in
-        let low = least.least key.1 node.0 (slice_get_within fates key.1 Open at.2) node.1 at.2 in
+        let low = least.least key.1 node.0 (slice_get_within statuses key.1 Open at.2) node.1 at.2 in
         less_key (least.node.total, k) key (omega (arith, e, low)) (λ same. ⊎_elim
         (λ (h : key.1 < k). absurd (let f = least.oldest key.1 node.0 h node.1 at.2 in omega (arith, e, f, same)))
         (λ (h : k ≤ key.1). let differ = from.1 in omega (arith, h, differ))
@@ -107,7 +107,7 @@ module _ (problem : Instance) (nodes : List WholeNode) (fates : List Fate) (coun
         (Contains-cons_cases (least.node.total, k) key (others s.keys k) in_it)
 
     -- the least open node is taken
-    pub whole_popped : IsWholePopped problem nodes fates count least.node.total k
+    pub whole_popped : IsWholePopped problem nodes statuses count least.node.total k
     whole_popped = record {
       changes = s.changes;
       rest = others s.keys k;
@@ -129,8 +129,8 @@ module _ (problem : Instance) (nodes : List WholeNode) (fates : List Fate) (coun
     }
 
   -- no node is open
-  pub whole_exhausted : (limit : ℕ) → count ≤ limit → ((m : ℕ) → m < length fates → slice_get fates m ≡ Some Open → ⊥) → (paths : List (List ℕ)) → IsRootStart problem paths → (lists : List (List LabelBlock)) → AreBlockLists s.state.views lists →
-      IsExhausted problem limit lists fates
+  pub whole_exhausted : (limit : ℕ) → count ≤ limit → ((m : ℕ) → m < length statuses → slice_get statuses m ≡ Some Open → ⊥) → (paths : List (List ℕ)) → IsRootStart problem paths → (lists : List (List LabelBlock)) → AreBlockLists s.state.views lists →
+      IsExhausted problem limit lists statuses
   whole_exhausted limit within none paths root lists blocks = record {
     paths = paths;
     root = root;
@@ -142,7 +142,7 @@ module _ (problem : Instance) (nodes : List WholeNode) (fates : List Fate) (coun
       searched = s.state.searched;
       opens = record {
         only = λ key in_it. absurd (Contains-none key in_it);
-        each = λ m view view_is m_open. absurd (none m (slice_get_within fates m Open m_open) m_open);
+        each = λ m view view_is m_open. absurd (none m (slice_get_within statuses m Open m_open) m_open);
       };
       nodes_for = s.state.nodes_for;
       bars = s.state.bars;
@@ -153,8 +153,8 @@ module _ (problem : Instance) (nodes : List WholeNode) (fates : List Fate) (coun
     blocks = blocks;
   }
 
-pub least_at : (nodes others : List WholeNode) (fates more : List Fate) (found : Option ℕ) → nodes ≡ others → fates ≡ more → IsLeastBelow nodes fates (length fates) found → IsLeastBelow others more (length more) found
-least_at nodes others fates more found a b is = subst (λ fs. IsLeastBelow others fs (length fs) found) b (subst (λ ns. IsLeastBelow ns fates (length fates) found) a is)
+pub least_at : (nodes others : List WholeNode) (statuses more : List Status) (found : Option ℕ) → nodes ≡ others → statuses ≡ more → IsLeastBelow nodes statuses (length statuses) found → IsLeastBelow others more (length more) found
+least_at nodes others statuses more found a b is = subst (λ fs. IsLeastBelow others fs (length fs) found) b (subst (λ ns. IsLeastBelow ns statuses (length statuses) found) a is)
 
 -- the state at the beginning
 pub whole_first : (problem : Instance) (paths : List (List ℕ)) (node : WholeNode) (view : View) → IsRootView paths view → IsLive problem view → IsWhole node view → node.total ≤ 200 * 2 ^ 32 → IsWholeState problem (node ∷ []) (Open ∷ []) 0
@@ -190,9 +190,9 @@ whole_more nodes views whole node view is =
           (snoc_get nodes node m n n_is);
     }
 
-module _ (problem : Instance) (nodes : List WholeNode) (fates : List Fate) (count total k : ℕ) (p : IsWholePopped problem nodes fates count total k) where
-  pub whole_hand : IsInHand problem fates k total p.popped.state.views
-  whole_hand = in_hand problem p.changes fates p.rest count total k p.popped
+module _ (problem : Instance) (nodes : List WholeNode) (statuses : List Status) (count total k : ℕ) (p : IsWholePopped problem nodes statuses count total k) where
+  pub whole_hand : IsInHand problem statuses k total p.popped.state.views
+  whole_hand = in_hand problem p.changes statuses p.rest count total k p.popped
 
   pub hand_inside : k < length nodes
   hand_inside = let h = slice_get_within p.popped.state.views k whole_hand.view whole_hand.is in let e = p.whole.lengths in omega (arith, h, e)
@@ -211,13 +211,13 @@ module _ (problem : Instance) (nodes : List WholeNode) (fates : List Fate) (coun
   pub whole_grown : ((i j : ℕ) → ShareGoal problem i j → ⊥) → (conflict : Conflict) → IsFirstConflict whole_hand.view.paths conflict → tick_of conflict < 1000000 →
       (l r : WholeNode) (a b : Option ℕ) → IsWholeChild problem whole_hand.view (left_constraint conflict) l a → IsWholeChild problem whole_hand.view (right_constraint conflict) r b →
       length l.agent_paths.items ≡ length problem.agents → length r.agent_paths.items ≡ length problem.agents →
-      IsWholeState problem ((nodes ++ l ∷ []) ++ r ∷ []) (split_fates fates k conflict a b) (count + 1)
+      IsWholeState problem ((nodes ++ l ∷ []) ++ r ∷ []) (split_statuses statuses k conflict a b) (count + 1)
   whole_grown goals conflict on_first early l r a b left right l_size r_size = record {
     changes = with_children p.changes k conflict left.found right.found;
     keys = with_keys p.rest (length p.changes) a b;
-    state = state_grown problem p.changes fates p.rest count total k p.popped goals whole_hand.view whole_hand.is whole_hand.is_open whole_hand.total_is conflict on_first early left.found right.found a b left.generated right.generated;
+    state = state_grown problem p.changes statuses p.rest count total k p.popped goals whole_hand.view whole_hand.is whole_hand.is_open whole_hand.total_is conflict on_first early left.found right.found a b left.generated right.generated;
     whole = subst (λ vs. AreWhole ((nodes ++ l ∷ []) ++ r ∷ []) vs)
-        (two_pushed p.popped.state.views left.generated.child right.generated.child ∙ sym (grown_views problem p.changes fates p.rest count total k p.popped goals whole_hand.view whole_hand.is whole_hand.is_open whole_hand.total_is conflict on_first early left.found right.found a b left.generated right.generated))
+        (two_pushed p.popped.state.views left.generated.child right.generated.child ∙ sym (grown_views problem p.changes statuses p.rest count total k p.popped goals whole_hand.view whole_hand.is whole_hand.is_open whole_hand.total_is conflict on_first early left.found right.found a b left.generated right.generated))
         (whole_more (nodes ++ l ∷ []) (p.popped.state.views ++ left.generated.child ∷ []) (whole_more nodes p.popped.state.views p.whole l left.generated.child left.whole) r right.generated.child right.whole);
     agent_paths = each_more (λ i n. length n.agent_paths.items ≡ length problem.agents) (nodes ++ l ∷ []) r (length (nodes ++ l ∷ [])) refl
         (each_more (λ i n. length n.agent_paths.items ≡ length problem.agents) nodes l (length nodes) refl p.agent_paths l_size) r_size;

@@ -7,7 +7,7 @@ use Rattle.mapf_model.specs.Blocks.{LabelBlock}
 use Rattle.mapf_model.specs.declared.conflict.Conflict.{Conflict}
 use Rattle.mapf_model.specs.declared.conflict.Conflict.TheVariants.{Vertex, Swap}
 use Rattle.mapf_model.specs.declared.problem.Agent.{Agent}
-use Rattle.mapf_model.specs.Earned.{tick_of}
+use Rattle.mapf_model.specs.Conflicts.{tick_of}
 use Rattle.mapf_model.specs.Grid.{GridMap, IsGridMap, IsFree}
 use Rattle.mapf_model.specs.Path.{at, IsLawful, IsTight}
 use Rattle.mapf_model.specs.Plan.{Instance}
@@ -16,12 +16,12 @@ use Rattle.mapf_model.specs.Tree.{ConstraintTree, Split, Leaf, Clash, IsProperSp
 use Rattle.mapf_model.proofs.ClaimLemmas.{slice_get_inside}
 use Rattle.mapf_model.proofs.DecidedLemmas.{cost_unique}
 use Rattle.mapf_model.proofs.PathLemmas.{IsCost-tight}
-use Rattle.mapf_cbs.specs.declared.node.Fate.{Fate}
-use Rattle.mapf_cbs.specs.declared.node.Fate.TheVariants.{Expanded}
+use Rattle.mapf_cbs.specs.declared.node.Status.{Status}
+use Rattle.mapf_cbs.specs.declared.node.Status.TheVariants.{Expanded}
 use Rattle.mapf_model.specs.declared.bar.Bar.{Bar}
 use Rattle.std.proofs.lemmas.List.Elements.{All-push}
 use Rattle.mapf_cbs.specs.Search.{View, AreOwnBlocks, IsLive, IsSearched, AreBlocksAt, IsTreeAt}
-use Rattle.mapf_cbs.proofs.TreeLemmas.{own_of_fate}
+use Rattle.mapf_cbs.proofs.TreeLemmas.{own_of_status}
 use Rattle.mapf_cbs.proofs.ViewLemmas.{agent_path_of}
 use Rattle.mapf_model.proofs.StepLemmas.{step_start, free_on_grid}
 
@@ -64,28 +64,28 @@ module _ (problem : Instance) (shape : IsGridMap problem.grid) where
   }
   own_in_range bars (block ∷ other ∷ blocks) own small = absurd own
 
-  at_node : (views : List View) (fates : List Fate) (count : ℕ) → IsSearched problem views fates count → (k : ℕ) (fate : Fate) (blocks : List LabelBlock) → slice_get fates k ≡ Some fate → AreBlocksAt views k blocks → AreBlocksInRange problem.grid (length problem.agents) blocks
-  at_node views fates count searched k fate blocks fate_is here =
+  at_node : (views : List View) (statuses : List Status) (count : ℕ) → IsSearched problem views statuses count → (k : ℕ) (status : Status) (blocks : List LabelBlock) → slice_get statuses k ≡ Some status → AreBlocksAt views k blocks → AreBlocksInRange problem.grid (length problem.agents) blocks
+  at_node views statuses count searched k status blocks status_is here =
       let size = searched.lengths in
-      let inside : k < length fates = slice_get_within fates k fate fate_is in
+      let inside : k < length statuses = slice_get_within statuses k status status_is in
       let view = slice_get_inside views k (omega arith) in
-      let own = own_of_fate problem view.0 views k fate (searched.each k view.0 fate view.1 fate_is) in
+      let own = own_of_status problem view.0 views k status (searched.each k view.0 status view.1 status_is) in
       let are = here view.0 view.1 in
       own_in_range view.0.context.bars blocks (subst (λ bs. AreOwnBlocks problem view.0.context.bars bs) (sym are.0) own) are.1
 
-  pub tree_in_range : (views : List View) (fates : List Fate) (count : ℕ) → IsSearched problem views fates count → (tree : ConstraintTree) (k : ℕ) → IsTreeAt views fates k tree → IsTreeInRange problem.grid (length problem.agents) tree
-  tree_in_range views fates count searched (Split conflict blocks left right) k (here, a, expanded, on_left, on_right) =
+  pub tree_in_range : (views : List View) (statuses : List Status) (count : ℕ) → IsSearched problem views statuses count → (tree : ConstraintTree) (k : ℕ) → IsTreeAt views statuses k tree → IsTreeInRange problem.grid (length problem.agents) tree
+  tree_in_range views statuses count searched (Split conflict blocks left right) k (here, a, expanded, on_left, on_right) =
       let size = searched.lengths in
-      let inside : k < length fates = slice_get_within fates k (Expanded conflict a) expanded in
+      let inside : k < length statuses = slice_get_within statuses k (Expanded conflict a) expanded in
       let view = slice_get_inside views k (omega arith) in
       let at_expanded = searched.each k view.0 (Expanded conflict a) view.1 expanded in (
         conflict_in_range conflict at_expanded.proper at_expanded.early,
-        at_node views fates count searched k (Expanded conflict a) blocks expanded here,
-        tree_in_range views fates count searched left a on_left,
-        tree_in_range views fates count searched right (a + 1) on_right,
+        at_node views statuses count searched k (Expanded conflict a) blocks expanded here,
+        tree_in_range views statuses count searched left a on_left,
+        tree_in_range views statuses count searched right (a + 1) on_right,
       )
-  tree_in_range views fates count searched (Leaf blocks) k (here, fate, fate_is, end) = at_node views fates count searched k fate blocks fate_is here
-  tree_in_range views fates count searched (Clash i j) k none = absurd none
+  tree_in_range views statuses count searched (Leaf blocks) k (here, status, status_is, end) = at_node views statuses count searched k status blocks status_is here
+  tree_in_range views statuses count searched (Clash i j) k none = absurd none
 
   module _ (view : View) (live : IsLive problem view) (short : All (λ path. length path ≤ 10000000) view.paths) (few : length problem.agents ≤ 200) where
     short_at : (i : ℕ) (path : List ℕ) → slice_get view.paths i ≡ Some path → length path ≤ 10000000

@@ -4,17 +4,17 @@ use Rattle.std.proofs.lemmas.Option.{slice_get_within}
 use Rattle.mapf_model.proofs.ClaimLemmas.{slice_get_inside}
 use Rattle.mapf_model.specs.declared.constraint.Constraint.{Constraint}
 use Rattle.mapf_model.specs.declared.label.Entry.{Entry}
-use Rattle.mapf_model.specs.Earned.{AreConflictFreeBefore}
+use Rattle.mapf_model.specs.Conflicts.{AreConflictFreeBefore}
 use Rattle.mapf_model.specs.Plan.{Instance}
 use Rattle.mapf_spacetime.specs.declared.found.Found.{Found}
 use Rattle.mapf_conflicts.specs.Pairs.{AreOthersFreeBefore}
 use Rattle.mapf_cbs.specs.declared.node.Node.{Node}
 use Rattle.mapf_cbs.specs.declared.node.Node.TheVariants.{Child}
-use Rattle.mapf_cbs.specs.declared.node.Fate.{Fate}
-use Rattle.mapf_cbs.specs.declared.node.Fate.TheVariants.{Open, Dead, Expanded}
-use Rattle.mapf_cbs.specs.Nodes.{AreViews}
-use Rattle.mapf_cbs.specs.Replanned.{AreSplitsFirst, AreSearchedAt}
-use Rattle.mapf_cbs.specs.Search.{View, IsFate, IsSearched}
+use Rattle.mapf_cbs.specs.declared.node.Status.{Status}
+use Rattle.mapf_cbs.specs.declared.node.Status.TheVariants.{Open, Dead, Expanded}
+use Rattle.mapf_cbs.specs.Nodes.{AreViews, AreViewedAt}
+use Rattle.mapf_cbs.specs.Replanned.{AreSplitsFirst}
+use Rattle.mapf_cbs.specs.Search.{View, IsStatus, IsSearched}
 use Rattle.mapf_cbs.specs.State.{IsPopped}
 use Rattle.mapf_cbs.proofs.NodeLemmas.{paths_up}
 use Rattle.mapf_cbs.proofs.StateLemmas.{in_hand}
@@ -27,25 +27,27 @@ others_free nodes views are k view is parent constraint found at end free i j ti
     let up = λ (agent : ℕ) (other : agent ≢ constraint.agent). paths_up nodes views are k view is parent constraint found at agent (inl other) h.1 h.2 in
     free h.1 h.2 i j tick p q below differ (sym (up i i_other) ∙ i_is) (sym (up j j_other) ∙ j_is) conflict
 
-splits_first : (problem : Instance) (views : List View) (fates : List Fate) (count : ℕ) → IsSearched problem views fates count → AreSplitsFirst views fates
-splits_first problem views fates count searched k view conflict left view_is fate_is = (searched.each k view (Expanded conflict left) view_is fate_is).on_first.earliest
+splits_first : (problem : Instance) (views : List View) (statuses : List Status) (count : ℕ) → IsSearched problem views statuses count → AreSplitsFirst views statuses
+splits_first problem views statuses count searched k view conflict left view_is status_is = (searched.each k view (Expanded conflict left) view_is status_is).on_first.earliest
 
 -- each node that was reached has a path of each agent
-counted : (problem : Instance) (views : List View) (k : ℕ) (view : View) (fate : Fate) → IsFate problem views k view fate → length view.paths ≡ length problem.agents
+counted : (problem : Instance) (views : List View) (k : ℕ) (view : View) (status : Status) → IsStatus problem views k view status → length view.paths ≡ length problem.agents
 counted problem views k view Open live = live.counted.paths
 counted problem views k view Dead dead = dead.counted.paths
 counted problem views k view (Expanded conflict left) split = split.live.counted.paths
 
--- what the search knows of the node that is being expanded
-pub searched_at : (problem : Instance) (nodes : List Node) (fates : List Fate) (rest : List (ℕ × ℕ)) (count total k : ℕ) → IsPopped problem nodes fates rest count total k
-    → (agents : ℕ) → length problem.agents ≡ agents → AreSearchedAt nodes fates k agents
-searched_at problem nodes fates rest count total k popped agents same =
-    let h = in_hand problem nodes fates rest count total k popped in
+-- what the search knows of the node that is being expanded, and so of the conflicts there
+pub free_at : (problem : Instance) (nodes : List Node) (statuses : List Status) (rest : List (ℕ × ℕ)) (count total k : ℕ) → IsPopped problem nodes statuses rest count total k
+    → (agents : ℕ) → length problem.agents ≡ agents → (agent free : ℕ)
+    → ((views : List View) (view : View) → AreViews nodes views → AreSplitsFirst views statuses → slice_get views k ≡ Some view → AreOthersFreeBefore view.paths agent free)
+    → AreViewedAt nodes k agents (λ view. AreOthersFreeBefore view.paths agent free)
+free_at problem nodes statuses rest count total k popped agents same agent free others =
+    let h = in_hand problem nodes statuses rest count total k popped in
     let searched = popped.state.searched in
     let root = searched.first in
     let sizes = searched.lengths in
     let inside = slice_get_within popped.state.views 0 root.0 root.1 in
-    let fate = slice_get_inside fates 0 (omega (arith, inside, sizes)) in
+    let status = slice_get_inside statuses 0 (omega (arith, inside, sizes)) in
     record {
       views = popped.state.views;
       view = h.view;
@@ -54,6 +56,6 @@ searched_at problem nodes fates rest count total k popped agents same =
       count = h.live.counted.paths ∙ same;
       root = root.0;
       root_is = root.1;
-      root_count = counted problem popped.state.views 0 root.0 fate.0 (searched.each 0 root.0 fate.0 root.1 fate.1) ∙ same;
-      splits = splits_first problem popped.state.views fates count popped.state.searched;
+      root_count = counted problem popped.state.views 0 root.0 status.0 (searched.each 0 root.0 status.0 root.1 status.1) ∙ same;
+      holds = others popped.state.views h.view popped.state.are (splits_first problem popped.state.views statuses count searched) h.is;
     }

@@ -3,9 +3,9 @@ use Rattle.std.proofs.Common.{◌≡◌, ◌≢◌, ℕ, ◌+◌, ◌<◌, ◌�
 use Rattle.std.proofs.lemmas.Bool.{cases_eq, cond_both, eqb-true}
 use Rattle.std.proofs.lemmas.Option.{slice_get_within, same_Some}
 use Rattle.mapf_model.specs.declared.conflict.Conflict.{Conflict}
-use Rattle.mapf_cbs.specs.declared.node.Fate.{Fate}
-use Rattle.mapf_cbs.specs.declared.node.Fate.TheVariants.{Expanded}
-use Rattle.mapf_cbs.specs.Search.{IsEndFate, Shape, Node, End, splits, occurrences, IsShape, IsOneTree}
+use Rattle.mapf_cbs.specs.declared.node.Status.{Status}
+use Rattle.mapf_cbs.specs.declared.node.Status.TheVariants.{Expanded}
+use Rattle.mapf_cbs.specs.Search.{IsEndStatus, Shape, Node, End, splits, occurrences, IsShape, IsOneTree}
 
 -- the end of the number j becomes a split with two ends
 abbrev pub graft : ℕ → ℕ → ℕ → Shape → Shape
@@ -41,23 +41,23 @@ occurrences-graft_other j a b m not_a not_b (End k) = ⊎_elim
     (cases_eq j k)
 
 -- a number past the list doesn't occur in the shape
-pub occurrences-past : (fates : List Fate) (k m : ℕ) (shape : Shape) → IsShape fates k shape → length fates ≤ m → occurrences m shape ≡ 0
-occurrences-past fates k m (Node n left right) (same, conflict, a, is, on_left, on_right) past =
-    let l = occurrences-past fates a m left on_left past in let r = occurrences-past fates (a + 1) m right on_right past in
-    let within : k < length fates = slice_get_within fates k (Expanded conflict a) is in
+pub occurrences-past : (statuses : List Status) (k m : ℕ) (shape : Shape) → IsShape statuses k shape → length statuses ≤ m → occurrences m shape ≡ 0
+occurrences-past statuses k m (Node n left right) (same, conflict, a, is, on_left, on_right) past =
+    let l = occurrences-past statuses a m left on_left past in let r = occurrences-past statuses (a + 1) m right on_right past in
+    let within : k < length statuses = slice_get_within statuses k (Expanded conflict a) is in
     let e = occurs_not m n (λ e. let n_is : n ≡ m = sym e in omega arith) in
     let f = occurs_node m n left right in
     omega arith
-occurrences-past fates k m (End n) (same, fate, is, end) past =
-    let within : k < length fates = slice_get_within fates k fate is in
+occurrences-past statuses k m (End n) (same, status, is, end) past =
+    let within : k < length statuses = slice_get_within statuses k status is in
     occurs_not m n (λ e. let n_is : n ≡ m = sym e in omega arith)
 
-module _ (fates : List Fate) (j : ℕ) (fate : Fate) (was : slice_get fates j ≡ Some fate) (was_end : IsEndFate fate) where
+module _ (statuses : List Status) (j : ℕ) (status : Status) (was : slice_get statuses j ≡ Some status) (was_end : IsEndStatus status) where
   -- no split has the number of an end
-  pub not_split : (k n : ℕ) (conflict : Conflict) (a : ℕ) → k ≡ n → slice_get fates k ≡ Some (Expanded conflict a) → occurrences j (End n) ≡ 0
-  not_split k n conflict a same is = occurs_not j n (λ e. subst IsEndFate (same_Some fate (Expanded conflict a) (sym was ∙ subst (λ m. slice_get fates m ≡ Some (Expanded conflict a)) (same ∙ sym e) is)) was_end)
+  pub not_split : (k n : ℕ) (conflict : Conflict) (a : ℕ) → k ≡ n → slice_get statuses k ≡ Some (Expanded conflict a) → occurrences j (End n) ≡ 0
+  not_split k n conflict a same is = occurs_not j n (λ e. subst IsEndStatus (same_Some status (Expanded conflict a) (sym was ∙ subst (λ m. slice_get statuses m ≡ Some (Expanded conflict a)) (same ∙ sym e) is)) was_end)
 
-  pub splits-graft : (a b k : ℕ) (shape : Shape) → IsShape fates k shape → splits (graft j a b shape) ≡ splits shape + occurrences j shape
+  pub splits-graft : (a b k : ℕ) (shape : Shape) → IsShape statuses k shape → splits (graft j a b shape) ≡ splits shape + occurrences j shape
   splits-graft a b k (Node n left right) (same, c, x, is, on_left, on_right) =
       let l = splits-graft a b x left on_left in let r = splits-graft a b (x + 1) right on_right in
       let e = not_split k n c x same is in let f = occurs_node j n left right in
@@ -68,7 +68,7 @@ module _ (fates : List Fate) (j : ℕ) (fate : Fate) (was : slice_get fates j �
       (cases_eq j m)
 
   -- each new end occurs as often as the old one did
-  pub occurrences-graft_left : (a b : ℕ) → a ≢ b → (k : ℕ) (shape : Shape) → IsShape fates k shape → occurrences a shape ≡ 0 → occurrences a (graft j a b shape) ≡ occurrences j shape
+  pub occurrences-graft_left : (a b : ℕ) → a ≢ b → (k : ℕ) (shape : Shape) → IsShape statuses k shape → occurrences a shape ≡ 0 → occurrences a (graft j a b shape) ≡ occurrences j shape
   occurrences-graft_left a b differ k (Node n left right) (same, c, x, is, on_left, on_right) fresh =
       let g = occurs_node a n left right in
       let l = occurrences-graft_left a b differ x left on_left (omega (arith, fresh, g)) in let r = occurrences-graft_left a b differ (x + 1) right on_right (omega (arith, fresh, g)) in
@@ -79,7 +79,7 @@ module _ (fates : List Fate) (j : ℕ) (fate : Fate) (was : slice_get fates j �
       (λ (other : j ≢ m). ap (occurrences a) (graft_not j a b m other) ∙ (let g = occurs_not j m other in omega (arith, fresh, g)))
       (cases_eq j m)
 
-  pub occurrences-graft_right : (a b : ℕ) → a ≢ b → (k : ℕ) (shape : Shape) → IsShape fates k shape → occurrences b shape ≡ 0 → occurrences b (graft j a b shape) ≡ occurrences j shape
+  pub occurrences-graft_right : (a b : ℕ) → a ≢ b → (k : ℕ) (shape : Shape) → IsShape statuses k shape → occurrences b shape ≡ 0 → occurrences b (graft j a b shape) ≡ occurrences j shape
   occurrences-graft_right a b differ k (Node n left right) (same, c, x, is, on_left, on_right) fresh =
       let g = occurs_node b n left right in
       let l = occurrences-graft_right a b differ x left on_left (omega (arith, fresh, g)) in let r = occurrences-graft_right a b differ (x + 1) right on_right (omega (arith, fresh, g)) in
@@ -91,20 +91,20 @@ module _ (fates : List Fate) (j : ℕ) (fate : Fate) (was : slice_get fates j �
       (cases_eq j m)
 
 -- the outcomes after one end is split and two nodes are added
-pub record IsGrown (before after : List Fate) (j : ℕ) (conflict : Conflict) (left right : Fate) : Type 0 where
+pub record IsGrown (before after : List Status) (j : ℕ) (conflict : Conflict) (left right : Status) : Type 0 where
   pub size : length after ≡ length before + 2
   pub split : slice_get after j ≡ Some (Expanded conflict (length before))
   pub first : slice_get after (length before) ≡ Some left
   pub second : slice_get after (length before + 1) ≡ Some right
   pub others : (k : ℕ) → k < length before → k ≢ j → slice_get after k ≡ slice_get before k
-  pub left_end : IsEndFate left
-  pub right_end : IsEndFate right
+  pub left_end : IsEndStatus left
+  pub right_end : IsEndStatus right
 
-module _ (before after : List Fate) (j : ℕ) (conflict : Conflict) (left right fate : Fate) (grown : IsGrown before after j conflict left right) (was : slice_get before j ≡ Some fate) (was_end : IsEndFate fate) where
+module _ (before after : List Status) (j : ℕ) (conflict : Conflict) (left right status : Status) (grown : IsGrown before after j conflict left right) (was : slice_get before j ≡ Some status) (was_end : IsEndStatus status) where
   IsShape-graft : (k : ℕ) (shape : Shape) → IsShape before k shape → IsShape after k (graft j (length before) (length before + 1) shape)
   IsShape-graft k (Node n l r) (same, c, x, is, on_left, on_right) =
       let within : k < length before = slice_get_within before k (Expanded c x) is in
-      let other : k ≢ j = λ e. subst IsEndFate (same_Some fate (Expanded c x) (sym was ∙ subst (λ n. slice_get before n ≡ Some (Expanded c x)) e is)) was_end in
+      let other : k ≢ j = λ e. subst IsEndStatus (same_Some status (Expanded c x) (sym was ∙ subst (λ n. slice_get before n ≡ Some (Expanded c x)) e is)) was_end in
       (same, c, x, grown.others k within other ∙ is, IsShape-graft x l on_left, IsShape-graft (x + 1) r on_right)
   IsShape-graft k (End m) (same, f, is, end) = ⊎_elim
       (λ (e : j ≡ m). subst (λ s. IsShape after k s) (sym (graft_here j (length before) (length before + 1) m e))
@@ -117,20 +117,20 @@ module _ (before after : List Fate) (j : ℕ) (conflict : Conflict) (left right 
 
   pub IsOneTree-grown : (count : ℕ) → IsOneTree before count → IsOneTree after (count + 1)
   IsOneTree-grown count tree =
-      let inside : j < length before = slice_get_within before j fate was in
+      let inside : j < length before = slice_get_within before j status was in
       let here = tree.once j inside in
       let differ : length before ≢ length before + 1 = omega arith in
       let size = grown.size in
       record {
         shape = graft j (length before) (length before + 1) tree.shape;
         is_shape = IsShape-graft 0 tree.shape tree.is_shape;
-        exact = let e = splits-graft before j fate was was_end (length before) (length before + 1) 0 tree.shape tree.is_shape in let f = tree.exact in omega arith;
+        exact = let e = splits-graft before j status was was_end (length before) (length before + 1) 0 tree.shape tree.is_shape in let f = tree.exact in omega arith;
         once = λ k within. ⊎_elim
             (λ (first : k ≡ length before). subst (λ n. occurrences n (graft j (length before) (length before + 1) tree.shape) ≡ 1) (sym first)
-            (occurrences-graft_left before j fate was was_end (length before) (length before + 1) differ 0 tree.shape tree.is_shape (occurrences-past before 0 (length before) tree.shape tree.is_shape (omega arith)) ∙ here))
+            (occurrences-graft_left before j status was was_end (length before) (length before + 1) differ 0 tree.shape tree.is_shape (occurrences-past before 0 (length before) tree.shape tree.is_shape (omega arith)) ∙ here))
             (λ (not_first : k ≢ length before). ⊎_elim
             (λ (second : k ≡ length before + 1). subst (λ n. occurrences n (graft j (length before) (length before + 1) tree.shape) ≡ 1) (sym second)
-            (occurrences-graft_right before j fate was was_end (length before) (length before + 1) differ 0 tree.shape tree.is_shape (occurrences-past before 0 (length before + 1) tree.shape tree.is_shape (omega arith)) ∙ here))
+            (occurrences-graft_right before j status was was_end (length before) (length before + 1) differ 0 tree.shape tree.is_shape (occurrences-past before 0 (length before + 1) tree.shape tree.is_shape (omega arith)) ∙ here))
             (λ (not_second : k ≢ length before + 1).
             occurrences-graft_other j (length before) (length before + 1) k not_first not_second tree.shape ∙ tree.once k (omega (arith, within, size, not_first, not_second)))
             (cases_eq k (length before + 1)))

@@ -11,7 +11,7 @@ use Rattle.mapf_model.specs.Plan.{Instance}
 use Rattle.mapf_model.specs.Tree.{ConstraintTree, Node as TreeNode, LeafNode, ClashNode, Leaf, Clash, ShareGoal, root}
 use Rattle.mapf_model.proofs.ClaimLemmas.{slice_get_inside}
 use Rattle.mapf_model.proofs.SumLemmas.{snoc_get}
-use Rattle.mapf_cbs.specs.Answer.{IsTreeOf, IsShownImpossible}
+use Rattle.mapf_cbs.specs.Answer.{IsImpossibleAnswer}
 use Rattle.mapf_cbs.specs.Goals.{HaveDifferentGoals, IsFirstSharingPair, SomeGoalIsUnreachable, NamesFirstDefect}
 use Rattle.mapf_cbs.specs.Nodes.{IsRootView}
 use Rattle.mapf_cbs.specs.Search.{View, IsLive}
@@ -65,17 +65,21 @@ root_of problem paths count shortest = record {
 }
 
 -- a leaf without blocks, where a goal can't be reached
-pub leaf_answer : (problem : Instance) (limit : ℕ) → HaveDifferentGoals problem → SomeGoalIsUnreachable problem → (listed : List TreeNode) → listed ≡ LeafNode [] ∷ [] → (tree : ConstraintTree) × IsTreeOf problem limit listed tree × IsShownImpossible problem tree
+pub leaf_answer : (problem : Instance) (limit : ℕ) → HaveDifferentGoals problem → SomeGoalIsUnreachable problem → (listed : List TreeNode) → listed ≡ LeafNode [] ∷ [] → IsImpossibleAnswer problem limit listed
 leaf_answer problem limit goals (i, agent, is, unreachable) listed listed_are = (
   Leaf [],
   record {
-    spelled = listed_are;
-    few = omega arith;
-    earned = record { proper = (λ a b d lt within. absurd (omega arith), λ k d within. absurd (omega arith)); splits = tt };
-    first_conflicts = tt;
-    first_defect = record { clash = λ a b pair. absurd (goals a b pair.shared); leaf = λ h u. refl };
-    blocks = refl;
-    in_range = record { each = λ k d within. absurd (omega arith); rising = λ a b d lt within. absurd (omega arith) };
+    printable = record {
+      spelled = listed_are;
+      in_range = record { each = λ k d within. absurd (omega arith); rising = λ a b d lt within. absurd (omega arith) };
+    };
+    chosen = record {
+      few = omega arith;
+      earned = record { proper = (λ a b d lt within. absurd (omega arith), λ k d within. absurd (omega arith)); splits = tt };
+      first_conflicts = tt;
+      first_defect = record { clash = λ a b pair. absurd (goals a b pair.shared); leaf = λ h u. refl };
+      blocks = refl;
+    };
   },
   is_shown_impossible problem (Leaf []) (record { proper = (λ a b d lt within. absurd (omega arith), λ k d within. absurd (omega arith)); nodes = (λ j other block this found. cc, (i, agent, is, unreachable)) }),
 )
@@ -105,20 +109,24 @@ first_pair problem i j is a b pair =
     (sym a_first, sym b_first)
 
 -- a clash of the first two agents with the same goal
-pub clash_answer : (problem : Instance) (limit i j : ℕ) → IsFirstPair (HaveGoal problem.agents) (length problem.agents) (i, j) → (listed : List TreeNode) → listed ≡ ClashNode i j ∷ [] → (tree : ConstraintTree) × IsTreeOf problem limit listed tree × IsShownImpossible problem tree
+pub clash_answer : (problem : Instance) (limit i j : ℕ) → IsFirstPair (HaveGoal problem.agents) (length problem.agents) (i, j) → (listed : List TreeNode) → listed ≡ ClashNode i j ∷ [] → IsImpossibleAnswer problem limit listed
 clash_answer problem limit i j is listed listed_are = (
   Clash i j,
   record {
-    spelled = listed_are;
-    few = omega arith;
-    earned = record { proper = tt; splits = tt };
-    first_conflicts = tt;
-    first_defect = record {
-      clash = λ a b pair. let e = first_pair problem i j is a b pair in ap (λ n. Clash n j) e.0 ∙ ap (λ n. Clash a n) e.1;
-      leaf = λ goals u. absurd (goals i j (share_goal problem i j (λ e. let less = is.order in omega (arith, e, less)) is.holds));
+    printable = record {
+      spelled = listed_are;
+      in_range = (let less = is.order in let within = is.within in omega (arith, less, within), is.within);
     };
-    blocks = tt;
-    in_range = (let less = is.order in let within = is.within in omega (arith, less, within), is.within);
+    chosen = record {
+      few = omega arith;
+      earned = record { proper = tt; splits = tt };
+      first_conflicts = tt;
+      first_defect = record {
+        clash = λ a b pair. let e = first_pair problem i j is a b pair in ap (λ n. Clash n j) e.0 ∙ ap (λ n. Clash a n) e.1;
+        leaf = λ goals u. absurd (goals i j (share_goal problem i j (λ e. let less = is.order in omega (arith, e, less)) is.holds));
+      };
+      blocks = tt;
+    };
   },
   is_shown_impossible problem (Clash i j) (record { proper = tt; nodes = share_goal problem i j (λ e. let less = is.order in omega (arith, e, less)) is.holds }),
 )

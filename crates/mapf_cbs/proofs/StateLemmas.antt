@@ -8,35 +8,35 @@ use Rattle.mapf_model.specs.declared.constraint.Constraint.{Constraint}
 use Rattle.mapf_model.specs.declared.conflict.Conflict.{Conflict}
 use Rattle.mapf_model.specs.Plan.{Instance}
 use Rattle.mapf_model.specs.Tree.{left_constraint, right_constraint, ShareGoal}
-use Rattle.mapf_model.specs.Earned.{tick_of}
+use Rattle.mapf_model.specs.Conflicts.{tick_of}
 use Rattle.mapf_model.proofs.ContainsLemmas.{Contains-cons_cases, Contains-cons_old, Contains-cons_new}
 use Rattle.mapf_model.specs.declared.label.Entry.{Entry}
 use Rattle.mapf_spacetime.specs.declared.found.Found.{Found}
 use Rattle.mapf_cbs.specs.declared.node.Node.{Node}
 use Rattle.mapf_cbs.specs.declared.node.Node.TheVariants.{Root, Child}
-use Rattle.mapf_cbs.specs.declared.node.Fate.{Fate}
-use Rattle.mapf_cbs.specs.declared.node.Fate.TheVariants.{Open, Expanded}
+use Rattle.mapf_cbs.specs.declared.node.Status.{Status}
+use Rattle.mapf_cbs.specs.declared.node.Status.TheVariants.{Open, Expanded}
 use Rattle.mapf_cbs.specs.FirstConflicts.{IsFirstConflict}
-use Rattle.mapf_cbs.specs.Search.{View, IsLive, IsEndFate, IsSearched}
+use Rattle.mapf_cbs.specs.Search.{View, IsLive, IsEndStatus, IsSearched}
 use Rattle.mapf_cbs.specs.Nodes.{AreViews, IsNodeView, IsChildView, IsNodeFor, HavePathsAt, HasTableBar}
 use Rattle.mapf_cbs.specs.GeneratedChild.{IsGeneratedChild, IsGeneratedState}
-use Rattle.mapf_cbs.specs.State.{IsOpenSet, IsState, IsPopped, fate_of, key_cmp, with_children, split_fates, with_key, with_keys}
+use Rattle.mapf_cbs.specs.State.{IsOpenSet, IsState, IsPopped, status_of, key_cmp, with_children, split_statuses, with_key, with_keys}
 use Rattle.mapf_model.proofs.PlaceLemmas.{slice_get-set_same, slice_get-set_other, length-slice_set, slice_get-front, slice_get-here}
 use Rattle.mapf_cbs.proofs.SumLemmas.{slice_get-second, length-two_more}
 use Rattle.mapf_cbs.proofs.NodeLemmas.{view_in}
 use Rattle.mapf_cbs.proofs.ShapeLemmas.{IsGrown}
-use Rattle.mapf_cbs.proofs.GrowLemmas.{IsChildFate, searched_grown}
+use Rattle.mapf_cbs.proofs.GrowLemmas.{IsChildStatus, searched_grown}
 use Rattle.mapf_cbs.proofs.OpenLemmas.{less_apart, inserted_only, inserted_old, inserted_new, first_open}
 use Rattle.mapf_cbs.proofs.ChildLemmas.{of_paths}
 
 pub two_pushed : {X : Type 0} (xs : List X) (x y : X) → (xs ++ x ∷ []) ++ y ∷ [] ≡ xs ++ x ∷ y ∷ []
 two_pushed xs x y = append_assoc xs (x ∷ []) (y ∷ [])
 
-generated_fate : (problem : Instance) (view child : View) (total : Option ℕ) → IsGeneratedState problem view child total → IsChildFate problem view child (fate_of total)
-generated_fate problem view child None is = is
-generated_fate problem view child (Some total) is = (is.0, let a = is.1 in let b = is.2 in omega arith)
+generated_status : (problem : Instance) (view child : View) (total : Option ℕ) → IsGeneratedState problem view child total → IsChildStatus problem view child (status_of total)
+generated_status problem view child None is = is
+generated_status problem view child (Some total) is = (is.0, let a = is.1 in let b = is.2 in omega arith)
 
-pub end_of_total : (total : Option ℕ) → IsEndFate (fate_of total)
+pub end_of_total : (total : Option ℕ) → IsEndStatus (status_of total)
 end_of_total None = tt
 end_of_total (Some total) = tt
 
@@ -56,17 +56,17 @@ two_more_at xs x y z k is =
     (cases_lt k (length xs))
 
 -- the outcomes after a split
-pub grown_fates : (fates : List Fate) (k : ℕ) (conflict : Conflict) (left right : Option ℕ) → k < length fates → IsGrown fates (split_fates fates k conflict left right) k conflict (fate_of left) (fate_of right)
-grown_fates fates k conflict left right inside =
-    let size = length-two_more fates (fate_of left) (fate_of right) in
-    let expanded = Expanded conflict (length fates) in
-    let more = fates ++ fate_of left ∷ fate_of right ∷ [] in
-    subst (λ fs. IsGrown fates (slice_set fs k expanded) k conflict (fate_of left) (fate_of right)) (sym (two_pushed fates (fate_of left) (fate_of right))) (record {
+pub grown_statuses : (statuses : List Status) (k : ℕ) (conflict : Conflict) (left right : Option ℕ) → k < length statuses → IsGrown statuses (split_statuses statuses k conflict left right) k conflict (status_of left) (status_of right)
+grown_statuses statuses k conflict left right inside =
+    let size = length-two_more statuses (status_of left) (status_of right) in
+    let expanded = Expanded conflict (length statuses) in
+    let more = statuses ++ status_of left ∷ status_of right ∷ [] in
+    subst (λ fs. IsGrown statuses (slice_set fs k expanded) k conflict (status_of left) (status_of right)) (sym (two_pushed statuses (status_of left) (status_of right))) (record {
       size = length-slice_set more k expanded ∙ size;
       split = slice_get-set_same more k expanded (omega arith);
-      first = slice_get-set_other more k (length fates) expanded (λ e. omega arith) ∙ slice_get-here fates (fate_of right ∷ []) (fate_of left);
-      second = slice_get-set_other more k (length fates + 1) expanded (λ e. omega arith) ∙ slice_get-second fates (fate_of left) (fate_of right);
-      others = λ m within other. slice_get-set_other more k m expanded other ∙ slice_get-front fates (fate_of left ∷ fate_of right ∷ []) m within;
+      first = slice_get-set_other more k (length statuses) expanded (λ e. omega arith) ∙ slice_get-here statuses (status_of right ∷ []) (status_of left);
+      second = slice_get-set_other more k (length statuses + 1) expanded (λ e. omega arith) ∙ slice_get-second statuses (status_of left) (status_of right);
+      others = λ m within other. slice_get-set_other more k m expanded other ∙ slice_get-front statuses (status_of left ∷ status_of right ∷ []) m within;
       left_end = end_of_total left;
       right_end = end_of_total right;
     })
@@ -126,7 +126,7 @@ with_key_old : (keys : List (ℕ × ℕ)) (n : ℕ) (total : Option ℕ) (x : �
 with_key_old keys n None x h = h
 with_key_old keys n (Some s) x h = inserted_old keys (s, n) x h
 
-open_total : (total : Option ℕ) → fate_of total ≡ Open → (s : ℕ) × (total ≡ Some s)
+open_total : (total : Option ℕ) → status_of total ≡ Open → (s : ℕ) × (total ≡ Some s)
 open_total None e = absurd cc
 open_total (Some s) e = (s, refl)
 
@@ -135,8 +135,8 @@ with_key_new keys n None s e = absurd cc
 with_key_new keys n (Some t) s e = let same : t ≡ s = same_Some t s e in subst (λ z. Contains (with_key keys n (Some t)) (z, n)) same (inserted_new keys (t, n))
 
 -- the numbers of the other open nodes are below that of the next node
-pub older_keys : (problem : Instance) (nodes : List Node) (fates : List Fate) (rest : List (ℕ × ℕ)) (count total k : ℕ) → IsPopped problem nodes fates rest count total k → All (λ key. key.1 < length nodes) rest
-older_keys problem nodes fates rest count total k popped = All-weaker (Contains rest) (λ key. key.1 < length nodes) older rest (All-contains_itself rest)
+pub older_keys : (problem : Instance) (nodes : List Node) (statuses : List Status) (rest : List (ℕ × ℕ)) (count total k : ℕ) → IsPopped problem nodes statuses rest count total k → All (λ key. key.1 < length nodes) rest
+older_keys problem nodes statuses rest count total k popped = All-weaker (Contains rest) (λ key. key.1 < length nodes) older rest (All-contains_itself rest)
   where
     older : (key : ℕ × ℕ) → Contains rest key → key.1 < length nodes
     older key in_rest =
@@ -157,32 +157,32 @@ newest_after keys number total newest = by total
     by (Some sum) = All-insert_key key_cmp (sum, number) (λ key. key.1 < number + 1) keys later (omega arith)
 
 -- no open node is cheaper than the one that is being expanded
-pub least_popped : (problem : Instance) (nodes : List Node) (fates : List Fate) (rest : List (ℕ × ℕ)) (count total k : ℕ) (popped : IsPopped problem nodes fates rest count total k) (view : View) → slice_get popped.state.views k ≡ Some view →
-    (m : ℕ) (other : View) → slice_get popped.state.views m ≡ Some other → slice_get fates m ≡ Some Open → sum view.costs ≤ sum other.costs
-least_popped problem nodes fates rest count total k popped view is m other m_is m_open =
-    let first = first_open ((total, k) ∷ rest) rest (total, k) popped.state.views fates refl popped.above popped.state.opens in
+pub least_popped : (problem : Instance) (nodes : List Node) (statuses : List Status) (rest : List (ℕ × ℕ)) (count total k : ℕ) (popped : IsPopped problem nodes statuses rest count total k) (view : View) → slice_get popped.state.views k ≡ Some view →
+    (m : ℕ) (other : View) → slice_get popped.state.views m ≡ Some other → slice_get statuses m ≡ Some Open → sum view.costs ≤ sum other.costs
+least_popped problem nodes statuses rest count total k popped view is m other m_is m_open =
+    let first = first_open ((total, k) ∷ rest) rest (total, k) popped.state.views statuses refl popped.above popped.state.opens in
     let same : first.0 ≡ view = same_Some first.0 view (sym first.1 ∙ is) in
     subst (λ (w : View). sum w.costs ≤ sum other.costs) same (first.4 m other m_is m_open)
 
-module _ (problem : Instance) (nodes : List Node) (fates : List Fate) (rest : List (ℕ × ℕ)) (count total k : ℕ) (popped : IsPopped problem nodes fates rest count total k)
-    (goals : (i j : ℕ) → ShareGoal problem i j → ⊥) (view : View) (is : slice_get popped.state.views k ≡ Some view) (is_open : slice_get fates k ≡ Some Open) (total_is : total ≡ sum view.costs)
+module _ (problem : Instance) (nodes : List Node) (statuses : List Status) (rest : List (ℕ × ℕ)) (count total k : ℕ) (popped : IsPopped problem nodes statuses rest count total k)
+    (goals : (i j : ℕ) → ShareGoal problem i j → ⊥) (view : View) (is : slice_get popped.state.views k ≡ Some view) (is_open : slice_get statuses k ≡ Some Open) (total_is : total ≡ sum view.costs)
     (conflict : Conflict) (on_first : IsFirstConflict view.paths conflict) (early : tick_of conflict < 1000000)
     (f g : Found (List Entry)) (s t : Option ℕ) (left : IsGeneratedChild problem view (left_constraint conflict) f s) (right : IsGeneratedChild problem view (right_constraint conflict) g t)
   where
     same_length : length popped.state.views ≡ length nodes
     same_length = popped.state.are.lengths
 
-    same_fates : length popped.state.views ≡ length fates
-    same_fates = popped.state.searched.lengths
+    same_statuses : length popped.state.views ≡ length statuses
+    same_statuses = popped.state.searched.lengths
 
-    grown : IsGrown fates (split_fates fates k conflict s t) k conflict (fate_of s) (fate_of t)
-    grown = grown_fates fates k conflict s t (slice_get_within fates k Open is_open)
+    grown : IsGrown statuses (split_statuses statuses k conflict s t) k conflict (status_of s) (status_of t)
+    grown = grown_statuses statuses k conflict s t (slice_get_within statuses k Open is_open)
 
-    first_fate : slice_get (split_fates fates k conflict s t) (length nodes) ≡ Some (fate_of s)
-    first_fate = let a = same_length in let b = same_fates in let e : length fates ≡ length nodes = omega arith in subst (λ n. slice_get (split_fates fates k conflict s t) n ≡ Some (fate_of s)) e grown.first
+    first_status : slice_get (split_statuses statuses k conflict s t) (length nodes) ≡ Some (status_of s)
+    first_status = let a = same_length in let b = same_statuses in let e : length statuses ≡ length nodes = omega arith in subst (λ n. slice_get (split_statuses statuses k conflict s t) n ≡ Some (status_of s)) e grown.first
 
-    second_fate : slice_get (split_fates fates k conflict s t) (length nodes + 1) ≡ Some (fate_of t)
-    second_fate = let a = same_length in let b = same_fates in let e : length fates + 1 ≡ length nodes + 1 = omega arith in subst (λ n. slice_get (split_fates fates k conflict s t) n ≡ Some (fate_of t)) e grown.second
+    second_status : slice_get (split_statuses statuses k conflict s t) (length nodes + 1) ≡ Some (status_of t)
+    second_status = let a = same_length in let b = same_statuses in let e : length statuses + 1 ≡ length nodes + 1 = omega arith in subst (λ n. slice_get (split_statuses statuses k conflict s t) n ≡ Some (status_of t)) e grown.second
 
     first_view : slice_get (popped.state.views ++ left.child ∷ right.child ∷ []) (length nodes) ≡ Some left.child
     first_view = subst (λ n. slice_get (popped.state.views ++ left.child ∷ right.child ∷ []) n ≡ Some left.child) same_length (slice_get-here popped.state.views (right.child ∷ []) left.child)
@@ -198,39 +198,39 @@ module _ (problem : Instance) (nodes : List Node) (fates : List Fate) (rest : Li
     generated_small child None n e st = absurd cc
     generated_small child (Some m) n e st = subst (λ z. z ≤ sum view.costs + 2 ^ 32) (same_Some m n e) st.3
 
-    old_key : (x : ℕ × ℕ) → Contains rest x → (v : View) × (slice_get (popped.state.views ++ left.child ∷ right.child ∷ []) x.1 ≡ Some v) × (slice_get (split_fates fates k conflict s t) x.1 ≡ Some Open) × (x.0 ≡ sum v.costs)
+    old_key : (x : ℕ × ℕ) → Contains rest x → (v : View) × (slice_get (popped.state.views ++ left.child ∷ right.child ∷ []) x.1 ≡ Some v) × (slice_get (split_statuses statuses k conflict s t) x.1 ≡ Some Open) × (x.0 ≡ sum v.costs)
     old_key x in_rest =
         let was = popped.state.opens.only x (Contains-cons_old (total, k) x rest in_rest) in
-        let inside : x.1 < length fates = slice_get_within fates x.1 Open was.2 in
+        let inside : x.1 < length statuses = slice_get_within statuses x.1 Open was.2 in
         let other : x.1 ≢ k = λ e.
         let v_is : was.0 ≡ view = same_Some was.0 view (sym was.1 ∙ subst (λ n. slice_get popped.state.views n ≡ Some view) (sym e) is) in
         let sum_is : x.0 ≡ total = was.3 ∙ ap (λ (v : View). sum v.costs) v_is ∙ sym total_is in
         less_apart (total, k) x (popped.above x in_rest) (ap (λ n. (n, k)) (sym sum_is) ∙ ap (λ n. (x.0, n)) (sym e)) in
         (was.0, slice_get-front popped.state.views (left.child ∷ right.child ∷ []) x.1 (slice_get_within popped.state.views x.1 was.0 was.1) ∙ was.1, grown.others x.1 inside other ∙ was.2, was.3)
 
-    new_key : (n : ℕ) (child : View) (state : Option ℕ) (x : ℕ × ℕ) → slice_get (popped.state.views ++ left.child ∷ right.child ∷ []) n ≡ Some child → slice_get (split_fates fates k conflict s t) n ≡ Some (fate_of state) → IsGeneratedState problem view child state →
-        (z : ℕ) → state ≡ Some z → x ≡ (z, n) → (v : View) × (slice_get (popped.state.views ++ left.child ∷ right.child ∷ []) x.1 ≡ Some v) × (slice_get (split_fates fates k conflict s t) x.1 ≡ Some Open) × (x.0 ≡ sum v.costs)
+    new_key : (n : ℕ) (child : View) (state : Option ℕ) (x : ℕ × ℕ) → slice_get (popped.state.views ++ left.child ∷ right.child ∷ []) n ≡ Some child → slice_get (split_statuses statuses k conflict s t) n ≡ Some (status_of state) → IsGeneratedState problem view child state →
+        (z : ℕ) → state ≡ Some z → x ≡ (z, n) → (v : View) × (slice_get (popped.state.views ++ left.child ∷ right.child ∷ []) x.1 ≡ Some v) × (slice_get (split_statuses statuses k conflict s t) x.1 ≡ Some Open) × (x.0 ≡ sum v.costs)
     new_key n child state x v_is f_is st z e x_is =
         let number : x.1 ≡ n = ap (λ (y : ℕ × ℕ). y.1) x_is in
         let value : x.0 ≡ z = ap (λ (y : ℕ × ℕ). y.0) x_is in
-        let f_open : slice_get (split_fates fates k conflict s t) n ≡ Some Open = f_is ∙ ap (λ o. Some (fate_of o)) e in
-        (child, subst (λ m. slice_get (popped.state.views ++ left.child ∷ right.child ∷ []) m ≡ Some child) (sym number) v_is, subst (λ m. slice_get (split_fates fates k conflict s t) m ≡ Some Open) (sym number) f_open, value ∙ generated_sum child state z e st)
+        let f_open : slice_get (split_statuses statuses k conflict s t) n ≡ Some Open = f_is ∙ ap (λ o. Some (status_of o)) e in
+        (child, subst (λ m. slice_get (popped.state.views ++ left.child ∷ right.child ∷ []) m ≡ Some child) (sym number) v_is, subst (λ m. slice_get (split_statuses statuses k conflict s t) m ≡ Some Open) (sym number) f_open, value ∙ generated_sum child state z e st)
 
-    opens_grown : IsOpenSet (with_keys rest (length nodes) s t) (popped.state.views ++ left.child ∷ right.child ∷ []) (split_fates fates k conflict s t)
+    opens_grown : IsOpenSet (with_keys rest (length nodes) s t) (popped.state.views ++ left.child ∷ right.child ∷ []) (split_statuses statuses k conflict s t)
     opens_grown = record {
       only = λ x in_it. ⊎_elim
           (λ (h : Contains (with_key rest (length nodes) s) x). ⊎_elim
           (λ (old : Contains rest x). old_key x old)
-          (λ (new : (z : ℕ) × (s ≡ Some z) × (x ≡ (z, length nodes))). new_key (length nodes) left.child s x first_view first_fate left.state new.0 new.1 new.2)
+          (λ (new : (z : ℕ) × (s ≡ Some z) × (x ≡ (z, length nodes))). new_key (length nodes) left.child s x first_view first_status left.state new.0 new.1 new.2)
           (with_key_only rest (length nodes) s x h))
-          (λ (new : (z : ℕ) × (t ≡ Some z) × (x ≡ (z, length nodes + 1))). new_key (length nodes + 1) right.child t x second_view second_fate right.state new.0 new.1 new.2)
+          (λ (new : (z : ℕ) × (t ≡ Some z) × (x ≡ (z, length nodes + 1))). new_key (length nodes + 1) right.child t x second_view second_status right.state new.0 new.1 new.2)
           (with_key_only (with_key rest (length nodes) s) (length nodes + 1) t x in_it);
       each = λ m v v_is f_is.
-          let size = same_length in let sizes = same_fates in
+          let size = same_length in let sizes = same_statuses in
           ⊎_elim
           (λ (old : slice_get popped.state.views m ≡ Some v).
           let inside : m < length popped.state.views = slice_get_within popped.state.views m v old in
-          let other : m ≢ k = λ e. let expanded : Open ≡ Expanded conflict (length fates) = same_Some Open (Expanded conflict (length fates)) (sym f_is ∙ subst (λ n. slice_get (split_fates fates k conflict s t) n ≡ Some (Expanded conflict (length fates))) (sym e) grown.split) in cc in
+          let other : m ≢ k = λ e. let expanded : Open ≡ Expanded conflict (length statuses) = same_Some Open (Expanded conflict (length statuses)) (sym f_is ∙ subst (λ n. slice_get (split_statuses statuses k conflict s t) n ≡ Some (Expanded conflict (length statuses))) (sym e) grown.split) in cc in
           let at = popped.state.opens.each m v old (sym (grown.others m (omega arith) other) ∙ f_is) in
           ⊎_elim
           (λ (same : (total, k) ≡ (sum v.costs, m)). absurd (other (sym (ap (λ (y : ℕ × ℕ). y.1) same))))
@@ -239,14 +239,14 @@ module _ (problem : Instance) (nodes : List Node) (fates : List Fate) (rest : Li
           (λ (new : ((m ≡ length popped.state.views) × (left.child ≡ v)) ⊎ ((m ≡ length popped.state.views + 1) × (right.child ≡ v))). ⊎_elim
           (λ (h : (m ≡ length popped.state.views) × (left.child ≡ v)).
           let at : m ≡ length nodes = h.0 ∙ size in
-          let is_some = open_total s (same_Some (fate_of s) Open (sym first_fate ∙ subst (λ n. slice_get (split_fates fates k conflict s t) n ≡ Some Open) at f_is)) in
+          let is_some = open_total s (same_Some (status_of s) Open (sym first_status ∙ subst (λ n. slice_get (split_statuses statuses k conflict s t) n ≡ Some Open) at f_is)) in
           let value : is_some.0 ≡ sum v.costs = generated_sum left.child s is_some.0 is_some.1 left.state ∙ ap (λ (w : View). sum w.costs) h.1 in
           subst (λ n. Contains (with_keys rest (length nodes) s t) (sum v.costs, n)) (sym at)
           (subst (λ z. Contains (with_keys rest (length nodes) s t) (z, length nodes)) value
           (with_key_old (with_key rest (length nodes) s) (length nodes + 1) t (is_some.0, length nodes) (with_key_new rest (length nodes) s is_some.0 is_some.1))))
           (λ (h : (m ≡ length popped.state.views + 1) × (right.child ≡ v)).
           let at : m ≡ length nodes + 1 = h.0 ∙ ap (λ n. n + 1) size in
-          let is_some = open_total t (same_Some (fate_of t) Open (sym second_fate ∙ subst (λ n. slice_get (split_fates fates k conflict s t) n ≡ Some Open) at f_is)) in
+          let is_some = open_total t (same_Some (status_of t) Open (sym second_status ∙ subst (λ n. slice_get (split_statuses statuses k conflict s t) n ≡ Some Open) at f_is)) in
           let value : is_some.0 ≡ sum v.costs = generated_sum right.child t is_some.0 is_some.1 right.state ∙ ap (λ (w : View). sum w.costs) h.1 in
           subst (λ n. Contains (with_keys rest (length nodes) s t) (sum v.costs, n)) (sym at)
           (subst (λ z. Contains (with_keys rest (length nodes) s t) (z, length nodes + 1)) value
@@ -266,12 +266,12 @@ module _ (problem : Instance) (nodes : List Node) (fates : List Fate) (rest : Li
         (λ (new : (z : ℕ) × (t ≡ Some z) × (x ≡ (z, length nodes + 1))). let b = generated_small right.child t new.0 new.1 right.state in let e = ap (λ (y : ℕ × ℕ). y.0) new.2 in omega (arith, b, e, top, total_is))
         (with_key_only (with_key rest (length nodes) s) (length nodes + 1) t x in_it)
 
-    pub searched_after : IsSearched problem (popped.state.views ++ left.child ∷ right.child ∷ []) (split_fates fates k conflict s t) (count + 1)
-    searched_after = searched_grown problem goals popped.state.views fates count popped.state.searched k view is is_open (least_popped problem nodes fates rest count total k popped view is) conflict on_first early left.child right.child
+    pub searched_after : IsSearched problem (popped.state.views ++ left.child ∷ right.child ∷ []) (split_statuses statuses k conflict s t) (count + 1)
+    searched_after = searched_grown problem goals popped.state.views statuses count popped.state.searched k view is is_open (least_popped problem nodes statuses rest count total k popped view is) conflict on_first early left.child right.child
         left.context right.context left.bound right.bound
-        (fate_of s) (fate_of t) (generated_fate problem view left.child s left.state) (generated_fate problem view right.child t right.state) (split_fates fates k conflict s t) grown
+        (status_of s) (status_of t) (generated_status problem view left.child s left.state) (generated_status problem view right.child t right.state) (split_statuses statuses k conflict s t) grown
 
-    pub state_grown : IsState problem (with_children nodes k conflict f g) (split_fates fates k conflict s t) (with_keys rest (length nodes) s t) (count + 1)
+    pub state_grown : IsState problem (with_children nodes k conflict f g) (split_statuses statuses k conflict s t) (with_keys rest (length nodes) s t) (count + 1)
     state_grown =
         let fit = of_paths view.paths conflict on_first.has early in
         let size = same_length in
@@ -298,23 +298,23 @@ module _ (problem : Instance) (nodes : List Node) (fates : List Fate) (rest : Li
     grown_views = refl
 
 -- the node that is being expanded
-pub record IsInHand (problem : Instance) (fates : List Fate) (k total : ℕ) (views : List View) : Type 0 where
+pub record IsInHand (problem : Instance) (statuses : List Status) (k total : ℕ) (views : List View) : Type 0 where
   pub view : View
   pub is : slice_get views k ≡ Some view
-  pub is_open : slice_get fates k ≡ Some Open
+  pub is_open : slice_get statuses k ≡ Some Open
   pub total_is : total ≡ sum view.costs
   pub live : IsLive problem view
 
-pub in_hand : (problem : Instance) (nodes : List Node) (fates : List Fate) (rest : List (ℕ × ℕ)) (count total k : ℕ) (popped : IsPopped problem nodes fates rest count total k) → IsInHand problem fates k total popped.state.views
-in_hand problem nodes fates rest count total k popped =
+pub in_hand : (problem : Instance) (nodes : List Node) (statuses : List Status) (rest : List (ℕ × ℕ)) (count total k : ℕ) (popped : IsPopped problem nodes statuses rest count total k) → IsInHand problem statuses k total popped.state.views
+in_hand problem nodes statuses rest count total k popped =
     let first = popped.state.opens.only (total, k) (Contains-cons_new (total, k) rest) in
     record { view = first.0; is = first.1; is_open = first.2; total_is = first.3; live = popped.state.searched.each k first.0 Open first.1 first.2 }
 
 -- each agent of the problem has a path at the node that is being expanded
-pub have_paths : (problem : Instance) (nodes : List Node) (fates : List Fate) (rest : List (ℕ × ℕ)) (count total k : ℕ) → IsPopped problem nodes fates rest count total k → (1 ≤ length problem.agents) × (length problem.agents ≤ 200) →
+pub have_paths : (problem : Instance) (nodes : List Node) (statuses : List Status) (rest : List (ℕ × ℕ)) (count total k : ℕ) → IsPopped problem nodes statuses rest count total k → (1 ≤ length problem.agents) × (length problem.agents ≤ 200) →
     (agents : ℕ) → length problem.agents ≡ agents → HavePathsAt nodes k agents
-have_paths problem nodes fates rest count total k popped (some, few) agents same =
-    let h = in_hand problem nodes fates rest count total k popped in
+have_paths problem nodes statuses rest count total k popped (some, few) agents same =
+    let h = in_hand problem nodes statuses rest count total k popped in
     subst (HavePathsAt nodes k) same (record {
       nodes_for = popped.state.nodes_for;
       inside = view_in nodes popped.state.views popped.state.are k h.view h.is;

@@ -3,7 +3,7 @@ use Rattle.std.proofs.Common.{◌≡◌, ℕ, ◌<◌, ◌≤◌, List, Some, le
 use Rattle.std.proofs.lemmas.Option.{slice_get_within}
 use Rattle.mapf_model.specs.declared.problem.Agent.{Agent}
 use Rattle.mapf_model.specs.Plan.{Instance, IsSumOfCosts, AreCosts}
-use Rattle.mapf_model.specs.Earned.{AreCheapest}
+use Rattle.mapf_cbs.specs.Earned.{AreCheapest}
 use Rattle.mapf_model.proofs.ClaimLemmas.{slice_get_inside}
 use Rattle.mapf_spacetime.specs.Answer.{IsFirstOfCost}
 use Rattle.mapf_spacetime.specs.Task.{task_of}

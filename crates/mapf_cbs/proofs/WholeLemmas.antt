@@ -5,8 +5,8 @@ use Rattle.std.proofs.lemmas.Option.{slice_get_within, same_Some}
 use Rattle.mapf_model.specs.declared.bar.Bar.{Bar}
 use Rattle.mapf_model.specs.Laws.{AreSameBars}
 use Rattle.mapf_model.proofs.SumLemmas.{snoc_get}
-use Rattle.mapf_cbs.specs.declared.node.Fate.{Fate}
-use Rattle.mapf_cbs.specs.declared.node.Fate.TheVariants.{Open}
+use Rattle.mapf_cbs.specs.declared.node.Status.{Status}
+use Rattle.mapf_cbs.specs.declared.node.Status.TheVariants.{Open}
 use Rattle.std.specs.declared.alloc.Global.{Global}
 use Rattle.std.specs.Option.{unwrap_or}
 use Rattle.mapf_model.specs.Plan.{Instance}
@@ -25,25 +25,25 @@ use Rattle.mapf_model.proofs.PlaceLemmas.{slice_get-set_same, slice_get-set_othe
 use Rattle.mapf_cbs.proofs.NodeLemmas.{paths_kept, blocks_new, bars_other, bars_bound}
 
 -- the least open node is found by a scan
-module _ (nodes : List WholeNode) (fates : List Fate) (k : ℕ) where
-  pub skip_closed : (least : Option ℕ) (fate : Fate) → slice_get fates k ≡ Some fate → (fate ≡ Open → ⊥) → IsLeastBelow nodes fates k least → IsLeastBelow nodes fates (k + 1) least
-  skip_closed None fate here closed none = λ m within is_open. ⊎_elim
-      (λ (e : m ≡ k). closed (same_Some fate Open (sym here ∙ subst (λ n. slice_get fates n ≡ Some Open) e is_open)))
+module _ (nodes : List WholeNode) (statuses : List Status) (k : ℕ) where
+  pub skip_closed : (least : Option ℕ) (status : Status) → slice_get statuses k ≡ Some status → (status ≡ Open → ⊥) → IsLeastBelow nodes statuses k least → IsLeastBelow nodes statuses (k + 1) least
+  skip_closed None status here closed none = λ m within is_open. ⊎_elim
+      (λ (e : m ≡ k). closed (same_Some status Open (sym here ∙ subst (λ n. slice_get statuses n ≡ Some Open) e is_open)))
       (λ (e : m ≢ k). none m (omega (arith, within, e)) is_open)
       (cases_eq m k)
-  skip_closed (Some l) fate here closed least = record {
+  skip_closed (Some l) status here closed least = record {
     inside = let h = least.inside in omega (arith, h);
     node = least.node;
     is = least.is;
     is_open = least.is_open;
     least = λ m other within is is_open. ⊎_elim
-        (λ (e : m ≡ k). absurd (closed (same_Some fate Open (sym here ∙ subst (λ n. slice_get fates n ≡ Some Open) e is_open))))
+        (λ (e : m ≡ k). absurd (closed (same_Some status Open (sym here ∙ subst (λ n. slice_get statuses n ≡ Some Open) e is_open))))
         (λ (e : m ≢ k). least.least m other (omega (arith, within, e)) is is_open)
         (cases_eq m k);
     oldest = least.oldest;
   }
 
-  pub take_first : (node : WholeNode) → slice_get nodes k ≡ Some node → slice_get fates k ≡ Some Open → IsLeastBelow nodes fates k None → IsLeastOpen nodes fates (k + 1) k
+  pub take_first : (node : WholeNode) → slice_get nodes k ≡ Some node → slice_get statuses k ≡ Some Open → IsLeastBelow nodes statuses k None → IsLeastOpen nodes statuses (k + 1) k
   take_first node here is_open none = record {
     inside = omega arith;
     node = node;
@@ -58,11 +58,11 @@ module _ (nodes : List WholeNode) (fates : List Fate) (k : ℕ) where
     oldest = λ m other within is other_open. absurd (none m within other_open);
   }
 
-  module _ (l : ℕ) (old : WholeNode) (old_is : slice_get nodes l ≡ Some old) (node : WholeNode) (here : slice_get nodes k ≡ Some node) (least : IsLeastOpen nodes fates k l) where
+  module _ (l : ℕ) (old : WholeNode) (old_is : slice_get nodes l ≡ Some old) (node : WholeNode) (here : slice_get nodes k ≡ Some node) (least : IsLeastOpen nodes statuses k l) where
     total_is : least.node.total ≡ old.total
     total_is = ap (λ (n : WholeNode). n.total) (same_Some least.node old (sym least.is ∙ old_is))
 
-    pub keep_least : old.total ≤ node.total → IsLeastOpen nodes fates (k + 1) l
+    pub keep_least : old.total ≤ node.total → IsLeastOpen nodes statuses (k + 1) l
     keep_least less = record {
       inside = let h = least.inside in omega (arith, h);
       node = least.node;
@@ -78,7 +78,7 @@ module _ (nodes : List WholeNode) (fates : List Fate) (k : ℕ) where
       oldest = least.oldest;
     }
 
-    pub take_cheaper : slice_get fates k ≡ Some Open → node.total < old.total → IsLeastOpen nodes fates (k + 1) k
+    pub take_cheaper : slice_get statuses k ≡ Some Open → node.total < old.total → IsLeastOpen nodes statuses (k + 1) k
     take_cheaper is_open less = record {
       inside = omega arith;
       node = node;

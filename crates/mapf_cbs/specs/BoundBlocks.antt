@@ -12,7 +12,8 @@ use Rattle.mapf_model.specs.Grid.{GridMap}
 use Rattle.mapf_model.specs.Labels.{IsLabel, entries_of}
 use Rattle.mapf_model.specs.Path.{IsLawful, IsCost}
 use Rattle.mapf_model.specs.Plan.{Instance}
-use Rattle.mapf_model.specs.Tree.{ConstraintTree, Split, Leaf, Clash, NodeContext, root, left_constraint, right_constraint, left_child_context, right_child_context}
+use Rattle.mapf_model.specs.Tree.{ConstraintTree, Split, Leaf, Clash, NodeContext, root, left_constraint}
+use Rattle.mapf_model.specs.Tree.{right_constraint, left_child_context, right_child_context}
 use Rattle.mapf_cbs.specs.CheapestPath.{CostsLeast}
 
 -- some lawful path of the agent that satisfies the constraints costs its distance
@@ -40,25 +41,30 @@ IsLeastLabel grid agent bars Never = (path : List ℕ) → IsLawful grid agent p
 -- a block of this agent, in which the label of the start is the agent's least cost, if this is greater than its
 -- distance; else none
 abbrev pub AreBlocksOfBound : GridMap → Agent → List Bar → ℕ → List LabelBlock → Type 0
-AreBlocksOfBound grid agent bars bound [] = KeepsDistance grid agent bars
-AreBlocksOfBound grid agent bars bound (block ∷ []) = (block.agent ≡ bound) × (KeepsDistance grid agent bars → ⊥)
-    × (label : Label) × IsLeastLabel grid agent bars label × IsLabel grid agent.goal (entries_of block.entries) agent.start 0 label
-AreBlocksOfBound grid agent bars bound (block ∷ other ∷ blocks) = ⊥
+AreBlocksOfBound grid agent bars replanned [] = KeepsDistance grid agent bars
+AreBlocksOfBound grid agent bars replanned (block ∷ []) =
+    (block.agent ≡ replanned) × (KeepsDistance grid agent bars → ⊥)
+    × (label : Label) × IsLeastLabel grid agent bars label
+    × IsLabel grid agent.goal (entries_of block.entries) agent.start 0 label
+AreBlocksOfBound grid agent bars replanned (block ∷ other ∷ blocks) = ⊥
 
 -- the blocks of a node at which this agent was replanned; the root, at which none was, has none
 abbrev pub AreBlocksFor : Instance → NodeContext → Option ℕ → List LabelBlock → Type 0
 AreBlocksFor problem context None blocks = blocks ≡ []
-AreBlocksFor problem context (Some bound) blocks = (agent : Agent) × (slice_get problem.agents bound ≡ Some agent)
-    × AreBlocksOfBound problem.grid agent (context.bars bound) bound blocks
+AreBlocksFor problem context (Some replanned) blocks =
+    (agent : Agent) × (slice_get problem.agents replanned ≡ Some agent)
+    × AreBlocksOfBound problem.grid agent (context.bars replanned) replanned blocks
 
 -- the same of each node of a tree at whose root this agent was replanned: at each child of a split the agent of its
 -- constraint is replanned
 abbrev pub CarriesBlocksFor : Instance → NodeContext → Option ℕ → ConstraintTree → Type 0
-CarriesBlocksFor problem context bound (Split conflict blocks left right) = AreBlocksFor problem context bound blocks
+CarriesBlocksFor problem context replanned (Split conflict blocks left right) =
+    AreBlocksFor problem context replanned blocks
     × CarriesBlocksFor problem (left_child_context context conflict blocks) (Some (left_constraint conflict).agent) left
-    × CarriesBlocksFor problem (right_child_context context conflict blocks) (Some (right_constraint conflict).agent) right
-CarriesBlocksFor problem context bound (Leaf blocks) = AreBlocksFor problem context bound blocks
-CarriesBlocksFor problem context bound (Clash i j) = Unit {0}
+    × CarriesBlocksFor problem (right_child_context context conflict blocks) (Some (right_constraint conflict).agent)
+    right
+CarriesBlocksFor problem context replanned (Leaf blocks) = AreBlocksFor problem context replanned blocks
+CarriesBlocksFor problem context replanned (Clash i j) = Unit {0}
 
 -- each node has a block of the agent that was replanned there, if its least cost is greater than its distance, with
 -- this cost as the label of the start, and no other block

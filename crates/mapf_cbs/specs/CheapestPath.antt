@@ -18,11 +18,14 @@ IsTableBar bar = (bar_tick bar < split_ticks) × IsBar bar
 
 -- no lawful path of the agent that satisfies the constraints costs less than this
 abbrev pub CostsLeast : GridMap → Agent → List Bar → ℕ → Type 0
-CostsLeast grid agent bars cost = (other : List ℕ) (other_cost : ℕ) → IsLawful grid agent other → Satisfies bars other → IsCost agent.goal other other_cost → cost ≤ other_cost
+CostsLeast grid agent bars cost =
+    (other : List ℕ) (other_cost : ℕ) → IsLawful grid agent other → Satisfies bars other →
+    IsCost agent.goal other other_cost → cost ≤ other_cost
 
 -- a cheapest path of an agent under its constraints, the first of them by cell numbers, with its cost, which is the
 -- label of its start by these entries
-pub record IsCheapestPath (grid : GridMap) (agent : Agent) (bars : List Bar) (path : List ℕ) (cost : ℕ) (entries : Entries) : Type 0 where
+pub record IsCheapestPath (grid : GridMap) (agent : Agent) (bars : List Bar) (path : List ℕ) (cost : ℕ)
+    (entries : Entries) : Type 0 where
   pub lawful : IsLawful grid agent path
   pub satisfies : Satisfies bars path
   pub tight : IsTight path

@@ -3,7 +3,8 @@
 use Rattle.std.specs.Prelude.{◌≡◌, ℕ, List, Some, slice_get}
 use Rattle.mapf_conflicts.specs.Pairs.{IsOrdered, IsFirstOfItsTick}
 use Rattle.mapf_model.specs.declared.conflict.Conflict.{Conflict}
-use Rattle.mapf_model.specs.Earned.{AreDue, HasConflict, AreConflictFreeBefore, tick_of}
+use Rattle.mapf_model.specs.Conflicts.{HasConflict, AreConflictFreeBefore, tick_of}
+use Rattle.mapf_cbs.specs.Earned.{AreDue}
 use Rattle.mapf_model.specs.declared.problem.Agent.{Agent}
 use Rattle.mapf_model.specs.Path.{IsCost}
 use Rattle.mapf_model.specs.Plan.{Instance}

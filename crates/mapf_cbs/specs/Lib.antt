@@ -7,10 +7,11 @@ pub mod Nodes
 pub mod GeneratedChild
 pub mod State
 pub mod Queues
-pub mod Finders
+pub mod PathOwners
 pub mod Start
+pub mod Earned
+pub mod Chosen
 pub mod Answer
-pub mod TreeNodes
 pub mod Whole
 pub mod Endings
 pub mod Replanned

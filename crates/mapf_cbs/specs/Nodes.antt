@@ -47,7 +47,8 @@ HaveTableBars nodes = (k : ℕ) (node : Node) → slice_get nodes k ≡ Some nod
 
 -- the state of a child, by its parent's state and what was found
 abbrev pub IsChildView : View → Constraint → Found (List Entry) → View → Type 0
-IsChildView before constraint (Arrives path labels) view = (cost : ℕ) × (view ≡ live_child before constraint path cost labels)
+IsChildView before constraint (Arrives path labels) view =
+    (cost : ℕ) × (view ≡ live_child before constraint path cost labels)
 IsChildView before constraint (Dead labels) view = view ≡ dead_child before constraint labels
 
 -- no constraints, no blocks, and these paths
@@ -64,24 +65,42 @@ IsOwnOf (Child parent constraint found) blocks = blocks ≡ bound_blocks constra
 -- the state that a node denotes, by its parent's
 abbrev pub IsNodeView : List View → ℕ → Node → View → Type 0
 IsNodeView views k (Root paths) view = IsRootView paths view
-IsNodeView views k (Child parent constraint found) view = (parent < k) × (before : View) × (slice_get views parent ≡ Some before) × (constraint.agent < length before.paths) × IsChildView before constraint found view
+IsNodeView views k (Child parent constraint found) view =
+    (parent < k) × (before : View) × (slice_get views parent ≡ Some before) × (constraint.agent < length before.paths)
+    × IsChildView before constraint found view
 
 -- these are the states that the nodes denote
 pub record AreViews (nodes : List Node) (views : List View) : Type 0 where
   pub lengths : length views ≡ length nodes
-  pub each : (k : ℕ) (node : Node) (view : View) → slice_get nodes k ≡ Some node → slice_get views k ≡ Some view → IsNodeView views k node view
+  pub each : (k : ℕ) (node : Node) (view : View) → slice_get nodes k ≡ Some node → slice_get views k ≡ Some view →
+      IsNodeView views k node view
 
 -- the property holds of the state that the node denotes, as the changes along its path from the root give it
 abbrev pub HoldsOfNode : List Node → ℕ → (View → Type 0) → Type 0
-HoldsOfNode nodes k Fact = (views : List View) (view : View) → AreViews nodes views → slice_get views k ≡ Some view → Fact view
+HoldsOfNode nodes k Fact =
+    (views : List View) (view : View) → AreViews nodes views → slice_get views k ≡ Some view → Fact view
 
 -- the same if the state has a path of each of so many agents
 abbrev pub HoldsOfAgentsAt : List Node → ℕ → ℕ → (View → Type 0) → Type 0
 HoldsOfAgentsAt nodes k agents Fact = HoldsOfNode nodes k (λ view. length view.paths ≡ agents → Fact view)
 
+-- the nodes denote states; those of the root and of the node `k` have so many paths, and the property holds of the
+-- latter
+pub record AreViewedAt (nodes : List Node) (k agents : ℕ) (Fact : View → Type 0) : Type 0 where
+  pub views : List View
+  pub view : View
+  pub are : AreViews nodes views
+  pub is : slice_get views k ≡ Some view
+  pub count : length view.paths ≡ agents
+  pub root : View
+  pub root_is : slice_get views 0 ≡ Some root
+  pub root_count : length root.paths ≡ agents
+  pub holds : Fact view
+
 -- the conflict is the first of the node's paths
 abbrev pub IsFirstAt : Instance → List Node → ℕ → Conflict → Type 0
-IsFirstAt problem nodes k conflict = HoldsOfNode nodes k (λ view. IsLive problem view → IsFirstConflict view.paths conflict)
+IsFirstAt problem nodes k conflict =
+    HoldsOfNode nodes k (λ view. IsLive problem view → IsFirstConflict view.paths conflict)
 
 -- the constraints of one list are those of two others
 pub record AreJoined (all front rest : List Bar) : Type 0 where

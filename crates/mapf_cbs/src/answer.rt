@@ -1,3 +1,5 @@
+//! The result of a search with the items of its tree, for tests: the calls `solve` and `solve_plain` return it. The
+//! program takes an `Outcome`.
 use mapf_model::{Cause, Item, Plan};
 
 /// The result of a search, with the items of its constraint tree in pre-order.

@@ -1,3 +1,4 @@
+//! How the labels leave the nodes when a search over trees ends. The ending makes the nodes of the tree from them.
 ghost use Rattle.std.specs.Prelude.{◌^◌, ◌<◌, List, length, All, IfOk};
 ghost use Rattle.mapf_cbs.specs.Search.{View, AreBlockLists};
 ghost use Rattle.mapf_cbs.specs.Nodes.{AreViews, IsOwnOf};

@@ -1,7 +1,10 @@
-ghost use Rattle.std.specs.Prelude.{◌≡◌, ◌<◌, ◌^◌, [], ◌∷◌, All, length, IfOk, IfSome, IfNone};
+//! The labels that a node of a tree has: those of the one agent that was replanned there. A certificate has them as the
+//! node's block.
+ghost use Rattle.std.specs.Prelude.{◌≡◌, ◌<◌, ◌^◌, [], Some, All, length, slice_get, IfOk};
+ghost use Rattle.mapf_model.specs.Blocks.{LabelBlock};
 ghost use Rattle.mapf_cbs.specs.Search.{bound_blocks, labels_of};
 
-use mapf_model::{Block, OutOfMemory};
+use mapf_model::{Block, Entry, OutOfMemory};
 use mapf_spacetime::{Found, StateLabels};
 use std::alloc::Global;
 use std::marker::Model;
@@ -46,21 +49,28 @@ impl BoundLabels {
     }
 
     /// Returns the number of blocks.
-    pub fn count(&self) -> u64
+    pub fn count(&self) -> usize
         ensures { result ≡ length self.now }
     {
-        u64::from(!self.labels.is_empty())
+        usize::from(!self.labels.is_empty())
     }
 
-    /// Returns the agent and its labels, None if there is no block.
-    pub fn block(&self) -> Option<(u32, &StateLabels)>
-        ensures some { IfSome result (λ block. self.now ≡ record { agent = block.0; entries = block.1.now } ∷ []) }
-        ensures none { IfNone result (self.now ≡ []) }
+    /// Returns the agent of a block and the number of its entries.
+    pub fn block(&self, place: usize) -> (u32, usize)
+        requires { place < length self.now }
+        ensures { (block : LabelBlock) → slice_get self.now place ≡ Some block →
+            (block.agent ≡ result.0) × (length block.entries ≡ result.1) }
     {
-        if self.labels.is_empty() {
-            return None;
-        }
-        Some((self.agent, &self.labels))
+        (self.agent, self.labels.len())
+    }
+
+    /// Returns an entry of a block.
+    pub fn entry(&self, place: usize, index: usize) -> Entry
+        requires { (block : LabelBlock) × (slice_get self.now place ≡ Some block) × (index < length block.entries) }
+        ensures { (block : LabelBlock) → slice_get self.now place ≡ Some block →
+            slice_get block.entries index ≡ Some result }
+    {
+        self.labels.entry(index)
     }
 
     /// Returns the blocks, in memory of their own.

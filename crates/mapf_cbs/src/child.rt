@@ -1,3 +1,5 @@
+//! How a child of a split is made: the agent of its new constraint is replanned. The search over trees makes both
+//! children of a split by it.
 ghost use Rattle.std.specs.Prelude.{◌≡◌, ◌+◌, ◌-◌, ◌<◌, ◌∷◌, ◌^◌, List, Some, length, slice_get, sum, IfOk, OnOk};
 ghost use Rattle.mapf_model.specs.Laws.{AreSameBars};
 ghost use Rattle.mapf_model.specs.Path.{at, IsCost};
@@ -6,20 +8,20 @@ ghost use Rattle.mapf_model.specs.declared.problem.Agent.{Agent};
 ghost use Rattle.mapf_spacetime.specs.Answer.{IsPathAnswer};
 ghost use Rattle.mapf_spacetime.specs.Task.{task_of};
 ghost use Rattle.mapf_cbs.specs.CheapestPath.{IsTableBar};
-ghost use Rattle.mapf_cbs.specs.Finders.{AreFinders};
+ghost use Rattle.mapf_cbs.specs.PathOwners.{AreOwners};
 ghost use Rattle.mapf_distance.specs.Tables.{AreMade};
 ghost use Rattle.mapf_cbs.specs.Search.{View, IsLive};
 ghost use Rattle.mapf_cbs.specs.Nodes.{AreNodesFor, HaveTableBars, AreViews, HoldsOfNode};
 ghost use Rattle.mapf_cbs.specs.GeneratedChild.{IsGeneratedChild, EndsAt, IsTotal};
 
-use crate::finders::Finders;
+use crate::ancestors::{gather_bars, path_at};
 use crate::node::Node;
+use crate::path_owners::PathOwners;
 use crate::search_memory::SearchMemory;
-use crate::walks::{gather_bars, path_at};
 use mapf_constraints::BarTable;
 use mapf_distance::LazyTables;
 use mapf_model::{Cell, Constraint, OutOfMemory, Path, Problem};
-use mapf_spacetime::{Found, StateLabels, search_expecting};
+use mapf_spacetime::{Found, SearchTask, StateLabels, search_expecting};
 use std::alloc::Global;
 
 /// What one more constraint led to, with the new sum of costs if the agent still arrives.
@@ -29,38 +31,38 @@ pub struct GeneratedChild {
     pub total: Option<u64>,
 }
 
-/// Returns the child of a node, whose finders these are, under one more constraint.
+/// Returns the child of a node, whose path owners these are, under one more constraint.
 pub fn child<B: BarTable>(
     alloc: Global,
     memory: &mut SearchMemory<B>,
     problem: &Problem,
     tables: &mut LazyTables,
     nodes: &[Node],
-    finders: &Finders,
+    owners: &PathOwners,
     total: u64,
     constraint: Constraint,
 ) -> Result<GeneratedChild, OutOfMemory>
     requires tables { AreMade problem.now tables.old }
     requires nodes { AreNodesFor constraint.agent nodes.now }
     requires bars { HaveTableBars nodes.now }
-    requires finders { AreFinders nodes.now finders.now }
-    requires found { constraint.agent < length finders.now.nearest.items }
+    requires owners { AreOwners nodes.now owners.now }
+    requires found { constraint.agent < length owners.now.nearest.items }
     requires known { constraint.agent < length problem.now.agents }
     requires bar { IsTableBar constraint.bar }
     requires small { total + 2 ^ 32 < 2 ^ 64 }
     requires live { (views : List View) × (view : View) × AreViews nodes.now views
-        × (slice_get views finders.now.node ≡ Some view)
+        × (slice_get views owners.now.node ≡ Some view)
         × IsLive problem.now view × (total ≡ sum view.costs) }
     ensures generated { IfOk result (λ generated.
-        HoldsOfNode nodes.now finders.now.node (λ view. IsLive problem.now view → total ≡ sum view.costs →
+        HoldsOfNode nodes.now owners.now.node (λ view. IsLive problem.now view → total ≡ sum view.costs →
         IsGeneratedChild problem.now view constraint generated.found generated.total)) }
     ensures tables { OnOk result (AreMade problem.now tables.new) }
 {
     let agent = constraint.agent;
     let who = problem.agents()[agent as usize];
-    let old = cost_of(path_at(nodes, finders.of(agent), agent), who.goal);
+    let old = cost_of(path_at(nodes, owners.of(agent), agent), who.goal);
     let found = search_under(
-        alloc, memory, problem, tables, nodes, finders, constraint, old,
+        alloc, memory, problem, tables, nodes, owners, constraint, old,
     )?;
     let total = new_total(&found, who.goal, total - u64::from(old));
     Ok(GeneratedChild { found, total })
@@ -74,20 +76,20 @@ fn search_under<B: BarTable>(
     problem: &Problem,
     tables: &mut LazyTables,
     nodes: &[Node],
-    finders: &Finders,
+    owners: &PathOwners,
     constraint: Constraint,
     expected: u32,
 ) -> Result<Found<StateLabels>, OutOfMemory>
     requires tables { AreMade problem.now tables.old }
     requires nodes { AreNodesFor constraint.agent nodes.now }
     requires bars { HaveTableBars nodes.now }
-    requires finders { AreFinders nodes.now finders.now }
-    requires found { constraint.agent < length finders.now.nearest.items }
+    requires owners { AreOwners nodes.now owners.now }
+    requires found { constraint.agent < length owners.now.nearest.items }
     requires known { constraint.agent < length problem.now.agents }
     requires bar { IsTableBar constraint.bar }
     ensures found { IfOk result (λ found.
         (who : Agent) → slice_get problem.now.agents constraint.agent ≡ Some who →
-        HoldsOfNode nodes.now finders.now.node (λ view. (bars : List Bar)
+        HoldsOfNode nodes.now owners.now.node (λ view. (bars : List Bar)
         × AreSameBars bars (constraint.bar ∷ view.context.bars constraint.agent)
         × IsPathAnswer (task_of problem.now.grid who bars) found)) }
     ensures tables { OnOk result (AreMade problem.now tables.new) }
@@ -96,20 +98,14 @@ fn search_under<B: BarTable>(
     gather_bars(
         &mut memory.bars,
         nodes,
-        finders.of(constraint.agent),
+        owners.of(constraint.agent),
         constraint.agent,
     )?;
     memory.bars.add(constraint.bar)?;
     tables.make(alloc, problem, constraint.agent)?;
-    search_expecting(
-        alloc,
-        &mut memory.workspace,
-        problem.grid(),
-        tables.get(constraint.agent),
-        &memory.bars,
-        who,
-        expected,
-    )
+    let distances = tables.get(constraint.agent);
+    let task = SearchTask::of(problem.grid(), distances, &memory.bars, who);
+    search_expecting(alloc, &mut memory.workspace, &task, expected)
 }
 
 /// Returns the cost of a path that ends at the goal.

@@ -1,3 +1,4 @@
+//! Which two agents share a goal, for the beginning of a search: then no plan is valid.
 ghost use Rattle.std.specs.Prelude.{◌<◌, length, IfNone, IfSome, IsTrue, ◌↔◌};
 ghost use Rattle.mapf_model.specs.Pairs.{IsFirstPair, HoldsOfNoPair};
 ghost use Rattle.mapf_cbs.specs.Start.{HaveGoal};

@@ -1,11 +1,11 @@
-//! How a search over trees ends, by the labels and the outcome of each node.
+//! How a search over trees ends, by the labels and the status of each node.
 ghost use Rattle.std.specs.Prelude.{ℕ, IfOk};
 ghost use Rattle.mapf_model.specs.Plan.{Instance};
 ghost use Rattle.mapf_cbs.specs.Answer.{IsOutcome};
 ghost use Rattle.mapf_cbs.specs.Endings.{CanBeDrawn, IsExhausted, IsAtPlan, IsAtCause};
 
 use crate::bound_labels::BoundLabels;
-use crate::node::Fate;
+use crate::node::Status;
 use crate::outcome::Outcome;
 use crate::written::tree_nodes;
 use mapf_model::{Cause, OutOfMemory, Plan};
@@ -15,13 +15,13 @@ use std::alloc::Global;
 pub fn impossible(
     alloc: Global,
     lists: Vec<BoundLabels>,
-    fates: &[Fate],
+    statuses: &[Status],
 ) -> Result<Outcome, OutOfMemory>
-    requires { CanBeDrawn lists.items fates.now }
+    requires { CanBeDrawn lists.items statuses.now }
     ensures { IfOk result (λ outcome. (problem : Instance) (limit : ℕ) →
-        IsExhausted problem limit lists.items fates.now → IsOutcome problem limit outcome) }
+        IsExhausted problem limit lists.items statuses.now → IsOutcome problem limit outcome) }
 {
-    let tree = tree_nodes(alloc, lists, fates)?;
+    let tree = tree_nodes(alloc, lists, statuses)?;
     Ok(Outcome::Impossible { tree })
 }
 
@@ -30,13 +30,13 @@ pub fn found(
     alloc: Global,
     plan: Plan,
     lists: Vec<BoundLabels>,
-    fates: &[Fate],
+    statuses: &[Status],
 ) -> Result<Outcome, OutOfMemory>
-    requires { CanBeDrawn lists.items fates.now }
+    requires { CanBeDrawn lists.items statuses.now }
     ensures { IfOk result (λ outcome. (problem : Instance) (limit : ℕ) →
-        IsAtPlan problem limit lists.items fates.now plan → IsOutcome problem limit outcome) }
+        IsAtPlan problem limit lists.items statuses.now plan → IsOutcome problem limit outcome) }
 {
-    let tree = tree_nodes(alloc, lists, fates)?;
+    let tree = tree_nodes(alloc, lists, statuses)?;
     Ok(Outcome::Found { plan, tree })
 }
 
@@ -46,12 +46,12 @@ pub fn stopped(
     cause: Cause,
     bound: u64,
     lists: Vec<BoundLabels>,
-    fates: &[Fate],
+    statuses: &[Status],
 ) -> Result<Outcome, OutOfMemory>
-    requires { CanBeDrawn lists.items fates.now }
+    requires { CanBeDrawn lists.items statuses.now }
     ensures { IfOk result (λ outcome. (problem : Instance) (limit : ℕ) →
-        IsAtCause problem limit lists.items fates.now cause bound → IsOutcome problem limit outcome) }
+        IsAtCause problem limit lists.items statuses.now cause bound → IsOutcome problem limit outcome) }
 {
-    let tree = tree_nodes(alloc, lists, fates)?;
+    let tree = tree_nodes(alloc, lists, statuses)?;
     Ok(Outcome::Limit { cause, bound, tree })
 }

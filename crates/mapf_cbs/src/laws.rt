@@ -1,7 +1,7 @@
 //! A plain search: the same order of expansion and the same tie-breaking as the fast one, with full nodes, and a scan
 //! in place of the open list.
 ghost use Rattle.std.specs.Prelude.{◌≡◌, ◌+◌, ◌^◌, ◌<◌, ◌≤◌, ◌∷◌, ℕ, length, IfOk, OnOk};
-ghost use Rattle.mapf_model.specs.Earned.{tick_of};
+ghost use Rattle.mapf_model.specs.Conflicts.{tick_of};
 ghost use Rattle.mapf_model.specs.Laws.{AreSameBars};
 ghost use Rattle.mapf_model.specs.Limits.{most_splits, split_ticks};
 ghost use Rattle.mapf_cbs.specs.Answer.{IsOutcome, IsSearchAnswer};
@@ -26,7 +26,7 @@ use mapf_conflicts::first_conflict;
 use mapf_constraints::{BarTable, ListBars};
 use mapf_distance::{Distances, goal_tables};
 use mapf_model::{Bar, Conflict, Constraint, OutOfMemory, Path, Problem};
-use mapf_spacetime::search_states;
+use mapf_spacetime::{SearchTask, search_states};
 use std::alloc::Global;
 
 /// Returns what `solve` returns, by the simplest means.
@@ -60,20 +60,20 @@ fn search_plain(
     let root = WholeNode::root(alloc, &paths)?;
     let mut tree = WholeTree::of(alloc, root)?;
     loop {
-        let Some(k) = least_open(&tree.nodes, &tree.fates) else {
+        let Some(k) = least_open(&tree.nodes, &tree.statuses) else {
             let lists = labels_of_whole(alloc, tree.nodes)?;
-            return endings::impossible(alloc, lists, &tree.fates);
+            return endings::impossible(alloc, lists, &tree.statuses);
         };
         let node = &tree.nodes[k as usize];
         let bound = node.total;
         let plan = node.plan(alloc)?;
         let Some(conflict) = first_conflict(&plan) else {
             let lists = labels_of_whole(alloc, tree.nodes)?;
-            return endings::found(alloc, plan, lists, &tree.fates);
+            return endings::found(alloc, plan, lists, &tree.statuses);
         };
         if let Some(cause) = cause_to_stop(&conflict, tree.splits, limit) {
             let lists = labels_of_whole(alloc, tree.nodes)?;
-            return endings::stopped(alloc, cause, bound, lists, &tree.fates);
+            return endings::stopped(alloc, cause, bound, lists, &tree.statuses);
         }
         split_whole(alloc, problem, tables, &mut tree, k, &conflict)?;
     }
@@ -90,13 +90,13 @@ fn split_whole(
 ) -> Result<(), OutOfMemory>
     requires tables { AreTables problem.now tables.now }
     requires popped { (total : ℕ)
-        × IsWholePopped problem.now tree.old.nodes.items tree.old.fates.items tree.old.splits total k }
+        × IsWholePopped problem.now tree.old.nodes.items tree.old.statuses.items tree.old.splits total k }
     requires goals { HaveDifferentGoals problem.now }
     requires meet { IsFirstAtWhole tree.old.nodes.items k conflict.now }
     requires early { tick_of conflict.now < split_ticks }
     requires few { tree.old.splits < most_splits }
     ensures state { OnOk result
-        (IsWholeState problem.now tree.new.nodes.items tree.new.fates.items (tree.old.splits + 1)) }
+        (IsWholeState problem.now tree.new.nodes.items tree.new.statuses.items (tree.old.splits + 1)) }
     ensures splits { OnOk result (tree.new.splits ≡ tree.old.splits + 1) }
 {
     let left = child_of(
@@ -142,13 +142,9 @@ fn child_of(
         &node.agent_paths[constraint.agent as usize].bars,
         constraint.bar,
     )?;
-    let found = search_states(
-        alloc,
-        problem.grid(),
-        &tables[constraint.agent as usize],
-        &bars,
-        who,
-    )?;
+    let distances = &tables[constraint.agent as usize];
+    let task = SearchTask::of(problem.grid(), distances, &bars, who);
+    let found = search_states(alloc, &task)?;
     let old = cost_of(&node.agent_paths[constraint.agent as usize].path, goal);
     let total = new_total(&found, goal, node.total - u64::from(old));
     let agent_path = node.agent_paths[constraint.agent as usize].after(alloc, &found, bars)?;

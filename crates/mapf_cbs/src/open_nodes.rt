@@ -1,3 +1,4 @@
+//! The open list: which open node is expanded next. The search over trees takes its nodes from here.
 ghost use Rattle.std.specs.Prelude.{◌≡◌, ◌<◌, ◌∷◌, ◌↔◌, [], Some, length, slice_get};
 ghost use Rattle.std.specs.Prelude.{All, IfOk, IfSome, IfNone, IsSome, IsTrue, OnErr, OnOk};
 ghost use Rattle.std.specs.BTreeMap.{get, is_at, keys};

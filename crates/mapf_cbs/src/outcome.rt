@@ -1,3 +1,5 @@
+//! The result of a search with the nodes of its tree, from which the run of `solve` writes its texts. An `Answer` is
+//! made of it.
 ghost use Rattle.std.specs.Prelude.{◌≡◌, ℕ, IfOk, map};
 ghost use Rattle.mapf_model.specs.Tree.{node_of};
 ghost use Rattle.mapf_cbs.specs.Answer.{IsOutcome, IsSearchAnswer};

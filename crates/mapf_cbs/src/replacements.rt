@@ -1,12 +1,13 @@
+//! Which paths of a node aren't those of the root, for the search for the node's first conflict.
 ghost use Rattle.std.specs.Prelude.{◌≡◌, ◌<◌, ◌≤◌, length, All, IfOk};
 ghost use Rattle.mapf_model.specs.Limits.{most_path_cells};
 ghost use Rattle.mapf_conflicts.specs.Replacements.{with_replacements};
-ghost use Rattle.mapf_cbs.specs.Finders.{AreFinders};
+ghost use Rattle.mapf_cbs.specs.PathOwners.{AreOwners};
 ghost use Rattle.mapf_cbs.specs.Nodes.{HavePathsAt, HoldsOfAgentsAt, HoldsOfNode};
 
-use crate::finders::Finders;
+use crate::ancestors::path_at;
 use crate::node::Node;
-use crate::walks::path_at;
+use crate::path_owners::PathOwners;
 use mapf_conflicts::{BasePaths, PathsByTick, Replacement};
 use mapf_model::OutOfMemory;
 use std::alloc::Global;
@@ -14,21 +15,21 @@ use std::alloc::Global;
 // For how many replacements memory is requested at once. At few nodes more agents were replanned.
 const AT_ONCE: usize = 16;
 
-/// Returns a replacement of the root's path for each agent that was replanned below the root: its path at the finders'
+/// Returns a replacement of the root's path for each agent that was replanned below the root: its path at the owners'
 /// node. Each agent must have a path there.
 pub fn replacements_at<'a>(
     alloc: Global,
     nodes: &'a [Node],
     root: &BasePaths,
-    finders: &Finders,
+    owners: &PathOwners,
 ) -> Result<Vec<Replacement<'a>>, OutOfMemory>
-    requires paths { HavePathsAt nodes.now finders.now.node (length finders.now.nearest.items) }
-    requires finders { AreFinders nodes.now finders.now }
+    requires paths { HavePathsAt nodes.now owners.now.node (length owners.now.nearest.items) }
+    requires owners { AreOwners nodes.now owners.now }
     requires root { HoldsOfNode nodes.now 0 (λ view. view.paths ≡ root.now) }
-    requires count { length root.now ≡ length finders.now.nearest.items }
+    requires count { length root.now ≡ length owners.now.nearest.items }
     ensures known { IfOk result (λ replacements. All (λ one. one.agent < length root.now) replacements.items) }
     ensures paths { IfOk result (λ replacements.
-        HoldsOfAgentsAt nodes.now finders.now.node (length finders.now.nearest.items) (λ view.
+        HoldsOfAgentsAt nodes.now owners.now.node (length owners.now.nearest.items) (λ view.
         with_replacements root.now replacements.items ≡ view.paths)) }
     ensures short { IfOk result (λ replacements.
         All (λ path. length path ≤ most_path_cells) (with_replacements root.now replacements.items)) }
@@ -36,9 +37,9 @@ pub fn replacements_at<'a>(
     // Calling `length_bound` and `cells` lets the prover use their contracts, which bound the lengths of the paths.
     let _bound = root.length_bound();
     let mut replacements = Vec::with_capacity(alloc, AT_ONCE)?;
-    for agent in 0..finders.nearest.len() as u32 {
-        if let Some(finder) = finders.nearest[agent as usize] {
-            let path = path_at(nodes, finder, agent);
+    for agent in 0..owners.nearest.len() as u32 {
+        if let Some(owner) = owners.nearest[agent as usize] {
+            let path = path_at(nodes, owner, agent);
             let _cells = path.cells();
             replacements.push(Replacement { agent, path })?;
         }

@@ -1,3 +1,5 @@
+//! The memory that the searches for one agent use one after another. The search over trees hands it to each child that
+//! it makes.
 ghost use Rattle.std.specs.Prelude.{◌≡◌, []};
 
 use mapf_constraints::BarTable;
@@ -13,6 +15,7 @@ pub struct SearchMemory<B: BarTable> {
 }
 
 impl<B: BarTable> SearchMemory<B> {
+    /// Returns memory that no search has used yet.
     pub fn new(alloc: Global) -> SearchMemory<B>
         ensures { B.bars result.bars ≡ [] }
     {

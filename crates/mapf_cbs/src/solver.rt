@@ -1,24 +1,27 @@
+//! The search over constraint trees: nodes are expanded until a plan is found, no node is open, or a limit is reached.
+//! The run of `solve` calls it.
 ghost use Rattle.std.specs.Prelude.{◌≡◌, ◌≢◌, ◌+◌, ◌<◌, ◌≤◌, length, IfOk, IfSome, IfNone, OnOk};
-ghost use Rattle.mapf_model.specs.Earned.{tick_of};
+ghost use Rattle.mapf_model.specs.Conflicts.{tick_of};
 ghost use Rattle.mapf_model.specs.Limits.{most_splits, split_ticks};
 ghost use Rattle.mapf_cbs.specs.Answer.{IsOutcome, IsSearchAnswer};
-ghost use Rattle.mapf_cbs.specs.Finders.{AreFinders};
+ghost use Rattle.mapf_cbs.specs.PathOwners.{AreOwners};
 ghost use Rattle.mapf_cbs.specs.Goals.{HaveDifferentGoals};
 ghost use Rattle.mapf_cbs.specs.Nodes.{IsFirstAt};
 ghost use Rattle.mapf_distance.specs.Tables.{AreMade};
 ghost use Rattle.mapf_cbs.specs.Start.{IsRootStart};
 ghost use Rattle.mapf_cbs.specs.State.{IsPopped, IsState, IsCauseToStop};
 
+use crate::ancestors::{conflict_at, plan_at};
 use crate::answer::Answer;
 use crate::blocks::labels_of_all;
 use crate::child::child;
 use crate::endings;
-use crate::finders::{Finders, finders_at};
 use crate::outcome::Outcome;
+use crate::path_owners::{PathOwners, owners_at};
+use crate::replanned::replanned_at;
 use crate::search_memory::SearchMemory;
 use crate::search_tree::SearchTree;
 use crate::start::{Beginning, begin, total_of};
-use crate::walks::{conflict_at, plan_at};
 use mapf_conflicts::CellMarks;
 use mapf_constraints::{BarTable, TickBars};
 use mapf_distance::LazyTables;
@@ -93,18 +96,19 @@ fn search_from<B: BarTable>(
     loop {
         let Some((total, k)) = search.waiting.take_least() else {
             let lists = labels_of_all(alloc, search.nodes)?;
-            return endings::impossible(alloc, lists, &search.fates);
+            return endings::impossible(alloc, lists, &search.statuses);
         };
-        let finders = finders_at(alloc, &search.nodes, k, agents)?;
-        let first = conflict_at(alloc, &mut marks, &search.nodes, &search.fates, &finders)?;
+        let owners = owners_at(alloc, &search.nodes, k, agents)?;
+        let replanned = replanned_at(&search.nodes, &search.statuses, k);
+        let first = conflict_at(alloc, &mut marks, &search.nodes, &owners, replanned)?;
         let Some(conflict) = first else {
-            let plan = plan_at(alloc, &search.nodes, &finders)?;
+            let plan = plan_at(alloc, &search.nodes, &owners)?;
             let lists = labels_of_all(alloc, search.nodes)?;
-            return endings::found(alloc, plan, lists, &search.fates);
+            return endings::found(alloc, plan, lists, &search.statuses);
         };
         if let Some(cause) = cause_to_stop(&conflict, search.splits, limit) {
             let lists = labels_of_all(alloc, search.nodes)?;
-            return endings::stopped(alloc, cause, total, lists, &search.fates);
+            return endings::stopped(alloc, cause, total, lists, &search.statuses);
         }
         split::<B>(
             alloc,
@@ -112,7 +116,7 @@ fn search_from<B: BarTable>(
             problem,
             &mut tables,
             &mut search,
-            &finders,
+            &owners,
             total,
             &conflict,
         )?;
@@ -141,21 +145,21 @@ fn split<B: BarTable>(
     problem: &Problem,
     tables: &mut LazyTables,
     search: &mut SearchTree,
-    finders: &Finders,
+    owners: &PathOwners,
     total: u64,
     conflict: &Conflict,
 ) -> Result<(), OutOfMemory>
     requires tables { AreMade problem.now tables.old }
     requires popped { IsPopped problem.now
-        search.old.nodes.items search.old.fates.items search.old.waiting search.old.splits total finders.now.node }
-    requires finders { AreFinders search.old.nodes.items finders.now }
-    requires count { length finders.now.nearest.items ≡ length problem.now.agents }
+        search.old.nodes.items search.old.statuses.items search.old.waiting search.old.splits total owners.now.node }
+    requires owners { AreOwners search.old.nodes.items owners.now }
+    requires count { length owners.now.nearest.items ≡ length problem.now.agents }
     requires goals { HaveDifferentGoals problem.now }
-    requires meet { IsFirstAt problem.now search.old.nodes.items finders.now.node conflict.now }
+    requires meet { IsFirstAt problem.now search.old.nodes.items owners.now.node conflict.now }
     requires early { tick_of conflict.now < split_ticks }
     requires few { search.old.splits < most_splits }
     ensures state { OnOk result (IsState problem.now
-        search.new.nodes.items search.new.fates.items search.new.waiting (search.old.splits + 1)) }
+        search.new.nodes.items search.new.statuses.items search.new.waiting (search.old.splits + 1)) }
     ensures splits { OnOk result (search.new.splits ≡ search.old.splits + 1) }
     ensures tables { OnOk result (AreMade problem.now tables.new) }
 {
@@ -165,7 +169,7 @@ fn split<B: BarTable>(
         problem,
         tables,
         &search.nodes,
-        finders,
+        owners,
         total,
         conflict.left(),
     )?;
@@ -175,9 +179,9 @@ fn split<B: BarTable>(
         problem,
         tables,
         &search.nodes,
-        finders,
+        owners,
         total,
         conflict.right(),
     )?;
-    search.grow(finders.node, conflict, left, right)
+    search.grow(owners.node, conflict, left, right)
 }

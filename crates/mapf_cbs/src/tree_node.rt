@@ -1,22 +1,13 @@
+//! A node of a tree once the search has ended. An outcome lists these nodes, and the run of `solve` writes its
+//! certificate from them.
 ghost use Rattle.std.specs.Prelude.{◌≡◌, IfOk};
 ghost use Rattle.mapf_model.specs.Tree.{SplitNode, LeafNode, ClashNode, node_of};
-ghost use Rattle.mapf_cbs.specs.TreeNodes.{node_with};
+ghost use Rattle.mapf_model.specs.Nodes.{node_with};
 
 use crate::bound_labels::BoundLabels;
-use mapf_model::{Conflict, Item, OutOfMemory};
+use mapf_model::{AsNode, Conflict, Entry, Item, NodeKind, OutOfMemory};
 use std::alloc::Global;
 use std::marker::Model;
-
-/// The kind of a node of a tree, without its labels.
-#[derive(Clone, Copy, Debug)]
-pub enum NodeKind {
-    /// The node is split on the conflict.
-    Split(Conflict),
-    /// A leaf.
-    Leaf,
-    /// A terminal node that names two agents with the same goal.
-    Clash { i: u32, j: u32 },
-}
 
 /// A node of the tree of a search that has ended. A tree is spelled by the list of its nodes in pre-order.
 #[derive(Debug, Drop)]
@@ -27,7 +18,7 @@ pub struct TreeNode {
 
 impl Model for TreeNode {
     ghost use Rattle.mapf_model.specs.Tree.{Node};
-    ghost use Rattle.mapf_cbs.specs.TreeNodes.{node_with};
+    ghost use Rattle.mapf_model.specs.Nodes.{node_with};
 
     ghost Value = { Node };
 
@@ -65,13 +56,6 @@ impl TreeNode {
         }
     }
 
-    /// Returns the node's kind and its labels. A clash has none, whatever the field holds.
-    pub fn parts(&self) -> (NodeKind, &BoundLabels)
-        ensures { self.now ≡ node_with result.0 result.1.now }
-    {
-        (self.kind, &self.bound)
-    }
-
     /// Returns the node as an item, whose blocks are in memory of their own.
     pub fn into_item(self, alloc: Global) -> Result<Item, OutOfMemory>
         ensures { IfOk result (λ item. node_of item ≡ self) }
@@ -82,5 +66,28 @@ impl TreeNode {
             NodeKind::Leaf => Ok(Item::Leaf(bound.into_blocks(alloc)?)),
             NodeKind::Clash { i, j } => Ok(Item::Clash { i, j }),
         }
+    }
+}
+
+impl AsNode for TreeNode {
+    ghost node = { λ node. node };
+
+    fn kind(&self) -> NodeKind {
+        self.kind
+    }
+
+    fn block_count(&self) -> usize {
+        match self.kind {
+            NodeKind::Clash { .. } => 0,
+            _ => self.bound.count(),
+        }
+    }
+
+    fn block(&self, place: usize) -> (u32, usize) {
+        self.bound.block(place)
+    }
+
+    fn entry(&self, place: usize, index: usize) -> Entry {
+        self.bound.entry(place, index)
     }
 }

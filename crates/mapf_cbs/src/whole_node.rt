@@ -1,12 +1,13 @@
+//! A node of the plain search, which holds the paths and the constraints of all agents.
 ghost use Rattle.std.specs.Prelude.{◌≡◌, ◌*◌, ◌-◌, ◌^◌, ◌<◌, ◌≤◌, length, slice_set, sum, sum_by, All, IfOk};
 ghost use Rattle.mapf_model.specs.Limits.{most_agents, most_path_cells};
 ghost use Rattle.mapf_cbs.specs.Nodes.{IsRootView};
 ghost use Rattle.mapf_cbs.specs.Search.{View};
 ghost use Rattle.mapf_cbs.specs.Whole.{IsWhole, IsCopy, AreCopies, IsAfter};
 
+use crate::ancestors::copied;
 use crate::bound_labels::BoundLabels;
 use crate::start::total_of;
-use crate::walks::copied;
 use mapf_constraints::{BarTable, ListBars};
 use mapf_model::{OutOfMemory, Path, Plan};
 use mapf_spacetime::{Found, StateLabels};

@@ -1,11 +1,12 @@
+//! The constraint tree of the plain search, whose least open node is found by a scan.
 ghost use Rattle.std.specs.Prelude.{List, ◌≡◌, ◌+◌, ◌^◌, ◌<◌, ◌∷◌, [], ◌++◌, length, IfOk, OnOk, IsTrue, ◌↔◌};
-ghost use Rattle.mapf_cbs.specs.State.{split_fates};
+ghost use Rattle.mapf_cbs.specs.State.{split_statuses};
 ghost use Rattle.mapf_cbs.specs.Search.{View, AreBlockLists};
 ghost use Rattle.mapf_cbs.specs.Whole.{AreWhole, IsLeastBelow};
 
 use crate::bound_labels::BoundLabels;
-use crate::node::Fate;
-use crate::search_tree::{expand, root_fates};
+use crate::node::Status;
+use crate::search_tree::{expand, root_statuses};
 use crate::whole_node::WholeNode;
 use mapf_model::{Conflict, OutOfMemory};
 use std::alloc::Global;
@@ -21,8 +22,8 @@ pub struct WholeChild {
 #[derive(Debug, Drop)]
 pub struct WholeTree {
     pub nodes: Vec<WholeNode>,
-    // The outcome of each node.
-    pub fates: Vec<Fate>,
+    // The status of each node.
+    pub statuses: Vec<Status>,
     // How many nodes were split.
     pub splits: u32,
 }
@@ -31,14 +32,14 @@ impl WholeTree {
     /// Returns the tree of this root alone.
     pub fn of(alloc: Global, root: WholeNode) -> Result<WholeTree, OutOfMemory>
         ensures nodes { IfOk result (λ tree. tree.nodes.items ≡ root ∷ []) }
-        ensures fates { IfOk result (λ tree. tree.fates.items ≡ Fate.Open ∷ []) }
+        ensures statuses { IfOk result (λ tree. tree.statuses.items ≡ Status.Open ∷ []) }
         ensures splits { IfOk result (λ tree. tree.splits ≡ 0) }
     {
         let mut nodes = Vec::new(alloc);
         nodes.push(root)?;
         Ok(WholeTree {
             nodes,
-            fates: root_fates(alloc)?,
+            statuses: root_statuses(alloc)?,
             splits: 0,
         })
     }
@@ -51,17 +52,17 @@ impl WholeTree {
         left: WholeChild,
         right: WholeChild,
     ) -> Result<(), OutOfMemory>
-        requires same { length self.old.fates.items ≡ length self.old.nodes.items }
+        requires same { length self.old.statuses.items ≡ length self.old.nodes.items }
         requires few { length self.old.nodes.items < 2 ^ 31 }
-        requires inside { k < length self.old.fates.items }
+        requires inside { k < length self.old.statuses.items }
         requires splits { self.old.splits < 2 ^ 31 }
         ensures nodes { OnOk result
             (self.new.nodes.items ≡ (self.old.nodes.items ++ left.node ∷ []) ++ right.node ∷ []) }
-        ensures fates { OnOk result
-            (self.new.fates.items ≡ split_fates self.old.fates.items k conflict.now left.total right.total) }
+        ensures statuses { OnOk result
+            (self.new.statuses.items ≡ split_statuses self.old.statuses.items k conflict.now left.total right.total) }
         ensures splits { OnOk result (self.new.splits ≡ self.old.splits + 1) }
     {
-        expand(&mut self.fates, k, conflict, left.total, right.total)?;
+        expand(&mut self.statuses, k, conflict, left.total, right.total)?;
         self.nodes.push(left.node)?;
         self.nodes.push(right.node)?;
         self.splits += 1;
@@ -85,26 +86,26 @@ pub fn labels_of_whole(
 }
 
 /// Returns the open node of least sum, of these the oldest. None if no node is open.
-pub fn least_open(nodes: &[WholeNode], fates: &[Fate]) -> Option<u32>
-    requires same { length fates.now ≡ length nodes.now }
+pub fn least_open(nodes: &[WholeNode], statuses: &[Status]) -> Option<u32>
+    requires same { length statuses.now ≡ length nodes.now }
     requires few { length nodes.now < 2 ^ 32 }
-    ensures { IsLeastBelow nodes.now fates.now (length fates.now) result }
+    ensures { IsLeastBelow nodes.now statuses.now (length statuses.now) result }
 {
     let mut least = None;
     for k in 0..nodes.len() as u32 {
-        least = least_with(nodes, fates, least, k);
+        least = least_with(nodes, statuses, least, k);
     }
     least
 }
 
 // Returns the least open node among this one and those before it.
-fn least_with(nodes: &[WholeNode], fates: &[Fate], least: Option<u32>, k: u32) -> Option<u32>
-    requires same { length fates.now ≡ length nodes.now }
+fn least_with(nodes: &[WholeNode], statuses: &[Status], least: Option<u32>, k: u32) -> Option<u32>
+    requires same { length statuses.now ≡ length nodes.now }
     requires inside { k < length nodes.now }
-    requires least { IsLeastBelow nodes.now fates.now k least }
-    ensures { IsLeastBelow nodes.now fates.now (k + 1) result }
+    requires least { IsLeastBelow nodes.now statuses.now k least }
+    ensures { IsLeastBelow nodes.now statuses.now (k + 1) result }
 {
-    if !is_open(&fates[k as usize]) {
+    if !is_open(&statuses[k as usize]) {
         return least;
     }
     if let Some(m) = least {
@@ -115,8 +116,8 @@ fn least_with(nodes: &[WholeNode], fates: &[Fate], least: Option<u32>, k: u32) -
     Some(k)
 }
 
-fn is_open(fate: &Fate) -> bool
-    ensures { IsTrue result ↔ (fate.now ≡ Fate.Open) }
+fn is_open(status: &Status) -> bool
+    ensures { IsTrue result ↔ (status.now ≡ Status.Open) }
 {
-    matches!(fate, Fate::Open)
+    matches!(status, Status::Open)
 }

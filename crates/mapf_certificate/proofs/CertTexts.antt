@@ -18,7 +18,7 @@ use Rattle.mapf_certificate.specs.declared.sizes.Sizes.{Sizes}
 use Rattle.mapf_certificate.specs.Lines.{grid_of, grid_for}
 use Rattle.mapf_certificate.specs.Certificates.{header_text, rest_text, cert_text, IsNodeOfVersion, IsTreeOfVersion, IsCertTree, IsRest, SpellsCert, SpellsOneCert}
 use Rattle.mapf_certificate.specs.Reading.{Reading}
-use Rattle.mapf_certificate.specs.CertReading.{IsCertText, AwaitsCert, trees_owed_after}
+use Rattle.mapf_certificate.specs.CertReading.{IsCertText, AwaitsCert, trees_pending_after}
 use Rattle.mapf_certificate.proofs.Nodes.{nodes_apart}
 use Rattle.mapf_certificate.proofs.Rests.{rest_starts, rest_ends}
 use Rattle.mapf_certificate.proofs.Headers.{same_header}
@@ -132,28 +132,28 @@ items_of_version version items tree is spelled = by items (subst (All (IsNodeOfV
     by (item ∷ more) all = All-cons Is item more (All-head (IsNodeOfVersion version) (node_of item) (map node_of more) all) (by more (All-tail (IsNodeOfVersion version) (node_of item) (map node_of more) all))
 
 -- no bytes spell two rests
-pub same_rest : (sizes : Sizes) (owed : ℕ) (ns ms : List Node) (t u : List ℕ) → IsRest sizes.version (grid_for sizes) sizes.agents owed ns t → IsRest sizes.version (grid_for sizes) sizes.agents owed ms u → t ≡ u → ns ≡ ms
-same_rest sizes owed [] ms t u p q e = elim (cases_lt 0 owed) [
+pub same_rest : (sizes : Sizes) (pending : ℕ) (ns ms : List Node) (t u : List ℕ) → IsRest sizes.version (grid_for sizes) sizes.agents pending ns t → IsRest sizes.version (grid_for sizes) sizes.agents pending ms u → t ≡ u → ns ≡ ms
+same_rest sizes pending [] ms t u p q e = elim (cases_lt 0 pending) [
   | inl some ↦
-      let starts = rest_starts sizes.version (grid_for sizes) sizes.agents owed [] t p (omega arith) in
+      let starts = rest_starts sizes.version (grid_for sizes) sizes.agents pending [] t p (omega arith) in
       by starts.node starts.others starts.same
-  | inr none ↦ sym (rest_ends sizes.version (grid_for sizes) sizes.agents owed ms u q (omega arith)).0
+  | inr none ↦ sym (rest_ends sizes.version (grid_for sizes) sizes.agents pending ms u q (omega arith)).0
 ]
   where
     by : (node : Node) (others : List Node) → [] ≡ node ∷ others → [] ≡ ms
     by node others wrong = cc
-same_rest sizes owed (n ∷ ns) ms t u p q e = elim (cases_lt 0 owed) [
+same_rest sizes pending (n ∷ ns) ms t u p q e = elim (cases_lt 0 pending) [
   | inl some ↦
-      let here = rest_starts sizes.version (grid_for sizes) sizes.agents owed (n ∷ ns) t p (omega arith) in
-      let there = rest_starts sizes.version (grid_for sizes) sizes.agents owed ms u q (omega arith) in
+      let here = rest_starts sizes.version (grid_for sizes) sizes.agents pending (n ∷ ns) t p (omega arith) in
+      let there = rest_starts sizes.version (grid_for sizes) sizes.agents pending ms u q (omega arith) in
       let (node, tail) = (nodes_apart sizes).apart here.node there.node here.after there.after here.in_range there.in_range (sym here.spelled ∙ e ∙ there.spelled) in
       let head : here.node ≡ n = head_same here.node n here.others ns here.same in
       let rest : here.others ≡ ns = tail_same here.node n here.others ns here.same in
-      let mine = subst (λ (l : List Node). IsRest sizes.version (grid_for sizes) sizes.agents (trees_owed_after owed here.node) l here.after) rest here.rest in
-      let other = subst (λ (m : Node). IsRest sizes.version (grid_for sizes) sizes.agents (trees_owed_after owed m) there.others there.after) (sym node) there.rest in
-      let more = same_rest sizes (trees_owed_after owed here.node) ns there.others here.after there.after mine other tail in
+      let mine = subst (λ (l : List Node). IsRest sizes.version (grid_for sizes) sizes.agents (trees_pending_after pending here.node) l here.after) rest here.rest in
+      let other = subst (λ (m : Node). IsRest sizes.version (grid_for sizes) sizes.agents (trees_pending_after pending m) there.others there.after) (sym node) there.rest in
+      let more = same_rest sizes (trees_pending_after pending here.node) ns there.others here.after there.after mine other tail in
       ap (λ (m : Node). m ∷ ns) (sym head ∙ node) ∙ ap (λ l. there.node ∷ l) more ∙ sym there.same
-  | inr none ↦ absurd (not_none n ns (rest_ends sizes.version (grid_for sizes) sizes.agents owed (n ∷ ns) t p (omega arith)).0)
+  | inr none ↦ absurd (not_none n ns (rest_ends sizes.version (grid_for sizes) sizes.agents pending (n ∷ ns) t p (omega arith)).0)
 ]
   where
     head_same : (x y : Node) (xs ys : List Node) → y ∷ ys ≡ x ∷ xs → x ≡ y
@@ -188,7 +188,7 @@ opened width height limit = record {
   header = None;
   fault = None;
   is_whole = false;
-  owed = 1;
+  pending = 1;
 }
 
 -- what an opened reader awaits is a certificate that the bytes of its source spell

@@ -123,12 +123,12 @@ same_header version version' width agents agents' claim claim' s t p q r u e =
     (same, agents_same agents agents' counts, claim_same claim claim' says, rest)
 
 -- what follows a header makes a certificate with it
-pub header_joins : (had left : Option (List ℕ)) (old new : Reading) (agents : ℕ) (claim : Claim) → IsAgentCount agents → IsCertClaim new.version claim → Window had left old.buffer new.buffer (header_text new.version old.width agents claim) → grid_at new ≡ grid_at old → agents_at new ≡ agents → new.owed ≡ old.owed
+pub header_joins : (had left : Option (List ℕ)) (old new : Reading) (agents : ℕ) (claim : Claim) → IsAgentCount agents → IsCertClaim new.version claim → Window had left old.buffer new.buffer (header_text new.version old.width agents claim) → grid_at new ≡ grid_at old → agents_at new ≡ agents → new.pending ≡ old.pending
     → (bytes : List ℕ) → had ≡ Some bytes → (nodes : List Node) → Awaits left new nodes → AwaitsCert had old new.version agents claim nodes
-header_joins had left old new agents claim few ranged window grid count owed bytes known nodes awaits =
+header_joins had left old new agents claim few ranged window grid count pending bytes known nodes awaits =
     let (rest, kept, same, many) = Window-known had left old.buffer new.buffer (header_text new.version old.width agents claim) bytes window known in
     let one : awaits.bytes ≡ rest = same_Some awaits.bytes rest (sym awaits.known ∙ kept) in
-    let moved = subst (λ (k : ℕ). IsRest new.version (grid_at old) agents k nodes (new.buffer.bytes ++ awaits.bytes)) owed (subst (λ (n : ℕ). IsRest new.version (grid_at old) n new.owed nodes (new.buffer.bytes ++ awaits.bytes)) count (subst (λ (g : GridMap). IsRest new.version g (agents_at new) new.owed nodes (new.buffer.bytes ++ awaits.bytes)) grid awaits.rest)) in
+    let moved = subst (λ (k : ℕ). IsRest new.version (grid_at old) agents k nodes (new.buffer.bytes ++ awaits.bytes)) pending (subst (λ (n : ℕ). IsRest new.version (grid_at old) n new.pending nodes (new.buffer.bytes ++ awaits.bytes)) count (subst (λ (g : GridMap). IsRest new.version g (agents_at new) new.pending nodes (new.buffer.bytes ++ awaits.bytes)) grid awaits.rest)) in
     record {
       bytes = bytes;
       known = known;
@@ -143,15 +143,15 @@ header_joins had left old new agents claim few ranged window grid count owed byt
     }
 
 -- the header that was read is the one that came
-pub header_same : (had left : Option (List ℕ)) (old new : Reading) (version : Version) (agents due : ℕ) (claim says : Claim) (nodes : List Node) → IsAgentCount agents → IsCertClaim new.version claim → Window had left old.buffer new.buffer (header_text new.version old.width agents claim) → grid_at new ≡ grid_at old → agents_at new ≡ agents → new.owed ≡ old.owed
+pub header_same : (had left : Option (List ℕ)) (old new : Reading) (version : Version) (agents due : ℕ) (claim says : Claim) (nodes : List Node) → IsAgentCount agents → IsCertClaim new.version claim → Window had left old.buffer new.buffer (header_text new.version old.width agents claim) → grid_at new ≡ grid_at old → agents_at new ≡ agents → new.pending ≡ old.pending
     → AwaitsCert had old version due says nodes → (new.version ≡ version) × (agents ≡ due) × (claim ≡ says) × Awaits left new nodes
-header_same had left old new version agents due claim says nodes few ranged window grid count owed awaits =
+header_same had left old new version agents due claim says nodes few ranged window grid count pending awaits =
     let (rest, kept, same, many) = Window-known had left old.buffer new.buffer (header_text new.version old.width agents claim) awaits.bytes window awaits.known in
     let text = awaits.text in
     let (zero, one, two, tail) = same_header new.version version old.width agents due claim says (new.buffer.bytes ++ rest) text.after few text.agents_in_range ranged (text.claim_in_range, text.claim_of_version) (sym same ∙ text.spelled) in
-    let of_version = subst (λ (v : Version). IsRest v (grid_at old) due old.owed nodes text.after) (sym zero) text.rest in
-    let moved = subst (λ (k : ℕ). IsRest new.version (grid_at new) (agents_at new) k nodes text.after) (sym owed) (subst (λ (n : ℕ). IsRest new.version (grid_at new) n old.owed nodes text.after) (sym one ∙ sym count) (subst (λ (g : GridMap). IsRest new.version g due old.owed nodes text.after) (sym grid) of_version)) in
-    (zero, one, two, record { bytes = rest; known = kept; rest = subst (IsRest new.version (grid_at new) (agents_at new) new.owed nodes) (sym tail) moved })
+    let of_version = subst (λ (v : Version). IsRest v (grid_at old) due old.pending nodes text.after) (sym zero) text.rest in
+    let moved = subst (λ (k : ℕ). IsRest new.version (grid_at new) (agents_at new) k nodes text.after) (sym pending) (subst (λ (n : ℕ). IsRest new.version (grid_at new) n old.pending nodes text.after) (sym one ∙ sym count) (subst (λ (g : GridMap). IsRest new.version g due old.pending nodes text.after) (sym grid) of_version)) in
+    (zero, one, two, record { bytes = rest; known = kept; rest = subst (IsRest new.version (grid_at new) (agents_at new) new.pending nodes) (sym tail) moved })
 
 -- a certificate that is awaited isn't refused
 pub header_awaited : (had left : Option (List ℕ)) (failed : Bool) (r : Reading) (version : Version) (agents : ℕ) (claim : Claim) (nodes : List Node) (fault : LinesFault) → AwaitsCert had r version agents claim nodes → Fails had left failed r.buffer (HasHeader r.width) fault → IsNoTextFault fault

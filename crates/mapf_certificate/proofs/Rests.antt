@@ -10,17 +10,17 @@ use Rattle.mapf_certificate.specs.declared.version.Version.{Version}
 use Rattle.mapf_certificate.specs.declared.version.Version.TheVariants.{One, Two}
 use Rattle.mapf_certificate.specs.declared.line.CertLine.TheVariants as lines
 use Rattle.mapf_certificate.specs.Certificates.{line_text, node_text, rest_text, IsNode, IsCertTree, IsRest}
-use Rattle.mapf_certificate.specs.CertReading.{trees_owed_after}
+use Rattle.mapf_certificate.specs.CertReading.{trees_pending_after}
 
 -- if a subtree is pending, the rest begins with a node, and what follows is the rest after it
-pub record StartsRest (version : Version) (grid : GridMap) (agents owed : ℕ) (nodes : List Node) (bytes : List ℕ) : Type 0 where
+pub record StartsRest (version : Version) (grid : GridMap) (agents pending : ℕ) (nodes : List Node) (bytes : List ℕ) : Type 0 where
   pub node : Node
   pub others : List Node
   pub after : List ℕ
   pub same : nodes ≡ node ∷ others
   pub in_range : IsNode version grid agents node
   pub spelled : bytes ≡ node_text version grid.width node ++ after
-  pub rest : IsRest version grid agents (trees_owed_after owed node) others after
+  pub rest : IsRest version grid agents (trees_pending_after pending node) others after
 
 rest_cons : (version : Version) (width : ℕ) (node : Node) (others : List Node) → rest_text version width (node ∷ others) ≡ node_text version width node ++ rest_text version width others
 rest_cons version width node others = append_assoc (node_text version width node) (flat_map (node_text version width) others) (line_text width lines.End)
@@ -45,10 +45,10 @@ clash_whole : (version : Version) (grid : GridMap) (agents i j : ℕ) → IsNode
 clash_whole One grid agents i j is = (is, tt)
 clash_whole Two grid agents i j is = (is, tt)
 
-pub rest_starts : (version : Version) (grid : GridMap) (agents owed : ℕ) (nodes : List Node) (bytes : List ℕ) → IsRest version grid agents owed nodes bytes → 1 ≤ owed → StartsRest version grid agents owed nodes bytes
-rest_starts version grid agents owed nodes bytes rest some = by rest.trees rest.count rest.in_range rest.same
+pub rest_starts : (version : Version) (grid : GridMap) (agents pending : ℕ) (nodes : List Node) (bytes : List ℕ) → IsRest version grid agents pending nodes bytes → 1 ≤ pending → StartsRest version grid agents pending nodes bytes
+rest_starts version grid agents pending nodes bytes rest some = by rest.trees rest.count rest.in_range rest.same
   where
-    by : (trees : List ConstraintTree) → length trees ≡ owed → All (IsCertTree version grid agents) trees → nodes ≡ nodes_of_all trees → StartsRest version grid agents owed nodes bytes
+    by : (trees : List ConstraintTree) → length trees ≡ pending → All (IsCertTree version grid agents) trees → nodes ≡ nodes_of_all trees → StartsRest version grid agents pending nodes bytes
     by [] count all same = absurd (omega arith)
     by (Split conflict blocks left right ∷ trees) count all same =
         let here = split_parts version grid agents conflict blocks left right (All-head (IsCertTree version grid agents) (Split conflict blocks left right) trees all) in
@@ -88,22 +88,22 @@ rest_starts version grid agents owed nodes bytes rest some = by rest.trees rest.
     }
 
 -- if no subtree is pending, only the end comes
-pub rest_ends : (version : Version) (grid : GridMap) (agents owed : ℕ) (nodes : List Node) (bytes : List ℕ) → IsRest version grid agents owed nodes bytes → owed ≡ 0 → (nodes ≡ []) × (bytes ≡ line_text grid.width lines.End)
-rest_ends version grid agents owed nodes bytes rest none = by rest.trees rest.count rest.same
+pub rest_ends : (version : Version) (grid : GridMap) (agents pending : ℕ) (nodes : List Node) (bytes : List ℕ) → IsRest version grid agents pending nodes bytes → pending ≡ 0 → (nodes ≡ []) × (bytes ≡ line_text grid.width lines.End)
+rest_ends version grid agents pending nodes bytes rest none = by rest.trees rest.count rest.same
   where
-    by : (trees : List ConstraintTree) → length trees ≡ owed → nodes ≡ nodes_of_all trees → (nodes ≡ []) × (bytes ≡ line_text grid.width lines.End)
+    by : (trees : List ConstraintTree) → length trees ≡ pending → nodes ≡ nodes_of_all trees → (nodes ≡ []) × (bytes ≡ line_text grid.width lines.End)
     by [] count same = (same, rest.spelled ∙ ap (rest_text version grid.width) same)
     by (tree ∷ trees) count same = absurd (omega arith)
 
-pub end_is_rest : (version : Version) (grid : GridMap) (agents owed : ℕ) → owed ≡ 0 → IsRest version grid agents owed [] (line_text grid.width lines.End)
-end_is_rest version grid agents owed none = record { trees = []; count = sym none; in_range = All-nil (IsCertTree version grid agents); same = refl; spelled = refl }
+pub end_is_rest : (version : Version) (grid : GridMap) (agents pending : ℕ) → pending ≡ 0 → IsRest version grid agents pending [] (line_text grid.width lines.End)
+end_is_rest version grid agents pending none = record { trees = []; count = sym none; in_range = All-nil (IsCertTree version grid agents); same = refl; spelled = refl }
 
 -- a node before a rest
-pub rest_joins : (version : Version) (grid : GridMap) (agents owed : ℕ) (node : Node) (nodes : List Node) (bytes : List ℕ) → IsNode version grid agents node → 1 ≤ owed → IsRest version grid agents (trees_owed_after owed node) nodes bytes
-    → IsRest version grid agents owed (node ∷ nodes) (node_text version grid.width node ++ bytes)
-rest_joins version grid agents owed (SplitNode conflict blocks) nodes bytes is some rest = by rest.trees rest.count rest.in_range rest.same
+pub rest_joins : (version : Version) (grid : GridMap) (agents pending : ℕ) (node : Node) (nodes : List Node) (bytes : List ℕ) → IsNode version grid agents node → 1 ≤ pending → IsRest version grid agents (trees_pending_after pending node) nodes bytes
+    → IsRest version grid agents pending (node ∷ nodes) (node_text version grid.width node ++ bytes)
+rest_joins version grid agents pending (SplitNode conflict blocks) nodes bytes is some rest = by rest.trees rest.count rest.in_range rest.same
   where
-    by : (trees : List ConstraintTree) → length trees ≡ owed + 1 → All (IsCertTree version grid agents) trees → nodes ≡ nodes_of_all trees → IsRest version grid agents owed (SplitNode conflict blocks ∷ nodes) (node_text version grid.width (SplitNode conflict blocks) ++ bytes)
+    by : (trees : List ConstraintTree) → length trees ≡ pending + 1 → All (IsCertTree version grid agents) trees → nodes ≡ nodes_of_all trees → IsRest version grid agents pending (SplitNode conflict blocks ∷ nodes) (node_text version grid.width (SplitNode conflict blocks) ++ bytes)
     by [] count all same = absurd (omega arith)
     by (left ∷ []) count all same = absurd (omega arith)
     by (left ∷ right ∷ trees) count all same = record {
@@ -115,14 +115,14 @@ rest_joins version grid agents owed (SplitNode conflict blocks) nodes bytes is s
       same = ap (λ l. SplitNode conflict blocks ∷ l) (same ∙ sym (append_assoc (nodes_of left) (nodes_of right) (nodes_of_all trees)));
       spelled = ap (λ l. node_text version grid.width (SplitNode conflict blocks) ++ l) rest.spelled ∙ sym (rest_cons version grid.width (SplitNode conflict blocks) nodes);
     }
-rest_joins version grid agents owed (LeafNode blocks) nodes bytes is some rest = record {
+rest_joins version grid agents pending (LeafNode blocks) nodes bytes is some rest = record {
   trees = Leaf blocks ∷ rest.trees;
   count = omega (arith, rest.count);
   in_range = All-cons (IsCertTree version grid agents) (Leaf blocks) rest.trees (leaf_whole version grid agents blocks is) rest.in_range;
   same = ap (λ l. LeafNode blocks ∷ l) rest.same;
   spelled = ap (λ l. node_text version grid.width (LeafNode blocks) ++ l) rest.spelled ∙ sym (rest_cons version grid.width (LeafNode blocks) nodes);
 }
-rest_joins version grid agents owed (ClashNode i j) nodes bytes is some rest = record {
+rest_joins version grid agents pending (ClashNode i j) nodes bytes is some rest = record {
   trees = Clash i j ∷ rest.trees;
   count = omega (arith, rest.count);
   in_range = All-cons (IsCertTree version grid agents) (Clash i j) rest.trees (clash_whole version grid agents i j is) rest.in_range;

@@ -8,11 +8,13 @@ use Rattle.mapf_certificate.specs.declared.line.CertLine.{CertLine}
 use Rattle.mapf_certificate.specs.declared.sizes.Sizes.{Sizes}
 use Rattle.mapf_certificate.specs.declared.tree_line.Due.{Due}
 use Rattle.mapf_certificate.specs.Lines.{IsLine, grid_for, width_of}
-use Rattle.mapf_certificate.specs.Certificates.{IsNode, line_text, entry_text, entries_text, block_text, blocks_text, node_text}
+use Rattle.mapf_certificate.specs.Certificates.{IsNode, line_text, entry_text, entries_text, block_text, blocks_text}
+use Rattle.mapf_certificate.specs.Certificates.{node_text}
 use Rattle.mapf_certificate.specs.Window.{BeginsWith}
 
 -- so many values of this kind, in this order
-pub record AreInOrder (A : Type 0) (Is : A → Type 0) (Precedes : A → A → Type 0) (count : ℕ) (values : List A) : Type 0 where
+pub record AreInOrder (A : Type 0) (Is : A → Type 0) (Precedes : A → A → Type 0) (count : ℕ) (values : List A)
+    : Type 0 where
   pub many : length values ≡ count
   pub each : All Is values
   pub rising : AllPairs Precedes values
@@ -55,15 +57,19 @@ BeginsWithEntry sizes before = BeginsWith Entry (IsNextEntry sizes before) (entr
 
 -- they begin with so many entries
 abbrev pub BeginsWithEntries : Sizes → ℕ → List ℕ → Type 0
-BeginsWithEntries sizes count = BeginsWith (List Entry) (AreInOrder Entry (IsEntryFor sizes) IsBefore count) (entries_text sizes.width)
+BeginsWithEntries sizes count =
+    BeginsWith (List Entry) (AreInOrder Entry (IsEntryFor sizes) IsBefore count) (entries_text sizes.width)
 
 -- they begin with a block that may follow these
 abbrev pub BeginsWithBlock : Sizes → List LabelBlock → List ℕ → Type 0
-BeginsWithBlock sizes before = BeginsWith LabelBlock (MayFollow LabelBlock (IsBlockFor sizes) IsOfLesserAgent before) (block_text sizes.width)
+BeginsWithBlock sizes before =
+    BeginsWith LabelBlock (MayFollow LabelBlock (IsBlockFor sizes) IsOfLesserAgent before) (block_text sizes.width)
 
 -- they begin with so many blocks
 abbrev pub BeginsWithBlocks : Sizes → ℕ → List ℕ → Type 0
-BeginsWithBlocks sizes count = BeginsWith (List LabelBlock) (AreInOrder LabelBlock (IsBlockFor sizes) IsOfLesserAgent count) (blocks_text sizes.width)
+BeginsWithBlocks sizes count =
+    BeginsWith (List LabelBlock) (AreInOrder LabelBlock (IsBlockFor sizes) IsOfLesserAgent count)
+    (blocks_text sizes.width)
 
 -- they begin with a node
 abbrev pub BeginsWithNode : Sizes → List ℕ → Type 0

@@ -2,12 +2,12 @@
 use Rattle.std.specs.Prelude.{◌≡◌, ℕ, ◌<◌, List, [], ◌∷◌, ◌++◌, length, All, Option, Some, None}
 use Rattle.std.specs.List.{flat_map}
 use Rattle.mapf_model.specs.declared.item.Claim.{Claim}
-use Rattle.mapf_model.specs.declared.item.Item.{Item}
 use Rattle.mapf_model.specs.declared.label.Entry.{Entry}
 use Rattle.mapf_model.specs.Blocks.{LabelBlock}
 use Rattle.mapf_model.specs.Grid.{GridMap, IsGridMap}
 use Rattle.mapf_model.specs.Printed.{IsConflictInRange, AreBlocksInRange, IsClaimInRange, IsTreeInRange}
-use Rattle.mapf_model.specs.Tree.{ConstraintTree, HasBlocksAtLeavesAlone, Node, SplitNode, LeafNode, ClashNode, blocks_of, node_of, nodes_of, nodes_of_all}
+use Rattle.mapf_model.specs.Tree.{ConstraintTree, HasBlocksAtLeavesAlone, Node, SplitNode, LeafNode, ClashNode}
+use Rattle.mapf_model.specs.Tree.{blocks_of, nodes_of, nodes_of_all}
 use Rattle.mapf_certificate.specs.declared.version.Version.{Version}
 use Rattle.mapf_certificate.specs.declared.version.Version.TheVariants.{One, Two}
 use Rattle.mapf_certificate.specs.declared.line.CertLine.{CertLine}
@@ -28,7 +28,8 @@ entries_text width entries = flat_map (entry_text width) entries
 
 -- the lines of a block: its agent and count, then its entries
 abbrev pub block_text : ℕ → LabelBlock → List ℕ
-block_text width block = line_text width (lines.Agent block.agent (length block.entries)) ++ entries_text width block.entries
+block_text width block =
+    line_text width (lines.Agent block.agent (length block.entries)) ++ entries_text width block.entries
 
 -- the lines of blocks
 abbrev pub blocks_text : ℕ → List LabelBlock → List ℕ
@@ -49,13 +50,11 @@ first_line version (ClashNode i j) = lines.Clash i j
 abbrev pub node_text : Version → ℕ → Node → List ℕ
 node_text version width node = line_text width (first_line version node) ++ blocks_text width (blocks_of node)
 
--- the lines of an item
-abbrev pub item_text : Version → ℕ → Item → List ℕ
-item_text version width item = node_text version width (node_of item)
-
 -- the first three lines
 abbrev pub header_text : Version → ℕ → ℕ → Claim → List ℕ
-header_text version width agents claim = line_text width (lines.Title version) ++ (line_text width (lines.Agents agents) ++ line_text width (lines.Claim claim))
+header_text version width agents claim =
+    line_text width (lines.Title version)
+    ++ (line_text width (lines.Agents agents) ++ line_text width (lines.Claim claim))
 
 -- nodes, and the end
 abbrev pub rest_text : Version → ℕ → List Node → List ℕ
@@ -82,7 +81,8 @@ IsTreeOfVersion One tree = HasBlocksAtLeavesAlone tree
 IsTreeOfVersion Two tree = Unit {0}
 
 -- these bytes spell this certificate on a grid
-pub record SpellsCert (grid : GridMap) (bytes : List ℕ) (version : Version) (agents : ℕ) (claim : Claim) (tree : ConstraintTree) : Type 0 where
+pub record SpellsCert (grid : GridMap) (bytes : List ℕ) (version : Version) (agents : ℕ) (claim : Claim)
+    (tree : ConstraintTree) : Type 0 where
   pub agents_in_range : IsAgentCount agents
   pub claim_in_range : IsClaimInRange claim
   pub claim_of_version : IsClaimOfVersion version claim
@@ -92,7 +92,8 @@ pub record SpellsCert (grid : GridMap) (bytes : List ℕ) (version : Version) (a
 
 -- a node of a certificate of this version, with its numbers in their ranges and its blocks in their orders
 abbrev pub IsNode : Version → GridMap → ℕ → Node → Type 0
-IsNode version grid agents (SplitNode conflict blocks) = IsConflictInRange grid agents conflict × AreBlocksInRange grid agents blocks × MayBeOnSplit version blocks
+IsNode version grid agents (SplitNode conflict blocks) =
+    IsConflictInRange grid agents conflict × AreBlocksInRange grid agents blocks × MayBeOnSplit version blocks
 IsNode version grid agents (LeafNode blocks) = AreBlocksInRange grid agents blocks
 IsNode version grid agents (ClashNode i j) = (i < agents) × (j < agents)
 
@@ -101,18 +102,24 @@ abbrev pub IsCertTree : Version → GridMap → ℕ → ConstraintTree → Type 
 IsCertTree version grid agents tree = IsTreeInRange grid agents tree × IsTreeOfVersion version tree
 
 -- what is left of a certificate: nodes that complete so many trees, and the end
-pub record IsRest (version : Version) (grid : GridMap) (agents owed : ℕ) (nodes : List Node) (bytes : List ℕ) : Type 0 where
+pub record IsRest (version : Version) (grid : GridMap) (agents pending : ℕ) (nodes : List Node) (bytes : List ℕ)
+    : Type 0 where
   pub trees : List ConstraintTree
-  pub count : length trees ≡ owed
+  pub count : length trees ≡ pending
   pub in_range : All (IsCertTree version grid agents) trees
   pub same : nodes ≡ nodes_of_all trees
   pub spelled : bytes ≡ rest_text version grid.width nodes
 
 -- no bytes spell two certificates, neither in one version nor in two
 abbrev pub SpellsOneCert : Type 0
-SpellsOneCert = (grid : GridMap) (bytes : List ℕ) (version version' : Version) (agents agents' : ℕ) (claim claim' : Claim) (tree tree' : ConstraintTree) → IsGridMap grid
-    → SpellsCert grid bytes version agents claim tree → SpellsCert grid bytes version' agents' claim' tree' → (version ≡ version') × (agents ≡ agents') × (claim ≡ claim') × (tree ≡ tree')
+SpellsOneCert =
+    (grid : GridMap) (bytes : List ℕ) (version version' : Version) (agents agents' : ℕ) (claim claim' : Claim)
+    (tree tree' : ConstraintTree) → IsGridMap grid
+    → SpellsCert grid bytes version agents claim tree → SpellsCert grid bytes version' agents' claim' tree' →
+    (version ≡ version') × (agents ≡ agents') × (claim ≡ claim') × (tree ≡ tree')
 
 -- the new text spells in version 2 what the old one spells in version 1
 abbrev pub IsConverted : GridMap → List ℕ → List ℕ → Type 0
-IsConverted grid old new = (agents : ℕ) × (claim : Claim) × (tree : ConstraintTree) × SpellsCert grid old One agents claim tree × SpellsCert grid new Two agents claim tree
+IsConverted grid old new =
+    (agents : ℕ) × (claim : Claim) × (tree : ConstraintTree) × SpellsCert grid old One agents claim tree
+    × SpellsCert grid new Two agents claim tree

@@ -1,5 +1,6 @@
 -- What the line of an entry, at the beginning of bytes, is read as.
-use Rattle.std.specs.Prelude.{◌≡◌, ◌≤◌, ◌==◌, ℕ, List, [], ◌∷◌, ◌++◌, codes, length, drop, Result, Ok, Err, if◌then◌else◌}
+use Rattle.std.specs.Prelude.{◌≡◌, ◌≤◌, ◌==◌, ℕ, List, [], ◌∷◌, ◌++◌, codes, length, drop, Result, Ok, Err}
+use Rattle.std.specs.Prelude.{if◌then◌else◌}
 use Rattle.std.specs.Option.{option_map_or}
 use Rattle.mapf_model.specs.Limits.{greatest_cost}
 use Rattle.mapf_model.specs.declared.label.Entry.{Entry}
@@ -12,7 +13,9 @@ use Rattle.mapf_certificate.specs.declared.sizes.Sizes.{Sizes}
 
 -- the label after the blank that bytes begin with, and what follows it
 unfoldable pub read_label_front : List ℕ → Result (Label × List ℕ) LineFault
-read_label_front bs = option_map_or (λ rest. Ok (labels.Never, rest)) (strip (codes " inf") bs) (read_field 32 bs >>= λ ticks. in_range 1 greatest_cost ticks.0 >>= λ n. Ok (labels.Ticks n, ticks.1))
+read_label_front bs =
+    option_map_or (λ rest. Ok (labels.Never, rest)) (strip (codes " inf") bs)
+    (read_field 32 bs >>= λ ticks. in_range 1 greatest_cost ticks.0 >>= λ n. Ok (labels.Ticks n, ticks.1))
 
 -- what follows an LF
 unfoldable pub read_line_end : List ℕ → Result (List ℕ) LineFault

@@ -36,18 +36,22 @@ read_cost bs = read_last 32 bs >>= in_range 0 greatest_sum
 
 -- the line of the number of agents
 unfoldable pub read_agents : List ℕ → Result CertLine LineFault
-read_agents bs = option_map_or (λ rest. read_count rest >>= λ n. Ok (lines.Agents n)) (strip (codes "agents") bs) (Err Shape)
+read_agents bs =
+    option_map_or (λ rest. read_count rest >>= λ n. Ok (lines.Agents n)) (strip (codes "agents") bs) (Err Shape)
 
 -- the line of a bound, which version 1 can't claim
 unfoldable pub read_bound_claim : Version → List ℕ → Result CertLine LineFault
 read_bound_claim One bs = Err Shape
-read_bound_claim Two bs = option_map_or (λ rest. read_cost rest >>= λ n. Ok (lines.Claim (claims.Bound n))) (strip (codes "claim bound") bs) (Err Shape)
+read_bound_claim Two bs =
+    option_map_or (λ rest. read_cost rest >>= λ n. Ok (lines.Claim (claims.Bound n))) (strip (codes "claim bound") bs)
+    (Err Shape)
 
 -- the line of the claim
 unfoldable pub read_claim : Version → List ℕ → Result CertLine LineFault
 read_claim version bs =
     if bytes_eq bs (codes "claim impossible") then Ok (lines.Claim claims.Impossible) else
-    option_map_or (λ rest. read_cost rest >>= λ n. Ok (lines.Claim (claims.Cost n))) (strip (codes "claim cost") bs) (read_bound_claim version bs)
+    option_map_or (λ rest. read_cost rest >>= λ n. Ok (lines.Claim (claims.Cost n))) (strip (codes "claim cost") bs)
+    (read_bound_claim version bs)
 
 -- the number of blocks at the end of a split's line, which version 1 doesn't have
 unfoldable pub read_blocks : Version → List ℕ → Result (Option (Option ℕ)) LineFault
@@ -119,7 +123,8 @@ read_agent sizes bs = do
 
 -- the last word of an entry
 unfoldable pub read_label_word : List ℕ → Result LabelWord LineFault
-read_label_word bs = if bytes_eq bs (codes " inf") then Ok label_words.Never else (read_last 32 bs >>= λ n. Ok (label_words.Ticks n))
+read_label_word bs =
+    if bytes_eq bs (codes " inf") then Ok label_words.Never else (read_last 32 bs >>= λ n. Ok (label_words.Ticks n))
 
 -- the label that such a word spells
 abbrev pub label_in_range : LabelWord → Result Label LineFault

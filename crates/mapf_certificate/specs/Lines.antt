@@ -39,8 +39,11 @@ count_words (Some blocks) = field 32 blocks
 
 -- the line of a split, without its LF
 abbrev pub split_words : ℕ → Conflict → Option ℕ → List ℕ
-split_words width (conflicts.Vertex i j cell tick) blocks = codes "vertex" ++ (field 32 i ++ (field 32 j ++ (pair width cell ++ (field 32 tick ++ count_words blocks))))
-split_words width (conflicts.Swap i j from to tick) blocks = codes "swap" ++ (field 32 i ++ (field 32 j ++ (pair width from ++ (pair width to ++ (field 32 tick ++ count_words blocks)))))
+split_words width (conflicts.Vertex i j cell tick) blocks =
+    codes "vertex" ++ (field 32 i ++ (field 32 j ++ (pair width cell ++ (field 32 tick ++ count_words blocks))))
+split_words width (conflicts.Swap i j from to tick) blocks =
+    codes "swap" ++ (field 32 i ++ (field 32 j ++ (pair width from
+    ++ (pair width to ++ (field 32 tick ++ count_words blocks)))))
 
 -- a line without its LF, on a grid of this width
 abbrev pub words : ℕ → CertLine → List ℕ
@@ -80,7 +83,8 @@ abbrev pub IsTreeLine : Version → GridMap → ℕ → CertLine → Type 0
 IsTreeLine version grid agents (lines.Title v) = ⊥
 IsTreeLine version grid agents (lines.Agents count) = ⊥
 IsTreeLine version grid agents (lines.Claim claim) = ⊥
-IsTreeLine version grid agents (lines.Split conflict blocks) = IsConflictInRange grid agents conflict × IsCountOnSplit version agents blocks
+IsTreeLine version grid agents (lines.Split conflict blocks) =
+    IsConflictInRange grid agents conflict × IsCountOnSplit version agents blocks
 IsTreeLine version grid agents (lines.Leaf blocks) = blocks ≤ agents
 IsTreeLine version grid agents (lines.Clash i j) = (i < agents) × (j < agents)
 IsTreeLine version grid agents (lines.Agent agent entries) = (agent < agents) × (1 ≤ entries) × (entries < 2 ^ 64)

@@ -1,5 +1,6 @@
 -- The lines of a plan text, and what they are read as.
-use Rattle.std.specs.Prelude.{◌≡◌, ◌≤◌, ◌⊎◌, ℕ, ◌+◌, ◌++◌, List, [], ◌∷◌, codes, Option, Some, None, Result, Ok, Err, if◌then◌else◌}
+use Rattle.std.specs.Prelude.{◌≡◌, ◌≤◌, ◌⊎◌, ℕ, ◌+◌, ◌++◌, List, [], ◌∷◌, codes, Option, Some, None, Result, Ok, Err}
+use Rattle.std.specs.Prelude.{if◌then◌else◌}
 use Rattle.std.specs.Result.{result_ok}
 use Rattle.std.specs.Str.{bytes_eq}
 use Rattle.std.specs.Option.{option_map_or}
@@ -63,13 +64,16 @@ read_agents_line bs = option_map_or read_count (strip (codes "agents") bs) (Err 
 
 -- why the search ended, and what follows
 unfoldable pub read_cause : List ℕ → Result (CauseWord × List ℕ) LineFault
-read_cause bs = option_map_or (λ rest. Ok (causes.Ticks, rest)) (strip (codes " ticks") bs) (read_field 32 bs >>= λ count. Ok (causes.Splits count.0, count.1))
+read_cause bs =
+    option_map_or (λ rest. Ok (causes.Ticks, rest)) (strip (codes " ticks") bs)
+    (read_field 32 bs >>= λ count. Ok (causes.Splits count.0, count.1))
 
 -- the bound at the end of a limit's line, which version 1 doesn't have
 unfoldable pub read_bound : Version → List ℕ → Result (Option (Option ℕ)) LineFault
 read_bound One [] = Ok None
 read_bound One (b ∷ bs) = Err Shape
-read_bound Two bs = option_map_or (λ rest. read_last 32 rest >>= λ n. Ok (Some n)) (strip (codes " bound") bs) (Err Shape)
+read_bound Two bs =
+    option_map_or (λ rest. read_last 32 rest >>= λ n. Ok (Some n)) (strip (codes " bound") bs) (Err Shape)
 
 -- the cause that such words spell
 abbrev pub cause_in_range : CauseWord → Result Cause LineFault
@@ -104,7 +108,9 @@ something x (b ∷ bs) = Ok x
 
 -- what comes before the pairs of a path's line, which has at least one pair
 unfoldable pub read_path_front : List ℕ → Result (Option ℕ × Option ℕ × List ℕ) LineFault
-read_path_front bs = option_map_or (λ rest. read_field 32 rest >>= λ agent. read_field 32 agent.1 >>= λ cost. something (agent.0, cost.0, cost.1) cost.1) (strip (codes "path") bs) (Err Shape)
+read_path_front bs =
+    option_map_or (λ rest. read_field 32 rest >>= λ agent. read_field 32 agent.1
+    >>= λ cost. something (agent.0, cost.0, cost.1) cost.1) (strip (codes "path") bs) (Err Shape)
 
 -- the next line and what follows it; P2 if the text ends before it does
 unfoldable pub next_line : ℕ → List ℕ → Result (List ℕ × List ℕ) PlanTextFault
@@ -130,7 +136,8 @@ next_agents bs = next_line 2 bs >>= λ p. fault_at 2 (read_agents_line p.0) >>= 
 
 -- the answer's first line and what follows
 unfoldable pub next_answer : Version → List ℕ → Result (AnswerLine × List ℕ) PlanTextFault
-next_answer version bs = next_line 3 bs >>= λ p. fault_at 3 (read_answer_line version p.0) >>= λ answer. Ok (answer, p.1)
+next_answer version bs =
+    next_line 3 bs >>= λ p. fault_at 3 (read_answer_line version p.0) >>= λ answer. Ok (answer, p.1)
 
 -- the text ends here
 abbrev pub nothing_after : ℕ → List ℕ → Result (Unit {0}) PlanTextFault

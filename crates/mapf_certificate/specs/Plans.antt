@@ -1,5 +1,6 @@
 -- How a plan text is spelled.
-use Rattle.std.specs.Prelude.{◌≡◌, ◌≤◌, ◌<◌, ℕ, ◌+◌, ◌-◌, Bool, true, Option, Some, List, [], ◌∷◌, ◌++◌, codes, length, All, sum_by}
+use Rattle.std.specs.Prelude.{◌≡◌, ◌≤◌, ◌<◌, ℕ, ◌+◌, ◌-◌, Bool, true, Option, Some, List, [], ◌∷◌, ◌++◌, codes, length}
+use Rattle.std.specs.Prelude.{All, sum_by}
 use Rattle.std.specs.List.{flat_map}
 use Rattle.mapf_model.specs.declared.cause.Cause.{Cause}
 use Rattle.mapf_model.specs.declared.cause.Cause.TheVariants.{Splits, Ticks}
@@ -54,11 +55,14 @@ abbrev pub answer_text : ℕ → PlanAnswer → List ℕ
 answer_text width (Found plan) = (codes "cost" ++ (field 32 (cost_of plan) ++ (10 ∷ []))) ++ paths_text width 0 plan
 answer_text width Impossible = codes "impossible\n"
 answer_text width (Limit cause) = codes "limit" ++ (cause_words cause ++ (10 ∷ []))
-answer_text width (Bounded cause bound) = codes "limit" ++ (cause_words cause ++ (codes " bound" ++ (field 32 bound ++ (10 ∷ []))))
+answer_text width (Bounded cause bound) =
+    codes "limit" ++ (cause_words cause ++ (codes " bound" ++ (field 32 bound ++ (10 ∷ []))))
 
 -- the whole text: the title, the number of agents, the answer and the end
 abbrev pub plan_text : ℕ → PlanText → List ℕ
-plan_text width p = plan_title p.version ++ (10 ∷ ((codes "agents" ++ (field 32 p.agents ++ (10 ∷ []))) ++ (answer_text width p.answer ++ codes "end\n")))
+plan_text width p =
+    plan_title p.version ++ (10 ∷ ((codes "agents" ++ (field 32 p.agents ++ (10 ∷ [])))
+    ++ (answer_text width p.answer ++ codes "end\n")))
 
 -- at most 100,000 splits
 abbrev pub IsCauseInRange : Cause → Type 0
@@ -86,20 +90,25 @@ IsFew _ = Unit {0}
 
 -- a value that has a spelling
 abbrev pub IsPlanText : GridMap → PlanText → Type 0
-IsPlanText grid p = IsAgentCount p.agents × IsAnswerInRange grid p.agents p.answer × IsAnswerOfVersion p.version p.answer
+IsPlanText grid p =
+    IsAgentCount p.agents × IsAnswerInRange grid p.agents p.answer × IsAnswerOfVersion p.version p.answer
 
 -- these bytes spell a plan text of this version for so many agents with this answer
-pub record SpellsPlan (grid : GridMap) (bytes : List ℕ) (version : Version) (agents : ℕ) (answer : PlanAnswer) : Type 0 where
+pub record SpellsPlan (grid : GridMap) (bytes : List ℕ) (version : Version) (agents : ℕ) (answer : PlanAnswer)
+    : Type 0 where
   pub in_range : IsPlanText grid (record { version = version; agents = agents; answer = answer })
   pub spelled : bytes ≡ plan_text grid.width (record { version = version; agents = agents; answer = answer })
 
 -- on one grid no bytes spell two plan texts, neither in one version nor in two
 abbrev pub SpellsOnePlan : Type 0
-SpellsOnePlan = (grid : GridMap) (bytes : List ℕ) (text other : PlanText) → IsGridMap grid → IsPlanText grid text → IsPlanText grid other
+SpellsOnePlan =
+    (grid : GridMap) (bytes : List ℕ) (text other : PlanText) → IsGridMap grid → IsPlanText grid text →
+    IsPlanText grid other
     → bytes ≡ plan_text grid.width text → bytes ≡ plan_text grid.width other → text ≡ other
 
 -- the bytes begin with these paths, one for each agent, followed by this rest
-pub record ArePaths (grid : GridMap) (agents : ℕ) (bytes : List ℕ) (paths : List (List ℕ)) (sum : ℕ) (rest : List ℕ) : Type 0 where
+pub record ArePaths (grid : GridMap) (agents : ℕ) (bytes : List ℕ) (paths : List (List ℕ)) (sum : ℕ) (rest : List ℕ)
+    : Type 0 where
   pub count : length paths ≡ agents
   pub in_range : All (IsPathInRange grid) paths
   pub costs : sum ≡ cost_of paths

@@ -19,14 +19,14 @@ pub record Reading : Type 0 where
   pub header : Option (ℕ × Claim)
   pub fault : Option LinesFault
   pub is_whole : Bool
-  pub owed : ℕ
+  pub pending : ℕ
 
 -- what holds at any time
 pub record IsReaderState (r : Reading) : Type 0 where
   pub columns : (1 ≤ r.width) × (r.width ≤ greatest_side)
   pub rows : (1 ≤ r.height) × (r.height ≤ greatest_side)
   pub agents : IfSome r.header (λ h. IsAgentCount h.0)
-  pub bounded : r.owed + spare r.buffer ≤ 2 ^ 64
+  pub bounded : r.pending + spare r.buffer ≤ 2 ^ 64
   pub faults : IfSome r.fault IsNotTextMemory
 
 -- this holds, if no error was returned

@@ -15,7 +15,8 @@ TakesThere source_old source_new old new taken = (rest : List ℕ) → old.bytes
 
 -- a whole line is in the buffer, or more than a line can hold
 abbrev pub HasLine : Buffered → Type 0
-HasLine buffer = (lacks_end (take (longest_cert_line + 1) buffer.bytes) ≡ false) ⊎ (longest_cert_line < length buffer.bytes)
+HasLine buffer =
+    (lacks_end (take (longest_cert_line + 1) buffer.bytes) ≡ false) ⊎ (longest_cert_line < length buffer.bytes)
 
 -- if a line is in the buffer that isn't of the expected kind, the source is as it was
 abbrev pub RefusesThere : {S : Type 0} → S → S → Buffered → (List ℕ → Type 0) → Type 0

@@ -1,5 +1,6 @@
 -- What a call takes from a buffer and the source behind it, and why it takes nothing.
-use Rattle.std.specs.Prelude.{◌≡◌, ◌≢◌, ◌↔◌, ◌⊎◌, ◌+◌, ◌<◌, ◌≤◌, ℕ, Bool, true, false, List, [], ◌++◌, length, take, Option}
+use Rattle.std.specs.Prelude.{◌≡◌, ◌≢◌, ◌↔◌, ◌⊎◌, ◌+◌, ◌<◌, ◌≤◌, ℕ, Bool, true, false, List, [], ◌++◌, length, take}
+use Rattle.std.specs.Prelude.{Option}
 use Rattle.std.specs.Io.KnownBytes.{Consumes, IsAtEnd}
 use Rattle.mapf_model.specs.Limits.{longest_cert_line}
 use Rattle.mapf_fields.specs.Ends.{lacks_end}
@@ -43,7 +44,8 @@ pub record Refuses (had left : Option (List ℕ)) (buffer : Buffered) (IsText : 
   pub pulled : List ℕ
   pub source : Consumes had left pulled
   pub within : length pulled ≤ buffer.left
-  pub wrong : ((more : List ℕ) → IsText ((buffer.bytes ++ pulled) ++ more) → ⊥) ⊎ (IsAtEnd left × (IsText (buffer.bytes ++ pulled) → ⊥))
+  pub wrong : ((more : List ℕ) → IsText ((buffer.bytes ++ pulled) ++ more) → ⊥)
+      ⊎ (IsAtEnd left × (IsText (buffer.bytes ++ pulled) → ⊥))
 
 -- why no text of this kind is read: there is none, or the source failed, or too many bytes came, or out of memory. The
 -- source failed in the second case and in no other

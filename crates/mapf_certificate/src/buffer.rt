@@ -1,3 +1,4 @@
+//! The bytes of a certificate on their way from the source to the reader of its lines, in whatever pieces they come.
 ghost use Rattle.std.specs.Io.KnownBytes.{IsAtEnd};
 ghost use Rattle.mapf_model.specs.Limits.{longest_cert_line};
 ghost use Rattle.mapf_fields.specs.Ends.{IsCut, lacks_end};
@@ -51,7 +52,7 @@ pub enum NoLine {
     PastLimit,
 }
 
-/// Returns the length of the line that bytes begin with, at most 64. None if they don't begin with a line.
+// Returns the length of the line that bytes begin with, at most 64. None if they don't begin with a line.
 fn line_end(bytes: &[u8]) -> Option<usize>
     ensures line { IfSome result (λ n.
         (n < length bytes.now) × IsCut bytes.now (take n bytes.now) (drop (n + 1) bytes.now)) }
@@ -78,6 +79,7 @@ impl LineBuffer {
         self.bytes.len() - self.taken
     }
 
+    /// Returns whether no byte is in the buffer.
     pub fn is_empty(&self) -> bool
         ensures { result ≡ (length self.now.bytes == 0) }
     {
@@ -134,7 +136,7 @@ impl LineBuffer {
         Ok(n > 0)
     }
 
-    /// Adds bytes that came.
+    // Adds bytes that came.
     fn keep(&mut self, piece: &[u8])
         requires room { length self.old.bytes ≤ longest_cert_line }
         requires some { length piece.now ≤ PIECE }

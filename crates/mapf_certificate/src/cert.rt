@@ -1,3 +1,5 @@
+//! A certificate as a value, and the errors of its text. The readers and the writer share these, and the checker
+//! reports the errors.
 use crate::version::Version;
 use mapf_model::{Claim, Item};
 

@@ -1,3 +1,4 @@
+//! How a certificate of version 1 becomes one of version 2, for users of the library. The program doesn't call it.
 ghost use Rattle.mapf_certificate.specs.Certificates.{SpellsCert, IsConverted};
 ghost use Rattle.mapf_certificate.specs.Lines.{title_words};
 ghost use Rattle.mapf_certificate.specs.declared.version.Version.TheVariants.{One, Two};

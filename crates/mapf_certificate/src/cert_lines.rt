@@ -1,7 +1,9 @@
+//! The reader of a certificate from a source, item by item. The checker calls it, and so does the reader of whole
+//! certificates.
 ghost use Rattle.mapf_certificate.specs.Bounded.{BeginsWithNode};
 ghost use Rattle.mapf_certificate.specs.Buffered.{spare};
 ghost use Rattle.mapf_certificate.specs.CertReading.{HasHeader, IsRestAt, Awaits, AwaitsCert, CompletesNode};
-ghost use Rattle.mapf_certificate.specs.CertReading.{TakesHeader, TakesNode, TakesEnd, ReadsEnd, trees_owed_after};
+ghost use Rattle.mapf_certificate.specs.CertReading.{TakesHeader, TakesNode, TakesEnd, ReadsEnd, trees_pending_after};
 ghost use Rattle.mapf_certificate.specs.Certificates.{line_text, node_text, header_text};
 ghost use Rattle.mapf_certificate.specs.Lines.{IsAgentCount, IsCertClaim, IsTitleLine, IsTreeLine, grid_for};
 ghost use Rattle.mapf_certificate.specs.Reading.{Reading, IfUnfaulted, IfHeaderDue, IfItemDue, grid_at, agents_at};
@@ -44,7 +46,7 @@ pub struct CertLines {
     // Whether the whole certificate was read.
     is_whole: bool,
     // How many subtrees are pending.
-    owed: u64,
+    pending: u64,
     // The line of the first word of the last item.
     item_line: u64,
 }
@@ -62,7 +64,7 @@ impl Model for CertLines {
       header = l.header;
       fault = l.fault;
       is_whole = l.is_whole;
-      owed = l.owed;
+      pending = l.pending;
     } };
 
     ghost invariant = { λ l. IsReaderState (record {
@@ -73,7 +75,7 @@ impl Model for CertLines {
       header = l.header;
       fault = l.fault;
       is_whole = l.is_whole;
-      owed = l.owed;
+      pending = l.pending;
     }) };
 }
 
@@ -97,7 +99,7 @@ impl CertLines {
           header = None;
           fault = None;
           is_whole = false;
-          owed = 1;
+          pending = 1;
         }) }
     {
         Ok(CertLines {
@@ -109,7 +111,7 @@ impl CertLines {
             header: None,
             fault: None,
             is_whole: false,
-            owed: 1,
+            pending: 1,
             item_line: 0,
         })
     }
@@ -163,8 +165,9 @@ impl CertLines {
             self.old.buffer.left (IsErrOf result LinesFault.TooLong)) }
         ensures inner { IfErr result IsNotTextMemory }
 
+        // What the reader keeps of the text.
         ensures grid { (self.new.width ≡ self.old.width) × (self.new.height ≡ self.old.height) }
-        ensures owed { self.new.owed ≡ self.old.owed }
+        ensures pending { self.new.pending ≡ self.old.pending }
         ensures part { self.new.is_whole ≡ self.old.is_whole }
         ensures known { IfOk result (λ h. self.new.header ≡ Some h) }
         ensures unfaulted { OnOk result (self.new.fault ≡ None) }
@@ -230,6 +233,7 @@ impl CertLines {
             self.old.buffer.left (IsErrOf result LinesFault.TooLong)) }
         ensures inner { IfErr result IsNotTextMemory }
 
+        // What the reader keeps of the text.
         ensures grid { (self.new.width ≡ self.old.width) × (self.new.height ≡ self.old.height) }
         ensures part { IfOk result (λ o. IsSome o → self.new.is_whole ≡ false) }
         ensures known { (self.new.version ≡ self.old.version) × (self.new.header ≡ self.old.header) }
@@ -290,30 +294,30 @@ impl CertLines {
         };
         let line = self.lines.next(source, &Due::Tree(sizes))?;
         let number = self.lines.count;
-        if self.owed == 0 {
+        if self.pending == 0 {
             take_end(&mut self.lines, source, &line)?;
             return Ok(None);
         }
         let item = item_of(self.alloc, &mut self.lines, source, &sizes, &line)?;
-        self.owed = trees_owed_after(self.owed, &item);
+        self.pending = trees_pending_after(self.pending, &item);
         self.item_line = number;
         Ok(Some(item))
     }
 }
 
-/// Returns how many subtrees are pending after this item.
-fn trees_owed_after(owed: u64, item: &Item) -> u64
-    requires some { 1 ≤ owed }
-    requires few { owed + 1 < 2 ^ 64 }
-    ensures { result ≡ trees_owed_after owed (node_of item.now) }
+// Returns how many subtrees are pending after this item.
+fn trees_pending_after(pending: u64, item: &Item) -> u64
+    requires some { 1 ≤ pending }
+    requires few { pending + 1 < 2 ^ 64 }
+    ensures { result ≡ trees_pending_after pending (node_of item.now) }
 {
     match item {
-        Item::Vertex { .. } | Item::Swap { .. } => owed + 1,
-        Item::Leaf(_) | Item::Clash { .. } => owed - 1,
+        Item::Vertex { .. } | Item::Swap { .. } => pending + 1,
+        Item::Leaf(_) | Item::Clash { .. } => pending - 1,
     }
 }
 
-/// Checks that the line is `end`, and that nothing follows it.
+// Checks that the line is `end`, and that nothing follows it.
 fn take_end<S: Source>(lines: &mut Lines, source: &mut S, line: &CertLine) -> Result<(), LinesFault>
     requires { S.has_failed source.old ≡ false }
     ensures works { OnOk result (S.has_failed source.new ≡ false) }
@@ -332,7 +336,7 @@ fn take_end<S: Source>(lines: &mut Lines, source: &mut S, line: &CertLine) -> Re
     }
 }
 
-/// Reads the item that begins with this line.
+// Reads the item that begins with this line.
 fn item_of<S: Source>(
     alloc: Global,
     lines: &mut Lines,

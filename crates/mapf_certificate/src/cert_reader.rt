@@ -1,3 +1,4 @@
+//! The reader of a whole certificate in memory, for the converter and for tests.
 ghost use Rattle.mapf_certificate.specs.CertReading.{IsSpelled, IsCertOf, AwaitsCert};
 ghost use Rattle.mapf_certificate.specs.Certificates.{SpellsCert};
 ghost use Rattle.mapf_certificate.specs.Window.{StopsReader, IsNoTextFault};
@@ -11,7 +12,7 @@ use crate::cert_lines::CertLines;
 use mapf_model::{BytesSource, Grid, Source};
 use std::alloc::Global;
 
-/// Returns the certificate that a source gives.
+// Returns the certificate that a source gives.
 fn collect<S: Source>(
     alloc: Global,
     lines: &mut CertLines,

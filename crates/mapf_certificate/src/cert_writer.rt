@@ -1,10 +1,14 @@
-ghost use Rattle.std.specs.Prelude.{◌≡◌, ◌++◌, [], OnOk, IfOk, All, map, false};
+//! The writer of certificates, from the nodes of a search or from items. The run of `solve` writes to a sink, the
+//! converter and tests into memory.
+ghost use Rattle.std.specs.Prelude.{◌≡◌, ◌<◌, ◌++◌, [], List, Some, OnOk, IfOk, All, false, length, map, slice_get};
 ghost use Rattle.std.specs.List.{flat_map};
 ghost use Rattle.std.specs.Result.{is_err};
 ghost use Rattle.mapf_fields.specs.Pages.{PassesOrFails, WritesOrFails};
-ghost use Rattle.mapf_model.specs.Tree.{node_of};
+ghost use Rattle.mapf_model.specs.Blocks.{LabelBlock};
+ghost use Rattle.mapf_model.specs.Nodes.{node_with};
+ghost use Rattle.mapf_model.specs.Tree.{blocks_of, node_of};
 ghost use Rattle.mapf_certificate.specs.Certificates.{entries_text, block_text, blocks_text, first_line};
-ghost use Rattle.mapf_certificate.specs.Certificates.{item_text, line_text};
+ghost use Rattle.mapf_certificate.specs.Certificates.{line_text, node_text};
 ghost use Rattle.mapf_certificate.specs.Certificates.{header_text, cert_text, IsNodeOfVersion};
 ghost use Rattle.mapf_certificate.specs.Lines.{IsClaimOfVersion};
 
@@ -13,28 +17,30 @@ use crate::line::CertLine;
 use crate::memory_sink::MemorySink;
 use crate::text_writer::TextWriter;
 use crate::version::Version;
-use mapf_model::{Block, Claim, Entry, Failed, Grid, Item, OutOfMemory, Sink};
+use mapf_model::{AsNode, Claim, Failed, Grid, NodeKind, OutOfMemory, Sink};
 use std::alloc::Global;
 
-fn first_line(version: Version, item: &Item) -> CertLine
-    ensures { result ≡ first_line version (node_of item.now) }
+// Returns the first line of a node of this kind with so many blocks.
+fn first_line(version: Version, kind: NodeKind, blocks: usize) -> CertLine
+    ensures { (listed : List LabelBlock) → blocks ≡ length listed →
+        result ≡ first_line version (node_with kind listed) }
 {
-    match item {
-        Item::Vertex { .. } | Item::Swap { .. } => CertLine::Split {
-            conflict: item.conflict().unwrap(),
+    match kind {
+        NodeKind::Split(conflict) => CertLine::Split {
+            conflict,
             blocks: match version {
                 Version::One => None,
-                Version::Two => Some(item.blocks().len() as u64),
+                Version::Two => Some(blocks as u64),
             },
         },
-        Item::Leaf(blocks) => CertLine::Leaf(blocks.len() as u64),
-        Item::Clash { i, j } => CertLine::Clash { i: *i, j: *j },
+        NodeKind::Leaf => CertLine::Leaf(blocks as u64),
+        NodeKind::Clash { i, j } => CertLine::Clash { i, j },
     }
 }
 
 impl TextWriter {
-    /// Writes the first three lines of a certificate.
-    pub fn header<K: Sink>(
+    // Writes the first three lines of a certificate.
+    fn header<K: Sink>(
         &mut self,
         sink: &mut K,
         version: Version,
@@ -52,91 +58,100 @@ impl TextWriter {
         self.line(sink, &CertLine::Claim(claim))
     }
 
-    /// Writes the line of a block: its agent and how many entries it has.
-    pub fn block<K: Sink>(&mut self, sink: &mut K, agent: u32, entries: u64) -> Result<(), Failed>
-        requires { K.has_failed sink.old ≡ false }
-        ensures text { PassesOrFails (K.contents sink.old) (K.contents sink.new) self.old.page self.new.page
-            (line_text self.old.width (CertLine.Agent agent entries)) result }
+    // Writes all entries of the block at `place`; `count` is their number.
+    fn entries<K: Sink, N: AsNode>(
+        &mut self,
+        sink: &mut K,
+        node: &N,
+        place: usize,
+        count: usize,
+    ) -> Result<(), Failed>
+        requires works { K.has_failed sink.old ≡ false }
+        requires all { (block : LabelBlock) × (slice_get (blocks_of (N.node node.now)) place ≡ Some block)
+            × (length block.entries ≡ count) }
+        ensures text { (block : LabelBlock) → slice_get (blocks_of (N.node node.now)) place ≡ Some block →
+            PassesOrFails (K.contents sink.old) (K.contents sink.new) self.old.page self.new.page
+            (entries_text self.old.width block.entries) result }
         ensures width { self.new.width ≡ self.old.width }
         ensures failed { K.has_failed sink.new ≡ is_err result }
     {
-        self.line(sink, &CertLine::Agent { agent, entries })
-    }
-
-    fn entries<K: Sink>(&mut self, sink: &mut K, entries: &[Entry]) -> Result<(), Failed>
-        requires { K.has_failed sink.old ≡ false }
-        ensures text { PassesOrFails (K.contents sink.old) (K.contents sink.new) self.old.page self.new.page
-            (entries_text self.old.width entries.now) result }
-        ensures width { self.new.width ≡ self.old.width }
-        ensures failed { K.has_failed sink.new ≡ is_err result }
-    {
-        for entry in entries {
-            self.entry(sink, entry)?;
+        for index in 0..count {
+            self.entry(sink, &node.entry(place, index))?;
         }
         Ok(())
     }
 
-    fn whole_block<K: Sink>(&mut self, sink: &mut K, block: &Block) -> Result<(), Failed>
-        requires { K.has_failed sink.old ≡ false }
-        ensures text { PassesOrFails (K.contents sink.old) (K.contents sink.new) self.old.page self.new.page
-            (block_text self.old.width block.now) result }
+    // Writes a block of the node: its agent and how many entries it has, and these.
+    fn block<K: Sink, N: AsNode>(
+        &mut self,
+        sink: &mut K,
+        node: &N,
+        place: usize,
+    ) -> Result<(), Failed>
+        requires works { K.has_failed sink.old ≡ false }
+        requires inside { place < length (blocks_of (N.node node.now)) }
+        ensures text { (block : LabelBlock) → slice_get (blocks_of (N.node node.now)) place ≡ Some block →
+            PassesOrFails (K.contents sink.old) (K.contents sink.new) self.old.page self.new.page
+            (block_text self.old.width block) result }
         ensures width { self.new.width ≡ self.old.width }
         ensures failed { K.has_failed sink.new ≡ is_err result }
     {
-        self.block(sink, block.agent, block.entries.len() as u64)?;
-        self.entries(sink, &block.entries)
+        let (agent, count) = node.block(place);
+        let entries = count as u64;
+        self.line(sink, &CertLine::Agent { agent, entries })?;
+        self.entries(sink, node, place, count)
     }
 
-    fn blocks<K: Sink>(&mut self, sink: &mut K, blocks: &[Block]) -> Result<(), Failed>
+    fn blocks<K: Sink, N: AsNode>(&mut self, sink: &mut K, node: &N) -> Result<(), Failed>
         requires { K.has_failed sink.old ≡ false }
         ensures text { PassesOrFails (K.contents sink.old) (K.contents sink.new) self.old.page self.new.page
-            (blocks_text self.old.width blocks.now) result }
+            (blocks_text self.old.width (blocks_of (N.node node.now))) result }
         ensures width { self.new.width ≡ self.old.width }
         ensures failed { K.has_failed sink.new ≡ is_err result }
     {
-        for block in blocks {
-            self.whole_block(sink, block)?;
+        for place in 0..node.block_count() {
+            self.block(sink, node, place)?;
         }
         Ok(())
     }
 
-    /// Writes an item: the line of its node, and its blocks.
-    pub fn item<K: Sink>(
+    // Writes the line of a node, and its blocks.
+    fn node<K: Sink, N: AsNode>(
         &mut self,
         sink: &mut K,
         version: Version,
-        item: &Item,
+        node: &N,
     ) -> Result<(), Failed>
         requires { K.has_failed sink.old ≡ false }
         ensures text { PassesOrFails (K.contents sink.old) (K.contents sink.new) self.old.page self.new.page
-            (item_text version self.old.width item.now) result }
+            (node_text version self.old.width (N.node node.now)) result }
         ensures width { self.new.width ≡ self.old.width }
         ensures failed { K.has_failed sink.new ≡ is_err result }
     {
-        self.line(sink, &first_line(version, item))?;
-        self.blocks(sink, item.blocks())
+        self.line(sink, &first_line(version, node.kind(), node.block_count()))?;
+        self.blocks(sink, node)
     }
 
-    fn items<K: Sink>(
+    fn nodes<K: Sink, N: AsNode>(
         &mut self,
         sink: &mut K,
         version: Version,
-        items: &[Item],
+        nodes: &[N],
     ) -> Result<(), Failed>
         requires { K.has_failed sink.old ≡ false }
         ensures text { PassesOrFails (K.contents sink.old) (K.contents sink.new) self.old.page self.new.page
-            (flat_map (item_text version self.old.width) items.now) result }
+            (flat_map (λ one. node_text version self.old.width (N.node one)) nodes.now) result }
         ensures width { self.new.width ≡ self.old.width }
         ensures failed { K.has_failed sink.new ≡ is_err result }
     {
-        for item in items {
-            self.item(sink, version, item)?;
+        for node in nodes {
+            self.node(sink, version, node)?;
         }
         Ok(())
     }
 
-    /// Writes the last line of a certificate, and what is left on the page.
-    pub fn finish<K: Sink>(&mut self, sink: &mut K) -> Result<(), Failed>
+    // Writes the last line of a certificate, and what is left on the page.
+    fn finish<K: Sink>(&mut self, sink: &mut K) -> Result<(), Failed>
         requires { K.has_failed sink.old ≡ false }
         ensures text { WritesOrFails (K.contents sink.old) (K.contents sink.new)
             (self.old.page ++ line_text self.old.width CertLine.End) result }
@@ -148,11 +163,36 @@ impl TextWriter {
         self.page.flush(sink)
     }
 
+    /// Writes a certificate: its header, these nodes and `end`. Nothing is left on the page. If
+    /// the version can't express the claim or a node, as version 1 a bound or blocks on a split, the text spells no
+    /// certificate. Nothing is allocated. `Failed` is returned only if the sink failed; it then got a prefix of that
+    /// text.
+    pub fn tree<K: Sink, N: AsNode>(
+        &mut self,
+        sink: &mut K,
+        version: Version,
+        agents: u32,
+        claim: Claim,
+        nodes: &[N],
+    ) -> Result<(), Failed>
+        requires works { K.has_failed sink.old ≡ false }
+        requires empty { self.old.page ≡ [] }
+        ensures text { WritesOrFails (K.contents sink.old) (K.contents sink.new)
+            (cert_text version self.old.width agents claim (map N.node nodes.now)) result }
+        ensures empty { OnOk result (self.new.page ≡ []) }
+        ensures width { self.new.width ≡ self.old.width }
+        ensures failed { K.has_failed sink.new ≡ is_err result }
+    {
+        self.header(sink, version, agents, claim)?;
+        self.nodes(sink, version, nodes)?;
+        self.finish(sink)
+    }
+
     /// Writes a certificate: its header, its items and `end`. `read_cert` reads it back if the number of agents, the
     /// claim and the numbers of the items are in the ranges of docs/FORMATS.md, the agents of each node's blocks and
-    /// the entries of each block rise, and the items are those of one tree. Any other certificate is written too, and
-    /// `read_cert` refuses its text. In version 1 blocks on splits and a bound have no spelling. `Failed` is returned
-    /// only if the sink failed; it then got a prefix of that text.
+    /// the entries of each block rise, and the items are those of one tree. Any other certificate is written too, but
+    /// nothing is promised of reading its text. In version 1 blocks on splits and a bound have no spelling. `Failed` is
+    /// returned only if the sink failed; it then got a prefix of that text.
     pub fn cert<K: Sink>(&mut self, sink: &mut K, cert: &Cert) -> Result<(), Failed>
         requires works { K.has_failed sink.old ≡ false }
         requires empty { self.old.page ≡ [] }
@@ -165,9 +205,7 @@ impl TextWriter {
         ensures width { self.new.width ≡ self.old.width }
         ensures failed { K.has_failed sink.new ≡ is_err result }
     {
-        self.header(sink, cert.version, cert.agents, cert.claim)?;
-        self.items(sink, cert.version, &cert.tree)?;
-        self.finish(sink)
+        self.tree(sink, cert.version, cert.agents, cert.claim, &cert.tree)
     }
 }
 

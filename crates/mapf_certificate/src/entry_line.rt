@@ -1,3 +1,5 @@
+//! How the line of an entry is read within the buffer, without a search for its end first. The reader of lists tries
+//! this before it takes a line.
 ghost use Rattle.mapf_fields.specs.Numbers.{Gives};
 ghost use Rattle.mapf_certificate.specs.EntryReading.{read_label_front, read_line_end, read_entry_parts};
 ghost use Rattle.mapf_certificate.specs.EntryReading.{read_entry_front};
@@ -7,7 +9,7 @@ use mapf_fields::{LineFault, field, from_one_to, pair, strip, up_to};
 use mapf_model::limits::GREATEST_COST;
 use mapf_model::{Entry, Label};
 
-/// Reads the label after the blank that bytes begin with. Returns it and what follows.
+// Reads the label after the blank that bytes begin with. Returns it and what follows.
 #[tactic(auto, unfolding(crate::specs::EntryReading::read_label_front))]
 #[inline(always)]
 fn label_front(bytes: &[u8]) -> Result<(Label, &[u8]), LineFault>
@@ -20,7 +22,7 @@ fn label_front(bytes: &[u8]) -> Result<(Label, &[u8]), LineFault>
     Ok((Label::Ticks(from_one_to(GREATEST_COST, ticks)?), rest))
 }
 
-/// Returns what follows the LF that bytes begin with.
+// Returns what follows the LF that bytes begin with.
 #[tactic(auto, unfolding(crate::specs::EntryReading::read_line_end))]
 #[inline(always)]
 fn line_end(bytes: &[u8]) -> Result<&[u8], LineFault>
@@ -32,7 +34,7 @@ fn line_end(bytes: &[u8]) -> Result<&[u8], LineFault>
     }
 }
 
-/// Reads the line of an entry that bytes begin with, without its first word. Returns the entry and what follows the LF.
+// Reads the line of an entry that bytes begin with, without its first word. Returns the entry and what follows the LF.
 #[tactic(auto, unfolding(crate::specs::EntryReading::read_entry_parts))]
 #[inline(always)]
 fn entry_parts<'a>(bytes: &'a [u8], sizes: &Sizes) -> Result<(Entry, &'a [u8]), LineFault>

@@ -1,3 +1,4 @@
+//! That no text of the two formats can be read in two ways, as laws. No code calls them; they are there to be read.
 ghost use Rattle.mapf_certificate.specs.Certificates.{SpellsOneCert};
 ghost use Rattle.mapf_certificate.specs.Plans.{SpellsOnePlan};
 

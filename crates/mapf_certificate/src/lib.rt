@@ -1,4 +1,13 @@
 //! Which plan, which certificate do these bytes spell, and how is one written?
+//!
+//! Most lines of a certificate are entries. `CertLines` reads an entry's line within the buffer, in one pass from left
+//! to right (`entry_front`), and takes it if it may follow the entry before. Every other line, including an entry's
+//! line that is wrong or incomplete, is first cut at its LF and then read (`line_of`), so its error doesn't depend on
+//! the pieces in which the text comes. The two rising lists of a certificate, the entries of a block and the blocks of
+//! a node, are read by `Lines::list`, for which the trait `Listed` says what a value is and how the next one is read.
+//!
+//! `TextWriter` puts lines on a page, which goes to the sink when it is full. Neither text of `solve` is ever in memory
+//! as a whole. Once the search has ended nothing more is allocated, so nothing is written before all memory is there.
 #![tactic(auto)]
 
 mod buffer;

@@ -1,3 +1,4 @@
+//! A line of a certificate as a value. The reader of lines returns it, and the writer of lines takes it.
 use crate::version::Version;
 use mapf_model::{Claim, Conflict, Entry};
 

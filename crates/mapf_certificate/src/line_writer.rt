@@ -1,3 +1,5 @@
+//! How a line of a certificate is put on a page, for the writer of texts. The writer of plan texts puts cells and
+//! numbers by the same functions.
 ghost use Rattle.std.specs.Prelude.{◌≡◌, ◌<◌, ◌≤◌, ◌+◌, ◌*◌, ◌++◌, length};
 ghost use Rattle.mapf_fields.specs.Numbers.{field, pair};
 ghost use Rattle.mapf_fields.specs.Pages.{field_room, page_room};
@@ -63,7 +65,8 @@ fn push_entry(page: &mut Page, entry: &Entry, width: u32)
     ensures text { page.new ≡ page.old ++ words width (CertLine.At entry.now) }
     ensures short { length page.new < length page.old + line_room }
 {
-    page.push_bytes(b"at");
+    page.push_byte(b'a');
+    page.push_byte(b't');
     push_cell(page, entry.cell, width);
     page.push_field(b' ', entry.tick as u64);
     push_label(page, entry.label);

@@ -1,3 +1,5 @@
+//! The lines of a certificate that comes from a source, counted for the errors. The reader of items takes them one by
+//! one.
 ghost use Rattle.mapf_certificate.specs.Buffered.{spare};
 ghost use Rattle.mapf_certificate.specs.Bounded.{AreInOrder, AreSpelledApart, BeginsWithLine};
 ghost use Rattle.mapf_certificate.specs.Certificates.{line_text};
@@ -51,6 +53,7 @@ fn fault_without_line(line: u64, why: NoLine) -> LinesFault
 }
 
 impl Lines {
+    /// Allocates the buffer. At most `limit` bytes may come from the source.
     pub fn open(alloc: Global, limit: u64) -> Result<Lines, OutOfMemory>
         ensures { IfOk result (λ lines. lines.buffer ≡ record { bytes = []; left = limit }) }
     {

@@ -1,3 +1,5 @@
+//! What `Lines::list` needs to read the two rising lists of a certificate: the entries of a block, and the blocks of a
+//! node.
 ghost use Rattle.mapf_certificate.specs.Bounded.{IsBlockFor, IsEntryFor, IsNextEntry, IsOfLesserAgent, MayFollow};
 ghost use Rattle.mapf_certificate.specs.Buffered.{spare};
 ghost use Rattle.mapf_certificate.specs.Certificates.{block_text, entry_text};
@@ -50,14 +52,14 @@ pub trait Listed: Drop {
             (text sizes.now.width))) };
 }
 
-/// Returns whether the second entry may follow the first in a block.
+// Returns whether the second entry may follow the first in a block.
 fn are_rising(a: &Entry, b: &Entry) -> bool
     ensures { IsTrue result ↔ IsBefore a.now b.now }
 {
     a.tick < b.tick || (a.tick == b.tick && a.cell.0 < b.cell.0)
 }
 
-/// Returns whether the entry may follow these.
+// Returns whether the entry may follow these.
 fn follows_entries(before: &[Entry], entry: &Entry) -> bool
     requires { AllPairs IsBefore before.now }
     ensures { IsTrue result ↔ All (λ b. IsBefore b entry.now) before.now }
@@ -68,7 +70,7 @@ fn follows_entries(before: &[Entry], entry: &Entry) -> bool
     }
 }
 
-/// Returns whether a block of this agent may follow these.
+// Returns whether a block of this agent may follow these.
 fn follows_blocks(before: &[Block], agent: u32) -> bool
     requires { AllPairs IsOfLesserAgent before.now }
     ensures { IsTrue result ↔ All (λ b. b.agent < agent) before.now }
@@ -79,7 +81,7 @@ fn follows_blocks(before: &[Block], agent: u32) -> bool
     }
 }
 
-/// Returns the entry whose whole line is in the buffer, if it may follow these, and the length of the line.
+// Returns the entry whose whole line is in the buffer, if it may follow these, and the length of the line.
 #[inline(always)]
 fn entry_there(lines: &Lines, sizes: &Sizes, before: &[Entry]) -> Option<(Entry, usize)>
     requires { AllPairs IsBefore before.now }

@@ -1,3 +1,4 @@
+//! The sink of the calls that return a whole text, `write_plan` and `write_cert`.
 ghost use Rattle.std.specs.Prelude.{◌≡◌, [], false, Some};
 
 use mapf_model::{Failed, Sink};
@@ -20,6 +21,7 @@ impl Model for MemorySink {
 }
 
 impl MemorySink {
+    /// Returns a sink without bytes.
     pub fn empty(alloc: Global) -> MemorySink
         ensures { result ≡ ([], false) }
     {

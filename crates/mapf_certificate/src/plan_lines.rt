@@ -1,3 +1,4 @@
+//! How each kind of line of a plan text is read, for the reader of plan texts.
 ghost use Rattle.std.specs.Prelude.{◌≡◌};
 ghost use Rattle.mapf_fields.specs.Numbers.{Gives};
 ghost use Rattle.mapf_certificate.specs.PlanReading.{read_plan_title, read_agents_line, read_cause, cause_in_range};
@@ -54,7 +55,7 @@ pub fn agents_line(line: &[u8]) -> Result<u32, LineFault>
     }
 }
 
-/// Reads why the search ended. Returns it and what follows.
+// Reads why the search ended. Returns it and what follows.
 #[tactic(auto, unfolding(crate::specs::PlanReading::read_cause))]
 fn cause_word(rest: &[u8]) -> Result<(CauseWord, &[u8]), LineFault>
     ensures { Gives (λ p. (p.0, p.1.now)) result (read_cause rest.entry.now) }
@@ -66,7 +67,7 @@ fn cause_word(rest: &[u8]) -> Result<(CauseWord, &[u8]), LineFault>
     Ok((CauseWord::Splits(splits), rest))
 }
 
-/// Reads the bound at the end of a limit's line, which version 1 doesn't have.
+// Reads the bound at the end of a limit's line, which version 1 doesn't have.
 #[tactic(auto, unfolding(crate::specs::PlanReading::read_bound))]
 fn bound_word(version: Version, rest: &[u8]) -> Result<Option<Option<u64>>, LineFault>
     ensures { result ≡ read_bound version rest.now }

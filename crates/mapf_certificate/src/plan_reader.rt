@@ -1,3 +1,4 @@
+//! The reader of plan texts. The checker calls it, and so do the runs of `play` and `dispatch`.
 ghost use Rattle.std.specs.Prelude.{◌≡◌, ◌<◌, ◌≤◌, ◌+◌, ◌++◌, ℕ, List, All, Ok, Err, true, codes, length};
 ghost use Rattle.std.specs.Prelude.{◌↔◌, IsOk, IsSome, IfSome, IfOk, IsOkAnd};
 ghost use Rattle.mapf_model.specs.Printed.{IsOnGrid, IsPathInRange};
@@ -39,7 +40,7 @@ fn fault_of_line(number: u64, fault: LineFault) -> PlanTextFault
     }
 }
 
-/// Takes the next line, which has to consist of these words.
+// Takes the next line, which has to consist of these words.
 #[tactic(auto, unfolding(crate::specs::PlanReading::next_words))]
 fn take_words<'a>(number: u64, words: &[u8], bytes: &'a [u8]) -> Result<&'a [u8], PlanTextFault>
     ensures { Gives (λ r. r.now) result (next_words number words.now bytes.entry.now) }
@@ -52,7 +53,7 @@ fn take_words<'a>(number: u64, words: &[u8], bytes: &'a [u8]) -> Result<&'a [u8]
     }
 }
 
-/// Takes line 1.
+// Takes line 1.
 #[tactic(auto, unfolding(crate::specs::PlanReading::next_title))]
 fn take_title(bytes: &[u8]) -> Result<(Version, &[u8]), PlanTextFault>
     ensures { Gives (λ p. (p.0, p.1.now)) result (next_title bytes.entry.now) }
@@ -64,7 +65,7 @@ fn take_title(bytes: &[u8]) -> Result<(Version, &[u8]), PlanTextFault>
     }
 }
 
-/// Takes line 2.
+// Takes line 2.
 #[tactic(auto, unfolding(crate::specs::PlanReading::next_agents))]
 fn take_agents(bytes: &[u8]) -> Result<(u32, &[u8]), PlanTextFault>
     ensures { Gives (λ p. (p.0, p.1.now)) result (next_agents bytes.entry.now) }
@@ -76,7 +77,7 @@ fn take_agents(bytes: &[u8]) -> Result<(u32, &[u8]), PlanTextFault>
     }
 }
 
-/// Takes line 3.
+// Takes line 3.
 #[tactic(auto, unfolding(crate::specs::PlanReading::next_answer))]
 fn take_answer(version: Version, bytes: &[u8]) -> Result<(AnswerLine, &[u8]), PlanTextFault>
     ensures { Gives (λ p. (p.0, p.1.now)) result (next_answer version bytes.entry.now) }
@@ -88,7 +89,7 @@ fn take_answer(version: Version, bytes: &[u8]) -> Result<(AnswerLine, &[u8]), Pl
     }
 }
 
-/// Checks that the line is `end`, and that nothing follows it.
+// Checks that the line is `end`, and that nothing follows it.
 #[tactic(auto, unfolding(crate::specs::PlanReading::read_end))]
 fn end(number: u64, bytes: &[u8]) -> Result<(), PlanTextFault>
     requires { number < 1000 }
@@ -102,7 +103,7 @@ fn end(number: u64, bytes: &[u8]) -> Result<(), PlanTextFault>
     }
 }
 
-/// Reads the pair that bytes begin with. Returns its cell, None if it isn't on the grid, and what follows.
+// Reads the pair that bytes begin with. Returns its cell, None if it isn't on the grid, and what follows.
 #[tactic(auto, unfolding(crate::specs::PlanReading::read_pair_cell))]
 fn pair_cell<'a>(bytes: &'a [u8], sizes: &Sizes) -> Result<(Option<Cell>, &'a [u8]), LineFault>
     ensures { Gives (λ p. (p.0, p.1.now)) result (read_pair_cell sizes.now bytes.entry.now) }
@@ -147,7 +148,7 @@ fn pairs_of(alloc: Global, number: u64, bytes: &[u8], sizes: &Sizes) -> Result<P
     Ok(Pairs { cells, are_cells })
 }
 
-/// Reads the next line, the path of this agent.
+// Reads the next line, the path of this agent.
 fn path_of(
     alloc: Global,
     number: u64,
@@ -175,7 +176,7 @@ fn path_of(
     }
 }
 
-/// Returns the path of these cells, None if the last two are equal.
+// Returns the path of these cells, None if the last two are equal.
 fn tight(cells: Vec<Cell>) -> Option<Path>
     ensures tight { IsSome result
         ↔ ((1 ≤ length cells.items) × (length cells.items ≤ most_path_cells) × IsTight cells.items) }
@@ -187,8 +188,8 @@ fn tight(cells: Vec<Cell>) -> Option<Path>
     }
 }
 
-/// Checks that the agent is the expected one, that the cost is one less than the number of pairs, and that all are in
-/// their ranges.
+// Checks that the agent is the expected one, that the cost is one less than the number of pairs, and that all are in
+// their ranges.
 fn judge_path(
     agent: Option<u64>,
     cost: Option<u64>,
@@ -211,7 +212,7 @@ fn judge_path(
     }
 }
 
-/// Reads the paths of all agents. Returns them, the sum of their costs, and what follows.
+// Reads the paths of all agents. Returns them, the sum of their costs, and what follows.
 fn paths_of<'a>(
     alloc: Global,
     bytes: &'a [u8],
@@ -256,7 +257,7 @@ fn plan_of(alloc: Global, bytes: &[u8], cost: u64, sizes: &Sizes) -> Result<Plan
     }
 }
 
-/// Takes the first three lines.
+// Takes the first three lines.
 #[tactic(auto, unfolding(crate::specs::PlanReading::read_header))]
 fn take_header(bytes: &[u8]) -> Result<(Version, u32, AnswerLine, &[u8]), PlanTextFault>
     ensures { Gives (λ p. (p.0, p.1, p.2, p.3.now)) result (read_header bytes.entry.now) }
@@ -276,7 +277,7 @@ fn limit_of(cause: Cause, bound: Option<u64>) -> PlanAnswer
     }
 }
 
-/// Reads the rest of the answer whose line was read.
+// Reads the rest of the answer whose line was read.
 fn answer_of(
     alloc: Global,
     line: &AnswerLine,

@@ -1,3 +1,5 @@
+//! A plan text as a value, and the errors of its bytes. The reader and the writer share these, and the runs report the
+//! errors.
 use crate::version::Version;
 use mapf_model::{Cause, Plan};
 

@@ -1,3 +1,4 @@
+//! The writer of plan texts: to a sink for the run of `solve`, or into memory for tests.
 ghost use Rattle.std.specs.Prelude.{◌≡◌, ◌<◌, ◌≤◌, ◌+◌, ◌*◌, ◌++◌, ◌∷◌, [], codes, OnOk, IfOk, length, false};
 ghost use Rattle.std.specs.Result.{is_err};
 ghost use Rattle.mapf_model.specs.Limits.{most_agents};
@@ -16,7 +17,7 @@ use mapf_fields::Page;
 use mapf_model::{Cause, Cell, Failed, Grid, OutOfMemory, Path, Sink};
 use std::alloc::Global;
 
-/// Returns the sum of the paths' costs.
+// Returns the sum of the paths' costs.
 fn cost_of(paths: &[Path]) -> u64
     requires { length paths.now ≤ most_agents }
     ensures { result ≡ cost_of paths.now }
@@ -28,7 +29,7 @@ fn cost_of(paths: &[Path]) -> u64
     cost
 }
 
-/// Adds a line of a word and a number.
+// Adds a line of a word and a number.
 fn push_number_line(page: &mut Page, word: &[u8], number: u64)
     requires { length page.old + (length word.now + (field_room + 1)) ≤ page_room }
     ensures text { page.new ≡ page.old ++ (word.now ++ (field 32 number ++ (10 ∷ []))) }
@@ -38,7 +39,7 @@ fn push_number_line(page: &mut Page, word: &[u8], number: u64)
     page.push_byte(b'\n');
 }
 
-/// Adds the first two lines.
+// Adds the first two lines.
 fn push_head(page: &mut Page, version: Version, agents: u32)
     requires { length page.old + line_room ≤ page_room }
     ensures { page.new ≡ page.old
@@ -51,7 +52,7 @@ fn push_head(page: &mut Page, version: Version, agents: u32)
     push_number_line(page, b"agents", agents as u64);
 }
 
-/// Adds `limit` and why the search ended.
+// Adds `limit` and why the search ended.
 fn push_limit(page: &mut Page, cause: Cause)
     requires { length page.old + 2 * field_room ≤ page_room }
     ensures text { page.new ≡ page.old ++ (codes "limit" ++ cause_words cause) }

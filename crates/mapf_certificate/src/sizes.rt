@@ -1,3 +1,4 @@
+//! What the numbers of a line are compared with, for the readers of plan texts and of certificates.
 ghost use Rattle.std.specs.Prelude.{◌≡◌, ◌≤◌, ◌<◌, ◌+◌, ◌*◌};
 ghost use Rattle.mapf_model.specs.Limits.{most_agents, greatest_side};
 ghost use Rattle.mapf_fields.specs.Numbers.{read_cell};
@@ -19,6 +20,7 @@ pub struct Sizes {
 }
 
 impl Sizes {
+    /// Returns the sizes of a certificate of this version, on this grid, for so many agents.
     pub fn of(version: Version, grid: &Grid, agents: u32) -> Sizes
         requires some { 1 ≤ agents }
         requires few { agents ≤ most_agents }

@@ -1,3 +1,5 @@
+//! The page on which the run of `solve` writes both its texts. The writers of plan texts and of certificates add their
+//! methods to it.
 ghost use Rattle.std.specs.Prelude.{◌≡◌, ◌<◌, [], false};
 ghost use Rattle.std.specs.Result.{is_err};
 ghost use Rattle.mapf_fields.specs.Pages.{PassesOrFails};
@@ -8,7 +10,8 @@ use crate::line_writer::{push_entry_line, push_line};
 use mapf_fields::Page;
 use mapf_model::{Entry, Failed, Grid, Sink};
 
-/// The greatest number of bytes of a line.
+/// The room on the page that is reserved for a line of a certificate, and for each part of a line of a plan text, in
+/// bytes.
 pub const LINE_ROOM: usize = 189;
 
 /// Writes the texts of a grid line by line, through a page. It allocates nothing.
@@ -34,7 +37,7 @@ impl TextWriter {
     }
 
     /// Writes a line of a certificate.
-    pub fn line<K: Sink>(&mut self, sink: &mut K, line: &CertLine) -> Result<(), Failed>
+    pub(crate) fn line<K: Sink>(&mut self, sink: &mut K, line: &CertLine) -> Result<(), Failed>
         requires { K.has_failed sink.old ≡ false }
         ensures text { PassesOrFails (K.contents sink.old) (K.contents sink.new) self.old.page self.new.page
             (line_text self.old.width line.now) result }
@@ -47,7 +50,7 @@ impl TextWriter {
     }
 
     /// Writes the line of an entry.
-    pub fn entry<K: Sink>(&mut self, sink: &mut K, entry: &Entry) -> Result<(), Failed>
+    pub(crate) fn entry<K: Sink>(&mut self, sink: &mut K, entry: &Entry) -> Result<(), Failed>
         requires { K.has_failed sink.old ≡ false }
         ensures text { PassesOrFails (K.contents sink.old) (K.contents sink.new) self.old.page self.new.page
             (entry_text self.old.width entry.now) result }

@@ -1,3 +1,5 @@
+//! How each kind of line of a certificate is read, given what is expected. The reader of lines calls it for each line
+//! that it has cut.
 ghost use Rattle.std.specs.Prelude.{◌≡◌, ◌<◌, Ok, IfOk, OnOk, length};
 ghost use Rattle.mapf_certificate.specs.Lines.{IsLine, words, width_of};
 ghost use Rattle.mapf_certificate.specs.LineReading.{read_title, read_count, read_cost, read_agents};
@@ -64,7 +66,7 @@ fn agents_line(bytes: &[u8]) -> Result<CertLine, LineFault>
     }
 }
 
-/// Reads the line of a claimed bound, which version 1 doesn't have.
+// Reads the line of a claimed bound, which version 1 doesn't have.
 #[tactic(auto, unfolding(crate::specs::LineReading::read_bound_claim))]
 fn bound_line(version: Version, bytes: &[u8]) -> Result<CertLine, LineFault>
     ensures { result ≡ read_bound_claim version bytes.now }
@@ -91,7 +93,7 @@ fn claim_line(version: Version, bytes: &[u8]) -> Result<CertLine, LineFault>
     }
 }
 
-/// Reads the number of blocks at the end of a split's line, which version 1 doesn't have.
+// Reads the number of blocks at the end of a split's line, which version 1 doesn't have.
 #[tactic(auto, unfolding(crate::specs::LineReading::read_blocks))]
 fn blocks_word(version: Version, rest: &[u8]) -> Result<Option<Option<u64>>, LineFault>
     ensures { result ≡ read_blocks version rest.now }

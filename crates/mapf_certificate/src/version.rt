@@ -1,3 +1,4 @@
+//! The versions of plan texts and of certificates, for their readers and writers.
 /// The version of a text.
 #[derive(Clone, Copy, Debug, PartialEq, Eq)]
 pub enum Version {

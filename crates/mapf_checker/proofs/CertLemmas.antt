@@ -38,7 +38,7 @@ module _ (problem : Instance) (claim : Claim) (had : Option (List ℕ)) (start :
   awaits_spelled version agents claimed tree spells = record {
     bytes = bytes;
     known = known;
-    text = subst (λ owed. IsCertText (grid_at start) owed version agents claimed (nodes_of tree) (start.buffer.bytes ++ bytes)) (sym opened.owed)
+    text = subst (λ pending. IsCertText (grid_at start) pending version agents claimed (nodes_of tree) (start.buffer.bytes ++ bytes)) (sym opened.pending)
         (subst (λ b. IsCertText (grid_at start) 1 version agents claimed (nodes_of tree) b) (sym same_bytes) (text_from_spells problem.grid (grid_at start) version agents claimed tree bytes sized spells));
   }
 
@@ -47,7 +47,7 @@ module _ (problem : Instance) (claim : Claim) (had : Option (List ℕ)) (start :
   spelled_awaited version agents claimed nodes awaits =
       let came : start.buffer.bytes ++ awaits.bytes ≡ bytes = ap (λ b. start.buffer.bytes ++ b) (same_Some awaits.bytes bytes (sym awaits.known ∙ known)) ∙ same_bytes in
       spells_from_text problem.grid (grid_at start) version agents claimed nodes bytes (record { width = opened.width; height = opened.height })
-      (subst (λ owed. IsCertText (grid_at start) owed version agents claimed nodes bytes) opened.owed (subst (λ b. IsCertText (grid_at start) start.owed version agents claimed nodes b) came awaits.text))
+      (subst (λ pending. IsCertText (grid_at start) pending version agents claimed nodes bytes) opened.pending (subst (λ b. IsCertText (grid_at start) start.pending version agents claimed nodes b) came awaits.text))
 
   -- the bytes begin with the header
   pub begins : (left : Option (List ℕ)) (new : Reading) (agents : ℕ) (claimed : Claim) → TakesHeader had left start new agents claimed → BeginsWithHeader problem bytes agents claimed

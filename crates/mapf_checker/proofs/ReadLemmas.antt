@@ -18,7 +18,7 @@ use Rattle.mapf_certificate.specs.declared.version.Version.{Version}
 use Rattle.mapf_certificate.specs.declared.cert.LinesFault.{LinesFault}
 use Rattle.mapf_certificate.specs.declared.cert.LinesFault.TheVariants.{Text, Device, TooLong, Memory}
 use Rattle.mapf_certificate.specs.declared.cert.CertFault.TheVariants as texts
-use Rattle.mapf_certificate.specs.CertReading.{Awaits, TakesNode, TakesEnd, trees_owed_after}
+use Rattle.mapf_certificate.specs.CertReading.{Awaits, TakesNode, TakesEnd, trees_pending_after}
 use Rattle.mapf_certificate.specs.declared.line.CertLine.TheVariants as lines
 use Rattle.mapf_certificate.specs.Certificates.{IsNode, line_text, node_text}
 use Rattle.mapf_certificate.specs.Reading.{Reading, grid_at, agents_at, agents_in}
@@ -32,14 +32,14 @@ use Rattle.mapf_checker.specs.declared.tree.Progress.{Progress}
 use Rattle.mapf_checker.specs.CertJudging.{HasTreeRefusal, IsBetweenItems, IsJudgedTree, IsReadTo, IsReadOn}
 use Rattle.mapf_checker.specs.Faults.{of_cert, IsOfJudging, IsNoRefusal, IsOfChecking}
 use Rattle.mapf_checker.specs.NodeDefects.{HasNodeDefect, IsGoodNode}
-use Rattle.mapf_checker.specs.Progress.{contexts_after, contexts_after_all, owed_at, owed_by, here_of, AreAllAlike, IsReady}
+use Rattle.mapf_checker.specs.Progress.{contexts_after, contexts_after_all, pending_at, pending_by, here_of, AreAllAlike, IsReady}
 use Rattle.mapf_checker.specs.Refusals.{HasBadNode}
 use Rattle.mapf_checker.specs.Branch.{Place, place_of}
 use Rattle.mapf_checker.proofs.TreeLemmas.{judged_good, shown_good, defect_refutes_node, defect_alike, nodes_show_alike, alike_after, all_alike_same, all_alike_turned, all_alike_passed}
 
 -- nothing was read
-pub read_none : (problem : Instance) (claim : Claim) (had : Option (List ℕ)) (start : Reading) (owed : List NodeContext) → owed ≡ root ∷ [] → IsReadTo problem claim had had start start owed
-read_none problem claim had start owed same = record {
+pub read_none : (problem : Instance) (claim : Claim) (had : Option (List ℕ)) (start : Reading) (pending : List NodeContext) → pending ≡ root ∷ [] → IsReadTo problem claim had had start start pending
+read_none problem claim had start pending same = record {
   given = [];
   in_range = All-nil (IsNode start.version problem.grid (length problem.agents));
   width = refl;
@@ -68,27 +68,27 @@ is_next had left old new (Some given) item is takes only_item only_end = rw (←
 })
 
 -- a tree is pending where the reader took a node
-is_going : (is_over : Bool) (place : Place) (n : ℕ) → 1 ≤ n → n ≡ length (owed_at is_over place) → owed_at is_over place ≡ place.here ∷ place.owed
+is_going : (is_over : Bool) (place : Place) (n : ℕ) → 1 ≤ n → n ≡ length (pending_at is_over place) → pending_at is_over place ≡ place.here ∷ place.pending
 is_going true place n some count = absurd (omega (arith, count))
 is_going false place n some count = refl
 
 -- as many trees are pending after a node as the reader expects
-contexts_count : (owed : List NodeContext) (node : Node) (n : ℕ) → 1 ≤ n → n ≡ length owed → trees_owed_after n node ≡ length (contexts_after owed node)
+contexts_count : (pending : List NodeContext) (node : Node) (n : ℕ) → 1 ≤ n → n ≡ length pending → trees_pending_after n node ≡ length (contexts_after pending node)
 contexts_count [] node n some count = absurd (omega (arith, count))
-contexts_count (here ∷ owed) (SplitNode conflict blocks) n some count = omega (arith, count)
-contexts_count (here ∷ owed) (LeafNode blocks) n some count = omega (arith, count)
-contexts_count (here ∷ owed) (ClashNode i j) n some count = omega (arith, count)
+contexts_count (here ∷ pending) (SplitNode conflict blocks) n some count = omega (arith, count)
+contexts_count (here ∷ pending) (LeafNode blocks) n some count = omega (arith, count)
+contexts_count (here ∷ pending) (ClashNode i j) n some count = omega (arith, count)
 
 -- after a node the reader and the judge still expect the same number of trees
-pub between_after : (problem : Instance) (claim : Claim) (now new : Reading) (progress after : Progress) (node : Node) → IsBetweenItems problem claim now progress → 1 ≤ now.owed → new.owed ≡ trees_owed_after now.owed node →
-    (new.width ≡ now.width) × (new.height ≡ now.height) → new.header ≡ now.header → new.fault ≡ None → new.is_whole ≡ false → IsReady problem after → AreAllAlike problem (owed_by after) (contexts_after (owed_by progress) node) → IsBetweenItems problem claim new after
-between_after problem claim now new progress after node between some owed size header fault part ready alike = record {
+pub between_after : (problem : Instance) (claim : Claim) (now new : Reading) (progress after : Progress) (node : Node) → IsBetweenItems problem claim now progress → 1 ≤ now.pending → new.pending ≡ trees_pending_after now.pending node →
+    (new.width ≡ now.width) × (new.height ≡ now.height) → new.header ≡ now.header → new.fault ≡ None → new.is_whole ≡ false → IsReady problem after → AreAllAlike problem (pending_by after) (contexts_after (pending_by progress) node) → IsBetweenItems problem claim new after
+between_after problem claim now new progress after node between some pending size header fault part ready alike = record {
   width = size.0 ∙ between.width;
   height = size.1 ∙ between.height;
   header = header ∙ between.header;
   fault = fault;
   part = part;
-  count = owed ∙ contexts_count (owed_by progress) node now.owed some between.count ∙ sym (length_all_zip (AreAlike problem) (owed_by after) (contexts_after (owed_by progress) node) alike);
+  count = pending ∙ contexts_count (pending_by progress) node now.pending some between.count ∙ sym (length_all_zip (AreAlike problem) (pending_by after) (contexts_after (pending_by progress) node) alike);
   ready = ready;
 }
 
@@ -101,9 +101,9 @@ node_moved version g h agents same (LeafNode blocks) is = tree_moved g h same ag
 node_moved version g h agents same (ClashNode i j) is = is
 
 -- a node more
-module _ (problem : Instance) (claim : Claim) (had mid left : Option (List ℕ)) (start now new : Reading) (progress : Progress) (between : IsBetweenItems problem claim now progress) (so_far : IsReadTo problem claim had mid start now (owed_by progress)) (node : Node) (next : IsNext mid left now new node) where
-  is_owed : owed_by progress ≡ here_of progress ∷ (place_of progress.branch).owed
-  is_owed = is_going progress.is_over (place_of progress.branch) now.owed next.takes.read.was_owed between.count
+module _ (problem : Instance) (claim : Claim) (had mid left : Option (List ℕ)) (start now new : Reading) (progress : Progress) (between : IsBetweenItems problem claim now progress) (so_far : IsReadTo problem claim had mid start now (pending_by progress)) (node : Node) (next : IsNext mid left now new node) where
+  is_pending : pending_by progress ≡ here_of progress ∷ (place_of progress.branch).pending
+  is_pending = is_going progress.is_over (place_of progress.branch) now.pending next.takes.read.was_pending between.count
 
   -- it is the next one
   next_is : (given nodes rest : List Node) → nodes ≡ given ++ rest → Awaits mid now rest → (after : List Node) × (nodes ≡ (given ++ node ∷ []) ++ after) × (rest ≡ node ∷ after) × Awaits left new after
@@ -124,7 +124,7 @@ module _ (problem : Instance) (claim : Claim) (had mid left : Option (List ℕ))
       node_moved start.version (grid_at now) problem.grid (length problem.agents) (record { width = between.width; height = between.height }) node
       (subst (λ v. IsNode v (grid_at now) (length problem.agents) node) so_far.version counted)
 
-  pub read_more : FrontDecides → OnlyStartEntriesCount → ChildrenAreAlike → new.width ≡ now.width → new.version ≡ now.version → IsGoodNode problem claim (here_of progress) node → (after : List NodeContext) → AreAllAlike problem after (contexts_after (owed_by progress) node) → IsReadTo problem claim had left start new after
+  pub read_more : FrontDecides → OnlyStartEntriesCount → ChildrenAreAlike → new.width ≡ now.width → new.version ≡ now.version → IsGoodNode problem claim (here_of progress) node → (after : List NodeContext) → AreAllAlike problem after (contexts_after (pending_by progress) node) → IsReadTo problem claim had left start new after
   read_more law count children same_width same_version good after is_after = record {
     given = so_far.given ++ node ∷ [];
     in_range = All-push (IsNode start.version problem.grid (length problem.agents)) so_far.given node so_far.in_range node_in_range;
@@ -139,14 +139,14 @@ module _ (problem : Instance) (claim : Claim) (had mid left : Option (List ℕ))
         let (had_left, known_mid, same, count) = Window-known had mid start.buffer now.buffer (flat_map (node_text start.version start.width) so_far.given) bytes so_far.window known in
         subst (λ ns. Awaits had start ns) (sym (append_assoc so_far.given (node ∷ []) rest)) (so_far.behind bytes known (node ∷ rest) (next.takes.joins had_left known_mid rest awaits));
     place = subst (λ those. AreAllAlike problem after those) (sym (fold_push contexts_after (root ∷ []) so_far.given node))
-        (all_alike_passed problem after (contexts_after (owed_by progress) node) (contexts_after (contexts_after_all (root ∷ []) so_far.given) node) is_after
-        (alike_after children problem (owed_by progress) (contexts_after_all (root ∷ []) so_far.given) node so_far.place));
+        (all_alike_passed problem after (contexts_after (pending_by progress) node) (contexts_after (contexts_after_all (root ∷ []) so_far.given) node) is_after
+        (alike_after children problem (pending_by progress) (contexts_after_all (root ∷ []) so_far.given) node so_far.place));
     shows = λ rest.
         let before = so_far.shows (node ∷ rest) in
-        let next_on : NodesShow problem claim (owed_by progress) (node ∷ rest) ↔ NodesShow problem claim (contexts_after (owed_by progress) node) rest = rw is_owed (judged_good law problem claim (here_of progress) (place_of progress.branch).owed node good rest) in
-        let here_on : NodesShow problem claim (owed_by progress) (node ∷ rest) ↔ NodesShow problem claim after rest = (
-          λ shows. nodes_show_alike count problem claim (contexts_after (owed_by progress) node) after rest (all_alike_turned problem after (contexts_after (owed_by progress) node) is_after) (next_on.0 shows),
-          λ shows. next_on.1 (nodes_show_alike count problem claim after (contexts_after (owed_by progress) node) rest is_after shows),
+        let next_on : NodesShow problem claim (pending_by progress) (node ∷ rest) ↔ NodesShow problem claim (contexts_after (pending_by progress) node) rest = rw is_pending (judged_good law problem claim (here_of progress) (place_of progress.branch).pending node good rest) in
+        let here_on : NodesShow problem claim (pending_by progress) (node ∷ rest) ↔ NodesShow problem claim after rest = (
+          λ shows. nodes_show_alike count problem claim (contexts_after (pending_by progress) node) after rest (all_alike_turned problem after (contexts_after (pending_by progress) node) is_after) (next_on.0 shows),
+          λ shows. next_on.1 (nodes_show_alike count problem claim after (contexts_after (pending_by progress) node) rest is_after shows),
         ) in
         rw (append_assoc so_far.given (node ∷ []) rest) (λ shows. here_on.0 (before.0 shows), λ shows. before.1 (here_on.1 shows));
   }
@@ -155,23 +155,23 @@ module _ (problem : Instance) (claim : Claim) (had mid left : Option (List ℕ))
   came_with_node = Window-within had left start.buffer new.buffer (flat_map (node_text start.version start.width) so_far.given ++ node_text start.version start.width node) taken
 
   -- the context that the node inherits: the one that is kept is alike
-  inherits : (those : List NodeContext) → AreAllAlike problem (here_of progress ∷ (place_of progress.branch).owed) those → (here : NodeContext) × (owed : List NodeContext) × (those ≡ here ∷ owed) × AreAlike problem (here_of progress) here
+  inherits : (those : List NodeContext) → AreAllAlike problem (here_of progress ∷ (place_of progress.branch).pending) those → (here : NodeContext) × (pending : List NodeContext) × (those ≡ here ∷ pending) × AreAlike problem (here_of progress) here
   inherits [] alike = absurd alike
-  inherits (here ∷ owed) (alike, rest) = (here, owed, refl, alike)
+  inherits (here ∷ pending) (alike, rest) = (here, pending, refl, alike)
 
   -- it has a defect
   pub bad_node : OnlyStartEntriesCount → ChildrenAreAlike → (fault : CheckFault) → HasNodeDefect problem claim (here_of progress) node fault → (bytes : List ℕ) → had ≡ Some bytes → HasBadNode problem claim start.version fault (start.buffer.bytes ++ bytes)
   bad_node count_law children fault defect bytes known =
       let text = node_text start.version start.width in
       let (after, known_left, same, count) = Window-known had left start.buffer new.buffer (flat_map text so_far.given ++ text node) bytes taken known in
-      let (here, owed, place, alike) = inherits (contexts_after_all (root ∷ []) so_far.given) (subst (λ os. AreAllAlike problem os (contexts_after_all (root ∷ []) so_far.given)) is_owed so_far.place) in
+      let (here, pending, place, alike) = inherits (contexts_after_all (root ∷ []) so_far.given) (subst (λ os. AreAllAlike problem os (contexts_after_all (root ∷ []) so_far.given)) is_pending so_far.place) in
       record {
         before = so_far.given;
         before_in_range = so_far.in_range;
         node = node;
         in_range = node_in_range;
         here = here;
-        owed = owed;
+        pending = pending;
         place = place;
         defect = defect_alike count_law children problem claim (here_of progress) here node fault alike defect;
         rest = new.buffer.bytes ++ after;
@@ -185,16 +185,16 @@ module _ (problem : Instance) (claim : Claim) (had mid left : Option (List ℕ))
       let (rest, same, there) = so_far.ahead nodes awaits in
       let (after, whole, front, then) = next_is so_far.given nodes rest same there in
       let all : nodes ≡ so_far.given ++ node ∷ after = same ∙ ap (λ ns. so_far.given ++ ns) front in
-      let left_to_show : NodesShow problem claim (owed_by progress) (node ∷ after) = (so_far.shows (node ∷ after)).0 (subst (λ ns. NodesShow problem claim (root ∷ []) ns) all shows) in
+      let left_to_show : NodesShow problem claim (pending_by progress) (node ∷ after) = (so_far.shows (node ∷ after)).0 (subst (λ ns. NodesShow problem claim (root ∷ []) ns) all shows) in
       defect_refutes_node problem claim (here_of progress) now.version (grid_at now) (agents_at now) node fault next.takes.read.in_range defect
-      (shown_good law problem claim (here_of progress) (place_of progress.branch).owed node after (subst (λ o. NodesShow problem claim o (node ∷ after)) is_owed left_to_show))
+      (shown_good law problem claim (here_of progress) (place_of progress.branch).pending node after (subst (λ o. NodesShow problem claim o (node ∷ after)) is_pending left_to_show))
 
 -- the end was read
-pub read_all : FrontDecides → (problem : Instance) (claim : Claim) (had mid left : Option (List ℕ)) (start now new : Reading) (owed : List NodeContext) → now.owed ≡ length owed → IsReadTo problem claim had mid start now owed → TakesEnd mid left now new → IsJudgedTree problem claim had start
-read_all law problem claim had mid left start now new owed count so_far takes = record {
+pub read_all : FrontDecides → (problem : Instance) (claim : Claim) (had mid left : Option (List ℕ)) (start now new : Reading) (pending : List NodeContext) → now.pending ≡ length pending → IsReadTo problem claim had mid start now pending → TakesEnd mid left now new → IsJudgedTree problem claim had start
+read_all law problem claim had mid left start now new pending count so_far takes = record {
   nodes = so_far.given;
   shows = subst (λ ns. NodesShow problem claim (root ∷ []) ns) (append-nil so_far.given)
-      ((so_far.shows []).1 (subst (λ o. NodesShow problem claim o []) (sym (none owed (sym count ∙ takes.read.none_owed))) (law problem claim).over));
+      ((so_far.shows []).1 (subst (λ o. NodesShow problem claim o []) (sym (none pending (sym count ∙ takes.read.none_pending))) (law problem claim).over));
   read = λ bytes known.
       let (rest, known_mid, same, count) = Window-known had mid start.buffer now.buffer (flat_map (node_text start.version start.width) so_far.given) bytes so_far.window known in
       subst (λ ns. Awaits had start ns) (append-nil so_far.given) (so_far.behind bytes known [] (takes.joins rest known_mid));
@@ -204,19 +204,19 @@ read_all law problem claim had mid left start now new owed count so_far takes = 
       let none_left : after ≡ [] = rw known_left at takes.read.ended in
       omega (arith, count, count_end, ap length none_left);
 } where
-  none : (owed : List NodeContext) → length owed ≡ 0 → owed ≡ []
+  none : (pending : List NodeContext) → length pending ≡ 0 → pending ≡ []
   none [] e = refl
   none (o ∷ os) e = absurd (omega (arith, e))
 
 -- the bytes up to the end are within the limit
-pub came_to_end : (problem : Instance) (claim : Claim) (had mid left : Option (List ℕ)) (start now new : Reading) (owed : List NodeContext) → IsReadTo problem claim had mid start now owed → TakesEnd mid left now new → ComesWithin had left start.buffer
-came_to_end problem claim had mid left start now new owed so_far takes =
+pub came_to_end : (problem : Instance) (claim : Claim) (had mid left : Option (List ℕ)) (start now new : Reading) (pending : List NodeContext) → IsReadTo problem claim had mid start now pending → TakesEnd mid left now new → ComesWithin had left start.buffer
+came_to_end problem claim had mid left start now new pending so_far takes =
     ComesWithin-after had mid left start.buffer now.buffer (flat_map (node_text start.version start.width) so_far.given) so_far.window (Window-within mid left now.buffer new.buffer (line_text now.width lines.End) takes.read.window)
 
 -- no nodes were awaited where reading found an error of the text
-pub none_awaited : (problem : Instance) (claim : Claim) (had mid : Option (List ℕ)) (start now : Reading) (owed : List NodeContext) (fault : LinesFault) → IsReadTo problem claim had mid start now owed →
+pub none_awaited : (problem : Instance) (claim : Claim) (had mid : Option (List ℕ)) (start now : Reading) (pending : List NodeContext) (fault : LinesFault) → IsReadTo problem claim had mid start now pending →
     ((other : Node) (nodes : List Node) → Awaits mid now (other ∷ nodes) → IsNoTextFault fault) → (Awaits mid now [] → IsNoTextFault fault) → (nodes : List Node) → Awaits had start nodes → IsNoTextFault fault
-none_awaited problem claim had mid start now owed fault so_far only_item only_end nodes awaits = let (rest, same, there) = so_far.ahead nodes awaits in by rest there where
+none_awaited problem claim had mid start now pending fault so_far only_item only_end nodes awaits = let (rest, same, there) = so_far.ahead nodes awaits in by rest there where
   by : (rest : List Node) → Awaits mid now rest → IsNoTextFault fault
   by [] there = only_end there
   by (other ∷ rest) there = only_item other rest there
@@ -266,10 +266,10 @@ no_refusal_judging P from.TooLong is none = tt
 no_refusal_judging P from.Memory is none = tt
 
 -- where reading or judging an item ended with this error
-pub not_read_on : (problem : Instance) (claim : Claim) (had left : Option (List ℕ)) (failed : Bool) (start reading : Reading) (owed : List NodeContext) (result : Result Bool FromFault) (fault : FromFault) → IsErrAnd result (λ given. given ≡ fault) →
-    ((nodes : List Node) → Awaits had start nodes → NodesShow problem claim (root ∷ []) nodes → IsNoRefusal fault) → IsOfChecking had left failed start.buffer (HasTreeRefusal problem claim had start) fault → IsReadOn problem claim had left failed start reading owed result
-not_read_on problem claim had left failed start reading owed (Ok more) fault is only stops = absurd is
-not_read_on problem claim had left failed start reading owed (Err given) fault is only stops = record {
+pub not_read_on : (problem : Instance) (claim : Claim) (had left : Option (List ℕ)) (failed : Bool) (start reading : Reading) (pending : List NodeContext) (result : Result Bool FromFault) (fault : FromFault) → IsErrAnd result (λ given. given ≡ fault) →
+    ((nodes : List Node) → Awaits had start nodes → NodesShow problem claim (root ∷ []) nodes → IsNoRefusal fault) → IsOfChecking had left failed start.buffer (HasTreeRefusal problem claim had start) fault → IsReadOn problem claim had left failed start reading pending result
+not_read_on problem claim had left failed start reading pending (Ok more) fault is only stops = absurd is
+not_read_on problem claim had left failed start reading pending (Err given) fault is only stops = record {
   read = tt;
   came = tt;
   only = λ nodes awaits shows. subst IsNoRefusal (sym is) (only nodes awaits shows);

@@ -1,5 +1,5 @@
 -- The labels of the starts, added up.
-use Rattle.std.proofs.Common.{◌≡◌, ◌⊎◌, ℕ, zero, suc, ◌+◌, ◌*◌, ◌<◌, ◌≤◌, ◌↔◌, IfSome, List, [], ◌∷◌, ◌++◌, Option, None, Some, Contains, AllPairs, slice_get, slice_index_or, length, refl, sym, ◌∙◌, ap, subst, inl, inr, ⊎_elim, eq-eqb, arith}
+use Rattle.std.proofs.Common.{◌≡◌, ◌⊎◌, ℕ, zero, suc, ◌+◌, ◌<◌, ◌≤◌, ◌↔◌, ◌&&◌, Bool, true, false, List, [], ◌∷◌, ◌++◌, Option, None, Some, Contains, AllPairs, slice_get, slice_index_or, length, refl, sym, ◌∙◌, ap, subst, inl, inr, ⊎_elim, eq-eqb, arith}
 use Rattle.std.proofs.lemmas.Bool.{cases_eq, cases_lt, ne_eqb}
 use Rattle.std.proofs.lemmas.Option.{same_Some}
 use Rattle.std.proofs.lemmas.List.{length_push}
@@ -9,7 +9,7 @@ use Rattle.mapf_model.specs.declared.label.Label.{Label}
 use Rattle.mapf_model.specs.declared.label.Label.TheVariants.{Ticks, Never}
 use Rattle.mapf_model.specs.Blocks.{LabelBlock}
 use Rattle.mapf_model.specs.Grid.{GridMap}
-use Rattle.mapf_model.specs.Labels.{Entries, entries_of, IsLabel, IsEntryOrDistance, label_plus, label_sum}
+use Rattle.mapf_model.specs.Labels.{Entries, IsLabel, IsEntryOrDistance, label_plus, label_sum}
 use Rattle.mapf_model.specs.Plan.{Instance}
 use Rattle.mapf_model.specs.declared.item.Claim.{Claim}
 use Rattle.mapf_model.specs.declared.item.Claim.TheVariants.{Cost, Bound, Impossible}
@@ -18,7 +18,7 @@ use Rattle.mapf_model.specs.Tree.{StartsReach, StartsShow, block_of, with_blocks
 use Rattle.mapf_distance.specs.Distances.{IsDistanceOrNone}
 use Rattle.mapf_distance.specs.Tables.{AreStartDistances}
 use Rattle.mapf_checker.specs.Starts.{IsKept}
-use Rattle.mapf_checker.specs.Leaf.{IsPlaceOfAgent, IsStartLabel, IsStartOf, IsStartTotal, IsEnough, label_of_total, TakesBlock, LeavesBlock}
+use Rattle.mapf_checker.specs.Leaf.{IsPlaceOfAgent, IsStartLabel, IsStartOf, IsStartTotal, IsEnough, is_finite, label_of_total, ticks_in, TakesBlock, LeavesBlock}
 
 -- labels of the first starts
 abbrev pub AreLabelsBelow : Instance → List LabelBlock → (ℕ → Entries) → List Label → Type 0
@@ -139,31 +139,32 @@ module _ (problem : Instance) (blocks : List LabelBlock) (before : ℕ → Entri
       subst (λ (x : Agent). IsLabel problem.grid x.goal (with_blocks blocks before agent) x.start 0 label) (same_Some a b (sym is_a ∙ is_b))
       (subst (λ (e : Option Label). IsEntryOrDistance problem.grid a.goal a.start e label) (sym (ap (λ s. with_blocks blocks before agent s 0) at ∙ same)) this)
 
-  pub start_by_block : (block : LabelBlock) → block_of blocks agent ≡ Some block → entry ≡ entries_of block.entries start 0 → IsStartLabel problem blocks before agent label
-  start_by_block block is_block is_entry = start_by_entry (rw is_block (sym is_entry))
-
   pub start_from_above : block_of blocks agent ≡ None → IsKept before agent entry → IsStartLabel problem blocks before agent label
   start_from_above none kept = start_by_entry (rw none (kept start 0))
 
+-- the sum of labels of which all are finite or not
+abbrev pub sum_of : Bool → ℕ → Option ℕ
+sum_of true sum = Some sum
+sum_of false sum = None
+
+sum_more : (finite : Bool) (sum : ℕ) (label : Label) → label_of_total (sum_of (finite && is_finite label) (sum + ticks_in label)) ≡ label_plus (label_of_total (sum_of finite sum)) label
+sum_more true sum (Ticks n) = refl
+sum_more true sum Never = refl
+sum_more false sum (Ticks n) = refl
+sum_more false sum Never = refl
+
 -- one label more
-pub start_more : (problem : Instance) (blocks : List LabelBlock) (before : ℕ → Entries) (i : ℕ) (total sum : Option ℕ) (label : Label) → i < length problem.agents →
-    (labels : List Label) × (length labels ≡ i) × AreLabelsBelow problem blocks before labels × (label_sum labels ≡ label_of_total total) →
-    IsStartLabel problem blocks before i label → label_of_total sum ≡ label_plus (label_of_total total) label →
-    (labels : List Label) × (length labels ≡ i + 1) × AreLabelsBelow problem blocks before labels × (label_sum labels ≡ label_of_total sum)
-start_more problem blocks before i total sum label inside (labels, count, below, adds) is_label is_sum =
+pub start_more : (problem : Instance) (blocks : List LabelBlock) (before : ℕ → Entries) (i : ℕ) (finite : Bool) (sum : ℕ) (label : Label) → i < length problem.agents →
+    (labels : List Label) × (length labels ≡ i) × AreLabelsBelow problem blocks before labels × (label_sum labels ≡ label_of_total (sum_of finite sum)) →
+    IsStartLabel problem blocks before i label →
+    (labels : List Label) × (length labels ≡ i + 1) × AreLabelsBelow problem blocks before labels × (label_sum labels ≡ label_of_total (sum_of (finite && is_finite label) (sum + ticks_in label)))
+start_more problem blocks before i finite sum label inside (labels, count, below, adds) is_label =
     let (agent, is_agent) = slice_get_inside problem.agents i inside in (
       labels ++ label ∷ [],
       omega (arith, length_push labels label, count),
       AreLabelsBelow-push problem blocks before labels agent label below (subst (λ k. slice_get problem.agents k ≡ Some agent) (sym count) is_agent) (subst (λ k. IsLabel problem.grid agent.goal (with_blocks blocks before k) agent.start 0 label) (sym count) (is_label agent is_agent)),
-      label_sum-push labels label ∙ ap (λ s. label_plus s label) adds ∙ sym is_sum,
+      label_sum-push labels label ∙ ap (λ s. label_plus s label) adds ∙ sym (sum_more finite sum label),
     )
-
-pub bound_more : (total sum : Option ℕ) (i : ℕ) (label : Label) → label_of_total sum ≡ label_plus (label_of_total total) label → IfSome sum (λ s. IfSome total (λ t. s ≤ t + 4294967295)) → IfSome total (λ t. t ≤ 4294967295 * i) →
-    IfSome sum (λ s. s ≤ 4294967295 * (i + 1))
-bound_more None None i label e more bound = tt
-bound_more None (Some s) i label e more bound = absurd cc
-bound_more (Some t) None i label e more bound = tt
-bound_more (Some t) (Some s) i label e more bound = omega (arith, more, bound)
 
 -- a sum, None where it is infinite, is at least this
 abbrev pub IsAtLeast : ℕ → Option ℕ → Type 0

@@ -22,7 +22,7 @@ use Rattle.mapf_certificate.specs.Certificates.{IsNode}
 use Rattle.mapf_checker.specs.declared.fault.CheckFault.{CheckFault}
 use Rattle.mapf_checker.specs.declared.starts.StartChange.{StartChange}
 use Rattle.mapf_checker.specs.Branch.{Place, IsSplit, child_after}
-use Rattle.mapf_checker.specs.Progress.{contexts_after, owed_at, AreAllAlike}
+use Rattle.mapf_checker.specs.Progress.{contexts_after, pending_at, AreAllAlike}
 use Rattle.mapf_checker.specs.Starts.{AreChangesBy, AreOfFirst, KnowEntries, IsKept, with_changes}
 use Rattle.mapf_checker.specs.NodeDefects.{HasNodeDefect, HasUnsoundBlock, IsGoodNode}
 use Rattle.mapf_checker.proofs.EntryLemmas.{IsSoundEntry-at}
@@ -116,31 +116,31 @@ child_alike problem here blocks changes constraint are = record { bars = refl; s
 
 -- the contexts that are pending after a node
 pub contexts_after_split : (problem : Instance) (conflict : Conflict) (blocks : List LabelBlock) (changes : List StartChange) (is_over : Bool) (old new : Place) → is_over ≡ false → AreChangesBy problem old.here.entries blocks changes → IsSplit old conflict changes new →
-    AreAllAlike problem (owed_at is_over new) (contexts_after (owed_at is_over old) (SplitNode conflict blocks))
+    AreAllAlike problem (pending_at is_over new) (contexts_after (pending_at is_over old) (SplitNode conflict blocks))
 contexts_after_split problem conflict blocks changes true old new going are split = absurd cc
-contexts_after_split problem conflict blocks changes false old new going are split = rw (split.here, split.owed)
-    (child_alike problem old.here blocks changes (left_constraint conflict) are, (child_alike problem old.here blocks changes (right_constraint conflict) are, all_alike_same problem old.owed))
+contexts_after_split problem conflict blocks changes false old new going are split = rw (split.here, split.pending)
+    (child_alike problem old.here blocks changes (left_constraint conflict) are, (child_alike problem old.here blocks changes (right_constraint conflict) are, all_alike_same problem old.pending))
 
-pub contexts_after_leaf : (blocks : List LabelBlock) (is_over : Bool) (old : Place) (owed : List NodeContext) → is_over ≡ false → owed ≡ old.owed → owed ≡ contexts_after (owed_at is_over old) (LeafNode blocks)
-contexts_after_leaf blocks true old owed going same = absurd cc
-contexts_after_leaf blocks false old owed going same = same
+pub contexts_after_leaf : (blocks : List LabelBlock) (is_over : Bool) (old : Place) (pending : List NodeContext) → is_over ≡ false → pending ≡ old.pending → pending ≡ contexts_after (pending_at is_over old) (LeafNode blocks)
+contexts_after_leaf blocks true old pending going same = absurd cc
+contexts_after_leaf blocks false old pending going same = same
 
-pub contexts_after_clash : (i j : ℕ) (is_over : Bool) (old : Place) (owed : List NodeContext) → is_over ≡ false → owed ≡ old.owed → owed ≡ contexts_after (owed_at is_over old) (ClashNode i j)
-contexts_after_clash i j true old owed going same = absurd cc
-contexts_after_clash i j false old owed going same = same
+pub contexts_after_clash : (i j : ℕ) (is_over : Bool) (old : Place) (pending : List NodeContext) → is_over ≡ false → pending ≡ old.pending → pending ≡ contexts_after (pending_at is_over old) (ClashNode i j)
+contexts_after_clash i j true old pending going same = absurd cc
+contexts_after_clash i j false old pending going same = same
 
-module _ (law : FrontDecides) (problem : Instance) (claim : Claim) (here : NodeContext) (owed : List NodeContext) where
+module _ (law : FrontDecides) (problem : Instance) (claim : Claim) (here : NodeContext) (pending : List NodeContext) where
   -- the nodes from a good one on show the claim if and only if those after it do
-  pub judged_good : (node : Node) → IsGoodNode problem claim here node → (rest : List Node) → NodesShow problem claim (here ∷ owed) (node ∷ rest) ↔ NodesShow problem claim (contexts_after (here ∷ owed) node) rest
-  judged_good (SplitNode conflict blocks) good rest = let both = (law problem claim).at_split here owed conflict blocks rest in (λ shows. (both.0 shows).1, λ shows. both.1 (good, shows))
-  judged_good (LeafNode blocks) good rest = let both = (law problem claim).at_leaf here owed blocks rest in (λ shows. (both.0 shows).1, λ shows. both.1 (good, shows))
-  judged_good (ClashNode i j) good rest = let both = (law problem claim).at_clash here owed i j rest in (λ shows. (both.0 shows).1, λ shows. both.1 (good, shows))
+  pub judged_good : (node : Node) → IsGoodNode problem claim here node → (rest : List Node) → NodesShow problem claim (here ∷ pending) (node ∷ rest) ↔ NodesShow problem claim (contexts_after (here ∷ pending) node) rest
+  judged_good (SplitNode conflict blocks) good rest = let both = (law problem claim).at_split here pending conflict blocks rest in (λ shows. (both.0 shows).1, λ shows. both.1 (good, shows))
+  judged_good (LeafNode blocks) good rest = let both = (law problem claim).at_leaf here pending blocks rest in (λ shows. (both.0 shows).1, λ shows. both.1 (good, shows))
+  judged_good (ClashNode i j) good rest = let both = (law problem claim).at_clash here pending i j rest in (λ shows. (both.0 shows).1, λ shows. both.1 (good, shows))
 
   -- no nodes show the claim that begin with one that is good nowhere
-  pub shown_good : (node : Node) (rest : List Node) → NodesShow problem claim (here ∷ owed) (node ∷ rest) → IsGoodNode problem claim here node
-  shown_good (SplitNode conflict blocks) rest shows = (((law problem claim).at_split here owed conflict blocks rest).0 shows).0
-  shown_good (LeafNode blocks) rest shows = (((law problem claim).at_leaf here owed blocks rest).0 shows).0
-  shown_good (ClashNode i j) rest shows = (((law problem claim).at_clash here owed i j rest).0 shows).0
+  pub shown_good : (node : Node) (rest : List Node) → NodesShow problem claim (here ∷ pending) (node ∷ rest) → IsGoodNode problem claim here node
+  shown_good (SplitNode conflict blocks) rest shows = (((law problem claim).at_split here pending conflict blocks rest).0 shows).0
+  shown_good (LeafNode blocks) rest shows = (((law problem claim).at_leaf here pending blocks rest).0 shows).0
+  shown_good (ClashNode i j) rest shows = (((law problem claim).at_clash here pending i j rest).0 shows).0
 
 -- blocks of which one has an unsound entry don't show a claim
 unsound_refutes : (problem : Instance) (here : NodeContext) (grid : GridMap) (agents : ℕ) (blocks : List LabelBlock) → AreBlocksInRange grid agents blocks → HasUnsoundBlock problem here blocks → AreBlocksSound problem here blocks → ⊥

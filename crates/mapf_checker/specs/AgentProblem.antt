@@ -22,11 +22,14 @@ pub record HasGoalDistances (own : AgentProblem) : Type 0 where
 
 -- the entry is sound under the agent's constraints, in a block of these entries
 abbrev pub IsSoundAmong : AgentProblem → List Entry → Entry → Type 0
-IsSoundAmong own entries entry = IsSoundEntry own.grid.now own.goal (bars_on own) (entries_of entries) entry.cell entry.tick entry.label
+IsSoundAmong own entries entry =
+    IsSoundEntry own.grid.now own.goal (bars_on own) (entries_of entries) entry.cell entry.tick entry.label
 
 -- if the constraints allow the step to this cell, the entry's label is at most one more than the label after it
 abbrev pub IsConsistentStep : AgentProblem → List Entry → Entry → ℕ → Type 0
-IsConsistentStep own entries entry next = MayGo own.grid.now (bars_on own) entry.cell next entry.tick → IsWithinOne own.grid.now own.goal (entries_of entries) entry.label next (entry.tick + 1)
+IsConsistentStep own entries entry next =
+    MayGo own.grid.now (bars_on own) entry.cell next entry.tick →
+    IsWithinOne own.grid.now own.goal (entries_of entries) entry.label next (entry.tick + 1)
 
 -- this holds for each cell
 abbrev pub IsConsistent : AgentProblem → List Entry → Entry → Type 0

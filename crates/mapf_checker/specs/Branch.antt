@@ -23,11 +23,12 @@ pub record Route : Type 0 where
 -- what the node that is read next inherits, and what the nodes inherit that are to be read after its subtree
 pub record Place : Type 0 where
   pub here : NodeContext
-  pub owed : List NodeContext
+  pub pending : List NodeContext
 
 -- what a child of a split inherits: one constraint more, and the entries of the starts after the split's changes
 abbrev pub child_after : NodeContext → List StartChange → Constraint → NodeContext
-child_after context changes constraint = record { bars = with_constraint context.bars constraint; entries = with_changes changes context.entries }
+child_after context changes constraint =
+    record { bars = with_constraint context.bars constraint; entries = with_changes changes context.entries }
 
 -- the constraint of a child of a split on this conflict
 abbrev pub constraint_at : Child → Conflict → Constraint
@@ -39,13 +40,17 @@ abbrev pub constraint_of : Edge → Constraint
 constraint_of edge = constraint_at edge.child edge.conflict
 
 -- what is to be read after a child of a split: after the left child the right one, then the rest
-abbrev pub with_owed : NodeContext → List StartChange → Conflict → Child → List NodeContext → List NodeContext
-with_owed here changes conflict Left owed = child_after here changes (right_constraint conflict) ∷ owed
-with_owed here changes conflict Right owed = owed
+abbrev pub with_pending : NodeContext → List StartChange → Conflict → Child → List NodeContext → List NodeContext
+with_pending here changes conflict Left pending = child_after here changes (right_constraint conflict) ∷ pending
+with_pending here changes conflict Right pending = pending
 
 -- the place at this child of a split on this conflict, whose blocks make these changes
 abbrev pub descended : Place → Conflict → Child → List StartChange → Place
-descended place conflict child changes = record { here = child_after place.here changes (constraint_at child conflict); owed = with_owed place.here changes conflict child place.owed }
+descended place conflict child changes =
+    record {
+      here = child_after place.here changes (constraint_at child conflict);
+      pending = with_pending place.here changes conflict child place.pending;
+    }
 
 -- the place at the end of an edge
 abbrev pub along : Place → Edge → Place
@@ -53,7 +58,7 @@ along place edge = descended place edge.conflict edge.child edge.changes.items
 
 -- the root, with nothing to be read after it
 abbrev pub at_root : Place
-at_root = record { here = root; owed = [] }
+at_root = record { here = root; pending = [] }
 
 -- the place at the end of these edges from the root
 abbrev pub place_after : List Edge → Place
@@ -75,13 +80,16 @@ pub record CanUndoEdge (count : ℕ) (context : NodeContext) (edge : Edge) : Typ
 -- this holds for each edge
 abbrev pub CanUndoAll : ℕ → NodeContext → List Edge → Type 0
 CanUndoAll agents here [] = Unit {0}
-CanUndoAll agents here (edge ∷ edges) = CanUndoEdge agents here edge × CanUndoAll agents (child_after here edge.changes.items (constraint_of edge)) edges
+CanUndoAll agents here (edge ∷ edges) =
+    CanUndoEdge agents here edge × CanUndoAll agents (child_after here edge.changes.items (constraint_of edge)) edges
 
 -- the constraints of the first edges, as many as there are undos, can be removed from an index again
 abbrev pub CanUndoFirst : NodeContext → List Edge → List Undo → Type 0
 CanUndoFirst here edges [] = Unit {0}
 CanUndoFirst here [] (undo ∷ undos) = ⊥
-CanUndoFirst here (edge ∷ edges) (undo ∷ undos) = CanUndo here.bars (constraint_of edge) undo × CanUndoFirst (child_after here edge.changes.items (constraint_of edge)) edges undos
+CanUndoFirst here (edge ∷ edges) (undo ∷ undos) =
+    CanUndo here.bars (constraint_of edge) undo
+    × CanUndoFirst (child_after here edge.changes.items (constraint_of edge)) edges undos
 
 -- the index has the constraints of the first edges, as many as there are undos, and the undos remove them again
 pub record IndexesFirst (edges : List Edge) (undos : List Undo) (index : BarIndex) : Type 0 where
@@ -99,8 +107,8 @@ pub record IsIndexedBranch (edges : List Edge) (undos : List Undo) (index : BarI
 -- the move to the left child of a split whose blocks make these changes
 pub record IsSplit (old : Place) (conflict : Conflict) (changes : List StartChange) (new : Place) : Type 0 where
   pub here : new.here ≡ child_after old.here changes (left_constraint conflict)
-  pub owed : new.owed ≡ child_after old.here changes (right_constraint conflict) ∷ old.owed
+  pub pending : new.pending ≡ child_after old.here changes (right_constraint conflict) ∷ old.pending
 
 -- the move to the next node in pre-order, if there is one
 abbrev pub NextOf : Place → Place → Bool → Type 0
-NextOf old new more = MatchBool more (old.owed ≡ new.here ∷ new.owed) (old.owed ≡ [])
+NextOf old new more = MatchBool more (old.pending ≡ new.here ∷ new.pending) (old.pending ≡ [])

@@ -27,4 +27,5 @@ IsPairWith Fact count pair = (pair.0 < pair.1) × (pair.1 < count) × Fact pair.
 
 -- no two agents are in conflict at the tick
 abbrev pub AreApartAt : List (List ℕ) → ℕ → Type 0
-AreApartAt paths tick = (i j : ℕ) (p q : List ℕ) → i < j → slice_get paths i ≡ Some p → slice_get paths j ≡ Some q → ConflictAt p q tick → ⊥
+AreApartAt paths tick =
+    (i j : ℕ) (p q : List ℕ) → i < j → slice_get paths i ≡ Some p → slice_get paths j ≡ Some q → ConflictAt p q tick → ⊥

@@ -12,7 +12,9 @@ use Rattle.mapf_checker.specs.Conflicts.{AreInOneCell, ExchangeCells}
 
 -- the agent's path has this defect
 abbrev pub IsUnlawful : Instance → List (List ℕ) → ℕ → PathFault → Type 0
-IsUnlawful problem plan i fault = (agent : Agent) × (path : List ℕ) × (slice_get problem.agents i ≡ Some agent) × (slice_get plan i ≡ Some path) × HasPathDefect problem.grid agent path fault
+IsUnlawful problem plan i fault =
+    (agent : Agent) × (path : List ℕ) × (slice_get problem.agents i ≡ Some agent) × (slice_get plan i ≡ Some path)
+    × HasPathDefect problem.grid agent path fault
 
 -- what each error says of the plan
 abbrev pub HasDefect : Instance → List (List ℕ) → PlanFault → Type 0
@@ -24,7 +26,9 @@ HasDefect problem plan (V5 i j tick) = (i < j) × ExchangeCells plan tick i j
 
 -- the paths of the first agents are lawful
 abbrev pub AreLawful : Instance → List (List ℕ) → ℕ → Type 0
-AreLawful problem paths count = (i : ℕ) (agent : Agent) (path : List ℕ) → i < count → slice_get problem.agents i ≡ Some agent → slice_get paths i ≡ Some path → IsLawful problem.grid agent path
+AreLawful problem paths count =
+    (i : ℕ) (agent : Agent) (path : List ℕ) → i < count → slice_get problem.agents i ≡ Some agent →
+    slice_get paths i ≡ Some path → IsLawful problem.grid agent path
 
 -- the error of a plan that an error of one agent's path is
 abbrev pub path_fault_of : ℕ → PathFault → PlanFault

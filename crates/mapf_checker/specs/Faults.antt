@@ -35,7 +35,8 @@ IsOfJudging Says Memory = ⊤
 
 -- an error of reading and judging: a refusal that says this, or the source failed, or it gave more bytes than allowed,
 -- or out of memory. The source failed in the second case and in no other
-abbrev pub IsOfChecking : Option (List ℕ) → Option (List ℕ) → Bool → Buffered → (CheckFault → Type 0) → FromFault → Type 0
+abbrev pub IsOfChecking : Option (List ℕ) → Option (List ℕ) → Bool → Buffered → (CheckFault → Type 0) → FromFault →
+    Type 0
 IsOfChecking had left failed buffer Says (Refused fault) = (failed ≡ false) × ComesWithin had left buffer × Says fault
 IsOfChecking had left failed buffer Says Device = (failed ≡ true) × ComesWithin had left buffer
 IsOfChecking had left failed buffer Says TooLong = (failed ≡ false) × Exceeds had left buffer

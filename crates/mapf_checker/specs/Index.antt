@@ -21,12 +21,16 @@ cell_cmp a b = ordering_then (nat_cmp a.agent b.agent) (ordering_then (nat_cmp a
 
 -- by agent, then by tick, then by the cells
 abbrev pub move_cmp : BarredMove → BarredMove → Ordering
-move_cmp a b = ordering_then (nat_cmp a.agent b.agent) (ordering_then (nat_cmp a.tick b.tick) (ordering_then (nat_cmp a.from b.from) (nat_cmp a.to b.to)))
+move_cmp a b =
+    ordering_then (nat_cmp a.agent b.agent)
+    (ordering_then (nat_cmp a.tick b.tick) (ordering_then (nat_cmp a.from b.from) (nat_cmp a.to b.to)))
 
 -- whether the index has the constraint of the agent
 abbrev pub is_held_of : BarIndex → ℕ → Bar → Bool
-is_held_of index agent (Cell cell tick) = contains cell_cmp index.cells (record { agent = agent; cell = cell; tick = tick })
-is_held_of index agent (Move from to tick) = contains move_cmp index.moves (record { agent = agent; tick = tick; from = from; to = to })
+is_held_of index agent (Cell cell tick) =
+    contains cell_cmp index.cells (record { agent = agent; cell = cell; tick = tick })
+is_held_of index agent (Move from to tick) =
+    contains move_cmp index.moves (record { agent = agent; tick = tick; from = from; to = to })
 
 -- whether the index has the constraint
 abbrev pub is_held : BarIndex → Constraint → Bool
@@ -38,8 +42,11 @@ AreOthersKept constraint old new = (other : Constraint) → other ≢ constraint
 
 -- the index has the constraints of each agent
 abbrev pub Indexes : (ℕ → List Bar) → BarIndex → Type 0
-Indexes bars index = (constraint : Constraint) → IsTrue (is_held index constraint) ↔ Contains (bars constraint.agent) constraint.bar
+Indexes bars index =
+    (constraint : Constraint) → IsTrue (is_held index constraint) ↔ Contains (bars constraint.agent) constraint.bar
 
 -- the undo says whether these constraints lacked the one that was added
 abbrev pub CanUndo : (ℕ → List Bar) → Constraint → Undo → Type 0
-CanUndo bars constraint undo = MatchBool undo.is_new (Contains (bars constraint.agent) constraint.bar → ⊥) (Contains (bars constraint.agent) constraint.bar)
+CanUndo bars constraint undo =
+    MatchBool undo.is_new (Contains (bars constraint.agent) constraint.bar → ⊥)
+    (Contains (bars constraint.agent) constraint.bar)

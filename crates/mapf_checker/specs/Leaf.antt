@@ -1,5 +1,6 @@
 -- What the leaves of a certificate's tree are judged by.
-use Rattle.std.specs.Prelude.{◌≡◌, ⊤, ℕ, ◌+◌, ◌<◌, ◌≤◌, List, Option, Some, None, length, slice_get, slice_index_or}
+use Rattle.std.specs.Prelude.{◌≡◌, ⊤, ℕ, ◌+◌, ◌<◌, ◌≤◌, Bool, true, false, List, Option, Some, None, length, slice_get}
+use Rattle.std.specs.Prelude.{slice_index_or}
 use Rattle.mapf_model.specs.declared.problem.Agent.{Agent}
 use Rattle.mapf_model.specs.declared.label.Label.{Label}
 use Rattle.mapf_model.specs.declared.label.Label.TheVariants.{Ticks, Never}
@@ -20,7 +21,18 @@ IsStartOf problem i start = (agent : Agent) × (slice_get problem.agents i ≡ S
 
 -- a block of an agent of the problem, sound under the agent's constraints
 abbrev pub IsGoodBlock : Instance → NodeContext → LabelBlock → Type 0
-IsGoodBlock problem here block = (agent : Agent) × (slice_get problem.agents block.agent ≡ Some agent) × AreSound problem.grid agent.goal (here.bars block.agent) (entries_of block.entries)
+IsGoodBlock problem here block =
+    (agent : Agent) × (slice_get problem.agents block.agent ≡ Some agent)
+    × AreSound problem.grid agent.goal (here.bars block.agent) (entries_of block.entries)
+
+-- the ticks of a label, 0 if it is infinite
+abbrev pub ticks_in : Label → ℕ
+ticks_in (Ticks n) = n
+ticks_in Never = 0
+
+abbrev pub is_finite : Label → Bool
+is_finite (Ticks n) = true
+is_finite Never = false
 
 -- a sum of labels, None if it is infinite
 abbrev pub label_of_total : Option ℕ → Label
@@ -29,11 +41,15 @@ label_of_total None = Never
 
 -- the label of the agent's start at a leaf with these blocks, which inherits these entries
 abbrev pub IsStartLabel : Instance → List LabelBlock → (ℕ → Entries) → ℕ → Label → Type 0
-IsStartLabel problem blocks before i label = (agent : Agent) → slice_get problem.agents i ≡ Some agent → IsLabel problem.grid agent.goal (with_blocks blocks before i) agent.start 0 label
+IsStartLabel problem blocks before i label =
+    (agent : Agent) → slice_get problem.agents i ≡ Some agent →
+    IsLabel problem.grid agent.goal (with_blocks blocks before i) agent.start 0 label
 
 -- the sum of the labels of the starts
 abbrev pub IsStartTotal : Instance → List LabelBlock → (ℕ → Entries) → Option ℕ → Type 0
-IsStartTotal problem blocks before total = (labels : List Label) × AreStartLabels problem (with_blocks blocks before) labels × (label_sum labels ≡ label_of_total total)
+IsStartTotal problem blocks before total =
+    (labels : List Label) × AreStartLabels problem (with_blocks blocks before) labels
+    × (label_sum labels ≡ label_of_total total)
 
 -- starts with labels of this sum show the claim
 abbrev pub IsEnough : Claim → Option ℕ → Type 0

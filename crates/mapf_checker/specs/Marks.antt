@@ -16,11 +16,13 @@ CoverGrid grid marks = grid.width * grid.height ≤ length marks.offsets
 
 -- the entries before this index are of earlier ticks
 abbrev pub AreEarlier : List Entry → ℕ → ℕ → Type 0
-AreEarlier entries place tick = (k : ℕ) (d : Entry) → k < place → k < length entries → (slice_index_or entries k d).tick < tick
+AreEarlier entries place tick =
+    (k : ℕ) (d : Entry) → k < place → k < length entries → (slice_index_or entries k d).tick < tick
 
 -- the entries from this index on are of this tick or of later ones
 abbrev pub AreNotEarlier : List Entry → ℕ → ℕ → Type 0
-AreNotEarlier entries place tick = (k : ℕ) (d : Entry) → place ≤ k → k < length entries → tick ≤ (slice_index_or entries k d).tick
+AreNotEarlier entries place tick =
+    (k : ℕ) (d : Entry) → place ≤ k → k < length entries → tick ≤ (slice_index_or entries k d).tick
 
 -- there is an entry at this index, and it is of the tick
 abbrev pub IsOfTick : List Entry → ℕ → ℕ → Type 0
@@ -28,7 +30,8 @@ IsOfTick entries place tick = (place < length entries) × ((d : Entry) → (slic
 
 -- for each entry of the tick, the mark of its cell says how far after the index `first` the entry is
 abbrev pub AreMarked : List ℕ → List Entry → ℕ → ℕ → Type 0
-AreMarked offsets entries first tick = (k : ℕ) (d : Entry) → k < length entries → (slice_index_or entries k d).tick ≡ tick
+AreMarked offsets entries first tick =
+    (k : ℕ) (d : Entry) → k < length entries → (slice_index_or entries k d).tick ≡ tick
     → k ≡ first + slice_index offsets (slice_index_or entries k d).cell
 
 -- the entries of the marks' tick are marked, those before the index `first` are of earlier ticks, and each entry's

@@ -6,7 +6,8 @@ use Rattle.mapf_model.specs.declared.problem.Agent.{Agent}
 use Rattle.mapf_model.specs.Blocks.{LabelBlock}
 use Rattle.mapf_model.specs.Labels.{entries_of, IsSoundEntry}
 use Rattle.mapf_model.specs.Plan.{Instance}
-use Rattle.mapf_model.specs.Tree.{Node, SplitNode, LeafNode, ClashNode, NodeContext, Leaf, IsProperSplit, SplitShows, ShareGoal, ShowsFrom, StartsShow, with_blocks}
+use Rattle.mapf_model.specs.Tree.{Node, SplitNode, LeafNode, ClashNode, NodeContext, Leaf, IsProperSplit, SplitShows}
+use Rattle.mapf_model.specs.Tree.{ShareGoal, ShowsFrom, StartsShow, with_blocks}
 use Rattle.mapf_checker.specs.declared.fault.CheckFault.{CheckFault}
 use Rattle.mapf_checker.specs.declared.fault.CheckFault.TheVariants.{C6, C7, C8, C9}
 use Rattle.mapf_checker.specs.declared.judge.AgentProblem.{AgentProblem}
@@ -24,7 +25,8 @@ pub record HasUnsoundEntry (problem : Instance) (here : NodeContext) (block : La
   pub is_agent : slice_get problem.agents block.agent ≡ Some agent
   pub entry : Entry
   pub listed : Contains block.entries entry
-  pub unsound : IsSoundEntry problem.grid agent.goal (here.bars block.agent) (entries_of block.entries) entry.cell entry.tick entry.label → ⊥
+  pub unsound : IsSoundEntry problem.grid agent.goal (here.bars block.agent) (entries_of block.entries) entry.cell
+      entry.tick entry.label → ⊥
 
 -- one of the blocks has such an entry
 pub record HasUnsoundBlock (problem : Instance) (here : NodeContext) (blocks : List LabelBlock) : Type 0 where
@@ -40,8 +42,11 @@ IsUnsoundLabel problem here blocks fault = (line : ℕ) × (fault ≡ C7 line) �
 -- blocks isn't sound, C8 that the labels of the starts don't show the claim, C9 that the agents of a clash are equal or
 -- don't share a goal
 abbrev pub HasNodeDefect : Instance → Claim → NodeContext → Node → CheckFault → Type 0
-HasNodeDefect problem claim here (SplitNode conflict blocks) fault = ((line : ℕ) × (fault ≡ C6 line) × (IsProperSplit problem conflict → ⊥)) ⊎ IsUnsoundLabel problem here blocks fault
-HasNodeDefect problem claim here (LeafNode blocks) fault = IsUnsoundLabel problem here blocks fault ⊎ ((line : ℕ) × (fault ≡ C8 line) × (StartsShow problem claim (with_blocks blocks here.entries) → ⊥))
+HasNodeDefect problem claim here (SplitNode conflict blocks) fault =
+    ((line : ℕ) × (fault ≡ C6 line) × (IsProperSplit problem conflict → ⊥)) ⊎ IsUnsoundLabel problem here blocks fault
+HasNodeDefect problem claim here (LeafNode blocks) fault =
+    IsUnsoundLabel problem here blocks fault
+    ⊎ ((line : ℕ) × (fault ≡ C8 line) × (StartsShow problem claim (with_blocks blocks here.entries) → ⊥))
 HasNodeDefect problem claim here (ClashNode i j) fault = (line : ℕ) × (fault ≡ C9 line) × (ShareGoal problem i j → ⊥)
 
 -- the node by itself shows the claim: a split's conflict is proper and its labels are sound, a leaf's labels are sound

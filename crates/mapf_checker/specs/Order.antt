@@ -20,4 +20,5 @@ IsNoneBelow entries cell tick place = (k : ℕ) (d : Entry) → k < place → Is
 
 -- no entry from the index on is that of the state
 abbrev pub IsNoneFrom : List Entry → ℕ → ℕ → ℕ → Type 0
-IsNoneFrom entries cell tick place = (k : ℕ) (d : Entry) → place ≤ k → k < length entries → IsOf cell tick (slice_index_or entries k d) → ⊥
+IsNoneFrom entries cell tick place =
+    (k : ℕ) (d : Entry) → place ≤ k → k < length entries → IsOf cell tick (slice_index_or entries k d) → ⊥

@@ -3,7 +3,8 @@ use Rattle.std.specs.Prelude.{◌≡◌, Bool, true, false, List, [], ◌∷◌,
 use Rattle.std.specs.List.{AllZip}
 use Rattle.mapf_model.specs.Laws.{AreAlike}
 use Rattle.mapf_model.specs.Plan.{Instance}
-use Rattle.mapf_model.specs.Tree.{Node, SplitNode, LeafNode, ClashNode, NodeContext, left_child_context, right_child_context}
+use Rattle.mapf_model.specs.Tree.{Node, SplitNode, LeafNode, ClashNode, NodeContext, left_child_context}
+use Rattle.mapf_model.specs.Tree.{right_child_context}
 use Rattle.mapf_checker.specs.declared.tree.Progress.{Progress}
 use Rattle.mapf_distance.specs.Tables.{AreMade, AreStartDistances}
 use Rattle.mapf_checker.specs.Branch.{Place, place_of}
@@ -11,26 +12,27 @@ use Rattle.mapf_checker.specs.Branch.{Place, place_of}
 -- what the trees that are still expected, in pre-order, inherit after this node
 abbrev pub contexts_after : List NodeContext → Node → List NodeContext
 contexts_after [] node = []
-contexts_after (here ∷ owed) (SplitNode conflict blocks) = left_child_context here conflict blocks ∷ right_child_context here conflict blocks ∷ owed
-contexts_after (here ∷ owed) (LeafNode blocks) = owed
-contexts_after (here ∷ owed) (ClashNode i j) = owed
+contexts_after (here ∷ pending) (SplitNode conflict blocks) =
+    left_child_context here conflict blocks ∷ right_child_context here conflict blocks ∷ pending
+contexts_after (here ∷ pending) (LeafNode blocks) = pending
+contexts_after (here ∷ pending) (ClashNode i j) = pending
 
 -- what the trees that are still expected inherit after all of these nodes
 abbrev pub contexts_after_all : List NodeContext → List Node → List NodeContext
-contexts_after_all owed nodes = fold contexts_after owed nodes
+contexts_after_all pending nodes = fold contexts_after pending nodes
 
 -- no trees distinguish these contexts from those
 abbrev pub AreAllAlike : Instance → List NodeContext → List NodeContext → Type 0
 AreAllAlike problem these those = AllZip (AreAlike problem) these those
 
 -- what the trees that are still expected inherit, as far as it is kept
-abbrev pub owed_at : Bool → Place → List NodeContext
-owed_at true place = []
-owed_at false place = place.here ∷ place.owed
+abbrev pub pending_at : Bool → Place → List NodeContext
+pending_at true place = []
+pending_at false place = place.here ∷ place.pending
 
 -- the same of a tree that was judged so far
-abbrev pub owed_by : Progress → List NodeContext
-owed_by progress = owed_at progress.is_over (place_of progress.branch)
+abbrev pub pending_by : Progress → List NodeContext
+pending_by progress = pending_at progress.is_over (place_of progress.branch)
 
 -- what the node that is judged next inherits, as far as it is kept
 abbrev pub here_of : Progress → NodeContext

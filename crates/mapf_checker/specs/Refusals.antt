@@ -26,10 +26,17 @@ use Rattle.mapf_checker.specs.Verdict.{IsGoodPlan, claim_of}
 -- what a refusal says of the plan text: it spells nothing, is for another number of agents, says that a limit was
 -- reached and has no bound, or has a plan with this defect
 abbrev pub HasPlanRefusal : Instance → List ℕ → CheckFault → Type 0
-HasPlanRefusal problem bytes (C1 fault) = (fault ≢ plans.Memory) × ((version : Version) (agents : ℕ) (says : PlanAnswer) → SpellsPlan problem.grid bytes version agents says → ⊥)
-HasPlanRefusal problem bytes C3 = (version : Version) × (agents : ℕ) × (says : PlanAnswer) × SpellsPlan problem.grid bytes version agents says × (agents ≢ length problem.agents)
-HasPlanRefusal problem bytes C4 = (cause : Cause) × SpellsPlan problem.grid bytes One (length problem.agents) (Limit cause)
-HasPlanRefusal problem bytes (C5 fault) = (version : Version) × (plan : List (List ℕ)) × SpellsPlan problem.grid bytes version (length problem.agents) (Found plan) × HasDefect problem plan fault
+HasPlanRefusal problem bytes (C1 fault) =
+    (fault ≢ plans.Memory) × ((version : Version) (agents : ℕ) (says : PlanAnswer) →
+    SpellsPlan problem.grid bytes version agents says → ⊥)
+HasPlanRefusal problem bytes C3 =
+    (version : Version) × (agents : ℕ) × (says : PlanAnswer) × SpellsPlan problem.grid bytes version agents says
+    × (agents ≢ length problem.agents)
+HasPlanRefusal problem bytes C4 =
+    (cause : Cause) × SpellsPlan problem.grid bytes One (length problem.agents) (Limit cause)
+HasPlanRefusal problem bytes (C5 fault) =
+    (version : Version) × (plan : List (List ℕ))
+    × SpellsPlan problem.grid bytes version (length problem.agents) (Found plan) × HasDefect problem plan fault
 HasPlanRefusal problem bytes fault = ⊥
 
 -- the bytes begin with a header whose numbers are in their ranges, with a claim that its version may make
@@ -42,18 +49,20 @@ pub record BeginsWithHeader (problem : Instance) (bytes : List ℕ) (agents : �
   pub spelled : bytes ≡ header_text version problem.grid.width agents claim ++ rest
 
 -- the bytes of this version begin with nodes, each in range, of which the last has this defect
-pub record HasBadNode (problem : Instance) (claim : Claim) (version : Version) (fault : CheckFault) (bytes : List ℕ) : Type 0 where
+pub record HasBadNode (problem : Instance) (claim : Claim) (version : Version) (fault : CheckFault) (bytes : List ℕ)
+    : Type 0 where
   pub before : List Node
   pub before_in_range : All (IsNode version problem.grid (length problem.agents)) before
   pub node : Node
   pub in_range : IsNode version problem.grid (length problem.agents) node
   pub here : NodeContext
-  pub owed : List NodeContext
+  pub pending : List NodeContext
   -- what the node inherits
-  pub place : contexts_after_all (root ∷ []) before ≡ here ∷ owed
+  pub place : contexts_after_all (root ∷ []) before ≡ here ∷ pending
   pub defect : HasNodeDefect problem claim here node fault
   pub rest : List ℕ
-  pub spelled : bytes ≡ flat_map (node_text version problem.grid.width) before ++ (node_text version problem.grid.width node ++ rest)
+  pub spelled : bytes ≡ flat_map (node_text version problem.grid.width) before
+      ++ (node_text version problem.grid.width node ++ rest)
 
 -- the same after the header, which is for the problem and the claim, whose numbers are in their ranges, and whose
 -- version may make the claim
@@ -69,9 +78,15 @@ pub record HasBadNodeInCert (problem : Instance) (claim : Claim) (fault : CheckF
 -- what a refusal says of the certificate, whose bytes may be unknown and which has to show this claim: it spells
 -- nothing, is for another number of agents, claims something else, or has a node with this defect
 abbrev pub HasCertRefusal : Instance → Claim → Option (List ℕ) → CheckFault → Type 0
-HasCertRefusal problem claim known (C2 fault) = (fault ≢ certs.Memory) × IfSome known (λ bytes. (version : Version) (agents : ℕ) (claimed : Claim) (tree : ConstraintTree) → SpellsCert problem.grid bytes version agents claimed tree → ⊥)
-HasCertRefusal problem claim known C3 = IfSome known (λ bytes. (agents : ℕ) × (claimed : Claim) × BeginsWithHeader problem bytes agents claimed × (agents ≢ length problem.agents))
-HasCertRefusal problem claim known C4 = IfSome known (λ bytes. (agents : ℕ) × (claimed : Claim) × BeginsWithHeader problem bytes agents claimed × (claimed ≢ claim))
+HasCertRefusal problem claim known (C2 fault) =
+    (fault ≢ certs.Memory) × IfSome known (λ bytes. (version : Version) (agents : ℕ) (claimed : Claim)
+    (tree : ConstraintTree) → SpellsCert problem.grid bytes version agents claimed tree → ⊥)
+HasCertRefusal problem claim known C3 =
+    IfSome known (λ bytes. (agents : ℕ) × (claimed : Claim) × BeginsWithHeader problem bytes agents claimed
+    × (agents ≢ length problem.agents))
+HasCertRefusal problem claim known C4 =
+    IfSome known (λ bytes. (agents : ℕ) × (claimed : Claim) × BeginsWithHeader problem bytes agents claimed
+    × (claimed ≢ claim))
 HasCertRefusal problem claim known (C6 line) = IfSome known (HasBadNodeInCert problem claim (C6 line))
 HasCertRefusal problem claim known (C7 line) = IfSome known (HasBadNodeInCert problem claim (C7 line))
 HasCertRefusal problem claim known (C8 line) = IfSome known (HasBadNodeInCert problem claim (C8 line))
@@ -81,4 +96,6 @@ HasCertRefusal problem claim known fault = ⊥
 -- what a refusal says of two texts, where the certificate's bytes may be unknown. The certificate counts only if the
 -- plan text is accepted
 abbrev pub HasRefusal : Instance → List ℕ → Option (List ℕ) → CheckFault → Type 0
-HasRefusal problem plan known fault = HasPlanRefusal problem plan fault ⊎ ((verdict : Verdict) × IsGoodPlan problem plan verdict × HasCertRefusal problem (claim_of verdict) known fault)
+HasRefusal problem plan known fault =
+    HasPlanRefusal problem plan fault ⊎ ((verdict : Verdict) × IsGoodPlan problem plan verdict
+    × HasCertRefusal problem (claim_of verdict) known fault)

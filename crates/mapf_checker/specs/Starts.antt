@@ -14,7 +14,8 @@ IsKept entries agent entry = (cell tick : ℕ) → entries agent cell tick ≡ e
 
 -- the entries of the agents, in the order of their numbers
 abbrev pub AreKept : (ℕ → Entries) → List (Option Label) → Type 0
-AreKept entries kept = (agent : ℕ) (entry : Option Label) → slice_get kept agent ≡ Some entry → IsKept entries agent entry
+AreKept entries kept =
+    (agent : ℕ) (entry : Option Label) → slice_get kept agent ≡ Some entry → IsKept entries agent entry
 
 -- the agent's change, the first if there are several
 abbrev pub change_of : List StartChange → ℕ → Option StartChange
@@ -38,10 +39,12 @@ abbrev pub KnowEntries : (ℕ → Entries) → List StartChange → Type 0
 KnowEntries entries changes = All (λ change. IsKept entries change.agent change.before) changes
 
 -- the change that a block makes: its agent's entry becomes that of the start at tick 0 in the block, or none
-pub record IsChangeBy (problem : Instance) (entries : ℕ → Entries) (block : LabelBlock) (change : StartChange) : Type 0 where
+pub record IsChangeBy (problem : Instance) (entries : ℕ → Entries) (block : LabelBlock) (change : StartChange)
+    : Type 0 where
   pub agent : change.agent ≡ block.agent
   pub before : IsKept entries block.agent change.before
-  pub now : (agent : Agent) → slice_get problem.agents block.agent ≡ Some agent → entries_of block.entries agent.start 0 ≡ change.now
+  pub now : (agent : Agent) → slice_get problem.agents block.agent ≡ Some agent →
+      entries_of block.entries agent.start 0 ≡ change.now
 
 -- the changes that blocks make, one for each
 abbrev pub AreChangesBy : Instance → (ℕ → Entries) → List LabelBlock → List StartChange → Type 0

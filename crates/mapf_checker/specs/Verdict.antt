@@ -74,4 +74,6 @@ IsShown problem claimed = (tree : ConstraintTree) × Shows problem claimed tree
 -- whatever is accepted is true: if an answer fits a verdict, and a tree shows what has to be claimed, the verdict is
 -- true of it
 abbrev pub AcceptedIsTrue : Type 0
-AcceptedIsTrue = (problem : Instance) (says : PlanAnswer) (verdict : Verdict) → IsGoodFor problem says verdict → IsShown problem (claim_of verdict) → IsTrueOf problem says verdict
+AcceptedIsTrue =
+    (problem : Instance) (says : PlanAnswer) (verdict : Verdict) → IsGoodFor problem says verdict →
+    IsShown problem (claim_of verdict) → IsTrueOf problem says verdict

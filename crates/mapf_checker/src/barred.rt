@@ -1,3 +1,4 @@
+//! The two kinds of constraints, in the order in which the index of constraints keeps them.
 use mapf_model::{Cell, Tick};
 
 /// A vertex constraint of an agent. The order puts those of one agent and cell next to each other, by tick.

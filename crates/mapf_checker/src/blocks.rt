@@ -1,3 +1,5 @@
+//! How the blocks of a node are judged, and how they change the entries of the starts. The judge of a tree calls it at
+//! splits and at leaves.
 ghost use Rattle.std.specs.Prelude.{◌≡◌, ◌<◌, ◌≤◌, All, AllPairs, length, IfOk, IfNone, IfSome, OnOk, OnErr};
 ghost use Rattle.mapf_model.specs.Labels.{entries_of, AreSound};
 ghost use Rattle.mapf_model.specs.Limits.{greatest_cost};
@@ -103,12 +105,14 @@ fn judge_block(
     }
 }
 
+/// Returns the agent of a block.
 pub fn agent_of(block: &Block) -> u32
     ensures { result ≡ block.now.agent }
 {
     block.agent
 }
 
+/// Returns the entries of a block.
 pub fn entries_in(block: &Block) -> &[Entry]
     ensures { result.now ≡ block.now.entries }
 {
@@ -177,6 +181,7 @@ fn change_by(problem: &Problem, branch: &Branch, block: &Block) -> StartChange
     }
 }
 
+/// Returns the start of an agent.
 pub fn start_of(problem: &Problem, agent: usize) -> Cell
     requires { agent < length problem.now.agents }
     ensures { IsStartOf problem.now agent result }

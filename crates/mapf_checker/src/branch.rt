@@ -1,3 +1,5 @@
+//! The path from the root to the node that is judged, with all that this node inherits. The judge of a tree moves along
+//! it.
 ghost use Rattle.std.specs.Prelude.{◌≡◌, ◌↔◌, ◌+◌, ◌<◌, ◌∷◌, ◌++◌, [], List, Contains, length};
 ghost use Rattle.std.specs.Prelude.{IfNone, IfOk, IfSome, OnOk, IsTrue};
 ghost use Rattle.mapf_checker.specs.Branch.{IndexesFirst};

@@ -1,3 +1,5 @@
+//! The judge of a certificate: its header, and its tree as the items are read from the source. The check of both texts
+//! calls it.
 ghost use Rattle.std.specs.Prelude.{◌≡◌, ◌↔◌, ◌∷◌, ◌<◌, ◌≤◌, [], ℕ, List, Option, Some, false, length};
 ghost use Rattle.std.specs.Prelude.{IfErr, IfOk, OnOk, IsTrue};
 ghost use Rattle.mapf_certificate.specs.Buffered.{spare};
@@ -10,7 +12,7 @@ ghost use Rattle.mapf_model.specs.Tree.{Node, NodesShow, root};
 ghost use Rattle.mapf_checker.specs.CertJudging.{IsOpened, IsHeaded, IsBetweenItems, IsReadTo, IsReadOn, IsJudgedTree};
 ghost use Rattle.mapf_checker.specs.CertJudging.{HasHeaderRefusal, HasTreeRefusal};
 ghost use Rattle.mapf_checker.specs.Faults.{IsOfChecking, IsNoRefusal};
-ghost use Rattle.mapf_checker.specs.Progress.{owed_by};
+ghost use Rattle.mapf_checker.specs.Progress.{pending_by};
 ghost use Rattle.mapf_checker.specs.Refusals.{HasCertRefusal};
 ghost use Rattle.mapf_checker.specs.Verdict.{IsShown, IsGoodCert};
 
@@ -133,9 +135,9 @@ fn judge_next<S: Source>(
     ensures nearer { IfOk result (λ came. IsTrue came → spare lines.new.buffer < spare lines.old.buffer) }
     // This holds whatever was read and judged before.
     ensures judged { (had : Option (List ℕ)) (start : Reading)
-        → IsReadTo problem.now claim.now had (S.remaining source.old) start lines.old (owed_by progress.old)
+        → IsReadTo problem.now claim.now had (S.remaining source.old) start lines.old (pending_by progress.old)
         → IsReadOn problem.now claim.now had (S.remaining source.new) (S.has_failed source.new) start lines.new
-        (owed_by progress.new) result }
+        (pending_by progress.new) result }
 {
     laws::items_are_judged_by_front();
     laws::only_start_entries_count();

@@ -1,5 +1,7 @@
+//! The first conflict of the paths of a plan, for the check of plans. The search has one of its own, in
+//! `mapf_conflicts`.
 ghost use Rattle.std.specs.Prelude.{◌<◌, ◌≤◌, ◌↔◌, length, All, IfNone, IfSome, IsTrue};
-ghost use Rattle.mapf_model.specs.Earned.{HaveSomeConflict};
+ghost use Rattle.mapf_model.specs.Conflicts.{HaveSomeConflict};
 ghost use Rattle.mapf_model.specs.Limits.{most_agents, most_path_cells};
 ghost use Rattle.mapf_model.specs.Pairs.{HoldsOfNoPair};
 ghost use Rattle.mapf_model.specs.Plan.{Instance};

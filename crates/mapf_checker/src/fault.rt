@@ -1,3 +1,5 @@
+//! The verdict of a check, and the errors with which it ends otherwise. The judges of plan texts, certificates and
+//! trees return these, and the run of `check` reports them.
 use crate::plan_fault::PlanFault;
 use mapf_certificate::{CertFault, LinesFault, PlanTextFault};
 use mapf_model::OutOfMemory;

@@ -1,3 +1,5 @@
+//! Which constraints the agents have at a node. The path from the root keeps them here, and the judge of entries looks
+//! them up.
 ghost use Rattle.std.specs.Prelude.{◌≡◌, ◌↔◌, ℕ, [], List, Contains, true, false, not};
 ghost use Rattle.std.specs.Prelude.{IfOk, OnOk, OnErr, IsTrue};
 ghost use Rattle.mapf_model.specs.declared.bar.Bar.{Bar};
@@ -38,6 +40,7 @@ impl BarIndex {
         }
     }
 
+    /// Returns whether the constraint is in the index.
     pub fn has(&self, constraint: &Constraint) -> bool
         ensures { (bars : ℕ → List Bar) → Indexes bars self.now
             → IsTrue result ↔ Contains (bars constraint.now.agent) constraint.now.bar }

@@ -1,3 +1,4 @@
+//! Whether one entry of a block is sound. The judge of blocks asks this of each entry.
 ghost use Rattle.std.specs.Prelude.{◌≡◌, ◌+◌, ◌≤◌, ◌↔◌, AllPairs, IsTrue, Contains};
 ghost use Rattle.mapf_model.specs.Grid.{IsFree};
 ghost use Rattle.mapf_model.specs.Labels.{MayGo};

@@ -1,4 +1,5 @@
-ghost use Rattle.std.specs.Prelude.{◌≡◌, ◌+◌, ◌<◌, ◌↔◌, ℕ, AllPairs, IsTrue};
+//! How labels are found and compared, for the judges of entries, blocks and leaves.
+ghost use Rattle.std.specs.Prelude.{◌≡◌, ◌+◌, ◌<◌, ◌↔◌, ℕ, AllPairs, IsTrue, None, length, slice_index_or};
 ghost use Rattle.mapf_model.specs.Labels.{entries_of, IsLabel, IsDistanceLabel, IsEntryOrDistance};
 ghost use Rattle.mapf_model.specs.Labels.{IsAtMost, one_more};
 ghost use Rattle.mapf_model.specs.Grid.{GridMap};
@@ -42,7 +43,7 @@ fn order(entry: &Entry, cell: Cell, tick: Tick) -> Ordering
     entry.cell.0.cmp(&cell.0)
 }
 
-/// Returns a distance as a label.
+// Returns a distance as a label.
 fn distance_label(distance: Option<u32>) -> Label
     ensures { (grid : GridMap) (goal cell : ℕ) → IsDistanceOrNone grid goal cell distance
         → IsDistanceLabel grid goal cell result }
@@ -53,19 +54,21 @@ fn distance_label(distance: Option<u32>) -> Label
     }
 }
 
-/// Returns the entry, or this distance if there is none.
-pub fn entry_or(entry: Option<Label>, distance: Option<u32>) -> Label
-    ensures { (grid : GridMap) (goal cell : ℕ) → IsDistanceOrNone grid goal cell distance
+/// Returns the entry, or the distance of the agent's start if there is none. It looks the distance up only if it is
+/// needed.
+pub fn entry_or(entry: Option<Label>, distances: &[Option<u32>], agent: usize) -> Label
+    requires { agent < length distances.now }
+    ensures { (grid : GridMap) (goal cell : ℕ)
+        → IsDistanceOrNone grid goal cell (slice_index_or distances.now agent None)
         → IsEntryOrDistance grid goal cell entry result }
 {
     match entry {
         Some(label) => label,
-        None => distance_label(distance),
+        None => distance_label(distances[agent]),
     }
 }
 
-// Returns the entry, or the distance of the cell if there is none. Unlike `entry_or` it looks the distance up, and
-// only if it is needed.
+// The same for the distance of a cell.
 fn label_or_distance(entry: Option<Label>, distances: &Distances, cell: Cell) -> Label
     ensures { IsEntryOrDistance distances.now.grid distances.now.goal cell entry result }
 {

@@ -1,3 +1,4 @@
+//! Whether one agent's path begins, goes on and ends as it should, for the check of plans.
 ghost use Rattle.std.specs.Prelude.{◌+◌, ◌<◌, ◌≤◌, ℕ, length, OnOk, IfErr, IfNone, IfSome, slice_index};
 ghost use Rattle.mapf_model.specs.Grid.{IsFree, Step};
 ghost use Rattle.mapf_model.specs.Limits.{most_path_cells};

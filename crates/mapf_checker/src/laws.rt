@@ -1,3 +1,4 @@
+//! Why an accepted verdict is true, as a law. The check of both texts calls it.
 ghost use Rattle.mapf_checker.specs.Verdict.{AcceptedIsTrue};
 
 use mapf_model::laws::shown_claims_hold;

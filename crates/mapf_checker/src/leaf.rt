@@ -1,15 +1,14 @@
+//! The judge of a leaf: do its labels show the claim? The judge of a tree calls it.
 ghost use Rattle.std.specs.Prelude.{◌≡◌, ◌+◌, ◌<◌, ◌≤◌, ◌^◌, ◌↔◌, All, AllPairs, length, false};
 ghost use Rattle.std.specs.Prelude.{IsTrue, IfSome, OnOk, IfErr};
-ghost use Rattle.std.specs.Option.{ForSome};
 ghost use Rattle.mapf_model.specs.declared.item.Claim.{Claim};
-ghost use Rattle.mapf_model.specs.Labels.{label_plus};
 ghost use Rattle.mapf_model.specs.Printed.{AreBlocksInRange};
 ghost use Rattle.mapf_model.specs.Tree.{ShowsFrom, Leaf, LeafNode};
 ghost use Rattle.mapf_distance.specs.Tables.{AreStartDistances};
 ghost use Rattle.mapf_checker.specs.AgentProblem.{CanJudge, FitsProblem};
 ghost use Rattle.mapf_checker.specs.Branch.{place_of};
 ghost use Rattle.mapf_checker.specs.Leaf.{IsStartTotal, IsEnough, IsStartLabel};
-ghost use Rattle.mapf_checker.specs.Leaf.{IsPlaceOfAgent, TakesBlock, LeavesBlock, label_of_total};
+ghost use Rattle.mapf_checker.specs.Leaf.{IsPlaceOfAgent, TakesBlock, LeavesBlock, is_finite, ticks_in};
 ghost use Rattle.mapf_checker.specs.Marks.{CoverGrid};
 ghost use Rattle.mapf_checker.specs.NodeDefects.{HasNodeDefect};
 
@@ -66,18 +65,21 @@ fn start_total(
     ensures { IsStartTotal problem.now blocks.now (place_of branch.now).here.entries result }
 {
     let count = problem.agents().len();
-    let mut total = Some(0);
+    let mut sum = 0;
+    let mut is_finite = true;
     let mut place = 0;
     for i in 0..count {
-        let label = start_label(problem, distances, branch, blocks, place, i);
-        total = plus(total, label);
-        place = place_after(blocks, place, i);
+        let (label, next) = start_label(problem, distances, branch, blocks, place, i);
+        sum += ticks_of(label);
+        is_finite = is_finite & is_ticks(label);
+        place = next;
     }
-    total
+    if is_finite { Some(sum) } else { None }
 }
 
-// Returns the label of an agent's start, by its block at the leaf or, if it has none, by the nearest block above. The
-// blocks of smaller agents are before `place`.
+// Returns the label of an agent's start, by its block at the leaf or, if it has none, by the nearest block above, and
+// the index up to which the blocks of this agent and of smaller agents are. The blocks of smaller agents are before
+// `place`.
 fn start_label(
     problem: &Problem,
     distances: &[Option<u32>],
@@ -85,33 +87,21 @@ fn start_label(
     blocks: &[Block],
     place: usize,
     agent: usize,
-) -> Label
+) -> (Label, usize)
     requires distances { AreStartDistances problem.now distances.now }
     requires agents { branch.now.agents ≡ length problem.now.agents }
     requires blocks { AreBlocksInRange problem.now.grid (length problem.now.agents) blocks.now }
     requires cut { IsPlaceOfAgent blocks.now place agent }
     requires inside { agent < length problem.now.agents }
-    ensures { IsStartLabel problem.now blocks.now (place_of branch.now).here.entries agent result }
-{
-    let start = start_of(problem, agent);
-    let entry = if is_block_of(blocks, place, agent) {
-        entry_at(entries_in(&blocks[place]), start, 0)
-    } else {
-        branch.start_entry(agent)
-    };
-    entry_or(entry, distances[agent])
-}
-
-// Returns the index up to which the blocks of this agent and of smaller agents are.
-fn place_after(blocks: &[Block], place: usize, agent: usize) -> usize
-    requires rising { AllPairs (λ a b. a.agent < b.agent) blocks.now }
-    requires cut { IsPlaceOfAgent blocks.now place agent }
-    ensures { IsPlaceOfAgent blocks.now result (agent + 1) }
+    ensures label { IsStartLabel problem.now blocks.now (place_of branch.now).here.entries agent result.0 }
+    ensures cut { IsPlaceOfAgent blocks.now result.1 (agent + 1) }
 {
     if is_block_of(blocks, place, agent) {
-        place + 1
+        let start = start_of(problem, agent);
+        let entry = entry_at(entries_in(&blocks[place]), start, 0);
+        (entry_or(entry, distances, agent), place + 1)
     } else {
-        place
+        (entry_or(branch.start_entry(agent), distances, agent), place)
     }
 }
 
@@ -128,14 +118,23 @@ fn is_block_of(blocks: &[Block], place: usize, agent: usize) -> bool
     agent_of(&blocks[place]) as usize == agent
 }
 
-fn plus(total: Option<u64>, label: Label) -> Option<u64>
-    requires { ForSome total (λ total. total < 2 ^ 63) }
-    ensures sum { label_of_total result ≡ label_plus (label_of_total total) label }
-    ensures bound { IfSome result (λ sum. IfSome total (λ total. sum ≤ total + 4294967295)) }
+// Returns the ticks of a label, 0 if it is infinite.
+fn ticks_of(label: Label) -> u64
+    ensures ticks { result ≡ ticks_in label }
+    ensures bound { result ≤ 4294967295 }
 {
-    match (total, label) {
-        (Some(total), Label::Ticks(n)) => Some(total + n as u64),
-        _ => None,
+    match label {
+        Label::Ticks(n) => n as u64,
+        Label::Never => 0,
+    }
+}
+
+fn is_ticks(label: Label) -> bool
+    ensures { result ≡ is_finite label }
+{
+    match label {
+        Label::Ticks(_) => true,
+        Label::Never => false,
     }
 }
 

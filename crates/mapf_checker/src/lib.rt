@@ -1,4 +1,20 @@
 //! Is this plan valid, and does this certificate show its claim?
+//!
+//! The nodes of a tree are read in pre-order. Along the path from the root the judge keeps each split's conflict and
+//! the child that the path goes to, and for each agent the entry of its start at tick 0, with what each open split
+//! changed of these entries. The blocks of a node are held until they are judged. Of the blocks above that node nothing
+//! but these start entries is kept, so the memory grows with the number of blocks along the path and not with their
+//! entries.
+//!
+//! The constraints are in ordered sets, so one is found, added or removed in time that grows with the logarithm of
+//! their number, whoever wrote the certificate. They are needed only where a block is judged. So before that the
+//! missing constraints of the tree path are added to the sets (`Branch::index_all`), and a path without blocks adds
+//! none.
+//!
+//! The entries of a block are judged in order, by tick and cell. Each is compared with the labels of its neighbourhood
+//! one tick later. `EntryMarks` holds for each cell a mark, by which the entries of one tick are found: those of the
+//! tick after the one whose entries are judged. Each entry is marked once. Marks are never cleared: one counts only if
+//! the entry to which it leads is that of the state. An agent's table of distances is made at its first block.
 #![tactic(auto)]
 
 mod acceptance;

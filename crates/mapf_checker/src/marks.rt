@@ -1,3 +1,4 @@
+//! How the entries of one tick are found by their cells, for the judge of blocks.
 ghost use Rattle.std.specs.Prelude.{◌≡◌, ◌↔◌, ◌≤◌, ◌<◌, All, AllPairs, length, IsTrue, OnOk};
 ghost use Rattle.mapf_model.specs.Labels.{entries_of};
 ghost use Rattle.mapf_model.specs.Limits.{most_cells};

@@ -1,3 +1,4 @@
+//! What can be wrong with a plan. The check of plans returns it, and the runs report it.
 use mapf_model::Tick;
 
 /// Why a plan is not valid. Agents are counted from 0, and of two agents the smaller comes first.

@@ -1,3 +1,5 @@
+//! The judge of a plan text: is it good for the problem, and what does its certificate have to show? The check of both
+//! texts calls it first.
 ghost use Rattle.std.specs.Prelude.{◌≡◌, IfOk, IfErr, MatchResult};
 ghost use Rattle.mapf_checker.specs.declared.fault.Verdict.{Verdict};
 ghost use Rattle.mapf_checker.specs.Faults.{IsOfJudging};

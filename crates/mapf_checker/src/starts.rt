@@ -1,3 +1,5 @@
+//! The entries of the starts that a node inherits. The path from the root changes them at a split, and restores them
+//! when it leaves the split.
 ghost use Rattle.std.specs.Prelude.{◌≡◌, ◌≢◌, ◌<◌, ℕ, Some, IfOk, length, slice_get};
 ghost use Rattle.mapf_model.specs.Labels.{Entries};
 ghost use Rattle.mapf_model.specs.Tree.{no_entries};
@@ -34,6 +36,7 @@ impl Starts {
         })
     }
 
+    /// Returns the label of the entry of an agent's start at tick 0, None if no block has one.
     pub fn get(&self, agent: usize) -> Option<Label>
         requires { agent < length self.now.entries.items }
         ensures { (entries : ℕ → Entries) → AreKept entries self.now.entries.items → IsKept entries agent result }

@@ -1,3 +1,4 @@
+//! The judge of a tree, an item at a time in pre-order. The judge of a certificate hands it each item that it reads.
 ghost use Rattle.std.specs.Prelude.{◌≡◌, ◌↔◌, ◌∷◌, [], All, false, length, IfErr, IfOk, OnOk, IsTrue};
 ghost use Rattle.mapf_certificate.specs.Certificates.{IsNode};
 ghost use Rattle.mapf_certificate.specs.declared.version.Version.{Version};
@@ -21,7 +22,9 @@ use crate::leaf::judge_leaf;
 use crate::marks::EntryMarks;
 use crate::starts::StartChange;
 use mapf_distance::{LazyTables, start_distances};
-use mapf_model::{Block, Claim, Conflict, Item, Neighbourhoods, OutOfMemory, Problem};
+use mapf_model::{
+    AsNode, Block, Claim, Conflict, Item, Neighbourhoods, NodeKind, OutOfMemory, Problem,
+};
 use std::alloc::Global;
 
 /// How far a tree, whose items come in pre-order, was judged.
@@ -41,12 +44,12 @@ pub struct Progress {
 }
 
 impl Progress {
-    ghost use Rattle.mapf_checker.specs.Progress.{owed_by, contexts_after, here_of, AreAllAlike, IsReady};
+    ghost use Rattle.mapf_checker.specs.Progress.{pending_by, contexts_after, here_of, AreAllAlike, IsReady};
 
     /// Returns the state before the root is judged.
     pub fn new(alloc: Global, problem: &Problem) -> Result<Progress, OutOfMemory>
         ensures ready { IfOk result (IsReady problem.now) }
-        ensures owed { IfOk result (λ progress. owed_by progress ≡ root ∷ []) }
+        ensures pending { IfOk result (λ progress. pending_by progress ≡ root ∷ []) }
     {
         Ok(Progress {
             branch: Branch::new(alloc, problem.agents().len())?,
@@ -72,19 +75,16 @@ impl Progress {
         requires node { (version : Version)
             × IsNode version problem.now.grid (length problem.now.agents) (node_of item.now) }
         ensures ready { OnOk result (IsReady problem.now self.new) }
-        ensures owed { OnOk result (AreAllAlike problem.now (owed_by self.new)
-            (contexts_after (owed_by self.old) (node_of item.now))) }
+        ensures pending { OnOk result (AreAllAlike problem.now (pending_by self.new)
+            (contexts_after (pending_by self.old) (node_of item.now))) }
         ensures good { OnOk result (IsGoodNode problem.now claim.now (here_of self.old) (node_of item.now)) }
         ensures refused { IfErr result (IsOfJudging
             (HasNodeDefect problem.now claim.now (here_of self.old) (node_of item.now))) }
     {
-        match item {
-            Item::Vertex { .. } | Item::Swap { .. } => {
-                let conflict = item.conflict().unwrap();
-                self.split(alloc, problem, &conflict, item.blocks(), line)
-            }
-            Item::Leaf(blocks) => self.leaf(alloc, problem, claim, blocks, line),
-            Item::Clash { i, j } => self.clash(problem, *i, *j, line),
+        match item.kind() {
+            NodeKind::Split(conflict) => self.split(alloc, problem, &conflict, item.blocks(), line),
+            NodeKind::Leaf => self.leaf(alloc, problem, claim, item.blocks(), line),
+            NodeKind::Clash { i, j } => self.clash(problem, i, j, line),
         }
     }
 
@@ -100,8 +100,8 @@ impl Progress {
         requires going { self.old.is_over ≡ false }
         requires blocks { AreBlocksInRange problem.now.grid (length problem.now.agents) blocks.now }
         ensures ready { OnOk result (IsReady problem.now self.new) }
-        ensures owed { OnOk result (AreAllAlike problem.now (owed_by self.new)
-            (contexts_after (owed_by self.old) (SplitNode conflict.now blocks.now))) }
+        ensures pending { OnOk result (AreAllAlike problem.now (pending_by self.new)
+            (contexts_after (pending_by self.old) (SplitNode conflict.now blocks.now))) }
         ensures good { OnOk result (SplitShows problem.now (here_of self.old) conflict.now blocks.now) }
         ensures refused { (claim : Claim) → IfErr result (IsOfJudging
             (HasNodeDefect problem.now claim (here_of self.old) (SplitNode conflict.now blocks.now))) }
@@ -166,7 +166,8 @@ impl Progress {
         requires going { self.old.is_over ≡ false }
         requires blocks { AreBlocksInRange problem.now.grid (length problem.now.agents) blocks.now }
         ensures ready { OnOk result (IsReady problem.now self.new) }
-        ensures owed { OnOk result (owed_by self.new ≡ contexts_after (owed_by self.old) (LeafNode blocks.now)) }
+        ensures pending { OnOk result
+            (pending_by self.new ≡ contexts_after (pending_by self.old) (LeafNode blocks.now)) }
         ensures good { OnOk result (IsGoodNode problem.now claim.now (here_of self.old) (LeafNode blocks.now)) }
         ensures refused { IfErr result (IsOfJudging
             (HasNodeDefect problem.now claim.now (here_of self.old) (LeafNode blocks.now))) }
@@ -247,7 +248,7 @@ impl Progress {
         ensures tables { self.new.tables ≡ self.old.tables }
         ensures distances { self.new.distances.items ≡ self.old.distances.items }
         ensures agents { self.new.branch.agents ≡ self.old.branch.agents }
-        ensures owed { OnOk result (owed_by self.new ≡ contexts_after (owed_by self.old) (ClashNode i j)) }
+        ensures pending { OnOk result (pending_by self.new ≡ contexts_after (pending_by self.old) (ClashNode i j)) }
         ensures good { OnOk result (ShareGoal problem.now i j) }
         ensures refused { (claim : Claim) → IfErr result (IsOfJudging
             (HasNodeDefect problem.now claim (here_of self.old) (ClashNode i j))) }
@@ -264,7 +265,7 @@ impl Progress {
         ensures tables { self.new.tables ≡ self.old.tables }
         ensures distances { self.new.distances.items ≡ self.old.distances.items }
         ensures agents { self.new.branch.agents ≡ self.old.branch.agents }
-        ensures owed { OnOk result (owed_by self.new ≡ (place_of self.old.branch).owed) }
+        ensures pending { OnOk result (pending_by self.new ≡ (place_of self.old.branch).pending) }
         ensures memory { IfErr result (λ fault. fault ≡ FromFault.Memory) }
     {
         let Ok(more) = self.branch.backtrack() else {

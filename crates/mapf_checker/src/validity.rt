@@ -1,3 +1,5 @@
+//! The check of plans: is the plan valid, and what does it cost? The judge of a plan text calls it, and so do the runs
+//! of `play` and `dispatch`.
 ghost use Rattle.std.specs.Prelude.{◌≡◌, ◌↔◌, length, IfOk, OnOk, IfErr, IsOk};
 ghost use Rattle.mapf_model.specs.Plan.{IsValid, IsSumOfCosts};
 ghost use Rattle.mapf_checker.specs.Defects.{HasDefect, AreLawful, path_fault_of};
@@ -12,8 +14,11 @@ use mapf_model::{Path, Plan, Problem};
 /// conflicts before swapping conflicts, then the least agents.
 pub fn check_plan(problem: &Problem, plan: &Plan) -> Result<u64, PlanFault>
     requires { length plan.now ≡ length problem.now.agents }
+    // Ok is returned if and only if the plan is valid.
     ensures valid { IsOk result ↔ IsValid problem.now plan.now }
+    // The sum is its sum of costs.
     ensures sum { IfOk result (IsSumOfCosts problem.now.agents plan.now) }
+    // The reported error location is correct.
     ensures fault { IfErr result (HasDefect problem.now plan.now) }
 {
     check_paths(problem, plan.paths())?;

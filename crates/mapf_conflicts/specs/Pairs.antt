@@ -3,7 +3,7 @@ use Rattle.std.specs.Prelude.{◌≡◌, ◌≢◌, ◌⊎◌, ℕ, ◌<◌, Lis
 use Rattle.std.specs.Borrow.{Bor}
 use Rattle.mapf_model.specs.declared.conflict.Conflict.{Conflict}
 use Rattle.mapf_model.specs.declared.conflict.Conflict.TheVariants.{Vertex, Swap}
-use Rattle.mapf_model.specs.Earned.{tick_of, HasConflict}
+use Rattle.mapf_model.specs.Conflicts.{tick_of, HasConflict}
 use Rattle.mapf_model.specs.Pairs.{IsFirstPair, HoldsOfNoPair}
 use Rattle.mapf_model.specs.Path.{at}
 use Rattle.mapf_model.specs.Plan.{ConflictAt}
@@ -38,11 +38,13 @@ ShareOrExchangeCells here next i j = ShareCell here i j ⊎ ExchangeCells here n
 
 -- no two agents other than this one share a cell or exchange their cells
 abbrev pub AreOthersApart : List ℕ → List ℕ → ℕ → Type 0
-AreOthersApart here next agent = (i j : ℕ) → i < j → j < length here → i ≢ agent → j ≢ agent → ShareOrExchangeCells here next i j → ⊥
+AreOthersApart here next agent =
+    (i j : ℕ) → i < j → j < length here → i ≢ agent → j ≢ agent → ShareOrExchangeCells here next i j → ⊥
 
 -- the conflict is one of agents that are in these cells at the tick, and in those at the next
 abbrev pub IsConflictOf : List ℕ → List ℕ → ℕ → Conflict → Type 0
-IsConflictOf here next now (Vertex i j cell tick) = (i < j) × (j < length here) × (tick ≡ now) × (slice_index here i ≡ cell) × (slice_index here j ≡ cell)
+IsConflictOf here next now (Vertex i j cell tick) =
+    (i < j) × (j < length here) × (tick ≡ now) × (slice_index here i ≡ cell) × (slice_index here j ≡ cell)
 IsConflictOf here next now (Swap i j from to tick) = (i < j) × (j < length here) × (tick ≡ now) × (from ≢ to)
     × (slice_index here i ≡ from) × (slice_index next i ≡ to) × (slice_index here j ≡ to) × (slice_index next j ≡ from)
 
@@ -50,7 +52,8 @@ IsConflictOf here next now (Swap i j from to tick) = (i < j) × (j < length here
 -- the order of their agents
 abbrev pub IsFirstOf : List ℕ → List ℕ → Conflict → Type 0
 IsFirstOf here next (Vertex i j cell tick) = IsFirstPair (ShareCell here) (length here) (i, j)
-IsFirstOf here next (Swap i j from to tick) = HoldsOfNoPair (ShareCell here) (length here) × IsFirstPair (ExchangeCells here next) (length here) (i, j)
+IsFirstOf here next (Swap i j from to tick) =
+    HoldsOfNoPair (ShareCell here) (length here) × IsFirstPair (ExchangeCells here next) (length here) (i, j)
 
 -- before the tick `end` no two agents other than this one conflict
 abbrev pub AreOthersFreeBefore : List (List ℕ) → ℕ → ℕ → Type 0
@@ -75,4 +78,6 @@ ComesBefore (Swap i j from to tick) (Swap k l other_from other_to other_tick) = 
 
 -- no conflict of the paths at its tick comes before this one
 abbrev pub IsFirstOfItsTick : List (List ℕ) → Conflict → Type 0
-IsFirstOfItsTick paths conflict = (other : Conflict) → IsOrdered other → HasConflict paths other → tick_of other ≡ tick_of conflict → ComesBefore other conflict → ⊥
+IsFirstOfItsTick paths conflict =
+    (other : Conflict) → IsOrdered other → HasConflict paths other → tick_of other ≡ tick_of conflict →
+    ComesBefore other conflict → ⊥

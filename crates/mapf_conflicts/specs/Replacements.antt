@@ -10,4 +10,5 @@ with_replacements paths (one ∷ others) = with_replacements (slice_set paths on
 
 -- for each tick that has a row, the row begins with the agents' cells at that tick
 abbrev pub AreRowsOf : List (List ℕ) → List (List ℕ) → Type 0
-AreRowsOf rows paths = (tick : ℕ) (row : List ℕ) → slice_get rows tick ≡ Some row → take (length paths) row ≡ cells_at paths tick
+AreRowsOf rows paths =
+    (tick : ℕ) (row : List ℕ) → slice_get rows tick ≡ Some row → take (length paths) row ≡ cells_at paths tick

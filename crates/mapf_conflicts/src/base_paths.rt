@@ -1,3 +1,5 @@
+//! The paths of the root, kept so that the cells of all agents at a tick are found together. The search over trees
+//! makes them once.
 ghost use Rattle.std.specs.Prelude.{◌≡◌, ◌≤◌, All, IfOk, length};
 ghost use Rattle.mapf_model.specs.Limits.{most_agents, most_path_cells};
 ghost use Rattle.mapf_conflicts.specs.Pairs.{cells_at};

@@ -1,6 +1,8 @@
+//! The search for the first conflict, tick by tick, whatever holds the paths. The plain search calls it without marks,
+//! the search over trees by way of `marks.rt`.
 ghost use Rattle.std.specs.Prelude.{◌≡◌, ◌<◌, ◌≤◌, length, slice_index, IfNone, IfOk, IfSome};
 ghost use Rattle.mapf_model.specs.declared.conflict.Conflict.TheVariants.{Vertex};
-ghost use Rattle.mapf_model.specs.Earned.{tick_of, HasConflict, AreConflictFreeBefore, HaveSomeConflict};
+ghost use Rattle.mapf_model.specs.Conflicts.{tick_of, HasConflict, AreConflictFreeBefore, HaveSomeConflict};
 ghost use Rattle.mapf_model.specs.Limits.{most_agents};
 ghost use Rattle.mapf_model.specs.Pairs.{IsFirstPair, HoldsOfNoPair};
 ghost use Rattle.mapf_conflicts.specs.Pairs.{ShareCell, ExchangeCells};
@@ -18,10 +20,15 @@ use mapf_model::{Cell, Conflict, Plan, Tick};
 /// then of the least agent `i`, then of the least agent `j` greater than `i`. None if and only if no two agents are in
 /// conflict at any tick, also after the ends of their paths.
 pub fn first_conflict(plan: &Plan) -> Option<Conflict>
+    // A conflict that is returned is one of the plan.
     ensures some { IfSome result (HasConflict plan.now) }
+    // No two agents conflict at an earlier tick.
     ensures first { IfSome result (λ conflict. AreConflictFreeBefore plan.now (tick_of conflict)) }
+    // Its first agent has the smaller number.
     ensures ordered { IfSome result IsOrdered }
+    // It is the first of its tick: vertex conflicts come before swapping ones, then the agents' numbers decide.
     ensures least { IfSome result (IsFirstOfItsTick plan.now) }
+    // No conflict is returned only if no two agents conflict at any tick.
     ensures none { IfNone result (HaveSomeConflict plan.now → ⊥) }
 {
     first_among(&mut [], &PathList::of(plan.paths()), 0, 0)

@@ -1,3 +1,5 @@
+//! The first pair of agents in conflict at a tick, found by marks. The search for the first conflict tries this before
+//! the scan over pairs.
 ghost use Rattle.std.specs.Prelude.{◌≡◌, ◌≤◌, length, IfNone, IfOk, IfSome};
 ghost use Rattle.mapf_model.specs.Limits.{most_agents};
 ghost use Rattle.mapf_model.specs.Pairs.{IsFirstPair, HoldsOfNoPair};

@@ -1,5 +1,7 @@
+//! The search for the first conflict with a mark for each cell. The search over trees calls it for each node that it
+//! takes from the open list.
 ghost use Rattle.std.specs.Prelude.{◌≡◌, ◌≤◌, ℕ, length, IfOk, IfNone, IfSome};
-ghost use Rattle.mapf_model.specs.Earned.{tick_of, HasConflict, AreConflictFreeBefore, HaveSomeConflict};
+ghost use Rattle.mapf_model.specs.Conflicts.{tick_of, HasConflict, AreConflictFreeBefore, HaveSomeConflict};
 ghost use Rattle.mapf_model.specs.Limits.{most_agents};
 ghost use Rattle.mapf_conflicts.specs.Pairs.{paths_behind, AreOthersFreeBefore, IsFirstOfItsTick, IsOrdered};
 
@@ -39,11 +41,17 @@ impl CellMarks {
 /// of agents if each cell has a mark.
 pub fn first_conflict_in(marks: &mut CellMarks, paths: &[&Path]) -> Option<Conflict>
     requires { length paths.now ≤ most_agents }
+    // A conflict that is returned is one of the plan.
     ensures some { IfSome result (HasConflict (paths_behind paths.now)) }
+    // No two agents conflict at an earlier tick.
     ensures first { IfSome result (λ conflict. AreConflictFreeBefore (paths_behind paths.now) (tick_of conflict)) }
+    // Its first agent has the smaller number.
     ensures ordered { IfSome result IsOrdered }
+    // It is the first of its tick: vertex conflicts come before swapping ones, then the agents' numbers decide.
     ensures least { IfSome result (IsFirstOfItsTick (paths_behind paths.now)) }
+    // No conflict is returned only if no two agents conflict at any tick.
     ensures none { IfNone result (HaveSomeConflict (paths_behind paths.now) → ⊥) }
+    // The marks are for the same cells afterwards.
     ensures marks { marks.new ≡ marks.old }
 {
     first_among(&mut marks.agents, &PathList::of(paths), 0, 0)
@@ -60,11 +68,17 @@ pub fn first_conflict_after_replanning(
 ) -> Option<Conflict>
     requires few { length paths.now ≤ most_agents }
     requires others { AreOthersFreeBefore paths.now agent free }
+    // A conflict that is returned is one of the plan.
     ensures some { IfSome result (HasConflict paths.now) }
+    // No two agents conflict at an earlier tick.
     ensures first { IfSome result (λ conflict. AreConflictFreeBefore paths.now (tick_of conflict)) }
+    // Its first agent has the smaller number.
     ensures ordered { IfSome result IsOrdered }
+    // It is the first of its tick: vertex conflicts come before swapping ones, then the agents' numbers decide.
     ensures least { IfSome result (IsFirstOfItsTick paths.now) }
+    // No conflict is returned only if no two agents conflict at any tick.
     ensures none { IfNone result (HaveSomeConflict paths.now → ⊥) }
+    // The marks are for the same cells afterwards.
     ensures marks { marks.new ≡ marks.old }
 {
     first_among(&mut marks.agents, paths, agent, free)

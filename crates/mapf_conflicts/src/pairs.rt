@@ -1,3 +1,5 @@
+//! The conflicts at one tick, found by a scan over the agents: the first pair, and whether there is any. The search for
+//! the first conflict calls it where a mark is missing or would take longer.
 ghost use Rattle.std.specs.Prelude.{◌≡◌, ◌<◌, ◌≤◌, ℕ, false, true, length, IfNone, IfSome, IsTrue, ◌↔◌};
 ghost use Rattle.mapf_model.specs.Pairs.{IsFirstPair, HoldsOfNoPair};
 ghost use Rattle.mapf_conflicts.specs.Pairs.{ShareCell, ExchangeCells, HoldsOfSomePair, ShareOrExchangeCells};

@@ -1,3 +1,5 @@
+//! The paths of a node: those of the root, but for the agents that were replanned. The search over trees hands them to
+//! the search for the first conflict.
 ghost use Rattle.std.specs.Prelude.{◌≡◌, ◌<◌, ◌≤◌, All, length};
 ghost use Rattle.mapf_model.specs.Limits.{most_path_cells};
 ghost use Rattle.mapf_conflicts.specs.Pairs.{cells_at};
@@ -34,6 +36,7 @@ impl<'a> Model for PatchedPaths<'a> {
 }
 
 impl<'a> PatchedPaths<'a> {
+    /// Returns the paths of the base, with the replacements applied in order.
     pub fn of(base: &'a BasePaths, replacements: &'a [Replacement<'a>]) -> PatchedPaths<'a>
         requires { All (λ one. one.agent < length base.now) replacements.now }
         ensures { result ≡ with_replacements base.now replacements.now }

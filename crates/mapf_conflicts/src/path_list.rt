@@ -1,3 +1,4 @@
+//! A plain list of paths, as the search for the first conflict reads it.
 ghost use Rattle.std.specs.Prelude.{◌≡◌, ◌≤◌, ℕ, List, All, length, map};
 ghost use Rattle.mapf_model.specs.Limits.{most_path_cells};
 ghost use Rattle.mapf_conflicts.specs.Pairs.{cells_at};
@@ -47,6 +48,7 @@ impl<'a, P: AsPath> Model for PathList<'a, P> {
 }
 
 impl<'a, P: AsPath> PathList<'a, P> {
+    /// Returns the list of these paths.
     pub fn of(paths: &'a [P]) -> PathList<'a, P>
         ensures { result ≡ map P.cells paths.now }
     {

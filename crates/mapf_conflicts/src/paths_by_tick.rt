@@ -1,3 +1,5 @@
+//! What the search for the first conflict asks of paths, so that it is written once for lists, the root and other
+//! nodes.
 ghost use Rattle.std.specs.Prelude.{◌≡◌, ◌≤◌, ℕ, List, All, length};
 ghost use Rattle.mapf_model.specs.Limits.{most_path_cells};
 ghost use Rattle.mapf_conflicts.specs.Pairs.{cells_at};

@@ -26,4 +26,5 @@ pub record IsHorizon (bars : List Bar) (horizon : ℕ) : Type 0 where
 -- the greatest tick at which the cell is forbidden, None if it never is
 abbrev pub IsLastOn : List Bar → ℕ → Option ℕ → Type 0
 IsLastOn bars cell None = (tick : ℕ) → Contains bars (Cell cell tick) → ⊥
-IsLastOn bars cell (Some last) = Contains bars (Cell cell last) × ((tick : ℕ) → Contains bars (Cell cell tick) → tick ≤ last)
+IsLastOn bars cell (Some last) =
+    Contains bars (Cell cell last) × ((tick : ℕ) → Contains bars (Cell cell tick) → tick ≤ last)

@@ -1,3 +1,4 @@
+//! What a table of one agent's constraints answers. The search for one agent takes any such table.
 ghost use Rattle.std.specs.Prelude.{◌≡◌, ◌≢◌, ◌<◌, ◌≤◌, ◌↔◌, ◌∷◌, [], List, IfOk, OnErr, OnOk, IsTrue, Contains, false};
 ghost use Rattle.mapf_model.specs.declared.bar.Bar.{Bar};
 ghost use Rattle.mapf_model.specs.Bars.{IsBar, AreBars};

@@ -1,3 +1,5 @@
+//! How one more constraint changes the last tick at which a cell is forbidden, and the horizon. Both kinds of tables
+//! call it.
 ghost use Rattle.std.specs.Prelude.{◌≡◌, ◌<◌, ◌∷◌, max, List};
 ghost use Rattle.std.specs.Option.{option_map_or};
 ghost use Rattle.mapf_model.specs.declared.bar.Bar.{Bar};

@@ -1,3 +1,4 @@
+//! The plain table of constraints, which the plain search uses, and with which tests compare `TickBars`.
 ghost use Rattle.mapf_model.specs.Limits.{split_ticks};
 ghost use Rattle.mapf_constraints.specs.BarSets.{AreBefore, IsHorizon, IsLastOn};
 
@@ -68,7 +69,7 @@ impl BarTable for ListBars {
     }
 }
 
-/// Returns the greatest tick at which one of the constraints forbids the cell.
+// Returns the greatest tick at which one of the constraints forbids the cell.
 fn last_among(bars: &[Bar], cell: Cell) -> Option<Tick>
     ensures { IsLastOn bars.now cell result }
 {
@@ -79,7 +80,7 @@ fn last_among(bars: &[Bar], cell: Cell) -> Option<Tick>
     last
 }
 
-/// Returns the least tick greater than those of the constraints.
+// Returns the least tick greater than those of the constraints.
 fn horizon_of(bars: &[Bar]) -> Tick
     requires { AreBefore split_ticks bars.now }
     ensures { IsHorizon bars.now result }

@@ -24,7 +24,8 @@ IsDistanceOrNone grid goal cell None = IsUnreachable grid goal cell
 -- each step of the path goes to the cell of the least number among those that are one step away and nearer to the goal
 abbrev pub IsLeastDescent : GridMap → ℕ → List ℕ → Type 0
 IsLeastDescent grid goal path =
-    (k other : ℕ) → k + 1 < length path → Step grid (slice_index path k) other → IsDistance grid goal other (length path - 1 - (k + 1)) → slice_index path (k + 1) ≤ other
+    (k other : ℕ) → k + 1 < length path → Step grid (slice_index path k) other →
+    IsDistance grid goal other (length path - 1 - (k + 1)) → slice_index path (k + 1) ≤ other
 
 -- each entry is the cell's distance, or says that there is none
 pub record AreDistances (grid : GridMap) (goal : ℕ) (table : List ℕ) : Type 0 where

@@ -1,5 +1,6 @@
 -- The search for the distance of one start.
-use Rattle.std.specs.Prelude.{◌≡◌, ◌⊎◌, ℕ, ◌+◌, ◌-◌, ◌^◌, ◌<◌, ◌≤◌, Option, Some, None, List, [], ◌∷◌, ◌++◌, Contains, All, length, slice_set, sum}
+use Rattle.std.specs.Prelude.{◌≡◌, ◌⊎◌, ℕ, ◌+◌, ◌-◌, ◌^◌, ◌<◌, ◌≤◌, Option, Some, None, List, [], ◌∷◌, ◌++◌, Contains}
+use Rattle.std.specs.Prelude.{All, length, slice_set, sum}
 use Rattle.mapf_model.specs.Distance.{Walk}
 use Rattle.mapf_model.specs.Grid.{GridMap, IsGridMap, IsFree, Step, column, row}
 use Rattle.mapf_distance.specs.declared.search.Aim.{Aim}
@@ -27,14 +28,16 @@ IsTaken grid table cell = (to : ℕ) → Step grid cell to → entry_of table to
 abbrev pub IsSeen : GridMap → ℕ → ℕ → List ℕ → List ℕ → List ℕ → ℕ → Type 0
 IsSeen grid start level table due later cell =
     ((value_of grid start table cell ≤ level) × IsTaken grid table cell)
-    ⊎ (((value_of grid start table cell ≡ level) × Contains due cell) ⊎ ((value_of grid start table cell ≡ level + 2) × Contains later cell))
+    ⊎ (((value_of grid start table cell ≡ level) × Contains due cell)
+    ⊎ ((value_of grid start table cell ≡ level + 2) × Contains later cell))
 
 -- a cell with an entry below `UNREACHED`
 abbrev pub IsKnown : List ℕ → ℕ → Type 0
 IsKnown table cell = entry_of table cell < UNREACHED
 
 -- for each entry a walk is known, and each cell with an entry is expanded or open, except some cells
-pub record IsSearch (grid : GridMap) (start goal : ℕ) (But : ℕ → Type 0) (level : ℕ) (table due later : List ℕ) : Type 0 where
+pub record IsSearch (grid : GridMap) (start goal : ℕ) (But : ℕ → Type 0) (level : ℕ) (table due later : List ℕ)
+    : Type 0 where
   pub shape : IsGridMap grid
   pub free : IsFree grid start
   pub count : length table ≡ length grid.free
@@ -52,20 +55,26 @@ open_of search = search.due.items ++ search.next_row.items
 
 -- every cell with an entry is expanded or open
 abbrev pub IsSearchOn : GridMap → Search → Type 0
-IsSearchOn grid search = IsSearch grid search.start search.goal (λ cell. ⊥) search.level search.table.items (open_of search) search.later.items
+IsSearchOn grid search =
+    IsSearch grid search.start search.goal (λ cell. ⊥) search.level search.table.items (open_of search)
+    search.later.items
 
 -- every cell with an entry is expanded or open except this one, which has an entry
 abbrev pub IsSearchAt : GridMap → ℕ → Search → Type 0
-IsSearchAt grid cell search = IsSearch grid search.start search.goal (λ other. other ≡ cell) search.level search.table.items (open_of search) search.later.items × IsKnown search.table.items cell
+IsSearchAt grid cell search =
+    IsSearch grid search.start search.goal (λ other. other ≡ cell) search.level search.table.items (open_of search)
+    search.later.items × IsKnown search.table.items cell
 
 -- the cell was expanded or is still open, if it isn't of this level
 abbrev pub IsPassed : GridMap → ℕ → Search → Type 0
 IsPassed grid cell search =
-    (value_of grid search.start search.table.items cell ≡ search.level → ⊥) → IsSeen grid search.start search.level search.table.items (open_of search) search.later.items cell
+    (value_of grid search.start search.table.items cell ≡ search.level → ⊥) →
+    IsSeen grid search.start search.level search.table.items (open_of search) search.later.items cell
 
 -- the start's entry is its distance
 abbrev pub IsFound : Search → Type 0
-IsFound search = (entry_of search.table.items search.start < UNREACHED) × (entry_of search.table.items search.start ≤ search.level)
+IsFound search =
+    (entry_of search.table.items search.start < UNREACHED) × (entry_of search.table.items search.start ≤ search.level)
 
 -- the start's distance is known, or no cell is open
 abbrev pub IsEnded : Search → Type 0
@@ -89,12 +98,14 @@ pub record IsSameSearch (old new : Search) : Type 0 where
 
 -- the new list has the cell somewhere among the elements of the old one
 abbrev pub IsInserted : ℕ → List ℕ → List ℕ → Type 0
-IsInserted cell old new = (front : List ℕ) × (tail : List ℕ) × (old ≡ front ++ tail) × (new ≡ front ++ cell ∷ [] ++ tail)
+IsInserted cell old new =
+    (front : List ℕ) × (tail : List ℕ) × (old ≡ front ++ tail) × (new ≡ front ++ cell ∷ [] ++ tail)
 
 -- a cell of this f-value is added to the open cells of the level or to those of the next one
 abbrev pub IsPut : ℕ → ℕ → Search → Search → Type 0
 IsPut cell value old new =
-    ((value ≡ old.level) × IsInserted cell (open_of old) (open_of new) × (new.later.items ≡ old.later.items)) ⊎ ((value ≡ old.level + 2) × (open_of new ≡ open_of old) × (new.later.items ≡ old.later.items ++ cell ∷ []))
+    ((value ≡ old.level) × IsInserted cell (open_of old) (open_of new) × (new.later.items ≡ old.later.items))
+    ⊎ ((value ≡ old.level + 2) × (open_of new ≡ open_of old) × (new.later.items ≡ old.later.items ++ cell ∷ []))
 
 -- the step to the cell at this place was relaxed: the cell was reached if it is free and its entry was greater, and
 -- nothing else changed
@@ -102,7 +113,8 @@ abbrev pub IsRelaxed : GridMap → Option ℕ → ℕ → Search → Search → 
 IsRelaxed grid None distance old new = new ≡ old
 IsRelaxed grid (Some next) distance old new =
     ((IsFree grid next × (distance < entry_of old.table.items next))
-    × (new.table.items ≡ slice_set old.table.items next distance) × IsPut next (distance + estimate grid next old.start) old new × IsSameSearch old new)
+    × (new.table.items ≡ slice_set old.table.items next distance)
+    × IsPut next (distance + estimate grid next old.start) old new × IsSameSearch old new)
     ⊎ ((IsFree grid next × (distance < entry_of old.table.items next) → ⊥) × (new ≡ old))
 
 -- all cells up to the search's f-value were expanded, and it is at least this number

@@ -1,3 +1,5 @@
+//! The table of distances to one goal, and the path that is read off it. The search for one agent uses it, and so does
+//! the checker.
 ghost use Rattle.std.specs.Prelude.{◌≡◌, ℕ, ◌+◌, ◌-◌, ◌<◌, ◌≤◌, ◌↔◌, length, IfOk, IfSome, IfNone, IsTrue, OnSome};
 ghost use Rattle.mapf_model.specs.Distance.{IsDistance, IsUnreachable};
 ghost use Rattle.mapf_model.specs.Grid.{IsFree, Step, free_cell_count};
@@ -15,7 +17,7 @@ use std::marker::Model;
 /// The least number of steps from each cell of a grid to one goal.
 #[derive(Debug, Drop)]
 pub struct Distances {
-    // The width and the goal, which give the numbers of the table their meaning.
+    // The sizes and the goal, which give the numbers of the table their meaning.
     width: u32,
     height: u32,
     goal: Cell,
@@ -52,10 +54,13 @@ impl Distances {
     /// Returns the least number of steps from the cell to the goal. None if no steps lead there, as from a blocked cell
     /// and from outside the grid.
     pub fn get(&self, cell: Cell) -> Option<u32>
+        // A distance is the least number of steps to the goal.
         ensures some { IfSome result (λ distance. IsDistance self.now.grid self.now.goal cell distance) }
+        // A distance is less than the number of free cells.
         ensures small { IfSome result (λ distance. distance < free_cell_count self.now.grid) }
         ensures bounded { IfSome result (λ distance. distance < most_cells) }
         ensures reachable { OnSome result (IsReachable self.now.grid self.now.goal cell) }
+        // No distance is returned only if the goal can't be reached.
         ensures none { IfNone result (IsUnreachable self.now.grid self.now.goal cell) }
     {
         match self.table.get(cell.0 as usize) {
@@ -68,12 +73,18 @@ impl Distances {
     /// each step goes to the nearer cell of the least number.
     pub fn descend(&self, alloc: Global, cell: Cell) -> Result<Path, OutOfMemory>
         requires { IsReachable self.now.grid self.now.goal cell }
+        // The cells are a path.
         ensures path { IfOk result (IsPath self.now.grid) }
+        // It begins at the cell.
         ensures start { IfOk result (λ path. at path 0 ≡ cell) }
+        // It ends at the goal.
         ensures goal { IfOk result (λ path. at path (length path - 1) ≡ self.now.goal) }
+        // It has as many steps as the distance.
         ensures shortest { IfOk result (λ path. IsDistance self.now.grid self.now.goal cell (length path - 1)) }
         ensures cost { IfOk result (λ path. IsCost self.now.goal path (length path - 1)) }
+        // It ends with its last arrival.
         ensures tight { IfOk result IsTight }
+        // At each step it goes to the least nearer cell by number.
         ensures least { IfOk result (IsLeastDescent self.now.grid self.now.goal) }
         ensures few { IfOk result (λ path. length path ≤ most_path_cells) }
     {

@@ -1,3 +1,4 @@
+//! Tables of distances that are made when they are needed, for the search over trees and for the judge of a tree.
 ghost use Rattle.std.specs.Prelude.{◌≡◌, ◌<◌, ℕ, Some, IfOk, OnOk, length, slice_get};
 ghost use Rattle.mapf_distance.specs.Tables.{AreMade, HasTable};
 
@@ -39,7 +40,9 @@ impl LazyTables {
         requires tables { AreMade problem.now self.old }
         requires known { agent < length problem.now.agents }
         ensures tables { OnOk result (AreMade problem.now self.new) }
+        // A table that was made is there.
         ensures made { OnOk result (HasTable self.new agent) }
+        // A table that was made is kept, and none is lost.
         ensures kept { OnOk result ((other : ℕ) → HasTable self.old other → HasTable self.new other) }
     {
         let place = agent as usize;

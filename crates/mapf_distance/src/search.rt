@@ -1,3 +1,4 @@
+//! A* from a goal towards a start, for the distance of the start and for a shortest path.
 ghost use Rattle.std.specs.Prelude.{ℕ, ◌≡◌, ◌+◌, ◌<◌, ◌≤◌, ◌^◌, ◌↔◌, [], IfNone, IfOk, IfSome};
 ghost use Rattle.std.specs.Prelude.{Contains, OnOk, OnSome, IsTrue, if◌then◌else◌, length, slice_set, vec_len};
 ghost use Rattle.mapf_model.specs.Distance.{IsDistance, IsUnreachable};
@@ -80,6 +81,7 @@ impl Search {
         Ok(search)
     }
 
+    /// Returns the cell from which the search looks for the distance.
     pub fn start(&self) -> Cell
         ensures { result ≡ self.now.start }
     {

@@ -1,3 +1,4 @@
+//! How far the agents' starts are from their goals, found by A*. The judge of a tree needs these distances at leaves.
 ghost use Rattle.std.specs.Prelude.{IfOk};
 ghost use Rattle.mapf_distance.specs.Tables.{AreStartDistances};
 

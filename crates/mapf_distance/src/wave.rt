@@ -1,3 +1,4 @@
+//! Breadth-first search from a goal, which fills a table of distances. The tables of `Distances` are made here.
 ghost use Rattle.std.specs.Prelude.{◌≡◌, ◌+◌, ◌<◌, ◌≤◌, ◌++◌, ◌∷◌, ◌↔◌, [], IfOk, IfSome, IsTrue, map, slice_set};
 ghost use Rattle.std.specs.Prelude.{vec_capacity, vec_len};
 ghost use Rattle.mapf_model.specs.Grid.{IsFree, IsGridMap, free_cell_count};

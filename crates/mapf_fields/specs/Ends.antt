@@ -1,5 +1,6 @@
 -- Where a line ends: at its LF.
-use Rattle.std.specs.Prelude.{◌≡◌, ◌==◌, Bool, true, not, ℕ, List, [], ◌∷◌, ◌++◌, Option, Some, None, if◌then◌else◌, option_map}
+use Rattle.std.specs.Prelude.{◌≡◌, ◌==◌, Bool, true, not, ℕ, List, [], ◌∷◌, ◌++◌, Option, Some, None, if◌then◌else◌}
+use Rattle.std.specs.Prelude.{option_map}
 use Rattle.std.specs.List.{list_all}
 
 -- there is no LF

@@ -1,5 +1,7 @@
 -- Numbers in a line: how they are spelled, and what they are read as.
-use Rattle.std.specs.Prelude.{◌≡◌, ℕ, ◌==◌, ◌&&◌, ◌^◌, ◌+◌, ◌*◌, ◌/◌, ◌%◌, Bool, true, false, not, nat_lt, nat_le, List, [], ◌∷◌, ◌++◌, length, drop, take_while, Option, Some, None, Result, Ok, Err, if◌then◌else◌}
+use Rattle.std.specs.Prelude.{◌≡◌, ℕ, ◌==◌, ◌&&◌, ◌^◌, ◌+◌, ◌*◌, ◌/◌, ◌%◌, Bool, true, false, not, nat_lt, nat_le, List}
+use Rattle.std.specs.Prelude.{[], ◌∷◌, ◌++◌, length, drop, take_while, Option, Some, None, Result, Ok, Err}
+use Rattle.std.specs.Prelude.{if◌then◌else◌}
 use Rattle.std.specs.Char.{is_ascii_digit}
 use Rattle.std.specs.Fmt.{decimal}
 use Rattle.std.specs.Str.Parse.{digits_value}
@@ -51,7 +53,8 @@ after_digits bs = drop (length (front_digits bs)) bs
 
 -- a number, None from 2^64 on, and what follows it
 unfoldable pub read_number : List ℕ → Result (Option ℕ × List ℕ) LineFault
-read_number bs = if begins_well (front_digits bs) then Ok (small_value (front_digits bs), after_digits bs) else Err Shape
+read_number bs =
+    if begins_well (front_digits bs) then Ok (small_value (front_digits bs), after_digits bs) else Err Shape
 
 -- a number with nothing after it
 unfoldable pub read_whole : List ℕ → Result (Option ℕ) LineFault

@@ -30,6 +30,7 @@ WritesOrFails old new text (Err failed) = WritesPrefix old new text
 
 -- of the bytes on the page, followed by the text, a prefix was written, and the rest is on the page; or the sink
 -- failed, and a prefix of them was written
-abbrev pub PassesOrFails : {T E : Type 0} → Option (List ℕ) → Option (List ℕ) → List ℕ → List ℕ → List ℕ → Result T E → Type 0
+abbrev pub PassesOrFails : {T E : Type 0} → Option (List ℕ) → Option (List ℕ) → List ℕ → List ℕ → List ℕ → Result T E →
+    Type 0
 PassesOrFails old new held left text (Ok done) = Passes old new held left text
 PassesOrFails old new held left text (Err failed) = WritesPrefix old new (held ++ text)

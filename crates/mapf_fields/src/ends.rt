@@ -1,8 +1,9 @@
+//! Where a line ends, for the readers of plan texts, certificates and event texts.
 ghost use Rattle.std.specs.Prelude.{◌≡◌, ◌<◌, ◌+◌, ◌==◌, true, length, take, drop, MatchOption, option_map};
 ghost use Rattle.std.specs.List.{position_from};
 ghost use Rattle.mapf_fields.specs.Ends.{IsCut, lacks_end, cut};
 
-/// Returns the index of the first LF.
+// Returns the index of the first LF.
 fn end_place(bytes: &[u8]) -> Option<usize>
     ensures { result ≡ position_from (λ b. b == 10) 0 bytes.now }
 {

@@ -1,3 +1,5 @@
+//! The two ways in which a line can be wrong. Readers of plan texts, certificates and event texts make their own errors
+//! of them.
 /// What is wrong with a line.
 #[derive(Clone, Copy, Debug, PartialEq, Eq)]
 pub enum LineFault {

@@ -1,3 +1,4 @@
+//! How a number is read from the front of bytes, for the readers of plan texts, certificates and event texts.
 ghost use Rattle.std.specs.Char.{is_ascii_digit};
 ghost use Rattle.std.specs.Prelude.{◌≡◌, length, option_map, slice_index};
 ghost use Rattle.mapf_fields.specs.Numbers.{Gives, strip, begins_well, small_value, front_digits, read_number};
@@ -12,7 +13,7 @@ pub fn strip<'a>(bytes: &'a [u8], front: &[u8]) -> Option<&'a [u8]>
     bytes.strip_prefix(front)
 }
 
-/// Returns whether the word isn't empty and has no leading zero: it has one byte, or its first byte isn't `0`.
+// Returns whether the word isn't empty and has no leading zero: it has one byte, or its first byte isn't `0`.
 #[inline(always)]
 fn begins_well(word: &[u8]) -> bool
     ensures { result ≡ begins_well word.now }
@@ -24,15 +25,15 @@ fn begins_well(word: &[u8]) -> bool
     }
 }
 
-/// Returns how many digits bytes begin with.
+// Returns how many digits bytes begin with.
 fn digit_count(bytes: &[u8]) -> usize
     ensures { result ≡ length (front_digits bytes.now) }
 {
     bytes.iter().take_while(|b| b.is_ascii_digit()).count()
 }
 
-/// Reads the digits that bytes begin with, in one pass. Returns the number that they spell, None from 2^64 on, and how
-/// many digits there are.
+// Reads the digits that bytes begin with, in one pass. Returns the number that they spell, None from 2^64 on, and how
+// many digits there are.
 #[inline(always)]
 fn digits(bytes: &[u8]) -> (Option<u64>, usize)
     ensures value { result.0 ≡ small_value (front_digits bytes.now) }
@@ -55,7 +56,7 @@ fn digits(bytes: &[u8]) -> (Option<u64>, usize)
     (Some(value), bytes.len())
 }
 
-/// Returns whether bytes begin with a digit.
+// Returns whether bytes begin with a digit.
 #[inline(always)]
 fn begins_with_digit(bytes: &[u8]) -> bool
     ensures { result ≡ is_ascii_digit (slice_index bytes.now 0) }
@@ -66,8 +67,8 @@ fn begins_with_digit(bytes: &[u8]) -> bool
     }
 }
 
-/// Reads the number that bytes begin with, whatever the count of its digits. Returns it, None from 2^64 on, and what
-/// follows.
+// Reads the number that bytes begin with, whatever the count of its digits. Returns it, None from 2^64 on, and what
+// follows.
 #[tactic(auto, unfolding(crate::specs::Numbers::read_number))]
 #[inline(never)]
 fn long_number(bytes: &[u8]) -> Result<(Option<u64>, &[u8]), LineFault>
@@ -82,8 +83,8 @@ fn long_number(bytes: &[u8]) -> Result<(Option<u64>, &[u8]), LineFault>
     }
 }
 
-/// Reads the number that bytes begin with. Returns it, None from 2^64 on, and what follows. Nearly all numbers have one
-/// to three digits, and these are read without a loop.
+// Reads the number that bytes begin with. Returns it, None from 2^64 on, and what follows. Nearly all numbers have one
+// to three digits, and these are read without a loop.
 #[inline(always)]
 fn number(bytes: &[u8]) -> Result<(Option<u64>, &[u8]), LineFault>
     ensures { Gives (λ p. (p.0, p.1.now)) result (read_number bytes.entry.now) }

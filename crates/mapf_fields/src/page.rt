@@ -1,3 +1,4 @@
+//! The page on which plan texts, certificates, frames and replies are collected before they go to a sink.
 ghost use Rattle.std.specs.Prelude.{◌≡◌, ◌+◌, ◌<◌, ◌≤◌, ◌↔◌, ◌++◌, ◌∷◌, [], List, ℕ, false, IsTrue, OnOk, length, take};
 ghost use Rattle.std.specs.Result.{is_err};
 ghost use Rattle.mapf_fields.specs.Numbers.{field};
@@ -9,12 +10,12 @@ use mapf_model::{Failed, Sink, write_all};
 use std::marker::Model;
 
 /// The size of a page, in bytes. It holds thousands of lines, and fits on the stack.
-const ROOM: usize = 65_536;
+pub const PAGE_ROOM: usize = 65_536;
 
 /// Bytes that are written to a sink together. The buffer is part of the value, so nothing is allocated.
 #[derive(Drop)]
 pub struct Page {
-    bytes: [u8; ROOM],
+    bytes: [u8; PAGE_ROOM],
     used: usize,
 }
 
@@ -30,11 +31,12 @@ impl Model for Page {
 }
 
 impl Page {
+    /// Returns a page without bytes.
     pub fn empty() -> Page
         ensures { result ≡ [] }
     {
         Page {
-            bytes: [0; ROOM],
+            bytes: [0; PAGE_ROOM],
             used: 0,
         }
     }
@@ -42,7 +44,7 @@ impl Page {
     fn has_room(&self, count: usize) -> bool
         ensures { IsTrue result ↔ (length self.now + count ≤ page_room) }
     {
-        count <= ROOM - self.used
+        count <= PAGE_ROOM - self.used
     }
 
     /// Adds bytes, for which there has to be room.
@@ -80,8 +82,8 @@ impl Page {
         }
     }
 
-    /// Adds the separator `mark` and a number below 1000. All four bytes of its spelling are copied, and those that are
-    /// no digits are then taken off the page, so that no branch depends on how many digits there are.
+    // Adds the separator `mark` and a number below 1000. All four bytes of its spelling are copied, and those that are
+    // no digits are then taken off the page, so that no branch depends on how many digits there are.
     #[inline(always)]
     fn push_small_field(&mut self, mark: u8, number: u64)
         requires room { length self.old + field_room ≤ page_room }
@@ -96,7 +98,7 @@ impl Page {
         self.shorten(end);
     }
 
-    /// Adds the separator `mark` and any number.
+    // Adds the separator `mark` and any number.
     #[inline(never)]
     fn push_large_field(&mut self, mark: u8, number: u64)
         requires { length self.old + field_room ≤ page_room }
@@ -108,7 +110,7 @@ impl Page {
         self.push_bytes(buffer.format(number).as_bytes());
     }
 
-    /// Keeps only the first so many bytes.
+    // Keeps only the first so many bytes.
     #[inline(always)]
     fn shorten(&mut self, count: usize)
         requires { count ≤ length self.old }

@@ -1,3 +1,4 @@
+//! Whether a number that was read is in its range, for the readers of plan texts, certificates and event texts.
 ghost use Rattle.std.specs.Prelude.{◌≡◌};
 ghost use Rattle.mapf_fields.specs.Numbers.{in_range, below};
 

@@ -1,3 +1,4 @@
+//! The digits of the numbers below 1,000, for the page.
 ghost use Rattle.std.specs.Prelude.{◌<◌};
 ghost use Rattle.mapf_fields.specs.Spellings.{IsSpelling};
 

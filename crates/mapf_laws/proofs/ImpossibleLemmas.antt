@@ -12,7 +12,7 @@ use Rattle.mapf_model.specs.declared.label.Label.TheVariants.{Never}
 use Rattle.mapf_model.specs.declared.problem.Agent.{Agent}
 use Rattle.mapf_model.specs.Bars.{Violates, Satisfies}
 use Rattle.mapf_model.specs.Blocks.{LabelBlock}
-use Rattle.mapf_model.specs.Earned.{tick_of}
+use Rattle.mapf_model.specs.Conflicts.{tick_of}
 use Rattle.mapf_model.specs.Labels.{Entries, entries_of, AreSound, IsEntryOrDistance}
 use Rattle.mapf_model.specs.Laws.{NeverMeansNone}
 use Rattle.mapf_model.specs.Plan.{Instance}

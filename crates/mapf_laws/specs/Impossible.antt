@@ -10,11 +10,14 @@ use Rattle.mapf_laws.specs.declared.impossible.TrivialCause.TheVariants.{SharedS
 
 -- two different agents have the same start
 abbrev pub ShareStart : Instance → ℕ → ℕ → Type 0
-ShareStart problem i j = (i ≢ j) × (a : Agent) × (b : Agent) × (slice_get problem.agents i ≡ Some a) × (slice_get problem.agents j ≡ Some b) × (a.start ≡ b.start)
+ShareStart problem i j =
+    (i ≢ j) × (a : Agent) × (b : Agent) × (slice_get problem.agents i ≡ Some a) × (slice_get problem.agents j ≡ Some b)
+    × (a.start ≡ b.start)
 
 -- the agent's goal can't be reached from its start
 abbrev pub HasUnreachableGoal : Instance → ℕ → Type 0
-HasUnreachableGoal problem i = (agent : Agent) × (slice_get problem.agents i ≡ Some agent) × IsUnreachable problem.grid agent.goal agent.start
+HasUnreachableGoal problem i =
+    (agent : Agent) × (slice_get problem.agents i ≡ Some agent) × IsUnreachable problem.grid agent.goal agent.start
 
 -- this is why no plan is valid
 abbrev pub IsTrivialCause : Instance → TrivialCause → Type 0
@@ -29,8 +32,10 @@ IsTriviallyImpossible problem = (cause : TrivialCause) × IsTrivialCause problem
 
 -- a tree shows `impossible` only for such problems
 abbrev pub ImpossibleIsTrivial : Type 0
-ImpossibleIsTrivial = (problem : Instance) (tree : ConstraintTree) → Shows problem Impossible tree → IsTriviallyImpossible problem
+ImpossibleIsTrivial =
+    (problem : Instance) (tree : ConstraintTree) → Shows problem Impossible tree → IsTriviallyImpossible problem
 
 -- for each of them some tree shows it
 abbrev pub TrivialIsShown : Type 0
-TrivialIsShown = (problem : Instance) → IsTriviallyImpossible problem → (tree : ConstraintTree) × Shows problem Impossible tree
+TrivialIsShown =
+    (problem : Instance) → IsTriviallyImpossible problem → (tree : ConstraintTree) × Shows problem Impossible tree

@@ -1,3 +1,5 @@
+//! Which problems a tree can show to be impossible, as a law and as a function that says why. The program calls
+//! neither.
 ghost use Rattle.std.specs.Prelude.{◌↔◌, ◌<◌, ℕ, length, IfNone, IfSome, IsTrue};
 ghost use Rattle.mapf_model.specs.declared.item.Claim.TheVariants.{Impossible};
 ghost use Rattle.mapf_model.specs.Tree.{ConstraintTree, ShareGoal, Shows};
@@ -20,7 +22,9 @@ pub enum TrivialCause {
 /// A tree shows `impossible` if and only if there is such a cause. If there is none, all agents can wait at their
 /// starts until the tick of every split has passed and walk then, and some leaf allows that.
 pub fn impossible_is_trivial()
+    // A tree shows it only if there is such a cause.
     ensures only { ImpossibleIsTrivial }
+    // For each problem with such a cause some tree shows it.
     ensures shown { TrivialIsShown }
 {
     label_bound();

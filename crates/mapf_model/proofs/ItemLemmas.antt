@@ -36,9 +36,9 @@ cut (Clash i j) (Split b ms left right) xs ys e = absurd (split_not_clash b ms i
 cut (Clash i j) (Leaf blocks) xs ys e = cc
 cut (Clash i j) (Clash i' j') xs ys e = (cc, cc)
 
-module _ (problem : Instance) (claim : Claim) (context : NodeContext) (owed : List NodeContext) where
-  pub from_split : (conflict : Conflict) (blocks : List LabelBlock) (items : List Node) → NodesShow problem claim (context ∷ owed) (SplitNode conflict blocks ∷ items) →
-      SplitShows problem context conflict blocks × NodesShow problem claim (left_child_context context conflict blocks ∷ right_child_context context conflict blocks ∷ owed) items
+module _ (problem : Instance) (claim : Claim) (context : NodeContext) (pending : List NodeContext) where
+  pub from_split : (conflict : Conflict) (blocks : List LabelBlock) (items : List Node) → NodesShow problem claim (context ∷ pending) (SplitNode conflict blocks ∷ items) →
+      SplitShows problem context conflict blocks × NodesShow problem claim (left_child_context context conflict blocks ∷ right_child_context context conflict blocks ∷ pending) items
   from_split conflict blocks items ([], e, zip) = absurd zip
   from_split conflict blocks items (Split b ms left right ∷ trees, e, zip) =
       let head : SplitNode b ms ≡ SplitNode conflict blocks = cc in
@@ -49,8 +49,8 @@ module _ (problem : Instance) (claim : Claim) (context : NodeContext) (owed : Li
   from_split conflict blocks items (Leaf own ∷ trees, e, zip) = absurd (split_not_leaf conflict blocks own cc)
   from_split conflict blocks items (Clash i j ∷ trees, e, zip) = absurd (split_not_clash conflict blocks i j cc)
 
-  pub to_split : (conflict : Conflict) (blocks : List LabelBlock) (items : List Node) → SplitShows problem context conflict blocks × NodesShow problem claim (left_child_context context conflict blocks ∷ right_child_context context conflict blocks ∷ owed) items →
-      NodesShow problem claim (context ∷ owed) (SplitNode conflict blocks ∷ items)
+  pub to_split : (conflict : Conflict) (blocks : List LabelBlock) (items : List Node) → SplitShows problem context conflict blocks × NodesShow problem claim (left_child_context context conflict blocks ∷ right_child_context context conflict blocks ∷ pending) items →
+      NodesShow problem claim (context ∷ pending) (SplitNode conflict blocks ∷ items)
   to_split conflict blocks items (good, ([], e, zip)) = absurd zip
   to_split conflict blocks items (good, (left ∷ [], e, zip)) = absurd zip.1
   to_split conflict blocks items (good, (left ∷ right ∷ trees, e, zip)) = (
@@ -59,7 +59,7 @@ module _ (problem : Instance) (claim : Claim) (context : NodeContext) (owed : Li
     (record { proper = (good.0, zip.0.proper, zip.1.0.proper); nodes = (good.1, zip.0.nodes, zip.1.0.nodes) }, zip.1.1),
   )
 
-  pub from_leaf : (blocks : List LabelBlock) (items : List Node) → NodesShow problem claim (context ∷ owed) (LeafNode blocks ∷ items) → ShowsFrom problem claim context (Leaf blocks) × NodesShow problem claim owed items
+  pub from_leaf : (blocks : List LabelBlock) (items : List Node) → NodesShow problem claim (context ∷ pending) (LeafNode blocks ∷ items) → ShowsFrom problem claim context (Leaf blocks) × NodesShow problem claim pending items
   from_leaf blocks items ([], e, zip) = absurd zip
   from_leaf blocks items (Split b ms left right ∷ trees, e, zip) = absurd (split_not_leaf b ms blocks cc)
   from_leaf blocks items (Leaf own ∷ trees, e, zip) =
@@ -67,10 +67,10 @@ module _ (problem : Instance) (claim : Claim) (context : NodeContext) (owed : Li
       (subst (λ ms. ShowsFrom problem claim context (Leaf ms)) same zip.0, (trees, cc, zip.1))
   from_leaf blocks items (Clash i j ∷ trees, e, zip) = absurd cc
 
-  pub to_leaf : (blocks : List LabelBlock) (items : List Node) → ShowsFrom problem claim context (Leaf blocks) × NodesShow problem claim owed items → NodesShow problem claim (context ∷ owed) (LeafNode blocks ∷ items)
+  pub to_leaf : (blocks : List LabelBlock) (items : List Node) → ShowsFrom problem claim context (Leaf blocks) × NodesShow problem claim pending items → NodesShow problem claim (context ∷ pending) (LeafNode blocks ∷ items)
   to_leaf blocks items (shows, (trees, e, zip)) = (Leaf blocks ∷ trees, ap (λ rest. LeafNode blocks ∷ rest) e, (shows, zip))
 
-  pub from_clash : (i j : ℕ) (items : List Node) → NodesShow problem claim (context ∷ owed) (ClashNode i j ∷ items) → ShareGoal problem i j × NodesShow problem claim owed items
+  pub from_clash : (i j : ℕ) (items : List Node) → NodesShow problem claim (context ∷ pending) (ClashNode i j ∷ items) → ShareGoal problem i j × NodesShow problem claim pending items
   from_clash i j items ([], e, zip) = absurd zip
   from_clash i j items (Split b ms left right ∷ trees, e, zip) = absurd (split_not_clash b ms i j cc)
   from_clash i j items (Leaf blocks ∷ trees, e, zip) = absurd cc
@@ -79,10 +79,10 @@ module _ (problem : Instance) (claim : Claim) (context : NodeContext) (owed : Li
       let two : j' ≡ j = cc in
       (subst (λ n. ShareGoal problem i n) two (subst (λ n. ShareGoal problem n j') one zip.0.nodes), (trees, cc, zip.1))
 
-  pub to_clash : (i j : ℕ) (items : List Node) → ShareGoal problem i j × NodesShow problem claim owed items → NodesShow problem claim (context ∷ owed) (ClashNode i j ∷ items)
+  pub to_clash : (i j : ℕ) (items : List Node) → ShareGoal problem i j × NodesShow problem claim pending items → NodesShow problem claim (context ∷ pending) (ClashNode i j ∷ items)
   to_clash i j items (one_goal, (trees, e, zip)) = (Clash i j ∷ trees, ap (λ rest. ClashNode i j ∷ rest) e, (record { proper = tt; nodes = one_goal }, zip))
 
-  pub none_missing : NodesShow problem claim (context ∷ owed) [] → ⊥
+  pub none_missing : NodesShow problem claim (context ∷ pending) [] → ⊥
   none_missing ([], e, zip) = zip
   none_missing (Split b ms left right ∷ trees, e, zip) = cc
   none_missing (Leaf blocks ∷ trees, e, zip) = cc

@@ -11,7 +11,8 @@ use Rattle.mapf_model.specs.Blocks.{LabelBlock}
 use Rattle.mapf_model.specs.Grid.{GridMap}
 use Rattle.mapf_model.specs.Labels.{entries_of, AreSound}
 use Rattle.mapf_model.specs.Plan.{Instance, IsValid}
-use Rattle.mapf_model.specs.Tree.{Clash, NodeContext, root, left_child_context, right_child_context, AreBlocksSound, Shows}
+use Rattle.mapf_model.specs.Tree.{Clash, NodeContext, root, left_child_context, right_child_context, AreBlocksSound}
+use Rattle.mapf_model.specs.Tree.{Shows}
 
 -- three by three free cells
 abbrev pub open_square : GridMap
@@ -40,7 +41,8 @@ WaitingBoundsALabel = AreSound open_square 5 (Cell 4 1 ∷ []) (entries_of (entr
 
 -- no label is raised at a goal that no constraint forbids
 abbrev pub NoLabelIsRaisedAtAFreeGoal : Type 0
-NoLabelIsRaisedAtAFreeGoal = AreSound open_square 7 (Cell 4 1 ∷ []) (entries_of (entry 1 0 (Ticks 3) ∷ entry 7 0 (Ticks 1) ∷ [])) → ⊥
+NoLabelIsRaisedAtAFreeGoal =
+    AreSound open_square 7 (Cell 4 1 ∷ []) (entries_of (entry 1 0 (Ticks 3) ∷ entry 7 0 (Ticks 1) ∷ [])) → ⊥
 
 -- two agents with the same goal can't both stay there
 abbrev pub one_goal : Instance
@@ -69,8 +71,10 @@ SwappingIsNoPlan = IsValid neighbours ((0 ∷ 1 ∷ []) ∷ (1 ∷ 0 ∷ []) ∷
 -- in the children of a split on a swap, the first agent is forbidden its move, the second its own
 abbrev pub EachChildBarsItsAgent : Type 0
 EachChildBarsItsAgent =
-    ((left_child_context root (Swap 0 1 3 4 5) []).bars 0 ≡ Move 3 4 5 ∷ []) × ((left_child_context root (Swap 0 1 3 4 5) []).bars 1 ≡ []) ×
-    ((right_child_context root (Swap 0 1 3 4 5) []).bars 0 ≡ []) × ((right_child_context root (Swap 0 1 3 4 5) []).bars 1 ≡ Move 4 3 5 ∷ [])
+    ((left_child_context root (Swap 0 1 3 4 5) []).bars 0 ≡ Move 3 4 5 ∷ [])
+    × ((left_child_context root (Swap 0 1 3 4 5) []).bars 1 ≡ []) ×
+    ((right_child_context root (Swap 0 1 3 4 5) []).bars 0 ≡ [])
+    × ((right_child_context root (Swap 0 1 3 4 5) []).bars 1 ≡ Move 4 3 5 ∷ [])
 
 -- an agent from the left of the square to its right, and one from its top to its bottom: shortest paths meet in the
 -- middle at tick 1
@@ -96,8 +100,10 @@ ChildrenInheritLabels =
     ((left_below root (block 0 (entry 3 0 (Ticks 4)))).entries 0 3 0 ≡ Some (Ticks 4)) ×
     ((right_below root (block 0 (entry 3 0 (Ticks 4)))).entries 0 3 0 ≡ Some (Ticks 4)) ×
     ((left_below root (block 0 (entry 3 0 (Ticks 4)))).entries 1 3 0 ≡ None) ×
-    ((right_below (left_below root (block 0 (entry 3 0 (Ticks 4)))) (block 0 (entry 3 1 (Ticks 3)))).entries 0 3 0 ≡ None) ×
-    ((right_below (left_below root (block 0 (entry 3 0 (Ticks 4)))) (block 1 (entry 3 1 (Ticks 3)))).entries 0 3 0 ≡ Some (Ticks 4))
+    ((right_below (left_below root (block 0 (entry 3 0 (Ticks 4)))) (block 0 (entry 3 1 (Ticks 3)))).entries 0 3 0
+    ≡ None) ×
+    ((right_below (left_below root (block 0 (entry 3 0 (Ticks 4)))) (block 1 (entry 3 1 (Ticks 3)))).entries 0 3 0
+    ≡ Some (Ticks 4))
 
 -- a split's block is judged without the constraints that its children add: no constraint forbids the first agent the
 -- middle yet, so 3 ticks is not a sound label at its start

@@ -1,5 +1,6 @@
 -- The cells of a grid and the steps between them. (Stern et al. 2019: a four-connected grid)
-use Rattle.std.specs.Prelude.{◌≡◌, ◌⊎◌, ℕ, ◌+◌, ◌*◌, ◌≤◌, ◌/◌, ◌%◌, Bool, true, false, List, length, slice_index_or, count_by}
+use Rattle.std.specs.Prelude.{◌≡◌, ◌⊎◌, ℕ, ◌+◌, ◌*◌, ◌≤◌, ◌/◌, ◌%◌, Bool, true, false, List, length, slice_index_or}
+use Rattle.std.specs.Prelude.{count_by}
 use Rattle.mapf_model.specs.Limits.{greatest_side}
 
 -- a rectangle of cells, row by row, and which of them are free
@@ -8,9 +9,11 @@ pub record GridMap : Type 0 where
   pub height : ℕ
   pub free : List Bool
 
--- 1 to 2,048 cells wide and high, with a flag for each cell
+-- 1 to 2,048 cells wide and high, with a flag for each cell (the sizes: own)
 abbrev pub IsGridMap : GridMap → Type 0
-IsGridMap grid = (1 ≤ grid.width) × (grid.width ≤ greatest_side) × (1 ≤ grid.height) × (grid.height ≤ greatest_side) × (length grid.free ≡ grid.width * grid.height)
+IsGridMap grid =
+    (1 ≤ grid.width) × (grid.width ≤ greatest_side) × (1 ≤ grid.height) × (grid.height ≤ greatest_side)
+    × (length grid.free ≡ grid.width * grid.height)
 
 -- the column of a cell, whose number is row * width + column
 abbrev pub column : GridMap → ℕ → ℕ
@@ -24,7 +27,7 @@ row grid cell = cell / grid.width
 abbrev pub IsFree : GridMap → ℕ → Type 0
 IsFree grid cell = slice_index_or grid.free cell false ≡ true
 
--- how many cells are free
+-- how many cells are free (own)
 abbrev pub free_cell_count : GridMap → ℕ
 free_cell_count grid = count_by (λ free. free) grid.free
 
@@ -36,7 +39,8 @@ DifferByOne a b = (a ≡ b + 1) ⊎ (b ≡ a + 1)
 pub record AreAdjacent (grid : GridMap) (from to : ℕ) : Type 0 where
   pub from_free : IsFree grid from
   pub to_free : IsFree grid to
-  pub apart : ((row grid from ≡ row grid to) × DifferByOne (column grid from) (column grid to)) ⊎ ((column grid from ≡ column grid to) × DifferByOne (row grid from) (row grid to))
+  pub apart : ((row grid from ≡ row grid to) × DifferByOne (column grid from) (column grid to))
+      ⊎ ((column grid from ≡ column grid to) × DifferByOne (row grid from) (row grid to))
 
 -- in one tick an agent waits in a free cell, or moves to an adjacent one
 abbrev pub Step : GridMap → ℕ → ℕ → Type 0

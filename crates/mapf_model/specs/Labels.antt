@@ -1,6 +1,7 @@
 -- Labels: claimed lower bounds on the ticks left until an agent's last arrival at its goal. Sound labels are a
 -- consistent heuristic on the time-expanded graph, whose states are cells at ticks. (Own)
-use Rattle.std.specs.Prelude.{◌≡◌, ℕ, ◌+◌, ◌≤◌, ⊤, ◌&&◌, ◌==◌, List, [], ◌∷◌, Option, Some, None, Contains, find, option_map}
+use Rattle.std.specs.Prelude.{◌≡◌, ℕ, ◌+◌, ◌≤◌, ⊤, ◌&&◌, ◌==◌, List, [], ◌∷◌, Option, Some, None, Contains, find}
+use Rattle.std.specs.Prelude.{option_map}
 use Rattle.mapf_model.specs.declared.bar.Bar.{Bar}
 use Rattle.mapf_model.specs.declared.bar.Bar.TheVariants.{Cell, Move}
 use Rattle.mapf_model.specs.declared.label.Entry.{Entry}
@@ -42,7 +43,8 @@ Entries = ℕ → ℕ → Option Label
 
 -- the entries of a list: the label that it first lists for the state
 abbrev pub entries_of : List Entry → Entries
-entries_of entries cell tick = option_map (λ entry. entry.label) (find (λ entry. (entry.cell == cell) && (entry.tick == tick)) entries)
+entries_of entries cell tick =
+    option_map (λ entry. entry.label) (find (λ entry. (entry.cell == cell) && (entry.tick == tick)) entries)
 
 -- the listed label if there is one, else the distance
 abbrev pub IsEntryOrDistance : GridMap → ℕ → ℕ → Option Label → Label → Type 0
@@ -61,15 +63,21 @@ pub record MayGo (grid : GridMap) (bars : List Bar) (from to tick : ℕ) : Type 
 
 -- this label is at most one more than the state's label
 abbrev pub IsWithinOne : GridMap → ℕ → Entries → Label → ℕ → ℕ → Type 0
-IsWithinOne grid goal entries label cell tick = (after : Label) × IsLabel grid goal entries cell tick after × IsAtMost label (one_more after)
+IsWithinOne grid goal entries label cell tick =
+    (after : Label) × IsLabel grid goal entries cell tick after × IsAtMost label (one_more after)
 
 -- a sound entry: it is greater than the distance; and unless a constraint forbids the state, the goal is forbidden at
 -- this tick or later if the state is at the goal, and on each allowed step the label falls by one at most
-pub record IsSoundEntry (grid : GridMap) (goal : ℕ) (bars : List Bar) (entries : Entries) (cell tick : ℕ) (label : Label) : Type 0 where
+pub record IsSoundEntry (grid : GridMap) (goal : ℕ) (bars : List Bar) (entries : Entries) (cell tick : ℕ)
+    (label : Label) : Type 0 where
   pub raised : (distance : ℕ) × IsDistance grid goal cell distance × IsAtMost (Ticks (distance + 1)) label
-  pub at_goal : (Contains bars (Cell cell tick) → ⊥) → cell ≡ goal → (later : ℕ) × (tick ≤ later) × Contains bars (Cell goal later)
-  pub onward : (Contains bars (Cell cell tick) → ⊥) → (next : ℕ) → MayGo grid bars cell next tick → IsWithinOne grid goal entries label next (tick + 1)
+  pub at_goal : (Contains bars (Cell cell tick) → ⊥) → cell ≡ goal → (later : ℕ) × (tick ≤ later)
+      × Contains bars (Cell goal later)
+  pub onward : (Contains bars (Cell cell tick) → ⊥) → (next : ℕ) → MayGo grid bars cell next tick →
+      IsWithinOne grid goal entries label next (tick + 1)
 
 -- each entry is sound
 abbrev pub AreSound : GridMap → ℕ → List Bar → Entries → Type 0
-AreSound grid goal bars entries = (cell tick : ℕ) (label : Label) → entries cell tick ≡ Some label → IsSoundEntry grid goal bars entries cell tick label
+AreSound grid goal bars entries =
+    (cell tick : ℕ) (label : Label) → entries cell tick ≡ Some label →
+    IsSoundEntry grid goal bars entries cell tick label

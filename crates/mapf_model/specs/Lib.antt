@@ -7,10 +7,12 @@ pub mod Labels
 pub mod Plan
 pub mod Laws
 pub mod Tree
-pub mod Earned
+pub mod Conflicts
+pub mod Answers
 pub mod Neighbours
 pub mod Pairs
 pub mod Blocks
+pub mod Nodes
 pub mod Printed
 pub mod Examples
 pub mod Devices

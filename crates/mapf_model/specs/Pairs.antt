@@ -8,7 +8,8 @@ EachPair Fact count = (i j : ℕ) → i < j → j < count → Fact i j
 -- the relation holds of each pair that comes before this one: those of a smaller first number, and those of the same
 -- first number and a smaller second one
 abbrev pub EachPairBefore : (ℕ → ℕ → Type 0) → ℕ → ℕ → ℕ → Type 0
-EachPairBefore Fact count i j = ((a b : ℕ) → a < i → a < b → b < count → Fact a b) × ((b : ℕ) → i < b → b < j → Fact i b)
+EachPairBefore Fact count i j =
+    ((a b : ℕ) → a < i → a < b → b < count → Fact a b) × ((b : ℕ) → i < b → b < j → Fact i b)
 
 -- the relation holds of no pair of numbers below the count
 abbrev pub HoldsOfNoPair : (ℕ → ℕ → Type 0) → ℕ → Type 0

@@ -27,6 +27,6 @@ pub record IsCost (goal : ℕ) (path : List ℕ) (cost : ℕ) : Type 0 where
   pub rests : RestsFrom goal path cost
   pub least : (from : ℕ) → RestsFrom goal path from → cost ≤ from
 
--- no trailing waits: the path has one cell, or its last two cells differ
+-- no trailing waits: the path has one cell, or its last two cells differ (own)
 abbrev pub IsTight : List ℕ → Type 0
 IsTight path = (length path ≡ 1) ⊎ (slice_index path (length path - 1) ≢ slice_index path (length path - 2))

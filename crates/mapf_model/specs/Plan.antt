@@ -10,9 +10,11 @@ pub record Instance : Type 0 where
   pub grid : GridMap
   pub agents : List Agent
 
--- 1 to 200 agents whose starts and goals are free cells
+-- 1 to 200 agents whose starts and goals are free cells (the number: own)
 abbrev pub AreAgentsOn : GridMap → List Agent → Type 0
-AreAgentsOn grid agents = (1 ≤ length agents) × (length agents ≤ most_agents) × All (λ agent. IsFree grid agent.start × IsFree grid agent.goal) agents
+AreAgentsOn grid agents =
+    (1 ≤ length agents) × (length agents ≤ most_agents)
+    × All (λ agent. IsFree grid agent.start × IsFree grid agent.goal) agents
 
 -- a problem whose sizes are within the limits, and whose agents are on its grid
 pub record IsInstance (problem : Instance) : Type 0 where
@@ -27,26 +29,32 @@ ConflictAt p q tick = (at p tick ≡ at q tick) ⊎ ((at p tick ≡ at q (tick +
 -- a lawful path for each agent, and no two different agents in conflict at any tick, however late
 pub record IsValid (problem : Instance) (plan : List (List ℕ)) : Type 0 where
   pub count : length plan ≡ length problem.agents
-  pub lawful : (i : ℕ) (agent : Agent) (path : List ℕ) → slice_get problem.agents i ≡ Some agent → slice_get plan i ≡ Some path → IsLawful problem.grid agent path
-  pub apart : (i j tick : ℕ) (p q : List ℕ) → i ≢ j → slice_get plan i ≡ Some p → slice_get plan j ≡ Some q → ConflictAt p q tick → ⊥
+  pub lawful : (i : ℕ) (agent : Agent) (path : List ℕ) → slice_get problem.agents i ≡ Some agent →
+      slice_get plan i ≡ Some path → IsLawful problem.grid agent path
+  pub apart : (i j tick : ℕ) (p q : List ℕ) → i ≢ j → slice_get plan i ≡ Some p → slice_get plan j ≡ Some q →
+      ConflictAt p q tick → ⊥
 
 -- the costs of the agents' paths
 pub record AreCosts (agents : List Agent) (plan : List (List ℕ)) (costs : List ℕ) : Type 0 where
   pub one_each : length plan ≡ length agents
   pub count : length costs ≡ length plan
-  pub each : (i : ℕ) (agent : Agent) (path : List ℕ) (cost : ℕ) → slice_get agents i ≡ Some agent → slice_get plan i ≡ Some path → slice_get costs i ≡ Some cost → IsCost agent.goal path cost
+  pub each : (i : ℕ) (agent : Agent) (path : List ℕ) (cost : ℕ) → slice_get agents i ≡ Some agent →
+      slice_get plan i ≡ Some path → slice_get costs i ≡ Some cost → IsCost agent.goal path cost
 
 -- the sum of the costs of the agents' paths
 abbrev pub IsSumOfCosts : List Agent → List (List ℕ) → ℕ → Type 0
 IsSumOfCosts agents plan total = (costs : List ℕ) × AreCosts agents plan costs × (total ≡ sum costs)
 
--- the path of some agent doesn't end at the agent's goal
+-- the path of some agent doesn't end at the agent's goal (own)
 abbrev pub SomePathEndsElsewhere : List Agent → List (List ℕ) → Type 0
-SomePathEndsElsewhere agents plan = (i : ℕ) × (agent : Agent) × (path : List ℕ) × (slice_get agents i ≡ Some agent) × (slice_get plan i ≡ Some path) × (at path (length path - 1) ≢ agent.goal)
+SomePathEndsElsewhere agents plan =
+    (i : ℕ) × (agent : Agent) × (path : List ℕ) × (slice_get agents i ≡ Some agent) × (slice_get plan i ≡ Some path)
+    × (at path (length path - 1) ≢ agent.goal)
 
--- no valid plan has a smaller sum
+-- no valid plan has a smaller sum (usual)
 abbrev pub IsLowerBound : Instance → ℕ → Type 0
-IsLowerBound problem bound = (plan : List (List ℕ)) → IsValid problem plan → (total : ℕ) → IsSumOfCosts problem.agents plan total → bound ≤ total
+IsLowerBound problem bound =
+    (plan : List (List ℕ)) → IsValid problem plan → (total : ℕ) → IsSumOfCosts problem.agents plan total → bound ≤ total
 
 -- the plan is valid with this sum, and no valid plan has a smaller one
 pub record IsOptimal (problem : Instance) (plan : List (List ℕ)) (total : ℕ) : Type 0 where
@@ -54,6 +62,6 @@ pub record IsOptimal (problem : Instance) (plan : List (List ℕ)) (total : ℕ)
   pub sum : IsSumOfCosts problem.agents plan total
   pub least : IsLowerBound problem total
 
--- no plan is valid
+-- no plan is valid: the problem is unsolvable (usual)
 abbrev pub IsImpossible : Instance → Type 0
 IsImpossible problem = (plan : List (List ℕ)) → IsValid problem plan → ⊥

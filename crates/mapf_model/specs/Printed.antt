@@ -45,12 +45,16 @@ pub record AreBlocksInRange (grid : GridMap) (agents : ℕ) (blocks : List Label
 
 -- ticks up to 999,999
 abbrev pub IsConflictInRange : GridMap → ℕ → Conflict → Type 0
-IsConflictInRange grid agents (Vertex i j cell tick) = (i < agents) × (j < agents) × IsOnGrid grid cell × (tick ≤ last_split_tick)
-IsConflictInRange grid agents (Swap i j from to tick) = (i < agents) × (j < agents) × IsOnGrid grid from × IsOnGrid grid to × (tick ≤ last_split_tick)
+IsConflictInRange grid agents (Vertex i j cell tick) =
+    (i < agents) × (j < agents) × IsOnGrid grid cell × (tick ≤ last_split_tick)
+IsConflictInRange grid agents (Swap i j from to tick) =
+    (i < agents) × (j < agents) × IsOnGrid grid from × IsOnGrid grid to × (tick ≤ last_split_tick)
 
 -- each node of the tree is in range
 abbrev pub IsTreeInRange : GridMap → ℕ → ConstraintTree → Type 0
-IsTreeInRange grid agents (Split conflict blocks left right) = IsConflictInRange grid agents conflict × AreBlocksInRange grid agents blocks × IsTreeInRange grid agents left × IsTreeInRange grid agents right
+IsTreeInRange grid agents (Split conflict blocks left right) =
+    IsConflictInRange grid agents conflict × AreBlocksInRange grid agents blocks × IsTreeInRange grid agents left
+    × IsTreeInRange grid agents right
 IsTreeInRange grid agents (Leaf blocks) = AreBlocksInRange grid agents blocks
 IsTreeInRange grid agents (Clash i j) = (i < agents) × (j < agents)
 

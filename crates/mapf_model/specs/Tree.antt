@@ -1,5 +1,6 @@
 -- Constraint trees and what they show. (Sharon et al. 2015: the constraint tree; what one shows is own)
-use Rattle.std.specs.Prelude.{◌≡◌, ◌≢◌, ◌⊎◌, ℕ, ◌+◌, ◌<◌, ◌==◌, if◌then◌else◌, List, [], ◌∷◌, ◌++◌, Option, None, Some, length, slice_get, find, AllPairs, All, map}
+use Rattle.std.specs.Prelude.{◌≡◌, ◌≢◌, ◌⊎◌, ℕ, ◌+◌, ◌<◌, ◌==◌, if◌then◌else◌, List, [], ◌∷◌, ◌++◌, Option, None, Some}
+use Rattle.std.specs.Prelude.{length, slice_get, find, AllPairs, All, map}
 use Rattle.std.specs.List.{AllZip}
 use Rattle.mapf_model.specs.declared.bar.Bar.{Bar}
 use Rattle.mapf_model.specs.declared.bar.Bar.TheVariants.{Cell, Move}
@@ -13,7 +14,8 @@ use Rattle.mapf_model.specs.declared.constraint.Constraint.{Constraint}
 use Rattle.mapf_model.specs.declared.item.Claim.{Claim}
 use Rattle.mapf_model.specs.declared.item.Claim.TheVariants.{Cost, Bound, Impossible}
 use Rattle.mapf_model.specs.declared.item.Item.{Item}
-use Rattle.mapf_model.specs.declared.item.Item.TheVariants.{Vertex as VertexItem, Swap as SwapItem, Leaf as LeafItem, Clash as ClashItem}
+use Rattle.mapf_model.specs.declared.item.Item.TheVariants.{Vertex as VertexItem, Swap as SwapItem, Leaf as LeafItem}
+use Rattle.mapf_model.specs.declared.item.Item.TheVariants.{Clash as ClashItem}
 use Rattle.mapf_model.specs.Grid.{IsFree, AreAdjacent}
 use Rattle.mapf_model.specs.Bars.{Satisfies}
 use Rattle.mapf_model.specs.Labels.{Entries, entries_of, AreSound, IsLabel, IsAtMost, label_sum}
@@ -113,7 +115,8 @@ right_constraint (Swap i j from to tick) = record { agent = j; bar = Move to fro
 -- what a child of a split inherits: one more constraint, and the split's blocks in place of those of the same agents
 -- above
 abbrev pub child_context : NodeContext → List LabelBlock → Constraint → NodeContext
-child_context context blocks constraint = record { bars = with_constraint context.bars constraint; entries = with_blocks blocks context.entries }
+child_context context blocks constraint =
+    record { bars = with_constraint context.bars constraint; entries = with_blocks blocks context.entries }
 
 -- what the left child inherits
 abbrev pub left_child_context : NodeContext → Conflict → List LabelBlock → NodeContext
@@ -125,31 +128,40 @@ right_child_context context conflict blocks = child_context context blocks (righ
 
 -- a property holds at each node of a tree, of the node's context
 abbrev pub AtEachNode : (NodeContext → ConstraintTree → Type 0) → NodeContext → ConstraintTree → Type 0
-AtEachNode P context (Split conflict blocks left right) = P context (Split conflict blocks left right) × AtEachNode P (left_child_context context conflict blocks) left × AtEachNode P (right_child_context context conflict blocks) right
+AtEachNode P context (Split conflict blocks left right) =
+    P context (Split conflict blocks left right) × AtEachNode P (left_child_context context conflict blocks) left
+    × AtEachNode P (right_child_context context conflict blocks) right
 AtEachNode P context (Leaf blocks) = P context (Leaf blocks)
 AtEachNode P context (Clash i j) = P context (Clash i j)
 
 -- a property holds of the context of each terminal node: each leaf and each clash
 abbrev pub AtEachEnd : (NodeContext → Type 0) → NodeContext → ConstraintTree → Type 0
-AtEachEnd P context (Split conflict blocks left right) = AtEachEnd P (left_child_context context conflict blocks) left × AtEachEnd P (right_child_context context conflict blocks) right
+AtEachEnd P context (Split conflict blocks left right) =
+    AtEachEnd P (left_child_context context conflict blocks) left
+    × AtEachEnd P (right_child_context context conflict blocks) right
 AtEachEnd P context (Leaf blocks) = P context
 AtEachEnd P context (Clash i j) = P context
 
 -- a property holds of the context of some terminal node
 abbrev pub AtSomeEnd : (NodeContext → Type 0) → NodeContext → ConstraintTree → Type 0
-AtSomeEnd P context (Split conflict blocks left right) = AtSomeEnd P (left_child_context context conflict blocks) left ⊎ AtSomeEnd P (right_child_context context conflict blocks) right
+AtSomeEnd P context (Split conflict blocks left right) =
+    AtSomeEnd P (left_child_context context conflict blocks) left
+    ⊎ AtSomeEnd P (right_child_context context conflict blocks) right
 AtSomeEnd P context (Leaf blocks) = P context
 AtSomeEnd P context (Clash i j) = P context
 
 -- a property holds of the context and the blocks of some leaf
 abbrev pub AtSomeLeaf : (NodeContext → List LabelBlock → Type 0) → NodeContext → ConstraintTree → Type 0
-AtSomeLeaf P context (Split conflict blocks left right) = AtSomeLeaf P (left_child_context context conflict blocks) left ⊎ AtSomeLeaf P (right_child_context context conflict blocks) right
+AtSomeLeaf P context (Split conflict blocks left right) =
+    AtSomeLeaf P (left_child_context context conflict blocks) left
+    ⊎ AtSomeLeaf P (right_child_context context conflict blocks) right
 AtSomeLeaf P context (Leaf blocks) = P context blocks
 AtSomeLeaf P context (Clash i j) = ⊥
 
 -- no split has a block: a tree of version 1 of the certificate
 abbrev pub HasBlocksAtLeavesAlone : ConstraintTree → Type 0
-HasBlocksAtLeavesAlone (Split conflict blocks left right) = (blocks ≡ []) × HasBlocksAtLeavesAlone left × HasBlocksAtLeavesAlone right
+HasBlocksAtLeavesAlone (Split conflict blocks left right) =
+    (blocks ≡ []) × HasBlocksAtLeavesAlone left × HasBlocksAtLeavesAlone right
 HasBlocksAtLeavesAlone (Leaf blocks) = Unit {0}
 HasBlocksAtLeavesAlone (Clash i j) = Unit {0}
 
@@ -182,7 +194,8 @@ AreProperBlocks problem blocks = AreOfDifferentAgents blocks × AreOfAgents prob
 
 -- a split names a proper conflict, and the blocks of a split or a leaf are proper; a clash always is proper
 abbrev pub IsProperNode : Instance → ConstraintTree → Type 0
-IsProperNode problem (Split conflict blocks left right) = IsProperSplit problem conflict × AreProperBlocks problem blocks
+IsProperNode problem (Split conflict blocks left right) =
+    IsProperSplit problem conflict × AreProperBlocks problem blocks
 IsProperNode problem (Leaf blocks) = AreProperBlocks problem blocks
 IsProperNode problem (Clash i j) = Unit {0}
 
@@ -192,42 +205,53 @@ IsProper problem tree = AtEachNode (λ context node. IsProperNode problem node) 
 
 -- of each agent of the problem, the block, the first if there are several, is sound under the agent's constraints
 abbrev pub AreBlocksSound : Instance → NodeContext → List LabelBlock → Type 0
-AreBlocksSound problem context blocks = (i : ℕ) (agent : Agent) (block : LabelBlock) → slice_get problem.agents i ≡ Some agent → block_of blocks i ≡ Some block → AreSound problem.grid agent.goal (context.bars i) (entries_of block.entries)
+AreBlocksSound problem context blocks =
+    (i : ℕ) (agent : Agent) (block : LabelBlock) → slice_get problem.agents i ≡ Some agent →
+    block_of blocks i ≡ Some block → AreSound problem.grid agent.goal (context.bars i) (entries_of block.entries)
 
 -- the labels of the agents' starts at tick 0
 pub record AreStartLabels (problem : Instance) (entries : ℕ → Entries) (labels : List Label) : Type 0 where
   pub count : length labels ≡ length problem.agents
-  pub each : (i : ℕ) (agent : Agent) (label : Label) → slice_get problem.agents i ≡ Some agent → slice_get labels i ≡ Some label → IsLabel problem.grid agent.goal (entries i) agent.start 0 label
+  pub each : (i : ℕ) (agent : Agent) (label : Label) → slice_get problem.agents i ≡ Some agent →
+      slice_get labels i ≡ Some label → IsLabel problem.grid agent.goal (entries i) agent.start 0 label
 
 -- the labels of the starts add up to at least this
 abbrev pub StartsReach : Instance → ℕ → (ℕ → Entries) → Type 0
-StartsReach problem total entries = (labels : List Label) × AreStartLabels problem entries labels × IsAtMost (Ticks total) (label_sum labels)
+StartsReach problem total entries =
+    (labels : List Label) × AreStartLabels problem entries labels × IsAtMost (Ticks total) (label_sum labels)
 
 -- the labels of the starts add up to exactly this
 abbrev pub StartsAddUpTo : Instance → ℕ → (ℕ → Entries) → Type 0
-StartsAddUpTo problem total entries = (labels : List Label) × AreStartLabels problem entries labels × (label_sum labels ≡ Ticks total)
+StartsAddUpTo problem total entries =
+    (labels : List Label) × AreStartLabels problem entries labels × (label_sum labels ≡ Ticks total)
 
 -- the labels of the starts show the claim
 abbrev pub StartsShow : Instance → Claim → (ℕ → Entries) → Type 0
 StartsShow problem (Cost cost) entries = StartsReach problem cost entries
 StartsShow problem (Bound bound) entries = StartsReach problem bound entries
-StartsShow problem Impossible entries = (i : ℕ) × (agent : Agent) × (slice_get problem.agents i ≡ Some agent) × IsLabel problem.grid agent.goal (entries i) agent.start 0 Never
+StartsShow problem Impossible entries =
+    (i : ℕ) × (agent : Agent) × (slice_get problem.agents i ≡ Some agent)
+    × IsLabel problem.grid agent.goal (entries i) agent.start 0 Never
 
 -- two different agents have the same goal
 abbrev pub ShareGoal : Instance → ℕ → ℕ → Type 0
-ShareGoal problem i j = (i ≢ j) × (a : Agent) × (b : Agent) × (slice_get problem.agents i ≡ Some a) × (slice_get problem.agents j ≡ Some b) × (a.goal ≡ b.goal)
+ShareGoal problem i j =
+    (i ≢ j) × (a : Agent) × (b : Agent) × (slice_get problem.agents i ≡ Some a) × (slice_get problem.agents j ≡ Some b)
+    × (a.goal ≡ b.goal)
 
 -- the blocks of a split or a leaf are sound under the node's own constraints, without those that its children add; at a
 -- leaf the labels of the starts show the claim, each by the agent's nearest block, the leaf's included; the agents of a
 -- clash share their goal
 abbrev pub NodeShows : Instance → Claim → NodeContext → ConstraintTree → Type 0
 NodeShows problem claim context (Split conflict blocks left right) = AreBlocksSound problem context blocks
-NodeShows problem claim context (Leaf blocks) = AreBlocksSound problem context blocks × StartsShow problem claim (with_blocks blocks context.entries)
+NodeShows problem claim context (Leaf blocks) =
+    AreBlocksSound problem context blocks × StartsShow problem claim (with_blocks blocks context.entries)
 NodeShows problem claim context (Clash i j) = ShareGoal problem i j
 
 -- what a split has to meet apart from its children: its conflict and its blocks are proper, and the blocks are sound
 abbrev pub SplitShows : Instance → NodeContext → Conflict → List LabelBlock → Type 0
-SplitShows problem context conflict blocks = (IsProperSplit problem conflict × AreProperBlocks problem blocks) × AreBlocksSound problem context blocks
+SplitShows problem context conflict blocks =
+    (IsProperSplit problem conflict × AreProperBlocks problem blocks) × AreBlocksSound problem context blocks
 
 -- the tree shows the claim if its root has this context
 pub record ShowsFrom (problem : Instance) (claim : Claim) (context : NodeContext) (tree : ConstraintTree) : Type 0 where
@@ -255,4 +279,5 @@ nodes_of_all (tree ∷ trees) = nodes_of tree ++ nodes_of_all trees
 
 -- the nodes are those of trees that show the claim, one tree for each of these contexts
 abbrev pub NodesShow : Instance → Claim → List NodeContext → List Node → Type 0
-NodesShow problem claim owed nodes = (trees : List ConstraintTree) × (nodes ≡ nodes_of_all trees) × AllZip (ShowsFrom problem claim) owed trees
+NodesShow problem claim pending nodes =
+    (trees : List ConstraintTree) × (nodes ≡ nodes_of_all trees) × AllZip (ShowsFrom problem claim) pending trees

@@ -1,3 +1,4 @@
+//! A constraint as one agent sees it: what it may not do. The tables of one agent's constraints hold these.
 use crate::cell::{Cell, Tick};
 
 /// A constraint of one agent in conflict-based search (Sharon et al. 2015), without naming the agent.

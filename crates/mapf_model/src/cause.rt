@@ -1,3 +1,4 @@
+//! Why a search stops at a limit, for the search, for plan texts and for the line of `solve`.
 /// Why a search ended without a plan and without showing that none is valid.
 #[derive(Clone, Copy, Debug, PartialEq, Eq)]
 pub enum Cause {

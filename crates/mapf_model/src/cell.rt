@@ -1,3 +1,4 @@
+//! Cells and ticks, by which all crates name places and times, and the cells around a cell.
 ghost use Rattle.std.specs.Prelude.{◌≡◌, ◌+◌, ◌%◌, ◌<◌, ◌^◌};
 ghost use Rattle.mapf_model.specs.Neighbours.{neighbourhood};
 

@@ -1,5 +1,7 @@
+//! The conflicts of two agents, and the constraints of a split on one. The search and the checker both take the
+//! constraints from here.
 ghost use Rattle.std.specs.Prelude.{◌≡◌};
-ghost use Rattle.mapf_model.specs.Earned.{tick_of};
+ghost use Rattle.mapf_model.specs.Conflicts.{tick_of};
 ghost use Rattle.mapf_model.specs.Tree.{left_constraint, right_constraint};
 
 use crate::bar::Bar;

@@ -1,3 +1,4 @@
+//! A constraint with its agent, as a split adds one to each child.
 use crate::bar::Bar;
 
 /// A constraint of conflict-based search (Sharon et al. 2015): what this agent may not do.

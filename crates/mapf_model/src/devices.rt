@@ -107,7 +107,9 @@ impl<'a> Source for FuseSource<'a> {
         ensures bound { IfOk result (λ n. n ≤ length buf.new) }
         ensures bytes { ReadConsumes (Some self.old.remaining) (Some self.new.remaining) result buf.new }
         ensures failed { self.new.has_failed ≡ is_err result }
+        // It fails if and only if no call is left.
         ensures fails { IsErr result ↔ (self.old.calls ≡ Some 0) }
+        // It gives as many bytes as there are, fit, and its pace allows, and uses up one call.
         ensures taken { IfOk result (λ n. n ≡ min (length self.old.remaining) (moved self.old.pace (length buf.old))) }
         ensures count { self.new.calls ≡ call_more self.old.calls }
         ensures pace { self.new.pace ≡ self.old.pace }
@@ -155,6 +157,7 @@ impl Source for EndlessSource {
 
     /// Fills the buffer.
     fn pull(&mut self, buf: &mut [u8]) -> Result<usize, Failed>
+        // It fills each buffer with its byte.
         ensures full { result ≡ Ok (length buf.new) }
         ensures bytes { buf.new ≡ replicate (length buf.old) self.old }
         ensures same { self.new ≡ self.old }
@@ -236,7 +239,9 @@ impl Sink for FuseSink {
         ensures bytes { WriteAppends (Some self.old.contents) (Some self.new.contents) result bytes.now }
         ensures failed { self.new.has_failed ≡ is_err result }
         ensures progress { IfOk result (λ n. 0 < n) }
+        // It fails if and only if no call is left or it is full.
         ensures fails { IsErr result ↔ ((self.old.calls ≡ Some 0) ⊎ (self.old.room ≡ 0)) }
+        // It takes as many bytes as it has room for and its pace allows, and uses up one call.
         ensures taken { IfOk result (λ n. n ≡ min self.old.room (moved self.old.pace (length bytes.now))) }
         ensures room { self.new.room + length self.new.contents ≡ self.old.room + length self.old.contents }
         ensures count { self.new.calls ≡ call_more self.old.calls }

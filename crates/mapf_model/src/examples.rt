@@ -1,3 +1,4 @@
+//! What the definitions say of small problems, proved for those who review them. No code calls these functions.
 ghost use Rattle.mapf_model.specs.Examples.{WaitingBoundsALabel, NoLabelIsRaisedAtAFreeGoal};
 ghost use Rattle.mapf_model.specs.Examples.{AClashShowsImpossibility, OneStartIsNoPlan, SwappingIsNoPlan};
 ghost use Rattle.mapf_model.specs.Examples.{EachChildBarsItsAgent, ChildrenInheritLabels};

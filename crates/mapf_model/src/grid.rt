@@ -1,3 +1,5 @@
+//! The grid: which cells are free, and which steps there are. The reader of maps makes it, and the search and the
+//! checker ask it.
 ghost use Rattle.std.specs.Prelude.{◌≡◌, ◌+◌, ◌*◌, ◌<◌, ◌≤◌, ℕ, IfSome, IsSome, IsTrue, ◌↔◌, Contains, false, length};
 ghost use Rattle.std.specs.Prelude.{slice_index_or};
 ghost use Rattle.std.specs.List.Sorted.{IsStrictlyIncreasing};
@@ -76,6 +78,7 @@ impl Grid {
     /// top.
     pub fn row(&self, y: u32) -> &[bool]
         requires { y < self.now.height }
+        // The flags are those of the cells of the row.
         ensures count { length result.now ≡ self.now.width }
         ensures free { (x : ℕ) → x < self.now.width → slice_index_or result.now x false
             ≡ slice_index_or self.now.free (y * self.now.width + x) false }
@@ -108,7 +111,9 @@ impl Grid {
     /// Returns where an agent may be one tick after it is in the cell: there, or in an adjacent free cell.
     pub fn steps(&self, alloc: Global, cell: Cell) -> SmallVec<Cell, 5>
         requires { IsFree self.now cell }
+        // The steps from a cell are exactly waiting and the moves to adjacent free cells.
         ensures exact { (to : ℕ) → Contains result.items to ↔ Step self.now cell to }
+        // They come in rising number.
         ensures rising { IsStrictlyIncreasing result.items }
     {
         let mut steps = SmallVec::new(alloc);

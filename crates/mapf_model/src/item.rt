@@ -1,9 +1,12 @@
-ghost use Rattle.std.specs.Prelude.{◌≡◌, IfSome, IfNone};
-ghost use Rattle.mapf_model.specs.Tree.{SplitNode, node_of, blocks_of, IsSplitOn, IsEndNode};
+//! The nodes of a constraint tree as a certificate lists them, and the claim. The reader of certificates makes them,
+//! and the checker judges them.
+ghost use Rattle.std.specs.Prelude.{◌≡◌};
+ghost use Rattle.mapf_model.specs.Tree.{SplitNode, node_of, blocks_of};
 
 use crate::cell::{Cell, Tick};
 use crate::conflict::Conflict;
-use crate::label::Block;
+use crate::label::{Block, Entry};
+use crate::node::{AsNode, NodeKind};
 
 /// A node of a constraint tree (Sharon et al. 2015). A tree is spelled by the list of its items in pre-order: a split
 /// is followed by the items of its left child, then by those of its right child.
@@ -69,37 +72,6 @@ impl Item {
         }
     }
 
-    /// Returns the conflict on which the node is split, None if it is terminal.
-    pub fn conflict(&self) -> Option<Conflict>
-        ensures split { IfSome result (λ conflict. IsSplitOn (node_of self.now) conflict) }
-        ensures end { IfNone result (IsEndNode (node_of self.now)) }
-    {
-        match *self {
-            Item::Vertex {
-                i,
-                j,
-                cell,
-                tick,
-                ..
-            } => Some(Conflict::Vertex { i, j, cell, tick }),
-            Item::Swap {
-                i,
-                j,
-                from,
-                to,
-                tick,
-                ..
-            } => Some(Conflict::Swap {
-                i,
-                j,
-                from,
-                to,
-                tick,
-            }),
-            _ => None,
-        }
-    }
-
     /// Returns the blocks of the node. A clash has none.
     pub fn blocks(&self) -> &[Block]
         ensures { result.now ≡ blocks_of (node_of self.now) }
@@ -110,6 +82,52 @@ impl Item {
             Item::Leaf(blocks) => blocks,
             Item::Clash { .. } => &[],
         }
+    }
+}
+
+impl AsNode for Item {
+    ghost node = { λ item. node_of item };
+
+    fn kind(&self) -> NodeKind {
+        match *self {
+            Item::Vertex {
+                i,
+                j,
+                cell,
+                tick,
+                ..
+            } => NodeKind::Split(Conflict::Vertex { i, j, cell, tick }),
+            Item::Swap {
+                i,
+                j,
+                from,
+                to,
+                tick,
+                ..
+            } => NodeKind::Split(Conflict::Swap {
+                i,
+                j,
+                from,
+                to,
+                tick,
+            }),
+            Item::Leaf(_) => NodeKind::Leaf,
+            Item::Clash { i, j } => NodeKind::Clash { i, j },
+        }
+    }
+
+    fn block_count(&self) -> usize {
+        self.blocks().len()
+    }
+
+    fn block(&self, place: usize) -> (u32, usize) {
+        let block = &self.blocks()[place];
+        (block.agent, block.entries.len())
+    }
+
+    fn entry(&self, place: usize, index: usize) -> Entry {
+        let block = &self.blocks()[place];
+        block.entries[index]
     }
 }
 

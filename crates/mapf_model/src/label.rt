@@ -1,3 +1,5 @@
+//! Labels, and the entries and blocks in which a certificate lists them. The reader of certificates makes blocks, and
+//! the checker judges them.
 ghost use Rattle.mapf_model.specs.Blocks.{LabelBlock};
 
 use crate::cell::{Cell, Tick};

@@ -1,4 +1,13 @@
 //! The types of multi-agent path finding, what they mean, and the laws over their meaning.
+//!
+//! A run reads from a `Source` and writes to a `Sink`. `ReadSource` and `WriteSink` put these over any reader and
+//! writer of the standard library, `BytesSource` and `BytesSink` are memory, and `devices` has devices for tests: a
+//! source and a sink that fail at a chosen call, and a source without end. A device of memory reports its bytes to the
+//! contracts. Opaque devices, such as files and terminals, don't, and clauses about their bytes then say nothing.
+//!
+//! The two constraints of a split are `Conflict::left` and `Conflict::right`, for the search and the checker. The cells
+//! around a cell come from `Cell::neighbourhood`, and where many cells are looked at from `Neighbourhoods`, which
+//! doesn't divide; both list them by one function. The first pair of agents with a property comes from `first_pair`.
 #![tactic(auto)]
 
 mod bar;
@@ -15,6 +24,7 @@ pub mod laws;
 pub mod limits;
 mod memory;
 mod neighbourhoods;
+mod node;
 mod pairs;
 mod path;
 mod plan;
@@ -32,6 +42,7 @@ pub use item::{Claim, Item};
 pub use label::{Block, Entry, Label};
 pub use memory::OutOfMemory;
 pub use neighbourhoods::Neighbourhoods;
+pub use node::{AsNode, NodeKind};
 pub use pairs::first_pair;
 pub use path::Path;
 pub use plan::Plan;

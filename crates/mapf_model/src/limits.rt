@@ -1,3 +1,5 @@
+//! How many agents, cells, ticks, splits and bytes there may be. The readers of texts take their ranges from here, and
+//! so does the search.
 ghost use Rattle.std.specs.Prelude.{◌≡◌};
 ghost use Rattle.mapf_model.specs.Limits.{most_agents, greatest_side, most_cells, most_path_cells, greatest_cost};
 ghost use Rattle.mapf_model.specs.Limits.{greatest_sum, most_splits, last_split_tick, split_ticks, most_text_bytes};

@@ -1,3 +1,5 @@
+//! The error of a call whose request for memory was refused. Most calls that allocate return it; readers and runs have
+//! a case of their own errors for it.
 use std::alloc::{AllocError, AllocFailed};
 
 /// Out of memory: a request was refused.

@@ -1,3 +1,5 @@
+//! The cells around a cell, found without a division. The search for one agent, A* and the checker use them, since they
+//! look at many cells.
 ghost use Rattle.std.specs.Prelude.{◌≡◌, ◌<◌, ◌/◌, ◌%◌};
 ghost use Rattle.mapf_model.specs.Limits.{most_cells};
 ghost use Rattle.mapf_model.specs.Neighbours.{neighbourhood};

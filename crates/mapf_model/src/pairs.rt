@@ -1,3 +1,5 @@
+//! The first pair of numbers with a property. The search and the checker find conflicts by it, and the beginning of a
+//! search finds two agents with one goal.
 ghost use Rattle.std.specs.Prelude.{◌<◌, false, true, IfNone, IfSome};
 ghost use Rattle.mapf_model.specs.Pairs.{EachPair, EachPairBefore};
 

@@ -1,3 +1,4 @@
+//! The path of one agent, and its cost. The searches for one agent make it, and so does the reader of plan texts.
 ghost use Rattle.std.specs.Prelude.{◌≡◌, ◌≢◌, ◌<◌, ◌≤◌, ◌-◌, ◌↔◌, ℕ, List, length, IfSome, IfNone, IsSome};
 ghost use Rattle.std.specs.Prelude.{IsTrue};
 ghost use Rattle.mapf_model.specs.Limits.{most_path_cells};
@@ -53,6 +54,7 @@ impl Path {
     /// Returns the least tick from which on the agent is at the goal. None if the last cell isn't the goal.
     pub fn cost(&self, goal: Cell) -> Option<u32>
         ensures cost { IfSome result (λ cost. IsCost goal self.now cost) }
+        // None is returned only if the path ends elsewhere.
         ensures none { IfNone result (at self.now (length self.now - 1) ≢ goal) }
     {
         let mut cost = self.cells.len();

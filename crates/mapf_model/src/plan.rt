@@ -1,3 +1,4 @@
+//! A plan: the paths of all agents, and the sum of their costs. The search and the reader of plan texts make it.
 ghost use Rattle.std.specs.Prelude.{◌≡◌, ◌≤◌, ◌↔◌, ℕ, List, length, IfSome, IfNone, IsSome};
 ghost use Rattle.mapf_model.specs.Limits.{most_agents};
 ghost use Rattle.mapf_model.specs.Plan.{IsSumOfCosts, SomePathEndsElsewhere};
@@ -46,6 +47,7 @@ impl Plan {
     pub fn sum(&self, problem: &Problem) -> Option<u64>
         requires { length self.now ≡ length problem.now.agents }
         ensures sum { IfSome result (IsSumOfCosts problem.now.agents self.now) }
+        // None is returned only if some path ends elsewhere.
         ensures none { IfNone result (SomePathEndsElsewhere problem.now.agents self.now) }
     {
         let agents = problem.agents();

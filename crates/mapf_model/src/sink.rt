@@ -1,3 +1,5 @@
+//! Devices to write to. The runs write to any sink: in the program to files and standard streams, in the demo and in
+//! tests also to memory.
 ghost use Rattle.std.specs.Prelude.{◌≡◌, ◌<◌, ◌≤◌, ◌+◌, ◌↔◌, [], List, ℕ, Bool, false, Some, Option, length, min};
 ghost use Rattle.std.specs.Prelude.{take, IfOk, IsErr, OnOk, OnErr};
 ghost use Rattle.std.specs.Result.{is_err};
@@ -25,6 +27,7 @@ pub trait Sink {
         ensures bytes { WriteAppends (contents self.old) (contents self.new) result bytes.now }
         ensures failed { has_failed self.new ≡ is_err result };
 
+    /// Returns whether the sink failed.
     fn failed(&self) -> bool
         ensures { result ≡ has_failed self.now };
 }
@@ -37,6 +40,7 @@ pub struct WriteSink<W: Write> {
 }
 
 impl<W: Write> WriteSink<W> {
+    /// Returns the sink that hands what it takes to the writer.
     pub fn of(inner: W) -> WriteSink<W>
         ensures bytes { ⟦<WriteSink<W> as Sink>⟧.contents result ≡ W.contents inner }
         ensures works { ⟦<WriteSink<W> as Sink>⟧.has_failed result ≡ false }
@@ -118,7 +122,9 @@ impl Sink for BytesSink {
         requires working { self.old.2 ≡ false }
         ensures bytes { WriteAppends (Some self.old.0) (Some self.new.0) result bytes.now }
         ensures failed { self.new.2 ≡ is_err result }
+        // It fails if and only if it is full.
         ensures full { IsErr result ↔ self.old.1 ≡ 0 }
+        // It takes as many bytes as it has room for.
         ensures taken { IfOk result (λ n. n ≡ min self.old.1 (length bytes.now)) }
         ensures room { self.new.1 + length self.new.0 ≡ self.old.1 + length self.old.0 }
     {
@@ -140,8 +146,11 @@ impl Sink for BytesSink {
 /// Writes all of the bytes, or fails if the sink does.
 pub fn write_all<K: Sink>(sink: &mut K, bytes: &[u8]) -> Result<(), Failed>
     requires { K.has_failed sink.old ≡ false }
+    // All bytes are written.
     ensures ok { OnOk result (Appends (K.contents sink.old) (K.contents sink.new) bytes.now) }
+    // An error is returned if and only if the sink failed.
     ensures failed { K.has_failed sink.new ≡ is_err result }
+    // After an error the sink got a prefix of the bytes.
     ensures prefix { OnErr result ((n : ℕ) × (n ≤ length bytes.now)
         × Appends (K.contents sink.old) (K.contents sink.new) (take n bytes.now)) }
 {

@@ -1,3 +1,5 @@
+//! Devices to read from. The runs read from any source: in the program from files, in the demo and in tests from
+//! memory.
 ghost use Rattle.std.specs.Prelude.{◌≡◌, ◌<◌, ◌≤◌, ◌↔◌, List, ℕ, Bool, true, false, Some, Option, length, min, IfOk};
 ghost use Rattle.std.specs.Prelude.{OnOk, IfSome, IsErrOf, vec_len};
 ghost use Rattle.std.specs.Result.{is_err};
@@ -25,6 +27,7 @@ pub trait Source {
         ensures bytes { ReadConsumes (remaining self.old) (remaining self.new) result buf.new }
         ensures failed { has_failed self.new ≡ is_err result };
 
+    /// Returns whether the source failed.
     fn failed(&self) -> bool
         ensures { result ≡ has_failed self.now };
 }
@@ -37,6 +40,7 @@ pub struct ReadSource<R: Read> {
 }
 
 impl<R: Read> ReadSource<R> {
+    /// Returns the source of what the reader gives.
     pub fn of(inner: R) -> ReadSource<R>
         ensures bytes { ⟦<ReadSource<R> as Source>⟧.remaining result ≡ R.remaining inner }
         ensures works { ⟦<ReadSource<R> as Source>⟧.has_failed result ≡ false }
@@ -75,6 +79,7 @@ pub struct BytesSource<'a> {
 }
 
 impl<'a> BytesSource<'a> {
+    /// Returns the source of these bytes.
     pub fn of(bytes: &'a [u8]) -> BytesSource<'a>
         ensures bytes { ⟦<BytesSource<'a> as Source>⟧.remaining result ≡ Some bytes.entry.now }
     {
@@ -92,7 +97,9 @@ impl<'a> Source for BytesSource<'a> {
         requires { 0 < length buf.old }
         ensures bound { IfOk result (λ n. n ≤ length buf.new) }
         ensures bytes { ReadConsumes (Some self.old.bytes.now) (Some self.new.bytes.now) result buf.new }
+        // It never fails.
         ensures failed { is_err result ≡ false }
+        // It gives as many bytes as there are and fit.
         ensures taken { IfOk result (λ n. n ≡ min (length self.old.bytes.now) (length buf.old)) }
     {
         let n = self.bytes.len().min(buf.len());
@@ -118,11 +125,17 @@ pub enum ReadEnd {
 /// Reads all bytes of a source, at most `limit`.
 pub fn read_all<S: Source>(alloc: Global, source: &mut S, limit: u64) -> Result<Vec<u8>, ReadEnd>
     requires { S.has_failed source.old ≡ false }
+    // The bytes are what the source gave.
     ensures all { IfOk result (λ v. Consumes (S.remaining source.old) (S.remaining source.new) v.items) }
+    // The source has nothing left.
     ensures end { OnOk result (IsAtEnd (S.remaining source.new)) }
+    // If the source's bytes are known, all of them were read.
     ensures whole { IfOk result (λ v. IfSome (S.remaining source.old) (λ bytes. v.items ≡ bytes)) }
+    // No more bytes than the limit are returned.
     ensures within { IfOk result (λ v. vec_len v ≤ limit) }
+    // `Device` is returned if and only if the source failed.
     ensures device { IsErrOf result ReadEnd.Device ↔ (S.has_failed source.new ≡ true) }
+    // `TooLong` is returned only if more bytes than the limit came.
     ensures too_long { IsErrOf result ReadEnd.TooLong → ((came : List ℕ)
         × Consumes (S.remaining source.old) (S.remaining source.new) came × (limit < length came)) }
 {

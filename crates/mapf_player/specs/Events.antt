@@ -1,5 +1,6 @@
 -- Event texts: the agents that ask to move on, one after another, and the errors. (Own)
-use Rattle.std.specs.Prelude.{◌≡◌, ◌≢◌, ◌⊎◌, ℕ, ◌+◌, ◌<◌, ◌≤◌, ◌^◌, true, List, [], ◌∷◌, ◌++◌, All, codes, length, Result, Err}
+use Rattle.std.specs.Prelude.{◌≡◌, ◌≢◌, ◌⊎◌, ℕ, ◌+◌, ◌<◌, ◌≤◌, ◌^◌, true, List, [], ◌∷◌, ◌++◌, All, codes, length}
+use Rattle.std.specs.Prelude.{Result, Err}
 use Rattle.std.specs.Fmt.{decimal}
 use Rattle.std.specs.Str.Parse.{AllDigits, digits_value}
 use Rattle.mapf_fields.specs.Ends.{IsCut, lacks_end}
@@ -32,7 +33,9 @@ pub record SpellsEvents (bytes : List ℕ) (count : ℕ) (agents : List ℕ) : T
 
 -- for so many agents no bytes spell two lists of events
 abbrev pub SpellsOneListOfEvents : Type 0
-SpellsOneListOfEvents = (bytes : List ℕ) (count : ℕ) (a b : List ℕ) → count < 2 ^ 32 → SpellsEvents bytes count a → SpellsEvents bytes count b → a ≡ b
+SpellsOneListOfEvents =
+    (bytes : List ℕ) (count : ℕ) (a b : List ℕ) → count < 2 ^ 32 → SpellsEvents bytes count a →
+    SpellsEvents bytes count b → a ≡ b
 
 -- the result is as it has to be, or it is out of memory
 abbrev pub OrMemory : {T : Type 0} → Result T EventFault → Type 0 → Type 0

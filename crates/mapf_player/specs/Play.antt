@@ -1,5 +1,7 @@
 -- The text of a played plan: one frame for each tick.
-use Rattle.std.specs.Prelude.{◌≡◌, ◌≢◌, ◌≤◌, ℕ, ◌+◌, ◌-◌, ◌*◌, if◌then◌else◌, ◌==◌, nat_lt, false, Option, Some, option_map, unwrap_or, List, [], ◌∷◌, ◌++◌, map, codes, position, flat_map, slice_get, slice_index_or}
+use Rattle.std.specs.Prelude.{◌≡◌, ◌≢◌, ◌≤◌, ℕ, ◌+◌, ◌-◌, ◌*◌, if◌then◌else◌, ◌==◌, nat_lt, false, Option, Some}
+use Rattle.std.specs.Prelude.{option_map, unwrap_or, List, [], ◌∷◌, ◌++◌, map, codes, position, flat_map, slice_get}
+use Rattle.std.specs.Prelude.{slice_index_or}
 use Rattle.std.specs.List.{range_with_len}
 use Rattle.std.specs.Fmt.{decimal}
 use Rattle.mapf_model.specs.declared.problem.Agent.{Agent}
@@ -9,7 +11,9 @@ use Rattle.mapf_model.specs.Plan.{Instance, IsValid}
 
 -- the byte of an agent, by its number: `0` to `9`, then `a` to `z`, then `A` to `Z`, and `*` from 62 on
 abbrev pub mark : ℕ → ℕ
-mark agent = if nat_lt agent 10 then 48 + agent else (if nat_lt agent 36 then 97 + (agent - 10) else (if nat_lt agent 62 then 65 + (agent - 36) else 42))
+mark agent =
+    if nat_lt agent 10 then 48 + agent else
+    (if nat_lt agent 36 then 97 + (agent - 10) else (if nat_lt agent 62 then 65 + (agent - 36) else 42))
 
 -- the byte of a cell in which no agent is: `.` if it is free, else `@`
 abbrev pub terrain : GridMap → ℕ → ℕ
@@ -25,7 +29,8 @@ cell_byte grid plan tick cell = unwrap_or (option_map mark (agent_in plan tick c
 
 -- the bytes of a row's cells, from the left to the right
 abbrev pub row_cells : GridMap → List (List ℕ) → ℕ → ℕ → List ℕ
-row_cells grid plan tick row = map (λ column. cell_byte grid plan tick (row * grid.width + column)) (range_with_len 0 grid.width)
+row_cells grid plan tick row =
+    map (λ column. cell_byte grid plan tick (row * grid.width + column)) (range_with_len 0 grid.width)
 
 -- a row's line
 unfoldable pub row_line : GridMap → List (List ℕ) → ℕ → ℕ → List ℕ
@@ -49,21 +54,31 @@ play_text grid plan last = flat_map (frame grid plan) (range_with_len 0 (last + 
 
 -- the makespan: some agent's path costs this, and none costs more
 pub record IsMakespan (agents : List Agent) (plan : List (List ℕ)) (makespan : ℕ) : Type 0 where
-  pub some : (i : ℕ) × (agent : Agent) × (path : List ℕ) × (slice_get agents i ≡ Some agent) × (slice_get plan i ≡ Some path) × IsCost agent.goal path makespan
-  pub most : (i : ℕ) (agent : Agent) (path : List ℕ) (cost : ℕ) → slice_get agents i ≡ Some agent → slice_get plan i ≡ Some path → IsCost agent.goal path cost → cost ≤ makespan
+  pub some : (i : ℕ) × (agent : Agent) × (path : List ℕ) × (slice_get agents i ≡ Some agent)
+      × (slice_get plan i ≡ Some path) × IsCost agent.goal path makespan
+  pub most : (i : ℕ) (agent : Agent) (path : List ℕ) (cost : ℕ) → slice_get agents i ≡ Some agent →
+      slice_get plan i ≡ Some path → IsCost agent.goal path cost → cost ≤ makespan
 
 -- the text of the plan, up to its makespan
 abbrev pub IsPlayText : Instance → List (List ℕ) → List ℕ → Type 0
-IsPlayText problem plan text = (makespan : ℕ) × IsMakespan problem.agents plan makespan × (text ≡ play_text problem.grid plan makespan)
+IsPlayText problem plan text =
+    (makespan : ℕ) × IsMakespan problem.agents plan makespan × (text ≡ play_text problem.grid plan makespan)
 
 -- a plan has at most one such text
 abbrev pub PlaysAreOne : Type 0
-PlaysAreOne = (problem : Instance) (plan : List (List ℕ)) (a b : List ℕ) → IsPlayText problem plan a → IsPlayText problem plan b → a ≡ b
+PlaysAreOne =
+    (problem : Instance) (plan : List (List ℕ)) (a b : List ℕ) → IsPlayText problem plan a → IsPlayText problem plan b →
+    a ≡ b
 
 -- in a valid plan each agent is shown where it is, at every tick
 abbrev pub AgentsAreSeen : Type 0
-AgentsAreSeen = (problem : Instance) (plan : List (List ℕ)) → IsValid problem plan → (i tick : ℕ) (path : List ℕ) → slice_get plan i ≡ Some path → cell_byte problem.grid plan tick (at path tick) ≡ mark i
+AgentsAreSeen =
+    (problem : Instance) (plan : List (List ℕ)) → IsValid problem plan → (i tick : ℕ) (path : List ℕ) →
+    slice_get plan i ≡ Some path → cell_byte problem.grid plan tick (at path tick) ≡ mark i
 
 -- where no agent is the terrain is shown
 abbrev pub TerrainIsSeen : Type 0
-TerrainIsSeen = (grid : GridMap) (plan : List (List ℕ)) (tick cell : ℕ) → ((i : ℕ) (path : List ℕ) → slice_get plan i ≡ Some path → at path tick ≢ cell) → cell_byte grid plan tick cell ≡ terrain grid cell
+TerrainIsSeen =
+    (grid : GridMap) (plan : List (List ℕ)) (tick cell : ℕ) →
+    ((i : ℕ) (path : List ℕ) → slice_get plan i ≡ Some path → at path tick ≢ cell) →
+    cell_byte grid plan tick cell ≡ terrain grid cell

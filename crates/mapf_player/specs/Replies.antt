@@ -9,7 +9,8 @@ use Rattle.mapf_player.specs.declared.reply.Reply.TheVariants.{Go, Hold, Done}
 
 -- the line of a reply: `go I x,y`, `hold I by J` or `done I`
 abbrev pub reply_line : ℕ → ℕ → Reply → List ℕ
-reply_line width agent (Go cell) = codes "go " ++ (decimal agent ++ (32 ∷ (decimal (cell % width) ++ (44 ∷ (decimal (cell / width) ++ (10 ∷ []))))))
+reply_line width agent (Go cell) =
+    codes "go " ++ (decimal agent ++ (32 ∷ (decimal (cell % width) ++ (44 ∷ (decimal (cell / width) ++ (10 ∷ []))))))
 reply_line width agent (Hold other) = codes "hold " ++ (decimal agent ++ (codes " by " ++ (decimal other ++ (10 ∷ []))))
 reply_line width agent Done = codes "done " ++ (decimal agent ++ (10 ∷ []))
 

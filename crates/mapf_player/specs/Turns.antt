@@ -13,12 +13,14 @@ key_of visit = visit.cell * most_path_cells + visit.entry
 
 -- the turn is this visit, entered at a tick below the greatest number of cells of a path
 abbrev pub IsTurnOf : List (List Visit) → Turn → Visit → Type 0
-IsTurnOf visits turn visit = IsVisit visits turn.agent turn.number visit × (turn.key ≡ key_of visit) × (visit.entry < most_path_cells)
+IsTurnOf visits turn visit =
+    IsVisit visits turn.agent turn.number visit × (turn.key ≡ key_of visit) × (visit.entry < most_path_cells)
 
 -- the turns are all visits
 pub record AreTurns (visits : List (List Visit)) (turns : List Turn) : Type 0 where
   pub each : (turn : Turn) → Contains turns turn → (visit : Visit) × IsTurnOf visits turn visit
-  pub all : (agent number : ℕ) (visit : Visit) → IsVisit visits agent number visit → Contains turns (record { key = key_of visit; agent = agent; number = number })
+  pub all : (agent number : ℕ) (visit : Visit) → IsVisit visits agent number visit →
+      Contains turns (record { key = key_of visit; agent = agent; number = number })
 
 -- all visits by cell and then by entry
 pub record AreSortedTurns (visits : List (List Visit)) (turns : List Turn) : Type 0 where
@@ -28,7 +30,8 @@ pub record AreSortedTurns (visits : List (List Visit)) (turns : List Turn) : Typ
 -- the turns of one agent, whose visits are numbered from this one on
 abbrev pub own_turns : ℕ → ℕ → List Visit → List Turn
 own_turns agent number [] = []
-own_turns agent number (visit ∷ visits) = record { key = key_of visit; agent = agent; number = number } ∷ own_turns agent (number + 1) visits
+own_turns agent number (visit ∷ visits) =
+    record { key = key_of visit; agent = agent; number = number } ∷ own_turns agent (number + 1) visits
 
 -- the turn is one of an agent's visits
 abbrev pub IsTurn : Progress → Turn → Type 0

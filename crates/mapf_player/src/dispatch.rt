@@ -1,3 +1,5 @@
+//! The dispatcher: may an agent that follows a plan move on? The run of `dispatch` makes one, and asks it at each
+//! event.
 ghost use Rattle.std.specs.Prelude.{◌≡◌, ◌<◌, ◌≤◌, ◌+◌, ◌*◌, ◌^◌, ◌++◌, ◌↔◌, ℕ, All, Some, None, min, length};
 ghost use Rattle.std.specs.Prelude.{IfOk, IfSome, IsTrue, OnOk, MatchOption, slice_get};
 ghost use Rattle.std.specs.List.Sorted.{IsNonDecreasingBy};
@@ -128,7 +130,9 @@ impl Dispatch {
     /// allocate nothing.
     pub fn new(alloc: Global, plan: &Plan) -> Result<Dispatch, OutOfMemory>
         requires valid { (problem : Instance) × IsValid problem plan.now }
+        // It has the visits of each path.
         ensures visits { IfOk result (λ dispatch. AreVisitsOfAll plan.now dispatch.visits) }
+        // Each agent is in its first visit.
         ensures beginning { IfOk result (λ dispatch. dispatch ≡ beginning dispatch.visits) }
     {
         let visits = visits_of(alloc, plan)?;

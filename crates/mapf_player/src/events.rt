@@ -1,3 +1,4 @@
+//! The reader of event texts, and their errors. The run of `dispatch` calls it.
 ghost use Rattle.std.specs.Prelude.{◌≡◌, ◌<◌, ◌+◌, ◌++◌, ℕ, List, All, IfOk, IfErr, IsOk, IsOkAnd, Ok, false, true};
 ghost use Rattle.std.specs.Prelude.{codes, length};
 ghost use Rattle.std.specs.Fmt.{decimal};
@@ -78,7 +79,9 @@ fn agents_of(alloc: Global, bytes: &[u8], agents: u32) -> Result<(Vec<u32>, u64,
 
 /// Returns the agents that ask to move on, one after another, as an event text for so many agents spells them.
 pub fn read_events(alloc: Global, bytes: &[u8], agents: u32) -> Result<Vec<u32>, EventFault>
+    // If agents are returned, the bytes spell them.
     ensures found { IfOk result (λ events. SpellsEvents bytes.now agents events.items) }
+    // Agents that the bytes spell are returned, unless memory runs out.
     ensures only { (events : List ℕ) → SpellsEvents bytes.now agents events
         → OrMemory result (IsOkAnd result (λ read. read.items ≡ events)) }
     // The lines before the reported location are correct, and the error is there.

@@ -1,3 +1,4 @@
+//! How one tick of a plan is shown, for the player.
 ghost use Rattle.std.specs.Prelude.{◌≡◌, ◌<◌, false, length};
 ghost use Rattle.std.specs.Result.{is_err};
 ghost use Rattle.mapf_fields.specs.Pages.{PassesOrFails};

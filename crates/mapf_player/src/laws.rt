@@ -1,3 +1,5 @@
+//! What follows from the definitions of played texts, visits and replies, as laws. No code calls them; they are there
+//! to be read.
 ghost use Rattle.mapf_player.specs.DispatchLaws.{CellsAreAPrefix, NobodyEntersAnOccupiedCell, NoTwoAgentsMeet};
 ghost use Rattle.mapf_player.specs.DispatchLaws.{EveryAgentIsAnswered, ProgressStaysInOrder, RepliesAreOne};
 ghost use Rattle.mapf_player.specs.DispatchLaws.{ReplyTextsAreOne};
@@ -12,7 +14,9 @@ pub fn plays_are_one()
 
 /// In a played text each cell shows the agent that is in it.
 pub fn cells_are_seen()
+    // In a valid plan each agent is seen where it is.
     ensures agents { AgentsAreSeen }
+    // Elsewhere the terrain is seen.
     ensures terrain { TerrainIsSeen }
 {}
 
@@ -23,8 +27,11 @@ pub fn visits_are_one()
 
 /// Agents that follow a valid plan are never in one cell, in whatever order and however often they ask.
 pub fn agents_stay_apart()
+    // They keep the order in which the plan visits each cell. A move is instantaneous.
     ensures order { ProgressStaysInOrder }
+    // No two are in one cell.
     ensures apart { NoTwoAgentsMeet }
+    // No reply sends an agent into a cell in which another is.
     ensures free { NobodyEntersAnOccupiedCell }
 {}
 
@@ -35,8 +42,11 @@ pub fn cells_are_a_prefix()
 
 /// Every agent that asks gets exactly one reply.
 pub fn replies_are_one()
+    // It gets one.
     ensures some { EveryAgentIsAnswered }
+    // It gets only one.
     ensures one { RepliesAreOne }
+    // The replies to a list of agents that ask are at most one text.
     ensures text { ReplyTextsAreOne }
 {}
 

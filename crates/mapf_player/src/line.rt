@@ -1,3 +1,4 @@
+//! How a line of a word and a number is put on a page, for the player and for the replies.
 ghost use Rattle.std.specs.Prelude.{◌≡◌, ◌++◌, false};
 ghost use Rattle.std.specs.Result.{is_err};
 ghost use Rattle.std.specs.Fmt.{decimal};

@@ -1,3 +1,4 @@
+//! How a cell is shown as one byte, for the rows of a frame.
 ghost use Rattle.std.specs.Prelude.{◌≡◌, if◌then◌else◌};
 ghost use Rattle.mapf_player.specs.Play.{mark};
 

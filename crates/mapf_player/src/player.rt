@@ -1,3 +1,4 @@
+//! The player, which shows a plan tick by tick. The run of `play` calls it.
 ghost use Rattle.std.specs.Prelude.{◌≡◌, ◌≤◌, ◌+◌, ℕ, List, false, length, take, flat_map, OnOk, OnErr};
 ghost use Rattle.std.specs.List.{range_with_len};
 ghost use Rattle.std.specs.Result.{is_err};
@@ -68,9 +69,13 @@ pub fn write_text<K: Sink>(
 pub fn play<K: Sink>(problem: &Problem, plan: &Plan, sink: &mut K) -> Result<(), Failed>
     requires works { K.has_failed sink.old ≡ false }
     requires valid { IsValid problem.now plan.now }
+    // What is written is the text that plays the plan: at each tick to the makespan the grid with the agents' marks,
+    // including those of agents whose path ended.
     ensures text { OnOk result ((text : List ℕ) × IsPlayText problem.now plan.now text
         × Appends (K.contents sink.old) (K.contents sink.new) text) }
+    // An error is returned if and only if the sink failed.
     ensures failed { K.has_failed sink.new ≡ is_err result }
+    // After an error the sink got a prefix of that text.
     ensures front { OnErr result ((text : List ℕ) × IsPlayText problem.now plan.now text
         × (n : ℕ) × (n ≤ length text) × Appends (K.contents sink.old) (K.contents sink.new) (take n text)) }
 {

@@ -1,3 +1,4 @@
+//! How the replies of the dispatcher are written, a line for each event. The run of `dispatch` calls it.
 ghost use Rattle.std.specs.Prelude.{◌≡◌, ◌<◌, ◌≤◌, ℕ, List, All, OnOk, OnErr, false, length, take};
 ghost use Rattle.std.specs.Result.{is_err};
 ghost use Rattle.std.specs.Io.KnownBytes.{Appends};
@@ -54,6 +55,7 @@ fn put_replies<K: Sink>(
         × PassesOrFails (K.contents sink.old) (K.contents sink.new) page.old page.new
         (reply_text grid.now.width agents.now replies) result
         × OnOk result (dispatch.new ≡ after) }
+    // There are as many agents as before.
     ensures agents { length dispatch.new.numbers ≡ length dispatch.old.numbers }
     ensures failed { K.has_failed sink.new ≡ is_err result }
 {
@@ -76,11 +78,14 @@ pub fn dispatch_all<K: Sink>(
 ) -> Result<(), Failed>
     requires works { K.has_failed sink.old ≡ false }
     requires agents { All (λ agent. agent < length dispatch.old.numbers) agents.now }
+    // A line is written for each agent that asks, with its reply.
     ensures text { OnOk result ((replies : List Reply)
         × AreReplies dispatch.old agents.now replies dispatch.new
         × Appends (K.contents sink.old) (K.contents sink.new) (reply_text grid.now.width agents.now replies)) }
     ensures agents { length dispatch.new.numbers ≡ length dispatch.old.numbers }
+    // An error is returned if and only if the sink failed.
     ensures failed { K.has_failed sink.new ≡ is_err result }
+    // After an error the sink got a prefix of these lines.
     ensures front { OnErr result ((replies : List Reply) × (after : Progress)
         × AreReplies dispatch.old agents.now replies after × (n : ℕ)
         × (n ≤ length (reply_text grid.now.width agents.now replies))

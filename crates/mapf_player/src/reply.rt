@@ -1,3 +1,4 @@
+//! What the dispatcher answers at an event.
 use mapf_model::Cell;
 
 /// The reply to an agent that asks to move on.

@@ -1,3 +1,4 @@
+//! How one row of the grid is shown with the agents in it, for a frame.
 ghost use Rattle.std.specs.Prelude.{◌≡◌, ◌<◌, ◌+◌, ◌*◌, ℕ, length, slice_index, option_map, unwrap_or};
 ghost use Rattle.mapf_player.specs.Play.{agent_in, terrain, mark, row_cells};
 

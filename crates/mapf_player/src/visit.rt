@@ -1,3 +1,4 @@
+//! The visits of a path, which are what the dispatcher keeps of a plan.
 ghost use Rattle.std.specs.Prelude.{◌≡◌, ◌<◌, ◌≤◌, ◌↔◌, All, IfOk, IsTrue, length};
 ghost use Rattle.mapf_model.specs.Limits.{most_path_cells};
 ghost use Rattle.mapf_player.specs.Visits.{AreVisitsOf, IsEntry};
@@ -58,6 +59,7 @@ impl Visits {
         Ok(Visits { visits })
     }
 
+    /// Returns the visits in their order.
     pub fn as_slice(&self) -> &[Visit]
         ensures value { result.now ≡ self.now }
         ensures few { length result.now ≤ most_path_cells }

@@ -1,5 +1,5 @@
 ghost use Rattle.std.specs.Prelude.{◌<◌, ◌≤◌, length, IfOk};
-ghost use Rattle.mapf_model.specs.Earned.{AreConflictFreeBefore};
+ghost use Rattle.mapf_model.specs.Conflicts.{AreConflictFreeBefore};
 
 use crate::expect::expect_same;
 use crate::samples::{Missing, path_of};

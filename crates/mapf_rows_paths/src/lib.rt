@@ -11,6 +11,8 @@ mod distances;
 #[cfg(test)]
 mod expect;
 #[cfg(test)]
+mod grids;
+#[cfg(test)]
 mod lazy_tables;
 #[cfg(test)]
 mod samples;

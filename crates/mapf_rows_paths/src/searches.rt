@@ -5,7 +5,7 @@ use mapf_constraints::{Bar, BarTable, ListBars, TickBars};
 use mapf_distance::Distances;
 use mapf_model::{Agent, Cell, Entry, Grid, Label, OutOfMemory, Path};
 use mapf_spacetime::{
-    Found, Labels, StateLabels, Workspace, label_at, search, search_expecting, search_in,
+    Found, Labels, SearchTask, StateLabels, Workspace, label_at, search, search_expecting,
 };
 use std::alloc::{AllocError, Global};
 use std::process::Abort;
@@ -408,7 +408,8 @@ fn found_in(
         return Err(Missing::Value);
     }
     let distances = Distances::of(alloc, grid, agent.goal)?;
-    Ok(search_in(alloc, workspace, grid, &distances, bars, agent)?)
+    let task = SearchTask::of(grid, &distances, bars, agent);
+    Ok(search_expecting(alloc, workspace, &task, 0)?)
 }
 
 /// What the search finds in this workspace.
@@ -475,7 +476,8 @@ fn searched_expecting(
         return Err(Missing::Value);
     }
     let distances = Distances::of(alloc, &grid, agent.goal)?;
-    let found = search_expecting(alloc, workspace, &grid, &distances, &table, agent, expected)?;
+    let task = SearchTask::of(&grid, &distances, &table, agent);
+    let found = search_expecting(alloc, workspace, &task, expected)?;
     Ok(states_text(alloc, found)?)
 }
 

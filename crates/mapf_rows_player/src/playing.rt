@@ -1,7 +1,8 @@
 use mapf_checker::check_plan;
+use mapf_fields::PAGE_ROOM;
 use mapf_model::devices::{FuseSink, Pace};
 use mapf_model::{Agent, BytesSink, Cell, Grid, OutOfMemory, Path, Plan, Problem, Sink};
-use mapf_player::{Dispatch, Reply, play};
+use mapf_player::{Dispatch, EventFault, Reply, dispatch_all, play, read_events};
 use std::alloc::Global;
 use std::process::Abort;
 use std::test::Fail;
@@ -17,10 +18,13 @@ const CROSSING: Given = Given {
 const CROSSING_TEXT: &str =
     "tick 0\n.1.\n0..\n...\ntick 1\n...\n01.\n...\ntick 2\n...\n.0.\n.1.\ntick 3\n...\n..0\n.1.\nend 3\n";
 
-// A grid that no page of a text holds, and an agent that rests in its first cell.
+// How many columns and rows a grid has of which no page of a text holds a frame.
+const LARGE_SIDE: u32 = 300;
+
+// An agent that rests in the first cell of that grid.
 const LARGE: Given = Given {
-    width: 100,
-    height: 90,
+    width: LARGE_SIDE,
+    height: LARGE_SIDE,
     blocked: &[],
     paths: &[&[0]],
 };
@@ -107,7 +111,7 @@ fn is_plan_played<S: Sink>(problem: &Problem, plan: &Plan, sink: &mut S) -> Resu
 
 // What is written where the plan is played.
 fn text_of(alloc: Global, given: &Given) -> Result<BytesSink, Fail> {
-    let mut sink = BytesSink::with_room(alloc, 20000)?;
+    let mut sink = BytesSink::with_room(alloc, 2 * PAGE_ROOM)?;
     if !is_played(alloc, given, &mut sink)? {
         return Err("not played")?;
     }
@@ -181,10 +185,14 @@ fn marks_sixty_three_agents(rt: HostRuntime) -> Result<(), Fail> {
 // What is shown of the agent that rests on the large grid.
 fn large_text(alloc: Global) -> Result<Vec<u8>, Fail> {
     let mut shown = Vec::from_slice(alloc, b"tick 0\n0")?;
-    for place in 1..9090u32 {
-        shown.push(if place % 101 == 100 { b'\n' } else { b'.' })?;
+    for place in 1..LARGE_SIDE * (LARGE_SIDE + 1) {
+        let is_end = place % (LARGE_SIDE + 1) == LARGE_SIDE;
+        shown.push(if is_end { b'\n' } else { b'.' })?;
     }
     shown.extend_from_slice(b"end 0\n")?;
+    if shown.len() <= PAGE_ROOM {
+        return Err("a page holds this")?;
+    }
     Ok(shown)
 }
 
@@ -249,29 +257,30 @@ fn leaves_a_prefix_in_a_sink_that_fails(rt: HostRuntime) -> Result<(), Fail> {
     Ok(())
 }
 
-// A sink that fails after so many calls takes a prefix of this text, nothing before the first call and all of it in
-// three.
+// A sink that fails after so many calls takes a prefix of this text: nothing before the first call, at most a page in
+// that one, and all of it in three.
 fn assert_large_prefix(
     rt: &impl Abort,
     alloc: Global,
     whole: &[u8],
     calls: u64,
 ) -> Result<(), Fail> {
-    let mut sink = sink_of(alloc, 20000, Pace::AllAtOnce, Some(calls))?;
+    let mut sink = sink_of(alloc, 2 * PAGE_ROOM, Pace::AllAtOnce, Some(calls))?;
     let is_played = is_played(alloc, &LARGE, &mut sink)?;
     let is_whole = sink.bytes().len() == whole.len();
     assert!(rt; is_played == is_whole);
     assert!(rt; whole.starts_with(sink.bytes()));
-    assert!(rt; 0 < calls || sink.bytes().is_empty());
+    assert!(rt; (calls == 0) == sink.bytes().is_empty());
+    assert!(rt; 1 < calls || sink.bytes().len() <= PAGE_ROOM);
     assert!(rt; is_whole || calls < 3);
     Ok(())
 }
 
 #[test]
 fn leaves_a_prefix_of_more_than_a_page(rt: HostRuntime) -> Result<(), Fail> {
-    let whole = text_of(rt.alloc(), &LARGE)?;
+    let whole = large_text(rt.alloc())?;
     for calls in 0..4 {
-        assert_large_prefix(&rt, rt.alloc(), whole.bytes(), calls)?;
+        assert_large_prefix(&rt, rt.alloc(), &whole, calls)?;
     }
     Ok(())
 }
@@ -293,5 +302,68 @@ fn dispatches_an_agent_at_rest(rt: HostRuntime) -> Result<(), Fail> {
     let plan = plan_of(rt.alloc(), &ONE_CELL)?;
     let replies = replies_of(rt.alloc(), &problem, &plan)?;
     assert!(rt; replies == (Reply::Done, Reply::Done));
+    Ok(())
+}
+
+// How often an agent at its goal asks until no page holds the replies, which are `done 0` and LF each.
+const ASKED: usize = PAGE_ROOM / 7 + 1;
+
+// The line as often as the agent asks, after a first text and before a last one.
+fn asked(alloc: Global, first: &[u8], line: &[u8], last: &[u8]) -> Result<Vec<u8>, OutOfMemory> {
+    let mut text = Vec::from_slice(alloc, first)?;
+    for _ in 0..ASKED {
+        text.extend_from_slice(line)?;
+    }
+    text.extend_from_slice(last)?;
+    Ok(text)
+}
+
+// Writes the replies to the agent of this plan, which has to be valid, into the sink. Answers whether it took them
+// whole.
+fn is_told<S: Sink>(alloc: Global, events: &[u8], sink: &mut S) -> Result<bool, Fail> {
+    let problem = problem_of(alloc, &ONE_CELL)?;
+    let plan = plan_of(alloc, &ONE_CELL)?;
+    let count = plan.paths().len();
+    if sink.failed() || count != 1 || count != problem.agents().len() {
+        return Err("a failed sink or another number of agents")?;
+    }
+    check_plan(&problem, &plan).or(Err("no valid plan"))?;
+    let asking = match read_events(alloc, events, 1) {
+        Ok(asking) => asking,
+        Err(EventFault::Memory) => return Err(OutOfMemory)?,
+        Err(_) => return Err("events")?,
+    };
+    let mut dispatch = Dispatch::new(alloc, &plan)?;
+    Ok(dispatch_all(&mut dispatch, problem.grid(), asking.as_slice(), sink).is_ok())
+}
+
+// A sink that fails after so many calls takes a prefix of these replies: nothing before the first call, at most a page
+// in that one, and all of them in two.
+fn assert_told_prefix(
+    rt: &impl Abort,
+    alloc: Global,
+    events: &[u8],
+    replies: &[u8],
+    calls: u64,
+) -> Result<(), Fail> {
+    let mut sink = sink_of(alloc, 2 * PAGE_ROOM, Pace::AllAtOnce, Some(calls))?;
+    let is_told = is_told(alloc, events, &mut sink)?;
+    let is_whole = sink.bytes().len() == replies.len();
+    assert!(rt; is_told == is_whole);
+    assert!(rt; replies.starts_with(sink.bytes()));
+    assert!(rt; (calls == 0) == sink.bytes().is_empty());
+    assert!(rt; 1 < calls || sink.bytes().len() <= PAGE_ROOM);
+    assert!(rt; is_whole || calls < 2);
+    Ok(())
+}
+
+#[test]
+fn tells_a_prefix_of_more_than_a_page(rt: HostRuntime) -> Result<(), Fail> {
+    let events = asked(rt.alloc(), b"mapf-events 1\n", b"0\n", b"end\n")?;
+    let replies = asked(rt.alloc(), b"", b"done 0\n", b"")?;
+    assert!(rt; PAGE_ROOM < replies.len());
+    for calls in 0..3 {
+        assert_told_prefix(&rt, rt.alloc(), &events, &replies, calls)?;
+    }
     Ok(())
 }

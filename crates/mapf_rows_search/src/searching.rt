@@ -7,7 +7,9 @@ use mapf_cbs::{Answer, Cause, solve, solve_with};
 use mapf_conflicts::{Conflict, first_conflict};
 use mapf_constraints::{BarTable, ListBars, TickBars};
 use mapf_distance::Distances;
-use mapf_model::{Agent, Block, Cell, Grid, Item, Label, OutOfMemory, Path, Plan, Problem};
+use mapf_model::{
+    Agent, AsNode, Block, Cell, Grid, Item, Label, NodeKind, OutOfMemory, Path, Plan, Problem,
+};
 use std::alloc::{AllocError, Global};
 use std::process::Abort;
 use std::test::Fail;
@@ -361,7 +363,7 @@ fn start_labels(item: &Item, above: (u32, u32)) -> (u32, u32) {
 }
 
 fn is_split(item: &Item) -> bool {
-    item.conflict().is_some()
+    matches!(item.kind(), NodeKind::Split(_))
 }
 
 /// The sums of costs of the leaves, for these two agents.

@@ -1,9 +1,9 @@
 -- Sets of cells as bits of words: one bit is set or cleared.
-use Rattle.std.proofs.Common.{◌≡◌, ◌≢◌, ◌⊎◌, inl, inr, ⊎_elim, ℕ, ◌+◌, ◌*◌, ◌/◌, ◌%◌, ◌^◌, ◌<◌, ◌≤◌, List, length, slice_index, slice_index_or, slice_set, bit_and, bit_or, sym, ap, subst, ◌∙◌, arith}
-use Rattle.std.specs.Int.{bit_at, bit_not, trailing_zeros}
+use Rattle.std.proofs.Common.{◌≡◌, ◌≢◌, ◌⊎◌, inl, inr, ⊎_elim, ℕ, ◌+◌, ◌-◌, ◌*◌, ◌/◌, ◌%◌, ◌^◌, ◌<◌, ◌≤◌, List, length, slice_index, slice_index_or, slice_set, bit_and, bit_or, min, zero, suc, refl, sym, ap, ap₂, subst, ◌∙◌, arith}
+use Rattle.std.specs.Int.{bit_at, trailing_zeros}
 use Rattle.std.proofs.lemmas.Bool.{cases_lt, cases_eq}
 use Rattle.std.proofs.lemmas.List.{get_or-set_same, get_or-set_other, get_or_default}
-use Rattle.std.proofs.lemmas.Nat.Bits.{bit_at-zero, bit_at_set_same, bit_at_set_other, bit_at_clear_same, bit_at_clear_other, bit_at-trailing_zeros}
+use Rattle.std.proofs.lemmas.Nat.Bits.{bit_at-zero, bit_at_set_same, bit_at_set_other, bit_at-trailing_zeros, bit_at_and, bit_at_lowest, bit_at-suc}
 use Rattle.mapf_spacetime.specs.CellSets.{HasNumber, HasNone, AreEmptyOutside}
 use mir.Syntax.{w64}
 
@@ -60,6 +60,35 @@ inserted words cell inner read same inside is =
     let here : read ≡ slice_index words (cell / 64) = is ∙ ap (λ n. slice_index_or words (n / 64) read) same ∙ get_or_default words (cell / 64) read 0 inside in
     ap (λ n. slice_set words (n / 64) (bit_or read (1 * 2 ^ (n % 64) % 2 ^ 64))) same ∙ ap (λ w. slice_set words (cell / 64) (bit_or w (1 * 2 ^ (cell % 64) % 2 ^ 64))) here
 
+-- the number without its lowest 1: of an even one the bits above the last are those of its half
+halved : (n : ℕ) → 0 < n → n % 2 ≡ 0 → (i : ℕ) → bit_at (bit_and n (n - 1)) (suc i) ≡ bit_at (bit_and (n / 2) (n / 2 - 1)) i
+halved n some even i =
+    bit_at_and n (n - 1) (suc i) ∙ ap₂ min (bit_at-suc n i) (bit_at-suc (n - 1) i ∙ ap (λ m. bit_at m i) (omega arith)) ∙ sym (bit_at_and (n / 2) (n / 2 - 1) i)
+
+-- that bit is gone
+lowest_gone : (n t : ℕ) → 0 < n → bit_at n t ≡ 1 → ((i : ℕ) → i < t → bit_at n i ≡ 0) → bit_at (bit_and n (n - 1)) t ≡ 0
+lowest_gone n zero some one none = omega (arith, bit_at_and n (n - 1) 0, bit_at_lowest n, bit_at_lowest (n - 1), one)
+lowest_gone n (suc t) some one none =
+    let even : n % 2 ≡ 0 = omega (arith, bit_at_lowest n, none 0 (omega arith)) in
+    halved n some even t ∙ lowest_gone (n / 2) t (omega arith) (sym (bit_at-suc n t) ∙ one) (λ i less. sym (bit_at-suc n i) ∙ none (suc i) (omega arith))
+
+-- and the others are as they were
+others_kept : (n t : ℕ) → 0 < n → bit_at n t ≡ 1 → ((i : ℕ) → i < t → bit_at n i ≡ 0) → (i : ℕ) → i ≢ t → bit_at (bit_and n (n - 1)) i ≡ bit_at n i
+others_kept n zero some one none zero apart = absurd (apart refl)
+others_kept n zero some one none (suc i) apart =
+    let odd : n % 2 ≡ 1 = omega (arith, bit_at_lowest n, one) in
+    let same : bit_at (n - 1) (suc i) ≡ bit_at n (suc i) = bit_at-suc (n - 1) i ∙ ap (λ m. bit_at m i) (omega arith) ∙ sym (bit_at-suc n i) in
+    omega (arith, bit_at_and n (n - 1) (suc i), same)
+others_kept n (suc t) some one none zero apart = omega (arith, bit_at_and n (n - 1) 0, none 0 (omega arith))
+others_kept n (suc t) some one none (suc i) apart =
+    let even : n % 2 ≡ 0 = omega (arith, bit_at_lowest n, none 0 (omega arith)) in
+    halved n some even i
+    ∙ others_kept (n / 2) t (omega arith) (sym (bit_at-suc n t) ∙ one) (λ j less. sym (bit_at-suc n j) ∙ none (suc j) (omega arith)) i (λ e. apart (ap suc e))
+    ∙ sym (bit_at-suc n i)
+
+abbrev pub without_lowest : ℕ → ℕ
+without_lowest n = bit_and n (n - 1)
+
 -- the least cell is taken: the lowest bit of the first word that isn't 0
 module _ (words : List ℕ) (first end : ℕ) (empty : AreEmptyOutside words first end) (inside : first < length words) (some : slice_index words first ≢ 0) (small : slice_index words first < 2 ^ 64) where
   bit : ℕ
@@ -104,24 +133,24 @@ module _ (words : List ℕ) (first end : ℕ) (empty : AreEmptyOutside words fir
       (cases_eq (other / 64) first)
 
   abbrev pub without_least : List ℕ
-  without_least = slice_set words first (bit_and (slice_index words first) (bit_not w64 (1 * 2 ^ trailing_zeros w64 (slice_index words first) % 2 ^ 64)))
+  without_least = slice_set words first (without_lowest (slice_index words first))
 
   pub without_other : (other : ℕ) → other ≢ least_cell → bit_at (slice_index without_least (other / 64)) (other % 64) ≡ bit_at (slice_index words (other / 64)) (other % 64)
   without_other other apart =
-      let word = bit_and (slice_index words first) (bit_not w64 (1 * 2 ^ trailing_zeros w64 (slice_index words first) % 2 ^ 64)) in
+      let word = without_lowest (slice_index words first) in
       ⊎_elim
       (λ (same : other / 64 ≡ first).
       let differs : other % 64 ≢ trailing_zeros w64 (slice_index words first) = λ e. apart (omega arith) in
       ap (λ n. bit_at n (other % 64)) (written_same words first word inside other same)
-      ∙ bit_at_clear_other w64 (slice_index words first) (trailing_zeros w64 (slice_index words first)) lowest.0 (other % 64) (omega arith) differs
+      ∙ others_kept (slice_index words first) (trailing_zeros w64 (slice_index words first)) (omega arith) lowest.1 lowest.2 (other % 64) differs
       ∙ ap (λ n. bit_at (slice_index words n) (other % 64)) (sym same))
       (λ away. ap (λ n. bit_at n (other % 64)) (written_other words first word inside other away))
       (cases_eq (other / 64) first)
 
   pub without_gone : HasNumber without_least least_cell → ⊥
   without_gone held =
-      let word = bit_and (slice_index words first) (bit_not w64 (1 * 2 ^ trailing_zeros w64 (slice_index words first) % 2 ^ 64)) in
-      let zero = ap (λ n. bit_at n (least_cell % 64)) (written_same words first word inside least_cell least_place) ∙ ap (λ n. bit_at word n) least_bit ∙ bit_at_clear_same w64 (slice_index words first) (trailing_zeros w64 (slice_index words first)) lowest.0 in
+      let word = without_lowest (slice_index words first) in
+      let zero = ap (λ n. bit_at n (least_cell % 64)) (written_same words first word inside least_cell least_place) ∙ ap (λ n. bit_at word n) least_bit ∙ lowest_gone (slice_index words first) (trailing_zeros w64 (slice_index words first)) (omega arith) lowest.1 lowest.2 in
       omega arith
 
   pub without_kept : (other : ℕ) → HasNumber words other → other ≢ least_cell → HasNumber without_least other
@@ -146,11 +175,11 @@ module _ (words : List ℕ) (first end : ℕ) (empty : AreEmptyOutside words fir
   pub taken_is : (other : ℕ) → HasNumber words other → first * 64 + trailing_zeros w64 read ≤ other
   taken_is other held = subst (λ n. first * 64 + trailing_zeros w64 n ≤ other) (sym is) (least_is words first end empty inside read_some read_small other held)
 
-  pub taken_kept : (other : ℕ) → HasNumber words other → other ≢ first * 64 + trailing_zeros w64 read → HasNumber (slice_set words first (bit_and read (bit_not w64 (1 * 2 ^ trailing_zeros w64 read % 2 ^ 64)))) other
-  taken_kept other held apart = subst (λ n. HasNumber (slice_set words first (bit_and n (bit_not w64 (1 * 2 ^ trailing_zeros w64 n % 2 ^ 64)))) other) (sym is)
+  pub taken_kept : (other : ℕ) → HasNumber words other → other ≢ first * 64 + trailing_zeros w64 read → HasNumber (slice_set words first (without_lowest read)) other
+  taken_kept other held apart = subst (λ n. HasNumber (slice_set words first (without_lowest n)) other) (sym is)
       (without_kept words first end empty inside read_some read_small other held (subst (λ n. other ≢ first * 64 + trailing_zeros w64 n) is apart))
 
-  pub taken_only : (other : ℕ) → HasNumber (slice_set words first (bit_and read (bit_not w64 (1 * 2 ^ trailing_zeros w64 read % 2 ^ 64)))) other → HasNumber words other × (other ≢ first * 64 + trailing_zeros w64 read)
+  pub taken_only : (other : ℕ) → HasNumber (slice_set words first (without_lowest read)) other → HasNumber words other × (other ≢ first * 64 + trailing_zeros w64 read)
   taken_only other held =
-      let (there, apart) = without_only words first end empty inside read_some read_small other (subst (λ n. HasNumber (slice_set words first (bit_and n (bit_not w64 (1 * 2 ^ trailing_zeros w64 n % 2 ^ 64)))) other) is held) in
+      let (there, apart) = without_only words first end empty inside read_some read_small other (subst (λ n. HasNumber (slice_set words first (without_lowest n)) other) is held) in
       (there, subst (λ n. other ≢ first * 64 + trailing_zeros w64 n) (sym is) apart)

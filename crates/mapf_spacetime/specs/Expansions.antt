@@ -5,7 +5,8 @@ use Rattle.mapf_spacetime.specs.declared.frontier.Expansion.TheVariants.{Arrives
 use Rattle.mapf_spacetime.specs.Frontiers.{States, IsAtGoal, IsFrontier, IsLevelDone}
 use Rattle.mapf_spacetime.specs.Task.{Task}
 
--- the agent arrives at the cost; or all states up to it were reached, and none is an arrival; or some are yet to be taken
+-- the agent arrives at the cost; or all states up to it were reached, and none is an arrival; or some are yet to be
+-- taken
 abbrev pub IsExpanded : Task → States → Expansion → Type 0
 IsExpanded task states Arrives = IsAtGoal task states
 IsExpanded task states Done = IsLevelDone task states

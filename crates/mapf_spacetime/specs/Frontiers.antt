@@ -1,5 +1,6 @@
 -- What a search by rising f-values has reached, and what it has yet to reach.
-use Rattle.std.specs.Prelude.{◌≡◌, ◌⊎◌, ℕ, ◌+◌, ◌-◌, ◌*◌, ◌^◌, ◌<◌, ◌≤◌, min, List, [], ◌∷◌, ◌++◌, length, take, Some, slice_get, Contains}
+use Rattle.std.specs.Prelude.{◌≡◌, ◌⊎◌, ℕ, ◌+◌, ◌-◌, ◌*◌, ◌^◌, ◌<◌, ◌≤◌, min, List, [], ◌∷◌, ◌++◌, length, take, Some}
+use Rattle.std.specs.Prelude.{slice_get, Contains}
 use Rattle.mapf_model.specs.Distance.{IsUnreachable}
 use Rattle.mapf_model.specs.Labels.{MayGo}
 use Rattle.mapf_spacetime.specs.declared.state.State.{State}
@@ -27,7 +28,8 @@ IsBase base = (0 < base) × (base + stamp_ticks ≤ 4294967295)
 
 -- for each cell a stamp: if it is the sum of the base and a tick, the cell was reached at that tick
 abbrev pub AreLast : ℕ → List ℕ → List State → Type 0
-AreLast base stamps reached = (cell tick : ℕ) → slice_get stamps cell ≡ Some (base + tick) → Contains reached (state_at cell tick)
+AreLast base stamps reached =
+    (cell tick : ℕ) → slice_get stamps cell ≡ Some (base + tick) → Contains reached (state_at cell tick)
 
 -- each stamp is below the next base
 abbrev pub AreOfBase : ℕ → List ℕ → Type 0
@@ -39,7 +41,15 @@ AreBelow base stamps = (cell stamp : ℕ) → slice_get stamps cell ≡ Some sta
 
 -- these states were reached, all below the cost, and no other is known
 abbrev pub first_states : List State → ℕ → States
-first_states reached cost = record { reached = reached; open_states = []; next_states = []; later_states = []; cost = cost; below = length reached }
+first_states reached cost =
+    record {
+      reached = reached;
+      open_states = [];
+      next_states = [];
+      later_states = [];
+      cost = cost;
+      below = length reached;
+    }
 
 -- one more state is reached
 abbrev pub with_reached : States → State → States
@@ -59,7 +69,15 @@ with_later states state = record states { later_states = states.later_states ++ 
 
 -- the next cost: all that was reached is below it, and what waited for it is open
 abbrev pub raised : States → States
-raised states = record { reached = states.reached; open_states = states.next_states; next_states = states.later_states; later_states = []; cost = states.cost + 1; below = length states.reached }
+raised states =
+    record {
+      reached = states.reached;
+      open_states = states.next_states;
+      next_states = states.later_states;
+      later_states = [];
+      cost = states.cost + 1;
+      below = length states.reached;
+    }
 
 -- the states that were reached below the cost
 abbrev pub low_states : States → List State
@@ -79,7 +97,9 @@ IsKnown states state = Contains states.reached state ⊎ (Contains states.open_s
 
 -- if the agent may go to this state, it is known, or the goal can't be reached from it
 abbrev pub IsTaken : Task → States → State → ℕ → Type 0
-IsTaken task states from to = MayGo task.grid task.bars from.cell to from.tick → IsKnown states (state_at to (from.tick + 1)) ⊎ IsUnreachable task.grid task.goal to
+IsTaken task states from to =
+    MayGo task.grid task.bars from.cell to from.tick → IsKnown states (state_at to (from.tick + 1))
+    ⊎ IsUnreachable task.grid task.goal to
 
 -- each step from the state was taken
 abbrev pub IsClosed : Task → States → State → Type 0

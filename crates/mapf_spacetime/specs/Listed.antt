@@ -18,6 +18,7 @@ entry_for cost state = record { cell = state.cell; tick = state.tick; label = la
 
 -- the entries of the states, and no other, in rising order
 pub record AreEntriesOf (states : List State) (cost : Option ℕ) (entries : List Entry) : Type 0 where
-  pub each : (e : Entry) → Contains entries e → Contains states (state_at e.cell e.tick) × (e.label ≡ label_of cost e.tick)
+  pub each : (e : Entry) → Contains entries e → Contains states (state_at e.cell e.tick)
+      × (e.label ≡ label_of cost e.tick)
   pub all : (s : State) → Contains states s → Contains entries (entry_for cost s)
   pub rising : AllPairs IsBefore entries

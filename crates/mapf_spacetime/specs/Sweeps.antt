@@ -1,15 +1,17 @@
 -- What a sweep over the ticks reaches.
-use Rattle.std.specs.Prelude.{Bool, true, ◌≡◌, ◌⊎◌, ℕ, ◌+◌, ◌*◌, ◌<◌, ◌≤◌, List, length, slice_index_or, Contains, AllPairs}
+use Rattle.std.specs.Prelude.{Bool, true, ◌≡◌, ◌⊎◌, ℕ, ◌+◌, ◌*◌, ◌<◌, ◌≤◌, List, length, slice_index_or, Contains}
+use Rattle.std.specs.Prelude.{AllPairs}
 use Rattle.mapf_model.specs.Distance.{IsUnreachable}
 use Rattle.mapf_model.specs.Labels.{MayGo}
 use Rattle.mapf_spacetime.specs.CellSets.{HasNumber, HasNone}
 use Rattle.mapf_spacetime.specs.PathSearch.{CanArrive}
 use Rattle.mapf_spacetime.specs.States.{IsEntered}
-use Rattle.mapf_spacetime.specs.Task.{Task, IsValue, IsWithin, IsBelow, IsPast, IsBarredLater, MayRestFrom, state_at, start_of}
+use Rattle.mapf_spacetime.specs.Task.{Task, IsValue, IsWithin, IsBelow, IsPast, IsBarredLater, MayRestFrom, state_at}
+use Rattle.mapf_spacetime.specs.Task.{start_of}
 use Rattle.mapf_spacetime.specs.declared.state.State.{State}
 
--- the states that were reached, those of them that are below a cost, the cells that can be reached at the next tick, the
--- greatest f-value, whether a state of a greater one was left out, the index of the first state whose steps weren't
+-- the states that were reached, those of them that are below a cost, the cells that can be reached at the next tick,
+-- the greatest f-value, whether a state of a greater one was left out, the index of the first state whose steps weren't
 -- followed yet, and the tick of those states
 pub record Sweeping : Type 0 where
   pub states : List State
@@ -49,16 +51,19 @@ pub record AreReached (task : Task) (bound : ℕ) (states : List State) : Type 0
 
 -- the agent arrives at none of these states before this tick
 abbrev pub AreQuietBefore : Task → ℕ → List State → Type 0
-AreQuietBefore task cost states = (tick : ℕ) → tick < cost → Contains states (state_at task.goal tick) → IsBarredLater task tick
+AreQuietBefore task cost states =
+    (tick : ℕ) → tick < cost → Contains states (state_at task.goal tick) → IsBarredLater task tick
 
 -- the agent arrives at none of these states
 abbrev pub AreQuiet : Task → List State → Type 0
 AreQuiet task states = (tick : ℕ) → Contains states (state_at task.goal tick) → IsBarredLater task tick
 
--- if the agent may go from the state to the cell, it was reached there or left out, or the goal can't be reached from it
+-- if the agent may go from the state to the cell, it was reached there or left out, or the goal can't be reached from
+-- it
 abbrev pub IsFollowed : Task → Sweeping → State → ℕ → Type 0
 IsFollowed task sweep from to = MayGo task.grid task.bars from.cell to from.tick →
-    Contains sweep.states (state_at to (from.tick + 1)) ⊎ (IsLeftOut task sweep.bound sweep.is_cut (state_at to (from.tick + 1)) ⊎ IsUnreachable task.grid task.goal to)
+    Contains sweep.states (state_at to (from.tick + 1))
+    ⊎ (IsLeftOut task sweep.bound sweep.is_cut (state_at to (from.tick + 1)) ⊎ IsUnreachable task.grid task.goal to)
 
 -- a sweep that has reached the states up to this tick: those from this index on are at the tick, and each step from
 -- those before was followed
@@ -87,7 +92,8 @@ pub record AreNext (task : Task) (tick : ℕ) (sweep : Sweeping) : Type 0 where
 -- can't be reached from it
 abbrev pub IsNoted : Task → Sweeping → State → ℕ → Type 0
 IsNoted task sweep from to = MayGo task.grid task.bars from.cell to from.tick →
-    HasNumber sweep.next_cells to ⊎ (IsLeftOut task sweep.bound sweep.is_cut (state_at to (from.tick + 1)) ⊎ IsUnreachable task.grid task.goal to)
+    HasNumber sweep.next_cells to ⊎ (IsLeftOut task sweep.bound sweep.is_cut (state_at to (from.tick + 1))
+    ⊎ IsUnreachable task.grid task.goal to)
 
 -- nothing changed but that more cells may be reached next, and more states may be left out
 pub record IsExtended (old new : Sweeping) : Type 0 where
@@ -112,14 +118,16 @@ pub record IsWhole (task : Task) (sweep : Sweeping) : Type 0 where
   pub followed : (s : State) → Contains sweep.states s → (to : ℕ) → IsFollowed task sweep s to
   pub cut : sweep.is_cut ≡ true → SomeIsPast task sweep.bound sweep.states
 
--- the agent arrives at this tick, from one of the states of a sweep, and not earlier. Each step from a state of a lesser
--- f-value leads to one of the states, or to a state of an f-value of at least this tick, or to a cell from which the goal
--- can't be reached
+-- the agent arrives at this tick, from one of the states of a sweep, and not earlier. Each step from a state of a
+-- lesser f-value leads to one of the states, or to a state of an f-value of at least this tick, or to a cell from which
+-- the goal can't be reached
 pub record MeetsGoal (task : Task) (cost : ℕ) (sweep : Sweeping) : Type 0 where
   pub reached : AreReached task sweep.bound sweep.states
   pub quiet : AreQuietBefore task cost sweep.states
-  pub followed : (s : State) → Contains sweep.states s → IsBelow task cost s → (to : ℕ) → MayGo task.grid task.bars s.cell to s.tick →
-      Contains sweep.states (state_at to (s.tick + 1)) ⊎ (IsFrom task cost (state_at to (s.tick + 1)) ⊎ IsUnreachable task.grid task.goal to)
+  pub followed : (s : State) → Contains sweep.states s → IsBelow task cost s → (to : ℕ) →
+      MayGo task.grid task.bars s.cell to s.tick →
+      Contains sweep.states (state_at to (s.tick + 1))
+      ⊎ (IsFrom task cost (state_at to (s.tick + 1)) ⊎ IsUnreachable task.grid task.goal to)
   pub arrival : IsStartOrEntered task sweep.states (state_at task.goal cost)
   pub is_value : IsValue task (state_at task.goal cost) cost
   pub rest : MayRestFrom task cost
@@ -131,7 +139,8 @@ pub record AreSwept (task : Task) (cost : ℕ) (states : List State) : Type 0 wh
   pub below : (s : State) → Contains states s → IsBelow task cost s
   pub entered : (s : State) → Contains states s → IsStartOrEntered task states s
   pub followed : (s : State) → Contains states s → (to : ℕ) → MayGo task.grid task.bars s.cell to s.tick →
-      Contains states (state_at to (s.tick + 1)) ⊎ (IsFrom task cost (state_at to (s.tick + 1)) ⊎ IsUnreachable task.grid task.goal to)
+      Contains states (state_at to (s.tick + 1))
+      ⊎ (IsFrom task cost (state_at to (s.tick + 1)) ⊎ IsUnreachable task.grid task.goal to)
   pub quiet : AreQuiet task states
   pub rising : AllPairs IsEarlier states
 

@@ -45,7 +45,8 @@ pub record IsValue (task : Task) (state : State) (value : ℕ) : Type 0 where
   pub few : distance < free_cell_count task.grid
   pub small : distance < most_cells
 
--- greater than each cost that a search tries: after its last constraint an agent needs fewer ticks than a grid has cells
+-- greater than each cost that a search tries: after its last constraint an agent needs fewer ticks than a grid has
+-- cells
 abbrev pub cost_bound : ℕ
 cost_bound = split_ticks + most_cells
 

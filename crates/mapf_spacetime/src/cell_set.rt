@@ -1,3 +1,4 @@
+//! The cells that a sweep reaches at its next tick, from which it takes them in rising order.
 ghost use Rattle.std.specs.Prelude.{◌≡◌, ◌≢◌, ◌*◌, ◌/◌, ◌<◌, ◌≤◌, ◌⊎◌, ◌↔◌, ℕ, length, slice_index};
 ghost use Rattle.std.specs.Prelude.{IfSome, IfNone, IsTrue, OnOk};
 ghost use Rattle.mapf_model.specs.Limits.{most_cells};
@@ -140,7 +141,7 @@ fn take_from(words: &mut [u64], place: u32) -> (u32, bool)
 {
     let word = words[place as usize];
     let bit = word.trailing_zeros();
-    let rest = word & !(1 << bit);
+    let rest = word & (word - 1);
     words[place as usize] = rest;
     (place * 64 + bit, rest != 0)
 }

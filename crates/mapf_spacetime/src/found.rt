@@ -1,3 +1,4 @@
+//! The result of the search for one agent. A node of the search over trees keeps it.
 use crate::labels::Labels;
 use mapf_model::Path;
 

@@ -1,3 +1,5 @@
+//! The states reached by rising f-value, once the sweep has ended without an arrival. The search for one agent goes on
+//! with them.
 ghost use Rattle.std.specs.Prelude.{◌≡◌, ◌↔◌, ◌+◌, ◌<◌, ◌≤◌, ◌^◌, ℕ, [], ◌∷◌, List, Some, length, take, false};
 ghost use Rattle.std.specs.Prelude.{IfOk, IfSome, IfNone, OnOk, IsTrue, Contains};
 ghost use Rattle.mapf_model.specs.Grid.{Step};
@@ -13,8 +15,8 @@ ghost use Rattle.mapf_spacetime.specs.Frontiers.{AreLowReached, IsAtGoal, IsExha
 ghost use Rattle.mapf_spacetime.specs.Frontiers.{Takes, raised, takes_left, with_later, with_next, with_open};
 ghost use Rattle.mapf_spacetime.specs.Frontiers.{with_reached};
 
-use crate::ground::Ground;
 use crate::reached::Reached;
+use crate::search_task::SearchTask;
 use crate::state::State;
 use crate::sweep::Sweep;
 use mapf_constraints::BarTable;
@@ -75,12 +77,14 @@ impl Frontier {
         }
     }
 
+    /// Returns the cost whose states are followed now.
     pub fn cost(&self) -> u32
         ensures { result ≡ self.now.cost }
     {
         self.cost
     }
 
+    /// Returns the states that were reached.
     pub fn reached(&self) -> &[State]
         ensures { result.now ≡ self.now.reached }
     {
@@ -158,20 +162,20 @@ impl Frontier {
     #[inline(always)]
     fn take<B: BarTable>(
         &mut self,
-        ground: &Ground<B>,
+        task: &SearchTask<B>,
         from: &State,
         to: Cell,
         is_barred: bool,
     ) -> Result<(), OutOfMemory>
         requires small { self.old.cost < most_path_cells }
         requires reached { Contains self.old.reached from.now }
-        requires within { IsWithin ground.now self.old.cost from.now }
-        requires low { AreLowReached ground.now from.now self.old }
-        requires free { is_barred ≡ false → (other : ℕ) → Step ground.now.grid from.now.cell other →
-            MayGo ground.now.grid ground.now.bars from.now.cell other from.now.tick }
-        requires wide { 0 < ground.now.grid.width }
-        requires beside { Contains (neighbourhood ground.now.grid.width from.now.cell) (Some to) }
-        ensures { OnOk result (Takes ground.now from.now to self.old self.new) }
+        requires within { IsWithin task.now self.old.cost from.now }
+        requires low { AreLowReached task.now from.now self.old }
+        requires free { is_barred ≡ false → (other : ℕ) → Step task.now.grid from.now.cell other →
+            MayGo task.now.grid task.now.bars from.now.cell other from.now.tick }
+        requires wide { 0 < task.now.grid.width }
+        requires beside { Contains (neighbourhood task.now.grid.width from.now.cell) (Some to) }
+        ensures { OnOk result (Takes task.now from.now to self.old self.new) }
     {
         let next = State {
             tick: from.tick + 1,
@@ -180,10 +184,10 @@ impl Frontier {
         if self.was_reached(&next) {
             return Ok(());
         }
-        let Some(value) = ground.value(&next) else {
+        let Some(value) = task.value(&next) else {
             return Ok(());
         };
-        if value < self.cost || !ground.lets_if(is_barred, from, to) {
+        if value < self.cost || !task.allows_if(is_barred, from, to) {
             return Ok(());
         }
         self.place(next, value)?;
@@ -191,19 +195,23 @@ impl Frontier {
     }
 
     // Takes each of the steps from a state.
-    fn take_all<B: BarTable>(&mut self, ground: &Ground<B>, from: &State) -> Result<(), OutOfMemory>
+    fn take_all<B: BarTable>(
+        &mut self,
+        task: &SearchTask<B>,
+        from: &State,
+    ) -> Result<(), OutOfMemory>
         requires small { self.old.cost < most_path_cells }
         requires reached { Contains self.old.reached from.now }
-        requires within { IsWithin ground.now self.old.cost from.now }
-        requires low { AreLowReached ground.now from.now self.old }
-        ensures frontier { (busy : List State) → IsFrontier ground.now (from.now ∷ busy) self.old →
-            OnOk result (IsFrontier ground.now busy self.new) }
+        requires within { IsWithin task.now self.old.cost from.now }
+        requires low { AreLowReached task.now from.now self.old }
+        ensures frontier { (busy : List State) → IsFrontier task.now (from.now ∷ busy) self.old →
+            OnOk result (IsFrontier task.now busy self.new) }
         ensures keeps { OnOk result (Keeps self.old self.new) }
     {
-        let is_barred = ground.may_bar(from.tick);
-        for place in ground.beside(from.cell) {
+        let is_barred = task.may_bar(from.tick);
+        for place in task.beside(from.cell) {
             if let Some(to) = place {
-                self.take(ground, from, to, is_barred)?;
+                self.take(task, from, to, is_barred)?;
             }
         }
         Ok(())
@@ -213,17 +221,17 @@ impl Frontier {
     /// of a greater f-value are taken. The sweep has other states afterwards, which mean nothing.
     pub fn begin_above<B: BarTable>(
         &mut self,
-        ground: &Ground<B>,
+        task: &SearchTask<B>,
         sweep: &mut Sweep,
         cost: u32,
     ) -> Result<(), OutOfMemory>
-        requires whole { IsWhole ground.now sweep.old }
+        requires whole { IsWhole task.now sweep.old }
         requires cost { cost ≡ sweep.old.bound + 1 }
         requires small { cost < cost_bound }
-        ensures frontier { OnOk result (IsFrontier ground.now [] self.new) }
+        ensures frontier { OnOk result (IsFrontier task.now [] self.new) }
         ensures cost { OnOk result (self.new.cost ≡ cost) }
     {
-        self.reached.begin_with(sweep, ground.cells() as usize)?;
+        self.reached.begin_with(sweep, task.cells() as usize)?;
         self.open_states.clear();
         self.next_states.clear();
         self.later_states.clear();
@@ -233,8 +241,8 @@ impl Frontier {
         let inner = cost.saturating_sub(2);
         for place in 0..self.below {
             let from = self.reached.states()[place];
-            if !ground.is_below(&from, inner) {
-                self.take_all(ground, &from)?;
+            if !task.is_below(&from, inner) {
+                self.take_all(task, &from)?;
             }
         }
         Ok(())
@@ -244,12 +252,12 @@ impl Frontier {
     /// arrives.
     pub fn expand<B: BarTable>(
         &mut self,
-        ground: &Ground<B>,
+        task: &SearchTask<B>,
         most: usize,
     ) -> Result<Expansion, OutOfMemory>
         requires small { self.old.cost < most_path_cells }
-        requires frontier { IsFrontier ground.now [] self.old }
-        ensures expanded { IfOk result (IsExpanded ground.now self.new) }
+        requires frontier { IsFrontier task.now [] self.old }
+        ensures expanded { IfOk result (IsExpanded task.now self.new) }
         ensures cost { OnOk result (self.new.cost ≡ self.old.cost) }
         ensures fewer { IfOk result (λ e. e ≡ Paused → takes_left self.new + most ≤ takes_left self.old) }
     {
@@ -257,11 +265,11 @@ impl Frontier {
             let Some(state) = self.take_open() else {
                 return Ok(Expansion::Done);
             };
-            if ground.is_arrival(&state) {
+            if task.is_arrival(&state) {
                 return Ok(Expansion::Arrives);
             }
             if self.reach(state)? {
-                self.take_all(ground, &state)?;
+                self.take_all(task, &state)?;
             }
         }
         Ok(Expansion::Paused)

@@ -1,9 +1,10 @@
-ghost use Rattle.std.specs.Prelude.{◌≡◌, ◌==◌, ◌&&◌, ◌<◌, ◌↔◌, [], Some, IsTrue, length, find, slice_get};
+//! Labels as a list of entries, as the call `search` returns them, for tests. Nodes of the constraint tree hold
+//! `StateLabels`.
+ghost use Rattle.std.specs.Prelude.{◌≡◌, ◌==◌, ◌&&◌, ◌<◌, ◌↔◌, [], Some, IsTrue, find};
 ghost use Rattle.mapf_model.specs.Labels.{IsLabel, entries_of};
 
 use mapf_distance::Distances;
 use mapf_model::{Cell, Entry, Label, Tick};
-use std::alloc::Global;
 use std::marker::Model;
 
 /// The entries of one agent, sorted by tick and then by the number of the cell. The label of a state without an entry
@@ -29,46 +30,18 @@ impl Labels {
         Labels { entries }
     }
 
-    /// Returns an empty list of entries.
-    pub fn none(alloc: Global) -> Labels
-        ensures { result ≡ [] }
-    {
-        Labels {
-            entries: Vec::new(alloc),
-        }
-    }
-
-    pub fn len(&self) -> usize
-        ensures { result ≡ length self.now }
-    {
-        self.entries.len()
-    }
-
+    /// Returns whether there are none.
     pub fn is_empty(&self) -> bool
         ensures { IsTrue result ↔ (self.now ≡ []) }
     {
         self.entries.is_empty()
     }
 
-    /// Returns the entry at this index.
-    pub fn entry(&self, place: usize) -> Entry
-        requires { place < length self.now }
-        ensures { slice_get self.now place ≡ Some result }
-    {
-        self.entries[place]
-    }
-
+    /// Returns the entries, in rising order.
     pub fn entries(&self) -> &[Entry]
         ensures { result.now ≡ self.now }
     {
         self.entries.as_slice()
-    }
-
-    /// Returns the entries, moved out of the labels.
-    pub fn into_entries(self) -> Vec<Entry>
-        ensures { result.items ≡ self }
-    {
-        self.entries
     }
 }
 
@@ -86,7 +59,7 @@ pub fn label_at(labels: &Labels, distances: &Distances, cell: Cell, tick: Tick) 
     }
 }
 
-/// Returns the first entry of the state.
+// Returns the first entry of the state.
 fn entry_at(entries: &[Entry], cell: Cell, tick: Tick) -> Option<Entry>
     ensures { result ≡ find (λ entry. (entry.cell == cell) && (entry.tick == tick)) entries.now }
 {

@@ -1,3 +1,4 @@
+//! The search for one agent above the bound of its sweep, cost by cost.
 ghost use Rattle.std.specs.Prelude.{◌≡◌, ◌<◌, ◌+◌, ℕ, [], IfOk, IfSome, IfNone, OnOk};
 ghost use Rattle.mapf_constraints.specs.BarSets.{AreBefore};
 ghost use Rattle.mapf_model.specs.Limits.{most_cells};
@@ -8,8 +9,8 @@ ghost use Rattle.mapf_spacetime.specs.Sweeps.{AreAll};
 ghost use Rattle.mapf_spacetime.specs.Task.{MayRestFrom, IsWithin, cost_bound, start_of};
 
 use crate::frontier::{Expansion, Frontier};
-use crate::ground::Ground;
 use crate::path_search::{PathSearch, SearchEnd, least_walk};
+use crate::search_task::SearchTask;
 use crate::turns::{FREE_FAILURES, NARROW};
 use mapf_constraints::BarTable;
 use mapf_model::limits::MOST_CELLS;
@@ -27,22 +28,22 @@ const STATES_PER_FAILURE: usize = 16;
 pub fn by_levels<B: BarTable>(
     alloc: Global,
     frontier: &mut Frontier,
-    ground: &Ground<B>,
+    task: &SearchTask<B>,
 ) -> Result<Option<Vec<Cell>>, OutOfMemory>
-    requires frontier { IsFrontier ground.now [] frontier.old }
-    requires within { IsWithin ground.now frontier.old.cost (start_of ground.now) }
-    requires rest { MayRestFrom ground.now frontier.old.cost }
-    requires limit { IsBelowLimit ground.now frontier.old.cost }
-    requires small { (last : ℕ) → AreBefore last ground.now.bars → frontier.old.cost < last + most_cells }
-    ensures arrives { IfOk result (λ found. IfSome found (λ cells. IsArrivalAt ground.now frontier.new cells.items)) }
-    ensures all { IfOk result (λ found. IfNone found (AreAll ground.now frontier.new.cost frontier.new.reached)) }
-    ensures limit { OnOk result (IsBelowLimit ground.now frontier.new.cost) }
+    requires frontier { IsFrontier task.now [] frontier.old }
+    requires within { IsWithin task.now frontier.old.cost (start_of task.now) }
+    requires rest { MayRestFrom task.now frontier.old.cost }
+    requires limit { IsBelowLimit task.now frontier.old.cost }
+    requires small { (last : ℕ) → AreBefore last task.now.bars → frontier.old.cost < last + most_cells }
+    ensures arrives { IfOk result (λ found. IfSome found (λ cells. IsArrivalAt task.now frontier.new cells.items)) }
+    ensures all { IfOk result (λ found. IfNone found (AreAll task.now frontier.new.cost frontier.new.reached)) }
+    ensures limit { OnOk result (IsBelowLimit task.now frontier.new.cost) }
     ensures small { OnOk result (frontier.new.cost < cost_bound) }
 {
-    let horizon = ground.horizon();
+    let horizon = task.horizon();
     let mut cost = frontier.cost();
     loop {
-        if let Some(cells) = level(alloc, frontier, ground)? {
+        if let Some(cells) = level(alloc, frontier, task)? {
             frontier.keep_low();
             return Ok(Some(cells));
         }
@@ -60,21 +61,21 @@ pub fn by_levels<B: BarTable>(
 fn level<B: BarTable>(
     alloc: Global,
     frontier: &mut Frontier,
-    ground: &Ground<B>,
+    task: &SearchTask<B>,
 ) -> Result<Option<Vec<Cell>>, OutOfMemory>
-    requires frontier { IsFrontier ground.now [] frontier.old }
-    requires within { IsWithin ground.now frontier.old.cost (start_of ground.now) }
-    requires rest { MayRestFrom ground.now frontier.old.cost }
+    requires frontier { IsFrontier task.now [] frontier.old }
+    requires within { IsWithin task.now frontier.old.cost (start_of task.now) }
+    requires rest { MayRestFrom task.now frontier.old.cost }
     requires small { frontier.old.cost < cost_bound }
-    ensures arrives { IfOk result (λ found. IfSome found (λ cells. IsWalkTo ground.now frontier.new cells.items)) }
-    ensures done { IfOk result (λ found. IfNone found (IsLevelDone ground.now frontier.new)) }
+    ensures arrives { IfOk result (λ found. IfSome found (λ cells. IsWalkTo task.now frontier.new cells.items)) }
+    ensures done { IfOk result (λ found. IfNone found (IsLevelDone task.now frontier.new)) }
     ensures cost { OnOk result (frontier.new.cost ≡ frontier.old.cost) }
 {
     let cost = frontier.cost();
-    match frontier.expand(ground, NARROW * cost as usize)? {
-        Expansion::Arrives => Ok(Some(least_walk(alloc, ground, cost)?)),
+    match frontier.expand(task, NARROW * cost as usize)? {
+        Expansion::Arrives => Ok(Some(least_walk(alloc, task, cost)?)),
         Expansion::Done => Ok(None),
-        Expansion::Paused => wide_level(alloc, frontier, ground),
+        Expansion::Paused => wide_level(alloc, frontier, task),
     }
 }
 
@@ -82,25 +83,25 @@ fn level<B: BarTable>(
 fn wide_level<B: BarTable>(
     alloc: Global,
     frontier: &mut Frontier,
-    ground: &Ground<B>,
+    task: &SearchTask<B>,
 ) -> Result<Option<Vec<Cell>>, OutOfMemory>
-    requires frontier { IsFrontier ground.now [] frontier.old }
-    requires within { IsWithin ground.now frontier.old.cost (start_of ground.now) }
-    requires rest { MayRestFrom ground.now frontier.old.cost }
+    requires frontier { IsFrontier task.now [] frontier.old }
+    requires within { IsWithin task.now frontier.old.cost (start_of task.now) }
+    requires rest { MayRestFrom task.now frontier.old.cost }
     requires small { frontier.old.cost < cost_bound }
-    ensures arrives { IfOk result (λ found. IfSome found (λ cells. IsWalkTo ground.now frontier.new cells.items)) }
-    ensures done { IfOk result (λ found. IfNone found (IsLevelDone ground.now frontier.new)) }
+    ensures arrives { IfOk result (λ found. IfSome found (λ cells. IsWalkTo task.now frontier.new cells.items)) }
+    ensures done { IfOk result (λ found. IfNone found (IsLevelDone task.now frontier.new)) }
     ensures cost { OnOk result (frontier.new.cost ≡ frontier.old.cost) }
 {
     let cost = frontier.cost();
-    let mut walk = PathSearch::of(alloc, ground.start(), cost)?;
+    let mut walk = PathSearch::of(alloc, task.start(), cost)?;
     let mut most_failures = FREE_FAILURES;
     loop {
-        if let SearchEnd::AtGoal = walk.search(ground, cost, most_failures)? {
+        if let SearchEnd::AtGoal = walk.search(task, cost, most_failures)? {
             return Ok(Some(walk.into_cells()));
         }
-        match frontier.expand(ground, FAILURES * STATES_PER_FAILURE)? {
-            Expansion::Arrives => return Ok(Some(walk.finish(ground, cost)?)),
+        match frontier.expand(task, FAILURES * STATES_PER_FAILURE)? {
+            Expansion::Arrives => return Ok(Some(walk.finish(task, cost)?)),
             Expansion::Done => return Ok(None),
             Expansion::Paused => {}
         }

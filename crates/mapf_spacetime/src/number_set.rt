@@ -1,3 +1,4 @@
+//! A set of numbers from which the least is taken, for `CellSet`.
 ghost use Rattle.std.specs.Prelude.{[], ◌≡◌, ◌≢◌, ◌*◌, ◌<◌, ◌≤◌, ◌⊎◌, ℕ, length, IfSome, IfNone, OnOk};
 ghost use Rattle.mapf_model.specs.Limits.{most_cells};
 ghost use Rattle.mapf_spacetime.specs.CellSets.{HasNumber, HasNone};
@@ -109,7 +110,7 @@ impl NumberSet {
             let word = self.words[self.first];
             if word != 0 {
                 let bit = word.trailing_zeros();
-                self.words[self.first] = word & !(1 << bit);
+                self.words[self.first] = word & (word - 1);
                 return Some(self.first as u32 * 64 + bit);
             }
             self.first += 1;

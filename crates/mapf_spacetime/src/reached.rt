@@ -1,3 +1,4 @@
+//! Which states the frontier has reached, so that it reaches none twice.
 ghost use Rattle.std.specs.Prelude.{◌≡◌, ◌<◌, ◌≤◌, ◌↔◌, ◌^◌, ◌++◌, ◌∷◌, [], false, length, take, IsTrue, IfOk, OnOk};
 ghost use Rattle.std.specs.Prelude.{AllPairs, Contains};
 ghost use Rattle.mapf_model.specs.Limits.{most_path_cells};
@@ -83,12 +84,14 @@ impl Reached {
         self.states.dedup();
     }
 
+    /// Returns how many states were reached.
     pub fn len(&self) -> usize
         ensures { result ≡ length self.now }
     {
         self.states.len()
     }
 
+    /// Returns the states that were reached, in their order.
     pub fn states(&self) -> &[State]
         ensures { result.now ≡ self.now }
     {
@@ -107,7 +110,7 @@ impl Reached {
         }
     }
 
-    /// Enters the tick at which a cell was reached.
+    // Enters the tick at which a cell was reached.
     #[inline(always)]
     fn note(&mut self, cell: Cell, tick: Tick)
         requires small { tick ≤ most_path_cells }

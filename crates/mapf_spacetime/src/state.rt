@@ -1,3 +1,4 @@
+//! The states that the search for one agent reaches.
 use mapf_model::{Cell, Tick};
 
 /// A cell at a tick.

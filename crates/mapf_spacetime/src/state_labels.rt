@@ -1,3 +1,5 @@
+//! The labels that the search for one agent finds. Nodes of the constraint tree hold them until the certificate is
+//! written.
 ghost use Rattle.std.specs.Prelude.{◌≡◌, ◌<◌, ◌↔◌, ◌^◌, [], Some, AllPairs, IfOk, IsTrue, length, map, slice_get};
 ghost use Rattle.mapf_spacetime.specs.Listed.{AreEntriesOf, entry_for};
 ghost use Rattle.mapf_spacetime.specs.Sweeps.{IsEarlier};
@@ -61,6 +63,7 @@ impl StateLabels {
         self.states.len()
     }
 
+    /// Returns whether there are none.
     pub fn is_empty(&self) -> bool
         ensures { IsTrue result ↔ (self.now ≡ []) }
     {

@@ -1,3 +1,4 @@
+//! The states from which the search for a walk had to backtrack.
 ghost use Rattle.std.specs.Prelude.{◌≡◌, ◌<◌, ◌↔◌, ◌^◌, ◌++◌, ◌∷◌, [], length, IsTrue, OnOk, Contains};
 
 use crate::state::State;
@@ -37,6 +38,7 @@ impl Model for StateSet {
 }
 
 impl StateSet {
+    /// Returns a set without states.
     pub fn new(alloc: Global) -> StateSet
         ensures { result ≡ [] }
     {
@@ -53,12 +55,14 @@ impl StateSet {
         }
     }
 
+    /// Returns the number of states.
     pub fn len(&self) -> usize
         ensures { result ≡ length self.now }
     {
         self.count + self.more.len()
     }
 
+    /// Returns whether the state is in the set.
     #[inline(always)]
     pub fn has(&self, state: &State) -> bool
         ensures { IsTrue result ↔ Contains self.now state.now }

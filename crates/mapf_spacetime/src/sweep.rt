@@ -1,3 +1,5 @@
+//! Which states an agent can reach up to a bound on its cost, tick by tick. The search for one agent calls it, and goes
+//! on with the frontier above the bound.
 ghost use Rattle.std.specs.Prelude.{◌≡◌, ◌+◌, ◌*◌, ◌++◌, ◌∷◌, ◌<◌, ◌≤◌, ◌↔◌, ℕ, [], List, Some, false};
 ghost use Rattle.std.specs.Prelude.{Contains, IfOk, IfSome, IfNone, IsTrue, OnOk, length, slice_index_or};
 ghost use Rattle.mapf_model.specs.Grid.{IsGridMap, Step};
@@ -13,7 +15,7 @@ ghost use Rattle.mapf_spacetime.specs.Task.{start_of};
 ghost use Rattle.mapf_spacetime.specs.declared.state.State.{State};
 
 use crate::cell_set::CellSet;
-use crate::ground::Ground;
+use crate::search_task::SearchTask;
 use crate::state::State;
 use mapf_constraints::BarTable;
 use mapf_model::{Cell, OutOfMemory, Tick};
@@ -119,29 +121,29 @@ impl Sweep {
 
     // Notes the cell to which a step leads, unless the step is forbidden, or the f-value is above the bound.
     #[inline(always)]
-    fn note<B: BarTable>(&mut self, ground: &Ground<B>, from: &State, to: Cell, is_barred: bool)
+    fn note<B: BarTable>(&mut self, task: &SearchTask<B>, from: &State, to: Cell, is_barred: bool)
         requires small { from.now.tick < most_path_cells }
-        requires next { AreNext ground.now from.now.tick self.old }
+        requires next { AreNext task.now from.now.tick self.old }
         requires reached { Contains self.old.states from.now }
-        requires within { IsWithin ground.now self.old.bound from.now }
-        requires free { is_barred ≡ false → (other : ℕ) → Step ground.now.grid from.now.cell other →
-            MayGo ground.now.grid ground.now.bars from.now.cell other from.now.tick }
-        requires wide { 0 < ground.now.grid.width }
-        requires beside { Contains (neighbourhood ground.now.grid.width from.now.cell) (Some to) }
-        requires shape { IsGridMap ground.now.grid }
-        requires room { ground.now.grid.width * ground.now.grid.height ≤ 64 * length self.old.next_cells }
-        ensures next { AreNext ground.now from.now.tick self.new }
+        requires within { IsWithin task.now self.old.bound from.now }
+        requires free { is_barred ≡ false → (other : ℕ) → Step task.now.grid from.now.cell other →
+            MayGo task.now.grid task.now.bars from.now.cell other from.now.tick }
+        requires wide { 0 < task.now.grid.width }
+        requires beside { Contains (neighbourhood task.now.grid.width from.now.cell) (Some to) }
+        requires shape { IsGridMap task.now.grid }
+        requires room { task.now.grid.width * task.now.grid.height ≤ 64 * length self.old.next_cells }
+        ensures next { AreNext task.now from.now.tick self.new }
         ensures extended { IsExtended self.old self.new }
-        ensures noted { IsNoted ground.now self.new from.now to }
+        ensures noted { IsNoted task.now self.new from.now to }
     {
         let next = State {
             tick: from.tick + 1,
             cell: to,
         };
-        let Some(value) = ground.value(&next) else {
+        let Some(value) = task.value(&next) else {
             return;
         };
-        if !ground.lets_if(is_barred, from, to) {
+        if !task.allows_if(is_barred, from, to) {
             return;
         }
         if value <= self.bound {
@@ -153,42 +155,42 @@ impl Sweep {
 
     // Follows each of the steps from the state.
     #[inline(always)]
-    fn follow<B: BarTable>(&mut self, ground: &Ground<B>, from: &State, is_barred: bool)
+    fn follow<B: BarTable>(&mut self, task: &SearchTask<B>, from: &State, is_barred: bool)
         requires small { from.now.tick < most_path_cells }
-        requires next { AreNext ground.now from.now.tick self.old }
+        requires next { AreNext task.now from.now.tick self.old }
         requires reached { Contains self.old.states from.now }
-        requires within { IsWithin ground.now self.old.bound from.now }
-        requires free { is_barred ≡ false → (other : ℕ) → Step ground.now.grid from.now.cell other →
-            MayGo ground.now.grid ground.now.bars from.now.cell other from.now.tick }
-        requires shape { IsGridMap ground.now.grid }
-        requires room { ground.now.grid.width * ground.now.grid.height ≤ 64 * length self.old.next_cells }
-        ensures next { AreNext ground.now from.now.tick self.new }
+        requires within { IsWithin task.now self.old.bound from.now }
+        requires free { is_barred ≡ false → (other : ℕ) → Step task.now.grid from.now.cell other →
+            MayGo task.now.grid task.now.bars from.now.cell other from.now.tick }
+        requires shape { IsGridMap task.now.grid }
+        requires room { task.now.grid.width * task.now.grid.height ≤ 64 * length self.old.next_cells }
+        ensures next { AreNext task.now from.now.tick self.new }
         ensures extended { IsExtended self.old self.new }
-        ensures noted { (to : ℕ) → IsNoted ground.now self.new from.now to }
+        ensures noted { (to : ℕ) → IsNoted task.now self.new from.now to }
     {
-        for place in ground.beside(from.cell) {
+        for place in task.beside(from.cell) {
             if let Some(to) = place {
-                self.note(ground, from, to, is_barred);
+                self.note(task, from, to, is_barred);
             }
         }
     }
 
     // Follows each step from the states of the tick.
-    fn follow_tick<B: BarTable>(&mut self, ground: &Ground<B>)
+    fn follow_tick<B: BarTable>(&mut self, task: &SearchTask<B>)
         requires small { self.old.tick < most_path_cells }
-        requires sweep { IsSweep ground.now self.old.tick self.old.first self.old }
+        requires sweep { IsSweep task.now self.old.tick self.old.first self.old }
         requires none { HasNone self.old.next_cells }
-        requires shape { IsGridMap ground.now.grid }
-        requires room { ground.now.grid.width * ground.now.grid.height ≤ 64 * length self.old.next_cells }
-        ensures next { AreNext ground.now self.old.tick self.new }
+        requires shape { IsGridMap task.now.grid }
+        requires room { task.now.grid.width * task.now.grid.height ≤ 64 * length self.old.next_cells }
+        ensures next { AreNext task.now self.old.tick self.new }
         ensures extended { IsExtended self.old self.new }
         ensures noted { (k : ℕ) → self.old.first ≤ k → k < length self.old.states → (to : ℕ) →
-            IsNoted ground.now self.new (slice_index_or self.old.states k (start_of ground.now)) to }
+            IsNoted task.now self.new (slice_index_or self.old.states k (start_of task.now)) to }
     {
-        let is_barred = ground.may_bar(self.tick);
+        let is_barred = task.may_bar(self.tick);
         for place in self.first..self.states.len() {
             let from = self.states[place];
-            self.follow(ground, &from, is_barred);
+            self.follow(task, &from, is_barred);
         }
     }
 
@@ -211,34 +213,34 @@ impl Sweep {
     }
 
     // Returns whether the goal is one of the next cells, and the agent may rest there from the tick on.
-    fn arrives<B: BarTable>(&self, ground: &Ground<B>) -> bool
-        ensures goal { IsTrue result → HasNumber self.now.next_cells ground.now.goal }
-        ensures rest { IsTrue result → MayRestFrom ground.now self.now.tick }
-        ensures no { result ≡ false → HasNumber self.now.next_cells ground.now.goal →
-            IsBarredLater ground.now self.now.tick }
+    fn arrives<B: BarTable>(&self, task: &SearchTask<B>) -> bool
+        ensures goal { IsTrue result → HasNumber self.now.next_cells task.now.goal }
+        ensures rest { IsTrue result → MayRestFrom task.now self.now.tick }
+        ensures no { result ≡ false → HasNumber self.now.next_cells task.now.goal →
+            IsBarredLater task.now self.now.tick }
     {
-        self.next_cells.has(ground.goal()) && ground.may_rest_from(self.tick)
+        self.next_cells.has(task.goal()) && task.may_rest_from(self.tick)
     }
 
     /// Begins with the start, and leaves out states of an f-value above the bound. Returns whether the agent is at its
     /// goal and may stay.
     pub fn begin<B: BarTable>(
         &mut self,
-        ground: &Ground<B>,
+        task: &SearchTask<B>,
         bound: u32,
     ) -> Result<bool, OutOfMemory>
-        requires shape { IsGridMap ground.now.grid }
-        requires within { IsWithin ground.now bound (start_of ground.now) }
-        ensures arrives { IfOk result (λ arrives. IsTrue arrives → MeetsGoal ground.now self.new.tick self.new) }
-        ensures goes { IfOk result (λ arrives. arrives ≡ false → IsUnderWay ground.now self.new) }
+        requires shape { IsGridMap task.now.grid }
+        requires within { IsWithin task.now bound (start_of task.now) }
+        ensures arrives { IfOk result (λ arrives. IsTrue arrives → MeetsGoal task.now self.new.tick self.new) }
+        ensures goes { IfOk result (λ arrives. arrives ≡ false → IsUnderWay task.now self.new) }
         ensures bound { OnOk result (self.new.bound ≡ bound) }
     {
         let start = State {
             tick: 0,
-            cell: ground.start(),
+            cell: task.start(),
         };
-        self.clear(start, bound, ground.cells())?;
-        Ok(ground.is_arrival(&start))
+        self.clear(start, bound, task.cells())?;
+        Ok(task.is_arrival(&start))
     }
 
     /// Returns whether no state is at the tick. Then all states up to the bound were reached.
@@ -249,20 +251,20 @@ impl Sweep {
     }
 
     /// Goes to the next tick. Returns whether the agent arrives then.
-    pub fn advance<B: BarTable>(&mut self, ground: &Ground<B>) -> Result<bool, OutOfMemory>
+    pub fn advance<B: BarTable>(&mut self, task: &SearchTask<B>) -> Result<bool, OutOfMemory>
         requires small { self.old.bound < cost_bound }
-        requires shape { IsGridMap ground.now.grid }
-        requires goes { IsUnderWay ground.now self.old }
+        requires shape { IsGridMap task.now.grid }
+        requires goes { IsUnderWay task.now self.old }
         requires some { self.old.first < length self.old.states }
-        ensures arrives { IfOk result (λ arrives. IsTrue arrives → MeetsGoal ground.now self.new.tick self.new) }
-        ensures goes { IfOk result (λ arrives. arrives ≡ false → IsUnderWay ground.now self.new) }
+        ensures arrives { IfOk result (λ arrives. IsTrue arrives → MeetsGoal task.now self.new.tick self.new) }
+        ensures goes { IfOk result (λ arrives. arrives ≡ false → IsUnderWay task.now self.new) }
         ensures bound { OnOk result (self.new.bound ≡ self.old.bound) }
         ensures tick { OnOk result (self.new.tick ≡ self.old.tick + 1) }
     {
         let end = self.states.len();
-        self.follow_tick(ground);
+        self.follow_tick(task);
         self.tick += 1;
-        if self.arrives(ground) {
+        if self.arrives(task) {
             return Ok(true);
         }
         self.reach()?;
@@ -271,30 +273,34 @@ impl Sweep {
     }
 
     /// Keeps the states whose f-value is below the tick at which the agent arrives. Returns that tick.
-    pub fn keep_low<B: BarTable>(&mut self, ground: &Ground<B>) -> Result<Tick, OutOfMemory>
+    pub fn keep_low<B: BarTable>(&mut self, task: &SearchTask<B>) -> Result<Tick, OutOfMemory>
         requires small { self.old.bound < cost_bound }
-        requires meets { MeetsGoal ground.now self.old.tick self.old }
-        ensures arrives { IfOk result (λ cost. HasArrived ground.now cost self.new.low) }
-        ensures limit { IfOk result (IsBelowLimit ground.now) }
+        requires meets { MeetsGoal task.now self.old.tick self.old }
+        ensures arrives { IfOk result (λ cost. HasArrived task.now cost self.new.low) }
+        ensures limit { IfOk result (IsBelowLimit task.now) }
         ensures early { IfOk result (λ cost. cost ≤ self.old.bound) }
     {
         let cost = self.tick;
-        self.keep_below(ground, cost)?;
+        self.keep_below(task, cost)?;
         Ok(cost)
     }
 
     // Keeps the states whose f-value is below the cost.
-    fn keep_below<B: BarTable>(&mut self, ground: &Ground<B>, cost: u32) -> Result<(), OutOfMemory>
+    fn keep_below<B: BarTable>(
+        &mut self,
+        task: &SearchTask<B>,
+        cost: u32,
+    ) -> Result<(), OutOfMemory>
         requires small { self.old.bound < cost_bound }
-        requires meets { MeetsGoal ground.now cost self.old }
-        ensures swept { OnOk result (AreSwept ground.now cost self.new.low) }
-        ensures kept { OnOk result ((state : State) → Contains self.old.states state → IsBelow ground.now cost state →
+        requires meets { MeetsGoal task.now cost self.old }
+        ensures swept { OnOk result (AreSwept task.now cost self.new.low) }
+        ensures kept { OnOk result ((state : State) → Contains self.old.states state → IsBelow task.now cost state →
             Contains self.new.low state) }
     {
         self.low.clear();
         for place in 0..self.states.len() {
             let state = self.states[place];
-            if ground.is_below(&state, cost) {
+            if task.is_below(&state, cost) {
                 self.low.push(state)?;
             }
         }
@@ -312,24 +318,24 @@ impl Sweep {
     /// the states below it; None if it doesn't arrive up to the bound.
     pub fn arrival<B: BarTable>(
         &mut self,
-        ground: &Ground<B>,
+        task: &SearchTask<B>,
         bound: u32,
     ) -> Result<Option<Tick>, OutOfMemory>
         requires small { bound < cost_bound }
-        requires shape { IsGridMap ground.now.grid }
-        requires within { IsWithin ground.now bound (start_of ground.now) }
-        ensures arrives { IfOk result (λ found. IfSome found (λ cost. HasArrived ground.now cost self.new.low)) }
-        ensures limit { IfOk result (λ found. IfSome found (IsBelowLimit ground.now)) }
+        requires shape { IsGridMap task.now.grid }
+        requires within { IsWithin task.now bound (start_of task.now) }
+        ensures arrives { IfOk result (λ found. IfSome found (λ cost. HasArrived task.now cost self.new.low)) }
+        ensures limit { IfOk result (λ found. IfSome found (IsBelowLimit task.now)) }
         ensures early { IfOk result (λ found. IfSome found (λ cost. cost ≤ bound)) }
-        ensures whole { IfOk result (λ found. IfNone found (IsWhole ground.now self.new)) }
+        ensures whole { IfOk result (λ found. IfNone found (IsWhole task.now self.new)) }
         ensures bound { IfOk result (λ found. IfNone found (self.new.bound ≡ bound)) }
     {
-        let mut arrives = self.begin(ground, bound)?;
+        let mut arrives = self.begin(task, bound)?;
         while !arrives && !self.is_over() {
-            arrives = self.advance(ground)?;
+            arrives = self.advance(task)?;
         }
         if arrives {
-            return Ok(Some(self.keep_low(ground)?));
+            return Ok(Some(self.keep_low(task)?));
         }
         Ok(None)
     }

@@ -1,11 +1,12 @@
+//! How the search for one agent begins: a walk and a sweep up to one bound take turns.
 ghost use Rattle.std.specs.Prelude.{◌<◌, ◌≤◌, IfOk};
 ghost use Rattle.mapf_model.specs.Grid.{IsGridMap};
 ghost use Rattle.mapf_spacetime.specs.PathSearch.{CanArrive, IsSearching, IsWholeWalk};
 ghost use Rattle.mapf_spacetime.specs.Task.{IsWithin, cost_bound, start_of};
 ghost use Rattle.mapf_spacetime.specs.UpToBound.{IsUpTo};
 
-use crate::ground::Ground;
 use crate::path_search::{PathSearch, SearchEnd, least_walk};
+use crate::search_task::SearchTask;
 use crate::sweep::Sweep;
 use mapf_constraints::BarTable;
 use mapf_model::{Cell, OutOfMemory, Tick};
@@ -35,40 +36,40 @@ pub enum UpToBound {
 pub fn by_turns<B: BarTable>(
     alloc: Global,
     sweep: &mut Sweep,
-    ground: &Ground<B>,
+    task: &SearchTask<B>,
     bound: u32,
     states_per_failure: usize,
 ) -> Result<UpToBound, OutOfMemory>
     requires small { bound < cost_bound }
-    requires shape { IsGridMap ground.now.grid }
-    requires within { IsWithin ground.now bound (start_of ground.now) }
+    requires shape { IsGridMap task.now.grid }
+    requires within { IsWithin task.now bound (start_of task.now) }
     requires some { 0 < states_per_failure }
-    ensures { IfOk result (IsUpTo ground.now bound sweep.new) }
+    ensures { IfOk result (IsUpTo task.now bound sweep.new) }
 {
-    let mut walk = PathSearch::of(alloc, ground.start(), bound)?;
+    let mut walk = PathSearch::of(alloc, task.start(), bound)?;
     // From how many states the walk was allowed to backtrack; from any number once it has nowhere to go.
     let mut allowed = FREE_FAILURES;
-    match walk.search(ground, bound, allowed)? {
+    match walk.search(task, bound, allowed)? {
         SearchEnd::AtGoal => return Ok(UpToBound::Walked(walk.into_cells())),
         SearchEnd::Paused => {}
         SearchEnd::NoWay => allowed = usize::MAX,
     }
-    let mut arrives = sweep.begin(ground, bound)?;
+    let mut arrives = sweep.begin(task, bound)?;
     while !arrives && !sweep.is_over() {
-        let most_failures = most_failures(sweep, ground.horizon(), states_per_failure);
+        let most_failures = most_failures(sweep, task.horizon(), states_per_failure);
         if most_failures > allowed {
             allowed = most_failures;
-            match walk.search(ground, bound, most_failures)? {
+            match walk.search(task, bound, most_failures)? {
                 SearchEnd::AtGoal => return Ok(UpToBound::Walked(walk.into_cells())),
                 SearchEnd::Paused => {}
                 SearchEnd::NoWay => allowed = usize::MAX,
             }
         }
-        arrives = sweep.advance(ground)?;
+        arrives = sweep.advance(task)?;
     }
     if arrives {
-        let cost = sweep.keep_low(ground)?;
-        let cells = least_walk_after(alloc, ground, walk, bound, cost)?;
+        let cost = sweep.keep_low(task)?;
+        let cells = least_walk_after(alloc, task, walk, bound, cost)?;
         return Ok(UpToBound::Arrived { cost, cells });
     }
     Ok(UpToBound::Swept)
@@ -77,22 +78,22 @@ pub fn by_turns<B: BarTable>(
 // Returns the least walk of the cost, for which the search of a walk of the bound goes on if both are equal.
 fn least_walk_after<B: BarTable>(
     alloc: Global,
-    ground: &Ground<B>,
+    task: &SearchTask<B>,
     walk: PathSearch,
     bound: u32,
     cost: u32,
 ) -> Result<Vec<Cell>, OutOfMemory>
     requires small { bound < cost_bound }
     requires early { cost ≤ bound }
-    requires searching { IsSearching ground.now bound walk }
-    requires arrives { CanArrive ground.now cost (start_of ground.now) }
-    requires within { IsWithin ground.now cost (start_of ground.now) }
-    ensures { IfOk result (λ cells. IsWholeWalk ground.now cost cells.items) }
+    requires searching { IsSearching task.now bound walk }
+    requires arrives { CanArrive task.now cost (start_of task.now) }
+    requires within { IsWithin task.now cost (start_of task.now) }
+    ensures { IfOk result (λ cells. IsWholeWalk task.now cost cells.items) }
 {
     if cost == bound {
-        return walk.finish(ground, cost);
+        return walk.finish(task, cost);
     }
-    least_walk(alloc, ground, cost)
+    least_walk(alloc, task, cost)
 }
 
 // Returns from how many states the walk may backtrack in all, given what the sweep has reached.

@@ -1,3 +1,4 @@
+//! The memory that a search for one agent leaves to the next. The search over trees keeps it.
 use crate::frontier::Frontier;
 use crate::sweep::Sweep;
 use std::alloc::Global;

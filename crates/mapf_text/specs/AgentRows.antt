@@ -55,7 +55,8 @@ pub record SpellsAgent (grid : GridMap) (words : List (List ℕ)) (agent : Agent
 -- the fields that have to be numbers, each with its place in the row, counted from 1
 abbrev pub numbered : List (List ℕ) → List (ℕ × List ℕ)
 numbered words =
-    (1, field words 1) ∷ (3, field words 3) ∷ (4, field words 4) ∷ (5, field words 5) ∷ (6, field words 6) ∷ (7, field words 7) ∷ (8, field words 8) ∷ []
+    (1, field words 1) ∷ (3, field words 3) ∷ (4, field words 4) ∷ (5, field words 5) ∷ (6, field words 6)
+    ∷ (7, field words 7) ∷ (8, field words 8) ∷ []
 
 -- the first of these words that isn't a number has this place
 abbrev pub IsFirstNoNumber : List (ℕ × List ℕ) → ℕ → Type 0
@@ -68,9 +69,12 @@ abbrev pub HasRowFault : GridMap → List (List ℕ) → ℕ → ScenFault → T
 HasRowFault grid words row (S2 at) = (at ≡ row) × (length words ≢ 9)
 HasRowFault grid words row (S3 at place) = (at ≡ row) × (length words ≡ 9) × IsFirstNoNumber (numbered words) place
 HasRowFault grid words row (S4 at) =
-    (at ≡ row) × ((numbers : Numbers) × HasNumbers words numbers × ((numbers.width ≢ grid.width) ⊎ (numbers.height ≢ grid.height)))
+    (at ≡ row) × ((numbers : Numbers) × HasNumbers words numbers
+    × ((numbers.width ≢ grid.width) ⊎ (numbers.height ≢ grid.height)))
 HasRowFault grid words row (S5 at) =
     (at ≡ row) × ((numbers : Numbers) × HasSize grid words numbers
-    × (((cell : ℕ) → IsCellAt grid numbers.start_x numbers.start_y cell → ⊥) ⊎ ((cell : ℕ) → IsCellAt grid numbers.goal_x numbers.goal_y cell → ⊥)))
-HasRowFault grid words row (S6 at) = (at ≡ row) × ((agent : Agent) × HasFreeCells grid words agent × (IsDecimal (field words 9) → ⊥))
+    × (((cell : ℕ) → IsCellAt grid numbers.start_x numbers.start_y cell → ⊥)
+    ⊎ ((cell : ℕ) → IsCellAt grid numbers.goal_x numbers.goal_y cell → ⊥)))
+HasRowFault grid words row (S6 at) =
+    (at ≡ row) × ((agent : Agent) × HasFreeCells grid words agent × (IsDecimal (field words 9) → ⊥))
 HasRowFault grid words row _ = ⊥

@@ -1,5 +1,6 @@
 -- Decimal text: an optional sign and digits, optionally a point and digits, optionally an exponent.
-use Rattle.std.specs.Prelude.{◌≡◌, ◌⊎◌, ℕ, ◌==◌, ◌||◌, List, [], ◌∷◌, ◌++◌, Option, Some, None, codes, option_and_then, if◌then◌else◌}
+use Rattle.std.specs.Prelude.{◌≡◌, ◌⊎◌, ℕ, ◌==◌, ◌||◌, List, [], ◌∷◌, ◌++◌, Option, Some, None, codes, option_and_then}
+use Rattle.std.specs.Prelude.{if◌then◌else◌}
 use Rattle.std.specs.Char.{is_ascii_digit}
 use Rattle.mapf_text.specs.Numbers.{AreDigits}
 
@@ -14,7 +15,8 @@ IsFraction part = (part ≡ []) ⊎ ((digits : List ℕ) × (part ≡ codes "." 
 -- nothing, or `e` or `E`, an optional sign and digits
 abbrev pub IsExponent : List ℕ → Type 0
 IsExponent part =
-    (part ≡ []) ⊎ ((sign digits : List ℕ) × ((part ≡ codes "e" ++ (sign ++ digits)) ⊎ (part ≡ codes "E" ++ (sign ++ digits))) × IsSign sign × AreDigits digits)
+    (part ≡ []) ⊎ ((sign digits : List ℕ) × ((part ≡ codes "e" ++ (sign ++ digits))
+    ⊎ (part ≡ codes "E" ++ (sign ++ digits))) × IsSign sign × AreDigits digits)
 
 -- an optional sign, digits, an optional fraction, an optional exponent
 pub record IsDecimal (text : List ℕ) : Type 0 where
@@ -55,4 +57,5 @@ after_exponent (b ∷ bs) = if (b == 101) || (b == 69) then after_digits (after_
 
 -- what follows the longest decimal text
 unfoldable pub after_decimal : List ℕ → Option (List ℕ)
-after_decimal text = option_and_then (λ a. option_and_then after_exponent (after_fraction a)) (after_digits (after_sign text))
+after_decimal text =
+    option_and_then (λ a. option_and_then after_exponent (after_fraction a)) (after_digits (after_sign text))

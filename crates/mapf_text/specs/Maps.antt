@@ -1,5 +1,7 @@
 -- Map texts: the grid that bytes spell, and the errors.
-use Rattle.std.specs.Prelude.{◌≡◌, ◌≢◌, ◌⊎◌, ℕ, ◌+◌, ◌==◌, ◌||◌, ◌<◌, ◌≤◌, Bool, true, false, List, [], ◌∷◌, Option, Some, None, IsSome, Result, Ok, Err, length, map, take, drop, slice_index, slice_index_or, codes, if◌then◌else◌}
+use Rattle.std.specs.Prelude.{◌≡◌, ◌≢◌, ◌⊎◌, ℕ, ◌+◌, ◌==◌, ◌||◌, ◌<◌, ◌≤◌, Bool, true, false, List, [], ◌∷◌, Option}
+use Rattle.std.specs.Prelude.{Some, None, IsSome, Result, Ok, Err, length, map, take, drop, slice_index, slice_index_or}
+use Rattle.std.specs.Prelude.{codes, if◌then◌else◌}
 use Rattle.std.specs.List.{concat}
 use Rattle.mapf_model.specs.Grid.{GridMap}
 use Rattle.mapf_model.specs.Limits.{greatest_side}
@@ -92,13 +94,16 @@ pub record HasTextAt (lines : List (List ℕ)) (n : ℕ) : Type 0 where
 -- what each error after the header says of the lines there; out of memory says nothing of them
 abbrev pub HasBodyFault : ℕ → ℕ → List (List ℕ) → MapFault → Type 0
 HasBodyFault height width body (M6 y) =
-    (y < height) × (y < length body) × ((free : List Bool) × HasRows body y width free) × (length (slice_index_or body y []) ≢ width)
+    (y < height) × (y < length body) × ((free : List Bool) × HasRows body y width free)
+    × (length (slice_index_or body y []) ≢ width)
 HasBodyFault height width body (M7 x y) =
-    (y < height) × (y < length body) × ((free : List Bool) × HasRows body y width free) × (length (slice_index_or body y []) ≡ width) × HasUnknownAt (slice_index_or body y []) x
+    (y < height) × (y < length body) × ((free : List Bool) × HasRows body y width free)
+    × (length (slice_index_or body y []) ≡ width) × HasUnknownAt (slice_index_or body y []) x
 HasBodyFault height width body (M8 rows) =
     (rows < height) × (length body ≡ rows) × ((free : List Bool) × HasRows body rows width free)
 HasBodyFault height width body (M9 line) =
-    ((free : List Bool) × HasRows body height width free) × ((n : ℕ) × HasTextAt (drop height body) n × (line ≡ 5 + height + n))
+    ((free : List Bool) × HasRows body height width free)
+    × ((n : ℕ) × HasTextAt (drop height body) n × (line ≡ 5 + height + n))
 HasBodyFault height width body Memory = Unit {0}
 HasBodyFault height width body _ = ⊥
 
@@ -106,17 +111,21 @@ HasBodyFault height width body _ = ⊥
 abbrev pub HasMapFault : List (List ℕ) → MapFault → Type 0
 HasMapFault lines M1 = (rest : List (List ℕ)) → AfterType lines rest → ⊥
 HasMapFault lines M2 =
-    (rest : List (List ℕ)) × AfterType lines rest × ((height : ℕ) (after : List (List ℕ)) → AfterSize (codes "height") rest height after → ⊥)
+    (rest : List (List ℕ)) × AfterType lines rest
+    × ((height : ℕ) (after : List (List ℕ)) → AfterSize (codes "height") rest height after → ⊥)
 HasMapFault lines M3 =
     (height : ℕ) × (rest : List (List ℕ)) × HasHeight lines height rest × IsSize height
     × ((width : ℕ) (after : List (List ℕ)) → AfterSize (codes "width") rest width after → ⊥)
 HasMapFault lines (M4 line) =
     ((line ≡ 2) × ((height : ℕ) × (rest : List (List ℕ)) × HasHeight lines height rest × (IsSize height → ⊥)))
-    ⊎ ((line ≡ 3) × ((height width : ℕ) × (rest : List (List ℕ)) × HasWidth lines height width rest × (IsSize width → ⊥)))
+    ⊎ ((line ≡ 3) × ((height width : ℕ) × (rest : List (List ℕ)) × HasWidth lines height width rest
+    × (IsSize width → ⊥)))
 HasMapFault lines M5 =
     (height width : ℕ) × (rest : List (List ℕ)) × HasWidth lines height width rest × IsSize width
     × ((after : List (List ℕ)) → AfterMap rest after → ⊥)
-HasMapFault lines fault = (height width : ℕ) × (body : List (List ℕ)) × IsHeader lines height width body × HasBodyFault height width body fault
+HasMapFault lines fault =
+    (height width : ℕ) × (body : List (List ℕ)) × IsHeader lines height width body
+    × HasBodyFault height width body fault
 
 -- the size in a line, or why there is none
 abbrev pub SizeIn : List ℕ → List ℕ → Result ℕ NotSize → Type 0
@@ -127,7 +136,8 @@ SizeIn name line (Err OutOfRange) = (size : ℕ) × IsSizeLine name line size ×
 -- why the first of the lines has no size
 abbrev pub HasNoSize : List ℕ → List (List ℕ) → NotSize → Type 0
 HasNoSize name lines Absent = (size : ℕ) (rest : List (List ℕ)) → AfterSize name lines size rest → ⊥
-HasNoSize name lines OutOfRange = (size : ℕ) × (rest : List (List ℕ)) × AfterSize name lines size rest × (IsSize size → ⊥)
+HasNoSize name lines OutOfRange =
+    (size : ℕ) × (rest : List (List ℕ)) × AfterSize name lines size rest × (IsSize size → ⊥)
 
 -- bytes spell at most one grid
 abbrev pub SpellsOneMap : Type 0

@@ -16,7 +16,8 @@ filled_lines text = filter (λ line. not (is_blank_line line)) (lines_of text)
 
 -- the line `version 1` or `version 1.0`
 abbrev pub IsVersionLine : List ℕ → Type 0
-IsVersionLine line = (words_of line ≡ codes "version" ∷ codes "1" ∷ []) ⊎ (words_of line ≡ codes "version" ∷ codes "1.0" ∷ [])
+IsVersionLine line =
+    (words_of line ≡ codes "version" ∷ codes "1" ∷ []) ⊎ (words_of line ≡ codes "version" ∷ codes "1.0" ∷ [])
 
 -- the first of the lines is the version line, and the rows follow it
 pub record AfterVersion (lines rows : List (List ℕ)) : Type 0 where
@@ -45,7 +46,8 @@ pub record SpellsScenario (bytes : List ℕ) (grid : GridMap) (k : ℕ) (problem
 -- what each error of the rows says of them; out of memory says nothing
 abbrev pub HasRowsFault : GridMap → List (List ℕ) → ℕ → ScenFault → Type 0
 HasRowsFault grid rows k S1 = ⊥
-HasRowsFault grid rows k (S7 count) = (count < k) × (length rows ≡ count) × ((agents : List Agent) × HasAgents grid rows count agents)
+HasRowsFault grid rows k (S7 count) =
+    (count < k) × (length rows ≡ count) × ((agents : List Agent) × HasAgents grid rows count agents)
 HasRowsFault grid rows k Memory = Unit {0}
 HasRowsFault grid rows k fault =
     (row : ℕ) × (row < k) × (row < length rows) × ((agents : List Agent) × HasAgents grid rows row agents)
@@ -59,4 +61,6 @@ HasScenarioFault grid lines k fault = (rows : List (List ℕ)) × AfterVersion l
 
 -- on a grid, bytes spell at most one problem of so many agents
 abbrev pub SpellsOneScenario : Type 0
-SpellsOneScenario = (bytes : List ℕ) (grid : GridMap) (k : ℕ) (problem other : Instance) → SpellsScenario bytes grid k problem → SpellsScenario bytes grid k other → problem ≡ other
+SpellsOneScenario =
+    (bytes : List ℕ) (grid : GridMap) (k : ℕ) (problem other : Instance) → SpellsScenario bytes grid k problem →
+    SpellsScenario bytes grid k other → problem ≡ other

@@ -1,3 +1,4 @@
+//! How a row of a scenario becomes an agent, for the reader of scenarios.
 ghost use Rattle.std.specs.Prelude.{◌≡◌, ◌≢◌, ℕ, [], ◌∷◌, length, Ok, Err, MatchOption, MatchResult};
 ghost use Rattle.mapf_text.specs.Words.{words_of};
 ghost use Rattle.mapf_text.specs.AgentRows.{HasNumbers, IsCellAt, IsNumber, SpellsAgent, IsFirstNoNumber};

@@ -1,3 +1,4 @@
+//! Which words are decimal text, for the length in a row of a scenario.
 ghost use Rattle.std.specs.Prelude.{◌≡◌, ◌↔◌, ◌<◌, [], IsTrue, Some, IfSome, length, not, option_map};
 ghost use Rattle.std.specs.Char.{is_ascii_digit};
 ghost use Rattle.std.specs.List.{position_from};

@@ -1,3 +1,4 @@
+//! The first four lines of a map, for the reader of maps.
 ghost use Rattle.std.specs.Prelude.{◌^◌, ◌<◌, ℕ, List, length, IfOk, IfSome, MatchOption, MatchResult};
 ghost use Rattle.mapf_text.specs.Lines.{lines_of};
 ghost use Rattle.mapf_text.specs.Maps.{AfterType, AfterSize, AfterMap, IsHeader, IsSize};

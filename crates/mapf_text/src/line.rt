@@ -1,3 +1,4 @@
+//! How the text of a map or a scenario is cut into lines, for the readers of both.
 ghost use Rattle.std.specs.Prelude.{◌≡◌, ◌==◌, ◌<◌, ◌^◌, [], ◌∷◌, length, IfSome, MatchOption};
 ghost use Rattle.std.specs.List.{position_from};
 ghost use Rattle.mapf_text.specs.Lines.{lines_of, without_return};

@@ -1,3 +1,4 @@
+//! The reader of maps. Each run that reads a problem calls it.
 ghost use Rattle.std.specs.Prelude.{◌≡◌, ◌⊎◌, ℕ, ◌+◌, ◌*◌, ◌^◌, ◌<◌, ◌≤◌, ◌++◌, true, []};
 ghost use Rattle.std.specs.Prelude.{length, map, drop, slice_index_or, IfOk, IfErr, OnOk, MatchResult};
 ghost use Rattle.std.specs.Vec.{vec_len, vec_capacity};

@@ -1,3 +1,4 @@
+//! What can be wrong with a map. The reader of maps returns it, and the runs report it.
 /// Why bytes are not a map text: the first error in the order of the text.
 #[derive(Clone, Copy, Debug, PartialEq, Eq)]
 pub enum MapFault {

@@ -1,3 +1,4 @@
+//! How a number in a map or a scenario is read: with leading zeros too, unlike in the project's own texts.
 ghost use Rattle.std.specs.Prelude.{◌≡◌, ◌↔◌, IsTrue};
 ghost use Rattle.std.specs.Char.{is_ascii_digit};
 ghost use Rattle.std.specs.List.{list_all};

@@ -1,3 +1,4 @@
+//! The reader of scenarios. Each run that reads a problem calls it after the reader of maps.
 ghost use Rattle.std.specs.Prelude.{◌≡◌, ◌⊎◌, ◌↔◌, ℕ, ◌≤◌, List, [], ◌∷◌, IsTrue, length};
 ghost use Rattle.std.specs.Prelude.{Ok, Err, IfOk, IfErr, MatchOption, MatchResult};
 ghost use Rattle.mapf_model.specs.Limits.{most_agents};

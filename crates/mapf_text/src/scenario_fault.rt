@@ -1,3 +1,4 @@
+//! What can be wrong with a scenario. The reader of scenarios returns it, and the runs report it.
 /// Why bytes are not a scenario text for a grid: the first error in the order of the text.
 #[derive(Clone, Copy, Debug, PartialEq, Eq)]
 pub enum ScenFault {

@@ -1,3 +1,4 @@
+//! How a line of a map or a scenario is cut into words, for the readers of both.
 ghost use Rattle.std.specs.Prelude.{◌≡◌, ◌==◌, ◌<◌, ℕ, List, [], ◌∷◌, length, not, IfSome, MatchOption};
 ghost use Rattle.std.specs.List.{position_from};
 ghost use Rattle.mapf_text.specs.Words.{is_blank, is_blank_line, words_of};

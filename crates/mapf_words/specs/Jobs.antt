@@ -1,7 +1,8 @@
 -- What a command line asks for.
-use Rattle.std.specs.Prelude.{◌≡◌, ◌≤◌, ⊤, ℕ, List, [], unwrap_or, codes}
+use Rattle.std.specs.Prelude.{◌≡◌, ◌≤◌, ⊤, ℕ, List, [], Some, unwrap_or, codes}
 use Rattle.std.specs.String.{string_bytes}
-use Rattle.clap.specs.Matches.{first_value}
+use Rattle.std.specs.Str.Parse.{IsNumeral, digits_value, without_leading_plus}
+use Rattle.clap.specs.Matches.{first_value, one_text}
 use Rattle.clap.specs.declared.parser.matches.Found.{Found}
 use Rattle.mapf_model.specs.Limits.{most_agents, most_splits}
 use Rattle.mapf_words.specs.declared.job.Job.{Job}
@@ -30,22 +31,32 @@ HasOwnOutputs (Check map scen k plan cert) = ⊤
 HasOwnOutputs (Play map scen k plan) = ⊤
 HasOwnOutputs (Dispatch map scen k plan events) = ⊤
 
--- the text of the argument of that name
+-- the first value of the argument of that name, or the empty text if it has none
 abbrev pub named : Found → List ℕ → List ℕ
 named found name = unwrap_or (first_value found name) []
 
--- the job of this command, whose files are those of the arguments
+-- the argument of that name is a decimal numeral, with a plus sign or without, of this number
+abbrev pub IsNumberOf : Found → List ℕ → ℕ → Type 0
+IsNumberOf found name n = (text : List ℕ) × (one_text found name ≡ Some text)
+    × IsNumeral 10 (without_leading_plus text) × (n ≡ digits_value 10 (without_leading_plus text))
+
+-- a job of this command: its file names and its numbers are those of the arguments
 abbrev pub IsJobOf : List ℕ → Found → Job → Type 0
 IsJobOf command found Demo = ⊥
 IsJobOf command found (Solve map scen k limit plan cert) =
-    (command ≡ codes "solve") × (string_bytes map ≡ named found (codes "MAP")) × (string_bytes scen ≡ named found (codes "SCEN"))
-    × (string_bytes plan ≡ named found (codes "PLAN")) × (string_bytes cert ≡ named found (codes "CERT"))
+    (command ≡ codes "solve") × (string_bytes map ≡ named found (codes "MAP"))
+    × (string_bytes scen ≡ named found (codes "SCEN")) × IsNumberOf found (codes "K") k
+    × IsNumberOf found (codes "LIMIT") limit × (string_bytes plan ≡ named found (codes "PLAN"))
+    × (string_bytes cert ≡ named found (codes "CERT"))
 IsJobOf command found (Check map scen k plan cert) =
-    (command ≡ codes "check") × (string_bytes map ≡ named found (codes "MAP")) × (string_bytes scen ≡ named found (codes "SCEN"))
+    (command ≡ codes "check") × (string_bytes map ≡ named found (codes "MAP"))
+    × (string_bytes scen ≡ named found (codes "SCEN")) × IsNumberOf found (codes "K") k
     × (string_bytes plan ≡ named found (codes "PLAN")) × (string_bytes cert ≡ named found (codes "CERT"))
 IsJobOf command found (Play map scen k plan) =
-    (command ≡ codes "play") × (string_bytes map ≡ named found (codes "MAP")) × (string_bytes scen ≡ named found (codes "SCEN"))
+    (command ≡ codes "play") × (string_bytes map ≡ named found (codes "MAP"))
+    × (string_bytes scen ≡ named found (codes "SCEN")) × IsNumberOf found (codes "K") k
     × (string_bytes plan ≡ named found (codes "PLAN"))
 IsJobOf command found (Dispatch map scen k plan events) =
-    (command ≡ codes "dispatch") × (string_bytes map ≡ named found (codes "MAP")) × (string_bytes scen ≡ named found (codes "SCEN"))
+    (command ≡ codes "dispatch") × (string_bytes map ≡ named found (codes "MAP"))
+    × (string_bytes scen ≡ named found (codes "SCEN")) × IsNumberOf found (codes "K") k
     × (string_bytes plan ≡ named found (codes "PLAN")) × (string_bytes events ≡ named found (codes "EVENTS"))

@@ -1,3 +1,9 @@
+//! The arguments of the program, as the parser of the command line takes them, with all texts of the help.
+ghost use Rattle.std.specs.Prelude.{◌≡◌, false, IfOk};
+ghost use Rattle.clap.specs.Words.{app_of, rule_of};
+ghost use Rattle.mapf_words.specs.CommandLine.{IsCommand, check_command, dispatch_command, file_argument};
+ghost use Rattle.mapf_words.specs.CommandLine.{mapf_command, number_argument, play_command, program, solve_command};
+
 use clap::{Arg, Command, value_parser};
 use mapf_model::limits::{MOST_AGENTS, MOST_SPLITS};
 use mapf_model::{most_agents, most_splits};
@@ -138,18 +144,26 @@ const K: &str = most_agents!("How many agents: the first K rows of SCEN, 1 to ")
 
 const LIMIT: &str = most_splits!("How often the search may split on a conflict, 0 to ");
 
-fn file<'a>(alloc: Global, name: &'a str, help: &'a str) -> Arg<'a> {
+fn file<'a>(alloc: Global, name: &'a str, help: &'a str) -> Arg<'a>
+    ensures rule { rule_of result ≡ file_argument name.entry.now }
+    ensures local { result.global ≡ false }
+{
     Arg::new(alloc, name).required(true).help(help)
 }
 
-fn number<'a>(alloc: Global, name: &'a str, low: u32, high: u32, help: &'a str) -> Arg<'a> {
+fn number<'a>(alloc: Global, name: &'a str, low: u32, high: u32, help: &'a str) -> Arg<'a>
+    ensures rule { rule_of result ≡ number_argument name.entry.now low high }
+    ensures local { result.global ≡ false }
+{
     Arg::new(alloc, name)
         .required(true)
         .value_parser(value_parser!(u32).range(i64::from(low)..=i64::from(high)))
         .help(help)
 }
 
-fn solve<'a>(alloc: Global) -> Result<Command<'a>, AllocError> {
+fn solve<'a>(alloc: Global) -> Result<Command<'a>, AllocError>
+    ensures { IfOk result (IsCommand solve_command) }
+{
     Command::new(alloc, "solve")
         .about(SOLVE_ABOUT)
         .after_help(SOLVE_OUTPUT)
@@ -161,7 +175,9 @@ fn solve<'a>(alloc: Global) -> Result<Command<'a>, AllocError> {
         .arg(file(alloc, "CERT", "Where the certificate is written"))
 }
 
-fn check<'a>(alloc: Global) -> Result<Command<'a>, AllocError> {
+fn check<'a>(alloc: Global) -> Result<Command<'a>, AllocError>
+    ensures { IfOk result (IsCommand check_command) }
+{
     Command::new(alloc, "check")
         .about(CHECK_ABOUT)
         .after_help(CHECK_OUTPUT)
@@ -172,7 +188,9 @@ fn check<'a>(alloc: Global) -> Result<Command<'a>, AllocError> {
         .arg(file(alloc, "CERT", "The certificate, as solve wrote it"))
 }
 
-fn play<'a>(alloc: Global) -> Result<Command<'a>, AllocError> {
+fn play<'a>(alloc: Global) -> Result<Command<'a>, AllocError>
+    ensures { IfOk result (IsCommand play_command) }
+{
     Command::new(alloc, "play")
         .about(PLAY_ABOUT)
         .after_help(PLAY_OUTPUT)
@@ -182,7 +200,9 @@ fn play<'a>(alloc: Global) -> Result<Command<'a>, AllocError> {
         .arg(file(alloc, "PLAN", "The plan text, as solve wrote it"))
 }
 
-fn dispatch<'a>(alloc: Global) -> Result<Command<'a>, AllocError> {
+fn dispatch<'a>(alloc: Global) -> Result<Command<'a>, AllocError>
+    ensures { IfOk result (IsCommand dispatch_command) }
+{
     Command::new(alloc, "dispatch")
         .about(DISPATCH_ABOUT)
         .after_help(DISPATCH_OUTPUT)
@@ -197,14 +217,23 @@ fn dispatch<'a>(alloc: Global) -> Result<Command<'a>, AllocError> {
         ))
 }
 
-/// Returns the description of the arguments that the program takes.
-pub fn mapf<'a>(alloc: Global) -> Result<Command<'a>, AllocError> {
+// Returns the program without its commands.
+fn program<'a>(alloc: Global) -> Command<'a>
+    ensures { app_of result ≡ program }
+{
     Command::new(alloc, "mapf")
         .version(VERSION)
         .about(ABOUT)
         .after_help(OVERVIEW)
         .override_usage("mapf [COMMAND]")
         .subcommand_required(true)
+}
+
+/// Returns the description of the arguments that the program takes.
+pub fn mapf<'a>(alloc: Global) -> Result<Command<'a>, AllocError>
+    ensures { IfOk result (λ command. app_of command ≡ mapf_command) }
+{
+    program(alloc)
         .subcommand(solve(alloc)?)?
         .subcommand(check(alloc)?)?
         .subcommand(play(alloc)?)?

@@ -1,3 +1,4 @@
+//! What a command line can ask for. The reader of arguments makes a job, and `main` does it.
 /// What the arguments ask for. Strings are names of files.
 #[derive(Debug, PartialEq, Eq, Drop)]
 pub enum Job {

@@ -1,7 +1,9 @@
-ghost use Rattle.std.specs.Prelude.{◌≡◌, ◌≤◌, ◌<◌, ◌↔◌, IfOk, OnOk, Ok, codes, vec_len};
+//! The reader of arguments: it makes a job of them, or says why there is none. `main` calls it.
+ghost use Rattle.std.specs.Prelude.{◌≡◌, ◌⊎◌, ◌≤◌, ◌<◌, ◌↔◌, IfOk, OnOk, Ok, codes, map, vec_len};
 ghost use Rattle.std.specs.String.{string_bytes};
 ghost use Rattle.clap.specs.Matches.{found_of};
-ghost use Rattle.mapf_words.specs.Jobs.{AreDistinctNames, HasOwnOutputs, IsInRange, IsJobOf, named};
+ghost use Rattle.mapf_words.specs.CommandLine.{IsReadFrom};
+ghost use Rattle.mapf_words.specs.Jobs.{AreDistinctNames, HasOwnOutputs, IsInRange, IsJobOf, IsNumberOf, named};
 
 use crate::command::mapf;
 use crate::job::Job;
@@ -27,7 +29,8 @@ fn number_of(
     low: u32,
     high: u32,
 ) -> Result<u32, WordsFault>
-    ensures { IfOk result (λ n. (low ≤ n) × (n ≤ high)) }
+    ensures range { IfOk result (λ n. (low ≤ n) × (n ≤ high)) }
+    ensures number { IfOk result (IsNumberOf (found_of given.now) name.now) }
 {
     match given.get_one::<u32>(name) {
         Some(n) if low <= n && n <= high => Ok(n),
@@ -161,9 +164,15 @@ fn fault_of(alloc: Global, error: &clap::Error) -> WordsFault {
 /// Returns the job of these arguments, of which the first is the program's name. Without further arguments it is the
 /// demo. A job that would overwrite a file that it reads, or write two texts to one file, is a usage error.
 pub fn job_of(alloc: Global, words: Vec<String>) -> Result<Job, WordsFault>
+    // K and LIMIT lie in their ranges.
     ensures range { IfOk result IsInRange }
+    // No output has the name of an input or of the other output, `/dev/null` aside.
     ensures own { IfOk result HasOwnOutputs }
+    // Without a command, and only then, the job is the demo.
     ensures demo { (result ≡ Ok Job.Demo) ↔ (vec_len words < 2) }
+    // A job other than the demo is that of the command which `clap` finds in words that it accepts, by its model of the
+    // command line (`mapf_command`). The job's file names and numbers are the arguments of their names.
+    ensures read { IfOk result (λ job. (job ≡ Job.Demo) ⊎ IsReadFrom (map string_bytes words.items) job) }
 {
     if words.len() < 2 {
         return Ok(Job::Demo);

@@ -1,3 +1,4 @@
+//! What there is instead of a job: a text that was asked for, or an error. `main` prints it.
 use std::alloc::AllocError;
 
 /// Why arguments give no job.

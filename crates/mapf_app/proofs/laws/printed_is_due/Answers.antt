@@ -8,13 +8,13 @@ use Rattle.mapf_checker.specs.declared.fault.Verdict.{Verdict}
 use Rattle.mapf_model.specs.Plan.{Instance}
 use Rattle.mapf_app.proofs.laws.printed_is_due.Goals as goal
 
-accepted_as : (problem : Instance) (limit : ℕ) (kind : Kind) (verdict : Verdict) (plan cert : List ℕ) → Prints problem limit kind plan cert → IsVerdictOn kind verdict → AreAccepted problem plan cert verdict
-accepted_as problem limit (Found cost) verdict plan cert prints is = subst (AreAccepted problem plan cert) (sym is) prints.accepted
-accepted_as problem limit Impossible verdict plan cert prints is = subst (AreAccepted problem plan cert) (sym is) prints.accepted
-accepted_as problem limit (Limit cause bound) verdict plan cert prints is = subst (AreAccepted problem plan cert) (sym is) prints.accepted
+accepted_as : (problem : Instance) (kind : Kind) (verdict : Verdict) (plan cert : List ℕ) → Prints problem kind plan cert → IsVerdictOn kind verdict → AreAccepted problem plan cert verdict
+accepted_as problem (Found cost) verdict plan cert prints is = subst (AreAccepted problem plan cert) (sym is) prints.accepted
+accepted_as problem Impossible verdict plan cert prints is = subst (AreAccepted problem plan cert) (sym is) prints.accepted
+accepted_as problem (Limit cause bound) verdict plan cert prints is = subst (AreAccepted problem plan cert) (sym is) prints.accepted
 
 pub returns : goal.returns
-returns c = λ map scen plan cert count limit kind verdict truly is. record {
+returns c = λ map scen plan cert count kind verdict truly is. record {
   map_told = refl;
   scen_told = refl;
   problem = truly.problem;
@@ -23,5 +23,5 @@ returns c = λ map scen plan cert count limit kind verdict truly is. record {
   plan_told = refl;
   cert_text = cert;
   cert_told = refl;
-  accepted = accepted_as truly.problem limit kind verdict plan cert truly.printed is;
+  accepted = accepted_as truly.problem kind verdict plan cert truly.printed is;
 }

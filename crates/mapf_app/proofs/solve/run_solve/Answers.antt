@@ -1,58 +1,71 @@
-use Rattle.std.proofs.Common.{◌≡◌, List, Ok, true, false, length, ap, ◌∙◌, ⊎_elim, subst}
+use Rattle.std.proofs.Common.{◌≡◌, List, Ok, true, false, length, map, ap, ◌∙◌, ⊎_elim, subst}
+use Rattle.std.proofs.lemmas.List.{map-id}
 use Rattle.std.specs.Result.{is_err}
 use Rattle.mapf_model.specs.Grid.{GridMap}
 use Rattle.mapf_model.specs.Plan.{Instance}
+use Rattle.mapf_model.specs.Tree.{Node}
 use Rattle.mapf_model.specs.declared.problem.Agent.{Agent}
 use Rattle.mapf_certificate.specs.Certificates.{cert_text}
 use Rattle.mapf_certificate.specs.Plans.{plan_text}
 use Rattle.mapf_certificate.specs.declared.version.Version.TheVariants.{Two}
-use Rattle.mapf_app.specs.Headline.{PrintsTruly}
+use Rattle.mapf_app.specs.Policy.{PrintsByPolicy}
 use Rattle.mapf_app.specs.Solved.{Prints, plan_bytes, cert_bytes}
 use Rattle.mapf_app.proofs.SolveLemmas.{text_written, text_front}
 use Rattle.mapf_app.proofs.solve.run_solve.Goals as goal
 
-pub returns-then-is_err-clause-plan_front : goal.returns-then-is_err-clause-plan_front
-returns-then-is_err-clause-plan_front g c = λ is.
+pub returns-then-is_err-clause-plan_policy : goal.returns-then-is_err-clause-plan_policy
+returns-then-is_err-clause-plan_policy g c = λ is.
     let problem = c.in_ok-problem.problem in let solved = c.in-Ok.solved in
     let width = c.of-writer.ensures.width ∙ ap (λ (m : GridMap). m.width) c.grid.ensures in
     let plan_is : plan_text c.of-writer.result.width solved.text ≡ plan_bytes problem solved = ap (λ w. plan_text w solved.text) width in
-    let truly : PrintsTruly (g.M.Source.remaining c.args.map.now) (g.S.Source.remaining c.args.scen.now) c.args.k c.args.limit solved.kind (plan_bytes problem solved) (cert_bytes problem solved) = record { problem = problem; posed = c.in_ok-problem.ensures.posed; read = c.in_ok-problem.ensures.found; printed = c.in-Ok.ensures.prints } in
+    let right : PrintsByPolicy (g.M.Source.remaining c.args.map.now) (g.S.Source.remaining c.args.scen.now) c.args.k c.args.limit solved.kind (plan_bytes problem solved) (cert_bytes problem solved) = record {
+      truly = record { problem = problem; posed = c.in_ok-problem.ensures.posed; read = c.in_ok-problem.ensures.found; printed = c.in-Ok.ensures.prints };
+      policy = c.in-Ok.ensures.policy;
+    } in
     let failed : is_err c.plan.result ≡ true = cc in
     let front = text_front c.plan.result _ _ _ (plan_bytes problem solved) plan_is failed c.plan.ensures.text in
-    (solved.kind, plan_bytes problem solved, cert_bytes problem solved, front.0, truly, front.1)
+    (solved.kind, plan_bytes problem solved, cert_bytes problem solved, front.0, right, front.1)
 
-pub returns-then-is_err-2-clause-cert_front : goal.returns-then-is_err-2-clause-cert_front
-returns-then-is_err-2-clause-cert_front g c = λ is.
+pub returns-then-is_err-2-clause-cert_policy : goal.returns-then-is_err-2-clause-cert_policy
+returns-then-is_err-2-clause-cert_policy g c = λ is.
     let problem = c.in_ok-problem.problem in let solved = c.in-Ok.solved in
     let width = c.of-writer.ensures.width ∙ ap (λ (m : GridMap). m.width) c.grid.ensures in
     let plan_is : plan_text c.of-writer.result.width solved.text ≡ plan_bytes problem solved = ap (λ w. plan_text w solved.text) width in
-    let cert_is : cert_text Two c.plan.new.self.width (length c.agents.result.now) solved.claim c.deref.result.now ≡ cert_bytes problem solved =
-    ap (λ w. cert_text Two w (length c.agents.result.now) solved.claim c.deref.result.now) (c.plan.ensures.width ∙ width)
+    let cert_is : cert_text Two c.plan.new.self.width (length c.agents.result.now) solved.claim (map (λ (n : Node). n) c.deref.result.now) ≡ cert_bytes problem solved =
+    ap (cert_text Two c.plan.new.self.width (length c.agents.result.now) solved.claim) (map-id c.deref.result.now)
+    ∙ ap (λ w. cert_text Two w (length c.agents.result.now) solved.claim c.deref.result.now) (c.plan.ensures.width ∙ width)
     ∙ ap (λ (who : List Agent). cert_text Two problem.grid.width (length who) solved.claim c.deref.result.now) c.agents.ensures.value
     ∙ ap (cert_text Two problem.grid.width (length problem.agents) solved.claim) c.deref.ensures.value in
-    let truly : PrintsTruly (g.M.Source.remaining c.args.map.now) (g.S.Source.remaining c.args.scen.now) c.args.k c.args.limit solved.kind (plan_bytes problem solved) (cert_bytes problem solved) = record { problem = problem; posed = c.in_ok-problem.ensures.posed; read = c.in_ok-problem.ensures.found; printed = c.in-Ok.ensures.prints } in
+    let right : PrintsByPolicy (g.M.Source.remaining c.args.map.now) (g.S.Source.remaining c.args.scen.now) c.args.k c.args.limit solved.kind (plan_bytes problem solved) (cert_bytes problem solved) = record {
+      truly = record { problem = problem; posed = c.in_ok-problem.ensures.posed; read = c.in_ok-problem.ensures.found; printed = c.in-Ok.ensures.prints };
+      policy = c.in-Ok.ensures.policy;
+    } in
     let went : is_err c.plan.result ≡ false = cc in
-    let failed : is_err c.write_tree.result ≡ true = cc in
-    let front = text_front c.write_tree.result _ _ _ (cert_bytes problem solved) cert_is failed c.write_tree.ensures.text in
-    (solved.kind, plan_bytes problem solved, cert_bytes problem solved, front.0, truly, text_written c.plan.result _ _ _ (plan_bytes problem solved) plan_is went c.plan.ensures.text, front.1)
+    let failed : is_err c.tree-written.result ≡ true = cc in
+    let front = text_front c.tree-written.result _ _ _ (cert_bytes problem solved) cert_is failed c.tree-written.ensures.text in
+    (solved.kind, plan_bytes problem solved, cert_bytes problem solved, front.0, right, text_written c.plan.result _ _ _ (plan_bytes problem solved) plan_is went c.plan.ensures.text, front.1)
 
-pub returns-clause-printed : goal.returns-clause-printed
-returns-clause-printed g c =
+pub returns-clause-policy : goal.returns-clause-policy
+returns-clause-policy g c =
     let problem = c.in_ok-problem.problem in let solved = c.in-Ok.solved in
     let width = c.of-writer.ensures.width ∙ ap (λ (m : GridMap). m.width) c.grid.ensures in
     let plan_is : plan_text c.of-writer.result.width solved.text ≡ plan_bytes problem solved = ap (λ w. plan_text w solved.text) width in
-    let cert_is : cert_text Two c.plan.new.self.width (length c.agents.result.now) solved.claim c.deref.result.now ≡ cert_bytes problem solved =
-    ap (λ w. cert_text Two w (length c.agents.result.now) solved.claim c.deref.result.now) (c.plan.ensures.width ∙ width)
+    let cert_is : cert_text Two c.plan.new.self.width (length c.agents.result.now) solved.claim (map (λ (n : Node). n) c.deref.result.now) ≡ cert_bytes problem solved =
+    ap (cert_text Two c.plan.new.self.width (length c.agents.result.now) solved.claim) (map-id c.deref.result.now)
+    ∙ ap (λ w. cert_text Two w (length c.agents.result.now) solved.claim c.deref.result.now) (c.plan.ensures.width ∙ width)
     ∙ ap (λ (who : List Agent). cert_text Two problem.grid.width (length who) solved.claim c.deref.result.now) c.agents.ensures.value
     ∙ ap (cert_text Two problem.grid.width (length problem.agents) solved.claim) c.deref.ensures.value in
-    let truly : PrintsTruly (g.M.Source.remaining c.args.map.now) (g.S.Source.remaining c.args.scen.now) c.args.k c.args.limit solved.kind (plan_bytes problem solved) (cert_bytes problem solved) = record { problem = problem; posed = c.in_ok-problem.ensures.posed; read = c.in_ok-problem.ensures.found; printed = c.in-Ok.ensures.prints } in
+    let right : PrintsByPolicy (g.M.Source.remaining c.args.map.now) (g.S.Source.remaining c.args.scen.now) c.args.k c.args.limit solved.kind (plan_bytes problem solved) (cert_bytes problem solved) = record {
+      truly = record { problem = problem; posed = c.in_ok-problem.ensures.posed; read = c.in_ok-problem.ensures.found; printed = c.in-Ok.ensures.prints };
+      policy = c.in-Ok.ensures.policy;
+    } in
     let went : is_err c.plan.result ≡ false = cc in
-    let went_too : is_err c.write_tree.result ≡ false = cc in (
+    let went_too : is_err c.tree-written.result ≡ false = cc in (
       plan_bytes problem solved,
       cert_bytes problem solved,
-      truly,
+      right,
       text_written c.plan.result _ _ _ (plan_bytes problem solved) plan_is went c.plan.ensures.text,
-      text_written c.write_tree.result _ _ _ (cert_bytes problem solved) cert_is went_too c.write_tree.ensures.text,
+      text_written c.tree-written.result _ _ _ (cert_bytes problem solved) cert_is went_too c.tree-written.ensures.text,
     )
 
 pub returns-clause-due : goal.returns-clause-due
@@ -60,16 +73,26 @@ returns-clause-due g c asked map_told scen_told read =
     let problem = c.in_ok-problem.problem in let solved = c.in-Ok.solved in
     let width = c.of-writer.ensures.width ∙ ap (λ (m : GridMap). m.width) c.grid.ensures in
     let plan_is : plan_text c.of-writer.result.width solved.text ≡ plan_bytes problem solved = ap (λ w. plan_text w solved.text) width in
-    let cert_is : cert_text Two c.plan.new.self.width (length c.agents.result.now) solved.claim c.deref.result.now ≡ cert_bytes problem solved =
-    ap (λ w. cert_text Two w (length c.agents.result.now) solved.claim c.deref.result.now) (c.plan.ensures.width ∙ width)
+    let cert_is : cert_text Two c.plan.new.self.width (length c.agents.result.now) solved.claim (map (λ (n : Node). n) c.deref.result.now) ≡ cert_bytes problem solved =
+    ap (cert_text Two c.plan.new.self.width (length c.agents.result.now) solved.claim) (map-id c.deref.result.now)
+    ∙ ap (λ w. cert_text Two w (length c.agents.result.now) solved.claim c.deref.result.now) (c.plan.ensures.width ∙ width)
     ∙ ap (λ (who : List Agent). cert_text Two problem.grid.width (length who) solved.claim c.deref.result.now) c.agents.ensures.value
     ∙ ap (cert_text Two problem.grid.width (length problem.agents) solved.claim) c.deref.ensures.value in
     let went : is_err c.plan.result ≡ false = cc in
-    let went_too : is_err c.write_tree.result ≡ false = cc in
+    let went_too : is_err c.tree-written.result ≡ false = cc in
     let same : problem ≡ asked = ⊎_elim (λ (e : Ok problem ≡ Ok asked). cc) (λ no. absurd no) (c.in_ok-problem.ensures.only asked map_told scen_told read) in (
       plan_bytes problem solved,
       cert_bytes problem solved,
-      subst (λ (p : Instance). Prints p c.args.limit solved.kind (plan_bytes problem solved) (cert_bytes problem solved)) same c.in-Ok.ensures.prints,
+      subst (λ (p : Instance). Prints p solved.kind (plan_bytes problem solved) (cert_bytes problem solved)) same c.in-Ok.ensures.prints,
       text_written c.plan.result _ _ _ (plan_bytes problem solved) plan_is went c.plan.ensures.text,
-      text_written c.write_tree.result _ _ _ (cert_bytes problem solved) cert_is went_too c.write_tree.ensures.text,
+      text_written c.tree-written.result _ _ _ (cert_bytes problem solved) cert_is went_too c.tree-written.ensures.text,
     )
+
+pub returns-then-is_err-clause-plan_front : goal.returns-then-is_err-clause-plan_front
+returns-then-is_err-clause-plan_front g c = λ is. let (kind, plan, cert, n, right, wrote) = returns-then-is_err-clause-plan_policy g c is in (kind, plan, cert, n, right.truly, wrote)
+
+pub returns-then-is_err-2-clause-cert_front : goal.returns-then-is_err-2-clause-cert_front
+returns-then-is_err-2-clause-cert_front g c = λ is. let (kind, plan, cert, n, right, first, second) = returns-then-is_err-2-clause-cert_policy g c is in (kind, plan, cert, n, right.truly, first, second)
+
+pub returns-clause-printed : goal.returns-clause-printed
+returns-clause-printed g c = let (plan, cert, right, first, second) = returns-clause-policy g c in (plan, cert, right.truly, first, second)

@@ -1,10 +1,12 @@
-use Rattle.std.proofs.Common.{length, refl}
-use Rattle.mapf_model.specs.declared.item.Claim.TheVariants as claims
-use Rattle.mapf_certificate.specs.declared.version.Version.TheVariants.{Two}
-use Rattle.mapf_certificate.specs.Certificates.{cert_text}
 use Rattle.mapf_certificate.specs.Plans.{plan_text}
-use Rattle.mapf_app.proofs.PrintLemmas.{prints_optimal}
+use Rattle.mapf_app.proofs.PrintLemmas.{prints_optimal, policy_optimal}
 use Rattle.mapf_app.proofs.solved.found.Goals as goal
 
 pub returns-clause-prints : goal.returns-clause-prints
-returns-clause-prints c = λ limit tree of shown. prints_optimal c.args.problem.now c.args.plan c.args.tree.items tree limit of shown c.sums_are_one.ensures c.sum_of-sum.result c.sum_of-sum.ensures (plan_text c.args.problem.now.grid.width c.text_of.result) (cert_text Two c.args.problem.now.grid.width (length c.args.problem.now.agents) (claims.Cost c.sum_of-sum.result) c.args.tree.items) c.text_of.ensures.spells refl
+returns-clause-prints c =
+    let (tree, printable, shown) = c.requires in
+    prints_optimal c.args.problem.now c.args.plan c.args.tree.items c.sums_are_one.ensures c.sum_of-sum.result c.sum_of-sum.ensures (plan_text c.args.problem.now.grid.width c.text_of.result) c.text_of.ensures.spells tree printable shown
+
+pub returns-clause-policy : goal.returns-clause-policy
+returns-clause-policy c = λ limit answer.
+    policy_optimal c.args.problem.now c.args.plan c.args.tree.items c.sums_are_one.ensures c.sum_of-sum.result c.sum_of-sum.ensures (plan_text c.args.problem.now.grid.width c.text_of.result) c.text_of.ensures.spells limit answer

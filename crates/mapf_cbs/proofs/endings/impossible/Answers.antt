@@ -14,4 +14,4 @@ pub tree_nodes-requires-clause-one : goal.tree_nodes-requires-clause-one
 tree_nodes-requires-clause-one c = c.requires.one
 
 pub returns : goal.returns
-returns c problem limit e = end_impossible problem limit c.args.lists.items c.args.fates.now e c.in_ok-tree.tree c.in_ok-tree.ensures
+returns c problem limit e = end_impossible problem limit c.args.lists.items c.args.statuses.now e c.in_ok-tree.tree c.in_ok-tree.ensures

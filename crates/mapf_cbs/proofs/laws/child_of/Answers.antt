@@ -39,7 +39,7 @@ returns-clause-generated c view whole live =
     let path = (whole.each c.args.constraint.agent c.index-2.result.now (slice_get_read agent_paths (length agent_paths) c.args.constraint.agent c.index-2.result.now refl inside c.index-2.ensures)).path in
     let third = slice_get_read agent_paths (length agent_paths) c.args.constraint.agent c.index-3.result.now refl inside c.index-3.ensures in
     let same = bars_with (view.context.bars c.args.constraint.agent) c.index.result.now.bars c.in_ok-bars.bars c.args.constraint.bar first.bars c.in_ok-bars.ensures in
-    let answer = subst (λ (m : GridMap). IsPathAnswer (task_of m c.index-agents-constraint.result c.in_ok-bars.bars) c.in_ok-found.found) c.grid.ensures c.in_ok-found.ensures.answer in
+    let answer = subst (λ (m : GridMap). IsPathAnswer (task_of m c.index-agents-constraint.result c.in_ok-bars.bars) c.in_ok-found.found) c.grid.ensures (subst (λ task. IsPathAnswer task c.in_ok-found.found) c.of-task.ensures c.in_ok-found.ensures.answer) in
     let old = c.cost_of-old.result in
     let less = old_within c.args.problem.now view live c.args.constraint.agent c.index-agents-constraint.result known c.index-2.result.now.path path old c.cost_of-old.ensures in
     let rest : c.args.node.now.total - c.from.result ≡ sum view.costs - old = (let e = c.from.ensures in rw e (rw whole.total refl)) in

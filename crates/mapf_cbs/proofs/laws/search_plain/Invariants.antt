@@ -5,7 +5,7 @@ use Rattle.mapf_cbs.proofs.laws.search_plain.Given as goal
 abbrev pub invariant-loop-k : goal.invariant-loop-k
 invariant-loop-k l = record {
   within : l.tree.splits ≤ l.limit;
-  state : IsWholeState l.problem l.tree.nodes.items l.tree.fates.items l.tree.splits;
+  state : IsWholeState l.problem l.tree.nodes.items l.tree.statuses.items l.tree.splits;
 }
 
 abbrev pub decreases-loop-k : goal.decreases-loop-k

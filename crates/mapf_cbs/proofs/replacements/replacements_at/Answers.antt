@@ -7,29 +7,29 @@ use Rattle.mapf_model.proofs.DecidedLemmas.{same_list}
 use Rattle.mapf_conflicts.specs.Replacements.{with_replacements}
 use Rattle.mapf_conflicts.specs.declared.patched_paths.Replacement.{Replacement}
 use Rattle.mapf_conflicts.proofs.ReplacementLemmas.{replaced_count, replaced_last}
-use Rattle.mapf_cbs.proofs.FinderLemmas.{path_by_finder}
+use Rattle.mapf_cbs.proofs.OwnerLemmas.{path_by_owner}
 use Rattle.mapf_cbs.proofs.replacements.replacements_at.Goals as goal
 use Rattle.mapf_cbs.proofs.replacements.replacements_at.Goals.{in-Some+in_ok-push, in_default}
 
-no_finder : (finder : Option ℕ) → ((k : ℕ) → finder ≡ Some k → ⊥) → finder ≡ None
-no_finder None none = refl
-no_finder (Some k) none = absurd (none k refl)
+no_owner : (owner : Option ℕ) → ((k : ℕ) → owner ≡ Some k → ⊥) → owner ≡ None
+no_owner None none = refl
+no_owner (Some k) none = absurd (none k refl)
 
 pub path_at-path-requires-clause-inside : goal.path_at-path-requires-clause-inside
 path_at-path-requires-clause-inside c =
-    let nearest = c.args.finders.now.nearest.items in
-    let finder = c.requires.finders c.loop-agent.agent c.index.result.now (slice_get_read nearest (length nearest) c.loop-agent.agent c.index.result.now refl (omega arith) c.index.ensures) in
-    (rw c.in-Some.is at finder).inside
+    let nearest = c.args.owners.now.nearest.items in
+    let owner = c.requires.owners c.loop-agent.agent c.index.result.now (slice_get_read nearest (length nearest) c.loop-agent.agent c.index.result.now refl (omega arith) c.index.ensures) in
+    (rw c.in-Some.is at owner).inside
 
 pub loop-agent-preserved : goal.loop-agent-preserved
 loop-agent-preserved c =
     let nodes = c.args.nodes.now in
     let root = c.args.root.now in
     let agent = c.loop-agent.agent in
-    let nearest = c.args.finders.now.nearest.items in
+    let nearest = c.args.owners.now.nearest.items in
     let old = c.loop-agent.replacements.items in
     let count = c.requires.count in
-    let finder = c.requires.finders agent c.index.result.now (slice_get_read nearest (length nearest) agent c.index.result.now refl (omega arith) c.index.ensures) in
+    let owner = c.requires.owners agent c.index.result.now (slice_get_read nearest (length nearest) agent c.index.result.now refl (omega arith) c.index.ensures) in
     elim c.match-index.branch [
       | in-Some+in_ok-push w ↦
           let one : Replacement = record { agent = agent; path = w.path_at-path.result } in
@@ -41,7 +41,7 @@ loop-agent-preserved c =
             known = rw pushed (All-push (λ (r : Replacement). r.agent < length root) old one c.loop-agent.invariant.known (omega (arith, count)));
             same = λ views view are is i below. ⊎_elim
                 (λ (here : i ≡ agent).
-                rw set (rw here (slice_get-set_same (with_replacements root old) agent path inside ∙ sym (path_by_finder nodes c.args.finders.now.node agent w.in-Some.finder (rw w.in-Some.is at finder) path w.path_at-path.ensures views view are is))))
+                rw set (rw here (slice_get-set_same (with_replacements root old) agent path inside ∙ sym (path_by_owner nodes c.args.owners.now.node agent w.in-Some.owner (rw w.in-Some.is at owner) path w.path_at-path.ensures views view are is))))
                 (λ (other : i ≢ agent).
                 rw set (slice_get-set_other (with_replacements root old) agent i path other ∙ c.loop-agent.invariant.same views view are is i (omega (arith, below, other))))
                 (cases_eq i agent);
@@ -56,7 +56,7 @@ loop-agent-preserved c =
             known = rw kept c.loop-agent.invariant.known;
             same = λ views view are is i below. rw kept (⊎_elim
                 (λ (here : i ≡ agent).
-                let other = (rw (no_finder c.index.result.now w.in_default.not-Some) at finder).same views view are is in
+                let other = (rw (no_owner c.index.result.now w.in_default.not-Some) at owner).same views view are is in
                 rw here (c.loop-agent.invariant.later agent (omega arith) ∙ ap (λ paths. slice_get paths agent) (sym (c.requires.root views other.0 are other.1)) ∙ sym other.2.0))
                 (λ (other : i ≢ agent). c.loop-agent.invariant.same views view are is i (omega (arith, below, other)))
                 (cases_eq i agent));

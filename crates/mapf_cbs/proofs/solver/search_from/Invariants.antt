@@ -6,7 +6,7 @@ use Rattle.mapf_cbs.proofs.solver.search_from.Given as goal
 abbrev pub invariant-loop-total : goal.invariant-loop-total
 invariant-loop-total g l = record {
   within : l.search.splits ≤ l.limit;
-  state : IsState l.problem l.search.nodes.items l.search.fates.items l.search.waiting l.search.splits;
+  state : IsState l.problem l.search.nodes.items l.search.statuses.items l.search.waiting l.search.splits;
   tables : AreMade l.problem l.tables;
 }
 

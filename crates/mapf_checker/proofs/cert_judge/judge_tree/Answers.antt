@@ -1,7 +1,7 @@
 use Rattle.std.proofs.Common.{length, sym, ◌∙◌, ap}
 use Rattle.mapf_checker.specs.CertJudging.{HasTreeRefusal}
 use Rattle.mapf_checker.specs.Faults.{IsNoRefusal, IsOfChecking}
-use Rattle.mapf_checker.specs.Progress.{owed_by}
+use Rattle.mapf_checker.specs.Progress.{pending_by}
 use Rattle.mapf_checker.proofs.ReadLemmas.{read_none, err_passed}
 use Rattle.mapf_checker.proofs.cert_judge.judge_tree.Goals as goal
 
@@ -14,10 +14,10 @@ loop-progress-init g c = record {
     header = c.requires.headed.header;
     fault = c.requires.headed.fault;
     part = c.requires.headed.part;
-    count = c.requires.headed.owed ∙ ap length (sym c.in_ok-progress.ensures.owed);
+    count = c.requires.headed.pending ∙ ap length (sym c.in_ok-progress.ensures.pending);
     ready = c.in_ok-progress.ensures.ready;
   };
-  read = read_none c.args.problem.now c.args.claim.now ((g.S.Source).remaining c.args.source.now) c.args.lines.now (owed_by c.in_ok-progress.progress) c.in_ok-progress.ensures.owed;
+  read = read_none c.args.problem.now c.args.claim.now ((g.S.Source).remaining c.args.source.now) c.args.lines.now (pending_by c.in_ok-progress.progress) c.in_ok-progress.ensures.pending;
 }
 
 pub returns-in_err-judge_next-clause-only : goal.returns-in_err-judge_next-clause-only

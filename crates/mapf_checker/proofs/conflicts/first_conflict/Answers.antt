@@ -1,5 +1,5 @@
 use Rattle.std.proofs.Common.{◌≡◌, subst, arith}
-use Rattle.mapf_model.specs.Earned.{AreConflictFreeBefore}
+use Rattle.mapf_model.specs.Conflicts.{AreConflictFreeBefore}
 use Rattle.mapf_model.proofs.ConflictLemmas.{free_one_more, none_after}
 use Rattle.mapf_checker.proofs.conflicts.first_conflict.Goals as goal
 

@@ -1,4 +1,4 @@
-use Rattle.mapf_model.specs.Earned.{AreConflictFreeBefore}
+use Rattle.mapf_model.specs.Conflicts.{AreConflictFreeBefore}
 use Rattle.mapf_checker.proofs.conflicts.first_conflict.Given as goal
 
 abbrev pub invariant-loop-tick : goal.invariant-loop-tick

@@ -1,7 +1,7 @@
 use Rattle.std.proofs.Common.{◌≡◌, ◌≤◌, ◌+◌, ℕ, List, ◌++◌, length, take, drop, subst, sym, ap, ◌∙◌, length-append, length-drop, arith}
 use Rattle.std.proofs.lemmas.List.{length-map}
 use Rattle.std.proofs.lemmas.Option.{IfSome_then}
-use Rattle.mapf_model.specs.Earned.{AreConflictFreeBefore}
+use Rattle.mapf_model.specs.Conflicts.{AreConflictFreeBefore}
 use Rattle.mapf_model.specs.Path.{at}
 use Rattle.mapf_conflicts.specs.Pairs.{cells_at, AreOthersApart}
 use Rattle.mapf_conflicts.proofs.ConflictLemmas.{written, apart, has_conflict, first_of_its_tick, conflict_tick, others_apart}

@@ -1,5 +1,5 @@
 use Rattle.std.proofs.Common.{◌≡◌, length, take}
-use Rattle.mapf_model.specs.Earned.{AreConflictFreeBefore}
+use Rattle.mapf_model.specs.Conflicts.{AreConflictFreeBefore}
 use Rattle.mapf_model.specs.Limits.{most_agents}
 use Rattle.mapf_conflicts.specs.Pairs.{cells_at}
 use Rattle.mapf_conflicts.proofs.first.first_among.Given as goal

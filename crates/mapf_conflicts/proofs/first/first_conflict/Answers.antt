@@ -1,6 +1,6 @@
 use Rattle.std.proofs.Common.{IfNone, subst, ◌∙◌}
 use Rattle.std.proofs.lemmas.List.{map-id}
-use Rattle.mapf_model.specs.Earned.{HaveSomeConflict}
+use Rattle.mapf_model.specs.Conflicts.{HaveSomeConflict}
 use Rattle.mapf_conflicts.proofs.first.first_conflict.Goals as goal
 
 pub returns-clause-none : goal.returns-clause-none

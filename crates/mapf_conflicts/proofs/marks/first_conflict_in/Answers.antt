@@ -1,5 +1,5 @@
 use Rattle.std.proofs.Common.{IfNone, subst}
-use Rattle.mapf_model.specs.Earned.{HaveSomeConflict}
+use Rattle.mapf_model.specs.Conflicts.{HaveSomeConflict}
 use Rattle.mapf_conflicts.proofs.marks.first_conflict_in.Goals as goal
 
 pub returns-clause-none : goal.returns-clause-none

@@ -8,7 +8,7 @@ returns c problem claim = record {
   over = ([], refl, tt);
   missing = none_missing problem claim;
   unowed = none_unowed problem claim;
-  at_split = λ context owed conflict blocks items. (from_split problem claim context owed conflict blocks items, to_split problem claim context owed conflict blocks items);
-  at_leaf = λ constraints owed blocks items. (from_leaf problem claim constraints owed blocks items, to_leaf problem claim constraints owed blocks items);
-  at_clash = λ constraints owed i j items. (from_clash problem claim constraints owed i j items, to_clash problem claim constraints owed i j items);
+  at_split = λ context pending conflict blocks items. (from_split problem claim context pending conflict blocks items, to_split problem claim context pending conflict blocks items);
+  at_leaf = λ constraints pending blocks items. (from_leaf problem claim constraints pending blocks items, to_leaf problem claim constraints pending blocks items);
+  at_clash = λ constraints pending i j items. (from_clash problem claim constraints pending i j items, to_clash problem claim constraints pending i j items);
 }

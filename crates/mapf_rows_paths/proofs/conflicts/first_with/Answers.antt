@@ -1,7 +1,7 @@
 use Rattle.std.proofs.Common.{ℕ, List, sym, subst, ◌∙◌}
 use Rattle.std.specs.List.{slice_set}
 use Rattle.mapf_model.proofs.PlaceLemmas.{slice_get-set_other}
-use Rattle.mapf_model.specs.Earned.{AreConflictFreeBefore}
+use Rattle.mapf_model.specs.Conflicts.{AreConflictFreeBefore}
 use Rattle.mapf_conflicts.specs.Pairs.{AreOthersFreeBefore}
 use Rattle.mapf_rows_paths.proofs.conflicts.first_with.Goals as goal
 

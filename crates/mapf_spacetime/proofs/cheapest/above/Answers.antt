@@ -11,7 +11,7 @@ use Rattle.mapf_spacetime.proofs.cheapest.above.Goals as goal
 
 pub dead-requires-clause-few : goal.dead-requires-clause-few
 dead-requires-clause-few g c s held =
-    let task = c.args.ground.now in
+    let task = c.args.task.now in
     let sweep = c.args.workspace.now.sweep in
     let small = c.requires.small in
     let bound = c.requires.bound in
@@ -22,13 +22,13 @@ dead-requires-clause-rising g c = subst (AllPairs IsEarlier) (sym c.states.ensur
 
 pub dead-requires-clause-none : goal.dead-requires-clause-none
 dead-requires-clause-none g c entries a =
-    let task = c.args.ground.now in
+    let task = c.args.task.now in
     let sweep = c.args.workspace.now.sweep in
     all_show task sweep.bound sweep.states (whole_all task sweep c.requires.whole (sym c.is_cut.ensures ∙ c.if-not-is_cut.true)) entries (subst (λ l. AreEntriesOf l None entries) c.states.ensures a)
 
 pub prove-unreachable-requires : goal.prove-unreachable-requires
 prove-unreachable-requires g c =
-    let task = c.args.ground.now in
+    let task = c.args.task.now in
     let sweep = c.args.workspace.now.sweep in
     let w = c.requires.whole in
     let next = next_bound task sweep w (w.cut (sym c.is_cut.ensures ∙ c.if-not-is_cut.false)) c.horizon-horizon.result c.horizon-horizon.ensures.above in
@@ -38,7 +38,7 @@ prove-unreachable-requires g c =
 
 pub try_walk-requires-clause-small : goal.try_walk-requires-clause-small
 try_walk-requires-clause-small g c =
-    let task = c.args.ground.now in
+    let task = c.args.task.now in
     let sweep = c.args.workspace.now.sweep in
     let w = c.requires.whole in
     let next = next_bound task sweep w (w.cut (sym c.is_cut.ensures ∙ c.if-not-is_cut.false)) c.horizon-horizon.result c.horizon-horizon.ensures.above in
@@ -50,13 +50,13 @@ pub try_walk-requires-clause-within : goal.try_walk-requires-clause-within
 try_walk-requires-clause-within g c =
     let sweep = c.args.workspace.now.sweep in
     let w = c.requires.whole in
-    let (value, is, le) = w.reached.within (start_of c.args.ground.now) w.reached.start in
+    let (value, is, le) = w.reached.within (start_of c.args.task.now) w.reached.start in
     let bound = c.requires.bound in
     (value, is, omega arith)
 
 pub arrive_by-requires-clause-small : goal.arrive_by-requires-clause-small
 arrive_by-requires-clause-small g c =
-    let task = c.args.ground.now in
+    let task = c.args.task.now in
     let sweep = c.args.workspace.now.sweep in
     let w = c.requires.whole in
     let next = next_bound task sweep w (w.cut (sym c.is_cut.ensures ∙ c.if-not-is_cut.false)) c.horizon-horizon.result c.horizon-horizon.ensures.above in
@@ -66,7 +66,7 @@ arrive_by-requires-clause-small g c =
 
 pub arrive_by-requires-clause-limit : goal.arrive_by-requires-clause-limit
 arrive_by-requires-clause-limit g c =
-    let task = c.args.ground.now in
+    let task = c.args.task.now in
     let sweep = c.args.workspace.now.sweep in
     let w = c.requires.whole in
     let bound = c.requires.bound in
@@ -75,7 +75,7 @@ arrive_by-requires-clause-limit g c =
 
 pub arrive_by-requires-clause-arrived : goal.arrive_by-requires-clause-arrived
 arrive_by-requires-clause-arrived g c =
-    let task = c.args.ground.now in
+    let task = c.args.task.now in
     let sweep = c.args.workspace.now.sweep in
     let w = c.requires.whole in
     let bound = c.requires.bound in
@@ -90,7 +90,7 @@ arrive_by-requires-clause-arrived g c =
 
 pub begin_above-requires-clause-small : goal.begin_above-requires-clause-small
 begin_above-requires-clause-small g c =
-    let task = c.args.ground.now in
+    let task = c.args.task.now in
     let sweep = c.args.workspace.now.sweep in
     let w = c.requires.whole in
     let next = next_bound task sweep w (w.cut (sym c.is_cut.ensures ∙ c.if-not-is_cut.false)) c.horizon-horizon.result c.horizon-horizon.ensures.above in
@@ -100,7 +100,7 @@ begin_above-requires-clause-small g c =
 
 pub by_levels-requires-clause-limit : goal.by_levels-requires-clause-limit
 by_levels-requires-clause-limit g c =
-    let task = c.args.ground.now in
+    let task = c.args.task.now in
     let sweep = c.args.workspace.now.sweep in
     let w = c.requires.whole in
     let bound = c.requires.bound in
@@ -110,7 +110,7 @@ by_levels-requires-clause-limit g c =
 
 pub by_levels-requires-clause-small : goal.by_levels-requires-clause-small
 by_levels-requires-clause-small g c last above =
-    let task = c.args.ground.now in
+    let task = c.args.task.now in
     let sweep = c.args.workspace.now.sweep in
     let w = c.requires.whole in
     let next = next_bound task sweep w (w.cut (sym c.is_cut.ensures ∙ c.if-not-is_cut.false)) last above in
@@ -121,36 +121,36 @@ by_levels-requires-clause-small g c last above =
 pub dead-requires-in-None-clause-few : goal.dead-requires-in-None-clause-few
 dead-requires-in-None-clause-few g c s held =
     let frontier = c.by_levels.new.frontier in
-    let all = subst (λ o. IfNone o (AreAll c.args.ground.now frontier.cost frontier.reached)) c.in-None.is c.in_ok-cells-2.ensures.all in
-    all_few c.args.ground.now frontier.cost frontier.reached all c.in_ok-cells-2.ensures.small s (subst (λ l. Contains l s) c.reached-in-None.ensures held)
+    let all = subst (λ o. IfNone o (AreAll c.args.task.now frontier.cost frontier.reached)) c.in-None.is c.in_ok-cells-2.ensures.all in
+    all_few c.args.task.now frontier.cost frontier.reached all c.in_ok-cells-2.ensures.small s (subst (λ l. Contains l s) c.reached-in-None.ensures held)
 
 pub dead-requires-in-None-clause-rising : goal.dead-requires-in-None-clause-rising
 dead-requires-in-None-clause-rising g c =
     let frontier = c.by_levels.new.frontier in
-    let all = subst (λ o. IfNone o (AreAll c.args.ground.now frontier.cost frontier.reached)) c.in-None.is c.in_ok-cells-2.ensures.all in
+    let all = subst (λ o. IfNone o (AreAll c.args.task.now frontier.cost frontier.reached)) c.in-None.is c.in_ok-cells-2.ensures.all in
     subst (AllPairs IsEarlier) (sym c.reached-in-None.ensures) all.reached.rising
 
 pub dead-requires-in-None-clause-none : goal.dead-requires-in-None-clause-none
 dead-requires-in-None-clause-none g c entries a =
     let frontier = c.by_levels.new.frontier in
-    let all = subst (λ o. IfNone o (AreAll c.args.ground.now frontier.cost frontier.reached)) c.in-None.is c.in_ok-cells-2.ensures.all in
-    all_show c.args.ground.now frontier.cost frontier.reached all entries (subst (λ l. AreEntriesOf l None entries) c.reached-in-None.ensures a)
+    let all = subst (λ o. IfNone o (AreAll c.args.task.now frontier.cost frontier.reached)) c.in-None.is c.in_ok-cells-2.ensures.all in
+    all_show c.args.task.now frontier.cost frontier.reached all entries (subst (λ l. AreEntriesOf l None entries) c.reached-in-None.ensures a)
 
 pub dead-requires-clause-all : goal.dead-requires-clause-all
 dead-requires-clause-all g c entries a =
-    let task = c.args.ground.now in
+    let task = c.args.task.now in
     let sweep = c.args.workspace.now.sweep in
     all_listed task sweep.bound sweep.states entries (whole_all task sweep c.requires.whole (sym c.is_cut.ensures ∙ c.if-not-is_cut.true)) (subst (λ l. AreEntriesOf l None entries) c.states.ensures a) c.requires.start
 
 pub dead-requires-in-None-clause-all : goal.dead-requires-in-None-clause-all
 dead-requires-in-None-clause-all g c entries a =
     let frontier = c.by_levels.new.frontier in
-    let all = subst (λ o. IfNone o (AreAll c.args.ground.now frontier.cost frontier.reached)) c.in-None.is c.in_ok-cells-2.ensures.all in
-    all_listed c.args.ground.now frontier.cost frontier.reached entries all (subst (λ l. AreEntriesOf l None entries) c.reached-in-None.ensures a) c.requires.start
+    let all = subst (λ o. IfNone o (AreAll c.args.task.now frontier.cost frontier.reached)) c.in-None.is c.in_ok-cells-2.ensures.all in
+    all_listed c.args.task.now frontier.cost frontier.reached entries all (subst (λ l. AreEntriesOf l None entries) c.reached-in-None.ensures a) c.requires.start
 
 pub by_levels-requires-clause-within : goal.by_levels-requires-clause-within
 by_levels-requires-clause-within g c =
-    let task = c.args.ground.now in
+    let task = c.args.task.now in
     let sweep = c.args.workspace.now.sweep in
     let w = c.requires.whole in
     let (value, is, le) = w.reached.within (start_of task) w.reached.start in

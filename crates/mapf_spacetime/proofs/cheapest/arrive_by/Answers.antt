@@ -14,7 +14,7 @@ of-requires g c = c.requires.arrived.swept.rising
 
 pub returns-clause-answer : goal.returns-clause-answer
 returns-clause-answer g c =
-    let task = c.args.ground.now in
+    let task = c.args.task.now in
     let cost = c.args.cost in
     let states = c.args.states.now in
     let h = c.requires.arrived in
@@ -38,7 +38,7 @@ returns-clause-answer g c =
 
 pub returns-clause-listed : goal.returns-clause-listed
 returns-clause-listed g c =
-    let task = c.args.ground.now in
+    let task = c.args.task.now in
     let cost = c.args.cost in
     let states = c.args.states.now in
     let h = c.requires.arrived in

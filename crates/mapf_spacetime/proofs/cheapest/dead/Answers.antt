@@ -3,7 +3,7 @@ use Rattle.mapf_spacetime.proofs.cheapest.dead.Goals as goal
 
 pub returns-clause-answer : goal.returns-clause-answer
 returns-clause-answer g c =
-    let task = c.args.ground.now in
+    let task = c.args.task.now in
     let listed = c.in_ok-labels.labels in
     let a = c.in_ok-labels.ensures in
     let shows = c.requires.none listed a in

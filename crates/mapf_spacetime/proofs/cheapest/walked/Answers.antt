@@ -6,12 +6,12 @@ use Rattle.mapf_spacetime.proofs.cheapest.walked.Goals as goal
 
 pub arrive_by-requires-clause-arrived : goal.arrive_by-requires-clause-arrived
 arrive_by-requires-clause-arrived g c =
-    let task = c.args.ground.now in
+    let task = c.args.task.now in
     walk_arrived task c.args.cost [] c.args.cells.items (none_swept task c.args.cost (subst (IsValue task (start_of task)) (sym c.if-cost-distance.true) c.requires.distance)) c.requires.walk c.requires.rest
 
 pub arrive_by-requires-in-None-clause-limit : goal.arrive_by-requires-in-None-clause-limit
 arrive_by-requires-in-None-clause-limit g c =
-    let task = c.args.ground.now in
+    let task = c.args.task.now in
     let w : IsWhole task c.arrival.new.self = subst (λ o. IfNone o (IsWhole task c.arrival.new.self)) c.in-None.is c.in_ok-arrival.ensures.whole in
     let bound = subst (λ o. IfNone o (c.arrival.new.self.bound ≡ c.args.cost - 1)) c.in-None.is c.in_ok-arrival.ensures.bound in
     let least = c.requires.least in
@@ -20,7 +20,7 @@ arrive_by-requires-in-None-clause-limit g c =
 
 pub arrive_by-requires-in-None-clause-arrived : goal.arrive_by-requires-in-None-clause-arrived
 arrive_by-requires-in-None-clause-arrived g c =
-    let task = c.args.ground.now in
+    let task = c.args.task.now in
     let w : IsWhole task c.arrival.new.self = subst (λ o. IfNone o (IsWhole task c.arrival.new.self)) c.in-None.is c.in_ok-arrival.ensures.whole in
     let bound = subst (λ o. IfNone o (c.arrival.new.self.bound ≡ c.args.cost - 1)) c.in-None.is c.in_ok-arrival.ensures.bound in
     let least = c.requires.least in

@@ -8,7 +8,7 @@ use Rattle.mapf_model.specs.Limits.{most_cells}
 
 pub prove-unreachable-requires : goal.prove-unreachable-requires
 prove-unreachable-requires g c =
-    let task = c.args.ground.now in
+    let task = c.args.task.now in
     let done = from_none c.in_ok-cells.field-0 c.in_default.not-Some c.in_ok-cells.ensures.done in
     let some = iff_false c.none_waits.ensures c.if-none_waits.false in
     let small = number_next task c.level.new.frontier done some c.horizon-horizon.result c.horizon-horizon.ensures.above in
@@ -19,7 +19,7 @@ prove-unreachable-requires g c =
 
 pub loop-cells-preserved : goal.loop-cells-preserved
 loop-cells-preserved g c =
-    let task = c.args.ground.now in
+    let task = c.args.task.now in
     let done = from_none c.in_ok-cells.field-0 c.in_default.not-Some c.in_ok-cells.ensures.done in
     let some = iff_false c.none_waits.ensures c.if-none_waits.false in
     let raised_is = c.raise.ensures done.none_open in
@@ -37,4 +37,4 @@ loop-cells-preserved g c =
 pub returns-then-none_waits-clause-all : goal.returns-then-none_waits-clause-all
 returns-then-none_waits-clause-all g c =
     let done = from_none c.in_ok-cells.field-0 c.in_default.not-Some c.in_ok-cells.ensures.done in
-    c.keep_all.ensures.all c.args.ground.now (record { done = done; none_waits = c.none_waits.ensures.0 c.if-none_waits.true })
+    c.keep_all.ensures.all c.args.task.now (record { done = done; none_waits = c.none_waits.ensures.0 c.if-none_waits.true })

@@ -7,11 +7,11 @@ use Rattle.mapf_spacetime.proofs.levels.by_levels.Given as goal
 
 abbrev pub invariant-loop-cells : goal.invariant-loop-cells
 invariant-loop-cells g l = record {
-  frontier : IsFrontier l.ground [] l.frontier;
+  frontier : IsFrontier l.task [] l.frontier;
   cost : l.frontier.cost ≡ l.cost;
-  within : IsWithin l.ground l.cost (start_of l.ground);
-  rest : MayRestFrom l.ground l.cost;
-  limit : IsBelowLimit l.ground l.cost;
+  within : IsWithin l.task l.cost (start_of l.task);
+  rest : MayRestFrom l.task l.cost;
+  limit : IsBelowLimit l.task l.cost;
   small : l.cost < l.horizon + most_cells;
 }
 

@@ -10,18 +10,18 @@ use Rattle.mapf_spacetime.proofs.levels.wide_level.Goals as goal
 
 pub loop-walk-init : goal.loop-walk-init
 loop-walk-init g c =
-    let task = c.args.ground.now in
+    let task = c.args.task.now in
     let cost = c.cost-cost.ensures in
     record {
       frontier = c.requires.frontier;
       cost = sym cost;
-      searching = subst (IsSearching task c.cost-cost.result) (sym (c.in_ok-walk.ensures ∙ ap first_walk c.start.ensures))
+      searching = subst (IsSearching task c.cost-cost.result) (sym (c.in_ok-walk.ensures ∙ ap first_walk c.start.ensures.start))
           (first_searching task c.cost-cost.result (subst (λ n. IsWithin task n (start_of task)) (sym cost) c.requires.within));
     }
 
 pub returns-in-AtGoal-clause-arrives : goal.returns-in-AtGoal-clause-arrives
 returns-in-AtGoal-clause-arrives g c =
-    let task = c.args.ground.now in
+    let task = c.args.task.now in
     let states = c.loop-walk.frontier in
     let now = sym c.loop-walk.invariant.cost in
     let walk = subst (IsEnd task c.cost-cost.result c.search.new.self) c.in-AtGoal.is c.in_ok-search.ensures in
@@ -32,7 +32,7 @@ returns-in-AtGoal-clause-arrives g c =
 
 pub finish-requires : goal.finish-requires
 finish-requires g c =
-    let task = c.args.ground.now in
+    let task = c.args.task.now in
     let at_goal : IsAtGoal task c.expand.new.self = subst (IsExpanded task c.expand.new.self) c.in-Arrives.is c.in_ok-expand.ensures.expanded in
     let now = c.in_ok-expand.ensures.cost ∙ c.loop-walk.invariant.cost in
     record {
@@ -43,7 +43,7 @@ finish-requires g c =
 
 pub loop-walk-preserved : goal.loop-walk-preserved
 loop-walk-preserved g c =
-    let task = c.args.ground.now in record {
+    let task = c.args.task.now in record {
       frontier = subst (IsExpanded task c.expand.new.self) c.in-Paused.is c.in_ok-expand.ensures.expanded;
       cost = c.in_ok-expand.ensures.cost ∙ c.loop-walk.invariant.cost;
       searching = still_searching task c.cost-cost.result c.search.new.self c.in_ok-search.field-0 c.in_ok-search.ensures c.in_default.not-AtGoal;

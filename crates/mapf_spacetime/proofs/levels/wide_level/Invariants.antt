@@ -5,9 +5,9 @@ use Rattle.mapf_spacetime.proofs.levels.wide_level.Given as goal
 
 abbrev pub invariant-loop-walk : goal.invariant-loop-walk
 invariant-loop-walk g l = record {
-  frontier : IsFrontier l.ground [] l.frontier;
+  frontier : IsFrontier l.task [] l.frontier;
   cost : l.frontier.cost ≡ l.cost;
-  searching : IsSearching l.ground l.cost l.walk;
+  searching : IsSearching l.task l.cost l.walk;
 }
 
 abbrev pub decreases-loop-walk : goal.decreases-loop-walk

@@ -10,7 +10,7 @@ loop-arrives-smaller g c =
     let sweep = c.loop-arrives.sweep in
     let goes = c.loop-arrives.invariant.goes c.loop-arrives-test.true in
     let some : sweep.first < length sweep.states = ⊎_elim (λ less. less) (λ over. absurd (iff_false c.is_over.ensures c.if-not-is_over.true over)) (cases_lt sweep.first (length sweep.states)) in
-    let last = last_tick c.args.ground.now sweep.tick sweep.first sweep goes.reached some in
+    let last = last_tick c.args.task.now sweep.tick sweep.first sweep goes.reached some in
     let same = c.loop-arrives.invariant.bound in
     let did = c.in_ok-arrives-2.ensures in
     let tick = did.tick in
@@ -21,13 +21,13 @@ returns g c =
     let sweep = c.loop-arrives.sweep in
     let goes = c.loop-arrives.invariant.goes c.if-arrives.false in
     elim c.loop-arrives-test.branch [
-      | then-loop-arrives-test+else-not-is_over w ↦ (whole c.args.ground.now sweep.tick sweep.first sweep goes.reached (w.is_over.ensures.0 w.if-not-is_over.false), c.loop-arrives.invariant.bound)
+      | then-loop-arrives-test+else-not-is_over w ↦ (whole c.args.task.now sweep.tick sweep.first sweep goes.reached (w.is_over.ensures.0 w.if-not-is_over.false), c.loop-arrives.invariant.bound)
       | else-loop-arrives-test w ↦ absurd (false≢true (sym c.if-arrives.false ∙ w.loop-arrives-test.false))
     ]
 
 pub loop-arrives-preserved : goal.loop-arrives-preserved
 loop-arrives-preserved g c =
-    let task = c.args.ground.now in
+    let task = c.args.task.now in
     let bound = c.args.bound in
     let did = c.in_ok-arrives-2.ensures in
     elim c.if-most_failures-allowed.branch [

@@ -5,10 +5,10 @@ use Rattle.mapf_spacetime.proofs.turns.by_turns.Given as goal
 
 abbrev pub invariant-loop-arrives : goal.invariant-loop-arrives
 invariant-loop-arrives g l = record {
-  arrives : l.arrives ≡ true → MeetsGoal l.ground l.sweep.tick l.sweep;
-  goes : l.arrives ≡ false → IsUnderWay l.ground l.sweep;
+  arrives : l.arrives ≡ true → MeetsGoal l.task l.sweep.tick l.sweep;
+  goes : l.arrives ≡ false → IsUnderWay l.task l.sweep;
   bound : l.sweep.bound ≡ l.bound;
-  searching : IsSearching l.ground l.bound l.walk;
+  searching : IsSearching l.task l.bound l.walk;
 }
 
 abbrev pub decreases-loop-arrives : goal.decreases-loop-arrives

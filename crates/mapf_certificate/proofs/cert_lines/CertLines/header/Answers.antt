@@ -19,7 +19,7 @@ returns-in-Ok-clause-header g c =
     let had = s.remaining c.args.source.now in
     let left = s.remaining c.read_header.new.source in
     let h = c.in-Ok in
-    let new : Reading = record { width = i.width; height = i.height; buffer = c.read_header.new.lines.buffer; version = h.version; header = Some (h.agents, h.claim); fault = i.fault; is_whole = i.is_whole; owed = i.owed } in
+    let new : Reading = record { width = i.width; height = i.height; buffer = c.read_header.new.lines.buffer; version = h.version; header = Some (h.agents, h.claim); fault = i.fault; is_whole = i.is_whole; pending = i.pending } in
     let P : Reading → Type 0 = λ r. r.fault ≡ None → r.header ≡ None → TakesHeader had left r new h.agents h.claim in
     subst P c.self.view_is (λ p q. record {
       agents_in_range = h.ensures.agents;
@@ -36,7 +36,7 @@ returns-in-Ok-clause-only g c =
     let had = s.remaining c.args.source.now in
     let left = s.remaining c.read_header.new.source in
     let h = c.in-Ok in
-    let new : Reading = record { width = i.width; height = i.height; buffer = c.read_header.new.lines.buffer; version = h.version; header = Some (h.agents, h.claim); fault = i.fault; is_whole = i.is_whole; owed = i.owed } in
+    let new : Reading = record { width = i.width; height = i.height; buffer = c.read_header.new.lines.buffer; version = h.version; header = Some (h.agents, h.claim); fault = i.fault; is_whole = i.is_whole; pending = i.pending } in
     let P : Reading → Type 0 = λ r. (version : Version) (agents : ℕ) (claim : Claim) (nodes : List Node) → r.fault ≡ None → r.header ≡ None → AwaitsCert had r version agents claim nodes
     → (h.version ≡ version) × (h.agents ≡ agents) × (h.claim ≡ claim) × Awaits left new nodes in
     subst P c.self.view_is (λ version agents claim nodes p q awaits. header_same _ _ _ new _ _ _ _ _ _ h.ensures.agents h.ensures.claim (h.ensures.taken i.width) refl refl refl awaits)

@@ -13,7 +13,7 @@ returns-in-Ok-Some-clause-only_end g c = λ p q awaits.
     let old = c.args.self.now in
     let P : Option Item → Type 0 = λ o. IfSome o (λ item. TakesNode had (s.remaining c.read_item.new.source) old c.read_item.new.self (node_of item)) in
     let takes = subst P c.in-Ok-Some.field-0-is c.in-Ok-Some.ensures.item in
-    absurd (no_end _ _ awaits takes.read.was_owed)
+    absurd (no_end _ _ awaits takes.read.was_pending)
 
 pub returns-in-Ok-None-clause-end : goal.returns-in-Ok-None-clause-end
 returns-in-Ok-None-clause-end g c = λ p q none.
@@ -22,15 +22,15 @@ returns-in-Ok-None-clause-end g c = λ p q none.
     let left = s.remaining c.read_item.new.source in
     let old = c.args.self.now in
     let i = c.self-2.inside in
-    let mid : Reading = record { width = i.width; height = i.height; buffer = i.lines.buffer; version = i.version; header = i.header; fault = i.fault; is_whole = i.is_whole; owed = i.owed } in
+    let mid : Reading = record { width = i.width; height = i.height; buffer = i.lines.buffer; version = i.version; header = i.header; fault = i.fault; is_whole = i.is_whole; pending = i.pending } in
     let new : Reading = record mid { is_whole = true } in
     let reads : ReadsEnd had left old mid = subst (ReadsEnd had left old) (sym c.self-2.view_is) (c.in-Ok-None.ensures.end c.in-Ok-None.field-0-is) in
-    let read : ReadsEnd had left old new = record { none_owed = reads.none_owed; window = reads.window; ended = reads.ended; empty = reads.empty; owed = reads.owed } in
+    let read : ReadsEnd had left old new = record { none_pending = reads.none_pending; window = reads.window; ended = reads.ended; empty = reads.empty; pending = reads.pending } in
     record { read = read; whole = refl; joins = end_joins _ _ _ _ read }
 
 pub returns-in-Ok-None-clause-only_item : goal.returns-in-Ok-None-clause-only_item
 returns-in-Ok-None-clause-only_item g c = λ node nodes p q awaits.
-    no_node _ _ _ _ awaits (c.in-Ok-None.ensures.end c.in-Ok-None.field-0-is).none_owed
+    no_node _ _ _ _ awaits (c.in-Ok-None.ensures.end c.in-Ok-None.field-0-is).none_pending
 
 pub returns-in-Err-clause-only_item : goal.returns-in-Err-clause-only_item
 returns-in-Err-clause-only_item g c = λ node nodes p q awaits.

@@ -14,7 +14,7 @@ pub returns-in_err-line-clause-fails : goal.returns-in_err-line-clause-fails
 returns-in_err-line-clause-fails g c =
     let i = c.self.inside in
     let sizes = sizes_at i.version i.width i.height i.header c.unwrap-agents.result c.self.invariant.columns c.self.invariant.rows c.self.invariant.agents c.unwrap-agents.ensures in
-    let old : Reading = record { width = i.width; height = i.height; buffer = i.lines.buffer; version = i.version; header = i.header; fault = i.fault; is_whole = i.is_whole; owed = i.owed } in
+    let old : Reading = record { width = i.width; height = i.height; buffer = i.lines.buffer; version = i.version; header = i.header; fault = i.fault; is_whole = i.is_whole; pending = i.pending } in
     let bounds : Bounds sizes old = record { version = refl; grid = refl; agents = ap agents_in c.unwrap-agents.ensures } in
     fails_at _ _ _ _ _ _ c.self.view_is (err_passed _ _ _ (err_from_is_err_and _ c.from_residual.ensures.1)
     (fails_first sizes old _ _ _ _ _ bounds c.in_err-line.ensures.fails))
@@ -23,7 +23,7 @@ pub returns-in_err-take_end-clause-fails : goal.returns-in_err-take_end-clause-f
 returns-in_err-take_end-clause-fails g c =
     let i = c.self.inside in
     let sizes = sizes_at i.version i.width i.height i.header c.unwrap-agents.result c.self.invariant.columns c.self.invariant.rows c.self.invariant.agents c.unwrap-agents.ensures in
-    let old : Reading = record { width = i.width; height = i.height; buffer = i.lines.buffer; version = i.version; header = i.header; fault = i.fault; is_whole = i.is_whole; owed = i.owed } in
+    let old : Reading = record { width = i.width; height = i.height; buffer = i.lines.buffer; version = i.version; header = i.header; fault = i.fault; is_whole = i.is_whole; pending = i.pending } in
     let bounds : Bounds sizes old = record { version = refl; grid = refl; agents = ap agents_in c.unwrap-agents.ensures } in
     fails_at _ _ _ _ _ _ c.self.view_is (err_passed _ _ _ (err_from_is_err_and _ c.from_residual-in_err-take_end.ensures.1)
     (fails_in_end sizes old _ _ _ _ _ _ _ c.in_err-take_end.field-0.0 bounds c.if-self-eq0.true c.in_ok-line.ensures.line c.in_ok-line.ensures.taken c.in_err-take_end.ensures.fails))
@@ -32,7 +32,7 @@ pub returns-in_err-item-clause-fails : goal.returns-in_err-item-clause-fails
 returns-in_err-item-clause-fails g c =
     let i = c.self.inside in
     let sizes = sizes_at i.version i.width i.height i.header c.unwrap-agents.result c.self.invariant.columns c.self.invariant.rows c.self.invariant.agents c.unwrap-agents.ensures in
-    let old : Reading = record { width = i.width; height = i.height; buffer = i.lines.buffer; version = i.version; header = i.header; fault = i.fault; is_whole = i.is_whole; owed = i.owed } in
+    let old : Reading = record { width = i.width; height = i.height; buffer = i.lines.buffer; version = i.version; header = i.header; fault = i.fault; is_whole = i.is_whole; pending = i.pending } in
     let bounds : Bounds sizes old = record { version = refl; grid = refl; agents = ap agents_in c.unwrap-agents.ensures } in
     fails_at _ _ _ _ _ _ c.self.view_is (err_passed _ _ _ (err_from_is_err_and _ c.from_residual-in_err-item.ensures.1)
     (fails_in_item sizes old _ _ _ _ _ _ _ c.in_err-item.field-0.0 bounds (omega (arith, c.if-self-eq0.false)) c.in_ok-line.ensures.taken c.in_err-item.ensures.fails))
@@ -43,14 +43,14 @@ returns-clause-item g c =
     let i = c.self.inside in
     let had = s.remaining c.args.source.now in
     let sizes = sizes_at i.version i.width i.height i.header c.unwrap-agents.result c.self.invariant.columns c.self.invariant.rows c.self.invariant.agents c.unwrap-agents.ensures in
-    let old : Reading = record { width = i.width; height = i.height; buffer = i.lines.buffer; version = i.version; header = i.header; fault = i.fault; is_whole = i.is_whole; owed = i.owed } in
+    let old : Reading = record { width = i.width; height = i.height; buffer = i.lines.buffer; version = i.version; header = i.header; fault = i.fault; is_whole = i.is_whole; pending = i.pending } in
     let bounds : Bounds sizes old = record { version = refl; grid = refl; agents = ap agents_in c.unwrap-agents.ensures } in
-    let new : Reading = record { width = i.width; height = i.height; buffer = c.item_of.new.lines.buffer; version = i.version; header = i.header; fault = i.fault; is_whole = i.is_whole; owed = c.trees_owed_after-self-inside.result } in
+    let new : Reading = record { width = i.width; height = i.height; buffer = c.item_of.new.lines.buffer; version = i.version; header = i.header; fault = i.fault; is_whole = i.is_whole; pending = c.trees_pending_after-self-inside.result } in
     let node = node_of c.in_ok-item.item in
     let on : Continues old new = record { version = refl; grid = refl; agents = refl } in
-    let some : 1 ≤ i.owed = omega (arith, c.if-self-eq0.false) in
+    let some : 1 ≤ i.pending = omega (arith, c.if-self-eq0.false) in
     let left = s.remaining c.item_of.new.source in
-    let read : ReadsNode had left old new node = reads_node sizes _ _ _ _ _ _ _ _ bounds refl c.in_ok-line.ensures.taken c.in_ok-item.ensures.item some c.trees_owed_after-self-inside.ensures in
+    let read : ReadsNode had left old new node = reads_node sizes _ _ _ _ _ _ _ _ bounds refl c.in_ok-line.ensures.taken c.in_ok-item.ensures.item some c.trees_pending_after-self-inside.ensures in
     let P : Reading → Type 0 = λ r. TakesNode had left r new node in
     subst P c.self.view_is (record { read = read; joins = node_joins _ _ _ _ _ on read })
 
@@ -60,14 +60,14 @@ returns-clause-same g c =
     let i = c.self.inside in
     let had = s.remaining c.args.source.now in
     let sizes = sizes_at i.version i.width i.height i.header c.unwrap-agents.result c.self.invariant.columns c.self.invariant.rows c.self.invariant.agents c.unwrap-agents.ensures in
-    let old : Reading = record { width = i.width; height = i.height; buffer = i.lines.buffer; version = i.version; header = i.header; fault = i.fault; is_whole = i.is_whole; owed = i.owed } in
+    let old : Reading = record { width = i.width; height = i.height; buffer = i.lines.buffer; version = i.version; header = i.header; fault = i.fault; is_whole = i.is_whole; pending = i.pending } in
     let bounds : Bounds sizes old = record { version = refl; grid = refl; agents = ap agents_in c.unwrap-agents.ensures } in
-    let new : Reading = record { width = i.width; height = i.height; buffer = c.item_of.new.lines.buffer; version = i.version; header = i.header; fault = i.fault; is_whole = i.is_whole; owed = c.trees_owed_after-self-inside.result } in
+    let new : Reading = record { width = i.width; height = i.height; buffer = c.item_of.new.lines.buffer; version = i.version; header = i.header; fault = i.fault; is_whole = i.is_whole; pending = c.trees_pending_after-self-inside.result } in
     let node = node_of c.in_ok-item.item in
     let on : Continues old new = record { version = refl; grid = refl; agents = refl } in
-    let some : 1 ≤ i.owed = omega (arith, c.if-self-eq0.false) in
+    let some : 1 ≤ i.pending = omega (arith, c.if-self-eq0.false) in
     let left = s.remaining c.item_of.new.source in
-    let read : ReadsNode had left old new node = reads_node sizes _ _ _ _ _ _ _ _ bounds refl c.in_ok-line.ensures.taken c.in_ok-item.ensures.item some c.trees_owed_after-self-inside.ensures in
+    let read : ReadsNode had left old new node = reads_node sizes _ _ _ _ _ _ _ _ bounds refl c.in_ok-line.ensures.taken c.in_ok-item.ensures.item some c.trees_pending_after-self-inside.ensures in
     let P : Reading → Type 0 = λ r. (due : Node) (nodes : List Node) → Awaits had r (due ∷ nodes) → (node ≡ due) × Awaits left new nodes in
     subst P c.self.view_is (λ due nodes awaits. node_same sizes _ _ _ _ _ _ _ bounds refl on read awaits)
 

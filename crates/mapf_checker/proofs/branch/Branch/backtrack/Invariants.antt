@@ -4,7 +4,7 @@ use Rattle.mapf_checker.proofs.branch.Branch.backtrack.Given as goal
 
 abbrev pub invariant-loop-edge : goal.invariant-loop-edge
 invariant-loop-edge l = record {
-  owed : (place_of l.self).owed ≡ (place_of l.fn.self).owed;
+  pending : (place_of l.self).pending ≡ (place_of l.fn.self).pending;
   agents : l.self.agents ≡ l.fn.self.agents;
 }
 

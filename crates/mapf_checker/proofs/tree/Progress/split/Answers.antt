@@ -22,8 +22,8 @@ split-requires-clause-entries c =
     subst (λ edges. KnowEntries (place_after edges).here.entries changes) (sym c.changes.ensures.edges)
     (changes_know c.args.problem.now (here_of c.args.self.now).entries c.args.blocks.now changes c.in_ok-changes.ensures.changes)
 
-pub returns-clause-owed : goal.returns-clause-owed
-returns-clause-owed c =
+pub returns-clause-pending : goal.returns-clause-pending
+returns-clause-pending c =
     let self = c.args.self.now in
     rw c.changes.ensures.over
     (contexts_after_split c.args.problem.now c.args.conflict.now c.args.blocks.now c.in_ok-changes.changes.items self.is_over (place_of self.branch) (place_of c.split.new.self) c.requires.going

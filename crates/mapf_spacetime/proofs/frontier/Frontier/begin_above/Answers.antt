@@ -9,7 +9,7 @@ use Rattle.mapf_spacetime.proofs.frontier.Frontier.begin_above.Goals.{then-not-i
 
 pub loop-place-init : goal.loop-place-init
 loop-place-init g c =
-    let task = c.args.ground.now in
+    let task = c.args.task.now in
     let sweep = c.args.sweep.now in
     let reached = sym c.in_ok-begin_with.ensures in
     let cost : sweep.bound + 1 ≡ c.args.cost = sym c.requires.cost in
@@ -38,7 +38,7 @@ take_all-requires-clause-within g c =
 
 pub take_all-requires-clause-low : goal.take_all-requires-clause-low
 take_all-requires-clause-low g c to may (value, is, less) =
-    let task = c.args.ground.now in
+    let task = c.args.task.now in
     let sweep = c.args.sweep.now in
     let from = c.index-states-place.result in
     let same = c.states.ensures ∙ ap (λ s. s.reached) c.self-in-loop-place.view_is ∙ c.loop-place.invariant.reached in
@@ -67,7 +67,7 @@ is_below-requires g c =
 
 pub loop-place-preserved : goal.loop-place-preserved
 loop-place-preserved g c =
-    let task = c.args.ground.now in
+    let task = c.args.task.now in
     let sweep = c.args.sweep.now in
     let reached = c.begin_with.new.self in
     let place = c.loop-place.place in

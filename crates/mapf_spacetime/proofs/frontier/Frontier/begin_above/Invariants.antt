@@ -4,7 +4,7 @@ use Rattle.mapf_spacetime.proofs.frontier.Frontier.begin_above.Given as goal
 
 abbrev pub invariant-loop-place : goal.invariant-loop-place
 invariant-loop-place g l = record {
-  frontier : IsFrontier l.ground (drop l.place l.initial.self.reached) l.self;
+  frontier : IsFrontier l.task (drop l.place l.initial.self.reached) l.self;
   reached : l.self.reached ≡ l.initial.self.reached;
   cost : l.self.cost ≡ l.initial.self.cost;
 }

@@ -10,13 +10,13 @@ use Rattle.mapf_spacetime.proofs.frontier.Frontier.expand.Goals.{then-branch+in_
 
 pub returns-then-is_arrival-clause-expanded : goal.returns-then-is_arrival-clause-expanded
 returns-then-is_arrival-clause-expanded g c =
-    let task = c.args.ground.now in
+    let task = c.args.task.now in
     let f = subst (IsFrontier task []) c.in-Some.ensures.some c.loop.invariant.frontier in
     open_arrived task c.take_open.new.self c.in-Some.state f (c.if-is_arrival.ensures.goal refl) (c.if-is_arrival.ensures.rest refl)
 
 pub reach-requires : goal.reach-requires
 reach-requires g c =
-    let task = c.args.ground.now in
+    let task = c.args.task.now in
     let f = subst (IsFrontier task []) c.in-Some.ensures.some c.loop.invariant.frontier in
     let sum = (open_value task c.take_open.new.self c.in-Some.state f).sum in
     let cost = sym (ap (λ states. states.cost) c.in-Some.ensures.some) ∙ c.loop.invariant.cost in
@@ -28,20 +28,20 @@ take_all-requires-clause-reached g c = subst (λ states. Contains states.reached
 
 pub take_all-requires-clause-within : goal.take_all-requires-clause-within
 take_all-requires-clause-within g c =
-    let task = c.args.ground.now in
+    let task = c.args.task.now in
     let f = subst (IsFrontier task []) c.in-Some.ensures.some c.loop.invariant.frontier in
     subst (λ states. IsWithin task states.cost c.in-Some.state) (sym (c.in_ok-reach.ensures.new c.if-branch.true)) (level_within task c.in-Some.state c.take_open.new.self.cost (open_value task c.take_open.new.self c.in-Some.state f))
 
 pub take_all-requires-clause-low : goal.take_all-requires-clause-low
 take_all-requires-clause-low g c =
-    let task = c.args.ground.now in
+    let task = c.args.task.now in
     let f = subst (IsFrontier task []) c.in-Some.ensures.some c.loop.invariant.frontier in
     let states = with_reached c.take_open.new.self c.in-Some.state in
     subst (AreLowReached task c.in-Some.state) (sym (c.in_ok-reach.ensures.new c.if-branch.true)) (level_steps task states c.in-Some.state (open_value task c.take_open.new.self c.in-Some.state f))
 
 pub loop-preserved : goal.loop-preserved
 loop-preserved g c =
-    let task = c.args.ground.now in
+    let task = c.args.task.now in
     let before = c.take_open.new.self in
     let state = c.in-Some.state in
     let some = c.in-Some.ensures.some in

@@ -4,7 +4,7 @@ use Rattle.mapf_spacetime.proofs.frontier.Frontier.expand.Given as goal
 
 abbrev pub invariant-loop : goal.invariant-loop
 invariant-loop g l = record {
-  frontier : IsFrontier l.ground [] l.self;
+  frontier : IsFrontier l.task [] l.self;
   cost : l.self.cost ≡ l.initial.self.cost;
   fewer : takes_left l.self + l.counter ≤ takes_left l.initial.self;
 }

@@ -6,17 +6,17 @@ use Rattle.mapf_spacetime.proofs.ValueLemmas.{value_free, not_higher}
 use Rattle.mapf_spacetime.proofs.FrontierLemmas.{take_level, take_next, take_later, take_none}
 use Rattle.mapf_spacetime.proofs.frontier.Frontier.take.Goals as goal
 
-pub lets_if-requires-clause-step : goal.lets_if-requires-clause-step
-lets_if-requires-clause-step g c =
-    let task = c.args.ground.now in
+pub allows_if-requires-clause-step : goal.allows_if-requires-clause-step
+allows_if-requires-clause-step g c =
+    let task = c.args.task.now in
     let from = c.args.from.now in
     let next = state_at c.args.to (from.tick + 1) in
     let (value, is, le) = c.requires.within in
     neighbour_step task.grid from.cell c.requires.wide (value_free task from value is) c.args.to c.requires.beside (value_free task next c.in-Some.value c.in-Some.ensures.some)
 
-pub lets_if-requires-clause-free : goal.lets_if-requires-clause-free
-lets_if-requires-clause-free g c none =
-    let task = c.args.ground.now in
+pub allows_if-requires-clause-free : goal.allows_if-requires-clause-free
+allows_if-requires-clause-free g c none =
+    let task = c.args.task.now in
     let from = c.args.from.now in
     let next = state_at c.args.to (from.tick + 1) in
     let (value, is, le) = c.requires.within in
@@ -24,11 +24,11 @@ lets_if-requires-clause-free g c none =
 
 pub returns : goal.returns
 returns g c =
-    let task = c.args.ground.now in
+    let task = c.args.task.now in
     let from = c.args.from.now in
     let states = c.args.self.now in
     let next = state_at c.args.to (from.tick + 1) in
-    let may = c.if-not-lets_if.ensures.yes refl in
+    let may = c.if-not-allows_if.ensures.yes refl in
     let value = c.in-Some.value in
     let is = c.in-Some.ensures.some in
     let goes : Goes task from next = record { may = may; tick = refl } in
@@ -51,4 +51,4 @@ returns g c =
     (cases_lt states.cost value)
 
 pub returns-then-was_reached : goal.returns-then-was_reached
-returns-then-was_reached g c = take_none c.args.ground.now c.args.self.now c.args.from.now c.args.to (λ may. inl (inl (c.if-was_reached.ensures refl)))
+returns-then-was_reached g c = take_none c.args.task.now c.args.self.now c.args.from.now c.args.to (λ may. inl (inl (c.if-was_reached.ensures refl)))

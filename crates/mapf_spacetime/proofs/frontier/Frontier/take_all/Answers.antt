@@ -10,7 +10,7 @@ use Rattle.mapf_spacetime.proofs.frontier.Frontier.take_all.Goals as goal
 use Rattle.mapf_spacetime.proofs.frontier.Frontier.take_all.Goals.{in-Some+in_ok-take, in_default}
 
 pub beside-place-items-requires : goal.beside-place-items-requires
-beside-place-items-requires g c = let (value, is, le) = c.requires.within in value_free c.args.ground.now c.args.from.now value is
+beside-place-items-requires g c = let (value, is, le) = c.requires.within in value_free c.args.task.now c.args.from.now value is
 
 pub loop-place-init : goal.loop-place-init
 loop-place-init g c = record {
@@ -30,7 +30,7 @@ take-requires-clause-beside g c =
 
 pub loop-place-preserved : goal.loop-place-preserved
 loop-place-preserved g c =
-    let task = c.args.ground.now in
+    let task = c.args.task.now in
     let from = c.args.from.now in
     let items = c.beside-place-items.result in
     let index = c.loop-place.place-index in
@@ -66,7 +66,7 @@ loop-place-preserved g c =
 
 pub returns-clause-frontier : goal.returns-clause-frontier
 returns-clause-frontier g c busy f =
-    let task = c.args.ground.now in
+    let task = c.args.task.now in
     let from = c.args.from.now in
     let items = c.beside-place-items.result in
     let states = c.loop-place.self in
@@ -79,7 +79,7 @@ returns-clause-frontier g c busy f =
 
 pub take-requires-clause-low : goal.take-requires-clause-low
 take-requires-clause-low g c to may below =
-    let task = c.args.ground.now in
+    let task = c.args.task.now in
     let next = state_at to (c.args.from.now.tick + 1) in
     let keeps = c.loop-place.invariant.keeps in
     subst (λ l. Contains l next) (sym keeps.reached) (c.requires.low to may (subst (λ n. IsBelow task n next) keeps.cost below))

@@ -5,7 +5,7 @@ use Rattle.mapf_spacetime.proofs.frontier.Frontier.take_all.Given as goal
 
 abbrev pub invariant-loop-place : goal.invariant-loop-place
 invariant-loop-place g l = record {
-  frontier : (busy : List State) → IsFrontier l.ground busy l.initial.self → IsFrontier l.ground busy l.self;
+  frontier : (busy : List State) → IsFrontier l.task busy l.initial.self → IsFrontier l.task busy l.self;
   keeps : Keeps l.initial.self l.self;
-  taken : (place to : ℕ) → place < l.place-index → slice_index_or l.place-items place None ≡ Some to → IsTaken l.ground l.self l.from to;
+  taken : (place to : ℕ) → place < l.place-index → slice_index_or l.place-items place None ≡ Some to → IsTaken l.task l.self l.from to;
 }

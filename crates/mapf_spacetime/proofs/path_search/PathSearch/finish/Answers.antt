@@ -8,7 +8,7 @@ returns g c =
     let long = c.loop-self-test.false in
     let size = c.len.ensures in
     let short = searching.short in
-    subst (IsWholeWalk c.args.ground.now c.args.cost) (sym c.into_cells-2.ensures) (record {
+    subst (IsWholeWalk c.args.task.now c.args.cost) (sym c.into_cells-2.ensures) (record {
       way = searching.from;
       count = omega (arith, long, size, short);
       least = searching.least;

@@ -10,7 +10,7 @@ use Rattle.mapf_spacetime.proofs.path_search.PathSearch.go_on.Goals as goal
 
 pub next-requires-clause-free : goal.next-requires-clause-free
 next-requires-clause-free g c =
-    let task = c.args.ground.now in
+    let task = c.args.task.now in
     let cells = c.args.self.now.cells in
     let some = c.requires.searching.from.some in
     let (value, is, le) = c.requires.searching.from.within (length cells - 1) (omega arith) in
@@ -18,7 +18,7 @@ next-requires-clause-free g c =
 
 pub returns-in-Some-clause-searching : goal.returns-in-Some-clause-searching
 returns-in-Some-clause-searching g c =
-    let task = c.args.ground.now in
+    let task = c.args.task.now in
     let way = c.args.self.now in
     let to = c.in-Some.to in
     let here = c.last-here.result in
@@ -44,7 +44,7 @@ turn_back-requires g c =
 
 pub returns-clause-searching : goal.returns-clause-searching
 returns-clause-searching g c =
-    let task = c.args.ground.now in
+    let task = c.args.task.now in
     let way = c.args.self.now in
     let here = c.last-here.result in
     let turned = c.in_ok-turn_back.ensures.turned ∙ ap (with_failure way) c.last-here.ensures in
@@ -55,7 +55,7 @@ returns-clause-searching g c =
 
 pub returns-then-len-eq1-clause-none : goal.returns-then-len-eq1-clause-none
 returns-then-len-eq1-clause-none g c =
-    let task = c.args.ground.now in
+    let task = c.args.task.now in
     let way = c.args.self.now in
     let none = rw c.last-here.ensures at c.in_default.ensures.none in
     let size = c.len.ensures in

@@ -10,7 +10,7 @@ use Rattle.mapf_spacetime.proofs.path_search.PathSearch.go_straight.Goals as goa
 
 pub loop-self-init : goal.loop-self-init
 loop-self-init g c =
-    let task = c.args.ground.now in
+    let task = c.args.task.now in
     let cost = c.args.cost in
     let same = ap (λ w. w.cells) (sym c.self.view_is) in
     record {
@@ -21,7 +21,7 @@ loop-self-init g c =
 
 pub loop-self-preserved : goal.loop-self-preserved
 loop-self-preserved g c =
-    let task = c.args.ground.now in
+    let task = c.args.task.now in
     let cost = c.args.cost in
     let cells = c.loop-self.self-inside.cells.items in
     let to = c.nearer.result in

@@ -7,9 +7,9 @@ use Rattle.mapf_spacetime.proofs.path_search.PathSearch.go_straight.Given as goa
 
 abbrev pub invariant-loop-self : goal.invariant-loop-self
 invariant-loop-self g l = record {
-  searching : IsSearching l.ground l.cost (only_cells l.self-inside.cells.items);
-  free : AreBefore (length l.self-inside.cells.items - 1) l.ground.bars;
-  level : IsValue l.ground (state_of l.self-inside.cells.items (length l.self-inside.cells.items - 1)) l.cost;
+  searching : IsSearching l.task l.cost (only_cells l.self-inside.cells.items);
+  free : AreBefore (length l.self-inside.cells.items - 1) l.task.bars;
+  level : IsValue l.task (state_of l.self-inside.cells.items (length l.self-inside.cells.items - 1)) l.cost;
 }
 
 abbrev pub decreases-loop-self : goal.decreases-loop-self

@@ -34,7 +34,7 @@ loop-place-preserved g c = λ place to below is. ⊎_elim
     elim c.match-place.branch [
       | in-Some+else-leads w ↦
           let at : w.in-Some.to ≡ to = same_Some w.in-Some.to to (sym w.in-Some.is ∙ found) in
-          subst (IsNoWayOn c.args.ground.now c.args.cost c.args.self.now.failed c.args.from.now) at (w.leads.ensures.no w.if-leads.false)
+          subst (IsNoWayOn c.args.task.now c.args.cost c.args.self.now.failed c.args.from.now) at (w.leads.ensures.no w.if-leads.false)
       | in_default w ↦ absurd (w.in_default.not-Some to found)
     ])
     (cases_lt place c.loop-place.place-index)
@@ -42,7 +42,7 @@ loop-place-preserved g c = λ place to below is. ⊎_elim
 -- an earlier cell from which the agent can arrive would have been taken, and the later cells have greater numbers
 pub returns-then-leads-clause-least : goal.returns-then-leads-clause-least
 returns-then-leads-clause-least g c = λ other less may arrives.
-    let grid = c.args.ground.now.grid in
+    let grid = c.args.task.now.grid in
     let cell = c.args.from.now.cell in
     let wide = c.beside-place-items.ensures.wide in
     let items = c.beside-place-items.result in
@@ -64,7 +64,7 @@ returns-then-leads-clause-least g c = λ other less may arrives.
 
 pub returns-clause-none : goal.returns-clause-none
 returns-clause-none g c = λ to may arrives.
-    let grid = c.args.ground.now.grid in
+    let grid = c.args.task.now.grid in
     let cell = c.args.from.now.cell in
     let items = c.beside-place-items.result in
     let cells = c.beside-place-items.ensures.cells in

@@ -4,4 +4,4 @@ use Rattle.mapf_spacetime.proofs.path_search.PathSearch.next.Given as goal
 
 abbrev pub invariant-loop-place : goal.invariant-loop-place
 invariant-loop-place g l =
-    (place to : ℕ) → place < l.place-index → slice_index_or l.place-items place None ≡ Some to → IsNoWayOn l.ground l.cost l.self.failed l.from to
+    (place to : ℕ) → place < l.place-index → slice_index_or l.place-items place None ≡ Some to → IsNoWayOn l.task l.cost l.self.failed l.from to

@@ -8,21 +8,21 @@ use Rattle.mapf_spacetime.proofs.sweep.Sweep.advance.Goals as goal
 pub follow_tick-requires-clause-small : goal.follow_tick-requires-clause-small
 follow_tick-requires-clause-small g c =
     let sweep = c.args.self.now in
-    let last = last_tick c.args.ground.now sweep.tick sweep.first sweep c.requires.goes.reached c.requires.some in
+    let last = last_tick c.args.task.now sweep.tick sweep.first sweep c.requires.goes.reached c.requires.some in
     let small = c.requires.small in
     omega arith
 
 pub overflow_add-self : goal.overflow_add-self
 overflow_add-self g c =
     let sweep = c.args.self.now in
-    let last = last_tick c.args.ground.now sweep.tick sweep.first sweep c.requires.goes.reached c.requires.some in
+    let last = last_tick c.args.task.now sweep.tick sweep.first sweep c.requires.goes.reached c.requires.some in
     let small = c.requires.small in
     let tick : c.self-2.inside.tick ≡ sweep.tick = ap (λ s. s.tick) c.self-2.view_is ∙ c.follow_tick.ensures.extended.tick in
     search rules
 
 pub returns-then-arrives-clause-arrives : goal.returns-then-arrives-clause-arrives
 returns-then-arrives-clause-arrives g c there =
-    let task = c.args.ground.now in
+    let task = c.args.task.now in
     let old = c.args.self.now in
     let inside = c.self-2.inside in
     let now : Sweeping = record { states = inside.states.items; low = inside.low.items; next_cells = inside.next_cells; bound = inside.bound; is_cut = inside.is_cut; first = inside.first; tick = inside.tick } in
@@ -39,7 +39,7 @@ returns-then-arrives-clause-arrives g c there =
 
 pub returns-clause-goes : goal.returns-clause-goes
 returns-clause-goes g c nowhere =
-    let task = c.args.ground.now in
+    let task = c.args.task.now in
     let old = c.args.self.now in
     let inside = c.self-2.inside in
     let now : Sweeping = record { states = inside.states.items; low = inside.low.items; next_cells = inside.next_cells; bound = inside.bound; is_cut = inside.is_cut; first = inside.first; tick = inside.tick } in

@@ -4,8 +4,8 @@ use Rattle.mapf_spacetime.proofs.sweep.Sweep.arrival.Given as goal
 
 abbrev pub invariant-loop-arrives : goal.invariant-loop-arrives
 invariant-loop-arrives g l = record {
-  arrives : l.arrives ≡ true → MeetsGoal l.ground l.self.tick l.self;
-  goes : l.arrives ≡ false → IsUnderWay l.ground l.self;
+  arrives : l.arrives ≡ true → MeetsGoal l.task l.self.tick l.self;
+  goes : l.arrives ≡ false → IsUnderWay l.task l.self;
   bound : l.self.bound ≡ l.fn.bound;
 }
 

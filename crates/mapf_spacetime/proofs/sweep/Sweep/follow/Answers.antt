@@ -11,7 +11,7 @@ use Rattle.mapf_spacetime.proofs.sweep.Sweep.follow.Goals as goal
 use Rattle.mapf_spacetime.proofs.sweep.Sweep.follow.Goals.{in-Some, in_default}
 
 pub beside-place-items-requires : goal.beside-place-items-requires
-beside-place-items-requires g c = let (value, is, le) = c.requires.within in value_free c.args.ground.now c.args.from.now value is
+beside-place-items-requires g c = let (value, is, le) = c.requires.within in value_free c.args.task.now c.args.from.now value is
 
 pub loop-place-init : goal.loop-place-init
 loop-place-init g c = record {
@@ -24,7 +24,7 @@ pub note-requires-clause-reached : goal.note-requires-clause-reached
 note-requires-clause-reached g c = subst (λ l. Contains l c.args.from.now) (sym c.loop-place.invariant.extended.states) c.requires.reached
 
 pub note-requires-clause-within : goal.note-requires-clause-within
-note-requires-clause-within g c = subst (λ b. IsWithin c.args.ground.now b c.args.from.now) (sym c.loop-place.invariant.extended.bound) c.requires.within
+note-requires-clause-within g c = subst (λ b. IsWithin c.args.task.now b c.args.from.now) (sym c.loop-place.invariant.extended.bound) c.requires.within
 
 pub note-requires-clause-beside : goal.note-requires-clause-beside
 note-requires-clause-beside g c =
@@ -40,7 +40,7 @@ note-requires-clause-room g c = let same = c.loop-place.invariant.extended.room 
 
 pub loop-place-preserved : goal.loop-place-preserved
 loop-place-preserved g c =
-    let task = c.args.ground.now in
+    let task = c.args.task.now in
     let from = c.args.from.now in
     let items = c.beside-place-items.result in
     let index = c.loop-place.place-index in
@@ -76,7 +76,7 @@ loop-place-preserved g c =
 
 pub returns-clause-noted : goal.returns-clause-noted
 returns-clause-noted g c to may =
-    let task = c.args.ground.now in
+    let task = c.args.task.now in
     let from = c.args.from.now in
     let items = c.beside-place-items.result in
     let (value, is, le) = c.requires.within in

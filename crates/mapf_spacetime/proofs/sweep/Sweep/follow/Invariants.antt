@@ -4,7 +4,7 @@ use Rattle.mapf_spacetime.proofs.sweep.Sweep.follow.Given as goal
 
 abbrev pub invariant-loop-place : goal.invariant-loop-place
 invariant-loop-place g l = record {
-  next : AreNext l.ground l.from.tick l.self;
+  next : AreNext l.task l.from.tick l.self;
   extended : IsExtended l.initial.self l.self;
-  noted : (place to : ℕ) → place < l.place-index → slice_index_or l.place-items place None ≡ Some to → IsNoted l.ground l.self l.from to;
+  noted : (place to : ℕ) → place < l.place-index → slice_index_or l.place-items place None ≡ Some to → IsNoted l.task l.self l.from to;
 }

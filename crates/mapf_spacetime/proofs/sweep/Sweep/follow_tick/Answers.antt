@@ -10,7 +10,7 @@ use Rattle.mapf_spacetime.proofs.sweep.Sweep.follow_tick.Goals as goal
 
 pub follow-requires-clause-next : goal.follow-requires-clause-next
 follow-requires-clause-next g c =
-    let task = c.args.ground.now in
+    let task = c.args.task.now in
     let old = c.args.self.now in
     let k = c.loop-place.place in
     let size = ap (λ s. length s.states) c.self.view_is in
@@ -23,7 +23,7 @@ follow-requires-clause-next g c =
 
 pub follow-requires-clause-within : goal.follow-requires-clause-within
 follow-requires-clause-within g c =
-    let task = c.args.ground.now in
+    let task = c.args.task.now in
     let old = c.args.self.now in
     let k = c.loop-place.place in
     let size = ap (λ s. length s.states) c.self.view_is in
@@ -34,7 +34,7 @@ follow-requires-clause-within g c =
 
 pub follow-requires-clause-free : goal.follow-requires-clause-free
 follow-requires-clause-free g c none other step =
-    let task = c.args.ground.now in
+    let task = c.args.task.now in
     let old = c.args.self.now in
     let k = c.loop-place.place in
     let size = ap (λ s. length s.states) c.self.view_is in
@@ -47,7 +47,7 @@ follow-requires-clause-free g c none other step =
 
 pub loop-place-preserved : goal.loop-place-preserved
 loop-place-preserved g c =
-    let task = c.args.ground.now in
+    let task = c.args.task.now in
     let old = c.args.self.now in
     let now = c.loop-place.self in
     let new = c.follow.new.self in

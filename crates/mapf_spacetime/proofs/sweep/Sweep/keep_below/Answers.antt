@@ -11,7 +11,7 @@ use Rattle.mapf_spacetime.proofs.sweep.Sweep.keep_below.Goals.{then-is_below+in_
 
 pub is_below-requires : goal.is_below-requires
 is_below-requires g c =
-    let task = c.args.ground.now in
+    let task = c.args.task.now in
     let states = c.self.inside.states.items in
     let k = c.loop-place.place in
     let inside : k < length states = omega arith in
@@ -25,11 +25,11 @@ is_below-requires g c =
     omega arith
 
 pub loop-place-init : goal.loop-place-init
-loop-place-init g c = record { same = refl; kept = subst (AreKept c.args.ground.now c.args.cost 0 c.self.inside.states.items) (sym c.clear.ensures.items) (none_kept c.args.ground.now c.args.cost c.self.inside.states.items) }
+loop-place-init g c = record { same = refl; kept = subst (AreKept c.args.task.now c.args.cost 0 c.self.inside.states.items) (sym c.clear.ensures.items) (none_kept c.args.task.now c.args.cost c.self.inside.states.items) }
 
 pub loop-place-preserved : goal.loop-place-preserved
 loop-place-preserved g c =
-    let task = c.args.ground.now in
+    let task = c.args.task.now in
     let states = c.self.inside.states.items in
     let h = c.loop-place.invariant in
     let k = c.loop-place.place in
@@ -53,14 +53,14 @@ loop-place-preserved g c =
 
 pub returns-clause-swept : goal.returns-clause-swept
 returns-clause-swept g c =
-    let task = c.args.ground.now in
+    let task = c.args.task.now in
     let kept = subst (λ s. AreKept task c.args.cost c.loop-place.place s.states c.loop-place.self-inside.low.items) c.self.view_is c.loop-place.invariant.kept in
     let size = ap (λ s. length s.states) c.self.view_is in
     kept_swept task c.args.cost c.loop-place.place c.args.self.now c.loop-place.self-inside.low.items c.requires.meets kept (omega arith) (omega arith)
 
 pub returns-clause-kept : goal.returns-clause-kept
 returns-clause-kept g c =
-    let task = c.args.ground.now in
+    let task = c.args.task.now in
     let kept = subst (λ s. AreKept task c.args.cost c.loop-place.place s.states c.loop-place.self-inside.low.items) c.self.view_is c.loop-place.invariant.kept in
     let size = ap (λ s. length s.states) c.self.view_is in
     kept_holds task c.args.cost c.loop-place.place c.args.self.now.states c.loop-place.self-inside.low.items kept (omega arith)

@@ -5,5 +5,5 @@ use Rattle.mapf_spacetime.proofs.sweep.Sweep.keep_below.Given as goal
 abbrev pub invariant-loop-place : goal.invariant-loop-place
 invariant-loop-place g l = record {
   same : l.self-inside.states.items ≡ l.initial.self-inside.states.items;
-  kept : AreKept l.ground l.cost l.place l.initial.self-inside.states.items l.self-inside.low.items;
+  kept : AreKept l.task l.cost l.place l.initial.self-inside.states.items l.self-inside.low.items;
 }

@@ -5,7 +5,7 @@ use Rattle.mapf_spacetime.proofs.sweep.Sweep.keep_low.Goals as goal
 
 pub returns-clause-arrives : goal.returns-clause-arrives
 returns-clause-arrives g c =
-    let task = c.args.ground.now in
+    let task = c.args.task.now in
     let inside = c.self.inside in
     let sweep : Sweeping = record { states = inside.states.items; low = inside.low.items; next_cells = inside.next_cells; bound = inside.bound; is_cut = inside.is_cut; first = inside.first; tick = inside.tick } in
     let m : MeetsGoal task inside.tick sweep = subst (λ s. MeetsGoal task s.tick s) (sym c.self.view_is) c.requires.meets in
@@ -13,7 +13,7 @@ returns-clause-arrives g c =
 
 pub returns-clause-limit : goal.returns-clause-limit
 returns-clause-limit g c =
-    let task = c.args.ground.now in
+    let task = c.args.task.now in
     let inside = c.self.inside in
     let sweep : Sweeping = record { states = inside.states.items; low = inside.low.items; next_cells = inside.next_cells; bound = inside.bound; is_cut = inside.is_cut; first = inside.first; tick = inside.tick } in
     let m : MeetsGoal task inside.tick sweep = subst (λ s. MeetsGoal task s.tick s) (sym c.self.view_is) c.requires.meets in
