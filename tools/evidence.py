@@ -3,6 +3,7 @@ note of the commands that show the answer to somebody else.
 """
 
 import argparse
+import contextlib
 import os
 import re
 import shutil
@@ -12,7 +13,7 @@ import time
 from pathlib import Path
 from typing import overload
 
-from process import ToolError, progress
+from process import ToolError, progress, signals_held
 
 # The files in the folder that shows an answer: the problem, the other solver's plan, a certificate, what the search
 # found, and the note.
@@ -142,14 +143,15 @@ def run(mapf: str, words: list[str], folder: Path) -> str: ...
 def run(mapf: str, words: list[str], folder: Path, until: float | None) -> str | None: ...
 def run(mapf: str, words: list[str], folder: Path, until: float | None = None) -> str | None:
     """The line that mapf prints in this folder, none where it hasn't ended at this moment."""
-    with subprocess.Popen([mapf, *words], cwd=folder, stdin=subprocess.DEVNULL, text=True, stdout=subprocess.PIPE,
-                          stderr=subprocess.PIPE) as process:
-        try:
-            if not has_ended(process, words[0], until):
-                return None
-            out, err = process.communicate()
-        finally:
-            process.kill()
+    with contextlib.ExitStack() as at_end:
+        with signals_held():
+            process = at_end.enter_context(
+                subprocess.Popen([mapf, *words], cwd=folder, stdin=subprocess.DEVNULL, text=True,
+                                 stdout=subprocess.PIPE, stderr=subprocess.PIPE))
+            at_end.callback(process.kill)
+        if not has_ended(process, words[0], until):
+            return None
+        out, err = process.communicate()
     if process.returncode < 0:
         raise ToolError(f"mapf {words[0]} was ended by signal {-process.returncode}: see whether memory ran out")
     if err or not out:

@@ -1,9 +1,11 @@
 """What a tool does as a process: it runs mapf, shows how far it is, and tells in one line what its user has to mend."""
 
+import contextlib
 import os
+import signal
 import subprocess
 import sys
-from collections.abc import Callable
+from collections.abc import Callable, Iterator
 from pathlib import Path
 from typing import NoReturn
 
@@ -62,15 +64,33 @@ def program() -> str:
     prove = TOP / "prove"
     if not os.access(prove, os.X_OK):
         return str(here)  # in an archive
-    with subprocess.Popen([str(prove)], stdin=subprocess.DEVNULL, stdout=subprocess.PIPE, text=True) as process:
-        try:
-            built, _ = process.communicate()
-        except BaseException:
-            process.terminate()  # it ends what it started, and removes its files
-            raise
+    with contextlib.ExitStack() as at_end:
+        with signals_held():
+            process = at_end.enter_context(
+                subprocess.Popen([str(prove)], stdin=subprocess.DEVNULL, stdout=subprocess.PIPE, text=True))
+            at_end.callback(process.terminate)  # it ends what it started, and removes its files
+        built, _ = process.communicate()
     if process.returncode != 0:
         raise ToolError(f"{prove} couldn't build the program: see above, or set MAPF to a program that is built")
     return built.strip()
+
+
+@contextlib.contextmanager
+def signals_held() -> Iterator[None]:
+    """Holds back the signals that end a tool until the block is left. What a block starts is known by then, so that it
+    can be ended.
+    """
+    came: list[int] = []
+    ends = [number for number in (signal.SIGINT, signal.SIGTERM, signal.SIGHUP)
+            if signal.getsignal(number) != signal.SIG_IGN]
+    handlers = {number: signal.signal(number, lambda number, _: came.append(number)) for number in ends}
+    try:
+        yield
+    finally:
+        for number, handler in handlers.items():
+            signal.signal(number, handler)
+        for number in came:
+            signal.raise_signal(number)
 
 
 def version_of(path: str) -> str:
