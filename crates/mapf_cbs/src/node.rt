@@ -1,4 +1,4 @@
-//! A node of the search over trees, and its outcome. The walks from a node up to the root read both.
+//! A node of the search over trees, and its status. The walks from a node up to the root read both.
 use mapf_conflicts::BasePaths;
 use mapf_model::{Conflict, Constraint};
 use mapf_spacetime::{Found, StateLabels};
@@ -18,7 +18,7 @@ pub enum Node {
     },
 }
 
-/// The outcome of a node.
+/// What has become of a node.
 #[derive(Clone, Copy, Debug)]
 pub enum Status {
     /// Each agent has a path, and the node wasn't split.

@@ -163,10 +163,9 @@ impl TextWriter {
         self.page.flush(sink)
     }
 
-    /// Writes a certificate: its header, these nodes and `end`. Nothing is left on the page. If
-    /// the version can't express the claim or a node, as version 1 a bound or blocks on a split, the text spells no
-    /// certificate. Nothing is allocated. `Failed` is returned only if the sink failed; it then got a prefix of that
-    /// text.
+    /// Writes a certificate: its header, these nodes and `end`. Nothing is left on the page. If the version can't
+    /// express the claim or a node, as version 1 a bound or blocks on a split, the text spells no certificate. Nothing
+    /// is allocated. `Failed` is returned only if the sink failed; it then got a prefix of that text.
     pub fn tree<K: Sink, N: AsNode>(
         &mut self,
         sink: &mut K,
