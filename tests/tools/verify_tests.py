@@ -5,7 +5,6 @@ the formats, and checks by mapf alone what it leaves for others.
 import os
 import re
 import shutil
-import signal
 import subprocess
 import sys
 import tempfile
@@ -13,7 +12,6 @@ from dataclasses import dataclass, field
 from pathlib import Path
 
 from harness import TESTS
-from sweep_bench import awaited
 
 VERIFY = TESTS.parent / "tools" / "verify"
 EXAMPLES = TESTS.parent / "examples"
@@ -230,10 +228,6 @@ def tests(tally):
         tally.add(f"verify, pipes in place of files, {name}", piped(FORMATS[name]["cheapest"]))
     for title, lines, asked in in_time():
         tally.add(f"verify, {title}", faults_behind(lines, asked))
-    for number in (signal.SIGINT, signal.SIGTERM, signal.SIGHUP):
-        tally.add(f"verify, ended by signal {number}", ended_by(number))
-        tally.add(f"verify, ended by signal {number} as the search starts", ended_as_it_starts(number))
-    tally.add("verify, ended as the program is built", ended_as_built())
 
 
 def as_files_are():
@@ -528,82 +522,6 @@ def piped(answer):
         ended = subprocess.run(["bash", "-c", words], cwd=folder, capture_output=True, text=True)
         is_good = (ended.returncode, ended.stdout, ended.stderr) == (0, "cheapest: 5\n", "")
         return [] if is_good else [f"status {ended.returncode}, {ended.stdout!r}, {ended.stderr!r}"]
-
-
-def ended_by(number):
-    """A signal ends the search that is at work, and leaves no file."""
-    with tempfile.TemporaryDirectory() as name:
-        folder = Path(name)
-        return faults_of_signal(folder, [VERIFY], number, {"MAPF": str(searching(folder))})
-
-
-def searching(folder):
-    """A program whose search tells its process in the file `own` and goes on for long."""
-    return script(folder, f'[ "$1" != solve ] || {{ echo $$ >"{folder}/own"; exec sleep 1000; }}\n')
-
-
-# Runs the tool that the next word names, and sends this process a signal as soon as the search was started, before the
-# tool has taken note of what it started.
-SIGNALLING = """
-import os, runpy, subprocess, sys, time
-begin = subprocess.Popen.__init__
-def begin_and_signal(process, words, **options):
-    begin(process, words, **options)
-    if words[1] == "solve":
-        while not (os.path.exists("own") and os.path.getsize("own")):
-            time.sleep(0.01)
-        os.kill(os.getpid(), NUMBER)
-subprocess.Popen.__init__ = begin_and_signal
-del sys.argv[0]
-sys.path.insert(0, os.path.dirname(sys.argv[0]))
-runpy.run_path(sys.argv[0], run_name="__main__")
-"""
-
-
-def ended_as_it_starts(number):
-    """The same of a search that was started at that moment."""
-    with tempfile.TemporaryDirectory() as name:
-        folder = Path(name)
-        words = ["-c", SIGNALLING.replace("NUMBER", str(int(number))), VERIFY]
-        return faults_of_signal(folder, words, number, {"MAPF": str(searching(folder))}, is_sent=False)
-
-
-def ended_as_built():
-    """The same of a build, which ends what it started by itself when it is told to."""
-    with tempfile.TemporaryDirectory() as name:
-        folder = Path(name)
-        tree = folder / "tree"
-        shutil.copytree(VERIFY.parent, tree / "tools")
-        script(tree, "")
-        (tree / "prove").write_text(
-            f'#!/bin/bash\nsleep 1000 &\nown=$!\ntrap "kill $own; exit 130" TERM\necho $own >"{folder}/own"\nwait\n')
-        (tree / "prove").chmod(0o755)
-        return faults_of_signal(folder, [tree / "tools" / "verify"], signal.SIGHUP, {"MAPF": ""})
-
-
-def faults_of_signal(folder, words, number, environment, is_sent=True):
-    """Sends a signal to a call as soon as the file `own` tells the process that works for it, unless the call sends it
-    to itself.
-    """
-    (folder / "tmp").mkdir()
-    for part, text in (("map", CROSSING_MAP), ("scen", CROSSING_SCEN), ("answer", PATHS["cheapest"])):
-        (folder / part).write_text(text)
-    process = subprocess.Popen(
-        [sys.executable, *words, "map", "scen", "2", "answer"], cwd=folder, stdin=subprocess.DEVNULL,
-        env={**os.environ, "TMPDIR": str(folder / "tmp"), **environment}, stderr=subprocess.DEVNULL,
-        preexec_fn=lambda: signal.signal(number, signal.SIG_DFL))
-    faults = [] if awaited(lambda: content(folder / "own").endswith("\n")) else ["nothing works for it"]
-    if is_sent:
-        process.send_signal(number)
-    status = process.wait(60)
-    faults += [] if status == 128 + number else [f"status {status}"]
-    if not awaited(lambda: not Path(f"/proc/{content(folder / 'own').strip() or 'none'}").exists()):
-        faults.append("what works for it goes on")
-    return faults + [f"{path.name} is left" for path in (folder / "tmp").iterdir()]
-
-
-def content(path):
-    return path.read_text() if path.exists() else ""
 
 
 def folder_kept():
