@@ -10,6 +10,30 @@ use std::fs;
 use std::fs::File;
 use std::rt::Files;
 
+/// The files of a problem, and how many of its agents count: 1 to 200.
+#[derive(Clone, Copy)]
+pub struct ProblemFiles<'a> {
+    map: &'a str,
+    scen: &'a str,
+    k: u32,
+}
+
+impl<'a> ProblemFiles<'a> {
+    /// Returns the problem of the first `k` agents in two files of these names.
+    pub fn of(map: &'a str, scen: &'a str, k: u32) -> ProblemFiles<'a>
+        ensures { result.k ≡ k }
+    {
+        ProblemFiles { map, scen, k }
+    }
+
+    // Opens MAP, and then SCEN.
+    fn open(&self, rt: &HostRuntime) -> Result<(File, File), Fault> {
+        let map = open(rt, self.map, Input::Map)?;
+        let scen = open(rt, self.scen, Input::Scen)?;
+        Ok((map, scen))
+    }
+}
+
 fn open(rt: &HostRuntime, path: &str, input: Input) -> Result<File, Fault> {
     match fs::open(rt, path) {
         Ok(file) => Ok(file),
@@ -37,31 +61,28 @@ fn placed<'a>(
 /// Solves the problem in two files, and writes the plan text and the certificate to two others.
 pub fn solve<'a>(
     rt: &HostRuntime,
-    map: &'a str,
-    scen: &'a str,
-    k: u32,
+    problem: ProblemFiles<'a>,
     limit: u32,
     plan: &'a str,
     cert: &'a str,
 ) -> Result<Kind, Unsolved<'a>>
-    requires some { 1 ≤ k }
-    requires few { k ≤ most_agents }
+    requires some { 1 ≤ problem.k }
+    requires few { problem.k ≤ most_agents }
     requires limit { limit ≤ most_splits }
 {
-    let map_file = open(rt, map, Input::Map)?;
-    let scen_file = open(rt, scen, Input::Scen)?;
+    let (map, scen) = problem.open(rt)?;
     let outputs = outputs::open(
         rt,
-        placed("MAP", map, &map_file, Input::Map)?,
-        placed("SCEN", scen, &scen_file, Input::Scen)?,
+        placed("MAP", problem.map, &map, Input::Map)?,
+        placed("SCEN", problem.scen, &scen, Input::Scen)?,
         plan,
         cert,
     )?;
     let kind = run_solve(
         rt.alloc(),
-        &mut ReadSource::of(&map_file),
-        &mut ReadSource::of(&scen_file),
-        k,
+        &mut ReadSource::of(&map),
+        &mut ReadSource::of(&scen),
+        problem.k,
         limit,
         &mut WriteSink::of(&outputs.plan),
         &mut WriteSink::of(&outputs.cert),
@@ -74,42 +95,38 @@ pub fn solve<'a>(
 /// Checks the plan text and the certificate in two files for the problem in two others.
 pub fn check(
     rt: &HostRuntime,
-    map: &str,
-    scen: &str,
-    k: u32,
+    problem: ProblemFiles,
     plan: &str,
     cert: &str,
 ) -> Result<Verdict, Fault>
-    requires some { 1 ≤ k }
-    requires few { k ≤ most_agents }
+    requires some { 1 ≤ problem.k }
+    requires few { problem.k ≤ most_agents }
 {
-    let map = open(rt, map, Input::Map)?;
-    let scen = open(rt, scen, Input::Scen)?;
+    let (map, scen) = problem.open(rt)?;
     let plan = open(rt, plan, Input::Plan)?;
     let cert = open(rt, cert, Input::Cert)?;
     run_check(
         rt.alloc(),
         &mut ReadSource::of(map),
         &mut ReadSource::of(scen),
-        k,
+        problem.k,
         &mut ReadSource::of(plan),
         &mut ReadSource::of(cert),
     )
 }
 
 /// Writes the plan of a plan text, for the problem in two other files, to standard output.
-pub fn play(rt: &HostRuntime, map: &str, scen: &str, k: u32, plan: &str) -> Result<(), Fault>
-    requires some { 1 ≤ k }
-    requires few { k ≤ most_agents }
+pub fn play(rt: &HostRuntime, problem: ProblemFiles, plan: &str) -> Result<(), Fault>
+    requires some { 1 ≤ problem.k }
+    requires few { problem.k ≤ most_agents }
 {
-    let map = open(rt, map, Input::Map)?;
-    let scen = open(rt, scen, Input::Scen)?;
+    let (map, scen) = problem.open(rt)?;
     let plan = open(rt, plan, Input::Plan)?;
     run_play(
         rt.alloc(),
         &mut ReadSource::of(map),
         &mut ReadSource::of(scen),
-        k,
+        problem.k,
         &mut ReadSource::of(plan),
         &mut WriteSink::of(rt.stdout()),
     )
@@ -119,24 +136,21 @@ pub fn play(rt: &HostRuntime, map: &str, scen: &str, k: u32, plan: &str) -> Resu
 /// output.
 pub fn dispatch(
     rt: &HostRuntime,
-    map: &str,
-    scen: &str,
-    k: u32,
+    problem: ProblemFiles,
     plan: &str,
     events: &str,
 ) -> Result<(), Fault>
-    requires some { 1 ≤ k }
-    requires few { k ≤ most_agents }
+    requires some { 1 ≤ problem.k }
+    requires few { problem.k ≤ most_agents }
 {
-    let map = open(rt, map, Input::Map)?;
-    let scen = open(rt, scen, Input::Scen)?;
+    let (map, scen) = problem.open(rt)?;
     let plan = open(rt, plan, Input::Plan)?;
     let events = open(rt, events, Input::Events)?;
     run_dispatch(
         rt.alloc(),
         &mut ReadSource::of(map),
         &mut ReadSource::of(scen),
-        k,
+        problem.k,
         &mut ReadSource::of(plan),
         &mut ReadSource::of(events),
         &mut WriteSink::of(rt.stdout()),

@@ -7,6 +7,7 @@ mod files;
 mod outputs;
 mod words;
 
+use files::ProblemFiles;
 use mapf_app::{Job, WordsFault, job_of, run_demo};
 use mapf_model::WriteSink;
 use std::process::ExitCode;
@@ -36,21 +37,33 @@ fn run(rt: &HostRuntime, job: &Job) -> ExitCode
             limit,
             plan,
             cert,
-        } => words::solved(rt, files::solve(rt, map, scen, *k, *limit, plan, cert)),
+        } => words::solved(
+            rt,
+            files::solve(rt, ProblemFiles::of(map, scen, *k), *limit, plan, cert),
+        ),
         Job::Check {
             map,
             scen,
             k,
             plan,
             cert,
-        } => words::checked(rt, &files::check(rt, map, scen, *k, plan, cert)),
-        Job::Play { map, scen, k, plan } => words::told(rt, &files::play(rt, map, scen, *k, plan)),
+        } => words::checked(
+            rt,
+            &files::check(rt, ProblemFiles::of(map, scen, *k), plan, cert),
+        ),
+        Job::Play { map, scen, k, plan } => words::told(
+            rt,
+            &files::play(rt, ProblemFiles::of(map, scen, *k), plan),
+        ),
         Job::Dispatch {
             map,
             scen,
             k,
             plan,
             events,
-        } => words::told(rt, &files::dispatch(rt, map, scen, *k, plan, events)),
+        } => words::told(
+            rt,
+            &files::dispatch(rt, ProblemFiles::of(map, scen, *k), plan, events),
+        ),
     }
 }
