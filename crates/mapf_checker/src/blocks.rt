@@ -47,6 +47,8 @@ pub struct NodeProblem<'a> {
     pub neighbourhoods: &'a Neighbourhoods,
     /// The distances to the goals of the blocks' agents.
     pub tables: &'a LazyTables,
+    /// The distances of the starts.
+    pub start_distances: &'a [Option<u32>],
     /// The path from the root to the node.
     pub branch: &'a Branch,
 }

@@ -4,7 +4,6 @@ ghost use Rattle.std.specs.Prelude.{IsTrue, IfSome, OnOk, IfErr};
 ghost use Rattle.mapf_model.specs.declared.item.Claim.{Claim};
 ghost use Rattle.mapf_model.specs.Printed.{AreBlocksInRange};
 ghost use Rattle.mapf_model.specs.Tree.{ShowsFrom, Leaf, LeafNode};
-ghost use Rattle.mapf_distance.specs.Tables.{AreStartDistances};
 ghost use Rattle.mapf_checker.specs.AgentProblem.{CanJudge, FitsProblem};
 ghost use Rattle.mapf_checker.specs.Branch.{place_of};
 ghost use Rattle.mapf_checker.specs.Leaf.{IsStartTotal, IsEnough, IsStartLabel};
@@ -13,17 +12,15 @@ ghost use Rattle.mapf_checker.specs.Marks.{CoverGrid};
 ghost use Rattle.mapf_checker.specs.NodeDefects.{HasNodeDefect};
 
 use crate::blocks::{NodeProblem, agent_of, entries_in, judge_blocks, start_of};
-use crate::branch::Branch;
 use crate::fault::CheckFault;
 use crate::labels::{entry_at, entry_or};
 use crate::marks::EntryMarks;
-use mapf_model::{Block, Claim, Label, Problem, laws};
+use mapf_model::{Block, Claim, Label, laws};
 
 /// Checks that the leaf shows the claim: each entry of its blocks is sound, and the labels of the starts add up to
-/// enough. `line` is the line of the leaf, `distances` are those of the starts.
+/// enough. `line` is the line of the leaf.
 pub fn judge_leaf(
     node: &NodeProblem,
-    distances: &[Option<u32>],
     marks: &mut EntryMarks,
     claim: &Claim,
     blocks: &[Block],
@@ -32,7 +29,6 @@ pub fn judge_leaf(
     requires fits { FitsProblem node.now }
     requires ready { All (CanJudge node.now.tables.now node.now.branch.now) blocks.now }
     requires marks { All (λ block. CoverGrid node.now.problem.now.grid marks.old) blocks.now }
-    requires distances { AreStartDistances node.now.problem.now distances.now }
     requires agents { node.now.branch.now.agents ≡ length node.now.problem.now.agents }
     requires blocks { AreBlocksInRange node.now.problem.now.grid (length node.now.problem.now.agents) blocks.now }
     ensures ok { OnOk result
@@ -44,7 +40,7 @@ pub fn judge_leaf(
     if let Err(unsound) = judge_blocks(node, marks, blocks, line) {
         return Err(CheckFault::C7(unsound));
     }
-    let total = start_total(node.problem, distances, node.branch, blocks);
+    let total = start_total(node, blocks);
     if is_enough(claim, total) {
         Ok(())
     } else {
@@ -53,23 +49,18 @@ pub fn judge_leaf(
 }
 
 // Returns the sum of the labels of the starts at tick 0, None if one is infinite.
-fn start_total(
-    problem: &Problem,
-    distances: &[Option<u32>],
-    branch: &Branch,
-    blocks: &[Block],
-) -> Option<u64>
-    requires distances { AreStartDistances problem.now distances.now }
-    requires agents { branch.now.agents ≡ length problem.now.agents }
-    requires blocks { AreBlocksInRange problem.now.grid (length problem.now.agents) blocks.now }
-    ensures { IsStartTotal problem.now blocks.now (place_of branch.now).here.entries result }
+fn start_total(node: &NodeProblem, blocks: &[Block]) -> Option<u64>
+    requires fits { FitsProblem node.now }
+    requires agents { node.now.branch.now.agents ≡ length node.now.problem.now.agents }
+    requires blocks { AreBlocksInRange node.now.problem.now.grid (length node.now.problem.now.agents) blocks.now }
+    ensures { IsStartTotal node.now.problem.now blocks.now (place_of node.now.branch.now).here.entries result }
 {
-    let count = problem.agents().len();
+    let count = node.problem.agents().len();
     let mut sum = 0;
     let mut is_finite = true;
     let mut place = 0;
     for i in 0..count {
-        let (label, next) = start_label(problem, distances, branch, blocks, place, i);
+        let (label, next) = start_label(node, blocks, place, i);
         sum += ticks_of(label);
         is_finite = is_finite & is_ticks(label);
         place = next;
@@ -80,28 +71,23 @@ fn start_total(
 // Returns the label of an agent's start, by its block at the leaf or, if it has none, by the nearest block above, and
 // the index up to which the blocks of this agent and of smaller agents are. The blocks of smaller agents are before
 // `place`.
-fn start_label(
-    problem: &Problem,
-    distances: &[Option<u32>],
-    branch: &Branch,
-    blocks: &[Block],
-    place: usize,
-    agent: usize,
-) -> (Label, usize)
-    requires distances { AreStartDistances problem.now distances.now }
-    requires agents { branch.now.agents ≡ length problem.now.agents }
-    requires blocks { AreBlocksInRange problem.now.grid (length problem.now.agents) blocks.now }
+fn start_label(node: &NodeProblem, blocks: &[Block], place: usize, agent: usize) -> (Label, usize)
+    requires fits { FitsProblem node.now }
+    requires agents { node.now.branch.now.agents ≡ length node.now.problem.now.agents }
+    requires blocks { AreBlocksInRange node.now.problem.now.grid (length node.now.problem.now.agents) blocks.now }
     requires cut { IsPlaceOfAgent blocks.now place agent }
-    requires inside { agent < length problem.now.agents }
-    ensures label { IsStartLabel problem.now blocks.now (place_of branch.now).here.entries agent result.0 }
+    requires inside { agent < length node.now.problem.now.agents }
+    ensures label { IsStartLabel node.now.problem.now blocks.now
+        (place_of node.now.branch.now).here.entries agent result.0 }
     ensures cut { IsPlaceOfAgent blocks.now result.1 (agent + 1) }
 {
     if is_block_of(blocks, place, agent) {
-        let start = start_of(problem, agent);
+        let start = start_of(node.problem, agent);
         let entry = entry_at(entries_in(&blocks[place]), start, 0);
-        (entry_or(entry, distances, agent), place + 1)
+        (entry_or(entry, node.start_distances, agent), place + 1)
     } else {
-        (entry_or(branch.start_entry(agent), distances, agent), place)
+        let entry = node.branch.start_entry(agent);
+        (entry_or(entry, node.start_distances, agent), place)
     }
 }
 

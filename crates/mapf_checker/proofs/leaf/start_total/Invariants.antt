@@ -8,7 +8,7 @@ use Rattle.mapf_checker.proofs.leaf.start_total.Given as goal
 
 abbrev pub invariant-loop-i : goal.invariant-loop-i
 invariant-loop-i l = record {
-  labels : (labels : List Label) × (length labels ≡ l.i) × AreLabelsBelow l.problem l.blocks (place_of l.branch).here.entries labels × (label_sum labels ≡ label_of_total (sum_of l.is_finite l.sum));
+  labels : (labels : List Label) × (length labels ≡ l.i) × AreLabelsBelow l.node.problem.now l.blocks (place_of l.node.branch.now).here.entries labels × (label_sum labels ≡ label_of_total (sum_of l.is_finite l.sum));
   bound : l.sum ≤ 4294967295 * l.i;
   cut : IsPlaceOfAgent l.blocks l.place l.i;
 }
