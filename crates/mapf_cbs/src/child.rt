@@ -17,10 +17,9 @@ ghost use Rattle.mapf_cbs.specs.GeneratedChild.{IsGeneratedChild, EndsAt, IsTota
 use crate::ancestors::{gather_bars, path_at};
 use crate::node::Node;
 use crate::path_owners::PathOwners;
-use crate::search_memory::SearchMemory;
+use crate::replanner::Replanner;
 use mapf_constraints::BarTable;
-use mapf_distance::LazyTables;
-use mapf_model::{Cell, Constraint, OutOfMemory, Path, Problem};
+use mapf_model::{Cell, Constraint, OutOfMemory, Path};
 use mapf_spacetime::{Found, SearchTask, StateLabels, search_expecting};
 use std::alloc::Global;
 
@@ -34,36 +33,33 @@ pub struct GeneratedChild {
 /// Returns the child of a node, whose path owners these are, under one more constraint.
 pub fn child<B: BarTable>(
     alloc: Global,
-    memory: &mut SearchMemory<B>,
-    problem: &Problem,
-    tables: &mut LazyTables,
+    replanner: &mut Replanner<B>,
     nodes: &[Node],
     owners: &PathOwners,
     total: u64,
     constraint: Constraint,
 ) -> Result<GeneratedChild, OutOfMemory>
-    requires tables { AreMade problem.now tables.old }
+    requires tables { AreMade replanner.old.problem.now replanner.old.tables }
     requires nodes { AreNodesFor constraint.agent nodes.now }
     requires bars { HaveTableBars nodes.now }
     requires owners { AreOwners nodes.now owners.now }
     requires found { constraint.agent < length owners.now.nearest.items }
-    requires known { constraint.agent < length problem.now.agents }
+    requires known { constraint.agent < length replanner.old.problem.now.agents }
     requires bar { IsTableBar constraint.bar }
     requires small { total + 2 ^ 32 < 2 ^ 64 }
     requires live { (views : List View) × (view : View) × AreViews nodes.now views
         × (slice_get views owners.now.node ≡ Some view)
-        × IsLive problem.now view × (total ≡ sum view.costs) }
+        × IsLive replanner.old.problem.now view × (total ≡ sum view.costs) }
     ensures generated { IfOk result (λ generated.
-        HoldsOfNode nodes.now owners.now.node (λ view. IsLive problem.now view → total ≡ sum view.costs →
-        IsGeneratedChild problem.now view constraint generated.found generated.total)) }
-    ensures tables { OnOk result (AreMade problem.now tables.new) }
+        HoldsOfNode nodes.now owners.now.node (λ view. IsLive replanner.old.problem.now view → total ≡ sum view.costs →
+        IsGeneratedChild replanner.old.problem.now view constraint generated.found generated.total)) }
+    ensures tables { OnOk result (AreMade replanner.old.problem.now replanner.new.tables) }
+    ensures problem { OnOk result (replanner.new.problem.now ≡ replanner.old.problem.now) }
 {
     let agent = constraint.agent;
-    let who = problem.agents()[agent as usize];
+    let who = replanner.problem.agents()[agent as usize];
     let old = cost_of(path_at(nodes, owners.of(agent), agent), who.goal);
-    let found = search_under(
-        alloc, memory, problem, tables, nodes, owners, constraint, old,
-    )?;
+    let found = search_under(alloc, replanner, nodes, owners, constraint, old)?;
     let total = new_total(&found, who.goal, total - u64::from(old));
     Ok(GeneratedChild { found, total })
 }
@@ -72,40 +68,41 @@ pub fn child<B: BarTable>(
 // cost about as much as the agent's path at the node.
 fn search_under<B: BarTable>(
     alloc: Global,
-    memory: &mut SearchMemory<B>,
-    problem: &Problem,
-    tables: &mut LazyTables,
+    replanner: &mut Replanner<B>,
     nodes: &[Node],
     owners: &PathOwners,
     constraint: Constraint,
     expected: u32,
 ) -> Result<Found<StateLabels>, OutOfMemory>
-    requires tables { AreMade problem.now tables.old }
+    requires tables { AreMade replanner.old.problem.now replanner.old.tables }
     requires nodes { AreNodesFor constraint.agent nodes.now }
     requires bars { HaveTableBars nodes.now }
     requires owners { AreOwners nodes.now owners.now }
     requires found { constraint.agent < length owners.now.nearest.items }
-    requires known { constraint.agent < length problem.now.agents }
+    requires known { constraint.agent < length replanner.old.problem.now.agents }
     requires bar { IsTableBar constraint.bar }
     ensures found { IfOk result (λ found.
-        (who : Agent) → slice_get problem.now.agents constraint.agent ≡ Some who →
+        (who : Agent) → slice_get replanner.old.problem.now.agents constraint.agent ≡ Some who →
         HoldsOfNode nodes.now owners.now.node (λ view. (bars : List Bar)
         × AreSameBars bars (constraint.bar ∷ view.context.bars constraint.agent)
-        × IsPathAnswer (task_of problem.now.grid who bars) found)) }
-    ensures tables { OnOk result (AreMade problem.now tables.new) }
+        × IsPathAnswer (task_of replanner.old.problem.now.grid who bars) found)) }
+    ensures tables { OnOk result (AreMade replanner.old.problem.now replanner.new.tables) }
+    ensures problem { OnOk result (replanner.new.problem.now ≡ replanner.old.problem.now) }
 {
-    let who = problem.agents()[constraint.agent as usize];
+    let who = replanner.problem.agents()[constraint.agent as usize];
     gather_bars(
-        &mut memory.bars,
+        &mut replanner.bars,
         nodes,
         owners.of(constraint.agent),
         constraint.agent,
     )?;
-    memory.bars.add(constraint.bar)?;
-    tables.make(alloc, problem, constraint.agent)?;
-    let distances = tables.get(constraint.agent);
-    let task = SearchTask::of(problem.grid(), distances, &memory.bars, who);
-    search_expecting(alloc, &mut memory.workspace, &task, expected)
+    replanner.bars.add(constraint.bar)?;
+    replanner
+        .tables
+        .make(alloc, replanner.problem, constraint.agent)?;
+    let distances = replanner.tables.get(constraint.agent);
+    let task = SearchTask::of(replanner.problem.grid(), distances, &replanner.bars, who);
+    search_expecting(alloc, &mut replanner.workspace, &task, expected)
 }
 
 /// Returns the cost of a path that ends at the goal.

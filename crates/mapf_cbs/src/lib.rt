@@ -32,7 +32,7 @@ mod outcome;
 mod path_owners;
 mod replacements;
 mod replanned;
-mod search_memory;
+mod replanner;
 mod search_tree;
 mod solver;
 mod start;

@@ -19,12 +19,11 @@ use crate::endings;
 use crate::outcome::Outcome;
 use crate::path_owners::{PathOwners, owners_at};
 use crate::replanned::replanned_at;
-use crate::search_memory::SearchMemory;
+use crate::replanner::Replanner;
 use crate::search_tree::SearchTree;
 use crate::start::{Beginning, begin, total_of};
 use mapf_conflicts::CellMarks;
 use mapf_constraints::{BarTable, TickBars};
-use mapf_distance::LazyTables;
 use mapf_model::limits::SPLIT_TICKS;
 use mapf_model::{Cause, Conflict, OutOfMemory, Path, Problem};
 use std::alloc::Global;
@@ -91,8 +90,7 @@ fn search_from<B: BarTable>(
     let mut search = SearchTree::of(alloc, paths, total)?;
     let grid = problem.grid();
     let mut marks = CellMarks::new(alloc, (grid.width() * grid.height()) as usize)?;
-    let mut tables = LazyTables::of(alloc, problem)?;
-    let mut memory = SearchMemory::<B>::new(alloc);
+    let mut replanner = Replanner::<B>::of(alloc, problem)?;
     loop {
         let Some((total, k)) = search.waiting.take_least() else {
             let lists = labels_of_all(alloc, search.nodes)?;
@@ -112,9 +110,7 @@ fn search_from<B: BarTable>(
         }
         split::<B>(
             alloc,
-            &mut memory,
-            problem,
-            &mut tables,
+            &mut replanner,
             &mut search,
             &owners,
             total,
@@ -141,33 +137,30 @@ pub fn cause_to_stop(conflict: &Conflict, splits: u32, limit: u32) -> Option<Cau
 // Splits the node on the conflict.
 fn split<B: BarTable>(
     alloc: Global,
-    memory: &mut SearchMemory<B>,
-    problem: &Problem,
-    tables: &mut LazyTables,
+    replanner: &mut Replanner<B>,
     search: &mut SearchTree,
     owners: &PathOwners,
     total: u64,
     conflict: &Conflict,
 ) -> Result<(), OutOfMemory>
-    requires tables { AreMade problem.now tables.old }
-    requires popped { IsPopped problem.now
+    requires tables { AreMade replanner.old.problem.now replanner.old.tables }
+    requires popped { IsPopped replanner.old.problem.now
         search.old.nodes.items search.old.statuses.items search.old.waiting search.old.splits total owners.now.node }
     requires owners { AreOwners search.old.nodes.items owners.now }
-    requires count { length owners.now.nearest.items ≡ length problem.now.agents }
-    requires goals { HaveDifferentGoals problem.now }
-    requires meet { IsFirstAt problem.now search.old.nodes.items owners.now.node conflict.now }
+    requires count { length owners.now.nearest.items ≡ length replanner.old.problem.now.agents }
+    requires goals { HaveDifferentGoals replanner.old.problem.now }
+    requires meet { IsFirstAt replanner.old.problem.now search.old.nodes.items owners.now.node conflict.now }
     requires early { tick_of conflict.now < split_ticks }
     requires few { search.old.splits < most_splits }
-    ensures state { OnOk result (IsState problem.now
+    ensures state { OnOk result (IsState replanner.old.problem.now
         search.new.nodes.items search.new.statuses.items search.new.waiting (search.old.splits + 1)) }
     ensures splits { OnOk result (search.new.splits ≡ search.old.splits + 1) }
-    ensures tables { OnOk result (AreMade problem.now tables.new) }
+    ensures tables { OnOk result (AreMade replanner.old.problem.now replanner.new.tables) }
+    ensures problem { OnOk result (replanner.new.problem.now ≡ replanner.old.problem.now) }
 {
     let left = child(
         alloc,
-        memory,
-        problem,
-        tables,
+        replanner,
         &search.nodes,
         owners,
         total,
@@ -175,9 +168,7 @@ fn split<B: BarTable>(
     )?;
     let right = child(
         alloc,
-        memory,
-        problem,
-        tables,
+        replanner,
         &search.nodes,
         owners,
         total,

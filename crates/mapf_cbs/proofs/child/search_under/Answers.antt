@@ -37,7 +37,7 @@ returns-clause-found g c = IfOk-weaker c.search_expecting.result _ _ (λ found i
     let same : c.index-agents-constraint.result ≡ who = same_Some c.index-agents-constraint.result who (sym (rw agents at read) ∙ known) in (
       g.B.BarTable.bars c.add.new.self,
       bars_with (view.context.bars c.args.constraint.agent) (g.B.BarTable.bars c.gather_bars.new.table) (g.B.BarTable.bars c.add.new.self) c.args.constraint.bar (bars_by_owner c.args.nodes.now c.args.owners.now.node c.args.constraint.agent c.of.result (c.of.ensures c.args.nodes.now c.requires.owners) (g.B.BarTable.bars c.gather_bars.new.table) c.in_ok-gather_bars.ensures views view are view_is) c.in_ok-add.ensures.added,
-      subst (λ (a : Agent). IsPathAnswer (task_of c.args.problem.now.grid a (g.B.BarTable.bars c.add.new.self)) found) same
+      subst (λ (a : Agent). IsPathAnswer (task_of c.args.replanner.now.problem.now.grid a (g.B.BarTable.bars c.add.new.self)) found) same
           (subst (λ (m : GridMap). IsPathAnswer (task_of m c.index-agents-constraint.result (g.B.BarTable.bars c.add.new.self)) found) c.grid.ensures (subst (λ task. IsPathAnswer task found) c.of-task.ensures is)),
     ))
     c.search_expecting.ensures.answer

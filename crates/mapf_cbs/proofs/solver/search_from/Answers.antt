@@ -1,5 +1,6 @@
 use Rattle.std.proofs.Common.{◌≡◌, List, Some, length, slice_get, sym, ◌∙◌, ap, subst, arith}
 use Rattle.std.proofs.lemmas.Result.{IfOk-weaker}
+use Rattle.mapf_model.specs.Plan.{Instance}
 use Rattle.mapf_cbs.specs.Endings.{IsExhausted, IsAtNode, IsAtPlan, IsAtCause}
 use Rattle.mapf_cbs.specs.PathOwners.{AreOwners}
 use Rattle.mapf_cbs.specs.Nodes.{AreViews}
@@ -27,7 +28,8 @@ loop-total-init g c =
     record {
       within = omega (arith, n);
       state = rw n (rw f (rw o first));
-      tables = c.in_ok-tables.ensures;
+      problem = c.in_ok-replanner.ensures.problem;
+      tables = c.in_ok-replanner.ensures.tables;
     }
 
 pub impossible-requires : goal.impossible-requires
@@ -187,7 +189,36 @@ pub split-requires-clause-popped : goal.split-requires-clause-popped
 split-requires-clause-popped g c =
     let s = c.loop-total.invariant.state in
     let p = popped_of c.args.problem.now c.loop-total.search.nodes.items c.loop-total.search.statuses.items c.loop-total.search.waiting c.take_least.new.self c.loop-total.search.splits c.in-Some.total c.in-Some.k s c.in-Some.ensures.some in
-    rw c.in_ok-owners.ensures.node p
+    rw c.loop-total.invariant.problem (rw c.in_ok-owners.ensures.node p)
 
 pub split-requires-clause-owners : goal.split-requires-clause-owners
 split-requires-clause-owners g c = subst (λ ns. AreOwners ns c.in_ok-owners.owners) c.deref-in-loop-total.ensures.value c.in_ok-owners.ensures.found
+
+pub split-requires-clause-tables : goal.split-requires-clause-tables
+split-requires-clause-tables g c = rw c.loop-total.invariant.problem c.loop-total.invariant.tables
+
+pub split-requires-clause-count : goal.split-requires-clause-count
+split-requires-clause-count g c = c.in_ok-owners.ensures.count ∙ ap length c.agents.ensures.value
+    ∙ ap (λ (problem : Instance). length problem.agents) (sym c.loop-total.invariant.problem)
+
+pub split-requires-clause-goals : goal.split-requires-clause-goals
+split-requires-clause-goals g c = rw c.loop-total.invariant.problem c.requires.root.goals
+
+pub split-requires-clause-meet : goal.split-requires-clause-meet
+split-requires-clause-meet g c views view are is live =
+    let nodes_are = subst (λ ns. AreViews ns views) (sym c.deref-in-loop-total-4.ensures.value) are in
+    let counted = live.counted.paths ∙ ap (λ (problem : Instance). length problem.agents) c.loop-total.invariant.problem
+    ∙ (let e = c.agents.ensures.value in ap length (sym e)) ∙ sym c.in_ok-owners.ensures.count in
+    of_some _ c.in_ok-first.first c.in-Some-first.conflict c.in-Some-first.is c.in_ok-first.ensures.some views view nodes_are is counted
+
+pub loop-total-preserved : goal.loop-total-preserved
+loop-total-preserved g c =
+    let h = c.loop-total.invariant in
+    let same = c.in_ok-split.ensures.problem ∙ h.problem in
+    let few = c.in_default-cause_to_stop.ensures.allowed in
+    record {
+      within = (let n = c.in_ok-split.ensures.splits in let within = h.within in omega (arith, n, within, few));
+      state = rw c.in_ok-split.ensures.splits (rw (sym h.problem) c.in_ok-split.ensures.state);
+      problem = same;
+      tables = rw (sym h.problem) c.in_ok-split.ensures.tables;
+    }
