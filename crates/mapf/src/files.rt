@@ -1,5 +1,5 @@
 //! The four commands over files. Each opens the files that its arguments name and makes the run; `main` calls them.
-ghost use Rattle.std.specs.Prelude.{◌≤◌};
+ghost use Rattle.std.specs.Prelude.{◌≡◌, ◌≤◌};
 ghost use Rattle.mapf_model.specs.Limits.{most_agents, most_splits};
 
 use crate::outputs;
