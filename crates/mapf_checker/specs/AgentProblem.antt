@@ -1,7 +1,7 @@
 -- What the entries of one agent are judged by: its distances, and its constraints at a node of the tree.
 use Rattle.std.specs.Prelude.{◌≡◌, ◌+◌, ℕ, List, Option}
 use Rattle.mapf_distance.specs.Distances.{GoalMap}
-use Rattle.mapf_distance.specs.Tables.{AreMade, AreStartDistances, HasTable}
+use Rattle.mapf_distance.specs.Tables.{AreMade, HasTable}
 use Rattle.mapf_model.specs.declared.bar.Bar.{Bar}
 use Rattle.mapf_model.specs.declared.label.Entry.{Entry}
 use Rattle.mapf_model.specs.Blocks.{LabelBlock}
@@ -35,12 +35,10 @@ IsConsistentStep own entries entry next =
 abbrev pub IsConsistent : AgentProblem → List Entry → Entry → Type 0
 IsConsistent own entries entry = (next : ℕ) → IsConsistentStep own entries entry next
 
--- the neighbourhoods are those on the problem's grid, the tables are those of the problem, and the distances are those
--- of its starts
+-- the neighbourhoods are those on the problem's grid, and the tables are those of the problem
 pub record FitsProblem (node : NodeProblem) : Type 0 where
   pub width : node.neighbourhoods.now ≡ node.problem.now.grid.width
   pub tables : AreMade node.problem.now node.tables.now
-  pub distances : AreStartDistances node.problem.now node.start_distances.now
 
 -- what a block is judged by is made: the table of its agent's distances, and the index of the constraints along the
 -- path

@@ -47,7 +47,7 @@ pub struct NodeProblem<'a> {
     pub neighbourhoods: &'a Neighbourhoods,
     /// The distances to the goals of the blocks' agents.
     pub tables: &'a LazyTables,
-    /// The distances of the starts.
+    /// The distances of the starts, for a leaf.
     pub start_distances: &'a [Option<u32>],
     /// The path from the root to the node.
     pub branch: &'a Branch,

@@ -4,6 +4,7 @@ ghost use Rattle.std.specs.Prelude.{IsTrue, IfSome, OnOk, IfErr};
 ghost use Rattle.mapf_model.specs.declared.item.Claim.{Claim};
 ghost use Rattle.mapf_model.specs.Printed.{AreBlocksInRange};
 ghost use Rattle.mapf_model.specs.Tree.{ShowsFrom, Leaf, LeafNode};
+ghost use Rattle.mapf_distance.specs.Tables.{AreStartDistances};
 ghost use Rattle.mapf_checker.specs.AgentProblem.{CanJudge, FitsProblem};
 ghost use Rattle.mapf_checker.specs.Branch.{place_of};
 ghost use Rattle.mapf_checker.specs.Leaf.{IsStartTotal, IsEnough, IsStartLabel};
@@ -29,6 +30,7 @@ pub fn judge_leaf(
     requires fits { FitsProblem node.now }
     requires ready { All (CanJudge node.now.tables.now node.now.branch.now) blocks.now }
     requires marks { All (λ block. CoverGrid node.now.problem.now.grid marks.old) blocks.now }
+    requires distances { AreStartDistances node.now.problem.now node.now.start_distances.now }
     requires agents { node.now.branch.now.agents ≡ length node.now.problem.now.agents }
     requires blocks { AreBlocksInRange node.now.problem.now.grid (length node.now.problem.now.agents) blocks.now }
     ensures ok { OnOk result
@@ -50,7 +52,7 @@ pub fn judge_leaf(
 
 // Returns the sum of the labels of the starts at tick 0, None if one is infinite.
 fn start_total(node: &NodeProblem, blocks: &[Block]) -> Option<u64>
-    requires fits { FitsProblem node.now }
+    requires distances { AreStartDistances node.now.problem.now node.now.start_distances.now }
     requires agents { node.now.branch.now.agents ≡ length node.now.problem.now.agents }
     requires blocks { AreBlocksInRange node.now.problem.now.grid (length node.now.problem.now.agents) blocks.now }
     ensures { IsStartTotal node.now.problem.now blocks.now (place_of node.now.branch.now).here.entries result }
@@ -72,7 +74,7 @@ fn start_total(node: &NodeProblem, blocks: &[Block]) -> Option<u64>
 // the index up to which the blocks of this agent and of smaller agents are. The blocks of smaller agents are before
 // `place`.
 fn start_label(node: &NodeProblem, blocks: &[Block], place: usize, agent: usize) -> (Label, usize)
-    requires fits { FitsProblem node.now }
+    requires distances { AreStartDistances node.now.problem.now node.now.start_distances.now }
     requires agents { node.now.branch.now.agents ≡ length node.now.problem.now.agents }
     requires blocks { AreBlocksInRange node.now.problem.now.grid (length node.now.problem.now.agents) blocks.now }
     requires cut { IsPlaceOfAgent blocks.now place agent }

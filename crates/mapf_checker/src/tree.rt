@@ -37,7 +37,7 @@ pub struct Progress {
     tables: LazyTables,
     // Made at the first block.
     marks: EntryMarks,
-    // The distances of the starts, made at the first leaf or block.
+    // The distances of the starts, made at the first leaf.
     distances: Vec<Option<u32>>,
     /// Whether the whole tree was judged.
     pub is_over: bool,
@@ -138,7 +138,7 @@ impl Progress {
         if blocks.is_empty() {
             return Ok(Vec::new(alloc));
         }
-        self.see_to_node(alloc, problem, blocks)?;
+        self.see_to_blocks(alloc, problem, blocks)?;
         let node = NodeProblem {
             problem,
             neighbourhoods: &self.neighbourhoods,
@@ -173,7 +173,8 @@ impl Progress {
         ensures refused { IfErr result (IsOfJudging
             (HasNodeDefect problem.now claim.now (here_of self.old) (LeafNode blocks.now))) }
     {
-        self.see_to_node(alloc, problem, blocks)?;
+        self.see_to_blocks(alloc, problem, blocks)?;
+        self.see_to_distances(alloc, problem)?;
         let node = NodeProblem {
             problem,
             neighbourhoods: &self.neighbourhoods,
@@ -187,9 +188,9 @@ impl Progress {
         self.end()
     }
 
-    // Makes what a node with these blocks is judged by: the distances of the starts and, if there are blocks, the
-    // tables of their agents, the index of the constraints along the path, and marks for the cells.
-    fn see_to_node(
+    // Makes what the blocks are judged by: the tables of their agents, the index of the constraints along the path, and
+    // marks for the cells. Without blocks none is needed.
+    fn see_to_blocks(
         &mut self,
         alloc: Global,
         problem: &Problem,
@@ -198,14 +199,12 @@ impl Progress {
         requires ready { IsReady problem.now self.old }
         requires blocks { AreBlocksInRange problem.now.grid (length problem.now.agents) blocks.now }
         ensures ready { OnOk result (IsReady problem.now self.new) }
-        ensures distances { OnOk result (AreStartDistances problem.now self.new.distances.items) }
         ensures blocks { OnOk result (All (CanJudge self.new.tables self.new.branch) blocks.now) }
         ensures marks { OnOk result (All (λ block. CoverGrid problem.now.grid self.new.marks) blocks.now) }
         ensures edges { self.new.branch.edges ≡ self.old.branch.edges }
         ensures over { self.new.is_over ≡ self.old.is_over }
         ensures memory { IfErr result (λ fault. fault ≡ FromFault.Memory) }
     {
-        self.see_to_distances(alloc, problem)?;
         if blocks.is_empty() {
             return Ok(());
         }
