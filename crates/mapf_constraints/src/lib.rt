@@ -1,9 +1,9 @@
 //! Which cells and moves are forbidden to one agent?
 //!
-//! `TickBars` is a list with chains through it: one for each remainder by 64 of the ticks, and one for each remainder
-//! by 16 of the cells that are forbidden. Adding a constraint is one push, and a refused one leaves nothing to be
-//! undone. Most queries meet an empty chain. It also has 512 flags, found by the cell and the tick of a forbidden
-//! arrival, and the chains are scanned only where the flag is set. `ListBars` is the plain list.
+//! `TickBars` is a list with 64 chains through it, one for each remainder of the ticks modulo 64. Adding a constraint
+//! is one push, and a refused one leaves nothing to be undone. Most queries meet an empty chain. It also has 512
+//! flags, found by the cell and the tick of a forbidden arrival, and a chain is scanned only where the flag is set.
+//! `ListBars` is the plain list.
 #![tactic(auto)]
 
 mod bar_table;

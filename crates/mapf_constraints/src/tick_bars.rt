@@ -1,8 +1,8 @@
 //! The table of constraints that the search over trees fills before it replans an agent.
 ghost use Rattle.std.specs.Prelude.{◌≡◌, ◌<◌, ◌↔◌, Contains, IsTrue};
 ghost use Rattle.mapf_model.specs.Limits.{split_ticks};
-ghost use Rattle.mapf_constraints.specs.BarSets.{arrival, bar_tick};
-ghost use Rattle.mapf_constraints.specs.Chains.{cell_chain, mark_index};
+ghost use Rattle.mapf_constraints.specs.BarSets.{arrival, bar_tick, IsLastOn};
+ghost use Rattle.mapf_constraints.specs.Chains.{bars_of, mark_index};
 
 use crate::bar_table::BarTable;
 use crate::later::{horizon_with, last_with, tick};
@@ -12,23 +12,17 @@ use std::alloc::Global;
 use std::fmt;
 use std::marker::Model;
 
-// How many chains by cell there are: one for each remainder, and one for all edge constraints.
-const CELL_CHAINS: usize = 17;
-
 // How many marks there are.
 const MARKS: usize = 512;
 
-/// Constraints in chains, one for each remainder of their ticks modulo 64, and one for each remainder modulo 16 of the
-/// cells of vertex constraints. A query scans the chain of its tick, or of its cell, which is mostly empty or short.
-/// For most arrivals the marks show without a scan that no constraint forbids them.
+/// Constraints in chains, one chain for each remainder of their ticks modulo 64. A query scans the chain of its tick,
+/// which is mostly empty or short. For most arrivals the marks show without a scan that no constraint forbids them.
 #[derive(Drop)]
 pub struct TickBars {
     // In the order in which they were added.
     links: Vec<Link>,
     // For each remainder, the number of links up to and including the newest one of its chain, 0 if it is empty.
     newest: [usize; 64],
-    // The same of the chains by cell, and of that of the edge constraints.
-    newest_on: [usize; CELL_CHAINS],
     // False if no constraint forbids an arrival that has this mark.
     marks: [bool; MARKS],
     horizon: Tick,
@@ -40,7 +34,7 @@ impl Model for TickBars {
     ghost use Rattle.mapf_model.specs.Bars.{AreBars};
     ghost use Rattle.mapf_model.specs.Limits.{split_ticks};
     ghost use Rattle.mapf_constraints.specs.BarSets.{IsHorizon};
-    ghost use Rattle.mapf_constraints.specs.Chains.{bars_of, tick_chain, cell_chain, AreChained, AreMarked};
+    ghost use Rattle.mapf_constraints.specs.Chains.{bars_of, AreChained, AreMarked};
 
     ghost Value = { List Bar };
 
@@ -50,15 +44,12 @@ impl Model for TickBars {
         AreBars (bars_of table.links.items)
         × IsHorizon (bars_of table.links.items) table.horizon
         × (table.horizon ≤ split_ticks)
-        × AreChained tick_chain (λ link. link.older) table.links.items table.newest
-        × AreChained cell_chain (λ link. link.older_on) table.links.items table.newest_on
-        × (length table.newest ≡ 64)
-        × (length table.newest_on ≡ 17)
+        × AreChained table.links.items table.newest
         × (length table.marks ≡ 512)
         × AreMarked (bars_of table.links.items) table.marks };
 }
 
-// What follows from the links' constraints isn't printed, but for the chains by tick.
+// The marks follow from the links, so they aren't printed.
 impl fmt::Debug for TickBars {
     fn fmt<W: fmt::Write>(&self, f: &mut fmt::Formatter<W>) -> fmt::Result {
         f.debug_struct("TickBars")
@@ -76,7 +67,6 @@ impl BarTable for TickBars {
         TickBars {
             links: Vec::new(alloc),
             newest: [0; 64],
-            newest_on: [0; CELL_CHAINS],
             marks: [false; MARKS],
             horizon: 0,
         }
@@ -91,14 +81,7 @@ impl BarTable for TickBars {
     }
 
     fn last_on(&self, cell: Cell) -> Option<Tick> {
-        let mut last = None;
-        let mut count = self.newest_on[cell.0 as usize % 16];
-        while count > 0 {
-            let link = &self.links[count - 1];
-            last = last_with(last, &link.bar, cell);
-            count = link.older_on;
-        }
-        last
+        last_among(&self.links, cell)
     }
 
     fn horizon(&self) -> Tick {
@@ -116,14 +99,11 @@ impl BarTable for TickBars {
 
     fn add(&mut self, bar: Bar) -> Result<(), OutOfMemory> {
         let chain = tick(&bar) as usize % 64;
-        let chain_on = cell_chain(&bar);
         self.links.push(Link {
             bar,
             older: self.newest[chain],
-            older_on: self.newest_on[chain_on],
         })?;
         self.newest[chain] = self.links.len();
-        self.newest_on[chain_on] = self.links.len();
         self.marks[bar_index(&bar)] = true;
         self.horizon = horizon_with(self.horizon, &bar);
         Ok(())
@@ -132,7 +112,6 @@ impl BarTable for TickBars {
     fn clear(&mut self) {
         self.links.clear();
         self.newest = [0; 64];
-        self.newest_on = [0; CELL_CHAINS];
         self.marks = [false; MARKS];
         self.horizon = 0;
     }
@@ -141,7 +120,6 @@ impl BarTable for TickBars {
         Ok(TickBars {
             links: self.links.clone()?,
             newest: self.newest,
-            newest_on: self.newest_on,
             marks: self.marks,
             horizon: self.horizon,
         })
@@ -188,13 +166,13 @@ fn bar_index(bar: &Bar) -> usize
     }
 }
 
-// Returns the chain of the constraint by its cell.
-fn cell_chain(bar: &Bar) -> usize
-    ensures chain { result ≡ cell_chain bar.now }
-    ensures inside { result < 17 }
+// Returns the greatest tick at which a constraint of the links forbids the cell.
+fn last_among(links: &[Link], cell: Cell) -> Option<Tick>
+    ensures { IsLastOn (bars_of links.now) cell result }
 {
-    match bar {
-        Bar::Cell { cell, tick: _ } => cell.0 as usize % 16,
-        Bar::Move { .. } => CELL_CHAINS - 1,
+    let mut last = None;
+    for link in links {
+        last = last_with(last, &link.bar, cell);
     }
+    last
 }

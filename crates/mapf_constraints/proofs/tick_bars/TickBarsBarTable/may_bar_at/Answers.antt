@@ -13,4 +13,4 @@ returns c = rw (← c.self.view_is) (λ none bar held at.
     let (place, within, is) = bars_of-from links bar held in
     let empty : slice_index c.self.inside.newest chain ≡ 0 = eqb-true (slice_index c.self.inside.newest chain) 0 (not-false _ none) in
     let own = ap (λ (b : Bar). chain_of (bar_tick b)) is ∙ ap chain_of at in
-    absurd (omega (arith, (c.self.invariant.3.first chain (let size = c.self.invariant.5 in omega arith)).newest place within own, empty)))
+    absurd (omega (arith, (c.self.invariant.3.first chain (omega arith)).newest place within own, empty)))
