@@ -1,5 +1,5 @@
 //! The reader of arguments: it makes a job of them, or says why there is none. `main` calls it.
-ghost use Rattle.std.specs.Prelude.{◌≡◌, ◌⊎◌, ◌≤◌, ◌<◌, ◌↔◌, IfOk, OnOk, Ok, codes, map, vec_len};
+ghost use Rattle.std.specs.Prelude.{◌≡◌, ◌⊎◌, ◌≤◌, ◌<◌, ◌↔◌, ℕ, IfOk, OnOk, Ok, codes, map, vec_len};
 ghost use Rattle.std.specs.String.{string_bytes};
 ghost use Rattle.clap.specs.Matches.{found_of};
 ghost use Rattle.mapf_words.specs.CommandLine.{IsReadFrom};
@@ -31,6 +31,7 @@ fn number_of(
 ) -> Result<u32, WordsFault>
     ensures range { IfOk result (λ n. (low ≤ n) × (n ≤ high)) }
     ensures number { IfOk result (IsNumberOf (found_of given.now) name.now) }
+    ensures due { (n : ℕ) → IsNumberOf (found_of given.now) name.now n → low ≤ n → n ≤ high → result ≡ Ok n }
 {
     match given.get_one::<u32>(name) {
         Some(n) if low <= n && n <= high => Ok(n),
