@@ -13,19 +13,12 @@ use std::rt::Files;
 /// The files of a problem, and how many of its agents count: 1 to 200.
 #[derive(Clone, Copy)]
 pub struct ProblemFiles<'a> {
-    map: &'a str,
-    scen: &'a str,
-    k: u32,
+    pub map: &'a str,
+    pub scen: &'a str,
+    pub k: u32,
 }
 
-impl<'a> ProblemFiles<'a> {
-    /// Returns the problem of the first `k` agents in two files of these names.
-    pub fn of(map: &'a str, scen: &'a str, k: u32) -> ProblemFiles<'a>
-        ensures { result.k ≡ k }
-    {
-        ProblemFiles { map, scen, k }
-    }
-
+impl ProblemFiles<'_> {
     // Opens MAP, and then SCEN.
     fn open(&self, rt: &HostRuntime) -> Result<(File, File), Fault> {
         let map = open(rt, self.map, Input::Map)?;

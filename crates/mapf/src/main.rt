@@ -39,7 +39,7 @@ fn run(rt: &HostRuntime, job: &Job) -> ExitCode
             cert,
         } => words::solved(
             rt,
-            files::solve(rt, ProblemFiles::of(map, scen, *k), *limit, plan, cert),
+            files::solve(rt, ProblemFiles { map, scen, k: *k }, *limit, plan, cert),
         ),
         Job::Check {
             map,
@@ -49,11 +49,11 @@ fn run(rt: &HostRuntime, job: &Job) -> ExitCode
             cert,
         } => words::checked(
             rt,
-            &files::check(rt, ProblemFiles::of(map, scen, *k), plan, cert),
+            &files::check(rt, ProblemFiles { map, scen, k: *k }, plan, cert),
         ),
         Job::Play { map, scen, k, plan } => words::told(
             rt,
-            &files::play(rt, ProblemFiles::of(map, scen, *k), plan),
+            &files::play(rt, ProblemFiles { map, scen, k: *k }, plan),
         ),
         Job::Dispatch {
             map,
@@ -63,7 +63,7 @@ fn run(rt: &HostRuntime, job: &Job) -> ExitCode
             events,
         } => words::told(
             rt,
-            &files::dispatch(rt, ProblemFiles::of(map, scen, *k), plan, events),
+            &files::dispatch(rt, ProblemFiles { map, scen, k: *k }, plan, events),
         ),
     }
 }
