@@ -1,9 +1,9 @@
-use crate::expect::expect_same;
 use mapf_certificate::{
     CertFault, PlanAnswer, PlanTextFault, Version, convert_cert, read_cert, read_plan, write_cert,
     write_plan,
 };
 use mapf_model::{Cause, Claim, Grid};
+use mapf_rows_made::expect_same;
 use std::alloc::{AllocError, Global};
 use std::process::Abort;
 use std::test::Fail;
@@ -22,7 +22,7 @@ const CROSSING_PLAN: &str =
 const CROSSING_PLAN_TWO: &str =
     "mapf-plan 2\nagents 2\ncost 5\npath 0 3 0,1 0,1 1,1 2,1\npath 1 2 1,0 1,1 1,2\nend\n";
 
-/// Two agents on two cells that would change places, where the search ended after three splits.
+// Two agents on two cells that would change places, where the search ended after three splits.
 const STOPPED: &str =
     "mapf-cert 2\nagents 2\nclaim bound 4\nswap 0 1 0,0 1,0 0 0\nvertex 0 1 0,0 1 1\nagent 0 1\n\
     at 0,0 0 2\nleaf 1\nagent 0 1\nat 0,0 0 inf\nleaf 1\nagent 1 1\nat 1,0 0 2\n\
@@ -40,7 +40,7 @@ const PASSING: &str =
     at 0,0 0 3\nagent 1 1\nat 1,0 0 2\nswap 0 1 1,0 2,0 1\nleaf 2\nagent 0 2\nat 0,0 0 3\n\
     at 1,0 1 2\nagent 1 1\nat 1,0 0 2\nleaf 1\nagent 1 1\nat 1,0 0 2\nend\n";
 
-/// The same with each agent's labels at the node that raised them.
+// The same with each agent's labels at the node that raised them.
 const PASSING_TWO: &str =
     "mapf-cert 2\nagents 2\nclaim cost 4\nvertex 0 1 1,0 1 0\nvertex 0 1 1,0 2 1\nagent 0 1\n\
     at 0,0 0 3\nvertex 0 1 1,0 3 1\nagent 0 2\nat 0,0 0 4\nat 0,0 1 3\n\
@@ -51,7 +51,7 @@ const PASSING_TWO: &str =
     leaf 1\nagent 0 1\nat 0,0 0 3\nswap 0 1 1,0 2,0 1 1\nagent 1 1\nat 1,0 0 2\nleaf 1\nagent 0 2\n\
     at 0,0 0 3\nat 1,0 1 2\nleaf 1\nagent 1 1\nat 1,0 0 2\nend\n";
 
-/// A free grid of this size.
+// A free grid of this size.
 fn grid(alloc: Global, width: u32, height: u32) -> Result<Grid, Fail> {
     let mut free = Vec::new(alloc);
     for _ in 0..width {
@@ -62,7 +62,7 @@ fn grid(alloc: Global, width: u32, height: u32) -> Result<Grid, Fail> {
     Ok(Grid::of(width, height, free).ok_or("a grid")?)
 }
 
-/// The text with its lines from the first to the last of these replaced, counted from 1.
+// The text with its lines from the first to the last of these replaced, counted from 1.
 fn with_lines(
     alloc: Global,
     text: &str,
@@ -85,18 +85,18 @@ fn with_lines(
     Ok(changed)
 }
 
-/// The error of bytes that are to spell a certificate.
+// The error of bytes that are to spell a certificate.
 fn certificate_fault(alloc: Global, bytes: &[u8], grid: &Grid) -> Option<CertFault> {
     read_cert(alloc, bytes, grid).err()
 }
 
-/// The error of bytes that are to spell a plan text.
+// The error of bytes that are to spell a plan text.
 fn plan_fault(alloc: Global, bytes: &[u8], grid: &Grid) -> Option<PlanTextFault> {
     read_plan(alloc, bytes, grid).err()
 }
 
-/// What a certificate says besides its items, how many of these there are, and the text that is written
-/// of it.
+// What a certificate says besides its items, how many of these there are, and the text that is written
+// of it.
 #[derive(Drop)]
 struct Written {
     version: Version,
@@ -118,7 +118,7 @@ fn written_again(alloc: Global, text: &str, grid: &Grid) -> Result<Written, Fail
     })
 }
 
-/// Certificates, and the version of each, the height of its grid, and how many items it has.
+// Certificates, and the version of each, the height of its grid, and how many items it has.
 const CERTIFICATES: &[(&str, Version, u32, usize)] = &[
     (CROSSING, Version::One, 3, 3),
     (PASSING, Version::One, 2, 11),
@@ -142,7 +142,7 @@ fn certificates_are_read_and_written(rt: HostRuntime) -> Result<(), Fail> {
     expect_certificates(&rt, rt.alloc())
 }
 
-/// The version, the cause and the bound of a plan text.
+// The version, the cause and the bound of a plan text.
 fn bound_of(alloc: Global, text: &str, grid: &Grid) -> Result<(Version, Cause, u64), Fail> {
     let plan = read_plan(alloc, text.as_bytes(), grid)
         .ok()
@@ -168,7 +168,7 @@ fn bounds_are_read(rt: HostRuntime) -> Result<(), Fail> {
     Ok(())
 }
 
-/// A line of version 1 in version 2, in two parts.
+// A line of version 1 in version 2, in two parts.
 fn line_of_version_two(line: &str) -> (&str, &str) {
     if line == "mapf-cert 1" {
         ("mapf-cert 2", "")
@@ -179,7 +179,7 @@ fn line_of_version_two(line: &str) -> (&str, &str) {
     }
 }
 
-/// The text of version 1 with what version 2 adds to its lines.
+// The text of version 1 with what version 2 adds to its lines.
 fn as_version_two(alloc: Global, text: &str) -> Result<String, AllocError> {
     let mut changed = String::new(alloc);
     for line in text.lines() {
@@ -200,7 +200,7 @@ fn conversion_fault(alloc: Global, bytes: &[u8], grid: &Grid) -> Option<CertFaul
     convert_cert(alloc, bytes, grid).err()
 }
 
-/// Nothing of version 2 is converted, be it whole or not.
+// Nothing of version 2 is converted, be it whole or not.
 fn expect_not_converted(rt: &impl Abort, alloc: Global, bytes: &[u8], grid: &Grid) {
     for n in 12..=bytes.len() {
         let fault = conversion_fault(alloc, &bytes[..n], grid);
@@ -234,8 +234,8 @@ fn certificates_are_converted(rt: HostRuntime) -> Result<(), Fail> {
     expect_crossing_converted(&rt, rt.alloc())
 }
 
-/// Which lines of the crossing's certificate are replaced by which text, and the error that then
-/// comes.
+// Which lines of the crossing's certificate are replaced by which text, and the error that then
+// comes.
 const CERT_FAULTS: &[(usize, usize, &str, Option<CertFault>)] = &[
     (1, 1, "mapf-cert 2\n", Some(CertFault::K1(4))),
     (1, 1, "mapf-cert 3\n", Some(CertFault::K1(1))),
@@ -334,7 +334,7 @@ const CERT_FAULTS: &[(usize, usize, &str, Option<CertFault>)] = &[
     ),
 ];
 
-/// The same of its certificate in version 2.
+// The same of its certificate in version 2.
 const CERT_FAULTS_TWO: &[(usize, usize, &str, Option<CertFault>)] = &[
     (1, 1, "mapf-cert 1\n", Some(CertFault::K1(4))),
     (
@@ -446,7 +446,7 @@ const PLANS: &[&str] = &[
     "mapf-plan 2\nagents 2\nlimit ticks bound 0\nend\n",
 ];
 
-/// The text that is written of the plan text which is read.
+// The text that is written of the plan text which is read.
 fn plan_written_again(alloc: Global, text: &str, grid: &Grid) -> Result<Vec<u8>, Fail> {
     let Ok(plan) = read_plan(alloc, text.as_bytes(), grid) else {
         return Err(Fail::from("no plan text"));
@@ -468,7 +468,7 @@ fn plans_are_read_and_written(rt: HostRuntime) -> Result<(), Fail> {
     expect_plans(&rt, rt.alloc())
 }
 
-/// The same of the crossing's plan text.
+// The same of the crossing's plan text.
 const PLAN_FAULTS: &[(usize, usize, &str, Option<PlanTextFault>)] = &[
     (1, 1, "mapf-plan 2\n", None),
     (1, 1, "mapf-plan 3\n", Some(PlanTextFault::P1(1))),
@@ -544,7 +544,7 @@ const PLAN_FAULTS: &[(usize, usize, &str, Option<PlanTextFault>)] = &[
     ),
 ];
 
-/// The same of the plan text of a search that was stopped.
+// The same of the plan text of a search that was stopped.
 const LIMIT_FAULTS: &[(usize, usize, &str, Option<PlanTextFault>)] = &[
     (1, 1, "mapf-plan 1\n", Some(PlanTextFault::P1(3))),
     (3, 3, "limit 3\n", Some(PlanTextFault::P1(3))),
@@ -606,7 +606,7 @@ fn plans_are_refused(rt: HostRuntime) -> Result<(), Fail> {
     expect_plan_faults(&rt, rt.alloc(), STOPPED_PLAN, LIMIT_FAULTS)
 }
 
-/// The number of the line in which bytes end.
+// The number of the line in which bytes end.
 fn line_after(bytes: &[u8]) -> u64 {
     let mut line = 1u64;
     for byte in bytes {

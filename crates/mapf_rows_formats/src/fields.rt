@@ -1,17 +1,17 @@
-use crate::expect::expect_same;
 use mapf_fields::{
     LineFault, below, cut, field, from_one_to, last, line_length, pair, strip, up_to, whole, within,
 };
+use mapf_rows_made::expect_same;
 use std::process::Abort;
 
-/// Texts, and the length of the first line of each.
+// Texts, and the length of the first line of each.
 const LENGTHS: &[(&str, Option<usize>)] = &[
     ("end\n", Some(3)),
     ("\nend\n", Some(0)),
     ("end", None),
 ];
 
-/// Texts, and the first line of each with what follows it.
+// Texts, and the first line of each with what follows it.
 const CUTS: &[(&str, Option<(&[u8], &[u8])>)] = &[
     ("tick 0\nend\n", Some((b"tick 0", b"end\n"))),
     ("end\n", Some((b"end", b""))),
@@ -36,7 +36,7 @@ fn lines_are_cut(rt: HostRuntime) {
     expect_cuts(&rt);
 }
 
-/// Texts, and what follows the word `agents` in each.
+// Texts, and what follows the word `agents` in each.
 const FRONTS: &[(&str, Option<&[u8]>)] = &[
     ("agents 2", Some(b" 2")),
     ("agent 2", None),
@@ -54,7 +54,7 @@ fn fronts_are_stripped(rt: HostRuntime) {
     expect_fronts(&rt);
 }
 
-/// What a number after a blank is read to, with nothing after it.
+// What a number after a blank is read to, with nothing after it.
 const NUMBERS: &[(&str, Result<Option<u64>, LineFault>)] = &[
     (" 0", Ok(Some(0))),
     (" 120", Ok(Some(120))),
@@ -68,10 +68,10 @@ const NUMBERS: &[(&str, Result<Option<u64>, LineFault>)] = &[
     ("", Err(LineFault::Shape)),
 ];
 
-/// What a number is read to, and what follows it.
+// What a number is read to, and what follows it.
 type Field<'a> = Result<(Option<u64>, &'a [u8]), LineFault>;
 
-/// The number with nothing after it.
+// The number with nothing after it.
 fn with_nothing_after(number: &Result<Option<u64>, LineFault>) -> Field<'static> {
     match number {
         Ok(number) => Ok((*number, b"")),
@@ -87,7 +87,7 @@ fn expect_numbers(rt: &impl Abort) {
     }
 }
 
-/// What is read of a number that another follows: with what follows it, and as the last.
+// What is read of a number that another follows: with what follows it, and as the last.
 fn expect_first_of_two(rt: &impl Abort) {
     let first: Field = Ok((Some(12), b",3"));
     expect_same(rt, &"the first of two", &field(b' ', b" 12,3"), &first);
@@ -95,7 +95,7 @@ fn expect_first_of_two(rt: &impl Abort) {
     expect_same(rt, &"the last", &last(b' ', b" 12,3"), &shape);
 }
 
-/// What a column and a row are read to.
+// What a column and a row are read to.
 const PAIRS: &[(&str, Result<(Option<u64>, Option<u64>, &[u8]), LineFault>)] = &[
     (" 12,3 4", Ok((Some(12), Some(3), b" 4"))),
     (" 18446744073709551616,3", Ok((None, Some(3), b""))),
@@ -116,7 +116,7 @@ fn numbers_are_read(rt: HostRuntime) {
     expect_pairs(&rt);
 }
 
-/// What a number alone is read to.
+// What a number alone is read to.
 const WHOLE: &[(&str, Result<Option<u64>, LineFault>)] = &[
     ("0", Ok(Some(0))),
     ("7", Ok(Some(7))),
@@ -145,7 +145,7 @@ fn numbers_alone_are_read(rt: HostRuntime) {
 
 const OUTSIDE: Result<u32, LineFault> = Err(LineFault::Range);
 
-/// A number, and whether it is of the range up to 5, from 1 to 5, and below 5.
+// A number, and whether it is of the range up to 5, from 1 to 5, and below 5.
 struct Ranged {
     number: Option<u64>,
     up_to_5: Result<u32, LineFault>,
@@ -201,7 +201,7 @@ fn expect_ranges(rt: &impl Abort) {
     }
 }
 
-/// Numbers, and whether each is outside the range from 3 to 5.
+// Numbers, and whether each is outside the range from 3 to 5.
 const OUTSIDE_3_TO_5: &[(u64, bool)] = &[(2, true), (3, false), (5, false), (6, true)];
 
 fn expect_outside_3_to_5(rt: &impl Abort) {

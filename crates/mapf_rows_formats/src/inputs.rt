@@ -1,7 +1,7 @@
 ghost use Rattle.std.specs.Prelude.{◌≤◌};
 
-use crate::expect::expect_same;
 use mapf_model::{Agent, Cell, Grid, Problem};
+use mapf_rows_made::expect_same;
 use mapf_text::{MapFault, ScenFault, read_map, read_scen};
 use std::alloc::{AllocError, Global};
 use std::process::Abort;
@@ -43,7 +43,7 @@ fn prefixes_of_a_map(rt: HostRuntime) {
     expect_faults_of_prefixes(&rt, rt.alloc(), OPEN_MAP);
 }
 
-/// Texts of maps, and the error of each.
+// Texts of maps, and the error of each.
 const MAPS: &[(&[u8], Option<MapFault>)] = &[
     (b"type octile\r\nheight 1\r\nwidth 3\r\nmap\r\n...", None),
     (
@@ -241,7 +241,7 @@ fn agents_of_a_scenario(rt: HostRuntime) -> Result<(), Fail> {
 
 const BLOCKED_MAP: &[u8] = b"type octile\nheight 2\nwidth 3\nmap\n..T\n...\n";
 
-/// Texts of scenarios, the number of agents that are read, and the error of each.
+// Texts of scenarios, the number of agents that are read, and the error of each.
 const SCENARIOS: &[(&[u8], u32, Option<ScenFault>)] = &[
     (
         b"version 1\n0 m 3 2 0 0 0 1 1\n0 m 3 2 0 0 0 1 1\n",
@@ -424,10 +424,10 @@ fn expect_lengths(
     Ok(())
 }
 
-/// Words that are lengths.
+// Words that are lengths.
 const DECIMALS: &[&str] = &["0", "+1", "-1", "007", "1.5", "1e5", "1E-5", "1.25e+02"];
 
-/// Words that aren't.
+// Words that aren't.
 const OTHER_WORDS: &[&str] = &[
     "+", "+-1", ".5", "1.", "1.e5", "1e", "1e+", "e5", "1e5.5", "1.4.1", "1e5e5", "1x", "x1",
     "1,5", "inf",

@@ -1,10 +1,10 @@
 ghost use Rattle.std.specs.Prelude.{◌≡◌, ◌≤◌, false, length, None, IsSome};
 
 use crate::certificates::{CROSSING, CROSSING_TWO};
-use crate::expect::expect_same;
 use mapf_certificate::{CertFault, CertLines, LinesFault, Version};
 use mapf_model::devices::{EndlessSource, FuseSource, Pace};
 use mapf_model::{Claim, Failed, OutOfMemory, Source};
+use mapf_rows_made::expect_same;
 use std::alloc::Global;
 use std::fmt::Debug;
 use std::process::Abort;
@@ -12,7 +12,7 @@ use std::test::Fail;
 
 const PACES: &[Pace] = &[Pace::ByteByByte, Pace::AllAtOnce];
 
-/// Gives bytes in two pieces, of which the first has a given length.
+// Gives bytes in two pieces, of which the first has a given length.
 #[derive(Drop)]
 struct TwoPieces<'a> {
     bytes: &'a [u8],
@@ -45,7 +45,7 @@ impl<'a> Source for TwoPieces<'a> {
     }
 }
 
-/// Gives one line for ever, first a header.
+// Gives one line for ever, first a header.
 #[derive(Drop)]
 struct EndlessTree<'a> {
     front: &'a [u8],
@@ -71,7 +71,7 @@ impl<'a> Source for EndlessTree<'a> {
     }
 }
 
-/// How many items came, the line of the last, and the error that ended them.
+// How many items came, the line of the last, and the error that ended them.
 type Came = (u64, u64, Option<LinesFault>);
 
 fn run<S: Source>(alloc: Global, source: &mut S, limit: u64) -> Result<Came, OutOfMemory>
@@ -100,7 +100,7 @@ fn run_items<S: Source>(lines: &mut CertLines, source: &mut S) -> Came
     (count, lines.line(), None)
 }
 
-/// What the header and, after an error of it, both calls again answer.
+// What the header and, after an error of it, both calls again answer.
 fn run_header(
     alloc: Global,
     source: &mut FuseSource,
@@ -119,13 +119,13 @@ fn run_header(
     Ok(answer)
 }
 
-/// The items of the crossing's certificate behind the lines in which they begin.
+// The items of the crossing's certificate behind the lines in which they begin.
 const ITEMS: &str = "4: Vertex { i: 0, j: 1, cell: Cell(4), tick: 1, blocks: [] }
 5: Leaf([Block { agent: 0, entries: [Entry { cell: Cell(3), tick: 0, label: Ticks(3) }] }])
 8: Leaf([Block { agent: 1, entries: [Entry { cell: Cell(1), tick: 0, label: Ticks(3) }] }])
 ";
 
-/// The header, the version, and the text of the items that come before the end.
+// The header, the version, and the text of the items that come before the end.
 fn read_whole(
     alloc: Global,
     cert: &str,
@@ -167,13 +167,13 @@ fn gives_the_header_and_the_items(rt: HostRuntime) -> Result<(), Fail> {
     expect_items(&rt, rt.alloc(), CROSSING_TWO, Version::Two)
 }
 
-/// What comes of bytes in two pieces.
+// What comes of bytes in two pieces.
 fn run_pieces(alloc: Global, bytes: &[u8], first: usize) -> Result<Came, OutOfMemory> {
     let mut source = TwoPieces { bytes, first };
     run(alloc, &mut source, 111)
 }
 
-/// What comes of bytes from a source that fails after so many calls.
+// What comes of bytes from a source that fails after so many calls.
 fn run_fuse(
     alloc: Global,
     bytes: &[u8],
@@ -193,7 +193,7 @@ fn expect_all_of_pieces(rt: &impl Abort, alloc: Global, bytes: &[u8]) -> Result<
     Ok(())
 }
 
-/// The three items come of the bytes under this limit, and then this error.
+// The three items come of the bytes under this limit, and then this error.
 fn expect_end(
     rt: &impl Abort,
     alloc: Global,
@@ -221,7 +221,7 @@ fn pieces_and_limits(rt: HostRuntime) -> Result<(), OutOfMemory> {
     expect_end(&rt, alloc, &longer, 112, more)
 }
 
-/// How many whole lines there are.
+// How many whole lines there are.
 fn lines_of(bytes: &[u8]) -> u64 {
     let mut count = 0u64;
     for byte in bytes {
@@ -230,7 +230,7 @@ fn lines_of(bytes: &[u8]) -> u64 {
     count
 }
 
-/// The header of a source that fails after so many whole lines of the crossing's certificate.
+// The header of a source that fails after so many whole lines of the crossing's certificate.
 fn header_after(lines: u64) -> Result<(u32, Claim), LinesFault> {
     if lines < 3 {
         Err(LinesFault::Device)
@@ -239,7 +239,7 @@ fn header_after(lines: u64) -> Result<(u32, Claim), LinesFault> {
     }
 }
 
-/// What comes of such a source.
+// What comes of such a source.
 fn items_after(lines: u64) -> Came {
     let (items, line) = match lines {
         0..=3 => (0, 0),
@@ -261,7 +261,7 @@ fn header_of(
     )
 }
 
-/// Each byte is a call, and each call fails once.
+// Each byte is a call, and each call fails once.
 fn expect_failures(rt: &impl Abort, alloc: Global, bytes: &[u8]) -> Result<(), Fail> {
     for n in 0..bytes.len() {
         let lines = lines_of(&bytes[..n]);
@@ -273,7 +273,7 @@ fn expect_failures(rt: &impl Abort, alloc: Global, bytes: &[u8]) -> Result<(), F
     Ok(())
 }
 
-/// How the bytes come, how many calls succeed, and what comes of them. The end of the bytes is a call of its own.
+// How the bytes come, how many calls succeed, and what comes of them. The end of the bytes is a call of its own.
 const LAST_CALLS: &[(Pace, u64, Came)] = &[
     (Pace::ByteByByte, 111, (3, 8, Some(LinesFault::Device))),
     (Pace::ByteByByte, 112, (3, 8, None)),
@@ -297,7 +297,7 @@ fn fails_at_each_pull(rt: HostRuntime) -> Result<(), Fail> {
     Ok(())
 }
 
-/// The bytes with one more before the byte of this number.
+// The bytes with one more before the byte of this number.
 fn with_byte(alloc: Global, bytes: &[u8], place: usize, byte: u8) -> Result<Vec<u8>, OutOfMemory>
     requires { place ≤ length bytes.now }
 {
@@ -319,8 +319,8 @@ fn expect_fault(
     Ok(())
 }
 
-/// The line of this number, which ends there, is one byte longer, and with that byte it isn't the
-/// expected one.
+// The line of this number, which ends there, is one byte longer, and with that byte it isn't the
+// expected one.
 fn expect_fault_of_line(
     rt: &impl Abort,
     alloc: Global,
@@ -347,7 +347,7 @@ fn expect_faults_of_lines(rt: &impl Abort, alloc: Global, bytes: &[u8]) -> Resul
     Ok(())
 }
 
-/// An error of a line is reported before more is pulled, and not before the line ends.
+// An error of a line is reported before more is pulled, and not before the line ends.
 #[test]
 fn pulls_nothing_after_a_fault(rt: HostRuntime) -> Result<(), OutOfMemory> {
     expect_faults_of_lines(&rt, rt.alloc(), CROSSING.as_bytes())

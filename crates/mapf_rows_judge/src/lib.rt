@@ -4,8 +4,6 @@
 #[cfg(test)]
 mod checks;
 #[cfg(test)]
-mod expect;
-#[cfg(test)]
 mod samples;
 #[cfg(test)]
 mod validity;

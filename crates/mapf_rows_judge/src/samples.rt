@@ -1,55 +1,26 @@
-use mapf_model::{Agent, Cell, Grid, Path, Plan, Problem};
+use mapf_model::{Plan, Problem};
+use mapf_rows_made::{Missing, plan_of, problem_of};
 use std::alloc::{AllocError, Global};
-use std::test::Fail;
 
 /// Two agents whose shortest paths cross: on an open 3x3 grid one goes from (0,1) to (2,1), the other
 /// from (1,0) to (1,2).
-pub fn crossing(alloc: Global) -> Result<Problem, Fail> {
-    Ok(problem_of(alloc, 3, 3, &[(3, 5), (1, 7)]).ok_or("no problem")?)
+pub fn crossing(alloc: Global) -> Result<Problem, Missing> {
+    problem_of(alloc, "... ... ...", &[(3, 5), (1, 7)])
 }
 
 /// Two agents with one goal, on two cells side by side.
-pub fn shared_goal(alloc: Global) -> Result<Problem, Fail> {
-    Ok(problem_of(alloc, 2, 1, &[(0, 1), (1, 1)]).ok_or("no problem")?)
+pub fn shared_goal(alloc: Global) -> Result<Problem, Missing> {
+    problem_of(alloc, "..", &[(0, 1), (1, 1)])
 }
 
 /// Two agents that are to change places, on two cells side by side.
-pub fn swapped(alloc: Global) -> Result<Problem, Fail> {
-    Ok(problem_of(alloc, 2, 1, &[(0, 1), (1, 0)]).ok_or("no problem")?)
-}
-
-// Agents that go from one cell to another on a free grid of this size.
-fn problem_of(alloc: Global, width: u32, height: u32, ends: &[(u32, u32)]) -> Option<Problem> {
-    let mut free = Vec::new(alloc);
-    for _ in 0..width.saturating_mul(height) {
-        free.push(true).ok()?;
-    }
-    Problem::of(Grid::of(width, height, free)?, agents_of(alloc, ends)?)
-}
-
-fn agents_of(alloc: Global, ends: &[(u32, u32)]) -> Option<Vec<Agent>> {
-    let mut agents = Vec::new(alloc);
-    for (start, goal) in ends {
-        let (start, goal) = (Cell(*start), Cell(*goal));
-        agents.push(Agent { start, goal }).ok()?;
-    }
-    Some(agents)
+pub fn swapped(alloc: Global) -> Result<Problem, Missing> {
+    problem_of(alloc, "..", &[(0, 1), (1, 0)])
 }
 
 /// The first agent waits for a tick.
-pub fn crossing_plan(alloc: Global) -> Option<Plan> {
-    let mut paths = Vec::new(alloc);
-    paths.push(path_of(alloc, &[3, 3, 4, 5])?).ok()?;
-    paths.push(path_of(alloc, &[1, 4, 7])?).ok()?;
-    Plan::of(paths)
-}
-
-fn path_of(alloc: Global, numbers: &[u32]) -> Option<Path> {
-    let mut cells = Vec::new(alloc);
-    for number in numbers {
-        cells.push(Cell(*number)).ok()?;
-    }
-    Path::of(cells)
+pub fn crossing_plan(alloc: Global) -> Result<Plan, Missing> {
+    plan_of(alloc, &[&[3, 3, 4, 5], &[1, 4, 7]])
 }
 
 pub const CROSSING_PLAN: &str =

@@ -1,13 +1,13 @@
-use crate::expect::expect_same;
 use crate::samples::{crossing, crossing_plan};
 use mapf_checker::check_plan;
+use mapf_rows_made::expect_same;
 use std::test::Fail;
 
 #[test]
 fn adds_up_the_costs(rt: HostRuntime) -> Result<(), Fail> {
     let alloc = rt.alloc();
     let crossing = crossing(alloc)?;
-    let plan = crossing_plan(alloc).ok_or("no plan")?;
+    let plan = crossing_plan(alloc)?;
     if plan.paths().len() != crossing.agents().len() {
         return Err(Fail::from("not one path for each agent"));
     }

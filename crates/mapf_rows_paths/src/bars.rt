@@ -2,14 +2,14 @@ ghost use Rattle.std.specs.Prelude.{◌<◌};
 ghost use Rattle.mapf_model.specs.Bars.{IsBar};
 ghost use Rattle.mapf_constraints.specs.BarSets.{bar_tick};
 
-use crate::expect::expect_same;
 use mapf_constraints::{Bar, BarTable, ListBars, TickBars};
 use mapf_model::{Cell, OutOfMemory, Tick};
+use mapf_rows_made::expect_same;
 use std::alloc::Global;
 use std::process::Abort;
 use std::test::Fail;
 
-/// A map of two cells, the second of them forbidden at tick 5.
+// A map of two cells, the second of them forbidden at tick 5.
 fn second_cell_barred<B: BarTable>(alloc: Global) -> Result<B, OutOfMemory> {
     let mut table = B::empty(alloc);
     table.add(Bar::Cell {
@@ -19,8 +19,8 @@ fn second_cell_barred<B: BarTable>(alloc: Global) -> Result<B, OutOfMemory> {
     Ok(table)
 }
 
-/// The last ticks of both cells, the horizon, and whether the second cell is forbidden at 5 and at 4, and
-/// the first at 5.
+// The last ticks of both cells, the horizon, and whether the second cell is forbidden at 5 and at 4, and
+// the first at 5.
 type Seen = ([Option<Tick>; 2], Tick, [bool; 3]);
 
 fn seen<B: BarTable>(table: &B) -> Seen {
@@ -51,7 +51,7 @@ fn both_tables_know_the_last_tick(rt: HostRuntime) -> Result<(), Fail> {
     Ok(())
 }
 
-/// Forbids a cell at a tick.
+// Forbids a cell at a tick.
 fn forbid_cell<B: BarTable>(table: &mut B, cell: u32, tick: Tick) -> Result<(), OutOfMemory>
     requires { tick < 50 }
 {
@@ -61,7 +61,7 @@ fn forbid_cell<B: BarTable>(table: &mut B, cell: u32, tick: Tick) -> Result<(), 
     })
 }
 
-/// Forbids the move to the next cell at a tick.
+// Forbids the move to the next cell at a tick.
 fn forbid_move<B: BarTable>(table: &mut B, from: u32, tick: Tick) -> Result<(), OutOfMemory>
     requires from { from < 31 }
     requires tick { tick < 50 }
@@ -73,7 +73,7 @@ fn forbid_move<B: BarTable>(table: &mut B, from: u32, tick: Tick) -> Result<(), 
     })
 }
 
-/// A few hundred bars, some of them twice.
+// A few hundred bars, some of them twice.
 fn many_bars<B: BarTable>(alloc: Global) -> Result<B, OutOfMemory> {
     let mut table = B::empty(alloc);
     for k in 0u32..300 {
@@ -108,8 +108,8 @@ fn both_tables_answer_alike(rt: HostRuntime) -> Result<(), Fail> {
     Ok(())
 }
 
-/// What a table answers: on each of 32 cells and 8 ticks, whether the cell is forbidden and whether the
-/// move to the next one is; of each cell the last tick; and the horizon.
+// What a table answers: on each of 32 cells and 8 ticks, whether the cell is forbidden and whether the
+// move to the next one is; of each cell the last tick; and the horizon.
 #[derive(Drop)]
 struct Answers {
     bars: [(bool, bool); 256],
@@ -117,7 +117,7 @@ struct Answers {
     horizon: Tick,
 }
 
-/// Whether the cell and the move from it are forbidden at the tick.
+// Whether the cell and the move from it are forbidden at the tick.
 fn bars_at<B: BarTable>(table: &B, cell: u32, tick: Tick) -> (bool, bool)
     requires { cell < 32 }
 {
@@ -149,14 +149,14 @@ fn answers_of<B: BarTable>(table: &B) -> Answers {
     }
 }
 
-/// Whether the table still answers so. It needs no memory.
+// Whether the table still answers so. It needs no memory.
 fn answers_so<B: BarTable>(table: &B, answers: &Answers) -> bool {
     bars_of(table) == answers.bars
         && last_ticks_of(table) == answers.last
         && table.horizon() == answers.horizon
 }
 
-/// Adds the bar. Where memory is refused, the table has to answer as before, and the error is passed on.
+// Adds the bar. Where memory is refused, the table has to answer as before, and the error is passed on.
 fn adds_or_stays<B: BarTable>(rt: &impl Abort, table: &mut B, bar: Bar) -> Result<(), OutOfMemory>
     requires early { bar_tick bar < 1000000 }
     requires bar { IsBar bar }
@@ -205,7 +205,7 @@ fn adds_move<B: BarTable>(
     Ok(())
 }
 
-/// Forbids the cell at the tick, and the move from it.
+// Forbids the cell at the tick, and the move from it.
 fn adds_both<B: BarTable>(
     rt: &impl Abort,
     table: &mut B,
@@ -219,7 +219,7 @@ fn adds_both<B: BarTable>(
     adds_move(rt, table, cell, tick)
 }
 
-/// Adds many bars and copies the table. Where memory is refused on the way, it has to answer as before.
+// Adds many bars and copies the table. Where memory is refused on the way, it has to answer as before.
 fn stays_as_it_is<B: BarTable>(rt: &impl Abort, alloc: Global) {
     let mut table = B::empty(alloc);
     for k in 0..60u32 {

@@ -1,25 +1,15 @@
 ghost use Rattle.std.specs.Prelude.{◌<◌, ◌≤◌, length, IfOk};
 ghost use Rattle.mapf_model.specs.Conflicts.{AreConflictFreeBefore};
 
-use crate::expect::expect_same;
-use crate::samples::{Missing, path_of};
 use mapf_conflicts::{
     BasePaths, CellMarks, Conflict, MOST_ROWS, PatchedPaths, PathsByTick, Replacement,
     first_conflict, first_conflict_after_replanning, first_conflict_in,
 };
 use mapf_model::{Cell, OutOfMemory, Path, Plan, Tick};
+use mapf_rows_made::{Missing, expect_same, path_of, plan_of};
 use std::alloc::Global;
 use std::process::Abort;
 use std::test::Fail;
-
-// A plan of these paths, each a list of cell numbers.
-fn plan_of(alloc: Global, paths: &[&[u32]]) -> Result<Plan, Missing> {
-    let mut all = Vec::new(alloc);
-    for numbers in paths {
-        all.push(path_of(alloc, numbers)?)?;
-    }
-    Plan::of(all).ok_or(Missing::Value)
-}
 
 // Whether this is the first conflict whatever the marks of so many cells hold from earlier.
 fn is_first_with_marks(

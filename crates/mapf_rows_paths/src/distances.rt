@@ -1,7 +1,6 @@
-use crate::expect::expect_same;
-use crate::samples::{Missing, grid_of};
 use mapf_distance::Distances;
 use mapf_model::{Cell, Path};
+use mapf_rows_made::{Missing, expect_same, grid_of};
 use std::alloc::Global;
 use std::process::Abort;
 use std::test::Fail;
@@ -63,7 +62,7 @@ fn expect_distances(rt: &impl Abort, distances: &Distances, cells: &[(u32, Optio
     }
 }
 
-/// Cells of a row with a wall in its second cell, and their distances to the third.
+// Cells of a row with a wall in its second cell, and their distances to the third.
 const PAST_A_WALL: &[(u32, Option<u32>)] = &[
     (2, Some(0)),
     (0, None),

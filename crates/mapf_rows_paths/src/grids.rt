@@ -1,6 +1,5 @@
-use crate::expect::expect_same;
-use crate::samples::{Missing, grid_of};
 use mapf_model::{Cell, Grid};
+use mapf_rows_made::{Missing, expect_same, grid_of};
 use std::alloc::Global;
 use std::process::Abort;
 use std::test::Fail;

@@ -1,7 +1,6 @@
-use crate::expect::expect_same;
-use crate::samples::{Missing, problem_of};
 use mapf_distance::LazyTables;
 use mapf_model::Cell;
+use mapf_rows_made::{Missing, expect_same, problem_of};
 use std::alloc::Global;
 use std::test::Fail;
 

@@ -9,13 +9,9 @@ mod conflicts;
 #[cfg(test)]
 mod distances;
 #[cfg(test)]
-mod expect;
-#[cfg(test)]
 mod grids;
 #[cfg(test)]
 mod lazy_tables;
-#[cfg(test)]
-mod samples;
 #[cfg(test)]
 mod searches;
 #[cfg(test)]

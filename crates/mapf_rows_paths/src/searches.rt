@@ -1,9 +1,8 @@
 use crate::distances::distances_to;
-use crate::expect::expect_same;
-use crate::samples::{Missing, grid_of};
 use mapf_constraints::{Bar, BarTable, ListBars, TickBars};
 use mapf_distance::Distances;
 use mapf_model::{Agent, Cell, Entry, Grid, Label, OutOfMemory, Path};
+use mapf_rows_made::{Missing, expect_same, grid_of};
 use mapf_spacetime::{
     Found, Labels, SearchTask, StateLabels, Workspace, label_at, search, search_expecting,
 };
@@ -19,7 +18,7 @@ fn path_text(alloc: Global, path: &Path) -> Result<String, AllocError> {
     Ok(text)
 }
 
-/// The entries as cell@tick=label.
+// The entries as cell@tick=label.
 fn labels_text(alloc: Global, entries: &[Entry]) -> Result<String, AllocError> {
     let mut text = String::from_str(alloc, ";")?;
     for entry in entries {
@@ -41,7 +40,7 @@ fn found_text(alloc: Global, found: &Found) -> Result<String, AllocError> {
     Ok(text)
 }
 
-/// The same of what a search finds that keeps its states.
+// The same of what a search finds that keeps its states.
 fn states_text(alloc: Global, found: Found<StateLabels>) -> Result<String, OutOfMemory> {
     let (mut text, labels) = match found {
         Found::Arrives { path, labels } => (path_text(alloc, &path)?, labels),
@@ -52,7 +51,7 @@ fn states_text(alloc: Global, found: Found<StateLabels>) -> Result<String, OutOf
     Ok(text)
 }
 
-/// Forbids cells at ticks.
+// Forbids cells at ticks.
 fn bar_cells<B: BarTable>(table: &mut B, cells: &[(u32, u32)]) -> Result<(), OutOfMemory> {
     for (cell, tick) in cells {
         let (cell, tick) = (Cell(*cell), *tick);
@@ -63,7 +62,7 @@ fn bar_cells<B: BarTable>(table: &mut B, cells: &[(u32, u32)]) -> Result<(), Out
     Ok(())
 }
 
-/// Forbids moves at ticks.
+// Forbids moves at ticks.
 fn bar_moves<B: BarTable>(table: &mut B, moves: &[(u32, u32, u32)]) -> Result<(), OutOfMemory> {
     for (from, to, tick) in moves {
         let (from, to, tick) = (Cell(*from), Cell(*to), *tick);
@@ -74,7 +73,7 @@ fn bar_moves<B: BarTable>(table: &mut B, moves: &[(u32, u32, u32)]) -> Result<()
     Ok(())
 }
 
-/// A table that forbids these cells and moves.
+// A table that forbids these cells and moves.
 fn table_of<B: BarTable>(
     alloc: Global,
     cells: &[(u32, u32)],
@@ -86,7 +85,7 @@ fn table_of<B: BarTable>(
     Ok(table)
 }
 
-/// What the search finds, if the goal is free.
+// What the search finds, if the goal is free.
 fn found_on<B: BarTable>(
     alloc: Global,
     grid: &Grid,
@@ -107,8 +106,8 @@ fn agent((start, goal): (u32, u32)) -> Agent {
     }
 }
 
-/// A grid's rows, where an agent goes on it, the forbidden cells and moves with their ticks, and what the
-/// search finds.
+// A grid's rows, where an agent goes on it, the forbidden cells and moves with their ticks, and what the
+// search finds.
 struct Case<'a> {
     rows: &'a str,
     ends: (u32, u32),
@@ -117,7 +116,7 @@ struct Case<'a> {
     wanted: &'a str,
 }
 
-/// What the search finds under the bars in a table of this type.
+// What the search finds under the bars in a table of this type.
 fn searched<B: BarTable>(alloc: Global, case: &Case) -> Result<String, Missing> {
     let grid = grid_of(alloc, case.rows)?;
     let table = table_of::<B>(alloc, case.cells, case.moves)?;
@@ -125,7 +124,7 @@ fn searched<B: BarTable>(alloc: Global, case: &Case) -> Result<String, Missing> 
     Ok(found_text(alloc, &found)?)
 }
 
-/// Both tables lead to the same answer.
+// Both tables lead to the same answer.
 fn expect_found(rt: &impl Abort, alloc: Global, case: &Case) -> Result<(), Fail> {
     let by_list = searched::<ListBars>(alloc, case)?;
     expect_same(rt, &case.rows, &by_list.as_str(), &case.wanted);
@@ -332,7 +331,7 @@ fn labels_of_crossing_agents_are_those_of_a_known_certificate(rt: HostRuntime) -
     expect_each_found(&rt, rt.alloc(), CROSSING)
 }
 
-/// A square of free cells.
+// A square of free cells.
 fn open_square(alloc: Global, side: u32) -> Result<Grid, Missing> {
     let mut free = Vec::new(alloc);
     for _cell in 0..u64::from(side) * u64::from(side) {
@@ -341,7 +340,7 @@ fn open_square(alloc: Global, side: u32) -> Result<Grid, Missing> {
     Grid::of(side, side, free).ok_or(Missing::Value)
 }
 
-/// The path that is found, and its labels.
+// The path that is found, and its labels.
 fn arrival(found: Found) -> Option<(Path, Labels)> {
     match found {
         Found::Arrives { path, labels } => Some((path, labels)),
@@ -349,8 +348,8 @@ fn arrival(found: Found) -> Option<(Path, Labels)> {
     }
 }
 
-/// The path along the first row of 64 cells, where a cell of the last row is forbidden late, and
-/// whether it has no labels.
+// The path along the first row of 64 cells, where a cell of the last row is forbidden late, and
+// whether it has no labels.
 fn path_beside_a_late_bar(alloc: Global) -> Result<(Path, bool), Missing> {
     let grid = open_square(alloc, 64)?;
     let bars = table_of::<TickBars>(alloc, &[(4032, 900_000)], &[])?;
@@ -359,7 +358,7 @@ fn path_beside_a_late_bar(alloc: Global) -> Result<(Path, bool), Missing> {
     Ok((path, labels.is_empty()))
 }
 
-/// The path leads along the first 64 cells.
+// The path leads along the first 64 cells.
 fn expect_first_row(rt: &impl Abort, path: &Path) {
     expect_same(rt, &"length", &path.cells().len(), &64);
     for (cell, number) in path.cells().iter().zip(0..64) {
@@ -375,7 +374,7 @@ fn a_late_bar_elsewhere_costs_nothing(rt: HostRuntime) -> Result<(), Fail> {
     Ok(())
 }
 
-/// The labels of two cells that the search labels and of one that can't reach the goal.
+// The labels of two cells that the search labels and of one that can't reach the goal.
 fn some_labels(alloc: Global) -> Result<[Label; 3], Missing> {
     let rows = "...@.";
     let bars = table_of::<ListBars>(alloc, &[(1, 1)], &[])?;
@@ -412,7 +411,7 @@ fn found_in(
     Ok(search_expecting(alloc, workspace, &task, 0)?)
 }
 
-/// What the search finds in this workspace.
+// What the search finds in this workspace.
 fn searched_in(alloc: Global, workspace: &mut Workspace, case: &Case) -> Result<String, Missing> {
     let grid = grid_of(alloc, case.rows)?;
     let bars = table_of(alloc, case.cells, case.moves)?;
@@ -420,7 +419,7 @@ fn searched_in(alloc: Global, workspace: &mut Workspace, case: &Case) -> Result<
     Ok(states_text(alloc, found)?)
 }
 
-/// Searches on grids of different sizes.
+// Searches on grids of different sizes.
 const ROUND: &[Case] = &[
     Case {
         rows: "...",
@@ -462,7 +461,7 @@ fn a_workspace_serves_one_search_after_the_other(rt: HostRuntime) -> Result<(), 
     Ok(())
 }
 
-/// What the search finds if a path is expected to cost so much.
+// What the search finds if a path is expected to cost so much.
 fn searched_expecting(
     alloc: Global,
     workspace: &mut Workspace,

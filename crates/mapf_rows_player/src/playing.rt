@@ -3,6 +3,7 @@ use mapf_fields::PAGE_ROOM;
 use mapf_model::devices::{FuseSink, Pace};
 use mapf_model::{Agent, BytesSink, Cell, Grid, OutOfMemory, Path, Plan, Problem, Sink};
 use mapf_player::{Dispatch, EventFault, Reply, dispatch_all, play, read_events};
+use mapf_rows_made::{path_of, plan_of};
 use std::alloc::Global;
 use std::process::Abort;
 use std::test::Fail;
@@ -73,28 +74,10 @@ fn problem_of(alloc: Global, given: &Given) -> Result<Problem, Fail> {
     Ok(Problem::of(grid, agents).ok_or("a problem")?)
 }
 
-// The path through these cells.
-fn path_of(alloc: Global, numbers: &[u32]) -> Result<Path, Fail> {
-    let mut cells = Vec::new(alloc);
-    for number in numbers {
-        cells.push(Cell(*number))?;
-    }
-    Ok(Path::of(cells).ok_or("a path")?)
-}
-
-// The plan of the paths.
-fn plan_of(alloc: Global, given: &Given) -> Result<Plan, Fail> {
-    let mut paths = Vec::new(alloc);
-    for numbers in given.paths {
-        paths.push(path_of(alloc, numbers)?)?;
-    }
-    Ok(Plan::of(paths).ok_or("a plan")?)
-}
-
 // Plays the plan, which has to be valid, into the sink. Answers whether the sink took it whole.
 fn is_played<S: Sink>(alloc: Global, given: &Given, sink: &mut S) -> Result<bool, Fail> {
     let problem = problem_of(alloc, given)?;
-    let plan = plan_of(alloc, given)?;
+    let plan = plan_of(alloc, given.paths)?;
     is_plan_played(&problem, &plan, sink)
 }
 
@@ -299,7 +282,7 @@ fn replies_of(alloc: Global, problem: &Problem, plan: &Plan) -> Result<(Reply, R
 #[test]
 fn dispatches_an_agent_at_rest(rt: HostRuntime) -> Result<(), Fail> {
     let problem = problem_of(rt.alloc(), &ONE_CELL)?;
-    let plan = plan_of(rt.alloc(), &ONE_CELL)?;
+    let plan = plan_of(rt.alloc(), ONE_CELL.paths)?;
     let replies = replies_of(rt.alloc(), &problem, &plan)?;
     assert!(rt; replies == (Reply::Done, Reply::Done));
     Ok(())
@@ -322,7 +305,7 @@ fn asked(alloc: Global, first: &[u8], line: &[u8], last: &[u8]) -> Result<Vec<u8
 // whole.
 fn is_told<S: Sink>(alloc: Global, events: &[u8], sink: &mut S) -> Result<bool, Fail> {
     let problem = problem_of(alloc, &ONE_CELL)?;
-    let plan = plan_of(alloc, &ONE_CELL)?;
+    let plan = plan_of(alloc, ONE_CELL.paths)?;
     let count = plan.paths().len();
     if sink.failed() || count != 1 || count != problem.agents().len() {
         return Err("a failed sink or another number of agents")?;

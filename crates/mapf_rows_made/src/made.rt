@@ -1,4 +1,5 @@
-use mapf_model::{Agent, Cell, Grid, OutOfMemory, Path, Problem};
+//! Grids, problems, paths and plans, each made of the words of a test.
+use mapf_model::{Agent, Cell, Grid, OutOfMemory, Path, Plan, Problem};
 use std::alloc::{AllocError, AllocFailed, Global};
 
 /// Why a test has no value to compare: memory ran out, or what the test states makes none.
@@ -43,7 +44,7 @@ pub fn grid_of(alloc: Global, rows: &str) -> Result<Grid, Missing> {
 }
 
 /// Agents that go from one cell to another.
-fn agents_of(alloc: Global, ends: &[(u32, u32)]) -> Result<Vec<Agent>, Missing> {
+pub fn agents_of(alloc: Global, ends: &[(u32, u32)]) -> Result<Vec<Agent>, Missing> {
     let mut agents = Vec::new(alloc);
     for (start, goal) in ends {
         let (start, goal) = (Cell(*start), Cell(*goal));
@@ -64,4 +65,13 @@ pub fn path_of(alloc: Global, numbers: &[u32]) -> Result<Path, Missing> {
         cells.push(Cell(*number))?;
     }
     Path::of(cells).ok_or(Missing::Value)
+}
+
+/// The plan of these paths, each a list of cell numbers.
+pub fn plan_of(alloc: Global, paths: &[&[u32]]) -> Result<Plan, Missing> {
+    let mut all = Vec::new(alloc);
+    for numbers in paths {
+        all.push(path_of(alloc, numbers)?)?;
+    }
+    Plan::of(all).ok_or(Missing::Value)
 }

@@ -1,3 +1,4 @@
+//! How a test compares a value.
 use std::fmt::Debug;
 use std::process::Abort;
 
