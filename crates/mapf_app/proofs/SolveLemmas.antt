@@ -4,6 +4,9 @@ use Rattle.std.proofs.KnownBytes.{Appends-trans}
 use Rattle.std.specs.Io.KnownBytes.{Appends}
 use Rattle.std.specs.Result.{is_err}
 use Rattle.std.proofs.lemmas.List.{take_at}
+use Rattle.mapf_app.specs.Runs.{WritesTexts}
+use Rattle.mapf_app.specs.declared.fault.Fault.{Fault}
+use Rattle.mapf_app.specs.declared.kind.Kind.{Kind}
 use Rattle.mapf_fields.specs.Pages.{WritesOrFails, WritesPrefix}
 use Rattle.mapf_fields.proofs.Prefixes.{from_take, prefix_before, prefix_next}
 
@@ -47,3 +50,16 @@ text_written (Err e) a b text same_text same went w = absurd cc
 pub text_front : {T E : Type 0} (r : Result T E) (a b : Option (List ℕ)) (text same_text : List ℕ) → text ≡ same_text → is_err r ≡ true → WritesOrFails a b text r → (n : ℕ) × Appends a b (take n same_text)
 text_front (Ok x) a b text same_text same failed w = absurd cc
 text_front (Err e) a b text same_text same failed w = let (n, few, wrote) = front_of a b text w in (n, subst (λ t. Appends a b (take n t)) same wrote)
+
+-- where each two texts that are such are others too
+pub weaker : (result : Result Kind Fault) (P Q : Kind → List ℕ → List ℕ → Type 0) (a b c d : Option (List ℕ)) → ((kind : Kind) (plan cert : List ℕ) → P kind plan cert → Q kind plan cert) → WritesTexts result P a b c d → WritesTexts result Q a b c d
+weaker (Ok kind) P Q a b c d also w = record {
+  texts = (let (plan, cert, is, wrote, wrote_too) = w.texts in (plan, cert, also kind plan cert is, wrote, wrote_too));
+  plan_front = λ is. cc;
+  cert_front = λ is. cc;
+}
+weaker (Err fault) P Q a b c d also w = record {
+  texts = tt;
+  plan_front = λ of. let (kind, plan, cert, n, is, wrote) = w.plan_front of in (kind, plan, cert, n, also kind plan cert is, wrote);
+  cert_front = λ of. let (kind, plan, cert, n, is, wrote, wrote_too) = w.cert_front of in (kind, plan, cert, n, also kind plan cert is, wrote, wrote_too);
+}

@@ -9,5 +9,5 @@ pub mod Dispatched
 pub mod Problems
 pub mod Solved
 pub mod Told
-pub mod Unreadable
+pub mod Runs
 pub mod Policy

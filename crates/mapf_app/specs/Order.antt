@@ -3,7 +3,7 @@ use Rattle.std.specs.Prelude.{◌≡◌, ℕ, Bool, false, List, Option}
 use Rattle.std.specs.Io.KnownBytes.{IsAtEnd}
 use Rattle.mapf_app.specs.Planned.{SpellsPlanned}
 use Rattle.mapf_app.specs.Problems.{SpellsGrid, SpellsProblem}
-use Rattle.mapf_app.specs.Unreadable.{IsWithin}
+use Rattle.mapf_app.specs.Runs.{IsWithin}
 use Rattle.mapf_model.specs.Grid.{GridMap}
 use Rattle.mapf_model.specs.Limits.{most_text_bytes}
 use Rattle.mapf_model.specs.Plan.{Instance}

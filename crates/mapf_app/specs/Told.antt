@@ -1,5 +1,5 @@
 -- What the program prints for an answer, and its exit status.
-use Rattle.std.specs.Prelude.{◌≡◌, ◌++◌, ◌∷◌, [], ℕ, Bool, true, false, List, Option, Some, None, codes}
+use Rattle.std.specs.Prelude.{◌≡◌, ◌++◌, ◌∷◌, [], ℕ, Bool, true, false, List, Option, Some, None, codes, take}
 use Rattle.std.specs.Borrow.{Bor}
 use Rattle.std.specs.Fmt.{decimal}
 use Rattle.std.specs.Io.KnownBytes.{Appends}
@@ -53,9 +53,10 @@ verdict_line (verdicts.Optimal cost) = codes "optimal " ++ (decimal cost ++ (10 
 verdict_line (verdicts.Bound bound) = codes "bound " ++ (decimal bound ++ (10 ∷ []))
 verdict_line verdicts.Impossible = codes "impossible\n"
 
--- the text was written and the status is this one, or the sink failed and the status is that of an error
+-- the text was written and the status is this one, or the sink failed, got a prefix of the text, and the status is that
+-- of an error
 abbrev pub Tells : Bool → Option (List ℕ) → Option (List ℕ) → List ℕ → ℕ → ℕ → Type 0
-Tells true old new text wanted status = status ≡ 2
+Tells true old new text wanted status = (status ≡ 2) × ((n : ℕ) × Appends old new (take n text))
 Tells false old new text wanted status = (status ≡ wanted) × Appends old new text
 
 -- whether the error is a refusal

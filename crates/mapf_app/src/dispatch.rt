@@ -1,13 +1,12 @@
 //! The run of `dispatch`: agents follow a plan, and each event of a text gets its reply. The program makes it over
 //! files.
-ghost use Rattle.std.specs.Prelude.{◌≡◌, ◌≤◌, ◌<◌, ℕ, List, All, Ok, Err, false, true, take};
+ghost use Rattle.std.specs.Prelude.{◌≡◌, ◌≤◌, ◌<◌, ℕ, List, All, Ok, Err, false, true};
 ghost use Rattle.std.specs.Prelude.{IfOk, IfErr, IfSome, OnOk, IsErrOf, MatchResult, Some};
-ghost use Rattle.std.specs.Io.KnownBytes.{Appends};
 ghost use Rattle.mapf_app.specs.Dispatched.{DispatchesTruly, IsDueDispatch, ShowsReplies};
-ghost use Rattle.mapf_app.specs.Faults.{HasNoInnerMemory, IsBeforeWriting, IsDispatching, IsOfDevices, IsOfInput};
+ghost use Rattle.mapf_app.specs.Faults.{HasNoInnerMemory, IsDispatching, IsOfDevices, IsOfInput};
 ghost use Rattle.mapf_app.specs.Faults.{IsOfMap, IsOfPlan, IsOfProblem, IsReadingEvents, fault_of_events};
 ghost use Rattle.mapf_app.specs.Order.{HasReadGrid, HasReadPlan, HasReadProblem, IsReadWhole};
-ghost use Rattle.mapf_app.specs.Unreadable.{IsUnreadable, IsWithin};
+ghost use Rattle.mapf_app.specs.Runs.{ReportsSource, ReportsLaterSource, IsUnreadable, WritesText};
 ghost use Rattle.mapf_model.specs.Limits.{most_agents, most_text_bytes};
 ghost use Rattle.mapf_model.specs.Plan.{Instance};
 ghost use Rattle.mapf_player.specs.Events.{SpellsEvents};
@@ -64,66 +63,43 @@ pub fn run_dispatch<M: Source, S: Source, P: Source, E: Source, K: Sink>(
     events: &mut E,
     sink: &mut K,
 ) -> Result<(), Fault>
-    requires map_works { M.has_failed map.old ≡ false }
-    requires scen_works { S.has_failed scen.old ≡ false }
-    requires plan_works { P.has_failed plan.old ≡ false }
-    requires events_work { E.has_failed events.old ≡ false }
-    requires sink_works { K.has_failed sink.old ≡ false }
-    requires some { 1 ≤ k }
-    requires few { k ≤ most_agents }
+    requires works { (M.has_failed map.old ≡ false) × (S.has_failed scen.old ≡ false)
+        × (P.has_failed plan.old ≡ false) × (E.has_failed events.old ≡ false) × (K.has_failed sink.old ≡ false) }
+    requires range { (1 ≤ k) × (k ≤ most_agents) }
     // What is written are the replies to the events that were read, while all agents follow the valid plan that was
-    // read.
-    ensures text { OnOk result ((text : List ℕ)
-        × DispatchesTruly (M.remaining map.old) (S.remaining scen.old) (P.remaining plan.old)
-        (E.remaining events.old) k text
-        × Appends (K.contents sink.old) (K.contents sink.new) text) }
+    // read. An error of the sink is reported if and only if the sink failed. The sink then got a prefix of such a text.
+    // After any other error it is as it was.
+    ensures text { WritesText result (DispatchesTruly
+        (M.remaining map.old) (S.remaining scen.old) (P.remaining plan.old) (E.remaining events.old) k)
+        (K.has_failed sink.new) (K.contents sink.old) (K.contents sink.new) (sink.new ≡ sink.old) }
     // If the texts spell events and a valid plan, the replies are written, unless a device or memory prevents it.
     ensures due { (problem : Instance) (paths : List (List ℕ)) (agents : List ℕ) →
         IsDueDispatch (M.remaining map.old) (S.remaining scen.old) (P.remaining plan.old) (E.remaining events.old) k
         problem paths agents →
         MatchResult result
         (λ _. ShowsReplies problem paths agents (K.contents sink.old) (K.contents sink.new)) IsOfDevices }
-    // An input with more bytes than its limit is not accepted.
-    ensures within { OnOk result
-        (IsWithin (M.remaining map.old) most_text_bytes × IsWithin (S.remaining scen.old) most_text_bytes
-        × IsWithin (P.remaining plan.old) most_text_bytes × IsWithin (E.remaining events.old) most_text_bytes) }
     // Each reported error is one that the inputs have, and its location is correct.
     ensures fault { IfErr result (IsDispatching
         (M.remaining map.old) (S.remaining scen.old) (P.remaining plan.old) (E.remaining events.old) k) }
     // Out of memory is `F6`, and inside no other error.
     ensures inner { IfErr result HasNoInnerMemory }
-    // An error of a device is reported only if it failed or a source gave too many bytes, and always if it failed.
-    ensures map { IsErrOf result (Fault.F4 Input.Map) →
-        IsUnreadable (M.has_failed map.new) (M.remaining map.old) (M.remaining map.new) most_text_bytes }
-    ensures map_failed { M.has_failed map.new ≡ true → IsErrOf result (Fault.F4 Input.Map) }
-    ensures scen { IsErrOf result (Fault.F4 Input.Scen) →
-        IsUnreadable (S.has_failed scen.new) (S.remaining scen.old) (S.remaining scen.new) most_text_bytes }
-    ensures scen_failed { S.has_failed scen.new ≡ true → IsErrOf result (Fault.F4 Input.Scen) }
-    ensures plan { IsErrOf result (Fault.F4 Input.Plan) →
-        IsUnreadable (P.has_failed plan.new) (P.remaining plan.old) (P.remaining plan.new) most_text_bytes }
-    ensures plan_failed { P.has_failed plan.new ≡ true → IsErrOf result (Fault.F4 Input.Plan) }
-    ensures events { IsErrOf result (Fault.F4 Input.Events) →
-        IsUnreadable (E.has_failed events.new) (E.remaining events.old) (E.remaining events.new) most_text_bytes }
-    ensures events_failed { E.has_failed events.new ≡ true → IsErrOf result (Fault.F4 Input.Events) }
-    ensures sink { IsErrOf result (Fault.F5 Output.Out) → K.has_failed sink.new ≡ true }
-    ensures sink_failed { K.has_failed sink.new ≡ true → IsErrOf result (Fault.F5 Output.Out) }
-    // Each input is read only after those before it were read whole and accepted.
-    ensures scen_unpulled { IfErr result (λ fault. IsOfMap fault → scen.new ≡ scen.old) }
-    ensures scen_order { (HasReadGrid (M.has_failed map.new) (M.remaining map.old) (M.remaining map.new) → ⊥) →
-        scen.new ≡ scen.old }
-    ensures plan_unpulled { IfErr result (λ fault. IsOfProblem fault → plan.new ≡ plan.old) }
-    ensures plan_order { (HasReadProblem (M.has_failed map.new) (M.remaining map.old) (M.remaining map.new)
-        (S.has_failed scen.new) (S.remaining scen.old) (S.remaining scen.new) k → ⊥) → plan.new ≡ plan.old }
-    ensures events_unpulled { IfErr result (λ fault. IsOfPlan fault → events.new ≡ events.old) }
-    ensures events_order { (HasReadPlan (M.has_failed map.new) (M.remaining map.old) (M.remaining map.new)
+    // An error of a source is reported only if the source failed or gave more bytes than its limit, and always if the
+    // source failed. No input with more bytes than its limit is accepted. Each input is read only after those before it
+    // were read whole and accepted.
+    ensures map { ReportsSource result Input.Map most_text_bytes
+        (M.has_failed map.new) (M.remaining map.old) (M.remaining map.new) }
+    ensures scen { ReportsLaterSource result Input.Scen most_text_bytes
+        (S.has_failed scen.new) (S.remaining scen.old) (S.remaining scen.new) (scen.new ≡ scen.old)
+        IsOfMap (HasReadGrid (M.has_failed map.new) (M.remaining map.old) (M.remaining map.new)) }
+    ensures plan { ReportsLaterSource result Input.Plan most_text_bytes
+        (P.has_failed plan.new) (P.remaining plan.old) (P.remaining plan.new) (plan.new ≡ plan.old)
+        IsOfProblem (HasReadProblem (M.has_failed map.new) (M.remaining map.old) (M.remaining map.new)
+        (S.has_failed scen.new) (S.remaining scen.old) (S.remaining scen.new) k) }
+    ensures events { ReportsLaterSource result Input.Events most_text_bytes
+        (E.has_failed events.new) (E.remaining events.old) (E.remaining events.new) (events.new ≡ events.old)
+        IsOfPlan (HasReadPlan (M.has_failed map.new) (M.remaining map.old) (M.remaining map.new)
         (S.has_failed scen.new) (S.remaining scen.old) (S.remaining scen.new)
-        (P.has_failed plan.new) (P.remaining plan.old) (P.remaining plan.new) k → ⊥) → events.new ≡ events.old }
-    // A sink that failed got a prefix of such a text. After any other error it is as it was.
-    ensures front { IsErrOf result (Fault.F5 Output.Out) → (text : List ℕ) × (n : ℕ)
-        × DispatchesTruly (M.remaining map.old) (S.remaining scen.old) (P.remaining plan.old)
-        (E.remaining events.old) k text
-        × Appends (K.contents sink.old) (K.contents sink.new) (take n text) }
-    ensures unwritten { IfErr result (λ fault. IsBeforeWriting fault → sink.new ≡ sink.old) }
+        (P.has_failed plan.new) (P.remaining plan.old) (P.remaining plan.new) k) }
 {
     let Planned { problem, plan } = read_planned(alloc, map, scen, k, plan)?;
     let agents = read_asking(alloc, events, k)?;

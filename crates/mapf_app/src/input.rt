@@ -5,7 +5,7 @@ ghost use Rattle.mapf_app.specs.Faults.{HasNoInnerMemory, IsOfInput, IsOfMap, Is
 ghost use Rattle.mapf_app.specs.Faults.{fault_of_map, fault_of_scenario};
 ghost use Rattle.mapf_app.specs.Order.{HasReadGrid, HasReadProblem, IsReadWhole};
 ghost use Rattle.mapf_app.specs.Problems.{IsPosed, SpellsGrid, SpellsAgents, SpellsProblem};
-ghost use Rattle.mapf_app.specs.Unreadable.{IsUnreadable};
+ghost use Rattle.mapf_app.specs.Runs.{ReportsSource, ReportsLaterSource, IsUnreadable};
 ghost use Rattle.mapf_model.specs.Grid.{GridMap};
 ghost use Rattle.mapf_model.specs.Limits.{most_agents, most_text_bytes};
 ghost use Rattle.mapf_model.specs.Plan.{Instance};
@@ -104,10 +104,8 @@ pub fn read_problem<M: Source, S: Source>(
     scen: &mut S,
     k: u32,
 ) -> Result<Problem, Fault>
-    requires map_works { M.has_failed map.old ≡ false }
-    requires scen_works { S.has_failed scen.old ≡ false }
-    requires some { 1 ≤ k }
-    requires few { k ≤ most_agents }
+    requires works { (M.has_failed map.old ≡ false) × (S.has_failed scen.old ≡ false) }
+    requires range { (1 ≤ k) × (k ≤ most_agents) }
     // If a problem is returned, the map and the scenario spell it.
     ensures found { IfOk result (SpellsProblem (M.remaining map.old) (S.remaining scen.old) k) }
     ensures posed { IfOk result (IsPosed k) }
@@ -119,20 +117,17 @@ pub fn read_problem<M: Source, S: Source>(
     ensures fault { IfErr result (IsReading (M.remaining map.old) (S.remaining scen.old) k) }
     // Out of memory is `F6`, and inside no other error.
     ensures inner { IfErr result HasNoInnerMemory }
-    // An error of a source is reported only if the source failed or gave too many bytes, and always if it failed.
-    ensures map { IsErrOf result (Fault.F4 Input.Map) →
-        IsUnreadable (M.has_failed map.new) (M.remaining map.old) (M.remaining map.new) most_text_bytes }
-    ensures map_failed { M.has_failed map.new ≡ true → IsErrOf result (Fault.F4 Input.Map) }
-    ensures scen { IsErrOf result (Fault.F4 Input.Scen) →
-        IsUnreadable (S.has_failed scen.new) (S.remaining scen.old) (S.remaining scen.new) most_text_bytes }
-    ensures scen_failed { S.has_failed scen.new ≡ true → IsErrOf result (Fault.F4 Input.Scen) }
+    // An error of a source is reported only if the source failed or gave more bytes than its limit, and always if the
+    // source failed. No input with more bytes than its limit is accepted. The scenario is read only after the map was
+    // read whole and accepted.
+    ensures map { ReportsSource result Input.Map most_text_bytes
+        (M.has_failed map.new) (M.remaining map.old) (M.remaining map.new) }
+    ensures scen { ReportsLaterSource result Input.Scen most_text_bytes
+        (S.has_failed scen.new) (S.remaining scen.old) (S.remaining scen.new) (scen.new ≡ scen.old)
+        IsOfMap (HasReadGrid (M.has_failed map.new) (M.remaining map.old) (M.remaining map.new)) }
     // Both are read whole, and neither has more bytes than the limit.
     ensures whole { OnOk result (HasReadProblem (M.has_failed map.new) (M.remaining map.old) (M.remaining map.new)
         (S.has_failed scen.new) (S.remaining scen.old) (S.remaining scen.new) k) }
-    // The scenario is read only after the map was read whole and accepted.
-    ensures unpulled { IfErr result (λ fault. IsOfMap fault → scen.new ≡ scen.old) }
-    ensures order { (HasReadGrid (M.has_failed map.new) (M.remaining map.old) (M.remaining map.new) → ⊥) →
-        scen.new ≡ scen.old }
 {
     let grid = read_grid(alloc, map)?;
     read_agents(alloc, scen, grid, k)

@@ -1,11 +1,11 @@
 //! How the runs of `play` and `dispatch` read what they share: a problem, and a valid plan for it.
-ghost use Rattle.std.specs.Prelude.{◌≡◌, ◌≤◌, ◌⊎◌, ℕ, List, Ok, Err, false, true, IfOk, IfErr, OnOk, IsErrOf};
+ghost use Rattle.std.specs.Prelude.{◌≡◌, ◌≤◌, ◌⊎◌, ℕ, List, Ok, Err, false, IfOk, IfErr, OnOk};
 ghost use Rattle.std.specs.Result.{IsErrAnd};
 ghost use Rattle.mapf_app.specs.Faults.{HasNoInnerMemory, IsOfInput, IsOfMap, IsOfProblem, IsPlanning, IsReadingPlan};
 ghost use Rattle.mapf_app.specs.Faults.{fault_of_plan_text};
 ghost use Rattle.mapf_app.specs.Order.{HasReadGrid, HasReadProblem, HasReadPlan};
 ghost use Rattle.mapf_app.specs.Planned.{IsDuePlan, SpellsPlanned, SpellsValidPlan};
-ghost use Rattle.mapf_app.specs.Unreadable.{IsUnreadable};
+ghost use Rattle.mapf_app.specs.Runs.{ReportsSource, ReportsLaterSource};
 ghost use Rattle.mapf_app.specs.declared.planned.Planned.{Planned};
 ghost use Rattle.mapf_model.specs.Limits.{most_agents, most_text_bytes};
 
@@ -66,11 +66,9 @@ pub fn read_planned<M: Source, S: Source, P: Source>(
     k: u32,
     plan: &mut P,
 ) -> Result<Planned, Fault>
-    requires map_works { M.has_failed map.old ≡ false }
-    requires scen_works { S.has_failed scen.old ≡ false }
-    requires plan_works { P.has_failed plan.old ≡ false }
-    requires some { 1 ≤ k }
-    requires few { k ≤ most_agents }
+    requires works { (M.has_failed map.old ≡ false) × (S.has_failed scen.old ≡ false)
+        × (P.has_failed plan.old ≡ false) }
+    requires range { (1 ≤ k) × (k ≤ most_agents) }
     // If a problem and a plan are returned, the inputs spell them.
     ensures found { IfOk result (λ planned. SpellsPlanned
         (M.remaining map.old) (S.remaining scen.old) (P.remaining plan.old) k planned.problem planned.plan) }
@@ -82,27 +80,22 @@ pub fn read_planned<M: Source, S: Source, P: Source>(
     // correct too.
     ensures fault { IfErr result (IsPlanning (M.remaining map.old) (S.remaining scen.old) (P.remaining plan.old) k) }
     ensures inner { IfErr result HasNoInnerMemory }
-    // An error of a source is reported only if the source failed or gave too many bytes, and always if it failed.
-    ensures map { IsErrOf result (Fault.F4 Input.Map) →
-        IsUnreadable (M.has_failed map.new) (M.remaining map.old) (M.remaining map.new) most_text_bytes }
-    ensures map_failed { M.has_failed map.new ≡ true → IsErrOf result (Fault.F4 Input.Map) }
-    ensures scen { IsErrOf result (Fault.F4 Input.Scen) →
-        IsUnreadable (S.has_failed scen.new) (S.remaining scen.old) (S.remaining scen.new) most_text_bytes }
-    ensures scen_failed { S.has_failed scen.new ≡ true → IsErrOf result (Fault.F4 Input.Scen) }
-    ensures plan { IsErrOf result (Fault.F4 Input.Plan) →
-        IsUnreadable (P.has_failed plan.new) (P.remaining plan.old) (P.remaining plan.new) most_text_bytes }
-    ensures plan_failed { P.has_failed plan.new ≡ true → IsErrOf result (Fault.F4 Input.Plan) }
+    // An error of a source is reported only if the source failed or gave more bytes than its limit, and always if the
+    // source failed. No input with more bytes than its limit is accepted. Each input is read only after those before it
+    // were read whole and accepted.
+    ensures map { ReportsSource result Input.Map most_text_bytes
+        (M.has_failed map.new) (M.remaining map.old) (M.remaining map.new) }
+    ensures scen { ReportsLaterSource result Input.Scen most_text_bytes
+        (S.has_failed scen.new) (S.remaining scen.old) (S.remaining scen.new) (scen.new ≡ scen.old)
+        IsOfMap (HasReadGrid (M.has_failed map.new) (M.remaining map.old) (M.remaining map.new)) }
+    ensures plan { ReportsLaterSource result Input.Plan most_text_bytes
+        (P.has_failed plan.new) (P.remaining plan.old) (P.remaining plan.new) (plan.new ≡ plan.old)
+        IsOfProblem (HasReadProblem (M.has_failed map.new) (M.remaining map.old) (M.remaining map.new)
+        (S.has_failed scen.new) (S.remaining scen.old) (S.remaining scen.new) k) }
     // All three are read whole, and none has more bytes than the limit.
     ensures whole { OnOk result (HasReadPlan (M.has_failed map.new) (M.remaining map.old) (M.remaining map.new)
         (S.has_failed scen.new) (S.remaining scen.old) (S.remaining scen.new)
         (P.has_failed plan.new) (P.remaining plan.old) (P.remaining plan.new) k) }
-    // Each input is read only after those before it were read whole and accepted.
-    ensures scen_unpulled { IfErr result (λ fault. IsOfMap fault → scen.new ≡ scen.old) }
-    ensures scen_order { (HasReadGrid (M.has_failed map.new) (M.remaining map.old) (M.remaining map.new) → ⊥) →
-        scen.new ≡ scen.old }
-    ensures plan_unpulled { IfErr result (λ fault. IsOfProblem fault → plan.new ≡ plan.old) }
-    ensures plan_order { (HasReadProblem (M.has_failed map.new) (M.remaining map.old) (M.remaining map.new)
-        (S.has_failed scen.new) (S.remaining scen.old) (S.remaining scen.new) k → ⊥) → plan.new ≡ plan.old }
 {
     let problem = read_problem(alloc, map, scen, k)?;
     let text = read_text(alloc, plan, Input::Plan)?;

@@ -16,15 +16,14 @@ returns-in-Ok-clause-accepted g c =
     let same = read_as (g.P.Source.remaining c.args.plan.now) c.as_slice.ensures.value c.in_ok-plan_text.ensures.whole in
     λ verdict due. c.in-Ok.ensures.only due.cert_text verdict due.cert_told (due_here (g.M.Source.remaining c.args.map.now) (g.S.Source.remaining c.args.scen.now) (g.P.Source.remaining c.args.plan.now) (g.C.Source.remaining c.args.cert.now) c.args.k c.in_ok-problem.problem c.in_ok-problem.ensures.found c.as_slice.result.now same (λ other map_told scen_told read. ⊎_elim (λ e. cc) (λ no. absurd no) (c.in_ok-problem.ensures.only other map_told scen_told read)) verdict due)
 
-pub returns-in-Ok-clause-within : goal.returns-in-Ok-clause-within
-returns-in-Ok-clause-within g c =
-    let read = c.in_ok-problem.ensures.whole in
-    (read.map_whole.within, read.scen_whole.within, c.in_ok-plan_text.ensures.read.within, if_known (g.C.Source.remaining c.args.cert.now) (λ bytes. length bytes ≤ most_cert_bytes) c.in-Ok.ensures.within)
-
-pub returns-in-Ok-clause-unpulled : goal.returns-in-Ok-clause-unpulled
-returns-in-Ok-clause-unpulled g c =
+pub returns-in-Ok-clause-cert : goal.returns-in-Ok-clause-cert
+returns-in-Ok-clause-cert g c =
     let same = read_as (g.P.Source.remaining c.args.plan.now) c.as_slice.ensures.value c.in_ok-plan_text.ensures.whole in
-    λ none. c.check_from.ensures.unpulled (none_good (g.M.Source.remaining c.args.map.now) (g.S.Source.remaining c.args.scen.now) (g.P.Source.remaining c.args.plan.now) (g.C.Source.remaining c.args.cert.now) c.args.k c.in_ok-problem.problem c.in_ok-problem.ensures.found c.as_slice.result.now same (λ good. none (c.in_ok-problem.ensures.whole, c.in_ok-plan_text.ensures.read, good)))
+    record {
+      source = record { justified = search rules; reported = search rules; within = if_known (g.C.Source.remaining c.args.cert.now) (λ bytes. length bytes ≤ most_cert_bytes) c.in-Ok.ensures.within };
+      unpulled = search rules;
+      order = λ none. c.check_from.ensures.unpulled (none_good (g.M.Source.remaining c.args.map.now) (g.S.Source.remaining c.args.scen.now) (g.P.Source.remaining c.args.plan.now) (g.C.Source.remaining c.args.cert.now) c.args.k c.in_ok-problem.problem c.in_ok-problem.ensures.found c.as_slice.result.now same (λ good. none (c.in_ok-problem.ensures.whole, c.in_ok-plan_text.ensures.read, good)));
+    }
 
 pub returns-in-Err-Refused-clause-accepted : goal.returns-in-Err-Refused-clause-accepted
 returns-in-Err-Refused-clause-accepted g c =
@@ -36,22 +35,38 @@ returns-in-Err-Refused-clause-fault g c =
     let same = read_as (g.P.Source.remaining c.args.plan.now) c.as_slice.ensures.value c.in_ok-plan_text.ensures.whole in
     refusal_of (g.M.Source.remaining c.args.map.now) (g.S.Source.remaining c.args.scen.now) (g.P.Source.remaining c.args.plan.now) (g.C.Source.remaining c.args.cert.now) c.args.k c.in_ok-problem.problem c.in_ok-problem.ensures.found c.as_slice.result.now same c.in-Err-Refused.refusal (refusal_says (HasRefusal c.in_ok-problem.problem c.as_slice.result.now (g.C.Source.remaining c.args.cert.now)) c.in-Err-Refused.field-0 c.in-Err-Refused.refusal c.in-Err-Refused.field-0-is c.in-Err-Refused.ensures.refused)
 
-pub returns-in-Err-Refused-clause-unpulled : goal.returns-in-Err-Refused-clause-unpulled
-returns-in-Err-Refused-clause-unpulled g c =
+pub returns-in-Err-Refused-clause-cert : goal.returns-in-Err-Refused-clause-cert
+returns-in-Err-Refused-clause-cert g c =
     let same = read_as (g.P.Source.remaining c.args.plan.now) c.as_slice.ensures.value c.in_ok-plan_text.ensures.whole in
-    λ none. c.check_from.ensures.unpulled (none_good (g.M.Source.remaining c.args.map.now) (g.S.Source.remaining c.args.scen.now) (g.P.Source.remaining c.args.plan.now) (g.C.Source.remaining c.args.cert.now) c.args.k c.in_ok-problem.problem c.in_ok-problem.ensures.found c.as_slice.result.now same (λ good. none (c.in_ok-problem.ensures.whole, c.in_ok-plan_text.ensures.read, good)))
+    record {
+      source = record { justified = search rules; reported = search rules; within = tt };
+      unpulled = search rules;
+      order = λ none. c.check_from.ensures.unpulled (none_good (g.M.Source.remaining c.args.map.now) (g.S.Source.remaining c.args.scen.now) (g.P.Source.remaining c.args.plan.now) (g.C.Source.remaining c.args.cert.now) c.args.k c.in_ok-problem.problem c.in_ok-problem.ensures.found c.as_slice.result.now same (λ good. none (c.in_ok-problem.ensures.whole, c.in_ok-plan_text.ensures.read, good)));
+    }
 
-pub returns-in-Err-Device-clause-unpulled : goal.returns-in-Err-Device-clause-unpulled
-returns-in-Err-Device-clause-unpulled g c =
+pub returns-in-Err-Device-clause-cert : goal.returns-in-Err-Device-clause-cert
+returns-in-Err-Device-clause-cert g c =
     let same = read_as (g.P.Source.remaining c.args.plan.now) c.as_slice.ensures.value c.in_ok-plan_text.ensures.whole in
-    λ none. c.check_from.ensures.unpulled (none_good (g.M.Source.remaining c.args.map.now) (g.S.Source.remaining c.args.scen.now) (g.P.Source.remaining c.args.plan.now) (g.C.Source.remaining c.args.cert.now) c.args.k c.in_ok-problem.problem c.in_ok-problem.ensures.found c.as_slice.result.now same (λ good. none (c.in_ok-problem.ensures.whole, c.in_ok-plan_text.ensures.read, good)))
+    record {
+      source = record { justified = search rules; reported = search rules; within = tt };
+      unpulled = search rules;
+      order = λ none. c.check_from.ensures.unpulled (none_good (g.M.Source.remaining c.args.map.now) (g.S.Source.remaining c.args.scen.now) (g.P.Source.remaining c.args.plan.now) (g.C.Source.remaining c.args.cert.now) c.args.k c.in_ok-problem.problem c.in_ok-problem.ensures.found c.as_slice.result.now same (λ good. none (c.in_ok-problem.ensures.whole, c.in_ok-plan_text.ensures.read, good)));
+    }
 
-pub returns-in-Err-TooLong-clause-unpulled : goal.returns-in-Err-TooLong-clause-unpulled
-returns-in-Err-TooLong-clause-unpulled g c =
+pub returns-in-Err-TooLong-clause-cert : goal.returns-in-Err-TooLong-clause-cert
+returns-in-Err-TooLong-clause-cert g c =
     let same = read_as (g.P.Source.remaining c.args.plan.now) c.as_slice.ensures.value c.in_ok-plan_text.ensures.whole in
-    λ none. c.check_from.ensures.unpulled (none_good (g.M.Source.remaining c.args.map.now) (g.S.Source.remaining c.args.scen.now) (g.P.Source.remaining c.args.plan.now) (g.C.Source.remaining c.args.cert.now) c.args.k c.in_ok-problem.problem c.in_ok-problem.ensures.found c.as_slice.result.now same (λ good. none (c.in_ok-problem.ensures.whole, c.in_ok-plan_text.ensures.read, good)))
+    record {
+      source = record { justified = search rules; reported = search rules; within = tt };
+      unpulled = search rules;
+      order = λ none. c.check_from.ensures.unpulled (none_good (g.M.Source.remaining c.args.map.now) (g.S.Source.remaining c.args.scen.now) (g.P.Source.remaining c.args.plan.now) (g.C.Source.remaining c.args.cert.now) c.args.k c.in_ok-problem.problem c.in_ok-problem.ensures.found c.as_slice.result.now same (λ good. none (c.in_ok-problem.ensures.whole, c.in_ok-plan_text.ensures.read, good)));
+    }
 
-pub returns-clause-unpulled : goal.returns-clause-unpulled
-returns-clause-unpulled g c =
+pub returns-clause-cert : goal.returns-clause-cert
+returns-clause-cert g c =
     let same = read_as (g.P.Source.remaining c.args.plan.now) c.as_slice.ensures.value c.in_ok-plan_text.ensures.whole in
-    λ none. c.check_from.ensures.unpulled (none_good (g.M.Source.remaining c.args.map.now) (g.S.Source.remaining c.args.scen.now) (g.P.Source.remaining c.args.plan.now) (g.C.Source.remaining c.args.cert.now) c.args.k c.in_ok-problem.problem c.in_ok-problem.ensures.found c.as_slice.result.now same (λ good. none (c.in_ok-problem.ensures.whole, c.in_ok-plan_text.ensures.read, good)))
+    record {
+      source = record { justified = search rules; reported = search rules; within = tt };
+      unpulled = search rules;
+      order = λ none. c.check_from.ensures.unpulled (none_good (g.M.Source.remaining c.args.map.now) (g.S.Source.remaining c.args.scen.now) (g.P.Source.remaining c.args.plan.now) (g.C.Source.remaining c.args.cert.now) c.args.k c.in_ok-problem.problem c.in_ok-problem.ensures.found c.as_slice.result.now same (λ good. none (c.in_ok-problem.ensures.whole, c.in_ok-plan_text.ensures.read, good)));
+    }

@@ -39,8 +39,15 @@ returns-in_err-agents-clause-fault g c =
     (events_fault map scen plan events c.args.k _ _ c.in_ok-problem.ensures.found c.in_err-agents.field-0.0 c.in_err-agents.ensures.fault)
 
 pub returns-in_err-agents-clause-events : goal.returns-in_err-agents-clause-events
-returns-in_err-agents-clause-events g c = λ is.
-    c.in_err-agents.ensures.unreadable (handed_back c.from_residual-in_err-agents.result c.in_err-agents.field-0.0 _ (err_from_is_err_and c.from_residual-in_err-agents.result c.from_residual-in_err-agents.ensures.1) is)
+returns-in_err-agents-clause-events g c = record {
+  source = record {
+    justified = λ is. c.in_err-agents.ensures.unreadable (handed_back c.from_residual-in_err-agents.result c.in_err-agents.field-0.0 _ (err_from_is_err_and c.from_residual-in_err-agents.result c.from_residual-in_err-agents.ensures.1) is);
+    reported = search rules;
+    within = search rules;
+  };
+  unpulled = search rules;
+  order = search rules;
+}
 
 pub returns-in-Ok-dispatch_all-clause-due : goal.returns-in-Ok-dispatch_all-clause-due
 returns-in-Ok-dispatch_all-clause-due g c = λ problem paths agents due.
@@ -54,14 +61,20 @@ returns-in-Ok-dispatch_all-clause-due g c = λ problem paths agents due.
     subst (λ (p : Planned). ShowsReplies p.problem p.plan agents old new) same
     (subst (λ xs. ShowsReplies c.in_ok-problem.field-0.problem c.in_ok-problem.field-0.plan xs old new) asked (reply_text c.in_ok-problem.field-0.problem.grid.width c.as_slice.result.now replies, shows, rw c.grid.ensures at wrote))
 
-pub returns-clause-front : goal.returns-clause-front
-returns-clause-front g c = λ is.
+pub returns-clause-text : goal.returns-clause-text
+returns-clause-text g c =
     let (replies, after, are, n, low, wrote) = c.in-Err-dispatch_all.ensures.front in
     let shows = shown c.in_ok-problem.field-0.problem c.in_ok-problem.field-0.plan c.as_slice.result.now c.in-Ok.dispatch c.in-Ok.ensures.visits c.in-Ok.ensures.beginning replies after are in
     let events = g.E.Source.remaining c.args.events.now in
-    let asked = subst (λ xs. IfSome events (λ bytes. SpellsEvents bytes c.args.k xs)) (sym c.as_slice.ensures.value) c.in_ok-agents.ensures.found in (
-      reply_text c.in_ok-problem.field-0.problem.grid.width c.as_slice.result.now replies,
-      n,
-      record { problem = c.in_ok-problem.field-0.problem; paths = c.in_ok-problem.field-0.plan; planned = c.in_ok-problem.ensures.found; agents = c.as_slice.result.now; asked = asked; replied = shows },
-      rw c.grid.ensures at wrote,
-    )
+    let asked = subst (λ xs. IfSome events (λ bytes. SpellsEvents bytes c.args.k xs)) (sym c.as_slice.ensures.value) c.in_ok-agents.ensures.found in
+    record {
+      text = tt;
+      reported = search rules;
+      front = λ is. (
+        reply_text c.in_ok-problem.field-0.problem.grid.width c.as_slice.result.now replies,
+        n,
+        record { problem = c.in_ok-problem.field-0.problem; paths = c.in_ok-problem.field-0.plan; planned = c.in_ok-problem.ensures.found; agents = c.as_slice.result.now; asked = asked; replied = shows },
+        rw c.grid.ensures at wrote,
+      );
+      unwritten = search rules;
+    }

@@ -10,11 +10,11 @@ use Rattle.mapf_certificate.specs.Plans.{plan_text}
 use Rattle.mapf_certificate.specs.declared.version.Version.TheVariants.{Two}
 use Rattle.mapf_app.specs.Policy.{PrintsByPolicy}
 use Rattle.mapf_app.specs.Solved.{Prints, plan_bytes, cert_bytes}
-use Rattle.mapf_app.proofs.SolveLemmas.{text_written, text_front}
+use Rattle.mapf_app.proofs.SolveLemmas.{text_written, text_front, weaker}
 use Rattle.mapf_app.proofs.solve.run_solve.Goals as goal
 
-pub returns-then-is_err-clause-plan_policy : goal.returns-then-is_err-clause-plan_policy
-returns-then-is_err-clause-plan_policy g c = λ is.
+pub returns-then-is_err-clause-policy : goal.returns-then-is_err-clause-policy
+returns-then-is_err-clause-policy g c =
     let problem = c.in_ok-problem.problem in let solved = c.in-Ok.solved in
     let width = c.of-writer.ensures.width ∙ ap (λ (m : GridMap). m.width) c.grid.ensures in
     let plan_is : plan_text c.of-writer.result.width solved.text ≡ plan_bytes problem solved = ap (λ w. plan_text w solved.text) width in
@@ -24,10 +24,14 @@ returns-then-is_err-clause-plan_policy g c = λ is.
     } in
     let failed : is_err c.plan.result ≡ true = cc in
     let front = text_front c.plan.result _ _ _ (plan_bytes problem solved) plan_is failed c.plan.ensures.text in
-    (solved.kind, plan_bytes problem solved, cert_bytes problem solved, front.0, right, front.1)
+    record {
+      texts = tt;
+      plan_front = λ is. (solved.kind, plan_bytes problem solved, cert_bytes problem solved, front.0, right, front.1);
+      cert_front = λ is. cc;
+    }
 
-pub returns-then-is_err-2-clause-cert_policy : goal.returns-then-is_err-2-clause-cert_policy
-returns-then-is_err-2-clause-cert_policy g c = λ is.
+pub returns-then-is_err-2-clause-policy : goal.returns-then-is_err-2-clause-policy
+returns-then-is_err-2-clause-policy g c =
     let problem = c.in_ok-problem.problem in let solved = c.in-Ok.solved in
     let width = c.of-writer.ensures.width ∙ ap (λ (m : GridMap). m.width) c.grid.ensures in
     let plan_is : plan_text c.of-writer.result.width solved.text ≡ plan_bytes problem solved = ap (λ w. plan_text w solved.text) width in
@@ -43,7 +47,12 @@ returns-then-is_err-2-clause-cert_policy g c = λ is.
     let went : is_err c.plan.result ≡ false = cc in
     let failed : is_err c.tree-written.result ≡ true = cc in
     let front = text_front c.tree-written.result _ _ _ (cert_bytes problem solved) cert_is failed c.tree-written.ensures.text in
-    (solved.kind, plan_bytes problem solved, cert_bytes problem solved, front.0, right, text_written c.plan.result _ _ _ (plan_bytes problem solved) plan_is went c.plan.ensures.text, front.1)
+    let wrote = text_written c.plan.result _ _ _ (plan_bytes problem solved) plan_is went c.plan.ensures.text in
+    record {
+      texts = tt;
+      plan_front = λ is. cc;
+      cert_front = λ is. (solved.kind, plan_bytes problem solved, cert_bytes problem solved, front.0, right, wrote, front.1);
+    }
 
 pub returns-clause-policy : goal.returns-clause-policy
 returns-clause-policy g c =
@@ -60,13 +69,14 @@ returns-clause-policy g c =
       policy = c.in-Ok.ensures.policy;
     } in
     let went : is_err c.plan.result ≡ false = cc in
-    let went_too : is_err c.tree-written.result ≡ false = cc in (
-      plan_bytes problem solved,
-      cert_bytes problem solved,
-      right,
-      text_written c.plan.result _ _ _ (plan_bytes problem solved) plan_is went c.plan.ensures.text,
-      text_written c.tree-written.result _ _ _ (cert_bytes problem solved) cert_is went_too c.tree-written.ensures.text,
-    )
+    let went_too : is_err c.tree-written.result ≡ false = cc in
+    let wrote = text_written c.plan.result _ _ _ (plan_bytes problem solved) plan_is went c.plan.ensures.text in
+    let wrote_too = text_written c.tree-written.result _ _ _ (cert_bytes problem solved) cert_is went_too c.tree-written.ensures.text in
+    record {
+      texts = (plan_bytes problem solved, cert_bytes problem solved, right, wrote, wrote_too);
+      plan_front = λ is. cc;
+      cert_front = λ is. cc;
+    }
 
 pub returns-clause-due : goal.returns-clause-due
 returns-clause-due g c asked map_told scen_told read =
@@ -88,11 +98,11 @@ returns-clause-due g c asked map_told scen_told read =
       text_written c.tree-written.result _ _ _ (cert_bytes problem solved) cert_is went_too c.tree-written.ensures.text,
     )
 
-pub returns-then-is_err-clause-plan_front : goal.returns-then-is_err-clause-plan_front
-returns-then-is_err-clause-plan_front g c = λ is. let (kind, plan, cert, n, right, wrote) = returns-then-is_err-clause-plan_policy g c is in (kind, plan, cert, n, right.truly, wrote)
+pub returns-then-is_err-clause-printed : goal.returns-then-is_err-clause-printed
+returns-then-is_err-clause-printed g c = weaker _ _ _ _ _ _ _ (λ kind plan cert both. both.truly) (returns-then-is_err-clause-policy g c)
 
-pub returns-then-is_err-2-clause-cert_front : goal.returns-then-is_err-2-clause-cert_front
-returns-then-is_err-2-clause-cert_front g c = λ is. let (kind, plan, cert, n, right, first, second) = returns-then-is_err-2-clause-cert_policy g c is in (kind, plan, cert, n, right.truly, first, second)
+pub returns-then-is_err-2-clause-printed : goal.returns-then-is_err-2-clause-printed
+returns-then-is_err-2-clause-printed g c = weaker _ _ _ _ _ _ _ (λ kind plan cert both. both.truly) (returns-then-is_err-2-clause-policy g c)
 
 pub returns-clause-printed : goal.returns-clause-printed
-returns-clause-printed g c = let (plan, cert, right, first, second) = returns-clause-policy g c in (plan, cert, right.truly, first, second)
+returns-clause-printed g c = weaker _ _ _ _ _ _ _ (λ kind plan cert both. both.truly) (returns-clause-policy g c)
