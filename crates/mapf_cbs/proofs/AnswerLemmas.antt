@@ -24,10 +24,9 @@ use Rattle.mapf_cbs.specs.declared.outcome.Outcome.TheVariants.{Limit as LimitOu
 use Rattle.mapf_model.specs.Answers.{IsShownImpossible, IsShownBound}
 use Rattle.mapf_cbs.specs.Answer.{IsTreeOf, IsOptimalAnswer, IsImpossibleAnswer, IsOutcome}
 use Rattle.mapf_cbs.specs.Chosen.{IsStoppedAtFirst, IsLeastSum}
-use Rattle.mapf_cbs.specs.FirstConflicts.{AreFirstPaths}
 use Rattle.mapf_cbs.specs.Goals.{NamesFirstDefect}
 use Rattle.mapf_cbs.specs.State.{IsState, IsPopped, IsCauseToStop, IsLeastKey}
-use Rattle.mapf_cbs.proofs.ViewLemmas.{live_sum, live_cheapest, live_first}
+use Rattle.mapf_cbs.proofs.ViewLemmas.{live_sum, live_cheapest}
 use Rattle.mapf_cbs.proofs.ChildLemmas.{conflict_early}
 use Rattle.mapf_cbs.proofs.TreeLemmas.{is_earned, is_on_first, shows_cost, shows_bound, shows_impossible, has_splits, has_blocks, is_stopped, at_leaf, meets_at_a_leaf}
 use Rattle.mapf_cbs.proofs.GrowLemmas.{searched_first}
@@ -181,7 +180,7 @@ module _ (problem : Instance) (shape : IsGridMap problem.grid) (names : (tree : 
 
     answer_splits : (conflict : Conflict) → HasConflict view.paths conflict → tick_of conflict < 1000000 → IsStoppedAtFirst (λ paths. HaveConflictBefore paths 1000000) problem found.0 × (split_count found.0 ≡ count)
     answer_splits conflict meet early = (
-      is_stopped problem popped.state.views statuses count popped.state.searched found.0 found.2 (λ context paths. AreFirstPaths problem context paths × HaveConflictBefore paths 1000000) k view is is_open least (not_apart view.paths conflict meet) (live_first problem view live, (conflict, meet, early)),
+      is_stopped problem popped.state.views statuses count popped.state.searched found.0 found.2 (λ paths. HaveConflictBefore paths 1000000) k view is is_open least (not_apart view.paths conflict meet) (conflict, meet, early),
       has_splits problem popped.state.views statuses count popped.state.searched found.0 found.2,
     )
 
@@ -190,7 +189,7 @@ module _ (problem : Instance) (shape : IsGridMap problem.grid) (names : (tree : 
     answer_ticks goals conflict meet apart late =
         let early = conflict_early problem view live goals (count * free_cell_count problem.grid) (λ i. popped.state.searched.low k view i is) conflict meet in
         let size = has_splits problem popped.state.views statuses count popped.state.searched found.0 found.2 in (
-          is_stopped problem popped.state.views statuses count popped.state.searched found.0 found.2 (λ context paths. AreFirstPaths problem context paths × AreConflictFreeBefore paths 1000000) k view is is_open least (not_apart view.paths conflict meet) (live_first problem view live, λ i j tick p q before. apart i j tick p q (omega arith)),
+          is_stopped problem popped.state.views statuses count popped.state.searched found.0 found.2 (λ paths. AreConflictFreeBefore paths 1000000) k view is is_open least (not_apart view.paths conflict meet) (λ i j tick p q before. apart i j tick p q (omega arith)),
           rw size (omega arith),
         )
 

@@ -14,10 +14,10 @@ use Rattle.mapf_model.specs.declared.bar.Bar.{Bar}
 use Rattle.mapf_model.specs.declared.conflict.Conflict.{Conflict}
 use Rattle.mapf_model.specs.Tree.{ConstraintTree, Split, Leaf, Clash, NodeContext, AtEachNode, AtEachEnd, AtSomeLeaf, root, left_constraint, right_constraint, left_child_context, right_child_context, split_count, IsProper, IsProperNode, AreProperBlocks, AreBlocksSound, AreStartLabels, StartsReach, StartsAddUpTo, StartsShow, NodeShows, Shows, with_blocks}
 use Rattle.mapf_model.specs.Conflicts.{HaveSomeConflict}
-use Rattle.mapf_cbs.specs.Earned.{AreCheapest, AreDue, IsEarnedNode, IsEarned, IsStoppedWhere}
+use Rattle.mapf_cbs.specs.Earned.{AreCheapest, AreDue, IsEarnedNode, IsEarned}
 use Rattle.mapf_cbs.specs.declared.node.Status.{Status}
 use Rattle.mapf_cbs.specs.declared.node.Status.TheVariants.{Open, Dead, Expanded}
-use Rattle.mapf_cbs.specs.Chosen.{IsLeastSumAt}
+use Rattle.mapf_cbs.specs.Chosen.{IsLeastSumAt, IsStoppedAtFirst}
 use Rattle.mapf_cbs.specs.BoundBlocks.{AreBlocksFor, CarriesBlocksFor, CarriesBoundBlocks}
 use Rattle.mapf_cbs.specs.FirstConflicts.{AreFirstPaths, IsOnFirstConflict, AreOnFirstConflicts}
 use Rattle.mapf_cbs.specs.Search.{View, entries_at, AreOwnBlocks, IsLive, IsDead, IsStatus, IsCheapestOf, IsEndStatus, Shape, Node, End, splits, occurrences, IsShape, IsSearched, AreBlocksAt, IsTreeAt}
@@ -302,15 +302,15 @@ module _ (problem : Instance) (views : List View) (statuses : List Status) (coun
     has_blocks = subst (λ context. CarriesBlocksFor problem context None tree) searched.first.2 (carries tree 0 searched.first.0 None searched.first.1 on_tree searched.first.3)
 
     -- an open node of least sum whose paths have a conflict is one at which the search may stop
-    pub is_stopped : (Fact : NodeContext → List (List ℕ) → Type 0) (j : ℕ) (view : View) → slice_get views j ≡ Some view → slice_get statuses j ≡ Some Open →
-        ((m : ℕ) (other : View) → slice_get views m ≡ Some other → slice_get statuses m ≡ Some Open → sum view.costs ≤ sum other.costs) → HaveSomeConflict view.paths → Fact view.context view.paths → IsStoppedWhere Fact problem tree
+    pub is_stopped : (Fact : List (List ℕ) → Type 0) (j : ℕ) (view : View) → slice_get views j ≡ Some view → slice_get statuses j ≡ Some Open →
+        ((m : ℕ) (other : View) → slice_get views m ≡ Some other → slice_get statuses m ≡ Some Open → sum view.costs ≤ sum other.costs) → HaveSomeConflict view.paths → Fact view.paths → IsStoppedAtFirst Fact problem tree
     is_stopped Fact j view is is_open least meet fact = record {
       earned = is_earned;
       leaf =
-          let P : NodeContext → List LabelBlock → Type 0 = λ context blocks. (paths : List (List ℕ)) × (total : ℕ) × AreDue problem tree context paths total × HaveSomeConflict paths × Fact context paths in
+          let P : NodeContext → List LabelBlock → Type 0 = λ context blocks. (paths : List (List ℕ)) × (total : ℕ) × AreDue problem tree context paths total × HaveSomeConflict paths × AreFirstPaths problem context paths × Fact paths in
           let once = searched.tree.once j (slice_get_within statuses j Open is_open) in
           subst (λ context. AtSomeLeaf P context tree) searched.first.2
-          (some_leaf P j view Open is is_open tt (view.paths, sum view.costs, due view (searched.each j view Open is is_open) least, meet, fact)
+          (some_leaf P j view Open is is_open tt (view.paths, sum view.costs, due view (searched.each j view Open is is_open) least, meet, live_first problem view (searched.each j view Open is is_open), fact)
           tree searched.tree.shape 0 searched.first.0 searched.first.1 searched.tree.is_shape on_tree (omega arith));
     }
 

@@ -34,11 +34,11 @@ module _ (problem : Instance) (view : View) where
         let c = cost_of_path live.counted i path p in
         let agent_path = live.each i agent path c.0 a p c.1 in
         (agent_path.lawful, agent_path.satisfies);
-    least = λ i agent path other cost other_cost a p open_to is other_is.
+    least = λ i agent path cost a p is other other_cost lawful satisfies other_is.
         let c = cost_of_path live.counted i path p in
         let agent_path = live.each i agent path c.0 a p c.1 in
         let low = is.least c.0 agent_path.is_cost.rests in
-        let high = agent_path.least other other_cost open_to.0 open_to.1 other_is in
+        let high = agent_path.least other other_cost lawful satisfies other_is in
         omega arith;
   }
 

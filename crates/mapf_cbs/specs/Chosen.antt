@@ -5,14 +5,14 @@ use Rattle.std.specs.Prelude.{◌≡◌, ℕ, ◌+◌, ◌*◌, ◌<◌, ◌≤�
 use Rattle.mapf_model.specs.declared.cause.Cause.{Cause}
 use Rattle.mapf_model.specs.declared.cause.Cause.TheVariants.{Splits, Ticks}
 use Rattle.mapf_model.specs.Blocks.{LabelBlock}
-use Rattle.mapf_model.specs.Conflicts.{AreConflictFreeBefore, HaveConflictBefore}
+use Rattle.mapf_model.specs.Conflicts.{AreConflictFreeBefore, HaveConflictBefore, HaveSomeConflict}
 use Rattle.mapf_model.specs.Grid.{free_cell_count}
 use Rattle.mapf_model.specs.Limits.{split_ticks}
 use Rattle.mapf_model.specs.Plan.{Instance}
 use Rattle.mapf_model.specs.Tree.{ConstraintTree, NodeContext, StartsAddUpTo, AtSomeLeaf, root, split_count}
 use Rattle.mapf_model.specs.Tree.{with_blocks}
 use Rattle.mapf_cbs.specs.BoundBlocks.{CarriesBoundBlocks}
-use Rattle.mapf_cbs.specs.Earned.{AreCheapest, AreDue, IsEarned, IsStoppedWhere}
+use Rattle.mapf_cbs.specs.Earned.{AreCheapest, AreDue, IsEarned}
 use Rattle.mapf_cbs.specs.FirstConflicts.{AreFirstPaths, AreOnFirstConflicts}
 use Rattle.mapf_cbs.specs.Goals.{NamesFirstDefect}
 
@@ -47,10 +47,13 @@ IsLeastSumAt problem tree total context blocks = ((paths : List (List ℕ)) × A
 abbrev pub IsLeastSum : Instance → ℕ → ConstraintTree → Type 0
 IsLeastSum problem bound tree = AtSomeLeaf (IsLeastSumAt problem tree bound) root tree
 
--- an earned tree with a leaf at which due paths, each the first of its cost, conflict and have a given property
-abbrev pub IsStoppedAtFirst : (List (List ℕ) → Type 0) → Instance → ConstraintTree → Type 0
-IsStoppedAtFirst Fact problem tree =
-    IsStoppedWhere (λ context paths. AreFirstPaths problem context paths × Fact paths) problem tree
+-- an earned tree (said once more, so that the definition stands alone) with a leaf at which due paths, each the first
+-- of its cost, have a conflict and a given property
+pub record IsStoppedAtFirst (Fact : List (List ℕ) → Type 0) (problem : Instance) (tree : ConstraintTree) : Type 0 where
+  pub earned : IsEarned problem tree
+  pub leaf : AtSomeLeaf (λ context blocks. (paths : List (List ℕ)) × (total : ℕ)
+      × AreDue problem tree context paths total × HaveSomeConflict paths × AreFirstPaths problem context paths
+      × Fact paths) root tree
 
 -- this tree justifies that a search with at most so many splits stops for this cause: the cause names the limit, the
 -- tree has exactly so many splits, and at a leaf due paths, each the first of its cost, have a conflict before tick

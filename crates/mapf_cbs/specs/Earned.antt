@@ -3,11 +3,12 @@
 use Rattle.std.specs.Prelude.{◌≡◌, ℕ, ◌≤◌, List, Some, length, slice_get}
 use Rattle.mapf_model.specs.declared.problem.Agent.{Agent}
 use Rattle.mapf_model.specs.Bars.{Satisfies}
-use Rattle.mapf_model.specs.Conflicts.{HasConflict, AreConflictFreeBefore, HaveSomeConflict, tick_of}
+use Rattle.mapf_model.specs.Conflicts.{HasConflict, AreConflictFreeBefore, tick_of}
 use Rattle.mapf_model.specs.Path.{IsLawful, IsCost}
 use Rattle.mapf_model.specs.Plan.{Instance, IsSumOfCosts}
 use Rattle.mapf_model.specs.Tree.{ConstraintTree, Split, Leaf, Clash, NodeContext, root, IsProper, AtEachNode}
-use Rattle.mapf_model.specs.Tree.{AtEachEnd, AtSomeLeaf}
+use Rattle.mapf_model.specs.Tree.{AtEachEnd}
+use Rattle.mapf_cbs.specs.CheapestPath.{CostsLeast}
 
 -- a lawful path of the agent that satisfies its constraints
 abbrev pub IsConsistentPath : Instance → NodeContext → ℕ → Agent → List ℕ → Type 0
@@ -18,10 +19,9 @@ pub record AreCheapest (problem : Instance) (context : NodeContext) (paths : Lis
   pub count : length paths ≡ length problem.agents
   pub lawful : (i : ℕ) (agent : Agent) (path : List ℕ) → slice_get problem.agents i ≡ Some agent →
       slice_get paths i ≡ Some path → IsConsistentPath problem context i agent path
-  pub least : (i : ℕ) (agent : Agent) (path other : List ℕ) (cost other_cost : ℕ) →
-      slice_get problem.agents i ≡ Some agent → slice_get paths i ≡ Some path →
-      IsConsistentPath problem context i agent other → IsCost agent.goal path cost →
-      IsCost agent.goal other other_cost → cost ≤ other_cost
+  pub least : (i : ℕ) (agent : Agent) (path : List ℕ) (cost : ℕ) → slice_get problem.agents i ≡ Some agent →
+      slice_get paths i ≡ Some path → IsCost agent.goal path cost →
+      CostsLeast problem.grid agent (context.bars i) cost
 
 -- cheapest paths at this node, with a sum of costs no greater than that of any terminal node
 pub record AreDue (problem : Instance) (tree : ConstraintTree) (context : NodeContext) (paths : List (List ℕ))
@@ -44,11 +44,3 @@ IsEarnedNode problem tree context (Clash i j) = Unit {0}
 pub record IsEarned (problem : Instance) (tree : ConstraintTree) : Type 0 where
   pub proper : IsProper problem tree
   pub splits : AtEachNode (IsEarnedNode problem tree) root tree
-
--- an earned tree (said once more, so that the definition stands alone) with a leaf at which some due paths have a
--- conflict and the property holds
-pub record IsStoppedWhere (Fact : NodeContext → List (List ℕ) → Type 0) (problem : Instance) (tree : ConstraintTree)
-    : Type 0 where
-  pub earned : IsEarned problem tree
-  pub leaf : AtSomeLeaf (λ context blocks. (paths : List (List ℕ)) × (total : ℕ)
-      × AreDue problem tree context paths total × HaveSomeConflict paths × Fact context paths) root tree

@@ -26,7 +26,7 @@ pub record IsOwner (nodes : List Node) (k agent owner : ℕ) : Type 0 where
   pub same : (views : List View) (view : View) → AreViews nodes views → slice_get views k ≡ Some view →
       (other : View) × (slice_get views owner ≡ Some other) × HaveSame agent view other
 
--- each agent has a owner: a node at which it has the path and the constraints that it has at the owners' node
+-- each agent has an owner: a node at which it has the path and the constraints that it has at the owners' node
 abbrev pub AreOwners : List Node → PathOwners → Type 0
 AreOwners nodes owners =
     (i : ℕ) (owner : Option ℕ) → slice_get owners.nearest.items i ≡ Some owner →

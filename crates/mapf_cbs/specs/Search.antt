@@ -127,7 +127,7 @@ pub record IsExpandedAt (problem : Instance) (views : List View) (k : ℕ) (view
       × AreBlocksFor problem child.context (Some (right_constraint conflict).agent) child.blocks
   pub later : k < left
 
--- what holds of a node by its outcome
+-- what holds of a node by its status
 abbrev pub IsStatus : Instance → List View → ℕ → View → Status → Type 0
 IsStatus problem views k view Open = IsLive problem view
 IsStatus problem views k view Dead = IsDead problem view
@@ -175,7 +175,7 @@ pub record IsOneTree (statuses : List Status) (count : ℕ) : Type 0 where
   pub exact : splits shape ≡ count
   pub once : (k : ℕ) → k < length statuses → occurrences k shape ≡ 1
 
--- what holds of the nodes of a search after so many splits: each is as its outcome says, and no open node is cheaper
+-- what holds of the nodes of a search after so many splits: each is as its status says, and no open node is cheaper
 -- than one that was split
 pub record IsSearched (problem : Instance) (views : List View) (statuses : List Status) (count : ℕ) : Type 0 where
   pub lengths : length views ≡ length statuses

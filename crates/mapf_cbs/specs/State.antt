@@ -61,7 +61,7 @@ pub record IsOpenSet (keys : List (ℕ × ℕ)) (views : List View) (statuses : 
   pub each : (m : ℕ) (view : View) → slice_get views m ≡ Some view → slice_get statuses m ≡ Some Open →
       Contains keys (sum view.costs, m)
 
--- the nodes, their outcomes and the keys of the open nodes after so many splits; the sum of each open node is at most
+-- the nodes, their statuses and the keys of the open nodes after so many splits; the sum of each open node is at most
 -- 2^32 times (splits + greatest number of agents), so no sum overflows
 pub record IsState (problem : Instance) (nodes : List Node) (statuses : List Status) (keys : List (ℕ × ℕ)) (count : ℕ)
     : Type 0 where

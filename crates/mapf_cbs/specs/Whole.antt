@@ -86,7 +86,7 @@ abbrev pub IsLeastBelow : List WholeNode → List Status → ℕ → Option ℕ 
 IsLeastBelow nodes statuses n None = (m : ℕ) → m < n → slice_get statuses m ≡ Some Open → ⊥
 IsLeastBelow nodes statuses n (Some k) = IsLeastOpen nodes statuses n k
 
--- full nodes and their outcomes after so many splits: they denote the same state as delta nodes
+-- full nodes and their statuses after so many splits: they denote the same state as delta nodes
 pub record IsWholeState (problem : Instance) (nodes : List WholeNode) (statuses : List Status) (count : ℕ)
     : Type 0 where
   pub changes : List Node

@@ -40,16 +40,6 @@ blocks_of (SplitNode conflict blocks) = blocks
 blocks_of (LeafNode blocks) = blocks
 blocks_of (ClashNode i j) = []
 
--- the node is split on the conflict, whatever its blocks
-abbrev pub IsSplitOn : Node → Conflict → Type 0
-IsSplitOn node conflict = node ≡ SplitNode conflict (blocks_of node)
-
--- the node is terminal: a leaf or a clash
-abbrev pub IsEndNode : Node → Type 0
-IsEndNode (SplitNode conflict blocks) = ⊥
-IsEndNode (LeafNode blocks) = Unit {0}
-IsEndNode (ClashNode i j) = Unit {0}
-
 -- the node that an item gives
 abbrev pub node_of : Item → Node
 node_of (VertexItem i j cell tick blocks) = SplitNode (Vertex i j cell tick) blocks.items

@@ -79,6 +79,7 @@ impl<'a, B: BarTable> SearchTask<'a, B> {
         }
     }
 
+    /// Returns the agent's start.
     pub(crate) fn start(&self) -> Cell
         ensures start { result ≡ self.now.start }
         ensures shape { IsGridMap self.now.grid }
@@ -102,6 +103,7 @@ impl<'a, B: BarTable> SearchTask<'a, B> {
         self.distances.descend(alloc, self.agent.start)
     }
 
+    /// Returns the agent's goal.
     pub(crate) fn goal(&self) -> Cell
         ensures { result ≡ self.now.goal }
     {
