@@ -4,15 +4,17 @@ import os
 import re
 import resource
 import shlex
+import signal
 import subprocess
 import tempfile
+import time
 from dataclasses import dataclass
 from pathlib import Path
 
 TESTS = Path(__file__).resolve().parent
 PROGRAM = TESTS.parent / "crates" / "mapf" / "out" / "mapf"
 
-# What one run may take before it counts as failed.
+# What one run may take before it counts as failed, and how long a test waits for what has to come.
 SECONDS = 300
 BYTES = 4_000_000_000
 
@@ -59,6 +61,12 @@ def bound(most_bytes=BYTES):
     resource.setrlimit(resource.RLIMIT_AS, (most_bytes, most_bytes))
 
 
+def heed_signals():
+    """Has a process end by the signals that end a tool, although the one that starts it may ignore them."""
+    for number in (signal.SIGINT, signal.SIGTERM, signal.SIGHUP):
+        signal.signal(number, signal.SIG_DFL)
+
+
 def run(words, places=None, environment=None, most_bytes=BYTES, program=PROGRAM):
     """Runs the program. A standard stream that has a place goes there, and an output that has none is caught."""
     places = places or {}
@@ -95,6 +103,16 @@ def caught(stream, place):
         return b""
     stream.seek(0)
     return stream.read()
+
+
+def awaited(is_so):
+    """Waits until something is so, and answers whether it is."""
+    end = time.monotonic() + SECONDS
+    while not is_so():
+        if time.monotonic() > end:
+            return False
+        time.sleep(0.02)
+    return True
 
 
 def content(path):
