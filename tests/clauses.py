@@ -41,6 +41,12 @@ def make_page(name, text):
     return 0
 
 
+def linked_files(document):
+    """The links of a document to files, each with the file to which it leads."""
+    links = re.findall(r"\]\(([^):#]+)(?:#[^)]*)?\)", document.read_text())
+    return [(link, document.parent / link) for link in links]
+
+
 def wrapped(text, indent=""):
     """A paragraph in lines that aren't too long, the second and the later ones with this indentation."""
     return textwrap.fill(
