@@ -35,6 +35,14 @@ STREAMS = ("stdin", "stdout", "stderr")
 OLD = b"what stood here before\n" * 200
 
 
+def is_program_there(program=PROGRAM):
+    """Whether the program is there. Where it isn't, a line says what to do."""
+    if os.path.exists(program):
+        return True
+    print(f"{program} isn't there: build it by ./prove or ./test")
+    return False
+
+
 @dataclass(frozen=True)
 class Ended:
     """What a run gave: its status and the bytes of its two standard streams."""

@@ -4,7 +4,6 @@ the formats, and checks by mapf alone what it leaves for others.
 
 import os
 import re
-import shutil
 import subprocess
 import sys
 import tempfile
