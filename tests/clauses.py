@@ -1,14 +1,21 @@
-"""What the sources say: the functions with their clauses, and the definitions and clauses that can be cited."""
+"""What the sources say: the functions with their clauses, and the definitions and clauses that can be cited. And what
+the scripts share that make pages of docs/ from the sources.
+"""
 
 import re
+import sys
+import textwrap
 from dataclasses import dataclass
 from pathlib import Path
 
 TOP = Path(__file__).resolve().parent.parent
 CRATES = TOP / "crates"
 
-# A line of a clause's imports: the crate, the file of definitions, the names.
-IMPORT = re.compile(r"ghost use Rattle\.(mapf\w*)\.specs\.([\w.]+)\.\{([^}]*)\};")
+# How many columns a line of a document has, at most.
+COLUMNS = 120
+
+# An import of definitions, in a source or in a file of definitions: the crate, the file, the names.
+IMPORT = re.compile(r"\buse Rattle\.(mapf\w*)\.specs\.([\w.]+)\.\{([^}]*)\}")
 
 # The line in which a function begins: its indentation, whether it is public, its name.
 FUNCTION = re.compile(r"( *)(pub )?(?:const )?fn (\w+)")
@@ -27,6 +34,30 @@ def read(name):
     return (TOP / name).read_text()
 
 
+def make_page(name, text):
+    """Writes a page of docs/, or the file that the call names in its place. Answers the script's status."""
+    place = Path(sys.argv[1]) if len(sys.argv) > 1 else TOP / "docs" / name
+    place.write_text(text)
+    return 0
+
+
+def linked_files(document):
+    """The links of a document to files, each with the file to which it leads."""
+    links = re.findall(r"\]\(([^):#]+)(?:#[^)]*)?\)", document.read_text())
+    return [(link, document.parent / link) for link in links]
+
+
+def wrapped(text, indent=""):
+    """A paragraph in lines that aren't too long, the second and the later ones with this indentation."""
+    return textwrap.fill(
+        text, COLUMNS, subsequent_indent=indent, break_on_hyphens=False, break_long_words=False) + "\n"
+
+
+def crate_names():
+    """The crates in the order of crates.txt, where each comes after those that it stands on."""
+    return [line.split(":")[0] for line in read("crates.txt").splitlines() if not line.startswith("#")]
+
+
 def sources(crate):
     return [path for path in sorted((crate / "src").rglob("*.rt")) if "tests" not in str(path.relative_to(crate))]
 
@@ -42,10 +73,9 @@ def cited_definitions():
         for path, called in called_functions(crate):
             imported = imported_definitions(path.read_text())
             for function in called:
-                words = set(re.findall(r"\w+", function.signature))
-                for one in imported:
-                    if one[1] in words:
-                        cited.setdefault(one, f"{crate.name}::{function.name}")
+                for word in re.findall(r"\w+", function.signature):
+                    if word in imported:
+                        cited.setdefault(imported[word], f"{crate.name}::{function.name}")
     return cited
 
 
@@ -62,12 +92,14 @@ def called_functions(crate):
 
 
 def imported_definitions(text):
-    """The definitions that a file imports, by crate and name."""
-    found = set()
+    """The definitions that a file imports: for each name that one has in the file, its crate and its own name."""
+    found = {}
     for crate, place, names in IMPORT.findall(text):
         if "declared" not in place:
-            found.update((crate, name.split(" as ")[-1].strip()) for name in names.split(","))
-    return {(crate, name) for crate, name in found if re.fullmatch(r"\w+", name)}
+            for name, _, alias in (item.strip().partition(" as ") for item in names.split(",")):
+                if re.fullmatch(r"\w+", name):
+                    found[alias or name] = crate, name
+    return found
 
 
 @dataclass(frozen=True)
@@ -87,7 +119,6 @@ class Function:
         if self.is_method:
             return (self.is_public or self.trait) and (is_open or self.type in exported)
         return self.is_public and (is_open or self.name in exported)
-
 
     def promises(self):
         """The named promises in their order, each group with the comment above the first of it."""

@@ -4,15 +4,17 @@ import os
 import re
 import resource
 import shlex
+import signal
 import subprocess
 import tempfile
+import time
 from dataclasses import dataclass
 from pathlib import Path
 
 TESTS = Path(__file__).resolve().parent
 PROGRAM = TESTS.parent / "crates" / "mapf" / "out" / "mapf"
 
-# What one run may take before it counts as failed.
+# What one run may take before it counts as failed, and how long a test waits for what has to come.
 SECONDS = 300
 BYTES = 4_000_000_000
 
@@ -31,6 +33,14 @@ STREAMS = ("stdin", "stdout", "stderr")
 
 # What `outcome` puts into each output before a run. It is longer than any text that is written then.
 OLD = b"what stood here before\n" * 200
+
+
+def is_program_there(program=PROGRAM):
+    """Whether the program is there. Where it isn't, a line says what to do."""
+    if os.path.exists(program):
+        return True
+    print(f"{program} isn't there: build it by ./prove or ./test")
+    return False
 
 
 @dataclass(frozen=True)
@@ -57,6 +67,12 @@ class Outcome:
 
 def bound(most_bytes=BYTES):
     resource.setrlimit(resource.RLIMIT_AS, (most_bytes, most_bytes))
+
+
+def heed_signals():
+    """Has a process end by the signals that end a tool, although the one that starts it may ignore them."""
+    for number in (signal.SIGINT, signal.SIGTERM, signal.SIGHUP):
+        signal.signal(number, signal.SIG_DFL)
 
 
 def run(words, places=None, environment=None, most_bytes=BYTES, program=PROGRAM):
@@ -95,6 +111,16 @@ def caught(stream, place):
         return b""
     stream.seek(0)
     return stream.read()
+
+
+def awaited(is_so):
+    """Waits until something is so, and answers whether it is."""
+    end = time.monotonic() + SECONDS
+    while not is_so():
+        if time.monotonic() > end:
+            return False
+        time.sleep(0.02)
+    return True
 
 
 def content(path):

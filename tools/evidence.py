@@ -54,7 +54,8 @@ class Evidence:
 
     def __exit__(self, kind: type[BaseException] | None, *_: object) -> None:
         if kind is not None or not self.is_named:
-            shutil.rmtree(self.folder, ignore_errors=True)
+            with signals_held():
+                shutil.rmtree(self.folder, ignore_errors=True)
 
     def given_place(self, name: str) -> str:
         """Where the user finds this file. Without a folder of the user's, this one stays."""

@@ -13,24 +13,39 @@ TOP = Path(__file__).resolve().parent.parent
 
 MOST_SECONDS_OF_VERSION = 60
 
+# The signals that end a tool.
+ENDING = signal.SIGINT, signal.SIGTERM, signal.SIGHUP
+
 
 class ToolError(Exception):
     """What a tool's user has to mend: one line that says what to do."""
 
 
+class Stopped(KeyboardInterrupt):
+    """A signal that ends the tool."""
+
+    def __init__(self, number: int) -> None:
+        super().__init__(number)
+        self.number = number
+
+
 def run_tool(main: Callable[[], int]) -> NoReturn:
-    """Runs a tool's `main` and ends with the status that it answers. A fault is told in one line, with status 2."""
+    """Runs a tool's `main` and ends with the status that it answers. A fault is told in one line, with status 2. After
+    a signal the status is 128 and the signal's number.
+    """
     try:
+        end_on_signals()
         status = main()
         sys.stdout.flush()
     except ToolError as error:
         clear_progress()
         print(f"{Path(sys.argv[0]).name}: {error}", file=sys.stderr)
         status = 2
-    except KeyboardInterrupt:
-        clear_progress()
-        print(f"{Path(sys.argv[0]).name}: stopped", file=sys.stderr)
-        status = 130
+    except Stopped as stop:
+        with contextlib.suppress(OSError):  # the terminal may have gone
+            clear_progress()
+            print(f"{Path(sys.argv[0]).name}: stopped", file=sys.stderr)
+        status = 128 + stop.number
     except BrokenPipeError:
         os.dup2(os.open(os.devnull, os.O_WRONLY), 1)
         status = 2
@@ -46,6 +61,44 @@ def in_words(error: OSError) -> str:
     name = error.filename2 or error.filename
     said = error.strerror or str(error)
     return said if name is None else f"{os.fsdecode(name)}: {said}"
+
+
+# The signals that end a tool.
+
+def end_on_signals() -> None:
+    """Lets the first signal that ends the tool raise `Stopped`, so that what the tool started ends first and what it
+    made is removed. Signals that come after it are ignored, so that they don't break this off.
+    """
+    for number in heeded_signals():
+        signal.signal(number, stop_at)
+
+
+def stop_at(number: int, _: object) -> NoReturn:
+    """Raises `Stopped`, and has later signals ignored. A program that is started later doesn't ignore them."""
+    for other in heeded_signals():
+        signal.signal(other, lambda *_: None)
+    raise Stopped(number)
+
+
+def heeded_signals() -> list[signal.Signals]:
+    """The signals that end the tool, without those that are ignored or have a handler from outside Python."""
+    return [number for number in ENDING if signal.getsignal(number) not in (signal.SIG_IGN, None)]
+
+
+@contextlib.contextmanager
+def signals_held() -> Iterator[None]:
+    """Holds back the signals that end a tool until the block is left. What a block starts is known by then, so that it
+    can be ended.
+    """
+    came: list[int] = []
+    handlers = {number: signal.signal(number, lambda number, _: came.append(number)) for number in heeded_signals()}
+    try:
+        yield
+    finally:
+        for number, handler in handlers.items():
+            signal.signal(number, handler)
+        for number in came:
+            signal.raise_signal(number)
 
 
 # The program.
@@ -73,24 +126,6 @@ def program() -> str:
     if process.returncode != 0:
         raise ToolError(f"{prove} couldn't build the program: see above, or set MAPF to a program that is built")
     return built.strip()
-
-
-@contextlib.contextmanager
-def signals_held() -> Iterator[None]:
-    """Holds back the signals that end a tool until the block is left. What a block starts is known by then, so that it
-    can be ended.
-    """
-    came: list[int] = []
-    ends = [number for number in (signal.SIGINT, signal.SIGTERM, signal.SIGHUP)
-            if signal.getsignal(number) != signal.SIG_IGN]
-    handlers = {number: signal.signal(number, lambda number, _: came.append(number)) for number in ends}
-    try:
-        yield
-    finally:
-        for number, handler in handlers.items():
-            signal.signal(number, handler)
-        for number in came:
-            signal.raise_signal(number)
 
 
 def version_of(path: str) -> str:

@@ -10,6 +10,7 @@ import tarfile
 import tempfile
 from pathlib import Path
 
+from clauses import linked_files
 from harness import TESTS
 
 TOP = TESTS.parent
@@ -39,6 +40,7 @@ def tests(tally):
         place = unpacked(archive, folder / "there")
         tally.add("dist, checksums", sum_faults(place))
         tally.add("dist, files of the README's commands", missing_files(place))
+        tally.add("dist, files to which documents link", missing_links(place))
         for name in HELPFUL:
             tally.add(f"dist, files that {name} --help names", missing_in_help(place, name))
         path = commands(folder / "bin")
@@ -108,6 +110,12 @@ def missing_files(place):
     named = {word for command in commands for word in command.split() if word.startswith(("examples/", "tests/"))}
     lost = [f"{name} isn't there" for name in sorted(named) if not (place / name).exists()]
     return lost if named else ["no command of the documents names a file"]
+
+
+def missing_links(place):
+    """The files to which documents in the archive link, and that aren't in it."""
+    return [f"{document.name}: {link} isn't there" for document in sorted(place.rglob("*.md"))
+            for link, file in linked_files(document) if not file.exists()]
 
 
 def missing_in_help(place, name):

@@ -6,19 +6,14 @@ import random
 import re
 import subprocess
 import sys
-import time
 from collections import Counter
-from pathlib import Path
 
-from harness import TESTS
+from harness import SECONDS, TESTS, heed_signals
 
 SWEEP = TESTS.parent / "tools" / "sweep"
 
 # What differs from one call to the next.
 MEASURED = ("solve_seconds", "check_seconds", "solve_kb", "check_kb")
-
-# What the tests wait for at most, in seconds.
-PATIENCE = 300
 
 # The numbers of agents that a sweep tries.
 NUMBERS = [2, 6, 10]
@@ -82,11 +77,11 @@ class Bench:
 
     def call(self, out, *more, program=None, **others):
         return subprocess.run(self.words(out, *more, **others), env=self.environment(program), capture_output=True,
-                              text=True, timeout=PATIENCE)
+                              text=True, timeout=SECONDS)
 
     def start(self, out, *more, program=None):
         return subprocess.Popen(self.words(out, *more), env=self.environment(program), stdout=subprocess.DEVNULL,
-                                stderr=subprocess.DEVNULL)
+                                stderr=subprocess.DEVNULL, preexec_fn=heed_signals)
 
     def rows(self, out):
         with open(self.folder / out / "results.csv", newline="") as file:
@@ -107,12 +102,3 @@ class Bench:
 
     def solve_of(self, row):
         return f"solve {self.folder / 'scen-even' / row['scenario']}.scen {row['agents']}"
-
-
-def awaited(is_so):
-    end = time.monotonic() + PATIENCE
-    while not is_so():
-        if time.monotonic() > end:
-            return False
-        time.sleep(0.02)
-    return True

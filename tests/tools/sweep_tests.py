@@ -14,7 +14,8 @@ from collections import Counter
 from pathlib import Path
 from xml.etree import ElementTree
 
-from sweep_bench import NUMBERS, PATIENCE, SWEEP, Bench, awaited
+from harness import SECONDS, awaited
+from sweep_bench import NUMBERS, SWEEP, Bench
 
 
 def tests(tally):
@@ -46,7 +47,7 @@ def made_benchmark(folder):
     made, examples = folder / "made", SWEEP.parent.parent / "examples"
     subprocess.run([sys.executable, str(examples / "make_benchmark"), str(made), "1"], stdout=subprocess.DEVNULL)
     words = [str(made / "maps"), str(made / "scen-random"), str(folder / "made-out"), "--agents", "2,4"]
-    ended = subprocess.run([sys.executable, str(SWEEP), *words], capture_output=True, text=True, timeout=PATIENCE)
+    ended = subprocess.run([sys.executable, str(SWEEP), *words], capture_output=True, text=True, timeout=SECONDS)
     faults = [] if ended.returncode == 0 and ended.stdout.count("| 1 of 1 |") == 8 else [f"{ended}"]
     same = [path.read_bytes() for path in (made / "maps" / "gen-random-32-32-20.map", examples / "random-32-32.map")]
     return faults + ([] if same[0] == same[1] else ["the map isn't that of the examples"])
@@ -111,7 +112,7 @@ def stopped(bench, wanted, number, out):
     process = bench.start(out, "--jobs", "2")
     has_rows = awaited(lambda: path.exists() and path.read_bytes().count(b"\n") > 12)
     process.send_signal(number)
-    status = process.wait(PATIENCE)
+    status = process.wait(SECONDS)
     there = set(map(bench.solve_of, bench.rows(out)))
     bench.noted()
     faults = [] if has_rows and 0 < len(there) < len(wanted) else [f"it was stopped after {len(there)} runs"]
@@ -181,7 +182,7 @@ def leaves_nothing(bench):
         if not awaited(lambda: numbers.read_text().count("\n") == 3):
             faults.append("three runs weren't started")
         process.send_signal(number)
-        process.wait(PATIENCE)
+        process.wait(SECONDS)
         if not awaited(lambda: not any(Path(f"/proc/{own}").exists() for own in numbers.read_text().split())):
             faults.append(f"after signal {number} a run goes on")
         if not awaited(lambda: not list(bench.folder.glob(f"left-{number}/runs/*"))):
