@@ -2,6 +2,8 @@
 #![tactic(auto)]
 
 #[cfg(test)]
+mod exhaustive;
+#[cfg(test)]
 mod samples;
 #[cfg(test)]
 mod searching;
