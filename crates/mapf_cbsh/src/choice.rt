@@ -2,7 +2,6 @@
 use crate::layers_memo::LayersMemo;
 use crate::trouble::pair_of;
 use crate::view::View;
-use mapf_layers::Layers;
 use mapf_model::limits::SPLIT_TICKS;
 use mapf_model::{Conflict, Tick};
 
@@ -34,27 +33,25 @@ pub fn choose(memo: &LayersMemo, view: &View) -> Option<Conflict> {
 
 fn rank_of(memo: &LayersMemo, view: &View, conflict: &Conflict) -> Rank {
     let pair = pair_of(conflict);
-    let is_swap = matches!(conflict, Conflict::Swap { .. });
-    let tick = conflict.tick();
-    let mut avoiders = 0;
-    for agent in [pair.0, pair.1] {
-        let layers = view.layers(agent).and_then(|number| memo.get(number));
-        if !is_met_by_all(layers, tick, is_swap) {
-            avoiders += 1;
-        }
-    }
+    let first = can_avoid(memo, view, conflict, pair.0);
+    let second = can_avoid(memo, view, conflict, pair.1);
     Rank {
-        avoiders,
-        tick,
-        is_swap,
+        avoiders: u32::from(first).saturating_add(u32::from(second)),
+        tick: conflict.tick(),
+        is_swap: is_swap(conflict),
         pair,
     }
 }
 
-// Returns whether each of an agent's cheapest paths takes part in a conflict of one of them at the tick.
-fn is_met_by_all(layers: Option<&Layers>, tick: Tick, is_swap: bool) -> bool {
-    let Some(layers) = layers else {
-        return false;
+// Returns whether one of the agent's cheapest paths doesn't take part in the conflict, as far as the widths tell.
+fn can_avoid(memo: &LayersMemo, view: &View, conflict: &Conflict, agent: u32) -> bool {
+    let Some(layers) = view.layers(agent).and_then(|number| memo.get(number)) else {
+        return true;
     };
-    layers.width(tick) == 1 && (!is_swap || layers.width(tick.saturating_add(1)) == 1)
+    let tick = conflict.tick();
+    layers.width(tick) != 1 || (is_swap(conflict) && layers.width(tick.saturating_add(1)) != 1)
+}
+
+fn is_swap(conflict: &Conflict) -> bool {
+    matches!(conflict, Conflict::Swap { .. })
 }

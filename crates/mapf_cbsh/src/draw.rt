@@ -109,10 +109,11 @@ impl<'s, 'a> Drawing<'s, 'a> {
 
     // Marks the node's block, if it has one and none of its agent was met on the way up.
     fn mark_block(&mut self, node: &Node, number: u32) {
-        let Some(replanned) = node.replanned else {
+        let Some(replanned) = &node.replanned else {
             return;
         };
-        let Some(met) = self.met.get_mut(replanned.constraint.agent as usize) else {
+        let agent = replanned.constraint.agent;
+        let Some(met) = self.met.get_mut(agent as usize) else {
             return;
         };
         if !replanned.is_raise() || *met == self.leaves {
