@@ -80,7 +80,8 @@ impl Layers {
         let mut later = self.cell(0);
         for back in 0..=self.cost {
             let cell = self.cell(place);
-            let meeting = traffic.meeting(agent, self.cost.saturating_sub(back), cell);
+            let tick = self.cost.saturating_sub(back);
+            let meeting = traffic.at(agent, tick).meeting(cell);
             if meeting.others > 0 || is_swap(&meeting, cell, later) {
                 return false;
             }
@@ -92,11 +93,13 @@ impl Layers {
 
     // Finds the best ways to the cells of the layer of a tick.
     fn find_steps(&self, traffic: &Traffic, steps: &mut CalmSteps, agent: u32, tick: Tick) {
+        let traffic = traffic.at(agent, tick);
         let (low, high) = self.range(self.cost.saturating_sub(tick));
-        for place in low..high {
-            let cell = self.cell(place);
+        let cells = self.cells.get(low..high).unwrap_or(&[]);
+        for (offset, &cell) in cells.iter().enumerate() {
+            let place = low.saturating_add(offset);
             let (before, source) = self.best_source(steps, place, cell);
-            let meeting = traffic.meeting(agent, tick, cell);
+            let meeting = traffic.meeting(cell);
             let step = CalmStep {
                 conflicts: before.saturating_add(meeting.others),
                 source,
@@ -125,7 +128,7 @@ impl Layers {
 
     // Returns the path that goes back from the goal by these steps, or by the first sources.
     fn trace(&self, alloc: Global, steps: Option<&CalmSteps>) -> Result<Path, OutOfMemory> {
-        let mut cells = Vec::new(alloc);
+        let mut cells = Vec::with_capacity(alloc, (self.cost as usize).saturating_add(1))?;
         let mut place = 0;
         for _ in 0..=self.cost {
             cells.push(self.cell(place))?;

@@ -40,26 +40,29 @@ impl Workspace {
         if task.is_start_barred() {
             entries.push(entry_of(task.agent.start, 0, value))?;
         }
+        let mut row = Vec::new(alloc);
         for tick in 0..self.reach.ticks() {
-            self.add_entries(&mut entries, tick, value)?;
+            let (low, high) = self.reach.range_at(tick);
+            row.clear();
+            row.extend_from_slice(self.reach.cells().get(low..high).unwrap_or(&[]))?;
+            row.sort_unstable();
+            add_entries(&mut entries, &row, tick, value)?;
         }
-        entries.sort_unstable_by_key(|entry| (entry.tick, entry.cell));
         Ok(entries)
     }
+}
 
-    // Adds the entries of the states that were reached at a tick.
-    fn add_entries(
-        &self,
-        entries: &mut Vec<Entry>,
-        tick: Tick,
-        value: Option<u32>,
-    ) -> Result<(), OutOfMemory> {
-        let (low, high) = self.reach.range_at(tick);
-        for &cell in self.reach.cells().get(low..high).unwrap_or(&[]) {
-            entries.push(entry_of(cell, tick, value))?;
-        }
-        Ok(())
+// Adds the entries of the states in these cells at a tick.
+fn add_entries(
+    entries: &mut Vec<Entry>,
+    cells: &[Cell],
+    tick: Tick,
+    value: Option<u32>,
+) -> Result<(), OutOfMemory> {
+    for &cell in cells {
+        entries.push(entry_of(cell, tick, value))?;
     }
+    Ok(())
 }
 
 // Returns the entry of a state of an agent that costs at least `value`, or can't arrive if that is None.

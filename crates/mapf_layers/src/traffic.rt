@@ -142,30 +142,18 @@ impl Traffic {
         Ok(found)
     }
 
-    /// Returns what the agent meets in a cell at a tick.
-    #[inline(always)]
-    pub(crate) fn meeting(&self, agent: u32, tick: Tick, cell: Cell) -> Meeting {
-        let own = name_of(agent);
-        let next = tick.saturating_add(1);
-        let mut others = 0u32;
-        for (other, place) in self.chain(tick, cell) {
-            if place == cell && other != own {
-                others = others.saturating_add(1);
-            }
+    /// Returns the traffic at a tick, as the agent meets it.
+    pub(crate) fn at(&self, agent: u32, tick: Tick) -> TickTraffic<'_> {
+        let low = (tick as usize).saturating_mul(self.chains);
+        let high = low.saturating_add(self.chains);
+        let end = high.saturating_add(self.chains);
+        TickTraffic {
+            traffic: self,
+            agent: name_of(agent),
+            tick,
+            here: self.heads.get(low..high).unwrap_or(&[]),
+            next: self.heads.get(high..end).unwrap_or(&[]),
         }
-        // If several agents come there, the one of the least number counts.
-        let mut first = NOBODY;
-        for (other, place) in self.chain(next, cell) {
-            if place == cell && other != own && other < first {
-                first = other;
-            }
-        }
-        let comer = if first == NOBODY {
-            cell
-        } else {
-            self.cell_at(first, tick)
-        };
-        Meeting { others, comer }
     }
 
     fn with_ticks(alloc: Global, agents: u32, ticks: u32) -> Result<Traffic, OutOfMemory> {
@@ -209,24 +197,35 @@ impl Traffic {
         }
     }
 
+    // Returns the number of a cell's chain.
+    #[inline(always)]
+    fn chain_of(&self, cell: Cell) -> usize {
+        cell.0.wrapping_mul(FACTOR).wrapping_shr(self.shift) as usize
+    }
+
     // Returns the place of the head of a cell's chain at a tick.
     #[inline(always)]
     fn head_of(&self, tick: Tick, cell: Cell) -> usize {
-        let chain = cell.0.wrapping_mul(FACTOR).wrapping_shr(self.shift);
         (tick as usize)
             .wrapping_mul(self.chains)
-            .wrapping_add(chain as usize)
+            .wrapping_add(self.chain_of(cell))
     }
 
     // Returns the agents of the cell's chain at a tick, some of which may be in other cells.
     #[inline(always)]
     fn chain(&self, tick: Tick, cell: Cell) -> Chain<'_> {
         let head = self.heads.get(self.head_of(tick, cell));
+        self.chain_from(tick, head.copied().unwrap_or(NOBODY))
+    }
+
+    // Returns the agents of the chain that this one heads at a tick.
+    #[inline(always)]
+    fn chain_from(&self, tick: Tick, head: u8) -> Chain<'_> {
         Chain {
             visits: &self.visits,
             ticks: self.ticks,
             tick,
-            agent: head.copied().unwrap_or(NOBODY),
+            agent: head,
             left: self.agents,
         }
     }
@@ -343,6 +342,65 @@ impl Traffic {
             self.add_vertices(found, agent, tick, goal)?;
         }
         Ok(())
+    }
+}
+
+/// The traffic at a tick, and at the next one, as an agent meets it.
+#[derive(Drop)]
+pub(crate) struct TickTraffic<'a> {
+    traffic: &'a Traffic,
+    agent: u8,
+    tick: Tick,
+    // The heads of the chains at this tick and at the next one.
+    here: &'a [u8],
+    next: &'a [u8],
+}
+
+impl<'a> TickTraffic<'a> {
+    /// Returns what the agent meets in a cell.
+    #[inline(always)]
+    pub(crate) fn meeting(&self, cell: Cell) -> Meeting {
+        let chain = self.traffic.chain_of(cell);
+        let here = self.here.get(chain).copied().unwrap_or(NOBODY);
+        let next = self.next.get(chain).copied().unwrap_or(NOBODY);
+        // Most chains have no agent.
+        if here == NOBODY && next == NOBODY {
+            return Meeting {
+                others: 0,
+                comer: cell,
+            };
+        }
+        Meeting {
+            others: self.others(cell, here),
+            comer: self.comer(cell, next),
+        }
+    }
+
+    // Returns how many other agents are in the cell, whose chain has this head.
+    fn others(&self, cell: Cell, head: u8) -> u32 {
+        let mut others = 0u32;
+        for (other, place) in self.traffic.chain_from(self.tick, head) {
+            if place == cell && other != self.agent {
+                others = others.saturating_add(1);
+            }
+        }
+        others
+    }
+
+    // Returns where the other agent is that comes to the cell, whose chain has this head at the next tick: of several
+    // the one of the least number. The cell itself if none comes.
+    fn comer(&self, cell: Cell, head: u8) -> Cell {
+        let mut first = NOBODY;
+        for (other, place) in self.traffic.chain_from(self.tick.saturating_add(1), head) {
+            if place == cell && other != self.agent && other < first {
+                first = other;
+            }
+        }
+        if first == NOBODY {
+            cell
+        } else {
+            self.traffic.cell_at(first, self.tick)
+        }
     }
 }
 
