@@ -106,3 +106,32 @@ pub fn problem_of(
     let grid = Grid::of(width, height, free).ok_or("no grid")?;
     Ok(Problem::of(grid, agents).ok_or("no problem")?)
 }
+
+/// Two agents that meet in the middle of a corridor which winds through 2,047 rows, at tick 1,049,087.
+pub fn late_meeting(alloc: Global) -> Result<Problem, Fail> {
+    let mut free = Vec::new(alloc);
+    for row in 0u32..2047 {
+        push_corridor_row(&mut free, row)?;
+    }
+    let grid = Grid::of(2048, 2047, free).ok_or("no grid")?;
+    let (first, last) = (Cell(0), Cell(2046 * 2048));
+    let there = Agent {
+        start: first,
+        goal: last,
+    };
+    let back = Agent {
+        start: last,
+        goal: first,
+    };
+    let agents = vec![in alloc; there, back]?;
+    Ok(Problem::of(grid, agents).ok_or("no problem")?)
+}
+
+// Every second row is open, and each row between two of them has a gap at one end.
+fn push_corridor_row(free: &mut Vec<bool>, row: u32) -> Result<(), Fail> {
+    let gap = if row % 4 == 1 { 2047 } else { 0 };
+    for column in 0..2048 {
+        free.push(row % 2 == 0 || column == gap)?;
+    }
+    Ok(())
+}

@@ -2,7 +2,7 @@
 ghost use Rattle.std.specs.Prelude.{◌≤◌};
 
 use crate::exhaustive::least_sum;
-use crate::samples::{Shape, drawn, problem_of};
+use crate::samples::{Shape, drawn, late_meeting, problem_of};
 use crate::texts::{cert_text, cost_of, judged};
 use mapf_cbs::{Answer, solve};
 use mapf_cbsh::{Outcome, search};
@@ -78,7 +78,7 @@ fn agrees_on_small_open_grids(rt: HostRuntime) -> Result<(), Fail> {
         blocked: 0,
         agents: 3,
     };
-    assert_shape(&rt, rt.alloc(), shape, 150, 400)
+    assert_shape(&rt, rt.alloc(), shape, 60, 400)
 }
 
 #[test]
@@ -89,7 +89,7 @@ fn agrees_on_grids_with_obstacles(rt: HostRuntime) -> Result<(), Fail> {
         blocked: 25,
         agents: 3,
     };
-    assert_shape(&rt, rt.alloc(), shape, 200, 300)
+    assert_shape(&rt, rt.alloc(), shape, 80, 300)
 }
 
 #[test]
@@ -100,7 +100,7 @@ fn agrees_with_more_agents(rt: HostRuntime) -> Result<(), Fail> {
         blocked: 10,
         agents: 6,
     };
-    assert_shape(&rt, rt.alloc(), shape, 40, 500)
+    assert_shape(&rt, rt.alloc(), shape, 15, 500)
 }
 
 const CROSSING_CERT: &str = "mapf-cert 2\nagents 2\nclaim cost 5\nvertex 0 1 1,1 1 0\n\
@@ -147,7 +147,7 @@ fn finds_the_least_sum_of_two_agents(rt: HostRuntime) -> Result<(), Fail> {
         blocked: 30,
         agents: 2,
     };
-    assert_least(&rt, rt.alloc(), shape, 200, 300)
+    assert_least(&rt, rt.alloc(), shape, 80, 300)
 }
 
 #[test]
@@ -158,7 +158,7 @@ fn finds_the_least_sum_of_three_agents(rt: HostRuntime) -> Result<(), Fail> {
         blocked: 15,
         agents: 3,
     };
-    assert_least(&rt, rt.alloc(), shape, 60, 300)
+    assert_least(&rt, rt.alloc(), shape, 20, 300)
 }
 
 /// The sums, or the bounds, that the limits from 0 on lead to.
@@ -280,5 +280,26 @@ fn ends_where_no_plan_is_valid(rt: HostRuntime) -> Result<(), Fail> {
         let text = cert_text(rt.alloc(), &problem, &outcome)?;
         assert_eq!(rt; text.as_str(), case.cert);
     }
+    Ok(())
+}
+
+// All conflicts are later than a constraint may be.
+#[test]
+fn stops_where_ticks_end(rt: HostRuntime) -> Result<(), Fail> {
+    let problem = late_meeting(rt.alloc())?;
+    let outcome = search(rt.alloc(), &problem, 0)?;
+    let text = cert_text(rt.alloc(), &problem, &outcome)?;
+    assert_eq!(rt;
+        text.as_str(),
+        "mapf-cert 2\nagents 2\nclaim bound 4196348\nleaf 0\nend\n"
+    );
+    let is_at_ticks = matches!(
+        outcome,
+        Outcome::Limit {
+            cause: Cause::Ticks,
+            ..
+        }
+    );
+    assert!(rt; is_at_ticks);
     Ok(())
 }
