@@ -1,7 +1,7 @@
 //! The tree that shows a claim, drawn from the nodes of a search that has ended, as short as it can be.
 use crate::layers_memo::LayersMemo;
 use crate::node::{Node, Replanned, Split};
-use crate::view::bars_at;
+use crate::view::add_bars;
 use mapf_model::limits::GREATEST_COST;
 use mapf_model::{Block, Item, OutOfMemory};
 use std::alloc::Global;
@@ -47,20 +47,30 @@ impl<'s, 'a> Drawing<'s, 'a> {
     /// Returns the items of the tree, in pre-order.
     pub fn items(mut self) -> Result<Vec<Item>, OutOfMemory> {
         let order = self.order()?;
+        self.mark_all(&order);
+        let mut items = Vec::with_capacity(self.alloc, order.len())?;
         for number in &order {
+            items.push(self.item(*number)?)?;
+        }
+        Ok(items)
+    }
+
+    // Returns the item of a node.
+    fn item(&mut self, number: u32) -> Result<Item, OutOfMemory> {
+        let blocks = self.blocks(number)?;
+        Ok(match self.split_of(number) {
+            Some(split) => Item::split(split.conflict, blocks),
+            None => Item::Leaf(blocks),
+        })
+    }
+
+    // Marks the blocks that the leaves among these nodes need.
+    fn mark_all(&mut self, order: &[u32]) {
+        for number in order {
             if self.split_of(*number).is_none() {
                 self.mark_blocks(*number);
             }
         }
-        let mut items = Vec::with_capacity(self.alloc, order.len())?;
-        for number in &order {
-            let blocks = self.blocks(*number)?;
-            items.push(match self.split_of(*number) {
-                Some(split) => Item::split(split.conflict, blocks),
-                None => Item::Leaf(blocks),
-            })?;
-        }
-        Ok(items)
     }
 
     // Returns the nodes of the tree, in pre-order.
@@ -142,7 +152,8 @@ impl<'s, 'a> Drawing<'s, 'a> {
             None => self.value_at_leaf(node, &replanned),
         };
         let agent = replanned.constraint.agent;
-        let bars = bars_at(self.alloc, self.nodes, number, agent, None)?;
+        let mut bars = Vec::new(self.alloc);
+        add_bars(&mut bars, self.nodes, number, agent)?;
         let entries = self.memo.labels(agent, &bars, value)?;
         blocks.push(Block { agent, entries })?;
         Ok(blocks)

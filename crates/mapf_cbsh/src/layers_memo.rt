@@ -22,6 +22,8 @@ pub struct LayersMemo<'a> {
     tables: Vec<Option<Distances>>,
     workspace: Workspace,
     numbers: HashMap<Key, u32>,
+    // The key that is looked up.
+    key: Key,
     // None where the agent can't arrive.
     layers: Vec<Option<Layers>>,
 }
@@ -42,6 +44,10 @@ impl<'a> LayersMemo<'a> {
             tables,
             workspace: Workspace::of(alloc, cells)?,
             numbers: HashMap::new(alloc),
+            key: Key {
+                agent: 0,
+                bars: Vec::new(alloc),
+            },
             layers: Vec::new(alloc),
         })
     }
@@ -51,16 +57,22 @@ impl<'a> LayersMemo<'a> {
     pub fn number_of(
         &mut self,
         agent: u32,
-        bars: Vec<Arrival>,
+        bars: &[Arrival],
         expected: u32,
     ) -> Result<u32, OutOfMemory> {
-        let key = Key { agent, bars };
-        if let Some(&number) = self.numbers.get(&key) {
+        self.key.agent = agent;
+        self.key.bars.clear();
+        self.key.bars.extend_from_slice(bars)?;
+        if let Some(&number) = self.numbers.get(&self.key) {
             return Ok(number);
         }
-        let layers = self.find(&key, expected)?;
+        let layers = self.find(agent, bars, expected)?;
         let number = u32::try_from(self.layers.len()).map_err(|_| OutOfMemory)?;
         self.layers.push(layers)?;
+        let key = Key {
+            agent,
+            bars: Vec::from_slice(self.alloc, bars)?,
+        };
         self.numbers.insert(key, number)?;
         Ok(number)
     }
@@ -93,18 +105,23 @@ impl<'a> LayersMemo<'a> {
         self.workspace.labels(self.alloc, &task, value)
     }
 
-    fn find(&mut self, key: &Key, expected: u32) -> Result<Option<Layers>, OutOfMemory> {
-        let Some(who) = self.make_table(key.agent)? else {
+    fn find(
+        &mut self,
+        agent: u32,
+        bars: &[Arrival],
+        expected: u32,
+    ) -> Result<Option<Layers>, OutOfMemory> {
+        let Some(who) = self.make_table(agent)? else {
             return Ok(None);
         };
-        let Some(Some(distances)) = self.tables.get(key.agent as usize) else {
+        let Some(Some(distances)) = self.tables.get(agent as usize) else {
             return Ok(None);
         };
         let task = LayerTask {
             neighbourhoods: &self.neighbourhoods,
             distances,
             agent: who,
-            bars: &key.bars,
+            bars,
         };
         Layers::of(self.alloc, &mut self.workspace, &task, expected)
     }

@@ -4,7 +4,7 @@ use crate::layers_memo::LayersMemo;
 use crate::node::{NewPath, Replanned};
 use crate::search_tree::{Child, SearchTree};
 use crate::trouble::{TroubleCount, pair_of};
-use crate::view::{View, bars_at};
+use crate::view::{View, add_bars};
 use mapf_layers::{Arrival, CalmSteps, Traffic};
 use mapf_model::{Conflict, Constraint, OutOfMemory, Path, Plan, Problem};
 use std::alloc::Global;
@@ -21,6 +21,8 @@ pub struct Searcher<'a> {
     // By agent, the number of its path in the traffic.
     placed: Vec<Option<u32>>,
     steps: CalmSteps,
+    // What the constraints of the agent that is replanned forbid.
+    bars: Vec<Arrival>,
     // How many paths were made.
     paths: u32,
 }
@@ -39,6 +41,7 @@ impl<'a> Searcher<'a> {
             traffic: Traffic::of(alloc, agents)?,
             placed: vec![in alloc; None; count]?,
             steps: CalmSteps::new(alloc),
+            bars: Vec::new(alloc),
             paths: 0,
         })
     }
@@ -146,7 +149,7 @@ impl<'a> Searcher<'a> {
     // Finds the agent's layers without constraints, if it has none at the node that is looked at.
     fn find_root_layers(&mut self, agent: u32) -> Result<(), OutOfMemory> {
         if self.view.layers(agent).is_none() {
-            let number = self.memo.number_of(agent, Vec::new(self.alloc), 0)?;
+            let number = self.memo.number_of(agent, &[], 0)?;
             self.view.note_root_layers(agent, number);
         }
         Ok(())
@@ -174,9 +177,10 @@ impl<'a> Searcher<'a> {
     fn child(&mut self, number: u32, constraint: Constraint) -> Result<Child, OutOfMemory> {
         let agent = constraint.agent;
         let before = self.cost_of(agent);
-        let arrival = Arrival::of(constraint.bar);
-        let bars = bars_at(self.alloc, &self.tree.nodes, number, agent, Some(arrival))?;
-        let layers = self.memo.number_of(agent, bars, before)?;
+        self.bars.clear();
+        self.bars.push(Arrival::of(constraint.bar))?;
+        add_bars(&mut self.bars, &self.tree.nodes, number, agent)?;
+        let layers = self.memo.number_of(agent, &self.bars, before)?;
         let mut child = Child {
             replanned: Replanned {
                 constraint,

@@ -127,18 +127,13 @@ impl View {
     }
 }
 
-/// Returns what the agent's constraints at a node forbid, with one more bar if there is one, in rising order.
-pub fn bars_at(
-    alloc: Global,
+/// Adds what the agent's constraints at a node forbid to these arrivals, and puts all in rising order.
+pub fn add_bars(
+    bars: &mut Vec<Arrival>,
     nodes: &[Node],
     number: u32,
     agent: u32,
-    more: Option<Arrival>,
-) -> Result<Vec<Arrival>, OutOfMemory> {
-    let mut bars = Vec::new(alloc);
-    if let Some(arrival) = more {
-        bars.push(arrival)?;
-    }
+) -> Result<(), OutOfMemory> {
     let mut at = number;
     for _ in 0..nodes.len() {
         let Some(node) = nodes.get(at as usize) else {
@@ -155,5 +150,5 @@ pub fn bars_at(
         at = node.parent;
     }
     bars.sort_unstable();
-    Ok(bars)
+    Ok(())
 }
