@@ -2,10 +2,10 @@
 //!
 //! Of a node's conflicts a cardinal one is split first, which raises the cost of both agents, then a semi-cardinal one,
 //! which raises the cost of one of them. The layers of the agents' cheapest paths, their MDDs, tell them apart
-//! (Boyarski et al. 2015). A child of the same sum that has fewer conflicts takes its parent's place, so that no split
-//! is needed: a bypass (Boyarski et al. 2015). Of an agent's cheapest paths one is taken that meets the others least. Of the open
-//! nodes the one of least sum comes first, of these the one with the fewest pairs of agents in conflict, and of these
-//! the newest.
+//! (Boyarski et al. 2015). A child of the same sum that has fewer pairs of agents in conflict, or as many and fewer
+//! conflicts, takes its parent's place, so that no split is needed: a bypass (Boyarski et al. 2015). Of an agent's
+//! cheapest paths one is taken that has few conflicts with the others. Of the open nodes the one of least sum comes
+//! first, of these the one with the fewest pairs of agents in conflict, and of these the newest.
 //!
 //! A node is a delta node: it holds its parent, its one new constraint and the paths that it replaced (`Node`), each
 //! with the conflicts that it had when it was made. What holds at a node is read off it and its ancestors before it is
