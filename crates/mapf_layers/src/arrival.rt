@@ -1,0 +1,41 @@
+//! What a constraint forbids, as an arrival, by which an agent's constraints are sorted and compared.
+use mapf_model::{Bar, Cell, Tick};
+
+/// An arrival that a constraint forbids: to be in the cell at the tick, whatever the step there; or, if `from` names a
+/// cell, to get there from it.
+#[derive(Clone, Copy, Debug, PartialEq, Eq, PartialOrd, Ord, Hash)]
+pub struct Arrival {
+    pub tick: Tick,
+    pub cell: Cell,
+    pub from: Option<Cell>,
+}
+
+impl Arrival {
+    /// Returns the arrival that the constraint forbids. That of an edge constraint is one tick after its move begins.
+    pub fn of(bar: Bar) -> Arrival {
+        match bar {
+            Bar::Cell { cell, tick } => Arrival {
+                tick,
+                cell,
+                from: None,
+            },
+            Bar::Move { from, to, tick } => Arrival {
+                tick: tick.saturating_add(1),
+                cell: to,
+                from: Some(from),
+            },
+        }
+    }
+
+    /// Returns whether it is an arrival in `to` by a step from `from`.
+    pub(crate) fn is_step(&self, from: Cell, to: Cell) -> bool {
+        self.cell == to && (self.from.is_none() || self.from == Some(from))
+    }
+}
+
+/// Returns those of the arrivals, which rise, that are at the tick.
+pub(crate) fn arrivals_at(bars: &[Arrival], tick: Tick) -> &[Arrival] {
+    let low = bars.partition_point(|bar| bar.tick < tick);
+    let high = bars.partition_point(|bar| bar.tick <= tick);
+    bars.get(low..high).unwrap_or(&[])
+}

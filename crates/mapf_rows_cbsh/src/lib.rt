@@ -1,0 +1,11 @@
+//! Does the stronger search find what the plain search finds, and does the checker accept what it writes?
+#![tactic(auto)]
+
+#[cfg(test)]
+mod exhaustive;
+#[cfg(test)]
+mod samples;
+#[cfg(test)]
+mod searching;
+#[cfg(test)]
+mod texts;
