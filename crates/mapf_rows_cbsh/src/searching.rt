@@ -161,7 +161,22 @@ fn finds_the_least_sum_of_three_agents(rt: HostRuntime) -> Result<(), Fail> {
     assert_least(&rt, rt.alloc(), shape, 20, 300)
 }
 
-/// The sums, or the bounds, that the limits from 0 on lead to.
+/// The bound that a limit leads to, or the sum of the plan, and the checker accepts both.
+fn bound_at(rt: &impl Abort, alloc: Global, problem: &Problem, limit: u32) -> Result<u64, Fail>
+    requires { limit ≤ 100000 }
+{
+    let outcome = search(alloc, problem, limit)?;
+    assert_accepted(rt, alloc, problem, &outcome)?;
+    Ok(match &outcome {
+        Outcome::Limit { cause, bound, .. } => {
+            assert_eq!(rt; *cause, Cause::Splits(limit));
+            *bound
+        }
+        Outcome::Found { plan, .. } => cost_of(problem, plan),
+        Outcome::Impossible { .. } => u64::MAX,
+    })
+}
+
 fn assert_limits(rt: &impl Abort, alloc: Global, seed: u64) -> Result<(), Fail> {
     let shape = Shape {
         width: 4,
@@ -174,17 +189,9 @@ fn assert_limits(rt: &impl Abort, alloc: Global, seed: u64) -> Result<(), Fail> 
     };
     let mut least = 0;
     for limit in 0..40u32 {
-        let outcome = search(alloc, &problem, limit)?;
-        assert_accepted(rt, alloc, &problem, &outcome)?;
-        match outcome {
-            Outcome::Limit { cause, bound, .. } => {
-                assert_eq!(rt; cause, Cause::Splits(limit));
-                assert!(rt; bound >= least);
-                least = bound;
-            }
-            Outcome::Found { plan, .. } => assert!(rt; cost_of(&problem, &plan) >= least),
-            Outcome::Impossible { .. } => {}
-        }
+        let bound = bound_at(rt, alloc, &problem, limit)?;
+        assert!(rt; bound >= least);
+        least = bound;
     }
     Ok(())
 }
