@@ -84,7 +84,7 @@ def solved_cases(folder):
         given = dict(case.inputs())
         if case.is_solve() and case.wanted("plan") and case.wanted("cert") and None not in given.values():
             texts = {**given, **dict(case.outputs())}
-            yield case.name, int(case.words[3]), filled(folder / case.name, texts)
+            yield case.name, int(case.agents()), filled(folder / case.name, texts)
 
 
 def accepted_cases(folder):
@@ -92,7 +92,7 @@ def accepted_cases(folder):
     for case in cases_of(TESTS / "cases"):
         given = dict(case.inputs())
         if case.words[:1] == ["check"] and case.wanted_status() == 0 and len(given) == 4 and not case.places:
-            yield case.name, int(case.words[3]), filled(folder / case.name, given)
+            yield case.name, int(case.agents()), filled(folder / case.name, given)
 
 
 def solved_examples(folder):
