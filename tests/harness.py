@@ -155,6 +155,10 @@ class Case:
                 self.places[stream] = self.words[at + 1]
                 del self.words[at:at + 2]
 
+    def agents(self):
+        """The number of agents, as the words spell it: the first number."""
+        return next(word for word in self.words if word.isdigit())
+
     def is_solve(self):
         return self.words[:1] == ["solve"]
 

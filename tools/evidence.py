@@ -8,6 +8,7 @@ import os
 import re
 import shutil
 import subprocess
+import sys
 import tempfile
 import time
 from pathlib import Path
@@ -103,7 +104,7 @@ class Evidence:
 
     def solve_with(self, limit: int, until: float | None) -> str | None:
         """Searches with this limit, and keeps what is found, unless that isn't there at this moment."""
-        words = ["solve", MAP, SCEN, str(self.agents), str(limit)]
+        words = ["solve", "--search", "cbsh", MAP, SCEN, str(self.agents), str(limit)]
         line = run(self.mapf, [*words, FOUND + NEW, CERT + NEW], self.folder, until)
         for name in (FOUND, CERT):
             new = self.folder / (name + NEW)
@@ -143,7 +144,9 @@ def run(mapf: str, words: list[str], folder: Path) -> str: ...
 @overload
 def run(mapf: str, words: list[str], folder: Path, until: float | None) -> str | None: ...
 def run(mapf: str, words: list[str], folder: Path, until: float | None = None) -> str | None:
-    """The line that mapf prints in this folder, none where it hasn't ended at this moment."""
+    """The line that mapf prints in this folder, none where it hasn't ended at this moment. What it says of its search
+    besides is passed on.
+    """
     with contextlib.ExitStack() as at_end:
         with signals_held():
             process = at_end.enter_context(
@@ -155,8 +158,9 @@ def run(mapf: str, words: list[str], folder: Path, until: float | None = None) -
         out, err = process.communicate()
     if process.returncode < 0:
         raise ToolError(f"mapf {words[0]} was ended by signal {-process.returncode}: see whether memory ran out")
-    if err or not out:
+    if not out:
         raise ToolError(f"mapf {words[0]} says '{err.strip()}': docs/FORMATS.md tells what it means")
+    sys.stderr.write(err)
     return out.strip()
 
 

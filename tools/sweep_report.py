@@ -66,7 +66,7 @@ def table(found: list[Point]) -> str:
 
 # The page.
 
-def page(found: list[Point], rows: list[Row], limit: int, most_seconds: float) -> str:
+def page(found: list[Point], rows: list[Row], search: str, limit: int, most_seconds: float) -> str:
     """A page of HTML: no network, no script."""
     maps = list(dict.fromkeys(one.map for one in found))
     of_map = {name: [one for one in found if one.map == name] for name in maps}
@@ -84,10 +84,10 @@ def page(found: list[Point], rows: list[Row], limit: int, most_seconds: float) -
 <style>
 {STYLE.read_text()}</style>
 <h1>Success rate of mapf</h1>
-<p>The share of scenarios that were solved, against the number of agents. Solved: <code>mapf solve</code> found a
-cheapest plan within {limit:,} splits and {most_seconds:g} seconds, and <code>mapf check</code> confirmed from its
-certificate that no valid plan is cheaper. After the first number of agents with which it isn't solved a scenario isn't
-tried again, and counts as not solved.{partly}</p>
+<p>The share of scenarios that were solved, against the number of agents. Solved: <code>mapf solve --search
+{search}</code> found a cheapest plan within {limit:,} splits and {most_seconds:g} seconds, and <code>mapf check</code>
+confirmed from its certificate that no valid plan is cheaper. After the first number of agents with which it isn't
+solved a scenario isn't tried again, and counts as not solved.{partly}</p>
 <main>{plots}</main>
 <p>{escape(ends(rows))}</p>
 <h2>Runtime</h2>

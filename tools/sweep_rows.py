@@ -40,6 +40,7 @@ class Row:
     verdict: str = ""
     solve_kb: str = ""
     check_kb: str = ""
+    search: str = ""
     note: str = ""
 
     def key(self) -> tuple[str, int]:

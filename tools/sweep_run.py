@@ -1,6 +1,6 @@
 """One run of tools/sweep: solves a problem, has the answer checked, and prints what came of it as one line of JSON.
 
-    python3 -I -S tools/sweep_run.py PROGRAM FOLDER SECONDS LIMIT MAP SCEN K
+    python3 -I -S tools/sweep_run.py PROGRAM FOLDER SECONDS SEARCH LIMIT MAP SCEN K
 
 A run is a program of its own, so that another machine can make it, and so that it ends when tools/sweep does, however
 that ends. It keeps its files in a new folder inside FOLDER, and removes them. It imports little: the memory that the
@@ -21,6 +21,9 @@ LOOK = 0.5
 # What of a text that a program says is read, in bytes, and how much of its first line is shown.
 READ, SHOWN = 4096, 120
 
+# The search of `solve` without an option. A program from before --search has no other.
+PLAIN = "cbs"
+
 # What `solve` may say with each exit status, how a row calls it, and what `check` has to say of it.
 ANSWERS = {
     0: (r"cost (?P<cost>[0-9]+)\n", "solved", "optimal {cost}"),
@@ -38,14 +41,14 @@ Ended = namedtuple("Ended", "status trouble note seconds kb out said")
 
 
 def main() -> None:
-    program, folder, seconds, limit, grid, scenario, agents = sys.argv[1:]
+    program, folder, seconds, search, limit, grid, scenario, agents = sys.argv[1:]
     own = os.path.join(os.path.abspath(folder), f"run-{os.urandom(8).hex()}")
     problem = [os.path.abspath(grid), os.path.abspath(scenario), agents]
     os.mkdir(own)
     os.chdir(own)
     signal.pthread_sigmask(signal.SIG_BLOCK, {signal.SIGCHLD})
     try:
-        print(json.dumps(outcome(program, problem, limit, float(seconds))), flush=True)
+        print(json.dumps(outcome(program, search, problem, limit, float(seconds))), flush=True)
     except OSError as error:
         sys.exit(f"{error.filename}: {error.strerror}")
     finally:
@@ -62,9 +65,10 @@ def remove(folder: str) -> None:
         pass
 
 
-def outcome(program: str, problem: list[str], limit: str, seconds: float) -> Fields:
-    """The fields of the row of this run, but for the names of the problem."""
-    solved = run([program, "solve", *problem, limit, "plan", "cert"], seconds)
+def outcome(program: str, search: str, problem: list[str], limit: str, seconds: float) -> Fields:
+    """The fields of the row of this run, but for the names of the problem and of the search."""
+    option = [] if search == PLAIN else ["--search", search]
+    solved = run([program, "solve", *option, *problem, limit, "plan", "cert"], seconds)
     row = {"solve_seconds": solved.seconds, "solve_kb": solved.kb, "note": solved.note, "status": solved.trouble}
     if solved.trouble:
         return row
@@ -74,6 +78,7 @@ def outcome(program: str, problem: list[str], limit: str, seconds: float) -> Fie
         return {**row, "status": "failed", "note": f"solve: status {solved.status}, {solved.said}"}
     told = answer.groupdict()
     row.update(status=status, cost=told.get("cost"), certificate_bytes=size("cert"), splits=told.get("splits"))
+    row["note"] = first_line(first("err"))
     if row["splits"] in (None, "ticks"):
         row["splits"] = count_splits("cert")
     row.update(checked(program, problem, seconds, wanted.format(**told)))
@@ -107,7 +112,7 @@ def run(words: list[str], seconds: float) -> Ended:
     elif code < 0:
         trouble, note = "killed", f"{words[1]} was killed by signal {-code}"
     text = first("out")
-    said = repr(((first("err") or text).splitlines() or [""])[0][:SHOWN])
+    said = repr(first_line(first("err") or text))
     return Ended(code, trouble, note, round(usage.ru_utime + usage.ru_stime, 3), usage.ru_maxrss, text, said)
 
 
@@ -148,6 +153,11 @@ def kill(child: int) -> None:
         os.killpg(child, signal.SIGKILL)
     except (ProcessLookupError, PermissionError):
         pass
+
+
+def first_line(text: str) -> str:
+    """The first line, cut if it is long."""
+    return (text.splitlines() or [""])[0][:SHOWN]
 
 
 def first(path: str) -> str:

@@ -19,7 +19,7 @@ TOP = TESTS.parent
 COMMANDS = "env", "ls", "cat", "sha256sum"
 
 # The tools of which the help has an example that can be tried.
-HELPFUL = "tools/verify", "tools/draw", "tools/recheck", "tools/sweep"
+HELPFUL = "tools/verify", "tools/draw", "tools/recheck", "tools/trim", "tools/sweep"
 
 GRID, SCEN = "examples/random-32-32.map", "examples/random-32-32.scen"
 
@@ -147,6 +147,8 @@ def runs(place):
     }
     if (place / "tools" / "recheck").exists():
         found["recheck"] = (["tools/recheck", *problem, "plan.txt", "cert.txt"], 0, "optimal 104\n")
+    if (place / "tools" / "trim").exists():
+        found["trim"] = (["tools/trim", *problem, "plan.txt", "cert.txt"], 0, "\nclaim cost 104\n")
     if (place / "tools" / "verify").exists():
         found["verify"] = (["tools/verify", *problem, "plan.txt"], 0, "cheapest: 104\n")
     return found

@@ -1,7 +1,5 @@
 """Compares tools/recheck with mapf: on each case of `check`, on what mapf solves, and on small edits of these texts."""
 
-import importlib.machinery
-import importlib.util
 import itertools
 import os
 import random
@@ -11,6 +9,7 @@ import tempfile
 from pathlib import Path
 
 from answers_tests import spelled
+from commands import command
 from harness import TESTS, Ended, cases_of, run, told
 
 RECHECK = TESTS.parent / "tools" / "recheck"
@@ -53,7 +52,7 @@ PIECES = [b"0", b"1", b"2", b"7", b"9", b"10", b" ", b"  ", b"\t", b"\n", b"\r",
 
 
 def tests(tally):
-    recheck = loaded()
+    recheck = command("recheck")  # so that thousands of runs don't start Python each
     for case in cases_of(TESTS / "cases"):
         if case.words[:1] == ["check"] and case.wanted("stdout-has") is None and case.wanted("stderr-has") is None:
             tally.add(f"recheck, {case.name}", case_faults(case))
@@ -73,14 +72,6 @@ def tests(tally):
     tally.add("recheck, words", words_faults())
 
 
-def loaded():
-    """The command as a module, so that thousands of runs don't start Python each."""
-    loader = importlib.machinery.SourceFileLoader("recheck", str(RECHECK))
-    module = importlib.util.module_from_spec(importlib.util.spec_from_loader("recheck", loader))
-    loader.exec_module(module)
-    return module
-
-
 def case_faults(case):
     """How a run on a case differs from what is wanted of mapf."""
     with tempfile.TemporaryDirectory() as folder:
@@ -93,7 +84,7 @@ def solved_cases(folder):
         given = dict(case.inputs())
         if case.is_solve() and case.wanted("plan") and case.wanted("cert") and None not in given.values():
             texts = {**given, **dict(case.outputs())}
-            yield case.name, int(case.words[3]), filled(folder / case.name, texts)
+            yield case.name, int(case.agents()), filled(folder / case.name, texts)
 
 
 def accepted_cases(folder):
@@ -101,7 +92,7 @@ def accepted_cases(folder):
     for case in cases_of(TESTS / "cases"):
         given = dict(case.inputs())
         if case.words[:1] == ["check"] and case.wanted_status() == 0 and len(given) == 4 and not case.places:
-            yield case.name, int(case.words[3]), filled(folder / case.name, given)
+            yield case.name, int(case.agents()), filled(folder / case.name, given)
 
 
 def solved_examples(folder):

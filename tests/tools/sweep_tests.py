@@ -31,6 +31,8 @@ def tests(tally):
         for name, lines, more, status, row in TROUBLES:
             tally.add(f"a program that {name}", troubled(bench, name, lines, more, status, row))
         tally.add("a program that hangs in a sweep that is stopped", leaves_nothing(bench))
+        tally.add("a sweep of another search", another_search(bench, wanted))
+        tally.add("a sweep of another search whose answers are refused", refused_search(bench, wanted))
         tally.add("more numbers of agents", more_numbers(bench, wanted))
         tally.add("each number of agents", each_number(bench))
         tally.add("runs that failed are tried again", tried_again(bench, wanted))
@@ -85,6 +87,8 @@ def row_faults(row):
     is_long = is_solved and 0 < int(row["makespan"]) <= int(row["cost"]) <= int(row["agents"]) * int(row["makespan"])
     if not row["verdict"].startswith(wanted) or row["note"] or not (is_long if is_solved else row["makespan"] == ""):
         return [f"{row['scenario']} with {row['agents']} agents: {row}"]
+    if row["search"] != "cbs":
+        return [f"its search is {row['search']}"]
     is_measured = int(row["certificate_bytes"]) > 40 and all(float(row[name]) > 0 for name in ("solve_kb", "check_kb"))
     return [] if is_measured and 0 <= int(row["splits"]) <= 20 else [f"what was measured is {row}"]
 
@@ -190,6 +194,35 @@ def leaves_nothing(bench):
     return faults
 
 
+def another_search(bench, wanted):
+    """What cbs solves cbsh solves at the same costs. All rows and the report name the search, and the words do."""
+    words = bench.folder / "words"
+    program = bench.script("noting-words", f'echo "$@" >>"{words}"\nexec "{os.environ["MAPF"]}" "$@"\n')
+    ended = bench.call("cbsh", "--search", "cbsh", program=program)
+    solved = {(row["scenario"], row["agents"]): row["cost"] for row in wanted if row["status"] == "solved"}
+    rows = bench.rows("cbsh")
+    costs = {(row["scenario"], row["agents"]): row["cost"] for row in rows if row["status"] == "solved"}
+    faults = [] if ended.returncode == 0 else [f"status {ended.returncode}, {ended.stderr}"]
+    faults += [f"{key} costs {costs.get(key)}" for key, cost in solved.items() if costs.get(key) != cost]
+    faults += [str(row) for row in rows if row["search"] != "cbsh" or row["note"]]
+    called = {line[:21] for line in words.read_text().splitlines() if line.startswith("solve")}
+    if called != {"solve --search cbsh /"} or "mapf solve --search\ncbsh<" not in (
+            bench.folder / "cbsh" / "report.html").read_text():
+        faults.append(f"the calls begin with {called}, or the report names another search")
+    return faults
+
+
+def refused_search(bench, wanted):
+    """Answers by cbs in place of those that were refused: the rows tell it, and are those of cbs else."""
+    said = "mapf: the answer of cbsh was refused (C8 12); this is the answer of cbs"
+    lines = f'[ "$2" != --search ] || {{ echo "{said}" >&2; shift 3; set -- solve "$@"; }}\n'
+    program = bench.script("refused", f'{lines}exec "{os.environ["MAPF"]}" "$@"\n')
+    ended = bench.call("refused-search", "--search", "cbsh", program=program, scens="scen-few")
+    told = [{**row, "search": "cbsh", "note": said} for row in wanted if row["scenario"].endswith("-1")]
+    is_told = ended.returncode == 0 and bench.table("refused-search") == told
+    return [] if is_told else [f"status {ended.returncode}, {bench.table('refused-search')}, {ended.stderr}"]
+
+
 def more_numbers(bench, wanted):
     """A call with more numbers makes what is missing."""
     bench.call("more", "--agents", str(NUMBERS[0]), scens="scen-few")
@@ -282,6 +315,8 @@ def refusals(bench):
     calls = {
         "an empty folder": (bench.call("new", scens="none"), "none holds no .scen file"),
         "no folder": (bench.call("new", scens="nowhere"), "nowhere isn't a folder"),
+        "another search": (bench.call("whole", "--search", "cbsh"), "holds runs with search cbs: call with the same"),
+        "a search that isn't there": (bench.call("new", "--search", "dfs"), "invalid choice: 'dfs'"),
         "another limit": (bench.call("whole", "--limit", "21"), "holds runs with limit 20"),
         "another program": (bench.call("whole", program=other), "holds runs with program mapf "),
         "runs of a program that isn't told": (bench.call("untold"), "holds runs with program (not told)"),

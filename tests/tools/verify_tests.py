@@ -36,6 +36,11 @@ PATHS = {
     "empty": "",
 }
 
+# Answers on the rooms, and what a call of them has besides. In the second agent 3 waits once where it needn't.
+BEST = PATHS["cheapest"] + "Agent 2: (0,4)->(1,4)->(1,5)->\nAgent 3: (0,6)->(0,5)->(0,4)->\n"
+WAITS = PATHS["cheapest"] + "Agent 2: (0,4)->(1,4)->(1,5)->\nAgent 3: (0,6)->(0,6)->(0,5)->(0,4)->\n"
+ROOMS = {"grid": ROOMS_MAP, "scenario": ROOMS_SCEN, "agents": "4"}
+
 LACAM_HEAD = """agents=2
 map_file=c.map
 solver=planner
@@ -195,8 +200,8 @@ TOLD = {
 
 @dataclass
 class Asked:
-    """One call, and what is wanted of it: the status, the standard output, and parts of the standard error and of the
-    note that --keep leaves.
+    """One call, and what is wanted of it: the status, the standard output, parts of the standard error, which only the
+    status 2 has, and of the note that --keep leaves, and what the search says on standard error.
     """
 
     name: str
@@ -210,6 +215,7 @@ class Asked:
     grid: str = CROSSING_MAP
     scenario: str = CROSSING_SCEN
     environment: dict = field(default_factory=dict)
+    said: str = ""
 
 
 def tests(tally):
@@ -225,7 +231,7 @@ def tests(tally):
     tally.add("verify, a folder that isn't empty", folder_kept())
     for name in FORMATS:
         tally.add(f"verify, pipes in place of files, {name}", piped(FORMATS[name]["cheapest"]))
-    for title, lines, asked in in_time():
+    for title, lines, asked in in_time() + by_cbs():
         tally.add(f"verify, {title}", faults_behind(lines, asked))
 
 
@@ -369,20 +375,27 @@ def that_are_not_valid():
 
 def by_bound():
     """Searches that meet their limit: with a bound below the cost, and with one that is the cost."""
-    rooms = {"grid": ROOMS_MAP, "scenario": ROOMS_SCEN, "agents": "4"}
-    best = PATHS["cheapest"] + "Agent 2: (0,4)->(1,4)->(1,5)->\nAgent 3: (0,6)->(0,5)->(0,4)->\n"
-    waits = PATHS["cheapest"] + "Agent 2: (0,4)->(1,4)->(1,5)->\nAgent 3: (0,6)->(0,6)->(0,5)->(0,4)->\n"
     apart = "Agent 0: (0,4)->(0,5)->(1,5)->\n"
     return [
         Asked("verify, a limit of no splits", PATHS["cheapest"], 4,
               "unknown: 5, no valid plan costs less than 4 (limit of 0 splits)\n", more=["--limit", "0"]),
-        Asked("verify, a bound that is the cost", best, 0, "cheapest: 9\n", more=["--limit", "1"],
-              noted="its line 'claim bound 9' was changed into 'claim cost 9'", **rooms),
-        Asked("verify, a bound below the cost", waits, 4,
-              "unknown: 10, no valid plan costs less than 9 (limit of 1 splits)\n", more=["--limit", "1"], **rooms),
-        Asked("verify, a search beyond that bound", waits, 1, "not cheapest: 10, a plan of 9 is in FOUND\n", **rooms),
+        Asked("verify, a bound below the cost", BEST, 4,
+              "unknown: 9, no valid plan costs less than 8 (limit of 0 splits)\n", more=["--limit", "0"], **ROOMS),
+        Asked("verify, a search beyond that bound", WAITS, 1, "not cheapest: 10, a plan of 9 is in FOUND\n", **ROOMS),
         Asked("verify, one agent by its distance", apart, 0, "cheapest: 2\n", more=["--limit", "0"], agents="1",
               grid=ROOMS_MAP, scenario="version 1\n0 r.map 7 3 4 0 5 1 2\n"),
+    ]
+
+
+def by_cbs():
+    """Searches of which mapf says that the answer is that of cbs. After one split that has the bound 9 and no plan."""
+    by_one = {**ROOMS, "more": ["--limit", "1"], "said": f"{REFUSAL}\n"}
+    return [
+        ("a bound that is the cost, by cbs", BY_CBS,
+         Asked("", BEST, 0, "cheapest: 9\n", **by_one,
+               noted="its line 'claim bound 9' was changed into 'claim cost 9'")),
+        ("a bound below the cost, by cbs", BY_CBS,
+         Asked("", WAITS, 4, "unknown: 10, no valid plan costs less than 9 (limit of 1 splits)\n", **by_one)),
     ]
 
 
@@ -412,22 +425,25 @@ def by_options():
 
 # In place of the program, in the shell's words: one that never ends a search, or only those of no splits.
 HANGS = '[ "$1" != solve ] || exec sleep 100\n'
-HANGS_LATER = '[ "$1" != solve ] || [ "$5" = 0 ] || exec sleep 100\n'
+HANGS_LATER = '[ "$1" != solve ] || [ "$7" = 0 ] || exec sleep 100\n'
+
+# One that answers by the search cbs, as mapf does if it refuses what cbsh finds.
+REFUSAL = "mapf: the answer of cbsh was refused (C8 12); this is the answer of cbs"
+BY_CBS = f'[ "$1" != solve ] || {{ echo "{REFUSAL}" >&2; shift 3; set -- solve "$@"; }}\n'
 
 
 def in_time():
     """Searches that don't end in the time that they have. A search of no splits ends in 5 seconds, also on a machine
     that has much to do.
     """
-    rooms = {"grid": ROOMS_MAP, "scenario": ROOMS_SCEN, "agents": "4"}
-    waits = PATHS["cheapest"] + "Agent 2: (0,4)->(1,4)->(1,5)->\nAgent 3: (0,6)->(0,6)->(0,5)->(0,4)->\n"
     return [
         ("no time for a search", HANGS,
-         Asked("", waits, 4, "unknown: 10 (limit of 0.5 seconds)\n", more=["--seconds", "0.5"],
-               noted="one leaf doesn't show that it is cheapest", **rooms)),
+         Asked("", WAITS, 4, "unknown: 10 (limit of 0.5 seconds)\n", more=["--seconds", "0.5"],
+               noted="one leaf doesn't show that it is cheapest", **ROOMS)),
         ("time for a search of no splits", HANGS_LATER,
-         Asked("", waits, 4, "unknown: 10, no valid plan costs less than 8 (limit of 5 seconds)\n",
-               more=["--seconds", "5"], noted="mapf solve problem.map problem.scen 4 0 found.txt cert.txt", **rooms)),
+         Asked("", WAITS, 4, "unknown: 10, no valid plan costs less than 8 (limit of 5 seconds)\n",
+               noted="mapf solve --search cbsh problem.map problem.scen 4 0 found.txt cert.txt",
+               more=["--seconds", "5"], **ROOMS)),
     ]
 
 
@@ -476,7 +492,7 @@ def faults_of(asked):
 def ended_faults(asked, ended, found):
     """What differs in a call. Where its answer names a file in a folder that nobody named, it says that this stays."""
     wanted = re.escape(asked.out).replace("FOUND", found)
-    stays = "verify: (.*) stays, .*\n" if "FOUND" in asked.out and "/tmp/" in found else ""
+    stays = re.escape(asked.said) + ("verify: (.*) stays, .*\n" if "FOUND" in asked.out and "/tmp/" in found else "")
     faults = []
     if ended.returncode != asked.status:
         faults.append(f"status {ended.returncode}, wanted {asked.status}")
