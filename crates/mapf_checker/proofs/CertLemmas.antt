@@ -17,7 +17,7 @@ use Rattle.mapf_certificate.specs.Window.{Window, Fails, ComesWithin, Exceeds, I
 use Rattle.mapf_certificate.proofs.CertTexts.{AreSized, spells_from_text, text_from_spells}
 use Rattle.mapf_certificate.proofs.Windows.{Window-known, ComesWithin-after, Exceeds-after, refuses_within}
 use Rattle.mapf_checker.specs.declared.fault.CheckFault.{CheckFault}
-use Rattle.mapf_checker.specs.declared.fault.CheckFault.TheVariants.{C1, C2, C3, C4, C5, C6, C7, C8, C9}
+use Rattle.mapf_checker.specs.declared.fault.CheckFault.TheVariants.{C2, C3, C4, C6, C7, C8, C9}
 use Rattle.mapf_checker.specs.declared.fault.CheckFault.TheVariants as refusals
 use Rattle.mapf_checker.specs.declared.fault.FromFault.{FromFault}
 use Rattle.mapf_checker.specs.declared.fault.FromFault.TheVariants as from
@@ -59,13 +59,8 @@ module _ (problem : Instance) (claim : Claim) (had : Option (List ℕ)) (start :
 pub stops_heading : (problem : Instance) (claim : Claim) (had left : Option (List ℕ)) (failed : Bool) (start : Reading) (IsText : List ℕ → Type 0) (fault : LinesFault) → Fails had left failed start.buffer IsText fault →
     ((version : Version) (agents : ℕ) (claimed : Claim) (nodes : List Node) → AwaitsCert had start version agents claimed nodes → IsNoTextFault fault) → IsOfChecking had left failed start.buffer (HasHeaderRefusal problem claim had start) (of_cert fault)
 stops_heading problem claim had left failed start IsText (Text texts.Memory) fails none = absurd fails
-stops_heading problem claim had left failed start IsText (Text (texts.K1 line)) fails none = (fails.0, refuses_within had left start.buffer IsText fails.1, (λ e. cc, none))
-stops_heading problem claim had left failed start IsText (Text (texts.K2 line)) fails none = (fails.0, refuses_within had left start.buffer IsText fails.1, (λ e. cc, none))
-stops_heading problem claim had left failed start IsText (Text (texts.K3 line)) fails none = (fails.0, refuses_within had left start.buffer IsText fails.1, (λ e. cc, none))
-stops_heading problem claim had left failed start IsText (Text (texts.K4 line)) fails none = (fails.0, refuses_within had left start.buffer IsText fails.1, (λ e. cc, none))
-stops_heading problem claim had left failed start IsText Device fails none = fails
-stops_heading problem claim had left failed start IsText TooLong fails none = fails
-stops_heading problem claim had left failed start IsText Memory fails none = fails
+stops_heading problem claim had left failed start IsText (Text fault) fails none = (fails.0, refuses_within had left start.buffer IsText fails.1, (λ e. cc, none))
+stops_heading problem claim had left failed start IsText fault fails none = fails
 
 -- a property of known bytes
 pub if_known : {X : Type 0} (o : Option X) (P : X → Type 0) → ((x : X) → o ≡ Some x → P x) → IfSome o P
@@ -90,16 +85,10 @@ stops_after had mid left failed old now new taken from.Memory same window f stop
 module _ (problem : Instance) (claim : Claim) (had : Option (List ℕ)) (start : Reading) (opened : IsOpened problem start) where
   -- a refusal of the header is one of the certificate
   pub header_refusal : (refusal : CheckFault) → HasHeaderRefusal problem claim had start refusal → HasCertRefusal problem claim had refusal
-  header_refusal (C1 fault) is = absurd is
   header_refusal (C2 fault) (other, none) = (other, if_known had _ (λ bytes known version agents claimed tree spells. none version agents claimed (nodes_of tree) (awaits_spelled problem claim had start opened bytes known version agents claimed tree spells)))
   header_refusal C3 is = if_known had _ is
   header_refusal C4 is = if_known had _ is
-  header_refusal (C5 fault) is = absurd is
-  header_refusal (C6 line) is = absurd is
-  header_refusal (C7 line) is = absurd is
-  header_refusal (C8 line) is = absurd is
-  header_refusal (C9 line) is = absurd is
-  header_refusal refusals.Memory is = absurd is
+  header_refusal refusal is = absurd is
 
   module _ (mid : Option (List ℕ)) (headed : Reading) (takes : TakesHeader had mid start headed (length problem.agents) claim) where
     -- the bytes after the header
@@ -113,16 +102,12 @@ module _ (problem : Instance) (claim : Claim) (had : Option (List ℕ)) (start :
 
     -- so is one of the tree
     pub refusal_of_tree : ((version : Version) (agents : ℕ) (claimed : Claim) (nodes : List Node) → AwaitsCert had start version agents claimed nodes → Awaits mid headed nodes) → (refusal : CheckFault) → HasTreeRefusal problem claim mid headed refusal → HasCertRefusal problem claim had refusal
-    refusal_of_tree ahead (C1 fault) is = absurd is
     refusal_of_tree ahead (C2 fault) (other, none) = (other, if_known had _ (λ bytes known version agents claimed tree spells. none (nodes_of tree) (ahead version agents claimed (nodes_of tree) (awaits_spelled problem claim had start opened bytes known version agents claimed tree spells))))
-    refusal_of_tree ahead C3 is = absurd is
-    refusal_of_tree ahead C4 is = absurd is
-    refusal_of_tree ahead (C5 fault) is = absurd is
     refusal_of_tree ahead (C6 line) is = bad_node_in (C6 line) is
     refusal_of_tree ahead (C7 line) is = bad_node_in (C7 line) is
     refusal_of_tree ahead (C8 line) is = bad_node_in (C8 line) is
     refusal_of_tree ahead (C9 line) is = bad_node_in (C9 line) is
-    refusal_of_tree ahead refusals.Memory is = absurd is
+    refusal_of_tree ahead refusal is = absurd is
 
     -- a tree that was judged is the certificate's
     pub good_cert : FrontDecides → TreeIsUnique → IsJudgedTree problem claim mid headed → (bytes : List ℕ) → had ≡ Some bytes → IsGoodCert problem claim bytes

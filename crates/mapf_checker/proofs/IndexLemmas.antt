@@ -1,16 +1,16 @@
 -- The index of bars while they are added and taken back.
-use Rattle.std.proofs.Common.{◌≡◌, ◌≢◌, ◌↔◌, ◌⊎◌, ℕ, ◌<◌, ◌≤◌, Bool, true, false, List, [], ◌∷◌, Ordering, Less, Equal, Greater, nat_cmp, Contains, IsTrue, IfSome, slice_get, refl, sym, ◌∙◌, ap, subst, inl, inr, ⊎_elim, eq-eqb, arith}
-use Rattle.std.proofs.lemmas.Bool.{cases_eq, cases_order, ne_eqb, lt-ltb, le-ltb, false_from_ne_true, true≢false}
+use Rattle.std.proofs.Common.{◌≡◌, ◌≢◌, ◌↔◌, ◌⊎◌, ℕ, ◌<◌, ◌≤◌, Bool, true, false, List, [], ◌∷◌, Ordering, Contains, IsTrue, IfSome, slice_get, refl, sym, ◌∙◌, ap, subst, inl, inr, eq-eqb, arith}
+use Rattle.std.proofs.lemmas.Bool.{cases_eq, ne_eqb, false_from_ne_true, true≢false}
+use Rattle.std.proofs.lemmas.Bool.Decides.{nat_tests}
 use Rattle.std.proofs.lemmas.Cmp.{then_total, on_total, nat_cmp_total}
 use Rattle.std.proofs.lemmas.List.Elements.{Contains-append_right}
-use Rattle.std.proofs.lemmas.Map.Lookups.{CmpEqualImpliesEq, exact_unsigned}
+use Rattle.std.proofs.lemmas.Map.Lookups.{CmpEqualImpliesEq}
 use Rattle.std.proofs.lemmas.Map.Views.{tells_apart}
 use Rattle.std.specs.BTreeMap.{is_at}
 use Rattle.std.specs.BTreeMap.Range.{IsLeBy}
 use Rattle.std.specs.BTreeSet.{BTreeSet, contains, Updates, IsKeyInRange, IsKeyRangeOf}
 use Rattle.std.specs.declared.ops.Bound.TheVariants.{Included, Unbounded}
 use Rattle.std.specs.Cmp.{IsTotalOrder}
-use Rattle.std.specs.Ordering.{ordering_then, is_gt}
 use Rattle.mapf_model.specs.declared.bar.Bar.{Bar}
 use Rattle.mapf_model.specs.declared.bar.Bar.TheVariants.{Cell, Move}
 use Rattle.mapf_model.specs.Tree.{with_bar, with_constraint}
@@ -27,30 +27,15 @@ cell_total = then_total (on_total (λ (c : BarredCell). c.agent) nat_cmp_total) 
 move_total : IsTotalOrder move_cmp
 move_total = then_total (on_total (λ (m : BarredMove). m.agent) nat_cmp_total) (then_total (on_total (λ (m : BarredMove). m.tick) nat_cmp_total) (then_total (on_total (λ (m : BarredMove). m.from) nat_cmp_total) (on_total (λ (m : BarredMove). m.to) nat_cmp_total)))
 
-both_equal : (o p : Ordering) → ordering_then o p ≡ Equal → (o ≡ Equal) × (p ≡ Equal)
-both_equal Less p e = absurd (let f : Less ≡ Equal = e in cc)
-both_equal Equal p e = (refl, e)
-both_equal Greater p e = absurd (let f : Greater ≡ Equal = e in cc)
-
 cell_exact : CmpEqualImpliesEq cell_cmp
 cell_exact a b e =
-    let f = both_equal (nat_cmp a.agent b.agent) _ e in
-    let g = both_equal (nat_cmp a.cell b.cell) _ f.1 in
-    let agent = exact_unsigned a.agent b.agent f.0 in
-    let cell = exact_unsigned a.cell b.cell g.0 in
-    let tick = exact_unsigned a.tick b.tick g.1 in
-    λ k. record { agent = agent k; cell = cell k; tick = tick k }
+    let same : (a.agent ≡ b.agent) × (a.cell ≡ b.cell) × (a.tick ≡ b.tick) = grind (arith, nat_tests) in
+    λ k. record { agent = same.0 k; cell = same.1 k; tick = same.2 k }
 
 move_exact : CmpEqualImpliesEq move_cmp
 move_exact a b e =
-    let f = both_equal (nat_cmp a.agent b.agent) _ e in
-    let g = both_equal (nat_cmp a.tick b.tick) _ f.1 in
-    let h = both_equal (nat_cmp a.from b.from) _ g.1 in
-    let agent = exact_unsigned a.agent b.agent f.0 in
-    let tick = exact_unsigned a.tick b.tick g.0 in
-    let from = exact_unsigned a.from b.from h.0 in
-    let to = exact_unsigned a.to b.to h.1 in
-    λ k. record { agent = agent k; tick = tick k; from = from k; to = to k }
+    let same : (a.agent ≡ b.agent) × (a.tick ≡ b.tick) × (a.from ≡ b.from) × (a.to ≡ b.to) = grind (arith, nat_tests) in
+    λ k. record { agent = same.0 k; tick = same.1 k; from = same.2 k; to = same.3 k }
 
 -- a set in whose order no two keys are equal, where one key is inserted or removed
 module _ {K : Type 0} {R : K → K → Ordering} (total : IsTotalOrder R) (exact : CmpEqualImpliesEq R) (before after : BTreeSet K) (k : K) (v : Bool) (updates : Updates R before after k v) where
@@ -76,69 +61,15 @@ move_others old new agent from to tick v updates kept other differ = go other.ba
   go (Move f o t) apart = there move_total move_exact old.moves new.moves (record { agent = agent; tick = tick; from = from; to = to }) v updates (record { agent = other.agent; tick = t; from = f; to = o })
       (λ same. apart (λ k. constraint_of (sym same k).agent (Move (sym same k).from (sym same k).to (sym same k).tick)))
 
--- what lies between two barred cells of one agent and cell has the same agent and cell
-le_first : (a b : ℕ) (o : Ordering) → is_gt (ordering_then (nat_cmp a b) o) ≡ false → (a < b) ⊎ ((a ≡ b) × (is_gt o ≡ false))
-le_first a b o e = ⊎_elim
-    (λ (same : a ≡ b). inr (same, rw (le-ltb a b (omega arith), eq-eqb a b same) at e))
-    (λ other. ⊎_elim
-    (λ (less : a < b). inl less)
-    (λ (more : b < a). absurd (true≢false (rw (le-ltb a b (omega arith), ne_eqb a b (λ same. omega (arith, same))) at e)))
-    other)
-    (cases_order a b)
-
-le_last : (a b : ℕ) → is_gt (nat_cmp a b) ≡ false → a ≤ b
-le_last a b e = ⊎_elim
-    (λ (same : a ≡ b). omega arith)
-    (λ other. ⊎_elim
-    (λ (less : a < b). omega arith)
-    (λ (more : b < a). absurd (true≢false (rw (le-ltb a b (omega arith), ne_eqb a b (λ same. omega (arith, same))) at e)))
-    other)
-    (cases_order a b)
-
-le_between : (a b c : BarredCell) → IsLeBy cell_cmp a b → IsLeBy cell_cmp b c → a.agent ≡ c.agent → a.cell ≡ c.cell → (b.agent ≡ a.agent) × (b.cell ≡ a.cell)
-le_between a b c low high agent cell = ⊎_elim
-    (λ (less : a.agent < b.agent). ⊎_elim
-    (λ (more : b.agent < c.agent). absurd (omega arith))
-    (λ same. absurd (omega (arith, same.0)))
-    (le_first b.agent c.agent _ high))
-    (λ first. ⊎_elim
-    (λ (more : b.agent < c.agent). absurd (omega (arith, first.0)))
-    (λ second. (
-      sym first.0,
-      ⊎_elim
-          (λ (less : a.cell < b.cell). ⊎_elim
-          (λ (more : b.cell < c.cell). absurd (omega arith))
-          (λ same. absurd (omega (arith, same.0)))
-          (le_first b.cell c.cell _ second.1))
-          (λ same. sym same.0)
-          (le_first a.cell b.cell _ first.1),
-    ))
-    (le_first b.agent c.agent _ high))
-    (le_first a.agent b.agent _ low)
-
-le_tick : (a b : BarredCell) → IsLeBy cell_cmp a b → a.agent ≡ b.agent → a.cell ≡ b.cell → a.tick ≤ b.tick
-le_tick a b low agent cell = ⊎_elim
-    (λ (less : a.agent < b.agent). absurd (omega arith))
-    (λ first. ⊎_elim
-    (λ (less : a.cell < b.cell). absurd (omega arith))
-    (λ second. le_last a.tick b.tick second.1)
-    (le_first a.cell b.cell _ first.1))
-    (le_first a.agent b.agent _ low)
-
-tick_le : (a b : ℕ) → a ≤ b → is_gt (nat_cmp a b) ≡ false
-tick_le a b le = ⊎_elim
-    (λ (same : a ≡ b). rw (le-ltb a b (omega arith), eq-eqb a b same) refl)
-    (λ other. ⊎_elim
-    (λ (less : a < b). rw (lt-ltb a b less) refl)
-    (λ (more : b < a). absurd (omega arith))
-    other)
-    (cases_order a b)
+-- the order of the barred cells, in numbers
+le_parts : (a b : BarredCell) → IsLeBy cell_cmp a b → (a.agent < b.agent) ⊎ ((a.agent ≡ b.agent) × ((a.cell < b.cell) ⊎ ((a.cell ≡ b.cell) × (a.tick ≤ b.tick))))
+le_parts a b le = grind (arith, nat_tests)
 
 abbrev pub least : ℕ → ℕ → ℕ → BarredCell
 least agent cell tick = record { agent = agent; cell = cell; tick = tick }
 
 later_le : (agent cell tick later : ℕ) → tick ≤ later → IsLeBy cell_cmp (least agent cell tick) (least agent cell later)
-later_le agent cell tick later le = rw (le-ltb agent agent (omega arith), eq-eqb agent agent refl, le-ltb cell cell (omega arith), eq-eqb cell cell refl) (tick_le tick later le)
+later_le agent cell tick later le = grind (arith, nat_tests)
 
 module _ (bars : ℕ → List Bar) (index : BarIndex) (indexed : Indexes bars index) (agent cell tick : ℕ) where
   -- the first barred cell from the state on
@@ -150,16 +81,17 @@ module _ (bars : ℕ → List Bar) (index : BarIndex) (indexed : Indexes bars in
     pub barred_from : next.agent ≡ agent → next.cell ≡ cell → IsBarredFrom (bars agent) cell tick
     barred_from of at = (
       next.tick,
-      le_tick (least agent cell tick) next first.0.0 (sym of) (sym at),
+      (let low = le_parts (least agent cell tick) next first.0.0 in grind arith),
       subst (λ a. Contains (bars a) (Cell cell next.tick)) of (subst (λ q. Contains (bars next.agent) (Cell q next.tick)) at ((indexed (constraint_of next.agent (Cell next.cell next.tick))).0 first.1)),
     )
 
     -- and only there
     pub first_from : IsBarredFrom (bars agent) cell tick → (next.agent ≡ agent) × (next.cell ≡ cell)
     first_from (later, late, stands) =
-        let low = later_le agent cell tick later late in
-        let high = subst (λ keys. IfSome (slice_get keys 0) (λ k. IsLeBy cell_cmp k (least agent cell later))) is (range.2 (least agent cell later) (low, tt) ((indexed (constraint_of agent (Cell cell later))).1 stands)) in
-        le_between (least agent cell tick) next (least agent cell later) first.0.0 high refl refl
+        let within = later_le agent cell tick later late in
+        let low = le_parts (least agent cell tick) next first.0.0 in
+        let high = le_parts next (least agent cell later) (subst (λ keys. IfSome (slice_get keys 0) (λ k. IsLeBy cell_cmp k (least agent cell later))) is (range.2 (least agent cell later) (within, tt) ((indexed (constraint_of agent (Cell cell later))).1 stands))) in
+        grind arith
 
   pub none_from : ((q : BarredCell) → IsLeBy cell_cmp (least agent cell tick) q → contains cell_cmp index.cells q ≡ false) → IsBarredFrom (bars agent) cell tick → ⊥
   none_from none (later, late, stands) = true≢false (sym ((indexed (constraint_of agent (Cell cell later))).1 stands) ∙ none (least agent cell later) (later_le agent cell tick later late))

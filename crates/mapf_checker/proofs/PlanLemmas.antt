@@ -8,7 +8,7 @@ use Rattle.mapf_certificate.specs.declared.plan_text.PlanText.{PlanText}
 use Rattle.mapf_certificate.specs.declared.version.Version.{Version}
 use Rattle.mapf_model.specs.declared.cause.Cause.{Cause}
 use Rattle.mapf_certificate.specs.declared.plan_text.PlanTextFault.{PlanTextFault}
-use Rattle.mapf_certificate.specs.declared.plan_text.PlanTextFault.TheVariants.{P1, P2, P3, P4, Memory}
+use Rattle.mapf_certificate.specs.declared.plan_text.PlanTextFault.TheVariants.{Memory}
 use Rattle.mapf_certificate.specs.PlanReading.{OrMemory}
 use Rattle.mapf_certificate.specs.Plans.{IsPlanText, SpellsPlan, plan_text}
 use Rattle.mapf_checker.specs.declared.fault.Verdict.{Verdict}
@@ -51,27 +51,20 @@ module _ (problem : Instance) (bytes : List ℕ) where
 
   pub refused_text : (fault : PlanTextFault) → ((version : Version) (agents : ℕ) (says : PlanAnswer) → SpellsPlan problem.grid bytes version agents says → fault ≡ Memory) → IsOfJudging (HasPlanRefusal problem bytes) (of_plan fault)
   refused_text Memory none = tt
-  refused_text (P1 line) none = (λ e. cc, λ version agents says spells. let memory = none version agents says spells in cc)
-  refused_text (P2 line) none = (λ e. cc, λ version agents says spells. let memory = none version agents says spells in cc)
-  refused_text (P3 line) none = (λ e. cc, λ version agents says spells. let memory = none version agents says spells in cc)
-  refused_text (P4 line) none = (λ e. cc, λ version agents says spells. let memory = none version agents says spells in cc)
+  refused_text fault none = (λ e. cc, λ version agents says spells. let memory = none version agents says spells in cc)
 
 pub valid_if_good : (problem : Instance) (plan : List (List ℕ)) (verdict : Verdict) → IsGoodFor problem (answers.Found plan) verdict → IsValid problem plan
 valid_if_good problem plan (Optimal sum) good = good.0
-valid_if_good problem plan (Bound bound) good = absurd good
-valid_if_good problem plan Impossible good = absurd good
+valid_if_good problem plan verdict good = absurd good
 
 pub optimal_if_good : SumsAreOne → (problem : Instance) (plan : List (List ℕ)) (sum : ℕ) (verdict : Verdict) → IsSumOfCosts problem.agents plan sum → IsGoodFor problem (answers.Found plan) verdict → Optimal sum ≡ verdict
 optimal_if_good law problem plan sum (Optimal other) adds good = ap Optimal ((law problem plan good.0).one sum other adds good.1)
-optimal_if_good law problem plan sum (Bound bound) adds good = absurd good
-optimal_if_good law problem plan sum Impossible adds good = absurd good
+optimal_if_good law problem plan sum verdict adds good = absurd good
 
 pub impossible_if_good : (problem : Instance) (verdict : Verdict) → IsGoodFor problem answers.Impossible verdict → Impossible ≡ verdict
-impossible_if_good problem (Optimal sum) good = absurd good
-impossible_if_good problem (Bound bound) good = absurd good
 impossible_if_good problem Impossible good = refl
+impossible_if_good problem verdict good = absurd good
 
 pub bound_if_good : (problem : Instance) (cause : Cause) (bound : ℕ) (verdict : Verdict) → IsGoodFor problem (answers.Bounded cause bound) verdict → Bound bound ≡ verdict
-bound_if_good problem cause bound (Optimal sum) good = absurd good
 bound_if_good problem cause bound (Bound other) good = ap Bound good
-bound_if_good problem cause bound Impossible good = absurd good
+bound_if_good problem cause bound verdict good = absurd good

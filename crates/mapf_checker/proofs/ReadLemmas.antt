@@ -223,23 +223,15 @@ none_awaited problem claim had mid start now pending fault so_far only_item only
 
 pub no_refusal : (fault : LinesFault) → IsNoTextFault fault → IsNoRefusal (of_cert fault)
 no_refusal (Text texts.Memory) is = tt
-no_refusal (Text (texts.K1 line)) is = absurd is
-no_refusal (Text (texts.K2 line)) is = absurd is
-no_refusal (Text (texts.K3 line)) is = absurd is
-no_refusal (Text (texts.K4 line)) is = absurd is
-no_refusal Device is = tt
-no_refusal TooLong is = tt
-no_refusal Memory is = tt
+no_refusal (Text fault) is = absurd is
+no_refusal fault is = tt
 
 module _ (problem : Instance) (claim : Claim) (had left : Option (List ℕ)) (failed : Bool) (start : Reading) where
   -- why reading stopped
   pub stops_reading : (mid : Option (List ℕ)) (now : Reading) (taken : List ℕ) (IsText : List ℕ → Type 0) (fault : LinesFault) → Window had mid start.buffer now.buffer taken → Fails mid left failed now.buffer IsText fault →
       ((nodes : List Node) → Awaits had start nodes → IsNoTextFault fault) → IsOfChecking had left failed start.buffer (HasTreeRefusal problem claim had start) (of_cert fault)
   stops_reading mid now taken IsText (Text texts.Memory) window fails none = absurd fails
-  stops_reading mid now taken IsText (Text (texts.K1 line)) window fails none = (fails.0, ComesWithin-after had mid left start.buffer now.buffer taken window (refuses_within mid left now.buffer IsText fails.1), (λ e. cc, none))
-  stops_reading mid now taken IsText (Text (texts.K2 line)) window fails none = (fails.0, ComesWithin-after had mid left start.buffer now.buffer taken window (refuses_within mid left now.buffer IsText fails.1), (λ e. cc, none))
-  stops_reading mid now taken IsText (Text (texts.K3 line)) window fails none = (fails.0, ComesWithin-after had mid left start.buffer now.buffer taken window (refuses_within mid left now.buffer IsText fails.1), (λ e. cc, none))
-  stops_reading mid now taken IsText (Text (texts.K4 line)) window fails none = (fails.0, ComesWithin-after had mid left start.buffer now.buffer taken window (refuses_within mid left now.buffer IsText fails.1), (λ e. cc, none))
+  stops_reading mid now taken IsText (Text fault) window fails none = (fails.0, ComesWithin-after had mid left start.buffer now.buffer taken window (refuses_within mid left now.buffer IsText fails.1), (λ e. cc, none))
   stops_reading mid now taken IsText Device window fails none = (fails.0, ComesWithin-after had mid left start.buffer now.buffer taken window fails.1)
   stops_reading mid now taken IsText TooLong window fails none = (fails.0, Exceeds-after had mid left start.buffer now.buffer taken window fails.1)
   stops_reading mid now taken IsText Memory window fails none = (fails.0, ComesWithin-after had mid left start.buffer now.buffer taken window fails.1)
@@ -261,9 +253,7 @@ module _ (problem : Instance) (claim : Claim) (had left : Option (List ℕ)) (fa
 
 pub no_refusal_judging : (P : CheckFault → Type 0) (fault : FromFault) → IsOfJudging P fault → ((refusal : CheckFault) → P refusal → ⊥) → IsNoRefusal fault
 no_refusal_judging P (from.Refused refusal) is none = none refusal is
-no_refusal_judging P from.Device is none = tt
-no_refusal_judging P from.TooLong is none = tt
-no_refusal_judging P from.Memory is none = tt
+no_refusal_judging P fault is none = tt
 
 -- where reading or judging an item ended with this error
 pub not_read_on : (problem : Instance) (claim : Claim) (had left : Option (List ℕ)) (failed : Bool) (start reading : Reading) (pending : List NodeContext) (result : Result Bool FromFault) (fault : FromFault) → IsErrAnd result (λ given. given ≡ fault) →

@@ -7,12 +7,6 @@ use Rattle.mapf_checker.specs.Verdict.{AcceptedIsTrue}
 
 pub accepted_is_true : ShownClaimsHold → AcceptedIsTrue
 accepted_is_true law problem (answers.Found plan) (Optimal sum) good (tree, shows) = record { valid = good.0; sum = good.1; least = law problem (claims.Cost sum) tree shows }
-accepted_is_true law problem (answers.Found plan) (Bound bound) good shown = absurd good
-accepted_is_true law problem (answers.Found plan) Impossible good shown = absurd good
-accepted_is_true law problem answers.Impossible (Optimal sum) good shown = absurd good
-accepted_is_true law problem answers.Impossible (Bound bound) good shown = absurd good
-accepted_is_true law problem (answers.Bounded cause says) (Optimal sum) good shown = absurd good
 accepted_is_true law problem (answers.Bounded cause says) (Bound bound) good (tree, shows) = (good, law problem (claims.Bound bound) tree shows)
-accepted_is_true law problem (answers.Bounded cause says) Impossible good shown = absurd good
 accepted_is_true law problem answers.Impossible Impossible good (tree, shows) = law problem claims.Impossible tree shows
-accepted_is_true law problem (answers.Limit cause) verdict good shown = absurd good
+accepted_is_true law problem answer verdict good shown = absurd good

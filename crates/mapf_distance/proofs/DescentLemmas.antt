@@ -5,11 +5,11 @@ use Rattle.std.proofs.Math.Seq.{get_or-append_seam}
 use Rattle.std.proofs.lemmas.Bool.{cases_lt}
 use Rattle.std.proofs.lemmas.List.{length_push}
 use Rattle.mapf_model.specs.Distance.{Walk, IsDistance}
-use Rattle.mapf_model.specs.Grid.{GridMap, Step}
-use Rattle.mapf_model.specs.Path.{at, IsPath, IsCost, IsTight}
+use Rattle.mapf_model.specs.Grid.{GridMap, Step, free_cell_count}
+use Rattle.mapf_model.specs.Path.{IsCost}
 use Rattle.mapf_model.proofs.DecidedLemmas.{from_neighbours_path}
 use Rattle.mapf_model.proofs.PathLemmas.{IsCost-from_end}
-use Rattle.mapf_distance.specs.Distances.{IsLeastDescent}
+use Rattle.mapf_distance.specs.Distances.{IsShortestPath}
 use Rattle.mapf_distance.proofs.StepLemmas.{Walk-from_free}
 
 pub IsDistance-one : (grid : GridMap) (goal cell a b : ℕ) → IsDistance grid goal cell a → IsDistance grid goal cell b → a ≡ b
@@ -96,7 +96,7 @@ descent_more grid goal cell distance steps cells next d more step nearer least_n
     new : slice_index (cells ++ next ∷ []) (steps + 1) ≡ next
     new = ap (λ n. slice_index (cells ++ next ∷ []) n) (sym d.count) ∙ get_or-append_seam cells next [] 0
 
-module _ (grid : GridMap) (goal cell distance : ℕ) (path : List ℕ) (d : IsDescent grid goal cell distance distance path) where
+module _ {grid : GridMap} {goal cell distance : ℕ} {path : List ℕ} (d : IsDescent grid goal cell distance distance path) where
   distance_at : (k rest : ℕ) → k ≤ distance → distance - k ≡ rest → IsDistance grid goal (slice_index path k) rest
   distance_at k rest within is = subst (λ n. IsDistance grid goal (slice_index path k) n) is (d.each k within)
 
@@ -110,35 +110,11 @@ module _ (grid : GridMap) (goal cell distance : ℕ) (path : List ℕ) (d : IsDe
       (subst (λ at. IsDistance grid goal at 0) last_goal end) in
       omega arith
 
-  pub descent_last : slice_index path (length path - 1) ≡ goal
+  descent_last : slice_index path (length path - 1) ≡ goal
   descent_last =
       let total = d.count in
       let last : length path - 1 ≡ distance = omega arith in
       ap (λ n. slice_index path n) last ∙ (distance_at distance 0 (omega arith) (omega arith)).walk.1
-
-  pub descent_path : IsPath grid path
-  descent_path = from_neighbours_path grid path (record {
-    nonempty = λ none. (let total = d.count in let e = ap length none in omega arith);
-    first = Walk-from_free grid (slice_index path 0) goal (distance - 0) (d.each 0 (omega arith)).walk;
-    neighbours = λ k within. d.moves k (let total = d.count in omega arith);
-  })
-
-  pub descent_first : at path 0 ≡ cell
-  descent_first = let here : min 0 (length path - 1) ≡ 0 = omega arith in ap (λ n. slice_index path n) here ∙ d.first
-
-  pub descent_end : at path (length path - 1) ≡ goal
-  descent_end = let here : min (length path - 1) (length path - 1) ≡ length path - 1 = omega arith in ap (λ n. slice_index path n) here ∙ descent_last
-
-  pub descent_shortest : IsDistance grid goal cell (length path - 1)
-  descent_shortest =
-      let total = d.count in
-      subst (λ at. IsDistance grid goal at (length path - 1)) d.first (distance_at 0 (length path - 1) (omega arith) (omega arith))
-
-  pub descent_least : IsLeastDescent grid goal path
-  descent_least = λ k other within step near.
-      let total = d.count in
-      let left : length path - 1 - (k + 1) ≡ distance - (k + 1) = omega arith in
-      d.least k other (omega arith) step (subst (λ n. IsDistance grid goal other n) left near)
 
   pub descent_cost : IsCost goal path (length path - 1)
   descent_cost =
@@ -147,9 +123,24 @@ module _ (grid : GridMap) (goal cell distance : ℕ) (path : List ℕ) (d : IsDe
       (λ k from within. (let last : k ≡ length path - 1 = omega arith in ap (λ n. slice_index path n) last ∙ descent_last))
       (λ some. away (length path - 1 - 1) (omega arith))
 
-  pub descent_tight : IsTight path
-  descent_tight = ⊎_elim
-      (λ (one : distance < 1). inl (let total = d.count in omega arith))
-      (λ (more : 1 ≤ distance).
-      inr (λ same. (let total = d.count in away (length path - 2) (omega arith) (sym same ∙ descent_last))))
-      (cases_lt distance 1)
+  pub descent_whole : distance < free_cell_count grid → IsShortestPath grid cell goal path
+  descent_whole few =
+      let total = d.count in
+      record {
+        is_path = from_neighbours_path grid path (record {
+          nonempty = λ none. (let e = ap length none in omega arith);
+          first = Walk-from_free grid (slice_index path 0) goal (distance - 0) (d.each 0 (omega arith)).walk;
+          neighbours = λ k within. d.moves k (omega arith);
+        });
+        from_start = let here : min 0 (length path - 1) ≡ 0 = omega arith in ap (λ n. slice_index path n) here ∙ d.first;
+        to_goal = let here : min (length path - 1) (length path - 1) ≡ length path - 1 = omega arith in ap (λ n. slice_index path n) here ∙ descent_last;
+        tight = ⊎_elim
+            (λ (one : distance < 1). inl (omega arith))
+            (λ (more : 1 ≤ distance). inr (λ same. away (length path - 2) (omega arith) (sym same ∙ descent_last)))
+            (cases_lt distance 1);
+        few = omega arith;
+        short = subst (λ at. IsDistance grid goal at (length path - 1)) d.first (distance_at 0 (length path - 1) (omega arith) (omega arith));
+        least = λ k other within step near.
+            let left : length path - 1 - (k + 1) ≡ distance - (k + 1) = omega arith in
+            d.least k other (omega arith) step (subst (λ n. IsDistance grid goal other n) left near);
+      }

@@ -1,5 +1,6 @@
 pub mod MarkLemmas
 pub mod StepLemmas
+pub mod BesideLemmas
 pub mod WaveLemmas
 pub mod ExpandLemmas
 pub mod StartLemmas

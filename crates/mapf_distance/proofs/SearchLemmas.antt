@@ -9,7 +9,7 @@ use Rattle.std.proofs.lemmas.List.Sums.{sum_by-set}
 use Rattle.mapf_model.specs.Distance.{Walk, IsDistance, IsUnreachable}
 use Rattle.mapf_model.specs.Grid.{GridMap, IsGridMap, IsFree, DifferByOne, Step, column, row}
 use Rattle.mapf_model.specs.Neighbours.{neighbourhood}
-use Rattle.mapf_model.proofs.StepLemmas.{neighbour_step, step_neighbour, step_end, free_within}
+use Rattle.mapf_model.proofs.StepLemmas.{step_neighbour, step_end, free_within}
 use Rattle.mapf_distance.specs.declared.wave.TheConstants.{BLOCKED, UNREACHED}
 use Rattle.mapf_distance.specs.Distances.{IsDistanceOrNone}
 use Rattle.mapf_distance.specs.Marks.{entry_of}
@@ -182,18 +182,11 @@ module _ (grid : GridMap) (start goal level : ℕ) (But : ℕ → Type 0) (table
 
   -- no open cell is left on the level
   pub risen : due ≡ [] → IsSearch grid start goal But (level + 2) table later []
-  risen swept = record {
-    shape = search.shape;
-    free = search.free;
-    count = search.count;
-    top = search.top;
-    source = search.source;
-    walks = search.walks;
-    due_known = search.later_known;
-    later_known = All-nil (IsKnown table);
-    low = λ x listed. absurd (Contains-none x listed);
-    seen = λ x k. again x (search.seen x k);
-  }
+  risen swept =
+      let waiting = All-nil (IsKnown table) in
+      let low = λ (x : ℕ) (listed : Contains [] x). absurd {A = level + 2 < 2 ^ 34} (Contains-none x listed) in
+      let seen = λ (x : ℕ) (k : IsKnown table x). again x (search.seen x k) in
+      assumption
     where
       again : (x : ℕ) → But x ⊎ IsSeen grid start level table due later x → But x ⊎ IsSeen grid start (level + 2) table later [] x
       again x (inl but) = inl but
@@ -249,18 +242,9 @@ module _ (grid : GridMap) (start goal level : ℕ) (table due rest later : List 
   pub taken_out : IsInserted cell rest due → IsSearch grid start goal (λ x. ⊥) level table due later →
       IsSearch grid start goal At level table rest later × IsKnown table cell × ((value_of grid start table cell ≡ level → ⊥) → IsSeen grid start level table rest later cell)
   taken_out inserted search = (
-    record {
-      shape = search.shape;
-      free = search.free;
-      count = search.count;
-      top = search.top;
-      source = search.source;
-      walks = search.walks;
-      due_known = All-weaker (Contains rest) (IsKnown table) (λ x listed. All-contains (IsKnown table) due x search.due_known (inserted_keeps cell rest due inserted x listed)) rest (All-contains_itself rest);
-      later_known = search.later_known;
-      low = search.low;
-      seen = λ x k. out x (search.seen x k);
-    },
+    (let due_known = All-weaker (Contains rest) (IsKnown table) (λ x listed. All-contains (IsKnown table) due x search.due_known (inserted_keeps cell rest due inserted x listed)) rest (All-contains_itself rest) in
+        let seen = λ (x : ℕ) (k : IsKnown table x). out x (search.seen x k) in
+        assumption),
     All-contains (IsKnown table) due cell search.due_known (inserted_here cell rest due inserted),
     λ apart. passed apart (search.seen cell (All-contains (IsKnown table) due cell search.due_known (inserted_here cell rest due inserted))),
   )
@@ -283,18 +267,7 @@ module _ (grid : GridMap) (start goal level : ℕ) (table due rest later : List 
 -- the cell is expanded or open afterwards
 module _ (grid : GridMap) (start goal level : ℕ) (table due later : List ℕ) (cell : ℕ) (search : IsSearch grid start goal (λ other. other ≡ cell) level table due later) where
   pub seen_all : IsSeen grid start level table due later cell → IsSearch grid start goal (λ x. ⊥) level table due later
-  seen_all now = record {
-    shape = search.shape;
-    free = search.free;
-    count = search.count;
-    top = search.top;
-    source = search.source;
-    walks = search.walks;
-    due_known = search.due_known;
-    later_known = search.later_known;
-    low = search.low;
-    seen = λ x k. all x (search.seen x k);
-  }
+  seen_all now = let seen = λ (x : ℕ) (k : IsKnown table x). all x (search.seen x k) in assumption
     where
       all : (x : ℕ) → (x ≡ cell) ⊎ IsSeen grid start level table due later x → ⊥ ⊎ IsSeen grid start level table due later x
       all x (inl same) = inr (subst (λ at. IsSeen grid start level table due later at) (sym same) now)
@@ -442,18 +415,6 @@ module _ (grid : GridMap) (start goal cells : ℕ) (shape : IsGridMap grid) (fre
 -- a cell with an entry is free
 pub known_free : (grid : GridMap) (start goal level : ℕ) (But : ℕ → Type 0) (table due later : List ℕ) → IsSearch grid start goal But level table due later → (cell : ℕ) → IsKnown table cell → IsFree grid cell
 known_free grid start goal level But table due later search cell known = Walk-from_free grid cell goal (entry_of table cell) (search.walks cell known)
-
--- a free cell at one of the places is a step away
-pub place_step : (grid : GridMap) (cell k next width : ℕ) (places : List (Option ℕ)) → places ≡ neighbourhood width cell → width ≡ grid.width → 0 < width → IsFree grid cell → k < length places → slice_index_or places k None ≡ Some next → IsFree grid next →
-    Step grid cell next
-place_step grid cell k next width places beside wide some free within at free_next =
-    let held : Contains places (Some next) = (k, within, get_or_default places k (Some next) None within ∙ at) in
-    neighbour_step grid cell (omega arith) free next (subst (λ list. Contains list (Some next)) (beside ∙ ap (λ w. neighbourhood w cell) wide) held) free_next
-
--- a step from a free cell leads to one of the places
-pub step_place : (grid : GridMap) (cell to width : ℕ) (places : List (Option ℕ)) → places ≡ neighbourhood width cell → width ≡ grid.width → 0 < width → IsFree grid cell → Step grid cell to → Contains places (Some to)
-step_place grid cell to width places beside wide some free step =
-    subst (λ list. Contains list (Some to)) (sym (beside ∙ ap (λ w. neighbourhood w cell) wide)) (step_neighbour grid cell (omega arith) free to step)
 
 -- the distance of a cell, or that there is none
 pub distance_or_none : (grid : GridMap) (goal cell : ℕ) (r : Option ℕ) → IfSome r (λ n. IsDistance grid goal cell n) → IfNone r (IsUnreachable grid goal cell) → IsDistanceOrNone grid goal cell r

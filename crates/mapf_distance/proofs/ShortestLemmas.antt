@@ -13,12 +13,7 @@ use Rattle.mapf_distance.proofs.SearchLemmas.{estimate_step, risen, walk_bound}
 use Rattle.mapf_distance.proofs.StepLemmas.{Step-sym, Walk-from_free}
 
 pub settled_less : (grid : GridMap) (bound less : ℕ) (search : Search) → IsSettled grid bound search → less ≤ bound → IsSettled grid less search
-settled_less grid bound less search settled lower = record {
-  searched = settled.searched;
-  swept = settled.swept;
-  within = (let w = settled.within in omega arith);
-  small = (let s = settled.small in omega arith);
-}
+settled_less grid bound less search settled lower = record { searched = settled.searched; swept = settled.swept; within = omega arith; small = omega arith }
 
 module _ (grid : GridMap) (bound : ℕ) (search : Search) (settled : IsSettled grid bound search) where
   -- no walk of so small an f-value is shorter than the entry

@@ -202,27 +202,18 @@ module _ (grid : GridMap) (done : ℕ) (table reached : List ℕ) (wave : IsWave
 
   -- all steps from the cell at `done` were taken
   pub close : done < length reached → ((to : ℕ) → Step grid (slice_index reached done) to → entry_of table to ≤ entry_at table reached done + 1) → IsWave grid (done + 1) table reached
-  close in_list all_taken = record {
-    shape = wave.shape;
-    free = wave.free;
-    count = wave.count;
-    start = wave.start;
-    walks = wave.walks;
-    listed = wave.listed;
-    entered = wave.entered;
-    rising = wave.rising;
-    ahead = λ place other from. wave.ahead place other (omega arith);
-    taken = λ place to before step. ⊎_elim
-        (λ (earlier : place < done). wave.taken place to earlier step)
-        (λ (past : done ≤ place).
-        let here : place ≡ done = omega arith in
-        let e = ap (entry_at table reached) here in
-        let a = all_taken to (subst (λ n. Step grid (slice_index reached n) to) here step) in
-        omega arith)
-        (cases_lt place done);
-    some = wave.some;
-    bound = omega arith;
-  }
+  close in_list all_taken =
+      let bound : done + 1 ≤ length reached = omega arith in
+      let ahead = λ (place other : ℕ) (from : done + 1 ≤ place). wave.ahead place other (omega arith) in
+      let taken = λ (place to : ℕ) (before : place < done + 1) (step : Step grid (slice_index reached place) to). ⊎_elim {C = entry_of table to ≤ entry_at table reached place + 1}
+      (λ (earlier : place < done). wave.taken place to earlier step)
+      (λ (past : done ≤ place).
+      let here : place ≡ done = omega arith in
+      let e = ap (entry_at table reached) here in
+      let a = all_taken to (subst (λ n. Step grid (slice_index reached n) to) here step) in
+      omega arith)
+      (cases_lt place done) in
+      assumption
 
 -- when all steps were taken, each entry is the cell's distance
 module _ (grid : GridMap) (table reached : List ℕ) (wave : IsWave grid (length reached) table reached) where

@@ -7,6 +7,7 @@ use Rattle.mapf_model.specs.Neighbours.{neighbourhood}
 use Rattle.mapf_model.proofs.StepLemmas.{step_neighbour}
 use Rattle.mapf_spacetime.specs.declared.state.State.{State}
 use Rattle.mapf_spacetime.specs.Task.{Task, Goes, IsValue, IsWithin, IsPast, IsBarredLater, MayRestFrom, state_at, start_of}
+use Rattle.mapf_spacetime.specs.States.{IsEntered}
 use Rattle.mapf_spacetime.specs.Frontiers.{States, with_reached, with_open, with_next, with_later, low_states, IsWaiting, IsKnown, IsTaken, IsClosed, IsFrontier, Keeps, Takes}
 use Rattle.mapf_spacetime.proofs.ValueLemmas.{below_within, level_within, value_free, at_goal}
 use Rattle.mapf_model.proofs.ContainsLemmas.{Contains-none, Contains-cons_cases}
@@ -67,47 +68,36 @@ waiting_past task busy states f s w = ⊎_elim (λ n. (states.cost + 1, f.next s
 
 -- a state to which the agent can go is added to those that are open or wait
 module _ (task : Task) (busy : List State) (states : States) (f : IsFrontier task busy states) (from to : State) (is_reached : Contains states.reached from) (goes : Goes task from to) where
+  entered_by : (new : States) → ((s : State) → IsKnown new s → IsKnown states s ⊎ (to ≡ s)) → (s : State) → IsKnown new s → (s ≡ start_of task) ⊎ IsEntered task states.reached s
+  entered_by new cases s k = ⊎_elim (λ old. f.entered s old) (λ same. inr (from, is_reached, subst (Goes task from) same goes)) (cases s k)
+
+  closed_by : (new : States) → ((s : State) → IsKnown states s → IsKnown new s) → (s : State) → Contains states.reached s → Contains busy s ⊎ IsClosed task new s
+  closed_by new known s h = ⊎_elim (λ b. inl b) (λ c. inr (IsClosed-known task states new known s c)) (f.closed s h)
+
+  pushed : (value : ℕ) → IsValue task to value → (list : List State) → ((s : State) → Contains list s → IsValue task s value) → (s : State) → Contains (list ++ to ∷ []) s → IsValue task s value
+  pushed value is list each s h = ⊎_elim (λ old. each s old) (λ same. subst (λ t. IsValue task t value) same is) (Contains-push_cases list to s h)
+
   add_open : IsValue task to states.cost → IsFrontier task busy (with_open states to)
-  add_open level = record {
-    start = ⊎_elim (λ r. inl r) (λ o. inr (Contains-append_left states.open_states (to ∷ []) (start_of task) o)) f.start;
-    low = f.low;
-    top = f.top;
-    bound = f.bound;
-    level = λ s h. ⊎_elim (λ old. f.level s old) (λ same. subst (λ t. IsValue task t states.cost) same level) (Contains-push_cases states.open_states to s h);
-    next = f.next;
-    later = f.later;
-    entered = λ s k. ⊎_elim (λ old. f.entered s old) (λ same. inr (from, is_reached, subst (Goes task from) same goes)) (known_open_cases states to s k);
-    closed = λ s h. ⊎_elim (λ b. inl b) (λ c. inr (IsClosed-known task states (with_open states to) (known_open states to) s c)) (f.closed s h);
-    quiet = f.quiet;
-  }
+  add_open value =
+      let start = ⊎_elim {C = Contains states.reached (start_of task) ⊎ Contains (states.open_states ++ to ∷ []) (start_of task)} (λ r. inl r) (λ o. inr (Contains-append_left states.open_states (to ∷ []) (start_of task) o)) f.start in
+      let level = pushed states.cost value states.open_states f.level in
+      let entered = entered_by (with_open states to) (known_open_cases states to) in
+      let closed = closed_by (with_open states to) (known_open states to) in
+      assumption
 
   add_next : IsValue task to (states.cost + 1) → IsFrontier task busy (with_next states to)
-  add_next value = record {
-    start = f.start;
-    low = f.low;
-    top = f.top;
-    bound = f.bound;
-    level = f.level;
-    next = λ s h. ⊎_elim (λ old. f.next s old) (λ same. subst (λ t. IsValue task t (states.cost + 1)) same value) (Contains-push_cases states.next_states to s h);
-    later = f.later;
-    entered = λ s k. ⊎_elim (λ old. f.entered s old) (λ same. inr (from, is_reached, subst (Goes task from) same goes)) (known_next_cases states to s k);
-    closed = λ s h. ⊎_elim (λ b. inl b) (λ c. inr (IsClosed-known task states (with_next states to) (known_next states to) s c)) (f.closed s h);
-    quiet = f.quiet;
-  }
+  add_next value =
+      let next = pushed (states.cost + 1) value states.next_states f.next in
+      let entered = entered_by (with_next states to) (known_next_cases states to) in
+      let closed = closed_by (with_next states to) (known_next states to) in
+      assumption
 
   add_later : IsValue task to (states.cost + 2) → IsFrontier task busy (with_later states to)
-  add_later value = record {
-    start = f.start;
-    low = f.low;
-    top = f.top;
-    bound = f.bound;
-    level = f.level;
-    next = f.next;
-    later = λ s h. ⊎_elim (λ old. f.later s old) (λ same. subst (λ t. IsValue task t (states.cost + 2)) same value) (Contains-push_cases states.later_states to s h);
-    entered = λ s k. ⊎_elim (λ old. f.entered s old) (λ same. inr (from, is_reached, subst (Goes task from) same goes)) (known_later_cases states to s k);
-    closed = λ s h. ⊎_elim (λ b. inl b) (λ c. inr (IsClosed-known task states (with_later states to) (known_later states to) s c)) (f.closed s h);
-    quiet = f.quiet;
-  }
+  add_later value =
+      let later = pushed (states.cost + 2) value states.later_states f.later in
+      let entered = entered_by (with_later states to) (known_later_cases states to) in
+      let closed = closed_by (with_later states to) (known_later states to) in
+      assumption
 
 pub Keeps-trans : (a b c : States) → Keeps a b → Keeps b c → Keeps a c
 Keeps-trans a b c p q = record { reached = q.reached ∙ p.reached; cost = q.cost ∙ p.cost; below = q.below ∙ p.below; known = λ s k. q.known s (p.known s k) }
@@ -154,24 +144,15 @@ take_none task states from to taken = record {
 
 -- once all steps from the state were taken, they aren't to be taken any more
 pub settle : (task : Task) (states : States) (from : State) (busy : List State) → IsFrontier task (from ∷ busy) states → IsClosed task states from → IsFrontier task busy states
-settle task states from busy f done = record {
-  start = f.start;
-  low = f.low;
-  top = f.top;
-  bound = f.bound;
-  level = f.level;
-  next = f.next;
-  later = f.later;
-  entered = f.entered;
-  closed = λ s h. ⊎_elim
-      (λ waits. ⊎_elim
-      (λ same. inr (subst (IsClosed task states) same done))
-      (λ rest. inl rest)
-      (Contains-cons_cases from s busy waits))
-      (λ c. inr c)
-      (f.closed s h);
-  quiet = f.quiet;
-}
+settle task states from busy f done =
+    let closed = λ (s : State) (h : Contains states.reached s). ⊎_elim {C = Contains busy s ⊎ IsClosed task states s}
+    (λ waits. ⊎_elim
+    (λ same. inr (subst (IsClosed task states) same done))
+    (λ rest. inl rest)
+    (Contains-cons_cases from s busy waits))
+    (λ c. inr c)
+    (f.closed s h) in
+    assumption
 
 -- that is so once the steps to all cells of the neighbourhood were taken
 pub close : (task : Task) (states : States) (from : State) (busy : List State) → IsFrontier task (from ∷ busy) states → (value : ℕ) → IsValue task from value → 0 < task.grid.width →
@@ -244,15 +225,8 @@ module _ (task : Task) (states : States) (state : State) (f : IsFrontier task []
   pub reach_old : Contains states.reached state → IsFrontier task [] states
   reach_old there =
       let known : (s : State) → IsKnown (with_open states state) s → IsKnown states s = λ s k. ⊎_elim (λ old. old) (λ same. inl (subst (Contains states.reached) same there)) (known_open_cases states state s k) in
-      record {
-        start = ⊎_elim (λ r. inl r) (λ o. ⊎_elim (λ old. inr old) (λ same. inl (subst (Contains states.reached) same there)) (Contains-push_cases states.open_states state (start_of task) o)) f.start;
-        low = f.low;
-        top = f.top;
-        bound = f.bound;
-        level = λ s h. f.level s (Contains-append_left states.open_states (state ∷ []) s h);
-        next = f.next;
-        later = f.later;
-        entered = λ s k. f.entered s (known_open states state s k);
-        closed = λ s h. ⊎_elim (λ b. inl b) (λ c. inr (IsClosed-known task (with_open states state) states known s c)) (f.closed s h);
-        quiet = f.quiet;
-      }
+      let start = ⊎_elim {C = Contains states.reached (start_of task) ⊎ Contains states.open_states (start_of task)} (λ r. inl r) (λ o. ⊎_elim (λ old. inr old) (λ same. inl (subst (Contains states.reached) same there)) (Contains-push_cases states.open_states state (start_of task) o)) f.start in
+      let level = λ (s : State) (h : Contains states.open_states s). f.level s (Contains-append_left states.open_states (state ∷ []) s h) in
+      let entered = λ (s : State) (k : IsKnown states s). f.entered s (known_open states state s k) in
+      let closed = λ (s : State) (h : Contains states.reached s). ⊎_elim {C = Contains [] s ⊎ IsClosed task states s} (λ b. inl b) (λ c. inr (IsClosed-known task (with_open states state) states known s c)) (f.closed s h) in
+      assumption

@@ -311,15 +311,7 @@ has_room words cell held = ⊎_elim
 
 -- which states a sweep has reached doesn't depend on its tick
 pub meets_then : (task : Task) (cost tick : ℕ) (sweep : Sweeping) → MeetsGoal task cost sweep → MeetsGoal task cost (record sweep { tick = tick })
-meets_then task cost tick sweep m = record {
-  reached = m.reached;
-  quiet = m.quiet;
-  followed = m.followed;
-  arrival = m.arrival;
-  is_value = m.is_value;
-  rest = m.rest;
-  within = m.within;
-}
+meets_then task cost tick sweep m = assumption
 
 -- an agent that rests at its start
 pub meets_at_start : (task : Task) (sweep : Sweeping) → sweep.states ≡ start_of task ∷ [] → IsWithin task sweep.bound (start_of task) → task.start ≡ task.goal → MayRestFrom task 0 → MeetsGoal task 0 sweep

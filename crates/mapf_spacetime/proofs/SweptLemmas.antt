@@ -238,20 +238,17 @@ module _ (task : Task) (cost count : ℕ) (states low : List State) (a : AreKept
         subst (λ s. IsEarlier s (slice_index_or states count (start_of task))) is (rising j count (start_of task) j_less inside)));
   }
 
--- all of them are kept
-pub kept_swept : (task : Task) (cost count : ℕ) (sweep : Sweeping) (low : List State) → MeetsGoal task cost sweep → AreKept task cost count sweep.states low → length sweep.states ≤ count → count ≤ length sweep.states → AreSwept task cost low
-kept_swept task cost count sweep low m a most least = low_swept task cost sweep m low
-    (λ s (k, inside, is) below.
-    let at : slice_index_or sweep.states k (start_of task) ≡ s = get_or_default sweep.states k (start_of task) s inside ∙ is in
-    subst (Contains low) at (a.kept k (omega arith) (subst (IsBelow task cost) (sym at) below)))
-    (λ s held. let ((k, less, is), below) = a.only s held in
-    (subst (Contains sweep.states) is (Contains-get_or sweep.states k (start_of task) (omega arith)), below))
-    a.rising
-
 pub kept_holds : (task : Task) (cost count : ℕ) (states low : List State) → AreKept task cost count states low → length states ≤ count → (s : State) → Contains states s → IsBelow task cost s → Contains low s
 kept_holds task cost count states low a most s (k, inside, is) below =
     let at : slice_index_or states k (start_of task) ≡ s = get_or_default states k (start_of task) s inside ∙ is in
     subst (Contains low) at (a.kept k (omega arith) (subst (IsBelow task cost) (sym at) below))
+
+-- all of them are kept
+pub kept_swept : (task : Task) (cost count : ℕ) (sweep : Sweeping) (low : List State) → MeetsGoal task cost sweep → AreKept task cost count sweep.states low → length sweep.states ≤ count → count ≤ length sweep.states → AreSwept task cost low
+kept_swept task cost count sweep low m a most least = low_swept task cost sweep m low (kept_holds task cost count sweep.states low a most)
+    (λ s held. let ((k, less, is), below) = a.only s held in
+    (subst (Contains sweep.states) is (Contains-get_or sweep.states k (start_of task) (omega arith)), below))
+    a.rising
 
 -- a whole sweep that left out no state has reached all
 pub whole_all : (task : Task) (sweep : Sweeping) → IsWhole task sweep → sweep.is_cut ≡ false → AreAll task sweep.bound sweep.states

@@ -33,42 +33,8 @@ returns-in_err-judge_header-clause-stops g c =
     err_passed c.from_residual-in_err-judge_header.result (IsOfChecking had mid failed none (HasCertRefusal problem claim had)) fault c.from_residual-in_err-judge_header.ensures.1
     (stops_as had mid failed start.buffer none fault same (header_refusal problem claim had start opened) c.in_err-judge_header.ensures.stops)
 
-pub returns-clause-good : goal.returns-clause-good
-returns-clause-good g c bytes known =
-    let problem = c.args.problem.now in
-    let claim = c.args.claim.now in
-    let had = (g.S.Source).remaining c.args.source.now in
-    let mid = (g.S.Source).remaining c.judge_header.new.source in
-    let start = c.in_ok-lines.lines in
-    let opened : IsOpened problem start = search rules in
-    on_ok c.judge_tree.result (λ judged. good_cert problem claim had start opened mid c.judge_header.new.lines c.in_ok-judge_header.ensures.taken c.items_are_judged_by_front.ensures c.tree_is_unique.ensures judged bytes known) c.judge_tree.ensures.judged
-
-pub returns-clause-within : goal.returns-clause-within
-returns-clause-within g c bytes known =
-    let problem = c.args.problem.now in
-    let claim = c.args.claim.now in
-    let had = (g.S.Source).remaining c.args.source.now in
-    let start = c.in_ok-lines.lines in
-    let opened : IsOpened problem start = search rules in
-    let within = cert_within problem claim had start opened ((g.S.Source).remaining c.judge_header.new.source) c.judge_header.new.lines c.in_ok-judge_header.ensures.taken in
-    on_ok c.judge_tree.result (λ judged. rw c.in_ok-lines.ensures at (within judged bytes known)) c.judge_tree.ensures.judged
-
-pub returns-clause-only : goal.returns-clause-only
-returns-clause-only g c bytes known good =
-    let problem = c.args.problem.now in
-    let claim = c.args.claim.now in
-    let had = (g.S.Source).remaining c.args.source.now in
-    let start = c.in_ok-lines.lines in
-    let opened : IsOpened problem start = search rules in
-    let awaits = awaits_spelled problem claim had start opened bytes known good.version (length problem.agents) claim good.tree good.spelled in
-    c.judge_tree.ensures.only (nodes_of good.tree) (c.in_ok-judge_header.ensures.ahead good.version (length problem.agents) claim (nodes_of good.tree) awaits) (nodes_show c.items_are_judged_by_front.ensures problem claim good.tree good.shows)
-
-pub returns-clause-shown : goal.returns-clause-shown
-returns-clause-shown g c =
-    on_ok c.judge_tree.result (shown_tree c.items_are_judged_by_front.ensures c.args.problem.now c.args.claim.now ((g.S.Source).remaining c.judge_header.new.source) c.judge_header.new.lines) c.judge_tree.ensures.judged
-
-pub returns-clause-stops : goal.returns-clause-stops
-returns-clause-stops g c =
+pub returns : goal.returns
+returns g c =
     let problem = c.args.problem.now in
     let claim = c.args.claim.now in
     let had = (g.S.Source).remaining c.args.source.now in
@@ -81,20 +47,18 @@ returns-clause-stops g c =
     let none : Buffered = record { bytes = []; left = c.args.limit } in
     let same : start.buffer ≡ none = rw c.in_ok-lines.ensures refl in
     let takes = c.in_ok-judge_header.ensures.taken in
-    err_made c.judge_tree.result
-    (λ fault. stops_after had mid left failed start.buffer headed.buffer none (header_text headed.version start.width (length problem.agents) claim) fault same takes.window (refusal_of_tree problem claim had start opened mid headed takes c.in_ok-judge_header.ensures.ahead))
-    c.judge_tree.ensures.stops
-
-pub returns-clause-came : goal.returns-clause-came
-returns-clause-came g c =
-    let problem = c.args.problem.now in
-    let had = (g.S.Source).remaining c.args.source.now in
-    let mid = (g.S.Source).remaining c.judge_header.new.source in
-    let left = (g.S.Source).remaining c.judge_tree.new.source in
-    let start = c.in_ok-lines.lines in
-    let headed = c.judge_header.new.lines in
-    let none : Buffered = record { bytes = []; left = c.args.limit } in
-    let same : start.buffer ≡ none = rw c.in_ok-lines.ensures refl in
-    on_ok c.judge_tree.result
-    (λ came. subst (λ b. ComesWithin had left b) same (ComesWithin-after had mid left start.buffer headed.buffer (header_text headed.version start.width (length problem.agents) c.args.claim.now) c.in_ok-judge_header.ensures.taken.window came))
-    c.judge_tree.ensures.came
+    let ahead = c.in_ok-judge_header.ensures.ahead in
+    let text = header_text headed.version start.width (length problem.agents) claim in
+    let front = c.items_are_judged_by_front.ensures in
+    let did = c.judge_tree.ensures in
+    record {
+      works = did.works;
+      came = on_ok c.judge_tree.result (λ came. subst (λ b. ComesWithin had left b) same (ComesWithin-after had mid left start.buffer headed.buffer text takes.window came)) did.came;
+      shown = on_ok c.judge_tree.result (shown_tree front problem claim mid headed) did.judged;
+      good = λ bytes known. on_ok c.judge_tree.result (λ judged. good_cert problem claim had start opened mid headed takes front c.tree_is_unique.ensures judged bytes known) did.judged;
+      within = λ bytes known. on_ok c.judge_tree.result (λ judged. rw c.in_ok-lines.ensures at (cert_within problem claim had start opened mid headed takes judged bytes known)) did.judged;
+      only = λ bytes known good.
+          let awaits = awaits_spelled problem claim had start opened bytes known good.version (length problem.agents) claim good.tree good.spelled in
+          did.only (nodes_of good.tree) (ahead good.version (length problem.agents) claim (nodes_of good.tree) awaits) (nodes_show front problem claim good.tree good.shows);
+      stops = err_made c.judge_tree.result (λ fault. stops_after had mid left failed start.buffer headed.buffer none text fault same takes.window (refusal_of_tree problem claim had start opened mid headed takes ahead)) did.stops;
+    }

@@ -1,82 +1,31 @@
-use Rattle.std.proofs.Common.{◌≡◌, ◌+◌, ◌<◌, ◌≤◌, ◌∙◌, Some, None, Contains, length, slice_index_or, ap, sym, subst, ⊎_elim, arith}
-use Rattle.std.proofs.lemmas.Bool.{cases_lt, both_ways}
-use Rattle.std.proofs.lemmas.List.{get_or_default}
-use Rattle.std.proofs.lemmas.Option.{same_Some}
+use Rattle.std.proofs.Common.{◌+◌, length, ap, arith}
 use Rattle.mapf_model.specs.Distance.{IsDistance}
-use Rattle.mapf_model.specs.Neighbours.{neighbourhood}
-use Rattle.mapf_model.proofs.StepLemmas.{neighbour_step, step_neighbour, neighbourhood_rises, rising_places}
+use Rattle.mapf_distance.proofs.BesideLemmas.{none_left, place_step, first_least}
 use Rattle.mapf_distance.proofs.DescentLemmas.{nearer_step}
 use Rattle.mapf_distance.proofs.StepLemmas.{Walk-from_free}
 use Rattle.mapf_distance.proofs.distances.Distances.nearer.Goals as goal
-use Rattle.mapf_distance.proofs.distances.Distances.nearer.Goals.{in-Some+else-is_at, in_default}
 
-pub loop-beside-init : goal.loop-beside-init
-loop-beside-init c = λ place next none. absurd (omega arith)
-
-pub returns-then-is_at-clause-step : goal.returns-then-is_at-clause-step
-returns-then-is_at-clause-step c =
+pub returns-then-is_at : goal.returns-then-is_at
+returns-then-is_at c =
     let grid = c.args.self.now.grid in
-    let cell = c.args.cell in
-    let items = c.beside-beside-items.result in
-    let next = c.in-Some.next in
-    let four = ap length c.beside-beside-items.ensures.cells in
-    let within : c.loop-beside.beside-index < length items = omega arith in
-    let held : Contains items (Some next) = (c.loop-beside.beside-index, within, get_or_default items c.loop-beside.beside-index (Some next) c.beside-item.result within ∙ c.in-Some.is) in
-    let there : IsDistance grid c.args.self.now.goal next c.args.distance = c.is_at.ensures.0 c.if-is_at.true in
-    neighbour_step grid cell c.beside-beside-items.ensures.wide (Walk-from_free grid cell c.args.self.now.goal (c.args.distance + 1) c.requires.walk) next
-    (subst (λ places. Contains places (Some next)) c.beside-beside-items.ensures.cells held)
-    (Walk-from_free grid next c.args.self.now.goal c.args.distance there.walk)
-
--- an earlier cell that is nearer would have been taken, and the later cells have greater numbers
-pub returns-then-is_at-clause-least : goal.returns-then-is_at-clause-least
-returns-then-is_at-clause-least c = λ other step there.
-    let grid = c.args.self.now.grid in
-    let cell = c.args.cell in
-    let wide = c.beside-beside-items.ensures.wide in
-    let items = c.beside-beside-items.result in
+    let goal = c.args.self.now.goal in
+    let beside = c.beside-beside-items.ensures in
     let index = c.loop-beside.beside-index in
-    let next = c.in-Some.next in
-    let cells = c.beside-beside-items.ensures.cells in
-    let four = ap length cells in
-    let (place, within, is) = subst (λ places. Contains places (Some other)) (sym cells) (step_neighbour grid cell wide (Walk-from_free grid cell c.args.self.now.goal (c.args.distance + 1) c.requires.walk) other step) in
-    let at_place = get_or_default items place None (Some other) within ∙ is in
-    let at_index = get_or_default items index None c.beside-item.result (omega arith) ∙ c.in-Some.is in
-    ⊎_elim
-    (λ (earlier : place < index). absurd (c.loop-beside.invariant place other earlier at_place there))
-    (λ (past : index ≤ place).
-    (rising_places 0 (neighbourhood grid.width cell) index place next other (neighbourhood_rises grid.width cell wide) past
-    (subst (λ places. slice_index_or places index None ≡ Some next) cells at_index)
-    (subst (λ places. slice_index_or places place None ≡ Some other) cells at_place)).1)
-    (cases_lt place index)
-
-pub loop-beside-preserved : goal.loop-beside-preserved
-loop-beside-preserved c = λ place next below is there. ⊎_elim
-    (λ (earlier : place < c.loop-beside.beside-index). c.loop-beside.invariant place next earlier is there)
-    (λ (past : c.loop-beside.beside-index ≤ place).
-    let items = c.beside-beside-items.result in
-    let index = c.loop-beside.beside-index in
-    let four = ap length c.beside-beside-items.ensures.cells in
-    let within : index < length items = omega arith in
-    let same : place ≡ index = omega arith in
-    let found : slice_index_or items index c.beside-item.result ≡ Some next =
-    get_or_default items index c.beside-item.result None within ∙ subst (λ n. slice_index_or items n None ≡ Some next) same is in
-    elim c.match-beside.branch [
-      | in-Some+else-is_at w ↦
-          let at : next ≡ w.in-Some.next = same_Some next w.in-Some.next (sym found ∙ w.in-Some.is) in
-          both_ways w.is_at.result w.if-is_at.false (w.is_at.ensures.1 (subst (λ cell. IsDistance c.args.self.now.grid c.args.self.now.goal cell c.args.distance) at there))
-      | in_default w ↦ w.in_default.not-Some next found
-    ])
-    (cases_lt place c.loop-beside.beside-index)
+    let five = ap length beside.cells in
+    let free = Walk-from_free grid c.args.cell goal (c.args.distance + 1) c.requires.walk in
+    let there : IsDistance grid goal c.in-Some.next c.args.distance = c.is_at.ensures.0 c.if-is_at.true in
+    record {
+      step = place_step grid c.args.cell c.beside-beside-items.result beside.cells beside.wide free index c.in-Some.next c.beside-item.result (omega arith) c.in-Some.is (Walk-from_free grid c.in-Some.next goal c.args.distance there.walk);
+      nearer = there;
+      least = first_least grid c.args.cell c.beside-beside-items.result beside.cells beside.wide free (λ next. IsDistance grid goal next c.args.distance) index c.in-Some.next c.beside-item.result (omega arith) c.loop-beside.invariant c.in-Some.is;
+    }
 
 pub unreachable-requires : goal.unreachable-requires
 unreachable-requires c =
     let grid = c.args.self.now.grid in
-    let cell = c.args.cell in
     let goal = c.args.self.now.goal in
-    let distance = c.args.distance in
-    let items = c.beside-beside-items.result in
-    let (next, step, there) = nearer_step grid goal cell distance c.requires in
-    let held = subst (λ places. Contains places (Some next)) (sym c.beside-beside-items.ensures.cells) (step_neighbour grid cell c.beside-beside-items.ensures.wide (Walk-from_free grid cell goal (distance + 1) c.requires.walk) next step) in
-    let (place, within, is) = held in
-    let four = ap length c.beside-beside-items.ensures.cells in
-    c.loop-beside.invariant place next (omega arith) (get_or_default items place None (Some next) within ∙ is) there
+    let beside = c.beside-beside-items.ensures in
+    let five = ap length beside.cells in
+    let (next, step, there) = nearer_step grid goal c.args.cell c.args.distance c.requires in
+    none_left grid c.args.cell c.beside-beside-items.result beside.cells beside.wide (Walk-from_free grid c.args.cell goal (c.args.distance + 1) c.requires.walk)
+    (λ next. IsDistance grid goal next c.args.distance) c.loop-beside.beside-index (omega arith) c.loop-beside.invariant next step there

@@ -1,4 +1,4 @@
-use Rattle.std.proofs.Common.{◌∙◌, ap, arith}
+use Rattle.std.proofs.Common.{◌∙◌, ap}
 use Rattle.std.proofs.lemmas.Bool.{both_ways, iff_false}
 use Rattle.mapf_distance.specs.Search.{open_of}
 use Rattle.mapf_distance.proofs.search.Search.spread.Goals as goal
@@ -13,13 +13,6 @@ returns-then-not-rise-clause-ended c = λ missing.
 
 pub dive-requires-in-loop-aim-clause-search : goal.dive-requires-in-loop-aim-clause-search
 dive-requires-in-loop-aim-clause-search c = c.rise.ensures.search c.args.grid.now c.loop-aim.invariant.search
-
-pub loop-aim-smaller : goal.loop-aim-smaller
-loop-aim-smaller c =
-    let up = c.rise.ensures.level c.if-not-rise.false in
-    let low = c.rise.ensures.low c.if-not-rise.false in
-    let same = c.in_ok-dive-2.ensures.same.level in
-    omega arith
 
 pub returns-clause-ended : goal.returns-clause-ended
 returns-clause-ended c = λ missing. absurd (missing (c.is_found.ensures.0 c.loop-aim-test.false))

@@ -6,25 +6,19 @@ use Rattle.mapf_spacetime.specs.CellSets.{HasNumber}
 use Rattle.mapf_spacetime.proofs.CellLemmas.{taken_has, taken_is}
 use Rattle.mapf_spacetime.proofs.number_set.NumberSet.least.Goals as goal
 
-pub returns-then-word-ne0-clause-some : goal.returns-then-word-ne0-clause-some
-returns-then-word-ne0-clause-some c =
+pub returns-then-word-ne0 : goal.returns-then-word-ne0
+returns-then-word-ne0 c =
     let h = c.loop-self.invariant in
     let words = c.loop-self.self-inside.words.items in
     let first = c.loop-self.self-inside.first in
+    let end = c.loop-self.self-inside.end in
     let within = h.empty.within in
     let inside : first < length words = omega arith in
     let read : c.index-word.result.now ≡ slice_index words first = c.index-word.ensures ∙ get_or_default_zero words first c.index-word.result.now inside in
     let small : c.index-word.result.now < 2 ^ 64 = search rules in
-    rw (← c.self.view_is) (subst (λ l. HasNumber l (first * 64 + trailing_zeros w64 c.index-word.result.now)) h.same (taken_has words first c.loop-self.self-inside.end h.empty inside c.index-word.result.now read c.if-word-ne0.true small))
-
-pub returns-then-word-ne0-clause-least : goal.returns-then-word-ne0-clause-least
-returns-then-word-ne0-clause-least c other held =
-    let h = c.loop-self.invariant in
-    let words = c.loop-self.self-inside.words.items in
-    let first = c.loop-self.self-inside.first in
-    let within = h.empty.within in
-    let inside : first < length words = omega arith in
-    let read : c.index-word.result.now ≡ slice_index words first = c.index-word.ensures ∙ get_or_default_zero words first c.index-word.result.now inside in
-    let small : c.index-word.result.now < 2 ^ 64 = search rules in
-    let there = subst (λ l. HasNumber l other) (sym h.same) (rw (← c.self.view_is) at held) in
-    taken_is words first c.loop-self.self-inside.end h.empty inside c.index-word.result.now read c.if-word-ne0.true small other there
+    record {
+      some = rw (← c.self.view_is) (subst (λ l. HasNumber l (first * 64 + trailing_zeros w64 c.index-word.result.now)) h.same (taken_has words first end h.empty inside c.index-word.result.now read c.if-word-ne0.true small));
+      least = λ other held. taken_is words first end h.empty inside c.index-word.result.now read c.if-word-ne0.true small other (subst (λ l. HasNumber l other) (sym h.same) (rw (← c.self.view_is) at held));
+      none = tt;
+      same = search rules;
+    }
