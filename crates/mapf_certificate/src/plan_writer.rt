@@ -6,7 +6,7 @@ ghost use Rattle.mapf_fields.specs.Numbers.{field};
 ghost use Rattle.mapf_fields.specs.Pages.{PassesOrFails, WritesOrFails, page_room, field_room};
 ghost use Rattle.mapf_certificate.specs.Lines.{line_room};
 ghost use Rattle.mapf_certificate.specs.Plans.{cells_text, path_text, paths_text, cost_of, answer_text, plan_text};
-ghost use Rattle.mapf_certificate.specs.Plans.{plan_title, cause_words, IsPlanText, IsFew};
+ghost use Rattle.mapf_certificate.specs.Plans.{plan_title, cause_words, IsFew};
 
 use crate::line_writer::{push_cell, push_one};
 use crate::memory_sink::MemorySink;
@@ -155,7 +155,7 @@ impl TextWriter {
 
 /// Returns the plan text for a grid of this size.
 pub fn write_plan(alloc: Global, text: &PlanText, grid: &Grid) -> Result<Vec<u8>, OutOfMemory>
-    requires { IsPlanText grid.now text.now }
+    requires { IsFew text.now.answer }
     ensures { IfOk result (λ bytes. bytes.items ≡ plan_text grid.now.width text.now) }
 {
     let mut sink = MemorySink::empty(alloc);
