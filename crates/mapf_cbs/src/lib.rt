@@ -46,5 +46,5 @@ pub use bound_labels::BoundLabels;
 pub use mapf_model::Cause;
 pub use mapf_spacetime::StateLabels;
 pub use outcome::Outcome;
-pub use solver::{search, search_with, solve, solve_with};
+pub use solver::{search, search_watched, search_with, solve, solve_with};
 pub use tree_node::TreeNode;

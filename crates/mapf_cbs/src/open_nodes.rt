@@ -62,6 +62,15 @@ impl OpenNodes {
         Ok(())
     }
 
+    /// Returns how many nodes are open, for whoever watches the search.
+    pub fn count(&self) -> usize {
+        let mut count = 0usize;
+        for queue in self.queues.values() {
+            count = count.saturating_add(queue.len());
+        }
+        count
+    }
+
     /// Removes the open node of least sum, of these the one of least number, and returns its sum and its number. None
     /// if no node is open.
     pub fn take_least(&mut self) -> Option<(u64, u32)>

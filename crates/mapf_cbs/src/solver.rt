@@ -16,6 +16,7 @@ use crate::answer::Answer;
 use crate::blocks::labels_of_all;
 use crate::child::child;
 use crate::endings;
+use crate::open_nodes::OpenNodes;
 use crate::outcome::Outcome;
 use crate::path_owners::{PathOwners, owners_at};
 use crate::replanned::replanned_at;
@@ -25,7 +26,7 @@ use crate::start::{Beginning, begin, total_of};
 use mapf_conflicts::CellMarks;
 use mapf_constraints::{BarTable, TickBars};
 use mapf_model::limits::SPLIT_TICKS;
-use mapf_model::{Cause, Conflict, OutOfMemory, Path, Problem};
+use mapf_model::{Cause, Conflict, OutOfMemory, Path, Problem, Unwatched, Watcher};
 use std::alloc::Global;
 
 /// Searches for an optimal plan, with at most `limit` splits of the constraint tree: 0 to 100,000. Of the open nodes
@@ -58,6 +59,19 @@ pub fn search(alloc: Global, problem: &Problem, limit: u32) -> Result<Outcome, O
     search_with::<TickBars>(alloc, problem, limit)
 }
 
+/// Searches as `search` does, and tells the watcher how far it is.
+pub fn search_watched<W: Watcher>(
+    alloc: Global,
+    problem: &Problem,
+    limit: u32,
+    watcher: &mut W,
+) -> Result<Outcome, OutOfMemory>
+    requires { limit ≤ most_splits }
+    ensures { IfOk result (IsOutcome problem.now limit) }
+{
+    search_as::<TickBars, W>(alloc, problem, limit, watcher)
+}
+
 /// Searches as `search` does, with each agent's constraints in a table of this type while its path is searched.
 pub fn search_with<B: BarTable>(
     alloc: Global,
@@ -67,19 +81,32 @@ pub fn search_with<B: BarTable>(
     requires { limit ≤ most_splits }
     ensures { IfOk result (IsOutcome problem.now limit) }
 {
+    search_as::<B, Unwatched>(alloc, problem, limit, &mut Unwatched)
+}
+
+fn search_as<B: BarTable, W: Watcher>(
+    alloc: Global,
+    problem: &Problem,
+    limit: u32,
+    watcher: &mut W,
+) -> Result<Outcome, OutOfMemory>
+    requires { limit ≤ most_splits }
+    ensures { IfOk result (IsOutcome problem.now limit) }
+{
     match begin(alloc, problem)? {
         Beginning::Impossible { tree } => Ok(Outcome::Impossible { tree }),
-        Beginning::Root { paths } => search_from::<B>(alloc, problem, paths, limit),
+        Beginning::Root { paths } => search_from::<B, W>(alloc, problem, paths, limit, watcher),
     }
 }
 
 // Splits nodes, beginning with a root with these paths, least sum first, until a plan is found, no node is open or a
 // limit is reached.
-fn search_from<B: BarTable>(
+fn search_from<B: BarTable, W: Watcher>(
     alloc: Global,
     problem: &Problem,
     paths: Vec<Path>,
     limit: u32,
+    watcher: &mut W,
 ) -> Result<Outcome, OutOfMemory>
     requires limit { limit ≤ most_splits }
     requires root { IsRootStart problem.now paths.items }
@@ -116,6 +143,14 @@ fn search_from<B: BarTable>(
             total,
             &conflict,
         )?;
+        tell(watcher, search.splits, total, &search.waiting);
+    }
+}
+
+// Tells the watcher how far the search is, after each 256 splits.
+fn tell<W: Watcher>(watcher: &mut W, splits: u32, total: u64, waiting: &OpenNodes) {
+    if splits % 256 == 0 {
+        watcher.note(splits, total, waiting.count());
     }
 }
 

@@ -33,4 +33,4 @@ mod trouble;
 mod view;
 
 pub use outcome::Outcome;
-pub use solver::search;
+pub use solver::{search, search_watched};

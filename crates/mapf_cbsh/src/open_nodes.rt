@@ -36,6 +36,11 @@ impl OpenNodes {
         Ok(())
     }
 
+    /// Returns how many nodes are open, for whoever watches the search.
+    pub fn count(&self) -> usize {
+        self.heap.len()
+    }
+
     /// Removes and returns the first node, its sum and its number. None if none is open.
     pub fn take(&mut self) -> Option<(u64, u32)> {
         let Reverse(first) = self.heap.pop()?;

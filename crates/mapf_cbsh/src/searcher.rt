@@ -27,6 +27,17 @@ pub struct Searcher<'a> {
     paths: u32,
 }
 
+/// What became of a node that was to be expanded.
+#[derive(Clone, Copy, Debug, PartialEq, Eq)]
+pub enum Expanded {
+    /// A child took its place.
+    Bypassed,
+    /// It was split.
+    Split,
+    /// It would have to be split, and no more splits may be made.
+    NeedsSplit,
+}
+
 impl<'a> Searcher<'a> {
     /// Returns the search of the problem before its root is made.
     pub fn of(alloc: Global, problem: &'a Problem) -> Result<Searcher<'a>, OutOfMemory> {
@@ -81,18 +92,30 @@ impl<'a> Searcher<'a> {
         choose(&self.memo, &self.view)
     }
 
-    /// Expands the node that is looked at on the conflict: a child takes its place, or it is split.
-    pub fn expand(&mut self, number: u32, conflict: Conflict) -> Result<(), OutOfMemory> {
+    /// Expands the node that is looked at on the conflict: a child takes its place, or it is split unless so many
+    /// splits were made.
+    pub fn expand(
+        &mut self,
+        number: u32,
+        conflict: Conflict,
+        limit: u32,
+    ) -> Result<Expanded, OutOfMemory> {
         self.place_all()?;
         let left = self.child(number, conflict.left())?;
         if self.tree.is_bypass(number, &left) {
-            return self.tree.bypass(number, left);
+            self.tree.bypass(number, left)?;
+            return Ok(Expanded::Bypassed);
         }
         let right = self.child(number, conflict.right())?;
         if self.tree.is_bypass(number, &right) {
-            return self.tree.bypass(number, right);
+            self.tree.bypass(number, right)?;
+            return Ok(Expanded::Bypassed);
         }
-        self.tree.split(number, conflict, left, right)
+        if self.tree.splits >= limit {
+            return Ok(Expanded::NeedsSplit);
+        }
+        self.tree.split(number, conflict, left, right)?;
+        Ok(Expanded::Split)
     }
 
     /// Returns the paths of the node that is looked at as a plan, None if some agent has none.

@@ -5,13 +5,26 @@ ghost use Rattle.mapf_model.specs.Limits.{most_splits};
 use crate::begin::{Beginning, begin};
 use crate::draw::Drawing;
 use crate::outcome::Outcome;
-use crate::searcher::Searcher;
-use mapf_model::{Cause, Item, OutOfMemory, Problem};
+use crate::search_tree::SearchTree;
+use crate::searcher::{Expanded, Searcher};
+use mapf_model::{Cause, Item, OutOfMemory, Problem, Unwatched, Watcher};
 use std::alloc::Global;
 
 /// Searches for an optimal plan, with at most `limit` splits of the constraint tree: 0 to 100,000. A bypass is no
 /// split. Out of memory is the only error.
 pub fn search(alloc: Global, problem: &Problem, limit: u32) -> Result<Outcome, OutOfMemory>
+    requires { limit ≤ most_splits }
+{
+    search_watched(alloc, problem, limit, &mut Unwatched)
+}
+
+/// Searches as `search` does, and tells the watcher how far it is.
+pub fn search_watched<W: Watcher>(
+    alloc: Global,
+    problem: &Problem,
+    limit: u32,
+    watcher: &mut W,
+) -> Result<Outcome, OutOfMemory>
     requires { limit ≤ most_splits }
 {
     let paths = match begin(alloc, problem)? {
@@ -20,7 +33,7 @@ pub fn search(alloc: Global, problem: &Problem, limit: u32) -> Result<Outcome, O
     };
     let mut searcher = Searcher::of(alloc, problem)?;
     searcher.plant(paths)?;
-    let ended = run(&mut searcher, limit)?;
+    let ended = run(&mut searcher, limit, watcher)?;
     end(alloc, searcher, ended)
 }
 
@@ -36,7 +49,11 @@ enum Ended {
 }
 
 // Expands nodes, the first of the open list each time, until the search ends.
-fn run(searcher: &mut Searcher, limit: u32) -> Result<Ended, OutOfMemory> {
+fn run<W: Watcher>(
+    searcher: &mut Searcher,
+    limit: u32,
+    watcher: &mut W,
+) -> Result<Ended, OutOfMemory> {
     let mut least = 0;
     // Each turn splits a node or lowers the number of a node's conflicts, so the turns never run out.
     for _ in 0..u64::MAX {
@@ -51,12 +68,20 @@ fn run(searcher: &mut Searcher, limit: u32) -> Result<Ended, OutOfMemory> {
         let Some(conflict) = searcher.conflict() else {
             return Ok(Ended::AtLimit(Cause::Ticks, total));
         };
-        if searcher.tree.splits >= limit {
-            return Ok(Ended::AtLimit(Cause::Splits(limit), total));
+        match searcher.expand(number, conflict, limit)? {
+            Expanded::Bypassed => {}
+            Expanded::Split => tell(watcher, &searcher.tree, total),
+            Expanded::NeedsSplit => return Ok(Ended::AtLimit(Cause::Splits(limit), total)),
         }
-        searcher.expand(number, conflict)?;
     }
     Ok(Ended::AtLimit(Cause::Splits(limit), least))
+}
+
+// Tells the watcher how far the search is, after each 256 splits.
+fn tell<W: Watcher>(watcher: &mut W, tree: &SearchTree, total: u64) {
+    if tree.splits % 256 == 0 {
+        watcher.note(tree.splits, total, tree.open.count());
+    }
 }
 
 // Returns the outcome of a search that has ended.

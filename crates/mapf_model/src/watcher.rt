@@ -1,0 +1,14 @@
+//! Who is told how far a search is while it goes on. The program tells its user on a terminal.
+
+/// Somebody who watches a search.
+pub trait Watcher {
+    /// Takes note of how many splits were made, of a sum of costs below which no valid plan is, in ticks, and of how
+    /// many nodes are open. A type that doesn't say otherwise takes no note.
+    fn note(&mut self, _splits: u32, _bound: u64, _open: usize) {}
+}
+
+/// Nobody watches.
+#[derive(Clone, Copy, Debug)]
+pub struct Unwatched;
+
+impl Watcher for Unwatched {}
