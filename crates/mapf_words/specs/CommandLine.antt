@@ -24,17 +24,22 @@ abbrev pub IsCommand : App → Command → Type 0
 IsCommand app command = (app_of command ≡ app)
     × ((old new : Command) → AddsSubcommand old command new → app_of new ≡ with_subcommand (app_of old) app.top)
 
+-- an option with this name and a value, any text, which has a name in the help
+abbrev pub option_argument : Text → Rule
+option_argument name = record (new_rule name) { long = Some name; value_names = 1 }
+
 -- a command whose first arguments are MAP, SCEN and K
 abbrev pub command_on : Text → App
 command_on name =
     with_rule (with_rule (with_rule (new_app name) (file_argument (codes "MAP"))) (file_argument (codes "SCEN")))
     (number_argument (codes "K") 1 most_agents)
 
--- `solve MAP SCEN K LIMIT PLAN CERT`
+-- `solve [--search NAME] MAP SCEN K LIMIT PLAN CERT`
 abbrev pub solve_command : App
 solve_command =
-    with_rule (with_rule (with_rule (command_on (codes "solve")) (number_argument (codes "LIMIT") 0 most_splits))
-    (file_argument (codes "PLAN"))) (file_argument (codes "CERT"))
+    with_rule (with_rule (with_rule (with_rule (command_on (codes "solve"))
+    (number_argument (codes "LIMIT") 0 most_splits)) (file_argument (codes "PLAN"))) (file_argument (codes "CERT")))
+    (option_argument (codes "search"))
 
 -- `check MAP SCEN K PLAN CERT`
 abbrev pub check_command : App

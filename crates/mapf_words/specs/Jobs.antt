@@ -1,17 +1,20 @@
 -- What a command line asks for.
-use Rattle.std.specs.Prelude.{◌≡◌, ◌≤◌, ⊤, ℕ, List, [], Some, unwrap_or, codes}
+use Rattle.std.specs.Prelude.{◌≡◌, ◌≢◌, ◌⊎◌, ◌≤◌, ⊤, ℕ, List, [], None, Some, unwrap_or, codes}
 use Rattle.std.specs.String.{string_bytes}
 use Rattle.std.specs.Str.Parse.{IsNumeral, digits_value, without_leading_plus}
 use Rattle.clap.specs.Matches.{first_value, one_text}
 use Rattle.clap.specs.declared.parser.matches.Found.{Found}
 use Rattle.mapf_model.specs.Limits.{most_agents, most_splits}
 use Rattle.mapf_words.specs.declared.job.Job.{Job}
-use Rattle.mapf_words.specs.declared.job.Job.TheVariants.{Demo, Solve, Check, Play, Dispatch}
+use Rattle.mapf_words.specs.declared.job.Job.TheVariants.{Demo, Solve, SolveBy, Check, Play, Dispatch}
+use Rattle.mapf_words.specs.declared.job.Search.{Search}
+use Rattle.mapf_words.specs.declared.job.Search.TheVariants.{Cbs, Cbsh}
 
 -- 1 to 200 agents, and at most 100,000 splits
 abbrev pub IsInRange : Job → Type 0
 IsInRange Demo = ⊤
 IsInRange (Solve map scen k limit plan cert) = (1 ≤ k) × (k ≤ most_agents) × (limit ≤ most_splits)
+IsInRange (SolveBy search map scen k limit plan cert) = (1 ≤ k) × (k ≤ most_agents) × (limit ≤ most_splits)
 IsInRange (Check map scen k plan cert) = (1 ≤ k) × (k ≤ most_agents)
 IsInRange (Play map scen k plan) = (1 ≤ k) × (k ≤ most_agents)
 IsInRange (Dispatch map scen k plan events) = (1 ≤ k) × (k ≤ most_agents)
@@ -20,13 +23,19 @@ IsInRange (Dispatch map scen k plan events) = (1 ≤ k) × (k ≤ most_agents)
 abbrev pub AreDistinctNames : List ℕ → List ℕ → Type 0
 AreDistinctNames name other = name ≡ other → name ≡ codes "/dev/null"
 
+-- neither output has the name of an input or of the other output, except that of the null device
+abbrev pub AreOwnOutputs : (map scen plan cert : List ℕ) → Type 0
+AreOwnOutputs map scen plan cert =
+    AreDistinctNames plan map × AreDistinctNames plan scen × AreDistinctNames cert map × AreDistinctNames cert scen
+    × AreDistinctNames cert plan
+
 -- no output has the name of an input or of another output, except that of the null device
 abbrev pub HasOwnOutputs : Job → Type 0
 HasOwnOutputs Demo = ⊤
 HasOwnOutputs (Solve map scen k limit plan cert) =
-    AreDistinctNames (string_bytes plan) (string_bytes map) × AreDistinctNames (string_bytes plan) (string_bytes scen)
-    × AreDistinctNames (string_bytes cert) (string_bytes map) × AreDistinctNames (string_bytes cert) (string_bytes scen)
-    × AreDistinctNames (string_bytes cert) (string_bytes plan)
+    AreOwnOutputs (string_bytes map) (string_bytes scen) (string_bytes plan) (string_bytes cert)
+HasOwnOutputs (SolveBy search map scen k limit plan cert) =
+    AreOwnOutputs (string_bytes map) (string_bytes scen) (string_bytes plan) (string_bytes cert)
 HasOwnOutputs (Check map scen k plan cert) = ⊤
 HasOwnOutputs (Play map scen k plan) = ⊤
 HasOwnOutputs (Dispatch map scen k plan events) = ⊤
@@ -40,14 +49,30 @@ abbrev pub IsNumberOf : Found → List ℕ → ℕ → Type 0
 IsNumberOf found name n = (text : List ℕ) × (one_text found name ≡ Some text)
     × IsNumeral 10 (without_leading_plus text) × (n ≡ digits_value 10 (without_leading_plus text))
 
+-- the option `--search` names this search; plain search also if it isn't given
+abbrev pub IsSearchOf : Found → Search → Type 0
+IsSearchOf found Cbs =
+    (first_value found (codes "search") ≡ None) ⊎ (first_value found (codes "search") ≡ Some (codes "cbs"))
+IsSearchOf found Cbsh = first_value found (codes "search") ≡ Some (codes "cbsh")
+
+-- the arguments of `solve` are these file names and numbers
+pub record IsSolveOf (command : List ℕ) (found : Found) (map scen : List ℕ) (k limit : ℕ) (plan cert : List ℕ)
+    : Type 0 where
+  pub command_is : command ≡ codes "solve"
+  pub map_is : map ≡ named found (codes "MAP")
+  pub scen_is : scen ≡ named found (codes "SCEN")
+  pub k_is : IsNumberOf found (codes "K") k
+  pub limit_is : IsNumberOf found (codes "LIMIT") limit
+  pub plan_is : plan ≡ named found (codes "PLAN")
+  pub cert_is : cert ≡ named found (codes "CERT")
+
 -- a job of this command: its file names and its numbers are those of the arguments
 abbrev pub IsJobOf : List ℕ → Found → Job → Type 0
 IsJobOf command found Demo = ⊥
-IsJobOf command found (Solve map scen k limit plan cert) =
-    (command ≡ codes "solve") × (string_bytes map ≡ named found (codes "MAP"))
-    × (string_bytes scen ≡ named found (codes "SCEN")) × IsNumberOf found (codes "K") k
-    × IsNumberOf found (codes "LIMIT") limit × (string_bytes plan ≡ named found (codes "PLAN"))
-    × (string_bytes cert ≡ named found (codes "CERT"))
+IsJobOf command found (Solve map scen k limit plan cert) = IsSearchOf found Cbs
+    × IsSolveOf command found (string_bytes map) (string_bytes scen) k limit (string_bytes plan) (string_bytes cert)
+IsJobOf command found (SolveBy search map scen k limit plan cert) = IsSearchOf found search × (search ≢ Cbs)
+    × IsSolveOf command found (string_bytes map) (string_bytes scen) k limit (string_bytes plan) (string_bytes cert)
 IsJobOf command found (Check map scen k plan cert) =
     (command ≡ codes "check") × (string_bytes map ≡ named found (codes "MAP"))
     × (string_bytes scen ≡ named found (codes "SCEN")) × IsNumberOf found (codes "K") k

@@ -1,8 +1,9 @@
 //! The arguments of the program, as the parser of the command line takes them, with all texts of the help.
-ghost use Rattle.std.specs.Prelude.{◌≡◌, false, IfOk};
+ghost use Rattle.std.specs.Prelude.{◌≡◌, codes, false, IfOk};
 ghost use Rattle.clap.specs.Words.{app_of, rule_of};
 ghost use Rattle.mapf_words.specs.CommandLine.{IsCommand, check_command, dispatch_command, file_argument};
-ghost use Rattle.mapf_words.specs.CommandLine.{mapf_command, number_argument, play_command, program, solve_command};
+ghost use Rattle.mapf_words.specs.CommandLine.{mapf_command, number_argument, option_argument, play_command};
+ghost use Rattle.mapf_words.specs.CommandLine.{program, solve_command};
 
 use clap::{Arg, Command, value_parser};
 use mapf_model::limits::{MOST_AGENTS, MOST_SPLITS};
@@ -142,6 +143,10 @@ const SCEN: &str = "The agents: a MovingAI scenario of version 1 for that map";
 
 const K: &str = most_agents!("How many agents: the first K rows of SCEN, 1 to ");
 
+const SEARCH: &str =
+    "The search: cbs, which is plain conflict-based search, or cbsh, a stronger one, whose
+answer is checked before it is written; cbs unless told";
+
 const LIMIT: &str = most_splits!("How often the search may split on a conflict, 0 to ");
 
 fn file<'a>(alloc: Global, name: &'a str, help: &'a str) -> Arg<'a>
@@ -161,6 +166,17 @@ fn number<'a>(alloc: Global, name: &'a str, low: u32, high: u32, help: &'a str) 
         .help(help)
 }
 
+// Returns the option by which a search is chosen.
+fn search<'a>(alloc: Global) -> Arg<'a>
+    ensures rule { rule_of result ≡ option_argument (codes "search") }
+    ensures local { result.global ≡ false }
+{
+    Arg::new(alloc, "search")
+        .long("search")
+        .value_name("NAME")
+        .help(SEARCH)
+}
+
 fn solve<'a>(alloc: Global) -> Result<Command<'a>, AllocError>
     ensures { IfOk result (IsCommand solve_command) }
 {
@@ -172,7 +188,8 @@ fn solve<'a>(alloc: Global) -> Result<Command<'a>, AllocError>
         .arg(number(alloc, "K", 1, MOST_AGENTS, K))?
         .arg(number(alloc, "LIMIT", 0, MOST_SPLITS, LIMIT))?
         .arg(file(alloc, "PLAN", "Where the plan text is written"))?
-        .arg(file(alloc, "CERT", "Where the certificate is written"))
+        .arg(file(alloc, "CERT", "Where the certificate is written"))?
+        .arg(search(alloc))
 }
 
 fn check<'a>(alloc: Global) -> Result<Command<'a>, AllocError>

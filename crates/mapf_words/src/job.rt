@@ -1,4 +1,13 @@
 //! What a command line can ask for. The reader of arguments makes a job, and `main` does it.
+/// Which search finds the answer.
+#[derive(Clone, Copy, Debug, PartialEq, Eq)]
+pub enum Search {
+    /// Plain conflict-based search.
+    Cbs,
+    /// A stronger search, whose answer is checked before it is written.
+    Cbsh,
+}
+
 /// What the arguments ask for. Strings are names of files.
 #[derive(Debug, PartialEq, Eq, Drop)]
 pub enum Job {
@@ -6,6 +15,18 @@ pub enum Job {
     Demo,
     /// Search for an optimal plan for the first `k` agents with at most `limit` splits.
     Solve {
+        map: String,
+        scen: String,
+        /// 1 to 200.
+        k: u32,
+        /// 0 to 100,000.
+        limit: u32,
+        plan: String,
+        cert: String,
+    },
+    /// The same by the search of this name, other than plain conflict-based search.
+    SolveBy {
+        search: Search,
         map: String,
         scen: String,
         /// 1 to 200.

@@ -6,6 +6,6 @@ mod job;
 mod words;
 mod words_fault;
 
-pub use job::Job;
+pub use job::{Job, Search};
 pub use words::job_of;
 pub use words_fault::WordsFault;

@@ -3,10 +3,11 @@ ghost use Rattle.std.specs.Prelude.{◌≡◌, ◌⊎◌, ◌≤◌, ◌<◌, �
 ghost use Rattle.std.specs.String.{string_bytes};
 ghost use Rattle.clap.specs.Matches.{found_of};
 ghost use Rattle.mapf_words.specs.CommandLine.{IsReadFrom};
-ghost use Rattle.mapf_words.specs.Jobs.{AreDistinctNames, HasOwnOutputs, IsInRange, IsJobOf, IsNumberOf, named};
+ghost use Rattle.mapf_words.specs.Jobs.{AreDistinctNames, AreOwnOutputs, HasOwnOutputs, IsInRange, IsJobOf, IsNumberOf};
+ghost use Rattle.mapf_words.specs.Jobs.{IsSearchOf, named};
 
 use crate::command::mapf;
-use crate::job::Job;
+use crate::job::{Job, Search};
 use crate::words_fault::WordsFault;
 use clap::ArgMatches;
 use clap::error::ErrorKind;
@@ -61,8 +62,7 @@ fn own_outputs(
     plan: &str,
     cert: &str,
 ) -> Result<(), WordsFault>
-    ensures { OnOk result (AreDistinctNames plan.now map.now × AreDistinctNames plan.now scen.now
-        × AreDistinctNames cert.now map.now × AreDistinctNames cert.now scen.now × AreDistinctNames cert.now plan.now) }
+    ensures { OnOk result (AreOwnOutputs map.now scen.now plan.now cert.now) }
 {
     let (map, scen) = (("MAP", map), ("SCEN", scen));
     let (plan, cert) = (("PLAN", plan), ("CERT", cert));
@@ -73,11 +73,25 @@ fn own_outputs(
     apart(alloc, cert, plan)
 }
 
+// Returns the search that the option `--search` names.
+fn search_of(alloc: Global, given: &ArgMatches<'_>) -> Result<Search, WordsFault>
+    ensures { IfOk result (IsSearchOf (found_of given.now)) }
+{
+    match given.get_str("search") {
+        None | Some("cbs") => Ok(Search::Cbs),
+        Some("cbsh") => Ok(Search::Cbsh),
+        Some(name) => Err(WordsFault::Bad(format!(in alloc;
+            "error: no search is named {name:?}: say cbs or cbsh\n"
+        )?)),
+    }
+}
+
 fn solve_of(alloc: Global, given: &ArgMatches<'_>) -> Result<Job, WordsFault>
     ensures range { IfOk result IsInRange }
     ensures named { IfOk result (IsJobOf (codes "solve") (found_of given.now)) }
     ensures own { IfOk result HasOwnOutputs }
 {
+    let search = search_of(alloc, given)?;
     let map = text_of(alloc, given, "MAP")?;
     let scen = text_of(alloc, given, "SCEN")?;
     let k = number_of(alloc, given, "K", 1, MOST_AGENTS)?;
@@ -85,14 +99,25 @@ fn solve_of(alloc: Global, given: &ArgMatches<'_>) -> Result<Job, WordsFault>
     let plan = text_of(alloc, given, "PLAN")?;
     let cert = text_of(alloc, given, "CERT")?;
     own_outputs(alloc, &map, &scen, &plan, &cert)?;
-    Ok(Job::Solve {
-        map,
-        scen,
-        k,
-        limit,
-        plan,
-        cert,
-    })
+    match search {
+        Search::Cbs => Ok(Job::Solve {
+            map,
+            scen,
+            k,
+            limit,
+            plan,
+            cert,
+        }),
+        Search::Cbsh => Ok(Job::SolveBy {
+            search,
+            map,
+            scen,
+            k,
+            limit,
+            plan,
+            cert,
+        }),
+    }
 }
 
 fn check_of(alloc: Global, given: &ArgMatches<'_>) -> Result<Job, WordsFault>
