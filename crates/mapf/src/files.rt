@@ -4,7 +4,11 @@ ghost use Rattle.mapf_model.specs.Limits.{most_agents, most_splits};
 
 use crate::outputs;
 use crate::outputs::{Place, Unsolved, identity_of, store};
-use mapf_app::{Fault, Input, Kind, Output, Verdict, run_check, run_dispatch, run_play, run_solve};
+use crate::progress::Progress;
+use mapf_app::{
+    Answered, Asked, Fault, Input, Output, Search, Verdict, run_check, run_dispatch, run_play,
+    run_solve_by,
+};
 use mapf_model::{ReadSource, WriteSink};
 use std::fs;
 use std::fs::File;
@@ -16,6 +20,13 @@ pub struct ProblemFiles<'a> {
     pub map: &'a str,
     pub scen: &'a str,
     pub k: u32,
+}
+
+/// By which search a problem is solved, and how many splits it may make: 0 to 100,000.
+#[derive(Clone, Copy)]
+pub struct SolveOptions {
+    pub search: Search,
+    pub limit: u32,
 }
 
 impl ProblemFiles<'_> {
@@ -55,13 +66,13 @@ fn placed<'a>(
 pub fn solve<'a>(
     rt: &HostRuntime,
     problem: ProblemFiles<'a>,
-    limit: u32,
+    options: SolveOptions,
     plan: &'a str,
     cert: &'a str,
-) -> Result<Kind, Unsolved<'a>>
+) -> Result<Answered, Unsolved<'a>>
     requires some { 1 ≤ problem.k }
     requires few { problem.k ≤ most_agents }
-    requires limit { limit ≤ most_splits }
+    requires limit { options.limit ≤ most_splits }
 {
     let (map, scen) = problem.open(rt)?;
     let outputs = outputs::open(
@@ -71,18 +82,25 @@ pub fn solve<'a>(
         plan,
         cert,
     )?;
-    let kind = run_solve(
+    let mut progress = Progress::of(rt);
+    let answer = run_solve_by(
         rt.alloc(),
         &mut ReadSource::of(&map),
         &mut ReadSource::of(&scen),
-        problem.k,
-        limit,
+        Asked {
+            search: options.search,
+            k: problem.k,
+            limit: options.limit,
+            watcher: &mut progress,
+        },
         &mut WriteSink::of(&outputs.plan),
         &mut WriteSink::of(&outputs.cert),
-    )?;
+    );
+    progress.erase();
+    let answer = answer?;
     store(&outputs.plan, Output::Plan)?;
     store(&outputs.cert, Output::Cert)?;
-    Ok(kind)
+    Ok(answer)
 }
 
 /// Checks the plan text and the certificate in two files for the problem in two others.

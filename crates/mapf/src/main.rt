@@ -5,10 +5,11 @@ ghost use Rattle.mapf_words.specs.Jobs.{IsInRange};
 
 mod files;
 mod outputs;
+mod progress;
 mod words;
 
-use files::ProblemFiles;
-use mapf_app::{Job, WordsFault, job_of, run_demo};
+use files::{ProblemFiles, SolveOptions};
+use mapf_app::{Job, Search, WordsFault, job_of, run_demo};
 use mapf_model::WriteSink;
 use std::process::ExitCode;
 
@@ -39,7 +40,37 @@ fn run(rt: &HostRuntime, job: &Job) -> ExitCode
             cert,
         } => words::solved(
             rt,
-            files::solve(rt, ProblemFiles { map, scen, k: *k }, *limit, plan, cert),
+            files::solve(
+                rt,
+                ProblemFiles { map, scen, k: *k },
+                SolveOptions {
+                    search: Search::Cbs,
+                    limit: *limit,
+                },
+                plan,
+                cert,
+            ),
+        ),
+        Job::SolveBy {
+            search,
+            map,
+            scen,
+            k,
+            limit,
+            plan,
+            cert,
+        } => words::solved(
+            rt,
+            files::solve(
+                rt,
+                ProblemFiles { map, scen, k: *k },
+                SolveOptions {
+                    search: *search,
+                    limit: *limit,
+                },
+                plan,
+                cert,
+            ),
         ),
         Job::Check {
             map,

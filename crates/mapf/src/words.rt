@@ -1,6 +1,6 @@
 //! What `main` takes from the command line, and what it prints when a job is done or refused, with the exit status.
 use crate::outputs::{OneFile, Unsolved};
-use mapf_app::{Fault, Kind, Verdict, tell_check, tell_run, tell_solve};
+use mapf_app::{Answered, Fault, Verdict, tell_check, tell_run, tell_solve_by};
 use mapf_model::{WriteSink, write_all};
 use std::process::ExitCode;
 use std::rt::Env;
@@ -71,13 +71,13 @@ pub fn checked(rt: &HostRuntime, answer: &Result<Verdict, Fault>) -> ExitCode {
 }
 
 /// Reports the answer, or why there is none.
-pub fn solved(rt: &HostRuntime, answer: Result<Kind, Unsolved<'_>>) -> ExitCode {
+pub fn solved(rt: &HostRuntime, answer: Result<Answered, Unsolved<'_>>) -> ExitCode {
     let answer = match answer {
-        Ok(kind) => Ok(kind),
+        Ok(answer) => Ok(answer),
         Err(Unsolved::Fault(fault)) => Err(fault),
         Err(Unsolved::OneFile(one)) => return one_file(rt, &one),
     };
     let mut out = WriteSink::of(rt.stdout());
     let mut err = WriteSink::of(rt.stderr());
-    ExitCode::from(tell_solve(&answer, &mut out, &mut err))
+    ExitCode::from(tell_solve_by(&answer, &mut out, &mut err))
 }

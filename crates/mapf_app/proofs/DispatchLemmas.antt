@@ -1,8 +1,8 @@
 -- From the events that are read to what is answered.
-use Rattle.std.proofs.Common.{◌≡◌, ◌⊎◌, ℕ, List, Option, Result, Err, IfSome, ⊎_elim, refl, sym, subst}
+use Rattle.std.proofs.Common.{◌≡◌, ◌⊎◌, ℕ, List, Option, Result, Err, IfSome, ⊎_elim, ◌∙◌, refl, sym, subst}
 use Rattle.mapf_app.proofs.InputLemmas.{told}
 use Rattle.mapf_app.specs.Dispatched.{IsDispatchDefect, HasEventsFault}
-use Rattle.mapf_app.specs.Faults.{IsDispatching, IsDispatchInput, IsOfInput, IsPlanInput, IsPlanning, IsReadingEvents, fault_of_events}
+use Rattle.mapf_app.specs.Faults.{IsDispatching, IsDispatchInput, IsOfInput, IsOfMap, IsPlanInput, IsPlanning, IsProblemInput, IsReadingEvents, fault_of_events}
 use Rattle.mapf_app.specs.Planned.{IsPlanDefect, SpellsPlanned}
 use Rattle.mapf_app.specs.declared.fault.Fault.{Fault}
 use Rattle.mapf_app.specs.declared.fault.Fault.TheVariants.{F1, F2, F3, F4, F5, F6, Refused}
@@ -94,3 +94,13 @@ shown problem paths agents dispatch visits begins replies after are = record {
   replied = subst (λ p. AreReplies p agents replies after) begins are;
   spelled = refl;
 }
+
+-- an error of reading events isn't one of the map
+pub not_map : (events : Option (List ℕ)) (count : ℕ) (fault : Fault) → IsReadingEvents events count fault → IsOfMap fault → ⊥
+not_map events count (F1 fault) of early = of
+not_map events count (F2 fault) of early = of
+not_map events count (F3 fault) of early = early
+not_map events count (F4 input) of early = subst IsProblemInput (sym early ∙ of) tt
+not_map events count (F5 output) of early = of
+not_map events count F6 of early = early
+not_map events count (Refused refusal) of early = of

@@ -1,4 +1,5 @@
 pub mod CheckLemmas
+pub mod CheckedLemmas
 pub mod DispatchLemmas
 pub mod InputLemmas
 pub mod PlannedLemmas

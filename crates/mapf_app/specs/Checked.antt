@@ -1,10 +1,18 @@
--- What a run that checks two texts refuses, and when it reads the certificate.
-use Rattle.std.specs.Prelude.{ℕ, List, Option, IfSome}
+-- What a run that checks two texts refuses, and when it reads the certificate; and answers that are checked before they
+-- are written.
+use Rattle.std.specs.Prelude.{◌≡◌, ◌≤◌, ⊤, ℕ, List, Option, IfSome}
 use Rattle.mapf_app.specs.Problems.{SpellsProblem}
+use Rattle.mapf_app.specs.declared.kind.Kind.{Kind}
+use Rattle.mapf_app.specs.declared.kind.Kind.TheVariants.{Found, Impossible, Limit}
+use Rattle.mapf_certificate.specs.Plans.{IsCauseInRange}
+use Rattle.mapf_certificate.specs.declared.plan_text.PlanAnswer.{PlanAnswer}
+use Rattle.mapf_certificate.specs.declared.plan_text.PlanAnswer.TheVariants as answers
 use Rattle.mapf_checker.specs.Refusals.{HasRefusal}
 use Rattle.mapf_checker.specs.Verdict.{IsGoodPlan}
 use Rattle.mapf_checker.specs.declared.fault.CheckFault.{CheckFault}
 use Rattle.mapf_checker.specs.declared.fault.Verdict.{Verdict}
+use Rattle.mapf_checker.specs.declared.fault.Verdict.TheVariants as verdicts
+use Rattle.mapf_model.specs.Limits.{greatest_sum}
 use Rattle.mapf_model.specs.Plan.{Instance}
 
 -- a text has the defect that the refusal names, for the problem that the map and the scenario spell
@@ -19,3 +27,17 @@ pub record HasGoodPlan (map scen plan : Option (List ℕ)) (count : ℕ) : Type 
   pub read : SpellsProblem map scen count problem
   pub verdict : Verdict
   pub good : IfSome plan (λ plan_text. IsGoodPlan problem plan_text verdict)
+
+-- if the answer is a limit, it has a bound, and the cause and the bound are in their ranges
+abbrev pub IsBoundInRange : PlanAnswer → Type 0
+IsBoundInRange (answers.Found plan) = ⊤
+IsBoundInRange answers.Impossible = ⊤
+IsBoundInRange (answers.Limit cause) = ⊥
+IsBoundInRange (answers.Bounded cause bound) = IsCauseInRange cause × (bound ≤ greatest_sum)
+
+-- the verdict is that of this answer of a run, and the cause of a limit is that of the plan text's answer
+abbrev pub IsKindOf : Verdict → PlanAnswer → Kind → Type 0
+IsKindOf verdict answer (Found cost) = verdict ≡ verdicts.Optimal cost
+IsKindOf verdict answer Impossible = verdict ≡ verdicts.Impossible
+IsKindOf verdict answer (Limit cause bound) =
+    (verdict ≡ verdicts.Bound bound) × (says : ℕ) × (answer ≡ answers.Bounded cause says)

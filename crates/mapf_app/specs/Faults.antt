@@ -165,6 +165,16 @@ IsBeforeWriting (F5 output) = ⊥
 IsBeforeWriting F6 = ⊤
 IsBeforeWriting (Refused refusal) = ⊤
 
+-- an output of the two texts that can't be written, or out of memory
+abbrev pub IsOfWriting : Fault → Type 0
+IsOfWriting (F1 fault) = ⊥
+IsOfWriting (F2 fault) = ⊥
+IsOfWriting (F3 fault) = ⊥
+IsOfWriting (F4 input) = ⊥
+IsOfWriting (F5 output) = IsOfTexts output
+IsOfWriting F6 = ⊤
+IsOfWriting (Refused refusal) = ⊥
+
 -- what an error of a plan text that is to be followed says of it
 abbrev pub IsReadingPlan : Instance → List ℕ → Fault → Type 0
 IsReadingPlan problem bytes (F1 fault) = ⊥

@@ -11,3 +11,4 @@ pub mod Solved
 pub mod Told
 pub mod Runs
 pub mod Policy
+pub mod Answered

@@ -4,7 +4,7 @@ use Rattle.std.specs.Prelude.{ℕ, List, Option, length}
 use Rattle.mapf_app.specs.declared.kind.Kind.{Kind}
 use Rattle.mapf_app.specs.declared.kind.Kind.TheVariants.{Found, Impossible, Limit}
 use Rattle.mapf_app.specs.Headline.{PrintsTruly}
-use Rattle.mapf_app.specs.Solved.{plan_bytes, cert_bytes}
+use Rattle.mapf_app.specs.Solved.{Prints, plan_bytes, cert_bytes}
 use Rattle.mapf_app.specs.declared.solved.Solved.{Solved}
 use Rattle.mapf_cbs.specs.Chosen.{IsChosen, IsLeastSum, IsOfALeaf, MayStop}
 use Rattle.mapf_certificate.specs.Certificates.{SpellsCert}
@@ -41,6 +41,11 @@ FollowsPolicy problem limit (Limit cause bound) plan cert =
 abbrev pub IsSolvedByPolicy : Instance → ℕ → Solved → Type 0
 IsSolvedByPolicy problem limit solved =
     FollowsPolicy problem limit solved.kind (plan_bytes problem solved) (cert_bytes problem solved)
+
+-- an answer of plain search and its two texts: they are true, and follow the search's policy
+abbrev pub IsPlainAnswer : Instance → ℕ → Kind → List ℕ → List ℕ → Type 0
+IsPlainAnswer problem limit kind plan cert =
+    Prints problem kind plan cert × FollowsPolicy problem limit kind plan cert
 
 -- what is printed for the problem that the map and the scenario spell is true, and follows the search's policy
 pub record PrintsByPolicy (map scen : Option (List ℕ)) (count limit : ℕ) (kind : Kind) (plan cert : List ℕ)

@@ -1,5 +1,5 @@
 -- What a run tells of the sources that it reads and of the sinks that it writes to.
-use Rattle.std.specs.Prelude.{◌≡◌, ◌⊎◌, ◌<◌, ◌≤◌, ◌↔◌, ℕ, List, Bool, true, Option, ⊥, length, take}
+use Rattle.std.specs.Prelude.{◌≡◌, ◌⊎◌, ◌<◌, ◌≤◌, ◌↔◌, ℕ, List, Bool, true, Option, length, take}
 use Rattle.std.specs.Prelude.{Result, IfErr, IfOk, IfSome, IsErrOf, OnOk}
 use Rattle.std.specs.Io.KnownBytes.{Appends, Consumes}
 use Rattle.mapf_app.specs.Faults.{IsBeforeWriting}
@@ -8,7 +8,6 @@ use Rattle.mapf_app.specs.declared.fault.Fault.TheVariants.{F4, F5}
 use Rattle.mapf_app.specs.declared.fault.Input.{Input}
 use Rattle.mapf_app.specs.declared.fault.Output.{Output}
 use Rattle.mapf_app.specs.declared.fault.Output.TheVariants.{Plan, Cert, Out}
-use Rattle.mapf_app.specs.declared.kind.Kind.{Kind}
 
 -- the source has failed, or it gave more bytes than the limit
 abbrev pub IsUnreadable : Bool → Option (List ℕ) → Option (List ℕ) → ℕ → Type 0
@@ -47,19 +46,19 @@ pub record WritesText {T : Type 0} (result : Result T Fault) (IsText : List ℕ 
 -- if the run succeeds, the sinks of the plan text and of the certificate got two such texts; after an error of the
 -- first it got a prefix of such a plan text; after an error of the second the first got such a plan text, and the
 -- second a prefix of the certificate
-pub record WritesTexts (result : Result Kind Fault) (AreTexts : Kind → List ℕ → List ℕ → Type 0)
+pub record WritesTexts {T : Type 0} (result : Result T Fault) (AreTexts : T → List ℕ → List ℕ → Type 0)
     (plan_old plan_new cert_old cert_new : Option (List ℕ)) : Type 0 where
-  pub texts : IfOk result (λ kind. (plan : List ℕ) × (cert : List ℕ) × AreTexts kind plan cert
+  pub texts : IfOk result (λ answer. (plan : List ℕ) × (cert : List ℕ) × AreTexts answer plan cert
       × Appends plan_old plan_new plan × Appends cert_old cert_new cert)
-  pub plan_front : IsErrOf result (F5 Plan) → (kind : Kind) × (plan : List ℕ) × (cert : List ℕ) × (n : ℕ)
-      × AreTexts kind plan cert × Appends plan_old plan_new (take n plan)
-  pub cert_front : IsErrOf result (F5 Cert) → (kind : Kind) × (plan : List ℕ) × (cert : List ℕ) × (n : ℕ)
-      × AreTexts kind plan cert × Appends plan_old plan_new plan × Appends cert_old cert_new (take n cert)
+  pub plan_front : IsErrOf result (F5 Plan) → (answer : T) × (plan : List ℕ) × (cert : List ℕ) × (n : ℕ)
+      × AreTexts answer plan cert × Appends plan_old plan_new (take n plan)
+  pub cert_front : IsErrOf result (F5 Cert) → (answer : T) × (plan : List ℕ) × (cert : List ℕ) × (n : ℕ)
+      × AreTexts answer plan cert × Appends plan_old plan_new plan × Appends cert_old cert_new (take n cert)
 
 -- an error of the plan text's or the certificate's sink is reported if and only if the sink failed; after an error of
 -- the plan text's sink the certificate's is as it was, and both are after an error that comes before writing
-pub record ReportsSinks (result : Result Kind Fault) (plan_failed cert_failed : Bool) (plan_stays cert_stays : Type 0)
-    : Type 0 where
+pub record ReportsSinks {T : Type 0} (result : Result T Fault) (plan_failed cert_failed : Bool)
+    (plan_stays cert_stays : Type 0) : Type 0 where
   pub plan : IsErrOf result (F5 Plan) ↔ (plan_failed ≡ true)
   pub cert : IsErrOf result (F5 Cert) ↔ (cert_failed ≡ true)
   pub cert_later : IsErrOf result (F5 Plan) → cert_stays

@@ -1,5 +1,5 @@
 -- What a run that solves a problem prints, whatever search it calls.
-use Rattle.std.specs.Prelude.{ℕ, List, length}
+use Rattle.std.specs.Prelude.{◌≡◌, ℕ, List, length}
 use Rattle.mapf_app.specs.declared.kind.Kind.{Kind}
 use Rattle.mapf_app.specs.declared.solved.Solved.{Solved}
 use Rattle.mapf_app.specs.declared.kind.Kind.TheVariants.{Found, Impossible, Limit}
@@ -49,6 +49,10 @@ abbrev pub Prints : Instance → Kind → List ℕ → List ℕ → Type 0
 Prints problem (Found cost) plan cert = PrintsOptimal problem cost plan cert
 Prints problem Impossible plan cert = PrintsImpossible problem plan cert
 Prints problem (Limit cause bound) plan cert = PrintsLimit problem cause bound plan cert
+
+-- an answer and its two texts are these
+abbrev pub AreThese : Kind → List ℕ → List ℕ → Kind → List ℕ → List ℕ → Type 0
+AreThese kind plan cert answer plan_text cert_text = (answer ≡ kind) × (plan_text ≡ plan) × (cert_text ≡ cert)
 
 -- the bytes of the plan text
 abbrev pub plan_bytes : Instance → Solved → List ℕ

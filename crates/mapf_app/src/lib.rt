@@ -1,7 +1,9 @@
 //! The runs: bytes in, bytes out, errors named.
 #![tactic(auto)]
 
+mod answer_writer;
 mod check;
+mod checked;
 mod demo;
 mod dispatch;
 mod fault;
@@ -12,9 +14,11 @@ mod line;
 mod planned;
 mod play;
 mod solve;
+mod solve_by;
 mod solved;
 mod tell;
 
+pub use answer_writer::Answered;
 pub use check::run_check;
 pub use demo::run_demo;
 pub use dispatch::run_dispatch;
@@ -24,7 +28,8 @@ pub use mapf_certificate::{CertFault, PlanTextFault};
 pub use mapf_checker::{CheckFault, PlanFault, Verdict};
 pub use mapf_player::EventFault;
 pub use mapf_text::{MapFault, ScenFault};
-pub use mapf_words::{Job, WordsFault, job_of};
+pub use mapf_words::{Job, Search, WordsFault, job_of};
 pub use play::run_play;
 pub use solve::run_solve;
-pub use tell::{tell_check, tell_run, tell_solve};
+pub use solve_by::{Asked, run_solve_by};
+pub use tell::{tell_check, tell_run, tell_solve, tell_solve_by};

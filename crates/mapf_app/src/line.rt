@@ -291,3 +291,20 @@ pub fn write_line<K: Sink>(sink: &mut K, line: &Line) -> Result<(), Failed>
     write_bound(sink, line.bound)?;
     write_all(sink, b"\n")
 }
+
+/// Writes the line that says that the check refused what the stronger search answered, and why.
+pub fn write_refused<K: Sink>(sink: &mut K, refusal: CheckFault) -> Result<(), Failed>
+    requires { K.has_failed sink.old ≡ false }
+    ensures failed { K.has_failed sink.new ≡ is_err result }
+{
+    let line = Line::of_fault(Fault::Refused(refusal));
+    let code = line.words.strip_prefix("refused ").unwrap_or(line.words);
+    let (first, second, third) = line.numbers;
+    write_all(sink, b"mapf: the answer of cbsh was refused (")?;
+    write_all(sink, code.as_bytes())?;
+    write_defect(sink, line.defect)?;
+    write_number(sink, first)?;
+    write_number(sink, second)?;
+    write_number(sink, third)?;
+    write_all(sink, b"); this is the answer of cbs\n")
+}

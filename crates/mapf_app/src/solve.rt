@@ -12,12 +12,11 @@ ghost use Rattle.mapf_app.specs.Solved.{Prints};
 ghost use Rattle.mapf_model.specs.Limits.{most_agents, most_splits, most_text_bytes};
 ghost use Rattle.mapf_model.specs.Plan.{Instance};
 
-use crate::fault::{Fault, Input, Output};
+use crate::answer_writer::write_plain;
+use crate::fault::{Fault, Input};
 use crate::input::read_problem;
 use crate::kind::Kind;
-use crate::solved::solve_problem;
-use mapf_certificate::{TextWriter, Version};
-use mapf_model::{Sink, Source};
+use mapf_model::{Sink, Source, Unwatched};
 use std::alloc::Global;
 
 /// Solves the problem of the first `k` agents of a scenario with at most `limit` splits, and writes the plan text and
@@ -73,17 +72,5 @@ pub fn run_solve<M: Source, S: Source, P: Sink, C: Sink>(
         (plan_sink.new ≡ plan_sink.old) (cert_sink.new ≡ cert_sink.old) }
 {
     let problem = read_problem(alloc, map, scen, k)?;
-    let Ok(solved) = solve_problem(alloc, &problem, limit) else {
-        return Err(Fault::F6);
-    };
-    let agents = problem.agents().len() as u32;
-    let mut writer = TextWriter::of(problem.grid());
-    if writer.plan(plan_sink, &solved.text).is_err() {
-        return Err(Fault::F5(Output::Plan));
-    }
-    let written = writer.tree(cert_sink, Version::Two, agents, solved.claim, &solved.tree);
-    if written.is_err() {
-        return Err(Fault::F5(Output::Cert));
-    }
-    Ok(solved.kind)
+    write_plain(alloc, &problem, limit, &mut Unwatched, plan_sink, cert_sink)
 }

@@ -12,9 +12,9 @@ ghost use Rattle.mapf_model.specs.Plan.{IsValid, IsSumOfCosts};
 ghost use Rattle.mapf_model.specs.Tree.{ConstraintTree};
 
 use crate::kind::Kind;
-use mapf_cbs::{Outcome, TreeNode, search};
+use mapf_cbs::{Outcome, TreeNode, search_watched};
 use mapf_certificate::{PlanAnswer, PlanText, Version};
-use mapf_model::{Cause, Claim, OutOfMemory, Plan, Problem, laws};
+use mapf_model::{Cause, Claim, OutOfMemory, Plan, Problem, Watcher, laws};
 use std::alloc::Global;
 
 /// What a run prints of a problem that it solved: the answer of the plan text, and the claim and the tree of the
@@ -102,14 +102,20 @@ fn limited(problem: &Problem, cause: Cause, bound: u64, tree: Vec<TreeNode>) -> 
     }
 }
 
-/// Solves the problem with at most `limit` splits. All memory that the two texts need is allocated here.
-pub fn solve_problem(alloc: Global, problem: &Problem, limit: u32) -> Result<Solved, OutOfMemory>
+/// Solves the problem with at most `limit` splits, and tells the watcher how far it is. All memory that the two texts
+/// need is allocated here.
+pub fn solve_problem<W: Watcher>(
+    alloc: Global,
+    problem: &Problem,
+    limit: u32,
+    watcher: &mut W,
+) -> Result<Solved, OutOfMemory>
     requires { limit ≤ most_splits }
     ensures prints { IfOk result (λ solved. IsSolved problem.now solved) }
     ensures policy { IfOk result (λ solved. IsSolvedByPolicy problem.now limit solved) }
     ensures few { IfOk result (λ solved. IsFew solved.text.answer) }
 {
-    match search(alloc, problem, limit)? {
+    match search_watched(alloc, problem, limit, watcher)? {
         Outcome::Found { plan, tree } => Ok(found(problem, plan, tree)),
         Outcome::Impossible { tree } => Ok(impossible(problem, tree)),
         Outcome::Limit { cause, bound, tree } => Ok(limited(problem, cause, bound, tree)),

@@ -1,4 +1,4 @@
-use Rattle.std.proofs.Common.{◌≤◌, ⊎_elim, length}
+use Rattle.std.proofs.Common.{rules, ◌≤◌, ⊎_elim, length}
 use Rattle.mapf_app.proofs.InputLemmas.{read_as}
 use Rattle.mapf_app.proofs.CheckLemmas.{judges, due_here, refusal_of, none_good, is_refusal, refusal_says}
 use Rattle.mapf_checker.proofs.CertLemmas.{if_known}

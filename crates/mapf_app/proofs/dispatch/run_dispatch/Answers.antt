@@ -1,12 +1,12 @@
-use Rattle.std.proofs.Common.{◌≡◌, IfSome, ⊎_elim, ◌∙◌, sym, subst}
+use Rattle.std.proofs.Common.{rules, ◌≡◌, IfSome, ⊎_elim, ◌∙◌, sym, subst}
 use Rattle.std.proofs.lemmas.Result.{err_from_is_err_and}
 use Rattle.mapf_certificate.proofs.Windows.{err_passed}
 use Rattle.mapf_player.specs.Events.{SpellsEvents}
 use Rattle.mapf_player.specs.Replies.{reply_text}
 use Rattle.mapf_app.specs.Dispatched.{ShowsReplies}
-use Rattle.mapf_app.specs.Faults.{IsDispatching}
+use Rattle.mapf_app.specs.Faults.{IsDispatching, IsOfMap}
 use Rattle.mapf_app.specs.declared.planned.Planned.{Planned}
-use Rattle.mapf_app.proofs.DispatchLemmas.{events_fault, plan_fault, shown}
+use Rattle.mapf_app.proofs.DispatchLemmas.{events_fault, not_map, plan_fault, shown}
 use Rattle.mapf_app.proofs.PlannedLemmas.{handed_back, hands_on_device}
 use Rattle.mapf_app.proofs.dispatch.run_dispatch.Goals as goal
 
@@ -37,6 +37,13 @@ returns-in_err-agents-clause-fault g c =
     let events = g.E.Source.remaining c.args.events.now in
     err_passed c.from_residual-in_err-agents.result (IsDispatching map scen plan events c.args.k) c.in_err-agents.field-0.0 (err_from_is_err_and c.from_residual-in_err-agents.result c.from_residual-in_err-agents.ensures.1)
     (events_fault map scen plan events c.args.k _ _ c.in_ok-problem.ensures.found c.in_err-agents.field-0.0 c.in_err-agents.ensures.fault)
+
+pub returns-in_err-agents-clause-scen : goal.returns-in_err-agents-clause-scen
+returns-in_err-agents-clause-scen g c = record {
+  source = record { justified = search rules; reported = search rules; within = search rules };
+  unpulled = err_passed c.from_residual-in_err-agents.result (λ fault. IsOfMap fault → c.read_planned.new.scen ≡ c.args.scen.now) c.in_err-agents.field-0.0 (err_from_is_err_and c.from_residual-in_err-agents.result c.from_residual-in_err-agents.ensures.1) (λ early. absurd (not_map (g.E.Source.remaining c.args.events.now) c.args.k c.in_err-agents.field-0.0 c.in_err-agents.ensures.fault early));
+  order = c.in_ok-problem.ensures.scen.order;
+}
 
 pub returns-in_err-agents-clause-events : goal.returns-in_err-agents-clause-events
 returns-in_err-agents-clause-events g c = record {

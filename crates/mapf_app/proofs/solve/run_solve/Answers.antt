@@ -1,108 +1,37 @@
-use Rattle.std.proofs.Common.{◌≡◌, List, Ok, true, false, length, map, ap, ◌∙◌, ⊎_elim, subst}
-use Rattle.std.proofs.lemmas.List.{map-id}
-use Rattle.std.specs.Result.{is_err}
-use Rattle.mapf_model.specs.Grid.{GridMap}
+use Rattle.std.proofs.Common.{◌≡◌, Ok, ⊎_elim, subst}
 use Rattle.mapf_model.specs.Plan.{Instance}
-use Rattle.mapf_model.specs.Tree.{Node}
-use Rattle.mapf_model.specs.declared.problem.Agent.{Agent}
-use Rattle.mapf_certificate.specs.Certificates.{cert_text}
-use Rattle.mapf_certificate.specs.Plans.{plan_text}
-use Rattle.mapf_certificate.specs.declared.version.Version.TheVariants.{Two}
-use Rattle.mapf_app.specs.Policy.{PrintsByPolicy}
-use Rattle.mapf_app.specs.Solved.{Prints, plan_bytes, cert_bytes}
-use Rattle.mapf_app.proofs.SolveLemmas.{text_written, text_front, weaker}
+use Rattle.mapf_app.specs.Solved.{Prints}
+use Rattle.mapf_app.proofs.SolveLemmas.{due_of, each_error, no_inner, scenario_told, solving, source_told, weaker}
 use Rattle.mapf_app.proofs.solve.run_solve.Goals as goal
 
-pub returns-then-is_err-clause-policy : goal.returns-then-is_err-clause-policy
-returns-then-is_err-clause-policy g c =
-    let problem = c.in_ok-problem.problem in let solved = c.in-Ok.solved in
-    let width = c.of-writer.ensures.width ∙ ap (λ (m : GridMap). m.width) c.grid.ensures in
-    let plan_is : plan_text c.of-writer.result.width solved.text ≡ plan_bytes problem solved = ap (λ w. plan_text w solved.text) width in
-    let right : PrintsByPolicy (g.M.Source.remaining c.args.map.now) (g.S.Source.remaining c.args.scen.now) c.args.k c.args.limit solved.kind (plan_bytes problem solved) (cert_bytes problem solved) = record {
-      truly = record { problem = problem; posed = c.in_ok-problem.ensures.posed; read = c.in_ok-problem.ensures.found; printed = c.in-Ok.ensures.prints };
-      policy = c.in-Ok.ensures.policy;
-    } in
-    let failed : is_err c.plan.result ≡ true = cc in
-    let front = text_front c.plan.result _ _ _ (plan_bytes problem solved) plan_is failed c.plan.ensures.text in
-    record {
-      texts = tt;
-      plan_front = λ is. (solved.kind, plan_bytes problem solved, cert_bytes problem solved, front.0, right, front.1);
-      cert_front = λ is. cc;
-    }
-
-pub returns-then-is_err-2-clause-policy : goal.returns-then-is_err-2-clause-policy
-returns-then-is_err-2-clause-policy g c =
-    let problem = c.in_ok-problem.problem in let solved = c.in-Ok.solved in
-    let width = c.of-writer.ensures.width ∙ ap (λ (m : GridMap). m.width) c.grid.ensures in
-    let plan_is : plan_text c.of-writer.result.width solved.text ≡ plan_bytes problem solved = ap (λ w. plan_text w solved.text) width in
-    let cert_is : cert_text Two c.plan.new.self.width (length c.agents.result.now) solved.claim (map (λ (n : Node). n) c.deref.result.now) ≡ cert_bytes problem solved =
-    ap (cert_text Two c.plan.new.self.width (length c.agents.result.now) solved.claim) (map-id c.deref.result.now)
-    ∙ ap (λ w. cert_text Two w (length c.agents.result.now) solved.claim c.deref.result.now) (c.plan.ensures.width ∙ width)
-    ∙ ap (λ (who : List Agent). cert_text Two problem.grid.width (length who) solved.claim c.deref.result.now) c.agents.ensures.value
-    ∙ ap (cert_text Two problem.grid.width (length problem.agents) solved.claim) c.deref.ensures.value in
-    let right : PrintsByPolicy (g.M.Source.remaining c.args.map.now) (g.S.Source.remaining c.args.scen.now) c.args.k c.args.limit solved.kind (plan_bytes problem solved) (cert_bytes problem solved) = record {
-      truly = record { problem = problem; posed = c.in_ok-problem.ensures.posed; read = c.in_ok-problem.ensures.found; printed = c.in-Ok.ensures.prints };
-      policy = c.in-Ok.ensures.policy;
-    } in
-    let went : is_err c.plan.result ≡ false = cc in
-    let failed : is_err c.tree-written.result ≡ true = cc in
-    let front = text_front c.tree-written.result _ _ _ (cert_bytes problem solved) cert_is failed c.tree-written.ensures.text in
-    let wrote = text_written c.plan.result _ _ _ (plan_bytes problem solved) plan_is went c.plan.ensures.text in
-    record {
-      texts = tt;
-      plan_front = λ is. cc;
-      cert_front = λ is. (solved.kind, plan_bytes problem solved, cert_bytes problem solved, front.0, right, wrote, front.1);
-    }
-
 pub returns-clause-policy : goal.returns-clause-policy
-returns-clause-policy g c =
-    let problem = c.in_ok-problem.problem in let solved = c.in-Ok.solved in
-    let width = c.of-writer.ensures.width ∙ ap (λ (m : GridMap). m.width) c.grid.ensures in
-    let plan_is : plan_text c.of-writer.result.width solved.text ≡ plan_bytes problem solved = ap (λ w. plan_text w solved.text) width in
-    let cert_is : cert_text Two c.plan.new.self.width (length c.agents.result.now) solved.claim (map (λ (n : Node). n) c.deref.result.now) ≡ cert_bytes problem solved =
-    ap (cert_text Two c.plan.new.self.width (length c.agents.result.now) solved.claim) (map-id c.deref.result.now)
-    ∙ ap (λ w. cert_text Two w (length c.agents.result.now) solved.claim c.deref.result.now) (c.plan.ensures.width ∙ width)
-    ∙ ap (λ (who : List Agent). cert_text Two problem.grid.width (length who) solved.claim c.deref.result.now) c.agents.ensures.value
-    ∙ ap (cert_text Two problem.grid.width (length problem.agents) solved.claim) c.deref.ensures.value in
-    let right : PrintsByPolicy (g.M.Source.remaining c.args.map.now) (g.S.Source.remaining c.args.scen.now) c.args.k c.args.limit solved.kind (plan_bytes problem solved) (cert_bytes problem solved) = record {
-      truly = record { problem = problem; posed = c.in_ok-problem.ensures.posed; read = c.in_ok-problem.ensures.found; printed = c.in-Ok.ensures.prints };
-      policy = c.in-Ok.ensures.policy;
-    } in
-    let went : is_err c.plan.result ≡ false = cc in
-    let went_too : is_err c.tree-written.result ≡ false = cc in
-    let wrote = text_written c.plan.result _ _ _ (plan_bytes problem solved) plan_is went c.plan.ensures.text in
-    let wrote_too = text_written c.tree-written.result _ _ _ (cert_bytes problem solved) cert_is went_too c.tree-written.ensures.text in
-    record {
-      texts = (plan_bytes problem solved, cert_bytes problem solved, right, wrote, wrote_too);
-      plan_front = λ is. cc;
-      cert_front = λ is. cc;
-    }
+returns-clause-policy g c = weaker _ _ _ _ _ _ _ (λ kind plan cert is. record {
+  truly = record { problem = c.in_ok-problem.problem; posed = c.in_ok-problem.ensures.posed; read = c.in_ok-problem.ensures.found; printed = is.0 };
+  policy = is.1;
+}) c.write_plain.ensures.texts
+
+pub returns-clause-printed : goal.returns-clause-printed
+returns-clause-printed g c = weaker _ _ _ _ _ _ _ (λ kind plan cert is. record {
+  problem = c.in_ok-problem.problem;
+  posed = c.in_ok-problem.ensures.posed;
+  read = c.in_ok-problem.ensures.found;
+  printed = is.0;
+}) c.write_plain.ensures.texts
 
 pub returns-clause-due : goal.returns-clause-due
 returns-clause-due g c asked map_told scen_told read =
-    let problem = c.in_ok-problem.problem in let solved = c.in-Ok.solved in
-    let width = c.of-writer.ensures.width ∙ ap (λ (m : GridMap). m.width) c.grid.ensures in
-    let plan_is : plan_text c.of-writer.result.width solved.text ≡ plan_bytes problem solved = ap (λ w. plan_text w solved.text) width in
-    let cert_is : cert_text Two c.plan.new.self.width (length c.agents.result.now) solved.claim (map (λ (n : Node). n) c.deref.result.now) ≡ cert_bytes problem solved =
-    ap (cert_text Two c.plan.new.self.width (length c.agents.result.now) solved.claim) (map-id c.deref.result.now)
-    ∙ ap (λ w. cert_text Two w (length c.agents.result.now) solved.claim c.deref.result.now) (c.plan.ensures.width ∙ width)
-    ∙ ap (λ (who : List Agent). cert_text Two problem.grid.width (length who) solved.claim c.deref.result.now) c.agents.ensures.value
-    ∙ ap (cert_text Two problem.grid.width (length problem.agents) solved.claim) c.deref.ensures.value in
-    let went : is_err c.plan.result ≡ false = cc in
-    let went_too : is_err c.tree-written.result ≡ false = cc in
-    let same : problem ≡ asked = ⊎_elim (λ (e : Ok problem ≡ Ok asked). cc) (λ no. absurd no) (c.in_ok-problem.ensures.only asked map_told scen_told read) in (
-      plan_bytes problem solved,
-      cert_bytes problem solved,
-      subst (λ (p : Instance). Prints p solved.kind (plan_bytes problem solved) (cert_bytes problem solved)) same c.in-Ok.ensures.prints,
-      text_written c.plan.result _ _ _ (plan_bytes problem solved) plan_is went c.plan.ensures.text,
-      text_written c.tree-written.result _ _ _ (cert_bytes problem solved) cert_is went_too c.tree-written.ensures.text,
-    )
+    let problem = c.in_ok-problem.problem in
+    let same : problem ≡ asked = ⊎_elim (λ (e : Ok problem ≡ Ok asked). cc) (λ no. absurd no) (c.in_ok-problem.ensures.only asked map_told scen_told read) in
+    due_of c.write_plain.result _ _ _ _ _ (weaker _ _ _ _ _ _ _ (λ kind plan cert is. subst (λ (p : Instance). Prints p kind plan cert) same is.0) c.write_plain.ensures.texts) c.write_plain.ensures.fault
 
-pub returns-then-is_err-clause-printed : goal.returns-then-is_err-clause-printed
-returns-then-is_err-clause-printed g c = weaker _ _ _ _ _ _ _ (λ kind plan cert both. both.truly) (returns-then-is_err-clause-policy g c)
+pub returns-clause-fault : goal.returns-clause-fault
+returns-clause-fault g c = each_error c.write_plain.result _ _ (solving _ _ _) c.write_plain.ensures.fault
 
-pub returns-then-is_err-2-clause-printed : goal.returns-then-is_err-2-clause-printed
-returns-then-is_err-2-clause-printed g c = weaker _ _ _ _ _ _ _ (λ kind plan cert both. both.truly) (returns-then-is_err-2-clause-policy g c)
+pub returns-clause-inner : goal.returns-clause-inner
+returns-clause-inner g c = each_error c.write_plain.result _ _ no_inner c.write_plain.ensures.fault
 
-pub returns-clause-printed : goal.returns-clause-printed
-returns-clause-printed g c = weaker _ _ _ _ _ _ _ (λ kind plan cert both. both.truly) (returns-clause-policy g c)
+pub returns-clause-map : goal.returns-clause-map
+returns-clause-map g c = source_told c.in_ok-problem.problem c.write_plain.result _ _ _ _ _ c.in_ok-problem.ensures.map c.write_plain.ensures.fault
+
+pub returns-clause-scen : goal.returns-clause-scen
+returns-clause-scen g c = scenario_told c.in_ok-problem.problem c.write_plain.result _ _ _ _ _ _ c.in_ok-problem.ensures.scen c.write_plain.ensures.fault

@@ -1,0 +1,150 @@
+//! An answer of a search of which only that it returns is proved. Its two texts are made in memory, and they count only
+//! if the check accepts them. The run of `solve` by such a search writes what is returned here.
+ghost use Rattle.std.specs.Prelude.{◌≤◌, ℕ, IfOk, IfErr, IfSome};
+ghost use Rattle.mapf_app.specs.Answered.{IsLimitedBy};
+ghost use Rattle.mapf_app.specs.Checked.{IsBoundInRange, IsKindOf};
+ghost use Rattle.mapf_app.specs.Solved.{Prints};
+ghost use Rattle.mapf_certificate.specs.Plans.{IsCauseInRange};
+ghost use Rattle.mapf_checker.specs.Faults.{HasNoTextMemory};
+ghost use Rattle.mapf_checker.specs.declared.fault.Verdict.{Verdict};
+ghost use Rattle.mapf_model.specs.Limits.{most_splits};
+
+use crate::kind::Kind;
+use mapf_cbsh::{Outcome, search_watched};
+use mapf_certificate::laws::plans_are_spelled_apart;
+use mapf_certificate::{Cert, PlanAnswer, PlanText, Version, write_cert, write_plan};
+use mapf_checker::{CheckFault, Verdict, check, check_plan};
+use mapf_model::limits::GREATEST_SUM;
+use mapf_model::{Cause, Claim, Item, Problem, Watcher};
+use std::alloc::Global;
+
+/// An answer with its two texts, which the check accepted.
+#[derive(Debug, Drop)]
+pub struct Checked {
+    pub kind: Kind,
+    pub plan: Vec<u8>,
+    pub cert: Vec<u8>,
+}
+
+/// Searches by `cbsh` with at most `limit` splits, and checks the answer. Returns why it is refused otherwise, or that
+/// memory ran out.
+pub fn search_checked<W: Watcher>(
+    alloc: Global,
+    problem: &Problem,
+    limit: u32,
+    watcher: &mut W,
+) -> Result<Checked, CheckFault>
+    requires { limit ≤ most_splits }
+    ensures prints { IfOk result (λ checked.
+        Prints problem.now checked.kind checked.plan.items checked.cert.items) }
+    ensures limit { IfOk result (λ checked. IsLimitedBy limit checked.kind) }
+    ensures inner { IfErr result HasNoTextMemory }
+{
+    let Ok(outcome) = search_watched(alloc, problem, limit, watcher) else {
+        return Err(CheckFault::Memory);
+    };
+    match outcome {
+        Outcome::Found { plan, tree } => {
+            if plan.paths().len() != problem.agents().len() {
+                return Err(CheckFault::C3);
+            }
+            match check_plan(problem, &plan) {
+                Ok(sum) => judged(
+                    alloc,
+                    problem,
+                    PlanAnswer::Found(plan),
+                    Claim::Cost(sum),
+                    tree,
+                ),
+                Err(fault) => Err(CheckFault::C5(fault)),
+            }
+        }
+        Outcome::Impossible { tree } => {
+            judged(
+                alloc,
+                problem,
+                PlanAnswer::Impossible,
+                Claim::Impossible,
+                tree,
+            )
+        }
+        Outcome::Limit { cause, bound, tree } => {
+            let bound = bound.min(GREATEST_SUM);
+            let answer = PlanAnswer::Bounded {
+                cause: cause_within(cause, limit),
+                bound,
+            };
+            judged(alloc, problem, answer, Claim::Bound(bound), tree)
+        }
+    }
+}
+
+// Returns the cause, with the limit as the number of splits.
+fn cause_within(cause: Cause, limit: u32) -> Cause
+    requires { limit ≤ most_splits }
+    ensures range { IsCauseInRange result }
+    ensures limit { (bound : ℕ) → IsLimitedBy limit (Kind.Limit result bound) }
+{
+    match cause {
+        Cause::Splits(_) => Cause::Splits(limit),
+        Cause::Ticks => Cause::Ticks,
+    }
+}
+
+// Makes the two texts of an answer, and returns them if the check accepts them.
+fn judged(
+    alloc: Global,
+    problem: &Problem,
+    answer: PlanAnswer,
+    claim: Claim,
+    tree: Vec<Item>,
+) -> Result<Checked, CheckFault>
+    requires { IsBoundInRange answer }
+    ensures prints { IfOk result (λ checked.
+        Prints problem.now checked.kind checked.plan.items checked.cert.items) }
+    ensures kind { IfOk result (λ checked. (verdict : Verdict) × IsKindOf verdict answer checked.kind) }
+    ensures inner { IfErr result HasNoTextMemory }
+{
+    plans_are_spelled_apart();
+    // Calling `width` lets the prover use its contract, which says that the grid is well formed.
+    let _width = problem.grid().width();
+    let agents = problem.agents().len() as u32;
+    let version = Version::Two;
+    let text = PlanText {
+        version,
+        agents,
+        answer,
+    };
+    let cert = Cert {
+        version,
+        agents,
+        claim,
+        tree,
+    };
+    let Ok(plan) = write_plan(alloc, &text, problem.grid()) else {
+        return Err(CheckFault::Memory);
+    };
+    let Ok(cert) = write_cert(alloc, &cert, problem.grid()) else {
+        return Err(CheckFault::Memory);
+    };
+    let verdict = check(alloc, problem, &plan, &cert)?;
+    match kind_of(verdict, &text.answer) {
+        Some(kind) => Ok(Checked { kind, plan, cert }),
+        None => Err(CheckFault::C4),
+    }
+}
+
+// Returns the answer of a run, if its plan text has this answer and is accepted with this verdict.
+fn kind_of(verdict: Verdict, answer: &PlanAnswer) -> Option<Kind>
+    ensures { IfSome result (IsKindOf verdict answer.now) }
+{
+    match (verdict, answer) {
+        (Verdict::Optimal(sum), PlanAnswer::Found(_)) => Some(Kind::Found(sum)),
+        (Verdict::Impossible, PlanAnswer::Impossible) => Some(Kind::Impossible),
+        (Verdict::Bound(bound), PlanAnswer::Bounded { cause, .. }) => Some(Kind::Limit {
+            cause: *cause,
+            bound,
+        }),
+        _ => None,
+    }
+}
