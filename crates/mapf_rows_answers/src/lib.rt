@@ -11,3 +11,5 @@ mod playing;
 mod runs;
 #[cfg(test)]
 mod solving;
+#[cfg(test)]
+mod solving_by;

@@ -3,8 +3,8 @@
 ghost use Rattle.std.specs.Prelude.{◌≡◌, false};
 
 use mapf_app::{
-    CertFault, CheckFault, EventFault, Fault, Input, Kind, MapFault, Output, PlanFault,
-    PlanTextFault, PlayFault, ScenFault, Verdict, tell_check, tell_run, tell_solve,
+    Answered, CertFault, CheckFault, EventFault, Fault, Input, Kind, MapFault, Output, PlanFault,
+    PlanTextFault, PlayFault, ScenFault, Verdict, tell_check, tell_run, tell_solve, tell_solve_by,
 };
 use mapf_model::devices::{FuseSink, Pace};
 use mapf_model::{BytesSink, Cause, OutOfMemory, Sink};
@@ -19,12 +19,13 @@ use std::alloc::Global;
 use std::process::Abort;
 use std::test::Fail;
 
-const ROOM: usize = 80;
+const ROOM: usize = 160;
 
 // The answer of a search, of a check, or of a run that writes its own output.
 #[derive(Clone, Copy)]
 enum Answer {
     Search(Result<Kind, Fault>),
+    SearchBy(Result<Answered, Fault>),
     Check(Result<Verdict, Fault>),
     Run(Result<(), Fault>),
 }
@@ -36,6 +37,7 @@ fn tell<O: Sink, E: Sink>(answer: &Answer, out: &mut O, err: &mut E) -> u8
 {
     match answer {
         Answer::Search(answer) => tell_solve(answer, out, err),
+        Answer::SearchBy(answer) => tell_solve_by(answer, out, err),
         Answer::Check(answer) => tell_check(answer, out, err),
         Answer::Run(answer) => tell_run(answer, err),
     }
@@ -199,6 +201,59 @@ fn tells_refusals_as_answers(rt: HostRuntime) -> Result<(), Fail> {
         assert_told(&rt, rt.alloc(), &answer, (1, line, ""))?;
     }
     Ok(())
+}
+
+// What the check refused of the stronger search, and how the line says so.
+const REFUSED_BEFORE: &[(CheckFault, &str)] = &[
+    (
+        CheckFault::C1(PlanTextFault::P3(2)),
+        "mapf: the answer of cbsh was refused (C1 P3 2); this is the answer of cbs\n",
+    ),
+    (
+        CheckFault::C2(CertFault::K1(8)),
+        "mapf: the answer of cbsh was refused (C2 K1 8); this is the answer of cbs\n",
+    ),
+    (
+        CheckFault::C3,
+        "mapf: the answer of cbsh was refused (C3); this is the answer of cbs\n",
+    ),
+    (
+        CheckFault::C5(PlanFault::V4 {
+            i: 0,
+            j: 1,
+            tick: 2,
+        }),
+        "mapf: the answer of cbsh was refused (C5 V4 0 1 2); this is the answer of cbs\n",
+    ),
+    (
+        CheckFault::C8(12),
+        "mapf: the answer of cbsh was refused (C8 12); this is the answer of cbs\n",
+    ),
+];
+
+#[test]
+fn tells_that_an_answer_was_refused(rt: HostRuntime) -> Result<(), Fail> {
+    for (refusal, line) in REFUSED_BEFORE {
+        let answer = Answer::SearchBy(Ok(Answered {
+            kind: Kind::Found(5),
+            refused: Some(*refusal),
+        }));
+        assert_told(&rt, rt.alloc(), &answer, (0, "cost 5\n", line))?;
+    }
+    Ok(())
+}
+
+#[test]
+fn tells_answers_of_either_search_alike(rt: HostRuntime) -> Result<(), Fail> {
+    for (kind, line, status) in KINDS {
+        let answer = Answer::SearchBy(Ok(Answered {
+            kind: *kind,
+            refused: None,
+        }));
+        assert_told(&rt, rt.alloc(), &answer, (*status, line, ""))?;
+    }
+    let answer = Answer::SearchBy(Err(Fault::F6));
+    assert_told(&rt, rt.alloc(), &answer, (2, "", "F6\n"))
 }
 
 const FAULTS_OF_INPUTS: &[(Fault, &str)] = &[

@@ -3,4 +3,6 @@
 
 mod runs;
 
-pub use runs::{Solved, check, check_pulled, dispatch, dispatch_pulled, play, solve};
+pub use runs::{
+    Solved, SolvedBy, check, check_pulled, dispatch, dispatch_pulled, play, solve, solve_by,
+};

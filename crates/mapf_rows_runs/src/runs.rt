@@ -2,8 +2,11 @@
 
 ghost use Rattle.std.specs.Prelude.{◌≡◌, ◌≤◌, false};
 
-use mapf_app::{Fault, Kind, Verdict, run_check, run_dispatch, run_play, run_solve};
-use mapf_model::{BytesSink, BytesSource, OutOfMemory, Sink, Source};
+use mapf_app::{
+    Answered, Asked, Fault, Kind, Search, Verdict, run_check, run_dispatch, run_play, run_solve,
+    run_solve_by,
+};
+use mapf_model::{BytesSink, BytesSource, OutOfMemory, Sink, Source, Unwatched};
 use mapf_rows::Given;
 use std::alloc::Global;
 
@@ -28,6 +31,38 @@ pub fn solve(alloc: Global, given: &Given, limit: u32) -> Result<Solved, OutOfMe
         alloc, &mut map, &mut scen, given.k, limit, &mut plan, &mut cert,
     );
     Ok(Solved { answer, plan, cert })
+}
+
+/// What a run by a search of the caller's choice answered and wrote.
+#[derive(Drop)]
+pub struct SolvedBy {
+    pub answer: Result<Answered, Fault>,
+    pub plan: BytesSink,
+    pub cert: BytesSink,
+}
+
+pub fn solve_by(
+    alloc: Global,
+    given: &Given,
+    search: Search,
+    limit: u32,
+) -> Result<SolvedBy, OutOfMemory>
+    requires some { 1 ≤ given.now.k }
+    requires few { given.now.k ≤ 200 }
+    requires limit { limit ≤ 100000 }
+{
+    let mut plan = BytesSink::with_room(alloc, 4096)?;
+    let mut cert = BytesSink::with_room(alloc, 4096)?;
+    let mut map = BytesSource::of(given.map.as_bytes());
+    let mut scen = BytesSource::of(given.scen.as_bytes());
+    let asked = Asked {
+        search,
+        k: given.k,
+        limit,
+        watcher: &mut Unwatched,
+    };
+    let answer = run_solve_by(alloc, &mut map, &mut scen, asked, &mut plan, &mut cert);
+    Ok(SolvedBy { answer, plan, cert })
 }
 
 pub fn check(alloc: Global, given: &Given, plan: &[u8], cert: &[u8]) -> Result<Verdict, Fault>
