@@ -1,9 +1,9 @@
+use crate::expect::expect_same;
 use mapf_certificate::{
     CertFault, PlanAnswer, PlanTextFault, Version, convert_cert, read_cert, read_plan, write_cert,
     write_plan,
 };
 use mapf_model::{Cause, Claim, Grid};
-use mapf_rows_made::expect_same;
 use std::alloc::{AllocError, Global};
 use std::process::Abort;
 use std::test::Fail;

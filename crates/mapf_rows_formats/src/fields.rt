@@ -1,7 +1,7 @@
+use crate::expect::expect_same;
 use mapf_fields::{
     LineFault, below, cut, field, from_one_to, last, line_length, pair, strip, up_to, whole, within,
 };
-use mapf_rows_made::expect_same;
 use std::process::Abort;
 
 // Texts, and the length of the first line of each.

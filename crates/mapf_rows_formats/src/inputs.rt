@@ -1,7 +1,7 @@
 ghost use Rattle.std.specs.Prelude.{◌≤◌};
 
+use crate::expect::expect_same;
 use mapf_model::{Agent, Cell, Grid, Problem};
-use mapf_rows_made::expect_same;
 use mapf_text::{MapFault, ScenFault, read_map, read_scen};
 use std::alloc::{AllocError, Global};
 use std::process::Abort;

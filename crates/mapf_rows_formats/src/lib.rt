@@ -6,6 +6,8 @@ mod adaptors;
 #[cfg(test)]
 mod certificates;
 #[cfg(test)]
+mod expect;
+#[cfg(test)]
 mod fields;
 #[cfg(test)]
 mod inputs;

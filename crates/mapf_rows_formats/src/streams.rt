@@ -1,10 +1,10 @@
 ghost use Rattle.std.specs.Prelude.{◌≡◌, ◌≤◌, false, length, None, IsSome};
 
 use crate::certificates::{CROSSING, CROSSING_TWO};
+use crate::expect::expect_same;
 use mapf_certificate::{CertFault, CertLines, LinesFault, Version};
 use mapf_model::devices::{EndlessSource, FuseSource, Pace};
 use mapf_model::{Claim, Failed, OutOfMemory, Source};
-use mapf_rows_made::expect_same;
 use std::alloc::Global;
 use std::fmt::Debug;
 use std::process::Abort;

@@ -1,5 +1,6 @@
 ghost use Rattle.std.specs.Prelude.{◌≡◌, false};
 
+use crate::expect::expect_same;
 use crate::samples::{
     CROSSING_CERT, CROSSING_CERT_TWO, CROSSING_PLAN, SWAPPED_CERT, crossing, length_of_lines,
     shared_goal, swapped, with_lines,
@@ -8,7 +9,6 @@ use mapf_certificate::{CertFault, PlanTextFault};
 use mapf_checker::{CheckFault, FromFault, PlanFault, Verdict, check, check_from};
 use mapf_model::devices::{FuseSource, Pace};
 use mapf_model::{BytesSource, Problem, Source};
-use mapf_rows_made::expect_same;
 use std::alloc::{AllocError, Global};
 use std::process::Abort;
 use std::test::Fail;

@@ -4,6 +4,8 @@
 #[cfg(test)]
 mod checks;
 #[cfg(test)]
+mod expect;
+#[cfg(test)]
 mod samples;
 #[cfg(test)]
 mod validity;

@@ -1,6 +1,6 @@
+use crate::expect::expect_same;
 use crate::samples::{crossing, crossing_plan};
 use mapf_checker::check_plan;
-use mapf_rows_made::expect_same;
 use std::test::Fail;
 
 #[test]

@@ -2,9 +2,9 @@ ghost use Rattle.std.specs.Prelude.{◌<◌};
 ghost use Rattle.mapf_model.specs.Bars.{IsBar};
 ghost use Rattle.mapf_constraints.specs.BarSets.{bar_tick};
 
+use crate::expect::expect_same;
 use mapf_constraints::{Bar, BarTable, ListBars, TickBars};
 use mapf_model::{Cell, OutOfMemory, Tick};
-use mapf_rows_made::expect_same;
 use std::alloc::Global;
 use std::process::Abort;
 use std::test::Fail;

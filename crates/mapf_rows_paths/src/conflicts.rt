@@ -1,12 +1,13 @@
 ghost use Rattle.std.specs.Prelude.{◌<◌, ◌≤◌, length, IfOk};
 ghost use Rattle.mapf_model.specs.Conflicts.{AreConflictFreeBefore};
 
+use crate::expect::expect_same;
 use mapf_conflicts::{
     BasePaths, CellMarks, Conflict, MOST_ROWS, PatchedPaths, PathsByTick, Replacement,
     first_conflict, first_conflict_after_replanning, first_conflict_in,
 };
 use mapf_model::{Cell, OutOfMemory, Path, Plan, Tick};
-use mapf_rows_made::{Missing, expect_same, path_of, plan_of};
+use mapf_rows_made::{Missing, path_of, plan_of};
 use std::alloc::Global;
 use std::process::Abort;
 use std::test::Fail;

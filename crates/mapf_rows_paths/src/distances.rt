@@ -1,6 +1,7 @@
+use crate::expect::expect_same;
 use mapf_distance::Distances;
 use mapf_model::{Cell, Path};
-use mapf_rows_made::{Missing, expect_same, grid_of};
+use mapf_rows_made::{Missing, grid_of};
 use std::alloc::Global;
 use std::process::Abort;
 use std::test::Fail;

@@ -1,5 +1,6 @@
+use crate::expect::expect_same;
 use mapf_model::{Cell, Grid};
-use mapf_rows_made::{Missing, expect_same, grid_of};
+use mapf_rows_made::{Missing, grid_of};
 use std::alloc::Global;
 use std::process::Abort;
 use std::test::Fail;

@@ -9,6 +9,8 @@ mod conflicts;
 #[cfg(test)]
 mod distances;
 #[cfg(test)]
+mod expect;
+#[cfg(test)]
 mod grids;
 #[cfg(test)]
 mod lazy_tables;

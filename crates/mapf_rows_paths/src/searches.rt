@@ -1,8 +1,9 @@
 use crate::distances::distances_to;
+use crate::expect::expect_same;
 use mapf_constraints::{Bar, BarTable, ListBars, TickBars};
 use mapf_distance::Distances;
 use mapf_model::{Agent, Cell, Entry, Grid, Label, OutOfMemory, Path};
-use mapf_rows_made::{Missing, expect_same, grid_of};
+use mapf_rows_made::{Missing, grid_of};
 use mapf_spacetime::{
     Found, Labels, SearchTask, StateLabels, Workspace, label_at, search, search_expecting,
 };

@@ -1,7 +1,8 @@
 use crate::distances::distances_to;
+use crate::expect::expect_same;
 use mapf_distance::start_distances;
 use mapf_model::Cell;
-use mapf_rows_made::{Missing, expect_same, grid_of, problem_of};
+use mapf_rows_made::{Missing, grid_of, problem_of};
 use std::alloc::Global;
 use std::process::Abort;
 use std::test::Fail;

@@ -1,6 +1,7 @@
+use crate::expect::expect_same;
 use mapf_distance::{Distances, goal_tables};
 use mapf_model::Cell;
-use mapf_rows_made::{Missing, expect_same, problem_of};
+use mapf_rows_made::{Missing, problem_of};
 use std::alloc::Global;
 use std::test::Fail;
 

@@ -9,7 +9,7 @@ use mapf_model::{Block, Item, Label, OutOfMemory, Path, Plan, Problem};
 use std::alloc::{AllocError, Global};
 use std::process::Abort;
 
-fn push_number(
+pub fn push_number(
     alloc: Global,
     text: &mut String,
     front: &str,

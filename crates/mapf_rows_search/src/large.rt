@@ -129,7 +129,7 @@ fn lanes(alloc: Global) -> Result<Grid, Fail> {
 }
 
 // Two agents that block each other in the row of two cells, and one that goes along each lane.
-fn lane_agents(alloc: Global) -> Result<Vec<Agent>, AllocError> {
+fn lane_agents(alloc: Global) -> Result<Vec<Agent>, Fail> {
     let row = 19 * 2048;
     let mut agents = agents_of(alloc, &[(row, row + 1), (row + 1, row)])?;
     for lane in 0..18 {

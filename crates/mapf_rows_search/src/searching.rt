@@ -1,6 +1,6 @@
 //! What the search answers, and its trees, beside the plain search and certificates that are known.
 
-use crate::answers::{Search, answer_of, assert_text, common_text, tree_of};
+use crate::answers::{Search, answer_of, assert_text, common_text, push_number, tree_of};
 use mapf_model::{AsNode, Block, Item, Label, NodeKind, Problem};
 use mapf_rows_made::problem_of;
 use std::alloc::{AllocError, Global};
@@ -132,14 +132,14 @@ fn is_split(item: &Item) -> bool {
 // The sums of costs of the leaves, for these two agents.
 fn leaf_sums(alloc: Global, tree: &[Item]) -> Result<String, AllocError> {
     let mut text = String::new(alloc);
-    let mut owed = Vec::new(alloc);
-    owed.push((2, 0))?;
+    let mut pending = Vec::new(alloc);
+    pending.push((2, 0))?;
     for item in tree {
-        let above = owed.pop().unwrap_or((0, 0));
+        let above = pending.pop().unwrap_or((0, 0));
         let labels = start_labels(item, above);
         if is_split(item) {
-            owed.push(labels)?;
-            owed.push(labels)?;
+            pending.push(labels)?;
+            pending.push(labels)?;
         } else {
             let sum = u64::from(labels.0) + u64::from(labels.1);
             push_number(alloc, &mut text, " ", sum)?;
