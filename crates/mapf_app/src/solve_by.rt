@@ -56,7 +56,8 @@ pub fn run_solve_by<W: Watcher, M: Source, S: Source, P: Sink, C: Sink>(
         (P.contents plan_sink.old) (P.contents plan_sink.new) (C.contents cert_sink.old) (C.contents cert_sink.new) }
     // If the answer is plain search's, these texts can be chosen so that they are also as `run_solve` promises.
     ensures policy { WritesTexts result (λ answer plan cert. IsOfPlainSearch asked.entry.search answer →
-        PrintsByPolicy (M.remaining map.old) (S.remaining scen.old) asked.entry.k asked.entry.limit answer.kind plan cert)
+        PrintsByPolicy (M.remaining map.old) (S.remaining scen.old) asked.entry.k asked.entry.limit
+        answer.kind plan cert)
         (P.contents plan_sink.old) (P.contents plan_sink.new) (C.contents cert_sink.old) (C.contents cert_sink.new) }
     // An answer that names a number of splits names the limit.
     ensures limit { IfOk result (λ answer. IsLimitedBy asked.entry.limit answer.kind) }

@@ -2,8 +2,9 @@
 
 /// Somebody who watches a search.
 pub trait Watcher {
-    /// Takes note of how many splits were made, of a sum of costs below which no valid plan is, in ticks, and of how
-    /// many nodes are open. A type that doesn't say otherwise takes no note.
+    /// Takes note of how many splits were made, of the sum of costs of the node that was split last, in ticks, and of
+    /// how many nodes are open. If the search is right, no valid plan has a smaller sum. A type that doesn't say
+    /// otherwise takes no note.
     fn note(&mut self, _splits: u32, _bound: u64, _open: usize) {}
 }
 
