@@ -1,12 +1,10 @@
 //! Which constraints the agents have at a node. The path from the root keeps them here, and the judge of entries looks
 //! them up.
-ghost use Rattle.std.specs.Prelude.{◌≡◌, ◌↔◌, ℕ, [], List, Contains, true, false, not};
-ghost use Rattle.std.specs.Prelude.{IfOk, OnOk, OnErr, IsTrue};
+ghost use Rattle.std.specs.Prelude.{◌≡◌, ◌↔◌, ℕ, [], List, Contains, IfOk, OnOk, OnErr, IsTrue};
 ghost use Rattle.mapf_model.specs.declared.bar.Bar.{Bar};
 ghost use Rattle.mapf_model.specs.Tree.{with_constraint};
-ghost use Rattle.mapf_checker.specs.Index.{AreOthersKept, is_held};
+ghost use Rattle.mapf_checker.specs.Index.{IsOn};
 
-use crate::barred::{BarredCell, BarredMove};
 use mapf_model::{Bar, Cell, Constraint, OutOfMemory, Tick};
 use std::alloc::Global;
 use std::collections::BTreeSet;
@@ -18,13 +16,13 @@ pub struct Undo {
     pub is_new: bool,
 }
 
-/// The constraints of each agent, in ordered sets. Finding, adding and removing a constraint takes time that grows with
-/// the logarithm of their number, whatever they are. Constraints are removed in the reverse of the order in which they
-/// were added.
+/// The constraints of each agent, in an ordered set. Finding, adding and removing a constraint takes time that grows
+/// with the logarithm of their number, whatever they are. Constraints are removed in the reverse of the order in which
+/// they were added.
 #[derive(Drop)]
 pub struct BarIndex {
-    cells: BTreeSet<BarredCell>,
-    moves: BTreeSet<BarredMove>,
+    // By agent; an agent's vertex constraints come before its edge constraints, by cell and then by tick.
+    constraints: BTreeSet<(u32, Bar)>,
 }
 
 impl BarIndex {
@@ -35,8 +33,7 @@ impl BarIndex {
         ensures { Indexes (λ agent. []) result }
     {
         BarIndex {
-            cells: BTreeSet::new(alloc),
-            moves: BTreeSet::new(alloc),
+            constraints: BTreeSet::new(alloc),
         }
     }
 
@@ -45,25 +42,17 @@ impl BarIndex {
         ensures { (bars : ℕ → List Bar) → Indexes bars self.now
             → IsTrue result ↔ Contains (bars constraint.now.agent) constraint.now.bar }
     {
-        let agent = constraint.agent;
-        match constraint.bar {
-            Bar::Cell { cell, tick } => self.cells.contains(&BarredCell { agent, cell, tick }),
-            Bar::Move { from, to, tick } => self.moves.contains(&BarredMove {
-                agent,
-                tick,
-                from,
-                to,
-            }),
-        }
+        self.constraints
+            .contains(&(constraint.agent, constraint.bar))
     }
 
     /// Returns whether a vertex constraint forbids the cell to the agent at this tick or later.
     pub fn has_from(&self, agent: u32, cell: Cell, tick: Tick) -> bool
         ensures { (bars : ℕ → List Bar) → Indexes bars self.now → IsTrue result ↔ IsBarredFrom (bars agent) cell tick }
     {
-        let least = BarredCell { agent, cell, tick };
-        match self.cells.range(least..).next() {
-            Some(next) => next.agent == agent && next.cell == cell,
+        let least = Bar::Cell { cell, tick };
+        match self.constraints.range((agent, least)..).next() {
+            Some(&(of, bar)) => of == agent && is_on(bar, cell),
             None => false,
         }
     }
@@ -76,7 +65,7 @@ impl BarIndex {
             → CanUndo bars constraint.now undo) }
         ensures unchanged { OnErr result ((bars : ℕ → List Bar) → Indexes bars self.old → Indexes bars self.new) }
     {
-        let is_new = self.insert(constraint)?;
+        let is_new = self.constraints.insert((constraint.agent, constraint.bar))?;
         Ok(Undo { is_new })
     }
 
@@ -86,54 +75,17 @@ impl BarIndex {
             → CanUndo bars constraint.now undo.now → Indexes bars self.new }
     {
         if undo.is_new {
-            self.remove(constraint);
+            self.constraints.remove(&(constraint.agent, constraint.bar));
         }
     }
+}
 
-    // Adds a constraint. Returns whether it is new.
-    fn insert(&mut self, constraint: &Constraint) -> Result<bool, OutOfMemory>
-        ensures is_new { IfOk result (λ is_new. is_new ≡ not (is_held self.old constraint.now)) }
-        ensures here { OnOk result (is_held self.new constraint.now ≡ true) }
-        ensures others { OnOk result (AreOthersKept constraint.now self.old self.new) }
-        ensures unchanged { OnErr result ((other : Constraint) → is_held self.new other ≡ is_held self.old other) }
-    {
-        let agent = constraint.agent;
-        match constraint.bar {
-            Bar::Cell { cell, tick } => {
-                let is_new = self.cells.insert(BarredCell { agent, cell, tick })?;
-                Ok(is_new)
-            }
-            Bar::Move { from, to, tick } => {
-                let barred = BarredMove {
-                    agent,
-                    tick,
-                    from,
-                    to,
-                };
-                let is_new = self.moves.insert(barred)?;
-                Ok(is_new)
-            }
-        }
-    }
-
-    // Removes a constraint.
-    fn remove(&mut self, constraint: &Constraint)
-        ensures here { is_held self.new constraint.now ≡ false }
-        ensures others { AreOthersKept constraint.now self.old self.new }
-    {
-        let agent = constraint.agent;
-        match constraint.bar {
-            Bar::Cell { cell, tick } => {
-                self.cells.remove(&BarredCell { agent, cell, tick });
-            }
-            Bar::Move { from, to, tick } => {
-                self.moves.remove(&BarredMove {
-                    agent,
-                    tick,
-                    from,
-                    to,
-                });
-            }
-        }
+// Returns whether it is a vertex constraint on the cell.
+fn is_on(bar: Bar, cell: Cell) -> bool
+    ensures { IsTrue result ↔ IsOn cell bar }
+{
+    match bar {
+        Bar::Cell { cell: at, .. } => at == cell,
+        Bar::Move { .. } => false,
     }
 }

@@ -6,9 +6,9 @@
 //! but these start entries is kept, so the memory grows with the number of blocks along the path and not with their
 //! entries.
 //!
-//! The constraints are in ordered sets, so one is found, added or removed in time that grows with the logarithm of
+//! The constraints are in an ordered set, so one is found, added or removed in time that grows with the logarithm of
 //! their number, whoever wrote the certificate. They are needed only where a block is judged. So before that the
-//! missing constraints of the tree path are added to the sets (`Branch::index_all`), and a path without blocks adds
+//! missing constraints of the tree path are added to the set (`Branch::index_all`), and a path without blocks adds
 //! none.
 //!
 //! The entries of a block are judged in order, by tick and cell. Each is compared with the labels of its neighbourhood
@@ -18,7 +18,6 @@
 #![tactic(auto)]
 
 mod acceptance;
-mod barred;
 mod blocks;
 mod branch;
 mod cert_judge;

@@ -2,7 +2,7 @@
 use crate::cell::{Cell, Tick};
 
 /// A constraint of one agent in conflict-based search (Sharon et al. 2015), without naming the agent.
-#[derive(Clone, Copy, Debug, PartialEq, Eq, Hash)]
+#[derive(Clone, Copy, Debug, PartialEq, Eq, PartialOrd, Ord, Hash)]
 pub enum Bar {
     /// A vertex constraint: the agent may not be in the cell at the tick.
     Cell { cell: Cell, tick: Tick },
