@@ -52,20 +52,13 @@ pub trait Listed: Drop {
             (text sizes.now.width))) };
 }
 
-// Returns whether the second entry may follow the first in a block.
-fn are_rising(a: &Entry, b: &Entry) -> bool
-    ensures { IsTrue result ↔ IsBefore a.now b.now }
-{
-    a.tick < b.tick || (a.tick == b.tick && a.cell.0 < b.cell.0)
-}
-
 // Returns whether the entry may follow these.
 fn follows_entries(before: &[Entry], entry: &Entry) -> bool
     requires { AllPairs IsBefore before.now }
     ensures { IsTrue result ↔ All (λ b. IsBefore b entry.now) before.now }
 {
     match before.last() {
-        Some(last) => are_rising(last, entry),
+        Some(last) => last.is_before(entry),
         None => true,
     }
 }

@@ -1,106 +1,77 @@
 -- The entry of a state, in a list that rises.
-use Rattle.std.proofs.Common.{◌≡◌, ◌⊎◌, ℕ, zero, suc, ◌+◌, ◌<◌, ◌&&◌, ◌==◌, true, false, List, [], ◌∷◌, None, Some, AllPairs, slice_index_or, length, refl, sym, ◌∙◌, ap, subst, inl, inr, ⊎_elim, eq-eqb, arith}
-use Rattle.std.proofs.lemmas.Bool.{cases_eq, cases_lt, ne_eqb}
-use Rattle.std.proofs.lemmas.Option.{same_Some}
-use Rattle.std.specs.declared.cmp.Ordering.TheVariants.{Less, Greater}
+use Rattle.std.proofs.Common.{◌≡◌, ℕ, ◌<◌, ◌≤◌, List, Option, Some, None, Err, AllPairs, slice_index_or, length, Ordering, Less, Equal, Greater, refl, ◌∙◌, ap, subst, inl, inr, arith}
+use Rattle.std.proofs.lemmas.Bool.{cases_lt}
+use Rattle.std.proofs.lemmas.Bool.Decides.{nat_tests}
+use Rattle.std.specs.List.Sorted.{IsBinarySearchResult, IsNonDecreasingBy}
+use Rattle.std.specs.Ordering.{nat_cmp, ordering_index, ordering_then}
 use Rattle.mapf_model.specs.declared.label.Entry.{Entry}
 use Rattle.mapf_model.specs.declared.label.Label.{Label}
 use Rattle.mapf_model.specs.declared.bar.Bar.{Bar}
 use Rattle.mapf_model.specs.Grid.{GridMap}
 use Rattle.mapf_model.specs.Labels.{entries_of, IsSoundEntry, AreSound}
 use Rattle.mapf_model.specs.Printed.{IsBefore}
-use Rattle.mapf_checker.specs.Order.{IsOf, StandsTo, IsNoneBelow, IsNoneFrom}
+use Rattle.mapf_model.proofs.ListedLemmas.{listed_is_contained, contained_is_listed}
+use Rattle.mapf_checker.specs.Marks.{IsOf}
 
--- an entry before one that precedes a state isn't that of the state
-before_early : (a b : Entry) (cell tick : ℕ) → IsBefore a b → StandsTo cell tick b Less → IsOf cell tick a → ⊥
-before_early a b cell tick (inl p) (inl q) is = omega (arith, is.1)
-before_early a b cell tick (inl p) (inr q) is = omega (arith, is.1, q.0)
-before_early a b cell tick (inr p) (inl q) is = omega (arith, is.1, p.0)
-before_early a b cell tick (inr p) (inr q) is = omega (arith, is.0, p.1, q.1)
-
-after_late : (a b : Entry) (cell tick : ℕ) → IsBefore b a → StandsTo cell tick b Greater → IsOf cell tick a → ⊥
-after_late a b cell tick (inl p) (inl q) is = omega (arith, is.1)
-after_late a b cell tick (inl p) (inr q) is = omega (arith, is.1, q.0)
-after_late a b cell tick (inr p) (inl q) is = omega (arith, is.1, p.0)
-after_late a b cell tick (inr p) (inr q) is = omega (arith, is.0, p.1, q.1)
-
-early : (b : Entry) (cell tick : ℕ) → StandsTo cell tick b Less → IsOf cell tick b → ⊥
-early b cell tick (inl q) is = omega (arith, is.1)
-early b cell tick (inr q) is = omega (arith, is.0, q.1)
-
-late : (b : Entry) (cell tick : ℕ) → StandsTo cell tick b Greater → IsOf cell tick b → ⊥
-late b cell tick (inl q) is = omega (arith, is.1)
-late b cell tick (inr q) is = omega (arith, is.0, q.1)
-
-apart : (a b : Entry) (cell tick : ℕ) → IsBefore a b → IsOf cell tick b → IsOf cell tick a → ⊥
-apart a b cell tick (inl p) is_b is_a = omega (arith, is_a.1, is_b.1)
-apart a b cell tick (inr p) is_b is_a = omega (arith, is_a.0, is_b.0, p.1)
-
-module _ (entries : List Entry) (rising : AllPairs IsBefore entries) (cell tick middle : ℕ) (within : middle < length entries) (entry : Entry) where
-  pub misses_below : ((d : Entry) → slice_index_or entries middle d ≡ entry) → StandsTo cell tick entry Less → IsNoneBelow entries cell tick (middle + 1)
-  misses_below is stands k d less = ⊎_elim
-      (λ (before : k < middle). before_early (slice_index_or entries k d) entry cell tick (subst (λ e. IsBefore (slice_index_or entries k d) e) (is d) (rising k middle d before within)) stands)
-      (λ past. let same : k ≡ middle = omega arith in early (slice_index_or entries k d) cell tick (subst (λ e. StandsTo cell tick e Less) (sym (is d) ∙ ap (λ j. slice_index_or entries j d) (sym same)) stands))
-      (cases_lt k middle)
-
-  pub misses_above : ((d : Entry) → slice_index_or entries middle d ≡ entry) → StandsTo cell tick entry Greater → IsNoneFrom entries cell tick middle
-  misses_above is stands k d from inside = ⊎_elim
-      (λ (past : middle < k). after_late (slice_index_or entries k d) entry cell tick (subst (λ e. IsBefore e (slice_index_or entries k d)) (is d) (rising middle k d past inside)) stands)
-      (λ at. let same : k ≡ middle = omega arith in late (slice_index_or entries k d) cell tick (subst (λ e. StandsTo cell tick e Greater) (sym (is d) ∙ ap (λ j. slice_index_or entries j d) (sym same)) stands))
-      (cases_lt middle k)
-
-cases_of : (cell tick : ℕ) (e : Entry) → IsOf cell tick e ⊎ (IsOf cell tick e → ⊥)
-cases_of cell tick e = elim (cases_eq e.cell cell) [
-  | inl one ↦ elim (cases_eq e.tick tick) [ inl two ↦ inl (one, two) | inr two ↦ inr (λ is. two is.1) ]
-  | inr one ↦ inr (λ is. one is.0)
-]
-
-test_of : (cell tick : ℕ) (e : Entry) → IsOf cell tick e → ((e.cell == cell) && (e.tick == tick)) ≡ true
-test_of cell tick e is = rw (eq-eqb e.cell cell is.0, eq-eqb e.tick tick is.1)
-
-test_not : (cell tick : ℕ) (e : Entry) → (IsOf cell tick e → ⊥) → ((e.cell == cell) && (e.tick == tick)) ≡ false
-test_not cell tick e differ = elim (cases_eq e.cell cell) [
-  | inl same ↦ rw (eq-eqb e.cell cell same, ne_eqb e.tick tick (λ t. differ (same, t)))
-  | inr other ↦ rw (ne_eqb e.cell cell other)
-]
+abbrev entry_with : ℕ → ℕ → Label → Entry
+entry_with cell tick label = record { cell = cell; tick = tick; label = label }
 
 -- no entry of the state
 pub entries_of-none : (entries : List Entry) (cell tick : ℕ) → ((k : ℕ) (d : Entry) → k < length entries → IsOf cell tick (slice_index_or entries k d) → ⊥) → entries_of entries cell tick ≡ None
-entries_of-none [] cell tick misses = refl
-entries_of-none (e ∷ entries) cell tick misses = rw (test_not cell tick e (misses 0 e (omega arith))) (entries_of-none entries cell tick (λ k d within. misses (suc k) d (omega arith)))
+entries_of-none entries cell tick misses = by (entries_of entries cell tick) refl
+  where
+    by : (found : Option Label) → entries_of entries cell tick ≡ found → entries_of entries cell tick ≡ None
+    by None none = none
+    by (Some label) some =
+        let (k, within, is) = listed_is_contained entries cell tick label some in
+        absurd (misses k (entry_with cell tick label) within (ap (λ (e : Entry). e.cell) is, ap (λ (e : Entry). e.tick) is))
 
 -- the one entry of the state
 pub entries_of-some : (entries : List Entry) (cell tick k : ℕ) (entry : Entry) → AllPairs IsBefore entries → k < length entries → ((d : Entry) → slice_index_or entries k d ≡ entry) → IsOf cell tick entry →
     entries_of entries cell tick ≡ Some entry.label
-entries_of-some [] cell tick k entry rising within at is = absurd (omega arith)
-entries_of-some (e ∷ entries) cell tick zero entry rising within at is =
-    let same : e ≡ entry = at e in
-    rw (test_of cell tick e (subst (λ x. IsOf cell tick x) (sym same) is)) (ap (λ (x : Entry). Some x.label) same)
-entries_of-some (e ∷ entries) cell tick (suc k) entry rising within at is =
-    let first : IsBefore e entry = subst (λ x. IsBefore e x) (at e) (rising 0 (suc k) e (omega arith) within) in
-    rw (test_not cell tick e (apart e entry cell tick first is))
-    (entries_of-some entries cell tick k entry (λ i j d less inside. rising (suc i) (suc j) d (omega arith) (omega arith)) (omega arith) at is)
+entries_of-some entries cell tick k entry rising within at is =
+    contained_is_listed entries rising cell tick entry.label (k, within, at (entry_with cell tick entry.label) ∙ (λ i. entry_with (is.0 i) (is.1 i) entry.label))
 
--- the index of the entry of a state
-pub entries_of-found : (entries : List Entry) (cell tick : ℕ) (label : Label) → entries_of entries cell tick ≡ Some label →
-    (entry : Entry) × (k : ℕ) × (k < length entries) × ((d : Entry) → slice_index_or entries k d ≡ entry) × IsOf cell tick entry × (entry.label ≡ label)
-entries_of-found [] cell tick label e = absurd cc
-entries_of-found (x ∷ entries) cell tick label e = elim (cases_of cell tick x) [
-  | inl is ↦ (x, 0, omega arith, λ d. refl, is, same_Some x.label label (rw (test_of cell tick x is) at e))
-  | inr other ↦
-      let (entry, k, within, at, is, same) = entries_of-found entries cell tick label (rw (test_not cell tick x other) at e) in
-      (entry, suc k, omega arith, at, is, same)
-]
+-- what a bisection finds
+module _ (entries : List Entry) (rising : AllPairs IsBefore entries) (cell tick : ℕ) where
+  -- how an entry compares with the state
+  abbrev pub compared : Entry → Ordering
+  compared e = ordering_then (nat_cmp e.tick tick) (nat_cmp e.cell cell)
+
+  compared_rise : IsNonDecreasingBy (λ e. ordering_index (compared e)) entries
+  compared_rise i j d le within = elim (cases_lt i j) [
+    | inl less ↦ rises (slice_index_or entries i d) (slice_index_or entries j d) (rising i j d less within)
+    | inr past ↦ let same : i ≡ j = omega (arith, le, past) in subst (λ n. ordering_index (compared (slice_index_or entries i d)) ≤ ordering_index (compared (slice_index_or entries n d))) same (omega arith)
+  ]
+    where
+      rises : (a b : Entry) → IsBefore a b → ordering_index (compared a) ≤ ordering_index (compared b)
+      rises a b (inl earlier) = grind (arith, nat_tests)
+      rises a b (inr (tied, less)) = grind (arith, nat_tests)
+
+  pub found_by : (k : ℕ) (entry : Entry) → k < length entries → ((d : Entry) → slice_index_or entries k d ≡ entry) → compared entry ≡ Equal → entries_of entries cell tick ≡ Some entry.label
+  found_by k entry within at equal = entries_of-some entries cell tick k entry rising within at (of_state entry equal)
+    where
+      of_state : (e : Entry) → compared e ≡ Equal → IsOf cell tick e
+      of_state e equal = grind (arith, nat_tests)
+
+  pub none_by : (place : ℕ) → IsBinarySearchResult compared entries (Err place) → entries_of entries cell tick ≡ None
+  none_by place parted = entries_of-none entries cell tick (λ k d within is. elim (cases_lt k place) [
+    | inl below ↦ less (slice_index_or entries k d) ((parted compared_rise).0 k d (omega arith) below) is
+    | inr past ↦ more (slice_index_or entries k d) ((parted compared_rise).1 k d past within) is
+  ])
+    where
+      less : (e : Entry) → compared e ≡ Less → IsOf cell tick e → ⊥
+      less e before (same, tied) = grind (arith, nat_tests)
+
+      more : (e : Entry) → compared e ≡ Greater → IsOf cell tick e → ⊥
+      more e after (same, tied) = grind (arith, nat_tests)
 
 module _ (grid : GridMap) (goal : ℕ) (bars : List Bar) (entries : List Entry) (rising : AllPairs IsBefore entries) where
   -- entries that are sound one by one are sound
   pub AreSound-each : ((k : ℕ) (d : Entry) → k < length entries → IsSoundEntry grid goal bars (entries_of entries) (slice_index_or entries k d).cell (slice_index_or entries k d).tick (slice_index_or entries k d).label) → AreSound grid goal bars (entries_of entries)
   AreSound-each each cell tick label e =
-      let (entry, k, within, at, is, same) = entries_of-found entries cell tick label e in
-      let found : IsSoundEntry grid goal bars (entries_of entries) entry.cell entry.tick entry.label = subst (λ (x : Entry). IsSoundEntry grid goal bars (entries_of entries) x.cell x.tick x.label) (at entry) (each k entry within) in
-      subst (λ c. IsSoundEntry grid goal bars (entries_of entries) c tick label) is.0
-      (subst (λ t. IsSoundEntry grid goal bars (entries_of entries) entry.cell t label) is.1
-      (subst (λ l. IsSoundEntry grid goal bars (entries_of entries) entry.cell entry.tick l) same found))
+      let (k, within, is) = listed_is_contained entries cell tick label e in
+      subst (λ (x : Entry). IsSoundEntry grid goal bars (entries_of entries) x.cell x.tick x.label) is (each k (entry_with cell tick label) within)
 
   pub IsSoundEntry-at : (k : ℕ) (entry : Entry) → k < length entries → ((d : Entry) → slice_index_or entries k d ≡ entry) → AreSound grid goal bars (entries_of entries) → IsSoundEntry grid goal bars (entries_of entries) entry.cell entry.tick entry.label
   IsSoundEntry-at k entry within at sound = sound entry.cell entry.tick entry.label (entries_of-some entries entry.cell entry.tick k entry rising within at (refl, refl))

@@ -7,7 +7,7 @@ use Rattle.mapf_model.specs.declared.label.Entry.{Entry}
 use Rattle.mapf_model.specs.Labels.{entries_of}
 use Rattle.mapf_model.specs.Printed.{IsBefore}
 use Rattle.mapf_checker.specs.Marks.{AreMarked, AreNotEarlier}
-use Rattle.mapf_checker.specs.Order.{IsOf}
+use Rattle.mapf_checker.specs.Marks.{IsOf}
 use Rattle.mapf_checker.proofs.EntryLemmas.{entries_of-none}
 
 -- if an entry isn't of an earlier tick, those after it aren't either

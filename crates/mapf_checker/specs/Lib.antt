@@ -4,7 +4,6 @@ pub mod Defects
 pub mod Index
 pub mod Starts
 pub mod Branch
-pub mod Order
 pub mod AgentProblem
 pub mod Leaf
 pub mod NodeDefects

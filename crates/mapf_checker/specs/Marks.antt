@@ -14,6 +14,10 @@ pub record Marks : Type 0 where
 abbrev pub CoverGrid : GridMap → Marks → Type 0
 CoverGrid grid marks = grid.width * grid.height ≤ length marks.offsets
 
+-- the entry is that of the state
+abbrev pub IsOf : ℕ → ℕ → Entry → Type 0
+IsOf cell tick entry = (entry.cell ≡ cell) × (entry.tick ≡ tick)
+
 -- the entries before this index are of earlier ticks
 abbrev pub AreEarlier : List Entry → ℕ → ℕ → Type 0
 AreEarlier entries place tick =

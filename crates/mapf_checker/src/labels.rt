@@ -6,41 +6,20 @@ ghost use Rattle.mapf_model.specs.Grid.{GridMap};
 ghost use Rattle.mapf_model.specs.Printed.{IsBefore};
 ghost use Rattle.mapf_distance.specs.Distances.{IsDistanceOrNone};
 ghost use Rattle.mapf_checker.specs.Marks.{IsMarking};
-ghost use Rattle.mapf_checker.specs.Order.{StandsTo};
 
 use crate::marks::EntryMarks;
 use mapf_distance::Distances;
-use mapf_model::{Cell, Entry, Label, Tick};
-use std::cmp::Ordering;
+use mapf_model::{Cell, Entry, Label, State, Tick};
 
 /// Returns the entry of a state in a block. Searches by bisection.
 pub fn entry_at(entries: &[Entry], cell: Cell, tick: Tick) -> Option<Label>
     requires { AllPairs IsBefore entries.now }
     ensures { result ≡ entries_of entries.now cell tick }
 {
-    let (mut low, mut high) = (0, entries.len());
-    while low < high {
-        let middle = low + (high - low) / 2;
-        match order(&entries[middle], cell, tick) {
-            Ordering::Less => low = middle + 1,
-            Ordering::Equal => return Some(entries[middle].label),
-            Ordering::Greater => high = middle,
-        }
+    match entries.binary_search_by_key(&State { tick, cell }, |entry: &Entry| entry.state()) {
+        Ok(place) => Some(entries[place].label),
+        Err(_) => None,
     }
-    None
-}
-
-// Compares the entry with a state, by tick and then by cell.
-fn order(entry: &Entry, cell: Cell, tick: Tick) -> Ordering
-    ensures { StandsTo cell tick entry.now result }
-{
-    if entry.tick < tick {
-        return Ordering::Less;
-    }
-    if tick < entry.tick {
-        return Ordering::Greater;
-    }
-    entry.cell.0.cmp(&cell.0)
 }
 
 // Returns a distance as a label.

@@ -3,8 +3,7 @@ ghost use Rattle.std.specs.Prelude.{◌≡◌, ◌↔◌, ◌≤◌, ◌<◌, Al
 ghost use Rattle.mapf_model.specs.Labels.{entries_of};
 ghost use Rattle.mapf_model.specs.Limits.{most_cells};
 ghost use Rattle.mapf_model.specs.Printed.{IsBefore};
-ghost use Rattle.mapf_checker.specs.Marks.{AreEarlier, AreMarked, AreNotEarlier, IsMarking, IsOfTick};
-ghost use Rattle.mapf_checker.specs.Order.{IsOf};
+ghost use Rattle.mapf_checker.specs.Marks.{AreEarlier, AreMarked, AreNotEarlier, IsMarking, IsOf, IsOfTick};
 
 use mapf_model::{Cell, Entry, Label, OutOfMemory, Tick};
 use std::alloc::Global;

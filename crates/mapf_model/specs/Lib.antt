@@ -3,6 +3,7 @@ pub mod Grid
 pub mod Path
 pub mod Distance
 pub mod Bars
+pub mod States
 pub mod Labels
 pub mod Plan
 pub mod Laws

@@ -1,5 +1,5 @@
 -- The ranges and orders of the values that plan texts and certificates spell. (Own)
-use Rattle.std.specs.Prelude.{◌≡◌, ◌⊎◌, ℕ, ◌*◌, ◌^◌, ◌<◌, ◌≤◌, ⊤, List, length, All, AllPairs}
+use Rattle.std.specs.Prelude.{◌≡◌, ℕ, ◌*◌, ◌^◌, ◌<◌, ◌≤◌, ⊤, List, length, All, AllPairs}
 use Rattle.mapf_model.specs.declared.item.Claim.{Claim}
 use Rattle.mapf_model.specs.declared.item.Claim.TheVariants.{Cost, Bound, Impossible}
 use Rattle.mapf_model.specs.declared.conflict.Conflict.{Conflict}
@@ -11,15 +11,16 @@ use Rattle.mapf_model.specs.Limits.{most_agents, most_path_cells, greatest_cost,
 use Rattle.mapf_model.specs.Blocks.{LabelBlock}
 use Rattle.mapf_model.specs.Grid.{GridMap}
 use Rattle.mapf_model.specs.Path.{IsTight}
+use Rattle.mapf_model.specs.States.{IsEarlier, state_of}
 use Rattle.mapf_model.specs.Tree.{ConstraintTree, Split, Leaf, Clash}
 
 -- a cell of the grid, free or not
 abbrev pub IsOnGrid : GridMap → ℕ → Type 0
 IsOnGrid grid cell = cell < grid.width * grid.height
 
--- the first precedes the second, by tick and then by the cell's number
+-- the state of the first is earlier than that of the second
 abbrev pub IsBefore : Entry → Entry → Type 0
-IsBefore a b = (a.tick < b.tick) ⊎ ((a.tick ≡ b.tick) × (a.cell < b.cell))
+IsBefore a b = IsEarlier (state_of a) (state_of b)
 
 -- 1 to 9,999,999, or never
 abbrev pub IsLabelInRange : Label → Type 0

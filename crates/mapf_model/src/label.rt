@@ -1,8 +1,11 @@
 //! Labels, and the entries and blocks in which a certificate lists them. The reader of certificates makes blocks, and
 //! the checker judges them.
+ghost use Rattle.std.specs.Prelude.{◌≡◌, ◌↔◌, IsTrue};
 ghost use Rattle.mapf_model.specs.Blocks.{LabelBlock};
+ghost use Rattle.mapf_model.specs.States.{IsEarlier, state_of};
 
 use crate::cell::{Cell, Tick};
+use crate::state::State;
 use std::marker::Model;
 
 /// A lower bound on the ticks from a state until its agent's last arrival at its goal.
@@ -20,6 +23,27 @@ pub struct Entry {
     pub cell: Cell,
     pub tick: Tick,
     pub label: Label,
+}
+
+impl Entry {
+    /// Returns its state. The entries of a block rise by their states.
+    #[inline(always)]
+    pub fn state(&self) -> State
+        ensures { result ≡ state_of self.now }
+    {
+        State {
+            tick: self.tick,
+            cell: self.cell,
+        }
+    }
+
+    /// Returns whether its state is earlier than that of the other entry.
+    #[inline(always)]
+    pub fn is_before(&self, other: &Entry) -> bool
+        ensures { IsTrue result ↔ IsEarlier (state_of self.now) (state_of other.now) }
+    {
+        self.state() < other.state()
+    }
 }
 
 /// The entries of one agent at a split or a leaf of a constraint tree. The label of a state without an entry is the

@@ -31,6 +31,7 @@ mod plan;
 mod problem;
 mod sink;
 mod source;
+mod state;
 mod watcher;
 
 pub use bar::Bar;
@@ -50,4 +51,5 @@ pub use plan::Plan;
 pub use problem::{Agent, Problem};
 pub use sink::{BytesSink, Sink, WriteSink, write_all};
 pub use source::{BytesSource, Failed, ReadEnd, ReadSource, Source, read_all};
+pub use state::State;
 pub use watcher::{Unwatched, Watcher};

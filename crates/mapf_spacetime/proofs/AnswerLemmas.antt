@@ -11,7 +11,7 @@ use Rattle.mapf_model.specs.Grid.{IsGridMap}
 use Rattle.mapf_model.specs.Labels.{entries_of, IsSoundEntry}
 use Rattle.mapf_model.specs.Path.{at, IsPath, IsCost, IsTight}
 use Rattle.mapf_model.specs.Printed.{IsLabelInRange, IsEntryInRange}
-use Rattle.mapf_spacetime.specs.declared.state.State.{State}
+use Rattle.mapf_model.specs.declared.state.State.{State}
 use Rattle.mapf_spacetime.specs.Task.{Task, IsValue, IsWithin, IsBelow, state_at, start_of, cost_bound}
 use Rattle.mapf_spacetime.specs.States.{IsBelowLimit}
 use Rattle.mapf_spacetime.specs.Sweeps.{AreSwept, AreAll}

@@ -4,10 +4,10 @@ use Rattle.std.proofs.lemmas.List.{get_or-map, length-map}
 use Rattle.std.proofs.lemmas.List.Elements.{All-map, All-contains, Contains-get_or}
 use Rattle.mapf_model.specs.declared.label.Entry.{Entry}
 use Rattle.mapf_model.specs.Printed.{IsBefore}
-use Rattle.mapf_spacetime.specs.declared.state.State.{State}
+use Rattle.mapf_model.specs.declared.state.State.{State}
 use Rattle.mapf_spacetime.specs.Task.{state_at}
 use Rattle.mapf_spacetime.specs.Listed.{label_of, entry_for, AreEntriesOf}
-use Rattle.mapf_spacetime.specs.Sweeps.{IsEarlier}
+use Rattle.mapf_model.specs.States.{IsEarlier}
 
 module _ (cost : Option ℕ) (states : List State) (rising : AllPairs IsEarlier states) where
   rise : AllPairs IsBefore (map (entry_for cost) states)

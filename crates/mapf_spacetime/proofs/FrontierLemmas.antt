@@ -5,7 +5,7 @@ use Rattle.std.proofs.lemmas.List.Elements.{Contains-append_left, Contains-push,
 use Rattle.mapf_model.specs.Labels.{MayGo}
 use Rattle.mapf_model.specs.Neighbours.{neighbourhood}
 use Rattle.mapf_model.proofs.StepLemmas.{step_neighbour}
-use Rattle.mapf_spacetime.specs.declared.state.State.{State}
+use Rattle.mapf_model.specs.declared.state.State.{State}
 use Rattle.mapf_spacetime.specs.Task.{Task, Goes, IsValue, IsWithin, IsPast, IsBarredLater, MayRestFrom, state_at, start_of}
 use Rattle.mapf_spacetime.specs.States.{IsEntered}
 use Rattle.mapf_spacetime.specs.Frontiers.{States, with_reached, with_open, with_next, with_later, low_states, IsWaiting, IsKnown, IsTaken, IsClosed, IsFrontier, Keeps, Takes}

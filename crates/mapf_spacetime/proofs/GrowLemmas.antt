@@ -5,7 +5,7 @@ use Rattle.mapf_model.specs.Distance.{IsUnreachable}
 use Rattle.mapf_model.specs.Grid.{free_cell_count}
 use Rattle.mapf_model.specs.Labels.{MayGo}
 use Rattle.mapf_constraints.specs.BarSets.{AreBefore}
-use Rattle.mapf_spacetime.specs.declared.state.State.{State}
+use Rattle.mapf_model.specs.declared.state.State.{State}
 use Rattle.mapf_spacetime.specs.Task.{Task, IsValue, state_at, start_of}
 use Rattle.mapf_spacetime.specs.States.{IsBelowLimit}
 use Rattle.mapf_spacetime.specs.Sweeps.{IsFrom}

@@ -7,7 +7,7 @@ use Rattle.mapf_model.specs.Distance.{IsDistance, IsUnreachable}
 use Rattle.mapf_model.specs.Grid.{GridMap}
 use Rattle.mapf_model.specs.Labels.{entries_of, AreSound, IsSoundEntry, IsLabel, IsEntryOrDistance, IsWithinOne, MayGo}
 use Rattle.mapf_model.proofs.ListedLemmas.{listed_is_contained, contained_is_listed}
-use Rattle.mapf_spacetime.specs.declared.state.State.{State}
+use Rattle.mapf_model.specs.declared.state.State.{State}
 use Rattle.mapf_spacetime.specs.Task.{Task, IsValue, IsWithin, state_at, start_of}
 use Rattle.mapf_spacetime.specs.Sweeps.{AreSwept, AreAll}
 use Rattle.mapf_spacetime.specs.Listed.{label_of, AreEntriesOf}

@@ -4,11 +4,12 @@ use Rattle.std.proofs.lemmas.List.{take_all}
 use Rattle.std.proofs.lemmas.List.Elements.{Contains-append_left}
 use Rattle.mapf_model.specs.Labels.{MayGo}
 use Rattle.mapf_model.proofs.ContainsLemmas.{Contains-none}
-use Rattle.mapf_spacetime.specs.declared.state.State.{State}
+use Rattle.mapf_model.specs.declared.state.State.{State}
 use Rattle.mapf_spacetime.specs.Frontiers.{States, first_states, low_states, with_open, AreLowReached, IsAtGoal, IsClosed, IsFrontier, IsKnown, IsExhausted, takes_left}
 use Rattle.mapf_spacetime.specs.Levels.{IsWalkTo}
 use Rattle.mapf_spacetime.specs.PathSearch.{CanArrive, IsWholeWalk}
-use Rattle.mapf_spacetime.specs.Sweeps.{Sweeping, IsEarlier, IsFrom, IsWhole, HasArrived, AreAll}
+use Rattle.mapf_model.specs.States.{IsEarlier}
+use Rattle.mapf_spacetime.specs.Sweeps.{Sweeping, IsFrom, IsWhole, HasArrived, AreAll}
 use Rattle.mapf_spacetime.specs.Task.{Task, IsValue, MayRestFrom, state_at, start_of}
 use Rattle.mapf_spacetime.proofs.FrontierLemmas.{reached_within, at_goal_open, rest_at_cost}
 use Rattle.mapf_spacetime.proofs.PathLemmas.{walk_leads}

@@ -5,7 +5,7 @@ use Rattle.mapf_model.specs.declared.bar.Bar.TheVariants.{Cell}
 use Rattle.mapf_model.specs.declared.label.Entry.{Entry}
 use Rattle.mapf_model.specs.Distance.{IsUnreachable}
 use Rattle.mapf_model.proofs.ContainsLemmas.{Contains-none}
-use Rattle.mapf_spacetime.specs.declared.state.State.{State}
+use Rattle.mapf_model.specs.declared.state.State.{State}
 use Rattle.mapf_spacetime.specs.Listed.{AreEntriesOf}
 use Rattle.mapf_spacetime.specs.Listing.{AreReachedEntries, HasValue, IsReached, IsReachedIn}
 use Rattle.mapf_spacetime.specs.Sweeps.{AreAll, AreSwept, IsFrom, IsStartOrEntered}

@@ -6,9 +6,9 @@ use Rattle.std.specs.List.Sorted.{IsStrictlySortedBy}
 use Rattle.std.specs.Ordering.{MatchOrdering, ordering_then, eq_by_cmp}
 use Rattle.std.proofs.lemmas.List.Elements.{All-weaker, All-from_recursion}
 use Rattle.std.proofs.lemmas.List.Kept.{AllPairs-cons}
-use Rattle.mapf_spacetime.specs.declared.state.State.{State}
+use Rattle.mapf_model.specs.declared.state.State.{State}
 use Rattle.mapf_spacetime.specs.States.{same_state}
-use Rattle.mapf_spacetime.specs.Sweeps.{IsEarlier}
+use Rattle.mapf_model.specs.States.{IsEarlier}
 
 abbrev pub state_cmp : State → State → Ordering
 state_cmp a b = ordering_then (nat_cmp a.tick b.tick) (nat_cmp a.cell b.cell)

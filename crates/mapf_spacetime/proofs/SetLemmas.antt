@@ -7,7 +7,7 @@ use Rattle.std.proofs.lemmas.Bool.{and_parts, eqb-true, eq-eqb, or_left, or_righ
 use Rattle.std.specs.List.{list_any}
 use Rattle.indexmap.specs.IndexSet.{insert_key}
 use Rattle.indexmap.proofs.CallerLemmas.{Contains-list_any}
-use Rattle.mapf_spacetime.specs.declared.state.State.{State}
+use Rattle.mapf_model.specs.declared.state.State.{State}
 use Rattle.mapf_spacetime.specs.States.{same_state}
 
 pub same_state-exact : (x y : State) → same_state x y ≡ true → x ≡ y

@@ -1,9 +1,9 @@
 -- What holds in the loops of a sweep.
 use Rattle.std.proofs.Common.{◌≡◌, ◌⊎◌, ℕ, ◌<◌, ◌≤◌, List, length, slice_index_or, Contains, AllPairs}
 use Rattle.mapf_spacetime.specs.CellSets.{HasNumber}
-use Rattle.mapf_spacetime.specs.Sweeps.{IsEarlier}
+use Rattle.mapf_model.specs.States.{IsEarlier}
 use Rattle.mapf_spacetime.specs.Task.{Task, IsBelow, state_at, start_of}
-use Rattle.mapf_spacetime.specs.declared.state.State.{State}
+use Rattle.mapf_model.specs.declared.state.State.{State}
 
 -- of these cells some are left, and the others are in these states at the tick
 pub record AreTaken (tick : ℕ) (cells rest : List ℕ) (states : List State) : Type 0 where

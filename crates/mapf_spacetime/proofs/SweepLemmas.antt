@@ -8,9 +8,10 @@ use Rattle.std.proofs.Math.Seq.{get_or-append_right}
 use Rattle.std.proofs.lemmas.List.Elements.{Contains-append_left, Contains-append_right, Contains-append_cases, Contains-push, Contains-push_cases, Contains-get_or}
 use Rattle.mapf_model.proofs.ContainsLemmas.{Contains-none}
 use Rattle.mapf_spacetime.specs.CellSets.{HasNumber, HasNone}
-use Rattle.mapf_spacetime.specs.declared.state.State.{State}
+use Rattle.mapf_model.specs.declared.state.State.{State}
 use Rattle.mapf_spacetime.specs.States.{IsEntered}
-use Rattle.mapf_spacetime.specs.Sweeps.{Sweeping, IsEarlier, IsFrom, SomeIsPast, AreReached, IsSweep, AreNext, IsNoted, IsExtended, AreStatesAt, IsWhole, MeetsGoal}
+use Rattle.mapf_model.specs.States.{IsEarlier}
+use Rattle.mapf_spacetime.specs.Sweeps.{Sweeping, IsFrom, SomeIsPast, AreReached, IsSweep, AreNext, IsNoted, IsExtended, AreStatesAt, IsWhole, MeetsGoal}
 use Rattle.mapf_spacetime.proofs.SweepInvariants.{AreTaken}
 use Rattle.mapf_spacetime.specs.Task.{Task, IsValue, IsWithin, IsPast, IsBarredLater, MayRestFrom, state_at, start_of}
 use Rattle.mapf_spacetime.proofs.SweptLemmas.{one_held}

@@ -11,10 +11,11 @@ use Rattle.mapf_model.specs.Labels.{MayGo}
 use Rattle.mapf_model.specs.Limits.{most_cells}
 use Rattle.mapf_model.proofs.ContainsLemmas.{Contains-none}
 use Rattle.mapf_constraints.specs.BarSets.{AreBefore}
-use Rattle.mapf_spacetime.specs.declared.state.State.{State}
+use Rattle.mapf_model.specs.declared.state.State.{State}
 use Rattle.mapf_spacetime.specs.PathSearch.{CanArrive, IsWholeWalk, state_of}
 use Rattle.mapf_spacetime.specs.States.{IsBelowLimit}
-use Rattle.mapf_spacetime.specs.Sweeps.{Sweeping, IsEarlier, IsFrom, IsStartOrEntered, IsWhole, MeetsGoal, AreQuiet, AreSwept, HasArrived, AreAll, AreReached, SomeIsPast}
+use Rattle.mapf_model.specs.States.{IsEarlier}
+use Rattle.mapf_spacetime.specs.Sweeps.{Sweeping, IsFrom, IsStartOrEntered, IsWhole, MeetsGoal, AreQuiet, AreSwept, HasArrived, AreAll, AreReached, SomeIsPast}
 use Rattle.mapf_spacetime.proofs.SweepInvariants.{AreKept}
 use Rattle.mapf_spacetime.specs.Task.{Task, Goes, IsValue, IsWithin, IsBelow, MayRestFrom, state_at, start_of}
 use Rattle.mapf_spacetime.proofs.ValueLemmas.{value_unique, no_lower}

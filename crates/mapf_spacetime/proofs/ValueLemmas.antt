@@ -2,7 +2,7 @@
 use Rattle.std.proofs.Common.{◌≡◌, ⊎_elim, ℕ, zero, suc, ◌+◌, ◌≤◌, refl, subst, arith}
 use Rattle.mapf_model.specs.Distance.{Walk, IsDistance, IsUnreachable}
 use Rattle.mapf_model.specs.Grid.{GridMap, IsFree}
-use Rattle.mapf_spacetime.specs.declared.state.State.{State}
+use Rattle.mapf_model.specs.declared.state.State.{State}
 use Rattle.mapf_distance.proofs.StepLemmas.{Step-sym}
 use Rattle.mapf_spacetime.specs.Task.{Task, Goes, IsValue, IsWithin, IsBelow}
 

@@ -12,7 +12,7 @@ use Rattle.mapf_model.specs.Grid.{GridMap, IsFree, Step}
 use Rattle.mapf_model.specs.Labels.{MayGo}
 use Rattle.mapf_model.specs.Path.{at, IsPath, IsLawful, IsCost}
 use Rattle.mapf_spacetime.specs.Answer.{IsFirstOfCost}
-use Rattle.mapf_spacetime.specs.declared.state.State.{State}
+use Rattle.mapf_model.specs.declared.state.State.{State}
 use Rattle.mapf_spacetime.specs.Task.{Task, Goes, IsValue, IsWithin, agent_of, state_at, start_of}
 use Rattle.mapf_spacetime.specs.PathSearch.{Walked, first_walk, with_step, with_failure, CanArriveIn, CanArrive, IsNoWayOn, IsWholeWalk, state_of, IsSearching}
 use Rattle.mapf_spacetime.specs.declared.path_search.SearchEnd.{SearchEnd}

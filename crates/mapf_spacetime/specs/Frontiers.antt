@@ -3,7 +3,7 @@ use Rattle.std.specs.Prelude.{◌≡◌, ◌⊎◌, ℕ, ◌+◌, ◌-◌, ◌*�
 use Rattle.std.specs.Prelude.{slice_get, Contains}
 use Rattle.mapf_model.specs.Distance.{IsUnreachable}
 use Rattle.mapf_model.specs.Labels.{MayGo}
-use Rattle.mapf_spacetime.specs.declared.state.State.{State}
+use Rattle.mapf_model.specs.declared.state.State.{State}
 use Rattle.mapf_spacetime.specs.PathSearch.{CanArrive}
 use Rattle.mapf_spacetime.specs.States.{IsEntered}
 use Rattle.mapf_spacetime.specs.Task.{Task, IsValue, IsBelow, IsBarredLater, MayRestFrom, state_at, start_of}

@@ -4,7 +4,7 @@ use Rattle.mapf_model.specs.declared.label.Entry.{Entry}
 use Rattle.mapf_model.specs.Path.{IsCost}
 use Rattle.mapf_spacetime.specs.declared.found.Found.{Found}
 use Rattle.mapf_spacetime.specs.declared.found.Found.TheVariants.{Arrives, Dead}
-use Rattle.mapf_spacetime.specs.declared.state.State.{State}
+use Rattle.mapf_model.specs.declared.state.State.{State}
 use Rattle.mapf_spacetime.specs.Listed.{entry_for, label_of}
 use Rattle.mapf_spacetime.specs.Task.{Task, Goes, IsBelow, IsOpen, IsValue, start_of, state_at}
 

@@ -2,7 +2,7 @@
 use Rattle.std.specs.Prelude.{Bool, ◌==◌, ◌&&◌, ℕ, ◌+◌, ◌<◌, List, Contains}
 use Rattle.mapf_model.specs.Grid.{free_cell_count}
 use Rattle.mapf_constraints.specs.BarSets.{AreBefore}
-use Rattle.mapf_spacetime.specs.declared.state.State.{State}
+use Rattle.mapf_model.specs.declared.state.State.{State}
 use Rattle.mapf_spacetime.specs.Task.{Task, Goes}
 
 -- the agent can go to the state from a reached one

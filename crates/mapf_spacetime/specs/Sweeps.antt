@@ -3,12 +3,13 @@ use Rattle.std.specs.Prelude.{Bool, true, ◌≡◌, ◌⊎◌, ℕ, ◌+◌, �
 use Rattle.std.specs.Prelude.{AllPairs}
 use Rattle.mapf_model.specs.Distance.{IsUnreachable}
 use Rattle.mapf_model.specs.Labels.{MayGo}
+use Rattle.mapf_model.specs.States.{IsEarlier}
 use Rattle.mapf_spacetime.specs.CellSets.{HasNumber, HasNone}
 use Rattle.mapf_spacetime.specs.PathSearch.{CanArrive}
 use Rattle.mapf_spacetime.specs.States.{IsEntered}
 use Rattle.mapf_spacetime.specs.Task.{Task, IsValue, IsWithin, IsBelow, IsPast, IsBarredLater, MayRestFrom, state_at}
 use Rattle.mapf_spacetime.specs.Task.{start_of}
-use Rattle.mapf_spacetime.specs.declared.state.State.{State}
+use Rattle.mapf_model.specs.declared.state.State.{State}
 
 -- the states that were reached, those of them that are below a cost, the cells that can be reached at the next tick,
 -- the greatest f-value, whether a state of a greater one was left out, the index of the first state whose steps weren't
@@ -21,10 +22,6 @@ pub record Sweeping : Type 0 where
   pub is_cut : Bool
   pub first : ℕ
   pub tick : ℕ
-
--- the first precedes the second, by tick and then by the cell's number
-abbrev pub IsEarlier : State → State → Type 0
-IsEarlier a b = (a.tick < b.tick) ⊎ ((a.tick ≡ b.tick) × (a.cell < b.cell))
 
 -- the state has an f-value, and it is at least this
 abbrev pub IsFrom : Task → ℕ → State → Type 0

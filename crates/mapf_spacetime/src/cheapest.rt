@@ -4,14 +4,15 @@ ghost use Rattle.std.specs.Prelude.{◌≡◌, ◌<◌, ◌≤◌, [], List, Non
 ghost use Rattle.mapf_model.specs.Limits.{greatest_cost};
 ghost use Rattle.mapf_model.specs.Grid.{IsGridMap};
 ghost use Rattle.mapf_model.specs.declared.label.Entry.{Entry};
-ghost use Rattle.mapf_spacetime.specs.declared.state.State.{State};
+ghost use Rattle.mapf_model.specs.declared.state.State.{State};
 ghost use Rattle.mapf_spacetime.specs.PathSearch.{IsWholeWalk};
 ghost use Rattle.mapf_spacetime.specs.Task.{Task, IsOpen, IsValue, IsWithin, MayRestFrom};
 ghost use Rattle.mapf_spacetime.specs.Task.{cost_bound, start_of, task_of};
 ghost use Rattle.mapf_spacetime.specs.Listed.{AreEntriesOf};
 ghost use Rattle.mapf_spacetime.specs.Listing.{AreReachedEntries, HasValue, ListsReached};
 ghost use Rattle.mapf_spacetime.specs.States.{IsBelowLimit};
-ghost use Rattle.mapf_spacetime.specs.Sweeps.{HasArrived, IsEarlier, IsWhole};
+ghost use Rattle.mapf_model.specs.States.{IsEarlier};
+ghost use Rattle.mapf_spacetime.specs.Sweeps.{HasArrived, IsWhole};
 ghost use Rattle.mapf_spacetime.specs.Answer.{IsPathAnswer, ShowNone};
 
 use crate::found::Found;
@@ -19,7 +20,6 @@ use crate::labels::Labels;
 use crate::levels::by_levels;
 use crate::path_search::{least_walk, try_walk};
 use crate::search_task::SearchTask;
-use crate::state::State;
 use crate::state_labels::StateLabels;
 use crate::sweep::Sweep;
 use crate::turns::{FREE_FAILURES, UpToBound, by_turns};
@@ -27,7 +27,7 @@ use crate::workspace::Workspace;
 use mapf_constraints::BarTable;
 use mapf_distance::Distances;
 use mapf_model::limits::MOST_CELLS;
-use mapf_model::{Agent, Cell, Grid, OutOfMemory, Path};
+use mapf_model::{Agent, Cell, Grid, OutOfMemory, Path, State};
 use std::alloc::Global;
 
 /// Returns a cheapest path of the agent under its constraints, with labels that show that none is cheaper; or labels

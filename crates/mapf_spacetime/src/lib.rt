@@ -33,7 +33,6 @@ mod number_set;
 mod path_search;
 mod reached;
 mod search_task;
-mod state;
 mod state_labels;
 mod state_set;
 mod sweep;

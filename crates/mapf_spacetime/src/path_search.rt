@@ -12,10 +12,9 @@ ghost use Rattle.mapf_spacetime.specs.PathSearchEnds.{IsEnd};
 ghost use Rattle.mapf_spacetime.specs.PathSearch.{state_of, turns_left, first_walk, with_step, with_failure};
 
 use crate::search_task::SearchTask;
-use crate::state::State;
 use crate::state_set::StateSet;
 use mapf_constraints::BarTable;
-use mapf_model::{Cell, OutOfMemory, Tick};
+use mapf_model::{Cell, OutOfMemory, State, Tick};
 use std::alloc::Global;
 use std::marker::Model;
 

@@ -3,13 +3,12 @@ ghost use Rattle.std.specs.Prelude.{◌≡◌, ◌<◌, ◌≤◌, ◌↔◌, �
 ghost use Rattle.std.specs.Prelude.{AllPairs, Contains};
 ghost use Rattle.mapf_model.specs.Limits.{most_path_cells};
 ghost use Rattle.mapf_spacetime.specs.Frontiers.{AreBelow, AreOfBase, IsBase};
-ghost use Rattle.mapf_spacetime.specs.Sweeps.{IsEarlier};
+ghost use Rattle.mapf_model.specs.States.{IsEarlier};
 ghost use Rattle.mapf_spacetime.specs.Task.{state_at};
-ghost use Rattle.mapf_spacetime.specs.declared.state.State.{State};
+ghost use Rattle.mapf_model.specs.declared.state.State.{State};
 
-use crate::state::State;
 use crate::sweep::Sweep;
-use mapf_model::{Cell, OutOfMemory, Tick};
+use mapf_model::{Cell, OutOfMemory, State, Tick};
 use std::alloc::Global;
 use std::marker::Model;
 
@@ -30,7 +29,7 @@ pub struct Reached {
 impl Model for Reached {
     ghost use Rattle.std.specs.Prelude.{List};
     ghost use Rattle.mapf_spacetime.specs.Frontiers.{AreLast, AreOfBase, IsBase};
-    ghost use Rattle.mapf_spacetime.specs.declared.state.State.{State};
+    ghost use Rattle.mapf_model.specs.declared.state.State.{State};
 
     ghost Value = { List State };
 

@@ -13,10 +13,9 @@ ghost use Rattle.mapf_model.specs.Path.{IsCost, IsPath, IsTight, at};
 ghost use Rattle.mapf_distance.specs.Distances.{IsLeastDescent, IsReachable};
 ghost use Rattle.mapf_spacetime.specs.Task.{task_of, start_of, IsOpen, IsValue, IsBelow, IsBarredLater, MayRestFrom};
 
-use crate::state::State;
 use mapf_constraints::BarTable;
 use mapf_distance::Distances;
-use mapf_model::{Agent, Cell, Grid, Neighbourhoods, OutOfMemory, Path, Tick};
+use mapf_model::{Agent, Cell, Grid, Neighbourhoods, OutOfMemory, Path, State, Tick};
 use std::alloc::Global;
 use std::marker::Model;
 

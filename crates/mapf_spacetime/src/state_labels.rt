@@ -2,10 +2,9 @@
 //! written.
 ghost use Rattle.std.specs.Prelude.{◌≡◌, ◌<◌, ◌↔◌, ◌^◌, [], Some, AllPairs, IfOk, IsTrue, length, map, slice_get};
 ghost use Rattle.mapf_spacetime.specs.Listed.{AreEntriesOf, entry_for};
-ghost use Rattle.mapf_spacetime.specs.Sweeps.{IsEarlier};
+ghost use Rattle.mapf_model.specs.States.{IsEarlier};
 
-use crate::state::State;
-use mapf_model::{Entry, Label, OutOfMemory};
+use mapf_model::{Entry, Label, OutOfMemory, State};
 use std::alloc::Global;
 use std::marker::Model;
 

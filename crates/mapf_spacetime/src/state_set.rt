@@ -1,9 +1,8 @@
 //! The states from which the search for a walk had to backtrack.
 ghost use Rattle.std.specs.Prelude.{◌≡◌, ◌<◌, ◌↔◌, ◌^◌, ◌++◌, ◌∷◌, [], length, IsTrue, OnOk, Contains};
 
-use crate::state::State;
 use indexmap::IndexSet;
-use mapf_model::{Cell, OutOfMemory, Tick};
+use mapf_model::{Cell, OutOfMemory, State, Tick};
 use std::alloc::Global;
 use std::marker::Model;
 
@@ -26,7 +25,7 @@ pub struct StateSet {
 
 impl Model for StateSet {
     ghost use Rattle.std.specs.Prelude.{◌≡◌, ◌<◌, ◌≤◌, ◌++◌, [], List, Contains, length, take};
-    ghost use Rattle.mapf_spacetime.specs.declared.state.State.{State};
+    ghost use Rattle.mapf_model.specs.declared.state.State.{State};
 
     ghost Value = { List State };
 

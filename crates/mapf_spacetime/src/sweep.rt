@@ -12,13 +12,12 @@ ghost use Rattle.mapf_spacetime.specs.Sweeps.{AreNext, AreStatesAt, AreSwept, Ha
 ghost use Rattle.mapf_spacetime.specs.Sweeps.{IsSweep, IsUnderWay, IsWhole, MeetsGoal};
 ghost use Rattle.mapf_spacetime.specs.Task.{IsBarredLater, IsBelow, IsWithin, MayRestFrom, cost_bound};
 ghost use Rattle.mapf_spacetime.specs.Task.{start_of};
-ghost use Rattle.mapf_spacetime.specs.declared.state.State.{State};
+ghost use Rattle.mapf_model.specs.declared.state.State.{State};
 
 use crate::cell_set::CellSet;
 use crate::search_task::SearchTask;
-use crate::state::State;
 use mapf_constraints::BarTable;
-use mapf_model::{Cell, OutOfMemory, Tick};
+use mapf_model::{Cell, OutOfMemory, State, Tick};
 use std::alloc::Global;
 use std::marker::Model;
 use std::mem;

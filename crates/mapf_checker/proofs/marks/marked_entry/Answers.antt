@@ -1,6 +1,6 @@
 use Rattle.std.proofs.Common.{◌≡◌, ◌+◌, ◌≤◌, length, sym, ◌∙◌, ap, subst, slice_index, slice_index_or, arith}
 use Rattle.std.proofs.lemmas.Bool.{iff_false}
-use Rattle.mapf_checker.specs.Order.{IsOf}
+use Rattle.mapf_checker.specs.Marks.{IsOf}
 use Rattle.mapf_checker.proofs.EntryLemmas.{entries_of-some}
 use Rattle.mapf_checker.proofs.MarkLemmas.{none_by_mark}
 use Rattle.mapf_checker.proofs.marks.marked_entry.Goals as goal

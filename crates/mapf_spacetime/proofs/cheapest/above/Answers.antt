@@ -2,7 +2,8 @@ use Rattle.std.proofs.Common.{◌≡◌, ◌+◌, AllPairs, IfSome, IfNone, None
 use Rattle.mapf_spacetime.specs.Listed.{AreEntriesOf}
 use Rattle.mapf_spacetime.specs.PathSearch.{IsWholeWalk}
 use Rattle.mapf_spacetime.specs.States.{IsBelowLimit}
-use Rattle.mapf_spacetime.specs.Sweeps.{AreAll, AreSwept, HasArrived, IsEarlier}
+use Rattle.mapf_model.specs.States.{IsEarlier}
+use Rattle.mapf_spacetime.specs.Sweeps.{AreAll, AreSwept, HasArrived}
 use Rattle.mapf_spacetime.specs.Task.{start_of}
 use Rattle.mapf_spacetime.proofs.AnswerLemmas.{all_few, all_show}
 use Rattle.mapf_spacetime.proofs.ListLemmas.{all_listed}

@@ -1,5 +1,5 @@
 use Rattle.std.proofs.Common.{◌≡◌, ℕ, ◌<◌, List, Some, None, slice_index_or}
-use Rattle.mapf_spacetime.specs.declared.state.State.{State}
+use Rattle.mapf_model.specs.declared.state.State.{State}
 use Rattle.mapf_spacetime.specs.Frontiers.{IsFrontier, Keeps, IsTaken}
 use Rattle.mapf_spacetime.proofs.frontier.Frontier.take_all.Given as goal
 

@@ -1,7 +1,7 @@
 use Rattle.std.proofs.Common.{◌≡◌, ◌+◌, ◌-◌, sym, subst, ap, ◌∙◌, length, Contains, arith}
 use Rattle.mapf_model.specs.Grid.{IsFree}
 use Rattle.mapf_model.specs.Labels.{MayGo}
-use Rattle.mapf_spacetime.specs.declared.state.State.{State}
+use Rattle.mapf_model.specs.declared.state.State.{State}
 use Rattle.mapf_spacetime.specs.Task.{Goes, IsWithin, state_at}
 use Rattle.mapf_spacetime.specs.PathSearch.{CanArrive, IsSearching, with_failure, state_of}
 use Rattle.mapf_spacetime.proofs.ValueLemmas.{value_free}

@@ -6,7 +6,7 @@ use Rattle.std.proofs.lemmas.List.Filters.{dedup_is}
 use Rattle.std.proofs.lemmas.List.Kept.{Contains-dedup, Contains-from_dedup, IsStrictlySortedBy-dedup}
 use Rattle.std.proofs.lemmas.List.Sorted.{IsPermutation-sym, Contains-permutation}
 use Rattle.mapf_spacetime.specs.States.{same_state}
-use Rattle.mapf_spacetime.specs.Sweeps.{IsEarlier}
+use Rattle.mapf_model.specs.States.{IsEarlier}
 use Rattle.mapf_spacetime.proofs.OrderLemmas.{states_ordered, states_told_apart, states_tied, sorted_rising}
 use Rattle.mapf_spacetime.proofs.SetLemmas.{same_state-exact}
 use Rattle.mapf_spacetime.proofs.StampLemmas.{none_last, below_of_base}

@@ -1,6 +1,6 @@
 use Rattle.std.proofs.Common.{◌≡◌, ◌≤◌, ◌++◌, ◌∷◌, [], List, ℕ, Contains, length-set, max, min, ◌∙◌, ap, subst, take, ⊎_elim, arith}
 use Rattle.std.proofs.lemmas.List.Elements.{Contains-push_cases}
-use Rattle.mapf_spacetime.specs.declared.state.State.{State}
+use Rattle.mapf_model.specs.declared.state.State.{State}
 use Rattle.mapf_spacetime.proofs.SetLemmas.{added_few, added_more}
 use Rattle.mapf_spacetime.proofs.state_set.StateSet.add.Goals as goal
 use Rattle.mapf_spacetime.proofs.state_set.StateSet.add.Goals.{then-count-lt-FEW, else-count-lt-FEW+in_ok-insert}
