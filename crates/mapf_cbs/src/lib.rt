@@ -8,7 +8,7 @@
 //! that have conflicts.
 //!
 //! The open list (`OpenNodes`) keeps a queue of numbers for each sum. A new node has the greatest number, so its nodes
-//! are taken in the order of (sum, number). `laws::solve_plain` keeps the same order by a scan, so a change of the
+//! are taken in the order of (sum, number). `plain::solve_plain` keeps the same order by a scan, so a change of the
 //! order is a change of both, and tests compare their results.
 //!
 //! During the search the tree is a list of nodes that name their parents, and a list of statuses that name children.
@@ -25,11 +25,11 @@ mod bound_labels;
 mod child;
 mod clash;
 mod endings;
-pub mod laws;
 mod node;
 mod open_nodes;
 mod outcome;
 mod path_owners;
+pub mod plain;
 mod replacements;
 mod replanned;
 mod replanner;

@@ -2,7 +2,7 @@
 
 ghost use Rattle.std.specs.Prelude.{◌≤◌};
 
-use mapf_cbs::laws::solve_plain;
+use mapf_cbs::plain::solve_plain;
 use mapf_cbs::{Answer, Cause, solve, solve_with};
 use mapf_constraints::{ListBars, TickBars};
 use mapf_model::{Block, Item, Label, OutOfMemory, Path, Plan, Problem};

@@ -1,6 +1,6 @@
 use Rattle.std.proofs.Common.{◌≤◌, ◌-◌}
 use Rattle.mapf_cbs.specs.Whole.{IsWholeState}
-use Rattle.mapf_cbs.proofs.laws.search_plain.Given as goal
+use Rattle.mapf_cbs.proofs.plain.search_plain.Given as goal
 
 abbrev pub invariant-loop-k : goal.invariant-loop-k
 invariant-loop-k l = record {

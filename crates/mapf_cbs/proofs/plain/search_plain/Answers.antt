@@ -11,7 +11,7 @@ use Rattle.mapf_cbs.specs.Whole.{IsWhole, IsLeastOpen}
 use Rattle.mapf_cbs.proofs.EndingLemmas.{can_be_drawn}
 use Rattle.mapf_cbs.proofs.PlainLemmas.{least_at, whole_first, whole_popped, whole_exhausted, whole_hand, hand_whole}
 use Rattle.mapf_cbs.proofs.StartLemmas.{root_of}
-use Rattle.mapf_cbs.proofs.laws.search_plain.Goals as goal
+use Rattle.mapf_cbs.proofs.plain.search_plain.Goals as goal
 
 pub loop-k-init : goal.loop-k-init
 loop-k-init c =

@@ -7,7 +7,7 @@ use Rattle.mapf_model.specs.Tree.{left_constraint, right_constraint}
 use Rattle.mapf_cbs.specs.Whole.{IsWholeChild}
 use Rattle.mapf_cbs.proofs.ChildLemmas.{of_paths}
 use Rattle.mapf_cbs.proofs.PlainLemmas.{whole_hand, hand_inside, hand_whole, hand_small, whole_grown}
-use Rattle.mapf_cbs.proofs.laws.split_whole.Goals as goal
+use Rattle.mapf_cbs.proofs.plain.split_whole.Goals as goal
 
 on_ok_two : {T E A B C : Type 0} (r : Result T E) → (A → B → C) → OnOk r A → OnOk r B → OnOk r C
 on_ok_two (Ok x) f a b = f a b

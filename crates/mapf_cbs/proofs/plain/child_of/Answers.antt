@@ -7,7 +7,7 @@ use Rattle.mapf_cbs.specs.GeneratedChild.{IsTotal}
 use Rattle.mapf_cbs.specs.Whole.{AreCopies}
 use Rattle.mapf_cbs.proofs.GeneratedChildLemmas.{ends_there, old_within, generated, bars_with}
 use Rattle.mapf_cbs.proofs.WholeLemmas.{whole_child, total_generated}
-use Rattle.mapf_cbs.proofs.laws.child_of.Goals as goal
+use Rattle.mapf_cbs.proofs.plain.child_of.Goals as goal
 
 pub cost_of-old-requires : goal.cost_of-old-requires
 cost_of-old-requires c =
