@@ -19,7 +19,6 @@ use Rattle.mapf_model.specs.Plan.{Instance}
 use Rattle.mapf_model.specs.Tree.{ConstraintTree, Split, Leaf, Clash, NodeContext, root, with_bar, with_constraint, left_constraint, right_constraint, left_child_context, right_child_context, block_of, entries_or, with_blocks, AtEachNode, AreTwoAgents, IsProperSplit, IsProperNode, AreBlocksSound, StartsShow, NodeShows, Shows}
 use Rattle.mapf_model.proofs.ClaimLemmas.{slice_get_inside}
 use Rattle.mapf_model.proofs.ContainsLemmas.{Contains-cons_cases}
-use Rattle.mapf_laws.specs.declared.impossible.TrivialCause.TheVariants.{SharedStart, SharedGoal, UnreachableGoal}
 use Rattle.mapf_laws.specs.Impossible.{ShareStart, IsTriviallyImpossible}
 use Rattle.mapf_laws.proofs.WaitingLemmas.{StaysTo, wait_and_walk}
 
@@ -107,7 +106,7 @@ module _ (problem : Instance) (last : ℕ) where
     leaf_is_trivial entries finite (i, agent, is, infinite) = by_entry (entries i agent.start 0) refl infinite
       where
         by_entry : (entry : Option Label) → entries i agent.start 0 ≡ entry → IsEntryOrDistance problem.grid agent.goal agent.start entry Never → IsTriviallyImpossible problem
-        by_entry None absent unreachable = (UnreachableGoal, (i, (agent, is, unreachable)))
+        by_entry None absent unreachable = inr (inr (i, (agent, is, unreachable)))
         by_entry (Some label) listed same = absurd (finite i agent is (listed ∙ ap Some (sym same)))
 
     shown_is_trivial : (tree : ConstraintTree) (context : NodeContext) → horizon tree ≤ last → AtEachNode (λ at node. IsProperNode problem node) context tree → AtEachNode (NodeShows problem Impossible) context tree →
@@ -115,7 +114,7 @@ module _ (problem : Instance) (last : ℕ) where
     shown_is_trivial (Split conflict blocks left right) context past proper shows allow finite =
         let below = NoStartIsInfinite-with_blocks context blocks shows.0 allow finite in
         ⊎_elim
-        (λ (shared : (i : ℕ) × (j : ℕ) × ShareStart problem i j). (SharedStart shared.0 shared.1, shared.2))
+        (λ (shared : (i : ℕ) × (j : ℕ) × ShareStart problem i j). inl shared)
         (λ children. ⊎_elim
         (λ (on_left : AllowWaiting problem last (with_constraint context.bars (left_constraint conflict))). shown_is_trivial left (left_child_context context conflict blocks) (omega arith) proper.1 shows.1 on_left below)
         (λ (on_right : AllowWaiting problem last (with_constraint context.bars (right_constraint conflict))). shown_is_trivial right (right_child_context context conflict blocks) (omega arith) proper.2 shows.2 on_right below)
@@ -123,7 +122,7 @@ module _ (problem : Instance) (last : ℕ) where
         (child_allows context.bars conflict proper.0.0 (omega arith) allow)
     shown_is_trivial (Leaf blocks) context past proper shows allow finite =
         leaf_is_trivial (with_blocks blocks context.entries) (NoStartIsInfinite-with_blocks context blocks shows.0 allow finite) shows.1
-    shown_is_trivial (Clash i j) context past proper shows allow finite = (SharedGoal i j, shows)
+    shown_is_trivial (Clash i j) context past proper shows allow finite = inr (inl (i, j, shows))
 
 pub impossible_is_trivial : NeverMeansNone → (problem : Instance) (tree : ConstraintTree) → Shows problem Impossible tree → IsTriviallyImpossible problem
 impossible_is_trivial none problem tree shows =

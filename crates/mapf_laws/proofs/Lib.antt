@@ -1,4 +1,3 @@
-mod CauseLemmas
 mod ImpossibleLemmas
 mod ReachLemmas
 mod TrivialLemmas

@@ -1,5 +1,5 @@
 -- Some tree shows `impossible` of each trivially impossible problem.
-use Rattle.std.proofs.Common.{◌≡◌, ◌≢◌, ℕ, zero, suc, ◌<◌, List, [], ◌∷◌, Some, None, Contains, length, slice_get, slice_index_or, refl, sym, ◌∙◌, ap, ⊎_elim, arith}
+use Rattle.std.proofs.Common.{◌≡◌, ◌≢◌, ℕ, zero, suc, ◌<◌, List, [], ◌∷◌, Some, None, Contains, length, slice_get, slice_index_or, refl, sym, ◌∙◌, ap, inl, inr, ⊎_elim, arith}
 use Rattle.std.proofs.lemmas.Bool.{cases_eq, eq-eqb, ne_eqb}
 use Rattle.std.proofs.lemmas.Option.{same_Some, slice_get_within}
 use Rattle.mapf_model.specs.declared.bar.Bar.{Bar}
@@ -17,7 +17,6 @@ use Rattle.mapf_model.specs.Labels.{entries_of, AreSound, IsSoundEntry}
 use Rattle.mapf_model.specs.Plan.{Instance}
 use Rattle.mapf_model.specs.Tree.{ConstraintTree, Split, Leaf, Clash, NodeContext, root, left_child_context, right_child_context, block_of, AreProperBlocks, AreBlocksSound, ShareGoal, Shows, ShowsFrom}
 use Rattle.mapf_model.proofs.ListedLemmas.{listed_is_contained}
-use Rattle.mapf_laws.specs.declared.impossible.TrivialCause.TheVariants.{SharedStart, SharedGoal, UnreachableGoal}
 use Rattle.mapf_laws.specs.Impossible.{ShareStart, HasUnreachableGoal, IsTriviallyImpossible}
 use Rattle.mapf_laws.proofs.ReachLemmas.{distance_or_none}
 use Rattle.mapf_laws.proofs.WaitingLemmas.{walk_free}
@@ -115,6 +114,6 @@ module _ (problem : Instance) where
       (distance_or_none problem.grid a.start a.goal)
 
 pub trivial_is_shown : (problem : Instance) → IsTriviallyImpossible problem → IsShownImpossible problem
-trivial_is_shown problem (SharedStart i j, shared) = start_shows problem i j shared
-trivial_is_shown problem (SharedGoal i j, shared) = clash_shows problem i j shared
-trivial_is_shown problem (UnreachableGoal, (i, unreachable)) = leaf_shows problem i unreachable
+trivial_is_shown problem (inl (i, j, shared)) = start_shows problem i j shared
+trivial_is_shown problem (inr (inl (i, j, shared))) = clash_shows problem i j shared
+trivial_is_shown problem (inr (inr (i, unreachable))) = leaf_shows problem i unreachable

@@ -1,12 +1,10 @@
 -- Which problems a tree can show to be impossible.
-use Rattle.std.specs.Prelude.{◌≡◌, ◌≢◌, ℕ, Some, slice_get}
+use Rattle.std.specs.Prelude.{◌≡◌, ◌≢◌, ◌⊎◌, ℕ, Some, slice_get}
 use Rattle.mapf_model.specs.declared.item.Claim.TheVariants.{Impossible}
 use Rattle.mapf_model.specs.declared.problem.Agent.{Agent}
 use Rattle.mapf_model.specs.Distance.{IsUnreachable}
 use Rattle.mapf_model.specs.Plan.{Instance}
 use Rattle.mapf_model.specs.Tree.{ConstraintTree, ShareGoal, Shows}
-use Rattle.mapf_laws.specs.declared.impossible.TrivialCause.{TrivialCause}
-use Rattle.mapf_laws.specs.declared.impossible.TrivialCause.TheVariants.{SharedStart, SharedGoal, UnreachableGoal}
 
 -- two different agents have the same start
 abbrev pub ShareStart : Instance → ℕ → ℕ → Type 0
@@ -19,16 +17,12 @@ abbrev pub HasUnreachableGoal : Instance → ℕ → Type 0
 HasUnreachableGoal problem i =
     (agent : Agent) × (slice_get problem.agents i ≡ Some agent) × IsUnreachable problem.grid agent.goal agent.start
 
--- this is why no plan is valid
-abbrev pub IsTrivialCause : Instance → TrivialCause → Type 0
-IsTrivialCause problem (SharedStart i j) = ShareStart problem i j
-IsTrivialCause problem (SharedGoal i j) = ShareGoal problem i j
-IsTrivialCause problem UnreachableGoal = (i : ℕ) × HasUnreachableGoal problem i
-
 -- no search is needed to see that no plan is valid: two agents share a start, two agents share a goal, or an agent's
 -- goal can't be reached from its start
 abbrev pub IsTriviallyImpossible : Instance → Type 0
-IsTriviallyImpossible problem = (cause : TrivialCause) × IsTrivialCause problem cause
+IsTriviallyImpossible problem =
+    ((i : ℕ) × (j : ℕ) × ShareStart problem i j) ⊎ ((i : ℕ) × (j : ℕ) × ShareGoal problem i j)
+    ⊎ ((i : ℕ) × HasUnreachableGoal problem i)
 
 -- a tree shows `impossible` only for such problems
 abbrev pub ImpossibleIsTrivial : Type 0
