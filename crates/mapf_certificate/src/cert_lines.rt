@@ -26,7 +26,7 @@ use crate::lines::Lines;
 use crate::sizes::Sizes;
 use crate::tree_line::Due;
 use crate::version::Version;
-use mapf_model::{Claim, Item, OutOfMemory, Source};
+use mapf_model::{AsNode, Claim, Item, NodeKind, OutOfMemory, Source};
 use std::alloc::Global;
 use std::marker::Model;
 
@@ -311,9 +311,9 @@ fn trees_pending_after(pending: u64, item: &Item) -> u64
     requires few { pending + 1 < 2 ^ 64 }
     ensures { result ≡ trees_pending_after pending (node_of item.now) }
 {
-    match item {
-        Item::Vertex { .. } | Item::Swap { .. } => pending + 1,
-        Item::Leaf(_) | Item::Clash { .. } => pending - 1,
+    match item.kind() {
+        NodeKind::Split(_) => pending + 1,
+        NodeKind::Leaf | NodeKind::Clash { .. } => pending - 1,
     }
 }
 
