@@ -1,12 +1,11 @@
 -- What the entries of one agent are judged by: its distances, and its constraints at a node of the tree.
 use Rattle.std.specs.Prelude.{◌≡◌, ◌+◌, ℕ, List, Option}
 use Rattle.mapf_distance.specs.Distances.{GoalMap}
-use Rattle.mapf_distance.specs.Tables.{AreMade, HasTable}
+use Rattle.mapf_distance.specs.Tables.{HasTable}
 use Rattle.mapf_model.specs.declared.bar.Bar.{Bar}
 use Rattle.mapf_model.specs.declared.label.Entry.{Entry}
 use Rattle.mapf_model.specs.Blocks.{LabelBlock}
 use Rattle.mapf_model.specs.Labels.{entries_of, IsSoundEntry, IsWithinOne, MayGo}
-use Rattle.mapf_checker.specs.declared.blocks.NodeProblem.{NodeProblem}
 use Rattle.mapf_checker.specs.declared.judge.AgentProblem.{AgentProblem}
 use Rattle.mapf_checker.specs.Branch.{Route, IsIndexed, place_of}
 
@@ -14,9 +13,8 @@ use Rattle.mapf_checker.specs.Branch.{Route, IsIndexed, place_of}
 abbrev pub bars_on : AgentProblem → List Bar
 bars_on own = (place_of own.branch.now).here.bars own.agent
 
--- the distances are those to the agent's goal on the grid, and the neighbourhoods are those on the grid
+-- the distances are those to the agent's goal on the grid
 pub record HasGoalDistances (own : AgentProblem) : Type 0 where
-  pub width : own.neighbourhoods.now ≡ own.grid.now.width
   pub grid : own.distances.now.grid ≡ own.grid.now
   pub goal : own.distances.now.goal ≡ own.goal
 
@@ -34,11 +32,6 @@ IsConsistentStep own entries entry next =
 -- this holds for each cell
 abbrev pub IsConsistent : AgentProblem → List Entry → Entry → Type 0
 IsConsistent own entries entry = (next : ℕ) → IsConsistentStep own entries entry next
-
--- the neighbourhoods are those on the problem's grid, and the tables are those of the problem
-pub record FitsProblem (node : NodeProblem) : Type 0 where
-  pub width : node.neighbourhoods.now ≡ node.problem.now.grid.width
-  pub tables : AreMade node.problem.now node.tables.now
 
 -- what a block is judged by is made: the table of its agent's distances, and the index of the constraints along the
 -- path

@@ -38,10 +38,9 @@ pending_by progress = pending_at progress.is_over (place_of progress.branch)
 abbrev pub here_of : Progress → NodeContext
 here_of progress = (place_of progress.branch).here
 
--- the neighbourhoods are those on the problem's grid; the tables are those of the problem; the distances are those of
--- its starts, once there are any; and the entries are those of its agents
+-- the tables are those of the problem; the distances are those of its starts, once there are any; and the entries are
+-- those of its agents
 pub record IsReady (problem : Instance) (progress : Progress) : Type 0 where
-  pub neighbourhoods : progress.neighbourhoods ≡ problem.grid.width
   pub tables : AreMade problem progress.tables
   pub distances : (progress.distances.items ≡ [] → ⊥) → AreStartDistances problem progress.distances.items
   pub agents : progress.branch.agents ≡ length problem.agents

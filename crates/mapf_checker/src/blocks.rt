@@ -5,7 +5,7 @@ ghost use Rattle.mapf_model.specs.Labels.{entries_of, AreSound};
 ghost use Rattle.mapf_model.specs.Limits.{greatest_cost};
 ghost use Rattle.mapf_model.specs.Printed.{IsBefore, IsBlockInRange};
 ghost use Rattle.mapf_distance.specs.Tables.{AreMade, HasTable};
-ghost use Rattle.mapf_checker.specs.AgentProblem.{CanJudge, HasGoalDistances, FitsProblem, bars_on};
+ghost use Rattle.mapf_checker.specs.AgentProblem.{CanJudge, HasGoalDistances, bars_on};
 ghost use Rattle.mapf_checker.specs.Branch.{IsIndexed, place_of};
 ghost use Rattle.mapf_checker.specs.Leaf.{IsGoodBlock, IsGoalOf, IsStartOf};
 ghost use Rattle.mapf_checker.specs.Marks.{CoverGrid};
@@ -18,7 +18,7 @@ use crate::labels::entry_at;
 use crate::marks::EntryMarks;
 use crate::starts::StartChange;
 use mapf_distance::LazyTables;
-use mapf_model::{Block, Cell, Entry, Neighbourhoods, OutOfMemory, Problem};
+use mapf_model::{Block, Cell, Entry, OutOfMemory, Problem};
 use std::alloc::Global;
 
 /// Makes the distance tables of the blocks' agents that aren't made yet.
@@ -43,8 +43,6 @@ pub fn make_tables(
 #[derive(Drop)]
 pub struct NodeProblem<'a> {
     pub problem: &'a Problem,
-    /// The neighbourhoods of the grid's cells.
-    pub neighbourhoods: &'a Neighbourhoods,
     /// The distances to the goals of the blocks' agents.
     pub tables: &'a LazyTables,
     /// The distances of the starts, for a leaf.
@@ -60,7 +58,7 @@ pub fn judge_blocks(
     blocks: &[Block],
     line: u64,
 ) -> Result<(), u64>
-    requires fits { FitsProblem node.now }
+    requires tables { AreMade node.now.problem.now node.now.tables.now }
     requires ready { All (CanJudge node.now.tables.now node.now.branch.now) blocks.now }
     requires marks { All (λ block. CoverGrid node.now.problem.now.grid marks.old) blocks.now }
     requires blocks { All (IsBlockInRange node.now.problem.now.grid (length node.now.problem.now.agents)) blocks.now }
@@ -83,7 +81,7 @@ fn judge_block(
     block: &Block,
     line: u64,
 ) -> Result<(), u64>
-    requires fits { FitsProblem node.now }
+    requires tables { AreMade node.now.problem.now node.now.tables.now }
     requires ready { CanJudge node.now.tables.now node.now.branch.now block.now }
     requires marks { CoverGrid node.now.problem.now.grid marks.old }
     requires block { IsBlockInRange node.now.problem.now.grid (length node.now.problem.now.agents) block.now }
@@ -95,7 +93,6 @@ fn judge_block(
     let goal = goal_of(node.problem, agent);
     let own = AgentProblem {
         grid: node.problem.grid(),
-        neighbourhoods: node.neighbourhoods,
         distances: node.tables.get(agent),
         branch: node.branch,
         agent,

@@ -14,14 +14,12 @@ use crate::branch::Branch;
 use crate::labels::{exceeds, is_within_one, label_by};
 use crate::marks::EntryMarks;
 use mapf_distance::Distances;
-use mapf_model::{Bar, Cell, Entry, Grid, Neighbourhoods, laws};
+use mapf_model::{Bar, Cell, Entry, Grid, laws};
 
 /// What the entries of one agent are judged by: its distances, and its constraints at a node of the tree.
 #[derive(Drop)]
 pub struct AgentProblem<'a> {
     pub grid: &'a Grid,
-    /// The neighbourhoods of the grid's cells.
-    pub neighbourhoods: &'a Neighbourhoods,
     /// The distances to the agent's goal.
     pub distances: &'a Distances,
     pub branch: &'a Branch,
@@ -92,9 +90,7 @@ fn goes_on(own: &AgentProblem, entries: &[Entry], marks: &EntryMarks, entry: &En
     requires free { IsFree own.now.grid.now entry.now.cell }
     ensures { IsTrue result ↔ IsConsistent own.now entries.now entry.now }
 {
-    // Calling `width` lets the prover use its contract, which says that the grid is well formed.
-    let _width = own.grid.width();
-    let places = own.neighbourhoods.around(entry.cell);
+    let places = own.distances.beside(entry.cell);
     for k in 0..places.len() {
         if let Some(next) = places[k] {
             if !step_holds(own, entries, marks, entry, next) {

@@ -4,8 +4,8 @@ ghost use Rattle.std.specs.Prelude.{IsTrue, IfSome, OnOk, IfErr};
 ghost use Rattle.mapf_model.specs.declared.item.Claim.{Claim};
 ghost use Rattle.mapf_model.specs.Printed.{AreBlocksInRange};
 ghost use Rattle.mapf_model.specs.Tree.{ShowsFrom, Leaf, LeafNode};
-ghost use Rattle.mapf_distance.specs.Tables.{AreStartDistances};
-ghost use Rattle.mapf_checker.specs.AgentProblem.{CanJudge, FitsProblem};
+ghost use Rattle.mapf_distance.specs.Tables.{AreMade, AreStartDistances};
+ghost use Rattle.mapf_checker.specs.AgentProblem.{CanJudge};
 ghost use Rattle.mapf_checker.specs.Branch.{place_of};
 ghost use Rattle.mapf_checker.specs.Leaf.{IsStartTotal, IsEnough, IsStartLabel};
 ghost use Rattle.mapf_checker.specs.Leaf.{IsPlaceOfAgent, TakesBlock, LeavesBlock, is_finite, ticks_in};
@@ -27,7 +27,7 @@ pub fn judge_leaf(
     blocks: &[Block],
     line: u64,
 ) -> Result<(), CheckFault>
-    requires fits { FitsProblem node.now }
+    requires tables { AreMade node.now.problem.now node.now.tables.now }
     requires ready { All (CanJudge node.now.tables.now node.now.branch.now) blocks.now }
     requires marks { All (λ block. CoverGrid node.now.problem.now.grid marks.old) blocks.now }
     requires distances { AreStartDistances node.now.problem.now node.now.start_distances.now }

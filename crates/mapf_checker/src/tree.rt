@@ -22,17 +22,13 @@ use crate::leaf::judge_leaf;
 use crate::marks::EntryMarks;
 use crate::starts::StartChange;
 use mapf_distance::{LazyTables, start_distances};
-use mapf_model::{
-    AsNode, Block, Claim, Conflict, Item, Neighbourhoods, NodeKind, OutOfMemory, Problem,
-};
+use mapf_model::{AsNode, Block, Claim, Conflict, Item, NodeKind, OutOfMemory, Problem};
 use std::alloc::Global;
 
 /// How far a tree, whose items come in pre-order, was judged.
 #[derive(Drop)]
 pub struct Progress {
     branch: Branch,
-    // The neighbourhoods of the grid's cells. They are made once, since that takes a division.
-    neighbourhoods: Neighbourhoods,
     // The distances to the goals of the agents that had a block so far.
     tables: LazyTables,
     // Made at the first block.
@@ -53,7 +49,6 @@ impl Progress {
     {
         Ok(Progress {
             branch: Branch::new(alloc, problem.agents().len())?,
-            neighbourhoods: Neighbourhoods::of(problem.grid()),
             tables: LazyTables::of(alloc, problem)?,
             marks: EntryMarks::new(alloc),
             distances: Vec::new(alloc),
@@ -141,7 +136,6 @@ impl Progress {
         self.see_to_blocks(alloc, problem, blocks)?;
         let node = NodeProblem {
             problem,
-            neighbourhoods: &self.neighbourhoods,
             tables: &self.tables,
             start_distances: &self.distances,
             branch: &self.branch,
@@ -177,7 +171,6 @@ impl Progress {
         self.see_to_distances(alloc, problem)?;
         let node = NodeProblem {
             problem,
-            neighbourhoods: &self.neighbourhoods,
             tables: &self.tables,
             start_distances: &self.distances,
             branch: &self.branch,
@@ -226,7 +219,6 @@ impl Progress {
         requires ready { IsReady problem.now self.old }
         ensures ready { OnOk result (IsReady problem.now self.new) }
         ensures distances { OnOk result (AreStartDistances problem.now self.new.distances.items) }
-        ensures neighbourhoods { self.new.neighbourhoods ≡ self.old.neighbourhoods }
         ensures tables { self.new.tables ≡ self.old.tables }
         ensures branch { self.new.branch ≡ self.old.branch }
         ensures marks { self.new.marks ≡ self.old.marks }
@@ -245,7 +237,6 @@ impl Progress {
 
     fn clash(&mut self, problem: &Problem, i: u32, j: u32, line: u64) -> Result<(), FromFault>
         requires going { self.old.is_over ≡ false }
-        ensures neighbourhoods { self.new.neighbourhoods ≡ self.old.neighbourhoods }
         ensures tables { self.new.tables ≡ self.old.tables }
         ensures distances { self.new.distances.items ≡ self.old.distances.items }
         ensures agents { self.new.branch.agents ≡ self.old.branch.agents }
@@ -262,7 +253,6 @@ impl Progress {
 
     // Moves to the next node after a terminal node.
     fn end(&mut self) -> Result<(), FromFault>
-        ensures neighbourhoods { self.new.neighbourhoods ≡ self.old.neighbourhoods }
         ensures tables { self.new.tables ≡ self.old.tables }
         ensures distances { self.new.distances.items ≡ self.old.distances.items }
         ensures agents { self.new.branch.agents ≡ self.old.branch.agents }

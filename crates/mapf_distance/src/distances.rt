@@ -10,15 +10,15 @@ ghost use Rattle.mapf_distance.specs.Distances.{IsLeastDescent, IsReachable};
 
 use crate::wave;
 use crate::wave::UNREACHED;
-use mapf_model::{Cell, Grid, OutOfMemory, Path};
+use mapf_model::{Cell, Grid, Neighbourhoods, OutOfMemory, Path};
 use std::alloc::Global;
 use std::marker::Model;
 
 /// The least number of steps from each cell of a grid to one goal.
 #[derive(Debug, Drop)]
 pub struct Distances {
-    // The sizes and the goal, which give the numbers of the table their meaning.
-    width: u32,
+    // The neighbourhoods of the grid's cells, its height and the goal, which give the numbers of the table their meaning.
+    neighbourhoods: Neighbourhoods,
     height: u32,
     goal: Cell,
     // An entry for each cell: its distance, or that it is blocked, or that the goal can't be reached from it.
@@ -31,9 +31,9 @@ impl Model for Distances {
 
     ghost Value = { GoalMap };
 
-    ghost view = { λ d. record { grid = grid_of_table d.width d.height d.table.items; goal = d.goal } };
+    ghost view = { λ d. record { grid = grid_of_table d.neighbourhoods d.height d.table.items; goal = d.goal } };
 
-    ghost invariant = { λ d. AreDistances (grid_of_table d.width d.height d.table.items) d.goal d.table.items };
+    ghost invariant = { λ d. AreDistances (grid_of_table d.neighbourhoods d.height d.table.items) d.goal d.table.items };
 }
 
 impl Distances {
@@ -44,7 +44,7 @@ impl Distances {
         ensures goal { IfOk result (λ distances. distances.goal ≡ goal) }
     {
         Ok(Distances {
-            width: grid.width(),
+            neighbourhoods: Neighbourhoods::of(grid),
             height: grid.height(),
             goal,
             table: wave::table(alloc, grid, goal)?,
@@ -101,8 +101,10 @@ impl Distances {
         Ok(Path::of(cells).unwrap())
     }
 
-    // Returns the cell of the least number that is one step from this one and nearer to the goal.
-    fn nearer(&self, cell: Cell, distance: u32) -> Cell
+    /// Returns the cell of the least number that is one step from this one and at this distance from the goal, one less
+    /// than the distance of this cell.
+    #[inline(always)]
+    pub fn nearer(&self, cell: Cell, distance: u32) -> Cell
         requires { IsDistance self.now.grid self.now.goal cell (distance + 1) }
         ensures step { Step self.now.grid cell result }
         ensures nearer { IsDistance self.now.grid self.now.goal result distance }
@@ -119,17 +121,21 @@ impl Distances {
         unreachable!()
     }
 
+    #[inline(always)]
     fn is_at(&self, cell: Cell, distance: u32) -> bool
         ensures { IsTrue result ↔ IsDistance self.now.grid self.now.goal cell distance }
     {
         self.get(cell) == Some(distance)
     }
 
-    fn beside(&self, cell: Cell) -> [Option<Cell>; 5]
+    /// Returns the neighbourhood of a free cell: the cells above and left, the cell itself, and those right and below, in
+    /// rising order.
+    #[inline(always)]
+    pub fn beside(&self, cell: Cell) -> [Option<Cell>; 5]
         requires { IsFree self.now.grid cell }
         ensures cells { result ≡ neighbourhood self.now.grid.width cell }
         ensures wide { 0 < self.now.grid.width }
     {
-        cell.neighbourhood(self.width)
+        self.neighbourhoods.around(cell)
     }
 }

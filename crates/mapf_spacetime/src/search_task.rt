@@ -15,7 +15,7 @@ ghost use Rattle.mapf_spacetime.specs.Task.{task_of, start_of, IsOpen, IsValue, 
 
 use mapf_constraints::BarTable;
 use mapf_distance::Distances;
-use mapf_model::{Agent, Cell, Grid, Neighbourhoods, OutOfMemory, Path, State, Tick};
+use mapf_model::{Agent, Cell, Grid, OutOfMemory, Path, State, Tick};
 use std::alloc::Global;
 use std::marker::Model;
 
@@ -24,7 +24,6 @@ use std::marker::Model;
 #[derive(Drop)]
 pub struct SearchTask<'a, B: BarTable> {
     grid: &'a Grid,
-    neighbourhoods: Neighbourhoods,
     distances: &'a Distances,
     bars: &'a B,
     agent: Agent,
@@ -50,7 +49,7 @@ impl<'a, B: BarTable> Model for SearchTask<'a, B> {
         × (task.distances.now.goal ≡ task.agent.goal) × AreBars (B.bars task.bars.now)
         × AreBefore task.horizon (B.bars task.bars.now) × (task.horizon ≤ split_ticks)
         × IsLastOn (B.bars task.bars.now) task.agent.goal task.last_on_goal
-        × (task.neighbourhoods ≡ task.grid.now.width) × IsGridMap task.grid.now };
+        × IsGridMap task.grid.now };
 }
 
 impl<'a, B: BarTable> SearchTask<'a, B> {
@@ -69,7 +68,6 @@ impl<'a, B: BarTable> SearchTask<'a, B> {
         let _width = grid.width();
         SearchTask {
             grid,
-            neighbourhoods: Neighbourhoods::of(grid),
             distances,
             bars,
             agent,
@@ -129,9 +127,7 @@ impl<'a, B: BarTable> SearchTask<'a, B> {
         ensures cells { result ≡ neighbourhood self.now.grid.width cell }
         ensures wide { 0 < self.now.grid.width }
     {
-        // Calling `width` lets the prover use its contract, which says that the grid is well formed.
-        let _width = self.grid.width();
-        self.neighbourhoods.around(cell)
+        self.distances.beside(cell)
     }
 
     /// Returns the f-value: the tick plus the distance of the cell. None if no steps lead to the goal.
@@ -157,21 +153,7 @@ impl<'a, B: BarTable> SearchTask<'a, B> {
         ensures least { (other : ℕ) → Step self.now.grid cell other
             → IsDistance self.now.grid self.now.goal other distance → result ≤ other }
     {
-        for place in self.beside(cell) {
-            if let Some(next) = place {
-                if self.is_at(next, distance) {
-                    return next;
-                }
-            }
-        }
-        unreachable!()
-    }
-
-    #[inline(always)]
-    fn is_at(&self, cell: Cell, distance: u32) -> bool
-        ensures { IsTrue result ↔ IsDistance self.now.grid self.now.goal cell distance }
-    {
-        self.distances.get(cell) == Some(distance)
+        self.distances.nearer(cell, distance)
     }
 
     /// Returns whether the constraints allow the agent to go from the state to the cell.

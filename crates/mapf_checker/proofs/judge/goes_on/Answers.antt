@@ -2,6 +2,7 @@ use Rattle.std.proofs.Common.{◌≡◌, ◌<◌, ◌≤◌, ◌∙◌, Some, No
 use Rattle.std.proofs.lemmas.Bool.{cases_lt}
 use Rattle.std.proofs.lemmas.List.{get_or_default}
 use Rattle.std.proofs.lemmas.Option.{same_Some}
+use Rattle.mapf_model.specs.Grid.{GridMap}
 use Rattle.mapf_model.specs.Neighbours.{neighbourhood}
 use Rattle.mapf_model.proofs.StepLemmas.{step_neighbour}
 use Rattle.mapf_checker.specs.AgentProblem.{IsConsistentStep}
@@ -12,15 +13,15 @@ pub loop-k-preserved : goal.loop-k-preserved
 loop-k-preserved c = λ place next below is. ⊎_elim
     (λ (earlier : place < c.loop-k.k). c.loop-k.invariant place next earlier is)
     (λ (past : c.loop-k.k ≤ place).
-    let five = ap length c.around-places.ensures in
-    let within : c.loop-k.k < length c.around-places.result = omega (arith, c.loop-k-test.true) in
+    let five = ap length c.beside-places.ensures.cells in
+    let within : c.loop-k.k < length c.beside-places.result = omega (arith, c.loop-k-test.true) in
     let same : place ≡ c.loop-k.k = omega arith in
-    let found : slice_index_or c.around-places.result c.loop-k.k None ≡ Some next = subst (λ n. slice_index_or c.around-places.result n None ≡ Some next) same is in
+    let found : slice_index_or c.beside-places.result c.loop-k.k None ≡ Some next = subst (λ n. slice_index_or c.beside-places.result n None ≡ Some next) same is in
     elim c.match-places-k.branch [
       | in-Some+else-not-step_holds w ↦
-          let at = same_Some w.in-Some.next next (sym w.in-Some.is ∙ get_or_default c.around-places.result c.loop-k.k _ None within ∙ found) in
+          let at = same_Some w.in-Some.next next (sym w.in-Some.is ∙ get_or_default c.beside-places.result c.loop-k.k _ None within ∙ found) in
           subst (IsConsistentStep c.args.own.now c.args.entries.now c.args.entry.now) at (w.step_holds.ensures.0 w.if-not-step_holds.false)
-      | in_default w ↦ absurd (w.in_default.not-Some next (get_or_default c.around-places.result c.loop-k.k _ None within ∙ found))
+      | in_default w ↦ absurd (w.in_default.not-Some next (get_or_default c.beside-places.result c.loop-k.k _ None within ∙ found))
     ])
     (cases_lt place c.loop-k.k)
 
@@ -29,10 +30,11 @@ returns c = (
   λ _ next may.
       let grid = c.args.own.now.grid.now in
       let cell = c.args.entry.now.cell in
-      let cells = c.around-places.ensures ∙ ap (λ w. neighbourhood w cell) c.requires.distances.width in
-      let wide : 0 < grid.width = subst (λ w. 0 < w) c.width-width.ensures.width c.width-width.ensures.positive in
+      let same = ap (λ (g : GridMap). g.width) c.requires.distances.grid in
+      let cells = c.beside-places.ensures.cells ∙ ap (λ w. neighbourhood w cell) same in
+      let wide : 0 < grid.width = subst (λ w. 0 < w) same c.beside-places.ensures.wide in
       let five = ap length cells in
       let (place, within, is) = subst (λ places. Contains places (Some next)) (sym cells) (step_neighbour grid cell wide c.requires.free next may.step) in
-      c.loop-k.invariant place next (omega arith) (get_or_default c.around-places.result place None (Some next) within ∙ is) may,
+      c.loop-k.invariant place next (omega arith) (get_or_default c.beside-places.result place None (Some next) within ∙ is) may,
   λ _. refl,
 )
