@@ -1,6 +1,6 @@
 //! Which of a node's conflicts is split.
+use crate::conflict_count::pair_of;
 use crate::layers_memo::LayersMemo;
-use crate::trouble::pair_of;
 use crate::view::View;
 use mapf_model::limits::SPLIT_TICKS;
 use mapf_model::{Conflict, Tick};

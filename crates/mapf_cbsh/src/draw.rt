@@ -1,5 +1,5 @@
 //! The tree that shows a claim, drawn from the nodes of a search that has ended, as short as it can be.
-use crate::layers_memo::LayersMemo;
+use crate::layer_finder::LayerFinder;
 use crate::node::{Node, Replanned, Split};
 use crate::view::add_bars;
 use mapf_model::limits::GREATEST_COST;
@@ -11,14 +11,9 @@ use std::alloc::Global;
 pub struct Drawing<'s, 'a> {
     alloc: Global,
     nodes: &'s [Node],
-    memo: &'s mut LayersMemo<'a>,
+    finder: LayerFinder<'a>,
     // The sum that the tree shows, in ticks. None if it shows that no plan is valid.
     claim: Option<u64>,
-    // By node, whether some leaf needs its block.
-    needed: Vec<bool>,
-    // By agent, how many leaves had been walked up from when a block of it was met last.
-    met: Vec<u32>,
-    leaves: u32,
 }
 
 impl<'s, 'a> Drawing<'s, 'a> {
@@ -26,69 +21,37 @@ impl<'s, 'a> Drawing<'s, 'a> {
     pub fn of(
         alloc: Global,
         nodes: &'s [Node],
-        memo: &'s mut LayersMemo<'a>,
+        finder: LayerFinder<'a>,
         claim: Option<u64>,
-    ) -> Result<Drawing<'s, 'a>, OutOfMemory> {
-        let agents = match nodes.first() {
-            Some(root) => root.paths.len(),
-            None => 0,
-        };
-        Ok(Drawing {
+    ) -> Drawing<'s, 'a> {
+        Drawing {
             alloc,
             nodes,
-            memo,
+            finder,
             claim,
-            needed: vec![in alloc; false; nodes.len()]?,
-            met: vec![in alloc; 0; agents]?,
-            leaves: 0,
-        })
+        }
     }
 
     /// Returns the items of the tree, in pre-order.
     pub fn items(mut self) -> Result<Vec<Item>, OutOfMemory> {
-        let order = self.order()?;
-        self.mark_all(&order);
-        let mut items = Vec::with_capacity(self.alloc, order.len())?;
-        for number in &order {
-            items.push(self.item(*number)?)?;
-        }
-        Ok(items)
-    }
-
-    // Returns the item of a node.
-    fn item(&mut self, number: u32) -> Result<Item, OutOfMemory> {
-        let blocks = self.blocks(number)?;
-        Ok(match self.split_of(number) {
-            Some(split) => Item::split(split.conflict, blocks),
-            None => Item::Leaf(blocks),
-        })
-    }
-
-    // Marks the blocks that the leaves among these nodes need.
-    fn mark_all(&mut self, order: &[u32]) {
-        for number in order {
-            if self.split_of(*number).is_none() {
-                self.mark_blocks(*number);
-            }
-        }
-    }
-
-    // Returns the nodes of the tree, in pre-order.
-    fn order(&self) -> Result<Vec<u32>, OutOfMemory> {
-        let mut order = Vec::new(self.alloc);
+        let mut items = Vec::new(self.alloc);
         let mut pending = Vec::new(self.alloc);
         pending.push(0)?;
         for _ in 0..self.nodes.len() {
             let Some(number) = pending.pop() else {
                 break;
             };
-            order.push(number)?;
-            if let Some(split) = self.split_of(number) {
-                pending.push(split.left.saturating_add(1))?;
-                pending.push(split.left)?;
+            let blocks = self.blocks(number)?;
+            match self.split_of(number) {
+                Some(split) => {
+                    items.push(Item::split(split.conflict, blocks))?;
+                    pending.push(split.left.saturating_add(1))?;
+                    pending.push(split.left)?;
+                }
+                None => items.push(Item::Leaf(blocks))?,
             }
         }
-        Ok(order)
+        Ok(items)
     }
 
     // Returns how the node is split in the tree: not if it shows the claim by itself.
@@ -100,42 +63,9 @@ impl<'s, 'a> Drawing<'s, 'a> {
         }
     }
 
-    // Marks the blocks that a leaf needs: of each agent the nearest one above it.
-    fn mark_blocks(&mut self, leaf: u32) {
-        self.leaves = self.leaves.saturating_add(1);
-        let mut at = leaf;
-        for _ in 0..self.nodes.len() {
-            let Some(node) = self.nodes.get(at as usize) else {
-                break;
-            };
-            self.mark_block(node, at);
-            // An infinite label is enough.
-            if node.parent == at || self.claim.is_none() {
-                break;
-            }
-            at = node.parent;
-        }
-    }
-
-    // Marks the node's block, if it has one and none of its agent was met on the way up.
-    fn mark_block(&mut self, node: &Node, number: u32) {
-        let Some(replanned) = &node.replanned else {
-            return;
-        };
-        let agent = replanned.constraint.agent;
-        let Some(met) = self.met.get_mut(agent as usize) else {
-            return;
-        };
-        if !replanned.is_raise() || *met == self.leaves {
-            return;
-        }
-        *met = self.leaves;
-        if let Some(needed) = self.needed.get_mut(number as usize) {
-            *needed = true;
-        }
-    }
-
-    // Returns the blocks of the node: one at most.
+    // Returns the blocks of the node: one if the cost of its agent rises there and a leaf needs it, else none. Some leaf
+    // below needs it, since of the children of a split one at most has another constraint of that agent. But if the
+    // tree shows that no plan is valid, each leaf has an infinite label, which is enough.
     fn blocks(&mut self, number: u32) -> Result<Vec<Block>, OutOfMemory> {
         let mut blocks = Vec::new(self.alloc);
         let Some(node) = self.nodes.get(number as usize) else {
@@ -144,17 +74,19 @@ impl<'s, 'a> Drawing<'s, 'a> {
         let Some(replanned) = node.replanned else {
             return Ok(blocks);
         };
-        if self.needed.get(number as usize) != Some(&true) {
+        let is_leaf = self.split_of(number).is_none();
+        if !replanned.is_raise() || (self.claim.is_none() && !is_leaf) {
             return Ok(blocks);
         }
-        let value = match self.split_of(number) {
-            Some(_) => replanned.cost,
-            None => self.value_at_leaf(node, &replanned),
+        let value = if is_leaf {
+            self.value_at_leaf(node, &replanned)
+        } else {
+            replanned.cost
         };
         let agent = replanned.constraint.agent;
         let mut bars = Vec::new(self.alloc);
         add_bars(&mut bars, self.nodes, number, agent)?;
-        let entries = self.memo.labels(agent, &bars, value)?;
+        let entries = self.finder.labels(agent, &bars, value)?;
         blocks.push(Block { agent, entries })?;
         Ok(blocks)
     }

@@ -1,7 +1,7 @@
 //! The layers of agents, kept by agent and set of constraints, since many nodes share them.
-use mapf_distance::Distances;
-use mapf_layers::{Arrival, LayerTask, Layers, Workspace};
-use mapf_model::{Agent, Entry, Neighbourhoods, OutOfMemory, Problem};
+use crate::layer_finder::LayerFinder;
+use mapf_layers::{Arrival, Layers};
+use mapf_model::{OutOfMemory, Problem};
 use std::alloc::Global;
 use std::collections::HashMap;
 
@@ -12,15 +12,11 @@ struct Key {
     bars: Vec<Arrival>,
 }
 
-/// Layers by their numbers, and the memory in which they are found.
+/// Layers by their numbers.
 #[derive(Drop)]
 pub struct LayersMemo<'a> {
     alloc: Global,
-    problem: &'a Problem,
-    neighbourhoods: Neighbourhoods,
-    // By agent, the distances to its goal, once its layers have been asked for.
-    tables: Vec<Option<Distances>>,
-    workspace: Workspace,
+    finder: LayerFinder<'a>,
     numbers: HashMap<Key, u32>,
     // The key that is looked up.
     key: Key,
@@ -31,18 +27,9 @@ pub struct LayersMemo<'a> {
 impl<'a> LayersMemo<'a> {
     /// Returns the memo without layers.
     pub fn of(alloc: Global, problem: &'a Problem) -> Result<LayersMemo<'a>, OutOfMemory> {
-        let grid = problem.grid();
-        let cells = (grid.width() * grid.height()) as usize;
-        let mut tables = Vec::new(alloc);
-        for _ in problem.agents() {
-            tables.push(None)?;
-        }
         Ok(LayersMemo {
             alloc,
-            problem,
-            neighbourhoods: Neighbourhoods::of(grid),
-            tables,
-            workspace: Workspace::of(alloc, cells)?,
+            finder: LayerFinder::of(alloc, problem)?,
             numbers: HashMap::new(alloc),
             key: Key {
                 agent: 0,
@@ -66,7 +53,7 @@ impl<'a> LayersMemo<'a> {
         if let Some(&number) = self.numbers.get(&self.key) {
             return Ok(number);
         }
-        let layers = self.find(agent, bars, expected)?;
+        let layers = self.finder.layers(agent, bars, expected)?;
         let number = u32::try_from(self.layers.len()).map_err(|_| OutOfMemory)?;
         self.layers.push(layers)?;
         let key = Key {
@@ -82,61 +69,8 @@ impl<'a> LayersMemo<'a> {
         self.layers.get(number as usize)?.as_ref()
     }
 
-    /// Returns labels by which the agent costs at least `value` under these constraints, which rise, or can't arrive if
-    /// that is None.
-    pub fn labels(
-        &mut self,
-        agent: u32,
-        bars: &[Arrival],
-        value: Option<u32>,
-    ) -> Result<Vec<Entry>, OutOfMemory> {
-        let Some(who) = self.make_table(agent)? else {
-            return Ok(Vec::new(self.alloc));
-        };
-        let Some(Some(distances)) = self.tables.get(agent as usize) else {
-            return Ok(Vec::new(self.alloc));
-        };
-        let task = LayerTask {
-            neighbourhoods: &self.neighbourhoods,
-            distances,
-            agent: who,
-            bars,
-        };
-        self.workspace.labels(self.alloc, &task, value)
-    }
-
-    fn find(
-        &mut self,
-        agent: u32,
-        bars: &[Arrival],
-        expected: u32,
-    ) -> Result<Option<Layers>, OutOfMemory> {
-        let Some(who) = self.make_table(agent)? else {
-            return Ok(None);
-        };
-        let Some(Some(distances)) = self.tables.get(agent as usize) else {
-            return Ok(None);
-        };
-        let task = LayerTask {
-            neighbourhoods: &self.neighbourhoods,
-            distances,
-            agent: who,
-            bars,
-        };
-        Layers::of(self.alloc, &mut self.workspace, &task, expected)
-    }
-
-    // Makes the agent's table of distances if it isn't made yet. Returns the agent, None if there is none.
-    fn make_table(&mut self, agent: u32) -> Result<Option<Agent>, OutOfMemory> {
-        let place = agent as usize;
-        let Some(&who) = self.problem.agents().get(place) else {
-            return Ok(None);
-        };
-        if let Some(table) = self.tables.get_mut(place) {
-            if table.is_none() && self.problem.grid().is_free(who.goal) {
-                *table = Some(Distances::of(self.alloc, self.problem.grid(), who.goal)?);
-            }
-        }
-        Ok(Some(who))
+    /// Drops the layers, and returns what finds them.
+    pub fn into_finder(self) -> LayerFinder<'a> {
+        self.finder
     }
 }

@@ -10,10 +10,10 @@
 //! A node is a delta node: it holds its parent, its one new constraint and the paths that it replaced (`Node`), each
 //! with the conflicts that it had when it was made. What holds at a node is read off it and its ancestors before it is
 //! expanded (`View`). Layers are kept by agent and set of constraints (`LayersMemo`), since many nodes share them. The
-//! paths of the node that is expanded are in a table of who is where when (`mapf_layers::Traffic`).
+//! paths of the node that is expanded are in a conflict avoidance table (`mapf_layers`).
 //!
 //! At the end a tree is drawn that shows the claim (`draw`): a node whose labels add up to it is a leaf, whatever the
-//! search did below, and a block that no leaf needs is left out. Labels are found only then.
+//! search did below, and a node has a block only if the cost of its agent rises there. Labels are found only then.
 //!
 //! Nothing is promised of the answers: a checker that is proved judges the plan and the tree before anybody relies on
 //! them. What is proved of the search is that it returns, within its ranges.
@@ -21,7 +21,9 @@
 
 mod begin;
 mod choice;
+mod conflict_count;
 mod draw;
+mod layer_finder;
 mod layers_memo;
 mod node;
 mod open_nodes;
@@ -29,7 +31,6 @@ mod outcome;
 mod search_tree;
 mod searcher;
 mod solver;
-mod trouble;
 mod view;
 
 pub use outcome::Outcome;

@@ -1,5 +1,5 @@
 //! A node of the constraint tree, which holds what differs from its parent.
-use crate::trouble::Trouble;
+use crate::conflict_count::ConflictCount;
 use mapf_model::{Conflict, Constraint, Path};
 
 /// A node of the constraint tree of a search.
@@ -14,7 +14,7 @@ pub struct Node {
     pub paths: Vec<NewPath>,
     /// The sum of the agents' costs, in ticks. Of a dead node it is its parent's.
     pub total: u64,
-    pub trouble: Trouble,
+    pub conflict_count: ConflictCount,
     pub split: Option<Split>,
 }
 

@@ -1,7 +1,7 @@
 //! The constraint tree while the search grows it: its nodes and the open list.
+use crate::conflict_count::ConflictCount;
 use crate::node::{NewPath, Node, Replanned, Split};
 use crate::open_nodes::OpenNodes;
-use crate::trouble::Trouble;
 use mapf_model::{Conflict, OutOfMemory};
 use std::alloc::Global;
 
@@ -13,7 +13,7 @@ pub struct Child {
     pub path: Option<NewPath>,
     /// The sum of costs, in ticks. Of a dead child it is its parent's.
     pub total: u64,
-    pub trouble: Trouble,
+    pub conflict_count: ConflictCount,
 }
 
 /// The constraint tree of a search. Nodes are numbered in the order in which they were made; the root has number 0.
@@ -42,17 +42,17 @@ impl SearchTree {
         &mut self,
         paths: Vec<NewPath>,
         total: u64,
-        trouble: Trouble,
+        conflict_count: ConflictCount,
     ) -> Result<(), OutOfMemory> {
         self.nodes.push(Node {
             parent: 0,
             replanned: None,
             paths,
             total,
-            trouble,
+            conflict_count,
             split: None,
         })?;
-        self.open.add(total, trouble.pairs, 0)
+        self.open.add(total, conflict_count.pairs, 0)
     }
 
     /// Returns whether the child can take the place of the node: it has the same sum and fewer conflicts.
@@ -60,7 +60,7 @@ impl SearchTree {
         match self.nodes.get(number as usize) {
             Some(node) => child.path.is_some()
                 && child.total == node.total
-                && child.trouble < node.trouble,
+                && child.conflict_count < node.conflict_count,
             None => false,
         }
     }
@@ -70,14 +70,14 @@ impl SearchTree {
         let Child {
             path,
             total,
-            trouble,
+            conflict_count,
             ..
         } = child;
         if let (Some(node), Some(path)) = (self.nodes.get_mut(number as usize), path) {
             node.paths.push(path)?;
-            node.trouble = trouble;
+            node.conflict_count = conflict_count;
         }
-        self.open.add(total, trouble.pairs, number)
+        self.open.add(total, conflict_count.pairs, number)
     }
 
     /// Splits a node on the conflict: its children are added, the left one first.
@@ -101,6 +101,19 @@ impl SearchTree {
         Ok(())
     }
 
+    /// Drops the paths of the nodes and the open list, and returns the nodes.
+    pub fn into_nodes(self) -> Vec<Node> {
+        let SearchTree {
+            alloc,
+            mut nodes,
+            ..
+        } = self;
+        for node in nodes.iter_mut() {
+            node.paths = Vec::new(alloc);
+        }
+        nodes
+    }
+
     // Adds a child of a node, and opens it if its agent arrives.
     fn add(&mut self, parent: u32, child: Child) -> Result<(), OutOfMemory> {
         let number = u32::try_from(self.nodes.len()).map_err(|_| OutOfMemory)?;
@@ -108,19 +121,19 @@ impl SearchTree {
             replanned,
             path,
             total,
-            trouble,
+            conflict_count,
         } = child;
-        let mut paths = Vec::new(self.alloc);
+        let mut paths = Vec::with_capacity(self.alloc, 1)?;
         if let Some(path) = path {
             paths.push(path)?;
-            self.open.add(total, trouble.pairs, number)?;
+            self.open.add(total, conflict_count.pairs, number)?;
         }
         self.nodes.push(Node {
             parent,
             replanned: Some(replanned),
             paths,
             total,
-            trouble,
+            conflict_count,
             split: None,
         })?;
         Ok(())

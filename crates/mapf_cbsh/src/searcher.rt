@@ -1,11 +1,11 @@
 //! The memory of a search, and how it makes the root and the children of a node.
 use crate::choice::choose;
+use crate::conflict_count::{ConflictCounter, pair_of};
 use crate::layers_memo::LayersMemo;
 use crate::node::{NewPath, Replanned};
 use crate::search_tree::{Child, SearchTree};
-use crate::trouble::{TroubleCount, pair_of};
 use crate::view::{View, add_bars};
-use mapf_layers::{Arrival, CalmSteps, Traffic};
+use mapf_layers::{Arrival, BestSteps, ConflictAvoidanceTable};
 use mapf_model::{Conflict, Constraint, OutOfMemory, Path, Plan, Problem};
 use std::alloc::Global;
 
@@ -17,10 +17,10 @@ pub struct Searcher<'a> {
     pub memo: LayersMemo<'a>,
     pub tree: SearchTree,
     pub view: View,
-    traffic: Traffic,
-    // By agent, the number of its path in the traffic.
+    table: ConflictAvoidanceTable,
+    // By agent, the number of its path in the table.
     placed: Vec<Option<u32>>,
-    steps: CalmSteps,
+    steps: BestSteps,
     // What the constraints of the agent that is replanned forbid.
     bars: Vec<Arrival>,
     // How many paths were made.
@@ -49,29 +49,29 @@ impl<'a> Searcher<'a> {
             memo: LayersMemo::of(alloc, problem)?,
             tree: SearchTree::new(alloc),
             view: View::of(alloc, count)?,
-            traffic: Traffic::of(alloc, agents)?,
+            table: ConflictAvoidanceTable::of(alloc, agents)?,
             placed: vec![in alloc; None; count]?,
-            steps: CalmSteps::new(alloc),
+            steps: BestSteps::of(alloc, problem.grid())?,
             bars: Vec::new(alloc),
             paths: 0,
         })
     }
 
-    /// Makes the root. Of these shortest paths, one for each agent, those that meet an earlier agent's are replaced by
-    /// others that are as short and meet the earlier ones least.
+    /// Makes the root. Of these shortest paths, one for each agent, those with a conflict with an earlier agent's are
+    /// replaced by others that are as short and have the fewest conflicts with the earlier ones.
     pub fn plant(&mut self, shortest: Vec<Path>) -> Result<(), OutOfMemory> {
         let mut paths = Vec::new(self.alloc);
         let mut total = 0u64;
-        let mut count = TroubleCount::default();
+        let mut counter = ConflictCounter::default();
         let mut agent = 0u32;
         for path in shortest {
             let new = self.root_path(agent, path)?;
             total = total.saturating_add(u64::from(cells_of(&new.path)).saturating_sub(1));
-            count.add_all(&new.conflicts, None);
+            counter.add_all(&new.conflicts, None);
             paths.push(new)?;
             agent = agent.saturating_add(1);
         }
-        self.tree.plant(paths, total, count.trouble())
+        self.tree.plant(paths, total, counter.count())
     }
 
     /// Reads what holds at a node, and finds the layers of its agents in conflict.
@@ -134,11 +134,12 @@ impl<'a> Searcher<'a> {
         Ok(Plan::of(paths))
     }
 
-    // Returns the path of an agent at the root: this one, or if that meets an earlier agent one that meets them least.
+    // Returns the path of an agent at the root: this one, or if that has a conflict with an earlier agent's one with the
+    // fewest conflicts.
     fn root_path(&mut self, agent: u32, shortest: Path) -> Result<NewPath, OutOfMemory> {
-        self.traffic.reserve(self.alloc, cells_of(&shortest))?;
+        self.table.reserve(self.alloc, cells_of(&shortest))?;
         let mut path = shortest;
-        let mut conflicts = self.traffic.conflicts(self.alloc, agent, path.cells())?;
+        let mut conflicts = self.table.conflicts(self.alloc, agent, path.cells())?;
         if !conflicts.is_empty() {
             self.find_root_layers(agent)?;
             let layers = self
@@ -146,12 +147,12 @@ impl<'a> Searcher<'a> {
                 .layers(agent)
                 .and_then(|number| self.memo.get(number));
             if let Some(layers) = layers {
-                path = layers.calm_path(self.alloc, &self.traffic, &mut self.steps, agent)?;
-                conflicts = self.traffic.conflicts(self.alloc, agent, path.cells())?;
+                path = layers.best_path(self.alloc, &self.table, &mut self.steps, agent)?;
+                conflicts = self.table.conflicts(self.alloc, agent, path.cells())?;
             }
         }
         let new = self.new_path(agent, path, conflicts);
-        self.traffic.set(agent, new.path.cells());
+        self.table.set(agent, new.path.cells());
         if let Some(entry) = self.placed.get_mut(agent as usize) {
             *entry = Some(new.number);
         }
@@ -188,8 +189,8 @@ impl<'a> Searcher<'a> {
                 continue;
             };
             if *entry != Some(new.number) {
-                self.traffic.reserve(self.alloc, cells_of(&new.path))?;
-                self.traffic.set(agent, new.path.cells());
+                self.table.reserve(self.alloc, cells_of(&new.path))?;
+                self.table.set(agent, new.path.cells());
                 *entry = Some(new.number);
             }
         }
@@ -216,7 +217,7 @@ impl<'a> Searcher<'a> {
                 Some(node) => node.total,
                 None => 0,
             },
-            trouble: Default::default(),
+            conflict_count: Default::default(),
         };
         self.replan(&mut child)?;
         Ok(child)
@@ -229,17 +230,17 @@ impl<'a> Searcher<'a> {
             return Ok(());
         };
         let cost = layers.cost();
-        self.traffic.reserve(self.alloc, cost.saturating_add(1))?;
-        let path = layers.calm_path(self.alloc, &self.traffic, &mut self.steps, agent)?;
-        let conflicts = self.traffic.conflicts(self.alloc, agent, path.cells())?;
-        let mut count = TroubleCount::default();
-        count.add_all(self.view.conflicts(), Some(agent));
-        count.add_all(&conflicts, None);
+        self.table.reserve(self.alloc, cost.saturating_add(1))?;
+        let path = layers.best_path(self.alloc, &self.table, &mut self.steps, agent)?;
+        let conflicts = self.table.conflicts(self.alloc, agent, path.cells())?;
+        let mut counter = ConflictCounter::default();
+        counter.add_all(self.view.conflicts(), Some(agent));
+        counter.add_all(&conflicts, None);
         let rest = child
             .total
             .saturating_sub(u64::from(child.replanned.before));
         child.total = rest.saturating_add(u64::from(cost));
-        child.trouble = count.trouble();
+        child.conflict_count = counter.count();
         child.replanned.cost = Some(cost);
         child.path = Some(self.new_path(agent, path, conflicts));
         Ok(())

@@ -110,12 +110,15 @@ fn end(alloc: Global, searcher: Searcher, ended: Ended) -> Result<Outcome, OutOf
     }
 }
 
-// Returns the tree that shows the claim.
+// Returns the tree that shows the claim. The labels of its blocks take much memory, so what they don't need is dropped
+// first.
 fn tree_of(
     alloc: Global,
     searcher: Searcher,
     claim: Option<u64>,
 ) -> Result<Vec<Item>, OutOfMemory> {
-    let Searcher { mut memo, tree, .. } = searcher;
-    Drawing::of(alloc, &tree.nodes, &mut memo, claim)?.items()
+    let Searcher { memo, tree, .. } = searcher;
+    let finder = memo.into_finder();
+    let nodes = tree.into_nodes();
+    Drawing::of(alloc, &nodes, finder, claim).items()
 }

@@ -1,6 +1,6 @@
 //! What holds at a node, read off it and its ancestors: each agent's path and layers, and the conflicts.
+use crate::conflict_count::pair_of;
 use crate::node::{NewPath, Node};
-use crate::trouble::pair_of;
 use mapf_layers::Arrival;
 use mapf_model::{Conflict, OutOfMemory};
 use std::alloc::Global;

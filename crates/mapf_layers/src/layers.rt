@@ -10,7 +10,11 @@ use std::alloc::Global;
 #[derive(Debug, Drop)]
 pub struct Workspace {
     reach: Reach,
-    kept: CellPlaces,
+    places: CellPlaces,
+    // What the layers that are being found hold: see there.
+    cells: Vec<Cell>,
+    begins: Vec<u32>,
+    sources: Vec<u8>,
 }
 
 impl Workspace {
@@ -18,8 +22,41 @@ impl Workspace {
     pub fn of(alloc: Global, cells: usize) -> Result<Workspace, OutOfMemory> {
         Ok(Workspace {
             reach: Reach::of(alloc, cells)?,
-            kept: CellPlaces::of(alloc, cells)?,
+            places: CellPlaces::of(alloc, cells)?,
+            cells: Vec::new(alloc),
+            begins: Vec::new(alloc),
+            sources: Vec::new(alloc),
         })
+    }
+
+    /// Returns the layers of the agent's cheapest paths, None if it can't arrive. A path is expected to cost at least
+    /// so much, in ticks.
+    pub fn layers(
+        &mut self,
+        alloc: Global,
+        task: &LayerTask,
+        expected: u32,
+    ) -> Result<Option<Layers>, OutOfMemory> {
+        let Some(cost) = self.reach.least_cost(task, expected)? else {
+            return Ok(None);
+        };
+        self.cells.clear();
+        self.begins.clear();
+        self.sources.clear();
+        self.begins.push(0)?;
+        self.cells.push(task.agent.goal)?;
+        for back in 0..cost {
+            self.add_layer(task, cost.saturating_sub(back))?;
+        }
+        // The start has no sources.
+        self.sources.push(0)?;
+        self.begins.push(number(self.cells.len())?)?;
+        Ok(Some(Layers {
+            cost,
+            cells: Vec::from_slice(alloc, &self.cells)?,
+            begins: Vec::from_slice(alloc, &self.begins)?,
+            sources: Vec::from_slice(alloc, &self.sources)?,
+        }))
     }
 
     /// Returns sound labels by which the agent costs at least `value` ticks, or can't arrive if that is None: for each
@@ -50,6 +87,64 @@ impl Workspace {
         }
         Ok(entries)
     }
+
+    // Adds the layer before the newest one, which is that of the tick, and the sources of the newest one's cells.
+    fn add_layer(&mut self, task: &LayerTask, tick: Tick) -> Result<(), OutOfMemory> {
+        let low = self.begins.last().copied().unwrap_or(0) as usize;
+        let high = self.cells.len();
+        self.begins.push(number(high)?)?;
+        let range = self.reach.range_at(tick.saturating_sub(1));
+        self.reach.index(range.0, range.1);
+        let bars = arrivals_at(task.bars, tick);
+        for place in low..high {
+            if let Some(&cell) = self.cells.get(place) {
+                let step = BackStep {
+                    bars,
+                    range,
+                    high,
+                    cell,
+                };
+                let [above, left, here, right, below] = task.around(cell);
+                let sources = self.add_source(&step, above, 1)?
+                    | self.add_source(&step, left, 2)?
+                    | self.add_source(&step, here, 4)?
+                    | self.add_source(&step, right, 8)?
+                    | self.add_source(&step, below, 16)?;
+                self.sources.push(sources)?;
+            }
+        }
+        Ok(())
+    }
+
+    // Adds a source of a cell, if the agent can be there one tick earlier and may go from there. Returns its bit then,
+    // else 0.
+    #[inline(always)]
+    fn add_source(
+        &mut self,
+        step: &BackStep,
+        from: Option<Cell>,
+        bit: u8,
+    ) -> Result<u8, OutOfMemory> {
+        let Some(from) = from else {
+            return Ok(0);
+        };
+        if !self.reach.has(step.range, from) {
+            return Ok(0);
+        }
+        if step.bars.iter().any(|bar| bar.is_step(from, step.cell)) {
+            return Ok(0);
+        }
+        let count = self.cells.len();
+        if self
+            .places
+            .find(&self.cells, step.high, count, from)
+            .is_none()
+        {
+            self.places.put(from, count);
+            self.cells.push(from)?;
+        }
+        Ok(bit)
+    }
 }
 
 // Adds the entries of the states in these cells at a tick.
@@ -75,6 +170,9 @@ fn entry_of(cell: Cell, tick: Tick, value: Option<u32>) -> Entry {
 }
 
 /// The layers of the cheapest paths of one agent under its constraints.
+///
+/// The first cell of a layer is the first source of the first cell of the layer one tick later, so the first cells of
+/// all layers are a path.
 #[derive(Debug, Drop)]
 pub struct Layers {
     // The cost of these paths, in ticks.
@@ -83,40 +181,12 @@ pub struct Layers {
     pub(crate) cells: Vec<Cell>,
     // Where the layers begin, that of the goal first, and where the last one ends.
     pub(crate) begins: Vec<u32>,
-    // For each of the cells, where its sources begin, and where the last one's end.
-    pub(crate) source_begins: Vec<u32>,
-    // The places of the cells one tick earlier from which each is come to.
-    pub(crate) sources: Vec<u32>,
+    // For each of the cells, its sources, the cells in which a path that comes to it can be one tick earlier: the sum
+    // of 1 for the cell above, 2 for that to the left, 4 for the cell itself, 8 for that to the right, 16 for that below.
+    pub(crate) sources: Vec<u8>,
 }
 
 impl Layers {
-    /// Returns the layers of the agent's cheapest paths, None if it can't arrive. A path is expected to cost at least
-    /// so much, in ticks.
-    pub fn of(
-        alloc: Global,
-        workspace: &mut Workspace,
-        task: &LayerTask,
-        expected: u32,
-    ) -> Result<Option<Layers>, OutOfMemory> {
-        let Some(cost) = workspace.reach.least_cost(task, expected)? else {
-            return Ok(None);
-        };
-        let mut layers = Layers {
-            cost,
-            cells: Vec::new(alloc),
-            begins: Vec::new(alloc),
-            source_begins: Vec::new(alloc),
-            sources: Vec::new(alloc),
-        };
-        layers.begins.push(0)?;
-        layers.cells.push(task.agent.goal)?;
-        for back in 0..cost {
-            layers.add_layer(workspace, task, cost.saturating_sub(back))?;
-        }
-        layers.finish()?;
-        Ok(Some(layers))
-    }
-
     /// Returns the cost of the agent's cheapest paths, in ticks.
     pub fn cost(&self) -> u32 {
         self.cost
@@ -141,90 +211,6 @@ impl Layers {
             .copied()
             .unwrap_or(low);
         (low as usize, high as usize)
-    }
-
-    /// Returns the places from which the cell at this place is come to.
-    #[inline(always)]
-    pub(crate) fn sources_of(&self, place: usize) -> &[u32] {
-        let low = self.source_begins.get(place).copied().unwrap_or(0);
-        let high = self
-            .source_begins
-            .get(place.saturating_add(1))
-            .copied()
-            .unwrap_or(low);
-        self.sources.get(low as usize..high as usize).unwrap_or(&[])
-    }
-
-    // Adds the layer before the newest one, which is that of the tick, and the sources of the newest one's cells.
-    fn add_layer(
-        &mut self,
-        workspace: &mut Workspace,
-        task: &LayerTask,
-        tick: Tick,
-    ) -> Result<(), OutOfMemory> {
-        let low = self.begins.last().copied().unwrap_or(0) as usize;
-        let high = self.cells.len();
-        self.begins.push(number(high)?)?;
-        let range = workspace.reach.range_at(tick.saturating_sub(1));
-        workspace.reach.index(range.0, range.1);
-        let bars = arrivals_at(task.bars, tick);
-        for place in low..high {
-            self.source_begins.push(number(self.sources.len())?)?;
-            if let Some(&cell) = self.cells.get(place) {
-                let step = BackStep {
-                    bars,
-                    range,
-                    high,
-                    cell,
-                };
-                let [above, left, here, right, below] = task.around(cell);
-                self.add_source(workspace, &step, above)?;
-                self.add_source(workspace, &step, left)?;
-                self.add_source(workspace, &step, here)?;
-                self.add_source(workspace, &step, right)?;
-                self.add_source(workspace, &step, below)?;
-            }
-        }
-        Ok(())
-    }
-
-    // Adds a source of a cell, if the agent can be there one tick earlier and may go from there.
-    #[inline(always)]
-    fn add_source(
-        &mut self,
-        workspace: &mut Workspace,
-        step: &BackStep,
-        from: Option<Cell>,
-    ) -> Result<(), OutOfMemory> {
-        let Some(from) = from else {
-            return Ok(());
-        };
-        if !workspace.reach.has(step.range, from) {
-            return Ok(());
-        }
-        if step.bars.iter().any(|bar| bar.is_step(from, step.cell)) {
-            return Ok(());
-        }
-        let count = self.cells.len();
-        let place = match workspace.kept.find(&self.cells, step.high, count, from) {
-            Some(place) => place,
-            None => {
-                workspace.kept.put(from, count);
-                self.cells.push(from)?;
-                count
-            }
-        };
-        self.sources.push(number(place)?)?;
-        Ok(())
-    }
-
-    // Ends the lists: the start has no sources.
-    fn finish(&mut self) -> Result<(), OutOfMemory> {
-        let end = number(self.sources.len())?;
-        self.source_begins.push(end)?;
-        self.source_begins.push(end)?;
-        self.begins.push(number(self.cells.len())?)?;
-        Ok(())
     }
 }
 

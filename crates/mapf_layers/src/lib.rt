@@ -1,4 +1,5 @@
-//! Which cells are on an agent's cheapest paths, tick by tick, and which of these paths meets the other agents least?
+//! Which cells are on an agent's cheapest paths, tick by tick, and which of these paths has the fewest conflicts with the
+//! other agents?
 //!
 //! The layers of an agent's cheapest paths under its constraints are a multi-valued decision diagram, MDD (Sharon et
 //! al. 2013): for each tick the cells in which such a path may be. A cell that is alone in its layer is on each
@@ -8,26 +9,27 @@
 //! A sweep goes from tick to tick over the states that can be reached with an f-value (tick plus distance) of at most
 //! a limit, and stops at the first tick at which the agent arrives for good (`Reach`). The limit begins with the cost
 //! that is expected, and the steps by which it rises double. From the arrival the layers are followed backwards over
-//! the states that the sweep has reached (`Layers`). So the states of a layer stand in the order in which they were
-//! met, from the goal to the start, and each has the places of those that lead to it.
+//! the states that the sweep has reached (`Workspace::layers`). So the states of a layer stand in the order in which they
+//! were met, from the goal to the start. A search keeps many layers, so each state takes five bytes: its cell, and a byte
+//! that says which of the cells around it lead to it.
 //!
-//! `Traffic` says who is where when: all agents' paths, by tick and cell. It finds the conflicts of a path, and by it
-//! a path of the layers with the fewest conflicts is found (`Layers::calm_path`).
+//! The conflict avoidance table has all agents' paths, by tick and cell. It finds the conflicts of a path, and by it a
+//! path of the layers with the fewest conflicts is found (`Layers::best_path`).
 //!
 //! Nothing is promised of the answers, since what a search makes of them is judged by a checker. What is proved is that
 //! each call returns, within its ranges.
 #![tactic(auto)]
 
 mod arrival;
-mod calm_path;
+mod best_path;
 mod cell_places;
+mod conflict_avoidance_table;
 mod layer_task;
 mod layers;
 mod reach;
-mod traffic;
 
 pub use arrival::Arrival;
-pub use calm_path::CalmSteps;
+pub use best_path::BestSteps;
+pub use conflict_avoidance_table::ConflictAvoidanceTable;
 pub use layer_task::LayerTask;
 pub use layers::{Layers, Workspace};
-pub use traffic::Traffic;

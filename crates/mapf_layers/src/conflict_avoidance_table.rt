@@ -1,5 +1,5 @@
-//! Who is where when: the paths of all agents by tick and cell. A search puts the paths of a node here, and finds by it
-//! the conflicts of a new path, and paths with few conflicts.
+//! The conflict avoidance table: the paths of all agents by tick and cell. A search puts the paths of a node here, and
+//! finds by it the conflicts of a new path, and paths with few conflicts.
 ghost use Rattle.std.specs.Iterator.{at_most};
 
 use mapf_model::{Cell, Conflict, OutOfMemory, Tick};
@@ -20,7 +20,7 @@ const FACTOR: u32 = 2_654_435_769;
 /// chain at the tick are linked. There are at least eight times as many chains as agents, so most are empty, and few
 /// have agents of two cells.
 #[derive(Debug, Drop)]
-pub struct Traffic {
+pub struct ConflictAvoidanceTable {
     agents: u32,
     // How many ticks there are. All paths end before the last one.
     ticks: u32,
@@ -71,18 +71,18 @@ impl<'a> Iterator for Chain<'a> {
     }
 }
 
-/// What a path meets in a cell at a tick: how many other agents are there, and in which cell the agent is that comes
-/// there at the next tick, which is the cell itself if none does.
+/// What a path meets in a cell at a tick: how many other agents are there, and from which cell another agent comes there
+/// at the next tick, which is the cell itself if none does.
 #[derive(Clone, Copy, Debug)]
 pub(crate) struct Meeting {
     pub(crate) others: u32,
-    pub(crate) comer: Cell,
+    pub(crate) next_from: Cell,
 }
 
-impl Traffic {
-    /// Returns the traffic of so many agents, none of which has a path yet.
-    pub fn of(alloc: Global, agents: u32) -> Result<Traffic, OutOfMemory> {
-        Traffic::with_ticks(alloc, agents, 0)
+impl ConflictAvoidanceTable {
+    /// Returns the table of so many agents, none of which has a path yet.
+    pub fn of(alloc: Global, agents: u32) -> Result<ConflictAvoidanceTable, OutOfMemory> {
+        ConflictAvoidanceTable::with_ticks(alloc, agents, 0)
     }
 
     /// Makes room for paths of so many cells.
@@ -91,7 +91,7 @@ impl Traffic {
             return Ok(());
         }
         let ticks = cells.saturating_add(cells / 2).saturating_add(16);
-        let mut wider = Traffic::with_ticks(alloc, self.agents, ticks)?;
+        let mut wider = ConflictAvoidanceTable::with_ticks(alloc, self.agents, ticks)?;
         for agent in 0..self.agents {
             wider.follow(self, agent);
         }
@@ -142,13 +142,13 @@ impl Traffic {
         Ok(found)
     }
 
-    /// Returns the traffic at a tick, as the agent meets it.
-    pub(crate) fn at(&self, agent: u32, tick: Tick) -> TickTraffic<'_> {
+    /// Returns the table at a tick, as the agent meets it.
+    pub(crate) fn at(&self, agent: u32, tick: Tick) -> TableAtTick<'_> {
         let low = (tick as usize).saturating_mul(self.chains);
         let high = low.saturating_add(self.chains);
         let end = high.saturating_add(self.chains);
-        TickTraffic {
-            traffic: self,
+        TableAtTick {
+            table: self,
             agent: name_of(agent),
             tick,
             here: self.heads.get(low..high).unwrap_or(&[]),
@@ -156,7 +156,11 @@ impl Traffic {
         }
     }
 
-    fn with_ticks(alloc: Global, agents: u32, ticks: u32) -> Result<Traffic, OutOfMemory> {
+    fn with_ticks(
+        alloc: Global,
+        agents: u32,
+        ticks: u32,
+    ) -> Result<ConflictAvoidanceTable, OutOfMemory> {
         let mut chains = 16usize;
         let mut shift = 28u32;
         for _ in 0..8 {
@@ -169,7 +173,7 @@ impl Traffic {
             cell: NOWHERE,
             next: NOBODY,
         };
-        Ok(Traffic {
+        Ok(ConflictAvoidanceTable {
             agents,
             ticks,
             chains,
@@ -180,8 +184,8 @@ impl Traffic {
         })
     }
 
-    // Puts the agent on its path in another traffic of fewer ticks.
-    fn follow(&mut self, other: &Traffic, agent: u32) {
+    // Puts the agent on its path in another table of fewer ticks.
+    fn follow(&mut self, other: &ConflictAvoidanceTable, agent: u32) {
         let length = other.lengths.get(agent as usize).copied().unwrap_or(0);
         if length == 0 {
             return;
@@ -345,10 +349,10 @@ impl Traffic {
     }
 }
 
-/// The traffic at a tick, and at the next one, as an agent meets it.
+/// The table at a tick, and at the next one, as an agent meets it.
 #[derive(Drop)]
-pub(crate) struct TickTraffic<'a> {
-    traffic: &'a Traffic,
+pub(crate) struct TableAtTick<'a> {
+    table: &'a ConflictAvoidanceTable,
     agent: u8,
     tick: Tick,
     // The heads of the chains at this tick and at the next one.
@@ -356,30 +360,30 @@ pub(crate) struct TickTraffic<'a> {
     next: &'a [u8],
 }
 
-impl<'a> TickTraffic<'a> {
+impl<'a> TableAtTick<'a> {
     /// Returns what the agent meets in a cell.
     #[inline(always)]
     pub(crate) fn meeting(&self, cell: Cell) -> Meeting {
-        let chain = self.traffic.chain_of(cell);
+        let chain = self.table.chain_of(cell);
         let here = self.here.get(chain).copied().unwrap_or(NOBODY);
         let next = self.next.get(chain).copied().unwrap_or(NOBODY);
         // Most chains have no agent.
         if here == NOBODY && next == NOBODY {
             return Meeting {
                 others: 0,
-                comer: cell,
+                next_from: cell,
             };
         }
         Meeting {
             others: self.others(cell, here),
-            comer: self.comer(cell, next),
+            next_from: self.next_from(cell, next),
         }
     }
 
     // Returns how many other agents are in the cell, whose chain has this head.
     fn others(&self, cell: Cell, head: u8) -> u32 {
         let mut others = 0u32;
-        for (other, place) in self.traffic.chain_from(self.tick, head) {
+        for (other, place) in self.table.chain_from(self.tick, head) {
             if place == cell && other != self.agent {
                 others = others.saturating_add(1);
             }
@@ -387,11 +391,11 @@ impl<'a> TickTraffic<'a> {
         others
     }
 
-    // Returns where the other agent is that comes to the cell, whose chain has this head at the next tick: of several
-    // the one of the least number. The cell itself if none comes.
-    fn comer(&self, cell: Cell, head: u8) -> Cell {
+    // Returns from which cell another agent comes to the cell, whose chain has this head at the next tick: of several
+    // agents the one of the least number. The cell itself if none comes.
+    fn next_from(&self, cell: Cell, head: u8) -> Cell {
         let mut first = NOBODY;
-        for (other, place) in self.traffic.chain_from(self.tick.saturating_add(1), head) {
+        for (other, place) in self.table.chain_from(self.tick.saturating_add(1), head) {
             if place == cell && other != self.agent && other < first {
                 first = other;
             }
@@ -399,7 +403,7 @@ impl<'a> TickTraffic<'a> {
         if first == NOBODY {
             cell
         } else {
-            self.traffic.cell_at(first, self.tick)
+            self.table.cell_at(first, self.tick)
         }
     }
 }

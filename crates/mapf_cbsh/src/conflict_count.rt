@@ -3,19 +3,19 @@ use mapf_model::Conflict;
 
 /// The pairs of agents in conflict, and the conflicts. They are compared in this order.
 #[derive(Clone, Copy, Debug, Default, PartialEq, Eq, PartialOrd, Ord)]
-pub struct Trouble {
+pub struct ConflictCount {
     pub pairs: u32,
     pub conflicts: u32,
 }
 
 /// Counts conflicts, of which those of each pair of agents stand together.
 #[derive(Clone, Copy, Debug, Default)]
-pub struct TroubleCount {
+pub struct ConflictCounter {
     last: Option<(u32, u32)>,
-    trouble: Trouble,
+    count: ConflictCount,
 }
 
-impl TroubleCount {
+impl ConflictCounter {
     /// Counts these conflicts, but for those of the agent, if one is named.
     pub fn add_all(&mut self, conflicts: &[Conflict], without: Option<u32>) {
         for conflict in conflicts {
@@ -25,15 +25,15 @@ impl TroubleCount {
             }
             if self.last != Some(pair) {
                 self.last = Some(pair);
-                self.trouble.pairs = self.trouble.pairs.saturating_add(1);
+                self.count.pairs = self.count.pairs.saturating_add(1);
             }
-            self.trouble.conflicts = self.trouble.conflicts.saturating_add(1);
+            self.count.conflicts = self.count.conflicts.saturating_add(1);
         }
     }
 
     /// Returns what was counted.
-    pub fn trouble(&self) -> Trouble {
-        self.trouble
+    pub fn count(&self) -> ConflictCount {
+        self.count
     }
 }
 
