@@ -1,5 +1,9 @@
-"""Tries examples/make_benchmark: what it says and its statuses. tests/tools/sweep_tests.py solves what it makes."""
+"""Tries examples/make_benchmark: what it says, its statuses, its rooms and its maze. tests/tools/sweep_tests.py solves
+what it makes.
+"""
 
+import importlib.machinery
+import importlib.util
 import subprocess
 import sys
 import tempfile
@@ -18,6 +22,8 @@ def tests(tally):
         for title, (words, status, part) in calls().items():
             tally.add(f"make_benchmark, {title}", faults_of(folder, words, status, part))
         tally.add("make_benchmark, nothing is made by a wrong call", left(folder))
+    tally.add("make_benchmark, rooms with a door in each wall between two", rooms())
+    tally.add("make_benchmark, a maze without loops", maze())
 
 
 def calls():
@@ -45,3 +51,31 @@ def faults_of(folder, words, status, part):
 def left(folder):
     made = [path.name for path in folder.iterdir()]
     return [] if sorted(made) == ["plain", "taken"] else [f"{made}"]
+
+
+def rooms():
+    """Four rooms of 16 cells, each with a door to two others: all of them are one part."""
+    script = module()
+    made = script.make_examples()
+    rows = script.rooms(9, 9, 4, made)
+    cells = made.largest_part(rows)
+    return [] if len(cells) == "".join(rows).count(made.FREE) == 4 * 16 + 4 else rows
+
+
+def maze():
+    """Each room of the maze is reached, by as many steps between cells as there are cells but one."""
+    script = module()
+    made = script.make_examples()
+    rows = script.maze(9, 9, 1, made)
+    cells = set(made.largest_part(rows))
+    steps = sum(((x + 1, y) in cells) + ((x, y + 1) in cells) for x, y in cells)
+    is_whole = all((x, y) in cells for x in range(0, 9, 2) for y in range(0, 9, 2))
+    return [] if is_whole and steps == len(cells) - 1 else rows
+
+
+def module():
+    """The script as a module."""
+    loader = importlib.machinery.SourceFileLoader("make_benchmark", str(SCRIPT))
+    script = importlib.util.module_from_spec(importlib.util.spec_from_loader("make_benchmark", loader))
+    loader.exec_module(script)
+    return script

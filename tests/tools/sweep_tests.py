@@ -50,7 +50,7 @@ def made_benchmark(folder):
     subprocess.run([sys.executable, str(examples / "make_benchmark"), str(made), "1"], stdout=subprocess.DEVNULL)
     words = [str(made / "maps"), str(made / "scen-random"), str(folder / "made-out"), "--agents", "2,4"]
     ended = subprocess.run([sys.executable, str(SWEEP), *words], capture_output=True, text=True, timeout=SECONDS)
-    faults = [] if ended.returncode == 0 and ended.stdout.count("| 1 of 1 |") == 8 else [f"{ended}"]
+    faults = [] if ended.returncode == 0 and ended.stdout.count("| 1 of 1 |") == 14 else [f"{ended}"]
     same = [path.read_bytes() for path in (made / "maps" / "gen-random-32-32-20.map", examples / "random-32-32.map")]
     return faults + ([] if same[0] == same[1] else ["the map isn't that of the examples"])
 
