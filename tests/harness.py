@@ -75,7 +75,7 @@ def heed_signals():
         signal.signal(number, signal.SIG_DFL)
 
 
-def run(words, places=None, environment=None, most_bytes=BYTES, program=PROGRAM):
+def run(words, places=None, environment=None, most_bytes=BYTES, program=PROGRAM, seconds=SECONDS):
     """Runs the program. A standard stream that has a place goes there, and an output that has none is caught."""
     places = places or {}
     closed = [number for number, name in enumerate(STREAMS) if places.get(name) == "CLOSED"]
@@ -89,9 +89,9 @@ def run(words, places=None, environment=None, most_bytes=BYTES, program=PROGRAM)
         try:
             status = subprocess.run(
                 [str(program), *words], stdin=subprocess.DEVNULL, stdout=out, stderr=err,
-                env={**os.environ, **(environment or {})}, timeout=SECONDS, preexec_fn=prepare).returncode
+                env={**os.environ, **(environment or {})}, timeout=seconds, preexec_fn=prepare).returncode
         except subprocess.TimeoutExpired:
-            status = f"none after {SECONDS} seconds"
+            status = f"none after {seconds} seconds"
         return Ended(status, caught(out, places.get("stdout")), caught(err, places.get("stderr")))
 
 

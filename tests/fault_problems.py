@@ -1,0 +1,118 @@
+"""The small problems on which plant_faults tries a search: some of cases/, some examples, and drawn ones."""
+
+import importlib.machinery
+import importlib.util
+import re
+from dataclasses import dataclass
+from pathlib import Path
+
+from harness import TESTS, Case
+
+EXAMPLES = TESTS.parent / "examples"
+
+# With so many splits either search solves each of these problems that has a valid plan.
+AMPLE = 100
+
+# Cases of `solve`: tiny problems, those without a valid plan among them, at limits of 0 and up.
+CASES = ["search-cbsh-alone", "search-cbsh-shared-goal", "search-cbsh-wall", "search-cbsh-without-splits",
+         "solve-corridor", "solve-crossing", "solve-niche", "solve-rotation", "solve-seventeen-agents-replanned",
+         "solve-shared-start", "solve-shared-start-without-splits"]
+
+# Examples, each with its number of agents and a limit.
+SOLVED = [("empty-8-8", 6, AMPLE), ("random-32-32", 8, AMPLE)]
+
+MAPS = {
+    "maze": """
+        .........
+        .@.@@@.@.
+        .@...@.@.
+        .@@@.@.@.
+        .........
+        .@.@.@@@.
+        .@.@...@.
+        .@.@@@.@.
+        .........""",
+    "corridors": """
+        @.@@.@@.@
+        .........
+        @.@@@@@.@
+        .........
+        @@@.@@.@@
+        .........
+        @.@@@.@@@""",
+    "door": """
+        ....@....
+        ....@....
+        .........
+        ....@....
+        ....@....""",
+}
+
+# Drawn problems: a map, the number of agents, the seed of starts and goals, and the limit.
+DRAWN = [("open", 8, 2, AMPLE), ("open", 8, 2, 1), ("open", 10, 2, AMPLE), ("open", 10, 2, 0),
+         ("random", 4, 1, AMPLE), ("random", 4, 1, 5), ("random", 4, 1, 2), ("random", 8, 1, AMPLE),
+         ("random", 8, 1, 0), ("random", 10, 1, AMPLE), ("random", 10, 2, AMPLE), ("random", 10, 2, 2),
+         ("maze", 5, 1, AMPLE), ("maze", 5, 1, 5), ("maze", 6, 2, AMPLE), ("maze", 6, 3, AMPLE), ("maze", 6, 3, 1),
+         ("corridors", 3, 1, AMPLE), ("corridors", 3, 1, 2), ("corridors", 4, 2, AMPLE), ("corridors", 5, 1, AMPLE)]
+
+
+@dataclass(frozen=True)
+class Problem:
+    """The texts of a call of `solve`, and its numbers."""
+
+    name: str
+    grid: str
+    scenario: str
+    agents: int
+    limit: int
+
+    def is_ample(self):
+        return self.limit >= AMPLE
+
+    def put(self, folder, height=0):
+        """Writes both files. If a height is named, rows of blocked cells below the others fill the map up to it."""
+        folder.mkdir()
+        grid, scenario = (self.grid, self.scenario) if height == 0 else self.filled(height)
+        (folder / "map").write_text(grid)
+        (folder / "scen").write_text(scenario)
+
+    def filled(self, height):
+        head, rows = self.grid.split("map\n")
+        rows = rows.splitlines()
+        rows += ["@" * len(rows[0])] * (height - len(rows))
+        title, *lines = self.scenario.splitlines()
+        fields = [line.split() for line in lines]
+        lines = ["\t".join([*words[:3], str(height), *words[4:]]) for words in fields]
+        return "\n".join([f"{re.sub('height .*', f'height {height}', head)}map", *rows, ""]), "\n".join([title, *lines, ""])
+
+
+def problems():
+    made = make_examples()
+    maps = {name: text.split() for name, text in MAPS.items()}
+    maps |= {"open": made.empty(8, 8), "random": made.random_obstacles(8, 8, 20, made.Numbers(8))}
+    return [*(problem_of(Case(TESTS / "cases" / name)) for name in CASES), *(example(*words) for words in SOLVED),
+            *(drawn(made, maps[name], name, *numbers) for name, *numbers in DRAWN)]
+
+
+def problem_of(case):
+    """The problem of a case, of whose words the numbers are those of agents and splits."""
+    agents, limit = (int(word) for word in case.words if word.isdigit())
+    return Problem(case.name, (case.folder / "map").read_text(), (case.folder / "scen").read_text(), agents, limit)
+
+
+def example(name, agents, limit):
+    texts = ((EXAMPLES / f"{name}.{ending}").read_text() for ending in ("map", "scen"))
+    return Problem(f"{name}, {agents} agents", *texts, agents, limit)
+
+
+def drawn(made, rows, name, agents, seed, limit):
+    scenario = made.scenario_text(name, rows, agents, made.Numbers(1000 * seed + agents))
+    return Problem(f"{name} {seed}, {agents} agents, limit {limit}", made.map_text(rows), scenario, agents, limit)
+
+
+def make_examples():
+    """The script of examples/ that draws maps and scenarios, as a module."""
+    loader = importlib.machinery.SourceFileLoader("make_examples", str(EXAMPLES / "make_examples"))
+    module = importlib.util.module_from_spec(importlib.util.spec_from_loader("make_examples", loader))
+    loader.exec_module(module)
+    return module
