@@ -1,14 +1,16 @@
 """The small problems on which plant_faults tries a search: some of cases/, some examples, and drawn ones."""
 
-import importlib.machinery
-import importlib.util
-import re
 from dataclasses import dataclass
-from pathlib import Path
+from importlib.machinery import SourceFileLoader
+from types import ModuleType
 
 from harness import TESTS, Case
 
 EXAMPLES = TESTS.parent / "examples"
+
+# The script that draws maps and scenarios.
+MADE = ModuleType("make_examples")
+SourceFileLoader("make_examples", str(EXAMPLES / "make_examples")).exec_module(MADE)
 
 # With so many splits either search solves each of these problems that has a valid plan.
 AMPLE = 100
@@ -40,12 +42,6 @@ MAPS = {
         @@@.@@.@@
         .........
         @.@@@.@@@""",
-    "door": """
-        ....@....
-        ....@....
-        .........
-        ....@....
-        ....@....""",
 }
 
 # Drawn problems: a map, the number of agents, the seed of starts and goals, and the limit.
@@ -66,9 +62,6 @@ class Problem:
     agents: int
     limit: int
 
-    def is_ample(self):
-        return self.limit >= AMPLE
-
     def put(self, folder, height=0):
         """Writes both files. If a height is named, rows of blocked cells below the others fill the map up to it."""
         folder.mkdir()
@@ -77,21 +70,18 @@ class Problem:
         (folder / "scen").write_text(scenario)
 
     def filled(self, height):
-        head, rows = self.grid.split("map\n")
-        rows = rows.splitlines()
+        rows = self.grid.split("map\n")[1].splitlines()
         rows += ["@" * len(rows[0])] * (height - len(rows))
         title, *lines = self.scenario.splitlines()
-        fields = [line.split() for line in lines]
-        lines = ["\t".join([*words[:3], str(height), *words[4:]]) for words in fields]
-        return "\n".join([f"{re.sub('height .*', f'height {height}', head)}map", *rows, ""]), "\n".join([title, *lines, ""])
+        lines = ["\t".join([*words[:3], str(height), *words[4:]]) for words in map(str.split, lines)]
+        return MADE.map_text(rows), "\n".join([title, *lines, ""])
 
 
 def problems():
-    made = make_examples()
     maps = {name: text.split() for name, text in MAPS.items()}
-    maps |= {"open": made.empty(8, 8), "random": made.random_obstacles(8, 8, 20, made.Numbers(8))}
+    maps |= {"open": MADE.empty(8, 8), "random": MADE.random_obstacles(8, 8, 20, MADE.Numbers(8))}
     return [*(problem_of(Case(TESTS / "cases" / name)) for name in CASES), *(example(*words) for words in SOLVED),
-            *(drawn(made, maps[name], name, *numbers) for name, *numbers in DRAWN)]
+            *(drawn(maps[name], name, *numbers) for name, *numbers in DRAWN)]
 
 
 def problem_of(case):
@@ -105,14 +95,6 @@ def example(name, agents, limit):
     return Problem(f"{name}, {agents} agents", *texts, agents, limit)
 
 
-def drawn(made, rows, name, agents, seed, limit):
-    scenario = made.scenario_text(name, rows, agents, made.Numbers(1000 * seed + agents))
-    return Problem(f"{name} {seed}, {agents} agents, limit {limit}", made.map_text(rows), scenario, agents, limit)
-
-
-def make_examples():
-    """The script of examples/ that draws maps and scenarios, as a module."""
-    loader = importlib.machinery.SourceFileLoader("make_examples", str(EXAMPLES / "make_examples"))
-    module = importlib.util.module_from_spec(importlib.util.spec_from_loader("make_examples", loader))
-    loader.exec_module(module)
-    return module
+def drawn(rows, name, agents, seed, limit):
+    scenario = MADE.scenario_text(name, rows, agents, MADE.Numbers(1000 * seed + agents))
+    return Problem(f"{name} {seed}, {agents} agents, limit {limit}", MADE.map_text(rows), scenario, agents, limit)

@@ -49,7 +49,7 @@ class NotBuilt(Exception):
 
 @dataclass(frozen=True)
 class Ran:
-    """How a run of the program ended: its status, None if it has none, what it printed, and whether it ended in time."""
+    """How a run of the program ended: its status if it has one, what it printed, and whether it came to no end."""
 
     status: int | None
     stdout: str
