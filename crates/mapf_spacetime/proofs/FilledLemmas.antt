@@ -1,42 +1,10 @@
 -- The places of the words that aren't 0.
-use Rattle.std.proofs.Common.{◌≡◌, ◌≢◌, ℕ, ◌*◌, ◌/◌, ◌%◌, ◌<◌, ◌≤◌, List, [], Option, None, Some, IfSome, IfNone, ◌++◌, length, take, drop, slice_index, sym, ap, subst, ◌∙◌, ⊎_elim, arith}
+use Rattle.std.proofs.Common.{◌≡◌, ◌≢◌, ℕ, ◌/◌, ◌%◌, ◌≤◌, List, Option, None, Some, IfSome, IfNone, ◌++◌, length, take, drop, slice_index, sym, ap, subst, ◌∙◌, ⊎_elim, arith}
 use Rattle.std.proofs.Math.Seq.{take-append_seam}
-use Rattle.std.proofs.lemmas.Bool.{cases_lt, cases_eq}
-use Rattle.std.proofs.lemmas.List.{get_or_past}
+use Rattle.std.proofs.lemmas.Bool.{cases_eq}
 use Rattle.std.proofs.lemmas.Nat.Bits.{bit_at-zero}
 use Rattle.std.specs.Int.{bit_at}
-use Rattle.mapf_spacetime.specs.CellSets.{HasNumber, HasNone, AreFilled, AreEmptyOutside}
-
--- a number of a set has a bit there
-pub number_inside : (words : List ℕ) (number : ℕ) → HasNumber words number → number < 64 * length words
-number_inside words number held = ⊎_elim
-    (λ (inside : number < 64 * length words). inside)
-    (λ (outside : 64 * length words ≤ number).
-    let zero = ap (λ n. bit_at n (number % 64)) (get_or_past words (number / 64) 0 (omega arith)) ∙ bit_at-zero (number % 64) in
-    absurd (let one : 0 ≡ 1 = sym zero ∙ held in omega (arith, one)))
-    (cases_lt number (64 * length words))
-
--- a word that isn't 0 is in the list
-pub word_inside : (words : List ℕ) (place : ℕ) → slice_index words place ≢ 0 → place < length words
-word_inside words place some = ⊎_elim
-    (λ (inside : place < length words). inside)
-    (λ (outside : length words ≤ place). absurd (some (get_or_past words place 0 outside)))
-    (cases_lt place (length words))
-
--- without places all words are 0
-pub none_filled : (words filled : List ℕ) → AreFilled words filled → HasNone filled → (place : ℕ) → slice_index words place ≡ 0
-none_filled words filled are none place = ⊎_elim
-    (λ (zero : slice_index words place ≡ 0). zero)
-    (λ (some : slice_index words place ≢ 0). absurd (none place (are.full place some)))
-    (cases_eq (slice_index words place) 0)
-
--- words that are all 0 have no places
-pub filled_none : (words filled : List ℕ) → ((place : ℕ) → slice_index words place ≡ 0) → HasNone filled → length words ≤ 64 * length filled → AreFilled words filled
-filled_none words filled zeros none room = record {
-  full = λ place some. absurd (some (zeros place));
-  only = λ place held. absurd (none place held);
-  room = room;
-}
+use Rattle.mapf_spacetime.specs.CellSets.{HasNumber, HasNone, AreFilled}
 
 -- the word at a place is written, and the set of places is as it was but for this place
 pub filled_after : (words new_words filled new : List ℕ) → AreFilled words filled → (place : ℕ) → length new_words ≡ length words → length new ≡ length filled
@@ -71,27 +39,9 @@ least_gone (Some n) old new place held least has low kept only none =
       λ other there. let o = only other there in (o.0, λ e. o.1 (e ∙ sym same)),
     )
 
--- the words before the least place are 0
-pub empty_before : (words filled : List ℕ) → AreFilled words filled → (least : ℕ) → ((other : ℕ) → HasNumber filled other → least ≤ other) → AreEmptyOutside words least (length words)
-empty_before words filled are least low = record {
-  zero = λ place outside. ⊎_elim
-      (λ (zero : slice_index words place ≡ 0). zero)
-      (λ (some : slice_index words place ≢ 0).
-      let after = low place (are.full place some) in
-      let inside = word_inside words place some in
-      let before = outside inside in
-      absurd (omega (arith, after, before)))
-      (cases_eq (slice_index words place) 0);
-  within = omega arith;
-}
-
 -- the word of a cell of the set isn't 0
 pub not_zero : (words : List ℕ) (cell : ℕ) → HasNumber words cell → slice_index words (cell / 64) ≢ 0
 not_zero words cell held zero = let one = sym held ∙ ap (λ n. bit_at n (cell % 64)) zero ∙ bit_at-zero (cell % 64) in omega (arith, one)
-
--- no set has a cell without words
-pub no_words : (cell : ℕ) → HasNumber [] cell → ⊥
-no_words cell held = let one = sym held ∙ bit_at-zero (cell % 64) in omega (arith, one)
 
 -- the words that are written through a slice of all of them
 pub written_back : (old new : List ℕ) (count : ℕ) → count ≡ length old → length new ≡ length old → take count (new ++ drop (length new) old) ≡ new

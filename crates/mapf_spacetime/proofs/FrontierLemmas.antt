@@ -1,5 +1,6 @@
 -- The properties of a frontier are preserved when states are added to it.
 use Rattle.std.proofs.Common.{◌≡◌, ◌⊎◌, inl, inr, ⊎_elim, ℕ, ◌+◌, ◌<◌, ◌≤◌, Some, List, [], ◌∷◌, ◌++◌, length, Contains, refl, sym, ap, subst, ◌∙◌, arith, length-append}
+use Rattle.std.proofs.Math.Logic.{⊎_map}
 use Rattle.std.proofs.lemmas.List.{take-append-le}
 use Rattle.std.proofs.lemmas.List.Elements.{Contains-append_left, Contains-push, Contains-push_cases}
 use Rattle.mapf_model.specs.Labels.{MayGo}
@@ -14,19 +15,13 @@ use Rattle.mapf_model.proofs.ContainsLemmas.{Contains-none, Contains-cons_cases}
 
 module _ (states : States) (new : State) where
   pub known_open : (s : State) → IsKnown states s → IsKnown (with_open states new) s
-  known_open s k = ⊎_elim (λ r. inl r) (λ other. inr (⊎_elim (λ o. inl (Contains-append_left states.open_states (new ∷ []) s o)) (λ w. inr w) other)) k
+  known_open s k = ⊎_map (λ r. r) (⊎_map (Contains-append_left states.open_states (new ∷ []) s) (λ w. w)) k
 
   pub known_next : (s : State) → IsKnown states s → IsKnown (with_next states new) s
-  known_next s k = ⊎_elim (λ r. inl r) (λ other. inr (⊎_elim
-      (λ o. inl o)
-      (λ w. inr (⊎_elim (λ n. inl (Contains-append_left states.next_states (new ∷ []) s n)) (λ l. inr l) w))
-      other)) k
+  known_next s k = ⊎_map (λ r. r) (⊎_map (λ o. o) (⊎_map (Contains-append_left states.next_states (new ∷ []) s) (λ l. l))) k
 
   pub known_later : (s : State) → IsKnown states s → IsKnown (with_later states new) s
-  known_later s k = ⊎_elim (λ r. inl r) (λ other. inr (⊎_elim
-      (λ o. inl o)
-      (λ w. inr (⊎_elim (λ n. inl n) (λ l. inr (Contains-append_left states.later_states (new ∷ []) s l)) w))
-      other)) k
+  known_later s k = ⊎_map (λ r. r) (⊎_map (λ o. o) (⊎_map (λ n. n) (Contains-append_left states.later_states (new ∷ []) s))) k
 
   pub known_open_cases : (s : State) → IsKnown (with_open states new) s → IsKnown states s ⊎ (new ≡ s)
   known_open_cases s k = ⊎_elim (λ r. inl (inl r)) (λ other. ⊎_elim

@@ -1,5 +1,6 @@
 -- A frontier at the next cost, and a bound on the costs.
 use Rattle.std.proofs.Common.{Option, Some, None, IfNone, ◌≡◌, ◌⊎◌, inl, inr, ⊎_elim, ℕ, ◌+◌, ◌<◌, List, [], ◌∷◌, length, Contains, refl, sym, subst, arith}
+use Rattle.std.proofs.Math.Logic.{⊎_map}
 use Rattle.std.proofs.lemmas.List.{take_all}
 use Rattle.mapf_model.specs.Distance.{IsUnreachable}
 use Rattle.mapf_model.specs.Grid.{free_cell_count}
@@ -18,22 +19,10 @@ use Rattle.mapf_model.specs.Limits.{most_cells}
 -- a state that is known at one cost is known at the next
 module _ (task : Task) (states : States) (w : IsLevelDone task states) where
   known_raised : (s : State) → IsKnown states s → IsKnown (raised states) s
-  known_raised s k = ⊎_elim
-      (λ r. inl r)
-      (λ other. ⊎_elim
-      (λ o. absurd (Contains-none s (subst (λ l. Contains l s) w.none_open o)))
-      (λ waits. ⊎_elim (λ n. inr (inl n)) (λ l. inr (inr (inl l))) waits)
-      other)
-      k
+  known_raised s k = ⊎_map (λ r. r) (⊎_elim (λ o. absurd (Contains-none s (subst (λ l. Contains l s) w.none_open o))) (⊎_map (λ n. n) (λ l. inl l))) k
 
   known_before : (s : State) → IsKnown (raised states) s → IsKnown states s
-  known_before s k = ⊎_elim
-      (λ r. inl r)
-      (λ other. ⊎_elim
-      (λ o. inr (inr (inl o)))
-      (λ waits. ⊎_elim (λ n. inr (inr (inr n))) (λ l. absurd (Contains-none s l)) waits)
-      other)
-      k
+  known_before s k = ⊎_map (λ r. r) (λ other. inr (⊎_map (λ o. o) (⊎_elim (λ n. n) (λ l. absurd (Contains-none s l))) other)) k
 
   pub raised_frontier : IsFrontier task [] (raised states)
   raised_frontier =
@@ -62,13 +51,7 @@ module _ (task : Task) (states : States) (w : IsLevelDone task states) (last : �
   followed s held to may = ⊎_elim
       (λ b. absurd (Contains-none s b))
       (λ closed. ⊎_elim
-      (λ known. ⊎_elim
-      (λ r. inl r)
-      (λ other. ⊎_elim
-      (λ o. absurd (Contains-none (state_at to (s.tick + 1)) (subst (λ l. Contains l (state_at to (s.tick + 1))) w.none_open o)))
-      (λ waits. inr (inl (from_next (state_at to (s.tick + 1)) waits)))
-      other)
-      known)
+      (⊎_map (λ r. r) (λ other. inl (⊎_elim (λ o. absurd (Contains-none (state_at to (s.tick + 1)) (subst (λ l. Contains l (state_at to (s.tick + 1))) w.none_open o))) (from_next (state_at to (s.tick + 1))) other)))
       (λ none. inr (inr none))
       (closed to may))
       (w.frontier.closed s held)

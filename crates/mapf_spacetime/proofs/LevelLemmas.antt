@@ -1,11 +1,12 @@
 -- How a search by rising f-values begins with a sweep, and what it has shown at its end.
-use Rattle.std.proofs.Common.{◌≡◌, ◌⊎◌, inl, inr, ⊎_elim, ℕ, zero, suc, ◌+◌, ◌^◌, ◌<◌, ◌≤◌, List, [], ◌∷◌, ◌++◌, AllPairs, Contains, drop, take-append-drop, length, length-append, refl, sym, subst, arith}
+use Rattle.std.proofs.Common.{◌≡◌, ◌⊎◌, inl, inr, ⊎_elim, ℕ, zero, ◌+◌, ◌^◌, ◌<◌, ◌≤◌, List, [], ◌∷◌, ◌++◌, AllPairs, Contains, drop, take-append-drop, length, length-append, refl, sym, subst, arith}
+use Rattle.std.proofs.Math.Logic.{⊎_map}
 use Rattle.std.proofs.lemmas.List.{take_all}
 use Rattle.std.proofs.lemmas.List.Elements.{Contains-append_left}
 use Rattle.mapf_model.specs.Labels.{MayGo}
 use Rattle.mapf_model.proofs.ContainsLemmas.{Contains-none}
 use Rattle.mapf_model.specs.declared.state.State.{State}
-use Rattle.mapf_spacetime.specs.Frontiers.{States, first_states, low_states, with_open, AreLowReached, IsAtGoal, IsClosed, IsFrontier, IsKnown, IsExhausted, takes_left}
+use Rattle.mapf_spacetime.specs.Frontiers.{States, first_states, low_states, with_open, AreLowReached, IsAtGoal, IsClosed, IsFrontier, IsKnown, IsWaiting, IsExhausted, takes_left}
 use Rattle.mapf_spacetime.specs.Levels.{IsWalkTo}
 use Rattle.mapf_spacetime.specs.PathSearch.{CanArrive, IsWholeWalk}
 use Rattle.mapf_model.specs.States.{IsEarlier}
@@ -13,6 +14,7 @@ use Rattle.mapf_spacetime.specs.Sweeps.{Sweeping, IsFrom, IsWhole, HasArrived, A
 use Rattle.mapf_spacetime.specs.Task.{Task, IsValue, MayRestFrom, state_at, start_of}
 use Rattle.mapf_spacetime.proofs.FrontierLemmas.{reached_within, at_goal_open, rest_at_cost}
 use Rattle.mapf_spacetime.proofs.PathLemmas.{walk_leads}
+use Rattle.mapf_spacetime.proofs.SweptLemmas.{leads_back}
 use Rattle.mapf_spacetime.proofs.ValueLemmas.{level_within, no_lower, not_higher, value_unique}
 
 -- the states of a whole sweep were reached, and the steps from them are still to be taken
@@ -64,20 +66,10 @@ level_steps task states from level to may (value, is, less) = absurd (
 from_level : (task : Task) (cost value : ℕ) (s : State) → IsValue task s value → cost ≤ value → IsFrom task cost s
 from_level task cost value s is le = (value, is, le)
 
--- an agent that can arrive from a known state can arrive from the start
-module _ (task : Task) (states : States) (f : IsFrontier task [] states) where
-  leads : (n : ℕ) (s : State) → s.tick ≡ n → IsKnown states s → CanArrive task states.cost s → CanArrive task states.cost (start_of task)
-  leads zero s tick known (m, on) = ⊎_elim
-      (λ is. subst (CanArrive task states.cost) is (m, on))
-      (λ (from, held, goes). absurd (let t = goes.tick in omega arith))
-      (f.entered s known)
-  leads (suc n) s tick known (m, on) = ⊎_elim
-      (λ is. subst (CanArrive task states.cost) is (m, on))
-      (λ (from, held, goes). let t = goes.tick in leads n from (omega arith) (inl held) (suc m, (s, goes, on)))
-      (f.entered s known)
-
-  pub goal_leads : Contains states.open_states (state_at task.goal states.cost) → CanArrive task states.cost (start_of task)
-  goal_leads held = leads states.cost (state_at task.goal states.cost) refl (inr (inl held)) (zero, refl)
+-- an agent that can arrive from an open state can arrive from the start
+pub goal_leads : (task : Task) (states : States) → IsFrontier task [] states → Contains states.open_states (state_at task.goal states.cost) → CanArrive task states.cost (start_of task)
+goal_leads task states f held = leads_back task states.cost (IsKnown states) (λ s known. ⊎_map (λ is. is) (λ (from, there, goes). (from, inl there, goes)) (f.entered s known))
+    states.cost (state_at task.goal states.cost) refl (inr (inl held)) (zero, refl)
 
 -- a state that was taken and had been reached before leaves fewer to take
 pub takes_old : (states : States) (state : State) → length (states.open_states ++ state ∷ []) < 2 ^ 64 → takes_left states + 1 ≤ takes_left (with_open states state)
@@ -162,6 +154,9 @@ module _ (task : Task) (states : States) (x : IsExhausted task states) (kept : L
   none_open : (s : State) → Contains states.open_states s → ⊥
   none_open s o = Contains-none s (subst (λ l. Contains l s) x.done.none_open o)
 
+  none_waits : (s : State) → IsWaiting states s → ⊥
+  none_waits s = ⊎_elim (λ n. Contains-none s (subst (λ l. Contains l s) x.none_waits.0 n)) (λ l. Contains-none s (subst (λ l. Contains l s) x.none_waits.1 l))
+
   pub exhausted_all : AreAll task states.cost kept
   exhausted_all =
       let f = x.done.frontier in
@@ -175,18 +170,9 @@ module _ (task : Task) (states : States) (x : IsExhausted task states) (kept : L
         quiet = λ tick held. f.quiet tick (to (state_at task.goal tick) held);
         followed = λ s held next may. ⊎_elim
             (λ busy. absurd (Contains-none s busy))
-            (λ closed. ⊎_elim
-            (λ known. ⊎_elim
-            (λ r. inl (of (state_at next (s.tick + 1)) r))
-            (λ other. ⊎_elim
-            (λ o. absurd (none_open (state_at next (s.tick + 1)) o))
-            (λ waits. ⊎_elim
-            (λ n. absurd (Contains-none (state_at next (s.tick + 1)) (subst (λ l. Contains l (state_at next (s.tick + 1))) x.none_waits.0 n)))
-            (λ l. absurd (Contains-none (state_at next (s.tick + 1)) (subst (λ l. Contains l (state_at next (s.tick + 1))) x.none_waits.1 l)))
-            waits)
-            other)
-            known)
-            (λ none. inr none)
+            (λ closed. ⊎_map
+            (⊎_elim (of (state_at next (s.tick + 1))) (λ other. absurd (⊎_elim (none_open (state_at next (s.tick + 1))) (none_waits (state_at next (s.tick + 1))) other)))
+            (λ none. none)
             (closed next may))
             (f.closed s (to s held));
       }

@@ -1,5 +1,6 @@
 -- The properties of a sweep are preserved when it goes on.
-use Rattle.std.proofs.Common.{◌≡◌, ◌≢◌, ◌⊎◌, inl, inr, ⊎_elim, true, false, ℕ, ◌+◌, ◌-◌, ◌*◌, ◌/◌, ◌%◌, ◌<◌, ◌≤◌, List, [], ◌∷◌, ◌++◌, AllPairs, Contains, length, slice_index_or, refl, sym, ap, subst, ◌∙◌, arith, length-append}
+use Rattle.std.proofs.Common.{◌≡◌, ◌≢◌, ◌⊎◌, inl, inr, ⊎_elim, true, ℕ, ◌+◌, ◌-◌, ◌*◌, ◌/◌, ◌%◌, ◌<◌, ◌≤◌, List, [], ◌∷◌, ◌++◌, AllPairs, Contains, length, slice_index_or, refl, sym, ap, subst, ◌∙◌, arith, length-append}
+use Rattle.std.proofs.Math.Logic.{⊎_map}
 use Rattle.std.proofs.lemmas.Bool.{cases_lt, cases_eq}
 use Rattle.std.proofs.lemmas.List.{get_or_append_left, get_or_default, get_or_past}
 use Rattle.std.proofs.lemmas.Nat.Bits.{bit_at-zero}
@@ -50,12 +51,8 @@ extended_trans a b c p q = record {
 
 -- what was noted stays noted
 pub noted_kept : (task : Task) (old new : Sweeping) → IsExtended old new → (from : State) (to : ℕ) → IsNoted task old from to → IsNoted task new from to
-noted_kept task old new e from to noted may = ⊎_elim
-    (λ held. inl (e.next_cells to held))
-    (λ other. inr (⊎_elim
-    (λ (cut, past). inl (e.cut cut, subst (λ bound. IsPast task bound (state_at to (from.tick + 1))) (sym e.bound) past))
-    (λ none. inr none)
-    other))
+noted_kept task old new e from to noted may = ⊎_map (e.next_cells to)
+    (⊎_map (λ (cut, past). (e.cut cut, subst (λ bound. IsPast task bound (state_at to (from.tick + 1))) (sym e.bound) past)) (λ none. none))
     (noted may)
 
 -- a cell is noted
@@ -81,30 +78,6 @@ next_cut task old from to next entered past = record {
   within = next.within;
   cut = λ is. (state_at to (from.tick + 1), entered, past);
 }
-
--- the first sweep has reached the start
-pub first_sweep : (task : Task) (sweep : Sweeping) → sweep.states ≡ start_of task ∷ [] → IsWithin task sweep.bound (start_of task) → sweep.is_cut ≡ false →
-    (task.start ≡ task.goal → IsBarredLater task 0) → IsSweep task 0 0 sweep
-first_sweep task sweep states within cut quiet =
-    let one : (s : State) → Contains sweep.states s → start_of task ≡ s = λ s held. one_held (start_of task) s (subst (λ l. Contains l s) states held) in
-    let single : length sweep.states ≡ 1 = ap length states in
-    record {
-      reached = record {
-        start = subst (λ l. Contains l (start_of task)) (sym states) (0, omega arith, refl);
-        within = λ s held. subst (IsWithin task sweep.bound) (one s held) within;
-        entered = λ s held. inl (sym (one s held));
-        rising = λ i j d less inside. absurd (omega arith);
-      };
-      before = λ k less. absurd (omega arith);
-      here = λ k le inside. (let zero_is : 0 ≡ k = omega arith in subst (λ n. (slice_index_or sweep.states n (start_of task)).tick ≡ 0) zero_is (ap (λ l. (slice_index_or l 0 (start_of task)).tick) states));
-      split = omega arith;
-      quiet = λ tick held. (
-          let same = one (state_at task.goal tick) held in
-          let none : 0 ≡ tick = ap (λ (s : State). s.tick) same in
-          subst (IsBarredLater task) none (quiet (ap (λ (s : State). s.cell) same)));
-      followed = λ s held less. absurd (omega arith);
-      cut = λ is. absurd (let never : false ≡ true = sym cut ∙ is in cc);
-    }
 
 -- the sweep that is extended by the steps of a tick
 module _ (task : Task) (tick first : ℕ) (old new : Sweeping) (w : IsSweep task tick first old) (e : IsExtended old new) (next : AreNext task tick new)
@@ -132,21 +105,14 @@ module _ (task : Task) (tick first : ℕ) (old new : Sweeping) (w : IsSweep task
         reached = subst (λ b. AreReached task b new.states) (sym e.bound) reached;
         quiet = λ t less held. w.quiet t (subst (λ l. Contains l (state_at task.goal t)) e.states held);
         followed = λ s held below to may. (let there = subst (λ l. Contains l s) e.states held in ⊎_elim
-            (λ (early : s.tick < tick). ⊎_elim
-            (λ known. inl (subst (λ l. Contains l (state_at to (s.tick + 1))) (sym e.states) known))
-            (λ other. ⊎_elim
-            (λ (cut, (past, past_is, more)). inr (inl (past, past_is, (let bound = e.bound in omega arith))))
-            (λ none. inr (inr none))
-            other)
+            (λ (early : s.tick < tick). ⊎_map (subst (λ l. Contains l (state_at to (s.tick + 1))) (sym e.states))
+            (⊎_map (λ (cut, (past, past_is, more)). (past, past_is, (let bound = e.bound in omega arith))) (λ none. none))
             (w.followed s there early to may))
             (λ (now, steps). ⊎_elim
             (λ noted. let (v, v_is, v_le) = next.within to noted in
             let same : state_at to (tick + 1) ≡ state_at to (s.tick + 1) = ap (λ n. state_at to (n + 1)) (sym now) in
             inr (inl (subst (IsFrom task (tick + 1)) same (v, v_is, (let sum = v_is.sum in omega arith)))))
-            (λ other. ⊎_elim
-            (λ (cut, (past, past_is, more)). inr (inl (past, past_is, omega arith)))
-            (λ none. inr (inr none))
-            other)
+            (λ other. inr (⊎_map (λ (cut, (past, past_is, more)). (past, past_is, omega arith)) (λ none. none) other))
             (steps to may))
             (step_of s there));
         arrival = inr (next.entered task.goal goal);
@@ -215,19 +181,12 @@ module _ (task : Task) (tick first : ℕ) (old new : Sweeping) (w : IsSweep task
           (cases (state_at task.goal t) held);
       followed = λ s held less to may. ⊎_elim
           (λ o. ⊎_elim
-          (λ (early : s.tick < tick). ⊎_elim
-          (λ known. inl (old_held (state_at to (s.tick + 1)) known))
-          (λ other. inr (⊎_elim
-          (λ (was, past). inl (cut ∙ e.cut was, subst (λ b. IsPast task b (state_at to (s.tick + 1))) (sym same_bound) past))
-          (λ none. inr none)
-          other))
+          (λ (early : s.tick < tick). ⊎_map (old_held (state_at to (s.tick + 1)))
+          (⊎_map (λ (was, past). (cut ∙ e.cut was, subst (λ b. IsPast task b (state_at to (s.tick + 1))) (sym same_bound) past)) (λ none. none))
           (w.followed s o early to may))
-          (λ (now, steps). ⊎_elim
-          (λ noted. inl (subst (λ n. Contains after.states (state_at to (n + 1))) (sym now) (new_held (state_at to (tick + 1)) (at.all to noted))))
-          (λ other. inr (⊎_elim
-          (λ (was, past). inl (cut ∙ was, subst (λ b. IsPast task b (state_at to (s.tick + 1))) (sym bound) past))
-          (λ none. inr none)
-          other))
+          (λ (now, steps). ⊎_map
+          (λ noted. subst (λ n. Contains after.states (state_at to (n + 1))) (sym now) (new_held (state_at to (tick + 1)) (at.all to noted)))
+          (⊎_map (λ (was, past). (cut ∙ was, subst (λ b. IsPast task b (state_at to (s.tick + 1))) (sym bound) past)) (λ none. none))
           (steps to may))
           (step_of s o))
           (λ a. absurd (let is = (at.each s a).0 in omega arith))

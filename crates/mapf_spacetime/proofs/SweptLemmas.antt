@@ -1,5 +1,6 @@
 -- States below a cost: they are those of a sweep that arrives at the cost, and a bound on such costs.
 use Rattle.std.proofs.Common.{◌≡◌, ◌⊎◌, inl, inr, ⊎_elim, true, false, ℕ, zero, suc, ◌+◌, ◌<◌, ◌≤◌, List, [], ◌∷◌, ◌++◌, AllPairs, Contains, length, slice_index_or, refl, sym, ap, subst, ◌∙◌, arith}
+use Rattle.std.proofs.Math.Logic.{⊎_map}
 use Rattle.std.proofs.lemmas.Bool.{cases_lt}
 use Rattle.std.proofs.lemmas.List.{get_or_default}
 use Rattle.std.proofs.lemmas.List.Elements.{Contains-append_left, Contains-get_or, Contains-push, Contains-push_cases}
@@ -15,7 +16,7 @@ use Rattle.mapf_model.specs.declared.state.State.{State}
 use Rattle.mapf_spacetime.specs.PathSearch.{CanArrive, IsWholeWalk, state_of}
 use Rattle.mapf_spacetime.specs.States.{IsBelowLimit}
 use Rattle.mapf_model.specs.States.{IsEarlier}
-use Rattle.mapf_spacetime.specs.Sweeps.{Sweeping, IsFrom, IsStartOrEntered, IsWhole, MeetsGoal, AreQuiet, AreSwept, HasArrived, AreAll, AreReached, SomeIsPast}
+use Rattle.mapf_spacetime.specs.Sweeps.{Sweeping, IsFrom, IsStartOrEntered, IsWhole, MeetsGoal, AreQuiet, AreSwept, HasArrived, AreAll, SomeIsPast}
 use Rattle.mapf_spacetime.proofs.SweepInvariants.{AreKept}
 use Rattle.mapf_spacetime.specs.Task.{Task, Goes, IsValue, IsWithin, IsBelow, MayRestFrom, state_at, start_of}
 use Rattle.mapf_spacetime.proofs.ValueLemmas.{value_unique, no_lower}
@@ -65,20 +66,20 @@ module _ (task : Task) (cost : ℕ) (sweep : Sweeping) (m : MeetsGoal task cost 
     rising = rising;
   }
 
--- if the goal can be reached from a state of a sweep, it can be reached from the start
-leads_back : (task : Task) (cost bound : ℕ) (states : List State) → AreReached task bound states → (n : ℕ) (s : State) → s.tick ≡ n → IsStartOrEntered task states s → CanArrive task cost s → CanArrive task cost (start_of task)
-leads_back task cost bound states r zero s tick entered (m, on) = ⊎_elim
+-- if the agent can arrive from a state to which it can go from the start, it can arrive from the start
+pub leads_back : (task : Task) (cost : ℕ) (Known : State → Type 0) → ((s : State) → Known s → (s ≡ start_of task) ⊎ ((from : State) × Known from × Goes task from s)) → (n : ℕ) (s : State) → s.tick ≡ n → Known s → CanArrive task cost s → CanArrive task cost (start_of task)
+leads_back task cost Known entered zero s tick known (m, on) = ⊎_elim
     (λ is. subst (CanArrive task cost) is (m, on))
     (λ (from, held, goes). absurd (let t = goes.tick in omega arith))
-    entered
-leads_back task cost bound states r (suc n) s tick entered (m, on) = ⊎_elim
+    (entered s known)
+leads_back task cost Known entered (suc n) s tick known (m, on) = ⊎_elim
     (λ is. subst (CanArrive task cost) is (m, on))
-    (λ (from, held, goes). let t = goes.tick in
-    leads_back task cost bound states r n from (omega arith) (r.entered from held) (suc m, (s, goes, on)))
-    entered
+    (λ (from, held, goes). let t = goes.tick in leads_back task cost Known entered n from (omega arith) held (suc m, (s, goes, on)))
+    (entered s known)
 
 pub meets_leads : (task : Task) (cost : ℕ) (sweep : Sweeping) → MeetsGoal task cost sweep → CanArrive task cost (start_of task)
-meets_leads task cost sweep m = leads_back task cost sweep.bound sweep.states m.reached cost (state_at task.goal cost) refl m.arrival (0, refl)
+meets_leads task cost sweep m = leads_back task cost (IsStartOrEntered task sweep.states) (λ s. ⊎_map (λ is. is) (λ (from, held, goes). (from, m.reached.entered from held, goes)))
+    cost (state_at task.goal cost) refl m.arrival (0, refl)
 
 -- a sweep that arrives shows the least cost
 pub arrived : (task : Task) (cost : ℕ) (sweep : Sweeping) → MeetsGoal task cost sweep → (low : List State) → AreSwept task cost low → HasArrived task cost low
@@ -176,20 +177,13 @@ pub meets_limit : (task : Task) (cost : ℕ) (sweep : Sweeping) → MeetsGoal ta
     ((s : State) → Contains sweep.states s → IsBelow task cost s → Contains low s) → IsBelowLimit task cost
 meets_limit task cost sweep m low swept kept last above = let (t, entered, from) = meets_first task cost sweep m low kept in (cost_bounded task cost low swept last above t entered from).0
 
-pub meets_small : (task : Task) (cost : ℕ) (sweep : Sweeping) → MeetsGoal task cost sweep → (low : List State) → AreSwept task cost low →
-    ((s : State) → Contains sweep.states s → IsBelow task cost s → Contains low s) → (last : ℕ) → AreBefore last task.bars → cost < last + most_cells
-meets_small task cost sweep m low swept kept last above = let (t, entered, from) = meets_first task cost sweep m low kept in (cost_bounded task cost low swept last above t entered from).1
-
 -- a whole sweep has reached all states below the next bound
 pub whole_swept : (task : Task) (sweep : Sweeping) → IsWhole task sweep → AreSwept task (sweep.bound + 1) sweep.states
 whole_swept task sweep w = record {
   start = inl w.reached.start;
   below = λ s held. (let (value, is, le) = w.reached.within s held in (value, is, omega arith));
   entered = w.reached.entered;
-  followed = λ s held to may. ⊎_elim
-      (λ there. inl there)
-      (λ other. ⊎_elim (λ (cut, (value, is, more)). inr (inl (value, is, omega arith))) (λ none. inr (inr none)) other)
-      (w.followed s held to may);
+  followed = λ s held to may. ⊎_map (λ there. there) (⊎_map (λ (cut, (value, is, more)). (value, is, omega arith)) (λ none. none)) (w.followed s held to may);
   quiet = w.quiet;
   rising = w.reached.rising;
 }
@@ -256,10 +250,7 @@ pub whole_all : (task : Task) (sweep : Sweeping) → IsWhole task sweep → swee
 whole_all task sweep w uncut = record {
   reached = w.reached;
   quiet = w.quiet;
-  followed = λ s held to may. ⊎_elim
-      (λ there. inl there)
-      (λ other. ⊎_elim (λ (cut, past). absurd (let never : false ≡ true = sym uncut ∙ cut in cc)) (λ none. inr none) other)
-      (w.followed s held to may);
+  followed = λ s held to may. ⊎_map (λ there. there) (⊎_elim (λ (cut, past). absurd (let never : false ≡ true = sym uncut ∙ cut in cc)) (λ none. none)) (w.followed s held to may);
 }
 
 -- no state is below the f-value of the start
