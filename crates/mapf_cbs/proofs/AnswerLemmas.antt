@@ -2,7 +2,7 @@
 use Rattle.std.proofs.Common.{◌≡◌, All, ℕ, zero, suc, ◌+◌, ◌*◌, ◌^◌, ◌<◌, ◌≤◌, List, [], ◌∷◌, Some, Vec, Contains, length, sum, slice_get, refl, sym, ◌∙◌, ap, subst, inl, inr, arith}
 use Rattle.std.specs.declared.alloc.Global.{Global}
 use Rattle.mapf_model.proofs.ClaimLemmas.{slice_get_inside, holds_of_plans, shown_at_root}
-use Rattle.std.proofs.lemmas.Option.{slice_get_within, same_Some}
+use Rattle.std.proofs.lemmas.Option.{slice_get_within}
 use Rattle.mapf_model.specs.declared.item.Claim.{Claim}
 use Rattle.mapf_model.specs.declared.item.Claim.TheVariants.{Cost, Bound, Impossible}
 use Rattle.mapf_model.specs.declared.conflict.Conflict.{Conflict}
@@ -17,7 +17,7 @@ use Rattle.mapf_cbs.specs.declared.node.Status.TheVariants.{Open, Expanded}
 use Rattle.mapf_model.specs.Limits.{most_splits}
 use Rattle.mapf_model.specs.Grid.{IsGridMap, free_cell_count}
 use Rattle.mapf_cbs.specs.Search.{View, IsLive, IsSearched, AreChildrenLater, IsTreeAt}
-use Rattle.mapf_cbs.specs.Nodes.{IsRootView, IsNodeView, IsNodeFor, AreNodesFor, HasTableBar, HaveTableBars}
+use Rattle.mapf_cbs.specs.Nodes.{IsRootView, IsNodeView, IsNodeFor, HasTableBar}
 use Rattle.mapf_model.specs.declared.cause.Cause.{Cause}
 use Rattle.mapf_model.specs.declared.cause.Cause.TheVariants.{Splits, Ticks}
 use Rattle.mapf_cbs.specs.declared.outcome.Outcome.TheVariants.{Limit as LimitOutcome}
@@ -32,49 +32,31 @@ use Rattle.mapf_cbs.proofs.TreeLemmas.{is_earned, is_on_first, shows_cost, shows
 use Rattle.mapf_cbs.proofs.GrowLemmas.{searched_first}
 use Rattle.mapf_cbs.proofs.RangeLemmas.{tree_in_range, plan_in_range, sum_in_range}
 use Rattle.mapf_cbs.proofs.StateLemmas.{least_popped}
-use Rattle.mapf_model.proofs.ContainsLemmas.{Contains-none, Contains-cons_new}
+use Rattle.mapf_cbs.proofs.SumLemmas.{of_one}
+use Rattle.mapf_model.proofs.ContainsLemmas.{Contains-none}
 
 -- the state at the beginning
 pub state_root : (problem : Instance) (paths : List (List ℕ)) (total : ℕ) (view : View) → IsRootView paths view → IsLive problem view → total ≡ sum view.costs → total ≤ 200 * 2 ^ 32 → IsState problem (Root paths ∷ []) (Open ∷ []) ((total, 0) ∷ []) 0
 state_root problem paths total view root_view live total_is small = record {
   views = view ∷ [];
-  are = record { lengths = refl; each = each_view };
+  are = record { lengths = refl; each = λ k node v node_is v_is. of_one (λ k n. IsNodeView (view ∷ []) k n v) (Root paths) (of_one (λ k w. IsRootView paths w) view root_view k v v_is) k node node_is };
   searched = searched_first problem view root_view.context root_view.blocks live;
   opens = record {
     only = λ key in_it. only key in_it;
-    each = each_open;
+    each = λ m v v_is open_is. of_one (λ k (w : View). Contains {X = ℕ × ℕ} ((total, 0) ∷ []) (sum w.costs, k)) view (0, omega arith, ap (λ n. (n, 0)) total_is) m v v_is;
   };
-  nodes_for = each_node;
-  bars = each_low;
+  nodes_for = λ agent known. of_one (IsNodeFor agent) (Root paths) (refl, (let one = ap length root_view.same_paths in let two = live.counted.paths in omega arith));
+  bars = of_one (λ k node. HasTableBar node) (Root paths) tt;
   size = omega arith;
   small = λ key in_it. small_key key in_it;
 }
   where
-    each_view : (k : ℕ) (node : Node) (v : View) → slice_get (Root paths ∷ []) k ≡ Some node → slice_get (view ∷ []) k ≡ Some v → IsNodeView (view ∷ []) k node v
-    each_view zero node v node_is v_is = subst (λ n. IsNodeView (view ∷ []) 0 n v) (same_Some (Root paths) node node_is) (subst (λ w. IsRootView paths w) (same_Some view v v_is) root_view)
-    each_view (suc k) node v node_is v_is = absurd cc
-
     first_key : (key : ℕ × ℕ) → Contains {X = ℕ × ℕ} ((total, 0) ∷ []) key → (total, 0) ≡ key
     first_key key (zero, within, is) = is
     first_key key (suc k, within, is) = absurd (omega arith)
 
     only : (key : ℕ × ℕ) → Contains {X = ℕ × ℕ} ((total, 0) ∷ []) key → (v : View) × (slice_get (view ∷ []) key.1 ≡ Some v) × (slice_get (Open ∷ []) key.1 ≡ Some Open) × (key.0 ≡ sum v.costs)
     only key in_it = subst (λ (x : ℕ × ℕ). (v : View) × (slice_get (view ∷ []) x.1 ≡ Some v) × (slice_get (Open ∷ []) x.1 ≡ Some Open) × (x.0 ≡ sum v.costs)) (first_key key in_it) (view, refl, refl, total_is)
-
-    each_open : (m : ℕ) (v : View) → slice_get (view ∷ []) m ≡ Some v → slice_get (Open ∷ []) m ≡ Some Open → Contains {X = ℕ × ℕ} ((total, 0) ∷ []) (sum v.costs, m)
-    each_open zero v v_is open_is = subst (λ (w : View). Contains {X = ℕ × ℕ} ((total, 0) ∷ []) (sum w.costs, 0)) (same_Some view v v_is) (subst (λ n. Contains {X = ℕ × ℕ} ((total, 0) ∷ []) (n, 0)) total_is (Contains-cons_new (total, 0) []))
-    each_open (suc m) v v_is open_is = absurd cc
-
-    each_node : (agent : ℕ) → agent < length problem.agents → AreNodesFor agent (Root paths ∷ [])
-    each_node agent known zero node node_is =
-        let one : length view.paths ≡ length paths = ap length root_view.same_paths in
-        let two = live.counted.paths in
-        subst (λ n. IsNodeFor agent 0 n) (same_Some (Root paths) node node_is) (refl, omega arith)
-    each_node agent known (suc k) node node_is = absurd cc
-
-    each_low : HaveTableBars (Root paths ∷ [])
-    each_low zero node node_is = subst HasTableBar (same_Some (Root paths) node node_is) tt
-    each_low (suc k) node node_is = absurd cc
 
     small_key : (key : ℕ × ℕ) → Contains {X = ℕ × ℕ} ((total, 0) ∷ []) key → key.0 ≤ (0 + 200) * 2 ^ 32
     small_key key in_it = let e : total ≡ key.0 = ap (λ (x : ℕ × ℕ). x.0) (first_key key in_it) in omega arith
@@ -97,8 +79,9 @@ children_later problem nodes statuses keys count state few k conflict a is =
     let in_b = slice_get_within state.views (a + 1) expanded.to_right.0 expanded.to_right.1 in
     (expanded.later, omega arith, omega arith)
 
-pub popped_of : (problem : Instance) (nodes : List Node) (statuses : List Status) (keys rest : List (ℕ × ℕ)) (count total k : ℕ) → IsState problem nodes statuses keys count → IsLeastKey (total, k) keys rest → IsPopped problem nodes statuses rest count total k
-popped_of problem nodes statuses keys rest count total k state least = record { state = subst (λ ks. IsState problem nodes statuses ks count) least.removal state; above = least.above }
+module _ {problem : Instance} {nodes : List Node} {statuses : List Status} {keys rest : List (ℕ × ℕ)} {count total k : ℕ} where
+  pub popped_of : IsState problem nodes statuses keys count → IsLeastKey (total, k) keys rest → IsPopped problem nodes statuses rest count total k
+  popped_of state least = record { state = subst (λ ks. IsState problem nodes statuses ks count) least.removal state; above = least.above }
 
 pub not_apart : (paths : List (List ℕ)) (conflict : Conflict) → HasConflict paths conflict → HaveSomeConflict paths
 not_apart paths (Vertex i j cell tick) (differ, p, q, ip, jq, here, there) = (i, j, tick, p, q, differ, ip, jq, inl (here ∙ sym there))

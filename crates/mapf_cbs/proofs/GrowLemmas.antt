@@ -1,6 +1,6 @@
 -- A search goes on: an open node of least sum is split.
 use Rattle.std.proofs.Common.{◌≡◌, ◌≢◌, ◌⊎◌, ℕ, zero, suc, ◌+◌, ◌*◌, ◌<◌, ◌≤◌, List, [], ◌∷◌, ◌++◌, Some, length, sum, slice_get, refl, sym, ◌∙◌, ap, subst, inl, inr, ⊎_elim, arith}
-use Rattle.std.proofs.lemmas.Bool.{cases_eq, cases_lt}
+use Rattle.std.proofs.lemmas.Bool.{cases_eq}
 use Rattle.std.proofs.lemmas.Option.{slice_get_within, same_Some}
 use Rattle.mapf_model.specs.declared.constraint.Constraint.{Constraint}
 use Rattle.mapf_model.specs.declared.conflict.Conflict.{Conflict}
@@ -15,7 +15,8 @@ use Rattle.mapf_cbs.specs.BoundBlocks.{AreBlocksFor}
 use Rattle.mapf_cbs.specs.FirstConflicts.{IsFirstConflict}
 use Rattle.mapf_cbs.specs.Search.{View, IsLive, IsDead, IsStatus, IsExpandedAt, IsExpandedStatus, End, occurrences, IsSearched}
 use Rattle.mapf_model.proofs.PlaceLemmas.{slice_get-front, slice_get-here}
-use Rattle.mapf_cbs.proofs.SumLemmas.{slice_get-second, length-two_more}
+use Rattle.mapf_model.proofs.ContainsLemmas.{Contains-none}
+use Rattle.mapf_cbs.proofs.SumLemmas.{each_two, of_one, slice_get-second, length-two_more}
 use Rattle.mapf_cbs.proofs.ChildLemmas.{AreBefore-with_constraint, left_tick, right_tick, conflict_proper, conflict_early}
 use Rattle.mapf_cbs.proofs.ShapeLemmas.{IsGrown, IsOneTree-grown}
 
@@ -29,30 +30,15 @@ pub searched_first : (problem : Instance) (view : View) → view.context ≡ roo
 searched_first problem view at_root no_blocks live = record {
   lengths = refl;
   first = (view, refl, at_root, no_blocks);
-  each = each;
-  least = least;
+  each = λ k v status is open_is. of_one (λ k f. IsStatus problem (view ∷ []) k v f) Open (of_one (λ k w. IsLive problem w) view live k v is) k status open_is;
+  least = λ k m v other status is other_is status_is expanded open_is. absurd (of_one (λ k f. IsExpandedStatus f → ⊥) Open (λ none. none) k status status_is expanded);
   tree = record { shape = End 0; is_shape = (refl, Open, refl, tt); exact = refl; once = once };
-  low = low;
+  low = λ k v i is bar in_it. absurd (Contains-none bar (subst (λ bars. Contains bars bar) (of_one (λ k (w : View). w.context.bars i ≡ []) view (ap (λ (c : NodeContext). c.bars i) at_root) k v is) in_it));
 }
   where
-    each : (k : ℕ) (v : View) (status : Status) → slice_get (view ∷ []) k ≡ Some v → slice_get (Open ∷ []) k ≡ Some status → IsStatus problem (view ∷ []) k v status
-    each zero v status is open_is = subst (λ f. IsStatus problem (view ∷ []) 0 v f) (same_Some Open status open_is) (subst (λ x. IsLive problem x) (same_Some view v is) live)
-    each (suc k) v status is open_is = absurd cc
-
-    least : (k m : ℕ) (v other : View) (status : Status) → slice_get (view ∷ []) k ≡ Some v → slice_get (view ∷ []) m ≡ Some other → slice_get (Open ∷ []) k ≡ Some status → IsExpandedStatus status → slice_get (Open ∷ []) m ≡ Some Open → sum v.costs ≤ sum other.costs
-    least zero m v other status is other_is status_is expanded open_is = absurd (subst IsExpandedStatus (sym (same_Some Open status status_is)) expanded)
-    least (suc k) m v other status is other_is status_is expanded open_is = absurd cc
-
     once : (k : ℕ) → k < 1 → occurrences k (End 0) ≡ 1
     once zero within = refl
     once (suc k) within = absurd (omega arith)
-
-    low : (k : ℕ) (v : View) (i : ℕ) → slice_get (view ∷ []) k ≡ Some v → AreBefore (0 * free_cell_count problem.grid) (v.context.bars i)
-    low zero v i is bar (n, within, at) =
-        let e : v.context.bars i ≡ [] = subst (λ x. x.bars i ≡ []) (sym at_root ∙ ap (λ (x : View). x.context) (same_Some view v is)) refl in
-        let h : n < length (v.context.bars i) = within in
-        absurd (let z : length (v.context.bars i) ≡ 0 = ap length e in omega arith)
-    low (suc k) v i is bar in_it = absurd cc
 
 module _ (problem : Instance) (goals : (i j : ℕ) → ShareGoal problem i j → ⊥)
     (views : List View) (statuses : List Status) (count : ℕ) (searched : IsSearched problem views statuses count)
@@ -86,26 +72,15 @@ module _ (problem : Instance) (goals : (i j : ℕ) → ShareGoal problem i j →
     place : (k : ℕ) (v : View) (status : Status) → slice_get (views ++ x ∷ y ∷ []) k ≡ Some v → slice_get after k ≡ Some status → Place k v status
     place k v status v_is status_is =
         let size = searched.lengths in
-        let grew = grown.size in
-        let within : k < length after = slice_get_within after k status status_is in
-        ⊎_elim
-        (λ (this : k ≡ j). This this
-        (same_Some v view (sym v_is ∙ subst (λ n. slice_get (views ++ x ∷ y ∷ []) n ≡ Some view) (sym this) (old_view j view is)))
-        (same_Some status (Expanded conflict (length statuses)) (sym status_is ∙ subst (λ n. slice_get after n ≡ Some (Expanded conflict (length statuses))) (sym this) grown.split)))
-        (λ (other : k ≢ j). ⊎_elim
-        (λ (old : k < length statuses). Old old other (sym (slice_get-front views (x ∷ y ∷ []) k (omega arith)) ∙ v_is) (sym (grown.others k old other) ∙ status_is))
-        (λ (new : length statuses ≤ k). ⊎_elim
-        (λ (first : k ≡ length statuses). First first
-        (same_Some v x (sym v_is ∙ subst (λ n. slice_get (views ++ x ∷ y ∷ []) n ≡ Some x) (sym first) x_at))
-        (same_Some status left (sym status_is ∙ subst (λ n. slice_get after n ≡ Some left) (sym first) grown.first)))
-        (λ (not_first : k ≢ length statuses).
-        let second : k ≡ length statuses + 1 = omega arith in
-        Second second
-        (same_Some v y (sym v_is ∙ subst (λ n. slice_get (views ++ x ∷ y ∷ []) n ≡ Some y) (sym second) y_at))
-        (same_Some status right (sym status_is ∙ subst (λ n. slice_get after n ≡ Some right) (sym second) grown.second)))
-        (cases_eq k (length statuses)))
-        (cases_lt k (length statuses)))
-        (cases_eq k j)
+        each_two (λ k v. (status : Status) → slice_get after k ≡ Some status → Place k v status) views x y
+        (λ k v v_is status status_is. ⊎_elim
+        (λ (this : k ≡ j). This this (same_Some v view (sym v_is ∙ ap (λ n. slice_get views n) this ∙ is)) (same_Some status (Expanded conflict (length statuses)) (sym status_is ∙ ap (λ n. slice_get after n) this ∙ grown.split)))
+        (λ (other : k ≢ j). let old : k < length statuses = (let inside = slice_get_within views k v v_is in omega arith) in
+        Old old other v_is (sym (grown.others k old other) ∙ status_is))
+        (cases_eq k j))
+        (λ status status_is. First size refl (same_Some status left (sym status_is ∙ ap (λ n. slice_get after n) size ∙ grown.first)))
+        (λ status status_is. Second (ap (λ n. n + 1) size) refl (same_Some status right (sym status_is ∙ ap (λ n. slice_get after (n + 1)) size ∙ grown.second)))
+        k v v_is status status_is
 
     lift_status : (k : ℕ) (v : View) (status : Status) → IsStatus problem views k v status → IsStatus problem (views ++ x ∷ y ∷ []) k v status
     lift_status k v Open h = h
@@ -185,23 +160,10 @@ module _ (problem : Instance) (goals : (i j : ℕ) → ShareGoal problem i j →
     low_with constraint at_tick = AreBefore-with_constraint view.context.bars constraint (count * free_cell_count problem.grid) ((count + 1) * free_cell_count problem.grid) (omega arith) (let e = early in omega (arith, e, at_tick)) (λ i. searched.low j view i is)
 
     low_at : (k : ℕ) (v : View) → slice_get (views ++ x ∷ y ∷ []) k ≡ Some v → (i : ℕ) → AreBefore ((count + 1) * free_cell_count problem.grid) (v.context.bars i)
-    low_at k v v_is i =
-        let size = searched.lengths in
-        let two = length-two_more views x y in
-        let within : k < length (views ++ x ∷ y ∷ []) = slice_get_within (views ++ x ∷ y ∷ []) k v v_is in
-        ⊎_elim
-        (λ (old : k < length statuses).
-        λ bar in_it. let b = searched.low k v i (sym (slice_get-front views (x ∷ y ∷ []) k (omega arith)) ∙ v_is) bar in_it in omega arith)
-        (λ (new : length statuses ≤ k). ⊎_elim
-        (λ (first : k ≡ length statuses).
-        let e : x ≡ v = same_Some x v (sym x_at ∙ subst (λ n. slice_get (views ++ x ∷ y ∷ []) n ≡ Some v) first v_is) in
-        subst (λ (w : View). AreBefore ((count + 1) * free_cell_count problem.grid) (w.context.bars i)) e (subst (λ (w : NodeContext). AreBefore ((count + 1) * free_cell_count problem.grid) (w.bars i)) (sym x_context) (low_with (left_constraint conflict) (left_tick conflict) i)))
-        (λ (not_first : k ≢ length statuses).
-        let second : k ≡ length statuses + 1 = omega arith in
-        let e : y ≡ v = same_Some y v (sym y_at ∙ subst (λ n. slice_get (views ++ x ∷ y ∷ []) n ≡ Some v) second v_is) in
-        subst (λ (w : View). AreBefore ((count + 1) * free_cell_count problem.grid) (w.context.bars i)) e (subst (λ (w : NodeContext). AreBefore ((count + 1) * free_cell_count problem.grid) (w.bars i)) (sym y_context) (low_with (right_constraint conflict) (right_tick conflict) i)))
-        (cases_eq k (length statuses)))
-        (cases_lt k (length statuses))
+    low_at = each_two (λ k (v : View). (i : ℕ) → AreBefore ((count + 1) * free_cell_count problem.grid) (v.context.bars i)) views x y
+        (λ k v v_is i bar in_it. let b = searched.low k v i v_is bar in_it in omega arith)
+        (λ i. subst (λ (w : NodeContext). AreBefore ((count + 1) * free_cell_count problem.grid) (w.bars i)) (sym x_context) (low_with (left_constraint conflict) (left_tick conflict) i))
+        (λ i. subst (λ (w : NodeContext). AreBefore ((count + 1) * free_cell_count problem.grid) (w.bars i)) (sym y_context) (low_with (right_constraint conflict) (right_tick conflict) i))
 
     pub searched_grown : IsSearched problem (views ++ x ∷ y ∷ []) after (count + 1)
     searched_grown =

@@ -1,8 +1,8 @@
 -- The state of a search with full nodes.
-use Rattle.std.proofs.Common.{◌≡◌, ◌≢◌, ℕ, ◌+◌, ◌*◌, ◌^◌, ◌<◌, ◌≤◌, List, [], ◌∷◌, ◌++◌, Option, Some, Contains, length, length-append, sum, slice_get, refl, sym, ◌∙◌, ap, subst, ⊎_elim, arith, cond, nat_eq, zero, suc}
+use Rattle.std.proofs.Common.{◌≡◌, ◌≢◌, ℕ, ◌+◌, ◌*◌, ◌^◌, ◌<◌, ◌≤◌, List, [], ◌∷◌, ◌++◌, Option, Some, Contains, length, length-append, sum, slice_get, get_or, refl, sym, ◌∙◌, ap, subst, ⊎_elim, arith, cond, nat_eq}
 use Rattle.std.specs.declared.cmp.Ordering.TheVariants.{Less}
 use Rattle.std.proofs.lemmas.Bool.{cases_eq, cases_lt, cond_both, eqb-true, eqb-false}
-use Rattle.std.proofs.lemmas.Option.{slice_get_within, same_Some}
+use Rattle.std.proofs.lemmas.Option.{slice_get_read, slice_get_within, same_Some}
 use Rattle.mapf_model.specs.declared.conflict.Conflict.{Conflict}
 use Rattle.mapf_model.specs.Plan.{Instance}
 use Rattle.mapf_model.specs.Tree.{ShareGoal, left_constraint, right_constraint}
@@ -20,12 +20,14 @@ use Rattle.mapf_cbs.specs.Nodes.{IsRootView}
 use Rattle.mapf_model.specs.Blocks.{LabelBlock}
 use Rattle.mapf_cbs.specs.Start.{IsRootStart}
 use Rattle.mapf_cbs.specs.Search.{View, IsLive, AreBlockLists}
-use Rattle.mapf_cbs.specs.State.{IsOpenSet, key_cmp, with_children, split_statuses, with_keys}
-use Rattle.mapf_cbs.specs.Whole.{IsWhole, AreWhole, HaveAgentPaths, IsWholeChild, IsLeastOpen, IsLeastBelow, IsWholeState, IsWholePopped}
+use Rattle.mapf_cbs.specs.State.{IsOpenSet, IsState, key_cmp, with_children, split_statuses, with_keys}
+use Rattle.mapf_cbs.specs.Whole.{IsFirstAtWhole, IsWhole, AreWhole, IsWholeChild, IsLeastOpen, IsLeastBelow, IsWholeState, IsWholePopped}
 use Rattle.mapf_cbs.proofs.AnswerLemmas.{state_root, root_views}
 use Rattle.mapf_model.proofs.PlaceLemmas.{slice_get-front, slice_get-here}
-use Rattle.mapf_cbs.proofs.StateLemmas.{IsInHand, in_hand, two_pushed, state_grown, grown_views}
+use Rattle.mapf_cbs.proofs.StateLemmas.{Fits, IsInHand, in_hand, two_pushed, state_grown, grown_views}
+use Rattle.mapf_cbs.proofs.ChildLemmas.{of_paths}
 use Rattle.mapf_cbs.proofs.OpenLemmas.{less_key}
+use Rattle.mapf_cbs.proofs.SumLemmas.{of_one}
 use Rattle.mapf_cbs.proofs.WholeLemmas.{each_more}
 
 -- the keys except that of one node
@@ -55,7 +57,7 @@ others_old (y ∷ keys) k x in_it other = cond_both (nat_eq y.1 k) (others keys 
     (λ (h : Contains keys x). Contains-cons_old y x (others keys k) (others_old keys k x h other))
     (Contains-cons_cases y x keys in_it))
 
-module _ (problem : Instance) (nodes : List WholeNode) (statuses : List Status) (count : ℕ) (s : IsWholeState problem nodes statuses count) where
+module _ {problem : Instance} {nodes : List WholeNode} {statuses : List Status} {count : ℕ} (s : IsWholeState problem nodes statuses count) where
   node_of : (m : ℕ) (view : View) → slice_get s.state.views m ≡ Some view → (node : WholeNode) × (slice_get nodes m ≡ Some node) × IsWhole node view
   node_of m view is =
       let inside : m < length s.state.views = slice_get_within s.state.views m view is in
@@ -63,7 +65,11 @@ module _ (problem : Instance) (nodes : List WholeNode) (statuses : List Status) 
       let node : (node : WholeNode) × (slice_get nodes m ≡ Some node) = slice_get_inside nodes m (omega arith) in
       (node.0, node.1, s.whole.each m node.0 view node.1 is)
 
-  module _ (k : ℕ) (least : IsLeastOpen nodes statuses (length statuses) k) where
+  -- the same state with these keys
+  abbrev with_opens : (keys : List (ℕ × ℕ)) → IsOpenSet keys s.state.views statuses → ((key : ℕ × ℕ) → Contains keys key → key.0 ≤ (count + 200) * 2 ^ 32) → IsState problem s.changes statuses keys count
+  with_opens keys opens small = record { views = s.state.views; are = s.state.are; searched = s.state.searched; opens = opens; nodes_for = s.state.nodes_for; bars = s.state.bars; size = s.state.size; small = small }
+
+  module _ {k : ℕ} (least : IsLeastOpen nodes statuses (length statuses) k) where
     view_of : (view : View) × (slice_get s.state.views k ≡ Some view) × IsWhole least.node view
     view_of =
         let inside : k < length nodes = slice_get_within nodes k least.node least.is in
@@ -111,19 +117,7 @@ module _ (problem : Instance) (nodes : List WholeNode) (statuses : List Status) 
     whole_popped = record {
       changes = s.changes;
       rest = others s.keys k;
-      popped = record {
-        state = record {
-          views = s.state.views;
-          are = s.state.are;
-          searched = s.state.searched;
-          opens = opens;
-          nodes_for = s.state.nodes_for;
-          bars = s.state.bars;
-          size = s.state.size;
-          small = small;
-        };
-        above = above;
-      };
+      popped = record { state = with_opens ((least.node.total, k) ∷ others s.keys k) opens small; above = above };
       whole = s.whole;
       agent_paths = s.agent_paths;
     }
@@ -136,25 +130,20 @@ module _ (problem : Instance) (nodes : List WholeNode) (statuses : List Status) 
     root = root;
     nodes = s.changes;
     count = count;
-    state = record {
-      views = s.state.views;
-      are = s.state.are;
-      searched = s.state.searched;
-      opens = record {
-        only = λ key in_it. absurd (Contains-none key in_it);
-        each = λ m view view_is m_open. absurd (none m (slice_get_within statuses m Open m_open) m_open);
-      };
-      nodes_for = s.state.nodes_for;
-      bars = s.state.bars;
-      size = s.state.size;
-      small = λ key in_it. absurd (Contains-none key in_it);
-    };
+    state = with_opens [] (record {
+      only = λ key in_it. absurd (Contains-none key in_it);
+      each = λ m view view_is m_open. absurd (none m (slice_get_within statuses m Open m_open) m_open);
+    }) (λ key in_it. absurd (Contains-none key in_it));
     within = within;
     blocks = blocks;
   }
 
-pub least_at : (nodes others : List WholeNode) (statuses more : List Status) (found : Option ℕ) → nodes ≡ others → statuses ≡ more → IsLeastBelow nodes statuses (length statuses) found → IsLeastBelow others more (length more) found
-least_at nodes others statuses more found a b is = subst (λ fs. IsLeastBelow others fs (length fs) found) b (subst (λ ns. IsLeastBelow ns statuses (length statuses) found) a is)
+module _ {nodes others : List WholeNode} {statuses more : List Status} where
+  pub least_at : (found : Option ℕ) → nodes ≡ others → statuses ≡ more → IsLeastBelow nodes statuses (length statuses) found → IsLeastBelow others more (length more) found
+  least_at found a b is = subst (λ fs. IsLeastBelow others fs (length fs) found) b (subst (λ ns. IsLeastBelow ns statuses (length statuses) found) a is)
+
+  pub least_found : {k : ℕ} → nodes ≡ others → statuses ≡ more → IsLeastOpen nodes statuses (length statuses) k → IsLeastOpen others more (length more) k
+  least_found a b is = least_at (Some _) a b is
 
 -- the state at the beginning
 pub whole_first : (problem : Instance) (paths : List (List ℕ)) (node : WholeNode) (view : View) → IsRootView paths view → IsLive problem view → IsWhole node view → node.total ≤ 200 * 2 ^ 32 → IsWholeState problem (node ∷ []) (Open ∷ []) 0
@@ -162,17 +151,10 @@ whole_first problem paths node view is_root live is small = record {
   changes = Root paths ∷ [];
   keys = (node.total, 0) ∷ [];
   state = state_root problem paths node.total view is_root live is.total small;
-  whole = subst (λ vs. AreWhole (node ∷ []) vs) (sym (root_views problem paths node.total view is_root live is.total small)) (record { lengths = refl; each = each_node });
-  agent_paths = each_agent_path;
+  whole = subst (λ vs. AreWhole (node ∷ []) vs) (sym (root_views problem paths node.total view is_root live is.total small))
+      (record { lengths = refl; each = λ k n v n_is v_is. of_one (λ k x. IsWhole x v) node (of_one (λ k w. IsWhole node w) view is k v v_is) k n n_is });
+  agent_paths = of_one (λ k (n : WholeNode). length n.agent_paths.items ≡ length problem.agents) node (is.count ∙ live.counted.paths);
 }
-  where
-    each_node : (k : ℕ) (n : WholeNode) (v : View) → slice_get (node ∷ []) k ≡ Some n → slice_get (view ∷ []) k ≡ Some v → IsWhole n v
-    each_node zero n v n_is v_is = subst (λ x. IsWhole x v) (same_Some node n n_is) (subst (λ w. IsWhole node w) (same_Some view v v_is) is)
-    each_node (suc k) n v n_is v_is = absurd cc
-
-    each_agent_path : HaveAgentPaths (node ∷ []) (length problem.agents)
-    each_agent_path zero n n_is = subst (λ (x : WholeNode). length x.agent_paths.items ≡ length problem.agents) (same_Some node n n_is) (is.count ∙ live.counted.paths)
-    each_agent_path (suc k) n n_is = absurd cc
 
 whole_more : (nodes : List WholeNode) (views : List View) → AreWhole nodes views → (node : WholeNode) (view : View) → IsWhole node view → AreWhole (nodes ++ node ∷ []) (views ++ view ∷ [])
 whole_more nodes views whole node view is =
@@ -190,22 +172,34 @@ whole_more nodes views whole node view is =
           (snoc_get nodes node m n n_is);
     }
 
-module _ (problem : Instance) (nodes : List WholeNode) (statuses : List Status) (count total k : ℕ) (p : IsWholePopped problem nodes statuses count total k) where
+module _ {problem : Instance} {nodes : List WholeNode} {statuses : List Status} {count total k : ℕ} (p : IsWholePopped problem nodes statuses count total k) where
   pub whole_hand : IsInHand problem statuses k total p.popped.state.views
-  whole_hand = in_hand problem p.changes statuses p.rest count total k p.popped
+  whole_hand = in_hand p.popped
 
   pub hand_inside : k < length nodes
   hand_inside = let h = slice_get_within p.popped.state.views k whole_hand.view whole_hand.is in let e = p.whole.lengths in omega (arith, h, e)
 
-  module _ (node : WholeNode) (here : slice_get nodes k ≡ Some node) where
+  -- the node that is read at its index
+  module _ {node : WholeNode} (read : node ≡ get_or nodes k node) where
+    pub hand_is : slice_get nodes k ≡ Some node
+    hand_is = slice_get_read nodes (length nodes) k node refl hand_inside read
+
     pub hand_whole : IsWhole node whole_hand.view
-    hand_whole = p.whole.each k node whole_hand.view here whole_hand.is
+    hand_whole = p.whole.each k node whole_hand.view hand_is whole_hand.is
 
     pub hand_small : count < 100000 → node.total + 2 ^ 32 < 2 ^ 64
     hand_small few =
         let h = p.popped.state.small (total, k) (Contains-cons_new (total, k) p.rest) in
         let t = hand_whole.total in let e = whole_hand.total_is in
         omega (arith, h, t, e, few)
+
+  -- the conflict on which it is split is of agents of the problem, and a table can hold its constraints
+  module _ (conflict : Conflict) (meet : IsFirstAtWhole nodes k conflict) where
+    pub whole_met : IsFirstConflict whole_hand.view.paths conflict
+    whole_met = let node = slice_get_inside nodes k hand_inside in meet node.0 whole_hand.view node.1 (p.whole.each k node.0 whole_hand.view node.1 whole_hand.is)
+
+    pub whole_fits : tick_of conflict < 1000000 → Fits problem conflict
+    whole_fits early = rw (← whole_hand.live.counted.paths) (of_paths whole_hand.view.paths conflict whole_met.has early)
 
   -- the node is split
   pub whole_grown : ((i j : ℕ) → ShareGoal problem i j → ⊥) → (conflict : Conflict) → IsFirstConflict whole_hand.view.paths conflict → tick_of conflict < 1000000 →

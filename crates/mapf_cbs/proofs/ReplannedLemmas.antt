@@ -37,25 +37,25 @@ counted problem views k view Dead dead = dead.counted.paths
 counted problem views k view (Expanded conflict left) split = split.live.counted.paths
 
 -- what the search knows of the node that is being expanded, and so of the conflicts there
-pub free_at : (problem : Instance) (nodes : List Node) (statuses : List Status) (rest : List (ℕ × ℕ)) (count total k : ℕ) → IsPopped problem nodes statuses rest count total k
-    → (agents : ℕ) → length problem.agents ≡ agents → (agent free : ℕ)
-    → ((views : List View) (view : View) → AreViews nodes views → AreSplitsFirst views statuses → slice_get views k ≡ Some view → AreOthersFreeBefore view.paths agent free)
-    → AreViewedAt nodes k agents (λ view. AreOthersFreeBefore view.paths agent free)
-free_at problem nodes statuses rest count total k popped agents same agent free others =
-    let h = in_hand problem nodes statuses rest count total k popped in
-    let searched = popped.state.searched in
-    let root = searched.first in
-    let sizes = searched.lengths in
-    let inside = slice_get_within popped.state.views 0 root.0 root.1 in
-    let status = slice_get_inside statuses 0 (omega (arith, inside, sizes)) in
-    record {
-      views = popped.state.views;
-      view = h.view;
-      are = popped.state.are;
-      is = h.is;
-      count = h.live.counted.paths ∙ same;
-      root = root.0;
-      root_is = root.1;
-      root_count = counted problem popped.state.views 0 root.0 status.0 (searched.each 0 root.0 status.0 root.1 status.1) ∙ same;
-      holds = others popped.state.views h.view popped.state.are (splits_first problem popped.state.views statuses count searched) h.is;
-    }
+module _ {problem : Instance} {nodes : List Node} {statuses : List Status} {rest : List (ℕ × ℕ)} {count total k : ℕ} (popped : IsPopped problem nodes statuses rest count total k) where
+  pub free_at : {agents : ℕ} → length problem.agents ≡ agents → (agent free : ℕ)
+      → ((views : List View) (view : View) → AreViews nodes views → AreSplitsFirst views statuses → slice_get views k ≡ Some view → AreOthersFreeBefore view.paths agent free)
+      → AreViewedAt nodes k agents (λ view. AreOthersFreeBefore view.paths agent free)
+  free_at same agent free others =
+      let h = in_hand popped in
+      let searched = popped.state.searched in
+      let root = searched.first in
+      let sizes = searched.lengths in
+      let inside = slice_get_within popped.state.views 0 root.0 root.1 in
+      let status = slice_get_inside statuses 0 (omega (arith, inside, sizes)) in
+      record {
+        views = popped.state.views;
+        view = h.view;
+        are = popped.state.are;
+        is = h.is;
+        count = h.live.counted.paths ∙ same;
+        root = root.0;
+        root_is = root.1;
+        root_count = counted problem popped.state.views 0 root.0 status.0 (searched.each 0 root.0 status.0 root.1 status.1) ∙ same;
+        holds = others popped.state.views h.view popped.state.are (splits_first problem popped.state.views statuses count searched) h.is;
+      }

@@ -68,26 +68,15 @@ module _ (statuses : List Status) (j : ℕ) (status : Status) (was : slice_get s
       (cases_eq j m)
 
   -- each new end occurs as often as the old one did
-  pub occurrences-graft_left : (a b : ℕ) → a ≢ b → (k : ℕ) (shape : Shape) → IsShape statuses k shape → occurrences a shape ≡ 0 → occurrences a (graft j a b shape) ≡ occurrences j shape
-  occurrences-graft_left a b differ k (Node n left right) (same, c, x, is, on_left, on_right) fresh =
-      let g = occurs_node a n left right in
-      let l = occurrences-graft_left a b differ x left on_left (omega (arith, fresh, g)) in let r = occurrences-graft_left a b differ (x + 1) right on_right (omega (arith, fresh, g)) in
-      let e = not_split k n c x same is in let f = occurs_node j n left right in let h = occurs_node a n (graft j a b left) (graft j a b right) in
+  pub occurrences-graft_new : (a b c : ℕ) → occurrences c (End a) + occurrences c (End b) ≡ 1 → (k : ℕ) (shape : Shape) → IsShape statuses k shape → occurrences c shape ≡ 0 → occurrences c (graft j a b shape) ≡ occurrences j shape
+  occurrences-graft_new a b c one k (Node n left right) (same, d, x, is, on_left, on_right) fresh =
+      let g = occurs_node c n left right in
+      let l = occurrences-graft_new a b c one x left on_left (omega (arith, fresh, g)) in let r = occurrences-graft_new a b c one (x + 1) right on_right (omega (arith, fresh, g)) in
+      let e = not_split k n d x same is in let f = occurs_node j n left right in let h = occurs_node c n (graft j a b left) (graft j a b right) in
       omega arith
-  occurrences-graft_left a b differ k (End m) on fresh = ⊎_elim
-      (λ (same : j ≡ m). ap (occurrences a) (graft_here j a b m same) ∙ occurs_node a m (End a) (End b) ∙ (let e = occurs_here a a refl in let f = occurs_not a b differ in let g = occurs_here j m same in omega (arith, fresh, e, f, g)))
-      (λ (other : j ≢ m). ap (occurrences a) (graft_not j a b m other) ∙ (let g = occurs_not j m other in omega (arith, fresh, g)))
-      (cases_eq j m)
-
-  pub occurrences-graft_right : (a b : ℕ) → a ≢ b → (k : ℕ) (shape : Shape) → IsShape statuses k shape → occurrences b shape ≡ 0 → occurrences b (graft j a b shape) ≡ occurrences j shape
-  occurrences-graft_right a b differ k (Node n left right) (same, c, x, is, on_left, on_right) fresh =
-      let g = occurs_node b n left right in
-      let l = occurrences-graft_right a b differ x left on_left (omega (arith, fresh, g)) in let r = occurrences-graft_right a b differ (x + 1) right on_right (omega (arith, fresh, g)) in
-      let e = not_split k n c x same is in let f = occurs_node j n left right in let h = occurs_node b n (graft j a b left) (graft j a b right) in
-      omega arith
-  occurrences-graft_right a b differ k (End m) on fresh = ⊎_elim
-      (λ (same : j ≡ m). ap (occurrences b) (graft_here j a b m same) ∙ occurs_node b m (End a) (End b) ∙ (let e = occurs_here b b refl in let f = occurs_not b a (λ x. differ (sym x)) in let g = occurs_here j m same in omega (arith, fresh, e, f, g)))
-      (λ (other : j ≢ m). ap (occurrences b) (graft_not j a b m other) ∙ (let g = occurs_not j m other in omega (arith, fresh, g)))
+  occurrences-graft_new a b c one k (End m) on fresh = ⊎_elim
+      (λ (same : j ≡ m). ap (occurrences c) (graft_here j a b m same) ∙ occurs_node c m (End a) (End b) ∙ (let g = occurs_here j m same in omega (arith, fresh, one, g)))
+      (λ (other : j ≢ m). ap (occurrences c) (graft_not j a b m other) ∙ (let g = occurs_not j m other in omega (arith, fresh, g)))
       (cases_eq j m)
 
 -- the outcomes after one end is split and two nodes are added
@@ -127,10 +116,10 @@ module _ (before after : List Status) (j : ℕ) (conflict : Conflict) (left righ
         exact = let e = splits-graft before j status was was_end (length before) (length before + 1) 0 tree.shape tree.is_shape in let f = tree.exact in omega arith;
         once = λ k within. ⊎_elim
             (λ (first : k ≡ length before). subst (λ n. occurrences n (graft j (length before) (length before + 1) tree.shape) ≡ 1) (sym first)
-            (occurrences-graft_left before j status was was_end (length before) (length before + 1) differ 0 tree.shape tree.is_shape (occurrences-past before 0 (length before) tree.shape tree.is_shape (omega arith)) ∙ here))
+            (occurrences-graft_new before j status was was_end (length before) (length before + 1) (length before) (let e = occurs_here (length before) (length before) refl in let f = occurs_not (length before) (length before + 1) differ in omega arith) 0 tree.shape tree.is_shape (occurrences-past before 0 (length before) tree.shape tree.is_shape (omega arith)) ∙ here))
             (λ (not_first : k ≢ length before). ⊎_elim
             (λ (second : k ≡ length before + 1). subst (λ n. occurrences n (graft j (length before) (length before + 1) tree.shape) ≡ 1) (sym second)
-            (occurrences-graft_right before j status was was_end (length before) (length before + 1) differ 0 tree.shape tree.is_shape (occurrences-past before 0 (length before + 1) tree.shape tree.is_shape (omega arith)) ∙ here))
+            (occurrences-graft_new before j status was was_end (length before) (length before + 1) (length before + 1) (let e = occurs_here (length before + 1) (length before + 1) refl in let f = occurs_not (length before + 1) (length before) (λ x. differ (sym x)) in omega arith) 0 tree.shape tree.is_shape (occurrences-past before 0 (length before + 1) tree.shape tree.is_shape (omega arith)) ∙ here))
             (λ (not_second : k ≢ length before + 1).
             occurrences-graft_other j (length before) (length before + 1) k not_first not_second tree.shape ∙ tree.once k (omega (arith, within, size, not_first, not_second)))
             (cases_eq k (length before + 1)))

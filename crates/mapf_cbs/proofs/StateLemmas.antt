@@ -1,6 +1,5 @@
 -- The state after a split.
 use Rattle.std.proofs.Common.{◌≡◌, ◌≢◌, ◌⊎◌, ℕ, ◌+◌, ◌*◌, ◌^◌, ◌<◌, ◌≤◌, List, [], ◌∷◌, ◌++◌, Option, None, Some, All, Contains, length, sum, slice_get, slice_set, refl, sym, ◌∙◌, ap, subst, inl, inr, ⊎_elim, arith, append_assoc}
-use Rattle.std.proofs.lemmas.Bool.{cases_eq, cases_lt}
 use Rattle.std.proofs.lemmas.List.Elements.{All-contains_itself, All-weaker}
 use Rattle.std.proofs.lemmas.Map.Views.{All-insert_key}
 use Rattle.std.proofs.lemmas.Option.{slice_get_within, same_Some}
@@ -18,11 +17,12 @@ use Rattle.mapf_cbs.specs.declared.node.Status.{Status}
 use Rattle.mapf_cbs.specs.declared.node.Status.TheVariants.{Open, Expanded}
 use Rattle.mapf_cbs.specs.FirstConflicts.{IsFirstConflict}
 use Rattle.mapf_cbs.specs.Search.{View, IsLive, IsEndStatus, IsSearched}
-use Rattle.mapf_cbs.specs.Nodes.{AreViews, IsNodeView, IsChildView, IsNodeFor, HavePathsAt, HasTableBar}
+use Rattle.mapf_cbs.specs.Nodes.{AreViews, IsNodeView, IsChildView, IsNodeFor, HavePathsAt, HasTableBar, IsFirstAt}
+use Rattle.mapf_cbs.specs.CheapestPath.{IsTableBar}
 use Rattle.mapf_cbs.specs.GeneratedChild.{IsGeneratedChild, IsGeneratedState}
 use Rattle.mapf_cbs.specs.State.{IsOpenSet, IsState, IsPopped, status_of, key_cmp, with_children, split_statuses, with_key, with_keys}
 use Rattle.mapf_model.proofs.PlaceLemmas.{slice_get-set_same, slice_get-set_other, length-slice_set, slice_get-front, slice_get-here}
-use Rattle.mapf_cbs.proofs.SumLemmas.{slice_get-second, length-two_more}
+use Rattle.mapf_cbs.proofs.SumLemmas.{each_two, slice_get-second, length-two_more}
 use Rattle.mapf_cbs.proofs.NodeLemmas.{view_in}
 use Rattle.mapf_cbs.proofs.ShapeLemmas.{IsGrown}
 use Rattle.mapf_cbs.proofs.GrowLemmas.{IsChildStatus, searched_grown}
@@ -39,21 +39,6 @@ generated_status problem view child (Some total) is = (is.0, let a = is.1 in let
 pub end_of_total : (total : Option ℕ) → IsEndStatus (status_of total)
 end_of_total None = tt
 end_of_total (Some total) = tt
-
--- an index of a list with two more elements is an old one or one of the two
-two_more_at : {X : Type 0} (xs : List X) (x y z : X) (k : ℕ) → slice_get (xs ++ x ∷ y ∷ []) k ≡ Some z → (slice_get xs k ≡ Some z) ⊎ (((k ≡ length xs) × (x ≡ z)) ⊎ ((k ≡ length xs + 1) × (y ≡ z)))
-two_more_at xs x y z k is =
-    let size = length-two_more xs x y in
-    let within : k < length (xs ++ x ∷ y ∷ []) = slice_get_within (xs ++ x ∷ y ∷ []) k z is in
-    ⊎_elim
-    (λ (old : k < length xs). inl (sym (slice_get-front xs (x ∷ y ∷ []) k old) ∙ is))
-    (λ (new : length xs ≤ k). ⊎_elim
-    (λ (first : k ≡ length xs). inr (inl (first, same_Some x z (sym (slice_get-here xs (y ∷ []) x) ∙ subst (λ n. slice_get (xs ++ x ∷ y ∷ []) n ≡ Some z) first is))))
-    (λ (not_first : k ≢ length xs).
-    let second : k ≡ length xs + 1 = omega arith in
-    inr (inr (second, same_Some y z (sym (slice_get-second xs x y) ∙ subst (λ n. slice_get (xs ++ x ∷ y ∷ []) n ≡ Some z) second is))))
-    (cases_eq k (length xs)))
-    (cases_lt k (length xs))
 
 -- the outcomes after a split
 pub grown_statuses : (statuses : List Status) (k : ℕ) (conflict : Conflict) (left right : Option ℕ) → k < length statuses → IsGrown statuses (split_statuses statuses k conflict left right) k conflict (status_of left) (status_of right)
@@ -87,21 +72,14 @@ module _ (nodes : List Node) (views : List View) (are : AreViews nodes views) (k
       let here : slice_get (views ++ x ∷ y ∷ []) k ≡ Some view = slice_get-front views (x ∷ y ∷ []) k within ∙ is in
       record {
         lengths = omega arith;
-        each = λ m node v node_is v_is. ⊎_elim
-            (λ (old : slice_get nodes m ≡ Some node).
-            let inside : m < length nodes = slice_get_within nodes m node old in
-            lift_view m node v (are.each m node v old (sym (slice_get-front views (x ∷ y ∷ []) m (omega arith)) ∙ v_is)))
-            (λ (new : ((m ≡ length nodes) × (Child k p f ≡ node)) ⊎ ((m ≡ length nodes + 1) × (Child k q g ≡ node))). ⊎_elim
-            (λ (first : (m ≡ length nodes) × (Child k p f ≡ node)).
-            let at : m ≡ length views = (let h = first.0 in omega arith) in
-            let same : x ≡ v = same_Some x v (sym (slice_get-here views (y ∷ []) x) ∙ subst (λ n. slice_get (views ++ x ∷ y ∷ []) n ≡ Some v) at v_is) in
-            subst (λ n. IsNodeView (views ++ x ∷ y ∷ []) m n v) first.1 (omega arith, view, here, p_in, subst (λ w. IsChildView view p f w) same x_is))
-            (λ (second : (m ≡ length nodes + 1) × (Child k q g ≡ node)).
-            let at : m ≡ length views + 1 = (let h = second.0 in omega arith) in
-            let same : y ≡ v = same_Some y v (sym (slice_get-second views x y) ∙ subst (λ n. slice_get (views ++ x ∷ y ∷ []) n ≡ Some v) at v_is) in
-            subst (λ n. IsNodeView (views ++ x ∷ y ∷ []) m n v) second.1 (omega arith, view, here, q_in, subst (λ w. IsChildView view q g w) same y_is))
-            new)
-            (two_more_at nodes (Child k p f) (Child k q g) node m node_is);
+        each = λ m node v node_is v_is. each_two (λ m node. (v : View) → slice_get (views ++ x ∷ y ∷ []) m ≡ Some v → IsNodeView (views ++ x ∷ y ∷ []) m node v) nodes (Child k p f) (Child k q g)
+            (λ m node node_is v v_is. let inside : m < length nodes = slice_get_within nodes m node node_is in
+            lift_view m node v (are.each m node v node_is (sym (slice_get-front views (x ∷ y ∷ []) m (omega arith)) ∙ v_is)))
+            (λ v v_is. let same : x ≡ v = same_Some x v (sym (slice_get-here views (y ∷ []) x) ∙ subst (λ n. slice_get (views ++ x ∷ y ∷ []) n ≡ Some v) (sym e) v_is) in
+            (omega arith, view, here, p_in, subst (λ w. IsChildView view p f w) same x_is))
+            (λ v v_is. let same : y ≡ v = same_Some y v (sym (slice_get-second views x y) ∙ subst (λ n. slice_get (views ++ x ∷ y ∷ []) (n + 1) ≡ Some v) (sym e) v_is) in
+            (omega arith, view, here, q_in, subst (λ w. IsChildView view q g w) same y_is))
+            m node node_is v v_is;
       }
 
   pub views_pushed : AreViews ((nodes ++ Child k p f ∷ []) ++ Child k q g ∷ []) (views ++ x ∷ y ∷ [])
@@ -110,13 +88,8 @@ module _ (nodes : List Node) (views : List View) (are : AreViews nodes views) (k
   -- what holds of each node before a split holds of each after it
   pub each_pushed : (P : ℕ → Node → Type 0) → ((m : ℕ) (node : Node) → slice_get nodes m ≡ Some node → P m node) → P (length nodes) (Child k p f) → P (length nodes + 1) (Child k q g) →
       (m : ℕ) (node : Node) → slice_get ((nodes ++ Child k p f ∷ []) ++ Child k q g ∷ []) m ≡ Some node → P m node
-  each_pushed P each first second m node node_is = ⊎_elim
-      (λ (old : slice_get nodes m ≡ Some node). each m node old)
-      (λ (new : ((m ≡ length nodes) × (Child k p f ≡ node)) ⊎ ((m ≡ length nodes + 1) × (Child k q g ≡ node))). ⊎_elim
-      (λ (h : (m ≡ length nodes) × (Child k p f ≡ node)). subst (λ n. P m n) h.1 (subst (λ n. P n (Child k p f)) (sym h.0) first))
-      (λ (h : (m ≡ length nodes + 1) × (Child k q g ≡ node)). subst (λ n. P m n) h.1 (subst (λ n. P n (Child k q g)) (sym h.0) second))
-      new)
-      (two_more_at nodes (Child k p f) (Child k q g) node m (subst (λ ns. slice_get ns m ≡ Some node) (two_pushed nodes (Child k p f) (Child k q g)) node_is))
+  each_pushed P each first second m node node_is = each_two P nodes (Child k p f) (Child k q g) each first second m node
+      (subst (λ ns. slice_get ns m ≡ Some node) (two_pushed nodes (Child k p f) (Child k q g)) node_is)
 
 with_key_only : (keys : List (ℕ × ℕ)) (n : ℕ) (total : Option ℕ) (x : ℕ × ℕ) → Contains (with_key keys n total) x → Contains keys x ⊎ ((s : ℕ) × (total ≡ Some s) × (x ≡ (s, n)))
 with_key_only keys n None x h = inl h
@@ -133,17 +106,6 @@ open_total (Some s) e = (s, refl)
 with_key_new : (keys : List (ℕ × ℕ)) (n : ℕ) (total : Option ℕ) (s : ℕ) → total ≡ Some s → Contains (with_key keys n total) (s, n)
 with_key_new keys n None s e = absurd cc
 with_key_new keys n (Some t) s e = let same : t ≡ s = same_Some t s e in subst (λ z. Contains (with_key keys n (Some t)) (z, n)) same (inserted_new keys (t, n))
-
--- the numbers of the other open nodes are below that of the next node
-pub older_keys : (problem : Instance) (nodes : List Node) (statuses : List Status) (rest : List (ℕ × ℕ)) (count total k : ℕ) → IsPopped problem nodes statuses rest count total k → All (λ key. key.1 < length nodes) rest
-older_keys problem nodes statuses rest count total k popped = All-weaker (Contains rest) (λ key. key.1 < length nodes) older rest (All-contains_itself rest)
-  where
-    older : (key : ℕ × ℕ) → Contains rest key → key.1 < length nodes
-    older key in_rest =
-        let at = popped.state.opens.only key (Contains-cons_old (total, k) key rest in_rest) in
-        let inside = slice_get_within popped.state.views key.1 at.0 at.1 in
-        let lengths = popped.state.are.lengths in
-        omega (arith, inside, lengths)
 
 -- once a child is added, all numbers are below the one after its
 pub newest_after : (keys : List (ℕ × ℕ)) (number : ℕ) (total : Option ℕ) → All (λ key. key.1 < number) keys → All (λ key. key.1 < number + 1) (with_key keys number total)
@@ -227,32 +189,23 @@ module _ (problem : Instance) (nodes : List Node) (statuses : List Status) (rest
           (with_key_only (with_key rest (length nodes) s) (length nodes + 1) t x in_it);
       each = λ m v v_is f_is.
           let size = same_length in let sizes = same_statuses in
-          ⊎_elim
-          (λ (old : slice_get popped.state.views m ≡ Some v).
-          let inside : m < length popped.state.views = slice_get_within popped.state.views m v old in
+          each_two (λ m (v : View). slice_get (split_statuses statuses k conflict s t) m ≡ Some Open → Contains (with_keys rest (length nodes) s t) (sum v.costs, m)) popped.state.views left.child right.child
+          (λ m v old f_is. let inside : m < length popped.state.views = slice_get_within popped.state.views m v old in
           let other : m ≢ k = λ e. let expanded : Open ≡ Expanded conflict (length statuses) = same_Some Open (Expanded conflict (length statuses)) (sym f_is ∙ subst (λ n. slice_get (split_statuses statuses k conflict s t) n ≡ Some (Expanded conflict (length statuses))) (sym e) grown.split) in cc in
           let at = popped.state.opens.each m v old (sym (grown.others m (omega arith) other) ∙ f_is) in
           ⊎_elim
           (λ (same : (total, k) ≡ (sum v.costs, m)). absurd (other (sym (ap (λ (y : ℕ × ℕ). y.1) same))))
           (λ (in_rest : Contains rest (sum v.costs, m)). with_key_old (with_key rest (length nodes) s) (length nodes + 1) t (sum v.costs, m) (with_key_old rest (length nodes) s (sum v.costs, m) in_rest))
           (Contains-cons_cases (total, k) (sum v.costs, m) rest at))
-          (λ (new : ((m ≡ length popped.state.views) × (left.child ≡ v)) ⊎ ((m ≡ length popped.state.views + 1) × (right.child ≡ v))). ⊎_elim
-          (λ (h : (m ≡ length popped.state.views) × (left.child ≡ v)).
-          let at : m ≡ length nodes = h.0 ∙ size in
-          let is_some = open_total s (same_Some (status_of s) Open (sym first_status ∙ subst (λ n. slice_get (split_statuses statuses k conflict s t) n ≡ Some Open) at f_is)) in
-          let value : is_some.0 ≡ sum v.costs = generated_sum left.child s is_some.0 is_some.1 left.state ∙ ap (λ (w : View). sum w.costs) h.1 in
-          subst (λ n. Contains (with_keys rest (length nodes) s t) (sum v.costs, n)) (sym at)
-          (subst (λ z. Contains (with_keys rest (length nodes) s t) (z, length nodes)) value
+          (λ f_is. let is_some = open_total s (same_Some (status_of s) Open (sym first_status ∙ subst (λ n. slice_get (split_statuses statuses k conflict s t) n ≡ Some Open) size f_is)) in
+          subst (λ n. Contains (with_keys rest (length nodes) s t) (sum left.child.costs, n)) (sym size)
+          (subst (λ z. Contains (with_keys rest (length nodes) s t) (z, length nodes)) (generated_sum left.child s is_some.0 is_some.1 left.state)
           (with_key_old (with_key rest (length nodes) s) (length nodes + 1) t (is_some.0, length nodes) (with_key_new rest (length nodes) s is_some.0 is_some.1))))
-          (λ (h : (m ≡ length popped.state.views + 1) × (right.child ≡ v)).
-          let at : m ≡ length nodes + 1 = h.0 ∙ ap (λ n. n + 1) size in
-          let is_some = open_total t (same_Some (status_of t) Open (sym second_status ∙ subst (λ n. slice_get (split_statuses statuses k conflict s t) n ≡ Some Open) at f_is)) in
-          let value : is_some.0 ≡ sum v.costs = generated_sum right.child t is_some.0 is_some.1 right.state ∙ ap (λ (w : View). sum w.costs) h.1 in
-          subst (λ n. Contains (with_keys rest (length nodes) s t) (sum v.costs, n)) (sym at)
-          (subst (λ z. Contains (with_keys rest (length nodes) s t) (z, length nodes + 1)) value
+          (λ f_is. let is_some = open_total t (same_Some (status_of t) Open (sym second_status ∙ subst (λ n. slice_get (split_statuses statuses k conflict s t) (n + 1) ≡ Some Open) size f_is)) in
+          subst (λ n. Contains (with_keys rest (length nodes) s t) (sum right.child.costs, n + 1)) (sym size)
+          (subst (λ z. Contains (with_keys rest (length nodes) s t) (z, length nodes + 1)) (generated_sum right.child t is_some.0 is_some.1 right.state)
           (with_key_new (with_key rest (length nodes) s) (length nodes + 1) t is_some.0 is_some.1)))
-          new)
-          (two_more_at popped.state.views left.child right.child v m v_is);
+          m v v_is f_is;
     }
 
     small_grown : (x : ℕ × ℕ) → Contains (with_keys rest (length nodes) s t) x → x.0 ≤ ((count + 1) + 200) * 2 ^ 32
@@ -297,6 +250,10 @@ module _ (problem : Instance) (nodes : List Node) (statuses : List Status) (rest
     unfolding state_grown
     grown_views = refl
 
+-- the constraints of both children are of agents of the problem, and a table can hold them
+abbrev pub Fits : Instance → Conflict → Type 0
+Fits problem conflict = (((left_constraint conflict).agent < length problem.agents) × IsTableBar (left_constraint conflict).bar) × (((right_constraint conflict).agent < length problem.agents) × IsTableBar (right_constraint conflict).bar)
+
 -- the node that is being expanded
 pub record IsInHand (problem : Instance) (statuses : List Status) (k total : ℕ) (views : List View) : Type 0 where
   pub view : View
@@ -305,19 +262,33 @@ pub record IsInHand (problem : Instance) (statuses : List Status) (k total : ℕ
   pub total_is : total ≡ sum view.costs
   pub live : IsLive problem view
 
-pub in_hand : (problem : Instance) (nodes : List Node) (statuses : List Status) (rest : List (ℕ × ℕ)) (count total k : ℕ) (popped : IsPopped problem nodes statuses rest count total k) → IsInHand problem statuses k total popped.state.views
-in_hand problem nodes statuses rest count total k popped =
-    let first = popped.state.opens.only (total, k) (Contains-cons_new (total, k) rest) in
-    record { view = first.0; is = first.1; is_open = first.2; total_is = first.3; live = popped.state.searched.each k first.0 Open first.1 first.2 }
+module _ {problem : Instance} {nodes : List Node} {statuses : List Status} {rest : List (ℕ × ℕ)} {count total k : ℕ} (popped : IsPopped problem nodes statuses rest count total k) where
+  pub in_hand : IsInHand problem statuses k total popped.state.views
+  in_hand =
+      let first = popped.state.opens.only (total, k) (Contains-cons_new (total, k) rest) in
+      record { view = first.0; is = first.1; is_open = first.2; total_is = first.3; live = popped.state.searched.each k first.0 Open first.1 first.2 }
 
--- each agent of the problem has a path at the node that is being expanded
-pub have_paths : (problem : Instance) (nodes : List Node) (statuses : List Status) (rest : List (ℕ × ℕ)) (count total k : ℕ) → IsPopped problem nodes statuses rest count total k → (1 ≤ length problem.agents) × (length problem.agents ≤ 200) →
-    (agents : ℕ) → length problem.agents ≡ agents → HavePathsAt nodes k agents
-have_paths problem nodes statuses rest count total k popped (some, few) agents same =
-    let h = in_hand problem nodes statuses rest count total k popped in
-    subst (HavePathsAt nodes k) same (record {
-      nodes_for = popped.state.nodes_for;
-      inside = view_in nodes popped.state.views popped.state.are k h.view h.is;
-      some = some;
-      few = few;
-    })
+  -- each agent of the problem has a path at the node that is being expanded
+  pub have_paths : (1 ≤ length problem.agents) × (length problem.agents ≤ 200) → {agents : ℕ} → length problem.agents ≡ agents → HavePathsAt nodes k agents
+  have_paths (some, few) same =
+      subst (HavePathsAt nodes k) same (record {
+        nodes_for = popped.state.nodes_for;
+        inside = view_in nodes popped.state.views popped.state.are k in_hand.view in_hand.is;
+        some = some;
+        few = few;
+      })
+
+  -- the conflict on which it is split is of agents of the problem, and a table can hold its constraints
+  pub fits_there : (conflict : Conflict) → IsFirstAt problem nodes k conflict → tick_of conflict < 1000000 → Fits problem conflict
+  fits_there conflict meet early = rw (← in_hand.live.counted.paths) (of_paths in_hand.view.paths conflict (meet popped.state.views in_hand.view popped.state.are in_hand.is in_hand.live).has early)
+
+  -- the numbers of the other open nodes are below that of the next node
+  pub older_keys : All (λ key. key.1 < length nodes) rest
+  older_keys = All-weaker (Contains rest) (λ key. key.1 < length nodes) older rest (All-contains_itself rest)
+    where
+      older : (key : ℕ × ℕ) → Contains rest key → key.1 < length nodes
+      older key in_rest =
+          let at = popped.state.opens.only key (Contains-cons_old (total, k) key rest in_rest) in
+          let inside = slice_get_within popped.state.views key.1 at.0 at.1 in
+          let lengths = popped.state.are.lengths in
+          omega (arith, inside, lengths)

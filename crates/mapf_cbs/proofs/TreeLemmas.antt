@@ -8,11 +8,11 @@ use Rattle.mapf_model.specs.declared.label.Label.TheVariants.{Ticks, Never}
 use Rattle.mapf_model.specs.declared.item.Claim.{Claim}
 use Rattle.mapf_model.specs.declared.item.Claim.TheVariants.{Cost, Bound, Impossible}
 use Rattle.mapf_model.specs.Blocks.{LabelBlock}
-use Rattle.mapf_model.specs.Labels.{Entries, entries_of, AreSound, IsLabel, IsAtMost, label_sum}
+use Rattle.mapf_model.specs.Labels.{entries_of, AreSound, IsLabel, IsAtMost, label_sum}
 use Rattle.mapf_model.specs.Plan.{Instance, IsSumOfCosts}
 use Rattle.mapf_model.specs.declared.bar.Bar.{Bar}
 use Rattle.mapf_model.specs.declared.conflict.Conflict.{Conflict}
-use Rattle.mapf_model.specs.Tree.{ConstraintTree, Split, Leaf, Clash, NodeContext, AtEachNode, AtEachEnd, AtSomeLeaf, root, left_constraint, right_constraint, left_child_context, right_child_context, split_count, IsProper, IsProperNode, AreProperBlocks, AreBlocksSound, AreStartLabels, StartsReach, StartsAddUpTo, StartsShow, NodeShows, Shows, with_blocks}
+use Rattle.mapf_model.specs.Tree.{ConstraintTree, Split, Leaf, Clash, NodeContext, AtEachNode, AtEachEnd, AtSomeLeaf, root, left_constraint, right_constraint, left_child_context, right_child_context, split_count, IsProper, IsProperNode, AreProperBlocks, AreBlocksSound, AreStartLabels, StartsAddUpTo, NodeShows, Shows, with_blocks}
 use Rattle.mapf_model.specs.Conflicts.{HaveSomeConflict}
 use Rattle.mapf_cbs.specs.Earned.{AreCheapest, AreDue, IsEarnedNode, IsEarned}
 use Rattle.mapf_cbs.specs.declared.node.Status.{Status}
@@ -260,40 +260,25 @@ module _ (problem : Instance) (views : List View) (statuses : List Status) (coun
     impossible_leaf none_open k view Dead is status_is end = dead_shows_impossible problem view (searched.each k view Dead is status_is)
     impossible_leaf none_open k view (Expanded c a) is status_is end = absurd end
 
-    -- a claim that holds if the labels of the starts add up to at least this is shown at each node, if no open node has a smaller sum
-    claim_node : (claim : Claim) (cost : ℕ) → ((entries : ℕ → Entries) → StartsReach problem cost entries → StartsShow problem claim entries) → ((m : ℕ) (other : View) → slice_get views m ≡ Some other → slice_get statuses m ≡ Some Open → cost ≤ sum other.costs) →
-        (k : ℕ) (view : View) (node : ConstraintTree) → slice_get views k ≡ Some view → IsTreeAt views statuses k node → NodeShows problem claim view.context node
-    claim_node claim cost shown least k view (Split c blocks left right) is (here, a, expanded, on_left, on_right) = split_shows k view c blocks a is expanded here
-    claim_node claim cost shown least k view (Leaf blocks) is (here, status, status_is, end) =
-        let leaf = cost_leaf cost least k view status is status_is end in
-        subst (λ bs. NodeShows problem claim view.context (Leaf bs)) (sym (here view is).0) (leaf.0, shown (with_blocks view.blocks view.context.entries) leaf.1)
-    claim_node claim cost shown least k view (Clash i j) is none = absurd none
+    -- a claim that is shown at each end is shown at each node
+    shows : (claim : Claim) → ((k : ℕ) (view : View) (status : Status) → slice_get views k ≡ Some view → slice_get statuses k ≡ Some status → IsEndStatus status → NodeShows problem claim view.context (Leaf view.blocks)) → Shows problem claim tree
+    shows claim ends = record { proper = is_proper; nodes = from_root (NodeShows problem claim) each }
+      where
+        each : (k : ℕ) (view : View) (node : ConstraintTree) → slice_get views k ≡ Some view → IsTreeAt views statuses k node → NodeShows problem claim view.context node
+        each k view (Split c blocks left right) is (here, a, expanded, on_left, on_right) = split_shows k view c blocks a is expanded here
+        each k view (Leaf blocks) is (here, status, status_is, end) = subst (λ bs. NodeShows problem claim view.context (Leaf bs)) (sym (here view is).0) (ends k view status is status_is end)
+        each k view (Clash i j) is none = absurd none
 
     -- the least sum of the open nodes is shown, as a cost
     pub shows_cost : (cost : ℕ) → ((m : ℕ) (other : View) → slice_get views m ≡ Some other → slice_get statuses m ≡ Some Open → cost ≤ sum other.costs) → Shows problem (Cost cost) tree
-    shows_cost cost least = record {
-      proper = is_proper;
-      nodes = from_root (NodeShows problem (Cost cost)) (claim_node (Cost cost) cost (λ entries reach. reach) least);
-    }
+    shows_cost cost least = shows (Cost cost) (cost_leaf cost least)
 
     -- and as a bound
     pub shows_bound : (bound : ℕ) → ((m : ℕ) (other : View) → slice_get views m ≡ Some other → slice_get statuses m ≡ Some Open → bound ≤ sum other.costs) → Shows problem (Bound bound) tree
-    shows_bound bound least = record {
-      proper = is_proper;
-      nodes = from_root (NodeShows problem (Bound bound)) (claim_node (Bound bound) bound (λ entries reach. reach) least);
-    }
-
-    impossible_node : ((m : ℕ) → slice_get statuses m ≡ Some Open → ⊥) →
-        (k : ℕ) (view : View) (node : ConstraintTree) → slice_get views k ≡ Some view → IsTreeAt views statuses k node → NodeShows problem Impossible view.context node
-    impossible_node none_open k view (Split c blocks left right) is (here, a, expanded, on_left, on_right) = split_shows k view c blocks a is expanded here
-    impossible_node none_open k view (Leaf blocks) is (here, status, status_is, end) = subst (λ bs. NodeShows problem Impossible view.context (Leaf bs)) (sym (here view is).0) (impossible_leaf none_open k view status is status_is end)
-    impossible_node none_open k view (Clash i j) is none = absurd none
+    shows_bound bound least = shows (Bound bound) (cost_leaf bound least)
 
     pub shows_impossible : ((m : ℕ) → slice_get statuses m ≡ Some Open → ⊥) → Shows problem Impossible tree
-    shows_impossible none_open = record {
-      proper = is_proper;
-      nodes = from_root (NodeShows problem Impossible) (impossible_node none_open);
-    }
+    shows_impossible none_open = shows Impossible (impossible_leaf none_open)
 
     pub has_splits : split_count tree ≡ count
     has_splits = split_count_is tree searched.tree.shape 0 searched.tree.is_shape on_tree ∙ searched.tree.exact
@@ -301,34 +286,30 @@ module _ (problem : Instance) (views : List View) (statuses : List Status) (coun
     pub has_blocks : CarriesBoundBlocks problem tree
     has_blocks = subst (λ context. CarriesBlocksFor problem context None tree) searched.first.2 (carries tree 0 searched.first.0 None searched.first.1 on_tree searched.first.3)
 
+    -- what holds at an open node holds at some leaf
+    at_open : (P : NodeContext → List LabelBlock → Type 0) (j : ℕ) (view : View) → slice_get views j ≡ Some view → slice_get statuses j ≡ Some Open → P view.context view.blocks → AtSomeLeaf P root tree
+    at_open P j view is is_open holds =
+        let once = searched.tree.once j (slice_get_within statuses j Open is_open) in
+        subst (λ context. AtSomeLeaf P context tree) searched.first.2
+        (some_leaf P j view Open is is_open tt holds tree searched.tree.shape 0 searched.first.0 searched.first.1 searched.tree.is_shape on_tree (omega arith))
+
     -- an open node of least sum whose paths have a conflict is one at which the search may stop
     pub is_stopped : (Fact : List (List ℕ) → Type 0) (j : ℕ) (view : View) → slice_get views j ≡ Some view → slice_get statuses j ≡ Some Open →
         ((m : ℕ) (other : View) → slice_get views m ≡ Some other → slice_get statuses m ≡ Some Open → sum view.costs ≤ sum other.costs) → HaveSomeConflict view.paths → Fact view.paths → IsStoppedAtFirst Fact problem tree
-    is_stopped Fact j view is is_open least meet fact = record {
-      earned = is_earned;
-      leaf =
-          let P : NodeContext → List LabelBlock → Type 0 = λ context blocks. (paths : List (List ℕ)) × (total : ℕ) × AreDue problem tree context paths total × HaveSomeConflict paths × AreFirstPaths problem context paths × Fact paths in
-          let once = searched.tree.once j (slice_get_within statuses j Open is_open) in
-          subst (λ context. AtSomeLeaf P context tree) searched.first.2
-          (some_leaf P j view Open is is_open tt (view.paths, sum view.costs, due view (searched.each j view Open is is_open) least, meet, live_first problem view (searched.each j view Open is is_open), fact)
-          tree searched.tree.shape 0 searched.first.0 searched.first.1 searched.tree.is_shape on_tree (omega arith));
-    }
+    is_stopped Fact j view is is_open least meet fact =
+        let P : NodeContext → List LabelBlock → Type 0 = λ context blocks. (paths : List (List ℕ)) × (total : ℕ) × AreDue problem tree context paths total × HaveSomeConflict paths × AreFirstPaths problem context paths × Fact paths in
+        let live = searched.each j view Open is is_open in
+        record { earned = is_earned; leaf = at_open P j view is is_open (view.paths, sum view.costs, due view live least, meet, live_first problem view live, fact) }
 
     -- the paths of an open node are those of a leaf
     pub at_leaf : (j : ℕ) (view : View) → slice_get views j ≡ Some view → slice_get statuses j ≡ Some Open → AtSomeLeaf (λ context blocks. AreCheapest problem context view.paths × AreFirstPaths problem context view.paths) root tree
     at_leaf j view is is_open =
-        let P : NodeContext → List LabelBlock → Type 0 = λ context blocks. AreCheapest problem context view.paths × AreFirstPaths problem context view.paths in
         let live = searched.each j view Open is is_open in
-        let once = searched.tree.once j (slice_get_within statuses j Open is_open) in
-        subst (λ context. AtSomeLeaf P context tree) searched.first.2
-        (some_leaf P j view Open is is_open tt (live_cheapest problem view live, live_first problem view live) tree searched.tree.shape 0 searched.first.0 searched.first.1 searched.tree.is_shape on_tree (omega arith))
+        at_open (λ context blocks. AreCheapest problem context view.paths × AreFirstPaths problem context view.paths) j view is is_open (live_cheapest problem view live, live_first problem view live)
 
     -- an open node of least sum is a leaf at which its paths are due and the labels of the starts add up to this sum
     pub meets_at_a_leaf : (j : ℕ) (view : View) → slice_get views j ≡ Some view → slice_get statuses j ≡ Some Open →
         ((m : ℕ) (other : View) → slice_get views m ≡ Some other → slice_get statuses m ≡ Some Open → sum view.costs ≤ sum other.costs) → AtSomeLeaf (IsLeastSumAt problem tree (sum view.costs)) root tree
     meets_at_a_leaf j view is is_open least =
-        let P : NodeContext → List LabelBlock → Type 0 = IsLeastSumAt problem tree (sum view.costs) in
         let live = searched.each j view Open is is_open in
-        let once = searched.tree.once j (slice_get_within statuses j Open is_open) in
-        subst (λ context. AtSomeLeaf P context tree) searched.first.2
-        (some_leaf P j view Open is is_open tt ((view.paths, due view live least), live_adds_up problem view live) tree searched.tree.shape 0 searched.first.0 searched.first.1 searched.tree.is_shape on_tree (omega arith))
+        at_open (IsLeastSumAt problem tree (sum view.costs)) j view is is_open ((view.paths, due view live least), live_adds_up problem view live)

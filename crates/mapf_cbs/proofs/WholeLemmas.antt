@@ -1,5 +1,5 @@
 -- Full nodes, and the states that they denote.
-use Rattle.std.proofs.Common.{◌≡◌, ◌≢◌, ℕ, ◌+◌, ◌^◌, ◌<◌, ◌≤◌, All, List, [], ◌∷◌, ◌++◌, Option, None, Some, length, sum, slice_get, slice_set, refl, sym, ◌∙◌, ap, subst, inl, ⊎_elim, arith, Vec}
+use Rattle.std.proofs.Common.{◌≡◌, ◌≢◌, ℕ, ◌+◌, ◌^◌, ◌<◌, ◌≤◌, All, List, [], ◌∷◌, ◌++◌, Option, None, Some, length, sum, slice_get, slice_set, refl, sym, ◌∙◌, ap, subst, inl, ⊎_elim, arith, below_more, Vec}
 use Rattle.std.proofs.lemmas.Bool.{cases_eq}
 use Rattle.std.proofs.lemmas.Option.{slice_get_within, same_Some}
 use Rattle.mapf_model.specs.declared.bar.Bar.{Bar}
@@ -26,20 +26,21 @@ use Rattle.mapf_cbs.proofs.NodeLemmas.{paths_kept, blocks_new, bars_other, bars_
 
 -- the least open node is found by a scan
 module _ (nodes : List WholeNode) (statuses : List Status) (k : ℕ) where
+  -- the node at an index isn't open, or has at least this sum
+  abbrev HasAtLeast : ℕ → ℕ → Type 0
+  HasAtLeast total m = (other : WholeNode) → slice_get nodes m ≡ Some other → slice_get statuses m ≡ Some Open → total ≤ other.total
+
+  has_at_least : (node : WholeNode) → slice_get nodes k ≡ Some node → (total : ℕ) → total ≤ node.total → HasAtLeast total k
+  has_at_least node here total le other is is_open = let same = ap (λ (n : WholeNode). n.total) (same_Some node other (sym here ∙ is)) in omega (arith, same, le)
+
   pub skip_closed : (least : Option ℕ) (status : Status) → slice_get statuses k ≡ Some status → (status ≡ Open → ⊥) → IsLeastBelow nodes statuses k least → IsLeastBelow nodes statuses (k + 1) least
-  skip_closed None status here closed none = λ m within is_open. ⊎_elim
-      (λ (e : m ≡ k). closed (same_Some status Open (sym here ∙ subst (λ n. slice_get statuses n ≡ Some Open) e is_open)))
-      (λ (e : m ≢ k). none m (omega (arith, within, e)) is_open)
-      (cases_eq m k)
+  skip_closed None status here closed none = below_more (λ m. slice_get statuses m ≡ Some Open → ⊥) k none (λ is_open. closed (same_Some status Open (sym here ∙ is_open)))
   skip_closed (Some l) status here closed least = record {
     inside = let h = least.inside in omega (arith, h);
     node = least.node;
     is = least.is;
     is_open = least.is_open;
-    least = λ m other within is is_open. ⊎_elim
-        (λ (e : m ≡ k). absurd (closed (same_Some status Open (sym here ∙ subst (λ n. slice_get statuses n ≡ Some Open) e is_open))))
-        (λ (e : m ≢ k). least.least m other (omega (arith, within, e)) is is_open)
-        (cases_eq m k);
+    least = λ m other within. below_more (HasAtLeast least.node.total) k (λ m within other. least.least m other within) (λ other is is_open. absurd (closed (same_Some status Open (sym here ∙ is_open)))) m within other;
     oldest = least.oldest;
   }
 
@@ -49,12 +50,7 @@ module _ (nodes : List WholeNode) (statuses : List Status) (k : ℕ) where
     node = node;
     is = here;
     is_open = is_open;
-    least = λ m other within is other_open. ⊎_elim
-        (λ (e : m ≡ k).
-        let same : node ≡ other = same_Some node other (sym here ∙ subst (λ n. slice_get nodes n ≡ Some other) e is) in
-        let f : node.total ≡ other.total = ap (λ (n : WholeNode). n.total) same in omega (arith, f))
-        (λ (e : m ≢ k). absurd (none m (omega (arith, within, e)) other_open))
-        (cases_eq m k);
+    least = λ m other within. below_more (HasAtLeast node.total) k (λ m within other is other_open. absurd (none m within other_open)) (has_at_least node here node.total (omega arith)) m within other;
     oldest = λ m other within is other_open. absurd (none m within other_open);
   }
 
@@ -68,13 +64,7 @@ module _ (nodes : List WholeNode) (statuses : List Status) (k : ℕ) where
       node = least.node;
       is = least.is;
       is_open = least.is_open;
-      least = λ m other within is is_open. ⊎_elim
-          (λ (e : m ≡ k).
-          let same : node ≡ other = same_Some node other (sym here ∙ subst (λ n. slice_get nodes n ≡ Some other) e is) in
-          let f : node.total ≡ other.total = ap (λ (n : WholeNode). n.total) same in
-          let g = total_is in omega (arith, f, g, less))
-          (λ (e : m ≢ k). least.least m other (omega (arith, within, e)) is is_open)
-          (cases_eq m k);
+      least = λ m other within. below_more (HasAtLeast least.node.total) k (λ m within other. least.least m other within) (has_at_least node here least.node.total (omega (arith, total_is, less))) m within other;
       oldest = least.oldest;
     }
 
@@ -84,12 +74,8 @@ module _ (nodes : List WholeNode) (statuses : List Status) (k : ℕ) where
       node = node;
       is = here;
       is_open = is_open;
-      least = λ m other within is other_open. ⊎_elim
-          (λ (e : m ≡ k).
-          let same : node ≡ other = same_Some node other (sym here ∙ subst (λ n. slice_get nodes n ≡ Some other) e is) in
-          let f : node.total ≡ other.total = ap (λ (n : WholeNode). n.total) same in omega (arith, f))
-          (λ (e : m ≢ k). let h = least.least m other (omega (arith, within, e)) is other_open in let g = total_is in omega (arith, h, g, less))
-          (cases_eq m k);
+      least = λ m other within. below_more (HasAtLeast node.total) k (λ m within other is other_open. let h = least.least m other within is other_open in let g = total_is in omega (arith, h, g, less))
+          (has_at_least node here node.total (omega arith)) m within other;
       oldest = λ m other within is other_open. let h = least.least m other within is other_open in let g = total_is in omega (arith, h, g, less);
     }
 

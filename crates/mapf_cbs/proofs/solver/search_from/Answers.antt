@@ -1,7 +1,7 @@
 use Rattle.std.proofs.Common.{◌≡◌, List, Some, length, slice_get, sym, ◌∙◌, ap, subst, arith}
 use Rattle.std.proofs.lemmas.Result.{IfOk-weaker}
 use Rattle.mapf_model.specs.Plan.{Instance}
-use Rattle.mapf_cbs.specs.Endings.{IsExhausted, IsAtNode, IsAtPlan, IsAtCause}
+use Rattle.mapf_cbs.specs.Endings.{IsExhausted, IsAtPlan, IsAtCause}
 use Rattle.mapf_cbs.specs.PathOwners.{AreOwners}
 use Rattle.mapf_cbs.specs.Nodes.{AreViews}
 use Rattle.mapf_cbs.specs.Replanned.{AreSplitsFirst}
@@ -9,7 +9,7 @@ use Rattle.mapf_cbs.specs.Search.{View}
 use Rattle.mapf_cbs.specs.State.{IsState}
 use Rattle.mapf_conflicts.specs.Pairs.{AreOthersFreeBefore}
 use Rattle.mapf_cbs.proofs.AnswerLemmas.{state_first, popped_of}
-use Rattle.mapf_cbs.proofs.EndingLemmas.{can_be_drawn}
+use Rattle.mapf_cbs.proofs.EndingLemmas.{at_popped, can_be_drawn}
 use Rattle.mapf_cbs.proofs.StartLemmas.{root_of}
 use Rattle.mapf_cbs.proofs.StateLemmas.{in_hand, have_paths}
 use Rattle.mapf_cbs.proofs.ReplannedLemmas.{free_at}
@@ -35,8 +35,7 @@ loop-total-init g c =
 pub impossible-requires : goal.impossible-requires
 impossible-requires g c =
     let s = c.loop-total.invariant.state in
-    let e = c.deref-in_default.ensures.value in
-    rw e (can_be_drawn c.args.problem.now c.loop-total.search.nodes.items c.loop-total.search.statuses.items c.loop-total.search.waiting c.loop-total.search.splits s (omega (arith, c.loop-total.invariant.within, c.requires.limit)) c.in_ok-lists.lists.items (c.in_ok-lists.ensures s.views s.are))
+    rw c.deref-in_default.ensures.value (can_be_drawn s (omega (arith, c.loop-total.invariant.within, c.requires.limit)) (c.in_ok-lists.ensures s.views s.are))
 
 pub returns-in_default : goal.returns-in_default
 returns-in_default g c =
@@ -56,9 +55,7 @@ returns-in_default g c =
 
 pub owners_at-requires-clause-nodes : goal.owners_at-requires-clause-nodes
 owners_at-requires-clause-nodes g c =
-    let s = c.loop-total.invariant.state in
-    let p = popped_of c.args.problem.now c.loop-total.search.nodes.items c.loop-total.search.statuses.items c.loop-total.search.waiting c.take_least.new.self c.loop-total.search.splits c.in-Some.total c.in-Some.k s c.in-Some.ensures.some in
-    rw c.deref-in-loop-total.ensures.value (have_paths c.args.problem.now c.loop-total.search.nodes.items c.loop-total.search.statuses.items c.take_least.new.self c.loop-total.search.splits c.in-Some.total c.in-Some.k p c.requires.root.agents (length c.agents.result.now) (ap length (sym c.agents.ensures.value))).nodes_for
+    rw c.deref-in-loop-total.ensures.value (have_paths (popped_of c.loop-total.invariant.state c.in-Some.ensures.some) c.requires.root.agents (ap length (sym c.agents.ensures.value))).nodes_for
 
 pub owners_at-requires-clause-some : goal.owners_at-requires-clause-some
 owners_at-requires-clause-some g c =
@@ -68,20 +65,15 @@ owners_at-requires-clause-some g c =
 
 pub owners_at-requires-clause-inside : goal.owners_at-requires-clause-inside
 owners_at-requires-clause-inside g c =
-    let s = c.loop-total.invariant.state in
-    let p = popped_of c.args.problem.now c.loop-total.search.nodes.items c.loop-total.search.statuses.items c.loop-total.search.waiting c.take_least.new.self c.loop-total.search.splits c.in-Some.total c.in-Some.k s c.in-Some.ensures.some in
-    rw c.deref-in-loop-total.ensures.value (have_paths c.args.problem.now c.loop-total.search.nodes.items c.loop-total.search.statuses.items c.take_least.new.self c.loop-total.search.splits c.in-Some.total c.in-Some.k p c.requires.root.agents (length c.agents.result.now) (ap length (sym c.agents.ensures.value))).inside
+    rw c.deref-in-loop-total.ensures.value (have_paths (popped_of c.loop-total.invariant.state c.in-Some.ensures.some) c.requires.root.agents (ap length (sym c.agents.ensures.value))).inside
 
 pub replanned_at-replanned-requires : goal.replanned_at-replanned-requires
 replanned_at-replanned-requires g c =
-    let s = c.loop-total.invariant.state in
-    let p = popped_of c.args.problem.now c.loop-total.search.nodes.items c.loop-total.search.statuses.items c.loop-total.search.waiting c.take_least.new.self c.loop-total.search.splits c.in-Some.total c.in-Some.k s c.in-Some.ensures.some in
-    rw c.deref-in-loop-total-2.ensures.value (have_paths c.args.problem.now c.loop-total.search.nodes.items c.loop-total.search.statuses.items c.take_least.new.self c.loop-total.search.splits c.in-Some.total c.in-Some.k p c.requires.root.agents (length c.agents.result.now) (ap length (sym c.agents.ensures.value))).inside
+    rw c.deref-in-loop-total-2.ensures.value (have_paths (popped_of c.loop-total.invariant.state c.in-Some.ensures.some) c.requires.root.agents (ap length (sym c.agents.ensures.value))).inside
 
 pub conflict_at-requires : goal.conflict_at-requires
 conflict_at-requires g c =
-    let s = c.loop-total.invariant.state in
-    let p = popped_of c.args.problem.now c.loop-total.search.nodes.items c.loop-total.search.statuses.items c.loop-total.search.waiting c.take_least.new.self c.loop-total.search.splits c.in-Some.total c.in-Some.k s c.in-Some.ensures.some in
+    let p = popped_of c.loop-total.invariant.state c.in-Some.ensures.some in
     let nodes = c.deref-in-loop-total-4.ensures.value in
     let replanned = c.replanned_at-replanned.result in
     let others : (views : List View) (view : View) → AreViews c.loop-total.search.nodes.items views → AreSplitsFirst views c.loop-total.search.statuses.items → slice_get views c.in-Some.k ≡ Some view → AreOthersFreeBefore view.paths replanned.agent replanned.free =
@@ -90,64 +82,47 @@ conflict_at-requires g c =
     let node = c.in_ok-owners.ensures.node in
     let count = c.in_ok-owners.ensures.count in
     record {
-      paths = rw nodes (rw node (rw count (have_paths c.args.problem.now c.loop-total.search.nodes.items c.loop-total.search.statuses.items c.take_least.new.self c.loop-total.search.splits c.in-Some.total c.in-Some.k p c.requires.root.agents (length c.agents.result.now) (ap length (sym c.agents.ensures.value)))));
+      paths = rw nodes (rw node (rw count (have_paths p c.requires.root.agents (ap length (sym c.agents.ensures.value)))));
       owners = subst (λ ns. AreOwners ns c.in_ok-owners.owners) (c.deref-in-loop-total.ensures.value ∙ sym nodes) c.in_ok-owners.ensures.found;
-      others = rw nodes (rw node (rw count (free_at c.args.problem.now c.loop-total.search.nodes.items c.loop-total.search.statuses.items c.take_least.new.self c.loop-total.search.splits c.in-Some.total c.in-Some.k p (length c.agents.result.now) (ap length (sym c.agents.ensures.value))
-          replanned.agent replanned.free others)));
+      others = rw nodes (rw node (rw count (free_at p (ap length (sym c.agents.ensures.value)) replanned.agent replanned.free others)));
     }
 
 pub plan_at-requires : goal.plan_at-requires
 plan_at-requires g c =
-    let s = c.loop-total.invariant.state in
-    let p = popped_of c.args.problem.now c.loop-total.search.nodes.items c.loop-total.search.statuses.items c.loop-total.search.waiting c.take_least.new.self c.loop-total.search.splits c.in-Some.total c.in-Some.k s c.in-Some.ensures.some in
+    let p = popped_of c.loop-total.invariant.state c.in-Some.ensures.some in
     let nodes = c.deref-in_default-first.ensures.value in
     let node = c.in_ok-owners.ensures.node in
     let count = c.in_ok-owners.ensures.count in
     record {
-      paths = rw nodes (rw node (rw count (have_paths c.args.problem.now c.loop-total.search.nodes.items c.loop-total.search.statuses.items c.take_least.new.self c.loop-total.search.splits c.in-Some.total c.in-Some.k p c.requires.root.agents (length c.agents.result.now) (ap length (sym c.agents.ensures.value)))));
+      paths = rw nodes (rw node (rw count (have_paths p c.requires.root.agents (ap length (sym c.agents.ensures.value)))));
       owners = subst (λ ns. AreOwners ns c.in_ok-owners.owners) (c.deref-in-loop-total.ensures.value ∙ sym nodes) c.in_ok-owners.ensures.found;
     }
 
 pub found-requires : goal.found-requires
 found-requires g c =
     let s = c.loop-total.invariant.state in
-    let e = c.deref-in_default-first-2.ensures.value in
-    rw e (can_be_drawn c.args.problem.now c.loop-total.search.nodes.items c.loop-total.search.statuses.items c.loop-total.search.waiting c.loop-total.search.splits s (omega (arith, c.loop-total.invariant.within, c.requires.limit)) c.in_ok-lists-2.lists.items (c.in_ok-lists-2.ensures s.views s.are))
+    rw c.deref-in_default-first-2.ensures.value (can_be_drawn s (omega (arith, c.loop-total.invariant.within, c.requires.limit)) (c.in_ok-lists-2.ensures s.views s.are))
 
 pub stopped-requires : goal.stopped-requires
 stopped-requires g c =
     let s = c.loop-total.invariant.state in
-    let e = c.deref-in-Some-cause_to_stop.ensures.value in
-    rw e (can_be_drawn c.args.problem.now c.loop-total.search.nodes.items c.loop-total.search.statuses.items c.loop-total.search.waiting c.loop-total.search.splits s (omega (arith, c.loop-total.invariant.within, c.requires.limit)) c.in_ok-lists-3.lists.items (c.in_ok-lists-3.ensures s.views s.are))
+    rw c.deref-in-Some-cause_to_stop.ensures.value (can_be_drawn s (omega (arith, c.loop-total.invariant.within, c.requires.limit)) (c.in_ok-lists-3.ensures s.views s.are))
 
 pub returns-in_default-first : goal.returns-in_default-first
 returns-in_default-first g c =
-    let s = c.loop-total.invariant.state in
-    let p = popped_of c.args.problem.now c.loop-total.search.nodes.items c.loop-total.search.statuses.items c.loop-total.search.waiting c.take_least.new.self c.loop-total.search.splits c.in-Some.total c.in-Some.k s c.in-Some.ensures.some in
-    let h = in_hand c.args.problem.now c.loop-total.search.nodes.items c.loop-total.search.statuses.items c.take_least.new.self c.loop-total.search.splits c.in-Some.total c.in-Some.k p in
+    let p = popped_of c.loop-total.invariant.state c.in-Some.ensures.some in
+    let h = in_hand p in
     let are = subst (λ ns. AreViews ns p.state.views) (sym c.deref-in-loop-total-4.ensures.value) p.state.are in
     let node = c.in_ok-owners.ensures.node in
     let counted = h.live.counted.paths ∙ (let e = c.agents.ensures.value in ap length (sym e)) ∙ sym c.in_ok-owners.ensures.count in
     let is = subst (λ n. slice_get p.state.views n ≡ Some h.view) (sym node) h.is in
     let nodes_are = subst (λ ns. AreViews ns p.state.views) (sym c.deref-in_default-first.ensures.value) p.state.are in
     let e = c.deref-in_default-first-2.ensures.value in
-    let here : IsAtNode c.args.problem.now c.args.limit c.in_ok-lists-2.lists.items c.loop-total.search.statuses.items c.loop-total.search.splits c.in-Some.total h.view = record {
-      paths = c.args.paths.items;
-      root = c.requires.root;
-      nodes = c.loop-total.search.nodes.items;
-      rest = c.take_least.new.self;
-      k = c.in-Some.k;
-      popped = p;
-      is = h.is;
-      short = c.in_ok-first.ensures.short p.state.views h.view are is counted;
-      within = c.loop-total.invariant.within;
-      blocks = c.in_ok-lists-2.ensures p.state.views p.state.are;
-    } in
     let at_plan : IsAtPlan c.args.problem.now c.args.limit c.in_ok-lists-2.lists.items c.loop-total.search.statuses.items c.in_ok-plan.plan = record {
       count = c.loop-total.search.splits;
       total = c.in-Some.total;
       view = h.view;
-      at_node = here;
+      at_node = at_popped c.requires.root p h.is (c.in_ok-first.ensures.short p.state.views h.view are is counted) c.loop-total.invariant.within (c.in_ok-lists-2.ensures p.state.views p.state.are);
       same = c.in_ok-plan.ensures.paths p.state.views h.view nodes_are is counted;
       none = of_none _ c.in_ok-first.first c.in_default-first.is c.in_ok-first.ensures.none p.state.views h.view are is counted;
     } in
@@ -155,30 +130,17 @@ returns-in_default-first g c =
 
 pub returns-in-Some-cause_to_stop : goal.returns-in-Some-cause_to_stop
 returns-in-Some-cause_to_stop g c =
-    let s = c.loop-total.invariant.state in
-    let p = popped_of c.args.problem.now c.loop-total.search.nodes.items c.loop-total.search.statuses.items c.loop-total.search.waiting c.take_least.new.self c.loop-total.search.splits c.in-Some.total c.in-Some.k s c.in-Some.ensures.some in
-    let h = in_hand c.args.problem.now c.loop-total.search.nodes.items c.loop-total.search.statuses.items c.take_least.new.self c.loop-total.search.splits c.in-Some.total c.in-Some.k p in
+    let p = popped_of c.loop-total.invariant.state c.in-Some.ensures.some in
+    let h = in_hand p in
     let are = subst (λ ns. AreViews ns p.state.views) (sym c.deref-in-loop-total-4.ensures.value) p.state.are in
     let node = c.in_ok-owners.ensures.node in
     let counted = h.live.counted.paths ∙ (let e = c.agents.ensures.value in ap length (sym e)) ∙ sym c.in_ok-owners.ensures.count in
     let is = subst (λ n. slice_get p.state.views n ≡ Some h.view) (sym node) h.is in
     let e = c.deref-in-Some-cause_to_stop.ensures.value in
-    let here : IsAtNode c.args.problem.now c.args.limit c.in_ok-lists-3.lists.items c.loop-total.search.statuses.items c.loop-total.search.splits c.in-Some.total h.view = record {
-      paths = c.args.paths.items;
-      root = c.requires.root;
-      nodes = c.loop-total.search.nodes.items;
-      rest = c.take_least.new.self;
-      k = c.in-Some.k;
-      popped = p;
-      is = h.is;
-      short = c.in_ok-first.ensures.short p.state.views h.view are is counted;
-      within = c.loop-total.invariant.within;
-      blocks = c.in_ok-lists-3.ensures p.state.views p.state.are;
-    } in
     let at_cause : IsAtCause c.args.problem.now c.args.limit c.in_ok-lists-3.lists.items c.loop-total.search.statuses.items c.in-Some-cause_to_stop.cause c.in-Some.total = record {
       count = c.loop-total.search.splits;
       view = h.view;
-      at_node = here;
+      at_node = at_popped c.requires.root p h.is (c.in_ok-first.ensures.short p.state.views h.view are is counted) c.loop-total.invariant.within (c.in_ok-lists-3.ensures p.state.views p.state.are);
       conflict = c.in-Some-first.conflict;
       first = of_some _ c.in_ok-first.first c.in-Some-first.conflict c.in-Some-first.is c.in_ok-first.ensures.some p.state.views h.view are is counted;
       met = c.in-Some-cause_to_stop.ensures.some;
@@ -187,8 +149,7 @@ returns-in-Some-cause_to_stop g c =
 
 pub split-requires-clause-popped : goal.split-requires-clause-popped
 split-requires-clause-popped g c =
-    let s = c.loop-total.invariant.state in
-    let p = popped_of c.args.problem.now c.loop-total.search.nodes.items c.loop-total.search.statuses.items c.loop-total.search.waiting c.take_least.new.self c.loop-total.search.splits c.in-Some.total c.in-Some.k s c.in-Some.ensures.some in
+    let p = popped_of c.loop-total.invariant.state c.in-Some.ensures.some in
     rw c.loop-total.invariant.problem (rw c.in_ok-owners.ensures.node p)
 
 pub split-requires-clause-owners : goal.split-requires-clause-owners
