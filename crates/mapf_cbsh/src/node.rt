@@ -58,13 +58,3 @@ pub struct Split {
     /// The number of the left child. The right one is the next node.
     pub left: u32,
 }
-
-impl Node {
-    /// Returns whether the agent of its new constraint can't arrive.
-    pub fn is_dead(&self) -> bool {
-        match &self.replanned {
-            Some(replanned) => replanned.cost.is_none(),
-            None => false,
-        }
-    }
-}
