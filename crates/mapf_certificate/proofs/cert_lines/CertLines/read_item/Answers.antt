@@ -1,10 +1,10 @@
-use Rattle.std.proofs.Common.{◌≡◌, ◌≤◌, List, ◌∷◌, ap, subst, refl, arith}
+use Rattle.std.proofs.Common.{◌≤◌, ap, subst, refl, arith}
 use Rattle.std.proofs.lemmas.Result.{err_from_is_err_and}
-use Rattle.mapf_model.specs.Tree.{Node, node_of}
+use Rattle.mapf_model.specs.Tree.{node_of}
 use Rattle.mapf_certificate.specs.Reading.{Reading, agents_in}
-use Rattle.mapf_certificate.specs.CertReading.{Awaits, ReadsNode, TakesNode}
+use Rattle.mapf_certificate.specs.CertReading.{ReadsNode, TakesNode}
 use Rattle.mapf_certificate.specs.Untouched.{TakesThere}
-use Rattle.mapf_certificate.specs.Certificates.{line_text, node_text}
+use Rattle.mapf_certificate.specs.Certificates.{line_text}
 use Rattle.mapf_certificate.proofs.TakenThere.{there-trans}
 use Rattle.mapf_certificate.proofs.Windows.{err_passed}
 use Rattle.mapf_certificate.proofs.Readings.{Bounds, Continues, sizes_at, fails_at, fails_first, fails_in_item, fails_in_end, reads_node, node_joins, node_same}
@@ -68,8 +68,7 @@ returns-clause-same g c =
     let some : 1 ≤ i.pending = omega (arith, c.if-self-eq0.false) in
     let left = s.remaining c.item_of.new.source in
     let read : ReadsNode had left old new node = reads_node sizes _ _ _ _ _ _ _ _ bounds refl c.in_ok-line.ensures.taken c.in_ok-item.ensures.item some c.trees_pending_after-self-inside.ensures in
-    let P : Reading → Type 0 = λ r. (due : Node) (nodes : List Node) → Awaits had r (due ∷ nodes) → (node ≡ due) × Awaits left new nodes in
-    subst P c.self.view_is (λ due nodes awaits. node_same sizes _ _ _ _ _ _ _ bounds refl on read awaits)
+    rw (← c.self.view_is) (λ due nodes awaits. node_same sizes _ _ _ _ _ _ _ bounds refl on read awaits)
 
 pub returns-clause-there : goal.returns-clause-there
 returns-clause-there g c =
@@ -79,5 +78,4 @@ returns-clause-there g c =
     let node = node_of c.in_ok-item.item in
     let line = line_text width c.in_ok-line.line in
     let both = there-trans c.args.source.now c.next.new.source c.item_of.new.source i.lines.buffer c.next.new.self.buffer c.item_of.new.lines.buffer line completes.taken c.in_ok-line.ensures.there (c.in_ok-item.ensures.there completes.taken completes.spelled) in
-    let P : Reading → Type 0 = λ r. TakesThere c.args.source.now c.item_of.new.source r.buffer c.item_of.new.lines.buffer (node_text r.version r.width node) in
-    subst P c.self.view_is (subst (TakesThere c.args.source.now c.item_of.new.source i.lines.buffer c.item_of.new.lines.buffer) completes.spelled both)
+    rw (← c.self.view_is) (subst (TakesThere c.args.source.now c.item_of.new.source i.lines.buffer c.item_of.new.lines.buffer) completes.spelled both)
