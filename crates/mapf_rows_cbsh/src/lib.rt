@@ -1,10 +1,8 @@
-//! Does the stronger search find what the plain search finds, and does the checker accept what it writes?
+//! Does the second search find what the plain search finds, and does the checker accept what it writes?
 #![tactic(auto)]
 
 #[cfg(test)]
 mod exhaustive;
-#[cfg(test)]
-mod samples;
 #[cfg(test)]
 mod searching;
 #[cfg(test)]

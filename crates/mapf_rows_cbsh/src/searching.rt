@@ -2,12 +2,12 @@
 ghost use Rattle.std.specs.Prelude.{◌≤◌};
 
 use crate::exhaustive::least_sum;
-use crate::samples::{Shape, drawn, late_meeting, problem_of};
 use crate::texts::{cert_text, cost_of, judged};
 use mapf_cbs::{Answer, solve};
 use mapf_cbsh::{Outcome, search};
 use mapf_checker::Verdict;
 use mapf_model::{Cause, Problem};
+use mapf_rows_made::{Shape, drawn, late_meeting, problem_of};
 use std::alloc::Global;
 use std::process::Abort;
 use std::test::Fail;
@@ -108,7 +108,7 @@ leaf 1\nagent 0 1\nat 0,1 0 3\nleaf 1\nagent 1 1\nat 1,0 0 3\nend\n";
 
 #[test]
 fn writes_the_tree_of_a_crossing(rt: HostRuntime) -> Result<(), Fail> {
-    let problem = problem_of(rt.alloc(), (3, 3), "... ... ...", &[(3, 5), (1, 7)])?;
+    let problem = problem_of(rt.alloc(), "... ... ...", &[(3, 5), (1, 7)])?;
     let outcome = search(rt.alloc(), &problem, 10)?;
     let text = cert_text(rt.alloc(), &problem, &outcome)?;
     assert_eq!(rt; text.as_str(), CROSSING_CERT);
@@ -229,7 +229,6 @@ fn answers_alike_twice(rt: HostRuntime) -> Result<(), Fail> {
 
 /// A problem that has no plan, or that isn't known to have one, and the certificate.
 struct Unsolved {
-    size: (u32, u32),
     rows: &'static str,
     ends: &'static [(u32, u32)],
     limit: u32,
@@ -238,21 +237,18 @@ struct Unsolved {
 
 const UNSOLVED: &[Unsolved] = &[
     Unsolved {
-        size: (2, 1),
         rows: "..",
         ends: &[(0, 1), (1, 1)],
         limit: 5,
         cert: "mapf-cert 2\nagents 2\nclaim impossible\nclash 0 1\nend\n",
     },
     Unsolved {
-        size: (3, 1),
         rows: ".@.",
         ends: &[(0, 2), (2, 2)],
         limit: 5,
         cert: "mapf-cert 2\nagents 2\nclaim impossible\nclash 0 1\nend\n",
     },
     Unsolved {
-        size: (3, 1),
         rows: ".@.",
         ends: &[(0, 2)],
         limit: 0,
@@ -260,7 +256,6 @@ const UNSOLVED: &[Unsolved] = &[
     },
     // Two agents begin in one cell.
     Unsolved {
-        size: (3, 1),
         rows: "...",
         ends: &[(1, 0), (1, 2)],
         limit: 1,
@@ -269,7 +264,6 @@ leaf 1\nagent 0 1\nat 1,0 0 inf\nleaf 1\nagent 1 1\nat 1,0 0 inf\nend\n",
     },
     // They would have to pass each other.
     Unsolved {
-        size: (2, 1),
         rows: "..",
         ends: &[(0, 1), (1, 0)],
         limit: 0,
@@ -281,7 +275,7 @@ leaf 1\nagent 0 1\nat 1,0 0 inf\nleaf 1\nagent 1 1\nat 1,0 0 inf\nend\n",
 fn ends_where_no_plan_is_valid(rt: HostRuntime) -> Result<(), Fail> {
     for case in UNSOLVED {
         assert!(rt; case.limit <= 100_000);
-        let problem = problem_of(rt.alloc(), case.size, case.rows, case.ends)?;
+        let problem = problem_of(rt.alloc(), case.rows, case.ends)?;
         let outcome = search(rt.alloc(), &problem, case.limit)?;
         assert_accepted(&rt, rt.alloc(), &problem, &outcome)?;
         let text = cert_text(rt.alloc(), &problem, &outcome)?;

@@ -4,35 +4,10 @@ use crate::answers::{Search, assert_text, text_of};
 use mapf_conflicts::{Conflict, first_conflict};
 use mapf_distance::Distances;
 use mapf_model::{Agent, Cell, Grid, OutOfMemory, Path, Plan, Problem};
-use mapf_rows_made::agents_of;
+use mapf_rows_made::{agents_of, late_meeting};
 use std::alloc::{AllocError, Global};
 use std::process::Abort;
 use std::test::Fail;
-
-// Every second row is open, and each row between two of them has a gap at one end.
-fn push_corridor_row(free: &mut Vec<bool>, row: u32) -> Result<(), AllocError> {
-    let gap = if row % 4 == 1 { 2047 } else { 0 };
-    for column in 0..2048 {
-        free.push(row % 2 == 0 || column == gap)?;
-    }
-    Ok(())
-}
-
-// A corridor that winds through 2,047 rows.
-fn corridor(alloc: Global) -> Result<Grid, Fail> {
-    let mut free = Vec::new(alloc);
-    for row in 0u32..2047 {
-        push_corridor_row(&mut free, row)?;
-    }
-    Ok(Grid::of(2048, 2047, free).ok_or("no grid")?)
-}
-
-// Two agents that meet in the middle of the corridor.
-fn late_meeting(alloc: Global) -> Result<Problem, Fail> {
-    let last = 2046 * 2048;
-    let agents = agents_of(alloc, &[(0, last), (last, 0)])?;
-    Ok(Problem::of(corridor(alloc)?, agents).ok_or("no problem")?)
-}
 
 // How many cells of the grid are free.
 fn free_cells(grid: &Grid) -> u32 {

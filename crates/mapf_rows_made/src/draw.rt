@@ -1,15 +1,15 @@
-//! Problems for the searches: drawn ones, and grids by their rows.
+//! Problems that are drawn at random, the same ones for the same seed.
+use crate::made::Missing;
 use mapf_model::{Agent, Cell, Grid, Problem};
 use std::alloc::Global;
-use std::test::Fail;
 
-/// Numbers from a seed, always the same (Knuth's constants for a linear congruential generator).
+// Numbers from a seed, always the same (Knuth's constants for a linear congruential generator).
 #[derive(Clone, Copy, Debug)]
-pub struct Numbers(pub u64);
+struct Numbers(u64);
 
 impl Numbers {
-    /// Returns a number below the bound, 0 if that is 0.
-    pub fn below(&mut self, bound: u32) -> u32 {
+    // Returns a number below the bound, 0 if that is 0.
+    fn below(&mut self, bound: u32) -> u32 {
         self.0 = self
             .0
             .wrapping_mul(6364136223846793005)
@@ -33,7 +33,7 @@ pub struct Shape {
 }
 
 /// Draws a problem. None if no cell is free.
-pub fn drawn(alloc: Global, shape: Shape, seed: u64) -> Result<Option<Problem>, Fail> {
+pub fn drawn(alloc: Global, shape: Shape, seed: u64) -> Result<Option<Problem>, Missing> {
     let mut numbers = Numbers(seed.wrapping_mul(977).wrapping_add(31));
     let _first = numbers.below(2);
     let mut free = Vec::new(alloc);
@@ -66,7 +66,7 @@ fn places(
     cells: &[Cell],
     count: u32,
     numbers: &mut Numbers,
-) -> Result<Vec<Cell>, Fail> {
+) -> Result<Vec<Cell>, Missing> {
     let mut left = Vec::from_slice(alloc, cells)?;
     let mut drawn = Vec::new(alloc);
     for _ in 0..count {
@@ -81,57 +81,4 @@ fn places(
         }
     }
     Ok(drawn)
-}
-
-/// The problem on a grid with these rows, apart by blanks, in which a dot is a free cell.
-pub fn problem_of(
-    alloc: Global,
-    (width, height): (u32, u32),
-    rows: &str,
-    ends: &[(u32, u32)],
-) -> Result<Problem, Fail> {
-    let mut free = Vec::new(alloc);
-    for byte in rows.as_bytes() {
-        if *byte != b' ' {
-            free.push(*byte == b'.')?;
-        }
-    }
-    let mut agents = Vec::new(alloc);
-    for (start, goal) in ends {
-        agents.push(Agent {
-            start: Cell(*start),
-            goal: Cell(*goal),
-        })?;
-    }
-    let grid = Grid::of(width, height, free).ok_or("no grid")?;
-    Ok(Problem::of(grid, agents).ok_or("no problem")?)
-}
-
-/// Two agents that meet in the middle of a corridor which winds through 2,047 rows, at tick 1,049,087.
-pub fn late_meeting(alloc: Global) -> Result<Problem, Fail> {
-    let mut free = Vec::new(alloc);
-    for row in 0u32..2047 {
-        push_corridor_row(&mut free, row)?;
-    }
-    let grid = Grid::of(2048, 2047, free).ok_or("no grid")?;
-    let (first, last) = (Cell(0), Cell(2046 * 2048));
-    let there = Agent {
-        start: first,
-        goal: last,
-    };
-    let back = Agent {
-        start: last,
-        goal: first,
-    };
-    let agents = vec![in alloc; there, back]?;
-    Ok(Problem::of(grid, agents).ok_or("no problem")?)
-}
-
-// Every second row is open, and each row between two of them has a gap at one end.
-fn push_corridor_row(free: &mut Vec<bool>, row: u32) -> Result<(), Fail> {
-    let gap = if row % 4 == 1 { 2047 } else { 0 };
-    for column in 0..2048 {
-        free.push(row % 2 == 0 || column == gap)?;
-    }
-    Ok(())
 }
