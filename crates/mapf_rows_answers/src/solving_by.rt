@@ -80,8 +80,8 @@ fn writes_the_same_by_plain_search(rt: HostRuntime) -> Result<(), Fail> {
     Ok(())
 }
 
-// The stronger search has the answer of plain search, and writes the same again.
-fn assert_stronger(rt: &impl Abort, alloc: Global, given: &Given, limit: u32) -> Result<(), Fail> {
+// The second search has the answer of plain search, and writes the same again.
+fn assert_second(rt: &impl Abort, alloc: Global, given: &Given, limit: u32) -> Result<(), Fail> {
     let plain = solved(alloc, given, limit)?;
     let Ok(kind) = plain.answer else {
         return Err("no answer")?;
@@ -95,9 +95,9 @@ fn assert_stronger(rt: &impl Abort, alloc: Global, given: &Given, limit: u32) ->
 }
 
 #[test]
-fn answers_the_same_by_the_stronger_search(rt: HostRuntime) -> Result<(), Fail> {
+fn answers_the_same_by_the_second_search(rt: HostRuntime) -> Result<(), Fail> {
     for (given, limit) in PROBLEMS {
-        assert_stronger(&rt, rt.alloc(), given, *limit)?;
+        assert_second(&rt, rt.alloc(), given, *limit)?;
     }
     Ok(())
 }

@@ -144,7 +144,7 @@ const SCEN: &str = "The agents: a MovingAI scenario of version 1 for that map";
 const K: &str = most_agents!("How many agents: the first K rows of SCEN, 1 to ");
 
 const SEARCH: &str =
-    "The search: cbs, which is plain conflict-based search, or cbsh, a stronger one, whose
+    "The search: cbs, which is plain conflict-based search, or cbsh, a second one, whose
 answer is checked before it is written; cbs unless told";
 
 const LIMIT: &str = most_splits!("How often the search may split on a conflict, 0 to ");

@@ -4,7 +4,7 @@
 pub enum Search {
     /// Plain conflict-based search.
     Cbs,
-    /// A stronger search, whose answer is checked before it is written.
+    /// The second search, whose answer is checked before it is written.
     Cbsh,
 }
 
