@@ -1,13 +1,13 @@
 -- What is known of the bytes that calls wrote.
-use Rattle.std.proofs.Common.{◌≡◌, ◌≤◌, ℕ, true, false, List, ◌++◌, length, length-append, take, Option, Result, Ok, Err, OnOk, OnErr, IfErr, IfOk, IfSome, None, IsErrOf, MatchResult, Bool, ◌↔◌, inl, inr, refl, sym, ap, ◌∙◌, subst, arith}
+use Rattle.std.proofs.Common.{◌≡◌, ◌≢◌, ◌≤◌, ℕ, true, false, List, ◌++◌, length, length-append, take, Option, Result, Ok, Err, OnOk, OnErr, IfErr, IfOk, IfSome, Some, None, IsErrOf, MatchResult, Bool, ◌↔◌, refl, sym, ap, ◌∙◌, subst, arith}
 use Rattle.std.proofs.KnownBytes.{Appends-trans}
 use Rattle.std.specs.Io.KnownBytes.{Appends}
 use Rattle.std.specs.Result.{is_err}
-use Rattle.std.proofs.lemmas.Bool.{true≢false}
 use Rattle.std.proofs.lemmas.List.{take_at}
-use Rattle.mapf_app.specs.Answered.{IsLimitedBy, IsOfPlainSearch, with_refusal}
+use Rattle.mapf_app.specs.Answered.{IsLimitedBy, with_refusal}
 use Rattle.mapf_app.specs.Faults.{HasNoInnerMemory, IsOfDevices, IsOfMap, IsOfWriting, IsSolving}
 use Rattle.mapf_app.specs.Runs.{ReportsLaterSource, ReportsSinks, ReportsSource, WritesTexts}
+use Rattle.mapf_app.specs.Solved.{AreExactTexts}
 use Rattle.mapf_app.specs.declared.answer_writer.Answered.{Answered}
 use Rattle.mapf_app.specs.declared.fault.Fault.{Fault}
 use Rattle.mapf_app.specs.declared.fault.Fault.TheVariants.{F1, F2, F3, F4, F5, F6, Refused}
@@ -75,6 +75,11 @@ weaker (Err fault) P Q a b c d also w = record {
   plan_front = λ of. let (answer, plan, cert, n, is, wrote) = w.plan_front of in (answer, plan, cert, n, also answer plan cert is, wrote);
   cert_front = λ of. let (answer, plan, cert, n, is, wrote, wrote_too) = w.cert_front of in (answer, plan, cert, n, also answer plan cert is, wrote, wrote_too);
 }
+
+-- these two texts are of the kind that they are known to be of
+pub of_these : (result : Result Kind Fault) (kind : Kind) (plan cert : List ℕ) (Q : Kind → List ℕ → List ℕ → Type 0) (a b c d : Option (List ℕ)) → Q kind plan cert → WritesTexts result (AreExactTexts kind plan cert) a b c d → WritesTexts result Q a b c d
+of_these result kind plan cert Q a b c d is w =
+    weaker result (AreExactTexts kind plan cert) Q a b c d (λ answer p q same. rw (same.0, same.1, same.2) is) w
 
 -- an error of writing is one of a device
 devices : (fault : Fault) → IsOfWriting fault → IsOfDevices fault
@@ -206,16 +211,29 @@ pub answered_limit : (result : Result Kind Fault) (refused : Option CheckFault) 
 answered_limit (Ok kind) refused limit is = is
 answered_limit (Err fault) refused limit is = tt
 
--- nothing was refused before an answer if nothing is said to have been
-pub none_refused : (result : Result Kind Fault) (P : Type 0) → IfOk (with_refusal result None) (λ answer. IfSome answer.refused (λ _. P))
+-- what holds of each refusal before an answer holds if nothing was refused
+pub none_refused : (result : Result Kind Fault) (P : CheckFault → Type 0) → IfOk (with_refusal result None) (λ answer. IfSome answer.refused P)
 none_refused (Ok kind) P = tt
 none_refused (Err fault) P = tt
 
--- an answer of the stronger search isn't plain search's
+-- and if it holds of what was refused
+pub some_refused : (result : Result Kind Fault) (refusal : CheckFault) (P : CheckFault → Type 0) → P refusal → IfOk (with_refusal result (Some refusal)) (λ answer. IfSome answer.refused P)
+some_refused (Ok kind) refusal P is = is
+some_refused (Err fault) refusal P is = tt
+
+-- what holds of each refusal before an answer holds beside what holds anyway
+pub refused_besides : (result : Result Answered Fault) (P : CheckFault → Type 0) (Q : Type 0) → Q → IfOk result (λ answer. IfSome answer.refused P) → IfOk result (λ answer. IfSome answer.refused (λ refusal. P refusal × Q))
+refused_besides (Ok answer) P Q besides is = on answer.refused is
+  where
+    on : (refused : Option CheckFault) → IfSome refused P → IfSome refused (λ refusal. P refusal × Q)
+    on (Some refusal) is = (is, besides)
+    on None is = tt
+refused_besides (Err fault) P Q besides is = tt
+
+-- another search isn't plain search
 abbrev IsOther : Search → Type 0
 IsOther Cbs = ⊥
-IsOther Cbsh = Unit {0}
+IsOther search = Unit {0}
 
-pub not_plain : (kind : Kind) → IsOfPlainSearch Cbsh (record { kind = kind; refused = None }) → ⊥
-not_plain kind (inl is) = subst IsOther is tt
-not_plain kind (inr some) = true≢false (sym some)
+pub not_plain : (search : Search) → search ≡ Cbsh → search ≢ Cbs
+not_plain search other plain = subst IsOther (sym other ∙ plain) tt

@@ -21,11 +21,11 @@ with_refusal (Err fault) refused = Err fault
 abbrev pub IsOfPlainSearch : Search → Answered → Type 0
 IsOfPlainSearch search answer = (search ≡ Cbs) ⊎ IsSome answer.refused
 
--- the answer and its two texts are true, whatever search found it, and follow the policy of plain search if it is plain
--- search's
-abbrev pub IsAnswerBy : Search → Instance → ℕ → Answered → List ℕ → List ℕ → Type 0
-IsAnswerBy search problem limit answer plan cert = Prints problem answer.kind plan cert
-    × (IsOfPlainSearch search answer → FollowsPolicy problem limit answer.kind plan cert)
+-- the answer and its two texts are true, whatever search found it, and follow the policy of plain search if another
+-- search's answer was refused before
+abbrev pub IsCheckedAnswer : Instance → ℕ → Answered → List ℕ → List ℕ → Type 0
+IsCheckedAnswer problem limit answer plan cert = Prints problem answer.kind plan cert
+    × (IsSome answer.refused → FollowsPolicy problem limit answer.kind plan cert)
 
 -- an answer that names a number of splits names the limit
 abbrev pub IsLimitedBy : ℕ → Kind → Type 0

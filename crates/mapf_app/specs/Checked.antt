@@ -1,15 +1,19 @@
 -- What a run that checks two texts refuses, and when it reads the certificate; and answers that are checked before they
 -- are written.
-use Rattle.std.specs.Prelude.{◌≡◌, ◌≤◌, ⊤, ℕ, List, Option, IfSome}
+use Rattle.std.specs.Prelude.{◌≡◌, ◌≢◌, ◌≤◌, ⊤, ℕ, List, Option, IfSome}
 use Rattle.mapf_app.specs.Problems.{SpellsProblem}
+use Rattle.mapf_app.specs.declared.checked.Unaccepted.{Unaccepted}
+use Rattle.mapf_app.specs.declared.checked.Unaccepted.TheVariants as unaccepted
 use Rattle.mapf_app.specs.declared.kind.Kind.{Kind}
 use Rattle.mapf_app.specs.declared.kind.Kind.TheVariants.{Found, Impossible, Limit}
 use Rattle.mapf_certificate.specs.Plans.{IsCauseInRange}
 use Rattle.mapf_certificate.specs.declared.plan_text.PlanAnswer.{PlanAnswer}
 use Rattle.mapf_certificate.specs.declared.plan_text.PlanAnswer.TheVariants as answers
+use Rattle.mapf_checker.specs.Faults.{HasNoTextMemory}
 use Rattle.mapf_checker.specs.Refusals.{HasRefusal}
 use Rattle.mapf_checker.specs.Verdict.{IsGoodPlan}
 use Rattle.mapf_checker.specs.declared.fault.CheckFault.{CheckFault}
+use Rattle.mapf_checker.specs.declared.fault.CheckFault.TheVariants as refusals
 use Rattle.mapf_checker.specs.declared.fault.Verdict.{Verdict}
 use Rattle.mapf_checker.specs.declared.fault.Verdict.TheVariants as verdicts
 use Rattle.mapf_model.specs.Limits.{greatest_sum}
@@ -41,3 +45,17 @@ IsKindOf verdict answer (Found cost) = verdict ≡ verdicts.Optimal cost
 IsKindOf verdict answer Impossible = verdict ≡ verdicts.Impossible
 IsKindOf verdict answer (Limit cause bound) =
     (verdict ≡ verdicts.Bound bound) × (says : ℕ) × (answer ≡ answers.Bounded cause says)
+
+-- why the check didn't accept an answer: it refused it, or memory ran out, which is no refusal
+abbrev pub of_check : CheckFault → Unaccepted
+of_check refusals.Memory = unaccepted.Memory
+of_check fault = unaccepted.Refused fault
+
+-- the refusal isn't out of memory, also not inside an error of a text
+abbrev pub HasNoCheckMemory : CheckFault → Type 0
+HasNoCheckMemory refusal = (refusal ≢ refusals.Memory) × HasNoTextMemory refusal
+
+-- the same, if an answer was refused
+abbrev pub HasNoRefusedMemory : Unaccepted → Type 0
+HasNoRefusedMemory (unaccepted.Refused refusal) = HasNoCheckMemory refusal
+HasNoRefusedMemory unaccepted.Memory = ⊤

@@ -2,7 +2,7 @@
 use Rattle.std.specs.Prelude.{◌≡◌, ◌≢◌, ℕ, List, Option, ⊤}
 use Rattle.mapf_model.specs.Grid.{GridMap}
 use Rattle.mapf_model.specs.Plan.{Instance}
-use Rattle.mapf_app.specs.Checked.{IsRefusalOf}
+use Rattle.mapf_app.specs.Checked.{HasNoCheckMemory, IsRefusalOf}
 use Rattle.mapf_app.specs.Dispatched.{HasEventsFault, IsDispatchDefect}
 use Rattle.mapf_app.specs.Planned.{HasPlanFault, IsOfPlanText, IsPlanDefect}
 use Rattle.mapf_app.specs.Problems.{IsMapDefect, IsAgentsDefect, IsScenarioDefect}
@@ -16,9 +16,7 @@ use Rattle.mapf_app.specs.declared.fault.Output.{Output}
 use Rattle.mapf_app.specs.declared.fault.Output.TheVariants.{Plan as PlanText, Cert as CertText, Out}
 use Rattle.mapf_certificate.specs.declared.plan_text.PlanTextFault.{PlanTextFault}
 use Rattle.mapf_certificate.specs.declared.plan_text.PlanTextFault.TheVariants as plan_faults
-use Rattle.mapf_checker.specs.Faults.{HasNoTextMemory}
 use Rattle.mapf_checker.specs.declared.fault.CheckFault.{CheckFault}
-use Rattle.mapf_checker.specs.declared.fault.CheckFault.TheVariants as refusals
 use Rattle.mapf_player.specs.declared.events.EventFault.{EventFault}
 use Rattle.mapf_player.specs.declared.events.EventFault.TheVariants as event_faults
 use Rattle.mapf_text.specs.declared.map_fault.MapFault.{MapFault}
@@ -231,7 +229,7 @@ HasNoInnerMemory (F3 fault) = HasNoPlayMemory fault
 HasNoInnerMemory (F4 input) = ⊤
 HasNoInnerMemory (F5 output) = ⊤
 HasNoInnerMemory F6 = ⊤
-HasNoInnerMemory (Refused refusal) = (refusal ≢ refusals.Memory) × HasNoTextMemory refusal
+HasNoInnerMemory (Refused refusal) = HasNoCheckMemory refusal
 
 -- a map's error as an error of a run
 abbrev pub fault_of_map : MapFault → Fault

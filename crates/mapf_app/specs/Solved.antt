@@ -50,9 +50,9 @@ Prints problem (Found cost) plan cert = PrintsOptimal problem cost plan cert
 Prints problem Impossible plan cert = PrintsImpossible problem plan cert
 Prints problem (Limit cause bound) plan cert = PrintsLimit problem cause bound plan cert
 
--- an answer and its two texts are these
-abbrev pub AreThese : Kind → List ℕ → List ℕ → Kind → List ℕ → List ℕ → Type 0
-AreThese kind plan cert answer plan_text cert_text = (answer ≡ kind) × (plan_text ≡ plan) × (cert_text ≡ cert)
+-- an answer and its two texts are exactly this kind of answer and these texts
+abbrev pub AreExactTexts : Kind → List ℕ → List ℕ → Kind → List ℕ → List ℕ → Type 0
+AreExactTexts kind plan cert answer plan_text cert_text = (answer ≡ kind) × (plan_text ≡ plan) × (cert_text ≡ cert)
 
 -- the bytes of the plan text
 abbrev pub plan_bytes : Instance → Solved → List ℕ

@@ -1,16 +1,16 @@
-//! The answers of the runs of `solve`, from the search to the sinks: that of plain search, and that of the stronger
-//! one, which is written only if the check accepts it. Nothing is written before all memory was allocated.
-ghost use Rattle.std.specs.Prelude.{◌≡◌, ◌≤◌, false, IfErr, IfOk};
-ghost use Rattle.mapf_app.specs.Answered.{IsAnswerBy, IsLimitedBy, with_refusal};
+//! The answers of the runs of `solve`, from the search to the sinks: that of plain search, and that of the second
+//! search, which is written only if the check accepts it. Nothing is written before all memory was allocated.
+ghost use Rattle.std.specs.Prelude.{◌≡◌, ◌≤◌, false, IfErr, IfOk, IfSome};
+ghost use Rattle.mapf_app.specs.Answered.{IsCheckedAnswer, IsLimitedBy, with_refusal};
+ghost use Rattle.mapf_app.specs.Checked.{HasNoCheckMemory};
 ghost use Rattle.mapf_app.specs.Faults.{IsOfWriting};
 ghost use Rattle.mapf_app.specs.Policy.{IsPlainAnswer};
 ghost use Rattle.mapf_app.specs.Runs.{ReportsSinks, WritesTexts};
-ghost use Rattle.mapf_app.specs.Solved.{AreThese, plan_bytes, cert_bytes};
+ghost use Rattle.mapf_app.specs.Solved.{AreExactTexts, plan_bytes, cert_bytes};
 ghost use Rattle.mapf_certificate.specs.Plans.{IsFew};
 ghost use Rattle.mapf_model.specs.Limits.{most_splits};
-ghost use Rattle.mapf_words.specs.declared.job.Search.TheVariants.{Cbsh};
 
-use crate::checked::{Checked, search_checked};
+use crate::checked::{Checked, Unaccepted, search_checked};
 use crate::fault::{Fault, Output};
 use crate::kind::Kind;
 use crate::solved::{Solved, solve_problem};
@@ -24,8 +24,8 @@ use std::alloc::Global;
 #[derive(Clone, Copy, Debug, PartialEq, Eq)]
 pub struct Answered {
     pub kind: Kind,
-    /// Why the check refused what the stronger search answered, so that this is the answer of plain search. It is a
-    /// defect of that search.
+    /// Why the check refused what the second search answered, so that this is the answer of plain search. It is a
+    /// defect of that search, and never `CheckFault::Memory`.
     pub refused: Option<CheckFault>,
 }
 
@@ -39,7 +39,7 @@ fn write_solved<P: Sink, C: Sink>(
     requires works { (P.has_failed plan_sink.old ≡ false) × (C.has_failed cert_sink.old ≡ false) }
     requires few { IsFew solved.now.text.answer }
     ensures texts { WritesTexts result
-        (AreThese solved.now.kind (plan_bytes problem.now solved.now) (cert_bytes problem.now solved.now))
+        (AreExactTexts solved.now.kind (plan_bytes problem.now solved.now) (cert_bytes problem.now solved.now))
         (P.contents plan_sink.old) (P.contents plan_sink.new) (C.contents cert_sink.old) (C.contents cert_sink.new) }
     ensures sinks { ReportsSinks result (P.has_failed plan_sink.new) (C.has_failed cert_sink.new)
         (plan_sink.new ≡ plan_sink.old) (cert_sink.new ≡ cert_sink.old) }
@@ -66,7 +66,7 @@ fn write_checked<P: Sink, C: Sink>(
 ) -> Result<Kind, Fault>
     requires works { (P.has_failed plan_sink.old ≡ false) × (C.has_failed cert_sink.old ≡ false) }
     ensures texts { WritesTexts result
-        (AreThese checked.now.kind checked.now.plan.items checked.now.cert.items)
+        (AreExactTexts checked.now.kind checked.now.plan.items checked.now.cert.items)
         (P.contents plan_sink.old) (P.contents plan_sink.new) (C.contents cert_sink.old) (C.contents cert_sink.new) }
     ensures sinks { ReportsSinks result (P.has_failed plan_sink.new) (C.has_failed cert_sink.new)
         (plan_sink.new ≡ plan_sink.old) (cert_sink.new ≡ cert_sink.old) }
@@ -120,8 +120,9 @@ pub fn with_refusal(
     }
 }
 
-/// Solves the problem by the stronger search in the same manner, but writes both texts only if the check accepts them.
-/// If it refuses them, they are dropped, and plain search solves the problem with the same limit.
+/// Solves the problem by the second search in the same manner, but writes both texts only if the check accepts them.
+/// If it refuses them, they are dropped, and plain search solves the problem with the same limit. If memory runs out
+/// before they are accepted or refused, no search answers.
 pub fn write_by_cbsh<W: Watcher, P: Sink, C: Sink>(
     alloc: Global,
     problem: &Problem,
@@ -132,17 +133,18 @@ pub fn write_by_cbsh<W: Watcher, P: Sink, C: Sink>(
 ) -> Result<Answered, Fault>
     requires works { (P.has_failed plan_sink.old ≡ false) × (C.has_failed cert_sink.old ≡ false) }
     requires few { limit ≤ most_splits }
-    ensures texts { WritesTexts result (IsAnswerBy Cbsh problem.now limit)
+    ensures texts { WritesTexts result (IsCheckedAnswer problem.now limit)
         (P.contents plan_sink.old) (P.contents plan_sink.new) (C.contents cert_sink.old) (C.contents cert_sink.new) }
     ensures sinks { ReportsSinks result (P.has_failed plan_sink.new) (C.has_failed cert_sink.new)
         (plan_sink.new ≡ plan_sink.old) (cert_sink.new ≡ cert_sink.old) }
     ensures limit { IfOk result (λ answer. IsLimitedBy limit answer.kind) }
+    ensures refused { IfOk result (λ answer. IfSome answer.refused HasNoCheckMemory) }
     ensures fault { IfErr result IsOfWriting }
 {
     match search_checked(alloc, problem, limit, watcher) {
         Ok(checked) => with_refusal(write_checked(&checked, plan_sink, cert_sink), None),
-        Err(CheckFault::Memory) => Err(Fault::F6),
-        Err(refusal) => with_refusal(
+        Err(Unaccepted::Memory) => Err(Fault::F6),
+        Err(Unaccepted::Refused(refusal)) => with_refusal(
             write_plain(alloc, problem, limit, watcher, plan_sink, cert_sink),
             Some(refusal),
         ),

@@ -2,10 +2,9 @@
 //! if the check accepts them. The run of `solve` by such a search writes what is returned here.
 ghost use Rattle.std.specs.Prelude.{◌≤◌, ℕ, IfOk, IfErr, IfSome};
 ghost use Rattle.mapf_app.specs.Answered.{IsLimitedBy};
-ghost use Rattle.mapf_app.specs.Checked.{IsBoundInRange, IsKindOf};
+ghost use Rattle.mapf_app.specs.Checked.{HasNoRefusedMemory, IsBoundInRange, IsKindOf};
 ghost use Rattle.mapf_app.specs.Solved.{Prints};
 ghost use Rattle.mapf_certificate.specs.Plans.{IsCauseInRange};
-ghost use Rattle.mapf_checker.specs.Faults.{HasNoTextMemory};
 ghost use Rattle.mapf_checker.specs.declared.fault.Verdict.{Verdict};
 ghost use Rattle.mapf_model.specs.Limits.{most_splits};
 
@@ -15,7 +14,7 @@ use mapf_certificate::laws::plans_are_spelled_apart;
 use mapf_certificate::{Cert, PlanAnswer, PlanText, Version, write_cert, write_plan};
 use mapf_checker::{CheckFault, Verdict, check, check_plan};
 use mapf_model::limits::GREATEST_SUM;
-use mapf_model::{Cause, Claim, Item, Problem, Watcher};
+use mapf_model::{Cause, Claim, Item, OutOfMemory, Problem, Watcher};
 use std::alloc::Global;
 
 /// An answer with its two texts, which the check accepted.
@@ -26,6 +25,41 @@ pub struct Checked {
     pub cert: Vec<u8>,
 }
 
+/// Why there is no answer of the second search that can be written. The variant `Memory` of `CheckFault` never occurs in
+/// here.
+#[derive(Clone, Copy, Debug, PartialEq, Eq)]
+pub enum Unaccepted {
+    /// The check refused the answer.
+    Refused(CheckFault),
+    /// Memory ran out while the answer was searched for, spelled or checked. That is no refusal.
+    Memory,
+}
+
+impl From<OutOfMemory> for Unaccepted {
+    ghost use Rattle.std.specs.Prelude.{◌≡◌};
+    ghost use Rattle.mapf_app.specs.declared.checked.Unaccepted.TheVariants.{Memory};
+
+    ghost from_gives = { λ _ given. given ≡ Memory };
+
+    fn from(_refused: OutOfMemory) -> Unaccepted {
+        Unaccepted::Memory
+    }
+}
+
+impl From<CheckFault> for Unaccepted {
+    ghost use Rattle.std.specs.Prelude.{◌≡◌};
+    ghost use Rattle.mapf_app.specs.Checked.{of_check};
+
+    ghost from_gives = { λ fault given. given ≡ of_check fault };
+
+    fn from(fault: CheckFault) -> Unaccepted {
+        match fault {
+            CheckFault::Memory => Unaccepted::Memory,
+            _ => Unaccepted::Refused(fault),
+        }
+    }
+}
+
 /// Searches by `cbsh` with at most `limit` splits, and checks the answer. Returns why it is refused otherwise, or that
 /// memory ran out.
 pub fn search_checked<W: Watcher>(
@@ -33,20 +67,17 @@ pub fn search_checked<W: Watcher>(
     problem: &Problem,
     limit: u32,
     watcher: &mut W,
-) -> Result<Checked, CheckFault>
+) -> Result<Checked, Unaccepted>
     requires { limit ≤ most_splits }
     ensures prints { IfOk result (λ checked.
         Prints problem.now checked.kind checked.plan.items checked.cert.items) }
     ensures limit { IfOk result (λ checked. IsLimitedBy limit checked.kind) }
-    ensures inner { IfErr result HasNoTextMemory }
+    ensures inner { IfErr result HasNoRefusedMemory }
 {
-    let Ok(outcome) = search_watched(alloc, problem, limit, watcher) else {
-        return Err(CheckFault::Memory);
-    };
-    match outcome {
+    match search_watched(alloc, problem, limit, watcher)? {
         Outcome::Found { plan, tree } => {
             if plan.paths().len() != problem.agents().len() {
-                return Err(CheckFault::C3);
+                return Err(Unaccepted::Refused(CheckFault::C3));
             }
             match check_plan(problem, &plan) {
                 Ok(sum) => judged(
@@ -56,7 +87,7 @@ pub fn search_checked<W: Watcher>(
                     Claim::Cost(sum),
                     tree,
                 ),
-                Err(fault) => Err(CheckFault::C5(fault)),
+                Err(fault) => Err(Unaccepted::Refused(CheckFault::C5(fault))),
             }
         }
         Outcome::Impossible { tree } => {
@@ -98,12 +129,12 @@ fn judged(
     answer: PlanAnswer,
     claim: Claim,
     tree: Vec<Item>,
-) -> Result<Checked, CheckFault>
+) -> Result<Checked, Unaccepted>
     requires { IsBoundInRange answer }
     ensures prints { IfOk result (λ checked.
         Prints problem.now checked.kind checked.plan.items checked.cert.items) }
     ensures kind { IfOk result (λ checked. (verdict : Verdict) × IsKindOf verdict answer checked.kind) }
-    ensures inner { IfErr result HasNoTextMemory }
+    ensures inner { IfErr result HasNoRefusedMemory }
 {
     plans_are_spelled_apart();
     // Calling `width` lets the prover use its contract, which says that the grid is well formed.
@@ -121,16 +152,12 @@ fn judged(
         claim,
         tree,
     };
-    let Ok(plan) = write_plan(alloc, &text, problem.grid()) else {
-        return Err(CheckFault::Memory);
-    };
-    let Ok(cert) = write_cert(alloc, &cert, problem.grid()) else {
-        return Err(CheckFault::Memory);
-    };
+    let plan = write_plan(alloc, &text, problem.grid())?;
+    let cert = write_cert(alloc, &cert, problem.grid())?;
     let verdict = check(alloc, problem, &plan, &cert)?;
     match kind_of(verdict, &text.answer) {
         Some(kind) => Ok(Checked { kind, plan, cert }),
-        None => Err(CheckFault::C4),
+        None => Err(Unaccepted::Refused(CheckFault::C4)),
     }
 }
 

@@ -1,17 +1,20 @@
 //! What the program prints for a verdict and for each error of a run, as one line. `tell.rt` and the demo write their
 //! lines here.
-ghost use Rattle.std.specs.Prelude.{◌≡◌, ◌≤◌, ℕ, false, Some, None, OnErr, OnOk, length, take};
+ghost use Rattle.std.specs.Prelude.{◌≡◌, ◌≤◌, ◌++◌, ◌⊎◌, ℕ, List, false, Some, None, OnErr, OnOk};
+ghost use Rattle.std.specs.Prelude.{codes, drop, length, take};
 ghost use Rattle.std.specs.Result.{is_err};
 ghost use Rattle.std.specs.Io.KnownBytes.{Appends};
 ghost use Rattle.mapf_app.specs.FaultLines.{cert_fault_line, event_fault_line, fault_line, map_fault_line};
 ghost use Rattle.mapf_app.specs.FaultLines.{plan_fault_line, plan_text_fault_line, play_fault_line};
 ghost use Rattle.mapf_app.specs.FaultLines.{refusal_line, scenario_fault_line};
-ghost use Rattle.mapf_app.specs.Told.{bound_text, defect_text, message_text, number_text, verdict_line};
+ghost use Rattle.mapf_app.specs.Told.{BeginsRefused, IsRefusedLine, bound_text, defect_text, message_text};
+ghost use Rattle.mapf_app.specs.Told.{number_text, rest_text, verdict_line};
 
 use crate::fault::{Fault, Input, Output, PlayFault};
 use itoa::Buffer;
 use mapf_certificate::{CertFault, PlanTextFault};
 use mapf_checker::{CheckFault, PlanFault, Verdict};
+use mapf_fields::strip;
 use mapf_model::{Failed, Sink, write_all};
 use mapf_player::EventFault;
 use mapf_text::{MapFault, ScenFault};
@@ -151,7 +154,9 @@ fn scenario_line(fault: ScenFault) -> Line
 }
 
 fn refusal_line(refusal: CheckFault) -> Line
-    ensures { message_text result ≡ refusal_line refusal }
+    ensures text { message_text result ≡ refusal_line refusal }
+    ensures words { (rest : List ℕ) → refusal_line refusal ≡ codes "refused " ++ rest
+        → BeginsRefused result.words.now }
 {
     match refusal {
         CheckFault::C1(fault) => plan_text_line("refused C1", fault),
@@ -168,7 +173,8 @@ fn refusal_line(refusal: CheckFault) -> Line
 }
 
 fn plan_text_line(words: &'static str, fault: PlanTextFault) -> Line
-    ensures { message_text result ≡ plan_text_fault_line words.entry.now fault }
+    ensures text { message_text result ≡ plan_text_fault_line words.entry.now fault }
+    ensures words { (fault ≡ PlanTextFault.Memory) ⊎ (result.words ≡ words.entry) }
 {
     match fault {
         PlanTextFault::P1(line) => Line::of(words).naming("P1").with(line),
@@ -180,7 +186,8 @@ fn plan_text_line(words: &'static str, fault: PlanTextFault) -> Line
 }
 
 fn certificate_line(fault: CertFault) -> Line
-    ensures { message_text result ≡ cert_fault_line fault }
+    ensures text { message_text result ≡ cert_fault_line fault }
+    ensures words { (fault ≡ CertFault.Memory) ⊎ BeginsRefused result.words.now }
 {
     match fault {
         CertFault::K1(line) => Line::of("refused C2 K1").with(line),
@@ -192,7 +199,8 @@ fn certificate_line(fault: CertFault) -> Line
 }
 
 fn plan_line(words: &'static str, fault: PlanFault) -> Line
-    ensures { message_text result ≡ plan_fault_line words.entry.now fault }
+    ensures text { message_text result ≡ plan_fault_line words.entry.now fault }
+    ensures words { result.words ≡ words.entry }
 {
     let line = Line::of(words);
     match fault {
@@ -274,6 +282,23 @@ fn write_bound<K: Sink>(sink: &mut K, bound: Option<u64>) -> Result<(), Failed>
     write_number(sink, Some(bound))
 }
 
+// Writes what a line says after its words, and then this end of the line.
+fn write_rest<K: Sink>(sink: &mut K, line: &Line, end: &[u8]) -> Result<(), Failed>
+    requires { K.has_failed sink.old ≡ false }
+    ensures text { OnOk result (Appends (K.contents sink.old) (K.contents sink.new) (rest_text line.now end.now)) }
+    ensures failed { K.has_failed sink.new ≡ is_err result }
+    ensures prefix { OnErr result ((n : ℕ) × (n ≤ length (rest_text line.now end.now))
+        × Appends (K.contents sink.old) (K.contents sink.new) (take n (rest_text line.now end.now))) }
+{
+    let (first, second, third) = line.numbers;
+    write_defect(sink, line.defect)?;
+    write_number(sink, first)?;
+    write_number(sink, second)?;
+    write_number(sink, third)?;
+    write_bound(sink, line.bound)?;
+    write_all(sink, end)
+}
+
 /// Writes the line with its LF.
 pub fn write_line<K: Sink>(sink: &mut K, line: &Line) -> Result<(), Failed>
     requires { K.has_failed sink.old ≡ false }
@@ -282,29 +307,29 @@ pub fn write_line<K: Sink>(sink: &mut K, line: &Line) -> Result<(), Failed>
     ensures prefix { OnErr result ((n : ℕ) × (n ≤ length (message_text line.now))
         × Appends (K.contents sink.old) (K.contents sink.new) (take n (message_text line.now))) }
 {
-    let (first, second, third) = line.numbers;
     write_all(sink, line.words.as_bytes())?;
-    write_defect(sink, line.defect)?;
-    write_number(sink, first)?;
-    write_number(sink, second)?;
-    write_number(sink, third)?;
-    write_bound(sink, line.bound)?;
-    write_all(sink, b"\n")
+    write_rest(sink, line, b"\n")
 }
 
-/// Writes the line that says that the check refused what the stronger search answered, and why.
+// Returns the words of a refusal's line without the first of them.
+fn code_of(words: &[u8]) -> &[u8]
+    ensures { BeginsRefused words.now → result.now ≡ drop 8 words.now }
+{
+    strip(words, b"refused ").unwrap_or(words)
+}
+
+/// Writes the line that says that the check refused what the second search answered, with the code of the refusal as
+/// `check` prints it.
 pub fn write_refused<K: Sink>(sink: &mut K, refusal: CheckFault) -> Result<(), Failed>
     requires { K.has_failed sink.old ≡ false }
+    ensures text { (text : List ℕ) → IsRefusedLine refusal text
+        → OnOk result (Appends (K.contents sink.old) (K.contents sink.new) text) }
     ensures failed { K.has_failed sink.new ≡ is_err result }
+    ensures prefix { (text : List ℕ) → IsRefusedLine refusal text
+        → OnErr result ((n : ℕ) × (n ≤ length text) × Appends (K.contents sink.old) (K.contents sink.new) (take n text)) }
 {
-    let line = Line::of_fault(Fault::Refused(refusal));
-    let code = line.words.strip_prefix("refused ").unwrap_or(line.words);
-    let (first, second, third) = line.numbers;
+    let line = refusal_line(refusal);
     write_all(sink, b"mapf: the answer of cbsh was refused (")?;
-    write_all(sink, code.as_bytes())?;
-    write_defect(sink, line.defect)?;
-    write_number(sink, first)?;
-    write_number(sink, second)?;
-    write_number(sink, third)?;
-    write_all(sink, b"); this is the answer of cbs\n")
+    write_all(sink, code_of(line.words.as_bytes()))?;
+    write_rest(sink, &line, b"); this is the answer of cbs\n")
 }

@@ -1,8 +1,8 @@
-//! The run of `solve` by a search of the user's choice. What the stronger search answers is checked before it is
-//! written.
-ghost use Rattle.std.specs.Prelude.{◌≡◌, ◌≤◌, ℕ, List, false, IfErr, IfOk, IfSome, IsSome, MatchResult};
+//! The run of `solve` by a search of the user's choice. What the second search answers is checked before it is written.
+ghost use Rattle.std.specs.Prelude.{◌≡◌, ◌≢◌, ◌≤◌, ℕ, List, false, IfErr, IfOk, IfSome, IsSome, MatchResult};
 ghost use Rattle.std.specs.Io.KnownBytes.{Appends};
 ghost use Rattle.mapf_app.specs.Answered.{IsLimitedBy, IsOfPlainSearch};
+ghost use Rattle.mapf_app.specs.Checked.{HasNoCheckMemory};
 ghost use Rattle.mapf_app.specs.Faults.{HasNoInnerMemory, IsOfDevices, IsOfMap, IsSolving};
 ghost use Rattle.mapf_app.specs.Headline.{PrintsTruly};
 ghost use Rattle.mapf_app.specs.Order.{HasReadGrid};
@@ -12,7 +12,7 @@ ghost use Rattle.mapf_app.specs.Runs.{ReportsSinks, WritesTexts, ReportsSource, 
 ghost use Rattle.mapf_app.specs.Solved.{Prints};
 ghost use Rattle.mapf_model.specs.Limits.{most_agents, most_splits, most_text_bytes};
 ghost use Rattle.mapf_model.specs.Plan.{Instance};
-ghost use Rattle.mapf_words.specs.declared.job.Search.TheVariants.{Cbsh};
+ghost use Rattle.mapf_words.specs.declared.job.Search.TheVariants.{Cbs};
 
 use crate::answer_writer::{Answered, with_refusal, write_by_cbsh, write_plain};
 use crate::fault::{Fault, Input};
@@ -35,8 +35,8 @@ pub struct Asked<'w, W: Watcher> {
 
 /// Solves the problem of the first agents of a scenario by the search that is asked for, and writes the plan text and
 /// then the certificate, both in version 2. Reads the map and then the scenario. Nothing is written before all memory
-/// was allocated. What the stronger search answers is checked before it is written; if it is refused, plain search
-/// solves the problem with the same limit.
+/// was allocated. What the second search answers is checked before it is written; if it is refused, plain search solves
+/// the problem with the same limit.
 pub fn run_solve_by<W: Watcher, M: Source, S: Source, P: Sink, C: Sink>(
     alloc: Global,
     map: &mut M,
@@ -61,9 +61,9 @@ pub fn run_solve_by<W: Watcher, M: Source, S: Source, P: Sink, C: Sink>(
         (P.contents plan_sink.old) (P.contents plan_sink.new) (C.contents cert_sink.old) (C.contents cert_sink.new) }
     // An answer that names a number of splits names the limit.
     ensures limit { IfOk result (λ answer. IsLimitedBy asked.entry.limit answer.kind) }
-    // Nothing is refused before the answer unless the stronger search was asked for.
+    // Nothing is refused before the answer if plain search was asked for. Want of memory is no refusal.
     ensures refused { IfOk result (λ answer. IfSome answer.refused
-        (λ _. asked.entry.search ≡ Cbsh)) }
+        (λ refusal. HasNoCheckMemory refusal × (asked.entry.search ≢ Cbs))) }
     // If the map and the scenario spell a problem, it is answered, unless a device or memory prevents it.
     ensures due { (problem : Instance) → IsSome (M.remaining map.old) → IsSome (S.remaining scen.old) →
         SpellsProblem (M.remaining map.old) (S.remaining scen.old) asked.entry.k problem →

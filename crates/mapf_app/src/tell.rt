@@ -1,15 +1,16 @@
 //! How a run ends for the user: its line, on standard output or standard error, and its exit status. The program calls
 //! this after each run.
-ghost use Rattle.std.specs.Prelude.{◌≡◌, false, None, IfOk, IfErr, OnOk, MatchBool, if◌then◌else◌};
+ghost use Rattle.std.specs.Prelude.{◌≡◌, ℕ, List, false, None, IfOk, IfErr, IfSome, OnOk, MatchBool, if◌then◌else◌};
 ghost use Rattle.std.specs.Result.{is_err};
 ghost use Rattle.mapf_app.specs.FaultLines.{fault_line};
-ghost use Rattle.mapf_app.specs.Told.{Tells, is_refusal, kind_status, kind_line, message_text, verdict_line};
+ghost use Rattle.mapf_app.specs.Told.{Gets, IsRefusedLine, Tells, is_refusal, kind_status, kind_line, message_text};
+ghost use Rattle.mapf_app.specs.Told.{verdict_line};
 
 use crate::answer_writer::Answered;
 use crate::fault::Fault;
 use crate::kind::Kind;
 use crate::line::{Line, write_line, write_refused};
-use mapf_checker::Verdict;
+use mapf_checker::{CheckFault, Verdict};
 use mapf_model::{Cause, Failed, Sink};
 
 // The exit statuses.
@@ -71,8 +72,21 @@ pub fn tell_solve<O: Sink, E: Sink>(answer: &Result<Kind, Fault>, out: &mut O, e
     }
 }
 
+// Says on `err` that the answer of the second search was refused, and why, if it was. If that can't be written, the
+// answer is told all the same.
+fn tell_refused<E: Sink>(refused: Option<CheckFault>, err: &mut E)
+    requires { E.has_failed err.old ≡ false }
+    ensures quiet { refused ≡ None → err.new ≡ err.old }
+    ensures line { IfSome refused (λ refusal. (text : List ℕ) → IsRefusedLine refusal text
+        → Gets (E.has_failed err.new) (E.contents err.old) (E.contents err.new) text) }
+{
+    if let Some(refusal) = refused {
+        let _ = write_refused(err, refusal);
+    }
+}
+
 /// Prints the answer of a solving run by a search of the user's choice, as `tell_solve` does. If the answer of the
-/// stronger search was refused, a line on `err` says so first, and why.
+/// second search was refused, a line on `err` says so first, and why.
 pub fn tell_solve_by<O: Sink, E: Sink>(
     answer: &Result<Answered, Fault>,
     out: &mut O,
@@ -83,16 +97,16 @@ pub fn tell_solve_by<O: Sink, E: Sink>(
     // The answer is printed on `out`.
     ensures answer { IfOk answer.now (λ given. Tells (O.has_failed out.new) (O.contents out.old) (O.contents out.new)
         (kind_line given.kind) (kind_status given.kind) result) }
-    // Unless an answer was refused, `err` isn't called.
+    // If an answer was refused, `err` gets the line that says so. Else it isn't called.
+    ensures refused { IfOk answer.now (λ given. IfSome given.refused (λ refusal. (text : List ℕ)
+        → IsRefusedLine refusal text → Gets (E.has_failed err.new) (E.contents err.old) (E.contents err.new) text)) }
     ensures quiet { IfOk answer.now (λ given. given.refused ≡ None → err.new ≡ err.old) }
     ensures fault { IfErr answer.now (λ fault. (out.new ≡ out.old)
         × Tells (E.has_failed err.new) (E.contents err.old) (E.contents err.new) (fault_line fault) 2 result) }
 {
     match answer {
         Ok(Answered { kind, refused }) => {
-            if let Some(refusal) = refused {
-                let _ = write_refused(err, *refusal);
-            }
+            tell_refused(*refused, err);
             let (line, status) = kind_line(*kind);
             told(write_line(out, &line), status)
         }

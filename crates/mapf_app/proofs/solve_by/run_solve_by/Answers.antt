@@ -1,9 +1,8 @@
 use Rattle.std.proofs.Common.{◌≡◌, Ok, None, ⊎_elim, subst}
 use Rattle.mapf_model.specs.Plan.{Instance}
-use Rattle.mapf_app.specs.Answered.{IsOfPlainSearch}
+use Rattle.mapf_app.specs.Checked.{HasNoCheckMemory}
 use Rattle.mapf_app.specs.Solved.{Prints}
-use Rattle.mapf_words.specs.declared.job.Search.{Search}
-use Rattle.mapf_app.proofs.SolveLemmas.{answered_fault, answered_limit, answered_sinks, answered_texts, due_of, each_error, no_inner, none_refused, scenario_told, solving, source_told, weaker}
+use Rattle.mapf_app.proofs.SolveLemmas.{answered_fault, answered_limit, answered_sinks, answered_texts, due_of, each_error, no_inner, none_refused, not_plain, refused_besides, scenario_told, solving, source_told, weaker}
 use Rattle.mapf_app.proofs.solve_by.run_solve_by.Goals as goal
 
 pub returns-in-Cbs-clause-printed : goal.returns-in-Cbs-clause-printed
@@ -58,8 +57,11 @@ returns-clause-printed g c = weaker _ _ _ _ _ _ _ (λ answer plan cert is. recor
 pub returns-clause-policy : goal.returns-clause-policy
 returns-clause-policy g c = weaker _ _ _ _ _ _ _ (λ answer plan cert is. λ plain. record {
   truly = record { problem = c.in_ok-problem.problem; posed = c.in_ok-problem.ensures.posed; read = c.in_ok-problem.ensures.found; printed = is.0 };
-  policy = is.1 (subst (λ (s : Search). IsOfPlainSearch s answer) c.in-Cbsh.is plain);
+  policy = is.1 (⊎_elim (λ cbs. absurd (not_plain c.args.asked.search c.in-Cbsh.is cbs)) (λ some. some) plain);
 }) c.write_by_cbsh.ensures.texts
+
+pub returns-clause-refused : goal.returns-clause-refused
+returns-clause-refused g c = refused_besides c.write_by_cbsh.result HasNoCheckMemory _ (not_plain c.args.asked.search c.in-Cbsh.is) c.write_by_cbsh.ensures.refused
 
 pub returns-clause-due : goal.returns-clause-due
 returns-clause-due g c asked map_told scen_told read =
