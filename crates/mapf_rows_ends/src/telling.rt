@@ -59,13 +59,13 @@ fn tell_into_memory(alloc: Global, answer: &Answer) -> Result<Told, OutOfMemory>
 }
 
 // The expected status, and the texts on both sinks.
-type Expected = (u8, &'static str, &'static str);
+type Expected<'a> = (u8, &'a str, &'a str);
 
 fn assert_told(
     rt: &impl Abort,
     alloc: Global,
     answer: &Answer,
-    expected: Expected,
+    expected: Expected<'_>,
 ) -> Result<(), Fail> {
     let told = tell_into_memory(alloc, answer)?;
     let (status, line, fault) = expected;
@@ -203,7 +203,7 @@ fn tells_refusals_as_answers(rt: HostRuntime) -> Result<(), Fail> {
     Ok(())
 }
 
-// What the check refused of the stronger search, and how the line says so.
+// What the check refused of the second search, and how the line says so.
 const REFUSED_BEFORE: &[(CheckFault, &str)] = &[
     (
         CheckFault::C1(PlanTextFault::P3(2)),
@@ -239,6 +239,54 @@ fn tells_that_an_answer_was_refused(rt: HostRuntime) -> Result<(), Fail> {
             refused: Some(*refusal),
         }));
         assert_told(&rt, rt.alloc(), &answer, (0, "cost 5\n", line))?;
+    }
+    Ok(())
+}
+
+// The line has the code of each refusal as `check` prints it.
+fn assert_code_told(
+    rt: &impl Abort,
+    alloc: Global,
+    refusal: CheckFault,
+    line: &str,
+) -> Result<(), Fail> {
+    let code = line.strip_prefix("refused ").ok_or("no refusal")?;
+    let code = code.strip_suffix("\n").ok_or("no line")?;
+    let said = format!(in alloc;
+        "mapf: the answer of cbsh was refused ({code}); this is the answer of cbs\n"
+    )?;
+    let answer = Answer::SearchBy(Ok(Answered {
+        kind: Kind::Impossible,
+        refused: Some(refusal),
+    }));
+    assert_told(rt, alloc, &answer, (3, "impossible\n", &said))
+}
+
+#[test]
+fn tells_each_refusal_of_the_second_search(rt: HostRuntime) -> Result<(), Fail> {
+    for (refusal, line) in REFUSALS {
+        assert_code_told(&rt, rt.alloc(), *refusal, line)?;
+    }
+    Ok(())
+}
+
+// Where the line can't be written whole, the answer is told all the same.
+fn assert_answered_after(rt: &impl Abort, alloc: Global, calls: u64) -> Result<(), Fail> {
+    let answer = Answer::SearchBy(Ok(Answered {
+        kind: Kind::Found(5),
+        refused: Some(CheckFault::C8(12)),
+    }));
+    let mut out = BytesSink::with_room(alloc, ROOM)?;
+    let mut err = FuseSink::with_room(alloc, ROOM, Pace::ByteByByte, Some(calls))?;
+    let status = tell(&answer, &mut out, &mut err);
+    assert_eq!(rt; (status, out.bytes()), (0, "cost 5\n".as_bytes()));
+    Ok(())
+}
+
+#[test]
+fn answers_where_a_refusal_cannot_be_told(rt: HostRuntime) -> Result<(), Fail> {
+    for calls in 0..80 {
+        assert_answered_after(&rt, rt.alloc(), calls)?;
     }
     Ok(())
 }
@@ -465,7 +513,7 @@ fn assert_search_told(
     alloc: Global,
     given: &Given,
     limit: u32,
-    expected: Expected,
+    expected: Expected<'_>,
 ) -> Result<(), Fail> {
     assert!(rt; 1 <= given.k && given.k <= 200 && limit <= 100_000);
     let solved = solve(alloc, given, limit)?;
@@ -486,7 +534,7 @@ fn assert_check_told(
     alloc: Global,
     given: &Given,
     texts: (&str, &str),
-    expected: Expected,
+    expected: Expected<'_>,
 ) -> Result<(), Fail> {
     assert!(rt; 1 <= given.k && given.k <= 200);
     let answer = check(alloc, given, texts.0.as_bytes(), texts.1.as_bytes());
