@@ -25,8 +25,8 @@ pub struct Checked {
     pub cert: Vec<u8>,
 }
 
-/// Why there is no answer of the second search that can be written. The variant `Memory` of `CheckFault` never occurs in
-/// here.
+/// Why there is no answer of the second search that can be written. The variant `Memory` of `CheckFault` never
+/// occurs in here.
 #[derive(Clone, Copy, Debug, PartialEq, Eq)]
 pub enum Unaccepted {
     /// The check refused the answer.

@@ -326,7 +326,8 @@ pub fn write_refused<K: Sink>(sink: &mut K, refusal: CheckFault) -> Result<(), F
         → OnOk result (Appends (K.contents sink.old) (K.contents sink.new) text) }
     ensures failed { K.has_failed sink.new ≡ is_err result }
     ensures prefix { (text : List ℕ) → IsRefusedLine refusal text
-        → OnErr result ((n : ℕ) × (n ≤ length text) × Appends (K.contents sink.old) (K.contents sink.new) (take n text)) }
+        → OnErr result ((n : ℕ) × (n ≤ length text)
+        × Appends (K.contents sink.old) (K.contents sink.new) (take n text)) }
 {
     let line = refusal_line(refusal);
     write_all(sink, b"mapf: the answer of cbsh was refused (")?;
