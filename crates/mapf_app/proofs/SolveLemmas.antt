@@ -7,7 +7,6 @@ use Rattle.std.proofs.lemmas.List.{take_at}
 use Rattle.mapf_app.specs.Answered.{IsLimitedBy, with_refusal}
 use Rattle.mapf_app.specs.Faults.{HasNoInnerMemory, IsOfDevices, IsOfMap, IsOfWriting, IsSolving}
 use Rattle.mapf_app.specs.Runs.{ReportsLaterSource, ReportsSinks, ReportsSource, WritesTexts}
-use Rattle.mapf_app.specs.Solved.{AreExactTexts}
 use Rattle.mapf_app.specs.declared.answer_writer.Answered.{Answered}
 use Rattle.mapf_app.specs.declared.fault.Fault.{Fault}
 use Rattle.mapf_app.specs.declared.fault.Fault.TheVariants.{F1, F2, F3, F4, F5, F6, Refused}
@@ -75,11 +74,6 @@ weaker (Err fault) P Q a b c d also w = record {
   plan_front = λ of. let (answer, plan, cert, n, is, wrote) = w.plan_front of in (answer, plan, cert, n, also answer plan cert is, wrote);
   cert_front = λ of. let (answer, plan, cert, n, is, wrote, wrote_too) = w.cert_front of in (answer, plan, cert, n, also answer plan cert is, wrote, wrote_too);
 }
-
--- these two texts are of the kind that they are known to be of
-pub of_these : (result : Result Kind Fault) (kind : Kind) (plan cert : List ℕ) (Q : Kind → List ℕ → List ℕ → Type 0) (a b c d : Option (List ℕ)) → Q kind plan cert → WritesTexts result (AreExactTexts kind plan cert) a b c d → WritesTexts result Q a b c d
-of_these result kind plan cert Q a b c d is w =
-    weaker result (AreExactTexts kind plan cert) Q a b c d (λ answer p q same. rw (same.0, same.1, same.2) is) w
 
 -- an error of writing is one of a device
 devices : (fault : Fault) → IsOfWriting fault → IsOfDevices fault
