@@ -1,4 +1,4 @@
-"""The faults of faults/: edits that make the second search wrong, in the form of mutants, in a folder for each crate."""
+"""The faults of faults/: edits that make the second search wrong, in the form of mutants, a folder for each crate."""
 
 from dataclasses import dataclass
 
