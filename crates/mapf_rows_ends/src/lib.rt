@@ -4,4 +4,6 @@
 #[cfg(test)]
 mod failing;
 #[cfg(test)]
+mod failing_by;
+#[cfg(test)]
 mod telling;
