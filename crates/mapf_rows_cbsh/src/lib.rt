@@ -4,6 +4,8 @@
 #[cfg(test)]
 mod exhaustive;
 #[cfg(test)]
+mod memory;
+#[cfg(test)]
 mod searching;
 #[cfg(test)]
 mod texts;
