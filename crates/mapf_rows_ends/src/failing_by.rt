@@ -1,4 +1,4 @@
-//! Runs of the stronger search whose sinks are full, or fail at any push, once the answer was checked.
+//! Runs of the second search whose sinks are full, or fail at any push, once the answer was checked.
 
 ghost use Rattle.std.specs.Prelude.{◌≡◌, ◌≤◌, false, IfOk};
 
@@ -45,7 +45,7 @@ fn failing_sink(alloc: Global, how: Failing, bytes: usize) -> Result<FuseSink, O
     }
 }
 
-// A run of the stronger search into these sinks.
+// A run of the second search into these sinks.
 fn solve_into(
     alloc: Global,
     given: &Given,
