@@ -36,7 +36,7 @@ returns-in_default c =
     let s = c.loop-k.invariant.state in
     let e = c.deref-in_default.ensures.value in
     let none = least_at None c.deref-in-loop-k.ensures.value c.deref-in-loop-k-2.ensures.value c.in_default.ensures in
-    let at_end : IsExhausted problem c.args.limit c.in_ok-lists.lists.items t.statuses.items = whole_exhausted s c.args.limit c.loop-k.invariant.within none c.args.paths.items c.requires.root (c.in_ok-lists.ensures s.state.views s.whole) in
+    let at_end : IsExhausted problem c.args.limit c.in_ok-lists.lists.items t.statuses.items = whole_exhausted s c.args.limit c.loop-k.invariant.within none c.args.paths.items c.requires.root c.in_ok-lists.lists.items (c.in_ok-lists.ensures s.state.views s.whole) in
     IfOk-weaker c.impossible.result _ _ (λ outcome said. said problem c.args.limit (rw e at_end)) c.impossible.ensures
 
 pub plan-requires : goal.plan-requires
