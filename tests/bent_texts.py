@@ -21,7 +21,7 @@ def of_line(change):
 
 
 IS_PLAN_TEXT = 'name == "C1 P"'
-TITLES = 'self.take([f"{word} 1", f"{word} 2"], {})'
+TITLES = '[f"{word} {version}" for version in range(1, versions + 1)]'
 
 LINES = {
     "takes the last line without its LF": [
@@ -47,8 +47,8 @@ LINES = {
     "ignores comments": [of_text(r're.sub(rb"\n#.*", b"", text)')],
     "ignores a byte order mark": [of_text(r'text.removeprefix(b"\xef\xbb\xbf")')],
     "takes capitals for small letters": [of_line("line.lower()")],
-    "takes any title": [(TITLES, 'self.take([".* 1", ".* 2"], {})')],
-    "takes any version for the second": [(TITLES, 'self.take([f"{word} 1", f"{word}.*"], {})')],
+    "takes any title": [(TITLES, '[".* 1", ".* 2"]')],
+    "takes any version for the second": [(TITLES, '[f"{word} 1", f"{word}.*"]')],
     "needs no title": [of_text(
         rf'text if text[:4] == b"mapf" else (b"mapf-plan 2\n" if {IS_PLAN_TEXT} else b"mapf-cert 2\n") + text')],
     "needs no number of agents": [of_text(
@@ -76,7 +76,7 @@ CELLS_OF_SPLIT = "    cells = list(zip(pairs[0::2], pairs[1::2]))\n"
 
 NUMBERS = {
     "takes leading zeros": [(NUMBER, 'NUMBER = "([0-9]+)"'), (LABEL, '"(inf|[0-9]+)"')],
-    "takes leading zeros in the version": [(TITLES, 'self.take([f"{word} 0*1", f"{word} 0*2"], {})')],
+    "takes leading zeros in the version": [(TITLES, '[f"{word} 0*1", f"{word} 0*2"]')],
     "takes a plus sign": [(NUMBER, r'NUMBER = r"(\+?0|\+?[1-9][0-9]*)"'), (LABEL, r'r"(\+?inf|\+?[1-9][0-9]*|0)"'),
                           ('if word == "inf" else', 'if word.endswith("inf") else')],
     "takes a minus sign before 0": [(NUMBER, 'NUMBER = "(-?0|[1-9][0-9]*)"'),
@@ -121,8 +121,8 @@ LIMIT_OF_VERSION_1 = '("limit" if version == 1 else "bound",'
 NO_LIMIT_OF_VERSION_1 = LIMIT_OF_VERSION_1, '("bound",'
 FIT = '(claim.split(" ")[1], numbers[0] if numbers else None) != answer'
 KIND, TOLD = 'claim.split(" ")[1] != answer[0]', "[] if answer[1] is None else [answer[1]]"
-PLAN_TITLE = '    version = lines.title("mapf-plan")\n'
-CERT_TITLE = '    version = lines.title("mapf-cert")\n'
+PLAN_TITLE = '    version = lines.title("mapf-plan", 2)\n'
+CERT_TITLE = '    version = lines.title("mapf-cert", 3)\n'
 
 
 def with_answer(version, answer):

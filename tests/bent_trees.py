@@ -10,7 +10,7 @@ from bent_texts import LABEL, SUM, of_line
 CLAIMS_1 = '1: ["claim cost C", "claim impossible"]'
 ITEMS_1 = '1: ["vertex I J x,y T", "swap I J x,y x,y T", "leaf N", "clash I J"]'
 ITEMS_2 = '2: ["vertex I J x,y T N", "swap I J x,y x,y T N", "leaf N", "clash I J"]'
-SHAPE = 'found[0] == "L" else NUMBER, shape)'
+SHAPE = 'found[0] in "LP" else NUMBER, shape)'
 OUT_OF_PLACE = "        self.refuse_if(wanted is not None and shape not in wanted, 1)\n"
 SKIPPED = ("        if wanted is not None and shape not in wanted and shape in (BLOCK, ENTRY):\n"
            "            return self.take(shapes, ranges, wanted)\n")
@@ -41,7 +41,7 @@ LINES = {
         (ITEMS_1, ITEMS_1[:-1] + ', "vertex I J x,y T N", "swap I J x,y x,y T N"]')],
     "takes a leaf without a number of blocks": [(ITEMS_2, ITEMS_2[:-1] + ', "leaf"]')],
     "takes a space for the comma of a pair": [(SHAPE, SHAPE + '.replace(",", "[ ,]")')],
-    "takes inf for the tick of a split": [(SHAPE, SHAPE.replace('== "L"', 'in "LT"'))],
+    "takes inf for the tick of a split": [(SHAPE, SHAPE.replace('"LP"', '"LT"'))],
     "takes other words for inf": [(LABEL, LABEL.replace("inf", "inf|infinity|nan|-1")),
                                   ('if word == "inf" else', 'if word in ("inf", "infinity", "nan", "-1") else')],
     "takes later ticks of splits": [('"T": (0, 999_999)', '"T": (0, 9_999_999)')],
