@@ -36,3 +36,31 @@ def in_version_one(certificate):
     if len(SPLIT.findall(certificate)) != len(BARE_SPLIT.findall(certificate)):
         return None
     return TITLE + BARE_SPLIT.sub(rb"\1", certificate.removeprefix(TITLE_TWO))
+
+
+def in_version_three(certificate):
+    """The text of version 2 with each block as a lemma of one agent, under the constraints of the agent at its node. A
+    leaf uses of each agent the deepest. The text has to be of the grammar.
+    """
+    head, lines = certificate.decode().split("\n")[:3], iter(certificate.decode().split("\n")[3:])
+    lemmas, tree = [], []
+    due = [([], {})]        # Of each node to come, what the splits above constrain, and the agents' deepest lemmas.
+    while due:
+        constraints, deepest = due.pop()
+        kind, *words = next(lines).split(" ")
+        deepest = dict(deepest)
+        for _ in range(0 if kind == "clash" else int(words.pop())):
+            _, agent, count = next(lines).split(" ")
+            own = sorted({f"not {agent} {place}" for of_agent, place in constraints if of_agent == agent})
+            deepest[agent] = len(lemmas)
+            lemmas.append([f"one {agent} {len(own)} {count} -", *own, *(next(lines) for _ in range(int(count)))])
+        if kind == "leaf":
+            tree += [f"leaf {len(deepest)} 0 -", *(f"use {lemma}" for lemma in sorted(deepest.values()))]
+            continue
+        tree.append(" ".join([kind, *words]))
+        if kind != "clash":
+            one, other, *cells, tick = words
+            due += [([*constraints, (other, " ".join([*reversed(cells), tick]))], deepest),
+                    ([*constraints, (one, " ".join([*cells, tick]))], deepest)]
+    text = ["mapf-cert 3", *head[1:], "prices 0", f"lemmas {len(lemmas)}", *sum(lemmas, []), *tree, *lines]
+    return "\n".join(text).encode()

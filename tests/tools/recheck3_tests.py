@@ -1,5 +1,6 @@
 """Tries tools/recheck on certificates of version 3 that are written by hand, in recheck3_texts.py and in
-recheck3_tree_texts.py: on each it has to say what stands there.
+recheck3_tree_texts.py: on each it has to say what stands there. It has to accept each vector of rules/check in version
+3, as in version 2, or refuse it.
 """
 
 import re
@@ -9,6 +10,11 @@ from pathlib import Path
 from commands import command
 from recheck3_texts import JUDGED_ALONE, PLAIN, PROBLEMS
 from recheck3_tree_texts import JUDGED_IN_TREES, PLANS, RANGES, SHAPES
+from rule_vectors import vectors_of
+from versions import TITLE_TWO, in_version_three
+
+# This vector claims a bound beside a plan, which fits in version 3 alone.
+FITS = "fit-claim-of-a-bound-beside-a-plan"
 
 LEMMAS = ("one", "two", "never", "cases")
 CODES = {"K": "C2 ", "C": ""}
@@ -24,6 +30,10 @@ def tests(tally):
             tally.add(f"recheck 3, {kind}, {problem}: {title}", faults(recheck, folder / problem, text))
         for number, line, wanted in lines():
             tally.add(f"recheck 3, line {line}", line_faults(recheck, folder / "three", number, line, wanted))
+        for vector in vectors_of("check"):
+            is_text = vector.texts[-1].startswith(TITLE_TWO) and not vector.wanted.startswith("refused C2")
+            if is_text and vector.name != FITS:
+                tally.add(f"recheck 3, {vector.name} in version 3", vector_faults(recheck, folder / "cert", vector))
 
 
 def texts():
@@ -89,6 +99,15 @@ def answer_faults(recheck, folder, plan, lines, wanted):
     if (said, status) == (wanted, 1 if wanted.startswith("refused") else 0):
         return []
     return [f"it says {said!r} with status {status}, wanted {wanted!r}, of " + " / ".join(lines)]
+
+
+def vector_faults(recheck, place, vector):
+    """What recheck says of a vector with its certificate in version 3, where that isn't what is wanted in version 2."""
+    place.write_bytes(in_version_three(vector.texts[-1]))
+    *files, _ = map(str, vector.files.values())
+    _, said, status = recheck.answer([*files, str(place)], vector.agents)
+    is_right = said == vector.wanted if vector.is_accepted() else status == 1
+    return [] if is_right else [f"it says {said!r} with status {status}, wanted {vector.wanted!r}"]
 
 
 def whole(text, agents, valid_plan):

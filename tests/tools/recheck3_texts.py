@@ -16,7 +16,7 @@ PROBLEMS = {
     "row": ("....", "0,0 2,0", "3,0 1,0"),
     "wall": (".@.|.@.", "0,0 2,0", "0,1 0,0"),
     "one goal": ("...", "0,0 1,0", "2,0 1,0"),
-    "niche": ("...|@.@", "0,0 2,0", "1,0 1,0"),
+    "exchange beside blocked cells": ("..@@", "0,0 1,0", "1,0 0,0"),
 }
 
 PLAIN = " / leaf 0 0 -"
@@ -38,6 +38,7 @@ ENTRIES = {
         "clear raises a label": "one 0 1 1 - / clear 0 1,1 1 / at 0,1 0 3",
         "clear from an earlier tick on": "one 0 1 2 - / clear 0 1,1 0 / at 0,1 0 3 / at 0,1 7 3",
         "clear from a later tick on": "one 0 1 1 - / clear 0 1,1 2 / !C7 at 0,1 0 3",
+        "the earliest clear counts": "one 0 2 1 - / clear 0 1,1 0 / clear 0 1,1 9 / at 0,1 0 3",
         "any label at a forbidden state": "one 0 1 1 - / not 0 0,1 0 / at 0,1 0 inf",
         "any label at a cleared state": "one 0 1 1 - / clear 0 0,1 3 / at 0,1 4 9999999999",
         "a label before clear": "one 0 1 1 - / clear 0 0,1 3 / !C7 at 0,1 2 9",
@@ -62,6 +63,10 @@ ENTRIES = {
         "entries of both agents, of the second a wrong one":
             "two 0 1 2 1 1 0 - / not 0 1,1 1 / not 1 1,1 1 / at 0,1 0 3 / !C7 at 1,0 0 4",
         "a constraint of the other agent": "two 0 1 1 1 0 0 - / not 1 1,1 1 / !C7 at 0,1 0 3",
+    },
+    "exchange": {
+        "least forbids rest": "list 1 1 / price 1,0 1 3 / one 0 2 1 0 / least 0 5 / not 0 0,0 1 / at 1,0 0 8",
+        "least doesn't forbid rest at its tick": "one 0 1 1 - / least 0 5 / !C7 at 1,0 5 1",
     },
     "wall": {
         "a blocked cell": "one 0 0 1 - / !C7 at 1,0 0 inf",
@@ -127,7 +132,8 @@ JOINT_ENTRIES = {
         "the agents in the other order": "two 1 0 0 0 0 1 - / at 1,0 0,1 0 5",
         "one cell": "two 0 1 0 0 0 1 - / at 1,1 1,1 3 inf",
         "barred for the first": "two 0 1 1 0 0 1 - / not 0 0,1 0 / at 0,1 1,0 0 inf",
-        "barred for the second": "two 0 1 1 0 0 1 - / most 1 1 / at 0,1 1,0 0 inf",
+        "barred for the second": "two 0 1 1 0 0 1 - / not 1 1,0 0 / at 0,1 1,0 0 inf",
+        "late for the second": "two 0 1 1 0 0 1 - / most 1 1 / at 0,1 1,0 0 inf",
         "barred for the other agent's constraint": "two 0 1 1 0 0 1 - / not 1 0,1 0 / !C7 at 0,1 1,0 0 inf",
         "both may rest": "two 0 1 0 0 0 1 - / !C7 at 2,1 1,2 0 1",
         "the first may rest": "two 0 1 0 0 0 1 - / !C7 at 2,1 1,0 0 3",
@@ -203,6 +209,9 @@ JOINT_ENTRIES = {
         "a blocked cell before an arrival": "two 0 1 0 0 0 1 - / !C7 at 1,0 * 0 inf",
         "a goal out of reach": "two 0 1 0 0 0 1 - / at 0,0 0,1 0 inf",
         "most at a goal out of reach": "two 0 1 1 0 0 1 - / most 0 9 / at 0,0 0,1 0 inf",
+        "most bars where the goal is out of reach":
+            "two 0 1 1 0 0 2 - / most 0 9 / at 0,0 0,1 0 inf / at 0,0 0,1 1 7",
+        "a number after inf": "two 0 1 0 0 0 2 - / !C7 at 0,0 0,1 0 inf / at 0,0 0,1 1 7",
         "a number at a goal out of reach": "two 0 1 0 0 0 1 - / at 0,0 0,1 0 7",
     },
 }
@@ -212,7 +221,6 @@ NEVER = {
         "two agents can't pass": "never 0 1 1 / cells 0,0 1,0",
         "one agent": "!C10 never 0 0 1 / cells 0,0 0,0",
         "the goals": "never 0 1 2 / cells 0,0 1,0 / !C7 cells 1,0 0,0",
-        "equal cells": "never 0 1 2 / !C7 cells 0,0 0,0 / cells 0,0 1,0",
         "the starts are missing": "!C7 never 0 1 1 / cells 1,0 0,0",
         "the starts of the agents in the other order": "!C7 never 1 0 1 / cells 0,0 1,0",
         "the starts are told before lines": "!C7 never 0 1 1 / cells 0,0 0,0",
@@ -230,8 +238,13 @@ NEVER = {
     "behind": {
         "one of the two at its goal": "never 0 1 3 / cells 0,0 1,0 / cells 0,0 2,0 / cells 1,0 2,0",
     },
+    "exchange beside blocked cells": {
+        "a blocked cell of the first": "never 0 1 2 / cells 0,0 1,0 / !C7 cells 3,0 0,0",
+        "a blocked cell of the second": "never 0 1 2 / cells 0,0 1,0 / !C7 cells 0,0 3,0",
+    },
     "wall": {
-        "a blocked cell": "never 0 1 2 / cells 0,0 0,1 / !C7 cells 1,0 0,1",
+        "a goal out of reach": "never 0 1 2 / cells 0,0 0,1 / cells 0,1 0,0",
+        "equal cells": "never 0 1 3 / !C7 cells 0,0 0,0 / cells 0,0 0,1 / cells 0,1 0,0",
     },
 }
 

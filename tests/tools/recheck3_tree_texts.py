@@ -132,6 +132,8 @@ CASES = {
                                 f"/ use 0 / {RAISED_1} / vertex 0 1 1,1 1 / leaf 1 0 - / use 1 / leaf 1 0 - / use 2",
         "its constraints stand in its tree alone": f"{RAISED_0} / cases 1 1 3 / agent 0 / not 0 1,1 1 / leaf 1 0 - "
                                                    "/ use 0 / leaf 1 0 - / !C10 use 0",
+        "its constraints aren't met where it is used": f"{RAISED_0} / cases 1 1 3 / agent 0 / not 0 1,1 1 / leaf 1 0 - "
+                                                       "/ use 0 / leaf 1 0 - / !C10 use 1",
         "a lemma of an agent out of scope": "one 1 0 0 - / cases 1 0 1 / agent 0 / leaf 1 0 - / !C10 use 0",
         "a lemma of two agents, one out of scope":
             f"{JOINT} / cases 1 0 1 / agent 0 / leaf 0 1 - / group 1 1 / !C10 use 0 1",
@@ -277,6 +279,9 @@ MET = {
     "cost 0 4 / cost 0 9": (
         (["most 0 4", "clear 1 2,1 4"], ["most 0 3"]),
         (["most 0 4", "least 0 10", "least 0 7", "clear 1 2,1 4"], ["most 0 3", "clear 1 2,1 3"])),
+    "cost 0 9 / leaf 0 0 - / cost 0 4": (
+        (["least 0 10", "most 0 4"], ["least 0 11", "most 0 3"]),
+        (["least 0 10"], ["least 0 11", "most 0 9", "clear 1 2,1 9"])),
     "vertex 0 1 1,1 1 / vertex 0 1 1,1 1 / leaf 0 0 -": (
         (["not 0 1,1 1", "not 1 1,1 1"], []),
         (["not 1 1,1 1"], ["not 0 1,1 1"])),
