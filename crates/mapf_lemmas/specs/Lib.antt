@@ -1,0 +1,11 @@
+pub mod Amounts
+pub mod Constraints
+pub mod Prices
+pub mod SingleLabels
+pub mod JointLabels
+pub mod JointCells
+pub mod Statements
+pub mod Groups
+pub mod Cases
+pub mod Lemmas
+pub mod Laws
