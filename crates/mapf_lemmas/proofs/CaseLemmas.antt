@@ -1,18 +1,18 @@
 -- What a tree of cases shows is true.
-use Rattle.std.proofs.Common.{◌≡◌, ◌≢◌, ◌⊎◌, ℕ, zero, suc, ◌+◌, ◌<◌, ◌≤◌, List, [], ◌∷◌, Option, Some, None, All, Contains, length, sum_by, slice_get, slice_index, slice_index_or, nat_eq, refl, sym, ◌∙◌, ap, subst, inl, inr, ⊎_elim, arith}
+use Rattle.std.proofs.Common.{◌≡◌, ◌⊎◌, ℕ, ◌+◌, ◌<◌, ◌≤◌, List, [], ◌∷◌, Some, All, Contains, length, sum_by, slice_get, slice_index, slice_index_or, nat_eq, refl, sym, ◌∙◌, inl, inr, ⊎_elim, arith}
 use Rattle.std.proofs.lemmas.Bool.{eqb-true, eqb-false, cases_eq, cases_lt, cond_both}
-use Rattle.std.proofs.lemmas.Option.{same_Some, slice_get-get_or, slice_get_within, get_or_from_slice_get}
+use Rattle.std.proofs.lemmas.Option.{slice_get-get_or, slice_get_within, get_or_from_slice_get}
 use Rattle.mapf_lemmas.specs.declared.constraint.PathConstraint.{PathConstraint}
 use Rattle.mapf_lemmas.specs.declared.constraint.PathConstraint.TheVariants.{NotAt, NotMove, Clear, Most, Least}
 use Rattle.mapf_lemmas.specs.declared.split.Split.{Split}
 use Rattle.mapf_lemmas.specs.declared.split.Split.TheVariants.{Vertex, Swap, Cost, Costs}
-use Rattle.mapf_lemmas.specs.Constraints.{Satisfies, SatisfiesAll}
+use Rattle.mapf_lemmas.specs.Constraints.{Satisfies}
 use Rattle.mapf_lemmas.specs.Lemmas.{AreDifferentAgents}
 use Rattle.mapf_lemmas.specs.Prices.{no_list}
-use Rattle.mapf_lemmas.specs.Statements.{Statement, priced_cost_of, AllSatisfy, IsCosted, StatementHolds}
+use Rattle.mapf_lemmas.specs.Statements.{priced_cost_of, AllSatisfy, IsCosted, StatementHolds}
 use Rattle.mapf_lemmas.specs.Groups.{Scope}
 use Rattle.mapf_lemmas.specs.Cases.{CaseTree, Branch, Leaf, Clash, with_constraint, with_cost, left_constraints, right_constraints, BoundsTwo, IsProperSplit, TreeShows}
-use Rattle.mapf_lemmas.proofs.PlanLemmas.{path_of, path_is, cost_is, lawful_of, cost_of, apart_of}
+use Rattle.mapf_lemmas.proofs.PlanLemmas.{path_of, path_is, cost_is, cost_of, apart_of}
 use Rattle.mapf_lemmas.proofs.GroupLemmas.{usable_true, leaf_true}
 use Rattle.mapf_model.specs.declared.label.Label.{Label}
 use Rattle.mapf_model.specs.declared.label.Label.TheVariants.{Ticks, Never}
@@ -53,7 +53,6 @@ module _ (scope : Scope) (plan : List (List ℕ)) (costs : List ℕ) (costed : I
       (Contains-cons_cases constraint more (constraints agent) held))
       (λ other held. inl held))
 
-
   rests_of : (agent : ℕ) (a : Agent) → slice_get scope.problem.agents agent ≡ Some a → (tick : ℕ) → slice_index costs agent ≤ tick → at (path agent) tick ≡ a.goal
   rests_of agent a is = (cost_of scope.problem plan costs costed agent a is).rests
 
@@ -88,9 +87,9 @@ module _ (scope : Scope) (plan : List (List ℕ)) (costs : List ℕ) (costed : I
     two_cost lemma i j total bounds =
         let truth = usable_true scope constraints known plan costs costed obey lemma bounds.statement bounds.named bounds.usable no_list (rw bounds.unpriced refl) in
         let sum : sum_by (priced_cost_of no_list plan costs) bounds.statement.agents ≡ slice_index costs i + slice_index costs j = ⊎_elim
-            (λ (same : bounds.statement.agents ≡ i ∷ j ∷ []). rw same (omega arith))
-            (λ (same : bounds.statement.agents ≡ j ∷ i ∷ []). rw same (omega arith))
-            bounds.agents in
+        (λ (same : bounds.statement.agents ≡ i ∷ j ∷ []). rw same (omega arith))
+        (λ (same : bounds.statement.agents ≡ j ∷ i ∷ []). rw same (omega arith))
+        bounds.agents in
         omega (arith, sum, through total _ bounds.statement.bound bounds.enough truth)
 
     pub child_kept : (split : Split) → IsProperSplit scope constraints split →

@@ -1,12 +1,12 @@
 -- Every lemma is true, and so is the claim of a certificate.
-use Rattle.std.proofs.Common.{◌≡◌, ◌≢◌, ◌⊎◌, ℕ, zero, suc, ◌+◌, ◌<◌, ◌≤◌, List, [], ◌∷◌, Option, Some, None, All, AllPairs, Contains, length, map, take, sum, sum_by, slice_get, slice_index, slice_index_or, true, refl, sym, ◌∙◌, ap, subst, inl, inr, ⊎_elim, arith}
+use Rattle.std.proofs.Common.{◌≡◌, ℕ, zero, suc, ◌+◌, ◌<◌, ◌≤◌, List, [], ◌∷◌, Option, Some, None, All, length, map, take, sum, sum_by, slice_get, slice_index, slice_index_or, true, refl, sym, ◌∙◌, ap, subst, ⊎_elim, arith}
 use Rattle.std.specs.List.{range_with_len}
 use Rattle.std.specs.Prelude.{◌==◌}
 use Rattle.std.proofs.lemmas.Bool.{eq-eqb, cases_lt}
 use Rattle.std.proofs.lemmas.List.Sums.{sum_by-cons}
 use Rattle.std.proofs.lemmas.List.FromFn.{get_or-range_with_len, length-range_with_len}
 use Rattle.std.proofs.lemmas.List.{get_or-take, length-take}
-use Rattle.std.proofs.lemmas.Option.{slice_get_within, get_or_from_slice_get, slice_get-get_or, same_Some}
+use Rattle.std.proofs.lemmas.Option.{slice_get_within, slice_get-get_or, same_Some}
 use Rattle.mapf_lemmas.specs.declared.constraint.PathConstraint.{PathConstraint}
 use Rattle.mapf_lemmas.specs.declared.constraint.AgentConstraint.{AgentConstraint}
 use Rattle.mapf_lemmas.specs.Constraints.{SatisfiesAll}
@@ -14,8 +14,8 @@ use Rattle.mapf_lemmas.specs.JointLabels.{PairEntries}
 use Rattle.mapf_lemmas.specs.declared.joint.JointCell.{JointCell}
 use Rattle.mapf_lemmas.specs.Lemmas.{Lemma, One, Two, NeverArrive, ByCases, pair_of, OneShows, TwoShow, NeverShows, CasesShow, LemmaShows, LemmasShow, AreDifferentAgents, all_agents, target_of, scope_of, CertificateShows}
 use Rattle.mapf_lemmas.specs.Prices.{PriceList, no_list, cell_price, priced_cost}
-use Rattle.mapf_lemmas.specs.Statements.{Statement, IsListOf, constraints_of, AllSatisfy, IsCosted, StatementHolds, priced_cost_of}
-use Rattle.mapf_lemmas.specs.Cases.{CaseTree, TreeShows}
+use Rattle.mapf_lemmas.specs.Statements.{Statement, IsListOf, constraints_of, IsCosted, StatementHolds, priced_cost_of}
+use Rattle.mapf_lemmas.specs.Cases.{CaseTree}
 use Rattle.mapf_lemmas.proofs.CaseLemmas.{tree_true}
 use Rattle.mapf_lemmas.proofs.JointLemmas.{both_start, closed_refuted}
 use Rattle.mapf_lemmas.proofs.PlanLemmas.{path_of, path_is, cost_is, lawful_of, cost_of, apart_of}
@@ -26,11 +26,10 @@ use Rattle.mapf_model.specs.declared.item.Claim.TheVariants.{Cost, Bound, Imposs
 use Rattle.mapf_model.specs.declared.label.Entry.{Entry}
 use Rattle.mapf_model.specs.declared.label.Label.{Label}
 use Rattle.mapf_model.specs.declared.label.Label.TheVariants.{Ticks, Never}
-use Rattle.mapf_model.specs.declared.problem.Agent.{Agent}
 use Rattle.mapf_model.specs.Labels.{IsAtMost, label_plus, entries_of}
-use Rattle.mapf_model.specs.Plan.{Instance, IsValid, IsSumOfCosts}
+use Rattle.mapf_model.specs.Plan.{Instance, IsValid}
 use Rattle.mapf_model.specs.Tree.{Holds}
-use Rattle.mapf_model.proofs.ContainsLemmas.{Contains-none, Contains-cons_cases, Contains-cons_new, Contains-cons_old}
+use Rattle.mapf_model.proofs.ContainsLemmas.{Contains-none}
 use Rattle.mapf_model.proofs.SumLemmas.{some_sum}
 use Rattle.mapf_model.proofs.ClaimLemmas.{Bounds, holds_of_plans, slice_get_inside}
 
@@ -60,9 +59,9 @@ module _ (problem : Instance) (lists : List PriceList) where
       let within = slice_get_within problem.agents agent shows.a shows.is_agent in
       let lawful = lawful_of problem plan costs costed agent shows.a shows.is_agent in
       let obeys : SatisfiesAll path cost constraints =
-          subst (SatisfiesAll path cost) (all_of_one agent constraints) (obey agent cost path (path_is problem plan costs costed agent within) (cost_is problem plan costs costed agent within)) in
+      subst (SatisfiesAll path cost) (all_of_one agent constraints) (obey agent cost path (path_is problem plan costs costed agent within) (cost_is problem plan costs costed agent within)) in
       let bound = start_bound (record { grid = problem.grid; list = shows.list; agent = shows.a; constraints = constraints }) (entries_of entries) path cost shows.sound lawful.is_path.steps obeys
-          (cost_of problem plan costs costed agent shows.a shows.is_agent).rests lawful.start shows.label shows.is_label in
+      (cost_of problem plan costs costed agent shows.a shows.is_agent).rests lawful.start shows.label shows.is_label in
       at_most_same (label_plus (Ticks (cell_price shows.list.prices shows.a.start 0)) shows.label) _ _
       (ap (λ l. priced_cost l path cost) (same_list_of lists number shows.list list shows.is_list is_list) ∙ omega arith) bound)
 
@@ -77,9 +76,9 @@ module _ (problem : Instance) (lists : List PriceList) where
       let p_lawful = lawful_of problem plan costs costed i shows.a shows.is_first in
       let q_lawful = lawful_of problem plan costs costed j shows.b shows.is_second in
       let bound = both_start (pair_of problem shows.list i j shows.a shows.b constraints) entries p q c d shows.sound p_lawful.is_path.steps q_lawful.is_path.steps
-          (obey i c p (path_is problem plan costs costed i within_i) (cost_is problem plan costs costed i within_i)) (obey j d q (path_is problem plan costs costed j within_j) (cost_is problem plan costs costed j within_j))
-          (cost_of problem plan costs costed i shows.a shows.is_first).rests (cost_of problem plan costs costed j shows.b shows.is_second).rests
-          (apart_of problem plan costs costed i j shows.differ within_i within_j) p_lawful.start q_lawful.start shows.label shows.is_label in
+      (obey i c p (path_is problem plan costs costed i within_i) (cost_is problem plan costs costed i within_i)) (obey j d q (path_is problem plan costs costed j within_j) (cost_is problem plan costs costed j within_j))
+      (cost_of problem plan costs costed i shows.a shows.is_first).rests (cost_of problem plan costs costed j shows.b shows.is_second).rests
+      (apart_of problem plan costs costed i j shows.differ within_i within_j) p_lawful.start q_lawful.start shows.label shows.is_label in
       at_most_same (label_plus (Ticks (cell_price shows.list.prices shows.a.start 0 + cell_price shows.list.prices shows.b.start 0)) shows.label) _ _
       (ap (λ l. priced_cost l p c + priced_cost l q d) (same_list_of lists number shows.list list shows.is_list is_list) ∙ omega arith) bound)
 
@@ -138,20 +137,20 @@ module _ (problem : Instance) (lists : List PriceList) (lemmas : List Lemma) (tr
   all_different : AreDifferentAgents problem (all_agents problem)
   all_different = (
     λ i j d lt within same.
-    let short = length-range_with_len 0 (length problem.agents) in
-    let first = get_or-range_with_len 0 (length problem.agents) i d (omega arith) in
-    let second = get_or-range_with_len 0 (length problem.agents) j d (omega arith) in
-    absurd (omega arith),
+        let short = length-range_with_len 0 (length problem.agents) in
+        let first = get_or-range_with_len 0 (length problem.agents) i d (omega arith) in
+        let second = get_or-range_with_len 0 (length problem.agents) j d (omega arith) in
+        absurd (omega arith),
     λ k d within.
-    let short = length-range_with_len 0 (length problem.agents) in
-    let is = get_or-range_with_len 0 (length problem.agents) k d (omega arith) in
-    omega arith,
+        let short = length-range_with_len 0 (length problem.agents) in
+        let is = get_or-range_with_len 0 (length problem.agents) k d (omega arith) in
+        omega arith,
   )
 
   costs_reach : (plan : List (List ℕ)) (costs : List ℕ) → IsCosted problem plan costs → IsAtMost (target_of claim) (Ticks (sum costs))
   costs_reach plan costs costed =
       let bound = tree_true (scope_of problem lists shows.statements (all_agents problem)) plan costs costed (all_true problem lists lemmas shows.statements shows.each) all_different
-          (target_of claim) tree (λ agent. []) (λ agent cost path path_is cost_is one held. absurd (Contains-none one held)) shows.shows in
+      (target_of claim) tree (λ agent. []) (λ agent cost path path_is cost_is one held. absurd (Contains-none one held)) shows.shows in
       let count = costed.valid.count in
       let so_many = costed.are_costs.count in
       let all : length problem.agents ≡ length costs = omega arith in

@@ -1,6 +1,6 @@
 -- Labels, statements and the bounds of leaves are unique.
-use Rattle.std.proofs.Common.{◌≡◌, ◌≢◌, ◌⊎◌, ◌↔◌, ℕ, zero, suc, ◌+◌, ◌-◌, ◌*◌, ◌<◌, ◌≤◌, max, List, [], ◌∷◌, Option, Some, None, All, AllPairs, Contains, length, map, sum_by, slice_get, slice_index_or, refl, sym, ◌∙◌, ap, subst, inl, inr, ⊎_elim, arith}
-use Rattle.std.proofs.lemmas.Bool.{cases_lt, cases_eq}
+use Rattle.std.proofs.Common.{◌≡◌, ◌⊎◌, ◌↔◌, ℕ, suc, ◌+◌, ◌-◌, ◌*◌, ◌<◌, ◌≤◌, max, List, [], ◌∷◌, Option, Some, None, All, Contains, length, map, sum_by, slice_index_or, refl, sym, ◌∙◌, ap, subst, inl, inr, ⊎_elim, arith}
+use Rattle.std.proofs.lemmas.Bool.{cases_lt}
 use Rattle.std.proofs.lemmas.List.{get_or_default}
 use Rattle.std.proofs.lemmas.List.Elements.{All-contains, Contains-get_or}
 use Rattle.std.proofs.lemmas.List.Sums.{sum_by-cons}
@@ -14,9 +14,8 @@ use Rattle.mapf_lemmas.specs.SingleLabels.{Task, IsDefault, IsListedOr, IsSingle
 use Rattle.mapf_lemmas.specs.declared.joint.JointState.{JointState}
 use Rattle.mapf_lemmas.specs.declared.joint.JointState.TheVariants.{Both, FirstAlone, SecondAlone}
 use Rattle.mapf_lemmas.specs.JointLabels.{PairTask, PairEntries, first_task, second_task, IsJointDefault, IsJointLabel}
-use Rattle.mapf_lemmas.specs.declared.leaf.Use.{Use}
-use Rattle.mapf_lemmas.specs.Groups.{Group, LeafUses, Scope, times, Counts, LeafLabels, IsNamed, IsFloor, ticks_of, occurrences, load, excess, divided, added, IsGroup, IsProperLeaf, IsInfinite, leaf_bound, LeafShows}
-use Rattle.mapf_lemmas.specs.Lemmas.{Lemma, One, Two, NeverArrive, ByCases, pair_of, OneShows, TwoShow, NeverShows, CasesShow, LemmaShows}
+use Rattle.mapf_lemmas.specs.Groups.{Group, LeafUses, Scope, times, Counts, LeafLabels, IsNamed, IsFloor, ticks_of, excess, divided, added, IsGroup, IsProperLeaf, IsInfinite, leaf_bound, LeafShows}
+use Rattle.mapf_lemmas.specs.Lemmas.{Lemma, One, Two, NeverArrive, ByCases, pair_of, OneShows, TwoShow, LemmaShows}
 use Rattle.mapf_lemmas.proofs.CertificateLemmas.{same_list_of}
 use Rattle.mapf_model.proofs.DecidedLemmas.{label_unique}
 use Rattle.mapf_model.specs.declared.label.Label.{Label}
@@ -125,7 +124,7 @@ module _
         let counted = ap ticks_of (named_counted lemma a b) in
         let agents = named_agents lemma a b in
         let floors = sum_by-agree (λ agent. ticks_of (one.floor agent)) (λ agent. ticks_of (other.floor agent)) a.statement.agents
-            (λ k d within. ap ticks_of (floors_agree (slice_index_or a.statement.agents k d) (a.usable.inside k d within))) in
+        (λ k d within. ap ticks_of (floors_agree (slice_index_or a.statement.agents k d) (a.usable.inside k d within))) in
         let first = ap (sum_by (λ agent. ticks_of (one.floor agent))) a.same_agents in
         let second = ap (sum_by (λ agent. ticks_of (other.floor agent))) (sym agents ∙ a.same_agents) in
         omega (arith, counted, floors, first, second)
@@ -138,7 +137,7 @@ module _
     bounds_agree : leaf_bound scope leaf list one ≡ leaf_bound scope leaf list other
     bounds_agree =
         let floors = sum_by-agree (λ agent. ticks_of (one.floor agent)) (λ agent. ticks_of (other.floor agent)) scope.agents
-            (λ k d within. ap ticks_of (floors_agree (slice_index_or scope.agents k d) (Contains-get_or scope.agents k d within))) in
+        (λ k d within. ap ticks_of (floors_agree (slice_index_or scope.agents k d) (Contains-get_or scope.agents k d within))) in
         let groups = sum_by-agree (added one) (added other) leaf.groups (λ k d within. added_agrees (slice_index_or leaf.groups k d) (p.each_group k d within) (q.each_group k d within)) in
         ap (λ n. divided (n - total_price list.prices) list.unit) (omega (arith, floors, groups))
 
@@ -176,7 +175,7 @@ module _ (problem : Instance) (lists : List PriceList) where
       let labels_same = single_unique (task q.list q.a) (entries_of entries) q.a.start 0 p.label q.label second q.is_label in
       let bound : PriceList → Agent → Label → Label = λ list a label. label_plus (Ticks (cell_price list.prices a.start 0)) label in
       let bounds_same : bound p.list p.a p.label ≡ bound q.list q.a q.label =
-          ap (λ l. bound l p.a p.label) lists_same ∙ ap (λ a. bound q.list a p.label) agents_same ∙ ap (bound q.list q.a) labels_same in
+      ap (λ l. bound l p.a p.label) lists_same ∙ ap (λ a. bound q.list a p.label) agents_same ∙ ap (bound q.list q.a) labels_same in
       p.is_statement ∙ ap (λ b. record { agents = agent ∷ []; constraints = map (λ one. record { agent = agent; constraint = one }) constraints; list_number = number; bound = b }) bounds_same ∙ sym q.is_statement
 
   two_unique : (i j : ℕ) (constraints : List AgentConstraint) (number : Option ℕ) (entries : PairEntries) (one other : Statement) →
@@ -192,7 +191,7 @@ module _ (problem : Instance) (lists : List PriceList) where
       let labels_same = joint_unique (pair q.list q.a q.b) entries (Both q.a.start q.b.start) 0 p.label q.label third q.is_label in
       let bound : PriceList → Agent → Agent → Label → Label = λ list a b label. label_plus (Ticks (cell_price list.prices a.start 0 + cell_price list.prices b.start 0)) label in
       let bounds_same : bound p.list p.a p.b p.label ≡ bound q.list q.a q.b q.label =
-          ap (λ l. bound l p.a p.b p.label) lists_same ∙ ap (λ a. bound q.list a p.b p.label) first_same ∙ ap (λ b. bound q.list q.a b p.label) second_same ∙ ap (bound q.list q.a q.b) labels_same in
+      ap (λ l. bound l p.a p.b p.label) lists_same ∙ ap (λ a. bound q.list a p.b p.label) first_same ∙ ap (λ b. bound q.list q.a b p.label) second_same ∙ ap (bound q.list q.a q.b) labels_same in
       p.is_statement ∙ ap (λ b. record { agents = i ∷ j ∷ []; constraints = constraints; list_number = number; bound = b }) bounds_same ∙ sym q.is_statement
 
   pub statement_unique : (known : List Statement) (lemma : Lemma) (one other : Statement) → LemmaShows problem lists known lemma one → LemmaShows problem lists known lemma other → one ≡ other

@@ -1,28 +1,26 @@
 -- The lower bound of a leaf.
-use Rattle.std.proofs.Common.{◌≡◌, ◌≢◌, ◌⊎◌, ℕ, zero, suc, ◌+◌, ◌-◌, ◌*◌, ◌/◌, ◌<◌, ◌≤◌, min, Bool, true, false, cond, List, [], ◌∷◌, Option, Some, None, All, AllPairs, Contains, length, sum_by, slice_get, slice_index, slice_index_or, refl, sym, ◌∙◌, ap, subst, inl, inr, ⊎_elim, arith}
-use Rattle.std.specs.Prelude.{◌==◌, count_by}
+use Rattle.std.proofs.Common.{◌≡◌, ℕ, zero, suc, ◌+◌, ◌-◌, ◌*◌, ◌≤◌, min, true, cond, List, [], ◌∷◌, Some, None, All, Contains, sum_by, slice_get, slice_index, slice_index_or, refl, sym, ◌∙◌, ap, subst, inl, inr, ⊎_elim, arith}
+use Rattle.std.specs.Prelude.{◌==◌}
 use native.Mathlib.Nat.{mul-add}
 use Rattle.std.proofs.Math.Nat.{mul_comm, mul_left_comm}
-use Rattle.std.proofs.lemmas.Bool.{eqb-true, eq-eqb, cases_eq}
+use Rattle.std.proofs.lemmas.Bool.{eq-eqb}
 use Rattle.std.proofs.lemmas.List.Elements.{All-contains, Contains-get_or}
 use Rattle.std.proofs.lemmas.List.Sums.{sum_by-cons, get_or-le-sum_by}
 use Rattle.std.proofs.lemmas.Nat.{mul-le, div_below}
 use Rattle.std.proofs.lemmas.Option.{slice_get_within, get_or_from_slice_get}
 use Rattle.mapf_lemmas.specs.declared.constraint.PathConstraint.{PathConstraint}
 use Rattle.mapf_lemmas.specs.declared.constraint.PathConstraint.TheVariants.{NotAt, NotMove, Clear, Most, Least}
-use Rattle.mapf_lemmas.specs.declared.constraint.AgentConstraint.{AgentConstraint}
 use Rattle.mapf_lemmas.specs.Constraints.{Satisfies}
 use Rattle.mapf_lemmas.specs.Lemmas.{AreDifferentAgents}
 use Rattle.mapf_lemmas.specs.Prices.{PriceList, no_list, total_price}
 use Rattle.mapf_lemmas.specs.Statements.{Statement, IsListOf, priced_cost_of, AllSatisfy, IsCosted, StatementHolds, StandsFor}
 use Rattle.mapf_lemmas.specs.declared.leaf.Use.{Use}
-use Rattle.mapf_lemmas.specs.Groups.{Group, LeafUses, Scope, times, MayBeUsed, Counts, LeafLabels, IsNamed, IsFloor, ticks_of, occurrences, load, excess, divided, added, IsGroup, ShareNoAgent, IsProperLeaf, IsInfinite, leaf_bound, LeafShows}
+use Rattle.mapf_lemmas.specs.Groups.{Group, LeafUses, Scope, times, MayBeUsed, LeafLabels, IsNamed, IsFloor, ticks_of, occurrences, load, excess, divided, added, IsGroup, IsProperLeaf, IsInfinite, leaf_bound, LeafShows}
 use Rattle.mapf_lemmas.proofs.PriceLemmas.{sum_by-plus, sum_by-at_most}
-use Rattle.mapf_lemmas.proofs.PlanLemmas.{sum_by-none, sum_by-one, sum_by-scale, path_of, lawful_of, cost_of, priced_bound}
+use Rattle.mapf_lemmas.proofs.PlanLemmas.{sum_by-one, sum_by-scale, path_of, lawful_of, cost_of, priced_bound}
 use Rattle.mapf_model.specs.declared.label.Label.{Label}
 use Rattle.mapf_model.specs.declared.label.Label.TheVariants.{Ticks, Never}
-use Rattle.mapf_model.specs.declared.problem.Agent.{Agent}
-use Rattle.mapf_model.specs.Labels.{IsAtMost, IsDistanceLabel}
+use Rattle.mapf_model.specs.Labels.{IsAtMost}
 use Rattle.mapf_model.specs.Path.{at}
 use Rattle.mapf_model.proofs.LabelLemmas.{lawful_bound}
 
@@ -73,7 +71,7 @@ module _ (x : ℕ → ℕ) (scope : List ℕ) where
       let first = one_of b (inside 0 b (omega arith)) in
       let rest = spread agents (λ k d within. inside (suc k) d (omega arith)) in
       let both = sum_by-plus (λ a. x a * occurrences a (b ∷ agents)) (λ a. x a * cond (b == a) 1 0) (λ a. x a * occurrences a agents)
-          (λ a. ap (λ n. x a * n) (sum_by-cons (λ other. cond (other == a) 1 0) b agents) ∙ mul-add (x a) (cond (b == a) 1 0) (occurrences a agents)) scope in
+      (λ a. ap (λ n. x a * n) (sum_by-cons (λ other. cond (other == a) 1 0) b agents) ∙ mul-add (x a) (cond (b == a) 1 0) (occurrences a agents)) scope in
       rw (sum_by-cons x b agents) (omega (arith, first, rest, both))
 
 module _
@@ -87,7 +85,7 @@ module _
         IsAtMost statement.bound (Ticks (sum_by (priced_cost_of list plan costs) statement.agents))
     usable_true lemma statement named usable list is_list =
         let truth : StatementHolds scope.problem scope.lists statement =
-            subst (StatementHolds scope.problem scope.lists) (get_or_from_slice_get scope.known lemma statement statement named) (known lemma statement (slice_get_within scope.known lemma statement named)) in
+        subst (StatementHolds scope.problem scope.lists) (get_or_from_slice_get scope.known lemma statement statement named) (known lemma statement (slice_get_within scope.known lemma statement named)) in
         truth plan costs list costed (λ agent cost path path_is cost_is needed held.
         let found = usable.stand agent needed held in
         stands_satisfies path cost found.0 needed found.2 (obey agent cost path path_is cost_is found.0 found.1)) is_list
@@ -113,7 +111,7 @@ module _
     bare_worth agents =
         let scaled = sum_by-scale (priced_cost_of no_list plan costs) list.unit agents in
         let each = sum_by-at_most (λ agent. list.unit * priced_cost_of no_list plan costs agent) priced
-            (λ agent. let bare : priced_cost_of no_list plan costs agent ≡ slice_index costs agent = omega arith in rw bare (omega arith)) agents in
+        (λ agent. let bare : priced_cost_of no_list plan costs agent ≡ slice_index costs agent = omega arith in rw bare (omega arith)) agents in
         omega (arith, scaled, each)
 
     counted_true : (lemma : ℕ) → IsNamed scope constraints leaf list.unit labels lemma → IsAtMost (labels.counted lemma) (Ticks (sum_by priced (labels.agents lemma)))
@@ -138,7 +136,7 @@ module _
             let cost : ℕ = slice_index costs agent in
             let lawful = lawful_of scope.problem plan costs costed agent a is in
             let bound = lawful_bound scope.problem.grid a [] (λ cell tick. None) (path_of scope.problem plan costs costed agent) cost (λ cell tick label found. cc) lawful
-                (λ bar (k, within, e). absurd (omega arith)) (cost_of scope.problem plan costs costed agent a is).rests distance far in
+            (λ bar (k, within, e). absurd (omega arith)) (cost_of scope.problem plan costs costed agent a is).rests distance far in
             rw same (times_bound list.unit cost (priced agent) distance bound (omega arith))
 
     excess_bound : (lemma : ℕ) → IsNamed scope constraints leaf list.unit labels lemma → excess labels lemma ≤ sum_by beyond (labels.agents lemma)
@@ -162,9 +160,9 @@ module _
         let scaled = sum_by-scale (λ agent. beyond agent * occurrences agent (labels.agents used.lemma)) used.weight scope.agents in
         let rest = weighted uses (λ k d within. each (suc k) d (omega arith)) in
         let both = sum_by-plus (λ agent. beyond agent * loads (used ∷ uses) agent) (λ agent. used.weight * (beyond agent * occurrences agent (labels.agents used.lemma))) (λ agent. beyond agent * loads uses agent)
-            (λ agent. ap (λ n. beyond agent * n) (sum_by-cons (λ one. one.weight * occurrences agent (labels.agents one.lemma)) used uses)
-            ∙ mul-add (beyond agent) (used.weight * occurrences agent (labels.agents used.lemma)) (loads uses agent)
-            ∙ ap (λ n. n + beyond agent * loads uses agent) (mul_left_comm (beyond agent) used.weight (occurrences agent (labels.agents used.lemma)))) scope.agents in
+        (λ agent. ap (λ n. beyond agent * n) (sum_by-cons (λ one. one.weight * occurrences agent (labels.agents one.lemma)) used uses)
+        ∙ mul-add (beyond agent) (used.weight * occurrences agent (labels.agents used.lemma)) (loads uses agent)
+        ∙ ap (λ n. n + beyond agent * loads uses agent) (mul_left_comm (beyond agent) used.weight (occurrences agent (labels.agents used.lemma)))) scope.agents in
         rw (sum_by-cons (λ one. one.weight * excess labels one.lemma) used uses) (omega (arith, first, scaled, rest, both))
 
     -- whether the agent is in the group: 1 or 0
@@ -182,7 +180,7 @@ module _
     group_adds group is =
         let sum = weighted group.uses is.each in
         let each = sum_by-at_most (λ agent. beyond agent * load labels group agent) (λ agent. group.divisor * (beyond agent * mark group agent))
-            (λ agent. loaded (beyond agent) (load labels group agent) group.divisor (is.balanced agent)) scope.agents in
+        (λ agent. loaded (beyond agent) (load labels group agent) group.divisor (is.balanced agent)) scope.agents in
         let scaled = sum_by-scale (λ agent. beyond agent * mark group agent) group.divisor scope.agents in
         divided_bound (sum_by (λ used. used.weight * excess labels used.lemma) group.uses) group.divisor _ is.positive (omega (arith, sum, each, scaled))
 
@@ -195,7 +193,7 @@ module _
         let first = group_adds group (each 0 group (omega arith)) in
         let rest = groups_add groups (λ k d within. each (suc k) d (omega arith)) in
         let both = sum_by-plus (λ agent. beyond agent * marks (group ∷ groups) agent) (λ agent. beyond agent * mark group agent) (λ agent. beyond agent * marks groups agent)
-            (λ agent. ap (λ n. beyond agent * n) (sum_by-cons (λ one. mark one agent) group groups) ∙ mul-add (beyond agent) (mark group agent) (marks groups agent)) scope.agents in
+        (λ agent. ap (λ n. beyond agent * n) (sum_by-cons (λ one. mark one agent) group groups) ∙ mul-add (beyond agent) (mark group agent) (marks groups agent)) scope.agents in
         rw (sum_by-cons (added labels) group groups) (omega (arith, first, rest, both))
 
     one_group : (agent : ℕ) → marks leaf.groups agent ≤ 1
@@ -210,11 +208,11 @@ module _
     floors_and_groups =
         let groups = groups_add leaf.groups proper.each_group in
         let once = sum_by-at_most (λ agent. beyond agent * marks leaf.groups agent) beyond
-            (λ agent. let product = mul-le (beyond agent) (marks leaf.groups agent) (beyond agent) 1 (omega arith) (one_group agent) in omega (arith, product)) scope.agents in
+        (λ agent. let product = mul-le (beyond agent) (marks leaf.groups agent) (beyond agent) 1 (omega arith) (one_group agent) in omega (arith, product)) scope.agents in
         let both = sum_by-plus (λ agent. floor agent + beyond agent) floor beyond (λ agent. refl) scope.agents in
         let whole = sum_by-less (λ agent. floor agent + beyond agent) priced scope.agents
-            (λ k d within. let agent : ℕ = slice_index_or scope.agents k d in
-            let low = at_most_ticks (labels.floor agent) (priced agent) (floor_true agent (Contains-get_or scope.agents k d within)) in omega (arith, low)) in
+        (λ k d within. let agent : ℕ = slice_index_or scope.agents k d in
+        let low = at_most_ticks (labels.floor agent) (priced agent) (floor_true agent (Contains-get_or scope.agents k d within)) in omega (arith, low)) in
         omega (arith, groups, once, both, whole)
 
     pub bound_true : AreDifferentAgents scope.problem scope.agents → leaf_bound scope leaf list labels ≤ sum_by (slice_index costs) scope.agents

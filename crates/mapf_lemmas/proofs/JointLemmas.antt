@@ -4,9 +4,8 @@ use Rattle.mapf_lemmas.specs.Constraints.{SatisfiesAll}
 use Rattle.mapf_lemmas.specs.Laws.{DoNotConflict}
 use Rattle.mapf_lemmas.specs.Prices.{rest_price, cell_price, priced_cost}
 use Rattle.mapf_lemmas.specs.SingleLabels.{Task, IsBarred, IsListedOr, IsSingleLabel, AreSound, step_price}
-use Rattle.mapf_lemmas.specs.declared.joint.JointState.{JointState}
 use Rattle.mapf_lemmas.specs.declared.joint.JointState.TheVariants.{Both, FirstAlone, SecondAlone}
-use Rattle.mapf_lemmas.specs.JointLabels.{PairTask, PairEntries, first_task, second_task, IsJointDefault, IsJointLabel, AreApart, IsSoundTogether, IsSoundAlone, IsSoundJointEntry, AreSoundTogether}
+use Rattle.mapf_lemmas.specs.JointLabels.{PairTask, PairEntries, first_task, second_task, IsJointDefault, IsJointLabel, AreApart, IsSoundTogether, IsSoundAlone, AreSoundTogether}
 use Rattle.mapf_lemmas.specs.declared.joint.JointCell.{JointCell}
 use Rattle.mapf_lemmas.specs.JointCells.{IsClosed}
 use Rattle.mapf_lemmas.proofs.PriceLemmas.{left, left_after_step, rest_is_left, paid_at_start}
@@ -119,8 +118,8 @@ module _
         rw same (within_bound entry next.0 (rest_price pair.list.prices (at q tick) tick) _ _ next.2 after (omega (arith, still)))
     both_left (suc k) (suc l) tick e f (Some entry) is label same =
         let next = (together tick (omega arith) (omega arith) entry is).onward (at p (tick + 1)) (at q (tick + 1))
-            (may_step (first_task pair) entries.first p c sound.first p_steps p_obeys p_rests tick (omega arith))
-            (may_step (second_task pair) entries.second q d sound.second q_steps q_obeys q_rests tick (omega arith)) (moves_apart tick) in
+        (may_step (first_task pair) entries.first p c sound.first p_steps p_obeys p_rests tick (omega arith))
+        (may_step (second_task pair) entries.second q d sound.second q_steps q_obeys q_rests tick (omega arith)) (moves_apart tick) in
         let after = both_left k l (tick + 1) (omega arith) (omega arith) (entries.joint (Both (at p (tick + 1)) (at q (tick + 1))) (tick + 1)) refl next.0 next.1 in
         let p_pays = left_after_step pair.list.prices p tick in
         let q_pays = left_after_step pair.list.prices q tick in

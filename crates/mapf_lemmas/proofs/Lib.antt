@@ -6,3 +6,6 @@ pub mod GroupLemmas
 pub mod CaseLemmas
 pub mod CertificateLemmas
 pub mod DecidedLemmas
+pub mod DistanceLemmas
+pub mod CrossingLemmas
+pub mod ExampleLemmas

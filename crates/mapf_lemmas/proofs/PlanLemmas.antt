@@ -1,20 +1,19 @@
 -- The paths of a valid plan, and what they pay together.
-use Rattle.std.proofs.Common.{◌≡◌, ◌≢◌, ◌⊎◌, ℕ, zero, suc, ◌+◌, ◌*◌, ◌<◌, ◌≤◌, Bool, true, false, cond, List, [], ◌∷◌, Option, Some, None, All, AllPairs, Contains, length, sum_by, slice_get, slice_index, slice_index_or, refl, sym, ◌∙◌, ap, subst, inl, inr, ⊎_elim, arith}
+use Rattle.std.proofs.Common.{◌≡◌, ◌≢◌, ◌⊎◌, ℕ, suc, ◌+◌, ◌*◌, ◌<◌, ◌≤◌, Bool, true, false, List, [], ◌∷◌, Some, All, AllPairs, length, sum_by, slice_get, slice_index, slice_index_or, refl, sym, ◌∙◌, inl, inr, ⊎_elim, arith}
 use Rattle.std.specs.Prelude.{◌&&◌, ◌||◌, ◌==◌, if◌then◌else◌}
 use native.Mathlib.Nat.{mul-add}
 use Rattle.std.proofs.lemmas.Bool.{eqb-true, and_parts, or_cases, cases_eq}
 use Rattle.std.proofs.lemmas.List.Sums.{sum_by-cons}
-use Rattle.std.proofs.lemmas.Option.{slice_get-get_or, get_or_from_slice_get, slice_get_within}
+use Rattle.std.proofs.lemmas.Option.{slice_get-get_or, slice_get_within}
 use Rattle.mapf_lemmas.specs.declared.price.Price.{Price}
 use Rattle.mapf_lemmas.specs.declared.price.Price.TheVariants.{Cell, Edge}
 use Rattle.mapf_lemmas.specs.Lemmas.{AreDifferentAgents}
-use Rattle.mapf_lemmas.specs.Prices.{PriceList, paid_of, paid, priced_cost, amount_of, total_price}
+use Rattle.mapf_lemmas.specs.Prices.{PriceList, paid_of, paid, amount_of, total_price}
 use Rattle.mapf_lemmas.specs.Statements.{IsCosted, priced_cost_of}
 use Rattle.mapf_lemmas.proofs.PriceLemmas.{sum_by-plus}
 use Rattle.mapf_model.specs.declared.problem.Agent.{Agent}
 use Rattle.mapf_model.specs.Path.{at, IsLawful, IsCost}
 use Rattle.mapf_model.specs.Plan.{Instance, ConflictAt}
-use Rattle.mapf_model.proofs.ClaimLemmas.{slice_get_inside}
 
 -- sums whose terms are all 0, or all but one
 module _ {X : Type 0} (f : X → ℕ) where
@@ -65,16 +64,19 @@ module _ (problem : Instance) (plan : List (List ℕ)) (costs : List ℕ) (coste
     where
       same_way : (u v : ℕ) → ((at p tick == u) && (at p (tick + 1) == v)) ≡ true → ((at q tick == u) && (at q (tick + 1) == v)) ≡ true → ⊥
       same_way u v one other = apart tick (inl (eqb-true (at p tick) u (and_parts _ _ one).0 ∙ sym (eqb-true (at q tick) u (and_parts _ _ other).0)))
+
       other_way : (u v : ℕ) → ((at p tick == u) && (at p (tick + 1) == v)) ≡ true → ((at q tick == v) && (at q (tick + 1) == u)) ≡ true → ⊥
       other_way u v one other =
           let o = and_parts _ _ one in let t = and_parts _ _ other in
           apart tick (inr (eqb-true (at p tick) u o.0 ∙ sym (eqb-true (at q (tick + 1)) u t.1), eqb-true (at p (tick + 1)) v o.1 ∙ sym (eqb-true (at q tick) v t.0)))
+
       meet : (((at p tick == from) && (at p (tick + 1) == to)) || ((at p tick == to) && (at p (tick + 1) == from))) ≡ true →
           (((at q tick == from) && (at q (tick + 1) == to)) || ((at q tick == to) && (at q (tick + 1) == from))) ≡ true → ⊥
       meet one other = ⊎_elim
           (λ (there : ((at p tick == from) && (at p (tick + 1) == to)) ≡ true). ⊎_elim (λ (q_there : ((at q tick == from) && (at q (tick + 1) == to)) ≡ true). same_way from to there q_there) (λ (back : ((at q tick == to) && (at q (tick + 1) == from)) ≡ true). other_way from to there back) (or_cases _ _ other))
           (λ (back : ((at p tick == to) && (at p (tick + 1) == from)) ≡ true). ⊎_elim (λ (q_there : ((at q tick == from) && (at q (tick + 1) == to)) ≡ true). other_way to from back q_there) (λ (q_back : ((at q tick == to) && (at q (tick + 1) == from)) ≡ true). same_way to from back q_back) (or_cases _ _ other))
           (or_cases _ _ one)
+
       by : (a b : Bool) → (((at p tick == from) && (at p (tick + 1) == to)) || ((at p tick == to) && (at p (tick + 1) == from))) ≡ a →
           (((at q tick == from) && (at q (tick + 1) == to)) || ((at q tick == to) && (at q (tick + 1) == from))) ≡ b → ((if a then amount else 0) ≡ 0) ⊎ ((if b then amount else 0) ≡ 0)
       by true true here there = absurd (meet here there)
@@ -98,9 +100,9 @@ module _ (problem : Instance) (plan : List (List ℕ)) (costs : List ℕ) (coste
     all_pay [] = omega (arith, sum_by-none (λ agent. paid [] (path_of agent)) agents (λ k d within. refl))
     all_pay (price ∷ prices) =
         let all = sum_by-plus (λ agent. paid (price ∷ prices) (path_of agent)) (λ agent. paid_of (path_of agent) price) (λ agent. paid prices (path_of agent))
-            (λ agent. sum_by-cons (paid_of (path_of agent)) price prices) agents in
+        (λ agent. sum_by-cons (paid_of (path_of agent)) price prices) agents in
         let one = sum_by-one (λ agent. paid_of (path_of agent) price) (amount_of price) agents (λ agent. pays_at_most price (path_of agent))
-            (λ i j d lt within. both_pay price _ _ (apart_of (slice_index_or agents i d) (slice_index_or agents j d) (are.0 i j d lt within) (are.1 i d (omega arith)) (are.1 j d within))) in
+        (λ i j d lt within. both_pay price _ _ (apart_of (slice_index_or agents i d) (slice_index_or agents j d) (are.0 i j d lt within) (are.1 i d (omega arith)) (are.1 j d within))) in
         rw (sum_by-cons amount_of price prices) (omega (arith, all, one, all_pay prices))
 
     pub priced_bound : (list : PriceList) → sum_by (priced_cost_of list plan costs) agents ≤ list.unit * sum_by (slice_index costs) agents + total_price list.prices

@@ -1,5 +1,5 @@
 -- What is left to pay of a path, tick by tick.
-use Rattle.std.proofs.Common.{◌≡◌, ℕ, zero, suc, ◌+◌, ◌*◌, ◌<◌, ◌≤◌, Bool, true, false, cond, List, [], ◌∷◌, sum_by, nat_eq, nat_lt, refl, sym, ◌∙◌, ap, arith}
+use Rattle.std.proofs.Common.{◌≡◌, ℕ, ◌+◌, ◌*◌, ◌≤◌, Bool, true, false, List, [], ◌∷◌, sum_by, nat_lt, refl, arith}
 use Rattle.std.specs.Prelude.{◌&&◌, ◌||◌, ◌==◌, if◌then◌else◌}
 use Rattle.std.proofs.lemmas.List.Sums.{sum_by-cons}
 use Rattle.std.proofs.lemmas.Bool.{ltb-true}
@@ -7,7 +7,7 @@ use Rattle.std.proofs.lemmas.Bool.Decides.{nat_tests}
 use Rattle.mapf_lemmas.specs.declared.price.Price.{Price}
 use Rattle.mapf_lemmas.specs.declared.price.Price.TheVariants.{Cell, Edge}
 use Rattle.mapf_lemmas.specs.Prices.{PriceList, paid_of, paid, asked_in, cell_price, asked_between, edge_price, asked_after, rest_price}
-use Rattle.mapf_model.specs.Path.{at, RestsFrom}
+use Rattle.mapf_model.specs.Path.{at}
 
 -- sums of equal terms, of terms that are sums, and of smaller terms
 module _ {X : Type 0} where

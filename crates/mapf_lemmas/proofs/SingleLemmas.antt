@@ -1,10 +1,10 @@
 -- Sound labels of one agent bound what is left of its priced cost.
-use Rattle.std.proofs.Common.{◌≡◌, ℕ, zero, suc, ◌+◌, ◌-◌, ◌*◌, ◌≤◌, max, List, [], ◌∷◌, Option, Some, None, Contains, refl, sym, ◌∙◌, ap, arith}
+use Rattle.std.proofs.Common.{◌≡◌, ℕ, zero, suc, ◌+◌, ◌-◌, ◌≤◌, max, List, [], ◌∷◌, Option, Some, None, refl, sym, ◌∙◌, ap, arith}
 use Rattle.std.proofs.lemmas.Nat.{mul-le}
 use Rattle.mapf_lemmas.specs.declared.constraint.PathConstraint.{PathConstraint}
 use Rattle.mapf_lemmas.specs.declared.constraint.PathConstraint.TheVariants.{NotAt, NotMove, Clear, Most, Least}
 use Rattle.mapf_lemmas.specs.Constraints.{Satisfies, SatisfiesAll, demanded_by, demanded_cost}
-use Rattle.mapf_lemmas.specs.Prices.{PriceList, rest_price, cell_price, priced_cost}
+use Rattle.mapf_lemmas.specs.Prices.{rest_price, cell_price, priced_cost}
 use Rattle.mapf_lemmas.specs.SingleLabels.{Task, IsBarred, ForbidsRest, MayStep, MayRest, IsDefault, IsListedOr, IsSingleLabel, step_price, AreSound}
 use Rattle.mapf_lemmas.proofs.PriceLemmas.{left, paid_at_start, left_after_step, rest_is_left}
 use Rattle.mapf_model.specs.declared.label.Label.{Label}

@@ -1,5 +1,5 @@
 -- Proofs by cases: trees whose leaves name lemmas. (Own)
-use Rattle.std.specs.Prelude.{◌≡◌, ◌≢◌, ◌⊎◌, ℕ, ◌+◌, ◌<◌, List, [], ◌∷◌, None, Some, Contains, length, slice_get, slice_index_or, ◌==◌}
+use Rattle.std.specs.Prelude.{◌≡◌, ◌⊎◌, ℕ, ◌+◌, ◌<◌, List, [], ◌∷◌, None, Some, length, slice_get, slice_index_or, ◌==◌}
 use Rattle.std.specs.Prelude.{if◌then◌else◌}
 use Rattle.mapf_lemmas.specs.declared.constraint.PathConstraint.{PathConstraint}
 use Rattle.mapf_lemmas.specs.declared.constraint.PathConstraint.TheVariants.{NotAt, NotMove, Clear, Most, Least}
@@ -8,8 +8,7 @@ use Rattle.mapf_lemmas.specs.declared.split.Split.TheVariants.{Vertex, Swap, Cos
 use Rattle.mapf_lemmas.specs.Statements.{Statement}
 use Rattle.mapf_lemmas.specs.Groups.{Scope, LeafUses, MayBeUsed, LeafShows}
 use Rattle.mapf_model.specs.declared.label.Label.{Label}
-use Rattle.mapf_model.specs.declared.label.Label.TheVariants.{Ticks, Never}
-use Rattle.mapf_model.specs.declared.problem.Agent.{Agent}
+use Rattle.mapf_model.specs.declared.label.Label.TheVariants.{Ticks}
 use Rattle.mapf_model.specs.Grid.{IsFree, AreAdjacent}
 use Rattle.mapf_model.specs.Labels.{IsAtMost}
 use Rattle.mapf_model.specs.Plan.{Instance}

@@ -1,7 +1,7 @@
--- The lower bound of a leaf: the least priced costs of single agents, and what groups of lemmas add to them. A group is a
--- fractional packing of its lemmas. (Own)
-use Rattle.std.specs.Prelude.{◌≡◌, ◌≢◌, ◌⊎◌, ℕ, ◌+◌, ◌-◌, ◌*◌, ◌/◌, ◌≤◌, List, [], ◌∷◌, Option, None, Some, All, AllPairs, Contains, length}
-use Rattle.std.specs.Prelude.{sum_by, count_by, slice_get, slice_index_or, ◌==◌}
+-- The lower bound of a leaf: the least priced costs of single agents, and what groups of lemmas add to them. A group is
+-- a fractional packing of its lemmas. (Own)
+use Rattle.std.specs.Prelude.{◌≡◌, ◌≢◌, ◌⊎◌, ℕ, ◌+◌, ◌-◌, ◌*◌, ◌/◌, ◌≤◌, List, [], ◌∷◌, Option, None, Some, All}
+use Rattle.std.specs.Prelude.{AllPairs, Contains, sum_by, count_by, slice_get, ◌==◌}
 use Rattle.mapf_lemmas.specs.declared.constraint.PathConstraint.{PathConstraint}
 use Rattle.mapf_lemmas.specs.declared.leaf.Use.{Use}
 use Rattle.mapf_lemmas.specs.Prices.{PriceList, total_price}
@@ -65,8 +65,8 @@ pub record IsNamed (scope : Scope) (constraints : ℕ → List PathConstraint) (
   pub same_agents : labels.agents lemma ≡ statement.agents
   pub counts : Counts leaf.list_number unit statement (labels.counted lemma)
 
--- the least priced cost of an agent: what the leaf's lemma of this agent alone counts, or, if there is none, what the distance
--- of its start is worth
+-- the least priced cost of an agent: what the leaf's lemma of this agent alone counts, or, if there is none, what the
+-- distance of its start is worth
 abbrev pub IsFloor : Scope → LeafUses → ℕ → LeafLabels → ℕ → Type 0
 IsFloor scope leaf unit labels agent =
     ((lemma : ℕ) × Contains leaf.singles lemma × (labels.agents lemma ≡ agent ∷ [])
@@ -102,8 +102,8 @@ divided n divisor = (n + (divisor - 1)) / divisor
 abbrev pub added : LeafLabels → Group → ℕ
 added labels group = divided (sum_by (λ used. used.weight * excess labels used.lemma) group.uses) group.divisor
 
--- a group divides by at least 1, its weights are at least 1, those of an agent add up to at most the divisor, and each of
--- its lemmas may be used
+-- a group divides by at least 1, its weights are at least 1, those of an agent add up to at most the divisor, and each
+-- of its lemmas may be used
 pub record IsGroup (scope : Scope) (constraints : ℕ → List PathConstraint) (leaf : LeafUses) (unit : ℕ)
     (labels : LeafLabels) (group : Group) : Type 0 where
   pub positive : 1 ≤ group.divisor

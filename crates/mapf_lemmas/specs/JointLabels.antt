@@ -100,8 +100,8 @@ pub record IsSoundAlone (task : Task) (other_goal : ℕ) (IsWithinAfter : ℕ �
   pub onward : (next : ℕ) → MayStep task cell next tick → next ≢ other_goal →
       IsWithinAfter (step_price task.list cell next tick) next (tick + 1)
 
--- a sound entry of a joint state; nothing is asked if both agents are in one cell, if a constraint excludes the state of
--- one that is on its way, or if one is at the goal of the other, which has arrived
+-- a sound entry of a joint state; nothing is asked if both agents are in one cell, if a constraint excludes the state
+-- of one that is on its way, or if one is at the goal of the other, which has arrived
 abbrev pub IsSoundJointEntry : PairTask → PairEntries → JointState → ℕ → Label → Type 0
 IsSoundJointEntry pair entries (Both u v) tick label =
     u ≢ v → (IsBarred (first_task pair) u tick → ⊥) → (IsBarred (second_task pair) v tick → ⊥) →
@@ -121,4 +121,3 @@ pub record AreSoundTogether (pair : PairTask) (entries : PairEntries) : Type 0 w
   pub second : AreSound (second_task pair) entries.second
   pub joint : (state : JointState) (tick : ℕ) (label : Label) → entries.joint state tick ≡ Some label →
       IsSoundJointEntry pair entries state tick label
-

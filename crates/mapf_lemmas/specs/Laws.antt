@@ -1,5 +1,5 @@
 -- The laws of lemmas.
-use Rattle.std.specs.Prelude.{◌≡◌, ◌↔◌, ◌⊎◌, ◌≢◌, ℕ, ◌+◌, ◌*◌, ◌<◌, ◌≤◌, List, All, AllPairs, length, sum_by, slice_index}
+use Rattle.std.specs.Prelude.{◌≡◌, ◌↔◌, ◌⊎◌, ℕ, ◌+◌, ◌*◌, ◌≤◌, List, All, sum_by, slice_index}
 use Rattle.mapf_lemmas.specs.Constraints.{SatisfiesAll}
 use Rattle.mapf_lemmas.specs.Statements.{Statement, IsCosted, AllSatisfy, StatementHolds, priced_cost_of}
 use Rattle.mapf_lemmas.specs.Lemmas.{Lemma, LemmaShows, LemmasShow, CertificateShows, AreDifferentAgents}
@@ -51,7 +51,8 @@ JointLabelBound =
     (Ticks (cell_price pair.list.prices pair.first.start 0 + cell_price pair.list.prices pair.second.start 0)) label)
     (Ticks (priced_cost pair.list p c + priced_cost pair.list q d))
 
--- if two agents never leave a set of joint cells without a conflict, and both goals aren't in it, every two paths conflict
+-- if two agents never leave a set of joint cells without a conflict, and both goals aren't in it, every two paths
+-- conflict
 abbrev pub ClosedMeansNone : Type 0
 ClosedMeansNone =
     (grid : GridMap) (first second : Agent) (cells : List JointCell) (p q : List ℕ) →

@@ -1,6 +1,6 @@
 -- The four kinds of lemmas, what shows each, and what a certificate of version 3 shows. (Own)
-use Rattle.std.specs.Prelude.{◌≡◌, ◌≢◌, ℕ, ◌+◌, ◌<◌, ◌≤◌, List, [], ◌∷◌, Option, Some, None, All, AllPairs, length, map, take}
-use Rattle.std.specs.Prelude.{find, option_map, slice_get, ◌==◌, ◌&&◌, if◌then◌else◌, Bool, false}
+use Rattle.std.specs.Prelude.{◌≡◌, ◌≢◌, ℕ, ◌+◌, ◌<◌, List, [], ◌∷◌, Option, Some, None, All, AllPairs, length, map}
+use Rattle.std.specs.Prelude.{take, slice_get}
 use Rattle.std.specs.List.{range_with_len}
 use Rattle.mapf_lemmas.specs.declared.constraint.PathConstraint.{PathConstraint}
 use Rattle.mapf_lemmas.specs.declared.constraint.AgentConstraint.{AgentConstraint}
@@ -26,7 +26,8 @@ use Rattle.mapf_model.specs.Grid.{GridMap}
 use Rattle.mapf_model.specs.Labels.{entries_of, label_plus}
 use Rattle.mapf_model.specs.Plan.{Instance}
 
--- a lemma: of one agent or of two by labels, of two that can't both arrive without a conflict by joint cells, or by cases
+-- a lemma: of one agent or of two by labels, of two that can't both arrive without a conflict by joint cells, or by
+-- cases
 pub data Lemma : Type 0 where
   One : (agent : ℕ) → (constraints : List PathConstraint) → (list_number : Option ℕ) → (entries : List Entry) → Lemma
   Two : (i j : ℕ) → (constraints : List AgentConstraint) → (list_number : Option ℕ) → (first second : List Entry) →
@@ -115,7 +116,8 @@ pub record CasesShow (problem : Instance) (lists : List PriceList) (known : List
   pub are_agents : AreDifferentAgents problem agents
   pub on_grid : AreConstraintsOn problem.grid constraints
   pub shows : TreeShows (scope_of problem lists known agents) target (constraints_of constraints) tree
-  pub is_statement : statement ≡ record { agents = agents; constraints = constraints; list_number = None; bound = target }
+  pub is_statement : statement
+      ≡ record { agents = agents; constraints = constraints; list_number = None; bound = target }
 
 -- the lemma shows the statement, if those that may be named are true
 abbrev pub LemmaShows : Instance → List PriceList → List Statement → Lemma → Statement → Type 0
@@ -146,8 +148,8 @@ target_of Impossible = Never
 abbrev pub all_agents : Instance → List ℕ
 all_agents problem = range_with_len 0 (length problem.agents)
 
--- a certificate of version 3 shows its claim: its lemmas show their statements, and its tree, in which all may be named,
--- shows the claim of all agents without constraints
+-- a certificate of version 3 shows its claim: its lemmas show their statements, and its tree, in which all may be
+-- named, shows the claim of all agents without constraints
 pub record CertificateShows (problem : Instance) (lists : List PriceList) (lemmas : List Lemma) (tree : CaseTree)
     (claim : Claim) : Type 0 where
   pub proper_lists : All (λ list. All (IsPriceOn problem.grid) list.prices) lists

@@ -9,3 +9,4 @@ pub mod Groups
 pub mod Cases
 pub mod Lemmas
 pub mod Laws
+pub mod Examples

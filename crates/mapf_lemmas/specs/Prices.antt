@@ -24,7 +24,8 @@ amount_of (Edge from to tick amount) = amount
 abbrev pub paid_of : List ℕ → Price → ℕ
 paid_of path (Cell cell tick amount) = if at path tick == cell then amount else 0
 paid_of path (Edge from to tick amount) =
-    if (((at path tick == from) && (at path (tick + 1) == to)) || ((at path tick == to) && (at path (tick + 1) == from)))
+    if (((at path tick == from) && (at path (tick + 1) == to))
+    || ((at path tick == to) && (at path (tick + 1) == from)))
     then amount else 0
 
 -- what a path pays in all

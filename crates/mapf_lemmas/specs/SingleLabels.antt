@@ -51,8 +51,8 @@ pub record MayRest (task : Task) (cell tick : ℕ) : Type 0 where
   pub allowed : (constraint : PathConstraint) → Contains task.constraints constraint →
       ForbidsRest task tick constraint → ⊥
 
--- the label of a state without an entry: the unit times the greater of the distance and of the ticks that are left until
--- the greatest cost that a constraint demands at least
+-- the label of a state without an entry: the unit times the greater of the distance and of the ticks that are left
+-- until the greatest cost that a constraint demands at least
 abbrev pub IsDefault : Task → ℕ → ℕ → Label → Type 0
 IsDefault task cell tick (Ticks n) =
     (distance : ℕ) × IsDistance task.grid task.agent.goal cell distance
@@ -78,7 +78,8 @@ abbrev pub IsAtMostAfter : (Label → Type 0) → Label → ℕ → Type 0
 IsAtMostAfter IsAfter label price = (after : Label) × IsAfter after × IsAtMost label (label_plus (Ticks price) after)
 
 -- a sound entry: it exceeds the default; and unless the state is barred, it is at most what rest costs if the agent may
--- arrive for good, and for each step that the agent may make at most the sum of what the step costs and the label after it
+-- arrive for good, and for each step that the agent may make at most the sum of what the step costs and the label after
+-- it
 pub record IsSoundEntry (task : Task) (entries : Entries) (cell tick : ℕ) (label : Label) : Type 0 where
   pub raised : (default : ℕ) × IsDefault task cell tick (Ticks default) × IsAtMost (Ticks (default + 1)) label
   pub at_rest : (IsBarred task cell tick → ⊥) → MayRest task cell tick →

@@ -1,5 +1,5 @@
 -- What a lemma says. (Own)
-use Rattle.std.specs.Prelude.{◌≡◌, ◌⊎◌, ℕ, List, [], ◌∷◌, Option, None, Some, Contains, length, sum_by, slice_get, slice_index}
+use Rattle.std.specs.Prelude.{◌≡◌, ℕ, List, [], ◌∷◌, Option, None, Some, Contains, sum_by, slice_get, slice_index}
 use Rattle.std.specs.Prelude.{slice_index_or, ◌≤◌, ◌==◌, if◌then◌else◌}
 use Rattle.mapf_lemmas.specs.declared.constraint.PathConstraint.{PathConstraint}
 use Rattle.mapf_lemmas.specs.declared.constraint.PathConstraint.TheVariants.{NotAt, NotMove, Clear, Most, Least}
@@ -8,9 +8,7 @@ use Rattle.mapf_lemmas.specs.Constraints.{SatisfiesAll}
 use Rattle.mapf_lemmas.specs.Prices.{PriceList, no_list, priced_cost}
 use Rattle.mapf_model.specs.declared.label.Label.{Label}
 use Rattle.mapf_model.specs.declared.label.Label.TheVariants.{Ticks}
-use Rattle.mapf_model.specs.declared.problem.Agent.{Agent}
 use Rattle.mapf_model.specs.Labels.{IsAtMost}
-use Rattle.mapf_model.specs.Path.{IsCost}
 use Rattle.mapf_model.specs.Plan.{Instance, IsValid, AreCosts}
 
 -- the statement of a lemma: in every valid plan whose paths satisfy the constraints the priced costs of the agents, by
@@ -56,8 +54,8 @@ StatementHolds problem lists statement =
     AllSatisfy plan costs (constraints_of statement.constraints) → IsListOf lists statement.list_number list →
     IsAtMost statement.bound (Ticks (sum_by (priced_cost_of list plan costs) statement.agents))
 
--- a constraint that serves for another: it is the same, or a greater `Least`, a smaller `Most`, an earlier `Clear` of the
--- cell, or for `NotAt` a `Clear` of the cell from that tick or an earlier one on
+-- a constraint that serves for another: it is the same, or a greater `Least`, a smaller `Most`, an earlier `Clear` of
+-- the cell, or for `NotAt` a `Clear` of the cell from that tick or an earlier one on
 abbrev pub StandsFor : PathConstraint → PathConstraint → Type 0
 StandsFor (NotAt there now) (NotAt cell tick) = (there ≡ cell) × (now ≡ tick)
 StandsFor (Clear there from) (NotAt cell tick) = (there ≡ cell) × (from ≤ tick)

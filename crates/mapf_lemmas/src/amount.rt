@@ -42,7 +42,11 @@ impl Amount {
     pub fn units(self) -> Option<u64>
         ensures { result ≡ units_in self }
     {
-        if self.units == u64::MAX { None } else { Some(self.units) }
+        if self.units == u64::MAX {
+            None
+        } else {
+            Some(self.units)
+        }
     }
 
     /// Returns whether this is at most the other amount.
@@ -59,6 +63,8 @@ impl Amount {
         requires { SumFits self other }
         ensures { result ≡ label_plus self other }
     {
-        Amount { units: self.units.saturating_add(other.units) }
+        Amount {
+            units: self.units.saturating_add(other.units),
+        }
     }
 }

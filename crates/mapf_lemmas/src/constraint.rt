@@ -7,7 +7,8 @@ use mapf_model::{Cell, Tick};
 pub enum PathConstraint {
     /// A vertex constraint (Sharon et al. 2015): the agent isn't in the cell at the tick.
     NotAt { cell: Cell, tick: Tick },
-    /// An edge constraint (Sharon et al. 2015): the agent doesn't leave `from` at the tick to be at `to` one tick later.
+    /// An edge constraint (Sharon et al. 2015): the agent doesn't leave `from` at the tick to be at `to` one tick
+    /// later.
     NotMove { from: Cell, to: Cell, tick: Tick },
     /// The agent isn't in the cell at any tick from this one on.
     Clear { cell: Cell, tick: Tick },

@@ -5,8 +5,8 @@ use crate::amount::Amount;
 use mapf_model::{Cell, Tick};
 use std::marker::Model;
 
-/// A state, that is, a cell at a tick, with its label: a lower bound on what is left of the agent's priced cost, in units
-/// of the price list.
+/// A state, that is, a cell at a tick, with its label: a lower bound on what is left of the agent's priced cost, in
+/// units of the price list.
 #[derive(Clone, Copy, Debug, PartialEq, Eq)]
 pub struct PricedEntry {
     pub cell: Cell,

@@ -4,14 +4,14 @@ ghost use Rattle.mapf_lemmas.specs.Laws.{SplitsLoseNoPlan, TreesShowTruth, Lemma
 ghost use Rattle.mapf_lemmas.specs.Laws.{SingleLabelIsUnique, JointLabelIsUnique, StatementIsUnique};
 ghost use Rattle.mapf_lemmas.specs.Laws.{LeafLabelsDecide};
 
-/// Under sound labels of one agent each path that satisfies the constraints costs, with what it pays, at least the label
-/// of its start and the price of the start.
+/// Under sound labels of one agent each path that satisfies the constraints costs, with what it pays, at least the
+/// label of its start and the price of the start.
 pub fn single_label_bound()
     ensures { SingleLabelBound }
 {}
 
-/// Under sound labels of two agents every two paths without a conflict that satisfy the constraints cost, with what they
-/// pay, at least the label of their starts and the prices of the starts.
+/// Under sound labels of two agents every two paths without a conflict that satisfy the constraints cost, with what
+/// they pay, at least the label of their starts and the prices of the starts.
 pub fn joint_label_bound()
     ensures { JointLabelBound }
 {}

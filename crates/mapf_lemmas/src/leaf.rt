@@ -35,8 +35,8 @@ impl Model for LeafUses {
     ghost Value = { LeafUses };
 
     ghost view = { λ leaf. record {
-        list_number = leaf.list_number;
-        singles = leaf.singles.items;
-        groups = leaf.groups.items;
+      list_number = leaf.list_number;
+      singles = leaf.singles.items;
+      groups = leaf.groups.items;
     } };
 }

@@ -4,6 +4,7 @@
 mod amount;
 mod constraint;
 mod entry;
+pub mod examples;
 mod joint;
 pub mod laws;
 mod leaf;

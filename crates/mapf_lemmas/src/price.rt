@@ -9,9 +9,18 @@ use std::marker::Model;
 #[derive(Clone, Copy, Debug, PartialEq, Eq)]
 pub enum Price {
     /// The price of being in the cell at the tick.
-    Cell { cell: Cell, tick: Tick, amount: u32 },
+    Cell {
+        cell: Cell,
+        tick: Tick,
+        amount: u32,
+    },
     /// The price of moving along the edge between the tick and the next, in either direction.
-    Edge { from: Cell, to: Cell, tick: Tick, amount: u32 },
+    Edge {
+        from: Cell,
+        to: Cell,
+        tick: Tick,
+        amount: u32,
+    },
 }
 
 /// Prices, and what one tick of cost is worth beside them.

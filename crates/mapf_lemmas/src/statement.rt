@@ -19,9 +19,9 @@ impl Model for Statement {
     ghost Value = { Statement };
 
     ghost view = { λ s. record {
-        agents = s.agents.items;
-        constraints = s.constraints.items;
-        list_number = s.list_number;
-        bound = s.bound;
+      agents = s.agents.items;
+      constraints = s.constraints.items;
+      list_number = s.list_number;
+      bound = s.bound;
     } };
 }

@@ -1,4 +1,3 @@
-use Rattle.std.proofs.Common.{refl, arith}
 use Rattle.mapf_lemmas.proofs.SingleLemmas.{start_bound}
 use Rattle.mapf_lemmas.proofs.laws.single_label_bound.Goals as goal
 

@@ -1,0 +1,136 @@
+-- Examples of the definitions on small problems. Cells of the square have the numbers 0 to 8, row by row.
+use Rattle.std.specs.Prelude.{◌≡◌, ℕ, List, [], ◌∷◌, Some, None}
+use Rattle.mapf_lemmas.specs.declared.constraint.PathConstraint.{PathConstraint}
+use Rattle.mapf_lemmas.specs.declared.constraint.PathConstraint.TheVariants.{NotAt, Clear, Most, Least}
+use Rattle.mapf_lemmas.specs.declared.joint.JointEntry.{JointEntry}
+use Rattle.mapf_lemmas.specs.declared.joint.JointState.TheVariants.{Both}
+use Rattle.mapf_lemmas.specs.declared.price.Price.TheVariants.{Cell}
+use Rattle.mapf_lemmas.specs.declared.split.Split.TheVariants.{Cost as CostSplit, Costs}
+use Rattle.mapf_lemmas.specs.Cases.{Leaf, left_constraints, right_constraints, IsProperSplit}
+use Rattle.mapf_lemmas.specs.Constraints.{Satisfies}
+use Rattle.mapf_lemmas.specs.Groups.{LeafUses, Scope}
+use Rattle.mapf_lemmas.specs.JointLabels.{joint_entries_of, AreSoundTogether}
+use Rattle.mapf_lemmas.specs.Lemmas.{Lemma, One, Two, NeverArrive, pair_of, scope_of, CertificateShows}
+use Rattle.mapf_lemmas.specs.Prices.{PriceList, no_list}
+use Rattle.mapf_lemmas.specs.SingleLabels.{Task, IsBarred, MayRest}
+use Rattle.mapf_lemmas.specs.Statements.{Statement, Stands}
+use Rattle.mapf_model.specs.declared.item.Claim.TheVariants.{Cost, Impossible}
+use Rattle.mapf_model.specs.declared.label.Label.TheVariants.{Ticks}
+use Rattle.mapf_model.specs.Examples.{open_square, neighbours, crossing, agent, entry}
+use Rattle.mapf_model.specs.Labels.{entries_of}
+
+-- an entry of two crossing agents at their starts
+abbrev pub at_starts : ℕ → JointEntry
+at_starts bound = record { state = Both 3 1; tick = 0; label = Ticks bound }
+
+-- the lemma that two crossing agents cost 5 together: one of them has to wait, or to go around
+abbrev pub crossing_lemma : Lemma
+crossing_lemma = Two 0 1 [] None [] [] (at_starts 5 ∷ [])
+
+-- a leaf that uses lemma 0 alone, in a group
+abbrev pub one_group : LeafUses
+one_group = record {
+  list_number = None;
+  singles = [];
+  groups = record { divisor = 1; uses = record { lemma = 0; weight = 1 } ∷ [] } ∷ [];
+}
+
+-- a certificate with one lemma of two agents shows that no plan of the crossing costs less than 5, without a split
+abbrev pub ALemmaOfTwoShowsFive : Type 0
+ALemmaOfTwoShowsFive = CertificateShows crossing [] (crossing_lemma ∷ []) (Leaf one_group) (Cost 5)
+
+-- crossing agents can cost 5 together, so 6 is not a sound label of their starts
+abbrev pub NoGreaterLabelIsSound : Type 0
+NoGreaterLabelIsSound =
+    AreSoundTogether (pair_of crossing no_list 0 1 (agent 3 5) (agent 1 7) [])
+    (record { first = entries_of []; second = entries_of []; joint = joint_entries_of (at_starts 6 ∷ []) }) → ⊥
+
+-- a price of 1 for the middle of the square at tick 1
+abbrev pub middle_list : PriceList
+middle_list = record { unit = 1; prices = Cell 4 1 1 ∷ [] }
+
+-- the lemma of one agent that its path costs 3, by the price of the middle: it goes through it and pays, or it waits or
+-- goes around
+abbrev pub priced_lemma : ℕ → ℕ → Lemma
+priced_lemma agent start = One agent [] (Some 0) (entry start 0 (Ticks 3) ∷ [])
+
+-- a leaf that uses one lemma of each agent, by the price list
+abbrev pub two_singles : LeafUses
+two_singles = record { list_number = Some 0; singles = 0 ∷ 1 ∷ []; groups = [] }
+
+-- lemmas of single agents with prices show the same: 3 + 3, less the price that only one agent pays
+abbrev pub PricesShowFive : Type 0
+PricesShowFive =
+    CertificateShows crossing (middle_list ∷ []) (priced_lemma 0 3 ∷ priced_lemma 1 1 ∷ []) (Leaf two_singles) (Cost 5)
+
+-- the lemma that neighbours in a corridor can't exchange their cells: they never leave their starts
+abbrev pub corridor_lemma : Lemma
+corridor_lemma = NeverArrive 0 1 (record { first = 0; second = 1 } ∷ [])
+
+-- a set of one joint cell shows that no plan is valid
+abbrev pub JointCellsShowImpossibility : Type 0
+JointCellsShowImpossibility =
+    CertificateShows neighbours [] (corridor_lemma ∷ []) (Leaf one_group) Impossible
+
+-- the first of the crossing agents, under one constraint
+abbrev pub task_under : PathConstraint → Task
+task_under constraint =
+    record { grid = open_square; list = no_list; agent = agent 3 5; constraints = constraint ∷ [] }
+
+-- an agent that must not be in its goal from tick 9 on may not arrive for good at tick 2 either
+abbrev pub ClearForbidsRest : Type 0
+ClearForbidsRest = MayRest (task_under (Clear 5 9)) 5 2 → ⊥
+
+-- an agent whose path must not be at the goal at tick 4 may arrive for good at tick 5, and not at tick 4 or before
+abbrev pub NotForbidsRestUntilThen : Type 0
+NotForbidsRestUntilThen = (MayRest (task_under (NotAt 5 4)) 5 4 → ⊥) × MayRest (task_under (NotAt 5 4)) 5 5
+
+-- an agent whose path costs at least 3 may arrive for good at tick 3, and not at tick 2
+abbrev pub LeastAllowsRestAtItsTick : Type 0
+LeastAllowsRestAtItsTick = (MayRest (task_under (Least 3)) 5 2 → ⊥) × MayRest (task_under (Least 3)) 5 3
+
+-- an agent whose path costs at most 2 is in time at its start, 2 steps from its goal; it is too late there at tick 1,
+-- and in the goal itself at tick 3
+abbrev pub MostBarsWhoIsLate : Type 0
+MostBarsWhoIsLate =
+    (IsBarred (task_under (Most 2)) 3 0 → ⊥) × IsBarred (task_under (Most 2)) 3 1 × IsBarred (task_under (Most 2)) 5 3
+
+-- that a path costs at most 2 doesn't serve for the constraint that it isn't in the goal at tick 3: it is there at rest
+abbrev pub MostStandsForNoNot : Type 0
+MostStandsForNoNot =
+    (Stands (Most 2 ∷ []) (NotAt 5 3) → ⊥) × Satisfies (3 ∷ 4 ∷ 5 ∷ []) 2 (Most 2)
+    × (Satisfies (3 ∷ 4 ∷ 5 ∷ []) 2 (NotAt 5 3) → ⊥)
+
+-- no agent has a constraint
+abbrev pub unconstrained : ℕ → List PathConstraint
+unconstrained agent = []
+
+-- a split of the first agent's cost at 2: in one child it costs at most 2, and the other agent isn't in its goal from
+-- tick 2 on; in the other child it costs at least 3, and the other agent has no new constraint
+abbrev pub CostSplitsByTheCost : Type 0
+CostSplitsByTheCost =
+    (left_constraints crossing unconstrained (CostSplit 0 2) 0 ≡ Most 2 ∷ [])
+    × (left_constraints crossing unconstrained (CostSplit 0 2) 1 ≡ Clear 5 2 ∷ [])
+    × (right_constraints unconstrained (CostSplit 0 2) 0 ≡ Least 3 ∷ [])
+    × (right_constraints unconstrained (CostSplit 0 2) 1 ≡ [])
+
+-- what the lemma of two crossing agents says
+abbrev pub crossing_statement : Statement
+crossing_statement = record { agents = 0 ∷ 1 ∷ []; constraints = []; list_number = None; bound = Ticks 5 }
+
+-- where that lemma may be named
+abbrev pub crossing_scope : Scope
+crossing_scope = scope_of crossing [] (crossing_statement ∷ []) (0 ∷ 1 ∷ [])
+
+-- the split of the first agent's cost at 2 may ask 3 of the second agent, and no more, since together they cost 5
+abbrev pub CostsNeedsItsLemma : Type 0
+CostsNeedsItsLemma =
+    IsProperSplit crossing_scope unconstrained (Costs 0 2 1 3 0)
+    × (IsProperSplit crossing_scope unconstrained (Costs 0 2 1 4 0) → ⊥)
+
+-- in the child in which the first agent costs at most 2 the second costs at least 3
+abbrev pub CostsRaisesTheOther : Type 0
+CostsRaisesTheOther =
+    (left_constraints crossing unconstrained (Costs 0 2 1 3 0) 0 ≡ Most 2 ∷ [])
+    × (left_constraints crossing unconstrained (Costs 0 2 1 3 0) 1 ≡ Least 3 ∷ Clear 5 2 ∷ [])
+    × (right_constraints unconstrained (Costs 0 2 1 3 0) 1 ≡ [])

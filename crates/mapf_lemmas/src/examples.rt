@@ -1,0 +1,29 @@
+//! What the definitions say of small problems, proved for those who review them. No code calls these functions.
+ghost use Rattle.mapf_lemmas.specs.Examples.{ALemmaOfTwoShowsFive, NoGreaterLabelIsSound, PricesShowFive};
+ghost use Rattle.mapf_lemmas.specs.Examples.{JointCellsShowImpossibility, ClearForbidsRest, NotForbidsRestUntilThen};
+ghost use Rattle.mapf_lemmas.specs.Examples.{LeastAllowsRestAtItsTick, MostBarsWhoIsLate, MostStandsForNoNot};
+ghost use Rattle.mapf_lemmas.specs.Examples.{CostSplitsByTheCost, CostsNeedsItsLemma, CostsRaisesTheOther};
+
+/// The definitions of certificates on small problems, lemmas of each kind but by cases among them.
+pub fn certificates_by_example()
+    ensures two { ALemmaOfTwoShowsFive }
+    ensures greater { NoGreaterLabelIsSound }
+    ensures prices { PricesShowFive }
+    ensures never { JointCellsShowImpossibility }
+{}
+
+/// The definitions of what constraints forbid an agent, and which constraint serves for which.
+pub fn constraints_by_example()
+    ensures clear { ClearForbidsRest }
+    ensures not { NotForbidsRestUntilThen }
+    ensures least { LeastAllowsRestAtItsTick }
+    ensures most { MostBarsWhoIsLate }
+    ensures stands { MostStandsForNoNot }
+{}
+
+/// The definitions of splits on costs.
+pub fn splits_by_example()
+    ensures cost { CostSplitsByTheCost }
+    ensures lemma { CostsNeedsItsLemma }
+    ensures costs { CostsRaisesTheOther }
+{}
