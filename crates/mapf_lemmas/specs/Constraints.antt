@@ -1,4 +1,5 @@
--- Constraints on the path of one agent. (Sharon et al. 2015; on its cost, and on a cell from a tick on: Li et al. 2021)
+-- Constraints on the path of one agent. (Sharon et al. 2015; on its cost, and on a cell from a tick on: Li et al.
+-- 2021a)
 use Rattle.std.specs.Prelude.{◌≡◌, ◌≢◌, ⊤, ℕ, ◌+◌, ◌≤◌, List, [], ◌∷◌, Contains, max}
 use Rattle.mapf_lemmas.specs.declared.constraint.PathConstraint.{PathConstraint}
 use Rattle.mapf_lemmas.specs.declared.constraint.PathConstraint.TheVariants.{NotAt, NotMove, Clear, Most, Least}

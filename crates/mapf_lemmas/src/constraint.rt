@@ -12,9 +12,9 @@ pub enum PathConstraint {
     NotMove { from: Cell, to: Cell, tick: Tick },
     /// The agent isn't in the cell at any tick from this one on.
     Clear { cell: Cell, tick: Tick },
-    /// The path costs at most so many ticks (Li et al. 2021: a length constraint).
+    /// The path costs at most so many ticks (Li et al. 2021a: a length constraint).
     Most { ticks: u32 },
-    /// The path costs at least so many ticks (Li et al. 2021: a length constraint).
+    /// The path costs at least so many ticks (Li et al. 2021a: a length constraint).
     Least { ticks: u32 },
 }
 
