@@ -7,6 +7,8 @@ use Rattle.std.proofs.Math.Bool.{and-false}
 use Rattle.mapf_lemmas.specs.declared.joint.JointEntry.{JointEntry}
 use Rattle.mapf_lemmas.specs.declared.joint.JointState.{JointState}
 use Rattle.mapf_lemmas.specs.declared.joint.JointState.TheVariants.{Both, FirstAlone, SecondAlone}
+use Rattle.mapf_lemmas.specs.declared.constraint.PathConstraint.TheVariants.{NotAt}
+use Rattle.mapf_lemmas.specs.Constraints.{demanded_cost}
 use Rattle.mapf_lemmas.specs.Examples.{at_starts, middle_list, NoGreaterLabelIsSound}
 use Rattle.mapf_lemmas.specs.JointLabels.{PairTask, PairEntries, first_task, second_task, joint_entries_of, IsJointLabel, IsSoundTogether, IsSoundJointEntry, AreSoundTogether}
 use Rattle.mapf_lemmas.specs.Lemmas.{pair_of}
@@ -21,7 +23,7 @@ use Rattle.mapf_model.specs.Distance.{Walk, IsDistance}
 use Rattle.mapf_model.specs.Examples.{open_square, crossing, agent, entry}
 use Rattle.mapf_model.specs.Grid.{Step, IsFree}
 use Rattle.mapf_model.specs.Labels.{Entries, IsAtMost, label_plus, entries_of}
-use Rattle.mapf_model.proofs.ContainsLemmas.{Contains-none}
+use Rattle.mapf_model.proofs.ContainsLemmas.{Contains-none, Contains-cons_new}
 use Rattle.mapf_model.proofs.ListedLemmas.{listed_is_contained}
 use Rattle.mapf_model.proofs.StepLemmas.{step_end}
 
@@ -112,9 +114,17 @@ after_step_of_1 (suc (suc (suc (suc (suc (suc (suc (suc zero)))))))) step = absu
 after_step_of_1 (suc (suc (suc (suc (suc (suc (suc (suc (suc k))))))))) step =
     absurd (no_ninth_cell k (step_end open_square 1 (suc (suc (suc (suc (suc (suc (suc (suc (suc k))))))))) step))
 
--- without constraints and with units of a tick, the default of a cell is its distance
-default_is : (task : Task) (cell tick d : ℕ) → task.list.unit ≡ 1 → task.constraints ≡ [] → IsDistance task.grid task.agent.goal cell d → IsDefault task cell tick (Ticks d)
+-- without a demand on the cost and with units of a tick, the default of a cell is its distance
+default_is : (task : Task) (cell tick d : ℕ) → task.list.unit ≡ 1 → demanded_cost task.constraints ≡ 0 → IsDistance task.grid task.agent.goal cell d → IsDefault task cell tick (Ticks d)
 default_is task cell tick d one none is = (d, is, rw (one, none) (omega arith))
+
+-- one agent that may not be in the middle at tick 1
+abbrev pub away_task : Agent → Task
+away_task a = record { grid = open_square; list = no_list; agent = a; constraints = NotAt 4 1 ∷ [] }
+
+not_near : (next d : ℕ) → next ≢ 4 → ((next ≡ 4) × (d ≡ 1)) ⊎ (2 ≤ d) → 3 ≤ 1 + d
+not_near next d elsewhere (inl (middle, one)) = absurd (elsewhere middle)
+not_near next d elsewhere (inr far) = omega arith
 
 -- one agent, with the price of the middle
 abbrev pub priced_task : Agent → Task
@@ -128,22 +138,32 @@ module _ (a : Agent) (away : a.start ≢ a.goal) (start : IsDistance open_square
   abbrev start_entries : Entries
   start_entries = entries_of (entry a.start 0 (Ticks 3) ∷ [])
 
-  later_default : (next d : ℕ) → IsDistance open_square a.goal next d → IsSingleLabel (priced_task a) start_entries next 1 (Ticks d)
-  later_default next d is = rw (and-false (a.start == next)) (default_is (priced_task a) next 1 d refl refl is)
+  later_default : (task : Task) (next : ℕ) (label : Label) → IsDefault task next 1 label → IsSingleLabel task start_entries next 1 label
+  later_default task next label is = rw (and-false (a.start == next)) is
 
-  sound_at_start : IsSoundEntry (priced_task a) start_entries a.start 0 (Ticks 3)
-  sound_at_start = record {
+  all_sound : (task : Task) → IsSoundEntry task start_entries a.start 0 (Ticks 3) → AreSound task start_entries
+  all_sound task at_start cell tick label found =
+      let same = only_member _ _ (listed_is_contained (entry a.start 0 (Ticks 3) ∷ []) cell tick label found) in
+      subst (λ one. IsSoundEntry task start_entries one.cell one.tick one.label) same at_start
+
+  pub away_sound : AreSound (away_task a) start_entries
+  away_sound = all_sound (away_task a) (record {
+    raised = (2, default_is (away_task a) a.start 0 2 refl refl start, omega arith);
+    at_rest = λ free rest. absurd (away rest.at_goal);
+    onward = λ free next may.
+        let found = after_step next may.step in
+        let elsewhere = λ (middle : next ≡ 4). may.arrival (NotAt 4 1, Contains-cons_new (NotAt 4 1) [], (sym middle, refl)) in
+        (Ticks found.0, later_default (away_task a) next (Ticks found.0) (default_is (away_task a) next 1 found.0 refl refl found.1), not_near next found.0 elsewhere found.2);
+  })
+
+  pub priced_sound : AreSound (priced_task a) start_entries
+  priced_sound = all_sound (priced_task a) (record {
     raised = (2, default_is (priced_task a) a.start 0 2 refl refl start, omega arith);
     at_rest = λ free rest. absurd (away rest.at_goal);
     onward = λ free next may.
         let found = after_step next may.step in
-        (Ticks found.0, later_default next found.0 found.1, price_after a.start next found.0 found.2);
-  }
-
-  pub priced_sound : AreSound (priced_task a) start_entries
-  priced_sound cell tick label found =
-      let same = only_member _ _ (listed_is_contained (entry a.start 0 (Ticks 3) ∷ []) cell tick label found) in
-      subst (λ one. IsSoundEntry (priced_task a) start_entries one.cell one.tick one.label) same sound_at_start
+        (Ticks found.0, later_default (priced_task a) next (Ticks found.0) (default_is (priced_task a) next 1 found.0 refl refl found.1), price_after a.start next found.0 found.2);
+  })
 
 -- both agents together
 abbrev pub crossing_pair : PairTask

@@ -8,4 +8,7 @@ pub mod CertificateLemmas
 pub mod DecidedLemmas
 pub mod DistanceLemmas
 pub mod CrossingLemmas
-pub mod ExampleLemmas
+pub mod SmallLists
+pub mod CertificateExamples
+pub mod CaseExamples
+pub mod ConstraintExamples

@@ -5,12 +5,13 @@ use Rattle.mapf_lemmas.specs.declared.constraint.PathConstraint.TheVariants.{Not
 use Rattle.mapf_lemmas.specs.declared.joint.JointEntry.{JointEntry}
 use Rattle.mapf_lemmas.specs.declared.joint.JointState.TheVariants.{Both}
 use Rattle.mapf_lemmas.specs.declared.price.Price.TheVariants.{Cell}
-use Rattle.mapf_lemmas.specs.declared.split.Split.TheVariants.{Cost as CostSplit, Costs}
-use Rattle.mapf_lemmas.specs.Cases.{Leaf, left_constraints, right_constraints, IsProperSplit}
+use Rattle.mapf_lemmas.specs.declared.split.Split.TheVariants.{Vertex, Cost as CostSplit, Costs}
+use Rattle.mapf_lemmas.specs.Cases.{CaseTree, Branch, Leaf, left_constraints, right_constraints, IsProperSplit}
 use Rattle.mapf_lemmas.specs.Constraints.{Satisfies}
 use Rattle.mapf_lemmas.specs.Groups.{LeafUses, Scope}
 use Rattle.mapf_lemmas.specs.JointLabels.{joint_entries_of, AreSoundTogether}
-use Rattle.mapf_lemmas.specs.Lemmas.{Lemma, One, Two, NeverArrive, pair_of, scope_of, CertificateShows}
+use Rattle.mapf_lemmas.specs.Lemmas.{Lemma, One, Two, NeverArrive, ByCases, pair_of, scope_of, LemmaShows}
+use Rattle.mapf_lemmas.specs.Lemmas.{CertificateShows}
 use Rattle.mapf_lemmas.specs.Prices.{PriceList, no_list}
 use Rattle.mapf_lemmas.specs.SingleLabels.{Task, IsBarred, MayRest}
 use Rattle.mapf_lemmas.specs.Statements.{Statement, Stands}
@@ -27,17 +28,17 @@ at_starts bound = record { state = Both 3 1; tick = 0; label = Ticks bound }
 abbrev pub crossing_lemma : Lemma
 crossing_lemma = Two 0 1 [] None [] [] (at_starts 5 ∷ [])
 
--- a leaf that uses lemma 0 alone, in a group
-abbrev pub one_group : LeafUses
-one_group = record {
+-- a leaf that uses one lemma alone, in a group
+abbrev pub one_group : ℕ → LeafUses
+one_group lemma = record {
   list_number = None;
   singles = [];
-  groups = record { divisor = 1; uses = record { lemma = 0; weight = 1 } ∷ [] } ∷ [];
+  groups = record { divisor = 1; uses = record { lemma = lemma; weight = 1 } ∷ [] } ∷ [];
 }
 
 -- a certificate with one lemma of two agents shows that no plan of the crossing costs less than 5, without a split
 abbrev pub ALemmaOfTwoShowsFive : Type 0
-ALemmaOfTwoShowsFive = CertificateShows crossing [] (crossing_lemma ∷ []) (Leaf one_group) (Cost 5)
+ALemmaOfTwoShowsFive = CertificateShows crossing [] (crossing_lemma ∷ []) (Leaf (one_group 0)) (Cost 5)
 
 -- crossing agents can cost 5 together, so 6 is not a sound label of their starts
 abbrev pub NoGreaterLabelIsSound : Type 0
@@ -70,7 +71,44 @@ corridor_lemma = NeverArrive 0 1 (record { first = 0; second = 1 } ∷ [])
 -- a set of one joint cell shows that no plan is valid
 abbrev pub JointCellsShowImpossibility : Type 0
 JointCellsShowImpossibility =
-    CertificateShows neighbours [] (corridor_lemma ∷ []) (Leaf one_group) Impossible
+    CertificateShows neighbours [] (corridor_lemma ∷ []) (Leaf (one_group 0)) Impossible
+
+-- the lemma of one agent that its path costs 3 if it isn't in the middle at tick 1
+abbrev pub away_lemma : ℕ → ℕ → Lemma
+away_lemma agent start = One agent (NotAt 4 1 ∷ []) None (entry start 0 (Ticks 3) ∷ [])
+
+-- a leaf that uses one lemma of a single agent
+abbrev pub one_single : ℕ → LeafUses
+one_single lemma = record { list_number = None; singles = lemma ∷ []; groups = [] }
+
+-- a split on the conflict of the shortest paths, with a leaf in each child that uses one lemma
+abbrev pub middle_split : ℕ → ℕ → CaseTree
+middle_split left right = Branch (Vertex 0 1 4 1) (Leaf (one_single left)) (Leaf (one_single right))
+
+-- a lemma by cases: each leaf uses the lemma of the agent that isn't in the middle there
+abbrev pub cases_lemma : Lemma
+cases_lemma = ByCases (0 ∷ 1 ∷ []) [] (Ticks 5) (middle_split 0 1)
+
+-- a lemma by cases shows the same, as a certificate of version 2 does by its tree
+abbrev pub CasesShowFive : Type 0
+CasesShowFive =
+    CertificateShows crossing [] (away_lemma 0 3 ∷ away_lemma 1 1 ∷ cases_lemma ∷ []) (Leaf (one_group 2)) (Cost 5)
+
+-- what the lemma of one agent away from the middle says
+abbrev pub away_statement : ℕ → Statement
+away_statement agent = record {
+  agents = agent ∷ [];
+  constraints = record { agent = agent; constraint = NotAt 4 1 } ∷ [];
+  list_number = None;
+  bound = Ticks 3;
+}
+
+-- with its leaves exchanged the lemma shows nothing: no leaf may use a lemma whose constraint isn't met there
+abbrev pub UsesNeedTheirConstraints : Type 0
+UsesNeedTheirConstraints =
+    (statement : Statement) →
+    LemmaShows crossing [] (away_statement 0 ∷ away_statement 1 ∷ [])
+    (ByCases (0 ∷ 1 ∷ []) [] (Ticks 5) (middle_split 1 0)) statement → ⊥
 
 -- the first of the crossing agents, under one constraint
 abbrev pub task_under : PathConstraint → Task

@@ -1,15 +1,18 @@
 //! What the definitions say of small problems, proved for those who review them. No code calls these functions.
 ghost use Rattle.mapf_lemmas.specs.Examples.{ALemmaOfTwoShowsFive, NoGreaterLabelIsSound, PricesShowFive};
-ghost use Rattle.mapf_lemmas.specs.Examples.{JointCellsShowImpossibility, ClearForbidsRest, NotForbidsRestUntilThen};
+ghost use Rattle.mapf_lemmas.specs.Examples.{JointCellsShowImpossibility, CasesShowFive, UsesNeedTheirConstraints};
+ghost use Rattle.mapf_lemmas.specs.Examples.{ClearForbidsRest, NotForbidsRestUntilThen};
 ghost use Rattle.mapf_lemmas.specs.Examples.{LeastAllowsRestAtItsTick, MostBarsWhoIsLate, MostStandsForNoNot};
 ghost use Rattle.mapf_lemmas.specs.Examples.{CostSplitsByTheCost, CostsNeedsItsLemma, CostsRaisesTheOther};
 
-/// The definitions of certificates on small problems, lemmas of each kind but by cases among them.
+/// The definitions of certificates on small problems, with a lemma of each kind.
 pub fn certificates_by_example()
     ensures two { ALemmaOfTwoShowsFive }
     ensures greater { NoGreaterLabelIsSound }
     ensures prices { PricesShowFive }
     ensures never { JointCellsShowImpossibility }
+    ensures cases { CasesShowFive }
+    ensures uses { UsesNeedTheirConstraints }
 {}
 
 /// The definitions of what constraints forbid an agent, and which constraint serves for which.

@@ -1,4 +1,4 @@
-use Rattle.mapf_lemmas.proofs.ExampleLemmas.{cost_splits_by_the_cost, costs_needs_its_lemma, costs_raises_the_other}
+use Rattle.mapf_lemmas.proofs.ConstraintExamples.{cost_splits_by_the_cost, costs_needs_its_lemma, costs_raises_the_other}
 use Rattle.mapf_lemmas.proofs.examples.splits_by_example.Goals as goal
 
 pub returns-clause-cost : goal.returns-clause-cost
