@@ -5,8 +5,8 @@ ghost use Rattle.mapf_fields.specs.Ends.{IsCut, lacks_end};
 ghost use Rattle.mapf_certificate.specs.Buffered.{spare};
 ghost use Rattle.mapf_certificate.specs.Untouched.{HasLine, IsUntouched};
 ghost use Rattle.mapf_certificate.specs.Window.{Window, LacksLine, LacksBytes};
-ghost use Rattle.std.specs.Prelude.{[], ◌++◌, take, ◌≡◌, ◌<◌, ◌≤◌, ◌+◌, ◌==◌, length, drop, IfOk, IfErr};
-ghost use Rattle.std.specs.Prelude.{IfSome, IfNone, OnOk, vec_len, vec_capacity, false, true};
+ghost use Rattle.std.specs.Prelude.{[], ◌++◌, take, ◌≡◌, ◌↔◌, ◌<◌, ◌≤◌, ◌+◌, ◌==◌, ℕ, List, length, drop, IfOk, IfErr};
+ghost use Rattle.std.specs.Prelude.{IfSome, IfNone, OnOk, IsTrue, vec_len, vec_capacity, false, true};
 
 use mapf_fields::line_length;
 use mapf_model::limits::LONGEST_CERT_LINE;
@@ -174,5 +174,20 @@ impl LineBuffer {
                 return Err(NoLine::Ended);
             }
         }
+    }
+
+    /// Reads until a whole line is in the buffer, and takes nothing. Returns whether it is this one.
+    pub fn begins_with<S: Source>(&mut self, source: &mut S, line: &[u8]) -> Result<bool, NoLine>
+        requires { S.has_failed source.old ≡ false }
+        ensures window { OnOk result (Window (S.remaining source.old) (S.remaining source.new) self.old self.new []) }
+        ensures line { IfOk result (λ is. (first : List ℕ) × (rest : List ℕ) × IsCut self.new.bytes first rest
+            × (IsTrue is ↔ first ≡ line.now)) }
+        ensures stopped { IfErr result
+            (LacksLine (S.remaining source.old) (S.remaining source.new) (S.has_failed source.new) self.old self.new) }
+        ensures works { OnOk result (S.has_failed source.new ≡ false) }
+        ensures spare { spare self.new ≡ spare self.old }
+    {
+        let n = self.ready(source)?;
+        Ok(self.front(n) == line)
     }
 }

@@ -20,6 +20,7 @@ ghost use Rattle.std.specs.Io.KnownBytes.{IsAtEnd};
 ghost use Rattle.std.specs.Prelude.{[], ◌∷◌, ◌++◌, ℕ, List, Some, true, IfErr, IsErrOf, ◌^◌, ◌≡◌, ◌↔◌, ◌<◌, ◌≤◌, ◌+◌};
 ghost use Rattle.std.specs.Prelude.{IfOk, IfSome, IsSome, IsSomeAnd, OnOk, None, false, MatchResult};
 
+use crate::buffer::LineBuffer;
 use crate::cert::LinesFault;
 use crate::line::CertLine;
 use crate::lines::Lines;
@@ -102,18 +103,39 @@ impl CertLines {
           pending = 1;
         }) }
     {
-        Ok(CertLines {
+        Ok(CertLines::over(alloc, width, height, LineBuffer::open(alloc, limit)?))
+    }
+
+    /// Reads a certificate whose first bytes are in a buffer already, of which nothing was taken.
+    pub fn over(alloc: Global, width: u32, height: u32, buffer: LineBuffer) -> CertLines
+        requires some_columns { 1 ≤ width }
+        requires few_columns { width ≤ greatest_side }
+        requires some_rows { 1 ≤ height }
+        requires few_rows { height ≤ greatest_side }
+        requires bounded { spare buffer < 2 ^ 64 }
+        ensures { result ≡ record {
+          width = width;
+          height = height;
+          buffer = buffer;
+          version = One;
+          header = None;
+          fault = None;
+          is_whole = false;
+          pending = 1;
+        } }
+    {
+        CertLines {
             alloc,
             width,
             height,
-            lines: Lines::open(alloc, limit)?,
+            lines: Lines::over(buffer),
             version: Version::One,
             header: None,
             fault: None,
             is_whole: false,
             pending: 1,
             item_line: 0,
-        })
+        }
     }
 
     /// Returns the line in which the last item begins, counted from 1, or 0 before the first. No contract says which

@@ -32,6 +32,7 @@ mod text_writer;
 mod tree_line;
 mod version;
 
+pub use buffer::{LineBuffer, NoLine};
 pub use cert::{Cert, CertFault, LinesFault};
 pub use cert_converter::convert_cert;
 pub use cert_lines::CertLines;

@@ -17,7 +17,7 @@ use crate::listed::Listed;
 use crate::sizes::Sizes;
 use crate::tree_line::{Due, line_of};
 use mapf_fields::LineFault;
-use mapf_model::{OutOfMemory, Source};
+use mapf_model::Source;
 use std::alloc::Global;
 
 /// For how many values of a list memory is requested at once. Most blocks have no more entries; and if a text announces
@@ -53,14 +53,11 @@ fn fault_without_line(line: u64, why: NoLine) -> LinesFault
 }
 
 impl Lines {
-    /// Allocates the buffer. At most `limit` bytes may come from the source.
-    pub fn open(alloc: Global, limit: u64) -> Result<Lines, OutOfMemory>
-        ensures { IfOk result (λ lines. lines.buffer ≡ record { bytes = []; left = limit }) }
+    /// Goes on with a buffer of which no line was taken.
+    pub fn over(buffer: LineBuffer) -> Lines
+        ensures { result.buffer ≡ buffer }
     {
-        Ok(Lines {
-            buffer: LineBuffer::open(alloc, limit)?,
-            count: 0,
-        })
+        Lines { buffer, count: 0 }
     }
 
     /// Returns the error that the line taken last is out of place.
