@@ -4,10 +4,11 @@ ghost use Rattle.mapf_model.specs.Limits.{longest_cert_line};
 ghost use Rattle.mapf_fields.specs.Ends.{IsCut, lacks_end};
 ghost use Rattle.mapf_certificate.specs.Buffered.{spare};
 ghost use Rattle.mapf_certificate.specs.Untouched.{HasLine, IsUntouched};
-ghost use Rattle.mapf_certificate.specs.Window.{Window, LacksLine, LacksBytes};
+ghost use Rattle.mapf_certificate.specs.Window.{Window, Fails, LacksLine, LacksBytes};
 ghost use Rattle.std.specs.Prelude.{[], ◌++◌, take, ◌≡◌, ◌↔◌, ◌<◌, ◌≤◌, ◌+◌, ◌==◌, ℕ, List, length, drop, IfOk, IfErr};
 ghost use Rattle.std.specs.Prelude.{IfSome, IfNone, OnOk, IsTrue, vec_len, vec_capacity, false, true};
 
+use crate::cert::{CertFault, LinesFault};
 use mapf_fields::line_length;
 use mapf_model::limits::LONGEST_CERT_LINE;
 use mapf_model::{OutOfMemory, Source};
@@ -189,5 +190,26 @@ impl LineBuffer {
     {
         let n = self.ready(source)?;
         Ok(self.front(n) == line)
+    }
+
+    /// Checks that nothing is left. `line` is the number of the line that would be next, counted from 1.
+    pub fn end<S: Source>(&mut self, source: &mut S, line: u64) -> Result<(), LinesFault>
+        requires { S.has_failed source.old ≡ false }
+        ensures works { OnOk result (S.has_failed source.new ≡ false) }
+        ensures spare { spare self.new ≤ spare self.old }
+        ensures taken { OnOk result (Window (S.remaining source.old) (S.remaining source.new) self.old self.new []) }
+        ensures ended { OnOk result (IsAtEnd (S.remaining source.new)) }
+        ensures empty { OnOk result (self.new.bytes ≡ []) }
+        ensures fails { IfErr result (Fails (S.remaining source.old) (S.remaining source.new) (S.has_failed source.new)
+            self.old (λ text. text ≡ [])) }
+    {
+        if !self.is_empty() {
+            return Err(LinesFault::Text(CertFault::K4(line)));
+        }
+        match self.fill(source) {
+            Ok(true) => Err(LinesFault::Text(CertFault::K4(line))),
+            Ok(false) => Ok(()),
+            Err(why) => Err(LinesFault::without_line(line, why)),
+        }
     }
 }

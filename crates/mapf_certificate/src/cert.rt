@@ -1,6 +1,10 @@
 //! A certificate as a value, and the errors of its text. The readers and the writer share these, and the checker
 //! reports the errors.
+ghost use Rattle.mapf_certificate.specs.Window.{IsTextFault, Reports};
+
+use crate::buffer::NoLine;
 use crate::version::Version;
+use mapf_fields::LineFault;
 use mapf_model::{Claim, Item};
 
 /// A certificate: the version of its text, for how many agents it is, 1 to 200, what it claims, and the items of its
@@ -40,4 +44,28 @@ pub enum LinesFault {
     TooLong,
     /// Out of memory.
     Memory,
+}
+
+impl LinesFault {
+    /// Returns the error of the line of this number, counted from 1, which is wrong in this way.
+    pub fn of_line(line: u64, fault: LineFault) -> LinesFault
+        ensures { IsTextFault result }
+    {
+        match fault {
+            LineFault::Shape => LinesFault::Text(CertFault::K1(line)),
+            LineFault::Range => LinesFault::Text(CertFault::K3(line)),
+        }
+    }
+
+    /// Returns the error that there is no line of this number, counted from 1, for this reason.
+    pub fn without_line(line: u64, why: NoLine) -> LinesFault
+        ensures { Reports why result }
+    {
+        match why {
+            NoLine::Ended => LinesFault::Text(CertFault::K2(line)),
+            NoLine::Overlong => LinesFault::Text(CertFault::K1(line)),
+            NoLine::Device => LinesFault::Device,
+            NoLine::PastLimit => LinesFault::TooLong,
+        }
+    }
 }

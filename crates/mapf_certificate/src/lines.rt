@@ -5,18 +5,17 @@ ghost use Rattle.mapf_certificate.specs.Bounded.{AreInOrder, AreSpelledApart, Be
 ghost use Rattle.mapf_certificate.specs.Certificates.{line_text};
 ghost use Rattle.mapf_certificate.specs.Lines.{IsLine, width_of};
 ghost use Rattle.mapf_certificate.specs.Untouched.{HasLine, TakesThere};
-ghost use Rattle.mapf_certificate.specs.Window.{Window, BeginsWith, Fails, IsTextFault, Reports};
+ghost use Rattle.mapf_certificate.specs.Window.{Window, BeginsWith, Fails, IsTextFault};
 ghost use Rattle.std.specs.Io.KnownBytes.{IsAtEnd};
 ghost use Rattle.std.specs.List.{flat_map};
 ghost use Rattle.std.specs.Prelude.{◌≡◌, ◌≤◌, ◌+◌, List, IfOk, IfErr, OnOk, [], false};
 
-use crate::buffer::{LineBuffer, NoLine};
+use crate::buffer::LineBuffer;
 use crate::cert::{CertFault, LinesFault};
 use crate::line::CertLine;
 use crate::listed::Listed;
 use crate::sizes::Sizes;
 use crate::tree_line::{Due, line_of};
-use mapf_fields::LineFault;
 use mapf_model::Source;
 use std::alloc::Global;
 
@@ -30,26 +29,6 @@ pub struct Lines {
     pub buffer: LineBuffer,
     // How many were taken: the number of the line that was taken last, counted from 1.
     pub count: u64,
-}
-
-fn fault_of_line(line: u64, fault: LineFault) -> LinesFault
-    ensures { IsTextFault result }
-{
-    match fault {
-        LineFault::Shape => LinesFault::Text(CertFault::K1(line)),
-        LineFault::Range => LinesFault::Text(CertFault::K3(line)),
-    }
-}
-
-fn fault_without_line(line: u64, why: NoLine) -> LinesFault
-    ensures { Reports why result }
-{
-    match why {
-        NoLine::Ended => LinesFault::Text(CertFault::K2(line)),
-        NoLine::Overlong => LinesFault::Text(CertFault::K1(line)),
-        NoLine::Device => LinesFault::Device,
-        NoLine::PastLimit => LinesFault::TooLong,
-    }
 }
 
 impl Lines {
@@ -91,10 +70,10 @@ impl Lines {
                 self.buffer.take(n + 1);
                 match line {
                     Ok(line) => Ok(line),
-                    Err(fault) => Err(fault_of_line(self.count, fault)),
+                    Err(fault) => Err(LinesFault::of_line(self.count, fault)),
                 }
             }
-            Err(why) => Err(fault_without_line(self.count, why)),
+            Err(why) => Err(LinesFault::without_line(self.count, why)),
         }
     }
 
@@ -110,15 +89,7 @@ impl Lines {
         ensures fails { IfErr result (Fails (S.remaining source.old) (S.remaining source.new) (S.has_failed source.new)
             self.old.buffer (λ text. text ≡ [])) }
     {
-        let line = self.count.saturating_add(1);
-        if !self.buffer.is_empty() {
-            return Err(LinesFault::Text(CertFault::K4(line)));
-        }
-        match self.buffer.fill(source) {
-            Ok(true) => Err(LinesFault::Text(CertFault::K4(line))),
-            Ok(false) => Ok(()),
-            Err(why) => Err(fault_without_line(line, why)),
-        }
+        self.buffer.end(source, self.count.saturating_add(1))
     }
 
     /// Reads so many values, which rise.

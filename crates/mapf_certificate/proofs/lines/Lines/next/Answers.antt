@@ -9,12 +9,12 @@ use Rattle.mapf_certificate.proofs.lines.Lines.next.Goals as goal
 pub returns-in-Err-line-clause-fails : goal.returns-in-Err-line-clause-fails
 returns-in-Err-line-clause-fails g c =
     let due = c.args.due.now in
-    Fails-text _ _ _ _ _ _ c.fault_of_line.ensures c.in-Ok.ensures.works
+    Fails-text _ _ _ _ _ _ c.of_line.ensures c.in-Ok.ensures.works
     (refused_line due _ _ _ _ _ _ c.in-Ok.ensures.window c.in-Ok.ensures.line.1 (λ l is e. let again = c.in-Err-line.ensures.only l is (c.front.ensures ∙ e) in cc))
 
 pub returns-in-Err-clause-fails : goal.returns-in-Err-clause-fails
 returns-in-Err-clause-fails g c =
-    lacking c.args.due.now _ _ _ _ _ _ _ c.in-Err.ensures.stopped c.fault_without_line.ensures
+    lacking c.args.due.now _ _ _ _ _ _ _ c.in-Err.ensures.stopped c.without_line.ensures
 
 pub returns-in-Ok-line-clause-there : goal.returns-in-Ok-line-clause-there
 returns-in-Ok-line-clause-there g c = λ rest e.
