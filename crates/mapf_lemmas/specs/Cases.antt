@@ -55,7 +55,8 @@ pub record BoundsTwo (scope : Scope) (constraints : ℕ → List PathConstraint)
   pub unpriced : statement.list_number ≡ None
   pub enough : IsAtMost (Ticks total) statement.bound
 
--- the split names agents of the problem, free cells, or two that are adjacent, and a lemma that says what it needs
+-- the split names agents of the problem, different ones if there are two, free cells, or two that are adjacent, and a
+-- lemma that says what it needs
 abbrev pub IsProperSplit : Scope → (ℕ → List PathConstraint) → Split → Type 0
 IsProperSplit scope constraints (Vertex i j cell tick) =
     AreTwoAgents scope.problem i j × IsFree scope.problem.grid cell
@@ -65,7 +66,8 @@ IsProperSplit scope constraints (Cost i ticks) = i < length scope.problem.agents
 IsProperSplit scope constraints (Costs i ticks j least lemma) =
     AreTwoAgents scope.problem i j × BoundsTwo scope constraints lemma i j (ticks + least)
 
--- the tree shows, of all plans that satisfy the constraints, that the agents of the scope cost at least this together
+-- the tree shows, of all valid plans that satisfy the constraints, that the agents of the scope cost at least this
+-- together
 abbrev pub TreeShows : Scope → Label → (ℕ → List PathConstraint) → CaseTree → Type 0
 TreeShows scope target constraints (Branch split left right) =
     IsProperSplit scope constraints split

@@ -1,5 +1,5 @@
--- The lower bound of a leaf: the least priced costs of single agents, and what groups of lemmas add to them. A group is
--- a fractional packing of its lemmas. (Own)
+-- The lower bound of a leaf: lower bounds on the priced costs of single agents, and what groups of lemmas add to them.
+-- A group is a fractional packing of its lemmas. (Own)
 use Rattle.std.specs.Prelude.{◌≡◌, ◌≢◌, ◌⊎◌, ℕ, ◌+◌, ◌-◌, ◌*◌, ◌/◌, ◌≤◌, List, [], ◌∷◌, Option, None, Some, All}
 use Rattle.std.specs.Prelude.{AllPairs, Contains, sum_by, count_by, slice_get, ◌==◌}
 use Rattle.mapf_lemmas.specs.declared.constraint.PathConstraint.{PathConstraint}
@@ -12,7 +12,7 @@ use Rattle.mapf_model.specs.declared.problem.Agent.{Agent}
 use Rattle.mapf_model.specs.Labels.{IsAtMost, IsDistanceLabel}
 use Rattle.mapf_model.specs.Plan.{Instance}
 
--- uses of lemmas, whose weighted sum is divided
+-- uses of lemmas. The weighted sum of what they add is divided
 pub record Group : Type 0 where
   pub divisor : ℕ
   pub uses : List Use
@@ -36,7 +36,8 @@ abbrev pub times : ℕ → Label → Label
 times unit (Ticks n) = Ticks (unit * n)
 times unit Never = Never
 
--- the statement may be used under the constraints of a node: its agents are of the scope, and its constraints stand
+-- the statement may be used under the constraints of a node: its agents are of the scope, and its constraints are
+-- met
 pub record MayBeUsed (scope : Scope) (constraints : ℕ → List PathConstraint) (statement : Statement) : Type 0 where
   pub inside : All (Contains scope.agents) statement.agents
   pub stand : (agent : ℕ) (needed : PathConstraint) → Contains (constraints_of statement.constraints agent) needed →
@@ -49,7 +50,7 @@ Counts number unit statement label =
     ((statement.list_number ≡ number) × (label ≡ statement.bound))
     ⊎ ((statement.list_number ≡ None) × (label ≡ times unit statement.bound))
 
--- the labels of a leaf: what each agent costs at least, and of each lemma that the leaf names its agents and what it
+-- what a leaf counts: what each agent costs at least, and of each lemma that the leaf names its agents and what it
 -- counts
 pub record LeafLabels : Type 0 where
   pub floor : ℕ → Label
@@ -65,8 +66,8 @@ pub record IsNamed (scope : Scope) (constraints : ℕ → List PathConstraint) (
   pub same_agents : labels.agents lemma ≡ statement.agents
   pub counts : Counts leaf.list_number unit statement (labels.counted lemma)
 
--- the least priced cost of an agent: what the leaf's lemma of this agent alone counts, or, if there is none, what the
--- distance of its start is worth
+-- a lower bound on the priced cost of an agent: what the leaf's lemma of this agent alone counts, or, if there is none,
+-- what the distance of its start is worth
 abbrev pub IsFloor : Scope → LeafUses → ℕ → LeafLabels → ℕ → Type 0
 IsFloor scope leaf unit labels agent =
     ((lemma : ℕ) × Contains leaf.singles lemma × (labels.agents lemma ≡ agent ∷ [])
@@ -75,7 +76,7 @@ IsFloor scope leaf unit labels agent =
     × (distance : Label) × (slice_get scope.problem.agents agent ≡ Some a)
     × IsDistanceLabel scope.problem.grid a.goal a.start distance × (labels.floor agent ≡ times unit distance))
 
--- the ticks of a label, 0 if it is infinite
+-- the units of a label, 0 if it is infinite
 abbrev pub ticks_of : Label → ℕ
 ticks_of (Ticks n) = n
 ticks_of Never = 0
@@ -128,7 +129,7 @@ pub record IsProperLeaf (scope : Scope) (constraints : ℕ → List PathConstrai
   pub each_group : All (IsGroup scope constraints leaf list.unit labels) leaf.groups
   pub apart : AllPairs (ShareNoAgent labels) leaf.groups
 
--- some agent's least priced cost is infinite, or what some lemma in a group counts
+-- some agent's lower bound is infinite, or what some lemma in a group counts
 abbrev pub IsInfinite : Scope → LeafUses → LeafLabels → Type 0
 IsInfinite scope leaf labels =
     ((agent : ℕ) × Contains scope.agents agent × (labels.floor agent ≡ Never))
@@ -138,7 +139,7 @@ IsInfinite scope leaf labels =
 -- the bound of a leaf in which all is finite
 abbrev pub leaf_bound : Scope → LeafUses → PriceList → LeafLabels → ℕ
 leaf_bound scope leaf list labels =
-    divided (sum_by (λ agent. ticks_of (labels.floor agent)) scope.agents + sum_by (added labels) leaf.groups
+    divided ((sum_by (λ agent. ticks_of (labels.floor agent)) scope.agents + sum_by (added labels) leaf.groups)
     - total_price list.prices) list.unit
 
 -- the leaf shows that the agents of the scope cost at least this together

@@ -51,14 +51,14 @@ JointLabelBound =
     (Ticks (cell_price pair.list.prices pair.first.start 0 + cell_price pair.list.prices pair.second.start 0)) label)
     (Ticks (priced_cost pair.list p c + priced_cost pair.list q d))
 
--- if two agents never leave a set of joint cells without a conflict, and both goals aren't in it, every two paths
--- conflict
+-- if two agents never leave a set of joint cells without a conflict, and the pair of their goals isn't in it, every two
+-- paths conflict
 abbrev pub ClosedMeansNone : Type 0
 ClosedMeansNone =
     (grid : GridMap) (first second : Agent) (cells : List JointCell) (p q : List ℕ) →
     IsClosed grid first second cells → IsLawful grid first p → IsLawful grid second q → DoNotConflict p q → ⊥
 
--- the agents of a valid plan pay together at most the sum of all prices
+-- different agents of a valid plan pay together at most the sum of all prices
 abbrev pub PricesBound : Type 0
 PricesBound =
     (problem : Instance) (list : PriceList) (plan : List (List ℕ)) (costs agents : List ℕ) →
@@ -66,7 +66,8 @@ PricesBound =
     sum_by (priced_cost_of list plan costs) agents
     ≤ list.unit * sum_by (slice_index costs) agents + total_price list.prices
 
--- a valid plan that satisfies the constraints of a proper split's node satisfies those of one of its children
+-- if the lemmas that may be named are true, a valid plan that satisfies the constraints of a proper split's node
+-- satisfies those of one of its children
 abbrev pub SplitsLoseNoPlan : Type 0
 SplitsLoseNoPlan =
     (scope : Scope) (constraints : ℕ → List PathConstraint) (split : Split) (plan : List (List ℕ)) (costs : List ℕ) →
@@ -90,7 +91,7 @@ LemmasAreTrue =
     (problem : Instance) (lists : List PriceList) (lemmas : List Lemma) (statements : List Statement) →
     LemmasShow problem lists lemmas statements → All (StatementHolds problem lists) statements
 
--- what a certificate shows is true
+-- what a certificate shows is true: no valid plan costs less than its claim, or none is valid
 abbrev pub CertificatesShowTruth : Type 0
 CertificatesShowTruth =
     (problem : Instance) (lists : List PriceList) (lemmas : List Lemma) (tree : CaseTree) (claim : Claim) →
@@ -114,7 +115,7 @@ StatementIsUnique =
     (problem : Instance) (lists : List PriceList) (known : List Statement) (lemma : Lemma) (one other : Statement) →
     LemmaShows problem lists known lemma one → LemmaShows problem lists known lemma other → one ≡ other
 
--- the labels of a proper leaf decide what it shows
+-- what a proper leaf counts decides what it shows
 abbrev pub LeafLabelsDecide : Type 0
 LeafLabelsDecide =
     (scope : Scope) (constraints : ℕ → List PathConstraint) (leaf : LeafUses) (list : PriceList) (labels : LeafLabels)

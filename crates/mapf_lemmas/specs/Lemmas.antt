@@ -39,7 +39,8 @@ pub data Lemma : Type 0 where
 abbrev pub AreConstraintsOn : GridMap → List AgentConstraint → Type 0
 AreConstraintsOn grid constraints = All (λ listed. IsConstraintOn grid listed.constraint) constraints
 
--- the lemma of one agent by labels has this statement: its bound is the sum of the label and the price of the start
+-- the lemma of one agent shows this statement by sound labels: its bound is the sum of the label and the price of the
+-- start
 pub record OneShows (problem : Instance) (lists : List PriceList) (agent : ℕ) (constraints : List PathConstraint)
     (list_number : Option ℕ) (entries : List Entry) (statement : Statement) : Type 0 where
   pub list : PriceList
@@ -70,7 +71,8 @@ pair_of problem list i j a b constraints = record {
   second_constraints = constraints_of constraints j;
 }
 
--- the lemma of two agents by labels has this statement: its bound is the sum of the label and the prices of the starts
+-- the lemma of two agents shows this statement by sound labels: its bound is the sum of the label and the prices of the
+-- starts
 pub record TwoShow (problem : Instance) (lists : List PriceList) (i j : ℕ) (constraints : List AgentConstraint)
     (list_number : Option ℕ) (entries : PairEntries) (statement : Statement) : Type 0 where
   pub list : PriceList
@@ -91,7 +93,7 @@ pub record TwoShow (problem : Instance) (lists : List PriceList) (i j : ℕ) (co
     bound = label_plus (Ticks (cell_price list.prices a.start 0 + cell_price list.prices b.start 0)) label;
   }
 
--- the lemma of two agents that can't both arrive without a conflict has this statement: no plan is valid
+-- the lemma of two agents that can't both arrive without a conflict shows this statement: no plan is valid
 pub record NeverShows (problem : Instance) (i j : ℕ) (cells : List JointCell) (statement : Statement) : Type 0 where
   pub a : Agent
   pub b : Agent
@@ -110,7 +112,7 @@ scope_of problem lists known agents =
 abbrev pub AreDifferentAgents : Instance → List ℕ → Type 0
 AreDifferentAgents problem agents = AllPairs (λ i j. i ≢ j) agents × All (λ i. i < length problem.agents) agents
 
--- the lemma by cases has this statement: what its tree shows
+-- the lemma by cases shows this statement: what its tree shows
 pub record CasesShow (problem : Instance) (lists : List PriceList) (known : List Statement) (agents : List ℕ)
     (constraints : List AgentConstraint) (target : Label) (tree : CaseTree) (statement : Statement) : Type 0 where
   pub are_agents : AreDifferentAgents problem agents
@@ -119,7 +121,7 @@ pub record CasesShow (problem : Instance) (lists : List PriceList) (known : List
   pub is_statement : statement
       ≡ record { agents = agents; constraints = constraints; list_number = None; bound = target }
 
--- the lemma shows the statement, if those that may be named are true
+-- the lemma shows the statement, where these statements may be named
 abbrev pub LemmaShows : Instance → List PriceList → List Statement → Lemma → Statement → Type 0
 LemmaShows problem lists known (One agent constraints list entries) statement =
     OneShows problem lists agent constraints list entries statement
@@ -148,8 +150,8 @@ target_of Impossible = Never
 abbrev pub all_agents : Instance → List ℕ
 all_agents problem = range_with_len 0 (length problem.agents)
 
--- a certificate of version 3 shows its claim: its lemmas show their statements, and its tree, in which all may be
--- named, shows the claim of all agents without constraints
+-- a certificate of version 3 shows its claim: its prices are on the grid, its lemmas show their statements, and its
+-- tree, in which all may be named, shows the claim of all agents without constraints
 pub record CertificateShows (problem : Instance) (lists : List PriceList) (lemmas : List Lemma) (tree : CaseTree)
     (claim : Claim) : Type 0 where
   pub proper_lists : All (λ list. All (IsPriceOn problem.grid) list.prices) lists

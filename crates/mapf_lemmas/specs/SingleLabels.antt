@@ -38,21 +38,21 @@ pub record MayStep (task : Task) (from to tick : ℕ) : Type 0 where
   pub arrival : IsBarred task to (tick + 1) → ⊥
   pub move : Contains task.constraints (NotMove from to tick) → ⊥
 
--- the constraint forbids the agent to arrive for good at this tick
+-- the constraint forbids the agent, which isn't barred, to arrive for good at this tick
 abbrev pub ForbidsRest : Task → ℕ → PathConstraint → Type 0
 ForbidsRest task tick (NotAt cell later) = (cell ≡ task.agent.goal) × (tick ≤ later)
 ForbidsRest task tick (Clear cell from) = cell ≡ task.agent.goal
 ForbidsRest task tick (Least ticks) = tick < ticks
 ForbidsRest task tick other = ⊥
 
--- the agent may arrive for good in this cell at this tick
+-- the agent may arrive for good in this cell at this tick, if the state isn't barred
 pub record MayRest (task : Task) (cell tick : ℕ) : Type 0 where
   pub at_goal : cell ≡ task.agent.goal
   pub allowed : (constraint : PathConstraint) → Contains task.constraints constraint →
       ForbidsRest task tick constraint → ⊥
 
 -- the label of a state without an entry: the unit times the greater of the distance and of the ticks that are left
--- until the greatest cost that a constraint demands at least
+-- until the greatest cost that a constraint demands at least; infinite if the goal can't be reached
 abbrev pub IsDefault : Task → ℕ → ℕ → Label → Type 0
 IsDefault task cell tick (Ticks n) =
     (distance : ℕ) × IsDistance task.grid task.agent.goal cell distance

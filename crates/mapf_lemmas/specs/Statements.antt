@@ -54,8 +54,9 @@ StatementHolds problem lists statement =
     AllSatisfy plan costs (constraints_of statement.constraints) → IsListOf lists statement.list_number list →
     IsAtMost statement.bound (Ticks (sum_by (priced_cost_of list plan costs) statement.agents))
 
--- a constraint that serves for another: it is the same, or a greater `Least`, a smaller `Most`, an earlier `Clear` of
--- the cell, or for `NotAt` a `Clear` of the cell from that tick or an earlier one on
+-- a constraint that meets another, so that a path which satisfies it satisfies the other: it is the same, or a greater
+-- `Least`, a smaller `Most`, an earlier `Clear` of the cell, or for `NotAt` a `Clear` of the cell from that tick or an
+-- earlier one on
 abbrev pub StandsFor : PathConstraint → PathConstraint → Type 0
 StandsFor (NotAt there now) (NotAt cell tick) = (there ≡ cell) × (now ≡ tick)
 StandsFor (Clear there from) (NotAt cell tick) = (there ≡ cell) × (from ≤ tick)
@@ -65,7 +66,7 @@ StandsFor (Most less) (Most ticks) = less ≤ ticks
 StandsFor (Least more) (Least ticks) = ticks ≤ more
 StandsFor one other = ⊥
 
--- some of the constraints serves for it
+-- some of the constraints meets it
 abbrev pub Stands : List PathConstraint → PathConstraint → Type 0
 Stands constraints needed =
     (constraint : PathConstraint) × Contains constraints constraint × StandsFor constraint needed

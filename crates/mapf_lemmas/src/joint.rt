@@ -2,7 +2,7 @@
 use crate::amount::Amount;
 use mapf_model::{Cell, Tick};
 
-/// Where two agents are: neither has arrived at its goal for good, or only the other one has.
+/// Where two agents are: neither has arrived at its goal for good, or one of them has.
 #[derive(Clone, Copy, Debug, PartialEq, Eq)]
 pub enum JointState {
     Both { first: Cell, second: Cell },

@@ -16,18 +16,18 @@ pub fn joint_label_bound()
     ensures { JointLabelBound }
 {}
 
-/// If two agents without a conflict never leave a set of joint cells without both goals, they conflict on every two
-/// paths to their goals.
+/// If two agents never leave a set of joint cells without a conflict, and the pair of their goals isn't in it, every
+/// two of their paths conflict.
 pub fn closed_means_none()
     ensures { ClosedMeansNone }
 {}
 
-/// The agents of a valid plan pay together at most the sum of all prices.
+/// Different agents of a valid plan pay together at most the sum of all prices.
 pub fn prices_bound()
     ensures { PricesBound }
 {}
 
-/// A split loses no valid plan.
+/// A proper split loses no valid plan, if the lemmas that may be named are true.
 pub fn splits_lose_no_plan()
     ensures { SplitsLoseNoPlan }
 {}
@@ -42,7 +42,7 @@ pub fn lemmas_are_true()
     ensures { LemmasAreTrue }
 {}
 
-/// What a certificate of version 3 shows is true.
+/// What a certificate of version 3 shows is true: no valid plan costs less than its claim, or none is valid.
 pub fn certificates_show_truth()
     ensures { CertificatesShowTruth }
 {}

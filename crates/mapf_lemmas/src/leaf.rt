@@ -10,7 +10,7 @@ pub struct Use {
     pub weight: u32,
 }
 
-/// Uses of lemmas, whose weighted sum is divided.
+/// Uses of lemmas. The weighted sum of what they add is divided.
 #[derive(Debug, Drop)]
 pub struct Group {
     pub divisor: u32,

@@ -19,8 +19,8 @@ pub enum Split {
         to: Cell,
         tick: Tick,
     },
-    /// The path of agent `i` costs at most so many ticks, and then no other agent is at its goal from that tick on; or
-    /// it costs more.
+    /// The path of agent `i` costs at most so many ticks, and then no other agent is at the goal of agent `i` from that
+    /// tick on; or it costs more.
     Cost {
         i: u32,
         ticks: u32,
@@ -33,6 +33,6 @@ pub enum Split {
         ticks: u32,
         j: u32,
         least: u32,
-        lemma: u32,
+        lemma: u64,
     },
 }
