@@ -12,7 +12,7 @@ use Rattle.mapf_lemmas.specs.Examples.{crossing_statement, away_lemma, one_singl
 use Rattle.mapf_lemmas.specs.Groups.{Scope, LeafLabels, IsNamed, IsFloor, IsProperLeaf}
 use Rattle.mapf_lemmas.specs.Lemmas.{scope_of, LemmaShows}
 use Rattle.mapf_lemmas.specs.Prices.{no_list}
-use Rattle.mapf_lemmas.specs.Statements.{Statement, constraints_of, StandsFor, Stands}
+use Rattle.mapf_lemmas.specs.Statements.{Statement, constraints_of, Meets, IsMet}
 use Rattle.mapf_lemmas.proofs.CertificateExamples.{crossing_leaf}
 use Rattle.mapf_lemmas.proofs.CrossingLemmas.{only_member, distance_3_5, distance_1_7, after_step_of_3, after_step_of_1, away_sound}
 use Rattle.mapf_lemmas.proofs.SmallLists.{all_of_one, three_show}
@@ -33,14 +33,14 @@ away_labels k = record { floor = λ agent. cond (agent == k) (Ticks 3) (Ticks 2)
 
 -- what stands at a node where one agent may not be in the middle
 module _ (k : ℕ) (named : slice_get both_away k ≡ Some (away_statement k)) (inside : Contains (0 ∷ 1 ∷ []) k) (constraints : ℕ → List PathConstraint) (stands : Contains (constraints k) (NotAt 4 1)) where
-  stand : (agent : ℕ) (needed : PathConstraint) → Contains (constraints_of (record { agent = k; constraint = NotAt 4 1 } ∷ []) agent) needed → Stands (constraints agent) needed
+  stand : (agent : ℕ) (needed : PathConstraint) → Contains (constraints_of (record { agent = k; constraint = NotAt 4 1 } ∷ []) agent) needed → IsMet (constraints agent) needed
   stand agent needed held = by (k == agent) refl held
     where
-      by : (same : Bool) → (k == agent) ≡ same → Contains (cond same (NotAt 4 1 ∷ []) []) needed → Stands (constraints agent) needed
+      by : (same : Bool) → (k == agent) ≡ same → Contains (cond same (NotAt 4 1 ∷ []) []) needed → IsMet (constraints agent) needed
       by true is found = (
         NotAt 4 1,
         subst (λ one. Contains (constraints one) (NotAt 4 1)) (eqb-true k agent is) stands,
-        subst (StandsFor (NotAt 4 1)) (only_member (NotAt 4 1) needed found) (refl, refl),
+        subst (Meets (NotAt 4 1)) (only_member (NotAt 4 1) needed found) (refl, refl),
       )
       by false is found = absurd (Contains-none needed found)
 
@@ -48,7 +48,7 @@ module _ (k : ℕ) (named : slice_get both_away k ≡ Some (away_statement k)) (
   lemma_is = record {
     statement = away_statement k;
     named = named;
-    usable = record { inside = all_of_one (Contains (0 ∷ 1 ∷ [])) k inside; stand = stand };
+    usable = record { inside = all_of_one (Contains (0 ∷ 1 ∷ [])) k inside; met = stand };
     same_agents = refl;
     counts = inl (refl, refl);
   }
@@ -145,5 +145,5 @@ uses_need_their_constraints statement shows =
     let lemma = leaf.2.each 0 1 (omega arith) in
     let same = same_Some (away_statement 1) lemma.statement lemma.named in
     let needed = subst (λ (one : Statement). Contains (constraints_of one.constraints 1) (NotAt 4 1)) same (Contains-cons_new (NotAt 4 1) []) in
-    let stands = lemma.usable.stand 1 (NotAt 4 1) needed in
+    let stands = lemma.usable.met 1 (NotAt 4 1) needed in
     Contains-none stands.0 stands.1

@@ -66,7 +66,7 @@ module _
       named = named;
       usable = record {
         inside = λ k d within. Contains-get_or (0 ∷ 1 ∷ []) k d within;
-        stand = λ agent needed held. absurd (Contains-none needed held);
+        met = λ agent needed held. absurd (Contains-none needed held);
       };
       same_agents = refl;
       counts = inl (refl, refl);
@@ -141,7 +141,7 @@ single_is lemma named held = record {
   named = named;
   usable = record {
     inside = all_of_one (Contains (0 ∷ 1 ∷ [])) lemma held;
-    stand = λ agent needed none. absurd (Contains-none needed none);
+    met = λ agent needed none. absurd (Contains-none needed none);
   };
   same_agents = refl;
   counts = inl (refl, refl);

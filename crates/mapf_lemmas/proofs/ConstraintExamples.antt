@@ -4,10 +4,10 @@ use Rattle.std.proofs.lemmas.List.Elements.{Contains-get_or}
 use Rattle.std.proofs.lemmas.Option.{same_Some}
 use Rattle.mapf_lemmas.specs.declared.constraint.PathConstraint.{PathConstraint}
 use Rattle.mapf_lemmas.specs.declared.constraint.PathConstraint.TheVariants.{NotAt, Clear, Most, Least}
-use Rattle.mapf_lemmas.specs.Examples.{task_under, ClearForbidsRest, NotForbidsRestUntilThen, LeastAllowsRestAtItsTick, MostBarsWhoIsLate, MostStandsForNoNot, CostSplitsByTheCost, crossing_statement, crossing_scope, unconstrained, CostsNeedsItsLemma, CostsRaisesTheOther}
+use Rattle.mapf_lemmas.specs.Examples.{task_under, ClearForbidsRest, NotForbidsRestUntilThen, LeastAllowsRestAtItsTick, MostBarsWhoIsLate, MostMeetsNoNot, CostSplitsByTheCost, crossing_statement, crossing_scope, unconstrained, CostsNeedsItsLemma, CostsRaisesTheOther}
 use Rattle.mapf_lemmas.specs.Cases.{BoundsTwo}
 use Rattle.mapf_lemmas.specs.SingleLabels.{IsBarred, ForbidsRest, Excludes, MayRest}
-use Rattle.mapf_lemmas.specs.Statements.{Statement, StandsFor}
+use Rattle.mapf_lemmas.specs.Statements.{Statement, Meets}
 use Rattle.mapf_lemmas.proofs.CrossingLemmas.{only_member, walk_3_5}
 use Rattle.mapf_lemmas.proofs.DistanceLemmas.{walk_apart}
 use Rattle.mapf_model.specs.declared.label.Label.TheVariants.{Ticks}
@@ -48,9 +48,9 @@ most_bars_who_is_late = (
   barred_under (Most 2) 5 3 (λ steps walk. omega arith),
 )
 
-pub most_stands_for_no_not : MostStandsForNoNot
-most_stands_for_no_not = (
-  λ (constraint, held, serves). subst (λ one. StandsFor one (NotAt 5 3)) (sym (only_member (Most 2) constraint held)) serves,
+pub most_meets_no_not : MostMeetsNoNot
+most_meets_no_not = (
+  λ (constraint, held, serves). subst (λ one. Meets one (NotAt 5 3)) (sym (only_member (Most 2) constraint held)) serves,
   omega arith,
   λ away. away refl,
 )
@@ -72,7 +72,7 @@ costs_needs_its_lemma = (
       named = refl;
       usable = record {
         inside = λ k d within. Contains-get_or (0 ∷ 1 ∷ []) k d within;
-        stand = λ agent needed held. absurd (Contains-none needed held);
+        met = λ agent needed held. absurd (Contains-none needed held);
       };
       agents = inl refl;
       unpriced = refl;

@@ -13,7 +13,7 @@ use Rattle.mapf_lemmas.specs.declared.constraint.PathConstraint.TheVariants.{Not
 use Rattle.mapf_lemmas.specs.Constraints.{Satisfies}
 use Rattle.mapf_lemmas.specs.Lemmas.{AreDifferentAgents}
 use Rattle.mapf_lemmas.specs.Prices.{PriceList, no_list, total_price}
-use Rattle.mapf_lemmas.specs.Statements.{Statement, IsListOf, priced_cost_of, AllSatisfy, IsCosted, StatementHolds, StandsFor}
+use Rattle.mapf_lemmas.specs.Statements.{Statement, IsListOf, priced_cost_of, AllSatisfy, IsCosted, StatementHolds, Meets}
 use Rattle.mapf_lemmas.specs.declared.leaf.Use.{Use}
 use Rattle.mapf_lemmas.specs.Groups.{Group, LeafUses, Scope, times, MayBeUsed, LeafLabels, IsNamed, IsFloor, ticks_of, occurrences, load, excess, divided, added, IsGroup, IsProperLeaf, IsInfinite, leaf_bound, LeafShows}
 use Rattle.mapf_lemmas.proofs.PriceLemmas.{sum_by-plus, sum_by-at_most}
@@ -24,7 +24,7 @@ use Rattle.mapf_model.specs.Labels.{IsAtMost}
 use Rattle.mapf_model.specs.Path.{at}
 use Rattle.mapf_model.proofs.LabelLemmas.{lawful_bound}
 
-pub stands_satisfies : (path : List ℕ) (cost : ℕ) (one other : PathConstraint) → StandsFor one other → Satisfies path cost one → Satisfies path cost other
+pub stands_satisfies : (path : List ℕ) (cost : ℕ) (one other : PathConstraint) → Meets one other → Satisfies path cost one → Satisfies path cost other
 stands_satisfies path cost (NotAt there then) (NotAt cell tick) (same, now) holds = λ is. holds (ap (at path) now ∙ is ∙ sym same)
 stands_satisfies path cost (Clear there from) (NotAt cell tick) (same, before) holds = λ is. holds tick before (is ∙ sym same)
 stands_satisfies path cost (NotMove a b then) (NotMove from to tick) same holds = λ both.
@@ -87,7 +87,7 @@ module _
         let truth : StatementHolds scope.problem scope.lists statement =
         subst (StatementHolds scope.problem scope.lists) (get_or_from_slice_get scope.known lemma statement statement named) (known lemma statement (slice_get_within scope.known lemma statement named)) in
         truth plan costs list costed (λ agent cost path path_is cost_is needed held.
-        let found = usable.stand agent needed held in
+        let found = usable.met agent needed held in
         stands_satisfies path cost found.0 needed found.2 (obey agent cost path path_is cost_is found.0 found.1)) is_list
 
 module _

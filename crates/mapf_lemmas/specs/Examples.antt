@@ -14,7 +14,7 @@ use Rattle.mapf_lemmas.specs.Lemmas.{Lemma, One, Two, NeverArrive, ByCases, pair
 use Rattle.mapf_lemmas.specs.Lemmas.{CertificateShows}
 use Rattle.mapf_lemmas.specs.Prices.{PriceList, no_list}
 use Rattle.mapf_lemmas.specs.SingleLabels.{Task, IsBarred, MayRest}
-use Rattle.mapf_lemmas.specs.Statements.{Statement, Stands}
+use Rattle.mapf_lemmas.specs.Statements.{Statement, IsMet}
 use Rattle.mapf_model.specs.declared.item.Claim.TheVariants.{Cost, Impossible}
 use Rattle.mapf_model.specs.declared.label.Label.TheVariants.{Ticks}
 use Rattle.mapf_model.specs.Examples.{open_square, neighbours, crossing, agent, entry}
@@ -134,9 +134,9 @@ MostBarsWhoIsLate =
     (IsBarred (task_under (Most 2)) 3 0 → ⊥) × IsBarred (task_under (Most 2)) 3 1 × IsBarred (task_under (Most 2)) 5 3
 
 -- that a path costs at most 2 doesn't serve for the constraint that it isn't in the goal at tick 3: it is there at rest
-abbrev pub MostStandsForNoNot : Type 0
-MostStandsForNoNot =
-    (Stands (Most 2 ∷ []) (NotAt 5 3) → ⊥) × Satisfies (3 ∷ 4 ∷ 5 ∷ []) 2 (Most 2)
+abbrev pub MostMeetsNoNot : Type 0
+MostMeetsNoNot =
+    (IsMet (Most 2 ∷ []) (NotAt 5 3) → ⊥) × Satisfies (3 ∷ 4 ∷ 5 ∷ []) 2 (Most 2)
     × (Satisfies (3 ∷ 4 ∷ 5 ∷ []) 2 (NotAt 5 3) → ⊥)
 
 -- no agent has a constraint

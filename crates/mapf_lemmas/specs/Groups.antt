@@ -5,7 +5,7 @@ use Rattle.std.specs.Prelude.{AllPairs, Contains, sum_by, count_by, slice_get, �
 use Rattle.mapf_lemmas.specs.declared.constraint.PathConstraint.{PathConstraint}
 use Rattle.mapf_lemmas.specs.declared.leaf.Use.{Use}
 use Rattle.mapf_lemmas.specs.Prices.{PriceList, total_price}
-use Rattle.mapf_lemmas.specs.Statements.{Statement, IsListOf, Stands, constraints_of}
+use Rattle.mapf_lemmas.specs.Statements.{Statement, IsListOf, IsMet, constraints_of}
 use Rattle.mapf_model.specs.declared.label.Label.{Label}
 use Rattle.mapf_model.specs.declared.label.Label.TheVariants.{Ticks, Never}
 use Rattle.mapf_model.specs.declared.problem.Agent.{Agent}
@@ -40,8 +40,8 @@ times unit Never = Never
 -- met
 pub record MayBeUsed (scope : Scope) (constraints : ℕ → List PathConstraint) (statement : Statement) : Type 0 where
   pub inside : All (Contains scope.agents) statement.agents
-  pub stand : (agent : ℕ) (needed : PathConstraint) → Contains (constraints_of statement.constraints agent) needed →
-      Stands (constraints agent) needed
+  pub met : (agent : ℕ) (needed : PathConstraint) → Contains (constraints_of statement.constraints agent) needed →
+      IsMet (constraints agent) needed
 
 -- what the bound of the statement counts at a leaf with this list of prices: the bound itself if the statement has the
 -- same list, and the unit times the bound if it has none

@@ -57,16 +57,16 @@ StatementHolds problem lists statement =
 -- a constraint that meets another, so that a path which satisfies it satisfies the other: it is the same, or a greater
 -- `Least`, a smaller `Most`, an earlier `Clear` of the cell, or for `NotAt` a `Clear` of the cell from that tick or an
 -- earlier one on
-abbrev pub StandsFor : PathConstraint → PathConstraint → Type 0
-StandsFor (NotAt there now) (NotAt cell tick) = (there ≡ cell) × (now ≡ tick)
-StandsFor (Clear there from) (NotAt cell tick) = (there ≡ cell) × (from ≤ tick)
-StandsFor (NotMove a b now) (NotMove from to tick) = (a ≡ from) × (b ≡ to) × (now ≡ tick)
-StandsFor (Clear there from) (Clear cell tick) = (there ≡ cell) × (from ≤ tick)
-StandsFor (Most less) (Most ticks) = less ≤ ticks
-StandsFor (Least more) (Least ticks) = ticks ≤ more
-StandsFor one other = ⊥
+abbrev pub Meets : PathConstraint → PathConstraint → Type 0
+Meets (NotAt there now) (NotAt cell tick) = (there ≡ cell) × (now ≡ tick)
+Meets (Clear there from) (NotAt cell tick) = (there ≡ cell) × (from ≤ tick)
+Meets (NotMove a b now) (NotMove from to tick) = (a ≡ from) × (b ≡ to) × (now ≡ tick)
+Meets (Clear there from) (Clear cell tick) = (there ≡ cell) × (from ≤ tick)
+Meets (Most less) (Most ticks) = less ≤ ticks
+Meets (Least more) (Least ticks) = ticks ≤ more
+Meets one other = ⊥
 
 -- some of the constraints meets it
-abbrev pub Stands : List PathConstraint → PathConstraint → Type 0
-Stands constraints needed =
-    (constraint : PathConstraint) × Contains constraints constraint × StandsFor constraint needed
+abbrev pub IsMet : List PathConstraint → PathConstraint → Type 0
+IsMet constraints needed =
+    (constraint : PathConstraint) × Contains constraints constraint × Meets constraint needed

@@ -2,7 +2,7 @@
 ghost use Rattle.mapf_lemmas.specs.Examples.{ALemmaOfTwoShowsFive, NoGreaterLabelIsSound, PricesShowFive};
 ghost use Rattle.mapf_lemmas.specs.Examples.{JointCellsShowImpossibility, CasesShowFive, UsesNeedTheirConstraints};
 ghost use Rattle.mapf_lemmas.specs.Examples.{ClearForbidsRest, NotForbidsRestUntilThen};
-ghost use Rattle.mapf_lemmas.specs.Examples.{LeastAllowsRestAtItsTick, MostBarsWhoIsLate, MostStandsForNoNot};
+ghost use Rattle.mapf_lemmas.specs.Examples.{LeastAllowsRestAtItsTick, MostBarsWhoIsLate, MostMeetsNoNot};
 ghost use Rattle.mapf_lemmas.specs.Examples.{CostSplitsByTheCost, CostsNeedsItsLemma, CostsRaisesTheOther};
 
 /// The definitions of certificates on small problems, with a lemma of each kind.
@@ -15,13 +15,13 @@ pub fn certificates_by_example()
     ensures uses { UsesNeedTheirConstraints }
 {}
 
-/// The definitions of what constraints forbid an agent, and which constraint serves for which.
+/// The definitions of what constraints forbid an agent, and which constraint meets which.
 pub fn constraints_by_example()
     ensures clear { ClearForbidsRest }
     ensures not { NotForbidsRestUntilThen }
     ensures least { LeastAllowsRestAtItsTick }
     ensures most { MostBarsWhoIsLate }
-    ensures stands { MostStandsForNoNot }
+    ensures meets { MostMeetsNoNot }
 {}
 
 /// The definitions of splits on costs.

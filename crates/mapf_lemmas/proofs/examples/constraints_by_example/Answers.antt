@@ -1,4 +1,4 @@
-use Rattle.mapf_lemmas.proofs.ConstraintExamples.{clear_forbids_rest, not_forbids_rest_until_then, least_allows_rest_at_its_tick, most_bars_who_is_late, most_stands_for_no_not}
+use Rattle.mapf_lemmas.proofs.ConstraintExamples.{clear_forbids_rest, not_forbids_rest_until_then, least_allows_rest_at_its_tick, most_bars_who_is_late, most_meets_no_not}
 use Rattle.mapf_lemmas.proofs.examples.constraints_by_example.Goals as goal
 
 pub returns-clause-clear : goal.returns-clause-clear
@@ -13,5 +13,5 @@ returns-clause-least c = least_allows_rest_at_its_tick
 pub returns-clause-most : goal.returns-clause-most
 returns-clause-most c = most_bars_who_is_late
 
-pub returns-clause-stands : goal.returns-clause-stands
-returns-clause-stands c = most_stands_for_no_not
+pub returns-clause-meets : goal.returns-clause-meets
+returns-clause-meets c = most_meets_no_not
