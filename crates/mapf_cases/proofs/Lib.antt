@@ -1,0 +1,15 @@
+pub mod RuleLemmas
+pub mod ClearLemmas
+pub mod StandingLemmas
+pub mod UseLemmas
+pub mod SplitLemmas
+pub mod PathLemmas
+pub mod NodeLemmas
+pub mod ProgressLemmas
+pub mod ListLemmas
+pub mod TotalLemmas
+pub mod FloorLemmas
+pub mod LoadLemmas
+pub mod WeightLemmas
+pub mod GroupLemmas
+pub mod LeafLemmas

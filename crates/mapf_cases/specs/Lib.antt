@@ -1,0 +1,16 @@
+pub mod Rules
+pub mod Clears
+pub mod Standing
+pub mod Layers
+pub mod Scopes
+pub mod Splits
+pub mod Nodes
+pub mod Paths
+pub mod Progress
+pub mod Laws
+pub mod Ranges
+pub mod Totals
+pub mod Floors
+pub mod Places
+pub mod Loads
+pub mod Leaves
