@@ -1,4 +1,4 @@
--- What the entries of one agent are judged by, and how its constraints are looked up.
+-- What the entries of one agent are judged by, and what a lemma of one agent shows.
 use Rattle.std.specs.Prelude.{◌≡◌, ℕ, ◌+◌, ◌<◌, List, Option, Some, All, Contains, map, ◌∷◌, [], slice_get}
 use Rattle.std.specs.Prelude.{slice_index_or}
 use Rattle.mapf_lemmas.specs.declared.constraint.PathConstraint.{PathConstraint}

@@ -10,9 +10,9 @@ use mapf_model::{Cell, OutOfMemory, Tick};
 use std::alloc::Global;
 use std::marker::Model;
 
-/// Marks by which an agent's entries of one tick are found: one for each cell of a grid. Marks are never cleared: a mark
-/// counts only if the entry to which it leads is of the cell and of the tick. So one value serves for all lemmas on a
-/// grid.
+/// Marks by which an agent's entries of one tick are found: one for each cell of a grid. Marks are never cleared: a
+/// mark counts only if the entry to which it leads is of the cell and of the tick. So one value serves for all lemmas
+/// on a grid.
 #[derive(Drop)]
 pub struct EntryMarks {
     // For each cell, how far after the first entry of its tick the entry of the cell that was marked last is; 0 if none
