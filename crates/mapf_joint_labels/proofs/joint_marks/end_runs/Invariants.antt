@@ -1,0 +1,9 @@
+use Rattle.std.proofs.Common.{◌≡◌, length}
+use Rattle.mapf_joint_labels.specs.JointMarks.{AreEnded}
+use Rattle.mapf_joint_labels.proofs.joint_marks.end_runs.Given as goal
+
+abbrev pub invariant-loop-k : goal.invariant-loop-k
+invariant-loop-k l = record {
+  ended : AreEnded l.entries l.runs l.from l.k;
+  size : length l.runs ≡ length l.initial.runs;
+}
