@@ -1,0 +1,15 @@
+pub mod PartLaws
+pub mod KindLaws
+pub mod LineLaws
+pub mod PlainLines
+pub mod LineWindows
+pub mod FrontLaws
+pub mod ListLaws
+pub mod PartTexts
+pub mod PartsApart
+pub mod SizesLaws
+pub mod PartReadings
+pub mod PartHeaders
+pub mod PartShapes
+pub mod PartRuns
+pub mod PartUnique

@@ -1,0 +1,16 @@
+pub mod Ranges
+pub mod Lines
+pub mod LineParts
+pub mod LineReading
+pub mod Laws
+pub mod Beginnings
+pub mod FrontReading
+pub mod PartValues
+pub mod Places
+pub mod PlaceOrder
+pub mod Listing
+pub mod Parts
+pub mod Due
+pub mod PartReading
+pub mod WholeTexts
+pub mod PartWriting
