@@ -200,7 +200,7 @@ fn refuses_nodes(rt: HostRuntime) -> Result<(), Fail> {
             tick: 2,
         })
     };
-    let costs = |i: u32, j: u32, least: u32, lemma: u32| {
+    let costs = |i: u32, j: u32, least: u32, lemma: u64| {
         Node::Branch(Split::Costs {
             i,
             ticks: 4,
