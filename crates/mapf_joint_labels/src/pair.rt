@@ -23,9 +23,9 @@ use std::alloc::Global;
 /// Two agents with their tasks, which are on one grid and have one list of prices, and the entries of each agent and of
 /// both.
 #[derive(Drop)]
-pub struct Pair<'a> {
-    pub first_task: &'a SingleTask<'a>,
-    pub second_task: &'a SingleTask<'a>,
+pub struct Pair<'a, 't> {
+    pub first_task: &'a SingleTask<'t>,
+    pub second_task: &'a SingleTask<'t>,
     pub first: &'a [PricedEntry],
     pub second: &'a [PricedEntry],
     pub joint: &'a [JointEntry],
@@ -69,9 +69,9 @@ pub enum Side {
     Second,
 }
 
-impl<'a> Pair<'a> {
+impl<'a, 't> Pair<'a, 't> {
     /// Returns the task of the agent on this side.
-    pub fn task(&self, side: Side) -> &SingleTask<'a>
+    pub fn task(&self, side: Side) -> &SingleTask<'t>
         requires { IsPair self.now }
         ensures { result.now ≡ own_task (task_of self.now) side }
     {
