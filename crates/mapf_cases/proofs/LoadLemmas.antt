@@ -32,18 +32,6 @@ pub same_loads : (scope : List ℕ) (earlier : ℕ → ℕ → ℕ) (group : ℕ
 same_loads scope earlier group one other divisor loads same are agent held =
     subst (λ n. IsLoadOf (λ k. earlier k agent) group n divisor (slice_index loads.marks.items agent) (slice_index loads.weights.items agent)) (same agent) (are agent held)
 
-pub no_loads : (scope : List ℕ) (earlier : ℕ → ℕ → ℕ) (divisor : ℕ) (loads : Loads) → ((agent : ℕ) → Contains scope agent → slice_index loads.marks.items agent ≡ 0) → AreLoads scope earlier 0 (λ agent. 0) divisor loads
-no_loads scope earlier divisor loads none agent held =
-    let is = none agent held in
-    record {
-      is_weight = sym (weight_of_none 0 (slice_index loads.marks.items agent) (slice_index loads.weights.items agent) (λ e. absurd (omega arith)));
-      within = omega arith;
-      bounded = omega arith;
-      positive = λ e. absurd (omega arith);
-      is_free = λ free k before. absurd (omega arith);
-      is_taken = λ some other. absurd (some is);
-    }
-
 module _ (scope : List ℕ) (earlier : ℕ → ℕ → ℕ) (group : ℕ) (present : ℕ → ℕ) (divisor : ℕ) (old : Loads) (are : AreLoads scope earlier group present divisor old) where
   module _ (new : Loads) (b weight : ℕ) (added : IsAdded group divisor b weight old new) (some : 1 ≤ weight) (in_marks : b < length old.marks.items) (in_weights : b < length old.weights.items) where
     abbrev before : ℕ

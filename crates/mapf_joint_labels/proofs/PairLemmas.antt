@@ -32,11 +32,6 @@ listed_label task lists state tick label is = rw is refl
 pub default_label : (task : PairTask) (lists : PairEntries) (state : JointState) (tick : ℕ) (label : Label) → lists.joint state tick ≡ None → IsJointDefault task lists state tick label → IsJointLabel task lists state tick label
 default_label task lists state tick label is default = rw is default
 
--- the label of both is the sum of the labels of each
-pub sum_label : (pair : Pair) → IsPair pair → (u v tick : ℕ) (a b : Label) → IsSingleLabel pair.first_task.now (lists_of pair).first u tick a → IsSingleLabel pair.second_task.now (lists_of pair).second v tick b →
-    IsJointDefault (task_of pair) (lists_of pair) (Both u v) tick (label_plus a b)
-sum_label pair own u v tick a b is_a is_b = (a, b, is_a, subst (λ (t : Task). IsSingleLabel t (lists_of pair).second v tick b) (sym (second_is pair own)) is_b, refl)
-
 -- a label that is compared with a sum, by the units of both
 pub within_infinite : (label after : Label) (price : ℕ) → units_in after ≡ None → IsAtMost label (label_plus (Ticks price) after)
 within_infinite (Ticks m) (Ticks n) price e = absurd cc

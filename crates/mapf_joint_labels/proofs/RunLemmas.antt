@@ -114,15 +114,6 @@ module _ (cells : List JointCell) (runs : List Run) (begin k first : ℕ) (risin
           (λ (high : first ≤ (slice_index_or cells begin d).first). absurd (other d (omega (arith, t, high))))
           (cases_lt (slice_index_or cells begin d).first first)
 
--- no pair was seen
-pub runs_none : (cells : List JointCell) (runs : List Run) → AreRunsTo cells runs 0 0
-runs_none cells runs = record {
-  low = omega arith;
-  same = λ j d from below. absurd (omega (arith, below));
-  before = λ j d less. absurd (omega (arith, less));
-  runs_to = λ j first less inside of. absurd (omega (arith, less));
-}
-
 -- a joint cell is what its cells say
 pub pair_is : (pair : JointCell) (first second : ℕ) → pair.first ≡ first → pair.second ≡ second → pair ≡ record { first = first; second = second }
 pair_is pair first second a b = rw (← a, ← b) refl

@@ -76,12 +76,6 @@ module _ {A : Type 0} (sizes : LineSizes) (line : A → LemmaLine) (Fits : A →
       let (same, rest) = same_list (IsListed sizes line Fits) (value_text sizes.width line) (values_apart sizes line Fits R injective) values listed.values more listed.after are.each listed.are.each (are.many ∙ sym listed.are.many) listed.spelled in
       subst Next (sym rest) listed.next
 
--- a line that begins no text of this kind
-pub misfit_first : (sizes : LineSizes) (Is : List ℕ → Type 0) (a b : Option (List ℕ)) (failed : Bool) (x y : Buffered) (l : LemmaLine) (fault : LinesFault) → IsTextFault fault → failed ≡ false
-    → Window a b x y (line_text sizes.width l) → ((more : List ℕ) → Is (line_text sizes.width l ++ more) → ⊥) → Fails a b failed x Is fault
-misfit_first sizes Is a b failed x y l fault is works window never =
-    Fails-text a b failed x Is fault is works (Refuses-taken a b x y (line_text sizes.width l) Is window never)
-
 group_same : (m n a b : ℕ) → lines.Group m a ≡ lines.Group n b → (m ≡ n) × (a ≡ b)
 group_same m n a b e = (cc, cc)
 

@@ -60,9 +60,6 @@ CellsDue sizes = BeginsWithList JointCell sizes lines.Cells FitsAnyhow BeforeCel
 abbrev pub AgentsDue : LineSizes → ℕ → List ℕ → Type 0
 AgentsDue sizes = BeginsWithList ℕ sizes lines.Agent FitsAnyhow ◌<◌
 
-abbrev pub SinglesDue : LineSizes → ℕ → List ℕ → Type 0
-SinglesDue sizes = BeginsWithList ℕ sizes lines.Use FitsAnyhow ◌<◌
-
 abbrev pub GroupsDue : LineSizes → ℕ → List ℕ → Type 0
 GroupsDue sizes count = BeginsWith (List Group) (AreInOrder Group (IsGroupInRange sizes) InAnyOrder count) (groups_text sizes.width)
 
