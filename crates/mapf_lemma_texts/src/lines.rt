@@ -13,8 +13,7 @@ use crate::line::LemmaLine;
 use crate::line_reader::line_of;
 use crate::sizes::LinePlace;
 use mapf_certificate::{CertFault, LineBuffer, LinesFault};
-use mapf_model::{OutOfMemory, Source};
-use std::alloc::Global;
+use mapf_model::Source;
 
 /// The lines of a certificate of version 3 that is read from a source.
 #[derive(Drop)]
@@ -26,14 +25,11 @@ pub struct LemmaLines {
 }
 
 impl LemmaLines {
-    /// Allocates the buffer. At most `limit` bytes may come from the source.
-    pub fn open(alloc: Global, limit: u64) -> Result<LemmaLines, OutOfMemory>
-        ensures { IfOk result (λ lines. lines.buffer ≡ record { bytes = []; left = limit }) }
+    /// Reads lines whose first bytes are in a buffer already.
+    pub fn over(buffer: LineBuffer) -> LemmaLines
+        ensures { result.buffer ≡ buffer }
     {
-        Ok(LemmaLines {
-            buffer: LineBuffer::open(alloc, limit)?,
-            count: 0,
-        })
+        LemmaLines { buffer, count: 0 }
     }
 
     /// Returns the error that the line taken last is out of place.

@@ -16,8 +16,8 @@ ghost use Rattle.mapf_model.specs.Limits.{greatest_side, most_agents};
 ghost use Rattle.mapf_model.specs.Printed.{IsClaimInRange};
 ghost use Rattle.mapf_model.specs.declared.item.Claim.{Claim};
 ghost use Rattle.std.specs.Io.KnownBytes.{IsAtEnd};
-ghost use Rattle.std.specs.Prelude.{[], ◌∷◌, ℕ, List, Some, None, true, false, ◌≡◌, ◌↔◌, ◌<◌, ◌≤◌, IfOk, IfErr};
-ghost use Rattle.std.specs.Prelude.{IsErrOf, IfSome, IsSome, IsSomeAnd, OnOk, MatchResult};
+ghost use Rattle.std.specs.Prelude.{[], ◌∷◌, ℕ, List, Some, None, true, false, ◌≡◌, ◌↔◌, ◌<◌, ◌≤◌, ◌^◌, IfOk};
+ghost use Rattle.std.specs.Prelude.{IfErr, IsErrOf, IfSome, IsSome, IsSomeAnd, OnOk, MatchResult};
 
 use crate::due::Due;
 use crate::line::LemmaLine;
@@ -25,7 +25,7 @@ use crate::lines::LemmaLines;
 use crate::part::Part;
 use crate::part_lines::part_of;
 use crate::sizes::{LinePlace, LineSizes};
-use mapf_certificate::LinesFault;
+use mapf_certificate::{LineBuffer, LinesFault};
 use mapf_model::{Claim, OutOfMemory, Source};
 use std::alloc::Global;
 use std::marker::Model;
@@ -98,17 +98,37 @@ impl PartReader {
           is_whole = false;
         }) }
     {
-        Ok(PartReader {
+        Ok(PartReader::over(alloc, width, height, LineBuffer::open(alloc, limit)?))
+    }
+
+    /// Reads a certificate whose first bytes are in a buffer already, of which nothing was taken.
+    pub fn over(alloc: Global, width: u32, height: u32, buffer: LineBuffer) -> PartReader
+        requires some_columns { 1 ≤ width }
+        requires few_columns { width ≤ greatest_side }
+        requires some_rows { 1 ≤ height }
+        requires few_rows { height ≤ greatest_side }
+        requires bounded { spare buffer < 2 ^ 64 }
+        ensures { result ≡ record {
+          width = width;
+          height = height;
+          buffer = buffer;
+          header = None;
+          due = dues.Prices;
+          fault = None;
+          is_whole = false;
+        } }
+    {
+        PartReader {
             alloc,
             width,
             height,
-            lines: LemmaLines::open(alloc, limit)?,
+            lines: LemmaLines::over(buffer),
             header: None,
             due: Due::Prices,
             fault: None,
             is_whole: false,
             part_line: 0,
-        })
+        }
     }
 
     /// Returns the line in which the last part begins, counted from 1, or 0 before the first. What a part lists follows

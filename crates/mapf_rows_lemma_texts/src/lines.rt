@@ -1,7 +1,7 @@
 //! Lines at the ends of their ranges and just beyond them, and texts whose errors name a line. What is expected comes
 //! from the page of the format.
 use crate::expect::expect_same;
-use mapf_certificate::{CertFault, LinesFault};
+use mapf_certificate::{CertFault, LineBuffer, LinesFault};
 use mapf_fields::LineFault;
 use mapf_fields::LineFault::{Range, Shape};
 use mapf_lemma_texts::{LemmaLine, LemmaLines, LinePlace, LineSizes, line_of};
@@ -184,7 +184,7 @@ fn place_of(line: u64) -> LinePlace {
 // The error that the lines of the text end with, none if they end with `end`.
 fn fault_of(alloc: Global, text: &str) -> Result<Option<LinesFault>, Fail> {
     let mut source = BytesSource::of(text.as_bytes());
-    let mut lines = LemmaLines::open(alloc, 1000).ok().ok_or("memory")?;
+    let mut lines = LemmaLines::over(LineBuffer::open(alloc, 1000).ok().ok_or("memory")?);
     for line in 0..100 {
         match lines.next(&mut source, &place_of(line)) {
             Ok(LemmaLine::End) => return Ok(lines.end(&mut source).err()),
