@@ -22,22 +22,13 @@ use Rattle.mapf_lemmas.specs.SingleLabels.{Task, AreSound}
 use Rattle.mapf_model.specs.declared.label.Label.{Label}
 use Rattle.mapf_model.specs.declared.label.Label.TheVariants.{Ticks, Never}
 use Rattle.mapf_model.specs.Grid.{GridMap}
-use Rattle.mapf_model.specs.Labels.{entries_of, label_plus}
+use Rattle.mapf_model.specs.Labels.{entries_of}
 use Rattle.mapf_single_labels.specs.Ranges.{IsLabelUpTo, greatest_entry_label}
 use Rattle.mapf_joint_labels.specs.declared.pair.Pair.{Pair}
 use Rattle.mapf_joint_labels.specs.Pairs.{IsPair, IsSoundIn, lists_of, task_of}
 use Rattle.mapf_joint_labels.specs.Two.{IsPairOf, IsStartBound, ShowsBound, statement_of_two}
 use Rattle.mapf_joint_labels.proofs.OrderLemmas.{joint_listed}
 use Rattle.mapf_joint_labels.proofs.PairLemmas.{second_is}
-
-pub more : (label : Label) (m n : ℕ) → IsLabelUpTo m label → m ≤ n → IsLabelUpTo n label
-more (Ticks k) m n low le = omega arith
-more Never m n low le = tt
-
-pub sum_up_to : (a b : Label) (m n : ℕ) → IsLabelUpTo m a → IsLabelUpTo n b → IsLabelUpTo (m + n) (label_plus a b)
-sum_up_to (Ticks a) (Ticks b) m n p q = omega arith
-sum_up_to (Ticks a) Never m n p q = tt
-sum_up_to Never b m n p q = tt
 
 module _ (pair : Pair) (own : IsPair pair) where
   -- a listed label is in range

@@ -31,6 +31,11 @@ pub fn judge_two(pair: &Pair, marks: &mut PairMarks) -> Result<Amount, TwoFault>
     // The lemma shows the statement with this bound.
     ensures shown { IfOk result (ShowsBound pair.now) }
     ensures bound { IfOk result (IsStartBound pair.now) }
+    // A finite bound is at most the sum of both starts' prices and of twice the greatest label.
+    ensures small { IfOk result (IsLabelUpTo (start_price pair.now + 8589934590000)) }
+    // Where a tick is worth 1 unit, no label is greater than the greatest one of an entry.
+    ensures plain { pair.now.first_task.now.list.unit ≡ 1
+        → IfOk result (IsLabelUpTo (start_price pair.now + 19999999998)) }
     // The lemma shows no statement.
     ensures nothing { OnErr result (ShowsNothing pair.now) }
     ensures fault { IfErr result (IsTwoFault pair.now) }
@@ -50,7 +55,10 @@ pub fn judge_two(pair: &Pair, marks: &mut PairMarks) -> Result<Amount, TwoFault>
 // Returns the sum of the label and the prices of both starts at tick 0, in units.
 fn start_bound(pair: &Pair) -> Amount
     requires { IsPair pair.now }
-    ensures { IsStartBound pair.now result }
+    ensures is { IsStartBound pair.now result }
+    ensures small { IsLabelUpTo (start_price pair.now + 8589934590000) result }
+    ensures plain { pair.now.first_task.now.list.unit ≡ 1
+        → IsLabelUpTo (start_price pair.now + 19999999998) result }
 {
     let price = prices_of_starts(pair);
     Amount::of(price).plus(label_of_starts(pair))
@@ -78,6 +86,7 @@ fn label_of_starts(pair: &Pair) -> Amount
     requires { IsPair pair.now }
     ensures is { IsStartLabel pair.now result }
     ensures small { IsLabelUpTo 8589934590000 result }
+    ensures plain { pair.now.first_task.now.list.unit ≡ 1 → IsLabelUpTo 19999999998 result }
 {
     let state = JointState::Both {
         first: pair.first_task.agent().start,

@@ -8,7 +8,7 @@ use Rattle.mapf_lemmas.specs.SingleLabels.{Task, MayRest, ForbidsRest, IsDefault
 use Rattle.mapf_model.specs.declared.label.Label.{Label}
 use Rattle.mapf_model.specs.declared.label.Label.TheVariants.{Ticks, Never}
 use Rattle.mapf_model.specs.Grid.{IsFree}
-use Rattle.mapf_model.specs.Labels.{IsAtMost}
+use Rattle.mapf_model.specs.Labels.{IsAtMost, label_plus}
 use Rattle.mapf_model.proofs.StepLemmas.{step_start}
 use Rattle.mapf_model.specs.Distance.{Walk, IsDistance}
 use Rattle.mapf_model.proofs.ContainsLemmas.{Contains-none, Contains-cons_new, Contains-cons_old, Contains-cons_cases}
@@ -19,6 +19,15 @@ use Rattle.mapf_single_labels.specs.Tasks.{IsTooLate}
 pub up_to_more : (label : Label) (m n : ℕ) → IsLabelUpTo m label → m ≤ n → IsLabelUpTo n label
 up_to_more (Ticks k) m n low le = omega arith
 up_to_more Never m n low le = tt
+
+pub sum_up_to : (a b : Label) (m n : ℕ) → IsLabelUpTo m a → IsLabelUpTo n b → IsLabelUpTo (m + n) (label_plus a b)
+sum_up_to (Ticks a) (Ticks b) m n p q = omega arith
+sum_up_to (Ticks a) Never m n p q = tt
+sum_up_to Never b m n p q = tt
+
+-- a bound, which is the sum of this price and of the label
+pub bound_up_to : (price most : ℕ) (label bound : Label) → bound ≡ label_plus (Ticks price) label → IsLabelUpTo most label → IsLabelUpTo (price + most) bound
+bound_up_to price most label bound is low = subst (IsLabelUpTo (price + most)) (sym is) (sum_up_to (Ticks price) label price most (omega arith) low)
 
 -- a demanded cost is among the constraints
 demanded_held : (constraints : List PathConstraint) (ticks : ℕ) → Contains constraints (Least ticks) → ticks ≤ demanded_cost constraints

@@ -62,11 +62,15 @@ pub record IsUnsoundAt (task : Task) (entries : List Entry) (place : ℕ) : Type
   pub unsound : IsSoundAmong task entries entry → ⊥
   pub before : (k : ℕ) (d : Entry) → k < place → IsSoundAmong task entries (slice_index_or entries k d)
 
+-- what the start costs at tick 0
+abbrev pub start_price : Task → ℕ
+start_price task = cell_price task.list.prices task.agent.start 0
+
 -- the sum of the label and the price of the start
 abbrev pub IsStartBound : Task → List Entry → Label → Type 0
 IsStartBound task entries bound =
     (label : Label) × IsSingleLabel task (entries_of entries) task.agent.start 0 label
-    × (bound ≡ label_plus (Ticks (cell_price task.list.prices task.agent.start 0)) label)
+    × (bound ≡ label_plus (Ticks (start_price task)) label)
 
 -- the statement of a lemma of one agent by labels
 abbrev pub statement_of_one : ℕ → List PathConstraint → Option ℕ → Label → Statement

@@ -1,11 +1,12 @@
 //! What a lemma of one agent shows. The judge of certificates asks this once the lemma is read.
-ghost use Rattle.std.specs.Prelude.{◌≡◌, ◌<◌, ◌≤◌, All, AllPairs, IfErr, IfOk, OnErr, length};
+ghost use Rattle.std.specs.Prelude.{◌≡◌, ◌+◌, ◌<◌, ◌≤◌, All, AllPairs, IfErr, IfOk, OnErr, length};
 ghost use Rattle.mapf_lemmas.specs.SingleLabels.{IsSingleLabel};
 ghost use Rattle.mapf_model.specs.Labels.{entries_of};
 ghost use Rattle.mapf_model.specs.Printed.{IsBefore};
 ghost use Rattle.mapf_model.specs.States.{state_of};
-ghost use Rattle.mapf_single_labels.specs.Ranges.{IsLabelUpTo, IsPricedEntryInRange, greatest_label};
-ghost use Rattle.mapf_single_labels.specs.Tasks.{IsStartBound, IsUnsoundAt, ShowsBound, ShowsNothing};
+ghost use Rattle.mapf_single_labels.specs.Ranges.{IsLabelUpTo, IsPricedEntryInRange, greatest_entry_label};
+ghost use Rattle.mapf_single_labels.specs.Ranges.{greatest_label};
+ghost use Rattle.mapf_single_labels.specs.Tasks.{IsStartBound, IsUnsoundAt, ShowsBound, ShowsNothing, start_price};
 
 use crate::judge::judge_entries;
 use crate::marks::{EntryMarks, label_of};
@@ -26,6 +27,11 @@ pub fn judge_one(
     // The lemma shows the statement with this bound.
     ensures shown { IfOk result (ShowsBound task.now entries.now) }
     ensures bound { IfOk result (IsStartBound task.now entries.now) }
+    // A finite bound is at most the sum of the start's price and of the greatest label.
+    ensures small { IfOk result (IsLabelUpTo (start_price task.now + greatest_label)) }
+    // Where a tick is worth 1 unit, no label is greater than the greatest one of an entry.
+    ensures plain { task.now.list.unit ≡ 1
+        → IfOk result (IsLabelUpTo (start_price task.now + greatest_entry_label)) }
     // The lemma shows no statement.
     ensures nothing { OnErr result (ShowsNothing task.now entries.now) }
     ensures place { IfErr result (IsUnsoundAt task.now entries.now) }
@@ -39,7 +45,9 @@ pub fn judge_one(
 pub fn start_bound(task: &SingleTask, entries: &[PricedEntry]) -> Amount
     requires rising { AllPairs IsBefore entries.now }
     requires range { All IsPricedEntryInRange entries.now }
-    ensures { IsStartBound task.now entries.now result }
+    ensures is { IsStartBound task.now entries.now result }
+    ensures small { IsLabelUpTo (start_price task.now + greatest_label) result }
+    ensures plain { task.now.list.unit ≡ 1 → IsLabelUpTo (start_price task.now + greatest_entry_label) result }
 {
     let price = task.prices().cell(task.agent().start, 0);
     Amount::of(price).plus(start_label(task, entries))
@@ -51,6 +59,7 @@ pub fn start_label(task: &SingleTask, entries: &[PricedEntry]) -> Amount
     requires range { All IsPricedEntryInRange entries.now }
     ensures is { IsSingleLabel task.now (entries_of entries.now) task.now.agent.start 0 result }
     ensures small { IsLabelUpTo greatest_label result }
+    ensures plain { task.now.list.unit ≡ 1 → IsLabelUpTo greatest_entry_label result }
 {
     let start = task.agent().start;
     match entry_at(entries, start, 0) {

@@ -9,7 +9,8 @@ ghost use Rattle.mapf_model.specs.Limits.{greatest_cost};
 ghost use Rattle.mapf_model.specs.Neighbours.{neighbourhood};
 ghost use Rattle.mapf_model.specs.Printed.{IsBefore};
 ghost use Rattle.mapf_single_labels.specs.Marks.{IsMarking};
-ghost use Rattle.mapf_single_labels.specs.Ranges.{IsLabelUpTo, IsPricedEntryInRange, greatest_label};
+ghost use Rattle.mapf_single_labels.specs.Ranges.{IsLabelUpTo, IsPricedEntryInRange, greatest_entry_label};
+ghost use Rattle.mapf_single_labels.specs.Ranges.{greatest_label};
 ghost use Rattle.mapf_single_labels.specs.Tasks.{IsTooLate};
 
 use crate::marks::EntryMarks;
@@ -167,6 +168,8 @@ impl<'a> SingleTask<'a> {
     pub fn default_label(&self, cell: Cell, tick: Tick) -> Amount
         ensures is { IsDefault self.now cell tick result }
         ensures small { IsLabelUpTo greatest_label result }
+        // Where a tick is worth 1 unit it isn't greater than the greatest label of an entry.
+        ensures plain { self.now.list.unit ≡ 1 → IsLabelUpTo greatest_entry_label result }
     {
         match self.distances.get(cell) {
             Some(distance) => {

@@ -12,4 +12,4 @@ pub returns-in-Err-judge_joint_entries-clause-nothing : goal.returns-in-Err-judg
 returns-in-Err-judge_joint_entries-clause-nothing c = shows_nothing c.args.pair.now c.requires.pair (Joint c.in-Err-judge_joint_entries.place) c.in-Err-judge_joint_entries.ensures.err
 
 pub returns-in-Ok-clause-shown : goal.returns-in-Ok-clause-shown
-returns-in-Ok-clause-shown c = shows_bound c.args.pair.now c.requires.pair c.start_bound.result c.start_bound.ensures c.in_default.ensures.ok c.in_default-judge_entries.ensures.ok c.in-Ok.ensures.ok
+returns-in-Ok-clause-shown c = shows_bound c.args.pair.now c.requires.pair c.start_bound.result c.start_bound.ensures.is c.in_default.ensures.ok c.in_default-judge_entries.ensures.ok c.in-Ok.ensures.ok

@@ -10,4 +10,4 @@ pub returns-in_err-judge_entries-clause-nothing : goal.returns-in_err-judge_entr
 returns-in_err-judge_entries-clause-nothing c = on_err c.from_residual.result _ (shows_nothing c.args.task.now c.args.entries.now c.requires.rising _ c.in_err-judge_entries.ensures.err)
 
 pub returns-clause-shown : goal.returns-clause-shown
-returns-clause-shown c = shows_bound c.args.task.now c.args.entries.now c.start_bound.result c.in_ok-judge_entries.ensures.ok c.start_bound.ensures
+returns-clause-shown c = shows_bound c.args.task.now c.args.entries.now c.start_bound.result c.in_ok-judge_entries.ensures.ok c.start_bound.ensures.is
