@@ -1,0 +1,17 @@
+pub mod ListLemmas
+pub mod TreeLemmas
+pub mod NeverLemmas
+pub mod RefusalLemmas
+pub mod PriceRanges
+pub mod PartLists
+pub mod OneLemmas
+pub mod TwoLemmas
+pub mod TreePartLemmas
+pub mod TheoremLemmas
+pub mod DueLemmas
+pub mod JudgedLemmas
+pub mod WholeLemmas
+pub mod AgentLemmas
+pub mod StateLemmas
+pub mod NodeLemmas
+pub mod LearnedLemmas

@@ -1,0 +1,9 @@
+pub mod Faults
+pub mod Answers
+pub mod Lists
+pub mod LemmaParts
+pub mod Trees
+pub mod States
+pub mod Judges
+pub mod Whole
+pub mod CertJudging
