@@ -1,4 +1,4 @@
 mod ImpossibleLemmas
-mod ReachLemmas
+pub mod ReachLemmas
 mod TrivialLemmas
 mod WaitingLemmas

@@ -1,4 +1,4 @@
--- Which problems a tree can show to be impossible.
+-- Which problems a tree of version 1 or 2 can show to be impossible.
 use Rattle.std.specs.Prelude.{◌≡◌, ◌≢◌, ◌⊎◌, ℕ, Some, slice_get}
 use Rattle.mapf_model.specs.declared.item.Claim.TheVariants.{Impossible}
 use Rattle.mapf_model.specs.declared.problem.Agent.{Agent}

@@ -1,0 +1,10 @@
+mod ListLemmas
+mod BarLemmas
+mod SoundLemmas
+mod StartLemmas
+mod InForceLemmas
+mod LeafLemmas
+mod ConversionLemmas
+mod RangeLemmas
+mod CaseRanges
+mod TextLemmas
