@@ -13,3 +13,5 @@ pub mod PlanLemmas
 pub mod ReadLemmas
 pub mod StopLemmas
 pub mod CertLemmas
+pub mod TitleLemmas
+pub mod AnyCertLemmas

@@ -1,7 +1,9 @@
--- Plan texts that are good for a verdict.
+-- The strongest claim for the answer of a plan text.
 use Rattle.std.proofs.Common.{◌≡◌, ℕ, List, Result, Ok, Err, length, sym, ap, subst, refl, inl, inr}
 use Rattle.mapf_model.specs.Laws.{SumsAreOne}
 use Rattle.mapf_model.specs.Plan.{Instance, IsValid, IsSumOfCosts}
+use Rattle.mapf_model.specs.declared.item.Claim.{Claim}
+use Rattle.mapf_model.specs.declared.item.Claim.TheVariants.{Cost, Bound, Impossible}
 use Rattle.mapf_certificate.specs.declared.plan_text.PlanAnswer.{PlanAnswer}
 use Rattle.mapf_certificate.specs.declared.plan_text.PlanAnswer.TheVariants as answers
 use Rattle.mapf_certificate.specs.declared.plan_text.PlanText.{PlanText}
@@ -11,8 +13,6 @@ use Rattle.mapf_certificate.specs.declared.plan_text.PlanTextFault.{PlanTextFaul
 use Rattle.mapf_certificate.specs.declared.plan_text.PlanTextFault.TheVariants.{Memory}
 use Rattle.mapf_certificate.specs.PlanReading.{OrMemory}
 use Rattle.mapf_certificate.specs.Plans.{IsPlanText, SpellsPlan, plan_text}
-use Rattle.mapf_checker.specs.declared.fault.Verdict.{Verdict}
-use Rattle.mapf_checker.specs.declared.fault.Verdict.TheVariants.{Optimal, Bound, Impossible}
 use Rattle.mapf_checker.specs.Verdict.{IsGoodFor, IsGoodPlan}
 use Rattle.mapf_checker.specs.Faults.{of_plan, IsOfJudging}
 use Rattle.mapf_checker.specs.Refusals.{HasPlanRefusal}
@@ -23,17 +23,17 @@ same_text text other (inr memory) = absurd cc
 
 -- bytes that are read as this text
 module _ (problem : Instance) (bytes : List ℕ) (text : PlanText) where
-  -- a verdict for which they are good is one for which the text is good
+  -- a claim that is the strongest for these bytes is the strongest for the answer of the text
   pub good_text : ((other : PlanText) → IsPlanText problem.grid other → bytes ≡ plan_text problem.grid.width other → OrMemory {A = PlanText} (Ok text) (◌≡◌ {A = Result PlanText PlanTextFault} (Ok text) (Ok other))) →
-      (verdict : Verdict) → IsGoodPlan problem bytes verdict → (text.agents ≡ length problem.agents) × IsGoodFor problem text.answer verdict
-  good_text only verdict good =
+      (claim : Claim) → IsGoodPlan problem bytes claim → (text.agents ≡ length problem.agents) × IsGoodFor problem text.answer claim
+  good_text only claim good =
       let other : PlanText = record { version = good.version; agents = length problem.agents; answer = good.says } in
       let same : text ≡ other = same_text text other (only other good.spelled.in_range good.spelled.spelled) in
-      (ap (λ (t : PlanText). t.agents) same, subst (λ a. IsGoodFor problem a verdict) (sym (ap (λ (t : PlanText). t.answer) same)) good.good)
+      (ap (λ (t : PlanText). t.agents) same, subst (λ a. IsGoodFor problem a claim) (sym (ap (λ (t : PlanText). t.answer) same)) good.good)
 
-  pub text_good : IsPlanText problem.grid text × (bytes ≡ plan_text problem.grid.width text) → text.agents ≡ length problem.agents → (said : PlanAnswer) → text.answer ≡ said → (verdict : Verdict) → IsGoodFor problem said verdict →
-      IsGoodPlan problem bytes verdict
-  text_good found count said is verdict good = record {
+  pub text_good : IsPlanText problem.grid text × (bytes ≡ plan_text problem.grid.width text) → text.agents ≡ length problem.agents → (said : PlanAnswer) → text.answer ≡ said → (claim : Claim) → IsGoodFor problem said claim →
+      IsGoodPlan problem bytes claim
+  text_good found count said is claim good = record {
     version = text.version;
     says = said;
     spelled = subst (λ n. SpellsPlan problem.grid bytes text.version n said) count (subst (λ a. SpellsPlan problem.grid bytes text.version text.agents a) is (record { in_range = found.0; spelled = found.1 }));
@@ -53,18 +53,18 @@ module _ (problem : Instance) (bytes : List ℕ) where
   refused_text Memory none = tt
   refused_text fault none = (λ e. cc, λ version agents says spells. let memory = none version agents says spells in cc)
 
-pub valid_if_good : (problem : Instance) (plan : List (List ℕ)) (verdict : Verdict) → IsGoodFor problem (answers.Found plan) verdict → IsValid problem plan
-valid_if_good problem plan (Optimal sum) good = good.0
-valid_if_good problem plan verdict good = absurd good
+pub valid_if_good : (problem : Instance) (plan : List (List ℕ)) (claim : Claim) → IsGoodFor problem (answers.Found plan) claim → IsValid problem plan
+valid_if_good problem plan (Cost sum) good = good.0
+valid_if_good problem plan claim good = absurd good
 
-pub optimal_if_good : SumsAreOne → (problem : Instance) (plan : List (List ℕ)) (sum : ℕ) (verdict : Verdict) → IsSumOfCosts problem.agents plan sum → IsGoodFor problem (answers.Found plan) verdict → Optimal sum ≡ verdict
-optimal_if_good law problem plan sum (Optimal other) adds good = ap Optimal ((law problem plan good.0).one sum other adds good.1)
-optimal_if_good law problem plan sum verdict adds good = absurd good
+pub cost_if_good : SumsAreOne → (problem : Instance) (plan : List (List ℕ)) (sum : ℕ) (claim : Claim) → IsSumOfCosts problem.agents plan sum → IsGoodFor problem (answers.Found plan) claim → Cost sum ≡ claim
+cost_if_good law problem plan sum (Cost other) adds good = ap Cost ((law problem plan good.0).one sum other adds good.1)
+cost_if_good law problem plan sum claim adds good = absurd good
 
-pub impossible_if_good : (problem : Instance) (verdict : Verdict) → IsGoodFor problem answers.Impossible verdict → Impossible ≡ verdict
+pub impossible_if_good : (problem : Instance) (claim : Claim) → IsGoodFor problem answers.Impossible claim → Impossible ≡ claim
 impossible_if_good problem Impossible good = refl
-impossible_if_good problem verdict good = absurd good
+impossible_if_good problem claim good = absurd good
 
-pub bound_if_good : (problem : Instance) (cause : Cause) (bound : ℕ) (verdict : Verdict) → IsGoodFor problem (answers.Bounded cause bound) verdict → Bound bound ≡ verdict
+pub bound_if_good : (problem : Instance) (cause : Cause) (bound : ℕ) (claim : Claim) → IsGoodFor problem (answers.Bounded cause bound) claim → Bound bound ≡ claim
 bound_if_good problem cause bound (Bound other) good = ap Bound good
-bound_if_good problem cause bound verdict good = absurd good
+bound_if_good problem cause bound claim good = absurd good

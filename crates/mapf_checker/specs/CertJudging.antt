@@ -19,11 +19,10 @@ use Rattle.mapf_checker.specs.Faults.{IsNoRefusal, IsOfChecking}
 use Rattle.mapf_checker.specs.Progress.{contexts_after_all, pending_by, AreAllAlike, IsReady}
 use Rattle.mapf_checker.specs.Refusals.{BeginsWithHeader, HasBadNode}
 
--- nothing was read
+-- nothing was taken
 pub record IsOpened (problem : Instance) (reading : Reading) : Type 0 where
   pub width : reading.width ≡ problem.grid.width
   pub height : reading.height ≡ problem.grid.height
-  pub buffer : reading.buffer.bytes ≡ []
   pub header : reading.header ≡ None
   pub fault : reading.fault ≡ None
   pub part : reading.is_whole ≡ false
@@ -45,10 +44,10 @@ HasHeaderRefusal problem claim had reading (C2 fault) =
     AwaitsCert had reading version agents claimed nodes → ⊥)
 HasHeaderRefusal problem claim had reading C3 =
     (bytes : List ℕ) → had ≡ Some bytes → (agents : ℕ) × (claimed : Claim)
-    × BeginsWithHeader problem bytes agents claimed × (agents ≢ length problem.agents)
+    × BeginsWithHeader problem (reading.buffer.bytes ++ bytes) agents claimed × (agents ≢ length problem.agents)
 HasHeaderRefusal problem claim had reading C4 =
     (bytes : List ℕ) → had ≡ Some bytes → (agents : ℕ) × (claimed : Claim)
-    × BeginsWithHeader problem bytes agents claimed × (claimed ≢ claim)
+    × BeginsWithHeader problem (reading.buffer.bytes ++ bytes) agents claimed × (claimed ≢ claim)
 HasHeaderRefusal problem claim had reading fault = ⊥
 
 -- what a refusal says of the bytes after the header

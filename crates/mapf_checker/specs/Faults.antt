@@ -8,9 +8,13 @@ use Rattle.mapf_certificate.specs.declared.plan_text.PlanTextFault.TheVariants a
 use Rattle.mapf_certificate.specs.Buffered.{Buffered}
 use Rattle.mapf_certificate.specs.Window.{ComesWithin, Exceeds}
 use Rattle.mapf_checker.specs.declared.fault.CheckFault.{CheckFault}
-use Rattle.mapf_checker.specs.declared.fault.CheckFault.TheVariants.{C1, C2, C3, C4, C5, C6, C7, C8, C9}
+use Rattle.mapf_checker.specs.declared.fault.CheckFault.TheVariants.{C1, C2, C3, C4, C5, C6, C7, C8, C9, C10}
 use Rattle.mapf_checker.specs.declared.fault.CheckFault.TheVariants as refusals
 use Rattle.mapf_checker.specs.declared.fault.FromFault.{FromFault}
+use Rattle.mapf_lemma_checker.specs.declared.fault.LemmaFault.{LemmaFault}
+use Rattle.mapf_lemma_checker.specs.declared.fault.LemmaFault.TheVariants as lemmas
+use Rattle.mapf_lemma_checker.specs.declared.fault.LemmaRefusal.{LemmaRefusal}
+use Rattle.mapf_lemma_checker.specs.declared.fault.LemmaRefusal.TheVariants as lemma_refusals
 use Rattle.mapf_checker.specs.declared.fault.FromFault.TheVariants.{Refused, Device, TooLong, Memory}
 
 -- the error of a check that an error of a plan text is
@@ -25,6 +29,24 @@ of_cert (lines.Text fault) = Refused (C2 fault)
 of_cert lines.Device = Device
 of_cert lines.TooLong = TooLong
 of_cert lines.Memory = Memory
+
+-- the refusal of a check that a refusal of a certificate of version 3 is
+abbrev pub of_lemma_refusal : LemmaRefusal → CheckFault
+of_lemma_refusal (lemma_refusals.C2 fault) = C2 fault
+of_lemma_refusal lemma_refusals.C3 = C3
+of_lemma_refusal lemma_refusals.C4 = C4
+of_lemma_refusal (lemma_refusals.C6 line) = C6 line
+of_lemma_refusal (lemma_refusals.C7 line) = C7 line
+of_lemma_refusal (lemma_refusals.C8 line) = C8 line
+of_lemma_refusal (lemma_refusals.C9 line) = C9 line
+of_lemma_refusal (lemma_refusals.C10 line) = C10 line
+
+-- the error of a check that an error of judging a certificate of version 3 is
+abbrev pub of_lemmas : LemmaFault → FromFault
+of_lemmas (lemmas.Refused refusal) = Refused (of_lemma_refusal refusal)
+of_lemmas lemmas.Device = Device
+of_lemmas lemmas.TooLong = TooLong
+of_lemmas lemmas.Memory = Memory
 
 -- an error of judging: a refusal that says this, or out of memory
 abbrev pub IsOfJudging : (CheckFault → Type 0) → FromFault → Type 0
@@ -67,6 +89,7 @@ HasNoTextMemory (C6 line) = ⊤
 HasNoTextMemory (C7 line) = ⊤
 HasNoTextMemory (C8 line) = ⊤
 HasNoTextMemory (C9 line) = ⊤
+HasNoTextMemory (C10 line) = ⊤
 HasNoTextMemory refusals.Memory = ⊤
 
 -- the error isn't a refusal that means out of memory

@@ -1,149 +1,81 @@
-//! The judge of a certificate: its header, and its tree as the items are read from the source. The check of both texts
-//! calls it.
-ghost use Rattle.std.specs.Prelude.{◌≡◌, ◌↔◌, ◌∷◌, ◌<◌, ◌≤◌, [], ℕ, List, Option, Some, false, length};
-ghost use Rattle.std.specs.Prelude.{IfErr, IfOk, OnOk, IsTrue};
+//! The judge of a certificate of any version. The check of both texts calls it.
+ghost use Rattle.std.specs.Prelude.{◌≡◌, ◌↔◌, ◌++◌, ◌≤◌, [], ℕ, List, Some, false, length};
+ghost use Rattle.std.specs.Prelude.{IfErr, IfOk, OnOk, IsTrue, MatchResult};
+ghost use Rattle.mapf_certificate.specs.Bounded.{BeginsWithLine};
 ghost use Rattle.mapf_certificate.specs.Buffered.{spare};
-ghost use Rattle.mapf_certificate.specs.CertReading.{Awaits, AwaitsCert, TakesHeader};
-ghost use Rattle.mapf_certificate.specs.Reading.{Reading};
-ghost use Rattle.mapf_certificate.specs.declared.version.Version.{Version};
-ghost use Rattle.mapf_certificate.specs.Window.{ComesWithin};
+ghost use Rattle.mapf_certificate.specs.Window.{ComesWithin, Fails, Window};
+ghost use Rattle.mapf_certificate.specs.declared.tree_line.Due.TheVariants.{Title};
 ghost use Rattle.mapf_model.specs.declared.item.Claim.{Claim};
-ghost use Rattle.mapf_model.specs.Tree.{Node, NodesShow, root};
-ghost use Rattle.mapf_checker.specs.CertJudging.{IsOpened, IsHeaded, IsBetweenItems, IsReadTo, IsReadOn, IsJudgedTree};
-ghost use Rattle.mapf_checker.specs.CertJudging.{HasHeaderRefusal, HasTreeRefusal};
 ghost use Rattle.mapf_checker.specs.Faults.{IsOfChecking, IsNoRefusal};
-ghost use Rattle.mapf_checker.specs.Progress.{pending_by};
-ghost use Rattle.mapf_checker.specs.Refusals.{HasCertRefusal};
+ghost use Rattle.mapf_checker.specs.Refusals.{BeginsVersionThree, HasCertRefusal};
 ghost use Rattle.mapf_checker.specs.Verdict.{IsShown, IsGoodCert};
+ghost use Rattle.mapf_lemma_checker.specs.Answers.{FitsAnswer};
 
-use crate::fault::{CheckFault, FromFault};
-use crate::tree::Progress;
-use mapf_certificate::CertLines;
-use mapf_model::{Claim, Problem, Source, laws};
+use crate::fault::FromFault;
+use crate::tree_cert_judge::judge_tree_cert;
+use mapf_certificate::{LineBuffer, LinesFault};
+use mapf_lemma_checker::judge_lemmas;
+use mapf_model::{Claim, Problem, Source};
 use std::alloc::Global;
 
-/// Checks that the source gives a certificate for the problem that shows the claim. Returns the first error otherwise.
+// The first line of a certificate of version 3.
+const LEMMA_TITLE: &[u8] = b"mapf-cert 3";
+
+/// Checks that the source gives a certificate for the problem that shows its claim, and that the claim fits an answer
+/// whose claim is `answer`. Returns the certificate's claim, or the first error.
 pub fn judge_cert<S: Source>(
     alloc: Global,
     problem: &Problem,
-    claim: &Claim,
+    answer: &Claim,
     source: &mut S,
     limit: u64,
-) -> Result<(), FromFault>
+) -> Result<Claim, FromFault>
     requires { S.has_failed source.old ≡ false }
     ensures works { OnOk result (S.has_failed source.new ≡ false) }
     ensures came { OnOk result (ComesWithin (S.remaining source.old) (S.remaining source.new)
         (record { bytes = []; left = limit })) }
-    ensures shown { OnOk result (IsShown problem.now claim.now) }
+    ensures fits { IfOk result (FitsAnswer answer.now) }
+    ensures shown { IfOk result (IsShown problem.now) }
     ensures good { (bytes : List ℕ) → S.remaining source.old ≡ Some bytes
-        → OnOk result (IsGoodCert problem.now claim.now bytes) }
+        → IfOk result (λ claimed. IsGoodCert problem.now answer.now claimed bytes) }
     ensures within { (bytes : List ℕ) → S.remaining source.old ≡ Some bytes → OnOk result (length bytes ≤ limit) }
-    ensures only { (bytes : List ℕ) → S.remaining source.old ≡ Some bytes → IsGoodCert problem.now claim.now bytes
-        → IfErr result IsNoRefusal }
+    ensures only { (bytes : List ℕ) (claimed : Claim) → S.remaining source.old ≡ Some bytes
+        → FitsAnswer answer.now claimed → IsGoodCert problem.now answer.now claimed bytes
+        → MatchResult result (λ given. given ≡ claimed) IsNoRefusal }
     ensures stops { IfErr result (IsOfChecking (S.remaining source.old) (S.remaining source.new)
         (S.has_failed source.new) (record { bytes = []; left = limit })
-        (HasCertRefusal problem.now claim.now (S.remaining source.old))) }
+        (HasCertRefusal problem.now answer.now (S.remaining source.old))) }
 {
-    laws::items_are_judged_by_front();
-    laws::tree_is_unique();
-    let grid = problem.grid();
-    let mut lines = CertLines::open(alloc, grid.width(), grid.height(), limit)?;
-    judge_header(problem, claim, &mut lines, source)?;
-    judge_tree(alloc, problem, claim, &mut lines, source)
-}
-
-// Checks that the header is for the problem's number of agents and makes the claim.
-fn judge_header<S: Source>(
-    problem: &Problem,
-    claim: &Claim,
-    lines: &mut CertLines,
-    source: &mut S,
-) -> Result<(), FromFault>
-    requires works { S.has_failed source.old ≡ false }
-    requires opened { IsOpened problem.now lines.old }
-    ensures works { OnOk result (S.has_failed source.new ≡ false) }
-    ensures headed { OnOk result (IsHeaded problem.now claim.now lines.new) }
-    ensures taken { OnOk result (TakesHeader (S.remaining source.old) (S.remaining source.new) lines.old lines.new
-        (length problem.now.agents) claim.now) }
-    ensures ahead { OnOk result ((version : Version) (agents : ℕ) (claimed : Claim) (nodes : List Node)
-        → AwaitsCert (S.remaining source.old) lines.old version agents claimed nodes
-        → Awaits (S.remaining source.new) lines.new nodes) }
-    ensures only { (version : Version) (nodes : List Node)
-        → AwaitsCert (S.remaining source.old) lines.old version (length problem.now.agents) claim.now nodes
-        → IfErr result IsNoRefusal }
-    ensures stops { IfErr result (IsOfChecking (S.remaining source.old) (S.remaining source.new)
-        (S.has_failed source.new) lines.old.buffer
-        (HasHeaderRefusal problem.now claim.now (S.remaining source.old) lines.old)) }
-{
-    let (agents, claimed) = lines.header(source)?;
-    if agents as usize != problem.agents().len() {
-        return Err(FromFault::Refused(CheckFault::C3));
-    }
-    if !are_one_claim(&claimed, claim) {
-        return Err(FromFault::Refused(CheckFault::C4));
-    }
-    Ok(())
-}
-
-fn are_one_claim(a: &Claim, b: &Claim) -> bool
-    ensures { IsTrue result ↔ a.now ≡ b.now }
-{
-    match (*a, *b) {
-        (Claim::Cost(a), Claim::Cost(b)) | (Claim::Bound(a), Claim::Bound(b)) => a == b,
-        (Claim::Impossible, Claim::Impossible) => true,
-        _ => false,
+    let mut buffer = LineBuffer::open(alloc, limit)?;
+    if begins_version_three(&mut buffer, source)? {
+        Ok(judge_lemmas(alloc, problem, answer, source, buffer)?)
+    } else {
+        judge_tree_cert(alloc, problem, answer, source, buffer)?;
+        Ok(*answer)
     }
 }
 
-// Checks that the items of the certificate's tree show the claim.
-fn judge_tree<S: Source>(
-    alloc: Global,
-    problem: &Problem,
-    claim: &Claim,
-    lines: &mut CertLines,
+// Reads until the first line is in the buffer, and takes nothing. Returns whether it is that of a certificate of
+// version 3.
+fn begins_version_three<S: Source>(
+    buffer: &mut LineBuffer,
     source: &mut S,
-) -> Result<(), FromFault>
-    requires works { S.has_failed source.old ≡ false }
-    requires headed { IsHeaded problem.now claim.now lines.old }
+) -> Result<bool, LinesFault>
+    requires { S.has_failed source.old ≡ false }
     ensures works { OnOk result (S.has_failed source.new ≡ false) }
-    ensures came { OnOk result (ComesWithin (S.remaining source.old) (S.remaining source.new) lines.old.buffer) }
-    ensures judged { OnOk result (IsJudgedTree problem.now claim.now (S.remaining source.old) lines.old) }
-    ensures only { (nodes : List Node) → Awaits (S.remaining source.old) lines.old nodes
-        → NodesShow problem.now claim.now (root ∷ []) nodes → IfErr result IsNoRefusal }
-    ensures stops { IfErr result (IsOfChecking (S.remaining source.old) (S.remaining source.new)
-        (S.has_failed source.new) lines.old.buffer
-        (HasTreeRefusal problem.now claim.now (S.remaining source.old) lines.old)) }
+    ensures spare { spare buffer.new ≡ spare buffer.old }
+    ensures window { OnOk result
+        (Window (S.remaining source.old) (S.remaining source.new) buffer.old buffer.new []) }
+    ensures title { IfOk result (λ is. (more : List ℕ) → IsTrue is ↔ BeginsVersionThree (buffer.new.bytes ++ more)) }
+    // If there is no first line, the text begins with that of no version.
+    ensures fails { IfErr result (λ fault.
+        Fails (S.remaining source.old) (S.remaining source.new) (S.has_failed source.new) buffer.old
+        (BeginsWithLine Title) fault
+        × Fails (S.remaining source.old) (S.remaining source.new) (S.has_failed source.new) buffer.old
+        BeginsVersionThree fault) }
 {
-    let mut progress = Progress::new(alloc, problem)?;
-    while judge_next(alloc, problem, claim, lines, source, &mut progress)? {}
-    Ok(())
-}
-
-// Judges the next item of the certificate's tree. Returns false at its end.
-fn judge_next<S: Source>(
-    alloc: Global,
-    problem: &Problem,
-    claim: &Claim,
-    lines: &mut CertLines,
-    source: &mut S,
-    progress: &mut Progress,
-) -> Result<bool, FromFault>
-    requires works { S.has_failed source.old ≡ false }
-    requires between { IsBetweenItems problem.now claim.now lines.old progress.old }
-    ensures works { OnOk result (S.has_failed source.new ≡ false) }
-    ensures between { IfOk result (λ came. IsTrue came → IsBetweenItems problem.now claim.now lines.new progress.new) }
-    ensures nearer { IfOk result (λ came. IsTrue came → spare lines.new.buffer < spare lines.old.buffer) }
-    // This holds whatever was read and judged before.
-    ensures judged { (had : Option (List ℕ)) (start : Reading)
-        → IsReadTo problem.now claim.now had (S.remaining source.old) start lines.old (pending_by progress.old)
-        → IsReadOn problem.now claim.now had (S.remaining source.new) (S.has_failed source.new) start lines.new
-        (pending_by progress.new) result }
-{
-    laws::items_are_judged_by_front();
-    laws::only_start_entries_count();
-    let Some(item) = lines.next_item(source)? else {
-        return Ok(false);
-    };
-    progress.item(alloc, problem, claim, &item, lines.line())?;
-    Ok(true)
+    match buffer.begins_with(source, LEMMA_TITLE) {
+        Ok(is) => Ok(is),
+        Err(why) => Err(LinesFault::without_line(1, why)),
+    }
 }

@@ -1,5 +1,8 @@
 //! Is this plan valid, and does this certificate show its claim?
 //!
+//! The first line of a certificate says its version. A certificate of version 3 is judged by `mapf_lemma_checker`: it
+//! shows its claim by lemmas and a tree by cases. One of version 1 or 2 is a constraint tree, which is judged here.
+//!
 //! The nodes of a tree are read in pre-order. Along the path from the root the judge keeps each split's conflict and
 //! the child that the path goes to, and for each agent the entry of its start at tick 0, with what each open split
 //! changed of these entries. The blocks of a node are held until they are judged. Of the blocks above that node nothing
@@ -34,6 +37,7 @@ mod plan_fault;
 mod plan_judge;
 mod starts;
 mod tree;
+mod tree_cert_judge;
 mod validity;
 
 pub use acceptance::{check, check_from};

@@ -59,7 +59,8 @@ fn accepts_the_crossing(rt: HostRuntime) -> Result<(), Fail> {
     Ok(())
 }
 
-fn expect_within(
+/// Within each of these limits the check of the crossing's plan says this of the certificate.
+pub fn expect_within(
     rt: &impl Abort,
     alloc: Global,
     problem: &Problem,
@@ -114,27 +115,38 @@ fn pulls_only_after_a_good_plan(rt: HostRuntime) -> Result<(), Fail> {
     Ok(())
 }
 
-// The bytes come in so many calls, and one more reports that they have ended.
-fn expect_calls(rt: &impl Abort, alloc: Global, problem: &Problem, pace: Pace, calls: u64) {
+/// The bytes come in so many calls, of which the last reports that they have ended.
+pub fn expect_calls(
+    rt: &impl Abort,
+    alloc: Global,
+    problem: &Problem,
+    cert: &str,
+    (pace, calls): (Pace, u64),
+) {
+    let limit = cert.len() as u64;
     for stood in 0..calls {
-        let failed = judged_from_fuse(alloc, problem, CROSSING_CERT, (pace, stood), 111);
+        let failed = judged_from_fuse(alloc, problem, cert, (pace, stood), limit);
         expect_same(rt, &stood, &failed, &(Err(FromFault::Device), true));
     }
-    let whole = judged_from_fuse(alloc, problem, CROSSING_CERT, (pace, calls), 111);
+    let whole = judged_from_fuse(alloc, problem, cert, (pace, calls), limit);
     expect_same(rt, &calls, &whole, &(Ok(Verdict::Optimal(5)), false));
 }
 
 #[test]
 fn fails_at_each_pull(rt: HostRuntime) -> Result<(), Fail> {
     let crossing = crossing(rt.alloc())?;
-    expect_calls(&rt, rt.alloc(), &crossing, Pace::ByteByByte, 112);
-    expect_calls(&rt, rt.alloc(), &crossing, Pace::AllAtOnce, 2);
+    let byte_by_byte = (Pace::ByteByByte, 112);
+    expect_calls(&rt, rt.alloc(), &crossing, CROSSING_CERT, byte_by_byte);
+    let all_at_once = (Pace::AllAtOnce, 2);
+    expect_calls(&rt, rt.alloc(), &crossing, CROSSING_CERT, all_at_once);
     Ok(())
 }
 
-// Which lines of the crossing's certificate are replaced by which text, the line with which the refusal
-// is known, and the refusal.
-const REFUSED: &[(usize, usize, &str, usize, CheckFault)] = &[
+/// Which lines of a certificate are replaced by which text, the line with which the refusal is known, and the refusal.
+pub type Refused<'a> = (usize, usize, &'a str, usize, CheckFault);
+
+// Of the crossing's certificate.
+const REFUSED: &[Refused] = &[
     (2, 2, "agents 3\n", 3, CheckFault::C3),
     (3, 3, "claim cost 4\n", 3, CheckFault::C4),
     (3, 3, "claim impossible\n", 3, CheckFault::C4),
@@ -200,10 +212,17 @@ fn expect_refusal_known(
     expect_fault(rt, alloc, problem, cert, (Pace::AllAtOnce, 1), refused);
 }
 
-fn expect_refusals(rt: &impl Abort, alloc: Global, problem: &Problem) -> Result<(), AllocError> {
-    for (first, last, lines, known, refusal) in REFUSED {
-        let cert = with_lines(alloc, CROSSING_CERT, *first, *last, lines)?;
-        expect_refusal_known(rt, alloc, problem, &cert, *known, *refusal);
+/// Each refusal is known with its line, and nothing more is read.
+pub fn expect_refusals(
+    rt: &impl Abort,
+    alloc: Global,
+    problem: &Problem,
+    cert: &str,
+    refused: &[Refused],
+) -> Result<(), AllocError> {
+    for (first, last, lines, known, refusal) in refused {
+        let changed = with_lines(alloc, cert, *first, *last, lines)?;
+        expect_refusal_known(rt, alloc, problem, &changed, *known, *refusal);
     }
     Ok(())
 }
@@ -211,14 +230,15 @@ fn expect_refusals(rt: &impl Abort, alloc: Global, problem: &Problem) -> Result<
 #[test]
 fn pulls_nothing_after_a_refusal(rt: HostRuntime) -> Result<(), Fail> {
     let crossing = crossing(rt.alloc())?;
-    expect_refusals(&rt, rt.alloc(), &crossing)?;
+    expect_refusals(&rt, rt.alloc(), &crossing, CROSSING_CERT, REFUSED)?;
     Ok(())
 }
 
-// Which lines of a text are replaced by which text, and the answer.
-type Change<'a> = (usize, usize, &'a str, Result<Verdict, CheckFault>);
+/// Which lines of a text are replaced by which text, and the answer.
+pub type Change<'a> = (usize, usize, &'a str, Result<Verdict, CheckFault>);
 
-fn expect_judged(
+/// Beside the crossing's plan the check answers this to each changed certificate.
+pub fn expect_judged(
     rt: &impl Abort,
     alloc: Global,
     problem: &Problem,
@@ -418,9 +438,12 @@ fn judges_version_two(rt: HostRuntime) -> Result<(), Fail> {
     Ok(())
 }
 
-// The version and the answer of a plan text for the agents that are to change places, the claim of the
-// certificate, and what is judged of both.
-const BOUNDS: &[(u32, &str, &str, Result<Verdict, CheckFault>)] = &[
+/// The version and the answer of a plan text for the agents that are to change places, the claim of the
+/// certificate, and what is judged of both.
+pub type Claimed<'a> = (u32, &'a str, &'a str, Result<Verdict, CheckFault>);
+
+// Of what a search knows after three splits.
+const BOUNDS: &[Claimed] = &[
     (2, "limit 3 bound 4", "bound 4", Ok(Verdict::Bound(4))),
     (2, "limit 3 bound 3", "bound 3", Ok(Verdict::Bound(3))),
     (2, "limit 3 bound 5", "bound 5", Err(CheckFault::C8(11))),
@@ -436,16 +459,23 @@ fn plan_that_says(alloc: Global, version: u32, says: &str) -> Result<String, All
     Ok(format!(in alloc; "mapf-plan {version}\nagents 2\n{says}\nend\n")?)
 }
 
-fn cert_that_claims(alloc: Global, claims: &str) -> Result<String, AllocError> {
+fn cert_that_claims(alloc: Global, cert: &str, claims: &str) -> Result<String, AllocError> {
     let line = format!(in alloc; "claim {claims}\n")?;
-    with_lines(alloc, SWAPPED_CERT, 3, 3, &line)
+    with_lines(alloc, cert, 3, 3, &line)
 }
 
-fn expect_bounds(rt: &impl Abort, alloc: Global, problem: &Problem) -> Result<(), AllocError> {
-    for (version, says, claims, expected) in BOUNDS {
+/// The check answers this if the certificate makes these claims.
+pub fn expect_claimed(
+    rt: &impl Abort,
+    alloc: Global,
+    problem: &Problem,
+    cert: &str,
+    cases: &[Claimed],
+) -> Result<(), AllocError> {
+    for (version, says, claims, expected) in cases {
         let plan = plan_that_says(alloc, *version, says)?;
-        let cert = cert_that_claims(alloc, claims)?;
-        let answer = judged(alloc, problem, &plan, &cert);
+        let claiming = cert_that_claims(alloc, cert, claims)?;
+        let answer = judged(alloc, problem, &plan, &claiming);
         expect_same(rt, &(says, claims), &answer, expected);
     }
     Ok(())
@@ -454,6 +484,6 @@ fn expect_bounds(rt: &impl Abort, alloc: Global, problem: &Problem) -> Result<()
 #[test]
 fn judges_bounds(rt: HostRuntime) -> Result<(), Fail> {
     let swapped = swapped(rt.alloc())?;
-    expect_bounds(&rt, rt.alloc(), &swapped)?;
+    expect_claimed(&rt, rt.alloc(), &swapped, SWAPPED_CERT, BOUNDS)?;
     Ok(())
 }

@@ -6,6 +6,8 @@ mod checks;
 #[cfg(test)]
 mod expect;
 #[cfg(test)]
+mod lemmas;
+#[cfg(test)]
 mod samples;
 #[cfg(test)]
 mod validity;

@@ -42,6 +42,19 @@ pub const SWAPPED_CERT: &str =
      vertex 0 1 1,0 1 1\nagent 1 1\nat 1,0 0 2\nleaf 1\nagent 0 1\nat 0,0 0 2\nleaf 1\nagent 1 1\n\
      at 1,0 0 inf\nend\n";
 
+/// The crossing in version 3: both agents together cost 5 at least.
+pub const PAIR_CERT: &str = "mapf-cert 3\nagents 2\nclaim cost 5\nprices 0\nlemmas 1\n\
+     two 0 1 0 0 0 1 -\nat 0,1 1,0 0 5\nleaf 0 1 -\ngroup 1 1\nuse 0 1\nend\n";
+
+/// The same by a price of the cell in the middle at tick 1.
+pub const PRICE_CERT: &str = "mapf-cert 3\nagents 2\nclaim cost 5\nprices 1\nlist 1 1\n\
+     price 1,1 1 1\nlemmas 2\none 0 0 1 0\nat 0,1 0 3\none 1 0 1 0\nat 1,0 0 3\n\
+     leaf 2 0 0\nuse 0\nuse 1\nend\n";
+
+/// The agents that are to change places can't pass each other.
+pub const PASSING_CERT: &str = "mapf-cert 3\nagents 2\nclaim impossible\nprices 0\n\
+     lemmas 1\nnever 0 1 1\ncells 0,0 1,0\nleaf 0 1 -\ngroup 1 1\nuse 0 1\nend\n";
+
 /// The text with its lines from the first to the last of these replaced, counted from 1.
 pub fn with_lines(
     alloc: Global,

@@ -1,64 +1,173 @@
-use Rattle.std.proofs.Common.{◌≡◌, [], length, refl, rules, subst}
-use Rattle.mapf_model.specs.Tree.{nodes_of}
-use Rattle.mapf_certificate.specs.Buffered.{Buffered}
-use Rattle.mapf_certificate.specs.Certificates.{header_text}
-use Rattle.mapf_certificate.specs.Window.{ComesWithin}
+use Rattle.std.proofs.Common.{◌≡◌, [], IsTrue, false, sym}
 use Rattle.mapf_certificate.proofs.Windows.{ComesWithin-after}
-use Rattle.mapf_checker.specs.CertJudging.{IsOpened}
-use Rattle.mapf_checker.specs.Faults.{IsNoRefusal, IsOfChecking}
+use Rattle.mapf_checker.specs.Faults.{of_cert, of_lemmas, IsNoRefusal, IsOfChecking}
 use Rattle.mapf_checker.specs.Refusals.{HasCertRefusal}
-use Rattle.mapf_checker.proofs.CertLemmas.{awaits_spelled, cert_within, good_cert, header_refusal, nodes_show, refusal_of_tree, shown_tree, stops_after, stops_as}
-use Rattle.mapf_checker.proofs.ReadLemmas.{err_passed, err_made}
-use Rattle.mapf_checker.proofs.TreeLemmas.{on_ok}
+use Rattle.mapf_checker.proofs.AnyCertLemmas.{lemmas_only, no_lemma_refusal, opened, stops_at_lemmas, stops_at_title, stops_at_tree, title_not_refused, tree_good, tree_only, within_after}
+use Rattle.mapf_checker.proofs.ReadLemmas.{err_matched, err_passed, no_refusal}
 use Rattle.mapf_checker.proofs.cert_judge.judge_cert.Goals as goal
 
-pub returns-in_err-judge_header-clause-only : goal.returns-in_err-judge_header-clause-only
-returns-in_err-judge_header-clause-only g c bytes known good =
-    let opened : IsOpened c.args.problem.now c.in_ok-lines.lines = search rules in
-    err_passed c.from_residual-in_err-judge_header.result IsNoRefusal c.in_err-judge_header.field-0.0 c.from_residual-in_err-judge_header.ensures.1
-    (c.in_err-judge_header.ensures.only good.version (nodes_of good.tree) (awaits_spelled c.args.problem.now c.args.claim.now ((g.S.Source).remaining c.args.source.now) c.in_ok-lines.lines opened bytes known good.version (length c.args.problem.now.agents) c.args.claim.now good.tree good.spelled))
-
-pub returns-in_err-judge_header-clause-stops : goal.returns-in_err-judge_header-clause-stops
-returns-in_err-judge_header-clause-stops g c =
-    let problem = c.args.problem.now in
-    let claim = c.args.claim.now in
+pub returns-in_err-begins_version_three-clause-only : goal.returns-in_err-begins_version_three-clause-only
+returns-in_err-begins_version_three-clause-only g c bytes claimed known fits good =
     let had = (g.S.Source).remaining c.args.source.now in
-    let mid = (g.S.Source).remaining c.judge_header.new.source in
-    let failed = (g.S.Source).has_failed c.judge_header.new.source in
-    let start = c.in_ok-lines.lines in
-    let opened : IsOpened problem start = search rules in
-    let none : Buffered = record { bytes = []; left = c.args.limit } in
-    let same : start.buffer ≡ none = rw c.in_ok-lines.ensures refl in
-    let fault = c.in_err-judge_header.field-0.0 in
-    err_passed c.from_residual-in_err-judge_header.result (IsOfChecking had mid failed none (HasCertRefusal problem claim had)) fault c.from_residual-in_err-judge_header.ensures.1
-    (stops_as had mid failed start.buffer none fault same (header_refusal problem claim had start opened) c.in_err-judge_header.ensures.stops)
+    let left = (g.S.Source).remaining c.begins_version_three.new.source in
+    let failed = (g.S.Source).has_failed c.begins_version_three.new.source in
+    let fault = c.in_err-begins_version_three.field-0.0 in
+    let fails = rw c.in_ok-buffer.ensures at c.in_err-begins_version_three.ensures.fails in
+    err_matched c.from_residual-in_err-begins_version_three.result (λ given. given ≡ claimed) IsNoRefusal (of_cert fault) c.from_residual-in_err-begins_version_three.ensures.1
+    (no_refusal fault (title_not_refused c.args.problem.now c.args.answer.now claimed had left failed c.args.limit fault fails.0 fails.1 bytes known good))
 
-pub returns : goal.returns
-returns g c =
+pub returns-in_err-begins_version_three-clause-stops : goal.returns-in_err-begins_version_three-clause-stops
+returns-in_err-begins_version_three-clause-stops g c =
     let problem = c.args.problem.now in
-    let claim = c.args.claim.now in
+    let answer = c.args.answer.now in
     let had = (g.S.Source).remaining c.args.source.now in
-    let mid = (g.S.Source).remaining c.judge_header.new.source in
-    let left = (g.S.Source).remaining c.judge_tree.new.source in
-    let failed = (g.S.Source).has_failed c.judge_tree.new.source in
-    let start = c.in_ok-lines.lines in
-    let headed = c.judge_header.new.lines in
-    let opened : IsOpened problem start = search rules in
-    let none : Buffered = record { bytes = []; left = c.args.limit } in
-    let same : start.buffer ≡ none = rw c.in_ok-lines.ensures refl in
-    let takes = c.in_ok-judge_header.ensures.taken in
-    let ahead = c.in_ok-judge_header.ensures.ahead in
-    let text = header_text headed.version start.width (length problem.agents) claim in
-    let front = c.items_are_judged_by_front.ensures in
-    let did = c.judge_tree.ensures in
-    record {
-      works = did.works;
-      came = on_ok c.judge_tree.result (λ came. subst (λ b. ComesWithin had left b) same (ComesWithin-after had mid left start.buffer headed.buffer text takes.window came)) did.came;
-      shown = on_ok c.judge_tree.result (shown_tree front problem claim mid headed) did.judged;
-      good = λ bytes known. on_ok c.judge_tree.result (λ judged. good_cert problem claim had start opened mid headed takes front c.tree_is_unique.ensures judged bytes known) did.judged;
-      within = λ bytes known. on_ok c.judge_tree.result (λ judged. rw c.in_ok-lines.ensures at (cert_within problem claim had start opened mid headed takes judged bytes known)) did.judged;
-      only = λ bytes known good.
-          let awaits = awaits_spelled problem claim had start opened bytes known good.version (length problem.agents) claim good.tree good.spelled in
-          did.only (nodes_of good.tree) (ahead good.version (length problem.agents) claim (nodes_of good.tree) awaits) (nodes_show front problem claim good.tree good.shows);
-      stops = err_made c.judge_tree.result (λ fault. stops_after had mid left failed start.buffer headed.buffer none text fault same takes.window (refusal_of_tree problem claim had start opened mid headed takes ahead)) did.stops;
-    }
+    let left = (g.S.Source).remaining c.begins_version_three.new.source in
+    let failed = (g.S.Source).has_failed c.begins_version_three.new.source in
+    let fault = c.in_err-begins_version_three.field-0.0 in
+    let fails = rw c.in_ok-buffer.ensures at c.in_err-begins_version_three.ensures.fails in
+    err_passed c.from_residual-in_err-begins_version_three.result (IsOfChecking had left failed (opened c.args.limit) (HasCertRefusal problem answer had)) (of_cert fault) c.from_residual-in_err-begins_version_three.ensures.1
+    (stops_at_title problem answer had left failed c.args.limit fault fails.0 fails.1)
+
+pub returns-in_err-judge_lemmas-clause-only : goal.returns-in_err-judge_lemmas-clause-only
+returns-in_err-judge_lemmas-clause-only g c bytes claimed known fits good =
+    let problem = c.args.problem.now in
+    let answer = c.args.answer.now in
+    let had = (g.S.Source).remaining c.args.source.now in
+    let mid = (g.S.Source).remaining c.begins_version_three.new.source in
+    let buffer = c.begins_version_three.new.buffer in
+    let window = rw c.in_ok-buffer.ensures at c.in_ok-begins_version_three.ensures.window in
+    let title = c.in_ok-begins_version_three.ensures.title in
+    let fault = c.in_err-judge_lemmas.field-0.0 in
+    let (rest, known_mid, good_rest) = lemmas_only problem answer had mid c.args.limit buffer window c.in_ok-begins_version_three.field-0 title c.if-branch.true claimed bytes known good in
+    err_matched c.from_residual-in_err-judge_lemmas.result (λ given. given ≡ claimed) IsNoRefusal (of_lemmas fault) c.from_residual-in_err-judge_lemmas.ensures.1
+    (no_lemma_refusal fault (c.in_err-judge_lemmas.ensures.only rest claimed known_mid fits good_rest))
+
+pub returns-in_err-judge_lemmas-clause-stops : goal.returns-in_err-judge_lemmas-clause-stops
+returns-in_err-judge_lemmas-clause-stops g c =
+    let problem = c.args.problem.now in
+    let answer = c.args.answer.now in
+    let had = (g.S.Source).remaining c.args.source.now in
+    let mid = (g.S.Source).remaining c.begins_version_three.new.source in
+    let buffer = c.begins_version_three.new.buffer in
+    let window = rw c.in_ok-buffer.ensures at c.in_ok-begins_version_three.ensures.window in
+    let title = c.in_ok-begins_version_three.ensures.title in
+    let left = (g.S.Source).remaining c.judge_lemmas.new.source in
+    let failed = (g.S.Source).has_failed c.judge_lemmas.new.source in
+    let fault = c.in_err-judge_lemmas.field-0.0 in
+    err_passed c.from_residual-in_err-judge_lemmas.result (IsOfChecking had left failed (opened c.args.limit) (HasCertRefusal problem answer had)) (of_lemmas fault) c.from_residual-in_err-judge_lemmas.ensures.1
+    (stops_at_lemmas problem answer had mid c.args.limit buffer window c.in_ok-begins_version_three.field-0 title c.if-branch.true left failed fault c.in_err-judge_lemmas.ensures.stops)
+
+pub returns-in_err-judge_tree_cert-clause-only : goal.returns-in_err-judge_tree_cert-clause-only
+returns-in_err-judge_tree_cert-clause-only g c bytes claimed known fits good =
+    let problem = c.args.problem.now in
+    let answer = c.args.answer.now in
+    let had = (g.S.Source).remaining c.args.source.now in
+    let mid = (g.S.Source).remaining c.begins_version_three.new.source in
+    let buffer = c.begins_version_three.new.buffer in
+    let window = rw c.in_ok-buffer.ensures at c.in_ok-begins_version_three.ensures.window in
+    let title = c.in_ok-begins_version_three.ensures.title in
+    let other : IsTrue c.in_ok-begins_version_three.field-0 → ⊥ = λ is_three. let is_other = c.if-branch.false in absurd cc in
+    let fault = c.in_err-judge_tree_cert.field-0.0 in
+    let (is_answer, rest, known_mid, good_rest) = tree_only problem answer had mid c.args.limit buffer window c.in_ok-begins_version_three.field-0 title other claimed bytes known good in
+    err_matched c.from_residual-in_err-judge_tree_cert.result (λ given. given ≡ claimed) IsNoRefusal fault c.from_residual-in_err-judge_tree_cert.ensures.1
+    (c.in_err-judge_tree_cert.ensures.only rest known_mid good_rest)
+
+pub returns-in_err-judge_tree_cert-clause-stops : goal.returns-in_err-judge_tree_cert-clause-stops
+returns-in_err-judge_tree_cert-clause-stops g c =
+    let problem = c.args.problem.now in
+    let answer = c.args.answer.now in
+    let had = (g.S.Source).remaining c.args.source.now in
+    let mid = (g.S.Source).remaining c.begins_version_three.new.source in
+    let buffer = c.begins_version_three.new.buffer in
+    let window = rw c.in_ok-buffer.ensures at c.in_ok-begins_version_three.ensures.window in
+    let title = c.in_ok-begins_version_three.ensures.title in
+    let other : IsTrue c.in_ok-begins_version_three.field-0 → ⊥ = λ is_three. let is_other = c.if-branch.false in absurd cc in
+    let left = (g.S.Source).remaining c.judge_tree_cert.new.source in
+    let failed = (g.S.Source).has_failed c.judge_tree_cert.new.source in
+    let fault = c.in_err-judge_tree_cert.field-0.0 in
+    err_passed c.from_residual-in_err-judge_tree_cert.result (IsOfChecking had left failed (opened c.args.limit) (HasCertRefusal problem answer had)) fault c.from_residual-in_err-judge_tree_cert.ensures.1
+    (stops_at_tree problem answer had mid c.args.limit buffer window c.in_ok-begins_version_three.field-0 title other left failed fault c.in_err-judge_tree_cert.ensures.stops)
+
+pub returns-in_ok-judge_lemmas-clause-came : goal.returns-in_ok-judge_lemmas-clause-came
+returns-in_ok-judge_lemmas-clause-came g c =
+    let problem = c.args.problem.now in
+    let answer = c.args.answer.now in
+    let had = (g.S.Source).remaining c.args.source.now in
+    let mid = (g.S.Source).remaining c.begins_version_three.new.source in
+    let buffer = c.begins_version_three.new.buffer in
+    let window = rw c.in_ok-buffer.ensures at c.in_ok-begins_version_three.ensures.window in
+    let title = c.in_ok-begins_version_three.ensures.title in
+    let left = (g.S.Source).remaining c.judge_lemmas.new.source in
+    let failed = (g.S.Source).has_failed c.judge_lemmas.new.source in
+    ComesWithin-after had mid left (opened c.args.limit) buffer [] window c.in_ok-judge_lemmas.ensures.came
+
+pub returns-in_ok-judge_tree_cert-clause-came : goal.returns-in_ok-judge_tree_cert-clause-came
+returns-in_ok-judge_tree_cert-clause-came g c =
+    let problem = c.args.problem.now in
+    let answer = c.args.answer.now in
+    let had = (g.S.Source).remaining c.args.source.now in
+    let mid = (g.S.Source).remaining c.begins_version_three.new.source in
+    let buffer = c.begins_version_three.new.buffer in
+    let window = rw c.in_ok-buffer.ensures at c.in_ok-begins_version_three.ensures.window in
+    let title = c.in_ok-begins_version_three.ensures.title in
+    let left = (g.S.Source).remaining c.judge_tree_cert.new.source in
+    let failed = (g.S.Source).has_failed c.judge_tree_cert.new.source in
+    ComesWithin-after had mid left (opened c.args.limit) buffer [] window c.in_ok-judge_tree_cert.ensures.came
+
+pub returns-in_ok-judge_lemmas-clause-only : goal.returns-in_ok-judge_lemmas-clause-only
+returns-in_ok-judge_lemmas-clause-only g c bytes claimed known fits good =
+    let problem = c.args.problem.now in
+    let answer = c.args.answer.now in
+    let had = (g.S.Source).remaining c.args.source.now in
+    let mid = (g.S.Source).remaining c.begins_version_three.new.source in
+    let buffer = c.begins_version_three.new.buffer in
+    let window = rw c.in_ok-buffer.ensures at c.in_ok-begins_version_three.ensures.window in
+    let title = c.in_ok-begins_version_three.ensures.title in
+    let (rest, known_mid, good_rest) = lemmas_only problem answer had mid c.args.limit buffer window c.in_ok-begins_version_three.field-0 title c.if-branch.true claimed bytes known good in
+    c.in_ok-judge_lemmas.ensures.only rest claimed known_mid fits good_rest
+
+pub returns-in_ok-judge_tree_cert-clause-only : goal.returns-in_ok-judge_tree_cert-clause-only
+returns-in_ok-judge_tree_cert-clause-only g c bytes claimed known fits good =
+    let problem = c.args.problem.now in
+    let answer = c.args.answer.now in
+    let had = (g.S.Source).remaining c.args.source.now in
+    let mid = (g.S.Source).remaining c.begins_version_three.new.source in
+    let buffer = c.begins_version_three.new.buffer in
+    let window = rw c.in_ok-buffer.ensures at c.in_ok-begins_version_three.ensures.window in
+    let title = c.in_ok-begins_version_three.ensures.title in
+    let other : IsTrue c.in_ok-begins_version_three.field-0 → ⊥ = λ is_three. let is_other = c.if-branch.false in absurd cc in
+    let (is_answer, rest, known_mid, good_rest) = tree_only problem answer had mid c.args.limit buffer window c.in_ok-begins_version_three.field-0 title other claimed bytes known good in
+    sym is_answer
+
+pub returns-in_ok-judge_tree_cert-clause-good : goal.returns-in_ok-judge_tree_cert-clause-good
+returns-in_ok-judge_tree_cert-clause-good g c bytes known =
+    let problem = c.args.problem.now in
+    let answer = c.args.answer.now in
+    let had = (g.S.Source).remaining c.args.source.now in
+    let mid = (g.S.Source).remaining c.begins_version_three.new.source in
+    let buffer = c.begins_version_three.new.buffer in
+    let window = rw c.in_ok-buffer.ensures at c.in_ok-begins_version_three.ensures.window in
+    let title = c.in_ok-begins_version_three.ensures.title in
+    tree_good problem answer had mid c.args.limit buffer window c.in_ok-begins_version_three.field-0 title c.in_ok-judge_tree_cert.ensures.good bytes known
+
+pub returns-in_ok-judge_tree_cert-clause-within : goal.returns-in_ok-judge_tree_cert-clause-within
+returns-in_ok-judge_tree_cert-clause-within g c bytes known =
+    let problem = c.args.problem.now in
+    let answer = c.args.answer.now in
+    let had = (g.S.Source).remaining c.args.source.now in
+    let mid = (g.S.Source).remaining c.begins_version_three.new.source in
+    let buffer = c.begins_version_three.new.buffer in
+    let window = rw c.in_ok-buffer.ensures at c.in_ok-begins_version_three.ensures.window in
+    let title = c.in_ok-begins_version_three.ensures.title in
+    within_after problem answer had mid c.args.limit buffer window c.in_ok-begins_version_three.field-0 title c.in_ok-judge_tree_cert.ensures.within bytes known
+
+pub returns-in_ok-judge_lemmas-clause-within : goal.returns-in_ok-judge_lemmas-clause-within
+returns-in_ok-judge_lemmas-clause-within g c bytes known =
+    let problem = c.args.problem.now in
+    let answer = c.args.answer.now in
+    let had = (g.S.Source).remaining c.args.source.now in
+    let mid = (g.S.Source).remaining c.begins_version_three.new.source in
+    let buffer = c.begins_version_three.new.buffer in
+    let window = rw c.in_ok-buffer.ensures at c.in_ok-begins_version_three.ensures.window in
+    let title = c.in_ok-begins_version_three.ensures.title in
+    within_after problem answer had mid c.args.limit buffer window c.in_ok-begins_version_three.field-0 title c.in_ok-judge_lemmas.ensures.within bytes known

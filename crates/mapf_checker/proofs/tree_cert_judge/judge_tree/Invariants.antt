@@ -2,7 +2,7 @@ use Rattle.std.proofs.Common.{◌≡◌, false}
 use Rattle.mapf_certificate.specs.Buffered.{spare}
 use Rattle.mapf_checker.specs.CertJudging.{IsBetweenItems, IsReadTo}
 use Rattle.mapf_checker.specs.Progress.{pending_by}
-use Rattle.mapf_checker.proofs.cert_judge.judge_tree.Given as goal
+use Rattle.mapf_checker.proofs.tree_cert_judge.judge_tree.Given as goal
 
 abbrev pub invariant-loop-progress : goal.invariant-loop-progress
 invariant-loop-progress g l = record {

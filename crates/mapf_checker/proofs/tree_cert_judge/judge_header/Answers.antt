@@ -7,7 +7,7 @@ use Rattle.mapf_checker.specs.CertJudging.{HasHeaderRefusal}
 use Rattle.mapf_checker.specs.Faults.{of_cert, IsNoRefusal, IsOfChecking}
 use Rattle.mapf_checker.proofs.CertLemmas.{begins, stops_heading}
 use Rattle.mapf_checker.proofs.ReadLemmas.{err_passed, no_refusal}
-use Rattle.mapf_checker.proofs.cert_judge.judge_header.Goals as goal
+use Rattle.mapf_checker.proofs.tree_cert_judge.judge_header.Goals as goal
 
 pub returns-in_err-agents-clause-only : goal.returns-in_err-agents-clause-only
 returns-in_err-agents-clause-only g c version nodes awaits =
@@ -42,7 +42,7 @@ returns-then-agents-clause-stops g c =
       λ bytes known. (
         c.in_ok-agents.agents,
         c.in_ok-agents.claimed,
-        begins c.args.problem.now c.args.claim.now ((g.S.Source).remaining c.args.source.now) c.args.lines.now c.requires.opened bytes known ((g.S.Source).remaining c.header.new.source) c.header.new.self c.in_ok-agents.agents c.in_ok-agents.claimed takes,
+        begins c.args.problem.now ((g.S.Source).remaining c.args.source.now) c.args.lines.now c.requires.opened bytes known ((g.S.Source).remaining c.header.new.source) c.header.new.self c.in_ok-agents.agents c.in_ok-agents.claimed takes,
         λ same. c.if-agents.true (same ∙ ap length (sym c.agents.ensures.value)),
       ),
     )
@@ -61,7 +61,7 @@ returns-then-not-are_one_claim-clause-stops g c =
       λ bytes known. (
         c.in_ok-agents.agents,
         c.in_ok-agents.claimed,
-        begins c.args.problem.now c.args.claim.now ((g.S.Source).remaining c.args.source.now) c.args.lines.now c.requires.opened bytes known ((g.S.Source).remaining c.header.new.source) c.header.new.self c.in_ok-agents.agents c.in_ok-agents.claimed takes,
+        begins c.args.problem.now ((g.S.Source).remaining c.args.source.now) c.args.lines.now c.requires.opened bytes known ((g.S.Source).remaining c.header.new.source) c.header.new.self c.in_ok-agents.agents c.in_ok-agents.claimed takes,
         iff_false c.are_one_claim.ensures c.if-not-are_one_claim.true,
       ),
     )

@@ -3,7 +3,7 @@ use Rattle.mapf_checker.specs.CertJudging.{HasTreeRefusal}
 use Rattle.mapf_checker.specs.Faults.{IsNoRefusal, IsOfChecking}
 use Rattle.mapf_checker.specs.Progress.{pending_by}
 use Rattle.mapf_checker.proofs.ReadLemmas.{read_none, err_passed}
-use Rattle.mapf_checker.proofs.cert_judge.judge_tree.Goals as goal
+use Rattle.mapf_checker.proofs.tree_cert_judge.judge_tree.Goals as goal
 
 pub loop-progress-init : goal.loop-progress-init
 loop-progress-init g c = record {

@@ -8,7 +8,7 @@ use Rattle.mapf_checker.specs.Faults.{of_cert}
 use Rattle.mapf_checker.specs.NodeDefects.{HasNodeDefect}
 use Rattle.mapf_checker.specs.Progress.{pending_by, here_of}
 use Rattle.mapf_checker.proofs.ReadLemmas.{between_after, is_next, came_with_node, came_to_end, read_more, bad_node, defect_refutes_nodes, read_all, none_awaited, no_refusal, stops_reading, stops_judging, no_refusal_judging, node_moved, not_read_on}
-use Rattle.mapf_checker.proofs.cert_judge.judge_next.Goals as goal
+use Rattle.mapf_checker.proofs.tree_cert_judge.judge_next.Goals as goal
 
 pub returns-in_err-item-clause-judged : goal.returns-in_err-item-clause-judged
 returns-in_err-item-clause-judged g c had start so_far =
