@@ -15,6 +15,7 @@ use Rattle.mapf_checker.specs.declared.fault.FromFault.{FromFault}
 use Rattle.mapf_checker.specs.declared.fault.FromFault.TheVariants.{Refused}
 use Rattle.mapf_checker.specs.declared.fault.Verdict.{Verdict}
 use Rattle.mapf_model.specs.Plan.{Instance}
+use Rattle.mapf_model.specs.declared.item.Claim.{Claim}
 
 -- a refusal is one
 pub is_refusal : (fault : FromFault) (refusal : CheckFault) → fault ≡ Refused refusal → IsNoRefusal fault → ⊥
@@ -51,5 +52,5 @@ module _ (map scen plan cert : Option (List ℕ)) (count : ℕ) (problem : Insta
     defect = told (λ bytes. HasRefusal problem bytes cert refusal) plan text same has;
   }
 
-  pub none_good : (HasGoodPlan map scen plan count → ⊥) → (verdict : Verdict) → IsGoodPlan problem text verdict → ⊥
-  none_good none verdict good = none (record { problem = problem; read = read; verdict = verdict; good = told (λ bytes. IsGoodPlan problem bytes verdict) plan text same good })
+  pub none_good : (HasGoodPlan map scen plan count → ⊥) → (answer : Claim) → IsGoodPlan problem text answer → ⊥
+  none_good none answer good = none (record { problem = problem; read = read; answer = answer; good = told (λ bytes. IsGoodPlan problem bytes answer) plan text same good })

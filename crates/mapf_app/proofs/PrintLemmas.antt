@@ -1,5 +1,5 @@
 -- What the two texts of a right answer are.
-use Rattle.std.proofs.Common.{◌≡◌, ℕ, List, length, refl, subst}
+use Rattle.std.proofs.Common.{◌≡◌, ℕ, List, length, inl, refl, subst}
 use Rattle.mapf_app.specs.Policy.{FollowsPolicy, SpellsChosenTree}
 use Rattle.mapf_app.specs.Solved.{PrintsOptimal, PrintsImpossible, PrintsLimit}
 use Rattle.mapf_app.specs.declared.kind.Kind.TheVariants as kinds
@@ -51,8 +51,11 @@ module _ (problem : Instance) (plan : List (List ℕ)) (nodes : List Node) (law 
         certified = (tree, cert);
         optimal = shown.optimal;
         accepted = record {
+          answer = Cost shown.total;
           plan = record { version = Two; says = answers.Found plan; spelled = spells; good = (shown.optimal.valid, shown.optimal.sum) };
-          cert = record { version = Two; tree = tree; spelled = cert; shows = shown.shows };
+          claimed = Cost shown.total;
+          fits = (refl, refl);
+          cert = inl (refl, record { version = Two; tree = tree; spelled = cert; shows = shown.shows });
         };
       })
 
@@ -70,8 +73,11 @@ module _ (problem : Instance) (nodes : List Node) (plan_text : List ℕ) where
           certified = (tree, cert);
           impossible = shown.impossible;
           accepted = record {
+            answer = Impossible;
             plan = record { version = Two; says = answers.Impossible; spelled = spells; good = tt };
-            cert = record { version = Two; tree = tree; spelled = cert; shows = shown.shows };
+            claimed = Impossible;
+            fits = tt;
+            cert = inl (refl, record { version = Two; tree = tree; spelled = cert; shows = shown.shows });
           };
         }
 
@@ -87,8 +93,11 @@ module _ (problem : Instance) (nodes : List Node) (plan_text : List ℕ) where
           certified = (tree, cert);
           holds = shown.holds;
           accepted = record {
+            answer = Bound bound;
             plan = record { version = Two; says = answers.Bounded cause bound; spelled = spells; good = refl };
-            cert = record { version = Two; tree = tree; spelled = cert; shows = shown.shows };
+            claimed = Bound bound;
+            fits = (refl, refl);
+            cert = inl (refl, record { version = Two; tree = tree; spelled = cert; shows = shown.shows });
           };
         }
 

@@ -18,6 +18,7 @@ use Rattle.mapf_checker.specs.declared.fault.Verdict.{Verdict}
 use Rattle.mapf_checker.specs.declared.fault.Verdict.TheVariants as verdicts
 use Rattle.mapf_model.specs.Limits.{greatest_sum}
 use Rattle.mapf_model.specs.Plan.{Instance}
+use Rattle.mapf_model.specs.declared.item.Claim.{Claim}
 
 -- a text has the defect that the refusal names, for the problem that the map and the scenario spell
 pub record IsRefusalOf (map scen plan cert : Option (List ℕ)) (count : ℕ) (refusal : CheckFault) : Type 0 where
@@ -25,12 +26,12 @@ pub record IsRefusalOf (map scen plan cert : Option (List ℕ)) (count : ℕ) (r
   pub read : SpellsProblem map scen count problem
   pub defect : IfSome plan (λ plan_text. HasRefusal problem plan_text cert refusal)
 
--- the plan text is accepted with some verdict for the problem that the map and the scenario spell
+-- the bytes spell a plan text for the problem that the map and the scenario spell, and this is the claim of its answer
 pub record HasGoodPlan (map scen plan : Option (List ℕ)) (count : ℕ) : Type 0 where
   pub problem : Instance
   pub read : SpellsProblem map scen count problem
-  pub verdict : Verdict
-  pub good : IfSome plan (λ plan_text. IsGoodPlan problem plan_text verdict)
+  pub answer : Claim
+  pub good : IfSome plan (λ plan_text. IsGoodPlan problem plan_text answer)
 
 -- if the answer is a limit, it has a bound, and the cause and the bound are in their ranges
 abbrev pub IsBoundInRange : PlanAnswer → Type 0

@@ -92,6 +92,7 @@ refusal_line (checks.C6 line) = codes "refused C6" ++ numbers (line ∷ [])
 refusal_line (checks.C7 line) = codes "refused C7" ++ numbers (line ∷ [])
 refusal_line (checks.C8 line) = codes "refused C8" ++ numbers (line ∷ [])
 refusal_line (checks.C9 line) = codes "refused C9" ++ numbers (line ∷ [])
+refusal_line (checks.C10 line) = codes "refused C10" ++ numbers (line ∷ [])
 refusal_line checks.Memory = memory_line
 
 -- the line of an error of the events

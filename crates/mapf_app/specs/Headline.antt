@@ -6,6 +6,10 @@
 -- Where a bound is printed or accepted, no valid plan has a smaller sum of costs, whoever wrote the texts; and the
 -- checker accepts the certificate printed with a bound.
 --
+-- Beside a valid plan with the sum of costs C, a certificate of version 3 may also show a bound B below C. The verdict
+-- is then `within B C`, and no valid plan has a sum of costs below B. A certificate of version 3 is accepted exactly if
+-- its bytes spell one that shows its claim, and the claim fits the answer of the plan text.
+--
 -- Devices of memory report their bytes to contracts. Opaque ones, such as files, don't.
 use Rattle.std.specs.Prelude.{◌≡◌, ℕ, List, Option, Some, IfSome, IsSome, length}
 use Rattle.mapf_app.specs.declared.kind.Kind.{Kind}
@@ -30,10 +34,11 @@ pub record PrintsTruly (map scen : Option (List ℕ)) (count : ℕ) (kind : Kind
   pub read : SpellsProblem map scen count problem
   pub printed : Prints problem kind plan_bytes cert_bytes
 
--- what a verdict on two texts says, whoever wrote them: for the problem that the map and the scenario spell, the plan
--- of the plan text is optimal with the verdict's sum, or the text says that no plan is valid and none is, or it says
--- that a limit was reached with the verdict's bound and every valid plan has at least this sum; and the texts are
--- accepted for the problem with the verdict
+-- what a verdict on two texts says, whoever wrote them, for the problem that the map and the scenario spell: the plan
+-- of the plan text is optimal with the verdict's sum; or it is valid with this sum, and every valid plan has at least
+-- the verdict's smaller bound; or the text says that no plan is valid, and none is; or it says that a limit was reached
+-- with the verdict's bound, and every valid plan has at least this sum. The texts are accepted for the problem with the
+-- verdict
 pub record JudgesTruly (map scen plan cert : Option (List ℕ)) (count : ℕ) (verdict : Verdict) : Type 0 where
   pub problem : Instance
   pub posed : IsPosed count problem
@@ -57,15 +62,15 @@ pub record IsDueVerdict (map scen plan cert : Option (List ℕ)) (count : ℕ) (
   pub cert_told : cert ≡ Some cert_text
   pub accepted : AreAccepted problem plan_text cert_text verdict
 
--- the verdict that belongs to an answer
-abbrev pub IsVerdictOn : Kind → Verdict → Type 0
-IsVerdictOn (Found cost) verdict = verdict ≡ verdicts.Optimal cost
-IsVerdictOn Impossible verdict = verdict ≡ verdicts.Impossible
-IsVerdictOn (Limit cause bound) verdict = verdict ≡ verdicts.Bound bound
+-- the verdict that belongs to an answer that was printed
+abbrev pub IsVerdictFor : Kind → Verdict → Type 0
+IsVerdictFor (Found cost) verdict = verdict ≡ verdicts.Optimal cost
+IsVerdictFor Impossible verdict = verdict ≡ verdicts.Impossible
+IsVerdictFor (Limit cause bound) verdict = verdict ≡ verdicts.Bound bound
 
 -- what is printed has to be accepted, by whoever checks it for the same map, scenario and number of agents
 abbrev pub PrintedIsDue : Type 0
 PrintedIsDue =
     (map scen plan cert : List ℕ) (count : ℕ) (kind : Kind) (verdict : Verdict) →
-    PrintsTruly (Some map) (Some scen) count kind plan cert → IsVerdictOn kind verdict →
+    PrintsTruly (Some map) (Some scen) count kind plan cert → IsVerdictFor kind verdict →
     IsDueVerdict (Some map) (Some scen) (Some plan) (Some cert) count verdict

@@ -69,9 +69,11 @@ kind_status (Found cost) = 0
 kind_status Impossible = 3
 kind_status (Limit cause bound) = 4
 
--- `optimal C`, `bound B` or `impossible`
+-- `optimal C`, `within B C`, `bound B` or `impossible`
 abbrev pub verdict_line : Verdict → List ℕ
 verdict_line (verdicts.Optimal cost) = codes "optimal " ++ (decimal cost ++ (10 ∷ []))
+verdict_line (verdicts.Within bound cost) =
+    codes "within " ++ (decimal bound ++ (codes " " ++ (decimal cost ++ (10 ∷ []))))
 verdict_line (verdicts.Bound bound) = codes "bound " ++ (decimal bound ++ (10 ∷ []))
 verdict_line verdicts.Impossible = codes "impossible\n"
 

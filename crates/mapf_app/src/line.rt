@@ -70,20 +70,20 @@ impl Line {
         }
     }
 
-    fn with_two(self, first: u32, second: u32) -> Line
+    fn with_two(self, first: u64, second: u64) -> Line
         ensures { result ≡ record self { numbers = (Some first, Some second, None) } }
     {
         Line {
-            numbers: (Some(first as u64), Some(second as u64), None),
+            numbers: (Some(first), Some(second), None),
             ..self
         }
     }
 
-    fn with_three(self, first: u32, second: u32, third: u32) -> Line
+    fn with_three(self, first: u64, second: u64, third: u64) -> Line
         ensures { result ≡ record self { numbers = (Some first, Some second, Some third) } }
     {
         Line {
-            numbers: (Some(first as u64), Some(second as u64), Some(third as u64)),
+            numbers: (Some(first), Some(second), Some(third)),
             ..self
         }
     }
@@ -94,6 +94,7 @@ impl Line {
     {
         match verdict {
             Verdict::Optimal(cost) => Line::of("optimal").with(cost),
+            Verdict::Within { bound, cost } => Line::of("within").with_two(bound, cost),
             Verdict::Bound(bound) => Line::of("bound").with(bound),
             Verdict::Impossible => Line::of("impossible"),
         }
@@ -131,7 +132,7 @@ fn map_line(fault: MapFault) -> Line
         MapFault::M4 { line } => Line::of("F1 M4").with(line as u64),
         MapFault::M5 => Line::of("F1 M5"),
         MapFault::M6 { row } => Line::of("F1 M6").with(row as u64),
-        MapFault::M7 { x, y } => Line::of("F1 M7").with_two(x, y),
+        MapFault::M7 { x, y } => Line::of("F1 M7").with_two(x as u64, y as u64),
         MapFault::M8 { rows } => Line::of("F1 M8").with(rows as u64),
         MapFault::M9 { line } => Line::of("F1 M9").with(line),
         MapFault::Memory => Line::of("F6"),
@@ -144,7 +145,7 @@ fn scenario_line(fault: ScenFault) -> Line
     match fault {
         ScenFault::S1 => Line::of("F2 S1"),
         ScenFault::S2 { row } => Line::of("F2 S2").with(row as u64),
-        ScenFault::S3 { row, field } => Line::of("F2 S3").with_two(row, field),
+        ScenFault::S3 { row, field } => Line::of("F2 S3").with_two(row as u64, field as u64),
         ScenFault::S4 { row } => Line::of("F2 S4").with(row as u64),
         ScenFault::S5 { row } => Line::of("F2 S5").with(row as u64),
         ScenFault::S6 { row } => Line::of("F2 S6").with(row as u64),
@@ -168,6 +169,7 @@ fn refusal_line(refusal: CheckFault) -> Line
         CheckFault::C7(line) => Line::of("refused C7").with(line),
         CheckFault::C8(line) => Line::of("refused C8").with(line),
         CheckFault::C9(line) => Line::of("refused C9").with(line),
+        CheckFault::C10(line) => Line::of("refused C10").with(line),
         CheckFault::Memory => Line::of("F6"),
     }
 }
@@ -205,10 +207,14 @@ fn plan_line(words: &'static str, fault: PlanFault) -> Line
     let line = Line::of(words);
     match fault {
         PlanFault::V1 { agent } => line.naming("V1").with(agent as u64),
-        PlanFault::V2 { agent, tick } => line.naming("V2").with_two(agent, tick),
+        PlanFault::V2 { agent, tick } => line.naming("V2").with_two(agent as u64, tick as u64),
         PlanFault::V3 { agent } => line.naming("V3").with(agent as u64),
-        PlanFault::V4 { i, j, tick } => line.naming("V4").with_three(i, j, tick),
-        PlanFault::V5 { i, j, tick } => line.naming("V5").with_three(i, j, tick),
+        PlanFault::V4 { i, j, tick } => line
+            .naming("V4")
+            .with_three(i as u64, j as u64, tick as u64),
+        PlanFault::V5 { i, j, tick } => line
+            .naming("V5")
+            .with_three(i as u64, j as u64, tick as u64),
     }
 }
 

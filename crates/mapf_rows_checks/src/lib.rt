@@ -8,6 +8,8 @@ mod checking;
 #[cfg(test)]
 mod hostile;
 #[cfg(test)]
+mod lemmas;
+#[cfg(test)]
 mod split_blocks;
 #[cfg(test)]
 mod streams;

@@ -82,7 +82,8 @@ leaf 1\nagent 0 1\nat 0,1 0 3\nleaf 1\nagent 0 1\nat 0,1 0 3\nleaf 0\n",
 ];
 
 const LINES: &[Change] = &[
-    (1, 1, "mapf-cert 3\n", Err(CheckFault::C2(CertFault::K1(1)))),
+    // Splits of version 3 have no number of blocks.
+    (1, 1, "mapf-cert 3\n", Err(CheckFault::C2(CertFault::K1(4)))),
     (1, 1, "mapf-cert 1\n", Err(CheckFault::C2(CertFault::K1(4)))),
     // A bound is no claim beside a plan.
     (3, 3, "claim bound 5\n", Err(CheckFault::C4)),

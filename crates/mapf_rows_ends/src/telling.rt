@@ -126,6 +126,14 @@ fn tells_how_a_search_ended(rt: HostRuntime) -> Result<(), Fail> {
 
 const VERDICTS: &[(Verdict, &str)] = &[
     (Verdict::Optimal(5), "optimal 5\n"),
+    (Verdict::Within { bound: 4, cost: 5 }, "within 4 5\n"),
+    (
+        Verdict::Within {
+            bound: 0,
+            cost: 1_999_999_800,
+        },
+        "within 0 1999999800\n",
+    ),
     (Verdict::Bound(0), "bound 0\n"),
     (Verdict::Bound(1_999_999_800), "bound 1999999800\n"),
     (Verdict::Impossible, "impossible\n"),
@@ -192,6 +200,7 @@ const REFUSALS: &[(CheckFault, &str)] = &[
         CheckFault::C9(18_446_744_073_709_551_615),
         "refused C9 18446744073709551615\n",
     ),
+    (CheckFault::C10(10), "refused C10 10\n"),
 ];
 
 #[test]
@@ -474,6 +483,11 @@ const LINES: &[(Answer, &str, u8)] = &[
     ),
     (Answer::Check(Ok(Verdict::Bound(4))), "bound 4\n", 0),
     (Answer::Check(Ok(Verdict::Optimal(5))), "optimal 5\n", 0),
+    (
+        Answer::Check(Ok(Verdict::Within { bound: 4, cost: 5 })),
+        "within 4 5\n",
+        0,
+    ),
     (
         Answer::Check(Err(Fault::Refused(CheckFault::C3))),
         "refused C3\n",

@@ -18,7 +18,7 @@ Without arguments it solves and checks a small built-in problem.";
 
 // The program's version, and below it those of the texts. Both are defined here only.
 const VERSION: &str = "1.0.0
-reads plan texts 1 and 2, certificates 1 and 2, event texts 1
+reads plan texts 1 and 2, certificates 1, 2 and 3, event texts 1
 writes plan texts 2, certificates 2";
 
 const OVERVIEW: &str = "Files:
@@ -77,6 +77,7 @@ const CHECK_ABOUT: &str =
 
 const CHECK_OUTPUT: &str = "Standard output has one line:
   optimal C    the plan is valid, costs C, and no valid plan costs less
+  within B C   the plan is valid, costs C, and no valid plan costs less than B
   bound B      PLAN says that a limit was reached, and no valid plan costs less than B
   impossible   no plan is valid
   refused ..   the texts don't show it, with the reason

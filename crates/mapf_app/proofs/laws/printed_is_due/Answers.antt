@@ -1,5 +1,5 @@
 use Rattle.std.proofs.Common.{ℕ, List, refl, sym, subst}
-use Rattle.mapf_app.specs.Headline.{IsVerdictOn}
+use Rattle.mapf_app.specs.Headline.{IsVerdictFor}
 use Rattle.mapf_app.specs.Solved.{Prints}
 use Rattle.mapf_app.specs.declared.kind.Kind.{Kind}
 use Rattle.mapf_app.specs.declared.kind.Kind.TheVariants.{Found, Impossible, Limit}
@@ -8,7 +8,7 @@ use Rattle.mapf_checker.specs.declared.fault.Verdict.{Verdict}
 use Rattle.mapf_model.specs.Plan.{Instance}
 use Rattle.mapf_app.proofs.laws.printed_is_due.Goals as goal
 
-accepted_as : (problem : Instance) (kind : Kind) (verdict : Verdict) (plan cert : List ℕ) → Prints problem kind plan cert → IsVerdictOn kind verdict → AreAccepted problem plan cert verdict
+accepted_as : (problem : Instance) (kind : Kind) (verdict : Verdict) (plan cert : List ℕ) → Prints problem kind plan cert → IsVerdictFor kind verdict → AreAccepted problem plan cert verdict
 accepted_as problem (Found cost) verdict plan cert prints is = subst (AreAccepted problem plan cert) (sym is) prints.accepted
 accepted_as problem Impossible verdict plan cert prints is = subst (AreAccepted problem plan cert) (sym is) prints.accepted
 accepted_as problem (Limit cause bound) verdict plan cert prints is = subst (AreAccepted problem plan cert) (sym is) prints.accepted
